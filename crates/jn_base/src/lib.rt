@@ -1,0 +1,16 @@
+// Places, rows and their codes, typed numbers, and lists that contracts see as lists.
+#![tactic(auto)]
+
+pub mod code;
+pub mod number;
+pub mod place;
+pub mod refusal;
+pub mod seq;
+
+pub use code::Code;
+pub use number::{
+    BodyNo, ClassNo, FieldNo, FileNo, MethodNo, NameNo, PointNo, RegNo, SlotNo, WordNo,
+};
+pub use place::{Place, Row, Span};
+pub use refusal::{Fail, OutOfMemory};
+pub use seq::Seq;

@@ -1,0 +1,55 @@
+// Programs as points.
+#![tactic(auto)]
+
+ghost use Rattle.std.specs.Prelude.{◌≡◌, ◌<◌, ◌^◌, ◌-◌, length, slice_index};
+ghost use Rattle.jn_points.specs.Edges.{edges_of};
+
+pub mod leads;
+pub mod point;
+pub mod program;
+
+use jn_base::PointNo;
+pub use leads::Edges;
+pub use point::{
+    BaseType, Elem, Literal, Operand, Operator, Origin, Point, PointKind, StrOperation,
+};
+pub use program::{Body, Class, Field, Method, Program, SlotInfo};
+
+/// The edges of the body's point.
+pub fn edges(body: &Body, at: PointNo) -> Edges
+    requires inside { at.0 < length body.now.points }
+    requires small { at.0 < 2 ^ 32 - 1 }
+    ensures { result ≡ edges_of (slice_index body.now.points at.0).kind at.0 }
+{
+    let PointNo(place) = at;
+    let points = body.points.as_slice();
+    let next = Edges {
+        first: Some(PointNo(place + 1)),
+        second: None,
+    };
+    match &points[place as usize].kind {
+        PointKind::TestInst { yes, no, .. } => two(*yes, *no),
+        PointKind::TestNull { null, non_null, .. } => two(*null, *non_null),
+        PointKind::Branch { yes, no, .. } => two(*yes, *no),
+        PointKind::Goto { to } => Edges {
+            first: Some(*to),
+            second: None,
+        },
+        PointKind::Return { .. } => Edges {
+            first: None,
+            second: None,
+        },
+        _ => next,
+    }
+}
+
+ghost use Rattle.jn_points.specs.Edges.{two};
+
+fn two(first: PointNo, second: PointNo) -> Edges
+    ensures { result ≡ two first second }
+{
+    Edges {
+        first: Some(first),
+        second: Some(second),
+    }
+}

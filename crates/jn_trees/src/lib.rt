@@ -1,0 +1,6 @@
+// Tokens and names.
+#![tactic(auto)]
+
+pub mod token;
+
+pub use token::{Token, TokenKind};
