@@ -2,6 +2,7 @@
 use Rattle.std.specs.Prelude.{ℕ, ◌+◌, Option, Some, None}
 use Rattle.jn_base.specs.declared.number.PointNo.{PointNo}
 use Rattle.jn_points.specs.declared.leads.Edges.{Edges}
+use Rattle.jn_points.specs.declared.point.Point.{Point}
 use Rattle.jn_points.specs.declared.point.PointKind.{PointKind}
 use Rattle.jn_points.specs.declared.point.PointKind.TheVariants.{TestInst, TestNull, Branch, Goto, Return}
 
@@ -21,3 +22,7 @@ edges_of (Branch of at_yes at_no) p = two at_yes at_no
 edges_of (Goto to) p = one to
 edges_of (Return value) p = no_edges
 edges_of kind p = one (record { 0 = p + 1 })
+
+abbrev pub edges_at : Option Point → ℕ → Edges
+edges_at None p = no_edges
+edges_at (Some pt) p = edges_of pt.kind p

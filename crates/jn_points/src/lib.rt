@@ -1,8 +1,8 @@
 // Programs as points.
 #![tactic(auto)]
 
-ghost use Rattle.std.specs.Prelude.{◌≡◌, ◌<◌, ◌^◌, ◌-◌, length, slice_index};
-ghost use Rattle.jn_points.specs.Edges.{edges_of};
+ghost use Rattle.std.specs.Prelude.{◌≡◌, ◌<◌, ◌^◌, length, slice_get};
+ghost use Rattle.jn_points.specs.Edges.{edges_at, two};
 
 pub mod leads;
 pub mod point;
@@ -19,7 +19,7 @@ pub use program::{Body, Class, Field, Method, Program, SlotInfo};
 pub fn edges(body: &Body, at: PointNo) -> Edges
     requires inside { at.0 < length body.now.points }
     requires small { at.0 < 2 ^ 32 - 1 }
-    ensures { result ≡ edges_of (slice_index body.now.points at.0).kind at.0 }
+    ensures { result ≡ edges_at (slice_get body.now.points at.0) at.0 }
 {
     let PointNo(place) = at;
     let points = body.points.as_slice();
@@ -42,8 +42,6 @@ pub fn edges(body: &Body, at: PointNo) -> Edges
         _ => next,
     }
 }
-
-ghost use Rattle.jn_points.specs.Edges.{two};
 
 fn two(first: PointNo, second: PointNo) -> Edges
     ensures { result ≡ two first second }
