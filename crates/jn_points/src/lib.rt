@@ -1,7 +1,7 @@
 // Programs as points.
 #![tactic(auto)]
 
-ghost use Rattle.std.specs.Prelude.{◌≡◌, ◌<◌, ◌^◌, length, slice_get};
+ghost use Rattle.std.specs.Prelude.{◌≡◌, ◌<◌, ◌^◌, ◌-◌, length, slice_get};
 ghost use Rattle.jn_points.specs.Edges.{edges_at, two};
 
 pub mod leads;
