@@ -1,0 +1,4 @@
+pub mod Known
+pub mod Trees
+pub mod View
+pub mod Reads

@@ -1,0 +1,7 @@
+// Files of one class with a `main` over String locals: the tree that spells one, and its program.
+#![tactic(auto)]
+
+pub mod known;
+pub mod tree;
+
+pub use tree::{FirstForm, Statement, Value};
