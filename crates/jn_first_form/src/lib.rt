@@ -2,6 +2,7 @@
 #![tactic(auto)]
 
 pub mod known;
+pub mod local;
 pub mod tree;
 
 pub use tree::{FirstForm, Statement, Value};
