@@ -1,1 +1,2 @@
 pub mod Qualifier
+pub mod Order

@@ -1,0 +1,63 @@
+-- Order and join of environments and tables: qualifiers grow, facts and assigned fields shrink. What is unreached is below all.
+use Rattle.std.specs.Prelude.{ℕ, Bool, not, ◌&&◌, ◌||◌, IsTrue, List, [], ◌∷◌, Option, Some, None, slice_index_or}
+use Rattle.jn_quals.specs.Qualifier.{Qualifier}
+use Rattle.jn_quals.specs.Order.{join, within, no_qual}
+use Rattle.jn_env.specs.declared.env.Env.{Env}
+
+-- for each point of a body its environment, where it is reached
+abbrev pub Table : Type 0
+Table = List (Option Env)
+
+abbrev pub env_in : List (Option Env) → ℕ → Option Env
+env_in t p = slice_index_or t p None
+
+abbrev pub qual_at : Env → ℕ → Qualifier
+qual_at e r = slice_index_or e.quals r no_qual
+
+abbrev pub QualsWithin : List Qualifier → List Qualifier → Type 0
+QualsWithin [] [] = Unit {0}
+QualsWithin [] (b ∷ bs) = ⊥
+QualsWithin (a ∷ as') [] = ⊥
+QualsWithin (a ∷ as') (b ∷ bs) = IsTrue (within a b) × QualsWithin as' bs
+
+-- the first has all bits of the second
+abbrev pub BitsAbove : List Bool → List Bool → Type 0
+BitsAbove [] [] = Unit {0}
+BitsAbove [] (b ∷ bs) = ⊥
+BitsAbove (a ∷ as') [] = ⊥
+BitsAbove (a ∷ as') (b ∷ bs) = IsTrue (not b || a) × BitsAbove as' bs
+
+pub record EnvWithin (a b : Env) : Type 0 where
+  pub quals : QualsWithin a.quals b.quals
+  pub facts : BitsAbove a.facts b.facts
+  pub assigned : BitsAbove a.assigned b.assigned
+
+abbrev pub SlotWithin : Option Env → Option Env → Type 0
+SlotWithin None b = Unit {0}
+SlotWithin (Some a) None = ⊥
+SlotWithin (Some a) (Some b) = EnvWithin a b
+
+abbrev pub TableWithin : List (Option Env) → List (Option Env) → Type 0
+TableWithin [] [] = Unit {0}
+TableWithin [] (b ∷ bs) = ⊥
+TableWithin (a ∷ as') [] = ⊥
+TableWithin (a ∷ as') (b ∷ bs) = SlotWithin a b × TableWithin as' bs
+
+-- by union
+abbrev pub join_quals : List Qualifier → List Qualifier → List Qualifier
+join_quals [] bs = bs
+join_quals (a ∷ as') [] = a ∷ as'
+join_quals (a ∷ as') (b ∷ bs) = join a b ∷ join_quals as' bs
+
+-- by intersection
+abbrev pub meet_bits : List Bool → List Bool → List Bool
+meet_bits [] bs = bs
+meet_bits (a ∷ as') [] = a ∷ as'
+meet_bits (a ∷ as') (b ∷ bs) = (a && b) ∷ meet_bits as' bs
+
+abbrev pub join_env : Env → Env → Env
+join_env a b = record { quals = join_quals a.quals b.quals; facts = meet_bits a.facts b.facts; assigned = meet_bits a.assigned b.assigned }
+
+abbrev pub join_slot : Option Env → Env → Option Env
+join_slot None e = Some e
+join_slot (Some a) e = Some (join_env a e)

@@ -1,0 +1,6 @@
+// Environments: what is known of each register, field and assignment at a point.
+#![tactic(auto)]
+
+pub mod env;
+
+pub use env::Env;

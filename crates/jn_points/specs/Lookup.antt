@@ -1,0 +1,153 @@
+-- What stands where in a program's lists.
+use Rattle.std.specs.Prelude.{ℕ, Bool, true, false, eqb, List, [], length, Option, Some, None, slice_get, slice_index_or}
+use Rattle.jn_base.specs.declared.number.BodyNo.{BodyNo}
+use Rattle.jn_base.specs.declared.number.ClassNo.{ClassNo}
+use Rattle.jn_base.specs.declared.number.SlotNo.{SlotNo}
+use Rattle.jn_points.specs.declared.point.BaseType.{BaseType}
+use Rattle.jn_points.specs.declared.point.BaseType.TheVariants.{Ref, Array, Void, Null as NullBase}
+use Rattle.jn_points.specs.declared.point.Point.{Point}
+use Rattle.jn_points.specs.declared.program.Class.{Class}
+use Rattle.jn_points.specs.declared.program.Field.{Field}
+use Rattle.jn_points.specs.declared.program.Method.{Method}
+use Rattle.jn_points.specs.declared.program.Body.{Body}
+use Rattle.jn_points.specs.declared.program.Program.{Program}
+
+-- String and arrays: their values are always initialized
+abbrev pub is_flat : BaseType → Bool
+is_flat (Ref c) = eqb c.0 1
+is_flat (Array e nullable) = true
+is_flat b = false
+
+-- reference types (JLS 8, 4.3), the type of null among them
+abbrev pub is_ref_base : BaseType → Bool
+is_ref_base (Ref c) = true
+is_ref_base (Array e nullable) = true
+is_ref_base NullBase = true
+is_ref_base b = false
+
+abbrev pub points_of : Option Body → List Point
+points_of None = []
+points_of (Some b) = b.points
+
+abbrev pub regs_of : Option Body → ℕ
+regs_of None = 0
+regs_of (Some b) = length b.regs
+
+abbrev pub locals_of : Option Body → ℕ
+locals_of None = 0
+locals_of (Some b) = b.locals
+
+abbrev pub base_in : Option Body → ℕ → BaseType
+base_in None r = Void
+base_in (Some b) r = slice_index_or b.regs r Void
+
+-- the class that declares a field
+abbrev pub owner_of : Option Field → ℕ
+owner_of None = 0
+owner_of (Some f) = f.owner.0
+
+abbrev pub field_base_of : Option Field → BaseType
+field_base_of None = Void
+field_base_of (Some f) = f.base
+
+abbrev pub has_slot : Option SlotNo → Bool
+has_slot None = false
+has_slot (Some n) = true
+
+abbrev pub ref_of : Option Field → Bool
+ref_of None = false
+ref_of (Some f) = has_slot f.slot
+
+abbrev pub flat_of : Option Field → Bool
+flat_of None = false
+flat_of (Some f) = is_flat f.base
+
+-- the class that declares a method
+abbrev pub class_of : Option Method → ℕ
+class_of None = 0
+class_of (Some m) = m.owner.0
+
+abbrev pub body_no : Option BodyNo → Option ℕ
+body_no None = None
+body_no (Some b) = Some b.0
+
+abbrev pub body_of : Option Method → Option ℕ
+body_of None = None
+body_of (Some m) = body_no m.body
+
+abbrev pub ctor_of : Option Method → Bool
+ctor_of None = false
+ctor_of (Some m) = m.ctor
+
+abbrev pub static_of : Option Method → Bool
+static_of None = true
+static_of (Some m) = m.is_static
+
+abbrev pub slots_of : Option Method → List (Option SlotNo)
+slots_of None = []
+slots_of (Some m) = m.param_slots
+
+abbrev pub params_of : Option Method → List BaseType
+params_of None = []
+params_of (Some m) = m.params
+
+abbrev pub result_base_of : Option Method → BaseType
+result_base_of None = Void
+result_base_of (Some m) = m.result
+
+abbrev pub supers_of : Option Class → List ClassNo
+supers_of None = []
+supers_of (Some c) = c.supers
+
+abbrev pub parent_of : Option Class → Option ClassNo
+parent_of None = None
+parent_of (Some c) = c.parent
+
+abbrev pub interface_of : Option Class → Bool
+interface_of None = false
+interface_of (Some c) = c.interface
+
+module _ (P : Program) where
+  abbrev pub class_info : ℕ → Option Class
+  class_info c = slice_get P.classes c
+
+  abbrev pub body_at : ℕ → Option Body
+  body_at b = slice_get P.bodies b
+
+  abbrev pub point_at : ℕ → ℕ → Option Point
+  point_at b p = slice_get (points_of (body_at b)) p
+
+  abbrev pub reg_base : ℕ → ℕ → BaseType
+  reg_base b r = base_in (body_at b) r
+
+  -- how many of a body's registers are parameters or locals
+  abbrev pub locals : ℕ → ℕ
+  locals b = locals_of (body_at b)
+
+  abbrev pub field_info : ℕ → Option Field
+  field_info f = slice_get P.fields f
+
+  abbrev pub owner : ℕ → ℕ
+  owner f = owner_of (field_info f)
+
+  abbrev pub field_base : ℕ → BaseType
+  field_base f = field_base_of (field_info f)
+
+  -- a field of reference type
+  abbrev pub ref_field : ℕ → Bool
+  ref_field f = ref_of (field_info f)
+
+  -- a field of String or array type
+  abbrev pub flat_field : ℕ → Bool
+  flat_field f = flat_of (field_info f)
+
+  abbrev pub method_at : ℕ → Option Method
+  method_at m = slice_get P.methods m
+
+  abbrev pub method_of_body : Option Body → Option Method
+  method_of_body None = None
+  method_of_body (Some b) = method_at b.method.0
+
+  -- the method of a body
+  abbrev pub method_in : ℕ → Option Method
+  method_in b = method_of_body (body_at b)

@@ -1,0 +1,2 @@
+// Signatures: a qualifier for each slot of a program.
+#![tactic(auto)]
