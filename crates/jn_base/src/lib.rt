@@ -11,6 +11,6 @@ pub use code::Code;
 pub use number::{
     BodyNo, ClassNo, FieldNo, FileNo, MethodNo, NameNo, PointNo, RegNo, SlotNo, WordNo,
 };
-pub use place::{Place, Row, Span};
+pub use place::{Place, Row, Span, place_of};
 pub use refusal::{Fail, OutOfMemory};
 pub use seq::Seq;

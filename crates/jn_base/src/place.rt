@@ -1,4 +1,7 @@
-// Spans, places and rows.
+// Spans, places and rows, and the place of a byte.
+ghost use Rattle.std.specs.Prelude.{◌≡◌, ◌≤◌, ◌<◌, ◌-◌, ◌^◌, length};
+ghost use Rattle.jn_base.specs.Place as spec;
+
 use crate::code::Code;
 use crate::number::FileNo;
 
@@ -23,4 +26,112 @@ pub struct Place {
 pub struct Row {
     pub span: Span,
     pub code: Code,
+}
+
+/// The place of the first byte of `at`. CR, LF and CR LF each end a line.
+pub fn place_of(text: &[u8], at: &Span) -> Place
+    requires small { at.now.from < 2 ^ 32 - 1 }
+    requires within { at.now.from ≤ length text.now }
+    ensures { result ≡ spec.place_in text.now at.now }
+{
+    let before = &text[..at.from as usize];
+    Place {
+        file: at.file,
+        line: 1 + line_ends(before),
+        col: 1 + characters(last_line(before)),
+    }
+}
+
+fn is_line_end(byte: u8) -> bool
+    ensures { result ≡ spec.is_line_end byte }
+{
+    byte == b'\r' || byte == b'\n'
+}
+
+fn ends_line(previous: u8, byte: u8) -> bool
+    ensures { result ≡ spec.ends_line previous byte }
+{
+    byte == b'\r' || (byte == b'\n' && previous != b'\r')
+}
+
+fn is_continuation(byte: u8) -> bool
+    ensures { result ≡ spec.is_continuation byte }
+{
+    byte / 64 == 2
+}
+
+fn line_ends(text: &[u8]) -> u32
+    requires { length text.now < 2 ^ 32 - 1 }
+    ensures ends { result ≡ spec.line_ends 0 text.now }
+    ensures bound { result ≤ length text.now }
+{
+    let mut ends = 0;
+    let mut previous = 0;
+    for byte in text {
+        if ends_line(previous, *byte) {
+            ends += 1;
+        }
+        previous = *byte;
+    }
+    ends
+}
+
+fn last_line(text: &[u8]) -> &[u8]
+    ensures line { result.now ≡ spec.last_line text.now }
+    ensures bound { length result.now ≤ length text.now }
+{
+    let mut start = text.len();
+    while start > 0 && !is_line_end(text[start - 1]) {
+        start -= 1;
+    }
+    &text[start..]
+}
+
+fn characters(text: &[u8]) -> u32
+    requires { length text.now < 2 ^ 32 - 1 }
+    ensures count { result ≡ spec.characters text.now }
+    ensures bound { result ≤ length text.now }
+{
+    text.iter().filter(|byte| !is_continuation(**byte)).count() as u32
+}
+
+#[cfg(test)]
+mod tests {
+    use super::*;
+
+    #[test]
+    fn finds_lines_and_columns(rt: HostRuntime) {
+        let text = "a\nbc\rd\r\n\u{e9}\u{20ac}x\n".as_bytes();
+        for (from, line, col) in [
+            (0, 1, 1),
+            (1, 1, 2),
+            (2, 2, 1),
+            (4, 2, 3),
+            (5, 3, 1),
+            (6, 3, 2),
+            (7, 4, 1),
+            (8, 4, 1),
+            (10, 4, 2),
+            (13, 4, 3),
+            (14, 4, 4),
+            (15, 5, 1),
+        ] {
+            let at = Span {
+                file: FileNo(3),
+                from,
+                to: from,
+            };
+            assert!(rt; from as usize <= text.len());
+            let place = place_of(text, &at);
+            assert_eq!(rt;
+                place,
+                Place {
+                    file: FileNo(3),
+                    line,
+                    col
+                },
+                "at {from}"
+            );
+        }
+    }
 }
