@@ -5,7 +5,10 @@ use Rattle.jn_base.specs.declared.number.ClassNo.{ClassNo}
 use Rattle.jn_base.specs.declared.number.SlotNo.{SlotNo}
 use Rattle.jn_points.specs.declared.point.BaseType.{BaseType}
 use Rattle.jn_points.specs.declared.point.BaseType.TheVariants.{Ref, Array, Void, Null as NullBase}
+use Rattle.jn_points.specs.declared.point.Operand.{Operand}
 use Rattle.jn_points.specs.declared.point.Point.{Point}
+use Rattle.jn_points.specs.declared.point.PointKind.{PointKind}
+use Rattle.jn_points.specs.declared.point.PointKind.TheVariants.{FieldRead, FieldWrite, ElemRead, ElemWrite, ArrayLen, Call, StrOp}
 use Rattle.jn_points.specs.declared.program.Class.{Class}
 use Rattle.jn_points.specs.declared.program.Field.{Field}
 use Rattle.jn_points.specs.declared.program.Method.{Method}
@@ -24,6 +27,17 @@ is_ref_base (Ref c) = true
 is_ref_base (Array e nullable) = true
 is_ref_base NullBase = true
 is_ref_base b = false
+
+-- the register that a point dereferences (JLS 8, 15.11.1, 15.12.4.4, 15.13.1 and 15.26.1)
+abbrev pub dereferences : PointKind → Option Operand
+dereferences (FieldRead dst object field) = Some object
+dereferences (FieldWrite object field value) = Some object
+dereferences (ElemRead dst array index) = Some array
+dereferences (ElemWrite array index value) = Some array
+dereferences (ArrayLen dst array) = Some array
+dereferences (StrOp dst op of other) = Some of
+dereferences (Call dst method receiver direct args) = receiver
+dereferences kind = None
 
 abbrev pub points_of : Option Body → List Point
 points_of None = []

@@ -8,7 +8,7 @@ use Rattle.jn_points.specs.declared.point.Elem.TheVariants.{Int as IntElem, Bool
 use Rattle.jn_points.specs.declared.program.Field.{Field}
 use Rattle.jn_points.specs.declared.program.Method.{Method}
 use Rattle.jn_points.specs.declared.program.Program.{Program}
-use Rattle.jn_points.specs.Lookup.{supers_of, parent_of, body_of, class_info, method_at}
+use Rattle.jn_points.specs.Lookup.{supers_of, parent_of, interface_of, body_of, class_info, method_at}
 
 -- the numbers below n, from the lowest on
 abbrev pub below : ℕ → List ℕ
@@ -37,6 +37,10 @@ first_some found (c ∷ cs) = first_or (found c) (first_some found cs)
 abbrev pub where_some : Option ℕ → ℕ → Option ℕ
 where_some None k = None
 where_some (Some b) k = Some k
+
+abbrev pub is_number : Option ℕ → ℕ → Bool
+is_number None n = false
+is_number (Some k) n = eqb k n
 
 abbrev pub is_class : Option ClassNo → ClassNo → Bool
 is_class None c = false
@@ -138,3 +142,26 @@ module _ (P : Program) where
   -- objects of class c have the field
   abbrev pub has_field : ℕ → ℕ → Bool
   has_field c f = object_has c (slice_get P.fields f)
+
+  abbrev pub in_interface : Method → Bool
+  in_interface m = interface_of (class_info P m.owner.0)
+
+  -- class c, which is no interface, has or inherits method m where one of its supertypes declares k
+  abbrev pub class_pair : ℕ → Method → Method → ℕ → Bool
+  class_pair m over under c = not (interface_of (class_info P c)) && is_number (method_of c over.name.0 (length over.params)) m && sub c under.owner.0
+
+  abbrev pub class_pairs : ℕ → ℕ → Method → Method → Bool
+  class_pairs m k over under = not (eqb m k) && not under.is_private && not under.is_static && some_of (class_pair m over under) (below (length P.classes))
+
+  -- k stands in a superinterface of m's interface
+  abbrev pub interface_pairs : Method → Method → Bool
+  interface_pairs over under = in_interface over && in_interface under && not (eqb over.owner.0 under.owner.0) && sub over.owner.0 under.owner.0
+
+  abbrev pub pairs_of : ℕ → ℕ → Option Method → Option Method → Bool
+  pairs_of m k None under = false
+  pairs_of m k (Some over) None = false
+  pairs_of m k (Some over) (Some under) = not over.ctor && is_named under over.name.0 (length over.params) && (class_pairs m k over under || interface_pairs over under)
+
+  -- method m overrides method k, or must agree with it in some class (JLS 8, 8.4.8 and 9.4.1)
+  abbrev pub is_pair : ℕ → ℕ → Bool
+  is_pair m k = pairs_of m k (method_at P m) (method_at P k)

@@ -1,0 +1,2 @@
+// Values, the heap, and what one point does to them.
+#![tactic(auto)]

@@ -1,0 +1,4 @@
+pub mod Keys
+pub mod Transfer
+pub mod Least
+pub mod Rules

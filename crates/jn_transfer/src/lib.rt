@@ -1,0 +1,2 @@
+// What a point makes of an environment, least tables, and the rules.
+#![tactic(auto)]
