@@ -1,2 +1,3 @@
 pub mod Qualifier
 pub mod Order
+pub mod Word

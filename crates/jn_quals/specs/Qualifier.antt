@@ -1,5 +1,5 @@
 -- Qualifiers as sets of three bits, ordered by inclusion and joined by union (Summers and Mueller, OOPSLA 2011, section on types).
-use Rattle.std.specs.Prelude.{ℕ, ◌+◌, ◌%◌, ◌/◌, Bool, true, false, not, cond, nat_eq, ◌&&◌, ◌||◌}
+use Rattle.std.specs.Prelude.{ℕ, ◌+◌, ◌%◌, ◌/◌, Bool, cond, nat_eq}
 
 -- may be null, may be committed, may be free
 pub record Qualifier : Type 0 where
