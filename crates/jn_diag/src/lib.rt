@@ -2,5 +2,7 @@
 #![tactic(auto)]
 
 pub mod ordered;
+pub mod shown;
 
-pub use ordered::order;
+pub use ordered::{order, rows_have_one_order};
+pub use shown::{RowText, Verdict, row_text};
