@@ -1,4 +1,4 @@
-// Places, rows and their codes, typed numbers, and lists that contracts see as lists.
+// Places, rows and their codes, typed numbers, and lists and texts that contracts see as lists.
 #![tactic(auto)]
 
 pub mod code;
@@ -6,6 +6,7 @@ pub mod number;
 pub mod place;
 pub mod refusal;
 pub mod seq;
+pub mod text;
 
 pub use code::Code;
 pub use number::{
@@ -14,3 +15,4 @@ pub use number::{
 pub use place::{Place, Row, Span, place_of};
 pub use refusal::{Fail, OutOfMemory};
 pub use seq::Seq;
+pub use text::Text;

@@ -1,0 +1,8 @@
+// Rows of a report in order, and as a reader sees them.
+#![tactic(auto)]
+
+pub mod ordered;
+pub mod shown;
+
+pub use ordered::{order, rows_have_one_order};
+pub use shown::{RowText, Verdict, row_text};
