@@ -1,6 +1,8 @@
 // Tokens and names.
 #![tactic(auto)]
 
+pub mod names;
 pub mod token;
 
+pub use names::Names;
 pub use token::{Token, TokenKind};
