@@ -1,0 +1,9 @@
+pub mod Characters
+pub mod Spelling
+pub mod Gaps
+pub mod Lexemes
+pub mod Pieces
+pub mod Faults
+pub mod Lexed
+pub mod Scan
+pub mod Found

@@ -1,0 +1,173 @@
+// Texts as tokens.
+
+ghost use Rattle.std.specs.Prelude.{◌≡◌, ◌+◌, ◌-◌, ◌≤◌, ◌<◌, ◌^◌, false, length, chars, IsUtf8, IfOk, IfErr, OnOk, OnErr, MatchOption};
+ghost use Rattle.jn_trees.specs.Names.{Extends};
+ghost use Rattle.jn_lexer.specs.Characters.{width};
+ghost use Rattle.jn_lexer.specs.Faults.{LexicalFault, HasNoUnicodeEscape, IsFirstEscape, IsTokenFault, IsAtCharacter};
+ghost use Rattle.jn_lexer.specs.Lexed.{Lexed, IfRefused, names_with, kind_of, IsLexing};
+ghost use Rattle.jn_lexer.specs.Found.{lexeme_of};
+
+use crate::characters::width;
+use crate::gap::gap_len;
+use crate::shape::{Fault, Found, Shape};
+use crate::strings::{text_of, value_of};
+use crate::words::token_at;
+use jn_base::{Code, Fail, FileNo, OutOfMemory, Row, Span};
+use jn_trees::{Names, Token, TokenKind};
+use std::alloc::{AllocError, Global};
+
+/// Behind how many characters the first Unicode escape begins.
+fn escape_at(text: &[char]) -> Option<usize>
+    ensures { MatchOption result (HasNoUnicodeEscape text.now) (λ n. (n < length text.now) × IsFirstEscape text.now (take n text.now)) }
+{
+    let mut slash = false;
+    for (i, c) in text.iter().enumerate() {
+        if slash && *c == 'u' {
+            return Some(i - 1);
+        }
+        slash = !slash && *c == '\\';
+    }
+    None
+}
+
+/// The characters of a text.
+fn characters(alloc: Global, text: &str) -> Result<Vec<char>, AllocError>
+    ensures { IfOk result (λ cs. cs.items ≡ chars text.now) }
+{
+    let mut characters = Vec::new(alloc);
+    for c in text.chars() {
+        characters.push(c)?;
+    }
+    Ok(characters)
+}
+
+/// The row of a fault behind so many characters of a text whose first byte is `at`.
+fn row_at(text: &[char], file: FileNo, at: u32, fault: Fault) -> Row
+    requires before { fault.before < length text.now }
+    requires fits { at + width text.now < 2 ^ 32 }
+    ensures code { result.code ≡ fault.code }
+    ensures place { (c : ℕ) × (slice_get text.now fault.before ≡ Some c) × IsAtCharacter file (at + width (take fault.before text.now)) c result }
+{
+    let from = at + width(&text[..fault.before]) as u32;
+    let to = from + text[fault.before].len_utf8() as u32;
+    Row {
+        span: Span { file, from, to },
+        code: fault.code,
+    }
+}
+
+/// The kind of the token that the word spells; its text is numbered in `names`. On want of memory the names are as before.
+fn kind_of(
+    alloc: Global,
+    shape: Shape,
+    word: &[char],
+    names: &mut Names,
+) -> Result<TokenKind, OutOfMemory>
+    requires room { length names.old < 2 ^ 32 - 1 }
+    requires quotes { shape ≡ Quoted → 2 ≤ length word.now }
+    ensures kind { IfOk result (λ kind. kind ≡ kind_of names.old (lexeme_of shape word.now)) }
+    ensures names { OnOk result (names.new ≡ names_with names.old (lexeme_of shape word.now)) }
+    ensures unchanged { OnErr result (names.new ≡ names.old) }
+{
+    match shape {
+        Shape::Word => {
+            let text = text_of(alloc, word)?;
+            let name = names.intern(text.as_str())?;
+            Ok(TokenKind::Id(name))
+        }
+        Shape::Quoted => {
+            let text = value_of(alloc, &word[1..word.len() - 1])?;
+            let name = names.intern(text.as_str())?;
+            Ok(TokenKind::Str(name))
+        }
+        Shape::Number(value) => Ok(TokenKind::Number(value)),
+        Shape::Fixed(kind) => Ok(kind),
+    }
+}
+
+/// The tokens of the characters.
+fn tokens_of(
+    alloc: Global,
+    text: &[char],
+    file: FileNo,
+    names: &mut Names,
+) -> Result<Vec<Token>, Fail<Row>>
+    requires { length names.old + width text.now < 2 ^ 32 - 1 }
+    ensures ok { IfOk result (λ tokens. IsLexing file text.now names.old tokens.items names.new) }
+    ensures refused { IfErr result (λ fail. IfRefused fail (λ row. IsTokenFault file text.now row)) }
+    ensures extends { Extends names.old names.new }
+{
+    let mut tokens = Vec::new(alloc);
+    let mut rest = text;
+    let mut at = 0;
+    loop {
+        let gap = match gap_len(rest) {
+            Ok(gap) => gap,
+            Err(before) => {
+                let open = Fault {
+                    code: Code::L4,
+                    before,
+                };
+                return Err(Fail::Refused(row_at(rest, file, at, open)));
+            }
+        };
+        let from = at + width(&rest[..gap]) as u32;
+        rest = &rest[gap..];
+        if rest.len() == 0 {
+            return Ok(tokens);
+        }
+        let found = match token_at(rest) {
+            Ok(found) => found,
+            Err(fault) => return Err(Fail::Refused(row_at(rest, file, from, fault))),
+        };
+        let word = &rest[..found.count];
+        let to = from + width(word) as u32;
+        let kind = kind_of(alloc, found.shape, word, names)?;
+        let token = Token {
+            kind,
+            span: Span { file, from, to },
+        };
+        if let Err(_) = tokens.push(token) {
+            return Err(Fail::OutOfMemory);
+        }
+        rest = &rest[found.count..];
+        at = to;
+    }
+}
+
+/// The tokens of a file's bytes; the texts of identifiers and strings are numbered in `names`, in the order of the tokens.
+///
+/// It refuses with the row of the text's fault: L1 where the bytes aren't UTF-8, else L2 at the first Unicode escape, else L3 to L7 at the first place where a token should begin and none can.
+/// After a refusal or want of memory `names` has perhaps some names more, behind the old ones.
+pub fn lex(
+    alloc: Global,
+    text: &[u8],
+    file: FileNo,
+    names: &mut Names,
+) -> Result<Vec<Token>, Fail<Row>>
+    requires { length names.old + length text.now < 2 ^ 32 - 1 }
+    ensures ok { IfOk result (λ tokens. Lexed file text.now names.old tokens.items names.new) }
+    ensures refused { IfErr result (λ fail. IfRefused fail (λ row. LexicalFault file text.now row)) }
+    ensures extends { Extends names.old names.new }
+{
+    let decoded = match str::from_utf8(text) {
+        Ok(decoded) => decoded,
+        Err(error) => {
+            let from = error.valid_up_to() as u32;
+            let to = from + 1;
+            return Err(Fail::Refused(Row {
+                span: Span { file, from, to },
+                code: Code::L1,
+            }));
+        }
+    };
+    let text = characters(alloc, decoded)?;
+    if let Some(before) = escape_at(&text) {
+        let escape = Fault {
+            code: Code::L2,
+            before,
+        };
+        return Err(Fail::Refused(row_at(&text, file, 0, escape)));
+    }
+    tokens_of(alloc, &text, file, names)
+}

@@ -1,0 +1,16 @@
+// Texts as tokens.
+#![tactic(auto)]
+
+mod characters;
+mod gap;
+mod lexing;
+mod numbers;
+mod shape;
+mod spelling;
+mod strings;
+mod words;
+
+pub use lexing::lex;
+
+#[cfg(test)]
+mod tests;

@@ -1,0 +1,249 @@
+// The tokens that have one spelling.
+
+ghost use Rattle.std.specs.Prelude.{◌≡◌, find};
+ghost use Rattle.jn_lexer.specs.Spelling.{spelling};
+ghost use Rattle.jn_lexer.specs.Scan.{begins, is_spelled};
+
+use jn_trees::TokenKind;
+
+/// The keywords, and the words of literals.
+pub const WORDS: [TokenKind; 53] = [
+    TokenKind::Abstract,
+    TokenKind::Assert,
+    TokenKind::Boolean,
+    TokenKind::Break,
+    TokenKind::Byte,
+    TokenKind::Case,
+    TokenKind::Catch,
+    TokenKind::Char,
+    TokenKind::Class,
+    TokenKind::Const,
+    TokenKind::Continue,
+    TokenKind::Default,
+    TokenKind::Do,
+    TokenKind::Double,
+    TokenKind::Else,
+    TokenKind::Enum,
+    TokenKind::Extends,
+    TokenKind::Final,
+    TokenKind::Finally,
+    TokenKind::Float,
+    TokenKind::For,
+    TokenKind::Goto,
+    TokenKind::If,
+    TokenKind::Implements,
+    TokenKind::Import,
+    TokenKind::Instanceof,
+    TokenKind::Int,
+    TokenKind::Interface,
+    TokenKind::Long,
+    TokenKind::Native,
+    TokenKind::New,
+    TokenKind::Package,
+    TokenKind::Private,
+    TokenKind::Protected,
+    TokenKind::Public,
+    TokenKind::Return,
+    TokenKind::Short,
+    TokenKind::Static,
+    TokenKind::Strictfp,
+    TokenKind::Super,
+    TokenKind::Switch,
+    TokenKind::Synchronized,
+    TokenKind::This,
+    TokenKind::Throw,
+    TokenKind::Throws,
+    TokenKind::Transient,
+    TokenKind::Try,
+    TokenKind::Void,
+    TokenKind::Volatile,
+    TokenKind::While,
+    TokenKind::True,
+    TokenKind::False,
+    TokenKind::Null,
+];
+
+/// The operators of two characters.
+pub const PAIRS: [TokenKind; 13] = [
+    TokenKind::EqualEqual,
+    TokenKind::LessEqual,
+    TokenKind::GreaterEqual,
+    TokenKind::NotEqual,
+    TokenKind::AndAnd,
+    TokenKind::OrOr,
+    TokenKind::PlusPlus,
+    TokenKind::MinusMinus,
+    TokenKind::PlusAssign,
+    TokenKind::MinusAssign,
+    TokenKind::StarAssign,
+    TokenKind::SlashAssign,
+    TokenKind::PercentAssign,
+];
+
+/// The separators and operators of one character.
+pub const SINGLES: [TokenKind; 21] = [
+    TokenKind::LeftParen,
+    TokenKind::RightParen,
+    TokenKind::LeftBrace,
+    TokenKind::RightBrace,
+    TokenKind::LeftBracket,
+    TokenKind::RightBracket,
+    TokenKind::Semicolon,
+    TokenKind::Comma,
+    TokenKind::Dot,
+    TokenKind::At,
+    TokenKind::Assign,
+    TokenKind::Greater,
+    TokenKind::Less,
+    TokenKind::Not,
+    TokenKind::Question,
+    TokenKind::Colon,
+    TokenKind::Plus,
+    TokenKind::Minus,
+    TokenKind::Star,
+    TokenKind::Slash,
+    TokenKind::Percent,
+];
+
+/// The one spelling of a kind of token; empty for identifiers, strings and numbers.
+pub fn spelling(kind: TokenKind) -> &'static str
+    ensures { result.now ≡ spelling kind }
+{
+    match kind {
+        TokenKind::Id(_) | TokenKind::Str(_) | TokenKind::Number(_) => "",
+        TokenKind::Abstract => "abstract",
+        TokenKind::Assert => "assert",
+        TokenKind::Boolean => "boolean",
+        TokenKind::Break => "break",
+        TokenKind::Byte => "byte",
+        TokenKind::Case => "case",
+        TokenKind::Catch => "catch",
+        TokenKind::Char => "char",
+        TokenKind::Class => "class",
+        TokenKind::Const => "const",
+        TokenKind::Continue => "continue",
+        TokenKind::Default => "default",
+        TokenKind::Do => "do",
+        TokenKind::Double => "double",
+        TokenKind::Else => "else",
+        TokenKind::Enum => "enum",
+        TokenKind::Extends => "extends",
+        TokenKind::Final => "final",
+        TokenKind::Finally => "finally",
+        TokenKind::Float => "float",
+        TokenKind::For => "for",
+        TokenKind::Goto => "goto",
+        TokenKind::If => "if",
+        TokenKind::Implements => "implements",
+        TokenKind::Import => "import",
+        TokenKind::Instanceof => "instanceof",
+        TokenKind::Int => "int",
+        TokenKind::Interface => "interface",
+        TokenKind::Long => "long",
+        TokenKind::Native => "native",
+        TokenKind::New => "new",
+        TokenKind::Package => "package",
+        TokenKind::Private => "private",
+        TokenKind::Protected => "protected",
+        TokenKind::Public => "public",
+        TokenKind::Return => "return",
+        TokenKind::Short => "short",
+        TokenKind::Static => "static",
+        TokenKind::Strictfp => "strictfp",
+        TokenKind::Super => "super",
+        TokenKind::Switch => "switch",
+        TokenKind::Synchronized => "synchronized",
+        TokenKind::This => "this",
+        TokenKind::Throw => "throw",
+        TokenKind::Throws => "throws",
+        TokenKind::Transient => "transient",
+        TokenKind::Try => "try",
+        TokenKind::Void => "void",
+        TokenKind::Volatile => "volatile",
+        TokenKind::While => "while",
+        TokenKind::True => "true",
+        TokenKind::False => "false",
+        TokenKind::Null => "null",
+        TokenKind::LeftParen => "(",
+        TokenKind::RightParen => ")",
+        TokenKind::LeftBrace => "{",
+        TokenKind::RightBrace => "}",
+        TokenKind::LeftBracket => "[",
+        TokenKind::RightBracket => "]",
+        TokenKind::Semicolon => ";",
+        TokenKind::Comma => ",",
+        TokenKind::Dot => ".",
+        TokenKind::At => "@",
+        TokenKind::Assign => "=",
+        TokenKind::Greater => ">",
+        TokenKind::Less => "<",
+        TokenKind::Not => "!",
+        TokenKind::Question => "?",
+        TokenKind::Colon => ":",
+        TokenKind::EqualEqual => "==",
+        TokenKind::LessEqual => "<=",
+        TokenKind::GreaterEqual => ">=",
+        TokenKind::NotEqual => "!=",
+        TokenKind::AndAnd => "&&",
+        TokenKind::OrOr => "||",
+        TokenKind::PlusPlus => "++",
+        TokenKind::MinusMinus => "--",
+        TokenKind::Plus => "+",
+        TokenKind::Minus => "-",
+        TokenKind::Star => "*",
+        TokenKind::Slash => "/",
+        TokenKind::Percent => "%",
+        TokenKind::PlusAssign => "+=",
+        TokenKind::MinusAssign => "-=",
+        TokenKind::StarAssign => "*=",
+        TokenKind::SlashAssign => "/=",
+        TokenKind::PercentAssign => "%=",
+    }
+}
+
+/// Whether the text begins with the word.
+fn begins(text: &[char], word: &str) -> bool
+    ensures { result ≡ begins text.now word.now }
+{
+    let word = word.as_bytes();
+    if text.len() < word.len() {
+        return false;
+    }
+    for i in 0..word.len() {
+        if text[i] != word[i] as char {
+            return false;
+        }
+    }
+    true
+}
+
+/// The first of the kinds whose spelling stands at the text's front.
+pub fn kind_begun(kinds: &[TokenKind], text: &[char]) -> Option<TokenKind>
+    ensures { result ≡ find (λ kind. begins text.now (spelling kind)) kinds.now }
+{
+    for kind in kinds {
+        if begins(text, spelling(*kind)) {
+            return Some(*kind);
+        }
+    }
+    None
+}
+
+/// Whether the characters are the word's.
+fn is_spelled(text: &[char], word: &str) -> bool
+    ensures { result ≡ is_spelled text.now word.now }
+{
+    text.len() == word.len() && begins(text, word)
+}
+
+/// The first of the kinds whose spelling the word is.
+pub fn kind_spelled(kinds: &[TokenKind], word: &[char]) -> Option<TokenKind>
+    ensures { result ≡ find (λ kind. is_spelled word.now (spelling kind)) kinds.now }
+{
+    for kind in kinds {
+        if is_spelled(word, spelling(*kind)) {
+            return Some(*kind);
+        }
+    }
+    None
+}
