@@ -14,33 +14,11 @@ use Rattle.jn_sigtable.specs.Machine.IsCovered.{closed, dirty, owed, run}
 use Rattle.jn_sigtable.proofs.Frames.{at_below, finished_closed}
 use Rattle.std.proofs.Common.{◌*◌, ◌^◌, sum_by, max, pow_pos, length-take, get_or-take, take, ext_get_or}
 use Rattle.std.proofs.lemmas.List.Sums.{sum_by-set, sum_by-cons}
-use Rattle.std.proofs.lemmas.List.FromFn.{get_or-map-range_with_len, length-map-range_with_len}
 use Rattle.std.proofs.lemmas.Nat.Bits.{same_from_bits}
-use Rattle.jn_sigtable.specs.System.{added, round, rounds}
+use Rattle.jn_sigtable.proofs.LeastWords.{rounds_within}
 use Rattle.jn_sigtable.proofs.Frames.{get_of}
 use Rattle.jn_sigtable.specs.Machine.{start_of, AreBetween, HasAll, dirty_words, IsClosedFor, IsCurrent, IsAtRest, IsLive, IsFine, AddUp, IsWhole, Has, Holds, weight}
-use Rattle.jn_sigtable.proofs.Bits.{within_trans, or_within}
 use Rattle.jn_sigtable.proofs.Keeping.{none_has}
-
--- ---- the least words are within all closed words above the start
-module _ (sys : System) (law : IsLawful sys) where
-  added_within : (n : ℕ) (xs ys : List ℕ) (w : ℕ) → n ≤ sys.bodies → length xs ≡ sys.words → Covers sys.words xs ys → IsClosed sys ys → w < sys.words → Within (added sys n xs w) (slice_index ys w)
-  added_within zero xs ys w le count cov top less = cov w less
-  added_within (suc n) xs ys w le count cov top less =
-      or_within _ _ _ (added_within n xs ys w (omega arith) count cov top less)
-      (within_trans _ (bits_for (sys.output n ys) w) _ (law.monotone n xs ys (omega arith) count top.count cov w less) (top.closed n (omega arith) w less))
-
-  pub round_count : (xs : List ℕ) → length (round sys xs) ≡ sys.words
-  round_count xs = length-map-range_with_len (added sys sys.bodies xs) 0 sys.words
-
-  round_within : (xs ys : List ℕ) → length xs ≡ sys.words → Covers sys.words xs ys → IsClosed sys ys → Covers sys.words (round sys xs) ys
-  round_within xs ys count cov top w less =
-      let e : slice_index (round sys xs) w ≡ added sys sys.bodies xs w = get_or-map-range_with_len (added sys sys.bodies xs) 0 sys.words w w 0 less (omega arith) in
-      subst (λ x. Within x (slice_index ys w)) (sym e) (added_within sys.bodies xs ys w (omega arith) count cov top less)
-
-  pub rounds_within : (n : ℕ) (xs ys : List ℕ) → length xs ≡ sys.words → Covers sys.words xs ys → IsClosed sys ys → Covers sys.words (rounds sys n xs) ys
-  rounds_within zero xs ys count cov top = cov
-  rounds_within (suc n) xs ys count cov top = rounds_within n (round sys xs) ys (round_count xs) (round_within xs ys count cov top) top
 
 pub within_same : (a b : ℕ) → Within a b → Within b a → a ≡ b
 within_same a b p q = same_from_bits a b (λ i. let x = p i in let y = q i in omega arith)

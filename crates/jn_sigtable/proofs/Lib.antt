@@ -1,4 +1,5 @@
 pub mod Bits
+pub mod LeastWords
 pub mod Frames
 pub mod Keeping
 pub mod TakeKept
@@ -8,4 +9,3 @@ pub mod MarkKept
 pub mod SplitKept
 pub mod Closing
 pub mod OpenKept
-pub mod LeastClosed

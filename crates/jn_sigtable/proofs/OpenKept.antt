@@ -6,32 +6,19 @@ use Rattle.std.specs.Prelude.{slice_index}
 use Rattle.std.specs.Int.{bit_at}
 use Rattle.jn_sigtable.specs.declared.view.View.{View}
 use Rattle.jn_sigtable.specs.declared.view.Setting.{Setting}
-use Rattle.jn_sigtable.specs.System.{System, IsLawful, IsClosed, Within, Covers, bits_for, least, limit_of}
+use Rattle.jn_sigtable.specs.System.{System, IsLawful, IsClosed, Within, least, limit_of}
 use Rattle.jn_sigtable.specs.Machine.IsCovered.{dirty}
 use Rattle.std.proofs.Common.{◌*◌, ◌^◌, take, length-append, get_or-append-add}
 use Rattle.std.proofs.lemmas.List.{length-replicate, append_assoc}
 use Rattle.std.proofs.lemmas.List.FromFn.{get_or-map-range_with_len, length-map-range_with_len, map-range_with_len_more}
 use Rattle.std.proofs.lemmas.Nat.Bits.{bit_at_ones}
 use Rattle.atomic_table.specs.Table.{opening}
-use Rattle.jn_sigtable.specs.System.{added, round, rounds}
 use Rattle.jn_sigtable.specs.Machine.{start_of, IsBelow, IsDirty, IsLive, Holds, opening_words, first_view, dirty_words, dirty_bits}
 use Rattle.std.specs.List.{range_with_len}
 use Rattle.std.proofs.Common.{min, map}
-use Rattle.jn_sigtable.proofs.Bits.{within_trans, within_refl, within_or_l, zero_within, place_below}
+use Rattle.jn_sigtable.proofs.Bits.{within_refl, zero_within, place_below}
 use Rattle.jn_sigtable.proofs.TakeKept.{at_replicate}
-
--- rounds only add
-module _ (sys : System) (law : IsLawful sys) where
-  added_more : (n : ℕ) (xs : List ℕ) (w : ℕ) → Within (slice_index xs w) (added sys n xs w)
-  added_more zero xs w = within_refl (slice_index xs w)
-  added_more (suc n) xs w = within_trans _ (added sys n xs w) _ (added_more n xs w) (within_or_l (added sys n xs w) (bits_for (sys.output n xs) w))
-
-  pub round_more : (xs : List ℕ) → Covers sys.words xs (round sys xs)
-  round_more xs w less = subst (Within (slice_index xs w)) (sym (get_or-map-range_with_len (added sys sys.bodies xs) 0 sys.words w w 0 less (omega arith))) (added_more sys.bodies xs w)
-
-  pub rounds_more : (n : ℕ) (xs : List ℕ) → Covers sys.words xs (rounds sys n xs)
-  rounds_more zero xs w less = within_refl (slice_index xs w)
-  rounds_more (suc n) xs w less = within_trans _ (slice_index (round sys xs) w) _ (round_more xs w less) (rounds_more n (round sys xs) w less)
+use Rattle.jn_sigtable.proofs.LeastWords.{rounds_more}
 
 at_front : (xs ys : List ℕ) (i : ℕ) → i < length xs → slice_index (xs ++ ys) i ≡ slice_index xs i
 at_front [] ys i h = absurd (omega arith)

@@ -4,6 +4,7 @@ use Rattle.std.specs.List.{range_with_len}
 use Rattle.std.specs.Int.{bit_at}
 use lib.ListN.{get_elem?}
 use mathlib.Core.Option.{some}
+use Rattle.jn_fixpoint.specs.Climb.{rounds, IsLeastFixpoint}
 use Rattle.jn_base.specs.declared.number.WordNo.{WordNo}
 
 -- how many bodies and words there are, whether a body reads a word, and what a body outputs on a list of words
@@ -63,17 +64,13 @@ added sys (suc n) words w = bit_or (added sys n words w) (bits_for (sys.output n
 abbrev pub round : System → List ℕ → List ℕ
 round sys words = map (added sys sys.bodies words) (range_with_len 0 sys.words)
 
-abbrev pub rounds : System → ℕ → List ℕ → List ℕ
-rounds sys zero words = words
-rounds sys (suc n) words = rounds sys n (round sys words)
-
 -- the least words above a start: whole rounds until nothing changes. Each round that changes something adds a bit, and there are 64 to a word
 abbrev pub least : System → List ℕ → List ℕ
-least sys start = rounds sys (64 * sys.words) start
+least sys start = rounds (round sys) (64 * sys.words) start
 
--- what makes words the least ones: nothing changes in a further round, they are closed and have all bits of the start, and are within all closed words that have these
+-- what makes words the least ones: rounds from the start end in them, they are closed and have all bits of the start, and are within all closed words that have these
 pub record IsLeast (sys : System) (start words : List ℕ) : Type 0 where
-  pub still : round sys words ≡ words
+  pub fixpoint : IsLeastFixpoint (round sys) start words
   pub closed : IsClosed sys words
   pub above : Covers sys.words start words
   pub below : (others : List ℕ) → IsClosed sys others → Covers sys.words start others → Covers sys.words words others

@@ -1,5 +1,5 @@
 use Rattle.std.proofs.Common.{arith}
-use Rattle.jn_sigtable.proofs.LeastClosed.{least_is_least}
+use Rattle.jn_sigtable.proofs.LeastWords.{least_is_least}
 use Rattle.jn_sigtable.proofs.laws.least_words_are_least.Goals as goal
 
 pub returns : goal.returns
