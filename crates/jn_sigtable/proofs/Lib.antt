@@ -1,0 +1,11 @@
+pub mod Bits
+pub mod LeastWords
+pub mod Frames
+pub mod Keeping
+pub mod TakeKept
+pub mod ReadKept
+pub mod RaiseKept
+pub mod MarkKept
+pub mod SplitKept
+pub mod Closing
+pub mod OpenKept
