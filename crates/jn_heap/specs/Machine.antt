@@ -1,5 +1,5 @@
 -- The machine: what one point does to heap, frames, static numbers and the text printed (JLS 8, 15.6, 15.7, 15.12 and 12.5), runs, and null faults.
-use Rattle.std.specs.Prelude.{ℕ, zero, suc, ◌+◌, ◌≡◌, Bool, true, false, cond, not, eqb, ltb, nat_lt, List, [], ◌∷◌, ◌++◌, length, replicate, ℤ, Option, Some, None, slice_get, slice_set, slice_index_or}
+use Rattle.std.specs.Prelude.{ℕ, zero, suc, ◌+◌, ◌≡◌, Bool, true, false, cond, not, eqb, ltb, List, [], ◌∷◌, ◌++◌, length, replicate, ℤ, Option, Some, None, slice_get, slice_set, slice_index_or}
 use Rattle.jn_base.specs.declared.number.RegNo.{RegNo}
 use Rattle.jn_base.specs.declared.number.SlotNo.{SlotNo}
 use Rattle.jn_quals.specs.Order.{committed_only}
@@ -200,7 +200,7 @@ text_or_long t false = Gives (Text t)
 abbrev pub concat_of : Option (List ℕ) → Option (List ℕ) → Got Value
 concat_of None u = Lacks
 concat_of (Some t) None = Lacks
-concat_of (Some t) (Some u) = text_or_long (t ++ u) (nat_lt longest (units (t ++ u)))
+concat_of (Some t) (Some u) = text_or_long (t ++ u) (ltb longest (units (t ++ u)))
 
 abbrev pub same_of : Bool → Option Value → Option Value → Got Value
 same_of equal None w = Lacks
@@ -357,7 +357,7 @@ module _ (P : Program) where
 
   -- a frame for the method's body, where that makes at most so many
   abbrev pub enters : State → List Thing → ℕ → List Value → Next
-  enters st heap m vs = enter (nat_lt deepest (length st.waiting + 2)) st heap (body_of (method_at P m)) vs
+  enters st heap m vs = enter (ltb deepest (length st.waiting + 2)) st heap (body_of (method_at P m)) vs
 
   -- JLS 8, 15.9.4: the object with default fields, then its constructor
   abbrev pub news : State → ℕ → Option (List Value) → Next

@@ -1,5 +1,5 @@
 -- Values, things on the heap, and arithmetic and text operations on values. Numbers are 32 bits (JLS 8, 4.2.1).
-use Rattle.std.specs.Prelude.{ℕ, ◌+◌, ◌%◌, ◌^◌, Bool, true, false, cond, not, ◌&&◌, nat_le, nat_lt, eqb, List, [], ◌∷◌, ℤ, pos, negsuc, codes, bytes_eq, Option, Some, None}
+use Rattle.std.specs.Prelude.{ℕ, ◌+◌, ◌%◌, ◌^◌, Bool, true, false, cond, not, ◌&&◌, nat_le, ltb, eqb, List, [], ◌∷◌, ℤ, pos, negsuc, codes, bytes_eq, Option, Some, None}
 use Rattle.std.specs.Int.{cast_signed, int_wrapping_add, int_wrapping_sub, int_wrapping_mul, int_wrapping_div, int_wrapping_neg, w32}
 use Rattle.std.specs.Int.RustNames.{int_lt, int_le, int_rem}
 use Rattle.std.specs.Fmt.{signed_decimal}
@@ -151,7 +151,7 @@ index (negsuc n) = None
 
 -- the length of a new array (JLS 8, 15.10.1)
 abbrev pub count : ℤ → Got ℕ
-count (pos n) = cond (nat_lt longest n) (Fails Long) (Gives n)
+count (pos n) = cond (ltb longest n) (Fails Long) (Gives n)
 count (negsuc n) = Fails NegativeSize
 
 -- JLS 8, 4.12.5

@@ -1,0 +1,14 @@
+pub mod Fits
+pub mod Basics
+pub mod Tops
+pub mod Values
+pub mod Laters
+pub mod Writes
+pub mod Grows
+pub mod Plains
+pub mod Enters
+pub mod Commits
+pub mod Leaves
+pub mod Sound
+pub mod Typing
+pub mod Whole

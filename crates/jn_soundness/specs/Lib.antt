@@ -1,0 +1,4 @@
+pub mod World
+pub mod Checked
+pub mod Good
+pub mod Types

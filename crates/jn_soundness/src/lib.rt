@@ -1,0 +1,2 @@
+// The law that accepted programs never dereference null.
+#![tactic(auto)]
