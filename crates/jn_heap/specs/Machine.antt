@@ -475,7 +475,7 @@ module _ (P : Program) where
     waiting = [];
   }
 
-  -- method m is of the form main, with body b: its one parameter's slot starts as {C}
+  -- method m is of the form main, with body b: its one parameter's slot is written or by default {C}
   pub record MainForm (m b : ℕ) : Type 0 where
     pub method : Method
     pub there : method_at P m ≡ Some method
@@ -485,6 +485,7 @@ module _ (P : Program) where
     pub info : SlotInfo
     pub param : method.param_slots ≡ Some slot ∷ []
     pub start : slice_get P.slots slot.0 ≡ Some info
+    pub written : info.inferred ≡ false
     pub committed : info.start ≡ committed_only
 
   -- no run of a main reaches a null dereference, with any texts of strings, any words and any number of steps

@@ -17,7 +17,7 @@ use Rattle.jn_soundness.specs.Checked.{ArgsPass, Chains, Checked, Early, PointOk
 use Rattle.jn_soundness.specs.Good.{ArgsRef, AssignedOk, Building, Committed, Ctor, CtorOk, Described, Describes, EraStep, FactOk, FieldOk, FieldSet, FrameMark, Free, FreeField, Good, GoodNext, GoodTop, HeapOk, HoldsRef, IsMember, MarkFits, Marking, Marks, ObjMark, Overrides, SupersEnded, Typed, Unborn, Waiting, Waits}
 use Rattle.jn_heap.specs.Values.{At, NullRef, Object, Plain, Prim, Text, Thing, Value, deepest, default_of, defaults, same}
 use Rattle.jn_env.specs.declared.env.Env.{Env}
-use Rattle.jn_heap.specs.Machine.{Regs, State, act, calls, calls_on, calls_this, class_in, ctor_calls, enter, entered, field_in, gather, gather_more, news, object_of, pad, selected, value_at}
+use Rattle.jn_heap.specs.Machine.{Regs, State, act, calls, calls_on, calls_this, class_in, ctor_calls, enter, entered, field_in, gather, gather_more, news, object_of, pad, selected, value_at, returns, value_of}
 use Rattle.jn_soundness.specs.World.{World, param_quals}
 use Rattle.jn_transfer.specs.Transfer.{all_settled, any_empty, any_free, entry_env, given_quals, new_qual, ref_quals, this_qual}
 use Rattle.jn_points.specs.Members.{below, has_field}
@@ -247,7 +247,7 @@ module _ (W : World) (checked : Checked W) where
       by None io = tt
       by (Some o) io = this_call dst m r direct args is p rp ty vs iv o (object_is (value_at st.top.regs r.reg.0) o io) (selected W.program st.heap o m.0 direct) refl
 
-    pub call_kind : (dst : Option RegNo) (m : MethodNo) (r : Option Operand) (direct : Bool) (args : List Operand) → pt.kind ≡ Call dst m r direct args → PointOk W st.top.body st.top.at good.top.env (Call dst m r direct args) → Typed W st (Call dst m r direct args) → GoodNext W (act W.program W.names st (Call dst m r direct args))
+    pub call_kind : (dst : Option RegNo) (m : MethodNo) (r : Option Operand) (direct : Bool) (args : List Operand) → pt.kind ≡ Call dst m r direct args → PointOk W st.top.body st.top.at good.top.env (Call dst m r direct args) → Typed W st (Call dst m r direct args) → GoodNext W (calls W.program st m.0 r direct (gather st.top.regs args))
     call_kind dst m None direct args is ok ty = static_call dst m direct args is ok.rules.0 ok.rules.1 ok.names (gather st.top.regs args) refl
     call_kind dst m (Some r) direct args is ok ty = on_call dst m r direct args is ok.rules.0 ok.rules.1 ty (gather st.top.regs args) refl (object_of (value_at st.top.regs r.reg.0)) refl
 
@@ -279,7 +279,7 @@ module _ (W : World) (checked : Checked W) where
     ctor_value m args own is ch p (Some vs) iv None ib c = true_false (ctor_of (method_in W.program st.top.body)) ch.inside c
     ctor_value m args own is ch p (Some vs) iv (Some o) ib c = subst (λ v. GoodNext W (ctor_calls W.program st m.0 v (Some vs))) (sym c.this) (ctor_entry m args own is ch o ib c vs (args_of (param_quals W m.0) args vs p iv) (ltb deepest (length st.waiting + 2)) (body_of (method_at W.program m.0)) refl)
 
-    pub ctor_kind : (m : MethodNo) (args : List Operand) (own : Bool) → pt.kind ≡ CtorCall m args own → PointOk W st.top.body st.top.at good.top.env (CtorCall m args own) → GoodNext W (act W.program W.names st (CtorCall m args own))
+    pub ctor_kind : (m : MethodNo) (args : List Operand) (own : Bool) → pt.kind ≡ CtorCall m args own → PointOk W st.top.body st.top.at good.top.env (CtorCall m args own) → GoodNext W (ctor_calls W.program st m.0 (value_at st.top.regs 0) (gather st.top.regs args))
     ctor_kind m args own is ok = ctor_value m args own is ok.names ok.rules (gather st.top.regs args) refl mk.top.built refl good.top.stands.ctor
 
     -- new
@@ -396,5 +396,5 @@ module _ (W : World) (checked : Checked W) where
     new_value dst m args is c p None iv ty = tt
     new_value dst m args is c p (Some vs) iv ty = new_by dst m args is c p vs iv ty (any_free (ref_quals good.top.env (slots_of (method_at W.program m.0)) args)) refl (ltb deepest (length st.waiting + 2)) (body_of (method_at W.program m.0)) refl
 
-    pub new_kind : (dst : RegNo) (m : MethodNo) (args : List Operand) → pt.kind ≡ New dst m args → PointOk W st.top.body st.top.at good.top.env (New dst m args) → Typed W st (New dst m args) → GoodNext W (act W.program W.names st (New dst m args))
+    pub new_kind : (dst : RegNo) (m : MethodNo) (args : List Operand) → pt.kind ≡ New dst m args → PointOk W st.top.body st.top.at good.top.env (New dst m args) → Typed W st (New dst m args) → GoodNext W (news W.program st m.0 (gather st.top.regs args))
     new_kind dst m args is ok ty = new_value dst m args is ok.names ok.rules (gather st.top.regs args) refl ty

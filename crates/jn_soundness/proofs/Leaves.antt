@@ -21,6 +21,7 @@ use Rattle.jn_points.specs.Members.{has_field}
 use Rattle.jn_env.specs.Order.{qual_at}
 use Rattle.jn_sigs.specs.Signature.{result_of}
 use Rattle.jn_quals.specs.Order.{within}
+use Rattle.jn_soundness.proofs.Keys.{keys_own}
 use Rattle.jn_soundness.proofs.Basics.{true_false, describes_within, described_at, described_set, value_zero, on_cleared}
 use Rattle.jn_soundness.proofs.Tops.{Step, plain_step, goes_top, facts_set, some_zero, arrives, no_test}
 use Rattle.jn_soundness.proofs.Laters.{Later, stands_later, waiting_later, all_later, AllLater}
@@ -200,7 +201,7 @@ module _ (W : World) (checked : Checked W) where
 
           caller_assigned : (t : Bool) → own ≡ t → AllOn (FieldSet W st.heap o) (own_keys W.program w.body) (ctor_called W.program w.body x.frame.env t).assigned
           caller_assigned false s = subst (λ y. AssignedOk W st.heap y w.body x.frame.env.assigned) same_built stands1.assigned
-          caller_assigned true s = all_own st.heap o (class_of (method_in W.program w.body)) (own_keys W.program w.body) (ctor_called W.program w.body x.frame.env true).assigned (checked.own w.body) (λ f y. set assigned f (y ∙ (sym (p.names.same s) ∙ sym n.class)))
+          caller_assigned true s = all_own st.heap o (class_of (method_in W.program w.body)) (own_keys W.program w.body) (ctor_called W.program w.body x.frame.env true).assigned (keys_own W w.body) (λ f y. set assigned f (y ∙ (sym (p.names.same s) ∙ sym n.class)))
 
           caller_facts : (t : Bool) → AllOn (FactOk W st.heap w.regs) (fact_keys W.program w.body) (ctor_called W.program w.body x.frame.env t).facts
           caller_facts false = on_cleared (FactOk W st.heap w.regs) (fact_keys W.program w.body) x.frame.env.facts
@@ -245,5 +246,5 @@ module _ (W : World) (checked : Checked W) where
     waiting_return (f ∷ ws) [] w h = absurd w
     waiting_return (f ∷ ws) (g ∷ hs) w h = frame_return f ws g hs w.0 w.1 h
 
-    pub return_kind : GoodNext W (act W.program W.names st (Return vo))
+    pub return_kind : GoodNext W (returns W.program st st.waiting (value_at st.top.regs 0) (value_of st.top.regs vo))
     return_kind = waiting_return st.waiting mk.waiting good.waiting good.heap

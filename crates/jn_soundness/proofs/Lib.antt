@@ -1,3 +1,4 @@
+pub mod Keys
 pub mod Fits
 pub mod Basics
 pub mod Tops

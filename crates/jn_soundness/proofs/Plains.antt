@@ -308,36 +308,36 @@ module _ (W : World) (st : State) (mk : Marking) (good : Good W st mk) where
   IsPlainKind (Return v) = ⊥
   IsPlainKind k = Unit {0}
 
-  pub plain_good : (k : PointKind) → IsPlainKind k → PointOk W st.top.body st.top.at good.top.env k → test_at W st.top.body st.top.at ≡ test_of k → TestOk W st.heap st.top.regs (test_of k) → Typed W st k → GoodNext W (act W.program W.names st k)
-  plain_good (Const dst value) x ok pl t ty = sets_good dst.0 (literal_qual value) (literal_value W.names value) (plain_step W _ _ _ _ tt tt (ok.edges _ (inl refl))) ok.this_kept (literal_fits W mk.marks mk.top.era value)
-  plain_good (Move dst from bound) x ok pl t ty = got_good dst.0 (qual_at good.top.env from.reg.0) (got_of (value_at st.top.regs from.reg.0)) (plain_step W _ _ _ _ tt tt (ok.edges _ (inl refl))) ok.this_kept (got_fits W mk.marks mk.top.era _ _ (described from.reg.0))
-  plain_good (Unary dst neg of) x ok pl t ty = got_good dst.0 no_qual _ (plain_step W _ _ _ _ tt tt (ok.edges _ (inl refl))) ok.this_kept (unary_fits W mk.marks mk.top.era neg (prim_of (value_at st.top.regs of.reg.0)))
-  plain_good (Binary dst op l r) x ok pl t ty = got_good dst.0 no_qual _ (plain_step W _ _ _ _ tt tt (ok.edges _ (inl refl))) ok.this_kept (binary_fits W mk.marks mk.top.era op (prim_of (value_at st.top.regs l.reg.0)) (prim_of (value_at st.top.regs r.reg.0)))
-  plain_good (Concat dst l r) x ok pl t ty = got_good dst.0 committed_only _ (plain_step W _ _ _ _ tt tt (ok.edges _ (inl refl))) ok.this_kept (concat_fits W mk.marks mk.top.era (text_in (value_at st.top.regs l.reg.0)) (text_in (value_at st.top.regs r.reg.0)))
-  plain_good (SameRef dst eq l r) x ok pl t ty = got_good dst.0 no_qual _ (plain_step W _ _ _ _ tt tt (ok.edges _ (inl refl))) ok.this_kept (same_fits W mk.marks mk.top.era eq (value_at st.top.regs l.reg.0) (value_at st.top.regs r.reg.0))
-  plain_good (FieldRead dst r f) x ok pl t ty =
+  pub plain_good : (names : List (List ℕ)) (k : PointKind) → IsPlainKind k → PointOk W st.top.body st.top.at good.top.env k → test_at W st.top.body st.top.at ≡ test_of k → TestOk W st.heap st.top.regs (test_of k) → Typed W st k → GoodNext W (act W.program names st k)
+  plain_good names (Const dst value) x ok pl t ty = sets_good dst.0 (literal_qual value) (literal_value names value) (plain_step W _ _ _ _ tt tt (ok.edges _ (inl refl))) ok.this_kept (literal_fits W mk.marks mk.top.era names value)
+  plain_good names (Move dst from bound) x ok pl t ty = got_good dst.0 (qual_at good.top.env from.reg.0) (got_of (value_at st.top.regs from.reg.0)) (plain_step W _ _ _ _ tt tt (ok.edges _ (inl refl))) ok.this_kept (got_fits W mk.marks mk.top.era _ _ (described from.reg.0))
+  plain_good names (Unary dst neg of) x ok pl t ty = got_good dst.0 no_qual _ (plain_step W _ _ _ _ tt tt (ok.edges _ (inl refl))) ok.this_kept (unary_fits W mk.marks mk.top.era neg (prim_of (value_at st.top.regs of.reg.0)))
+  plain_good names (Binary dst op l r) x ok pl t ty = got_good dst.0 no_qual _ (plain_step W _ _ _ _ tt tt (ok.edges _ (inl refl))) ok.this_kept (binary_fits W mk.marks mk.top.era op (prim_of (value_at st.top.regs l.reg.0)) (prim_of (value_at st.top.regs r.reg.0)))
+  plain_good names (Concat dst l r) x ok pl t ty = got_good dst.0 committed_only _ (plain_step W _ _ _ _ tt tt (ok.edges _ (inl refl))) ok.this_kept (concat_fits W mk.marks mk.top.era (text_in (value_at st.top.regs l.reg.0)) (text_in (value_at st.top.regs r.reg.0)))
+  plain_good names (SameRef dst eq l r) x ok pl t ty = got_good dst.0 no_qual _ (plain_step W _ _ _ _ tt tt (ok.edges _ (inl refl))) ok.this_kept (same_fits W mk.marks mk.top.era eq (value_at st.top.regs l.reg.0) (value_at st.top.regs r.reg.0))
+  plain_good names (FieldRead dst r f) x ok pl t ty =
       let edge = ok.edges (st.top.at + 1, put W.program st.top.body good.top.env dst.0 (read_qual W.program W.sig st.top.body good.top.env r.reg.0 f.0)) (inl refl) in
       read_good dst.0 r.reg.0 f.0 (put W.program st.top.body good.top.env dst.0 (read_qual W.program W.sig st.top.body good.top.env r.reg.0 f.0)) refl edge.within (edge.early tt) ok.this_kept
         (λ k is. subst (λ o. FromRead (FieldRead dst r f) o) is edge.test)
         (object_of (value_at st.top.regs r.reg.0)) refl
         (read_fits W mk.marks mk.top.era st.top.body good.top.env st.heap st.top.regs (mk.top ∷ mk.waiting) good.heap good.top.stands.quals r.reg.0 f.0 (object_of (value_at st.top.regs r.reg.0)) refl good.top.facts ty)
-  plain_good (FieldWrite r f s) x ok pl t ty = write_good r.reg.0 f.0 s.reg.0 ok.rules (plain_step W _ _ _ _ tt tt (ok.edges _ (inl refl))) (object_of (value_at st.top.regs r.reg.0)) (value_at st.top.regs s.reg.0) refl refl
-  plain_good (StaticRead dst f) x ok pl t ty = got_good dst.0 no_qual (got_plain (got_prim (slice_get st.statics f.0))) (plain_step W _ _ _ _ tt tt (ok.edges _ (inl refl))) ok.this_kept (plain_fits W mk.marks mk.top.era (got_prim (slice_get st.statics f.0)))
-  plain_good (StaticWrite f s) x ok pl t ty = static_good f.0 (prim_of (value_at st.top.regs s.reg.0)) (plain_step W _ _ _ _ tt tt (ok.edges _ (inl refl)))
-  plain_good (ElemRead dst r i) x ok pl t ty = got_good dst.0 (elem_read W.program st.top.body good.top.env r.reg.0) _ (plain_step W _ _ _ _ tt tt (ok.edges _ (inl refl))) ok.this_kept
+  plain_good names (FieldWrite r f s) x ok pl t ty = write_good r.reg.0 f.0 s.reg.0 ok.rules (plain_step W _ _ _ _ tt tt (ok.edges _ (inl refl))) (object_of (value_at st.top.regs r.reg.0)) (value_at st.top.regs s.reg.0) refl refl
+  plain_good names (StaticRead dst f) x ok pl t ty = got_good dst.0 no_qual (got_plain (got_prim (slice_get st.statics f.0))) (plain_step W _ _ _ _ tt tt (ok.edges _ (inl refl))) ok.this_kept (plain_fits W mk.marks mk.top.era (got_prim (slice_get st.statics f.0)))
+  plain_good names (StaticWrite f s) x ok pl t ty = static_good f.0 (prim_of (value_at st.top.regs s.reg.0)) (plain_step W _ _ _ _ tt tt (ok.edges _ (inl refl)))
+  plain_good names (ElemRead dst r i) x ok pl t ty = got_good dst.0 (elem_read W.program st.top.body good.top.env r.reg.0) _ (plain_step W _ _ _ _ tt tt (ok.edges _ (inl refl))) ok.this_kept
       (elem_fits W mk.marks mk.top.era st.top.body good.top.env st.heap st.top.regs (mk.top ∷ mk.waiting) good.heap good.top.stands.quals r.reg.0 (object_of (value_at st.top.regs r.reg.0)) (int_of (prim_of (value_at st.top.regs i.reg.0))) refl ty)
-  plain_good (ElemWrite r i s) x ok pl t ty = elem_write_good r.reg.0 s.reg.0 ok.rules.1 ty pl (plain_step W _ _ _ _ tt tt (ok.edges _ (inl refl))) (object_of (value_at st.top.regs r.reg.0)) (int_of (prim_of (value_at st.top.regs i.reg.0))) (value_at st.top.regs s.reg.0) refl refl
-  plain_good (ArrayLen dst r) x ok pl t ty = got_good dst.0 no_qual _ (plain_step W _ _ _ _ tt tt (ok.edges _ (inl refl))) ok.this_kept (len_fits W mk.marks mk.top.era st.heap (object_of (value_at st.top.regs r.reg.0)))
-  plain_good (NewArray dst b n) x ok pl t ty = new_array_good dst.0 pl (plain_step W _ _ _ _ tt tt (ok.edges _ (inl refl))) ok.this_kept b (count_of (int_of (prim_of (value_at st.top.regs n.reg.0)))) ok.rules
-  plain_good (ArrayOf dst b xs) x ok pl t ty = array_of_good dst.0 pl (plain_step W _ _ _ _ tt tt (ok.edges _ (inl refl))) ok.this_kept b xs (gather st.top.regs xs) ok.rules refl
-  plain_good (New dst m args) x ok pl t ty = absurd x
-  plain_good (CtorCall m args own) x ok pl t ty = absurd x
-  plain_good (Call dst m r direct args) x ok pl t ty = absurd x
-  plain_good (StrOp dst op of other) x ok pl t ty = got_good dst.0 no_qual _ (plain_step W _ _ _ _ tt tt (ok.edges _ (inl refl))) ok.this_kept (str_fits W mk.marks mk.top.era op (value_at st.top.regs of.reg.0) (value_of st.top.regs other))
-  plain_good (Print of) x ok pl t ty = print_good (text_in (value_at st.top.regs of.reg.0)) (plain_step W _ _ _ _ tt tt (ok.edges _ (inl refl)))
-  plain_good (Cast dst of c) x ok pl t ty = got_good dst.0 (qual_at good.top.env of.reg.0) _ (plain_step W _ _ _ _ tt tt (ok.edges _ (inl refl))) ok.this_kept (cast_fits W mk.marks mk.top.era st.heap _ (value_at st.top.regs of.reg.0) c.0 (described of.reg.0))
-  plain_good (TestInst of c og a b) x ok pl t ty = test_inst_good of og c.0 a.0 b.0 t (λ y h. plain_step W _ _ _ _ tt tt (ok.edges y h)) (value_at st.top.regs of.reg.0) refl
-  plain_good (TestNull of og a b) x ok pl t ty = test_null_good of og a.0 b.0 (value_at st.top.regs of.reg.0) refl t (λ y h. plain_step W _ _ _ _ tt tt (ok.edges y h))
-  plain_good (Branch of a b) x ok pl t ty = branch_good a.0 b.0 (truth_of (prim_of (value_at st.top.regs of.reg.0))) (moves_good st.statics st.out a.0 (plain_step W _ _ _ _ tt tt (ok.edges _ (inl refl)))) (moves_good st.statics st.out b.0 (plain_step W _ _ _ _ tt tt (ok.edges _ (inr (inl refl)))))
-  plain_good (Goto to) x ok pl t ty = moves_good st.statics st.out to.0 (plain_step W _ _ _ _ tt tt (ok.edges _ (inl refl)))
-  plain_good (Return v) x ok pl t ty = absurd x
+  plain_good names (ElemWrite r i s) x ok pl t ty = elem_write_good r.reg.0 s.reg.0 ok.rules.1 ty pl (plain_step W _ _ _ _ tt tt (ok.edges _ (inl refl))) (object_of (value_at st.top.regs r.reg.0)) (int_of (prim_of (value_at st.top.regs i.reg.0))) (value_at st.top.regs s.reg.0) refl refl
+  plain_good names (ArrayLen dst r) x ok pl t ty = got_good dst.0 no_qual _ (plain_step W _ _ _ _ tt tt (ok.edges _ (inl refl))) ok.this_kept (len_fits W mk.marks mk.top.era st.heap (object_of (value_at st.top.regs r.reg.0)))
+  plain_good names (NewArray dst b n) x ok pl t ty = new_array_good dst.0 pl (plain_step W _ _ _ _ tt tt (ok.edges _ (inl refl))) ok.this_kept b (count_of (int_of (prim_of (value_at st.top.regs n.reg.0)))) ok.rules
+  plain_good names (ArrayOf dst b xs) x ok pl t ty = array_of_good dst.0 pl (plain_step W _ _ _ _ tt tt (ok.edges _ (inl refl))) ok.this_kept b xs (gather st.top.regs xs) ok.rules refl
+  plain_good names (New dst m args) x ok pl t ty = absurd x
+  plain_good names (CtorCall m args own) x ok pl t ty = absurd x
+  plain_good names (Call dst m r direct args) x ok pl t ty = absurd x
+  plain_good names (StrOp dst op of other) x ok pl t ty = got_good dst.0 no_qual _ (plain_step W _ _ _ _ tt tt (ok.edges _ (inl refl))) ok.this_kept (str_fits W mk.marks mk.top.era op (value_at st.top.regs of.reg.0) (value_of st.top.regs other))
+  plain_good names (Print of) x ok pl t ty = print_good (text_in (value_at st.top.regs of.reg.0)) (plain_step W _ _ _ _ tt tt (ok.edges _ (inl refl)))
+  plain_good names (Cast dst of c) x ok pl t ty = got_good dst.0 (qual_at good.top.env of.reg.0) _ (plain_step W _ _ _ _ tt tt (ok.edges _ (inl refl))) ok.this_kept (cast_fits W mk.marks mk.top.era st.heap _ (value_at st.top.regs of.reg.0) c.0 (described of.reg.0))
+  plain_good names (TestInst of c og a b) x ok pl t ty = test_inst_good of og c.0 a.0 b.0 t (λ y h. plain_step W _ _ _ _ tt tt (ok.edges y h)) (value_at st.top.regs of.reg.0) refl
+  plain_good names (TestNull of og a b) x ok pl t ty = test_null_good of og a.0 b.0 (value_at st.top.regs of.reg.0) refl t (λ y h. plain_step W _ _ _ _ tt tt (ok.edges y h))
+  plain_good names (Branch of a b) x ok pl t ty = branch_good a.0 b.0 (truth_of (prim_of (value_at st.top.regs of.reg.0))) (moves_good st.statics st.out a.0 (plain_step W _ _ _ _ tt tt (ok.edges _ (inl refl)))) (moves_good st.statics st.out b.0 (plain_step W _ _ _ _ tt tt (ok.edges _ (inr (inl refl)))))
+  plain_good names (Goto to) x ok pl t ty = moves_good st.statics st.out to.0 (plain_step W _ _ _ _ tt tt (ok.edges _ (inl refl)))
+  plain_good names (Return v) x ok pl t ty = absurd x

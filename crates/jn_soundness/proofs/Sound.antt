@@ -20,28 +20,28 @@ use Rattle.jn_soundness.proofs.Plains.{plain_good}
 use Rattle.jn_soundness.proofs.Enters.{enter_top, call_kind, ctor_kind, new_kind}
 use Rattle.jn_soundness.proofs.Leaves.{return_kind}
 
-module _ (W : World) (checked : Checked W) where
-  kind_good : (st : State) (mk : Marking) (good : Good W st mk) (pt : Point) → point_at W.program st.top.body st.top.at ≡ Some pt → (k : PointKind) → pt.kind ≡ k → PointOk W st.top.body st.top.at good.top.env k → Typed W st k → test_at W st.top.body st.top.at ≡ test_of k → TestOk W st.heap st.top.regs (test_of k) → GoodNext W (act W.program W.names st k)
+module _ (W : World) (checked : Checked W) (names : List (List ℕ)) where
+  kind_good : (st : State) (mk : Marking) (good : Good W st mk) (pt : Point) → point_at W.program st.top.body st.top.at ≡ Some pt → (k : PointKind) → pt.kind ≡ k → PointOk W st.top.body st.top.at good.top.env k → Typed W st k → test_at W st.top.body st.top.at ≡ test_of k → TestOk W st.heap st.top.regs (test_of k) → GoodNext W (act W.program names st k)
   kind_good st mk good pt is (New dst m args) e ok ty pl t = new_kind W checked st mk good pt is dst m args e ok ty
   kind_good st mk good pt is (CtorCall m args own) e ok ty pl t = ctor_kind W checked st mk good pt is m args own e ok
   kind_good st mk good pt is (Call dst m r direct args) e ok ty pl t = call_kind W checked st mk good pt is dst m r direct args e ok ty
   kind_good st mk good pt is (Return v) e ok ty pl t = return_kind W checked st mk good v ok
-  kind_good st mk good pt is k e ok ty pl t = plain_good W st mk good k tt ok pl t ty
+  kind_good st mk good pt is k e ok ty pl t = plain_good W st mk good names k tt ok pl t ty
 
-  step_good : (st : State) (mk : Marking) (good : Good W st mk) (o : Option Point) → point_at W.program st.top.body st.top.at ≡ o → TypedAt W st o → GoodNext W (step_at W.program W.names st o)
+  step_good : (st : State) (mk : Marking) (good : Good W st mk) (o : Option Point) → point_at W.program st.top.body st.top.at ≡ o → TypedAt W st o → GoodNext W (step_at W.program names st o)
   step_good st mk good None is ty = tt
   step_good st mk good (Some pt) is ty =
       let pl : test_at W st.top.body st.top.at ≡ test_of pt.kind = ap test_in is in
       kind_good st mk good pt is pt.kind refl (checked.points st.top.body st.top.at pt good.top.env is good.top.reached) ty pl (subst (λ t. TestOk W st.heap st.top.regs t) pl good.top.test)
 
-  next_good : (x : Next) → GoodNext W x → ((st : State) → x ≡ Goes st → TypedAt W st (point_at W.program st.top.body st.top.at)) → GoodNext W (then_step W.program W.names x)
+  next_good : (x : Next) → GoodNext W x → ((st : State) → x ≡ Goes st → TypedAt W st (point_at W.program st.top.body st.top.at)) → GoodNext W (then_step W.program names x)
   next_good (Goes st) g ty = step_good st g.mark g.good (point_at W.program st.top.body st.top.at) refl (ty st refl)
   next_good (Ends e) g ty = tt
   next_good Stuck g ty = tt
 
-  run_good : (start : Next) → GoodNext W start → AlwaysTyped W start → (n : ℕ) → GoodNext W (run W.program W.names start n)
+  run_good : (start : Next) → GoodNext W start → AlwaysTyped W names start → (n : ℕ) → GoodNext W (run W.program names start n)
   run_good start g ty zero = g
-  run_good start g ty (suc n) = next_good (run W.program W.names start n) (run_good start g ty n) (ty n)
+  run_good start g ty (suc n) = next_good (run W.program names start n) (run_good start g ty n) (ty n)
 
   module _ (st : State) (mk : Marking) (good : Good W st mk) where
     not_null : (r : ℕ) → (qual_at good.top.env r).null ≡ false → value_at st.top.regs r ≡ Some NullRef → ⊥
@@ -93,7 +93,7 @@ module _ (W : World) (checked : Checked W) where
     things m g words zero = (refl, text_items m words)
     things m g words (suc o) = ap (λ t. cond t Committed Unborn) (eqb-suc-zero o)
 
-  pub never_null : (b : ℕ) → IsMain W b → (words : List (List ℕ)) → AlwaysTyped W (Goes (start_state W.program b words)) → NoFault W (Goes (start_state W.program b words))
+  pub never_null : (b : ℕ) → IsMain W b → (words : List (List ℕ)) → AlwaysTyped W names (Goes (start_state W.program b words)) → NoFault W names (Goes (start_state W.program b words))
   never_null b main words ty n st is fault =
       let g = subst (λ x. GoodNext W x) is (run_good (Goes (start_state W.program b words)) (start_good b main words) ty n) in
       no_fault st g.mark g.good fault

@@ -222,11 +222,11 @@ module _ (W : World) (T : Ordered W.program) (P : ProgramTyped W) where
     cast_typed u c (Some (Plain p)) f = tt
     cast_typed u c (Some (At o)) f = cast_by u c (At o) (is_within W.program st.heap (At o) c.0) refl f
 
-    const_typed : (dst : ℕ) (l : Literal) → ConstTyped W b dst l → HasType W st.heap (reg_base W.program b dst) (literal_value W.names l)
-    const_typed dst (IntOf i) h = h
-    const_typed dst (TruthOf t) h = h
-    const_typed dst (Str n) h = h
-    const_typed dst Null h = h
+    const_typed : (names : List (List ℕ)) (dst : ℕ) (l : Literal) → ConstTyped W b dst l → HasType W st.heap (reg_base W.program b dst) (literal_value names l)
+    const_typed names dst (IntOf i) h = h
+    const_typed names dst (TruthOf t) h = h
+    const_typed names dst (Str n) h = h
+    const_typed names dst Null h = h
 
     item_typed : (c u : BaseType) (xs : List Value) (v : Option Value) → ((w : Value) → v ≡ Some w → HasType W st.heap c w) → fits W.program c u ≡ true → GotOk (HasType W st.heap u) (item_or_index v)
     item_typed c u xs None k f = tt
@@ -595,44 +595,44 @@ module _ (W : World) (T : Ordered W.program) (P : ProgramTyped W) where
     return_typed vo p [] h = tt
     return_typed vo p (w ∷ ws) h = takes_at_typed w ws vo p h.0 h.2 (point_at W.program w.body w.at) h.1
 
-    pub kind_typed : (pt : Point) → point_at W.program st.top.body st.top.at ≡ Some pt → (k : PointKind) → pt.kind ≡ k → PointTyped W st.top.body k → NextOk (act W.program W.names st k)
-    kind_typed pt is (Const dst l) e p = set_typed st ty dst.0 (literal_value W.names l) (const_typed st ty dst.0 l p)
-    kind_typed pt is (Move dst from bound) e p = got_typed st ty dst.0 (got_of (value_at st.top.regs from.reg.0)) (value_typed st ty from.reg.0 (reg_base W.program st.top.body dst.0) p (value_at st.top.regs from.reg.0) refl)
-    kind_typed pt is (Unary dst neg of) e p = got_typed st ty dst.0 (unary_of neg (prim_of (value_at st.top.regs of.reg.0))) (unary_typed st ty (reg_base W.program st.top.body dst.0) neg (prim_of (value_at st.top.regs of.reg.0)) p)
-    kind_typed pt is (Binary dst op l r) e p = got_typed st ty dst.0 (binary_of op (prim_of (value_at st.top.regs l.reg.0)) (prim_of (value_at st.top.regs r.reg.0))) (binary_typed st ty (reg_base W.program st.top.body dst.0) op (prim_of (value_at st.top.regs l.reg.0)) (prim_of (value_at st.top.regs r.reg.0)) p)
-    kind_typed pt is (Concat dst l r) e p = got_typed st ty dst.0 (concat_of (text_in (value_at st.top.regs l.reg.0)) (text_in (value_at st.top.regs r.reg.0))) (concat_typed st ty (reg_base W.program st.top.body dst.0) (text_in (value_at st.top.regs l.reg.0)) (text_in (value_at st.top.regs r.reg.0)) p)
-    kind_typed pt is (SameRef dst eq l r) e p = got_typed st ty dst.0 (same_of eq (value_at st.top.regs l.reg.0) (value_at st.top.regs r.reg.0)) (same_typed st ty (reg_base W.program st.top.body dst.0) eq (value_at st.top.regs l.reg.0) (value_at st.top.regs r.reg.0) p)
-    kind_typed pt is (FieldRead dst r f) e p = got_typed st ty dst.0 (read_field W.program st.heap (object_of (value_at st.top.regs r.reg.0)) f.0) (read_typed st ty (object_of (value_at st.top.regs r.reg.0)) f.0 (reg_base W.program st.top.body dst.0) p)
-    kind_typed pt is (FieldWrite r f s) e p = write_typed s.reg.0 f.0 p (object_of (value_at st.top.regs r.reg.0)) (value_at st.top.regs s.reg.0) refl
-    kind_typed pt is (StaticRead dst f) e p = got_typed st ty dst.0 (got_plain (got_prim (slice_get st.statics f.0))) (prim_typed st ty (reg_base W.program st.top.body dst.0) (got_prim (slice_get st.statics f.0)) p)
-    kind_typed pt is (StaticWrite f s) e p = static_typed st ty f.0 (prim_of (value_at st.top.regs s.reg.0))
-    kind_typed pt is (ElemRead dst r i) e p = got_typed st ty dst.0 (read_elem st.heap (object_of (value_at st.top.regs r.reg.0)) (int_of (prim_of (value_at st.top.regs i.reg.0)))) (read_elem_typed st ty r.reg.0 (reg_base W.program st.top.body dst.0) (object_of (value_at st.top.regs r.reg.0)) (int_of (prim_of (value_at st.top.regs i.reg.0))) refl p.0 p.1)
-    kind_typed pt is (ElemWrite r i s) e p = write_elem_typed (object_of (value_at st.top.regs r.reg.0)) (int_of (prim_of (value_at st.top.regs i.reg.0))) (value_at st.top.regs s.reg.0)
-    kind_typed pt is (ArrayLen dst r) e p = got_typed st ty dst.0 (array_len st.heap (object_of (value_at st.top.regs r.reg.0))) (len_typed st ty (reg_base W.program st.top.body dst.0) (object_of (value_at st.top.regs r.reg.0)) p)
-    kind_typed pt is (NewArray dst c n) e p = new_array_typed dst.0 c p.0 p.1 (count_of (int_of (prim_of (value_at st.top.regs n.reg.0))))
-    kind_typed pt is (ArrayOf dst c xs) e p = array_of_typed dst.0 c xs p.0 p.1 p.2 (gather st.top.regs xs) refl
-    kind_typed pt is (New dst m args) e p = new_typed pt is dst m args e p (gather st.top.regs args) refl
-    kind_typed pt is (CtorCall m args own) e p = ctor_typed pt is m args own e p (value_at st.top.regs 0) refl (gather st.top.regs args) refl
-    kind_typed pt is (Call dst m None direct args) e p = static_typed_call pt is dst m direct args e p (gather st.top.regs args) refl
-    kind_typed pt is (Call dst m (Some r) direct args) e p = this_typed pt is dst m r direct args e p (gather st.top.regs args) refl (object_of (value_at st.top.regs r.reg.0)) refl
-    kind_typed pt is (StrOp dst op of other) e p = got_typed st ty dst.0 (str_op op (value_at st.top.regs of.reg.0) (value_of st.top.regs other)) (str_typed st ty (reg_base W.program st.top.body dst.0) op (value_at st.top.regs of.reg.0) (value_of st.top.regs other) p)
-    kind_typed pt is (Print of) e p = print_typed st ty (text_in (value_at st.top.regs of.reg.0))
-    kind_typed pt is (Cast dst of c) e p = got_typed st ty dst.0 (cast_of W.program st.heap (value_at st.top.regs of.reg.0) c.0) (cast_typed st ty (reg_base W.program st.top.body dst.0) c (value_at st.top.regs of.reg.0) p)
-    kind_typed pt is (TestInst of c og yes' no') e p = test_inst_typed st ty c.0 yes'.0 no'.0 (value_at st.top.regs of.reg.0)
-    kind_typed pt is (TestNull of og x y) e p = test_null_typed st ty x.0 y.0 (value_at st.top.regs of.reg.0)
-    kind_typed pt is (Branch of x y) e p = branch_typed st ty x.0 y.0 (truth_of (prim_of (value_at st.top.regs of.reg.0)))
-    kind_typed pt is (Goto to) e p = move_typed st ty to.0
-    kind_typed pt is (Return v) e p = return_typed v p st.waiting ty.waiting
+    pub kind_typed : (names : List (List ℕ)) (pt : Point) → point_at W.program st.top.body st.top.at ≡ Some pt → (k : PointKind) → pt.kind ≡ k → PointTyped W st.top.body k → NextOk (act W.program names st k)
+    kind_typed names pt is (Const dst l) e p = set_typed st ty dst.0 (literal_value names l) (const_typed st ty names dst.0 l p)
+    kind_typed names pt is (Move dst from bound) e p = got_typed st ty dst.0 (got_of (value_at st.top.regs from.reg.0)) (value_typed st ty from.reg.0 (reg_base W.program st.top.body dst.0) p (value_at st.top.regs from.reg.0) refl)
+    kind_typed names pt is (Unary dst neg of) e p = got_typed st ty dst.0 (unary_of neg (prim_of (value_at st.top.regs of.reg.0))) (unary_typed st ty (reg_base W.program st.top.body dst.0) neg (prim_of (value_at st.top.regs of.reg.0)) p)
+    kind_typed names pt is (Binary dst op l r) e p = got_typed st ty dst.0 (binary_of op (prim_of (value_at st.top.regs l.reg.0)) (prim_of (value_at st.top.regs r.reg.0))) (binary_typed st ty (reg_base W.program st.top.body dst.0) op (prim_of (value_at st.top.regs l.reg.0)) (prim_of (value_at st.top.regs r.reg.0)) p)
+    kind_typed names pt is (Concat dst l r) e p = got_typed st ty dst.0 (concat_of (text_in (value_at st.top.regs l.reg.0)) (text_in (value_at st.top.regs r.reg.0))) (concat_typed st ty (reg_base W.program st.top.body dst.0) (text_in (value_at st.top.regs l.reg.0)) (text_in (value_at st.top.regs r.reg.0)) p)
+    kind_typed names pt is (SameRef dst eq l r) e p = got_typed st ty dst.0 (same_of eq (value_at st.top.regs l.reg.0) (value_at st.top.regs r.reg.0)) (same_typed st ty (reg_base W.program st.top.body dst.0) eq (value_at st.top.regs l.reg.0) (value_at st.top.regs r.reg.0) p)
+    kind_typed names pt is (FieldRead dst r f) e p = got_typed st ty dst.0 (read_field W.program st.heap (object_of (value_at st.top.regs r.reg.0)) f.0) (read_typed st ty (object_of (value_at st.top.regs r.reg.0)) f.0 (reg_base W.program st.top.body dst.0) p)
+    kind_typed names pt is (FieldWrite r f s) e p = write_typed s.reg.0 f.0 p (object_of (value_at st.top.regs r.reg.0)) (value_at st.top.regs s.reg.0) refl
+    kind_typed names pt is (StaticRead dst f) e p = got_typed st ty dst.0 (got_plain (got_prim (slice_get st.statics f.0))) (prim_typed st ty (reg_base W.program st.top.body dst.0) (got_prim (slice_get st.statics f.0)) p)
+    kind_typed names pt is (StaticWrite f s) e p = static_typed st ty f.0 (prim_of (value_at st.top.regs s.reg.0))
+    kind_typed names pt is (ElemRead dst r i) e p = got_typed st ty dst.0 (read_elem st.heap (object_of (value_at st.top.regs r.reg.0)) (int_of (prim_of (value_at st.top.regs i.reg.0)))) (read_elem_typed st ty r.reg.0 (reg_base W.program st.top.body dst.0) (object_of (value_at st.top.regs r.reg.0)) (int_of (prim_of (value_at st.top.regs i.reg.0))) refl p.0 p.1)
+    kind_typed names pt is (ElemWrite r i s) e p = write_elem_typed (object_of (value_at st.top.regs r.reg.0)) (int_of (prim_of (value_at st.top.regs i.reg.0))) (value_at st.top.regs s.reg.0)
+    kind_typed names pt is (ArrayLen dst r) e p = got_typed st ty dst.0 (array_len st.heap (object_of (value_at st.top.regs r.reg.0))) (len_typed st ty (reg_base W.program st.top.body dst.0) (object_of (value_at st.top.regs r.reg.0)) p)
+    kind_typed names pt is (NewArray dst c n) e p = new_array_typed dst.0 c p.0 p.1 (count_of (int_of (prim_of (value_at st.top.regs n.reg.0))))
+    kind_typed names pt is (ArrayOf dst c xs) e p = array_of_typed dst.0 c xs p.0 p.1 p.2 (gather st.top.regs xs) refl
+    kind_typed names pt is (New dst m args) e p = new_typed pt is dst m args e p (gather st.top.regs args) refl
+    kind_typed names pt is (CtorCall m args own) e p = ctor_typed pt is m args own e p (value_at st.top.regs 0) refl (gather st.top.regs args) refl
+    kind_typed names pt is (Call dst m None direct args) e p = static_typed_call pt is dst m direct args e p (gather st.top.regs args) refl
+    kind_typed names pt is (Call dst m (Some r) direct args) e p = this_typed pt is dst m r direct args e p (gather st.top.regs args) refl (object_of (value_at st.top.regs r.reg.0)) refl
+    kind_typed names pt is (StrOp dst op of other) e p = got_typed st ty dst.0 (str_op op (value_at st.top.regs of.reg.0) (value_of st.top.regs other)) (str_typed st ty (reg_base W.program st.top.body dst.0) op (value_at st.top.regs of.reg.0) (value_of st.top.regs other) p)
+    kind_typed names pt is (Print of) e p = print_typed st ty (text_in (value_at st.top.regs of.reg.0))
+    kind_typed names pt is (Cast dst of c) e p = got_typed st ty dst.0 (cast_of W.program st.heap (value_at st.top.regs of.reg.0) c.0) (cast_typed st ty (reg_base W.program st.top.body dst.0) c (value_at st.top.regs of.reg.0) p)
+    kind_typed names pt is (TestInst of c og yes' no') e p = test_inst_typed st ty c.0 yes'.0 no'.0 (value_at st.top.regs of.reg.0)
+    kind_typed names pt is (TestNull of og x y) e p = test_null_typed st ty x.0 y.0 (value_at st.top.regs of.reg.0)
+    kind_typed names pt is (Branch of x y) e p = branch_typed st ty x.0 y.0 (truth_of (prim_of (value_at st.top.regs of.reg.0)))
+    kind_typed names pt is (Goto to) e p = move_typed st ty to.0
+    kind_typed names pt is (Return v) e p = return_typed v p st.waiting ty.waiting
 
-    step_typed : (o : Option Point) → point_at W.program st.top.body st.top.at ≡ o → NextOk (step_at W.program W.names st o)
-    step_typed None is = tt
-    step_typed (Some pt) is = kind_typed pt is pt.kind refl (P.points st.top.body st.top.at pt is)
+    step_typed : (names : List (List ℕ)) (o : Option Point) → point_at W.program st.top.body st.top.at ≡ o → NextOk (step_at W.program names st o)
+    step_typed names None is = tt
+    step_typed names (Some pt) is = kind_typed names pt is pt.kind refl (P.points st.top.body st.top.at pt is)
 
-  next_typed : (x : Next) → NextOk x → NextOk (then_step W.program W.names x)
-  next_typed (Goes st) h = step_typed st h (point_at W.program st.top.body st.top.at) refl
-  next_typed (Ends e) h = tt
-  next_typed Stuck h = tt
+  next_typed : (names : List (List ℕ)) (x : Next) → NextOk x → NextOk (then_step W.program names x)
+  next_typed names (Goes st) h = step_typed st h names (point_at W.program st.top.body st.top.at) refl
+  next_typed names (Ends e) h = tt
+  next_typed names Stuck h = tt
 
-  pub run_typed : (start : Next) → NextOk start → (n : ℕ) → NextOk (run W.program W.names start n)
-  run_typed start h zero = h
-  run_typed start h (suc n) = next_typed (run W.program W.names start n) (run_typed start h n)
+  pub run_typed : (names : List (List ℕ)) (start : Next) → NextOk start → (n : ℕ) → NextOk (run W.program names start n)
+  run_typed names start h zero = h
+  run_typed names start h (suc n) = next_typed names (run W.program names start n) (run_typed names start h n)

@@ -29,11 +29,11 @@ module _ (W : World) (m : Marks) (a : ℕ) where
   abbrev pub Fits : Qualifier → Value → Type 0
   Fits q v = Describes m a q (Some v)
 
-  pub literal_fits : (l : Literal) → Fits (literal_qual l) (literal_value W.names l)
-  literal_fits (Int i) = tt
-  literal_fits (TruthOf b) = tt
-  literal_fits (Str n) = refl
-  literal_fits Null = refl
+  pub literal_fits : (names : List (List ℕ)) (l : Literal) → Fits (literal_qual l) (literal_value names l)
+  literal_fits names (Int i) = tt
+  literal_fits names (TruthOf b) = tt
+  literal_fits names (Str n) = refl
+  literal_fits names Null = refl
 
   pub got_fits : (q : Qualifier) (v : Option Value) → Describes m a q v → GotOk (Fits q) (got_of v)
   got_fits q None d = tt

@@ -1,18 +1,20 @@
 -- A typed and checked program never dereferences null.
-use Rattle.std.proofs.Common.{◌≡◌, ℕ, zero, suc, false, List, [], ◌∷◌, Option, Some, None, refl, subst}
+use Rattle.std.proofs.Common.{◌≡◌, ℕ, zero, suc, false, List, [], ◌∷◌, Option, Some, None, refl, subst, ap, ◌∙◌, cond, sym, true}
 use Rattle.std.specs.Prelude.{slice_get}
+use Rattle.jn_transfer.specs.Transfer.{given_quals, this_qual}
+use Rattle.jn_sigs.specs.Signature.{slot_qual, slot_quals}
 use Rattle.jn_soundness.proofs.Fits.{fits_self}
 use Rattle.jn_points.specs.declared.point.BaseType.{BaseType}
 use Rattle.jn_points.specs.declared.point.BaseType.TheVariants.{Ref, Array}
 use Rattle.jn_points.specs.declared.point.Elem.TheVariants.{Ref as RefElem}
 use Rattle.jn_points.specs.declared.point.Point.{Point}
-use Rattle.jn_soundness.specs.Good.{AlwaysTyped, IsMain, TypedAt, NoFault}
+use Rattle.jn_soundness.specs.Good.{AlwaysTyped, IsMain, TypedAt, NoFault, MainsOk, RunsTyped}
 use Rattle.jn_heap.specs.Values.{At, Elems, Text, Thing, Value, same}
 use Rattle.jn_soundness.specs.Checked.{Checked}
-use Rattle.jn_soundness.specs.Types.{HasType, MainTyped, ProgramTyped, StateTyped, ThingTyped, Ordered}
-use Rattle.jn_heap.specs.Machine.{Goes, Next, State, start_state, texts}
+use Rattle.jn_soundness.specs.Types.{HasType, MainTyped, ProgramTyped, StateTyped, ThingTyped, Ordered, MainsTyped}
+use Rattle.jn_heap.specs.Machine.{Goes, Next, State, start_state, texts, MainForm, NeverNull}
 use Rattle.jn_soundness.specs.World.{World}
-use Rattle.jn_points.specs.Lookup.{body_at, point_at, reg_base, regs_of}
+use Rattle.jn_points.specs.Lookup.{body_at, point_at, reg_base, regs_of, body_of, method_at, method_in, ctor_of, static_of}
 use Rattle.jn_soundness.proofs.Typing.{NextOk, run_typed, typed_kind, padded}
 use Rattle.jn_soundness.proofs.Sound.{never_null}
 
@@ -40,8 +42,32 @@ module _ (W : World) (T : Ordered W.program) (P : ProgramTyped W) where
   typed_at st h None is = tt
   typed_at st h (Some pt) is = typed_kind W T P st h pt is pt.kind refl (P.points st.top.body st.top.at pt is)
 
-  always : (start : Next) → NextOk W T P start → AlwaysTyped W start
-  always start h n st is = typed_at st (subst (λ x. NextOk W T P x) is (run_typed W T P start h n)) (point_at W.program st.top.body st.top.at) refl
+  always : (names : List (List ℕ)) (start : Next) → NextOk W T P start → AlwaysTyped W names start
+  always names start h n st is = typed_at st (subst (λ x. NextOk W T P x) is (run_typed W T P names start h n)) (point_at W.program st.top.body st.top.at) refl
 
-  pub accepted : Checked W → (b : ℕ) → IsMain W b → MainTyped W b → (words : List (List ℕ)) → NoFault W (Goes (start_state W.program b words))
-  accepted checked b main typed words = never_null W checked b main words (always (Goes (start_state W.program b words)) (start_typed b typed words))
+  pub accepted : Checked W → (b : ℕ) → IsMain W b → MainTyped W b → (names words : List (List ℕ)) → NoFault W names (Goes (start_state W.program b words))
+  accepted checked b main typed names words = never_null W checked names b main words (always names (Goes (start_state W.program b words)) (start_typed b typed words))
+
+module _ (W : World) (checked : Checked W) (mains : MainsOk W) where
+  is_main : (m b : ℕ) → MainForm W.program m b → IsMain W b
+  is_main m b main =
+      let is_body : body_of (method_at W.program m) ≡ Some b = ap body_of main.there ∙ main.body in
+      let here = checked.there m b is_body in
+      let same : method_in W.program b ≡ Some main.method = checked.bodies m b is_body ∙ main.there in
+      record {
+        body = here.0;
+        there = here.1;
+        method = ap ctor_of (checked.bodies m b is_body) ∙ mains.method m b main;
+        qual = slot_qual W.sig (Some main.slot);
+        given = ap (given_quals W.sig) same ∙ given (sym (ap static_of main.there) ∙ mains.static m b main);
+        committed = mains.slot m b main;
+      }
+    where
+    given : static_of (Some main.method) ≡ true → given_quals W.sig (Some main.method) ≡ slot_qual W.sig (Some main.slot) ∷ []
+    given s = subst (λ t. cond t (slot_quals W.sig main.method.param_slots) (this_qual W.sig (Some main.method) ∷ slot_quals W.sig main.method.param_slots) ≡ slot_qual W.sig (Some main.slot) ∷ []) (sym s) (ap (slot_quals W.sig) main.param)
+
+  pub untyped_never_null : RunsTyped W → NeverNull W.program
+  untyped_never_null typed m b main names words n st goes fault = never_null W checked names b (is_main m b main) words (typed m b main names words) n st goes fault
+
+  pub typed_never_null : Ordered W.program → ProgramTyped W → MainsTyped W → NeverNull W.program
+  typed_never_null T P typed m b main names words n st goes fault = accepted W T P checked b (is_main m b main) (typed m b main) names words n st goes fault

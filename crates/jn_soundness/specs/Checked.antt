@@ -184,4 +184,3 @@ module _ (W : World) where
     pub ctor_this : (m : ℕ) → ctor_of (method_at W.program m) ≡ true → static_of (method_at W.program m) ≡ false
     pub ctor_regs : (b : ℕ) → ctor_of (method_in W.program b) ≡ true → (n : ℕ) × (regs_of (body_at W.program b) ≡ suc n)
     pub fields : (f : ℕ) (x : Field) → slice_get W.program.fields f ≡ Some x → ref_field W.program f ≡ false → is_ref_base x.base ≡ false
-    pub own : (b : ℕ) → AllOwn (class_of (method_in W.program b)) (own_keys W.program b)

@@ -11,14 +11,14 @@ use Rattle.jn_points.specs.declared.point.PointKind.{PointKind}
 use Rattle.jn_points.specs.declared.point.PointKind.TheVariants.{FieldRead, ElemRead, ElemWrite, New, CtorCall, Call}
 use Rattle.jn_heap.specs.Values.{At, Elems, NullRef, Object, Plain, Prim, Text, Thing, Value}
 use Rattle.jn_soundness.specs.Checked.{Early, Test, test_at}
-use Rattle.jn_heap.specs.Machine.{Ends, Frame, Goes, Next, NullFault, Regs, State, Stuck, class_at, entered, field_at, field_in, gives, run, selected, takes, value_at}
+use Rattle.jn_heap.specs.Machine.{Ends, Frame, Goes, Next, NullFault, Regs, State, Stuck, class_at, entered, field_at, field_in, gives, run, selected, takes, value_at, MainForm, start_state}
 use Rattle.jn_env.specs.declared.env.Env.{Env}
 use Rattle.jn_transfer.specs.Keys.{Key, fact_keys, own_keys}
 use Rattle.jn_env.specs.Order.{QualsWithin}
 use Rattle.jn_soundness.specs.World.{World, env_at}
 use Rattle.jn_points.specs.Lookup.{body_at, class_of, ctor_of, flat_field, method_at, method_in, owner, point_at, ref_field, reg_base, slots_of, static_of}
 use Rattle.jn_transfer.specs.Transfer.{elem_qual, given_quals, new_qual, ref_quals}
-use Rattle.jn_sigs.specs.Signature.{field_qual, receiver_of, result_of, slot_quals}
+use Rattle.jn_sigs.specs.Signature.{field_qual, receiver_of, result_of, slot_quals, slot_qual}
 use Rattle.jn_points.specs.Members.{has_field, reaches}
 use Rattle.jn_quals.specs.Order.{within}
 
@@ -268,9 +268,19 @@ module _ (W : World) where
     pub given : given_quals W.sig (method_in W.program b) ≡ qual ∷ []
     pub committed : qual.committed ≡ true
 
-  abbrev pub AlwaysTyped : Next → Type 0
-  AlwaysTyped start = (n : ℕ) (st : State) → run W.program W.names start n ≡ Goes st → TypedAt st (point_at W.program st.top.body st.top.at)
+  abbrev pub AlwaysTyped : List (List ℕ) → Next → Type 0
+  AlwaysTyped names start = (n : ℕ) (st : State) → run W.program names start n ≡ Goes st → TypedAt st (point_at W.program st.top.body st.top.at)
 
   -- no run reaches a null dereference
-  abbrev pub NoFault : Next → Type 0
-  NoFault start = (n : ℕ) (st : State) → run W.program W.names start n ≡ Goes st → NullFault W.program st → ⊥
+  abbrev pub NoFault : List (List ℕ) → Next → Type 0
+  NoFault names start = (n : ℕ) (st : State) → run W.program names start n ≡ Goes st → NullFault W.program st → ⊥
+
+  -- each main is static and no constructor, and the signature gives its parameter C
+  pub record MainsOk : Type 0 where
+    pub static : (m b : ℕ) → MainForm W.program m b → static_of (method_at W.program m) ≡ true
+    pub method : (m b : ℕ) → MainForm W.program m b → ctor_of (method_at W.program m) ≡ false
+    pub slot : (m b : ℕ) (main : MainForm W.program m b) → (slot_qual W.sig (Some main.slot)).committed ≡ true
+
+  -- in the runs of mains, the registers of each point hold what soundness asks of base typing
+  abbrev pub RunsTyped : Type 0
+  RunsTyped = (m b : ℕ) → MainForm W.program m b → (names words : List (List ℕ)) → AlwaysTyped names (Goes (start_state W.program b words))

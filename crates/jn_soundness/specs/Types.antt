@@ -15,7 +15,7 @@ use Rattle.jn_points.specs.declared.point.Point.{Point}
 use Rattle.jn_points.specs.declared.point.PointKind.{PointKind}
 use Rattle.jn_points.specs.declared.point.PointKind.TheVariants.{Const, Move, Unary, Binary, Concat, SameRef, FieldRead, FieldWrite, StaticRead, ElemRead, ElemWrite, ArrayLen, NewArray, ArrayOf, New, CtorCall, Call, StrOp, Cast, Return}
 use Rattle.jn_heap.specs.Values.{At, Elems, NullRef, Object, Plain, Text, Thing, Value, elem_base}
-use Rattle.jn_heap.specs.Machine.{Frame, Regs, State, field_in, gives, is_within, may_hold, takes, value_at}
+use Rattle.jn_heap.specs.Machine.{Frame, Regs, State, field_in, gives, is_within, may_hold, takes, value_at, MainForm}
 use Rattle.jn_soundness.specs.Good.{Overrides}
 use Rattle.jn_soundness.specs.World.{World}
 use Rattle.jn_points.specs.Lookup.{body_of, class_of, ctor_of, field_base, is_flat, is_ref_base, method_at, method_in, params_of, point_at, reg_base, result_base_of, slots_of, static_of}
@@ -172,3 +172,6 @@ module _ (W : World) where
   -- main's first register takes an array of String
   abbrev pub MainTyped : ℕ → Type 0
   MainTyped b = StartsWith (reg_base W.program b) (Array (RefElem (record { 0 = 1 })) false ∷ [])
+
+  abbrev pub MainsTyped : Type 0
+  MainsTyped = (m b : ℕ) → MainForm W.program m b → MainTyped b

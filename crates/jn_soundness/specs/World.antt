@@ -1,4 +1,4 @@
--- A program with its names, a signature and a table for each body.
+-- A program with a signature and a table for each body.
 use Rattle.std.specs.Prelude.{ℕ, List, [], Option, slice_index_or}
 use Rattle.jn_quals.specs.Qualifier.{Qualifier}
 use Rattle.jn_points.specs.declared.program.Program.{Program}
@@ -9,7 +9,6 @@ use Rattle.jn_env.specs.Order.{env_in}
 
 pub record World : Type 0 where
   pub program : Program
-  pub names : List (List ℕ)
   pub sig : List Qualifier
   pub tables : List (List (Option Env))
 
