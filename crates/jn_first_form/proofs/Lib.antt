@@ -1,0 +1,4 @@
+pub mod Tokens
+pub mod Readable
+pub mod Simple
+pub mod Reading

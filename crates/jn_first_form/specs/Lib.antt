@@ -5,3 +5,4 @@ pub mod Reads
 pub mod Scope
 pub mod Lowered
 pub mod Form
+pub mod Statements

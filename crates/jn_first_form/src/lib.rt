@@ -1,8 +1,14 @@
 // Files of one class with a `main` over String locals: the tree that spells one, and its program.
 #![tactic(auto)]
 
+mod brackets;
+mod front;
 pub mod known;
+pub mod law;
 pub mod local;
+pub mod recognize;
 pub mod tree;
 
+pub use brackets::within_brackets;
+pub use recognize::read_form;
 pub use tree::{FirstForm, Statement, Value};
