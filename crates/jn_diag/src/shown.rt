@@ -71,7 +71,7 @@ mod tests {
         let shown = row_text(rt.alloc(), &row, "A.java", b"ab\ncd\re")?;
         let copy = shown.copy(rt.alloc())?;
         assert_eq!(rt; copy.name.as_str(), "A.java");
-        assert_eq!(rt; (copy.line, copy.col), (3, 2));
+        assert_eq!(rt; (copy.line, copy.col), (3, 1));
         assert!(rt; copy.code == Code::Deref);
         Ok(())
     }
