@@ -2,5 +2,6 @@
 #![tactic(auto)]
 
 pub mod env;
+pub mod lists;
 
 pub use env::Env;
