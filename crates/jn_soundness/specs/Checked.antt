@@ -38,6 +38,11 @@ AllWithin e q (a ∷ args) = IsTrue (within (qual_at e a.reg.0) q) × AllWithin 
 abbrev pub NotNull : Env → ℕ → Type 0
 NotNull e r = (qual_at e r).null ≡ false
 
+-- an array of references
+abbrev pub ref_elems : BaseType → Bool
+ref_elems (Array (RefElem c) nullable) = true
+ref_elems b = false
+
 abbrev pub NewArrayPasses : BaseType → Type 0
 NewArrayPasses (Array (RefElem c) nullable) = nullable ≡ true
 NewArrayPasses b = Unit {0}
@@ -104,7 +109,7 @@ module _ (W : World) where
 
   pub record WritePasses (e : Env) (r f s : ℕ) : Type 0 where
     pub not_null : (qual_at e r).null ≡ false
-    pub value : IsTrue (within (settle (qual_at e s)) (field_qual W.program W.sig f))
+    pub value : ref_field W.program f ≡ true → IsTrue (within (settle (qual_at e s)) (field_qual W.program W.sig f))
     pub init : (qual_at e s).free ≡ true → (qual_at e r).committed ≡ true → ⊥
 
   -- no rule is broken at a point of body b
@@ -112,10 +117,10 @@ module _ (W : World) where
   Unbroken b e (FieldRead dst r f) = NotNull e r.reg.0
   Unbroken b e (FieldWrite r f s) = WritePasses e r.reg.0 f.0 s.reg.0
   Unbroken b e (ElemRead dst r i) = NotNull e r.reg.0
-  Unbroken b e (ElemWrite r i s) = NotNull e r.reg.0 × IsTrue (within (qual_at e s.reg.0) (elem_qual (reg_base W.program b r.reg.0)))
+  Unbroken b e (ElemWrite r i s) = NotNull e r.reg.0 × (ref_elems (reg_base W.program b r.reg.0) ≡ true → IsTrue (within (qual_at e s.reg.0) (elem_qual (reg_base W.program b r.reg.0))))
   Unbroken b e (ArrayLen dst r) = NotNull e r.reg.0
   Unbroken b e (NewArray dst base n) = NewArrayPasses base
-  Unbroken b e (ArrayOf dst base xs) = AllWithin e (elem_qual base) xs
+  Unbroken b e (ArrayOf dst base xs) = ref_elems base ≡ true → AllWithin e (elem_qual base) xs
   Unbroken b e (New dst m args) = ArgsPass e (param_quals W m.0) args
   Unbroken b e (CtorCall m args own) = ArgsPass e (param_quals W m.0) args
   Unbroken b e (Call dst m r direct args) = ArgsPass e (param_quals W m.0) args × ReceiverPasses e (method_at W.program m.0) r

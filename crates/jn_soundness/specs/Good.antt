@@ -8,9 +8,9 @@ use Rattle.jn_points.specs.declared.program.Method.{Method}
 use Rattle.jn_points.specs.declared.program.Body.{Body}
 use Rattle.jn_points.specs.declared.point.BaseType.{BaseType}
 use Rattle.jn_points.specs.declared.point.PointKind.{PointKind}
-use Rattle.jn_points.specs.declared.point.PointKind.TheVariants.{FieldRead, ElemRead, ElemWrite, New, CtorCall, Call}
+use Rattle.jn_points.specs.declared.point.PointKind.TheVariants.{FieldRead, ElemRead, ElemWrite, New, CtorCall, Call, FieldWrite, ArrayOf}
 use Rattle.jn_heap.specs.Values.{At, Elems, NullRef, Object, Plain, Prim, Text, Thing, Value}
-use Rattle.jn_soundness.specs.Checked.{Early, Test, test_at}
+use Rattle.jn_soundness.specs.Checked.{Early, Test, test_at, ref_elems}
 use Rattle.jn_heap.specs.Machine.{Ends, Frame, Goes, Next, NullFault, Regs, State, Stuck, class_at, entered, field_at, field_in, gives, run, selected, takes, value_at, MainForm, start_state}
 use Rattle.jn_env.specs.declared.env.Env.{Env}
 use Rattle.jn_transfer.specs.Keys.{Key, fact_keys, own_keys}
@@ -112,6 +112,18 @@ ArgsRef regs [] args = Unit {0}
 ArgsRef regs (x ∷ xs) [] = Unit {0}
 ArgsRef regs (None ∷ xs) (a ∷ args) = ArgsRef regs xs args
 ArgsRef regs (Some s ∷ xs) (a ∷ args) = ((p : Prim) → value_at regs a.reg.0 ≡ Some (Plain p) → ⊥) × ArgsRef regs xs args
+
+-- an int or boolean, or nothing yet
+abbrev pub HoldsPlain : Option Value → Type 0
+HoldsPlain None = Unit {0}
+HoldsPlain (Some NullRef) = ⊥
+HoldsPlain (Some (Text t)) = ⊥
+HoldsPlain (Some (Plain p)) = Unit {0}
+HoldsPlain (Some (At o)) = ⊥
+
+abbrev pub AllPlain : Regs → List Operand → Type 0
+AllPlain regs [] = Unit {0}
+AllPlain regs (a ∷ args) = HoldsPlain (value_at regs a.reg.0) × AllPlain regs args
 
 module _ (W : World) where
   abbrev pub AllEnded : ℕ → List ℕ → Type 0
@@ -249,7 +261,9 @@ module _ (W : World) where
   abbrev pub Typed : State → PointKind → Type 0
   Typed st (FieldRead dst r f) = (o p : ℕ) → value_at st.top.regs r.reg.0 ≡ Some (At o) → field_at W.program st.heap o f.0 ≡ Some (At p) → flat_field W.program f.0 ≡ true → class_at st.heap p ≡ None
   Typed st (ElemRead dst r i) = ElemsFit st r.reg.0
-  Typed st (ElemWrite r i s) = ElemsFit st r.reg.0
+  Typed st (FieldWrite r f s) = ref_field W.program f.0 ≡ false → HoldsPlain (value_at st.top.regs s.reg.0)
+  Typed st (ElemWrite r i s) = ElemsFit st r.reg.0 × (ref_elems (reg_base W.program st.top.body r.reg.0) ≡ false → HoldsPlain (value_at st.top.regs s.reg.0))
+  Typed st (ArrayOf dst base xs) = ref_elems base ≡ false → AllPlain st.top.regs xs
   Typed st (New dst m args) = ArgsRef st.top.regs (slots_of (method_at W.program m.0)) args
   Typed st (Call dst m (Some r) direct args) = (o k : ℕ) → value_at st.top.regs r.reg.0 ≡ Some (At o) → selected W.program st.heap o m.0 direct ≡ Some k → Overrides k m.0
   Typed st k = Unit {0}
