@@ -1,6 +1,7 @@
 -- Each kind of point that enters and leaves no frame keeps a good state.
 use Rattle.std.proofs.Common.{◌≡◌, ℕ, zero, suc, ◌+◌, Bool, true, false, inl, inr, List, [], ◌∷◌, ◌++◌, length, replicate, Option, Some, None, refl, sym, ap, ◌∙◌, subst, cond}
 use Rattle.std.specs.Prelude.{slice_get, slice_set, IsTrue, ltb, ℤ}
+use Rattle.jn_points.specs.Regular.{Early, FromRead, Test, test_at, test_by, test_of}
 use Rattle.jn_quals.specs.Qualifier.{Qualifier}
 use Rattle.jn_points.specs.declared.point.Operand.{Operand}
 use Rattle.jn_points.specs.declared.point.Origin.{Origin}
@@ -9,7 +10,7 @@ use Rattle.jn_points.specs.declared.point.BaseType.TheVariants.{Array}
 use Rattle.jn_points.specs.declared.point.Elem.TheVariants.{Ref as RefElem}
 use Rattle.jn_points.specs.declared.point.PointKind.{PointKind}
 use Rattle.jn_points.specs.declared.point.PointKind.TheVariants.{Const, Move, Unary, Binary, Concat, SameRef, FieldRead, FieldWrite, StaticRead, StaticWrite, ElemRead, ElemWrite, ArrayLen, NewArray, ArrayOf, New, CtorCall, Call, StrOp, Print, Cast, TestInst, TestNull, Branch, Goto, Return}
-use Rattle.jn_soundness.specs.Checked.{AllWithin, Early, FromRead, NewArrayPasses, PointOk, Test, WritePasses, test_at, test_by, test_of, ref_elems}
+use Rattle.jn_soundness.specs.Checked.{AllWithin, NewArrayPasses, PointOk, WritePasses, ref_elems}
 use Rattle.jn_heap.specs.Values.{At, Elems, Fails, Gives, Got, Lacks, NullRef, Object, Plain, Prim, Text, Thing, Value, default_of, elem_base, index, same, text_of}
 use Rattle.jn_soundness.specs.Good.{Committed, Describes, ElemsFit, Good, GoodNext, GoodTop, HoldsRef, MarkFits, Marked, Marking, Marks, Settled, TestOk, Typed, HoldsPlain, AllPlain, FieldOk}
 use Rattle.jn_env.specs.declared.env.Env.{Env}
@@ -135,11 +136,10 @@ module _ (W : World) (st : State) (mk : Marking) (good : Good W st mk) where
       let now : v ≡ u = value_same st.top.regs dst v u (subst (λ y. value_at (slice_set st.top.regs dst (Some v)) y ≡ Some u) (sym x.0) seen) in
       value ∙ now
 
-
   module _ (dst : ℕ) (r f : ℕ) (e' : Env) (same : e' ≡ put W.program st.top.body good.top.env dst (read_qual W.program W.sig st.top.body good.top.env r f))
-    (s : SlotWithin (Some e') (env_at W st.top.body (st.top.at + 1))) (early : Early W st.top.body st.top.at → Early W st.top.body (st.top.at + 1))
+    (s : SlotWithin (Some e') (env_at W st.top.body (st.top.at + 1))) (early : Early W.program st.top.body st.top.at → Early W.program st.top.body (st.top.at + 1))
     (kept : ctor_of (method_in W.program st.top.body) ≡ true → Some dst ≡ Some 0 → ⊥)
-    (h : (t : Test) → test_at W st.top.body (st.top.at + 1) ≡ Some t → (dst ≡ t.tested) × (r ≡ t.reg) × (f ≡ t.field) × (t.reg ≡ t.tested → ⊥)) where
+    (h : (t : Test) → test_at W.program st.top.body (st.top.at + 1) ≡ Some t → (dst ≡ t.tested) × (r ≡ t.reg) × (f ≡ t.field) × (t.reg ≡ t.tested → ⊥)) where
     read_top : (o : ℕ) (v : Value) → value_at st.top.regs r ≡ Some (At o) → field_at W.program st.heap o f ≡ Some v → Describes mk.marks mk.top.era (read_qual W.program W.sig st.top.body good.top.env r f) (Some v) → GoodTop W mk.marks st.heap (holds_at st.top dst v) mk.top
     read_top o v is at' d =
         let q = read_qual W.program W.sig st.top.body good.top.env r f in
@@ -152,7 +152,7 @@ module _ (W : World) (st : State) (mk : Marking) (good : Good W st mk) where
             ctor = ctor_moves W mk.marks st.heap st.top mk.top (st.top.at + 1) (slice_set st.top.regs dst (Some v)) mk.top.built good.top.stands.ctor (λ c. value_zero st.top.regs dst (Some v) (some_zero W mk.marks st.heap dst (kept c))) early;
           })
           (facts_set W mk.marks st.heap st.top.body st.top.regs dst (Some v) e.facts good.top.facts)
-          (read_test r f o dst v (test_at W st.top.body (st.top.at + 1)) is at' h)
+          (read_test r f o dst v (test_at W.program st.top.body (st.top.at + 1)) is at' h)
 
     read_value : (o : ℕ) (v : Option Value) → value_at st.top.regs r ≡ Some (At o) → field_at W.program st.heap o f ≡ v → GotOk (λ v. Describes mk.marks mk.top.era (read_qual W.program W.sig st.top.body good.top.env r f) (Some v)) (got_of v) → GoodNext W (got_sets st dst (got_of v))
     read_value o None is at' d = tt
@@ -224,7 +224,7 @@ module _ (W : World) (st : State) (mk : Marking) (good : Good W st mk) where
     write_good (Some o) (Some v) at' is = write_thing o v (object_is (value_at st.top.regs r) o at') is (slice_get st.heap o) refl
 
   -- a write of an element
-  module _ (r s : ℕ) (w : ref_elems (reg_base W.program st.top.body r) ≡ true → IsTrue (within (qual_at good.top.env s) (elem_qual (reg_base W.program st.top.body r)))) (ty : ElemsFit W st r × (ref_elems (reg_base W.program st.top.body r) ≡ false → HoldsPlain (value_at st.top.regs s))) (plain : test_at W st.top.body st.top.at ≡ None) (step : Step W st.top.body st.top.at (st.top.at + 1, good.top.env)) where
+  module _ (r s : ℕ) (w : ref_elems (reg_base W.program st.top.body r) ≡ true → IsTrue (within (qual_at good.top.env s) (elem_qual (reg_base W.program st.top.body r)))) (ty : ElemsFit W st r × (ref_elems (reg_base W.program st.top.body r) ≡ false → HoldsPlain (value_at st.top.regs s))) (plain : test_at W.program st.top.body st.top.at ≡ None) (step : Step W st.top.body st.top.at (st.top.at + 1, good.top.env)) where
     elem_fits_in : (o : ℕ) (b : BaseType) (xs : List Value) (v : Value) → value_at st.top.regs r ≡ Some (At o) → value_at st.top.regs s ≡ Some v → slice_get st.heap o ≡ Some (Elems b xs) → (t : Bool) → ref_elems (reg_base W.program st.top.body r) ≡ t → Settled mk.marks (elem_qual b) v
     elem_fits_in o b xs v at' is thing true ir = settled_of mk.marks mk.top.era (elem_qual b) v (elem_settled b) (describes_within mk.marks mk.top.era (qual_at good.top.env s) (elem_qual b) (Some v) (subst (λ q. IsTrue (within (qual_at good.top.env s) q)) (sym (ty.0 o b xs at' thing)) (w ir)) (described_is s (Some v) is))
     elem_fits_in o b xs v at' is thing false ir = plain_settled mk.marks (elem_qual b) v (subst HoldsPlain is (ty.1 ir))
@@ -264,7 +264,7 @@ module _ (W : World) (st : State) (mk : Marking) (good : Good W st mk) where
     elem_write_good (Some o) (Some i) (Some v) at' is = store_good o (index i) v (object_is (value_at st.top.regs r) o at') is (slice_get st.heap o) refl
 
   -- a new array
-  module _ (dst : ℕ) (plain : test_at W st.top.body st.top.at ≡ None) (step : Step W st.top.body st.top.at (st.top.at + 1, put W.program st.top.body good.top.env dst committed_only)) (kept : ctor_of (method_in W.program st.top.body) ≡ true → Some dst ≡ Some 0 → ⊥) where
+  module _ (dst : ℕ) (plain : test_at W.program st.top.body st.top.at ≡ None) (step : Step W st.top.body st.top.at (st.top.at + 1, put W.program st.top.body good.top.env dst committed_only)) (kept : ctor_of (method_in W.program st.top.body) ≡ true → Some dst ≡ Some 0 → ⊥) where
     array_good : (b : BaseType) (xs : List Value) → ((i : ℕ) (v : Value) → slice_get xs i ≡ Some v → Settled (grown_marks W mk.marks (mk.top ∷ mk.waiting) st.heap good.heap (Elems b xs) Committed) (elem_qual b) v) → GoodNext W (allocates st dst (Elems b xs))
     array_good b xs h =
         let gs = mk.top ∷ mk.waiting in
@@ -343,7 +343,7 @@ module _ (W : World) (st : State) (mk : Marking) (good : Good W st mk) where
   IsPlainKind (Return v) = ⊥
   IsPlainKind k = Unit {0}
 
-  pub plain_good : (names : List (List ℕ)) (k : PointKind) → IsPlainKind k → PointOk W st.top.body st.top.at good.top.env k → test_at W st.top.body st.top.at ≡ test_of k → TestOk W st.heap st.top.regs (test_of k) → Typed W st k → GoodNext W (act W.program names st k)
+  pub plain_good : (names : List (List ℕ)) (k : PointKind) → IsPlainKind k → PointOk W st.top.body st.top.at good.top.env k → test_at W.program st.top.body st.top.at ≡ test_of k → TestOk W st.heap st.top.regs (test_of k) → Typed W st k → GoodNext W (act W.program names st k)
   plain_good names (Const dst value) x ok pl t ty = sets_good dst.0 (literal_qual value) (literal_value names value) (plain_step W _ _ _ _ tt tt (ok.edges _ (inl refl))) ok.this_kept (literal_fits W mk.marks mk.top.era names value)
   plain_good names (Move dst from bound) x ok pl t ty = got_good dst.0 (qual_at good.top.env from.reg.0) (got_of (value_at st.top.regs from.reg.0)) (plain_step W _ _ _ _ tt tt (ok.edges _ (inl refl))) ok.this_kept (got_fits W mk.marks mk.top.era _ _ (described from.reg.0))
   plain_good names (Unary dst neg of) x ok pl t ty = got_good dst.0 no_qual _ (plain_step W _ _ _ _ tt tt (ok.edges _ (inl refl))) ok.this_kept (unary_fits W mk.marks mk.top.era neg (prim_of (value_at st.top.regs of.reg.0)))

@@ -1,6 +1,7 @@
 -- Base typing is kept by each step, and gives what soundness asks.
 use Rattle.std.proofs.Common.{◌≡◌, ℕ, zero, suc, Bool, true, false, ◌⊎◌, inl, inr, List, [], ◌∷◌, ◌++◌, length, replicate, Option, Some, None, refl, sym, ap, ◌∙◌, subst, cond, ◌+◌, ltb}
 use Rattle.std.specs.Prelude.{slice_get, slice_set, eqb, ltb, ℤ}
+use Rattle.jn_points.specs.Regular.{writes}
 use Rattle.jn_base.specs.declared.number.RegNo.{RegNo}
 use Rattle.jn_base.specs.declared.number.ClassNo.{ClassNo}
 use Rattle.jn_base.specs.declared.number.MethodNo.{MethodNo}
@@ -24,7 +25,7 @@ use Rattle.jn_heap.specs.Machine.{Ends, Frame, Goes, Next, Regs, State, Stuck, a
 use Rattle.jn_soundness.specs.World.{World}
 use Rattle.jn_points.specs.Lookup.{body_at, body_of, class_of, field_base, field_base_of, flat_of, is_flat, is_ref_base, method_at, method_in, params_of, point_at, reg_base, regs_of, result_base_of, slots_of, static_of}
 use Rattle.jn_points.specs.Members.{fits, has_field}
-use Rattle.jn_soundness.specs.Checked.{writes, ref_elems}
+use Rattle.jn_soundness.specs.Checked.{ref_elems}
 use Rattle.jn_soundness.proofs.Fits.{fits_self, fits_trans, fits_refs, fits_flat, fits_elems, fits_items}
 use Rattle.jn_soundness.proofs.Basics.{true_false, eqb_cases, value_other, value_same}
 use Rattle.jn_soundness.proofs.Tops.{GotOk, object_is}
@@ -473,7 +474,6 @@ module _ (W : World) (T : Ordered W.program) (P : ProgramTyped W) where
           let now : At (length st.heap) ≡ w = value_same st.top.regs dst (At (length st.heap)) w (subst (λ y. value_at (slice_set st.top.regs dst (Some (At (length st.heap)))) y ≡ Some w) e is) in
           subst (λ w. HasType W (st.heap ++ x ∷ []) (reg_base W.program st.top.body r) w) now (subst (λ z. ThingFits W z (reg_base W.program st.top.body r)) (sym (append_last st.heap x)) (subst (λ y. fits W.program (base_of_thing x) (reg_base W.program st.top.body y) ≡ true) (sym e) f))
       by r w is (inr n) = has_more st.heap (st.heap ++ x ∷ []) (push_more st.heap x) (reg_base W.program st.top.body r) w (ty.top r w (sym (value_other st.top.regs dst r (Some (At (length st.heap))) n) ∙ is))
-
 
     replicated : (n : ℕ) (x : Value) (i : ℕ) (v : Value) → slice_get (replicate n x) i ≡ Some v → x ≡ v
     replicated zero x i v h = cc

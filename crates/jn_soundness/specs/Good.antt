@@ -1,5 +1,6 @@
 -- States that the tables and a marking describe.
 use Rattle.std.specs.Prelude.{ℕ, ◌≡◌, ◌<◌, ◌⊎◌, Bool, true, false, IsTrue, List, [], ◌∷◌, Option, Some, None, slice_get}
+use Rattle.jn_points.specs.Regular.{Early, Test, test_at}
 use Rattle.jn_quals.specs.Qualifier.{Qualifier}
 use Rattle.jn_points.specs.declared.point.Point.{Point}
 use Rattle.jn_points.specs.declared.point.Operand.{Operand}
@@ -10,7 +11,7 @@ use Rattle.jn_points.specs.declared.point.BaseType.{BaseType}
 use Rattle.jn_points.specs.declared.point.PointKind.{PointKind}
 use Rattle.jn_points.specs.declared.point.PointKind.TheVariants.{FieldRead, ElemRead, ElemWrite, New, CtorCall, Call, FieldWrite, ArrayOf}
 use Rattle.jn_heap.specs.Values.{At, Elems, NullRef, Object, Plain, Prim, Text, Thing, Value}
-use Rattle.jn_soundness.specs.Checked.{Early, Test, test_at, ref_elems}
+use Rattle.jn_soundness.specs.Checked.{ref_elems}
 use Rattle.jn_heap.specs.Machine.{Ends, Frame, Goes, Next, NullFault, Regs, State, Stuck, class_at, entered, field_at, field_in, gives, run, selected, takes, value_at, MainForm, start_state}
 use Rattle.jn_env.specs.declared.env.Env.{Env}
 use Rattle.jn_transfer.specs.Keys.{Key, fact_keys, own_keys}
@@ -165,7 +166,7 @@ module _ (W : World) where
     pub this : value_at f.regs 0 ≡ Some (At o)
     pub ended : List ℕ
     pub free : m o ≡ Free g.era ended
-    pub supers : Early W f.body f.at ⊎ SupersEnded (class_of (method_in W.program f.body)) ended
+    pub supers : Early W.program f.body f.at ⊎ SupersEnded (class_of (method_in W.program f.body)) ended
     pub class : g.made ≡ true → class_at heap o ≡ Some (class_of (method_in W.program f.body))
 
   abbrev pub CtorOk : Marks → List Thing → Frame → FrameMark → Option ℕ → Type 0
@@ -192,7 +193,7 @@ module _ (W : World) where
     pub reached : env_at W f.body f.at ≡ Some env
     pub stands : Stands m heap f g env
     pub facts : AllOn (FactOk heap f.regs) (fact_keys W.program f.body) env.facts
-    pub test : TestOk heap f.regs (test_at W f.body f.at)
+    pub test : TestOk heap f.regs (test_at W.program f.body f.at)
 
   pub record NewWaits (b : ℕ) (g below : FrameMark) (q : Qualifier) : Type 0 where
     pub ctor : ctor_of (method_in W.program b) ≡ true
