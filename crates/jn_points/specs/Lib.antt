@@ -1,3 +1,4 @@
 pub mod Edges
 pub mod Lookup
 pub mod Members
+pub mod Regular

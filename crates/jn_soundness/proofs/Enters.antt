@@ -1,6 +1,7 @@
 -- Calls, constructor calls and new enter good frames.
 use Rattle.std.proofs.Common.{◌≡◌, ℕ, zero, suc, ◌+◌, ◌<◌, Bool, true, false, not, ◌&&◌, ◌||◌, ◌⊎◌, inl, inr, List, [], ◌∷◌, ◌++◌, length, Option, Some, None, refl, sym, ap, ◌∙◌, subst, arith, cond, ltb}
 use Rattle.std.specs.Prelude.{slice_get, IsTrue}
+use Rattle.jn_points.specs.Regular.{Chains, Early, test_at}
 use Rattle.jn_base.specs.declared.number.RegNo.{RegNo}
 use Rattle.jn_base.specs.declared.number.MethodNo.{MethodNo}
 use Rattle.jn_base.specs.declared.number.SlotNo.{SlotNo}
@@ -13,7 +14,7 @@ use Rattle.jn_points.specs.declared.point.PointKind.TheVariants.{New, CtorCall, 
 use Rattle.jn_points.specs.declared.program.Field.{Field}
 use Rattle.jn_points.specs.declared.program.Method.{Method}
 use Rattle.jn_points.specs.declared.program.Body.{Body}
-use Rattle.jn_soundness.specs.Checked.{ArgsPass, Chains, Checked, Early, PointOk, ReceiverPasses, test_at}
+use Rattle.jn_soundness.specs.Checked.{ArgsPass, Checked, PointOk, ReceiverPasses}
 use Rattle.jn_soundness.specs.Good.{ArgsRef, AssignedOk, Building, Committed, Ctor, CtorOk, Described, Describes, EraStep, FactOk, FieldOk, FieldSet, FrameMark, Free, FreeField, Good, GoodNext, GoodTop, HeapOk, HoldsRef, IsMember, MarkFits, Marking, Marks, ObjMark, Overrides, SupersEnded, Typed, Unborn, Waiting, Waits}
 use Rattle.jn_heap.specs.Values.{At, NullRef, Object, Plain, Prim, Text, Thing, Value, deepest, default_of, defaults, same}
 use Rattle.jn_env.specs.declared.env.Env.{Env}
@@ -152,7 +153,7 @@ module _ (W : World) (checked : Checked W) where
       arrives W m heap (entered W.program b vs) g (entry_env W.program W.sig b) (checked.entry b x there)
         (record { quals = described_pad m g.era W (given_quals W.sig (method_in W.program b)) vs (regs_of (body_at W.program b)) d; assigned = entry_assigned heap g.built b; ctor = c })
         (on_none (FactOk W heap (pad vs (regs_of (body_at W.program b)))) (fact_keys W.program b))
-        (no_test W m heap (pad vs (regs_of (body_at W.program b))) (test_at W b 0) (checked.entry_test b))
+        (no_test W m heap (pad vs (regs_of (body_at W.program b))) (test_at W.program b 0) (checked.entry_test b))
 
   given_static : (m : Option Method) → static_of m ≡ true → given_quals W.sig m ≡ slot_quals W.sig (slots_of m)
   given_static m h = ap (λ b. cond b (slot_quals W.sig (slots_of m)) (this_qual W.sig m ∷ slot_quals W.sig (slots_of m))) h
@@ -167,10 +168,10 @@ module _ (W : World) (checked : Checked W) where
   first_value : (b : ℕ) (v : Value) (vs : List Value) → ctor_of (method_in W.program b) ≡ true → value_at (pad (v ∷ vs) (regs_of (body_at W.program b))) 0 ≡ Some v
   first_value b v vs c = let r = checked.ctor_regs b c in pad_zero v vs (regs_of (body_at W.program b)) r.0 r.1
 
-  entry_supers : (b : ℕ) → ctor_of (method_in W.program b) ≡ true → Early W b 0 ⊎ SupersEnded W (class_of (method_in W.program b)) []
+  entry_supers : (b : ℕ) → ctor_of (method_in W.program b) ≡ true → Early W.program b 0 ⊎ SupersEnded W (class_of (method_in W.program b)) []
   entry_supers b c = by (checked.entry_early b c)
     where
-    by : Early W b 0 ⊎ ((f : ℕ) → has_field W.program (class_of (method_in W.program b)) f ≡ true → owner W.program f ≡ class_of (method_in W.program b)) → Early W b 0 ⊎ SupersEnded W (class_of (method_in W.program b)) []
+    by : Early W.program b 0 ⊎ ((f : ℕ) → has_field W.program (class_of (method_in W.program b)) f ≡ true → owner W.program f ≡ class_of (method_in W.program b)) → Early W.program b 0 ⊎ SupersEnded W (class_of (method_in W.program b)) []
     by (inl h) = inl h
     by (inr h) = inr (λ f k. inl (h f k))
 
@@ -252,7 +253,7 @@ module _ (W : World) (checked : Checked W) where
     call_kind dst m (Some r) direct args is ok ty = on_call dst m r direct args is ok.rules.0 ok.rules.1 ty (gather st.top.regs args) refl (object_of (value_at st.top.regs r.reg.0)) refl
 
     -- this(..) and super(..)
-    ctor_entry : (m : MethodNo) (args : List Operand) (own : Bool) → pt.kind ≡ CtorCall m args own → Chains W st.top.body m.0 own → (o : ℕ) → mk.top.built ≡ Some o → Ctor W mk.marks st.heap st.top mk.top o → (vs : List Value) → AllDescribed mk.marks mk.top.era (param_quals W m.0) vs → (t : Bool) (x : Option ℕ) → body_of (method_at W.program m.0) ≡ x → GoodNext W (enter W.program t st st.heap x (At o ∷ vs))
+    ctor_entry : (m : MethodNo) (args : List Operand) (own : Bool) → pt.kind ≡ CtorCall m args own → Chains W.program st.top.body m.0 own → (o : ℕ) → mk.top.built ≡ Some o → Ctor W mk.marks st.heap st.top mk.top o → (vs : List Value) → AllDescribed mk.marks mk.top.era (param_quals W m.0) vs → (t : Bool) (x : Option ℕ) → body_of (method_at W.program m.0) ≡ x → GoodNext W (enter W.program t st st.heap x (At o ∷ vs))
     ctor_entry m args own is ch o ob c vs d true x ib = tt
     ctor_entry m args own is ch o ob c vs d false None ib = tt
     ctor_entry m args own is ch o ob c vs d false (Some b) ib =
@@ -274,7 +275,7 @@ module _ (W : World) (checked : Checked W) where
           };
         }
 
-    ctor_value : (m : MethodNo) (args : List Operand) (own : Bool) → pt.kind ≡ CtorCall m args own → Chains W st.top.body m.0 own → ArgsPass good.top.env (param_quals W m.0) args → (vs : Option (List Value)) → gather st.top.regs args ≡ vs → (x : Option ℕ) → mk.top.built ≡ x → CtorOk W mk.marks st.heap st.top mk.top x → GoodNext W (ctor_calls W.program st m.0 (value_at st.top.regs 0) vs)
+    ctor_value : (m : MethodNo) (args : List Operand) (own : Bool) → pt.kind ≡ CtorCall m args own → Chains W.program st.top.body m.0 own → ArgsPass good.top.env (param_quals W m.0) args → (vs : Option (List Value)) → gather st.top.regs args ≡ vs → (x : Option ℕ) → mk.top.built ≡ x → CtorOk W mk.marks st.heap st.top mk.top x → GoodNext W (ctor_calls W.program st m.0 (value_at st.top.regs 0) vs)
     ctor_value m args own is ch p None iv x ib c = tt
     ctor_value m args own is ch p (Some vs) iv None ib c = true_false (ctor_of (method_in W.program st.top.body)) ch.inside c
     ctor_value m args own is ch p (Some vs) iv (Some o) ib c = subst (λ v. GoodNext W (ctor_calls W.program st m.0 v (Some vs))) (sym c.this) (ctor_entry m args own is ch o ib c vs (args_of (param_quals W m.0) args vs p iv) (ltb deepest (length st.waiting + 2)) (body_of (method_at W.program m.0)) refl)

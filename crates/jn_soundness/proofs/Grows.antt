@@ -2,6 +2,7 @@
 use Rattle.std.proofs.Common.{◌≡◌, ℕ, zero, suc, Bool, true, false, ◌⊎◌, inl, inr, List, [], ◌∷◌, ◌++◌, length, Option, Some, None, refl, sym, ap, ◌∙◌, subst, cond}
 use Rattle.std.specs.Prelude.{slice_get, slice_set, eqb}
 use Rattle.std.proofs.lemmas.Bool.{eqb-true, eq-eqb}
+use Rattle.jn_points.specs.Regular.{test_at}
 use Rattle.jn_quals.specs.Qualifier.{Qualifier}
 use Rattle.jn_points.specs.declared.point.BaseType.{BaseType}
 use Rattle.jn_heap.specs.Values.{At, Elems, NullRef, Object, Plain, Text, Thing, Value, same}
@@ -14,7 +15,7 @@ use Rattle.jn_sigs.specs.Signature.{field_qual}
 use Rattle.jn_points.specs.Members.{fits}
 use Rattle.jn_points.specs.Lookup.{owner, ref_field}
 use Rattle.jn_env.specs.Order.{qual_at}
-use Rattle.jn_soundness.specs.Checked.{test_at}
+
 use Rattle.jn_soundness.proofs.Basics.{described_at, on_map, eqb_cases}
 use Rattle.jn_soundness.proofs.Laters.{Later, stands_later}
 use Rattle.jn_soundness.proofs.Writes.{set_same, set_there, set_other}
@@ -195,11 +196,11 @@ pub held : (W : World) (m : Marks) (heap : List Thing) (f : Frame) (g : FrameMar
 held W m heap f g t k o is = fits_born g.era (qual_at t.env k.reg) (m o) (subst (λ v. Describes m g.era (qual_at t.env k.reg) v) is (described_at m g.era t.env.quals f.regs k.reg t.stands.quals))
 
 -- the running frame under a later state
-abbrev pub top_later : (W : World) (m : Marks) (heap : List Thing) (n : Marks) (heap' : List Thing) (f : Frame) (g : FrameMark) → Later W g.era m heap n heap' → ((o h : ℕ) → (m o ≡ Unborn → ⊥) → field_at W.program heap' o h ≡ field_at W.program heap o h) → test_at W f.body f.at ≡ None → GoodTop W m heap f g → GoodTop W n heap' f g
+abbrev pub top_later : (W : World) (m : Marks) (heap : List Thing) (n : Marks) (heap' : List Thing) (f : Frame) (g : FrameMark) → Later W g.era m heap n heap' → ((o h : ℕ) → (m o ≡ Unborn → ⊥) → field_at W.program heap' o h ≡ field_at W.program heap o h) → test_at W.program f.body f.at ≡ None → GoodTop W m heap f g → GoodTop W n heap' f g
 top_later W m heap n heap' f g l same plain t = record {
   env = t.env;
   reached = t.reached;
   stands = stands_later W m heap n heap' f g t.env l t.stands;
   facts = on_map (FactOk W heap f.regs) (FactOk W heap' f.regs) (fact_keys W.program f.body) t.env.facts (λ k h o is z. h o is (sym (same o k.field (held W m heap f g t k o is)) ∙ z)) t.facts;
-  test = no_test W n heap' f.regs (test_at W f.body f.at) plain;
+  test = no_test W n heap' f.regs (test_at W.program f.body f.at) plain;
 }

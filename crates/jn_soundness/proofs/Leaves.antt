@@ -2,6 +2,7 @@
 use Rattle.std.proofs.Common.{◌≡◌, ℕ, ◌+◌, ◌<◌, Bool, true, false, ◌⊎◌, inl, inr, List, [], ◌∷◌, Option, Some, None, refl, sym, ap, ◌∙◌, subst, arith, cond}
 use Rattle.std.specs.Prelude.{slice_set}
 use Rattle.std.proofs.lemmas.Bool.{eq-eqb}
+use Rattle.jn_points.specs.Regular.{Early, FromRead, Test, test_at}
 use Rattle.jn_base.specs.declared.number.RegNo.{RegNo}
 use Rattle.jn_base.specs.declared.number.MethodNo.{MethodNo}
 use Rattle.jn_quals.specs.Qualifier.{Qualifier}
@@ -9,7 +10,7 @@ use Rattle.jn_points.specs.declared.point.Operand.{Operand}
 use Rattle.jn_points.specs.declared.point.PointKind.{PointKind}
 use Rattle.jn_points.specs.declared.point.PointKind.TheVariants.{New, CtorCall, Call, Return}
 use Rattle.jn_soundness.specs.Good.{AllOn, AssignedOk, Building, CallWaits, Committed, Ctor, CtorOk, CtorWaits, Described, Describes, FactOk, FieldSet, FrameMark, Free, Good, GoodNext, GoodTop, HeapOk, IsMember, MarkFits, Marked, Marking, Marks, NewWaits, Stands, SupersEnded, Waiting, WaitingFrame, Waits}
-use Rattle.jn_soundness.specs.Checked.{AllOwn, Checked, Early, FromRead, PointOk, ResultPasses, Test, test_at}
+use Rattle.jn_soundness.specs.Checked.{AllOwn, Checked, PointOk, ResultPasses}
 use Rattle.jn_heap.specs.Values.{At, Thing, Value, same}
 use Rattle.jn_env.specs.declared.env.Env.{Env}
 use Rattle.jn_heap.specs.Machine.{Frame, State, act, gives, gives_to, holds_at, moves_to, resumes, returns, step, takes, takes_at, value_at, value_of}
@@ -107,7 +108,7 @@ module _ (W : World) (checked : Checked W) where
         supers : SupersEnded W d c.ended
         supers = by c.supers
           where
-          by : Early W st.top.body st.top.at ⊎ SupersEnded W d c.ended → SupersEnded W d c.ended
+          by : Early W.program st.top.body st.top.at ⊎ SupersEnded W d c.ended → SupersEnded W d c.ended
           by (inl e) = absurd (ok.end c.inside e)
           by (inr s) = s
 
@@ -222,7 +223,7 @@ module _ (W : World) (checked : Checked W) where
                     ctor = caller_ctor h.built same_built stands1.ctor;
                   })
                   (caller_facts own)
-                  (no_test W m1 st.heap w.regs (test_at W w.body (w.at + 1)) (untested (test_at W w.body (w.at + 1)) edge.test)))
+                  (no_test W m1 st.heap w.regs (test_at W.program w.body (w.at + 1)) (untested (test_at W.program w.body (w.at + 1)) edge.test)))
             where
             untested : (t : Option Test) → FromRead (CtorCall m args own) t → t ≡ None
             untested None h = refl

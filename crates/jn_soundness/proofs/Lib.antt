@@ -1,3 +1,4 @@
+pub mod Rows
 pub mod Keys
 pub mod Fits
 pub mod Basics
@@ -13,3 +14,4 @@ pub mod Leaves
 pub mod Sound
 pub mod Typing
 pub mod Whole
+pub mod Accepts

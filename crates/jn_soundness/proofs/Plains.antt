@@ -1,6 +1,7 @@
 -- Each kind of point that enters and leaves no frame keeps a good state.
 use Rattle.std.proofs.Common.{◌≡◌, ℕ, zero, suc, ◌+◌, Bool, true, false, inl, inr, List, [], ◌∷◌, ◌++◌, length, replicate, Option, Some, None, refl, sym, ap, ◌∙◌, subst, cond}
 use Rattle.std.specs.Prelude.{slice_get, slice_set, IsTrue, ltb, ℤ}
+use Rattle.jn_points.specs.Regular.{Early, FromRead, Test, test_at, test_by, test_of}
 use Rattle.jn_quals.specs.Qualifier.{Qualifier}
 use Rattle.jn_points.specs.declared.point.Operand.{Operand}
 use Rattle.jn_points.specs.declared.point.Origin.{Origin}
@@ -9,9 +10,9 @@ use Rattle.jn_points.specs.declared.point.BaseType.TheVariants.{Array}
 use Rattle.jn_points.specs.declared.point.Elem.TheVariants.{Ref as RefElem}
 use Rattle.jn_points.specs.declared.point.PointKind.{PointKind}
 use Rattle.jn_points.specs.declared.point.PointKind.TheVariants.{Const, Move, Unary, Binary, Concat, SameRef, FieldRead, FieldWrite, StaticRead, StaticWrite, ElemRead, ElemWrite, ArrayLen, NewArray, ArrayOf, New, CtorCall, Call, StrOp, Print, Cast, TestInst, TestNull, Branch, Goto, Return}
-use Rattle.jn_soundness.specs.Checked.{AllWithin, Early, FromRead, NewArrayPasses, PointOk, Test, WritePasses, test_at, test_by, test_of}
+use Rattle.jn_soundness.specs.Checked.{AllWithin, NewArrayPasses, PointOk, WritePasses, ref_elems}
 use Rattle.jn_heap.specs.Values.{At, Elems, Fails, Gives, Got, Lacks, NullRef, Object, Plain, Prim, Text, Thing, Value, default_of, elem_base, index, same, text_of}
-use Rattle.jn_soundness.specs.Good.{Committed, Describes, ElemsFit, Good, GoodNext, GoodTop, HoldsRef, MarkFits, Marked, Marking, Marks, Settled, TestOk, Typed}
+use Rattle.jn_soundness.specs.Good.{Committed, Describes, ElemsFit, Good, GoodNext, GoodTop, HoldsRef, MarkFits, Marked, Marking, Marks, Settled, TestOk, Typed, HoldsPlain, AllPlain, FieldOk}
 use Rattle.jn_env.specs.declared.env.Env.{Env}
 use Rattle.jn_transfer.specs.Transfer.{IsAmong, elem_qual, elem_read, learn, literal_qual, put, read_qual, refine, side, written}
 use Rattle.jn_heap.specs.Machine.{Regs, State, act, allocates, array_of, branch, count_of, field_at, gather, gather_more, goes_by, got_of, got_sets, holds_at, is_within, literal_value, may_hold, moves, moves_to, new_array, object_of, prim_of, print, put_thing, read_field, sets, step, store_in, stored, test_inst, test_null, value_at, value_of, write_elem, write_field, write_in, write_static, int_of, truth_of, text_in, got_plain, got_prim}
@@ -19,18 +20,24 @@ use Rattle.jn_env.specs.Order.{SlotWithin, qual_at}
 use Rattle.jn_soundness.specs.World.{World, env_at}
 use Rattle.jn_points.specs.Members.{below, has_field}
 use Rattle.jn_quals.specs.Order.{committed_only, is_none, no_qual, null_part, settle, within, without_null}
-use Rattle.jn_points.specs.Lookup.{ctor_of, method_in, ref_field, reg_base}
+use Rattle.jn_points.specs.Lookup.{ctor_of, method_in, ref_field, reg_base, owner}
 use Rattle.jn_sigs.specs.Signature.{field_qual}
 use Rattle.jn_soundness.proofs.Basics.{true_false, within_null, describes_within, described_at, described_set, settled_of, value_zero, value_same, value_other}
 use Rattle.jn_soundness.proofs.Tops.{GotOk, object_is, alive, null_alive, without_null_describes, among_right, side_among, side_alone, Step, plain_step, arrives, ctor_moves, goes_top, facts_set, set_top, move_top, refine_top, learn_top, some_zero}
 use Rattle.jn_soundness.proofs.Values.{literal_fits, got_fits, plain_fits, unary_fits, binary_fits, concat_fits, same_fits, len_fits, str_fits, cast_fits, read_fits, elem_fits}
 use Rattle.jn_soundness.proofs.Laters.{Later, ctor_later, all_later, waiting_later}
-use Rattle.jn_soundness.proofs.Writes.{fits_field, later_after, heap_ok_after, facts_after, facts_same, assigned_after, assigned_kept, null_is_ref}
+use Rattle.jn_soundness.proofs.Writes.{fits_field, later_after, heap_ok_after, facts_after, facts_same, assigned_after, assigned_kept, null_is_ref, plain_field}
 use Rattle.jn_soundness.proofs.Grows.{elems_later, elems_heap, elems_field, grown_marks, grown_later, grown_heap, field_grown, top_later, mark_same, committed_grown, settled_later}
 
 elem_settled : (b : BaseType) → (elem_qual b).free ≡ false
 elem_settled (Array (RefElem c) nullable) = refl
 elem_settled b = refl
+
+plain_settled : (m : Marks) (q : Qualifier) (v : Value) → HoldsPlain (Some v) → Settled m q v
+plain_settled m q NullRef h = absurd h
+plain_settled m q (Text t) h = absurd h
+plain_settled m q (Plain p) h = tt
+plain_settled m q (At o) h = absurd h
 
 module _ (W : World) (st : State) (mk : Marking) (good : Good W st mk) where
   -- heap and marks are as they were
@@ -129,11 +136,10 @@ module _ (W : World) (st : State) (mk : Marking) (good : Good W st mk) where
       let now : v ≡ u = value_same st.top.regs dst v u (subst (λ y. value_at (slice_set st.top.regs dst (Some v)) y ≡ Some u) (sym x.0) seen) in
       value ∙ now
 
-
   module _ (dst : ℕ) (r f : ℕ) (e' : Env) (same : e' ≡ put W.program st.top.body good.top.env dst (read_qual W.program W.sig st.top.body good.top.env r f))
-    (s : SlotWithin (Some e') (env_at W st.top.body (st.top.at + 1))) (early : Early W st.top.body st.top.at → Early W st.top.body (st.top.at + 1))
+    (s : SlotWithin (Some e') (env_at W st.top.body (st.top.at + 1))) (early : Early W.program st.top.body st.top.at → Early W.program st.top.body (st.top.at + 1))
     (kept : ctor_of (method_in W.program st.top.body) ≡ true → Some dst ≡ Some 0 → ⊥)
-    (h : (t : Test) → test_at W st.top.body (st.top.at + 1) ≡ Some t → (dst ≡ t.tested) × (r ≡ t.reg) × (f ≡ t.field) × (t.reg ≡ t.tested → ⊥)) where
+    (h : (t : Test) → test_at W.program st.top.body (st.top.at + 1) ≡ Some t → (dst ≡ t.tested) × (r ≡ t.reg) × (f ≡ t.field) × (t.reg ≡ t.tested → ⊥)) where
     read_top : (o : ℕ) (v : Value) → value_at st.top.regs r ≡ Some (At o) → field_at W.program st.heap o f ≡ Some v → Describes mk.marks mk.top.era (read_qual W.program W.sig st.top.body good.top.env r f) (Some v) → GoodTop W mk.marks st.heap (holds_at st.top dst v) mk.top
     read_top o v is at' d =
         let q = read_qual W.program W.sig st.top.body good.top.env r f in
@@ -146,7 +152,7 @@ module _ (W : World) (st : State) (mk : Marking) (good : Good W st mk) where
             ctor = ctor_moves W mk.marks st.heap st.top mk.top (st.top.at + 1) (slice_set st.top.regs dst (Some v)) mk.top.built good.top.stands.ctor (λ c. value_zero st.top.regs dst (Some v) (some_zero W mk.marks st.heap dst (kept c))) early;
           })
           (facts_set W mk.marks st.heap st.top.body st.top.regs dst (Some v) e.facts good.top.facts)
-          (read_test r f o dst v (test_at W st.top.body (st.top.at + 1)) is at' h)
+          (read_test r f o dst v (test_at W.program st.top.body (st.top.at + 1)) is at' h)
 
     read_value : (o : ℕ) (v : Option Value) → value_at st.top.regs r ≡ Some (At o) → field_at W.program st.heap o f ≡ v → GotOk (λ v. Describes mk.marks mk.top.era (read_qual W.program W.sig st.top.body good.top.env r f) (Some v)) (got_of v) → GoodNext W (got_sets st dst (got_of v))
     read_value o None is at' d = tt
@@ -157,9 +163,13 @@ module _ (W : World) (st : State) (mk : Marking) (good : Good W st mk) where
     read_good (Some o) is d = read_value o (field_at W.program st.heap o f) (object_is (value_at st.top.regs r) o is) refl d
 
   -- a write of a field
-  module _ (r f s : ℕ) (u : WritePasses W good.top.env r f s) (step : Step W st.top.body st.top.at (st.top.at + 1, written W.program st.top.body good.top.env r f s (ref_field W.program f))) where
+  module _ (r f s : ℕ) (u : WritePasses W good.top.env r f s) (ty : ref_field W.program f ≡ false → HoldsPlain (value_at st.top.regs s)) (step : Step W st.top.body st.top.at (st.top.at + 1, written W.program st.top.body good.top.env r f s (ref_field W.program f))) where
     null_slot : (v : Value) → value_at st.top.regs s ≡ Some v → v ≡ NullRef → (field_qual W.program W.sig f).null ≡ true
-    null_slot v is n = within_null (settle (qual_at good.top.env s)) (field_qual W.program W.sig f) u.value (described_is s (Some NullRef) (is ∙ ap (λ x. Some x) n))
+    null_slot v is n = by (ref_field W.program f) refl
+      where
+      by : (t : Bool) → ref_field W.program f ≡ t → (field_qual W.program W.sig f).null ≡ true
+      by true ir = within_null (settle (qual_at good.top.env s)) (field_qual W.program W.sig f) (u.value ir) (described_is s (Some NullRef) (is ∙ ap (λ x. Some x) n))
+      by false ir = absurd (subst HoldsPlain (is ∙ ap (λ x. Some x) n) (ty ir))
 
     null_qual : (v : Value) → value_at st.top.regs s ≡ Some v → v ≡ NullRef → (qual_at good.top.env s).null ≡ true
     null_qual v is n = described_is s (Some NullRef) (is ∙ ap (λ x. Some x) n)
@@ -181,12 +191,16 @@ module _ (W : World) (st : State) (mk : Marking) (good : Good W st mk) where
             (facts_same W st.heap o c fs f v thing st.top.body good.top.env st.top.regs r s at' (null_qual v is) (λ n. true_false (ref_field W.program f) (null_is_ref W (slice_get W.program.fields f) (null_slot v is n)) ir) good.top.facts)
             (λ c. refl)
 
+      written_fits : (t : Bool) → ref_field W.program f ≡ t → FieldOk mk.marks (mk.marks o) (owner W.program f) (ref_field W.program f) (field_qual W.program W.sig f) v
+      written_fits true ir = fits_field W mk.marks mk.top.era good.top.env r f s v (mk.marks o) ir u (described_is r (Some (At o)) at') (described_is s (Some v) is)
+      written_fits false ir = plain_field W mk.marks mk.top.era (mk.marks o) (owner W.program f) (ref_field W.program f) (field_qual W.program W.sig f) v (subst HoldsPlain is (ty ir))
+
       write_object : GoodNext W (put_thing st o (Gives (Object c (slice_set fs f v))))
       write_object = record {
         mark = mk;
         good = record {
           heap = heap_ok_after W st.heap o c fs f v thing mk.marks (mk.top ∷ mk.waiting) good.heap
-            (fits_field W mk.marks mk.top.era good.top.env r f s v (mk.marks o) u (described_is r (Some (At o)) at') (described_is s (Some v) is));
+            (written_fits (ref_field W.program f) refl);
           top = write_top (ref_field W.program f) refl step;
           waiting = waiting_later W mk.marks st.heap mk.marks (slice_set st.heap o (Object c (slice_set fs f v))) st.top.body mk.top st.waiting mk.waiting
             (all_later W mk.marks st.heap mk.marks (slice_set st.heap o (Object c (slice_set fs f v))) (λ a. later_after W st.heap o c fs f v thing mk.marks a (null_slot v is)) mk.waiting)
@@ -210,7 +224,11 @@ module _ (W : World) (st : State) (mk : Marking) (good : Good W st mk) where
     write_good (Some o) (Some v) at' is = write_thing o v (object_is (value_at st.top.regs r) o at') is (slice_get st.heap o) refl
 
   -- a write of an element
-  module _ (r s : ℕ) (w : IsTrue (within (qual_at good.top.env s) (elem_qual (reg_base W.program st.top.body r)))) (ty : ElemsFit W st r) (plain : test_at W st.top.body st.top.at ≡ None) (step : Step W st.top.body st.top.at (st.top.at + 1, good.top.env)) where
+  module _ (r s : ℕ) (w : ref_elems (reg_base W.program st.top.body r) ≡ true → IsTrue (within (qual_at good.top.env s) (elem_qual (reg_base W.program st.top.body r)))) (ty : ElemsFit W st r × (ref_elems (reg_base W.program st.top.body r) ≡ false → HoldsPlain (value_at st.top.regs s))) (plain : test_at W.program st.top.body st.top.at ≡ None) (step : Step W st.top.body st.top.at (st.top.at + 1, good.top.env)) where
+    elem_fits_in : (o : ℕ) (b : BaseType) (xs : List Value) (v : Value) → value_at st.top.regs r ≡ Some (At o) → value_at st.top.regs s ≡ Some v → slice_get st.heap o ≡ Some (Elems b xs) → (t : Bool) → ref_elems (reg_base W.program st.top.body r) ≡ t → Settled mk.marks (elem_qual b) v
+    elem_fits_in o b xs v at' is thing true ir = settled_of mk.marks mk.top.era (elem_qual b) v (elem_settled b) (describes_within mk.marks mk.top.era (qual_at good.top.env s) (elem_qual b) (Some v) (subst (λ q. IsTrue (within (qual_at good.top.env s) q)) (sym (ty.0 o b xs at' thing)) (w ir)) (described_is s (Some v) is))
+    elem_fits_in o b xs v at' is thing false ir = plain_settled mk.marks (elem_qual b) v (subst HoldsPlain is (ty.1 ir))
+
     store_elems : (o : ℕ) (b : BaseType) (xs : List Value) (i : ℕ) (v : Value) → value_at st.top.regs r ≡ Some (At o) → value_at st.top.regs s ≡ Some v → slice_get st.heap o ≡ Some (Elems b xs) → GoodNext W (put_thing st o (Gives (Elems b (slice_set xs i v))))
     store_elems o b xs i v at' is thing =
         let heap' = slice_set st.heap o (Elems b (slice_set xs i v)) in
@@ -220,7 +238,7 @@ module _ (W : World) (st : State) (mk : Marking) (good : Good W st mk) where
           mark = mk;
           good = record {
             heap = elems_heap W st.heap o b xs i v thing mk.marks (mk.top ∷ mk.waiting) good.heap
-              (settled_of mk.marks mk.top.era (elem_qual b) v (elem_settled b) (describes_within mk.marks mk.top.era (qual_at good.top.env s) (elem_qual b) (Some v) (subst (λ q. IsTrue (within (qual_at good.top.env s) q)) (sym (ty o b xs at' thing)) w) (described_is s (Some v) is)));
+              (elem_fits_in o b xs v at' is thing (ref_elems (reg_base W.program st.top.body r)) refl);
             top = move_top W mk.marks heap' st.top mk.top t (st.top.at + 1) step;
             waiting = waiting_later W mk.marks st.heap mk.marks heap' st.top.body mk.top st.waiting mk.waiting
               (all_later W mk.marks st.heap mk.marks heap' (λ a. elems_later W st.heap o b xs i v thing mk.marks a) mk.waiting) good.waiting;
@@ -246,7 +264,7 @@ module _ (W : World) (st : State) (mk : Marking) (good : Good W st mk) where
     elem_write_good (Some o) (Some i) (Some v) at' is = store_good o (index i) v (object_is (value_at st.top.regs r) o at') is (slice_get st.heap o) refl
 
   -- a new array
-  module _ (dst : ℕ) (plain : test_at W st.top.body st.top.at ≡ None) (step : Step W st.top.body st.top.at (st.top.at + 1, put W.program st.top.body good.top.env dst committed_only)) (kept : ctor_of (method_in W.program st.top.body) ≡ true → Some dst ≡ Some 0 → ⊥) where
+  module _ (dst : ℕ) (plain : test_at W.program st.top.body st.top.at ≡ None) (step : Step W st.top.body st.top.at (st.top.at + 1, put W.program st.top.body good.top.env dst committed_only)) (kept : ctor_of (method_in W.program st.top.body) ≡ true → Some dst ≡ Some 0 → ⊥) where
     array_good : (b : BaseType) (xs : List Value) → ((i : ℕ) (v : Value) → slice_get xs i ≡ Some v → Settled (grown_marks W mk.marks (mk.top ∷ mk.waiting) st.heap good.heap (Elems b xs) Committed) (elem_qual b) v) → GoodNext W (allocates st dst (Elems b xs))
     array_good b xs h =
         let gs = mk.top ∷ mk.waiting in
@@ -280,26 +298,43 @@ module _ (W : World) (st : State) (mk : Marking) (good : Good W st mk) where
     new_array_good b (Fails e) h = tt
     new_array_good b Lacks h = tt
 
-    gathered_at : (q : Qualifier) (args : List Operand) (vs : List Value) → AllWithin good.top.env q args → gather st.top.regs args ≡ Some vs → (i : ℕ) (v : Value) → slice_get vs i ≡ Some v → Describes mk.marks mk.top.era q (Some v)
-    gathered_at q [] vs w is i v h =
+    abbrev AllHold : (Option Value → Type 0) → List Operand → Type 0
+    AllHold P [] = Unit {0}
+    AllHold P (a ∷ args) = P (value_at st.top.regs a.reg.0) × AllHold P args
+
+    gathered_at : (P : Option Value → Type 0) (args : List Operand) (vs : List Value) → AllHold P args → gather st.top.regs args ≡ Some vs → (i : ℕ) (v : Value) → slice_get vs i ≡ Some v → P (Some v)
+    gathered_at P [] vs w is i v h =
         let same : [] ≡ vs = cc in
         let bad : slice_get [] i ≡ Some v = subst (λ x. slice_get x i ≡ Some v) (sym same) h in
         absurd (let k : None ≡ Some v = bad in cc)
-    gathered_at q (a ∷ args) vs w is i v h = more (value_at st.top.regs a.reg.0) (gather st.top.regs args) vs is i v h (describes_within mk.marks mk.top.era (qual_at good.top.env a.reg.0) q (value_at st.top.regs a.reg.0) w.0 (described a.reg.0)) (λ us k. gathered_at q args us w.1 k)
+    gathered_at P (a ∷ args) vs w is i v h = more (value_at st.top.regs a.reg.0) (gather st.top.regs args) vs is i v h w.0 (λ us k. gathered_at P args us w.1 k)
       where
-      at_place : (x : Value) (us : List Value) (i : ℕ) (v : Value) → slice_get (x ∷ us) i ≡ Some v → Describes mk.marks mk.top.era q (Some x) → ((i : ℕ) (v : Value) → slice_get us i ≡ Some v → Describes mk.marks mk.top.era q (Some v)) → Describes mk.marks mk.top.era q (Some v)
-      at_place x us zero v h d k = let same : x ≡ v = cc in subst (λ v. Describes mk.marks mk.top.era q (Some v)) same d
+      at_place : (x : Value) (us : List Value) (i : ℕ) (v : Value) → slice_get (x ∷ us) i ≡ Some v → P (Some x) → ((i : ℕ) (v : Value) → slice_get us i ≡ Some v → P (Some v)) → P (Some v)
+      at_place x us zero v h d k = let same : x ≡ v = cc in subst (λ v. P (Some v)) same d
       at_place x us (suc i) v h d k = k i v h
-      more : (x : Option Value) (o : Option (List Value)) (vs : List Value) → gather_more x o ≡ Some vs → (i : ℕ) (v : Value) → slice_get vs i ≡ Some v → Describes mk.marks mk.top.era q x → ((us : List Value) → o ≡ Some us → (i : ℕ) (v : Value) → slice_get us i ≡ Some v → Describes mk.marks mk.top.era q (Some v)) → Describes mk.marks mk.top.era q (Some v)
+      more : (x : Option Value) (o : Option (List Value)) (vs : List Value) → gather_more x o ≡ Some vs → (i : ℕ) (v : Value) → slice_get vs i ≡ Some v → P x → ((us : List Value) → o ≡ Some us → (i : ℕ) (v : Value) → slice_get us i ≡ Some v → P (Some v)) → P (Some v)
       more None o vs e i v h d k = cc
       more (Some x) None vs e i v h d k = cc
       more (Some x) (Some us) vs e i v h d k = let same : x ∷ us ≡ vs = cc in at_place x us i v (subst (λ y. slice_get y i ≡ Some v) (sym same) h) d (k us refl)
 
-    array_of_good : (b : BaseType) (args : List Operand) (vs : Option (List Value)) → AllWithin good.top.env (elem_qual b) args → gather st.top.regs args ≡ vs → GoodNext W (array_of st dst b vs)
-    array_of_good b args None w is = tt
-    array_of_good b args (Some vs) w is = array_good b vs (λ i v x.
-        settled_later W mk.marks (grown_marks W mk.marks (mk.top ∷ mk.waiting) st.heap good.heap (Elems b vs) Committed) (committed_grown W mk.marks (mk.top ∷ mk.waiting) st.heap good.heap (Elems b vs) Committed) (elem_qual b) v
-          (settled_of mk.marks mk.top.era (elem_qual b) v (elem_settled b) (gathered_at (elem_qual b) args vs w is i v x)))
+    all_described : (q : Qualifier) (args : List Operand) → AllWithin good.top.env q args → AllHold (Describes mk.marks mk.top.era q) args
+    all_described q [] w = tt
+    all_described q (a ∷ args) w = (describes_within mk.marks mk.top.era (qual_at good.top.env a.reg.0) q (value_at st.top.regs a.reg.0) w.0 (described a.reg.0), all_described q args w.1)
+
+    all_plain : (args : List Operand) → AllPlain st.top.regs args → AllHold HoldsPlain args
+    all_plain [] w = tt
+    all_plain (a ∷ args) w = (w.0, all_plain args w.1)
+
+    module _ (b : BaseType) (args : List Operand) (w : ref_elems b ≡ true → AllWithin good.top.env (elem_qual b) args) (ty : ref_elems b ≡ false → AllPlain st.top.regs args) where
+      item_settled : (vs : List Value) → gather st.top.regs args ≡ Some vs → (i : ℕ) (v : Value) → slice_get vs i ≡ Some v → (t : Bool) → ref_elems b ≡ t → Settled mk.marks (elem_qual b) v
+      item_settled vs is i v x true ir = settled_of mk.marks mk.top.era (elem_qual b) v (elem_settled b) (gathered_at (Describes mk.marks mk.top.era (elem_qual b)) args vs (all_described (elem_qual b) args (w ir)) is i v x)
+      item_settled vs is i v x false ir = plain_settled mk.marks (elem_qual b) v (gathered_at HoldsPlain args vs (all_plain args (ty ir)) is i v x)
+
+      array_of_good : (vs : Option (List Value)) → gather st.top.regs args ≡ vs → GoodNext W (array_of st dst b vs)
+      array_of_good None is = tt
+      array_of_good (Some vs) is = array_good b vs (λ i v x.
+          settled_later W mk.marks (grown_marks W mk.marks (mk.top ∷ mk.waiting) st.heap good.heap (Elems b vs) Committed) (committed_grown W mk.marks (mk.top ∷ mk.waiting) st.heap good.heap (Elems b vs) Committed) (elem_qual b) v
+            (item_settled vs is i v x (ref_elems b) refl))
 
   abbrev pub IsPlainKind : PointKind → Type 0
   IsPlainKind (New dst m args) = ⊥
@@ -308,7 +343,7 @@ module _ (W : World) (st : State) (mk : Marking) (good : Good W st mk) where
   IsPlainKind (Return v) = ⊥
   IsPlainKind k = Unit {0}
 
-  pub plain_good : (names : List (List ℕ)) (k : PointKind) → IsPlainKind k → PointOk W st.top.body st.top.at good.top.env k → test_at W st.top.body st.top.at ≡ test_of k → TestOk W st.heap st.top.regs (test_of k) → Typed W st k → GoodNext W (act W.program names st k)
+  pub plain_good : (names : List (List ℕ)) (k : PointKind) → IsPlainKind k → PointOk W st.top.body st.top.at good.top.env k → test_at W.program st.top.body st.top.at ≡ test_of k → TestOk W st.heap st.top.regs (test_of k) → Typed W st k → GoodNext W (act W.program names st k)
   plain_good names (Const dst value) x ok pl t ty = sets_good dst.0 (literal_qual value) (literal_value names value) (plain_step W _ _ _ _ tt tt (ok.edges _ (inl refl))) ok.this_kept (literal_fits W mk.marks mk.top.era names value)
   plain_good names (Move dst from bound) x ok pl t ty = got_good dst.0 (qual_at good.top.env from.reg.0) (got_of (value_at st.top.regs from.reg.0)) (plain_step W _ _ _ _ tt tt (ok.edges _ (inl refl))) ok.this_kept (got_fits W mk.marks mk.top.era _ _ (described from.reg.0))
   plain_good names (Unary dst neg of) x ok pl t ty = got_good dst.0 no_qual _ (plain_step W _ _ _ _ tt tt (ok.edges _ (inl refl))) ok.this_kept (unary_fits W mk.marks mk.top.era neg (prim_of (value_at st.top.regs of.reg.0)))
@@ -321,7 +356,7 @@ module _ (W : World) (st : State) (mk : Marking) (good : Good W st mk) where
         (λ k is. subst (λ o. FromRead (FieldRead dst r f) o) is edge.test)
         (object_of (value_at st.top.regs r.reg.0)) refl
         (read_fits W mk.marks mk.top.era st.top.body good.top.env st.heap st.top.regs (mk.top ∷ mk.waiting) good.heap good.top.stands.quals r.reg.0 f.0 (object_of (value_at st.top.regs r.reg.0)) refl good.top.facts ty)
-  plain_good names (FieldWrite r f s) x ok pl t ty = write_good r.reg.0 f.0 s.reg.0 ok.rules (plain_step W _ _ _ _ tt tt (ok.edges _ (inl refl))) (object_of (value_at st.top.regs r.reg.0)) (value_at st.top.regs s.reg.0) refl refl
+  plain_good names (FieldWrite r f s) x ok pl t ty = write_good r.reg.0 f.0 s.reg.0 ok.rules ty (plain_step W _ _ _ _ tt tt (ok.edges _ (inl refl))) (object_of (value_at st.top.regs r.reg.0)) (value_at st.top.regs s.reg.0) refl refl
   plain_good names (StaticRead dst f) x ok pl t ty = got_good dst.0 no_qual (got_plain (got_prim (slice_get st.statics f.0))) (plain_step W _ _ _ _ tt tt (ok.edges _ (inl refl))) ok.this_kept (plain_fits W mk.marks mk.top.era (got_prim (slice_get st.statics f.0)))
   plain_good names (StaticWrite f s) x ok pl t ty = static_good f.0 (prim_of (value_at st.top.regs s.reg.0)) (plain_step W _ _ _ _ tt tt (ok.edges _ (inl refl)))
   plain_good names (ElemRead dst r i) x ok pl t ty = got_good dst.0 (elem_read W.program st.top.body good.top.env r.reg.0) _ (plain_step W _ _ _ _ tt tt (ok.edges _ (inl refl))) ok.this_kept
@@ -329,7 +364,7 @@ module _ (W : World) (st : State) (mk : Marking) (good : Good W st mk) where
   plain_good names (ElemWrite r i s) x ok pl t ty = elem_write_good r.reg.0 s.reg.0 ok.rules.1 ty pl (plain_step W _ _ _ _ tt tt (ok.edges _ (inl refl))) (object_of (value_at st.top.regs r.reg.0)) (int_of (prim_of (value_at st.top.regs i.reg.0))) (value_at st.top.regs s.reg.0) refl refl
   plain_good names (ArrayLen dst r) x ok pl t ty = got_good dst.0 no_qual _ (plain_step W _ _ _ _ tt tt (ok.edges _ (inl refl))) ok.this_kept (len_fits W mk.marks mk.top.era st.heap (object_of (value_at st.top.regs r.reg.0)))
   plain_good names (NewArray dst b n) x ok pl t ty = new_array_good dst.0 pl (plain_step W _ _ _ _ tt tt (ok.edges _ (inl refl))) ok.this_kept b (count_of (int_of (prim_of (value_at st.top.regs n.reg.0)))) ok.rules
-  plain_good names (ArrayOf dst b xs) x ok pl t ty = array_of_good dst.0 pl (plain_step W _ _ _ _ tt tt (ok.edges _ (inl refl))) ok.this_kept b xs (gather st.top.regs xs) ok.rules refl
+  plain_good names (ArrayOf dst b xs) x ok pl t ty = array_of_good dst.0 pl (plain_step W _ _ _ _ tt tt (ok.edges _ (inl refl))) ok.this_kept b xs ok.rules ty (gather st.top.regs xs) refl
   plain_good names (New dst m args) x ok pl t ty = absurd x
   plain_good names (CtorCall m args own) x ok pl t ty = absurd x
   plain_good names (Call dst m r direct args) x ok pl t ty = absurd x

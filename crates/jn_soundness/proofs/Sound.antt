@@ -2,6 +2,7 @@
 use Rattle.std.proofs.Common.{◌≡◌, ℕ, zero, suc, true, false, List, [], ◌∷◌, Option, Some, None, refl, sym, ap, subst, arith, cond}
 use Rattle.std.specs.Prelude.{slice_get, eqb}
 use Rattle.std.proofs.Math.Dec.{eqb-suc-zero}
+use Rattle.jn_points.specs.Regular.{test_at, test_in, test_of}
 use Rattle.jn_points.specs.declared.point.BaseType.TheVariants.{Array}
 use Rattle.jn_points.specs.declared.point.Elem.TheVariants.{Ref as RefElem}
 use Rattle.jn_points.specs.declared.point.Point.{Point}
@@ -9,7 +10,7 @@ use Rattle.jn_points.specs.declared.point.PointKind.{PointKind}
 use Rattle.jn_points.specs.declared.point.PointKind.TheVariants.{FieldRead, FieldWrite, ElemRead, ElemWrite, ArrayLen, StrOp, New, CtorCall, Call, Return}
 use Rattle.jn_soundness.specs.Good.{AlwaysTyped, Committed, Describes, FrameMark, Good, GoodNext, IsMain, Marked, Marking, Marks, Settled, TestOk, ThingOk, Typed, TypedAt, Unborn, NoFault}
 use Rattle.jn_heap.specs.Values.{At, Elems, NullRef, Prim, Text, Value, same}
-use Rattle.jn_soundness.specs.Checked.{Checked, PointOk, Unbroken, test_at, test_in, test_of}
+use Rattle.jn_soundness.specs.Checked.{Checked, PointOk, Unbroken}
 use Rattle.jn_heap.specs.Machine.{Ends, Goes, Next, NullFault, State, Stuck, act, derefs_null, fault_at, run, start_state, step_at, texts, then_step, value_at}
 use Rattle.jn_soundness.specs.World.{World}
 use Rattle.jn_points.specs.Members.{below}
@@ -21,7 +22,7 @@ use Rattle.jn_soundness.proofs.Enters.{enter_top, call_kind, ctor_kind, new_kind
 use Rattle.jn_soundness.proofs.Leaves.{return_kind}
 
 module _ (W : World) (checked : Checked W) (names : List (List ℕ)) where
-  kind_good : (st : State) (mk : Marking) (good : Good W st mk) (pt : Point) → point_at W.program st.top.body st.top.at ≡ Some pt → (k : PointKind) → pt.kind ≡ k → PointOk W st.top.body st.top.at good.top.env k → Typed W st k → test_at W st.top.body st.top.at ≡ test_of k → TestOk W st.heap st.top.regs (test_of k) → GoodNext W (act W.program names st k)
+  kind_good : (st : State) (mk : Marking) (good : Good W st mk) (pt : Point) → point_at W.program st.top.body st.top.at ≡ Some pt → (k : PointKind) → pt.kind ≡ k → PointOk W st.top.body st.top.at good.top.env k → Typed W st k → test_at W.program st.top.body st.top.at ≡ test_of k → TestOk W st.heap st.top.regs (test_of k) → GoodNext W (act W.program names st k)
   kind_good st mk good pt is (New dst m args) e ok ty pl t = new_kind W checked st mk good pt is dst m args e ok ty
   kind_good st mk good pt is (CtorCall m args own) e ok ty pl t = ctor_kind W checked st mk good pt is m args own e ok
   kind_good st mk good pt is (Call dst m r direct args) e ok ty pl t = call_kind W checked st mk good pt is dst m r direct args e ok ty
@@ -31,7 +32,7 @@ module _ (W : World) (checked : Checked W) (names : List (List ℕ)) where
   step_good : (st : State) (mk : Marking) (good : Good W st mk) (o : Option Point) → point_at W.program st.top.body st.top.at ≡ o → TypedAt W st o → GoodNext W (step_at W.program names st o)
   step_good st mk good None is ty = tt
   step_good st mk good (Some pt) is ty =
-      let pl : test_at W st.top.body st.top.at ≡ test_of pt.kind = ap test_in is in
+      let pl : test_at W.program st.top.body st.top.at ≡ test_of pt.kind = ap test_in is in
       kind_good st mk good pt is pt.kind refl (checked.points st.top.body st.top.at pt good.top.env is good.top.reached) ty pl (subst (λ t. TestOk W st.heap st.top.regs t) pl good.top.test)
 
   next_good : (x : Next) → GoodNext W x → ((st : State) → x ≡ Goes st → TypedAt W st (point_at W.program st.top.body st.top.at)) → GoodNext W (then_step W.program names x)

@@ -2,6 +2,7 @@
 use Rattle.std.proofs.Common.{◌≡◌, ℕ, ◌+◌, Bool, true, false, not, ◌||◌, ◌⊎◌, inl, inr, List, [], ◌∷◌, ◌++◌, Option, Some, None, refl, sym, ap, ◌∙◌, subst}
 use Rattle.std.specs.Prelude.{slice_set, eqb}
 use Rattle.std.proofs.lemmas.Bool.{eqb-true, eq-eqb}
+use Rattle.jn_points.specs.Regular.{Early, FromRead, NotCtorCall, Test, test_at, test_by}
 use Rattle.jn_quals.specs.Qualifier.{Qualifier}
 use Rattle.jn_points.specs.declared.point.Origin.{Origin}
 use Rattle.jn_points.specs.declared.point.PointKind.{PointKind}
@@ -9,7 +10,7 @@ use Rattle.jn_points.specs.declared.point.PointKind.TheVariants.{FieldRead}
 use Rattle.jn_soundness.specs.Good.{AllOn, AssignedOk, Committed, CtorOk, Described, Describes, FactOk, FieldSet, FrameMark, Free, GoodTop, HoldsRef, MarkFits, Marks, ObjMark, Stands, TestOk, Unborn}
 use Rattle.jn_heap.specs.Values.{At, Fails, Gives, Got, Lacks, NullRef, Plain, Text, Thing, Value, same}
 use Rattle.jn_env.specs.Order.{BitsAbove, EnvWithin, SlotWithin}
-use Rattle.jn_soundness.specs.Checked.{Early, Edge, FromRead, NotCtorCall, Test, test_at, test_by}
+use Rattle.jn_soundness.specs.Checked.{Edge}
 use Rattle.jn_env.specs.declared.env.Env.{Env}
 use Rattle.jn_heap.specs.Machine.{Frame, Regs, field_at, holds_at, moves_to, object_of, value_at}
 use Rattle.jn_transfer.specs.Transfer.{IsAmong, learn, put, refine, side}
@@ -97,11 +98,11 @@ module _ (W : World) where
   -- an edge whose target is no test with an origin
   pub record Step (b p : ℕ) (x : ℕ × Env) : Type 0 where
     pub within : SlotWithin (Some x.1) (env_at W b x.0)
-    pub plain : test_at W b x.0 ≡ None
-    pub early : Early W b p → Early W b x.0
+    pub plain : test_at W.program b x.0 ≡ None
+    pub early : Early W.program b p → Early W.program b x.0
 
   pub plain_step : (b p : ℕ) (k : PointKind) (x : ℕ × Env) → NotRead k → NotCtorCall k → Edge W b p k x → Step b p x
-  plain_step b p k x n c h = record { within = h.within; plain = none_of k (test_at W b x.0) n h.test; early = h.early c }
+  plain_step b p k x n c h = record { within = h.within; plain = none_of k (test_at W.program b x.0) n h.test; early = h.early c }
 
   assigned_above : (heap : List Thing) (x : Option ℕ) (b : ℕ) (as' bs : List Bool) → BitsAbove as' bs → AssignedOk W heap x b as' → AssignedOk W heap x b bs
   assigned_above heap None b as' bs w h = tt
@@ -115,11 +116,11 @@ module _ (W : World) where
   }
 
   module _ (m : Marks) (heap : List Thing) where
-    arrives_at : (f : Frame) (g : FrameMark) (e : Env) (o : Option Env) → env_at W f.body f.at ≡ o → SlotWithin (Some e) o → Stands W m heap f g e → AllOn (FactOk W heap f.regs) (fact_keys W.program f.body) e.facts → TestOk W heap f.regs (test_at W f.body f.at) → GoodTop W m heap f g
+    arrives_at : (f : Frame) (g : FrameMark) (e : Env) (o : Option Env) → env_at W f.body f.at ≡ o → SlotWithin (Some e) o → Stands W m heap f g e → AllOn (FactOk W heap f.regs) (fact_keys W.program f.body) e.facts → TestOk W heap f.regs (test_at W.program f.body f.at) → GoodTop W m heap f g
     arrives_at f g e None is w s fa t = absurd w
     arrives_at f g e (Some h) is w s fa t = record { env = h; reached = is; stands = stands_within m heap f g e h w s; facts = on_above (FactOk W heap f.regs) (fact_keys W.program f.body) e.facts h.facts w.facts fa; test = t }
 
-    pub arrives : (f : Frame) (g : FrameMark) (e : Env) → SlotWithin (Some e) (env_at W f.body f.at) → Stands W m heap f g e → AllOn (FactOk W heap f.regs) (fact_keys W.program f.body) e.facts → TestOk W heap f.regs (test_at W f.body f.at) → GoodTop W m heap f g
+    pub arrives : (f : Frame) (g : FrameMark) (e : Env) → SlotWithin (Some e) (env_at W f.body f.at) → Stands W m heap f g e → AllOn (FactOk W heap f.regs) (fact_keys W.program f.body) e.facts → TestOk W heap f.regs (test_at W.program f.body f.at) → GoodTop W m heap f g
     arrives f g e w s fa t = arrives_at f g e (env_at W f.body f.at) refl w s fa t
 
     pub no_test : (regs : Regs) (t : Option Test) → t ≡ None → TestOk W heap regs t
@@ -130,12 +131,12 @@ module _ (W : World) where
     early_or h (inr z) = inr z
 
     -- a constructor's frame at another point, with the same this
-    pub ctor_moves : (f : Frame) (g : FrameMark) (to : ℕ) (regs : Regs) (x : Option ℕ) → CtorOk W m heap f g x → (ctor_of (method_in W.program f.body) ≡ true → value_at regs 0 ≡ value_at f.regs 0) → (Early W f.body f.at → Early W f.body to) → CtorOk W m heap (record { body = f.body; at = to; regs = regs }) g x
+    pub ctor_moves : (f : Frame) (g : FrameMark) (to : ℕ) (regs : Regs) (x : Option ℕ) → CtorOk W m heap f g x → (ctor_of (method_in W.program f.body) ≡ true → value_at regs 0 ≡ value_at f.regs 0) → (Early W.program f.body f.at → Early W.program f.body to) → CtorOk W m heap (record { body = f.body; at = to; regs = regs }) g x
     ctor_moves f g to regs None c z h = c
     ctor_moves f g to regs (Some o) c z h = record { inside = c.inside; this = z c.inside ∙ c.this; ended = c.ended; free = c.free; supers = early_or h c.supers; class = c.class }
 
     pub goes_top : (f : Frame) (g : FrameMark) (to : ℕ) (regs : Regs) (e : Env) → CtorOk W m heap f g g.built → Step f.body f.at (to, e) → Described m g.era e.quals regs → AssignedOk W heap g.built f.body e.assigned → AllOn (FactOk W heap regs) (fact_keys W.program f.body) e.facts → (ctor_of (method_in W.program f.body) ≡ true → value_at regs 0 ≡ value_at f.regs 0) → GoodTop W m heap (record { body = f.body; at = to; regs = regs }) g
-    goes_top f g to regs e c s d a fa z = arrives (record { body = f.body; at = to; regs = regs }) g e s.within (record { quals = d; assigned = a; ctor = ctor_moves f g to regs g.built c z s.early }) fa (no_test regs (test_at W f.body to) s.plain)
+    goes_top f g to regs e c s d a fa z = arrives (record { body = f.body; at = to; regs = regs }) g e s.within (record { quals = d; assigned = a; ctor = ctor_moves f g to regs g.built c z s.early }) fa (no_test regs (test_at W.program f.body to) s.plain)
 
     fact_other : (regs : Regs) (dst : ℕ) (v : Option Value) (k : Key) → not (has_reg dst k) ≡ true → FactOk W heap regs k → FactOk W heap (slice_set regs dst v) k
     fact_other regs dst v k n h o is z =

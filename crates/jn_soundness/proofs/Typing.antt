@@ -1,6 +1,7 @@
 -- Base typing is kept by each step, and gives what soundness asks.
 use Rattle.std.proofs.Common.{◌≡◌, ℕ, zero, suc, Bool, true, false, ◌⊎◌, inl, inr, List, [], ◌∷◌, ◌++◌, length, replicate, Option, Some, None, refl, sym, ap, ◌∙◌, subst, cond, ◌+◌, ltb}
 use Rattle.std.specs.Prelude.{slice_get, slice_set, eqb, ltb, ℤ}
+use Rattle.jn_points.specs.Regular.{writes}
 use Rattle.jn_base.specs.declared.number.RegNo.{RegNo}
 use Rattle.jn_base.specs.declared.number.ClassNo.{ClassNo}
 use Rattle.jn_base.specs.declared.number.MethodNo.{MethodNo}
@@ -10,7 +11,7 @@ use Rattle.jn_points.specs.declared.point.Operator.{Operator}
 use Rattle.jn_points.specs.declared.point.StrOperation.{StrOperation}
 use Rattle.jn_points.specs.declared.point.BaseType.{BaseType}
 use Rattle.jn_points.specs.declared.point.BaseType.TheVariants.{Ref, Array, Int, Bool as BoolBase, Void, Null as NullBase}
-use Rattle.jn_points.specs.declared.point.Elem.TheVariants.{Ref as RefElem}
+use Rattle.jn_points.specs.declared.point.Elem.TheVariants.{Ref as RefElem, Int as IntElem, Bool as BoolElem}
 use Rattle.jn_points.specs.declared.point.Literal.{Literal}
 use Rattle.jn_points.specs.declared.point.Literal.TheVariants.{Int as IntOf, Truth as TruthOf, Str, Null}
 use Rattle.jn_points.specs.declared.point.Point.{Point}
@@ -18,13 +19,13 @@ use Rattle.jn_points.specs.declared.point.PointKind.{PointKind}
 use Rattle.jn_points.specs.declared.point.PointKind.TheVariants.{Const, Move, Unary, Binary, Concat, SameRef, FieldRead, FieldWrite, StaticRead, StaticWrite, ElemRead, ElemWrite, ArrayLen, NewArray, ArrayOf, New, CtorCall, Call, StrOp, Print, Cast, TestInst, TestNull, Branch, Goto, Return}
 use Rattle.jn_points.specs.declared.program.Field.{Field}
 use Rattle.jn_soundness.specs.Types.{AllTyped, ArgsTyped, ConstTyped, GivesTo, HasType, HeapTyped, PointTyped, ProgramTyped, RegsTyped, ResultTyped, ReturnFits, ReturnFitsAt, ReturnTyped, Selects, SlotsRef, StartsWith, StateTyped, ThingFits, ThingTyped, WaitTyped, base_of_thing, given_bases, is_array, Ordered}
-use Rattle.jn_soundness.specs.Good.{ArgsRef, Typed}
+use Rattle.jn_soundness.specs.Good.{ArgsRef, Typed, HoldsPlain, AllPlain}
 use Rattle.jn_heap.specs.Values.{At, Elems, Fails, Gives, Got, Lacks, NullRef, Object, Plain, Prim, Text, Thing, Value, binary, deepest, default_of, defaults, elem_base, index, same, text_of, unary, longest, units, text_op}
 use Rattle.jn_heap.specs.Machine.{Ends, Frame, Goes, Next, Regs, State, Stuck, act, allocates, array_len, array_of, binary_of, branch, calls, calls_on, calls_this, cast_as, cast_of, class_in, concat_of, count_of, ctor_calls, dispatched, elem_in, enter, field_at, field_in, gather, gather_more, gives, gives_to, goes_by, got_of, got_plain, got_sets, holds_at, is_within, item_or_index, length_in, literal_value, may_hold, moves, new_array, news, object_of, pad, prim_of, print, put_thing, read_elem, read_field, resumes, returns, run, same_of, selected, sets, step_at, store_in, stored, str_op, takes, takes_at, test_inst, test_null, text_or_long, then_step, unary_of, value_at, value_of, write_elem, write_field, write_in, write_static, int_of, truth_of, text_in, got_prim, thing_within}
 use Rattle.jn_soundness.specs.World.{World}
 use Rattle.jn_points.specs.Lookup.{body_at, body_of, class_of, field_base, field_base_of, flat_of, is_flat, is_ref_base, method_at, method_in, params_of, point_at, reg_base, regs_of, result_base_of, slots_of, static_of}
 use Rattle.jn_points.specs.Members.{fits, has_field}
-use Rattle.jn_soundness.specs.Checked.{writes}
+use Rattle.jn_soundness.specs.Checked.{ref_elems}
 use Rattle.jn_soundness.proofs.Fits.{fits_self, fits_trans, fits_refs, fits_flat, fits_elems, fits_items}
 use Rattle.jn_soundness.proofs.Basics.{true_false, eqb_cases, value_other, value_same}
 use Rattle.jn_soundness.proofs.Tops.{GotOk, object_is}
@@ -73,6 +74,29 @@ module _ (W : World) (T : Ordered W.program) (P : ProgramTyped W) where
   default_has heap (Ref c) = refl
   default_has heap (Array e nullable) = refl
 
+  -- a register whose type is no reference type holds an int or boolean
+  no_thing : (heap : List Thing) (t : BaseType) (x : Option Thing) → is_ref_base t ≡ false → ThingTyped W heap x → ThingFits W x t → ⊥
+  no_thing heap t None n h f = f
+  no_thing heap t (Some (Object c fs)) n h f = true_false (is_ref_base t) (sym (fits_refs W.program T (Ref (record { 0 = c })) t f)) n
+  no_thing heap t (Some (Elems b xs)) n h f = true_false (is_ref_base t) (sym (fits_refs W.program T b t f) ∙ array_ref b h.0) n
+    where
+    array_ref : (b : BaseType) → is_array b ≡ true → is_ref_base b ≡ true
+    array_ref (Array e nullable) a = refl
+    array_ref b a = cc
+
+  holds_plain : (heap : List Thing) → HeapTyped W heap → (t : BaseType) → is_ref_base t ≡ false → (v : Option Value) → ((w : Value) → v ≡ Some w → HasType W heap t w) → HoldsPlain v
+  holds_plain heap typed t n None h = tt
+  holds_plain heap typed t n (Some NullRef) h = true_false (is_ref_base t) (h NullRef refl) n
+  holds_plain heap typed t n (Some (Text x)) h = true_false (is_ref_base t) (sym (fits_refs W.program T (Ref (record { 0 = 1 })) t (h (Text x) refl))) n
+  holds_plain heap typed t n (Some (Plain p)) h = tt
+  holds_plain heap typed t n (Some (At o)) h = no_thing heap t (slice_get heap o) n (typed o) (h (At o) refl)
+
+  no_ref_elems : (b : BaseType) → ref_elems b ≡ false → is_ref_base (elem_base b) ≡ false
+  no_ref_elems (Array IntElem nullable) h = refl
+  no_ref_elems (Array BoolElem nullable) h = refl
+  no_ref_elems (Array (RefElem c) nullable) h = cc
+  no_ref_elems b h = refl
+
   -- what soundness asks
   flat_base : (x : Option Field) → flat_of x ≡ is_flat (field_base_of x)
   flat_base None = refl
@@ -118,11 +142,17 @@ module _ (W : World) (T : Ordered W.program) (P : ProgramTyped W) where
           (P.direct b st.top.at pt dst m r args is e, fits_thing (slice_get st.heap o) (reg_base W.program b r.reg.0) (Ref (record { 0 = class_of (method_at W.program m.0) })) p.0 (at_reg r.reg.0 o io))
     selects_on pt dst m r false args is e p o k io ik = call_selects m.0 r.reg.0 o k (slice_get st.heap o) refl p.0 (at_reg r.reg.0 o io) ik
 
+    all_hold_plain : (t : BaseType) → is_ref_base t ≡ false → (args : List Operand) → AllTyped W b t args → AllPlain st.top.regs args
+    all_hold_plain t n [] h = tt
+    all_hold_plain t n (a ∷ args) h = (holds_plain st.heap ty.heap t n (value_at st.top.regs a.reg.0) (λ v x. fits_type st.heap (reg_base W.program b a.reg.0) t v h.0 (ty.top a.reg.0 v x)), all_hold_plain t n args h.1)
+
     pub typed_kind : (pt : Point) → point_at W.program b st.top.at ≡ Some pt → (k : PointKind) → pt.kind ≡ k → PointTyped W b k → Typed W st k
     typed_kind pt is (FieldRead dst r f) e p = λ o q io ifq fl.
         flat_thing st.heap (slice_get st.heap q) (field_base W.program f.0) (ty.heap q) (field_typed st.heap (slice_get st.heap o) f.0 (At q) (ty.heap o) ifq) (sym (flat_base (slice_get W.program.fields f.0)) ∙ fl)
     typed_kind pt is (ElemRead dst r i) e p = λ o c xs io ix. fits_elems W.program T c (reg_base W.program b r.reg.0) (subst (λ x. ThingFits W x (reg_base W.program b r.reg.0)) ix (at_reg r.reg.0 o io)) (subst (λ x. ThingTyped W st.heap x) ix (ty.heap o)).0 p.0
-    typed_kind pt is (ElemWrite r i s) e p = λ o c xs io ix. fits_elems W.program T c (reg_base W.program b r.reg.0) (subst (λ x. ThingFits W x (reg_base W.program b r.reg.0)) ix (at_reg r.reg.0 o io)) (subst (λ x. ThingTyped W st.heap x) ix (ty.heap o)).0 p
+    typed_kind pt is (ElemWrite r i s) e p = (λ o c xs io ix. fits_elems W.program T c (reg_base W.program b r.reg.0) (subst (λ x. ThingFits W x (reg_base W.program b r.reg.0)) ix (at_reg r.reg.0 o io)) (subst (λ x. ThingTyped W st.heap x) ix (ty.heap o)).0 p.0, λ ir. holds_plain st.heap ty.heap (elem_base (reg_base W.program b r.reg.0)) (no_ref_elems (reg_base W.program b r.reg.0) ir) (value_at st.top.regs s.reg.0) (λ v x. fits_type st.heap (reg_base W.program b s.reg.0) (elem_base (reg_base W.program b r.reg.0)) v p.1 (ty.top s.reg.0 v x)))
+    typed_kind pt is (FieldWrite r f s) e p = λ ir. holds_plain st.heap ty.heap (field_base W.program f.0) (P.fields f.0 ir) (value_at st.top.regs s.reg.0) (λ v x. fits_type st.heap (reg_base W.program b s.reg.0) (field_base W.program f.0) v p (ty.top s.reg.0 v x))
+    typed_kind pt is (ArrayOf dst base xs) e p = λ ir. all_hold_plain (elem_base base) (no_ref_elems base ir) xs p.2
     typed_kind pt is (New dst m args) e p = args_ref st.heap b st.top.regs (slots_of (method_at W.program m.0)) (params_of (method_at W.program m.0)) args ty.top (P.refs m.0) p.1
     typed_kind pt is (Call dst m None direct args) e p = tt
     typed_kind pt is (Call dst m (Some r) direct args) e p = λ o k io ik. (selects_on pt dst m r direct args is e p o k io ik).0.over
@@ -444,7 +474,6 @@ module _ (W : World) (T : Ordered W.program) (P : ProgramTyped W) where
           let now : At (length st.heap) ≡ w = value_same st.top.regs dst (At (length st.heap)) w (subst (λ y. value_at (slice_set st.top.regs dst (Some (At (length st.heap)))) y ≡ Some w) e is) in
           subst (λ w. HasType W (st.heap ++ x ∷ []) (reg_base W.program st.top.body r) w) now (subst (λ z. ThingFits W z (reg_base W.program st.top.body r)) (sym (append_last st.heap x)) (subst (λ y. fits W.program (base_of_thing x) (reg_base W.program st.top.body y) ≡ true) (sym e) f))
       by r w is (inr n) = has_more st.heap (st.heap ++ x ∷ []) (push_more st.heap x) (reg_base W.program st.top.body r) w (ty.top r w (sym (value_other st.top.regs dst r (Some (At (length st.heap))) n) ∙ is))
-
 
     replicated : (n : ℕ) (x : Value) (i : ℕ) (v : Value) → slice_get (replicate n x) i ≡ Some v → x ≡ v
     replicated zero x i v h = cc

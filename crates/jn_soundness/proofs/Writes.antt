@@ -2,9 +2,10 @@
 use Rattle.std.proofs.Common.{◌≡◌, ℕ, zero, suc, Bool, true, false, not, ◌&&◌, ◌||◌, ◌⊎◌, inl, inr, List, [], ◌∷◌, Option, Some, None, refl, sym, ap, ◌∙◌, subst, cond}
 use Rattle.std.specs.Prelude.{slice_get, slice_set, eqb, ltb}
 use Rattle.std.proofs.lemmas.Bool.{eqb-true, eq-eqb}
+use Rattle.jn_quals.specs.Qualifier.{Qualifier}
 use Rattle.jn_base.specs.declared.number.SlotNo.{SlotNo}
 use Rattle.jn_points.specs.declared.program.Field.{Field}
-use Rattle.jn_soundness.specs.Good.{AllOn, AssignedOk, Committed, CtorOk, Describes, FactOk, FieldOk, FieldSet, FrameMark, Free, HeapOk, HoldsRef, MarkFits, Marks, ObjMark, ObjectOk, ThingOk, Unborn, free_qual}
+use Rattle.jn_soundness.specs.Good.{AllOn, AssignedOk, Committed, CtorOk, Describes, FactOk, FieldOk, FieldSet, FrameMark, Free, HeapOk, HoldsRef, MarkFits, Marks, ObjMark, ObjectOk, ThingOk, Unborn, free_qual, HoldsPlain}
 use Rattle.jn_heap.specs.Values.{At, NullRef, Object, Plain, Text, Thing, Value, same}
 use Rattle.jn_env.specs.declared.env.Env.{Env}
 use Rattle.jn_heap.specs.Machine.{Frame, Regs, class_at, class_in, field_at, field_in, value_at}
@@ -67,13 +68,13 @@ or_free false h = refl
 
 module _ (W : World) (m : Marks) (a : ℕ) where
   -- the value written fits the field, whatever the object's mark
-  pub fits_field : (e : Env) (r f s : ℕ) (v : Value) (mark : ObjMark) → WritePasses W e r f s → MarkFits a (qual_at e r) mark → Describes m a (qual_at e s) (Some v) → FieldOk m mark (owner W.program f) (ref_field W.program f) (field_qual W.program W.sig f) v
-  fits_field e r f s v Unborn u h d = tt
-  fits_field e r f s v Committed u h d =
+  pub fits_field : (e : Env) (r f s : ℕ) (v : Value) (mark : ObjMark) → ref_field W.program f ≡ true → WritePasses W e r f s → MarkFits a (qual_at e r) mark → Describes m a (qual_at e s) (Some v) → FieldOk m mark (owner W.program f) (ref_field W.program f) (field_qual W.program W.sig f) v
+  fits_field e r f s v Unborn ir u h d = tt
+  fits_field e r f s v Committed ir u h d =
       let q = qual_at e s in
-      settled_within m q (field_qual W.program W.sig f) v (λ x. within_null (settle q) (field_qual W.program W.sig f) u.value x) (λ x. within_committed (settle q) (field_qual W.program W.sig f) u.value (or_left q.committed q.free x))
+      settled_within m q (field_qual W.program W.sig f) v (λ x. within_null (settle q) (field_qual W.program W.sig f) (u.value ir) x) (λ x. within_committed (settle q) (field_qual W.program W.sig f) (u.value ir) (or_left q.committed q.free x))
         (settled_of m a q v (or_free q.free (λ x. u.init x h)) d)
-  fits_field e r f s v (Free era ended) u h d = record { value = here v d; slot = slot v d; ends = λ x y. within_null (settle (qual_at e s)) (field_qual W.program W.sig f) u.value (null v d y) }
+  fits_field e r f s v (Free era ended) ir u h d = record { value = here v d; slot = slot v d; ends = λ x y. within_null (settle (qual_at e s)) (field_qual W.program W.sig f) (u.value ir) (null v d y) }
     where
     null : (v : Value) → Describes m a (qual_at e s) (Some v) → v ≡ NullRef → (qual_at e s).null ≡ true
     null v d y = subst (λ v. Describes m a (qual_at e s) (Some v)) y d
@@ -82,7 +83,7 @@ module _ (W : World) (m : Marks) (a : ℕ) where
     by_mark Committed d = refl
     by_mark (Free x y) d = (refl, d.1 ∙ sym h.1)
     here : (v : Value) → Describes m a (qual_at e s) (Some v) → Describes m era (free_qual (ref_field W.program f)) (Some v)
-    here NullRef d = null_is_ref W (slice_get W.program.fields f) (within_null (settle (qual_at e s)) (field_qual W.program W.sig f) u.value d)
+    here NullRef d = null_is_ref W (slice_get W.program.fields f) (within_null (settle (qual_at e s)) (field_qual W.program W.sig f) (u.value ir) d)
     here (Text t) d = refl
     here (Plain p) d = tt
     here (At o) d = by_mark (m o) d
@@ -92,9 +93,18 @@ module _ (W : World) (m : Marks) (a : ℕ) where
     either (Free x y) d = or_right (qual_at e s).committed (qual_at e s).free d.0
     slot : (v : Value) → Describes m a (qual_at e s) (Some v) → HoldsRef v → (field_qual W.program W.sig f).committed ≡ true
     slot NullRef d n = absurd n
-    slot (Text t) d n = within_committed (settle (qual_at e s)) (field_qual W.program W.sig f) u.value (or_left (qual_at e s).committed (qual_at e s).free d)
+    slot (Text t) d n = within_committed (settle (qual_at e s)) (field_qual W.program W.sig f) (u.value ir) (or_left (qual_at e s).committed (qual_at e s).free d)
     slot (Plain p) d n = absurd n
-    slot (At o) d n = within_committed (settle (qual_at e s)) (field_qual W.program W.sig f) u.value (either (m o) d)
+    slot (At o) d n = within_committed (settle (qual_at e s)) (field_qual W.program W.sig f) (u.value ir) (either (m o) d)
+
+  -- an int or boolean fits any field
+  pub plain_field : (mark : ObjMark) (own : ℕ) (is_ref : Bool) (q : Qualifier) (v : Value) → HoldsPlain (Some v) → FieldOk m mark own is_ref q v
+  plain_field mark own is_ref q NullRef h = absurd h
+  plain_field mark own is_ref q (Text t) h = absurd h
+  plain_field Unborn own is_ref q (Plain p) h = tt
+  plain_field Committed own is_ref q (Plain p) h = tt
+  plain_field (Free a ended) own is_ref q (Plain p) h = record { value = tt; slot = λ x. absurd x; ends = λ x y. cc }
+  plain_field mark own is_ref q (At o) h = absurd h
 
 module _ (W : World) (heap : List Thing) (o c : ℕ) (fs : List Value) (f : ℕ) (v : Value) (is : slice_get heap o ≡ Some (Object c fs)) where
   abbrev pub heap_after : List Thing

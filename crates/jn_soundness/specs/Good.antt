@@ -1,5 +1,6 @@
 -- States that the tables and a marking describe.
 use Rattle.std.specs.Prelude.{ℕ, ◌≡◌, ◌<◌, ◌⊎◌, Bool, true, false, IsTrue, List, [], ◌∷◌, Option, Some, None, slice_get}
+use Rattle.jn_points.specs.Regular.{Early, Test, test_at}
 use Rattle.jn_quals.specs.Qualifier.{Qualifier}
 use Rattle.jn_points.specs.declared.point.Point.{Point}
 use Rattle.jn_points.specs.declared.point.Operand.{Operand}
@@ -8,9 +9,9 @@ use Rattle.jn_points.specs.declared.program.Method.{Method}
 use Rattle.jn_points.specs.declared.program.Body.{Body}
 use Rattle.jn_points.specs.declared.point.BaseType.{BaseType}
 use Rattle.jn_points.specs.declared.point.PointKind.{PointKind}
-use Rattle.jn_points.specs.declared.point.PointKind.TheVariants.{FieldRead, ElemRead, ElemWrite, New, CtorCall, Call}
+use Rattle.jn_points.specs.declared.point.PointKind.TheVariants.{FieldRead, ElemRead, ElemWrite, New, CtorCall, Call, FieldWrite, ArrayOf}
 use Rattle.jn_heap.specs.Values.{At, Elems, NullRef, Object, Plain, Prim, Text, Thing, Value}
-use Rattle.jn_soundness.specs.Checked.{Early, Test, test_at}
+use Rattle.jn_soundness.specs.Checked.{ref_elems}
 use Rattle.jn_heap.specs.Machine.{Ends, Frame, Goes, Next, NullFault, Regs, State, Stuck, class_at, entered, field_at, field_in, gives, run, selected, takes, value_at, MainForm, start_state}
 use Rattle.jn_env.specs.declared.env.Env.{Env}
 use Rattle.jn_transfer.specs.Keys.{Key, fact_keys, own_keys}
@@ -113,6 +114,18 @@ ArgsRef regs (x ∷ xs) [] = Unit {0}
 ArgsRef regs (None ∷ xs) (a ∷ args) = ArgsRef regs xs args
 ArgsRef regs (Some s ∷ xs) (a ∷ args) = ((p : Prim) → value_at regs a.reg.0 ≡ Some (Plain p) → ⊥) × ArgsRef regs xs args
 
+-- an int or boolean, or nothing yet
+abbrev pub HoldsPlain : Option Value → Type 0
+HoldsPlain None = Unit {0}
+HoldsPlain (Some NullRef) = ⊥
+HoldsPlain (Some (Text t)) = ⊥
+HoldsPlain (Some (Plain p)) = Unit {0}
+HoldsPlain (Some (At o)) = ⊥
+
+abbrev pub AllPlain : Regs → List Operand → Type 0
+AllPlain regs [] = Unit {0}
+AllPlain regs (a ∷ args) = HoldsPlain (value_at regs a.reg.0) × AllPlain regs args
+
 module _ (W : World) where
   abbrev pub AllEnded : ℕ → List ℕ → Type 0
   AllEnded c ended = (f : ℕ) → has_field W.program c f ≡ true → IsMember (owner W.program f) ended
@@ -153,7 +166,7 @@ module _ (W : World) where
     pub this : value_at f.regs 0 ≡ Some (At o)
     pub ended : List ℕ
     pub free : m o ≡ Free g.era ended
-    pub supers : Early W f.body f.at ⊎ SupersEnded (class_of (method_in W.program f.body)) ended
+    pub supers : Early W.program f.body f.at ⊎ SupersEnded (class_of (method_in W.program f.body)) ended
     pub class : g.made ≡ true → class_at heap o ≡ Some (class_of (method_in W.program f.body))
 
   abbrev pub CtorOk : Marks → List Thing → Frame → FrameMark → Option ℕ → Type 0
@@ -180,7 +193,7 @@ module _ (W : World) where
     pub reached : env_at W f.body f.at ≡ Some env
     pub stands : Stands m heap f g env
     pub facts : AllOn (FactOk heap f.regs) (fact_keys W.program f.body) env.facts
-    pub test : TestOk heap f.regs (test_at W f.body f.at)
+    pub test : TestOk heap f.regs (test_at W.program f.body f.at)
 
   pub record NewWaits (b : ℕ) (g below : FrameMark) (q : Qualifier) : Type 0 where
     pub ctor : ctor_of (method_in W.program b) ≡ true
@@ -249,7 +262,9 @@ module _ (W : World) where
   abbrev pub Typed : State → PointKind → Type 0
   Typed st (FieldRead dst r f) = (o p : ℕ) → value_at st.top.regs r.reg.0 ≡ Some (At o) → field_at W.program st.heap o f.0 ≡ Some (At p) → flat_field W.program f.0 ≡ true → class_at st.heap p ≡ None
   Typed st (ElemRead dst r i) = ElemsFit st r.reg.0
-  Typed st (ElemWrite r i s) = ElemsFit st r.reg.0
+  Typed st (FieldWrite r f s) = ref_field W.program f.0 ≡ false → HoldsPlain (value_at st.top.regs s.reg.0)
+  Typed st (ElemWrite r i s) = ElemsFit st r.reg.0 × (ref_elems (reg_base W.program st.top.body r.reg.0) ≡ false → HoldsPlain (value_at st.top.regs s.reg.0))
+  Typed st (ArrayOf dst base xs) = ref_elems base ≡ false → AllPlain st.top.regs xs
   Typed st (New dst m args) = ArgsRef st.top.regs (slots_of (method_at W.program m.0)) args
   Typed st (Call dst m (Some r) direct args) = (o k : ℕ) → value_at st.top.regs r.reg.0 ≡ Some (At o) → selected W.program st.heap o m.0 direct ≡ Some k → Overrides k m.0
   Typed st k = Unit {0}

@@ -2,3 +2,4 @@ pub mod World
 pub mod Checked
 pub mod Good
 pub mod Types
+pub mod Accepted

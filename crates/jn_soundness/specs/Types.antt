@@ -18,7 +18,7 @@ use Rattle.jn_heap.specs.Values.{At, Elems, NullRef, Object, Plain, Text, Thing,
 use Rattle.jn_heap.specs.Machine.{Frame, Regs, State, field_in, gives, is_within, may_hold, takes, value_at, MainForm}
 use Rattle.jn_soundness.specs.Good.{Overrides}
 use Rattle.jn_soundness.specs.World.{World}
-use Rattle.jn_points.specs.Lookup.{body_of, class_of, ctor_of, field_base, is_flat, is_ref_base, method_at, method_in, params_of, point_at, reg_base, result_base_of, slots_of, static_of}
+use Rattle.jn_points.specs.Lookup.{body_of, class_of, ctor_of, field_base, is_flat, is_ref_base, method_at, method_in, params_of, point_at, reg_base, result_base_of, slots_of, static_of, ref_field}
 use Rattle.jn_points.specs.Members.{dispatch, fits, sub}
 use Rattle.jn_transfer.specs.Transfer.{elem_qual}
 use Rattle.jn_quals.specs.Order.{within}
@@ -123,7 +123,7 @@ module _ (W : World) where
   PointTyped b (FieldWrite r f s) = fits W.program (reg_base W.program b s.reg.0) (field_base W.program f.0) ≡ true
   PointTyped b (StaticRead dst f) = PlainReg b dst.0
   PointTyped b (ElemRead dst r i) = (is_array (reg_base W.program b r.reg.0) ≡ true) × (fits W.program (elem_base (reg_base W.program b r.reg.0)) (reg_base W.program b dst.0) ≡ true)
-  PointTyped b (ElemWrite r i s) = is_array (reg_base W.program b r.reg.0) ≡ true
+  PointTyped b (ElemWrite r i s) = (is_array (reg_base W.program b r.reg.0) ≡ true) × (fits W.program (reg_base W.program b s.reg.0) (elem_base (reg_base W.program b r.reg.0)) ≡ true)
   PointTyped b (ArrayLen dst r) = PlainReg b dst.0
   PointTyped b (NewArray dst base n) = (is_array base ≡ true) × (fits W.program base (reg_base W.program b dst.0) ≡ true)
   PointTyped b (ArrayOf dst base xs) = (is_array base ≡ true) × (fits W.program base (reg_base W.program b dst.0) ≡ true) × AllTyped b (elem_base base) xs
@@ -161,6 +161,7 @@ module _ (W : World) where
     -- the method that an object's class has for a method of a class above it
     pub selects : (c m k : ℕ) → dispatch W.program c m ≡ Some k → fits W.program (Ref (record { 0 = c })) (Ref (record { 0 = class_of (method_at W.program m) })) ≡ true → Selects k m × (fits W.program (Ref (record { 0 = c })) (Ref (record { 0 = class_of (method_at W.program k) })) ≡ true)
     pub direct : (b p : ℕ) (pt : Point) (dst : Option RegNo) (m : MethodNo) (r : Operand) (args : List Operand) → point_at W.program b p ≡ Some pt → pt.kind ≡ Call dst m (Some r) true args → Selects m.0 m.0
+    pub fields : (f : ℕ) → ref_field W.program f ≡ false → is_ref_base (field_base W.program f) ≡ false
     pub refs : (m : ℕ) → SlotsRef (slots_of (method_at W.program m)) (params_of (method_at W.program m))
     pub bodies : (m b : ℕ) → body_of (method_at W.program m) ≡ Some b → method_in W.program b ≡ method_at W.program m
     pub starts : (m b : ℕ) → body_of (method_at W.program m) ≡ Some b → StartsWith (reg_base W.program b) (given_bases m)

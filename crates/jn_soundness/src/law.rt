@@ -4,11 +4,19 @@ ghost use Rattle.jn_soundness.specs.World.{World};
 ghost use Rattle.jn_soundness.specs.Checked.{Checked};
 ghost use Rattle.jn_soundness.specs.Good.{MainsOk, RunsTyped};
 ghost use Rattle.jn_soundness.specs.Types.{Ordered, ProgramTyped, MainsTyped};
+ghost use Rattle.jn_soundness.specs.Accepted.{Accepted};
 
 /// Where tables respect all edges and no rule is broken, no run of a main dereferences null: of a
 /// program whose runs hold what soundness asks of base typing, and so of every base-typed program.
 pub fn checked_programs_never_fault()
     ensures untyped { (W : World) → Checked W → MainsOk W → RunsTyped W → NeverNull W.program }
     ensures typed { (W : World) → Checked W → MainsOk W → Ordered W.program → ProgramTyped W → MainsTyped W → NeverNull W.program }
+{
+}
+
+/// The same of a regular program without a row of the rules.
+pub fn accepted_programs_never_fault()
+    ensures untyped { (W : World) → Accepted W → RunsTyped W → NeverNull W.program }
+    ensures typed { (W : World) → Accepted W → Ordered W.program → ProgramTyped W → MainsTyped W → NeverNull W.program }
 {
 }
