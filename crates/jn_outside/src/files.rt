@@ -101,6 +101,7 @@ pub fn read_whole<F: Files>(
     ensures later { F.faults files.old ≤ F.faults files.new }
     ensures failed { result ≡ Err (Fail.Refused ReadFail.Failed) → Rose (F.faults files.old) (F.faults files.new) }
     ensures always { F.faults files.old < F.faults files.new → result ≡ Err (Fail.Refused ReadFail.Failed) }
+    ensures kept { result ≢ Err (Fail.Refused ReadFail.Failed) → F.faults files.new ≡ F.faults files.old }
     ensures steady { F.steady files.old → Holds (F.held files.old) name.now → result ≢ Err (Fail.Refused ReadFail.Failed) }
     ensures stays { F.steady files.old → Holds (F.held files.old) name.now → F.steady files.new }
 {

@@ -53,7 +53,9 @@ impl MemFiles {
     fn find(&self, name: &str) -> Option<usize>
         ensures { result ≡ position (spec.is_named name.now) self.now.files.items }
     {
-        self.files.iter().position(|file| file.name.as_str() == name)
+        self.files
+            .iter()
+            .position(|file| file.name.as_str() == name)
     }
 
     /// What is left of the file that was started last.

@@ -1,4 +1,4 @@
-use Rattle.std.proofs.Common.{rules, length, ◌≤◌}
+use Rattle.std.proofs.Common.{rules, ◌≤◌}
 use Rattle.jn_outside.proofs.Reading.{reads_at_most}
 use Rattle.jn_outside.proofs.files.read_piece.Goals as goal
 
