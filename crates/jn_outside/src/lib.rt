@@ -1,0 +1,17 @@
+// Sources of files and sinks of bytes, which count their faults.
+#![tactic(auto)]
+
+pub mod count;
+pub mod files;
+pub mod host;
+pub mod mem_files;
+pub mod mem_sink;
+pub mod sink;
+#[cfg(test)]
+mod tests;
+
+pub use files::{Failed, Files, ReadFail, read_whole};
+pub use host::{HostFiles, HostSink};
+pub use mem_files::{MemFile, MemFiles};
+pub use mem_sink::MemSink;
+pub use sink::{Sink, write_whole};
