@@ -1,0 +1,4 @@
+// Fields are not built yet: UNBUILT.
+class Later {
+  String name;
+}
