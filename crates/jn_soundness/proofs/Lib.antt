@@ -15,3 +15,4 @@ pub mod Sound
 pub mod Typing
 pub mod Whole
 pub mod Accepts
+pub mod PlainAccepts

@@ -3,3 +3,4 @@ pub mod Checked
 pub mod Good
 pub mod Types
 pub mod Accepted
+pub mod PlainPrograms
