@@ -16,3 +16,5 @@ pub mod Typing
 pub mod Whole
 pub mod Accepts
 pub mod PlainAccepts
+pub mod Finite
+pub mod PlainInhabitant

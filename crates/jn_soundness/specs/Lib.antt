@@ -4,3 +4,4 @@ pub mod Good
 pub mod Types
 pub mod Accepted
 pub mod PlainPrograms
+pub mod PlainExample

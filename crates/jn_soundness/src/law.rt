@@ -1,14 +1,15 @@
 // Laws over the definitions.
-ghost use Rattle.std.specs.Prelude.{List, Option};
+ghost use Rattle.std.specs.Prelude.{List, [], ◌∷◌, Option};
 ghost use Rattle.jn_points.specs.declared.program.Program.{Program as ProgramOf};
 ghost use Rattle.jn_env.specs.declared.env.Env.{Env};
-ghost use Rattle.jn_heap.specs.Machine.{NeverNull};
+ghost use Rattle.jn_heap.specs.Machine.{NeverNull, MainForm};
 ghost use Rattle.jn_soundness.specs.World.{World};
 ghost use Rattle.jn_soundness.specs.Checked.{Checked};
 ghost use Rattle.jn_soundness.specs.Good.{MainsOk, RunsTyped};
 ghost use Rattle.jn_soundness.specs.Types.{Ordered, ProgramTyped, MainsTyped};
 ghost use Rattle.jn_soundness.specs.Accepted.{Accepted};
 ghost use Rattle.jn_soundness.specs.PlainPrograms.{PlainAccepted};
+ghost use Rattle.jn_soundness.specs.PlainExample.{plain_program, plain_table};
 
 /// Where tables respect all edges and no rule is broken, no run of a main dereferences null: of a
 /// program whose runs hold what soundness asks of base typing, and so of every base-typed program.
@@ -29,5 +30,12 @@ pub fn accepted_programs_never_fault()
 /// dereferences null, whatever its base types.
 pub fn plain_programs_never_fault()
     ensures { (P : ProgramOf) (tables : List (List (Option Env))) → PlainAccepted P tables → NeverNull P }
+{
+}
+
+/// The law on plain programs is of use: one with a main, texts and a null test is accepted.
+pub fn plain_programs_are_accepted()
+    ensures accepted { PlainAccepted plain_program (plain_table ∷ []) }
+    ensures main { MainForm plain_program 0 0 }
 {
 }
