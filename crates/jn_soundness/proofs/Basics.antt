@@ -43,6 +43,16 @@ within_parts true true c h = (refl, refl, h)
 within_parts true false c h = cc
 within_parts false b c h = cc
 
+pub within_refl : (a b c : Bool) → IsTrue ((not a || a) && (not b || b) && (not c || c))
+within_refl true true true = refl
+within_refl true true false = refl
+within_refl true false true = refl
+within_refl true false false = refl
+within_refl false true true = refl
+within_refl false true false = refl
+within_refl false false true = refl
+within_refl false false false = refl
+
 pub within_null : (a b : Qualifier) → IsTrue (within a b) → a.null ≡ true → b.null ≡ true
 within_null a b w = implied a.null b.null (within_parts (not a.null || b.null) (not a.committed || b.committed) (not a.free || b.free) w).0
 

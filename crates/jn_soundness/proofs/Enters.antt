@@ -27,7 +27,7 @@ use Rattle.jn_transfer.specs.Keys.{fact_keys, no_bits, own_keys}
 use Rattle.jn_sigs.specs.Signature.{field_qual, receiver_of, result_of, slot_quals}
 use Rattle.jn_quals.specs.Order.{free_only, is_none, no_qual, within}
 use Rattle.jn_env.specs.Order.{qual_at}
-use Rattle.jn_soundness.proofs.Basics.{true_false, or_false, within_free, describes_within, describes_era, described_at, AllDescribed, described_pad, all_within, on_none}
+use Rattle.jn_soundness.proofs.Basics.{true_false, or_false, within_free, describes_within, describes_era, described_at, AllDescribed, described_pad, all_within, on_none, within_refl}
 use Rattle.jn_soundness.proofs.Tops.{object_is, arrives, no_test}
 use Rattle.jn_soundness.proofs.Laters.{Later, describes_later, stands_later, all_later, waiting_later}
 use Rattle.jn_soundness.proofs.Writes.{or_free, cond_is}
@@ -213,16 +213,6 @@ module _ (W : World) (checked : Checked W) where
 
     args_of : (qs : List Qualifier) (args : List Operand) (vs : List Value) → ArgsPass good.top.env qs args → gather st.top.regs args ≡ Some vs → AllDescribed mk.marks mk.top.era qs vs
     args_of qs args vs p is = args_described mk.marks mk.top.era good.top.env st.top.regs qs args vs (args_fit mk.marks mk.top.era good.top.env st.top.regs args good.top.stands.quals) p is
-
-    within_refl : (a b c : Bool) → IsTrue ((not a || a) && (not b || b) && (not c || c))
-    within_refl true true true = refl
-    within_refl true true false = refl
-    within_refl true false true = refl
-    within_refl true false false = refl
-    within_refl false true true = refl
-    within_refl false true false = refl
-    within_refl false false true = refl
-    within_refl false false false = refl
 
     static_call : (dst : Option RegNo) (m : MethodNo) (direct : Bool) (args : List Operand) → pt.kind ≡ Call dst m None direct args → ArgsPass good.top.env (param_quals W m.0) args → static_of (method_at W.program m.0) ≡ true → ctor_of (method_at W.program m.0) ≡ false → (vs : Option (List Value)) → gather st.top.regs args ≡ vs → GoodNext W (calls W.program st m.0 None direct vs)
     static_call dst m direct args is p s c None iv = tt

@@ -15,3 +15,6 @@ pub mod Sound
 pub mod Typing
 pub mod Whole
 pub mod Accepts
+pub mod PlainAccepts
+pub mod Finite
+pub mod PlainInhabitant

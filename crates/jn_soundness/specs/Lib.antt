@@ -3,3 +3,5 @@ pub mod Checked
 pub mod Good
 pub mod Types
 pub mod Accepted
+pub mod PlainPrograms
+pub mod PlainExample

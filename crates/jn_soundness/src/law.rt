@@ -1,10 +1,15 @@
 // Laws over the definitions.
-ghost use Rattle.jn_heap.specs.Machine.{NeverNull};
+ghost use Rattle.std.specs.Prelude.{List, [], ◌∷◌, Option};
+ghost use Rattle.jn_points.specs.declared.program.Program.{Program as ProgramOf};
+ghost use Rattle.jn_env.specs.declared.env.Env.{Env};
+ghost use Rattle.jn_heap.specs.Machine.{NeverNull, MainForm};
 ghost use Rattle.jn_soundness.specs.World.{World};
 ghost use Rattle.jn_soundness.specs.Checked.{Checked};
 ghost use Rattle.jn_soundness.specs.Good.{MainsOk, RunsTyped};
 ghost use Rattle.jn_soundness.specs.Types.{Ordered, ProgramTyped, MainsTyped};
 ghost use Rattle.jn_soundness.specs.Accepted.{Accepted};
+ghost use Rattle.jn_soundness.specs.PlainPrograms.{PlainAccepted};
+ghost use Rattle.jn_soundness.specs.PlainExample.{plain_program, plain_table};
 
 /// Where tables respect all edges and no rule is broken, no run of a main dereferences null: of a
 /// program whose runs hold what soundness asks of base typing, and so of every base-typed program.
@@ -18,5 +23,19 @@ pub fn checked_programs_never_fault()
 pub fn accepted_programs_never_fault()
     ensures untyped { (W : World) → Accepted W → RunsTyped W → NeverNull W.program }
     ensures typed { (W : World) → Accepted W → Ordered W.program → ProgramTyped W → MainsTyped W → NeverNull W.program }
+{
+}
+
+/// A program without fields, calls and elements that has no row under the start signature never
+/// dereferences null, whatever its base types.
+pub fn plain_programs_never_fault()
+    ensures { (P : ProgramOf) (tables : List (List (Option Env))) → PlainAccepted P tables → NeverNull P }
+{
+}
+
+/// The law on plain programs is of use: one with a main, texts and a null test is accepted.
+pub fn plain_programs_are_accepted()
+    ensures accepted { PlainAccepted plain_program (plain_table ∷ []) }
+    ensures main { MainForm plain_program 0 0 }
 {
 }

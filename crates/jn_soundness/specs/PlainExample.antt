@@ -1,0 +1,90 @@
+-- A program of one body, so that no law on plain programs is empty: `String s = "x"; println(s.length()); if (s == null) ; return`.
+use Rattle.std.specs.Prelude.{ℕ, true, false, List, [], ◌∷◌, Option, Some, None, pos}
+use Rattle.jn_base.specs.declared.number.RegNo.{RegNo}
+use Rattle.jn_base.specs.declared.place.Span.{Span}
+use Rattle.jn_quals.specs.Qualifier.{Qualifier}
+use Rattle.jn_quals.specs.Order.{no_qual, committed_only}
+use Rattle.jn_points.specs.declared.point.Operand.{Operand}
+use Rattle.jn_points.specs.declared.point.BaseType.{BaseType}
+use Rattle.jn_points.specs.declared.point.BaseType.TheVariants.{Int, Void, Ref, Array}
+use Rattle.jn_points.specs.declared.point.Elem.TheVariants.{Ref as RefElem}
+use Rattle.jn_points.specs.declared.point.Literal.TheVariants.{Str}
+use Rattle.jn_points.specs.declared.point.StrOperation.TheVariants.{Length}
+use Rattle.jn_points.specs.declared.point.Point.{Point}
+use Rattle.jn_points.specs.declared.point.PointKind.{PointKind}
+use Rattle.jn_points.specs.declared.point.PointKind.TheVariants.{Const, StrOp, Print, TestNull, Return}
+use Rattle.jn_points.specs.declared.program.Class.{Class}
+use Rattle.jn_points.specs.declared.program.Method.{Method}
+use Rattle.jn_points.specs.declared.program.Body.{Body}
+use Rattle.jn_points.specs.declared.program.SlotInfo.{SlotInfo}
+use Rattle.jn_points.specs.declared.program.Program.{Program}
+use Rattle.jn_env.specs.declared.env.Env.{Env}
+
+abbrev pub no_span : Span
+no_span = record { file = record { 0 = 0 }; from = 0; to = 0 }
+
+abbrev pub point_of : PointKind → Point
+point_of k = record { kind = k; span = no_span }
+
+abbrev pub reg : ℕ → Operand
+reg n = record { reg = record { 0 = n }; span = no_span }
+
+abbrev pub strings : BaseType
+strings = Array (RefElem (record { 0 = 1 })) false
+
+abbrev pub object_class : Class
+object_class = record { name = record { 0 = 0 }; span = no_span; interface = false; is_abstract = false; is_final = false; parent = None; supers = [] }
+
+-- a class within another one
+abbrev pub class_under : ℕ → Class
+class_under parent = record { name = record { 0 = 1 }; span = no_span; interface = false; is_abstract = false; is_final = true; parent = Some (record { 0 = parent }); supers = record { 0 = parent } ∷ [] }
+
+-- `main` of a class, with a body, whose parameter has a slot
+abbrev pub main_method : ℕ → ℕ → ℕ → Method
+main_method class body slot = record {
+  name = record { 0 = 2 };
+  span = no_span;
+  owner = record { 0 = class };
+  params = strings ∷ [];
+  result = Void;
+  ctor = false;
+  is_static = true;
+  is_private = false;
+  is_abstract = false;
+  is_final = false;
+  is_main = true;
+  body = Some (record { 0 = body });
+  receiver = None;
+  param_slots = Some (record { 0 = slot }) ∷ [];
+  result_slot = None;
+}
+
+abbrev pub plain_points : List Point
+plain_points =
+    point_of (Const (record { 0 = 1 }) (Str (record { 0 = 0 })))
+    ∷ point_of (StrOp (record { 0 = 2 }) Length (reg 1) None)
+    ∷ point_of (Print (reg 2))
+    ∷ point_of (TestNull (reg 1) None (record { 0 = 4 }) (record { 0 = 4 }))
+    ∷ point_of (Return None)
+    ∷ []
+
+abbrev pub plain_program : Program
+plain_program = record {
+  classes = object_class ∷ class_under 0 ∷ class_under 0 ∷ [];
+  fields = [];
+  methods = main_method 2 0 0 ∷ [];
+  bodies = record { method = record { 0 = 0 }; regs = strings ∷ Ref (record { 0 = 1 }) ∷ Int ∷ []; locals = 2; points = plain_points } ∷ [];
+  slots = record { start = committed_only; inferred = false } ∷ [];
+}
+
+abbrev pub quals_env : List Qualifier → Env
+quals_env qs = record { quals = qs; facts = []; assigned = [] }
+
+abbrev pub plain_table : List (Option Env)
+plain_table =
+    Some (quals_env (committed_only ∷ no_qual ∷ no_qual ∷ []))
+    ∷ Some (quals_env (committed_only ∷ committed_only ∷ no_qual ∷ []))
+    ∷ Some (quals_env (committed_only ∷ committed_only ∷ no_qual ∷ []))
+    ∷ Some (quals_env (committed_only ∷ committed_only ∷ no_qual ∷ []))
+    ∷ Some (quals_env (committed_only ∷ committed_only ∷ no_qual ∷ []))
+    ∷ []
