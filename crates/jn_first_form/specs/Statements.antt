@@ -29,20 +29,20 @@ abbrev pub ReadsStatements : List TokenKind → Option (Vec Statement Global × 
 ReadsStatements tokens None = NoStatements tokens
 ReadsStatements tokens (Some r) = AreStatements tokens (views r.0.items) r.1.now
 
--- each of some statements ends before the others
+-- each of some statements ends before the others (JLS 14.5: an else belongs to the nearest if)
 abbrev pub AllEnd : Trees → List TokenKind → Type 0
 AllEnd NoTrees rest = Unit {0}
 AllEnd (MoreTrees t ts) rest = Ends t (spell_all ts ++ rest) × AllEnd ts rest
 
--- = v ;
+-- = v ; (JLS 14.4, 15.26)
 abbrev pub given : ValueTree → List TokenKind → List TokenKind
 given v rest = Assign ∷ spell_value v ∷ Semicolon ∷ rest
 
--- ( x == null ) {
+-- ( x == null ) { , or with != (JLS 14.9, 15.21)
 abbrev pub tested : ℕ → Bool → List TokenKind → List TokenKind
 tested n equal rest = LeftParen ∷ id n ∷ spell_test equal ∷ Null ∷ RightParen ∷ LeftBrace ∷ rest
 
--- class C { public static void main ( String [ ] a ) {
+-- class C { public static void main ( String [ ] a ) { (JLS 8.1, 8.4)
 abbrev pub headed : ℕ → ℕ → List TokenKind → List TokenKind
 headed class parameter rest =
     Class ∷ id class ∷ LeftBrace ∷ Public ∷ Static ∷ Void ∷ id main_name ∷ LeftParen ∷ id string_name ∷ LeftBracket ∷ RightBracket ∷ id parameter ∷ RightParen ∷ LeftBrace ∷ rest

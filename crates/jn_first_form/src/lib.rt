@@ -7,6 +7,8 @@ pub mod known;
 pub mod law;
 pub mod local;
 pub mod recognize;
+#[cfg(test)]
+mod tests;
 pub mod tree;
 
 pub use brackets::within_brackets;
