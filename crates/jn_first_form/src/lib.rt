@@ -7,6 +7,15 @@ pub mod known;
 pub mod law;
 pub mod local;
 pub mod recognize;
+mod leaves;
+mod lower;
+mod lowering;
+pub mod program;
+mod put;
+mod registers;
+pub mod scope;
+pub mod size;
+mod spans;
 pub mod tree;
 
 pub use brackets::within_brackets;
