@@ -3,30 +3,21 @@ use Rattle.std.proofs.Common.{◌≡◌, ℕ, ◌+◌, ◌<◌, ◌≤◌, Bool,
 use Rattle.std.proofs.lemmas.List.{drop_more}
 use Rattle.std.proofs.Math.ListN.{drop_of_length-le}
 use Rattle.jn_base.specs.declared.number.NameNo.{NameNo}
-use Rattle.jn_first_form.specs.declared.tree.Statement.{Statement, Row_of-Statement, end_of-Statement, more_of-Statement, items-the_row-Statement}
-use Rattle.jn_first_form.specs.declared.tree.Statement.TheBlock.{hidden-the_row-Statement-0, items_hidden-the_row-Statement-0}
+use Rattle.jn_first_form.specs.declared.tree.Statement.{Statement}
 use Rattle.jn_first_form.specs.declared.tree.Statement.TheVariants.{Block, When, Choice}
 use Rattle.jn_first_form.specs.Trees.{Tree, Trees, BlockTree, WhenTree, ChoiceTree, NoTrees, MoreTrees}
-use Rattle.jn_first_form.specs.View.{view, view_row, views}
-
-row_views : (n : _) (k : Row_of-Statement n) → view_row k ≡ views (items-the_row-Statement n k)
-row_views n end_of-Statement = refl
-row_views n (more_of-Statement s rest) = ap (λ r. MoreTrees (view s) r) (row_views _ rest)
-
-vec_views : (v : Vec Statement Global) → view_row (hidden-the_row-Statement-0 v) ≡ views v.items
-vec_views v = row_views _ (hidden-the_row-Statement-0 v) ∙ ap views (items_hidden-the_row-Statement-0 v)
+use Rattle.jn_first_form.specs.View.{view, views}
+use Rattle.jn_first_form.proofs.Reading.{view_block, view_when, view_choice}
 
 pub seen_block : (s : Statement) (v : Vec Statement Global) (body : List Statement) → s ≡ Block v → body ≡ v.items → view s ≡ BlockTree (views body)
-seen_block s v body is b = ap view is ∙ ap BlockTree (vec_views v) ∙ ap (λ ss. BlockTree (views ss)) (sym b)
+seen_block s v body is b = ap view is ∙ view_block v ∙ ap (λ ss. BlockTree (views ss)) (sym b)
 
 pub seen_when : (s : Statement) (n : NameNo) (eq : Bool) (v : Vec Statement Global) (body : List Statement) → s ≡ When n eq v → body ≡ v.items → view s ≡ WhenTree n.0 eq (views body)
-seen_when s n eq v body is b = ap view is ∙ ap (WhenTree n.0 eq) (vec_views v) ∙ ap (λ ss. WhenTree n.0 eq (views ss)) (sym b)
+seen_when s n eq v body is b = ap view is ∙ view_when n eq v ∙ ap (λ ss. WhenTree n.0 eq (views ss)) (sym b)
 
 pub seen_choice : (s : Statement) (n : NameNo) (eq : Bool) (v w : Vec Statement Global) (body others : List Statement) → s ≡ Choice n eq v w → body ≡ v.items → others ≡ w.items → view s ≡ ChoiceTree n.0 eq (views body) (views others)
 seen_choice s n eq v w body others is b o =
-    ap view is
-    ∙ ap (λ ts. ChoiceTree n.0 eq ts (view_row (hidden-the_row-Statement-0 w))) (vec_views v ∙ ap views (sym b))
-    ∙ ap (ChoiceTree n.0 eq (views body)) (vec_views w ∙ ap views (sym o))
+    ap view is ∙ view_choice n eq v w ∙ ap (λ ss. ChoiceTree n.0 eq (views ss) (views w.items)) (sym b) ∙ ap (λ ss. ChoiceTree n.0 eq (views body) (views ss)) (sym o)
 
 -- what is left before a step of a loop
 pub left_before : (ss : List Statement) (i : ℕ) (s : Statement) → i < length ss → s ≡ get_or ss i s → views (drop i ss) ≡ MoreTrees (view s) (views (drop (i + 1) ss))

@@ -170,7 +170,7 @@ fn committed_slot() -> SlotInfo
     ensures { result ≡ committed_slot }
 {
     SlotInfo {
-        start: Qual::committed(),
+        start: Qual::of_bits(2),
         inferred: false,
     }
 }
