@@ -6,3 +6,5 @@ pub mod Scope
 pub mod Lowered
 pub mod Form
 pub mod Statements
+pub mod Names
+pub mod Placed

@@ -9,6 +9,15 @@ pub mod local;
 pub mod recognize;
 #[cfg(test)]
 mod tests;
+mod leaves;
+mod lower;
+mod lowering;
+pub mod program;
+mod put;
+mod registers;
+pub mod scope;
+pub mod size;
+mod spans;
 pub mod tree;
 
 pub use brackets::within_brackets;
