@@ -17,9 +17,9 @@ use Rattle.jn_points.specs.declared.point.PointKind.TheVariants.{Const, Move, Un
 use Rattle.jn_points.specs.declared.program.Method.{Method}
 use Rattle.jn_points.specs.declared.program.SlotInfo.{SlotInfo}
 use Rattle.jn_points.specs.declared.program.Program.{Program}
-use Rattle.jn_points.specs.Lookup.{regs_of, class_of, body_of, dereferences, body_at, point_at, method_at}
+use Rattle.jn_points.specs.Lookup.{regs_of, class_of, body_of, dereferences, body_at, point_at, method_at, elem_base}
 use Rattle.jn_points.specs.Members.{sub, dispatch, has_field}
-use Rattle.jn_heap.specs.Values.{Prim, Number, Truth, Value, NullRef, Text, Plain, At, Thing, Object, Elems, End, Done, Index, ClassCast, ArrayStore, Deep, Long, Got, Gives, Fails, Lacks, longest, deepest, number_of, unary, binary, units, text_of, same, text_op, index, count, default_of, elem_base, defaults, statics_of}
+use Rattle.jn_heap.specs.Values.{Prim, Number, Truth, Value, NullRef, Text, Plain, At, Thing, Object, Elems, End, Done, Index, ClassCast, ArrayStore, Deep, Long, Got, Gives, Fails, Lacks, longest, deepest, number_of, unary, binary, units, text_of, same, text_op, index, count, default_of, defaults, statics_of}
 
 abbrev pub Regs : Type 0
 Regs = List (Option Value)

@@ -163,13 +163,6 @@ default_of NullBase = NullRef
 default_of (Ref c) = NullRef
 default_of (Array e nullable) = NullRef
 
--- the type of an array's elements
-abbrev pub elem_base : BaseType → BaseType
-elem_base (Array IntElem nullable) = Int
-elem_base (Array BoolElem nullable) = BoolBase
-elem_base (Array (RefElem c) nullable) = Ref c
-elem_base b = Int
-
 abbrev pub defaults : List Field → List Value
 defaults [] = []
 defaults (f ∷ fs) = default_of f.base ∷ defaults fs

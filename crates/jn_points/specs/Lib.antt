@@ -2,3 +2,4 @@ pub mod Edges
 pub mod Lookup
 pub mod Members
 pub mod Regular
+pub mod BaseTyping

@@ -4,7 +4,8 @@ use Rattle.jn_base.specs.declared.number.BodyNo.{BodyNo}
 use Rattle.jn_base.specs.declared.number.ClassNo.{ClassNo}
 use Rattle.jn_base.specs.declared.number.SlotNo.{SlotNo}
 use Rattle.jn_points.specs.declared.point.BaseType.{BaseType}
-use Rattle.jn_points.specs.declared.point.BaseType.TheVariants.{Ref, Array, Void, Null as NullBase}
+use Rattle.jn_points.specs.declared.point.BaseType.TheVariants.{Int, Bool as BoolOf, Ref, Array, Void, Null as NullBase}
+use Rattle.jn_points.specs.declared.point.Elem.TheVariants.{Int as IntElem, Bool as BoolElem, Ref as RefElem}
 use Rattle.jn_points.specs.declared.point.Operand.{Operand}
 use Rattle.jn_points.specs.declared.point.Point.{Point}
 use Rattle.jn_points.specs.declared.point.PointKind.{PointKind}
@@ -27,6 +28,17 @@ is_ref_base (Ref c) = true
 is_ref_base (Array e nullable) = true
 is_ref_base NullBase = true
 is_ref_base b = false
+
+-- the type of an array's elements
+abbrev pub elem_base : BaseType → BaseType
+elem_base (Array IntElem nullable) = Int
+elem_base (Array BoolElem nullable) = BoolOf
+elem_base (Array (RefElem c) nullable) = Ref c
+elem_base b = Int
+
+abbrev pub is_array : BaseType → Bool
+is_array (Array e nullable) = true
+is_array b = false
 
 -- the register that a point dereferences (JLS 8, 15.11.1, 15.12.4.4, 15.13.1 and 15.26.1)
 abbrev pub dereferences : PointKind → Option Operand
@@ -96,6 +108,10 @@ ctor_of (Some m) = m.ctor
 abbrev pub static_of : Option Method → Bool
 static_of None = true
 static_of (Some m) = m.is_static
+
+abbrev pub private_of : Option Method → Bool
+private_of None = false
+private_of (Some m) = m.is_private
 
 abbrev pub slots_of : Option Method → List (Option SlotNo)
 slots_of None = []

@@ -1,5 +1,5 @@
 -- What is regular in a program as points: shapes on which the flow of facts and the construction of objects rest.
-use Rattle.std.specs.Prelude.{ℕ, suc, ◌+◌, ◌≡◌, ◌<◌, ◌≤◌, ◌⊎◌, Bool, true, false, List, [], ◌∷◌, length, Option, Some, None}
+use Rattle.std.specs.Prelude.{ℕ, suc, eqb, ◌+◌, ◌≡◌, ◌<◌, ◌≤◌, ◌⊎◌, Bool, true, false, List, [], ◌∷◌, length, Option, Some, None}
 use Rattle.jn_base.specs.declared.number.MethodNo.{MethodNo}
 use Rattle.jn_base.specs.declared.number.PointNo.{PointNo}
 use Rattle.jn_base.specs.declared.number.SlotNo.{SlotNo}
@@ -10,12 +10,13 @@ use Rattle.jn_points.specs.declared.point.BaseType.{BaseType}
 use Rattle.jn_points.specs.declared.point.Point.{Point}
 use Rattle.jn_points.specs.declared.point.PointKind.{PointKind}
 use Rattle.jn_points.specs.declared.point.PointKind.TheVariants.{Const, Move, Unary, Binary, Concat, SameRef, FieldRead, StaticRead, ElemRead, ArrayLen, NewArray, ArrayOf, New, CtorCall, Call, StrOp, Cast, TestInst, TestNull, Return}
+use Rattle.jn_points.specs.declared.program.Class.{Class}
 use Rattle.jn_points.specs.declared.program.Field.{Field}
 use Rattle.jn_points.specs.declared.program.Method.{Method}
 use Rattle.jn_points.specs.declared.program.Body.{Body}
 use Rattle.jn_points.specs.declared.program.Program.{Program}
 use Rattle.jn_points.specs.Edges.{edges_of}
-use Rattle.jn_points.specs.Lookup.{is_ref_base, regs_of, has_slot, class_of, body_of, ctor_of, static_of, slots_of, body_at, point_at, field_info, owner, method_at, method_in}
+use Rattle.jn_points.specs.Lookup.{is_ref_base, regs_of, has_slot, class_of, body_of, ctor_of, static_of, slots_of, body_at, point_at, field_info, owner, method_at, method_in, class_info}
 use Rattle.jn_points.specs.Members.{has_field}
 
 -- the field read behind which a test stands, and the register tested
@@ -104,10 +105,26 @@ module _ (P : Program) where
     pub same : own ≡ true → class_of (method_at P m) ≡ class_of (method_in P b)
     pub fields : (f : ℕ) → has_field P (class_of (method_in P b)) f ≡ true → (owner P f ≡ class_of (method_in P b)) ⊎ (has_field P (class_of (method_at P m)) f ≡ true)
 
+  -- a class of which there are objects: no interface, and not String
+  pub record IsObjectClass (c : ℕ) : Type 0 where
+    pub info : Class
+    pub there : class_info P c ≡ Some info
+    pub class : info.interface ≡ false
+    pub no_string : eqb c 1 ≡ false
+
+  -- a method that an object selects: neither static nor private, and no constructor
+  pub record IsVirtual (m : ℕ) : Type 0 where
+    pub info : Method
+    pub there : method_at P m ≡ Some info
+    pub method : info.ctor ≡ false
+    pub instance : info.is_static ≡ false
+    pub open_to_all : info.is_private ≡ false
+
   abbrev pub Names : ℕ → PointKind → Type 0
-  Names b (New dst m args) = ctor_of (method_at P m.0) ≡ true
+  Names b (New dst m args) = (ctor_of (method_at P m.0) ≡ true) × IsObjectClass (class_of (method_at P m.0))
   Names b (CtorCall m args own) = Chains b m.0 own
-  Names b (Call dst m r direct args) = ctor_of (method_at P m.0) ≡ false
+  Names b (Call dst m (Some r) false args) = (ctor_of (method_at P m.0) ≡ false) × IsVirtual m.0
+  Names b (Call dst m r direct args) = (ctor_of (method_at P m.0) ≡ false) × Unit {0}
   Names b k = Unit {0}
 
   abbrev pub NotEarlyReturn : ℕ → ℕ → PointKind → Type 0

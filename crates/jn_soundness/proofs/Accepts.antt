@@ -82,11 +82,6 @@ module _ (W : World) (A : Accepted W) where
         end = r.end;
       }
 
-  body_method : (m b : ℕ) → body_of (method_at W.program m) ≡ Some b → method_in W.program b ≡ method_at W.program m
-  body_method m b is =
-      let x = A.regular.bodies m b is in
-      ap (method_of_body W.program) x.1 ∙ ap (method_at W.program) x.2
-
   plain_base : (f : ℕ) (x : Field) → slice_get W.program.fields f ≡ Some x → ref_field W.program f ≡ false → is_ref_base x.base ≡ false
   plain_base f x is n = sym (A.regular.fields f x is) ∙ (sym (ap ref_of is) ∙ n)
 
@@ -96,7 +91,7 @@ module _ (W : World) (A : Accepted W) where
     entry_test = A.regular.entry_test;
     entry_early = A.regular.entry_early;
     points = point_ok;
-    bodies = body_method;
+    bodies = λ m b is. let x = A.regular.bodies m b is in ap (method_of_body W.program) x.1 ∙ ap (method_at W.program) x.2;
     there = λ m b is. let x = A.regular.bodies m b is in (x.0, x.1);
     ctor_this = A.regular.ctor_this;
     ctor_regs = A.regular.ctor_regs;

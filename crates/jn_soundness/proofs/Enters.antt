@@ -239,7 +239,7 @@ module _ (W : World) (checked : Checked W) where
       by (Some o) io = this_call dst m r direct args is p rp ty vs iv o (object_is (value_at st.top.regs r.reg.0) o io) (selected W.program st.heap o m.0 direct) refl
 
     pub call_kind : (dst : Option RegNo) (m : MethodNo) (r : Option Operand) (direct : Bool) (args : List Operand) → pt.kind ≡ Call dst m r direct args → PointOk W st.top.body st.top.at good.top.env (Call dst m r direct args) → Typed W st (Call dst m r direct args) → GoodNext W (calls W.program st m.0 r direct (gather st.top.regs args))
-    call_kind dst m None direct args is ok ty = static_call dst m direct args is ok.rules.0 ok.rules.1 ok.names (gather st.top.regs args) refl
+    call_kind dst m None direct args is ok ty = static_call dst m direct args is ok.rules.0 ok.rules.1 ok.names.0 (gather st.top.regs args) refl
     call_kind dst m (Some r) direct args is ok ty = on_call dst m r direct args is ok.rules.0 ok.rules.1 ty (gather st.top.regs args) refl (object_of (value_at st.top.regs r.reg.0)) refl
 
     -- this(..) and super(..)
@@ -388,4 +388,4 @@ module _ (W : World) (checked : Checked W) where
     new_value dst m args is c p (Some vs) iv ty = new_by dst m args is c p vs iv ty (any_free (ref_quals good.top.env (slots_of (method_at W.program m.0)) args)) refl (ltb deepest (length st.waiting + 2)) (body_of (method_at W.program m.0)) refl
 
     pub new_kind : (dst : RegNo) (m : MethodNo) (args : List Operand) → pt.kind ≡ New dst m args → PointOk W st.top.body st.top.at good.top.env (New dst m args) → Typed W st (New dst m args) → GoodNext W (news W.program st m.0 (gather st.top.regs args))
-    new_kind dst m args is ok ty = new_value dst m args is ok.names ok.rules (gather st.top.regs args) refl ty
+    new_kind dst m args is ok ty = new_value dst m args is ok.names.0 ok.rules (gather st.top.regs args) refl ty

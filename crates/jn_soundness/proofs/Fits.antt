@@ -1,30 +1,29 @@
 -- Laws of the order of base types.
 use Rattle.std.proofs.Common.{◌≡◌, ℕ, zero, suc, Bool, true, false, not, ◌&&◌, ◌||◌, length, refl, sym, ap, ◌∙◌, subst, eqb}
 use Rattle.std.proofs.lemmas.Bool.{eqb-true, eq-eqb}
+use Rattle.jn_points.specs.BaseTyping.{Ordered}
 use Rattle.jn_points.specs.declared.point.BaseType.{BaseType}
 use Rattle.jn_points.specs.declared.point.BaseType.TheVariants.{Int, Bool as BoolBase, Void, Null as NullBase, Ref, Array}
 use Rattle.jn_points.specs.declared.point.Elem.{Elem}
 use Rattle.jn_points.specs.declared.point.Elem.TheVariants.{Int as IntElem, Bool as BoolElem, Ref as RefElem}
 use Rattle.jn_points.specs.declared.program.Program.{Program}
-use Rattle.jn_points.specs.Lookup.{is_flat, is_ref_base}
+use Rattle.jn_points.specs.Lookup.{is_flat, is_ref_base, is_array, elem_base}
 use Rattle.jn_points.specs.Members.{same_flag, elem_within, reaches, sub, fits}
-use Rattle.jn_heap.specs.Values.{elem_base}
 use Rattle.jn_transfer.specs.Transfer.{elem_qual}
-use Rattle.jn_soundness.specs.Types.{is_array, Ordered}
 
 both : (a b : Bool) → a && b ≡ true → (a ≡ true) × (b ≡ true)
 both true b h = (refl, h)
 both false b h = cc
 
-both_true : (a b : Bool) → a ≡ true → b ≡ true → a && b ≡ true
+pub both_true : (a b : Bool) → a ≡ true → b ≡ true → a && b ≡ true
 both_true true b h k = k
 both_true false b h k = cc
 
-or_right : (a b : Bool) → b ≡ true → a || b ≡ true
+pub or_right : (a b : Bool) → b ≡ true → a || b ≡ true
 or_right true b h = refl
 or_right false b h = h
 
-or_left : (a b : Bool) → a ≡ true → a || b ≡ true
+pub or_left : (a b : Bool) → a ≡ true → a || b ≡ true
 or_left true b h = refl
 or_left false b h = cc
 

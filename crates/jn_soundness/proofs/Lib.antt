@@ -14,6 +14,7 @@ pub mod Leaves
 pub mod Sound
 pub mod Typing
 pub mod Whole
+pub mod Overriding
 pub mod Accepts
 pub mod PlainAccepts
 pub mod Finite

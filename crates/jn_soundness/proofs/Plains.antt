@@ -11,7 +11,7 @@ use Rattle.jn_points.specs.declared.point.Elem.TheVariants.{Ref as RefElem}
 use Rattle.jn_points.specs.declared.point.PointKind.{PointKind}
 use Rattle.jn_points.specs.declared.point.PointKind.TheVariants.{Const, Move, Unary, Binary, Concat, SameRef, FieldRead, FieldWrite, StaticRead, StaticWrite, ElemRead, ElemWrite, ArrayLen, NewArray, ArrayOf, New, CtorCall, Call, StrOp, Print, Cast, TestInst, TestNull, Branch, Goto, Return}
 use Rattle.jn_soundness.specs.Checked.{AllWithin, NewArrayPasses, PointOk, WritePasses, ref_elems}
-use Rattle.jn_heap.specs.Values.{At, Elems, Fails, Gives, Got, Lacks, NullRef, Object, Plain, Prim, Text, Thing, Value, default_of, elem_base, index, same, text_of}
+use Rattle.jn_heap.specs.Values.{At, Elems, Fails, Gives, Got, Lacks, NullRef, Object, Plain, Prim, Text, Thing, Value, default_of, index, same, text_of}
 use Rattle.jn_soundness.specs.Good.{Committed, Describes, ElemsFit, Good, GoodNext, GoodTop, HoldsRef, MarkFits, Marked, Marking, Marks, Settled, TestOk, Typed, HoldsPlain, AllPlain, FieldOk}
 use Rattle.jn_env.specs.declared.env.Env.{Env}
 use Rattle.jn_transfer.specs.Transfer.{IsAmong, elem_qual, elem_read, learn, literal_qual, put, read_qual, refine, side, written}
@@ -20,7 +20,7 @@ use Rattle.jn_env.specs.Order.{SlotWithin, qual_at}
 use Rattle.jn_soundness.specs.World.{World, env_at}
 use Rattle.jn_points.specs.Members.{below, has_field}
 use Rattle.jn_quals.specs.Order.{committed_only, is_none, no_qual, null_part, settle, within, without_null}
-use Rattle.jn_points.specs.Lookup.{ctor_of, method_in, ref_field, reg_base, owner}
+use Rattle.jn_points.specs.Lookup.{ctor_of, method_in, ref_field, reg_base, owner, elem_base}
 use Rattle.jn_sigs.specs.Signature.{field_qual}
 use Rattle.jn_soundness.proofs.Basics.{true_false, within_null, describes_within, described_at, described_set, settled_of, value_zero, value_same, value_other}
 use Rattle.jn_soundness.proofs.Tops.{GotOk, object_is, alive, null_alive, without_null_describes, among_right, side_among, side_alone, Step, plain_step, arrives, ctor_moves, goes_top, facts_set, set_top, move_top, refine_top, learn_top, some_zero}

@@ -41,7 +41,7 @@ pub no_right : {A : Type 0} (xs ys : List A) → xs ++ ys ≡ [] → ys ≡ []
 no_right [] ys h = h
 no_right (x ∷ xs) ys h = cc
 
-row_none : (t : Bool) (span : Span) (code : Code) → row_if t span code ≡ [] → t ≡ false
+pub row_none : (t : Bool) (span : Span) (code : Code) → row_if t span code ≡ [] → t ≡ false
 row_none false span code h = refl
 row_none true span code h = cc
 
@@ -56,7 +56,7 @@ pub or_none : (a b : Bool) → (a || b) ≡ false → (a ≡ false) × (b ≡ fa
 or_none false b h = (refl, h)
 or_none true b h = cc
 
-all_three : (a b c : Bool) → a ≡ true → b ≡ true → c ≡ true → IsTrue (a && b && c)
+pub all_three : (a b c : Bool) → a ≡ true → b ≡ true → c ≡ true → IsTrue (a && b && c)
 all_three true true c x y z = z
 all_three true false c x y z = cc
 all_three false b c x y z = cc
@@ -87,7 +87,7 @@ args_none e (q ∷ qs) [] h n = cc
 args_none e (q ∷ qs) (a ∷ args) h n =
     (pass_none _ _ e a q (no_left _ (arg_rows e qs args) h), args_none e qs args (no_right (pass_rows _ _ e a q) (arg_rows e qs args) h) (omega (n, arith)))
 
-quals_length : (s : List Qualifier) (xs : List (Option SlotNo)) → length (slot_quals s xs) ≡ length xs
+pub quals_length : (s : List Qualifier) (xs : List (Option SlotNo)) → length (slot_quals s xs) ≡ length xs
 quals_length s [] = refl
 quals_length s (x ∷ xs) = ap (λ n. suc n) (quals_length s xs)
 
@@ -119,12 +119,12 @@ some_none test [] k x h is = cc
 some_none test (y ∷ xs) zero x h is = let same : y ≡ x = cc in subst (λ z. test z ≡ false) same (or_none (test y) (some_of test xs) h).0
 some_none test (y ∷ xs) (suc k) x h is = some_none test xs k x (or_none (test y) (some_of test xs) h).1 is
 
-member_none : (test : ℕ → Bool) (xs : List ℕ) (x : ℕ) → some_of test xs ≡ false → IsMember x xs → test x ≡ false
+pub member_none : (test : ℕ → Bool) (xs : List ℕ) (x : ℕ) → some_of test xs ≡ false → IsMember x xs → test x ≡ false
 member_none test [] x h is = absurd is
 member_none test (y ∷ xs) x h (inl e) = subst (λ z. test z ≡ false) (sym e) (or_none (test y) (some_of test xs) h).0
 member_none test (y ∷ xs) x h (inr is) = member_none test xs x (or_none (test y) (some_of test xs) h).1 is
 
-member_left : (x : ℕ) (xs ys : List ℕ) → IsMember x xs → IsMember x (xs ++ ys)
+pub member_left : (x : ℕ) (xs ys : List ℕ) → IsMember x xs → IsMember x (xs ++ ys)
 member_left x [] ys h = absurd h
 member_left x (y ∷ xs) ys (inl e) = inl e
 member_left x (y ∷ xs) ys (inr h) = inr (member_left x xs ys h)

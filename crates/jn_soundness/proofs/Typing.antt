@@ -1,7 +1,8 @@
 -- Base typing is kept by each step, and gives what soundness asks.
 use Rattle.std.proofs.Common.{◌≡◌, ℕ, zero, suc, Bool, true, false, ◌⊎◌, inl, inr, List, [], ◌∷◌, ◌++◌, length, replicate, Option, Some, None, refl, sym, ap, ◌∙◌, subst, cond, ◌+◌, ltb}
 use Rattle.std.specs.Prelude.{slice_get, slice_set, eqb, ltb, ℤ}
-use Rattle.jn_points.specs.Regular.{writes}
+use Rattle.jn_points.specs.BaseTyping.{AllTyped, ArgsTyped, ConstTyped, PointTyped, ResultTyped, ReturnTyped, StartsWith, given_bases, Ordered}
+use Rattle.jn_points.specs.Regular.{writes, IsVirtual}
 use Rattle.jn_base.specs.declared.number.RegNo.{RegNo}
 use Rattle.jn_base.specs.declared.number.ClassNo.{ClassNo}
 use Rattle.jn_base.specs.declared.number.MethodNo.{MethodNo}
@@ -18,12 +19,12 @@ use Rattle.jn_points.specs.declared.point.Point.{Point}
 use Rattle.jn_points.specs.declared.point.PointKind.{PointKind}
 use Rattle.jn_points.specs.declared.point.PointKind.TheVariants.{Const, Move, Unary, Binary, Concat, SameRef, FieldRead, FieldWrite, StaticRead, StaticWrite, ElemRead, ElemWrite, ArrayLen, NewArray, ArrayOf, New, CtorCall, Call, StrOp, Print, Cast, TestInst, TestNull, Branch, Goto, Return}
 use Rattle.jn_points.specs.declared.program.Field.{Field}
-use Rattle.jn_soundness.specs.Types.{AllTyped, ArgsTyped, ConstTyped, GivesTo, HasType, HeapTyped, PointTyped, ProgramTyped, RegsTyped, ResultTyped, ReturnFits, ReturnFitsAt, ReturnTyped, Selects, SlotsRef, StartsWith, StateTyped, ThingFits, ThingTyped, WaitTyped, base_of_thing, given_bases, is_array, Ordered}
+use Rattle.jn_soundness.specs.Types.{GivesTo, HasType, HeapTyped, ProgramTyped, RegsTyped, ReturnFits, ReturnFitsAt, Selects, SlotsRef, StateTyped, ThingFits, ThingTyped, WaitTyped, base_of_thing}
 use Rattle.jn_soundness.specs.Good.{ArgsRef, Typed, HoldsPlain, AllPlain}
-use Rattle.jn_heap.specs.Values.{At, Elems, Fails, Gives, Got, Lacks, NullRef, Object, Plain, Prim, Text, Thing, Value, binary, deepest, default_of, defaults, elem_base, index, same, text_of, unary, longest, units, text_op}
+use Rattle.jn_heap.specs.Values.{At, Elems, Fails, Gives, Got, Lacks, NullRef, Object, Plain, Prim, Text, Thing, Value, binary, deepest, default_of, defaults, index, same, text_of, unary, longest, units, text_op}
 use Rattle.jn_heap.specs.Machine.{Ends, Frame, Goes, Next, Regs, State, Stuck, act, allocates, array_len, array_of, binary_of, branch, calls, calls_on, calls_this, cast_as, cast_of, class_in, concat_of, count_of, ctor_calls, dispatched, elem_in, enter, field_at, field_in, gather, gather_more, gives, gives_to, goes_by, got_of, got_plain, got_sets, holds_at, is_within, item_or_index, length_in, literal_value, may_hold, moves, new_array, news, object_of, pad, prim_of, print, put_thing, read_elem, read_field, resumes, returns, run, same_of, selected, sets, step_at, store_in, stored, str_op, takes, takes_at, test_inst, test_null, text_or_long, then_step, unary_of, value_at, value_of, write_elem, write_field, write_in, write_static, int_of, truth_of, text_in, got_prim, thing_within}
 use Rattle.jn_soundness.specs.World.{World}
-use Rattle.jn_points.specs.Lookup.{body_at, body_of, class_of, field_base, field_base_of, flat_of, is_flat, is_ref_base, method_at, method_in, params_of, point_at, reg_base, regs_of, result_base_of, slots_of, static_of}
+use Rattle.jn_points.specs.Lookup.{body_at, body_of, class_of, field_base, field_base_of, flat_of, is_flat, is_ref_base, method_at, method_in, params_of, point_at, reg_base, regs_of, result_base_of, slots_of, static_of, is_array, elem_base}
 use Rattle.jn_points.specs.Members.{fits, has_field}
 use Rattle.jn_soundness.specs.Checked.{ref_elems}
 use Rattle.jn_soundness.proofs.Fits.{fits_self, fits_trans, fits_refs, fits_flat, fits_elems, fits_items}
@@ -104,7 +105,7 @@ module _ (W : World) (T : Ordered W.program) (P : ProgramTyped W) where
 
   flat_thing : (heap : List Thing) (x : Option Thing) (t : BaseType) → ThingTyped W heap x → ThingFits W x t → is_flat t ≡ true → class_in x ≡ None
   flat_thing heap None t h f n = refl
-  flat_thing heap (Some (Object c fs)) t h f n = true_false (eqb c 1) (fits_flat W.program T c t f n) h.0
+  flat_thing heap (Some (Object c fs)) t h f n = true_false (eqb c 1) (fits_flat W.program T c t f n) h.0.no_string
   flat_thing heap (Some (Elems b xs)) t h f n = refl
 
   field_typed : (heap : List Thing) (x : Option Thing) (f : ℕ) (v : Value) → ThingTyped W heap x → field_in W.program x f ≡ Some v → HasType W heap (field_base W.program f) v
@@ -115,7 +116,7 @@ module _ (W : World) (T : Ordered W.program) (P : ProgramTyped W) where
   not_plain : (heap : List Thing) (t : BaseType) (v : Value) (p : Prim) → HasType W heap t v → is_ref_base t ≡ true → v ≡ Plain p → ⊥
   not_plain heap t v p h r e = true_false (is_ref_base t) r (subst (λ v. HasType W heap t v) e h)
 
-  args_ref : (heap : List Thing) (b : ℕ) (regs : Regs) (slots : List (Option SlotNo)) (ts : List BaseType) (args : List Operand) → RegsTyped W heap b regs → SlotsRef W slots ts → ArgsTyped W b ts args → ArgsRef regs slots args
+  args_ref : (heap : List Thing) (b : ℕ) (regs : Regs) (slots : List (Option SlotNo)) (ts : List BaseType) (args : List Operand) → RegsTyped W heap b regs → SlotsRef W slots ts → ArgsTyped W.program b ts args → ArgsRef regs slots args
   args_ref heap b regs [] ts args r s a = tt
   args_ref heap b regs (x ∷ xs) ts [] r s a = tt
   args_ref heap b regs (x ∷ xs) [] (y ∷ args) r s a = absurd a
@@ -130,23 +131,23 @@ module _ (W : World) (T : Ordered W.program) (P : ProgramTyped W) where
     at_reg : (r o : ℕ) → value_at st.top.regs r ≡ Some (At o) → ThingFits W (slice_get st.heap o) (reg_base W.program b r)
     at_reg r o is = ty.top r (At o) is
 
-    call_selects : (m : ℕ) (r o k : ℕ) (x : Option Thing) → slice_get st.heap o ≡ x → fits W.program (reg_base W.program b r) (Ref (record { 0 = class_of (method_at W.program m) })) ≡ true → ThingFits W x (reg_base W.program b r) → dispatched W.program (class_in x) m ≡ Some k → Selects W k m × (ThingFits W x (Ref (record { 0 = class_of (method_at W.program k) })))
-    call_selects m r o k None is f h d = absurd h
-    call_selects m r o k (Some (Object c fs)) is f h d = P.selects c m k d (fits_trans W.program T (Ref (record { 0 = c })) (reg_base W.program b r) (Ref (record { 0 = class_of (method_at W.program m) })) h f)
-    call_selects m r o k (Some (Elems x xs)) is f h d = cc
+    call_selects : (m : ℕ) (r o k : ℕ) → IsVirtual W.program m → (x : Option Thing) → slice_get st.heap o ≡ x → fits W.program (reg_base W.program b r) (Ref (record { 0 = class_of (method_at W.program m) })) ≡ true → ThingFits W x (reg_base W.program b r) → dispatched W.program (class_in x) m ≡ Some k → Selects W k m × (ThingFits W x (Ref (record { 0 = class_of (method_at W.program k) })))
+    call_selects m r o k v None is f h d = absurd h
+    call_selects m r o k v (Some (Object c fs)) is f h d = P.selects c m k (subst (λ z. ThingTyped W st.heap z) is (ty.heap o)).0 v d (fits_trans W.program T (Ref (record { 0 = c })) (reg_base W.program b r) (Ref (record { 0 = class_of (method_at W.program m) })) h f)
+    call_selects m r o k v (Some (Elems x xs)) is f h d = cc
 
-    pub selects_on : (pt : Point) (dst : Option RegNo) (m : MethodNo) (r : Operand) (direct : Bool) (args : List Operand) → point_at W.program b st.top.at ≡ Some pt → pt.kind ≡ Call dst m (Some r) direct args → PointTyped W b (Call dst m (Some r) direct args) → (o k : ℕ) → value_at st.top.regs r.reg.0 ≡ Some (At o) → selected W.program st.heap o m.0 direct ≡ Some k → Selects W k m.0 × ThingFits W (slice_get st.heap o) (Ref (record { 0 = class_of (method_at W.program k) }))
+    pub selects_on : (pt : Point) (dst : Option RegNo) (m : MethodNo) (r : Operand) (direct : Bool) (args : List Operand) → point_at W.program b st.top.at ≡ Some pt → pt.kind ≡ Call dst m (Some r) direct args → PointTyped W.program b (Call dst m (Some r) direct args) → (o k : ℕ) → value_at st.top.regs r.reg.0 ≡ Some (At o) → selected W.program st.heap o m.0 direct ≡ Some k → Selects W k m.0 × ThingFits W (slice_get st.heap o) (Ref (record { 0 = class_of (method_at W.program k) }))
     selects_on pt dst m r true args is e p o k io ik =
         let same : m.0 ≡ k = cc in
         subst (λ k. Selects W k m.0 × ThingFits W (slice_get st.heap o) (Ref (record { 0 = class_of (method_at W.program k) }))) same
           (P.direct b st.top.at pt dst m r args is e, fits_thing (slice_get st.heap o) (reg_base W.program b r.reg.0) (Ref (record { 0 = class_of (method_at W.program m.0) })) p.0 (at_reg r.reg.0 o io))
-    selects_on pt dst m r false args is e p o k io ik = call_selects m.0 r.reg.0 o k (slice_get st.heap o) refl p.0 (at_reg r.reg.0 o io) ik
+    selects_on pt dst m r false args is e p o k io ik = call_selects m.0 r.reg.0 o k (P.virtual b st.top.at pt dst m r args is e) (slice_get st.heap o) refl p.0 (at_reg r.reg.0 o io) ik
 
-    all_hold_plain : (t : BaseType) → is_ref_base t ≡ false → (args : List Operand) → AllTyped W b t args → AllPlain st.top.regs args
+    all_hold_plain : (t : BaseType) → is_ref_base t ≡ false → (args : List Operand) → AllTyped W.program b t args → AllPlain st.top.regs args
     all_hold_plain t n [] h = tt
     all_hold_plain t n (a ∷ args) h = (holds_plain st.heap ty.heap t n (value_at st.top.regs a.reg.0) (λ v x. fits_type st.heap (reg_base W.program b a.reg.0) t v h.0 (ty.top a.reg.0 v x)), all_hold_plain t n args h.1)
 
-    pub typed_kind : (pt : Point) → point_at W.program b st.top.at ≡ Some pt → (k : PointKind) → pt.kind ≡ k → PointTyped W b k → Typed W st k
+    pub typed_kind : (pt : Point) → point_at W.program b st.top.at ≡ Some pt → (k : PointKind) → pt.kind ≡ k → PointTyped W.program b k → Typed W st k
     typed_kind pt is (FieldRead dst r f) e p = λ o q io ifq fl.
         flat_thing st.heap (slice_get st.heap q) (field_base W.program f.0) (ty.heap q) (field_typed st.heap (slice_get st.heap o) f.0 (At q) (ty.heap o) ifq) (sym (flat_base (slice_get W.program.fields f.0)) ∙ fl)
     typed_kind pt is (ElemRead dst r i) e p = λ o c xs io ix. fits_elems W.program T c (reg_base W.program b r.reg.0) (subst (λ x. ThingFits W x (reg_base W.program b r.reg.0)) ix (at_reg r.reg.0 o io)) (subst (λ x. ThingTyped W st.heap x) ix (ty.heap o)).0 p.0
@@ -252,7 +253,7 @@ module _ (W : World) (T : Ordered W.program) (P : ProgramTyped W) where
     cast_typed u c (Some (Plain p)) f = tt
     cast_typed u c (Some (At o)) f = cast_by u c (At o) (is_within W.program st.heap (At o) c.0) refl f
 
-    const_typed : (names : List (List ℕ)) (dst : ℕ) (l : Literal) → ConstTyped W b dst l → HasType W st.heap (reg_base W.program b dst) (literal_value names l)
+    const_typed : (names : List (List ℕ)) (dst : ℕ) (l : Literal) → ConstTyped W.program b dst l → HasType W st.heap (reg_base W.program b dst) (literal_value names l)
     const_typed names dst (IntOf i) h = h
     const_typed names dst (TruthOf t) h = h
     const_typed names dst (Str n) h = h
@@ -364,7 +365,7 @@ module _ (W : World) (T : Ordered W.program) (P : ProgramTyped W) where
   AllHave heap [] (v ∷ vs) = ⊥
   AllHave heap (t ∷ ts) (v ∷ vs) = HasType W heap t v × AllHave heap ts vs
 
-  pub padded : (heap : List Thing) (base : ℕ → BaseType) (ts : List BaseType) (vs : List Value) (n r : ℕ) (v : Value) → StartsWith W base ts → AllHave heap ts vs → value_at (pad vs n) r ≡ Some v → HasType W heap (base r) v
+  pub padded : (heap : List Thing) (base : ℕ → BaseType) (ts : List BaseType) (vs : List Value) (n r : ℕ) (v : Value) → StartsWith W.program base ts → AllHave heap ts vs → value_at (pad vs n) r ≡ Some v → HasType W heap (base r) v
   padded heap base ts vs zero r v s a is = cc
   padded heap base ts [] (suc n) zero v s a is = cc
   padded heap base ts [] (suc n) (suc r) v s a is = padded heap (λ r. base (suc r)) [] [] n r v tt tt is
@@ -383,12 +384,12 @@ module _ (W : World) (T : Ordered W.program) (P : ProgramTyped W) where
     one_more ts t (Some v) None vs is f g = cc
     one_more ts t (Some v) (Some us) vs is f g = let same : v ∷ us ≡ vs = cc in subst (λ x. AllHave st.heap (t ∷ ts) x) same (f v refl, g us refl)
 
-    args_have : (ts : List BaseType) (args : List Operand) (vs : List Value) → ArgsTyped W st.top.body ts args → gather st.top.regs args ≡ Some vs → AllHave st.heap ts vs
+    args_have : (ts : List BaseType) (args : List Operand) (vs : List Value) → ArgsTyped W.program st.top.body ts args → gather st.top.regs args ≡ Some vs → AllHave st.heap ts vs
     args_have ts [] vs a is = let same : [] ≡ vs = cc in subst (λ x. AllHave st.heap ts x) same tt
     args_have [] (x ∷ args) vs a is = absurd a
     args_have (t ∷ ts) (x ∷ args) vs a is = one_more ts t (value_at st.top.regs x.reg.0) (gather st.top.regs args) vs is (λ w e. fits_type st.heap (reg_base W.program st.top.body x.reg.0) t w a.0 (ty.top x.reg.0 w e)) (λ us e. args_have ts args us a.1 e)
 
-    items_have : (t : BaseType) (args : List Operand) (vs : List Value) → AllTyped W st.top.body t args → gather st.top.regs args ≡ Some vs → (i : ℕ) (v : Value) → slice_get vs i ≡ Some v → HasType W st.heap t v
+    items_have : (t : BaseType) (args : List Operand) (vs : List Value) → AllTyped W.program st.top.body t args → gather st.top.regs args ≡ Some vs → (i : ℕ) (v : Value) → slice_get vs i ≡ Some v → HasType W st.heap t v
     items_have t [] vs a is i v h = let same : [] ≡ vs = cc in absurd (let bad : slice_get [] i ≡ Some v = subst (λ x. slice_get x i ≡ Some v) (sym same) h in let k : None ≡ Some v = bad in cc)
     items_have t (x ∷ args) vs a is i v h = more (value_at st.top.regs x.reg.0) (gather st.top.regs args) vs is i v h (λ w e. fits_type st.heap (reg_base W.program st.top.body x.reg.0) t w a.0 (ty.top x.reg.0 w e)) (λ us e. items_have t args us a.1 e)
       where
@@ -485,48 +486,48 @@ module _ (W : World) (T : Ordered W.program) (P : ProgramTyped W) where
     new_array_typed dst c a f (Fails e) = tt
     new_array_typed dst c a f Lacks = tt
 
-    array_of_typed : (dst : ℕ) (c : BaseType) (args : List Operand) → is_array c ≡ true → fits W.program c (reg_base W.program st.top.body dst) ≡ true → AllTyped W st.top.body (elem_base c) args → (vs : Option (List Value)) → gather st.top.regs args ≡ vs → NextOk (array_of st dst c vs)
+    array_of_typed : (dst : ℕ) (c : BaseType) (args : List Operand) → is_array c ≡ true → fits W.program c (reg_base W.program st.top.body dst) ≡ true → AllTyped W.program st.top.body (elem_base c) args → (vs : Option (List Value)) → gather st.top.regs args ≡ vs → NextOk (array_of st dst c vs)
     array_of_typed dst c args a f p None is = tt
     array_of_typed dst c args a f p (Some vs) is = allocate_typed dst (Elems c vs) f (a, λ i v x. has_more st.heap (st.heap ++ Elems c vs ∷ []) (push_more st.heap (Elems c vs)) (elem_base c) v (items_have (elem_base c) args vs p is i v x))
 
     -- frames
-    enter_typed : (heap' : List Thing) → HeapMore st.heap heap' → HeapTyped W heap' → (k : ℕ) (vs : List Value) → AllHave heap' (given_bases W k) vs → ((b : ℕ) → body_of (method_at W.program k) ≡ Some b → ReturnFitsAt W b st.top.body (point_at W.program st.top.body st.top.at)) → (t : Bool) (x : Option ℕ) → body_of (method_at W.program k) ≡ x → NextOk (enter W.program t st heap' x vs)
+    enter_typed : (heap' : List Thing) → HeapMore st.heap heap' → HeapTyped W heap' → (k : ℕ) (vs : List Value) → AllHave heap' (given_bases W.program k) vs → ((b : ℕ) → body_of (method_at W.program k) ≡ Some b → ReturnFitsAt W b st.top.body (point_at W.program st.top.body st.top.at)) → (t : Bool) (x : Option ℕ) → body_of (method_at W.program k) ≡ x → NextOk (enter W.program t st heap' x vs)
     enter_typed heap' more h k vs a r true x ib = tt
     enter_typed heap' more h k vs a r false None ib = tt
     enter_typed heap' more h k vs a r false (Some b) ib = record {
       heap = h;
-      top = λ i v is. padded heap' (reg_base W.program b) (given_bases W k) vs (regs_of (body_at W.program b)) i v (P.starts k b ib) a is;
+      top = λ i v is. padded heap' (reg_base W.program b) (given_bases W.program k) vs (regs_of (body_at W.program b)) i v (P.starts k b ib) a is;
       waiting = (regs_more st.heap heap' more st.top.body st.top.regs ty.top, r b ib, wait_more st.heap heap' more st.top.body st.waiting ty.waiting);
     }
 
     return_fits : (pt : Point) → point_at W.program st.top.body st.top.at ≡ Some pt → (k : PointKind) → pt.kind ≡ k → (b : ℕ) → ReturnFits W b st.top.body k → ReturnFitsAt W b st.top.body (point_at W.program st.top.body st.top.at)
     return_fits pt is k e b h = subst (λ x. ReturnFitsAt W b st.top.body x) (sym is) (subst (λ k. ReturnFits W b st.top.body k) (sym e) h)
 
-    gives_by : (k m b : ℕ) (dst : Option RegNo) → body_of (method_at W.program k) ≡ Some b → fits W.program (result_base_of (method_at W.program k)) (result_base_of (method_at W.program m)) ≡ true → ResultTyped W st.top.body m dst → GivesTo W b st.top.body dst
+    gives_by : (k m b : ℕ) (dst : Option RegNo) → body_of (method_at W.program k) ≡ Some b → fits W.program (result_base_of (method_at W.program k)) (result_base_of (method_at W.program m)) ≡ true → ResultTyped W.program st.top.body m dst → GivesTo W b st.top.body dst
     gives_by k m b None ib f r = tt
     gives_by k m b (Some dst) ib f r = fits_trans W.program T (result_base_of (method_in W.program b)) (result_base_of (method_at W.program m)) (reg_base W.program st.top.body dst.0) (subst (λ y. fits W.program (result_base_of y) (result_base_of (method_at W.program m)) ≡ true) (sym (P.bodies k b ib)) f) r
 
-    given_static : (k : ℕ) → static_of (method_at W.program k) ≡ true → given_bases W k ≡ params_of (method_at W.program k)
+    given_static : (k : ℕ) → static_of (method_at W.program k) ≡ true → given_bases W.program k ≡ params_of (method_at W.program k)
     given_static k h = ap (λ b. cond b (params_of (method_at W.program k)) (Ref (record { 0 = class_of (method_at W.program k) }) ∷ params_of (method_at W.program k))) h
 
-    given_this : (k : ℕ) → static_of (method_at W.program k) ≡ false → given_bases W k ≡ Ref (record { 0 = class_of (method_at W.program k) }) ∷ params_of (method_at W.program k)
+    given_this : (k : ℕ) → static_of (method_at W.program k) ≡ false → given_bases W.program k ≡ Ref (record { 0 = class_of (method_at W.program k) }) ∷ params_of (method_at W.program k)
     given_this k h = ap (λ b. cond b (params_of (method_at W.program k)) (Ref (record { 0 = class_of (method_at W.program k) }) ∷ params_of (method_at W.program k))) h
 
     same_more : HeapMore st.heap st.heap
     same_more o t h = h
 
     module _ (pt : Point) (is : point_at W.program st.top.body st.top.at ≡ Some pt) where
-      own_result : (m b : ℕ) (dst : Option RegNo) → body_of (method_at W.program m) ≡ Some b → ResultTyped W st.top.body m dst → GivesTo W b st.top.body dst
+      own_result : (m b : ℕ) (dst : Option RegNo) → body_of (method_at W.program m) ≡ Some b → ResultTyped W.program st.top.body m dst → GivesTo W b st.top.body dst
       own_result m b None ib r = tt
       own_result m b (Some dst) ib r = subst (λ y. fits W.program (result_base_of y) (reg_base W.program st.top.body dst.0) ≡ true) (sym (P.bodies m b ib)) r
 
-      static_typed_call : (dst : Option RegNo) (m : MethodNo) (direct : Bool) (args : List Operand) → pt.kind ≡ Call dst m None direct args → PointTyped W st.top.body (Call dst m None direct args) → (vs : Option (List Value)) → gather st.top.regs args ≡ vs → NextOk (calls W.program st m.0 None direct vs)
+      static_typed_call : (dst : Option RegNo) (m : MethodNo) (direct : Bool) (args : List Operand) → pt.kind ≡ Call dst m None direct args → PointTyped W.program st.top.body (Call dst m None direct args) → (vs : Option (List Value)) → gather st.top.regs args ≡ vs → NextOk (calls W.program st m.0 None direct vs)
       static_typed_call dst m direct args e p None iv = tt
       static_typed_call dst m direct args e p (Some vs) iv =
           enter_typed st.heap same_more ty.heap m.0 vs (subst (λ ts. AllHave st.heap ts vs) (sym (given_static m.0 (P.receivers st.top.body st.top.at pt dst m direct args is e))) (args_have (params_of (method_at W.program m.0)) args vs p.2 iv))
             (λ b ib. return_fits pt is (Call dst m None direct args) e b (own_result m.0 b dst ib p.1)) (ltb deepest (length st.waiting + 2)) (body_of (method_at W.program m.0)) refl
 
-      on_typed : (dst : Option RegNo) (m : MethodNo) (r : Operand) (direct : Bool) (args : List Operand) → pt.kind ≡ Call dst m (Some r) direct args → PointTyped W st.top.body (Call dst m (Some r) direct args) → (vs : List Value) → gather st.top.regs args ≡ Some vs → (o : ℕ) → value_at st.top.regs r.reg.0 ≡ Some (At o) → (k : Option ℕ) → selected W.program st.heap o m.0 direct ≡ k → NextOk (calls_on W.program st k (At o ∷ vs))
+      on_typed : (dst : Option RegNo) (m : MethodNo) (r : Operand) (direct : Bool) (args : List Operand) → pt.kind ≡ Call dst m (Some r) direct args → PointTyped W.program st.top.body (Call dst m (Some r) direct args) → (vs : List Value) → gather st.top.regs args ≡ Some vs → (o : ℕ) → value_at st.top.regs r.reg.0 ≡ Some (At o) → (k : Option ℕ) → selected W.program st.heap o m.0 direct ≡ k → NextOk (calls_on W.program st k (At o ∷ vs))
       on_typed dst m r direct args e p vs iv o io None ik = tt
       on_typed dst m r direct args e p vs iv o io (Some k) ik =
           let u = selects_on st ty pt dst m r direct args is e p o k io ik in
@@ -534,7 +535,7 @@ module _ (W : World) (T : Ordered W.program) (P : ProgramTyped W) where
           enter_typed st.heap same_more ty.heap k (At o ∷ vs) (subst (λ ts. AllHave st.heap ts (At o ∷ vs)) (sym (given_this k u.0.over.instance)) (u.1, rest))
             (λ b ib. return_fits pt is (Call dst m (Some r) direct args) e b (gives_by k m.0 b dst ib u.0.result p.1)) (ltb deepest (length st.waiting + 2)) (body_of (method_at W.program k)) refl
 
-      this_typed : (dst : Option RegNo) (m : MethodNo) (r : Operand) (direct : Bool) (args : List Operand) → pt.kind ≡ Call dst m (Some r) direct args → PointTyped W st.top.body (Call dst m (Some r) direct args) → (vs : Option (List Value)) → gather st.top.regs args ≡ vs → (o : Option ℕ) → object_of (value_at st.top.regs r.reg.0) ≡ o → NextOk (calls W.program st m.0 (Some r) direct vs)
+      this_typed : (dst : Option RegNo) (m : MethodNo) (r : Operand) (direct : Bool) (args : List Operand) → pt.kind ≡ Call dst m (Some r) direct args → PointTyped W.program st.top.body (Call dst m (Some r) direct args) → (vs : Option (List Value)) → gather st.top.regs args ≡ vs → (o : Option ℕ) → object_of (value_at st.top.regs r.reg.0) ≡ o → NextOk (calls W.program st m.0 (Some r) direct vs)
       this_typed dst m r direct args e p None iv o io = tt
       this_typed dst m r direct args e p (Some vs) iv o io = subst (λ x. NextOk (calls_this W.program st x m.0 direct vs)) (sym io) (by o io)
         where
@@ -542,7 +543,7 @@ module _ (W : World) (T : Ordered W.program) (P : ProgramTyped W) where
         by None io = tt
         by (Some o) io = on_typed dst m r direct args e p vs iv o (object_is (value_at st.top.regs r.reg.0) o io) (selected W.program st.heap o m.0 direct) refl
 
-      ctor_typed : (m : MethodNo) (args : List Operand) (own : Bool) → pt.kind ≡ CtorCall m args own → PointTyped W st.top.body (CtorCall m args own) → (v : Option Value) → value_at st.top.regs 0 ≡ v → (vs : Option (List Value)) → gather st.top.regs args ≡ vs → NextOk (ctor_calls W.program st m.0 v vs)
+      ctor_typed : (m : MethodNo) (args : List Operand) (own : Bool) → pt.kind ≡ CtorCall m args own → PointTyped W.program st.top.body (CtorCall m args own) → (v : Option Value) → value_at st.top.regs 0 ≡ v → (vs : Option (List Value)) → gather st.top.regs args ≡ vs → NextOk (ctor_calls W.program st m.0 v vs)
       ctor_typed m args own e p v io None iv = tt
       ctor_typed m args own e p None io (Some vs) iv = tt
       ctor_typed m args own e p (Some v) io (Some vs) iv =
@@ -565,7 +566,7 @@ module _ (W : World) (T : Ordered W.program) (P : ProgramTyped W) where
       field_default heap (x ∷ fs) zero v h = let same : default_of x.base ≡ v = cc in subst (λ v. HasType W heap x.base v) same (default_has heap x.base)
       field_default heap (x ∷ fs) (suc f) v h = field_default heap fs f v h
 
-      new_typed : (dst : RegNo) (m : MethodNo) (args : List Operand) → pt.kind ≡ New dst m args → PointTyped W st.top.body (New dst m args) → (vs : Option (List Value)) → gather st.top.regs args ≡ vs → NextOk (news W.program st m.0 vs)
+      new_typed : (dst : RegNo) (m : MethodNo) (args : List Operand) → pt.kind ≡ New dst m args → PointTyped W.program st.top.body (New dst m args) → (vs : Option (List Value)) → gather st.top.regs args ≡ vs → NextOk (news W.program st m.0 vs)
       new_typed dst m args e p None iv = tt
       new_typed dst m args e p (Some vs) iv = by (body_of (method_at W.program m.0)) refl
         where
@@ -581,12 +582,12 @@ module _ (W : World) (T : Ordered W.program) (P : ProgramTyped W) where
             let made : Thing = Object (class_of (method_at W.program m.0)) (defaults W.program.fields) in
             let heap' = st.heap ++ made ∷ [] in
             let more : HeapMore st.heap heap' = push_more st.heap made in
-            let s = P.ctor_reg m.0 b ib (P.news st.top.body st.top.at pt dst m args is e) in
+            let s = P.ctor_reg m.0 b ib (P.news st.top.body st.top.at pt dst m args is e).0 in
             let owner_t : BaseType = Ref (record { 0 = class_of (method_at W.program m.0) }) in
-            let heap_ok : HeapTyped W heap' = push_heap st.heap made ty.heap (p.2, λ f v x. field_default heap' W.program.fields f v (cond_is (has_field W.program (class_of (method_at W.program m.0)) f) (slice_get (defaults W.program.fields) f) v x)) in
+            let heap_ok : HeapTyped W heap' = push_heap st.heap made ty.heap ((P.news st.top.body st.top.at pt dst m args is e).1, λ f v x. field_default heap' W.program.fields f v (cond_is (has_field W.program (class_of (method_at W.program m.0)) f) (slice_get (defaults W.program.fields) f) v x)) in
             let this : HasType W heap' owner_t (At (length st.heap)) = subst (λ z. ThingFits W z owner_t) (sym (append_last st.heap made)) (fits_self W.program owner_t) in
             enter_typed heap' more heap_ok m.0 (At (length st.heap) ∷ vs) (subst (λ ts. AllHave heap' ts (At (length st.heap) ∷ vs)) (sym (given_this m.0 s.1)) (this, all_more st.heap heap' more (params_of (method_at W.program m.0)) vs (args_have (params_of (method_at W.program m.0)) args vs p.1 iv)))
-              (λ b' ib'. return_fits pt is (New dst m args) e b' (subst (λ t. fits W.program t (reg_base W.program st.top.body dst.0) ≡ true) (sym (P.ctor_reg m.0 b' ib' (P.news st.top.body st.top.at pt dst m args is e)).0) p.0)) (ltb deepest (length st.waiting + 2)) (body_of (method_at W.program m.0)) refl
+              (λ b' ib'. return_fits pt is (New dst m args) e b' (subst (λ t. fits W.program t (reg_base W.program st.top.body dst.0) ≡ true) (sym (P.ctor_reg m.0 b' ib' (P.news st.top.body st.top.at pt dst m args is e).0).0) p.0)) (ltb deepest (length st.waiting + 2)) (body_of (method_at W.program m.0)) refl
 
     -- Return
     resume_set : (w : Frame) (ws : List Frame) (dst : ℕ) (v : Value) → RegsTyped W st.heap w.body w.regs → WaitTyped W st.heap w.body ws → HasType W st.heap (reg_base W.program w.body dst) v → NextOk (resumes st (holds_at w dst v) ws)
@@ -602,29 +603,29 @@ module _ (W : World) (T : Ordered W.program) (P : ProgramTyped W) where
     gives_typed w ws dst None h rest d = tt
     gives_typed w ws dst (Some v) h rest d = resume_set w ws dst v h rest (d v refl)
 
-    result_has : (vo : Option Operand) (v : Value) → ReturnTyped W st.top.body vo → value_of st.top.regs vo ≡ Some v → HasType W st.heap (result_base_of (method_in W.program st.top.body)) v
+    result_has : (vo : Option Operand) (v : Value) → ReturnTyped W.program st.top.body vo → value_of st.top.regs vo ≡ Some v → HasType W st.heap (result_base_of (method_in W.program st.top.body)) v
     result_has None v p is = cc
     result_has (Some a) v p is = fits_type st.heap (reg_base W.program st.top.body a.reg.0) (result_base_of (method_in W.program st.top.body)) v p (ty.top a.reg.0 v is)
 
-    call_gives : (w : Frame) (ws : List Frame) (vo : Option Operand) (dst : Option RegNo) → ReturnTyped W st.top.body vo → RegsTyped W st.heap w.body w.regs → WaitTyped W st.heap w.body ws → GivesTo W st.top.body w.body dst → NextOk (gives_to st w ws dst (value_of st.top.regs vo))
+    call_gives : (w : Frame) (ws : List Frame) (vo : Option Operand) (dst : Option RegNo) → ReturnTyped W.program st.top.body vo → RegsTyped W st.heap w.body w.regs → WaitTyped W st.heap w.body ws → GivesTo W st.top.body w.body dst → NextOk (gives_to st w ws dst (value_of st.top.regs vo))
     call_gives w ws vo None p h rest g = record { heap = ty.heap; top = h; waiting = rest }
     call_gives w ws vo (Some dst) p h rest g = gives_typed w ws dst.0 (value_of st.top.regs vo) h rest (λ u x. fits_type st.heap (result_base_of (method_in W.program st.top.body)) (reg_base W.program w.body dst.0) u g (result_has vo u p x))
 
-    takes_typed : (w : Frame) (ws : List Frame) (vo : Option Operand) → ReturnTyped W st.top.body vo → RegsTyped W st.heap w.body w.regs → WaitTyped W st.heap w.body ws → (k : PointKind) → ReturnFits W st.top.body w.body k → NextOk (takes st w ws (value_at st.top.regs 0) (value_of st.top.regs vo) k)
+    takes_typed : (w : Frame) (ws : List Frame) (vo : Option Operand) → ReturnTyped W.program st.top.body vo → RegsTyped W st.heap w.body w.regs → WaitTyped W st.heap w.body ws → (k : PointKind) → ReturnFits W st.top.body w.body k → NextOk (takes st w ws (value_at st.top.regs 0) (value_of st.top.regs vo) k)
     takes_typed w ws vo p h rest (New dst m args) f = gives_typed w ws dst.0 (value_at st.top.regs 0) h rest (λ u x. fits_type st.heap (reg_base W.program st.top.body 0) (reg_base W.program w.body dst.0) u f (ty.top 0 u x))
     takes_typed w ws vo p h rest (CtorCall m args own) f = record { heap = ty.heap; top = h; waiting = rest }
     takes_typed w ws vo p h rest (Call dst m r direct args) f = call_gives w ws vo dst p h rest f
     takes_typed w ws vo p h rest k f = tt
 
-    takes_at_typed : (w : Frame) (ws : List Frame) (vo : Option Operand) → ReturnTyped W st.top.body vo → RegsTyped W st.heap w.body w.regs → WaitTyped W st.heap w.body ws → (o : Option Point) → ReturnFitsAt W st.top.body w.body o → NextOk (takes_at st w ws (value_at st.top.regs 0) (value_of st.top.regs vo) o)
+    takes_at_typed : (w : Frame) (ws : List Frame) (vo : Option Operand) → ReturnTyped W.program st.top.body vo → RegsTyped W st.heap w.body w.regs → WaitTyped W st.heap w.body ws → (o : Option Point) → ReturnFitsAt W st.top.body w.body o → NextOk (takes_at st w ws (value_at st.top.regs 0) (value_of st.top.regs vo) o)
     takes_at_typed w ws vo p h rest None f = tt
     takes_at_typed w ws vo p h rest (Some pt) f = takes_typed w ws vo p h rest pt.kind f
 
-    return_typed : (vo : Option Operand) → ReturnTyped W st.top.body vo → (ws : List Frame) → WaitTyped W st.heap st.top.body ws → NextOk (returns W.program st ws (value_at st.top.regs 0) (value_of st.top.regs vo))
+    return_typed : (vo : Option Operand) → ReturnTyped W.program st.top.body vo → (ws : List Frame) → WaitTyped W st.heap st.top.body ws → NextOk (returns W.program st ws (value_at st.top.regs 0) (value_of st.top.regs vo))
     return_typed vo p [] h = tt
     return_typed vo p (w ∷ ws) h = takes_at_typed w ws vo p h.0 h.2 (point_at W.program w.body w.at) h.1
 
-    pub kind_typed : (names : List (List ℕ)) (pt : Point) → point_at W.program st.top.body st.top.at ≡ Some pt → (k : PointKind) → pt.kind ≡ k → PointTyped W st.top.body k → NextOk (act W.program names st k)
+    pub kind_typed : (names : List (List ℕ)) (pt : Point) → point_at W.program st.top.body st.top.at ≡ Some pt → (k : PointKind) → pt.kind ≡ k → PointTyped W.program st.top.body k → NextOk (act W.program names st k)
     kind_typed names pt is (Const dst l) e p = set_typed st ty dst.0 (literal_value names l) (const_typed st ty names dst.0 l p)
     kind_typed names pt is (Move dst from bound) e p = got_typed st ty dst.0 (got_of (value_at st.top.regs from.reg.0)) (value_typed st ty from.reg.0 (reg_base W.program st.top.body dst.0) p (value_at st.top.regs from.reg.0) refl)
     kind_typed names pt is (Unary dst neg of) e p = got_typed st ty dst.0 (unary_of neg (prim_of (value_at st.top.regs of.reg.0))) (unary_typed st ty (reg_base W.program st.top.body dst.0) neg (prim_of (value_at st.top.regs of.reg.0)) p)

@@ -1,6 +1,7 @@
 -- A typed and checked program never dereferences null.
 use Rattle.std.proofs.Common.{◌≡◌, ℕ, zero, suc, false, List, [], ◌∷◌, Option, Some, None, refl, subst, ap, ◌∙◌, cond, sym, true}
 use Rattle.std.specs.Prelude.{slice_get}
+use Rattle.jn_points.specs.BaseTyping.{Ordered}
 use Rattle.jn_transfer.specs.Transfer.{given_quals, this_qual}
 use Rattle.jn_sigs.specs.Signature.{slot_qual, slot_quals}
 use Rattle.jn_soundness.proofs.Fits.{fits_self}
@@ -11,7 +12,7 @@ use Rattle.jn_points.specs.declared.point.Point.{Point}
 use Rattle.jn_soundness.specs.Good.{AlwaysTyped, IsMain, TypedAt, NoFault, MainsOk, RunsTyped}
 use Rattle.jn_heap.specs.Values.{At, Elems, Text, Thing, Value, same}
 use Rattle.jn_soundness.specs.Checked.{Checked}
-use Rattle.jn_soundness.specs.Types.{HasType, MainTyped, ProgramTyped, StateTyped, ThingTyped, Ordered, MainsTyped}
+use Rattle.jn_soundness.specs.Types.{HasType, MainTyped, ProgramTyped, StateTyped, ThingTyped, MainsTyped}
 use Rattle.jn_heap.specs.Machine.{Goes, Next, State, start_state, texts, MainForm, NeverNull}
 use Rattle.jn_soundness.specs.World.{World}
 use Rattle.jn_points.specs.Lookup.{body_at, point_at, reg_base, regs_of, body_of, method_at, method_in, ctor_of, static_of}

@@ -1,5 +1,7 @@
 -- Base typing of states, which soundness asks of a run.
 use Rattle.std.specs.Prelude.{ℕ, suc, ◌≡◌, Bool, true, false, cond, eqb, List, [], ◌∷◌, Option, Some, None, slice_get}
+use Rattle.jn_points.specs.Regular.{IsObjectClass, IsVirtual}
+use Rattle.jn_points.specs.BaseTyping.{PointTyped, StartsWith, given_bases}
 use Rattle.jn_points.specs.declared.program.Program.{Program}
 use Rattle.jn_base.specs.declared.number.RegNo.{RegNo}
 use Rattle.jn_base.specs.declared.number.ClassNo.{ClassNo}
@@ -14,28 +16,18 @@ use Rattle.jn_points.specs.declared.point.Literal.TheVariants.{Null, Str}
 use Rattle.jn_points.specs.declared.point.Point.{Point}
 use Rattle.jn_points.specs.declared.point.PointKind.{PointKind}
 use Rattle.jn_points.specs.declared.point.PointKind.TheVariants.{Const, Move, Unary, Binary, Concat, SameRef, FieldRead, FieldWrite, StaticRead, ElemRead, ElemWrite, ArrayLen, NewArray, ArrayOf, New, CtorCall, Call, StrOp, Cast, Return}
-use Rattle.jn_heap.specs.Values.{At, Elems, NullRef, Object, Plain, Text, Thing, Value, elem_base}
+use Rattle.jn_heap.specs.Values.{At, Elems, NullRef, Object, Plain, Text, Thing, Value}
 use Rattle.jn_heap.specs.Machine.{Frame, Regs, State, field_in, gives, is_within, may_hold, takes, value_at, MainForm}
 use Rattle.jn_soundness.specs.Good.{Overrides}
 use Rattle.jn_soundness.specs.World.{World}
-use Rattle.jn_points.specs.Lookup.{body_of, class_of, ctor_of, field_base, is_flat, is_ref_base, method_at, method_in, params_of, point_at, reg_base, result_base_of, slots_of, static_of, ref_field}
+use Rattle.jn_points.specs.Lookup.{body_of, class_of, ctor_of, field_base, is_flat, is_ref_base, method_at, method_in, params_of, point_at, reg_base, result_base_of, slots_of, static_of, ref_field, is_array, elem_base}
 use Rattle.jn_points.specs.Members.{dispatch, fits, sub}
 use Rattle.jn_transfer.specs.Transfer.{elem_qual}
 use Rattle.jn_quals.specs.Order.{within}
 
-abbrev pub is_array : BaseType → Bool
-is_array (Array e nullable) = true
-is_array b = false
-
 abbrev pub base_of_thing : Thing → BaseType
 base_of_thing (Object c fs) = Ref (record { 0 = c })
 base_of_thing (Elems b xs) = b
-
--- subtypes are an order, with nothing but Object above Object and nothing but String within String (JLS 8, 4.10.2)
-pub record Ordered (P : Program) : Type 0 where
-  pub trans : (a b c : ℕ) → sub P a b ≡ true → sub P b c ≡ true → sub P a c ≡ true
-  pub object : (c : ℕ) → sub P 0 c ≡ true → c ≡ 0
-  pub string : (c : ℕ) → sub P c 1 ≡ true → c ≡ 1
 
 module _ (W : World) where
   abbrev pub ThingFits : Option Thing → BaseType → Type 0
@@ -50,7 +42,7 @@ module _ (W : World) where
 
   abbrev pub ThingTyped : List Thing → Option Thing → Type 0
   ThingTyped heap None = Unit {0}
-  ThingTyped heap (Some (Object c fs)) = (eqb c 1 ≡ false) × ((f : ℕ) (v : Value) → field_in W.program (Some (Object c fs)) f ≡ Some v → HasType heap (field_base W.program f) v)
+  ThingTyped heap (Some (Object c fs)) = IsObjectClass W.program c × ((f : ℕ) (v : Value) → field_in W.program (Some (Object c fs)) f ≡ Some v → HasType heap (field_base W.program f) v)
   ThingTyped heap (Some (Elems b xs)) = (is_array b ≡ true) × ((i : ℕ) (v : Value) → slice_get xs i ≡ Some v → HasType heap (elem_base b) v)
 
   abbrev pub HeapTyped : List Thing → Type 0
@@ -82,68 +74,6 @@ module _ (W : World) where
     pub top : RegsTyped st.heap st.top.body st.top.regs
     pub waiting : WaitTyped st.heap st.top.body st.waiting
 
-  abbrev pub ArgsTyped : ℕ → List BaseType → List Operand → Type 0
-  ArgsTyped b ts [] = Unit {0}
-  ArgsTyped b [] (a ∷ args) = ⊥
-  ArgsTyped b (t ∷ ts) (a ∷ args) = (fits W.program (reg_base W.program b a.reg.0) t ≡ true) × ArgsTyped b ts args
-
-  abbrev pub AllTyped : ℕ → BaseType → List Operand → Type 0
-  AllTyped b t [] = Unit {0}
-  AllTyped b t (a ∷ args) = (fits W.program (reg_base W.program b a.reg.0) t ≡ true) × AllTyped b t args
-
-  abbrev pub PlainReg : ℕ → ℕ → Type 0
-  PlainReg b r = is_ref_base (reg_base W.program b r) ≡ false
-
-  abbrev pub ConstTyped : ℕ → ℕ → Literal → Type 0
-  ConstTyped b r Null = is_ref_base (reg_base W.program b r) ≡ true
-  ConstTyped b r (Str n) = fits W.program (Ref (record { 0 = 1 })) (reg_base W.program b r) ≡ true
-  ConstTyped b r l = PlainReg b r
-
-  abbrev pub ThisTyped : ℕ → ℕ → Option Operand → Type 0
-  ThisTyped b m None = Unit {0}
-  ThisTyped b m (Some r) = fits W.program (reg_base W.program b r.reg.0) (Ref (record { 0 = class_of (method_at W.program m) })) ≡ true
-
-  abbrev pub ResultTyped : ℕ → ℕ → Option RegNo → Type 0
-  ResultTyped b m None = Unit {0}
-  ResultTyped b m (Some dst) = fits W.program (result_base_of (method_at W.program m)) (reg_base W.program b dst.0) ≡ true
-
-  abbrev pub ReturnTyped : ℕ → Option Operand → Type 0
-  ReturnTyped b None = Unit {0}
-  ReturnTyped b (Some v) = fits W.program (reg_base W.program b v.reg.0) (result_base_of (method_in W.program b)) ≡ true
-
-  -- the registers of a point of body b have the base types that its row wants
-  abbrev pub PointTyped : ℕ → PointKind → Type 0
-  PointTyped b (Const dst l) = ConstTyped b dst.0 l
-  PointTyped b (Move dst from bound) = fits W.program (reg_base W.program b from.reg.0) (reg_base W.program b dst.0) ≡ true
-  PointTyped b (Unary dst neg of) = PlainReg b dst.0
-  PointTyped b (Binary dst op l r) = PlainReg b dst.0
-  PointTyped b (Concat dst l r) = fits W.program (Ref (record { 0 = 1 })) (reg_base W.program b dst.0) ≡ true
-  PointTyped b (SameRef dst eq l r) = PlainReg b dst.0
-  PointTyped b (FieldRead dst r f) = fits W.program (field_base W.program f.0) (reg_base W.program b dst.0) ≡ true
-  PointTyped b (FieldWrite r f s) = fits W.program (reg_base W.program b s.reg.0) (field_base W.program f.0) ≡ true
-  PointTyped b (StaticRead dst f) = PlainReg b dst.0
-  PointTyped b (ElemRead dst r i) = (is_array (reg_base W.program b r.reg.0) ≡ true) × (fits W.program (elem_base (reg_base W.program b r.reg.0)) (reg_base W.program b dst.0) ≡ true)
-  PointTyped b (ElemWrite r i s) = (is_array (reg_base W.program b r.reg.0) ≡ true) × (fits W.program (reg_base W.program b s.reg.0) (elem_base (reg_base W.program b r.reg.0)) ≡ true)
-  PointTyped b (ArrayLen dst r) = PlainReg b dst.0
-  PointTyped b (NewArray dst base n) = (is_array base ≡ true) × (fits W.program base (reg_base W.program b dst.0) ≡ true)
-  PointTyped b (ArrayOf dst base xs) = (is_array base ≡ true) × (fits W.program base (reg_base W.program b dst.0) ≡ true) × AllTyped b (elem_base base) xs
-  PointTyped b (New dst m args) = (fits W.program (Ref (record { 0 = class_of (method_at W.program m.0) })) (reg_base W.program b dst.0) ≡ true) × ArgsTyped b (params_of (method_at W.program m.0)) args × (eqb (class_of (method_at W.program m.0)) 1 ≡ false)
-  PointTyped b (CtorCall m args own) = (fits W.program (reg_base W.program b 0) (Ref (record { 0 = class_of (method_at W.program m.0) })) ≡ true) × ArgsTyped b (params_of (method_at W.program m.0)) args
-  PointTyped b (Call dst m r direct args) = ThisTyped b m.0 r × ResultTyped b m.0 dst × ArgsTyped b (params_of (method_at W.program m.0)) args
-  PointTyped b (StrOp dst op of other) = PlainReg b dst.0
-  PointTyped b (Cast dst of c) = fits W.program (Ref c) (reg_base W.program b dst.0) ≡ true
-  PointTyped b (Return v) = ReturnTyped b v
-  PointTyped b k = Unit {0}
-
-  -- the registers from a place on take values of the types
-  abbrev pub StartsWith : (ℕ → BaseType) → List BaseType → Type 0
-  StartsWith base [] = Unit {0}
-  StartsWith base (t ∷ ts) = (fits W.program t (base 0) ≡ true) × StartsWith (λ r. base (suc r)) ts
-
-  -- what a body of the method is given
-  abbrev pub given_bases : ℕ → List BaseType
-  given_bases m = cond (static_of (method_at W.program m)) (params_of (method_at W.program m)) (Ref (record { 0 = class_of (method_at W.program m) }) ∷ params_of (method_at W.program m))
-
   -- a slot stands where the parameter is a reference
   abbrev pub SlotsRef : List (Option SlotNo) → List BaseType → Type 0
   SlotsRef [] ts = Unit {0}
@@ -157,22 +87,23 @@ module _ (W : World) where
     pub result : fits W.program (result_base_of (method_at W.program k)) (result_base_of (method_at W.program m)) ≡ true
 
   pub record ProgramTyped : Type 0 where
-    pub points : (b p : ℕ) (pt : Point) → point_at W.program b p ≡ Some pt → PointTyped b pt.kind
+    pub points : (b p : ℕ) (pt : Point) → point_at W.program b p ≡ Some pt → PointTyped W.program b pt.kind
     -- the method that an object's class has for a method of a class above it
-    pub selects : (c m k : ℕ) → dispatch W.program c m ≡ Some k → fits W.program (Ref (record { 0 = c })) (Ref (record { 0 = class_of (method_at W.program m) })) ≡ true → Selects k m × (fits W.program (Ref (record { 0 = c })) (Ref (record { 0 = class_of (method_at W.program k) })) ≡ true)
+    pub selects : (c m k : ℕ) → IsObjectClass W.program c → IsVirtual W.program m → dispatch W.program c m ≡ Some k → fits W.program (Ref (record { 0 = c })) (Ref (record { 0 = class_of (method_at W.program m) })) ≡ true → Selects k m × (fits W.program (Ref (record { 0 = c })) (Ref (record { 0 = class_of (method_at W.program k) })) ≡ true)
+    pub virtual : (b p : ℕ) (pt : Point) (dst : Option RegNo) (m : MethodNo) (r : Operand) (args : List Operand) → point_at W.program b p ≡ Some pt → pt.kind ≡ Call dst m (Some r) false args → IsVirtual W.program m.0
     pub direct : (b p : ℕ) (pt : Point) (dst : Option RegNo) (m : MethodNo) (r : Operand) (args : List Operand) → point_at W.program b p ≡ Some pt → pt.kind ≡ Call dst m (Some r) true args → Selects m.0 m.0
     pub fields : (f : ℕ) → ref_field W.program f ≡ false → is_ref_base (field_base W.program f) ≡ false
     pub refs : (m : ℕ) → SlotsRef (slots_of (method_at W.program m)) (params_of (method_at W.program m))
     pub bodies : (m b : ℕ) → body_of (method_at W.program m) ≡ Some b → method_in W.program b ≡ method_at W.program m
-    pub starts : (m b : ℕ) → body_of (method_at W.program m) ≡ Some b → StartsWith (reg_base W.program b) (given_bases m)
+    pub starts : (m b : ℕ) → body_of (method_at W.program m) ≡ Some b → StartsWith W.program (reg_base W.program b) (given_bases W.program m)
     pub ctor_reg : (m b : ℕ) → body_of (method_at W.program m) ≡ Some b → ctor_of (method_at W.program m) ≡ true → (reg_base W.program b 0 ≡ Ref (record { 0 = class_of (method_at W.program m) })) × (static_of (method_at W.program m) ≡ false)
     pub receivers : (b p : ℕ) (pt : Point) (dst : Option RegNo) (m : MethodNo) (direct : Bool) (args : List Operand) → point_at W.program b p ≡ Some pt → pt.kind ≡ Call dst m None direct args → static_of (method_at W.program m.0) ≡ true
-    pub news : (b p : ℕ) (pt : Point) (dst : RegNo) (m : MethodNo) (args : List Operand) → point_at W.program b p ≡ Some pt → pt.kind ≡ New dst m args → ctor_of (method_at W.program m.0) ≡ true
+    pub news : (b p : ℕ) (pt : Point) (dst : RegNo) (m : MethodNo) (args : List Operand) → point_at W.program b p ≡ Some pt → pt.kind ≡ New dst m args → (ctor_of (method_at W.program m.0) ≡ true) × IsObjectClass W.program (class_of (method_at W.program m.0))
     pub ctors : (b p : ℕ) (pt : Point) (m : MethodNo) (args : List Operand) (own : Bool) → point_at W.program b p ≡ Some pt → pt.kind ≡ CtorCall m args own → ctor_of (method_at W.program m.0) ≡ true
 
   -- main's first register takes an array of String
   abbrev pub MainTyped : ℕ → Type 0
-  MainTyped b = StartsWith (reg_base W.program b) (Array (RefElem (record { 0 = 1 })) false ∷ [])
+  MainTyped b = StartsWith W.program (reg_base W.program b) (Array (RefElem (record { 0 = 1 })) false ∷ [])
 
   abbrev pub MainsTyped : Type 0
   MainsTyped = (m b : ℕ) → MainForm W.program m b → MainTyped b

@@ -6,23 +6,24 @@ ghost use Rattle.jn_heap.specs.Machine.{NeverNull, MainForm};
 ghost use Rattle.jn_soundness.specs.World.{World};
 ghost use Rattle.jn_soundness.specs.Checked.{Checked};
 ghost use Rattle.jn_soundness.specs.Good.{MainsOk, RunsTyped};
-ghost use Rattle.jn_soundness.specs.Types.{Ordered, ProgramTyped, MainsTyped};
+ghost use Rattle.jn_points.specs.BaseTyping.{BaseTyped};
 ghost use Rattle.jn_soundness.specs.Accepted.{Accepted};
 ghost use Rattle.jn_soundness.specs.PlainPrograms.{PlainAccepted};
 ghost use Rattle.jn_soundness.specs.PlainExample.{plain_program, plain_table};
 
-/// Where tables respect all edges and no rule is broken, no run of a main dereferences null: of a
-/// program whose runs hold what soundness asks of base typing, and so of every base-typed program.
+/// Where tables respect all edges and no rule is broken, no run of a main dereferences null, if the
+/// registers of its points hold what soundness asks of base typing.
 pub fn checked_programs_never_fault()
-    ensures untyped { (W : World) → Checked W → MainsOk W → RunsTyped W → NeverNull W.program }
-    ensures typed { (W : World) → Checked W → MainsOk W → Ordered W.program → ProgramTyped W → MainsTyped W → NeverNull W.program }
+    ensures { (W : World) → Checked W → MainsOk W → RunsTyped W → NeverNull W.program }
 {
 }
 
-/// The same of a regular program without a row of the rules.
+/// A regular program without a row of the rules, under tables that respect its edges, never
+/// dereferences null: where its runs hold what soundness asks of base typing, and so where it is
+/// base-typed.
 pub fn accepted_programs_never_fault()
     ensures untyped { (W : World) → Accepted W → RunsTyped W → NeverNull W.program }
-    ensures typed { (W : World) → Accepted W → Ordered W.program → ProgramTyped W → MainsTyped W → NeverNull W.program }
+    ensures typed { (W : World) → Accepted W → BaseTyped W.program → NeverNull W.program }
 {
 }
 

@@ -1,4 +1,5 @@
 // The law that accepted programs never dereference null.
 #![tactic(auto)]
 
+
 pub mod law;
