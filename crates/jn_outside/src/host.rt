@@ -1,5 +1,5 @@
 // The files and the standard output of the host, which tell nothing of what they hold.
-ghost use Rattle.std.specs.Prelude.{◌≡◌, ◌<◌, ◌≤◌, ◌+◌, ◌-◌, ◌^◌, ℕ, List, length, take, min, Option, None, Ok, IfOk, OnOk, OnErr, IsOk};
+ghost use Rattle.std.specs.Prelude.{◌≡◌, ◌<◌, ◌≤◌, ◌+◌, ◌-◌, ◌^◌, ℕ, List, length, take, min, Option, None, Ok, IfOk, OnOk, OnErr, IsOk, IsSome};
 ghost use Rattle.jn_outside.specs.Causes.{HasCause};
 ghost use Rattle.jn_outside.specs.Files.{Holds, Starts, Reads};
 ghost use Rattle.jn_outside.specs.Sink.{Appends};
@@ -43,9 +43,12 @@ impl<'a, R: rt::Files> Files for HostFiles<'a, R> {
 
     ghost told = { λ s h. h };
 
+    /// Where it fails, the file that was started before stays chosen.
     fn start(&mut self, name: &str) -> Result<(), Failed>
         ensures started { OnOk result (Starts None name.now None) }
         ensures steady { ⊥ → Holds None name.now → IsOk result × ⊥ }
+        ensures opened { OnOk result (IsSome self.new.file) }
+        ensures stays { OnErr result (self.new.file ≡ self.old.file) }
         ensures cause { HasCause self.old.faults self.new.faults result }
         ensures counted { OnErr result (self.new.faults ≡ min (self.old.faults + 1) (2 ^ 64 - 1)) }
     {

@@ -1,7 +1,7 @@
 // Sources of files and sinks of bytes, which count their faults.
 #![tactic(auto)]
 
-pub mod count;
+mod count;
 pub mod files;
 pub mod host;
 pub mod mem_files;
