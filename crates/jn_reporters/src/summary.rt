@@ -1,0 +1,171 @@
+// The summary.
+ghost use Rattle.std.specs.Prelude.{◌≡◌, ◌<◌, ◌+◌, ◌-◌, ◌^◌, length, slice_index, slice_set, IfOk};
+ghost use Rattle.jn_diag.specs.Order.{code_place};
+ghost use Rattle.jn_reporters.specs.Counts.{lines_of};
+ghost use Rattle.jn_reporters.specs.Reports.{count_line, summary_shown};
+ghost use Rattle.jn_reporters.specs.Sheet.{nothing_taken};
+
+use crate::lines::counted;
+use crate::reporter::Reporter;
+use crate::sheet::Sheet;
+use jn_base::{Code, OutOfMemory};
+use jn_diag::{RowText, Verdict};
+use std::alloc::{AllocError, Global};
+use std::marker::Model;
+
+const CODES: [Code; 50] = [
+    Code::B1,
+    Code::B2,
+    Code::B3,
+    Code::L1,
+    Code::L2,
+    Code::L3,
+    Code::L4,
+    Code::L5,
+    Code::L6,
+    Code::L7,
+    Code::S1,
+    Code::S2,
+    Code::T1,
+    Code::T2,
+    Code::T3,
+    Code::T4,
+    Code::T5,
+    Code::T6,
+    Code::T7,
+    Code::T8,
+    Code::T9,
+    Code::T10,
+    Code::J1,
+    Code::J2,
+    Code::J3,
+    Code::J4,
+    Code::J5,
+    Code::J6,
+    Code::J7,
+    Code::J8,
+    Code::J9,
+    Code::J10,
+    Code::Deref,
+    Code::Field,
+    Code::FieldInit,
+    Code::Arg,
+    Code::ArgInit,
+    Code::RecvInit,
+    Code::Return,
+    Code::ReturnInit,
+    Code::Local,
+    Code::LocalInit,
+    Code::Elem,
+    Code::ElemInit,
+    Code::NewArray,
+    Code::CtorFields,
+    Code::OvrParam,
+    Code::OvrReceiver,
+    Code::OvrResult,
+    Code::Unbuilt,
+];
+
+/// Shows a line `CODE COUNT` for each code that occurs, in the order of the codes, and then the verdict.
+#[derive(Drop)]
+pub struct Summary {
+    sheet: Sheet,
+    /// How many rows have each code, by its place in the order of the codes.
+    counts: [u64; 50],
+}
+
+impl Model for Summary {
+    ghost use Rattle.std.specs.Prelude.{◌≡◌, ◌<◌, ◌^◌, length};
+    ghost use Rattle.jn_reporters.specs.Counts.{Counts};
+    ghost use Rattle.jn_reporters.specs.Reports.{summary_lines};
+    ghost use Rattle.jn_reporters.specs.Sheet.{Taken, taken_of};
+
+    ghost Value = { Taken };
+
+    ghost view = { λ a. taken_of a.sheet };
+
+    ghost invariant = { λ a. (a.sheet.lines ≡ summary_lines a.sheet.rows) × Counts a.sheet.rows a.counts × (length a.sheet.rows < 2 ^ 63) };
+}
+
+impl Summary {
+    pub fn new(alloc: Global) -> Self
+        ensures { result ≡ nothing_taken }
+    {
+        Summary {
+            sheet: Sheet::new(alloc),
+            counts: [0; 50],
+        }
+    }
+}
+
+impl Reporter for Summary {
+    ghost use Rattle.std.specs.Prelude.{codes};
+    ghost use Rattle.jn_reporters.specs.Reports.{summary_shown};
+
+    ghost rows = { λ a. a.rows };
+
+    ghost given = { λ a. a.verdict };
+
+    ghost title = { λ a. codes "summary" };
+
+    ghost shown = { λ a. summary_shown };
+
+    fn name(&self) -> &str {
+        "summary"
+    }
+
+    fn take(&mut self, row: &RowText) -> Result<(), OutOfMemory> {
+        let counts = one_more(&self.counts, row.code);
+        let lines = count_lines(self.sheet.alloc(), &CODES, &counts)?;
+        self.sheet.take_anew(row, &lines)?;
+        self.counts = counts;
+        Ok(())
+    }
+
+    fn finish(&mut self, verdict: Verdict) -> Result<(), OutOfMemory> {
+        self.sheet.finish(verdict)
+    }
+
+    fn bytes(&self) -> &[u8] {
+        self.sheet.text()
+    }
+}
+
+/// How many codes stand before this one.
+#[tactic(auto, unfolding(jn_diag::specs::Order::code_place))]
+fn place(code: Code) -> usize
+    ensures place { result ≡ code_place code }
+    ensures bound { result < 50 }
+{
+    code as usize
+}
+
+fn one_more(counts: &[u64; 50], code: Code) -> [u64; 50]
+    requires { slice_index counts.now (code_place code) < 2 ^ 64 - 1 }
+    ensures more { result ≡ slice_set counts.now (code_place code) (slice_index counts.now (code_place code) + 1) }
+    ensures within { code_place code < length counts.now }
+{
+    let mut more = *counts;
+    more[place(code)] += 1;
+    more
+}
+
+fn count_lines(alloc: Global, codes: &[Code], counts: &[u64; 50]) -> Result<Vec<u8>, AllocError>
+    ensures { IfOk result (λ lines. lines.items ≡ lines_of codes.now counts.now) }
+{
+    let mut lines = Vec::new(alloc);
+    for code in codes {
+        let line = count_line(alloc, *code, counts[place(*code)])?;
+        lines.extend_from_slice(&line)?;
+    }
+    Ok(lines)
+}
+
+fn count_line(alloc: Global, code: Code, count: u64) -> Result<Vec<u8>, AllocError>
+    ensures { IfOk result (λ line. line.items ≡ count_line code count) }
+{
+    if count == 0 {
+        return Ok(Vec::new(alloc));
+    }
+    counted(alloc, code.name(), count)
+}
