@@ -14,29 +14,35 @@ use Rattle.jn_sigtable.specs.System.{System, IsLawful, IsClosed, IsLeast, Within
 use Rattle.jn_sigtable.proofs.Bits.{within_trans, within_refl, within_or_l, within_or_r, or_within}
 
 -- ---- the bits of words
-ones_le : (k a b : ℕ) → Within a b → ones_below k a ≤ ones_below k b
+pub ones_le : (k a b : ℕ) → Within a b → ones_below k a ≤ ones_below k b
+unfolding ones_below
 ones_le zero a b h = omega arith
 ones_le (suc k) a b h = let p = ones_le k a b h in let q = h k in omega arith
 
 ones_most : (k a : ℕ) → ones_below k a ≤ k
+unfolding ones_below
 ones_most zero a = omega arith
 ones_most (suc k) a = let p = ones_most k a in let q = bit_at-lt a k in omega arith
 
-ones_same : (k a b : ℕ) → Within a b → ones_below k b ≤ ones_below k a → (i : ℕ) → i < k → bit_at a i ≡ bit_at b i
+pub ones_same : (k a b : ℕ) → Within a b → ones_below k b ≤ ones_below k a → (i : ℕ) → i < k → bit_at a i ≡ bit_at b i
+unfolding ones_below
 ones_same zero a b h le i less = absurd (omega arith)
 ones_same (suc k) a b h le i less =
     let p = ones_le k a b h in let q = h k in
     dite (ℕ_discrete i k) (λ e. let r : bit_at a k ≡ bit_at b k = omega arith in ap (bit_at a) e ∙ r ∙ ap (bit_at b) (sym e)) (λ ne. ones_same k a b h (omega arith) i (omega arith))
 
 pub ones_in_le : (n : ℕ) (xs ys : List ℕ) → Covers n xs ys → ones_in n xs ≤ ones_in n ys
+unfolding ones_in
 ones_in_le zero xs ys h = omega arith
 ones_in_le (suc n) xs ys h = let p = ones_in_le n xs ys (λ w less. h w (omega arith)) in let q = ones_le 64 (slice_index xs n) (slice_index ys n) (h n (omega arith)) in omega arith
 
-ones_in_most : (n : ℕ) (xs : List ℕ) → ones_in n xs ≤ 64 * n
+pub ones_in_most : (n : ℕ) (xs : List ℕ) → ones_in n xs ≤ 64 * n
+unfolding ones_in
 ones_in_most zero xs = omega arith
 ones_in_most (suc n) xs = let p = ones_in_most n xs in let q = ones_most 64 (slice_index xs n) in omega arith
 
 pub ones_in_same : (n : ℕ) (xs ys : List ℕ) → Covers n xs ys → ones_in n ys ≤ ones_in n xs → (w : ℕ) → w < n → (i : ℕ) → i < 64 → bit_at (slice_index xs w) i ≡ bit_at (slice_index ys w) i
+unfolding ones_in
 ones_in_same zero xs ys h le w less i low = absurd (omega arith)
 ones_in_same (suc n) xs ys h le w less i low =
     let p = ones_in_le n xs ys (λ u l. h u (omega arith)) in
@@ -44,6 +50,10 @@ ones_in_same (suc n) xs ys h le w less i low =
     dite (ℕ_discrete w n)
     (λ e. ap (λ (u : ℕ). bit_at (slice_index xs u) i) e ∙ ones_same 64 (slice_index xs n) (slice_index ys n) (h n (omega arith)) (omega arith) i low ∙ ap (λ (u : ℕ). bit_at (slice_index ys u) i) (sym e))
     (λ ne. ones_in_same n xs ys (λ u l. h u (omega arith)) (omega arith) w (omega arith) i low)
+
+-- words of 64 bits
+abbrev pub IsSmall : List ℕ → Type 0
+IsSmall xs = (w : ℕ) → slice_index xs w < 2 ^ 64
 
 -- ---- one round
 module _ (sys : System) (law : IsLawful sys) where
@@ -68,9 +78,6 @@ module _ (sys : System) (law : IsLawful sys) where
 
   round_within : (xs ys : List ℕ) → length xs ≡ sys.words → Covers sys.words xs ys → IsClosed sys ys → Covers sys.words (round sys xs) ys
   round_within xs ys count cov top w less = subst (λ x. Within x (slice_index ys w)) (sym (round_at xs w less)) (added_within sys.bodies xs ys w (omega arith) count cov top less)
-
-  abbrev pub IsSmall : List ℕ → Type 0
-  IsSmall xs = (w : ℕ) → slice_index xs w < 2 ^ 64
 
   past : (xs : List ℕ) (w : ℕ) → length xs ≤ w → slice_index xs w ≡ 0
   past [] w h = refl

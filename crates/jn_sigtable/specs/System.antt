@@ -76,12 +76,12 @@ pub record IsLeast (sys : System) (start words : List ℕ) : Type 0 where
   pub below : (others : List ℕ) → IsClosed sys others → Covers sys.words start others → Covers sys.words words others
 
 -- how many of the first n bits are set
-abbrev pub ones_below : ℕ → ℕ → ℕ
+unfoldable pub ones_below : ℕ → ℕ → ℕ
 ones_below zero a = 0
 ones_below (suc n) a = ones_below n a + bit_at a n
 
 -- how many bits are set in the first n words
-abbrev pub ones_in : ℕ → List ℕ → ℕ
+unfoldable pub ones_in : ℕ → List ℕ → ℕ
 ones_in zero words = 0
 ones_in (suc n) words = ones_in n words + ones_below 64 (slice_index words n)
 

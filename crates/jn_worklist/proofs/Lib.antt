@@ -1,0 +1,5 @@
+pub mod PlanFacts
+pub mod RunSteps
+pub mod RaiseSteps
+pub mod RunEnds
+pub mod DrainSteps

@@ -1,0 +1,26 @@
+-- Who reads which word, and bits of bodies.
+use Rattle.std.specs.Prelude.{◌≡◌, ◌⊎◌, ℕ, ◌/◌, ◌%◌, List, [], ◌∷◌, map, filter, slice_index}
+use Rattle.std.specs.List.{range_with_len}
+use Rattle.std.specs.Int.{bit_at}
+use Rattle.jn_base.specs.declared.number.BodyNo.{BodyNo}
+use Rattle.jn_sigtable.specs.System.{System}
+
+abbrev pub body_no : ℕ → BodyNo
+body_no n = record { 0 = n }
+
+-- the bodies that read the word, in order
+abbrev pub readers_of : System → ℕ → List BodyNo
+readers_of sys w = filter (λ b. sys.reads b.0 w) (map body_no (range_with_len 0 sys.bodies))
+
+-- for each word, the bodies that read it
+abbrev pub plan_of : System → List (List BodyNo)
+plan_of sys = map (readers_of sys) (range_with_len 0 sys.words)
+
+-- the body is in the list
+abbrev pub Lists : List BodyNo → ℕ → Type 0
+Lists [] x = ⊥
+Lists (b ∷ bs) x = (b.0 ≡ x) ⊎ Lists bs x
+
+-- the body's bit is set in these words: bit p of word d is body 64 * d + p
+abbrev pub IsDue : List ℕ → ℕ → Type 0
+IsDue due x = bit_at (slice_index due (x / 64)) (x % 64) ≡ 1

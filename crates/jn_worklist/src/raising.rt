@@ -1,0 +1,61 @@
+// A body's raises.
+ghost use Rattle.std.specs.Prelude.{◌≡◌, ℕ, ◌+◌, ◌<◌, length};
+ghost use Rattle.jn_sigtable.specs.Words.{system_of, view_of, IsPassOf};
+ghost use Rattle.jn_worklist.specs.Plans.{plan_of};
+ghost use Rattle.jn_worklist.specs.Runs.{IsRaising};
+
+use crate::bits::add_bodies;
+use crate::readers::Plan;
+use jn_base::{BodyNo, WordNo};
+use jn_sigtable::{Constraints, Pass, SigTable};
+
+fn raise_one<C: Constraints>(
+    table: &SigTable<C>,
+    plan: &Plan,
+    pass: &mut Pass<C>,
+    body: BodyNo,
+    values: &[u64],
+    output: &[(WordNo, u64)],
+    at: usize,
+    due: &mut [u64],
+)
+    requires own { IsPassOf table.now pass.old }
+    requires plan { plan.now ≡ plan_of (C.describe (system_of table.now)) }
+    requires inside { body.0 < (C.describe (system_of table.now)).bodies }
+    requires count { length values.now ≡ (C.describe (system_of table.now)).words }
+    requires output { output.now ≡ (C.describe (system_of table.now)).output body.0 values.now }
+    requires at { at < length output.now }
+    requires raising { IsRaising (C.describe (system_of table.now)) body.0 (view_of pass.old) values.now (view_of pass.old) output.now at due.old }
+    ensures own { IsPassOf table.now pass.new }
+    ensures raising { IsRaising (C.describe (system_of table.now)) body.0 (view_of pass.old) values.now (view_of pass.new) output.now (at + 1) due.new }
+{
+    let (word, bits) = output[at];
+    let found = table.raise_word(pass, word, bits);
+    if found | bits != found {
+        add_bodies(due, plan.readers(word));
+    }
+}
+
+// Raises all outputs of the body; the bodies that are owed a mark are added to those due.
+pub fn raise_all<C: Constraints>(
+    table: &SigTable<C>,
+    plan: &Plan,
+    pass: &mut Pass<C>,
+    body: BodyNo,
+    values: &[u64],
+    output: &[(WordNo, u64)],
+    due: &mut [u64],
+)
+    requires own { IsPassOf table.now pass.old }
+    requires plan { plan.now ≡ plan_of (C.describe (system_of table.now)) }
+    requires inside { body.0 < (C.describe (system_of table.now)).bodies }
+    requires count { length values.now ≡ (C.describe (system_of table.now)).words }
+    requires output { output.now ≡ (C.describe (system_of table.now)).output body.0 values.now }
+    requires raising { IsRaising (C.describe (system_of table.now)) body.0 (view_of pass.old) values.now (view_of pass.old) output.now 0 due.old }
+    ensures own { IsPassOf table.now pass.new }
+    ensures raising { IsRaising (C.describe (system_of table.now)) body.0 (view_of pass.old) values.now (view_of pass.new) output.now (length output.now) due.new }
+{
+    for at in 0..output.len() {
+        raise_one(table, plan, pass, body, values, output, at, due);
+    }
+}

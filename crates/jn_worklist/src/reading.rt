@@ -1,0 +1,29 @@
+// A body's reads.
+ghost use Rattle.std.specs.Prelude.{◌≡◌, ◌<◌};
+ghost use Rattle.jn_sigtable.specs.Words.{system_of, view_of, IsPassOf};
+ghost use Rattle.jn_worklist.specs.Runs.{IsReading};
+
+use jn_base::{BodyNo, WordNo};
+use jn_sigtable::{Constraints, Pass, SigTable};
+
+// The values of the words that the body reads, written over zeros.
+pub fn read_all<C: Constraints>(
+    table: &SigTable<C>,
+    pass: &mut Pass<C>,
+    body: BodyNo,
+    mut values: Vec<u64>,
+) -> Vec<u64>
+    requires own { IsPassOf table.now pass.old }
+    requires inside { body.0 < (C.describe (system_of table.now)).bodies }
+    requires begun { IsReading (C.describe (system_of table.now)) body.0 (view_of pass.old) (view_of pass.old) values.items 0 }
+    ensures own { IsPassOf table.now pass.new }
+    ensures read { IsReading (C.describe (system_of table.now)) body.0 (view_of pass.old) (view_of pass.new) result.items (C.describe (system_of table.now)).words }
+{
+    let system = table.system();
+    for word in 0..system.words() {
+        if system.reads(body, WordNo(word)) {
+            values[word as usize] = table.read_word(pass, WordNo(word));
+        }
+    }
+    values
+}
