@@ -5,7 +5,6 @@ ghost use Rattle.jn_points.specs.declared.program.Program.{Program};
 ghost use Rattle.jn_first_form.specs.Form.{IsForm};
 
 /// Two programs of the same tokens are one program.
-#[tactic(auto, using(crate::proofs::Programs::one_program))]
 pub fn files_have_one_program()
     ensures { (tokens : List Token) (p q : Program) → IsForm tokens p → IsForm tokens q → p ≡ q }
 {}
