@@ -6,3 +6,4 @@ pub mod Views
 pub mod Places
 pub mod Emitted
 pub mod Weights
+pub mod Programs

@@ -8,3 +8,4 @@ pub mod Form
 pub mod Statements
 pub mod Names
 pub mod Placed
+pub mod Limits

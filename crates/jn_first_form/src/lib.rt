@@ -2,6 +2,7 @@
 #![tactic(auto)]
 
 mod brackets;
+pub mod form;
 mod front;
 pub mod known;
 pub mod law;
@@ -13,6 +14,7 @@ mod leaves;
 mod lower;
 mod lowering;
 pub mod program;
+pub mod program_law;
 mod put;
 mod registers;
 pub mod scope;
