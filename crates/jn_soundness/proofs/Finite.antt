@@ -1,6 +1,10 @@
 -- What holds at each place of a given list.
-use Rattle.std.proofs.Common.{◌≡◌, ℕ, zero, suc, ◌⊎◌, inl, inr, List, [], ◌∷◌, Option, Some, None, sym, subst}
+use Rattle.std.proofs.Common.{◌≡◌, ℕ, zero, suc, ◌⊎◌, inl, inr, List, [], ◌∷◌, Option, Some, None, sym, subst, refl}
 use Rattle.std.specs.Prelude.{slice_get}
+use Rattle.jn_points.specs.Lookup.{points_of, body_at, point_at}
+use Rattle.jn_points.specs.declared.program.Program.{Program}
+use Rattle.jn_points.specs.declared.program.Body.{Body}
+use Rattle.jn_points.specs.declared.point.Point.{Point}
 use Rattle.jn_env.specs.declared.env.Env.{Env}
 use Rattle.jn_transfer.specs.Transfer.{IsAmong}
 
@@ -24,3 +28,11 @@ pub all_of : (S : ℕ × Env → Type 0) (ys : List (ℕ × Env)) → AllOf S ys
 all_of S [] h x is = absurd is
 all_of S (y ∷ ys) h x (inl e) = subst S (sym e) h.0
 all_of S (y ∷ ys) h x (inr is) = all_of S ys h.1 x is
+
+-- what holds at each point of each body
+pub points_each : (P : Program) (R : ℕ → ℕ → Point → Type 0) → Each (λ b x. Each (λ p pt. R b p pt) x.points) P.bodies → (b p : ℕ) (pt : Point) → point_at P b p ≡ Some pt → R b p pt
+points_each P R h b p pt is = by (body_at P b) refl
+  where
+  by : (o : Option Body) → body_at P b ≡ o → R b p pt
+  by None ib = absurd (let bad : slice_get (points_of None) p ≡ Some pt = subst (λ o. slice_get (points_of o) p ≡ Some pt) ib is in let k : None ≡ Some pt = bad in cc)
+  by (Some x) ib = each_at (λ p pt. R b p pt) x.points (each_at (λ b x. Each (λ p pt. R b p pt) x.points) P.bodies h b x ib) p pt (subst (λ o. slice_get (points_of o) p ≡ Some pt) ib is)

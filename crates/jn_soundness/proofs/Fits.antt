@@ -44,7 +44,7 @@ module _ (P : Program) where
   reaches_self zero c = eq-eqb c c refl
   reaches_self (suc n) c = or_left (eqb c c) _ (eq-eqb c c refl)
 
-  sub_self : (c : ℕ) → sub P c c ≡ true
+  pub sub_self : (c : ℕ) → sub P c c ≡ true
   sub_self c = or_right (eqb c 0) (reaches P (length P.classes) c c) (reaches_self (length P.classes) c)
 
   elem_self : (e : Elem) → elem_within (sub P) e e ≡ true

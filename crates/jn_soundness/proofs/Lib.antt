@@ -19,3 +19,4 @@ pub mod Accepts
 pub mod PlainAccepts
 pub mod Finite
 pub mod PlainInhabitant
+pub mod ChainInhabitant

@@ -5,3 +5,4 @@ pub mod Types
 pub mod Accepted
 pub mod PlainPrograms
 pub mod PlainExample
+pub mod ChainExample

@@ -9,6 +9,7 @@ ghost use Rattle.jn_soundness.specs.Good.{MainsOk, RunsTyped};
 ghost use Rattle.jn_points.specs.BaseTyping.{BaseTyped};
 ghost use Rattle.jn_soundness.specs.Accepted.{Accepted};
 ghost use Rattle.jn_soundness.specs.PlainPrograms.{PlainAccepted};
+ghost use Rattle.jn_soundness.specs.ChainExample.{chain_program, chain_world};
 ghost use Rattle.jn_soundness.specs.PlainExample.{plain_program, plain_table};
 
 /// Where tables respect all edges and no rule is broken, no run of a main dereferences null, if the
@@ -38,5 +39,14 @@ pub fn plain_programs_never_fault()
 pub fn plain_programs_are_accepted()
     ensures accepted { PlainAccepted plain_program (plain_table ∷ []) }
     ensures main { MainForm plain_program 0 0 }
+{
+}
+
+/// The law on accepted programs is of use: one with a chain of constructors, a cycle of objects
+/// that is built by an escaping `this`, field reads and an array is accepted and base-typed.
+pub fn constructor_chains_are_accepted()
+    ensures accepted { Accepted chain_world }
+    ensures typed { BaseTyped chain_program }
+    ensures main { MainForm chain_program 3 3 }
 {
 }
