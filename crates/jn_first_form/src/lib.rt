@@ -10,6 +10,8 @@ pub mod local;
 pub mod recognize;
 #[cfg(test)]
 mod tests;
+#[cfg(test)]
+mod program_tests;
 mod leaves;
 mod lower;
 mod lowering;
