@@ -25,7 +25,10 @@ fn shown(kind: &PointKind) -> (u32, u32, u32, u32) {
         PointKind::Const { dst, .. } => (1, dst.0, 0, 0),
         PointKind::Move { dst, from, .. } => (2, dst.0, from.reg.0, 0),
         PointKind::TestNull {
-            of, null, non_null, ..
+            of,
+            null,
+            non_null,
+            ..
         } => (3, of.reg.0, null.0, non_null.0),
         PointKind::Goto { to } => (4, to.0, 0, 0),
         PointKind::StrOp { dst, of, .. } => (5, dst.0, of.reg.0, 0),
@@ -37,7 +40,8 @@ fn shown(kind: &PointKind) -> (u32, u32, u32, u32) {
 
 #[test]
 fn lowers_a_body(rt: HostRuntime) {
-    let body = "String x = null ; if ( x == null ) { x = \"t\" ; } else { System . out . println ( x ) ; } System . out . println ( x . length ( ) ) ;";
+    let body =
+        "String x = null ; if ( x == null ) { x = \"t\" ; } else { System . out . println ( x ) ; } System . out . println ( x . length ( ) ) ;";
     let tokens = match tokens_of(rt.alloc(), body) {
         Ok(tokens) => tokens,
         Err(_) => return,
