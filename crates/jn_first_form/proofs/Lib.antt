@@ -7,3 +7,4 @@ pub mod Places
 pub mod Emitted
 pub mod Weights
 pub mod Programs
+pub mod PointFacts

@@ -9,3 +9,4 @@ pub mod Statements
 pub mod Names
 pub mod Placed
 pub mod Limits
+pub mod Facts

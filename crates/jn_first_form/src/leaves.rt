@@ -275,12 +275,7 @@ pub fn print_length<'a>(
 }
 
 /// Prints the operand; the call has a temporary for its empty result.
-fn print(
-    first: u32,
-    state: &mut Lowering,
-    of: Operand,
-    span: Span,
-) -> Result<(), OutOfMemory>
+fn print(first: u32, state: &mut Lowering, of: Operand, span: Span) -> Result<(), OutOfMemory>
     requires points { length state.old.points.items ≤ 65536 }
     requires temporaries { first + length state.old.temporaries.items ≤ 1024 + length state.old.points.items }
     ensures points { OnOk result (state.new.points.items ≡ state.old.points.items ++ point_of (Print of) span ∷ []) }
@@ -288,8 +283,11 @@ fn print(
     ensures temporaries { OnOk result (first + length state.new.temporaries.items ≤ 1024 + length state.new.points.items) }
 {
     need(first, &mut state.temporaries, Temporary::Void)?;
-    put(&mut state.points, Point {
-        kind: PointKind::Print { of },
-        span,
-    })
+    put(
+        &mut state.points,
+        Point {
+            kind: PointKind::Print { of },
+            span,
+        },
+    )
 }

@@ -6,20 +6,22 @@ pub mod form;
 mod front;
 pub mod known;
 pub mod law;
-pub mod local;
-pub mod recognize;
-#[cfg(test)]
-mod tests;
 mod leaves;
+pub mod local;
 mod lower;
 mod lowering;
 pub mod program;
 pub mod program_law;
+#[cfg(test)]
+mod program_tests;
 mod put;
+pub mod recognize;
 mod registers;
 pub mod scope;
 pub mod size;
 mod spans;
+#[cfg(test)]
+mod tests;
 pub mod tree;
 
 pub use brackets::within_brackets;

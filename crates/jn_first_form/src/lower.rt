@@ -5,9 +5,7 @@ ghost use Rattle.jn_first_form.specs.Lowered.{size, all_size, declared, all_decl
 ghost use Rattle.jn_first_form.specs.Placed.{place_at};
 ghost use Rattle.jn_first_form.specs.View.{view, views};
 
-use crate::leaves::{
-    assign, declare, lower_length, print_length, print_local, put_goto, put_test,
-};
+use crate::leaves::{assign, declare, lower_length, print_length, print_local, put_goto, put_test};
 use crate::lowering::Lowering;
 use crate::size::all_size;
 use crate::spans::skip;

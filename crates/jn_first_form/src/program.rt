@@ -45,11 +45,7 @@ pub fn program_of_form(
     })
 }
 
-fn body_of_form(
-    alloc: Global,
-    tokens: &[Token],
-    form: &FirstForm,
-) -> Result<Body, OutOfMemory>
+fn body_of_form(alloc: Global, tokens: &[Token], form: &FirstForm) -> Result<Body, OutOfMemory>
     requires points { all_size (views form.now.body.items) + 1 ≤ 65535 }
     requires locals { all_declared (views form.now.body.items) ≤ 1023 }
     ensures { IfOk result (λ b. b ≡ body_of_form tokens.now (form_view form.now)) }

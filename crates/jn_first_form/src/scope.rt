@@ -54,9 +54,7 @@ fn in_scope(
     match statement {
         Statement::Block(body) => all_in_scope(parameter, scope, body),
         Statement::Declare(name, value) => declare(parameter, scope, *name, value),
-        Statement::Assign(name, value) => {
-            Ok(is_among(*name, scope) && value_in(scope, value))
-        }
+        Statement::Assign(name, value) => { Ok(is_among(*name, scope) && value_in(scope, value)) }
         Statement::When(name, _, body) => {
             if !is_among(*name, scope) {
                 return Ok(false);

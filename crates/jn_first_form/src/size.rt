@@ -28,7 +28,9 @@ fn size(statement: &Statement) -> u32
         Statement::Assign(_, value) => value_size(value),
         Statement::When(_, _, body) => all_size(body).saturating_add(1),
         Statement::Choice(_, _, body, others) => {
-            all_size(body).saturating_add(all_size(others)).saturating_add(2)
+            all_size(body)
+                .saturating_add(all_size(others))
+                .saturating_add(2)
         }
         Statement::Length(_) => 1,
         Statement::PrintLocal(_) => 1,

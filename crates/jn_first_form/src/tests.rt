@@ -5,7 +5,7 @@ use jn_base::NameNo;
 use jn_trees::TokenKind;
 use std::alloc::{AllocError, Global};
 
-const HEADING: &str = "class C { public static void main ( String [ ] a ) {";
+pub const HEADING: &str = "class C { public static void main ( String [ ] a ) {";
 
 fn kind_of(word: &str) -> TokenKind {
     match word {
@@ -39,7 +39,7 @@ fn kind_of(word: &str) -> TokenKind {
     }
 }
 
-fn kinds_of(alloc: Global, texts: &[&str]) -> Result<Vec<TokenKind>, AllocError> {
+pub fn kinds_of(alloc: Global, texts: &[&str]) -> Result<Vec<TokenKind>, AllocError> {
     let mut kinds = Vec::new(alloc);
     for text in texts {
         for word in text.split_whitespace() {

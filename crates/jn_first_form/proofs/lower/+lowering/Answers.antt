@@ -20,16 +20,16 @@ lower_block-loop-statement-preserved t c =
     let grown = ap (λ p. p.point) place ∙ behind-point here (view s) in
     let declared = ap (λ p. p.next) place ∙ behind-next here (view s) in
     record {
-        lowered = ap (λ k. k ++ all_lowered first (place_at c.in_ok-rest.rest.now c.lower.new.state) rest) c.in_ok-rest.ensures.points
-            ∙ ap (λ p. (old ++ lowered first here (view s)) ++ all_lowered first p rest) place
-            ∙ append_assoc old (lowered first here (view s)) _
-            ∙ ap (λ ts. old ++ all_lowered first here ts) (sym left)
-            ∙ c.loop-statement.invariant.lowered;
-        place = ap (λ p. behind_all p rest) place ∙ ap (behind_all here) (sym left) ∙ c.loop-statement.invariant.place;
-        points = omega (arith, grown, ap all_size left, c.loop-statement.invariant.points);
-        locals = omega (arith, declared, ap all_declared left, c.loop-statement.invariant.locals);
-        temporaries = c.in_ok-rest.ensures.temporaries;
-        weight = omega (arith, ap all_weight left, c.loop-statement.invariant.weight);
+      lowered = ap (λ k. k ++ all_lowered first (place_at c.in_ok-rest.rest.now c.lower.new.state) rest) c.in_ok-rest.ensures.points
+          ∙ ap (λ p. (old ++ lowered first here (view s)) ++ all_lowered first p rest) place
+          ∙ append_assoc old (lowered first here (view s)) _
+          ∙ ap (λ ts. old ++ all_lowered first here ts) (sym left)
+          ∙ c.loop-statement.invariant.lowered;
+      place = ap (λ p. behind_all p rest) place ∙ ap (behind_all here) (sym left) ∙ c.loop-statement.invariant.place;
+      points = omega (arith, grown, ap all_size left, c.loop-statement.invariant.points);
+      locals = omega (arith, declared, ap all_declared left, c.loop-statement.invariant.locals);
+      temporaries = c.in_ok-rest.ensures.temporaries;
+      weight = omega (arith, ap all_weight left, c.loop-statement.invariant.weight);
     }
 
 pub lower_block-lower-requires : goal.lower_block-lower-requires
@@ -49,9 +49,9 @@ lower_block-returns-clause-place t c =
     (ap (λ p. p.tokens) place)
     (ap (λ p. p.point) place)
     (c.truncate.ensures.items
-        ∙ ap (λ k. take k c.loop-statement.state.locals.items) (c.len-scope.ensures ∙ c.args.state.now.locals.ok.0)
-        ∙ ap (λ p. take (length c.args.state.now.locals.items) p.locals) place
-        ∙ scope_left old (views c.args.body.now))
+    ∙ ap (λ k. take k c.loop-statement.state.locals.items) (c.len-scope.ensures ∙ c.args.state.now.locals.ok.0)
+    ∙ ap (λ p. take (length c.args.state.now.locals.items) p.locals) place
+    ∙ scope_left old (views c.args.body.now))
     (ap (λ p. p.next) place)
     (ap (λ p. p.temporaries) place)
 

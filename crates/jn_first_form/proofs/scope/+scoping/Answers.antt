@@ -35,5 +35,5 @@ in_scope-returns-else-not-branch-clause-answer t c =
     let first = sym c.in_ok-all_in_scope-in-Choice.ensures.answer ∙ c.if-not-branch.false in
     rw (seen_choice _ c.in-Choice.name c.in-Choice.field-1 c.in-Choice.body c.in-Choice.others c.deref-in-Choice-2.result.now c.deref-in-Choice-3.result.now c.in-Choice.is c.deref-in-Choice-2.ensures.value c.deref-in-Choice-3.ensures.value, among, first)
     (subst (λ scope. IfOk c.all_in_scope-in-Choice-2.result (λ b. b ≡ all_in_scope c.args.parameter.0 scope (views c.deref-in-Choice-3.result.now)))
-        (c.in_ok-all_in_scope-in-Choice.ensures.scope c.if-not-branch.false)
-        c.all_in_scope-in-Choice-2.ensures.answer)
+    (c.in_ok-all_in_scope-in-Choice.ensures.scope c.if-not-branch.false)
+    c.all_in_scope-in-Choice-2.ensures.answer)
