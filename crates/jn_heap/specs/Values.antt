@@ -9,7 +9,6 @@ use Rattle.jn_points.specs.declared.point.StrOperation.{StrOperation}
 use Rattle.jn_points.specs.declared.point.StrOperation.TheVariants.{Length, IsEmpty, Equals}
 use Rattle.jn_points.specs.declared.point.BaseType.{BaseType}
 use Rattle.jn_points.specs.declared.point.BaseType.TheVariants.{Int, Bool as BoolBase, Void, Null as NullBase, Ref, Array}
-use Rattle.jn_points.specs.declared.point.Elem.TheVariants.{Int as IntElem, Bool as BoolElem, Ref as RefElem}
 use Rattle.jn_points.specs.declared.program.Field.{Field}
 
 -- an int or a boolean

@@ -1,5 +1,5 @@
 -- Base typing: the base types that the registers of a point have (JLS 8, 15 and 5.2), and what overriding pairs agree in.
-use Rattle.std.specs.Prelude.{ℕ, suc, ◌≡◌, Bool, true, false, cond, eqb, List, [], ◌∷◌, Option, Some, None}
+use Rattle.std.specs.Prelude.{ℕ, suc, ◌≡◌, true, false, cond, eqb, List, [], ◌∷◌, Option, Some, None}
 use Rattle.jn_base.specs.declared.number.RegNo.{RegNo}
 use Rattle.jn_base.specs.declared.number.ClassNo.{ClassNo}
 use Rattle.jn_points.specs.declared.point.Operand.{Operand}

@@ -1,5 +1,5 @@
 -- What is regular in a program as points: shapes on which the flow of facts and the construction of objects rest.
-use Rattle.std.specs.Prelude.{ℕ, suc, eqb, ◌+◌, ◌≡◌, ◌<◌, ◌≤◌, ◌⊎◌, Bool, true, false, List, [], ◌∷◌, length, Option, Some, None}
+use Rattle.std.specs.Prelude.{ℕ, suc, eqb, ◌≡◌, ◌<◌, ◌≤◌, ◌⊎◌, Bool, true, false, List, [], ◌∷◌, length, Option, Some, None}
 use Rattle.jn_base.specs.declared.number.MethodNo.{MethodNo}
 use Rattle.jn_base.specs.declared.number.PointNo.{PointNo}
 use Rattle.jn_base.specs.declared.number.SlotNo.{SlotNo}
