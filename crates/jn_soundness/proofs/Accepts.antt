@@ -1,24 +1,20 @@
 -- An accepted program is checked.
-use Rattle.std.proofs.Common.{◌≡◌, ℕ, zero, suc, ◌+◌, ◌⊎◌, inl, inr, Bool, true, false, List, [], ◌∷◌, ◌++◌, Option, Some, None, refl, sym, ap, ◌∙◌, subst}
-use Rattle.std.specs.Prelude.{slice_get, slice_index_or, IsTrue}
-use Rattle.jn_quals.specs.Qualifier.{Qualifier}
-use Rattle.jn_quals.specs.Order.{within, without_null, null_part, is_none, committed_only, no_qual}
+use Rattle.std.proofs.Common.{◌≡◌, ℕ, ◌+◌, ◌⊎◌, inl, inr, Bool, true, false, List, [], ◌∷◌, ◌++◌, Some, sym, ap, ◌∙◌}
+use Rattle.std.specs.Prelude.{slice_get}
+use Rattle.jn_quals.specs.Order.{without_null, null_part, is_none}
 use Rattle.jn_points.specs.declared.point.Point.{Point}
 use Rattle.jn_points.specs.declared.point.PointKind.{PointKind}
 use Rattle.jn_points.specs.declared.point.PointKind.TheVariants.{TestInst, TestNull, Branch, Goto, Return}
 use Rattle.jn_points.specs.declared.program.Field.{Field}
-use Rattle.jn_points.specs.declared.program.Method.{Method}
-use Rattle.jn_points.specs.declared.program.Body.{Body}
 use Rattle.jn_points.specs.Edges.{edges_of, one}
-use Rattle.jn_points.specs.Lookup.{ref_of, ctor_of, static_of, body_of, is_ref_base, body_at, point_at, ref_field, method_at, method_in, method_of_body}
-use Rattle.jn_points.specs.Regular.{LeadsTo, Regular}
+use Rattle.jn_points.specs.Lookup.{ref_of, ctor_of, static_of, is_ref_base, point_at, ref_field, method_at, method_of_body}
+use Rattle.jn_points.specs.Regular.{LeadsTo}
 use Rattle.jn_sigs.specs.Signature.{slot_qual}
 use Rattle.jn_env.specs.declared.env.Env.{Env}
 use Rattle.jn_env.specs.Order.{qual_at}
 use Rattle.jn_transfer.specs.Transfer.{transfer, side, learn, refine, IsAmong}
-use Rattle.jn_heap.specs.Machine.{MainForm}
 use Rattle.jn_soundness.specs.World.{World, env_at}
-use Rattle.jn_soundness.specs.Checked.{Edge, PointOk, Checked}
+use Rattle.jn_soundness.specs.Checked.{PointOk, Checked}
 use Rattle.jn_soundness.specs.Good.{MainsOk}
 use Rattle.jn_soundness.specs.Accepted.{Accepted}
 use Rattle.jn_soundness.proofs.Basics.{within_committed}
@@ -50,17 +46,17 @@ module _ (W : World) where
       let v = without_null (qual_at e of.reg.0) in
       by (side_leads (is_none v) at_yes.0 (learn W.program b og (refine e of.reg.0 v)) ((at_no.0, e) ∷ []) x h)
     where
-    by : (at_yes.0 ≡ x.0) ⊎ IsAmong x ((at_no.0, e) ∷ []) → (at_yes.0 ≡ x.0) ⊎ (at_no.0 ≡ x.0)
-    by (inl y) = inl y
-    by (inr z) = inr (only at_no.0 e x z)
+      by : (at_yes.0 ≡ x.0) ⊎ IsAmong x ((at_no.0, e) ∷ []) → (at_yes.0 ≡ x.0) ⊎ (at_no.0 ≡ x.0)
+      by (inl y) = inl y
+      by (inr z) = inr (only at_no.0 e x z)
   leads b (TestNull of og at_null at_value) p e x h =
       let n = null_part (qual_at e of.reg.0) in
       let v = without_null (qual_at e of.reg.0) in
       by (side_leads (is_none n) at_null.0 (refine e of.reg.0 n) (side (is_none v) at_value.0 (learn W.program b og (refine e of.reg.0 v))) x h)
     where
-    by : (at_null.0 ≡ x.0) ⊎ IsAmong x (side (is_none (without_null (qual_at e of.reg.0))) at_value.0 (learn W.program b og (refine e of.reg.0 (without_null (qual_at e of.reg.0))))) → (at_null.0 ≡ x.0) ⊎ (at_value.0 ≡ x.0)
-    by (inl y) = inl y
-    by (inr z) = inr (last_leads (is_none (without_null (qual_at e of.reg.0))) at_value.0 (learn W.program b og (refine e of.reg.0 (without_null (qual_at e of.reg.0)))) x z)
+      by : (at_null.0 ≡ x.0) ⊎ IsAmong x (side (is_none (without_null (qual_at e of.reg.0))) at_value.0 (learn W.program b og (refine e of.reg.0 (without_null (qual_at e of.reg.0))))) → (at_null.0 ≡ x.0) ⊎ (at_value.0 ≡ x.0)
+      by (inl y) = inl y
+      by (inr z) = inr (last_leads (is_none (without_null (qual_at e of.reg.0))) at_value.0 (learn W.program b og (refine e of.reg.0 (without_null (qual_at e of.reg.0)))) x z)
   leads b (Branch of at_yes at_no) p e x (inl h) = inl (sym (ap (λ y. y.0) h))
   leads b (Branch of at_yes at_no) p e x (inr h) = inr (only at_no.0 e x h)
   leads b (Goto to) p e x h = inl (only to.0 e x h)

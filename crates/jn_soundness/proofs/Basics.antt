@@ -6,14 +6,14 @@ use Rattle.jn_quals.specs.Qualifier.{Qualifier}
 use Rattle.jn_points.specs.declared.point.Operand.{Operand}
 use Rattle.jn_soundness.specs.Good.{AllOn, Committed, Described, Describes, Free, MarkFits, Marks, ObjMark, Settled, Unborn}
 use Rattle.jn_soundness.specs.Checked.{ArgsPass}
-use Rattle.jn_heap.specs.Values.{At, NullRef, Plain, Text, Value, same}
+use Rattle.jn_heap.specs.Values.{At, NullRef, Plain, Text, Value}
 use Rattle.jn_env.specs.Order.{BitsAbove, QualsWithin, qual_at}
 use Rattle.jn_env.specs.declared.env.Env.{Env}
 use Rattle.jn_heap.specs.Machine.{Regs, gather, gather_more, pad, value_at}
 use Rattle.jn_soundness.specs.World.{World}
 use Rattle.jn_transfer.specs.Keys.{also, is_on, mask, no_bits}
 use Rattle.jn_quals.specs.Order.{no_qual, within}
-use Rattle.jn_transfer.specs.Transfer.{pad_quals, written}
+use Rattle.jn_transfer.specs.Transfer.{pad_quals}
 
 pub and_true : (a b : Bool) → (a && b) ≡ true → (a ≡ true) × (b ≡ true)
 and_true true b h = (refl, h)
@@ -227,9 +227,9 @@ set_cases (x ∷ xs) zero y (suc j) = inr refl
 set_cases (x ∷ xs) (suc i) y zero = inr refl
 set_cases (x ∷ xs) (suc i) y (suc j) = suc_cases (set_cases xs i y j)
   where
-  suc_cases : ((i ≡ j) × (slice_get (slice_set xs i y) j ≡ Some y)) ⊎ (slice_get (slice_set xs i y) j ≡ slice_get xs j) → ((suc i ≡ suc j) × (slice_get (slice_set xs i y) j ≡ Some y)) ⊎ (slice_get (slice_set xs i y) j ≡ slice_get xs j)
-  suc_cases (inl h) = inl (ap suc h.0, h.1)
-  suc_cases (inr h) = inr h
+    suc_cases : ((i ≡ j) × (slice_get (slice_set xs i y) j ≡ Some y)) ⊎ (slice_get (slice_set xs i y) j ≡ slice_get xs j) → ((suc i ≡ suc j) × (slice_get (slice_set xs i y) j ≡ Some y)) ⊎ (slice_get (slice_set xs i y) j ≡ slice_get xs j)
+    suc_cases (inl h) = inl (ap suc h.0, h.1)
+    suc_cases (inr h) = inr h
 
 -- a list with one more at its end
 pub append_cases : {X : Type 0} → (xs : List X) (y : X) (j : ℕ) → ((j ≡ length xs) × (slice_get (xs ++ y ∷ []) j ≡ Some y) × (slice_get xs j ≡ None)) ⊎ (slice_get (xs ++ y ∷ []) j ≡ slice_get xs j)
@@ -238,11 +238,9 @@ append_cases [] y (suc j) = inr refl
 append_cases (x ∷ xs) y zero = inr refl
 append_cases (x ∷ xs) y (suc j) = suc_cases (append_cases xs y j)
   where
-  suc_cases : ((j ≡ length xs) × (slice_get (xs ++ y ∷ []) j ≡ Some y) × (slice_get xs j ≡ None)) ⊎ (slice_get (xs ++ y ∷ []) j ≡ slice_get xs j) → ((suc j ≡ length (x ∷ xs)) × (slice_get (xs ++ y ∷ []) j ≡ Some y) × (slice_get xs j ≡ None)) ⊎ (slice_get (xs ++ y ∷ []) j ≡ slice_get xs j)
-  suc_cases (inl h) = inl (ap suc h.0, h.1, h.2)
-  suc_cases (inr h) = inr h
-
-
+    suc_cases : ((j ≡ length xs) × (slice_get (xs ++ y ∷ []) j ≡ Some y) × (slice_get xs j ≡ None)) ⊎ (slice_get (xs ++ y ∷ []) j ≡ slice_get xs j) → ((suc j ≡ length (x ∷ xs)) × (slice_get (xs ++ y ∷ []) j ≡ Some y) × (slice_get xs j ≡ None)) ⊎ (slice_get (xs ++ y ∷ []) j ≡ slice_get xs j)
+    suc_cases (inl h) = inl (ap suc h.0, h.1, h.2)
+    suc_cases (inr h) = inr h
 
 -- another register after a write
 pub value_other : (regs : Regs) (dst r : ℕ) (v : Option Value) → (r ≡ dst → ⊥) → value_at (slice_set regs dst v) r ≡ value_at regs r
@@ -266,6 +264,6 @@ value_zero (x ∷ xs) (suc d) v n = refl
 pub eqb_cases : (a b : ℕ) → (a ≡ b) ⊎ (a ≡ b → ⊥)
 eqb_cases a b = go (eqb a b) refl
   where
-  go : (t : Bool) → eqb a b ≡ t → (a ≡ b) ⊎ (a ≡ b → ⊥)
-  go true h = inl (eqb-true a b h)
-  go false h = inr (λ e. eqb-false a b h e)
+    go : (t : Bool) → eqb a b ≡ t → (a ≡ b) ⊎ (a ≡ b → ⊥)
+    go true h = inl (eqb-true a b h)
+    go false h = inr (λ e. eqb-false a b h e)

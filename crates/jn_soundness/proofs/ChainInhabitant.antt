@@ -1,33 +1,27 @@
 -- The example with a chain of constructors, a cycle and an array is accepted and base-typed, and has a main.
-use Rattle.std.proofs.Common.{◌≡◌, ℕ, zero, suc, ◌<◌, ◌≤◌, Bool, true, false, ◌||◌, ◌⊎◌, inl, inr, List, [], ◌∷◌, length, Option, Some, None, refl, sym, ap, ◌∙◌, subst, arith, eqb, ◌&&◌, not}
-use Rattle.std.specs.Prelude.{slice_get, slice_index_or, IsTrue}
+use Rattle.std.proofs.Common.{◌≡◌, ℕ, zero, suc, ◌<◌, Bool, true, false, ◌||◌, ◌⊎◌, inl, inr, List, [], ◌∷◌, length, Option, Some, None, refl, sym, ◌∙◌, subst, arith, eqb, ◌&&◌, not}
+use Rattle.std.specs.Prelude.{slice_index_or, IsTrue}
 use Rattle.std.proofs.lemmas.Bool.{eqb-true, eq-eqb}
 use Rattle.jn_base.specs.declared.number.ClassNo.{ClassNo}
-use Rattle.jn_base.specs.declared.number.MethodNo.{MethodNo}
-use Rattle.jn_quals.specs.Qualifier.{Qualifier}
-use Rattle.jn_quals.specs.Order.{no_qual, committed_only, free_only, within}
-use Rattle.jn_points.specs.declared.point.Operand.{Operand}
+use Rattle.jn_quals.specs.Order.{no_qual, committed_only, within}
 use Rattle.jn_points.specs.declared.point.Point.{Point}
 use Rattle.jn_points.specs.declared.point.PointKind.{PointKind}
 use Rattle.jn_points.specs.declared.point.PointKind.TheVariants.{CtorCall, Return}
 use Rattle.jn_points.specs.declared.program.Class.{Class}
-use Rattle.jn_points.specs.declared.program.Field.{Field}
 use Rattle.jn_points.specs.declared.program.Method.{Method}
 use Rattle.jn_points.specs.declared.program.Body.{Body}
-use Rattle.jn_points.specs.declared.program.SlotInfo.{SlotInfo}
 use Rattle.jn_points.specs.Edges.{edges_of}
-use Rattle.jn_points.specs.Lookup.{has_slot, is_ref_base, body_of, body_at, point_at, points_of, method_at, method_in, ctor_of, static_of, class_of, class_info, field_info, owner, regs_of, reg_base, supers_of}
+use Rattle.jn_points.specs.Lookup.{has_slot, is_ref_base, body_of, body_at, point_at, method_at, method_in, ctor_of, static_of, class_of, class_info, owner, regs_of, reg_base, supers_of}
 use Rattle.jn_points.specs.Members.{some_of, reaches, sub, has_field, pairs_of, is_pair, is_named, class_pairs, interface_pairs}
 use Rattle.jn_points.specs.Regular.{FromRead, NotCtorCall, writes, test_at, test_in, test_of, Early, IsObjectClass, Chains, SlotsMatch, LeadsTo, RegularEdge, RegularPoint, StartsRegular, Regular, Names, Passes, NotEarlyReturn}
-use Rattle.jn_points.specs.BaseTyping.{Ordered, PointTyped, StartsWith, given_bases, PairTyped, BaseTyped}
+use Rattle.jn_points.specs.BaseTyping.{Ordered, PointTyped, StartsWith, given_bases, BaseTyped}
 use Rattle.jn_env.specs.declared.env.Env.{Env}
-use Rattle.jn_env.specs.Order.{EnvWithin, SlotWithin, env_in}
+use Rattle.jn_env.specs.Order.{SlotWithin, env_in}
 use Rattle.jn_transfer.specs.Transfer.{transfer, IsAmong}
 use Rattle.jn_transfer.specs.Least.{Respects}
 use Rattle.jn_heap.specs.Machine.{MainForm}
-use Rattle.jn_soundness.specs.World.{World, env_at}
 use Rattle.jn_soundness.specs.Accepted.{FieldSettles, Accepted}
-use Rattle.jn_soundness.specs.PlainExample.{point_of, class_under, object_class, main_method, strings}
+use Rattle.jn_soundness.specs.PlainExample.{point_of, class_under, main_method, strings}
 use Rattle.jn_soundness.specs.ChainExample.{chain_program, chain_world, first_points, second_points, third_points, main_points, first_table, second_table, third_table, main_table, ref, body_of_method}
 use Rattle.jn_soundness.proofs.Fits.{sub_self, or_left}
 use Rattle.jn_soundness.proofs.Finite.{Each, each_at, points_each, some_is, AllOf, all_of}
@@ -40,7 +34,7 @@ CallsOnly b p k = Unit {0}
 
 one_call : (b p : ℕ) (pt : Point) → point_at chain_program b p ≡ Some pt → CallsOnly b p pt.kind
 one_call = points_each chain_program (λ b p pt. CallsOnly b p pt.kind)
-  ((tt, (tt, (tt, tt))), ((tt, (tt, tt)), (((refl, refl), (tt, (tt, (tt, tt)))), ((tt, (tt, (tt, (tt, (tt, (tt, (tt, tt))))))), tt))))
+    ((tt, (tt, (tt, tt))), ((tt, (tt, tt)), (((refl, refl), (tt, (tt, (tt, tt)))), ((tt, (tt, (tt, (tt, (tt, (tt, (tt, tt))))))), tt))))
 
 early_at : (b p : ℕ) → Early chain_program b p → (b ≡ 2) × (p ≡ 0)
 early_at b p e =
@@ -50,12 +44,13 @@ early_at b p e =
 no_test : (b p : ℕ) → test_at chain_program b p ≡ None
 no_test b p = by (point_at chain_program b p) refl
   where
-  all : (b p : ℕ) (pt : Point) → point_at chain_program b p ≡ Some pt → test_of pt.kind ≡ None
-  all = points_each chain_program (λ b p pt. test_of pt.kind ≡ None)
-    ((refl, (refl, (refl, tt))), ((refl, (refl, tt)), ((refl, (refl, (refl, (refl, tt)))), ((refl, (refl, (refl, (refl, (refl, (refl, (refl, tt))))))), tt))))
-  by : (o : _) → point_at chain_program b p ≡ o → test_in o ≡ None
-  by None is = refl
-  by (Some pt) is = all b p pt is
+    all : (b p : ℕ) (pt : Point) → point_at chain_program b p ≡ Some pt → test_of pt.kind ≡ None
+    all = points_each chain_program (λ b p pt. test_of pt.kind ≡ None)
+        ((refl, (refl, (refl, tt))), ((refl, (refl, tt)), ((refl, (refl, (refl, (refl, tt)))), ((refl, (refl, (refl, (refl, (refl, (refl, (refl, tt))))))), tt))))
+
+    by : (o : _) → point_at chain_program b p ≡ o → test_in o ≡ None
+    by None is = refl
+    by (Some pt) is = all b p pt is
 
 free_entry : (b to : ℕ) (k : PointKind) → FromRead k (test_at chain_program b to)
 free_entry b to k = subst (λ o. FromRead k o) (sym (no_test b to)) tt
@@ -66,10 +61,10 @@ edges_regular b p k h to l = record { test = free_entry b to k; early = λ n e. 
 elsewhere : (b p : ℕ) → (eqb b 2 && eqb p 0) ≡ false → (b ≡ 2) × (p ≡ 0) → ⊥
 elsewhere b p h x = by (eqb b 2) (eqb p 0) (eq-eqb b 2 x.0) (eq-eqb p 0 x.1) h
   where
-  by : (t u : Bool) → t ≡ true → u ≡ true → (t && u) ≡ false → ⊥
-  by true true a c h = cc
-  by true false a c h = cc
-  by false u a c h = cc
+    by : (t u : Bool) → t ≡ true → u ≡ true → (t && u) ≡ false → ⊥
+    by true true a c h = cc
+    by true false a c h = cc
+    by false u a c h = cc
 
 module _ (b p : ℕ) (away : (eqb b 2 && eqb p 0) ≡ false) where
   no_early : Early chain_program b p → ⊥
@@ -85,9 +80,9 @@ module _ (b p : ℕ) (away : (eqb b 2 && eqb p 0) ≡ false) where
     end = λ c. ending k;
   }
     where
-    ending : (k : PointKind) → NotEarlyReturn chain_program b p k
-    ending (Return v) = no_early
-    ending k = tt
+      ending : (k : PointKind) → NotEarlyReturn chain_program b p k
+      ending (Return v) = no_early
+      ending k = tt
 
 class_a : IsObjectClass chain_program 2
 class_a = record { info = class_under 0; there = refl; class = refl; no_string = refl }
@@ -105,18 +100,25 @@ own_fields (suc (suc f)) h = cc
 chained : Chains chain_program 2 0 false
 chained = record { ctor = refl; inside = refl; same = λ h. cc; fields = fields }
   where
-  fields : (f : ℕ) → has_field chain_program 3 f ≡ true → (owner chain_program f ≡ 3) ⊎ (has_field chain_program 2 f ≡ true)
-  fields zero h = inr refl
-  fields (suc zero) h = inl refl
-  fields (suc (suc f)) h = cc
+    fields : (f : ℕ) → has_field chain_program 3 f ≡ true → (owner chain_program f ≡ 3) ⊎ (has_field chain_program 2 f ≡ true)
+    fields zero h = inr refl
+    fields (suc zero) h = inl refl
+    fields (suc (suc f)) h = cc
 
 points : (b p : ℕ) (pt : Point) → point_at chain_program b p ≡ Some pt → RegularPoint chain_program b p pt.kind
-points = points_each chain_program (λ b p pt. RegularPoint chain_program b p pt.kind)
-  ((point_regular 0 0 refl _ (λ c w. cc) (refl, class_a) refl, (point_regular 0 1 refl _ (λ c w. cc) tt tt, (point_regular 0 2 refl _ (λ c w. cc) tt tt, tt))),
-   ((point_regular 1 0 refl _ (λ c w. cc) tt tt, (point_regular 1 1 refl _ (λ c w. cc) tt tt, tt)),
-   ((record { edges = edges_regular 2 0 (CtorCall (record { 0 = 0 }) [] false) (λ x n. n); this_kept = λ c w. cc; names = chained; passes = refl; end = λ c. tt },
-     (point_regular 2 1 refl _ (λ c w. cc) tt tt, (point_regular 2 2 refl _ (λ c w. cc) tt tt, (point_regular 2 3 refl _ (λ c w. cc) tt tt, tt)))),
-   ((point_regular 3 0 refl _ (λ c w. cc) (refl, class_b) refl, (point_regular 3 1 refl _ (λ c w. cc) tt tt, (point_regular 3 2 refl _ (λ c w. cc) tt tt, (point_regular 3 3 refl _ (λ c w. cc) tt tt, (point_regular 3 4 refl _ (λ c w. cc) tt tt, (point_regular 3 5 refl _ (λ c w. cc) tt tt, (point_regular 3 6 refl _ (λ c w. cc) tt tt, tt))))))), tt))))
+points = points_each chain_program (λ b p pt. RegularPoint chain_program b p pt.kind) (
+  (point_regular 0 0 refl _ (λ c w. cc) (refl, class_a) refl, (point_regular 0 1 refl _ (λ c w. cc) tt tt, (point_regular 0 2 refl _ (λ c w. cc) tt tt, tt))),
+  (
+    (point_regular 1 0 refl _ (λ c w. cc) tt tt, (point_regular 1 1 refl _ (λ c w. cc) tt tt, tt)),
+    (
+      (
+        record { edges = edges_regular 2 0 (CtorCall (record { 0 = 0 }) [] false) (λ x n. n); this_kept = λ c w. cc; names = chained; passes = refl; end = λ c. tt },
+        (point_regular 2 1 refl _ (λ c w. cc) tt tt, (point_regular 2 2 refl _ (λ c w. cc) tt tt, (point_regular 2 3 refl _ (λ c w. cc) tt tt, tt))),
+      ),
+      ((point_regular 3 0 refl _ (λ c w. cc) (refl, class_b) refl, (point_regular 3 1 refl _ (λ c w. cc) tt tt, (point_regular 3 2 refl _ (λ c w. cc) tt tt, (point_regular 3 3 refl _ (λ c w. cc) tt tt, (point_regular 3 4 refl _ (λ c w. cc) tt tt, (point_regular 3 5 refl _ (λ c w. cc) tt tt, (point_regular 3 6 refl _ (λ c w. cc) tt tt, tt))))))), tt),
+    ),
+  ),
+)
 
 starts : (b : ℕ) → StartsRegular chain_program b
 starts zero c = inr own_fields
@@ -179,32 +181,52 @@ module _ (b : ℕ) (pts : List Point) (t : List (Option Env)) where
   flows p e is h f reached = some_is (λ e. (x : ℕ × Env) → IsAmong x (edges_at p (kind_at p) e) → Stays x) e f (sym is ∙ reached) (all_of Stays (edges_at p (kind_at p) e) h)
 
 first_flows : Each (Flows 0 first_points first_table) first_points
-first_flows =
-  (flows 0 first_points first_table 0 _ refl (record { quals = (refl, (refl, tt)); facts = (refl, tt); assigned = (refl, tt) }, tt),
-   (flows 0 first_points first_table 1 _ refl (record { quals = (refl, (refl, tt)); facts = (refl, tt); assigned = (refl, tt) }, tt),
-   (flows 0 first_points first_table 2 _ refl tt, tt)))
+first_flows = (
+  flows 0 first_points first_table 0 _ refl (record { quals = (refl, (refl, tt)); facts = (refl, tt); assigned = (refl, tt) }, tt),
+  (
+    flows 0 first_points first_table 1 _ refl (record { quals = (refl, (refl, tt)); facts = (refl, tt); assigned = (refl, tt) }, tt),
+    (flows 0 first_points first_table 2 _ refl tt, tt),
+  ),
+)
 
 second_flows : Each (Flows 1 second_points second_table) second_points
-second_flows =
-  (flows 1 second_points second_table 0 _ refl (record { quals = (refl, (refl, tt)); facts = (refl, tt); assigned = (refl, tt) }, tt),
-   (flows 1 second_points second_table 1 _ refl tt, tt))
+second_flows = (
+  flows 1 second_points second_table 0 _ refl (record { quals = (refl, (refl, tt)); facts = (refl, tt); assigned = (refl, tt) }, tt),
+  (flows 1 second_points second_table 1 _ refl tt, tt),
+)
 
 third_flows : Each (Flows 2 third_points third_table) third_points
-third_flows =
-  (flows 2 third_points third_table 0 _ refl (record { quals = (refl, (refl, tt)); facts = (refl, tt); assigned = (refl, tt) }, tt),
-   (flows 2 third_points third_table 1 _ refl (record { quals = (refl, (refl, tt)); facts = (refl, tt); assigned = (refl, tt) }, tt),
-   (flows 2 third_points third_table 2 _ refl (record { quals = (refl, (refl, tt)); facts = (refl, tt); assigned = (refl, tt) }, tt),
-   (flows 2 third_points third_table 3 _ refl tt, tt))))
+third_flows = (
+  flows 2 third_points third_table 0 _ refl (record { quals = (refl, (refl, tt)); facts = (refl, tt); assigned = (refl, tt) }, tt),
+  (
+    flows 2 third_points third_table 1 _ refl (record { quals = (refl, (refl, tt)); facts = (refl, tt); assigned = (refl, tt) }, tt),
+    (
+      flows 2 third_points third_table 2 _ refl (record { quals = (refl, (refl, tt)); facts = (refl, tt); assigned = (refl, tt) }, tt),
+      (flows 2 third_points third_table 3 _ refl tt, tt),
+    ),
+  ),
+)
 
 main_flows : Each (Flows 3 main_points main_table) main_points
-main_flows =
-  (flows 3 main_points main_table 0 _ refl (record { quals = (refl, (refl, (refl, (refl, tt)))); facts = (refl, (refl, (refl, tt))); assigned = tt }, tt),
-   (flows 3 main_points main_table 1 _ refl (record { quals = (refl, (refl, (refl, (refl, tt)))); facts = (refl, (refl, (refl, tt))); assigned = tt }, tt),
-   (flows 3 main_points main_table 2 _ refl (record { quals = (refl, (refl, (refl, (refl, tt)))); facts = (refl, (refl, (refl, tt))); assigned = tt }, tt),
-   (flows 3 main_points main_table 3 _ refl (record { quals = (refl, (refl, (refl, (refl, tt)))); facts = (refl, (refl, (refl, tt))); assigned = tt }, tt),
-   (flows 3 main_points main_table 4 _ refl (record { quals = (refl, (refl, (refl, (refl, tt)))); facts = (refl, (refl, (refl, tt))); assigned = tt }, tt),
-   (flows 3 main_points main_table 5 _ refl (record { quals = (refl, (refl, (refl, (refl, tt)))); facts = (refl, (refl, (refl, tt))); assigned = tt }, tt),
-   (flows 3 main_points main_table 6 _ refl tt, tt)))))))
+main_flows = (
+  flows 3 main_points main_table 0 _ refl (record { quals = (refl, (refl, (refl, (refl, tt)))); facts = (refl, (refl, (refl, tt))); assigned = tt }, tt),
+  (
+    flows 3 main_points main_table 1 _ refl (record { quals = (refl, (refl, (refl, (refl, tt)))); facts = (refl, (refl, (refl, tt))); assigned = tt }, tt),
+    (
+      flows 3 main_points main_table 2 _ refl (record { quals = (refl, (refl, (refl, (refl, tt)))); facts = (refl, (refl, (refl, tt))); assigned = tt }, tt),
+      (
+        flows 3 main_points main_table 3 _ refl (record { quals = (refl, (refl, (refl, (refl, tt)))); facts = (refl, (refl, (refl, tt))); assigned = tt }, tt),
+        (
+          flows 3 main_points main_table 4 _ refl (record { quals = (refl, (refl, (refl, (refl, tt)))); facts = (refl, (refl, (refl, tt))); assigned = tt }, tt),
+          (
+            flows 3 main_points main_table 5 _ refl (record { quals = (refl, (refl, (refl, (refl, tt)))); facts = (refl, (refl, (refl, tt))); assigned = tt }, tt),
+            (flows 3 main_points main_table 6 _ refl tt, tt),
+          ),
+        ),
+      ),
+    ),
+  ),
+)
 
 respects : (b : ℕ) (x : Body) → body_at chain_program b ≡ Some x → Respects chain_program chain_world.sig b (slice_index_or chain_world.tables b [])
 respects zero x is = record { entry = record { quals = (refl, (refl, tt)); facts = (refl, tt); assigned = (refl, tt) }; edges = λ p pt e at' reached. each_at (Flows 0 first_points first_table) first_points first_flows p pt at' e reached }
@@ -214,11 +236,16 @@ respects (suc (suc (suc zero))) x is = record { entry = record { quals = (refl, 
 respects (suc (suc (suc (suc b)))) x is = cc
 
 settles : (b p : ℕ) (pt : Point) → point_at chain_program b p ≡ Some pt → (e : Env) → FieldSettles chain_world e pt.kind
-settles = points_each chain_program (λ b p pt. (e : Env) → FieldSettles chain_world e pt.kind)
-  (((λ e. tt), ((λ e r c. refl), ((λ e. tt), tt))),
-   (((λ e r c. refl), ((λ e. tt), tt)),
-   (((λ e. tt), ((λ e. tt), ((λ e r c. refl), ((λ e. tt), tt)))),
-   (((λ e. tt), ((λ e. tt), ((λ e. tt), ((λ e. tt), ((λ e. tt), ((λ e. tt), ((λ e. tt), tt))))))), tt))))
+settles = points_each chain_program (λ b p pt. (e : Env) → FieldSettles chain_world e pt.kind) (
+  ((λ e. tt), ((λ e r c. refl), ((λ e. tt), tt))),
+  (
+    ((λ e r c. refl), ((λ e. tt), tt)),
+    (
+      ((λ e. tt), ((λ e. tt), ((λ e r c. refl), ((λ e. tt), tt)))),
+      (((λ e. tt), ((λ e. tt), ((λ e. tt), ((λ e. tt), ((λ e. tt), ((λ e. tt), ((λ e. tt), tt))))))), tt),
+    ),
+  ),
+)
 
 pub chain_accepted : Accepted chain_world
 chain_accepted = record {
@@ -254,26 +281,26 @@ alone : (n a b : ℕ) → supers_of (class_info chain_program a) ≡ [] → reac
 alone zero a b s h = equal_within a b h
 alone (suc n) a b s h = by (or_cases (eqb a b) (some_of (λ s. reaches chain_program n s.0 b) (supers_of (class_info chain_program a))) h)
   where
-  by : (eqb a b ≡ true) ⊎ (some_of (λ s. reaches chain_program n s.0 b) (supers_of (class_info chain_program a)) ≡ true) → Within a b
-  by (inl e) = equal_within a b e
-  by (inr r) = absurd (let k : false ≡ true = subst (λ xs. some_of {A = ClassNo} (λ s. reaches chain_program n s.0 b) xs ≡ true) s r in cc)
+    by : (eqb a b ≡ true) ⊎ (some_of (λ s. reaches chain_program n s.0 b) (supers_of (class_info chain_program a)) ≡ true) → Within a b
+    by (inl e) = equal_within a b e
+    by (inr r) = absurd (let k : false ≡ true = subst (λ xs. some_of {A = ClassNo} (λ s. reaches chain_program n s.0 b) xs ≡ true) s r in cc)
 
 object_only : (n b : ℕ) → reaches chain_program n 0 b ≡ true → b ≡ 0
 object_only n b h = by (alone n 0 b refl h)
   where
-  by : Within 0 b → b ≡ 0
-  by (inl e) = e
-  by (inr (inl e)) = sym e
-  by (inr (inr x)) = x.1 ∙ absurd (let y : 0 ≡ 3 = x.0 in omega (y, arith))
+    by : Within 0 b → b ≡ 0
+    by (inl e) = e
+    by (inr (inl e)) = sym e
+    by (inr (inr x)) = x.1 ∙ absurd (let y : 0 ≡ 3 = x.0 in omega (y, arith))
 
 -- a class whose only supertype is Object
 under_object : (n a b : ℕ) → supers_of (class_info chain_program a) ≡ record { 0 = 0 } ∷ [] → reaches chain_program n a b ≡ true → (b ≡ 0) ⊎ (a ≡ b)
 under_object zero a b s h = inr (eqb-true a b h)
 under_object (suc n) a b s h = by (or_cases (eqb a b) (some_of (λ s. reaches chain_program n s.0 b) (supers_of (class_info chain_program a))) h)
   where
-  by : (eqb a b ≡ true) ⊎ (some_of (λ s. reaches chain_program n s.0 b) (supers_of (class_info chain_program a)) ≡ true) → (b ≡ 0) ⊎ (a ≡ b)
-  by (inl e) = inr (eqb-true a b e)
-  by (inr r) = inl (object_only n b (or_none (reaches chain_program n 0 b) (subst (λ xs. some_of (λ s. reaches chain_program n s.0 b) xs ≡ true) s r)))
+    by : (eqb a b ≡ true) ⊎ (some_of (λ s. reaches chain_program n s.0 b) (supers_of (class_info chain_program a)) ≡ true) → (b ≡ 0) ⊎ (a ≡ b)
+    by (inl e) = inr (eqb-true a b e)
+    by (inr r) = inl (object_only n b (or_none (reaches chain_program n 0 b) (subst (λ xs. some_of (λ s. reaches chain_program n s.0 b) xs ≡ true) s r)))
 
 widen : (a b : ℕ) → (b ≡ 0) ⊎ (a ≡ b) → Within a b
 widen a b (inl e) = inl e
@@ -285,20 +312,21 @@ reached (suc zero) b h = widen 1 b (under_object 4 1 b refl h)
 reached (suc (suc zero)) b h = widen 2 b (under_object 4 2 b refl h)
 reached (suc (suc (suc zero))) b h = by (or_cases (eqb 3 b) (reaches chain_program 3 2 b || false) h)
   where
-  upper : (b ≡ 0) ⊎ (2 ≡ b) → Within 3 b
-  upper (inl e) = inl e
-  upper (inr e) = inr (inr (refl, sym e))
-  by : (eqb 3 b ≡ true) ⊎ ((reaches chain_program 3 2 b || false) ≡ true) → Within 3 b
-  by (inl e) = equal_within 3 b e
-  by (inr r) = upper (under_object 3 2 b refl (or_none (reaches chain_program 3 2 b) r))
+    upper : (b ≡ 0) ⊎ (2 ≡ b) → Within 3 b
+    upper (inl e) = inl e
+    upper (inr e) = inr (inr (refl, sym e))
+
+    by : (eqb 3 b ≡ true) ⊎ ((reaches chain_program 3 2 b || false) ≡ true) → Within 3 b
+    by (inl e) = equal_within 3 b e
+    by (inr r) = upper (under_object 3 2 b refl (or_none (reaches chain_program 3 2 b) r))
 reached (suc (suc (suc (suc a)))) b h = alone 4 (suc (suc (suc (suc a)))) b refl h
 
 sub_within : (a b : ℕ) → sub chain_program a b ≡ true → Within a b
 sub_within a b h = by (or_cases (eqb b 0) (reaches chain_program 4 a b) h)
   where
-  by : (eqb b 0 ≡ true) ⊎ (reaches chain_program 4 a b ≡ true) → Within a b
-  by (inl e) = inl (eqb-true b 0 e)
-  by (inr r) = reached a b r
+    by : (eqb b 0 ≡ true) ⊎ (reaches chain_program 4 a b ≡ true) → Within a b
+    by (inl e) = inl (eqb-true b 0 e)
+    by (inr r) = reached a b r
 
 within_sub : (a b : ℕ) → Within a b → sub chain_program a b ≡ true
 within_sub a b (inl e) = or_left (eqb b 0) (reaches chain_program 4 a b) (eq-eqb b 0 e)
@@ -319,28 +347,34 @@ chain_ordered = record {
   string = λ c h. flat c (sub_within c 1 h);
 }
   where
-  top : (c : ℕ) → Within 0 c → c ≡ 0
-  top c (inl e) = e
-  top c (inr (inl e)) = sym e
-  top c (inr (inr x)) = absurd (let p : 0 ≡ 3 = x.0 in omega (p, arith))
-  flat : (c : ℕ) → Within c 1 → c ≡ 1
-  flat c (inl e) = absurd (let p : 1 ≡ 0 = e in omega (p, arith))
-  flat c (inr (inl e)) = e
-  flat c (inr (inr x)) = absurd (let p : 1 ≡ 2 = x.1 in omega (p, arith))
+    top : (c : ℕ) → Within 0 c → c ≡ 0
+    top c (inl e) = e
+    top c (inr (inl e)) = sym e
+    top c (inr (inr x)) = absurd (let p : 0 ≡ 3 = x.0 in omega (p, arith))
+
+    flat : (c : ℕ) → Within c 1 → c ≡ 1
+    flat c (inl e) = absurd (let p : 1 ≡ 0 = e in omega (p, arith))
+    flat c (inr (inl e)) = e
+    flat c (inr (inr x)) = absurd (let p : 1 ≡ 2 = x.1 in omega (p, arith))
 
 parents : (c : ℕ) (x : Class) → class_info chain_program c ≡ Some x → (p : ClassNo) → x.parent ≡ Some p → some_of (λ s. eqb s.0 p.0) x.supers ≡ true
 parents = each_at (λ c x. (p : ClassNo) → x.parent ≡ Some p → some_of (λ s. eqb s.0 p.0) x.supers ≡ true) chain_program.classes
-  ((λ p h. cc), ((λ p h. parent (record { 0 = 0 }) p h), ((λ p h. parent (record { 0 = 0 }) p h), ((λ p h. parent (record { 0 = 2 }) p h), tt))))
+    ((λ p h. cc), ((λ p h. parent (record { 0 = 0 }) p h), ((λ p h. parent (record { 0 = 0 }) p h), ((λ p h. parent (record { 0 = 2 }) p h), tt))))
   where
-  parent : (q p : ClassNo) → Some q ≡ Some p → (eqb q.0 p.0 || false) ≡ true
-  parent q p h = let same : q ≡ p = cc in subst (λ p. (eqb q.0 p.0 || false) ≡ true) same (or_left (eqb q.0 q.0) false (eq-eqb q.0 q.0 refl))
+    parent : (q p : ClassNo) → Some q ≡ Some p → (eqb q.0 p.0 || false) ≡ true
+    parent q p h = let same : q ≡ p = cc in subst (λ p. (eqb q.0 p.0 || false) ≡ true) same (or_left (eqb q.0 q.0) false (eq-eqb q.0 q.0 refl))
 
 typed : (b p : ℕ) (pt : Point) → point_at chain_program b p ≡ Some pt → PointTyped chain_program b pt.kind
-typed = points_each chain_program (λ b p pt. PointTyped chain_program b pt.kind)
-  (((refl, (refl, tt)), (refl, (tt, tt))),
-   ((refl, (tt, tt)),
-   (((refl, tt), (refl, (refl, (tt, tt)))),
-   (((refl, tt), (refl, ((refl, refl, (refl, tt)), (refl, (refl, (refl, (tt, tt))))))), tt))))
+typed = points_each chain_program (λ b p pt. PointTyped chain_program b pt.kind) (
+  ((refl, (refl, tt)), (refl, (tt, tt))),
+  (
+    (refl, (tt, tt)),
+    (
+      ((refl, tt), (refl, (refl, (tt, tt)))),
+      (((refl, tt), (refl, ((refl, refl, (refl, tt)), (refl, (refl, (refl, (tt, tt))))))), tt),
+    ),
+  ),
+)
 
 on_bodies : (S : ℕ → ℕ → Type 0) → S 0 0 → S 1 1 → S 2 2 → S 3 3 → (m b : ℕ) → body_of (method_at chain_program m) ≡ Some b → S m b
 on_bodies S a c d e zero b is = let same : 0 ≡ b = cc in subst (λ b. S 0 b) same a
@@ -354,9 +388,9 @@ ctor_pairs m k None y h = refl
 ctor_pairs m k (Some x) None h = refl
 ctor_pairs m k (Some x) (Some y) h = by x.ctor h
   where
-  by : (t : Bool) → t ≡ true → (not t && is_named y x.name.0 (length x.params) && (class_pairs chain_program m k x y || interface_pairs chain_program x y)) ≡ false
-  by true h = refl
-  by false h = cc
+    by : (t : Bool) → t ≡ true → (not t && is_named y x.name.0 (length x.params) && (class_pairs chain_program m k x y || interface_pairs chain_program x y)) ≡ false
+    by true h = refl
+    by false h = cc
 
 no_pairs : (m k : ℕ) → is_pair chain_program m k ≡ false
 no_pairs zero k = ctor_pairs 0 k (method_at chain_program 0) (method_at chain_program k) refl

@@ -9,7 +9,7 @@ use Rattle.jn_heap.specs.Values.{At, Elems, NullRef, Object, Plain, Text, Thing,
 use Rattle.jn_env.specs.declared.env.Env.{Env}
 use Rattle.jn_heap.specs.Machine.{Frame, class_at, class_in, field_at, field_in}
 use Rattle.jn_soundness.specs.World.{World}
-use Rattle.jn_points.specs.Members.{below, fits, has_field}
+use Rattle.jn_points.specs.Members.{has_field}
 use Rattle.jn_points.specs.Lookup.{class_of, ctor_of, method_in, owner, ref_field}
 use Rattle.jn_sigs.specs.Signature.{field_qual}
 use Rattle.jn_transfer.specs.Keys.{own_keys}
@@ -75,31 +75,34 @@ module _ (W : World) (m : Marks) (heap : List Thing) (o e d : ℕ) (ended : List
 
   -- the frame that ends
   module _ (g : FrameMark) (gs : List FrameMark) (built : g.built ≡ Some o)
-    (class : g.made ≡ true → class_at heap o ≡ Some d) (supers : SupersEnded W d ended)
-    (set : (f : ℕ) → owner W.program f ≡ d → FieldSet W heap o f) where
+      (class : g.made ≡ true → class_at heap o ≡ Some d) (supers : SupersEnded W d ended)
+      (set : (f : ℕ) → owner W.program f ≡ d → FieldSet W heap o f) where
     now_ended : (c : ℕ) → BuiltOk W (g ∷ gs) o c (Free e ended) → class_at heap o ≡ Some c → BuiltOk W gs o c (Free e (d ∷ ended))
     now_ended c (inl all) is = inl (λ f h. inr (all f h))
     now_ended c (inr (inr b)) is = inr b
     now_ended c (inr (inl b)) is = inl (λ f h. by f (supers f (subst (λ x. has_field W.program x f ≡ true) (same c is b.0) h)))
       where
-      by : (f : ℕ) → (owner W.program f ≡ d) ⊎ IsMember (owner W.program f) ended → IsMember (owner W.program f) (d ∷ ended)
-      by f (inl x) = inl x
-      by f (inr x) = inr x
-      same : (c : ℕ) → class_at heap o ≡ Some c → g.made ≡ true → c ≡ d
-      same c is mk = let both : Some c ≡ Some d = sym is ∙ class mk in cc
+        by : (f : ℕ) → (owner W.program f ≡ d) ⊎ IsMember (owner W.program f) ended → IsMember (owner W.program f) (d ∷ ended)
+        by f (inl x) = inl x
+        by f (inr x) = inr x
+
+        same : (c : ℕ) → class_at heap o ≡ Some c → g.made ≡ true → c ≡ d
+        same c is mk = let both : Some c ≡ Some d = sym is ∙ class mk in cc
 
     end_thing : (x : Option Thing) → slice_get heap o ≡ x → ThingOk W m (g ∷ gs) o (Free e ended) x → ThingOk W ended_marks gs o (Free e (d ∷ ended)) x
     end_thing None is h = cc
     end_thing (Some (Elems b xs)) is h = let bad = h.0 in cc
     end_thing (Some (Object c fs)) is h = record { fields = λ f v x. by f v x (h.fields f v x); built = now_ended c h.built (ap class_in is) }
       where
-      null : (f : ℕ) (v : Value) → field_in W.program (Some (Object c fs)) f ≡ Some v → v ≡ NullRef → field_at W.program heap o f ≡ Some NullRef
-      null f v x n = (ap (λ t. field_in W.program t f) is ∙ x) ∙ ap (λ y. Some y) n
-      ends : (f : ℕ) (v : Value) → field_in W.program (Some (Object c fs)) f ≡ Some v → FreeField m e ended (owner W.program f) (ref_field W.program f) (field_qual W.program W.sig f) v → IsMember (owner W.program f) (d ∷ ended) → v ≡ NullRef → (field_qual W.program W.sig f).null ≡ true
-      ends f v x k (inl own) n = set f own (null f v x n)
-      ends f v x k (inr own) n = k.ends own n
-      by : (f : ℕ) (v : Value) → field_in W.program (Some (Object c fs)) f ≡ Some v → FreeField m e ended (owner W.program f) (ref_field W.program f) (field_qual W.program W.sig f) v → FreeField ended_marks e (d ∷ ended) (owner W.program f) (ref_field W.program f) (field_qual W.program W.sig f) v
-      by f v x k = record { value = free_later e (free_qual (ref_field W.program f)) v k.value; slot = k.slot; ends = λ y n. ends f v x k y n }
+        null : (f : ℕ) (v : Value) → field_in W.program (Some (Object c fs)) f ≡ Some v → v ≡ NullRef → field_at W.program heap o f ≡ Some NullRef
+        null f v x n = (ap (λ t. field_in W.program t f) is ∙ x) ∙ ap (λ y. Some y) n
+
+        ends : (f : ℕ) (v : Value) → field_in W.program (Some (Object c fs)) f ≡ Some v → FreeField m e ended (owner W.program f) (ref_field W.program f) (field_qual W.program W.sig f) v → IsMember (owner W.program f) (d ∷ ended) → v ≡ NullRef → (field_qual W.program W.sig f).null ≡ true
+        ends f v x k (inl own) n = set f own (null f v x n)
+        ends f v x k (inr own) n = k.ends own n
+
+        by : (f : ℕ) (v : Value) → field_in W.program (Some (Object c fs)) f ≡ Some v → FreeField m e ended (owner W.program f) (ref_field W.program f) (field_qual W.program W.sig f) v → FreeField ended_marks e (d ∷ ended) (owner W.program f) (ref_field W.program f) (field_qual W.program W.sig f) v
+        by f v x k = record { value = free_later e (free_qual (ref_field W.program f)) v k.value; slot = k.slot; ends = λ y n. ends f v x k y n }
 
     other_building : (p a : ℕ) → (p ≡ o → ⊥) → Building (g ∷ gs) p a → Building gs p a
     other_building p a n (inl x) = let both : Some o ≡ Some p = sym built ∙ x.1 in absurd (n (let same : p ≡ o = cc in same))
@@ -109,10 +112,10 @@ module _ (W : World) (m : Marks) (heap : List Thing) (o e d : ℕ) (ended : List
     heap_by h p (inl same) =
         let old : ThingOk W m (g ∷ gs) o (Free e ended) (slice_get heap o) = subst (λ k. ThingOk W m (g ∷ gs) o k (slice_get heap o)) free (h o) in
         subst (λ y. ThingOk W ended_marks gs y (ended_marks y) (slice_get heap y)) (sym same)
-          (subst (λ k. ThingOk W ended_marks gs o k (slice_get heap o)) (sym (mark_same m o (Free e (d ∷ ended)))) (end_thing (slice_get heap o) refl old))
+        (subst (λ k. ThingOk W ended_marks gs o k (slice_get heap o)) (sym (mark_same m o (Free e (d ∷ ended)))) (end_thing (slice_get heap o) refl old))
     heap_by h p (inr n) =
         subst (λ k. ThingOk W ended_marks gs p k (slice_get heap p)) (sym (mark_other m o p (Free e (d ∷ ended)) n))
-          (thing_later W m ended_marks ended_committed (g ∷ gs) gs p (λ a x. other_building p a n x) (m p) (slice_get heap p) (fits_mark (m p)) (h p))
+        (thing_later W m ended_marks ended_committed (g ∷ gs) gs p (λ a x. other_building p a n x) (m p) (slice_get heap p) (fits_mark (m p)) (h p))
 
     pub ended_heap : HeapOk W m (g ∷ gs) heap → HeapOk W ended_marks gs heap
     ended_heap h p = heap_by h p (eqb_cases p o)
@@ -177,7 +180,7 @@ module _ (W : World) (m : Marks) (heap : List Thing) (e : ℕ) where
     free_by : (o a : ℕ) (l : List ℕ) (x : Option Thing) → (a ≡ e) ⊎ (a ≡ e → ⊥) → ThingOk W m gs o (Free a l) x → ThingOk W committed_marks gs o (commit_mark e (Free a l)) x
     free_by o a l x (inl s) h = subst (λ k. ThingOk W committed_marks gs o k x) (sym (commit_same a l s)) (commit_free o a l x s h)
     free_by o a l x (inr n) h = subst (λ k. ThingOk W committed_marks gs o k x) (sym (commit_other a l (eqb a e) refl n))
-      (thing_later W m committed_marks (λ p k. committed_later (m p) k) gs gs o (λ b y. y) (Free a l) x (λ p q y. fits_kept a q (m p) n y) h)
+        (thing_later W m committed_marks (λ p k. committed_later (m p) k) gs gs o (λ b y. y) (Free a l) x (λ p q y. fits_kept a q (m p) n y) h)
 
     commit_thing : (o : ℕ) (k : ObjMark) (x : Option Thing) → ThingOk W m gs o k x → ThingOk W committed_marks gs o (commit_mark e k) x
     commit_thing o Unborn x h = thing_later W m committed_marks (λ p k. committed_later (m p) k) gs gs o (λ b y. y) Unborn x tt h
@@ -215,12 +218,14 @@ module _ (W : World) (m : Marks) (heap : List Thing) where
 pub class_set : (W : World) (b : ℕ) (e : Env) (m : Marks) (gs : List FrameMark) (heap : List Thing) (o a d : ℕ) (l : List ℕ) → HeapOk W m gs heap → m o ≡ Free a l → ctor_of (method_in W.program b) ≡ true → class_of (method_in W.program b) ≡ d → AllAssigned W b e → AllOn (FieldSet W heap o) (own_keys W.program b) e.assigned → (f : ℕ) → owner W.program f ≡ d → FieldSet W heap o f
 class_set W b e m gs heap o a d l h free c is all on f own z = by (field_qual W.program W.sig f).null refl
   where
-  thing : (x : Option Thing) → ThingOk W m gs o (Free a l) x → field_in W.program x f ≡ Some NullRef → ref_field W.program f ≡ true
-  thing None t z = cc
-  thing (Some (Object k fs)) t z = (t.fields f NullRef z).value
-  thing (Some (Elems k xs)) t z = cc
-  is_ref : ref_field W.program f ≡ true
-  is_ref = thing (slice_get heap o) (subst (λ k. ThingOk W m gs o k (slice_get heap o)) free (h o)) z
-  by : (t : Bool) → (field_qual W.program W.sig f).null ≡ t → (field_qual W.program W.sig f).null ≡ true
-  by true n = n
-  by false n = on_is_on (FieldSet W heap o) (λ k. eqb k f) (own_keys W.program b) e.assigned on (all c f (own ∙ sym is) is_ref n) (λ k t s. subst (λ y. FieldSet W heap o y) (eqb-true k f t) s z)
+    thing : (x : Option Thing) → ThingOk W m gs o (Free a l) x → field_in W.program x f ≡ Some NullRef → ref_field W.program f ≡ true
+    thing None t z = cc
+    thing (Some (Object k fs)) t z = (t.fields f NullRef z).value
+    thing (Some (Elems k xs)) t z = cc
+
+    is_ref : ref_field W.program f ≡ true
+    is_ref = thing (slice_get heap o) (subst (λ k. ThingOk W m gs o k (slice_get heap o)) free (h o)) z
+
+    by : (t : Bool) → (field_qual W.program W.sig f).null ≡ t → (field_qual W.program W.sig f).null ≡ true
+    by true n = n
+    by false n = on_is_on (FieldSet W heap o) (λ k. eqb k f) (own_keys W.program b) e.assigned on (all c f (own ∙ sym is) is_ref n) (λ k t s. subst (λ y. FieldSet W heap o y) (eqb-true k f t) s z)

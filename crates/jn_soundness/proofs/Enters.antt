@@ -16,12 +16,12 @@ use Rattle.jn_points.specs.declared.program.Method.{Method}
 use Rattle.jn_points.specs.declared.program.Body.{Body}
 use Rattle.jn_soundness.specs.Checked.{ArgsPass, Checked, PointOk, ReceiverPasses}
 use Rattle.jn_soundness.specs.Good.{ArgsRef, AssignedOk, Building, Committed, Ctor, CtorOk, Described, Describes, EraStep, FactOk, FieldOk, FieldSet, FrameMark, Free, FreeField, Good, GoodNext, GoodTop, HeapOk, HoldsRef, IsMember, MarkFits, Marking, Marks, ObjMark, Overrides, SupersEnded, Typed, Unborn, Waiting, Waits}
-use Rattle.jn_heap.specs.Values.{At, NullRef, Object, Plain, Prim, Text, Thing, Value, deepest, default_of, defaults, same}
+use Rattle.jn_heap.specs.Values.{At, NullRef, Object, Plain, Prim, Text, Thing, Value, deepest, default_of, defaults}
 use Rattle.jn_env.specs.declared.env.Env.{Env}
-use Rattle.jn_heap.specs.Machine.{Regs, State, act, calls, calls_on, calls_this, class_in, ctor_calls, enter, entered, field_in, gather, gather_more, news, object_of, pad, selected, value_at, returns, value_of}
+use Rattle.jn_heap.specs.Machine.{Regs, State, calls, calls_on, calls_this, class_in, ctor_calls, enter, entered, field_in, gather, gather_more, news, object_of, pad, selected, value_at}
 use Rattle.jn_soundness.specs.World.{World, param_quals}
 use Rattle.jn_transfer.specs.Transfer.{all_settled, any_empty, any_free, entry_env, given_quals, new_qual, ref_quals, this_qual}
-use Rattle.jn_points.specs.Members.{below, has_field}
+use Rattle.jn_points.specs.Members.{has_field}
 use Rattle.jn_points.specs.Lookup.{body_at, body_of, class_of, ctor_of, is_ref_base, method_at, method_in, owner, point_at, ref_field, regs_of, slots_of, static_of}
 use Rattle.jn_transfer.specs.Keys.{fact_keys, no_bits, own_keys}
 use Rattle.jn_sigs.specs.Signature.{field_qual, receiver_of, result_of, slot_quals}
@@ -95,10 +95,10 @@ lives m a q (Text t) d n = some_bit q.null q.committed q.free (inr (inl d))
 lives m a q (Plain p) d n = absurd (n p refl)
 lives m a q (At o) d n = by_mark (m o) d
   where
-  by_mark : (k : ObjMark) → MarkFits a q k → is_none q ≡ false
-  by_mark Unborn h = absurd h
-  by_mark Committed h = some_bit q.null q.committed q.free (inr (inl h))
-  by_mark (Free e ended) h = some_bit q.null q.committed q.free (inr (inr h.0))
+    by_mark : (k : ObjMark) → MarkFits a q k → is_none q ≡ false
+    by_mark Unborn h = absurd h
+    by_mark Committed h = some_bit q.null q.committed q.free (inr (inl h))
+    by_mark (Free e ended) h = some_bit q.null q.committed q.free (inr (inr h.0))
 
 or_both : (a b : Bool) → a ≡ false → b ≡ false → (a || b) ≡ false
 or_both true b h k = cc
@@ -110,8 +110,8 @@ none_more m a e regs slots y args o s d rec x t (Some v) iv None iu is = absurd 
 none_more m a e regs slots y args o s d rec None t (Some v) iv (Some us) iu is = rec us iu t
 none_more m a e regs slots y args o s d rec (Some k) t (Some v) iv (Some us) iu is =
     or_both (is_none (qual_at e y.reg.0)) (any_empty (ref_quals e slots args))
-      (lives m a (qual_at e y.reg.0) v (subst (λ w. Describes m a (qual_at e y.reg.0) w) iv d) (λ p z. t.0 p (iv ∙ z)))
-      (rec us iu t.1)
+    (lives m a (qual_at e y.reg.0) v (subst (λ w. Describes m a (qual_at e y.reg.0) w) iv d) (λ p z. t.0 p (iv ∙ z)))
+    (rec us iu t.1)
 
 none_empty : (m : Marks) (a : ℕ) (e : Env) (regs : Regs) (slots : List (Option SlotNo)) (args : List Operand) (o : Option (List Value)) → gather regs args ≡ o → (o ≡ None → ⊥) → ArgsRef regs slots args → ArgsFit m a e regs args → any_empty (ref_quals e slots args) ≡ false
 none_empty m a e regs [] args o is s t d = refl
@@ -151,9 +151,9 @@ module _ (W : World) (checked : Checked W) where
   pub enter_top : (m : Marks) (heap : List Thing) (b : ℕ) (x : Body) → body_at W.program b ≡ Some x → (vs : List Value) (g : FrameMark) → AllDescribed m g.era (given_quals W.sig (method_in W.program b)) vs → CtorOk W m heap (entered W.program b vs) g g.built → GoodTop W m heap (entered W.program b vs) g
   enter_top m heap b x there vs g d c =
       arrives W m heap (entered W.program b vs) g (entry_env W.program W.sig b) (checked.entry b x there)
-        (record { quals = described_pad m g.era W (given_quals W.sig (method_in W.program b)) vs (regs_of (body_at W.program b)) d; assigned = entry_assigned heap g.built b; ctor = c })
-        (on_none (FactOk W heap (pad vs (regs_of (body_at W.program b)))) (fact_keys W.program b))
-        (no_test W m heap (pad vs (regs_of (body_at W.program b))) (test_at W.program b 0) (checked.entry_test b))
+      (record { quals = described_pad m g.era W (given_quals W.sig (method_in W.program b)) vs (regs_of (body_at W.program b)) d; assigned = entry_assigned heap g.built b; ctor = c })
+      (on_none (FactOk W heap (pad vs (regs_of (body_at W.program b)))) (fact_keys W.program b))
+      (no_test W m heap (pad vs (regs_of (body_at W.program b))) (test_at W.program b 0) (checked.entry_test b))
 
   given_static : (m : Option Method) → static_of m ≡ true → given_quals W.sig m ≡ slot_quals W.sig (slots_of m)
   given_static m h = ap (λ b. cond b (slot_quals W.sig (slots_of m)) (this_qual W.sig m ∷ slot_quals W.sig (slots_of m))) h
@@ -171,17 +171,17 @@ module _ (W : World) (checked : Checked W) where
   entry_supers : (b : ℕ) → ctor_of (method_in W.program b) ≡ true → Early W.program b 0 ⊎ SupersEnded W (class_of (method_in W.program b)) []
   entry_supers b c = by (checked.entry_early b c)
     where
-    by : Early W.program b 0 ⊎ ((f : ℕ) → has_field W.program (class_of (method_in W.program b)) f ≡ true → owner W.program f ≡ class_of (method_in W.program b)) → Early W.program b 0 ⊎ SupersEnded W (class_of (method_in W.program b)) []
-    by (inl h) = inl h
-    by (inr h) = inr (λ f k. inl (h f k))
+      by : Early W.program b 0 ⊎ ((f : ℕ) → has_field W.program (class_of (method_in W.program b)) f ≡ true → owner W.program f ≡ class_of (method_in W.program b)) → Early W.program b 0 ⊎ SupersEnded W (class_of (method_in W.program b)) []
+      by (inl h) = inl h
+      by (inr h) = inr (λ f k. inl (h f k))
 
   more_ended : {X : Type 0} → (c : ℕ) (ended : List ℕ) → X ⊎ SupersEnded W c [] → X ⊎ SupersEnded W c ended
   more_ended c ended (inl h) = inl h
   more_ended c ended (inr h) = inr (λ f k. by (h f k))
     where
-    by : {f : ℕ} → (f ≡ c) ⊎ IsMember f [] → (f ≡ c) ⊎ IsMember f ended
-    by (inl e) = inl e
-    by (inr e) = absurd e
+      by : {f : ℕ} → (f ≡ c) ⊎ IsMember f [] → (f ≡ c) ⊎ IsMember f ended
+      by (inl e) = inl e
+      by (inr e) = absurd e
 
   module _ (st : State) (mk : Marking) (good : Good W st mk) (pt : Point) (point : point_at W.program st.top.body st.top.at ≡ Some pt) where
     waits_same : (b : ℕ) (g : FrameMark) → Waits W b g mk.top good.top.env pt.kind → EraStep g mk.top → Waiting W mk.marks st.heap b g (st.top ∷ st.waiting) (mk.top ∷ mk.waiting)
@@ -234,9 +234,9 @@ module _ (W : World) (checked : Checked W) where
     on_call dst m r direct args is p rp ty None iv o io = tt
     on_call dst m r direct args is p rp ty (Some vs) iv o io = subst (λ x. GoodNext W (calls_this W.program st x m.0 direct vs)) (sym io) (by o io)
       where
-      by : (o : Option ℕ) → object_of (value_at st.top.regs r.reg.0) ≡ o → GoodNext W (calls_this W.program st o m.0 direct vs)
-      by None io = tt
-      by (Some o) io = this_call dst m r direct args is p rp ty vs iv o (object_is (value_at st.top.regs r.reg.0) o io) (selected W.program st.heap o m.0 direct) refl
+        by : (o : Option ℕ) → object_of (value_at st.top.regs r.reg.0) ≡ o → GoodNext W (calls_this W.program st o m.0 direct vs)
+        by None io = tt
+        by (Some o) io = this_call dst m r direct args is p rp ty vs iv o (object_is (value_at st.top.regs r.reg.0) o io) (selected W.program st.heap o m.0 direct) refl
 
     pub call_kind : (dst : Option RegNo) (m : MethodNo) (r : Option Operand) (direct : Bool) (args : List Operand) → pt.kind ≡ Call dst m r direct args → PointOk W st.top.body st.top.at good.top.env (Call dst m r direct args) → Typed W st (Call dst m r direct args) → GoodNext W (calls W.program st m.0 r direct (gather st.top.regs args))
     call_kind dst m None direct args is ok ty = static_call dst m direct args is ok.rules.0 ok.rules.1 ok.names.0 (gather st.top.regs args) refl
@@ -259,7 +259,7 @@ module _ (W : World) (checked : Checked W) where
           good = record {
             heap = heap_frames W mk.marks (mk.top ∷ mk.waiting) (g ∷ mk.top ∷ mk.waiting) st.heap (λ o a h. inr h) good.heap;
             top = enter_top mk.marks st.heap b (checked.there m.0 b ib).0 (checked.there m.0 b ib).1 (At o ∷ vs) g (subst (λ y. AllDescribed mk.marks mk.top.era (given_quals W.sig y) (At o ∷ vs)) (sym same) given)
-              (record { inside = inside; this = first_value b (At o) vs inside; ended = c.ended; free = c.free; supers = more_ended (class_of (method_in W.program b)) c.ended (entry_supers b inside); class = λ h. true_false false h refl });
+                (record { inside = inside; this = first_value b (At o) vs inside; ended = c.ended; free = c.free; supers = more_ended (class_of (method_in W.program b)) c.ended (entry_supers b inside); class = λ h. true_false false h refl });
             waiting = waits_same b g (subst (λ y. Waits W b g mk.top good.top.env y) (sym is) (record { ctor = inside; class = ap (λ y. class_of y) same; built = sym ob; shared = refl })) (same_step g refl refl);
             below = good.below;
           };
@@ -285,20 +285,22 @@ module _ (W : World) (checked : Checked W) where
     prim_default b h e = cc
 
     default_ok : (b : BaseType) (n : Marks) (a own : ℕ) (is_ref : Bool) (q : Qualifier) → (is_ref ≡ false → is_ref_base b ≡ false) → FreeField n a [] own is_ref q (default_of b)
-    default_ok b n a own is_ref q h = by (default_of b) (null b)  (λ e. or_true' is_ref (λ x. prim_default b (h x) e))
+    default_ok b n a own is_ref q h = by (default_of b) (null b) (λ e. or_true' is_ref (λ x. prim_default b (h x) e))
       where
-      or_true' : (b : Bool) → (b ≡ false → ⊥) → b ≡ true
-      or_true' true h = refl
-      or_true' false h = absurd (h refl)
-      null : (b : BaseType) → HoldsRef (default_of b) → ⊥
-      null (Ref c) h = h
-      null (Array x n) h = h
-      null b h = h
-      by : (v : Value) → (HoldsRef v → ⊥) → (v ≡ NullRef → is_ref ≡ true) → FreeField n a [] own is_ref q v
-      by NullRef k l = record { value = l refl; slot = λ x. absurd x; ends = λ x y. absurd x }
-      by (Text t) k l = absurd (k tt)
-      by (Plain p) k l = record { value = tt; slot = λ x. absurd x; ends = λ x y. absurd x }
-      by (At o) k l = absurd (k tt)
+        or_true' : (b : Bool) → (b ≡ false → ⊥) → b ≡ true
+        or_true' true h = refl
+        or_true' false h = absurd (h refl)
+
+        null : (b : BaseType) → HoldsRef (default_of b) → ⊥
+        null (Ref c) h = h
+        null (Array x n) h = h
+        null b h = h
+
+        by : (v : Value) → (HoldsRef v → ⊥) → (v ≡ NullRef → is_ref ≡ true) → FreeField n a [] own is_ref q v
+        by NullRef k l = record { value = l refl; slot = λ x. absurd x; ends = λ x y. absurd x }
+        by (Text t) k l = absurd (k tt)
+        by (Plain p) k l = record { value = tt; slot = λ x. absurd x; ends = λ x y. absurd x }
+        by (At o) k l = absurd (k tt)
 
     module _ (dst : RegNo) (m : MethodNo) (args : List Operand) (is : pt.kind ≡ New dst m args) (ctor : ctor_of (method_at W.program m.0) ≡ true) (p : ArgsPass good.top.env (param_quals W m.0) args) (vs : List Value) (iv : gather st.top.regs args ≡ Some vs) (ty : ArgsRef st.top.regs (slots_of (method_at W.program m.0)) args) where
       abbrev slots : List (Option SlotNo)
@@ -320,10 +322,10 @@ module _ (W : World) (checked : Checked W) where
       not_empty = none_empty mk.marks mk.top.era good.top.env st.top.regs slots args (Some vs) iv (λ z. cc) ty fits
 
       module _ (a next : ℕ) (opened : Bool) (b : ℕ) (ib : body_of (method_at W.program m.0) ≡ Some b)
-        (era_fits : ArgsFit (grown_marks W mk.marks (mk.top ∷ mk.waiting) st.heap good.heap made (Free a [])) a good.top.env st.top.regs args)
-        (q_opened : opened ≡ true → (new_qual (ref_quals good.top.env slots args)).committed ≡ true)
-        (q_shared : opened ≡ false → (new_qual (ref_quals good.top.env slots args)).free ≡ true)
-        (era : EraStep (record { era = a; opened = opened; made = true; built = Some (length st.heap) }) mk.top) (below : a < next) where
+          (era_fits : ArgsFit (grown_marks W mk.marks (mk.top ∷ mk.waiting) st.heap good.heap made (Free a [])) a good.top.env st.top.regs args)
+          (q_opened : opened ≡ true → (new_qual (ref_quals good.top.env slots args)).committed ≡ true)
+          (q_shared : opened ≡ false → (new_qual (ref_quals good.top.env slots args)).free ≡ true)
+          (era : EraStep (record { era = a; opened = opened; made = true; built = Some (length st.heap) }) mk.top) (below : a < next) where
         abbrev g' : FrameMark
         g' = record { era = a; opened = opened; made = true; built = Some (length st.heap) }
 
@@ -350,12 +352,19 @@ module _ (W : World) (checked : Checked W) where
               good = record {
                 heap = grown_heap W mk.marks gs st.heap good.heap made (Free a []) (g' ∷ gs) (λ o c h. inr h) (record { fields = fields_ok; built = inr (inl (refl, refl, refl)) });
                 top = enter_top marks' heap' b (checked.there m.0 b ib).0 (checked.there m.0 b ib).1 (At (length st.heap) ∷ vs) g' (subst (λ y. AllDescribed marks' a (given_quals W.sig y) (At (length st.heap) ∷ vs)) (sym same) given)
-                  (record { inside = inside; this = first_value b (At (length st.heap)) vs inside; ended = []; free = mark_same mk.marks (length st.heap) (Free a []); supers = entry_supers b inside;
-                    class = λ h. ap class_in (append_last st.heap made) ∙ ap (λ y. Some (class_of y)) (sym same) });
+                    (record {
+                      inside = inside;
+                      this = first_value b (At (length st.heap)) vs inside;
+                      ended = [];
+                      free = mark_same mk.marks (length st.heap) (Free a []);
+                      supers = entry_supers b inside;
+                      class = λ h. ap class_in (append_last st.heap made) ∙ ap (λ y. Some (class_of y)) (sym same);
+                    });
                 waiting = (
                   record {
                     frame = record { env = good.top.env; reached = good.top.reached; stands = stands_later W mk.marks st.heap marks' heap' st.top mk.top good.top.env (later mk.top.era) good.top.stands };
-                    pt = pt; point = point;
+                    pt = pt;
+                    point = point;
                     waits = subst (λ y. Waits W b g' mk.top good.top.env y) (sym is) (record { ctor = inside; opened = q_opened; shared = q_shared });
                     era = era;
                   },
@@ -371,17 +380,17 @@ module _ (W : World) (checked : Checked W) where
       new_by true it false (Some b) ib =
           let a = mk.top.era in
           new_entry a mk.next false b ib
-            (args_later W mk.marks st.heap (grown_marks W mk.marks (mk.top ∷ mk.waiting) st.heap good.heap made (Free a [])) heap' a (grown_later W mk.marks (mk.top ∷ mk.waiting) st.heap good.heap made (Free a []) a) good.top.env st.top.regs args fits)
-            (λ h. true_false false h refl) (λ h. new_free (ref_quals good.top.env slots args) not_empty it)
-            (record { opened = λ h. true_false false h refl; same = λ h. refl }) good.below
+          (args_later W mk.marks st.heap (grown_marks W mk.marks (mk.top ∷ mk.waiting) st.heap good.heap made (Free a [])) heap' a (grown_later W mk.marks (mk.top ∷ mk.waiting) st.heap good.heap made (Free a []) a) good.top.env st.top.regs args fits)
+          (λ h. true_false false h refl) (λ h. new_free (ref_quals good.top.env slots args) not_empty it)
+          (record { opened = λ h. true_false false h refl; same = λ h. refl }) good.below
       new_by false it false (Some b) ib =
           let a = mk.next in
           let e = mk.top.era in
           let n = grown_marks W mk.marks (mk.top ∷ mk.waiting) st.heap good.heap made (Free a []) in
           new_entry a (mk.next + 1) true b ib
-            (args_era W n e a good.top.env st.top.regs slots args p it (args_later W mk.marks st.heap n heap' e (grown_later W mk.marks (mk.top ∷ mk.waiting) st.heap good.heap made (Free a []) e) good.top.env st.top.regs args fits))
-            (λ h. new_committed (ref_quals good.top.env slots args) not_empty it) (λ h. true_false true refl h)
-            (record { opened = λ h. good.below; same = λ h. true_false true refl h }) (omega arith)
+          (args_era W n e a good.top.env st.top.regs slots args p it (args_later W mk.marks st.heap n heap' e (grown_later W mk.marks (mk.top ∷ mk.waiting) st.heap good.heap made (Free a []) e) good.top.env st.top.regs args fits))
+          (λ h. new_committed (ref_quals good.top.env slots args) not_empty it) (λ h. true_false true refl h)
+          (record { opened = λ h. good.below; same = λ h. true_false true refl h }) (omega arith)
 
     new_value : (dst : RegNo) (m : MethodNo) (args : List Operand) → pt.kind ≡ New dst m args → ctor_of (method_at W.program m.0) ≡ true → ArgsPass good.top.env (param_quals W m.0) args → (vs : Option (List Value)) → gather st.top.regs args ≡ vs → ArgsRef st.top.regs (slots_of (method_at W.program m.0)) args → GoodNext W (news W.program st m.0 vs)
     new_value dst m args is c p None iv ty = tt

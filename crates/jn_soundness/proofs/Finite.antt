@@ -1,5 +1,5 @@
 -- What holds at each place of a given list.
-use Rattle.std.proofs.Common.{◌≡◌, ℕ, zero, suc, ◌⊎◌, inl, inr, List, [], ◌∷◌, Option, Some, None, sym, subst, refl}
+use Rattle.std.proofs.Common.{◌≡◌, ℕ, zero, suc, inl, inr, List, [], ◌∷◌, Option, Some, None, sym, subst, refl}
 use Rattle.std.specs.Prelude.{slice_get}
 use Rattle.jn_points.specs.Lookup.{points_of, body_at, point_at}
 use Rattle.jn_points.specs.declared.program.Program.{Program}
@@ -33,6 +33,6 @@ all_of S (y ∷ ys) h x (inr is) = all_of S ys h.1 x is
 pub points_each : (P : Program) (R : ℕ → ℕ → Point → Type 0) → Each (λ b x. Each (λ p pt. R b p pt) x.points) P.bodies → (b p : ℕ) (pt : Point) → point_at P b p ≡ Some pt → R b p pt
 points_each P R h b p pt is = by (body_at P b) refl
   where
-  by : (o : Option Body) → body_at P b ≡ o → R b p pt
-  by None ib = absurd (let bad : slice_get (points_of None) p ≡ Some pt = subst (λ o. slice_get (points_of o) p ≡ Some pt) ib is in let k : None ≡ Some pt = bad in cc)
-  by (Some x) ib = each_at (λ p pt. R b p pt) x.points (each_at (λ b x. Each (λ p pt. R b p pt) x.points) P.bodies h b x ib) p pt (subst (λ o. slice_get (points_of o) p ≡ Some pt) ib is)
+    by : (o : Option Body) → body_at P b ≡ o → R b p pt
+    by None ib = absurd (let bad : slice_get (points_of None) p ≡ Some pt = subst (λ o. slice_get (points_of o) p ≡ Some pt) ib is in let k : None ≡ Some pt = bad in cc)
+    by (Some x) ib = each_at (λ p pt. R b p pt) x.points (each_at (λ b x. Each (λ p pt. R b p pt) x.points) P.bodies h b x ib) p pt (subst (λ o. slice_get (points_of o) p ≡ Some pt) ib is)

@@ -1,5 +1,5 @@
 -- Laws of the order of base types.
-use Rattle.std.proofs.Common.{◌≡◌, ℕ, zero, suc, Bool, true, false, not, ◌&&◌, ◌||◌, length, refl, sym, ap, ◌∙◌, subst, eqb}
+use Rattle.std.proofs.Common.{◌≡◌, ℕ, zero, suc, Bool, true, false, ◌&&◌, ◌||◌, length, refl, ap, ◌∙◌, subst, eqb}
 use Rattle.std.proofs.lemmas.Bool.{eqb-true, eq-eqb}
 use Rattle.jn_points.specs.BaseTyping.{Ordered}
 use Rattle.jn_points.specs.declared.point.BaseType.{BaseType}

@@ -10,12 +10,10 @@ use Rattle.jn_soundness.specs.Good.{Building, BuiltOk, Committed, Describes, Fac
 use Rattle.jn_heap.specs.Machine.{Frame, class_at, class_in, field_at, field_in, value_at}
 use Rattle.jn_transfer.specs.Keys.{Key, fact_keys}
 use Rattle.jn_soundness.specs.World.{World}
-use Rattle.jn_transfer.specs.Transfer.{elem_qual, written}
+use Rattle.jn_transfer.specs.Transfer.{elem_qual}
 use Rattle.jn_sigs.specs.Signature.{field_qual}
-use Rattle.jn_points.specs.Members.{fits}
 use Rattle.jn_points.specs.Lookup.{owner, ref_field}
 use Rattle.jn_env.specs.Order.{qual_at}
-
 use Rattle.jn_soundness.proofs.Basics.{described_at, on_map, eqb_cases}
 use Rattle.jn_soundness.proofs.Laters.{Later, stands_later}
 use Rattle.jn_soundness.proofs.Writes.{set_same, set_there, set_other}
@@ -182,12 +180,12 @@ module _ (W : World) (m : Marks) (gs : List FrameMark) (heap : List Thing) (ok :
   grown_by : (hs : List FrameMark) → ((o a : ℕ) → Building gs o a → Building hs o a) → ThingOk W grown_marks hs (length heap) k (Some x) → (o : ℕ) → (o ≡ length heap) ⊎ (o ≡ length heap → ⊥) → ThingOk W grown_marks hs o (grown_marks o) (slice_get grown o)
   grown_by hs bld new o (inl e) =
       subst (λ y. ThingOk W grown_marks hs y (grown_marks y) (slice_get grown y)) (sym e)
-        (subst (λ t. ThingOk W grown_marks hs (length heap) (grown_marks (length heap)) t) (sym (append_last heap x))
-          (subst (λ y. ThingOk W grown_marks hs (length heap) y (Some x)) (sym (mark_same m (length heap) k)) new))
+      (subst (λ t. ThingOk W grown_marks hs (length heap) (grown_marks (length heap)) t) (sym (append_last heap x))
+      (subst (λ y. ThingOk W grown_marks hs (length heap) y (Some x)) (sym (mark_same m (length heap) k)) new))
   grown_by hs bld new o (inr n) =
       subst (λ t. ThingOk W grown_marks hs o (grown_marks o) t) (sym (append_other heap x o n))
-        (subst (λ y. ThingOk W grown_marks hs o y (slice_get heap o)) (sym (mark_other m (length heap) o k n))
-          (thing_later W m grown_marks committed_grown gs hs o (bld o) (m o) (slice_get heap o) (fits_mark (m o)) (ok o)))
+      (subst (λ y. ThingOk W grown_marks hs o y (slice_get heap o)) (sym (mark_other m (length heap) o k n))
+      (thing_later W m grown_marks committed_grown gs hs o (bld o) (m o) (slice_get heap o) (fits_mark (m o)) (ok o)))
 
   pub grown_heap : (hs : List FrameMark) → ((o a : ℕ) → Building gs o a → Building hs o a) → ThingOk W grown_marks hs (length heap) k (Some x) → HeapOk W grown_marks hs grown
   grown_heap hs bld new o = grown_by hs bld new o (eqb_cases o (length heap))

@@ -40,9 +40,9 @@ module _ (W : World) (m : Marks) (heap : List Thing) (n : Marks) (heap' : List T
   supers_later c ended now h (inl x) = inl x
   supers_later c ended now h (inr s) = inr (λ f k. member (s f k))
     where
-    member : {f : ℕ} → (f ≡ c) ⊎ IsMember f ended → (f ≡ c) ⊎ IsMember f now
-    member (inl e) = inl e
-    member {f} (inr e) = inr (h f e)
+      member : {f : ℕ} → (f ≡ c) ⊎ IsMember f ended → (f ≡ c) ⊎ IsMember f now
+      member (inl e) = inl e
+      member {f} (inr e) = inr (h f e)
 
   pub ctor_later : (f : Frame) (g : FrameMark) (l : Later W g.era m heap n heap') (x : Option ℕ) → CtorOk W m heap f g x → CtorOk W n heap' f g x
   ctor_later f g l None c = c

@@ -13,7 +13,7 @@ use Rattle.jn_soundness.specs.Good.{AllOn, AssignedOk, Building, CallWaits, Comm
 use Rattle.jn_soundness.specs.Checked.{AllOwn, Checked, PointOk, ResultPasses}
 use Rattle.jn_heap.specs.Values.{At, Thing, Value, same}
 use Rattle.jn_env.specs.declared.env.Env.{Env}
-use Rattle.jn_heap.specs.Machine.{Frame, State, act, gives, gives_to, holds_at, moves_to, resumes, returns, step, takes, takes_at, value_at, value_of}
+use Rattle.jn_heap.specs.Machine.{Frame, State, gives, gives_to, holds_at, moves_to, resumes, returns, step, takes, takes_at, value_at, value_of}
 use Rattle.jn_soundness.specs.World.{World}
 use Rattle.jn_points.specs.Lookup.{class_of, ctor_of, method_at, method_in, owner, point_at, slots_of}
 use Rattle.jn_transfer.specs.Transfer.{ctor_called, drop_all, new_qual, put, ref_quals}
@@ -21,7 +21,6 @@ use Rattle.jn_transfer.specs.Keys.{fact_keys, mask, own_keys}
 use Rattle.jn_points.specs.Members.{has_field}
 use Rattle.jn_env.specs.Order.{qual_at}
 use Rattle.jn_sigs.specs.Signature.{result_of}
-use Rattle.jn_quals.specs.Order.{within}
 use Rattle.jn_soundness.proofs.Keys.{keys_own}
 use Rattle.jn_soundness.proofs.Basics.{true_false, describes_within, described_at, described_set, value_zero, on_cleared}
 use Rattle.jn_soundness.proofs.Tops.{Step, plain_step, goes_top, facts_set, some_zero, arrives, no_test}
@@ -38,9 +37,9 @@ module _ (W : World) (checked : Checked W) where
 
     give_top : (dst : ℕ) (q : Qualifier) (v : Value) → Step W w.body w.at (w.at + 1, put W.program w.body (drop_all W.program w.body e) dst q) → (ctor_of (method_in W.program w.body) ≡ true → Some dst ≡ Some 0 → ⊥) → Describes m h.era q (Some v) → GoodTop W m heap (holds_at w dst v) h
     give_top dst q v step kept d = goes_top W m heap w h (w.at + 1) (slice_set w.regs dst (Some v)) (put W.program w.body (drop_all W.program w.body e) dst q) s.ctor step
-      (described_set m h.era e.quals w.regs dst q v d s.quals) s.assigned
-      (facts_set W m heap w.body w.regs dst (Some v) (mask (λ k. false) (fact_keys W.program w.body) e.facts) (on_cleared (FactOk W heap w.regs) (fact_keys W.program w.body) e.facts))
-      (λ c. value_zero w.regs dst (Some v) (some_zero W m heap dst (kept c)))
+        (described_set m h.era e.quals w.regs dst q v d s.quals) s.assigned
+        (facts_set W m heap w.body w.regs dst (Some v) (mask (λ k. false) (fact_keys W.program w.body) e.facts) (on_cleared (FactOk W heap w.regs) (fact_keys W.program w.body) e.facts))
+        (λ c. value_zero w.regs dst (Some v) (some_zero W m heap dst (kept c)))
 
   all_own : (heap : List Thing) (o c : ℕ) (keys : List ℕ) (bits : List Bool) → AllOwn W c keys → ((f : ℕ) → owner W.program f ≡ c → FieldSet W heap o f) → AllOn (FieldSet W heap o) keys bits
   all_own heap o c [] bits a h = tt
@@ -108,9 +107,9 @@ module _ (W : World) (checked : Checked W) where
         supers : SupersEnded W d c.ended
         supers = by c.supers
           where
-          by : Early W.program st.top.body st.top.at ⊎ SupersEnded W d c.ended → SupersEnded W d c.ended
-          by (inl e) = absurd (ok.end c.inside e)
-          by (inr s) = s
+            by : Early W.program st.top.body st.top.at ⊎ SupersEnded W d c.ended → SupersEnded W d c.ended
+            by (inl e) = absurd (ok.end c.inside e)
+            by (inr s) = s
 
         set : (bits : AllOn (FieldSet W st.heap o) (own_keys W.program st.top.body) good.top.env.assigned) → (f : ℕ) → owner W.program f ≡ d → FieldSet W st.heap o f
         set bits = class_set W st.top.body good.top.env mk.marks (mk.top ∷ h ∷ hs) st.heap o mk.top.era d c.ended heap_ok c.free c.inside refl ok.rules.1 bits
@@ -163,8 +162,8 @@ module _ (W : World) (checked : Checked W) where
               };
             }
           where
-          era_same : (e : ℕ) (l : List ℕ) → commit_mark e (Free e l) ≡ Committed
-          era_same e l = ap (λ t. cond t Committed (Free e l)) (eq-eqb e e refl)
+            era_same : (e : ℕ) (l : List ℕ) → commit_mark e (Free e l) ≡ Committed
+            era_same e l = ap (λ t. cond t Committed (Free e l)) (eq-eqb e e refl)
 
         new_by : (dst : ℕ) (q : Qualifier) (t : Bool) → mk.top.opened ≡ t → NewWaits W st.top.body mk.top h q → Step W w.body w.at (w.at + 1, put W.program w.body (drop_all W.program w.body x.frame.env) dst q) → (ctor_of (method_in W.program w.body) ≡ true → Some dst ≡ Some 0 → ⊥) → Resumed (holds_at w dst (At o))
         new_by dst q true op n step kept = opened_resumed op dst q (n.opened op) step kept
@@ -183,21 +182,25 @@ module _ (W : World) (checked : Checked W) where
           caller_supers : SupersEnded W (class_of (method_in W.program w.body)) (d ∷ c.ended)
           caller_supers f k = by (p.names.fields f k)
             where
-            callee : (owner W.program f ≡ d) ⊎ IsMember (owner W.program f) c.ended → (owner W.program f ≡ class_of (method_in W.program w.body)) ⊎ IsMember (owner W.program f) (d ∷ c.ended)
-            callee (inl y) = inr (inl y)
-            callee (inr y) = inr (inr y)
-            by : (owner W.program f ≡ class_of (method_in W.program w.body)) ⊎ (has_field W.program (class_of (method_at W.program m.0)) f ≡ true) → (owner W.program f ≡ class_of (method_in W.program w.body)) ⊎ IsMember (owner W.program f) (d ∷ c.ended)
-            by (inl y) = inl y
-            by (inr y) = callee (supers f (subst (λ z. has_field W.program z f ≡ true) (sym n.class) y))
+              callee : (owner W.program f ≡ d) ⊎ IsMember (owner W.program f) c.ended → (owner W.program f ≡ class_of (method_in W.program w.body)) ⊎ IsMember (owner W.program f) (d ∷ c.ended)
+              callee (inl y) = inr (inl y)
+              callee (inr y) = inr (inr y)
+
+              by : (owner W.program f ≡ class_of (method_in W.program w.body)) ⊎ (has_field W.program (class_of (method_at W.program m.0)) f ≡ true) → (owner W.program f ≡ class_of (method_in W.program w.body)) ⊎ IsMember (owner W.program f) (d ∷ c.ended)
+              by (inl y) = inl y
+              by (inr y) = callee (supers f (subst (λ z. has_field W.program z f ≡ true) (sym n.class) y))
 
           caller_ctor : (y : Option ℕ) → y ≡ Some o → CtorOk W m1 st.heap w h y → CtorOk W m1 st.heap (moves_to w (w.at + 1)) h y
           caller_ctor None s k = cc
           caller_ctor (Some z) s k =
               let same : o ≡ z = cc in
               record {
-                inside = k.inside; this = k.this; ended = d ∷ c.ended;
+                inside = k.inside;
+                this = k.this;
+                ended = d ∷ c.ended;
                 free = subst (λ y. m1 y ≡ Free h.era (d ∷ c.ended)) same (subst (λ a. m1 o ≡ Free a (d ∷ c.ended)) (x.era.same n.shared) mark1);
-                supers = inr caller_supers; class = k.class;
+                supers = inr caller_supers;
+                class = k.class;
               }
 
           caller_assigned : (t : Bool) → own ≡ t → AllOn (FieldSet W st.heap o) (own_keys W.program w.body) (ctor_called W.program w.body x.frame.env t).assigned
@@ -216,18 +219,18 @@ module _ (W : World) (checked : Checked W) where
           ctor_return =
               let edge = p.edges (w.at + 1, ctor_called W.program w.body x.frame.env own) (inl refl) in
               ended_resumed (moves_to w (w.at + 1)) refl
-                (arrives W m1 st.heap (moves_to w (w.at + 1)) h (ctor_called W.program w.body x.frame.env own) edge.within
-                  (record {
-                    quals = caller_quals own;
-                    assigned = subst (λ y. AssignedOk W st.heap y w.body (ctor_called W.program w.body x.frame.env own).assigned) (sym same_built) (caller_assigned own refl);
-                    ctor = caller_ctor h.built same_built stands1.ctor;
-                  })
-                  (caller_facts own)
-                  (no_test W m1 st.heap w.regs (test_at W.program w.body (w.at + 1)) (untested (test_at W.program w.body (w.at + 1)) edge.test)))
+              (arrives W m1 st.heap (moves_to w (w.at + 1)) h (ctor_called W.program w.body x.frame.env own) edge.within
+              (record {
+                quals = caller_quals own;
+                assigned = subst (λ y. AssignedOk W st.heap y w.body (ctor_called W.program w.body x.frame.env own).assigned) (sym same_built) (caller_assigned own refl);
+                ctor = caller_ctor h.built same_built stands1.ctor;
+              })
+              (caller_facts own)
+              (no_test W m1 st.heap w.regs (test_at W.program w.body (w.at + 1)) (untested (test_at W.program w.body (w.at + 1)) edge.test)))
             where
-            untested : (t : Option Test) → FromRead (CtorCall m args own) t → t ≡ None
-            untested None h = refl
-            untested (Some t) h = absurd h
+              untested : (t : Option Test) → FromRead (CtorCall m args own) t → t ≡ None
+              untested None h = refl
+              untested (Some t) h = absurd h
 
       is_ctor : (y : Option ℕ) → CtorOk W mk.marks st.heap st.top mk.top y → mk.top.built ≡ y → ctor_of (method_in W.program st.top.body) ≡ true → {X : Type 0} → ((o : ℕ) → mk.top.built ≡ Some o → Ctor W mk.marks st.heap st.top mk.top o → X) → X
       is_ctor None k b t f = true_false (ctor_of (method_in W.program st.top.body)) t k

@@ -1,9 +1,9 @@
 -- The method that an object's class has for a method above it overrides that method, so base typing and rules speak of it.
-use Rattle.std.proofs.Common.{◌≡◌, ℕ, zero, suc, ◌+◌, ◌<◌, Bool, true, false, not, ◌&&◌, ◌||◌, ◌⊎◌, inl, inr, List, [], ◌∷◌, ◌++◌, length, filter, flat_map, Option, Some, None, refl, sym, ap, ◌∙◌, subst, cond, arith}
+use Rattle.std.proofs.Common.{◌≡◌, ℕ, zero, suc, ◌+◌, Bool, true, false, not, ◌&&◌, ◌||◌, ◌⊎◌, inl, inr, List, [], ◌∷◌, ◌++◌, length, filter, flat_map, Option, Some, None, refl, sym, ap, ◌∙◌, subst, cond, arith}
 use Rattle.std.specs.Prelude.{slice_get, IsTrue, eqb}
 use Rattle.std.proofs.lemmas.Bool.{eqb-true, eq-eqb}
 use Rattle.std.proofs.lemmas.Option.{slice_get_within}
-use Rattle.jn_heap.specs.Machine.{words_base, MainForm}
+use Rattle.jn_heap.specs.Machine.{words_base}
 use Rattle.jn_points.specs.declared.point.PointKind.TheVariants.{New, CtorCall, Call}
 use Rattle.jn_points.specs.declared.point.PointKind.{PointKind}
 use Rattle.jn_points.specs.declared.point.Point.{Point}
@@ -26,7 +26,7 @@ use Rattle.jn_sigs.specs.Signature.{slot_quals, result_of, receiver_of}
 use Rattle.jn_env.specs.Order.{QualsWithin}
 use Rattle.jn_transfer.specs.Rules.{row_if, some_outside, override_rows, pair_rows, pairs_rows, bodies_rows, rows}
 use Rattle.jn_soundness.specs.World.{World}
-use Rattle.jn_soundness.specs.Good.{IsMember, Overrides}
+use Rattle.jn_soundness.specs.Good.{IsMember}
 use Rattle.jn_soundness.specs.Types.{Selects, ProgramTyped, MainsTyped, SlotsRef}
 use Rattle.jn_soundness.proofs.Basics.{eqb_cases, within_refl}
 use Rattle.jn_soundness.proofs.Fits.{or_right, or_left, both_true, fits_self}
@@ -45,20 +45,20 @@ first_found : {A : Type 0} (test : A → Bool) (i : ℕ) (xs : List A) (k : ℕ)
 first_found test i [] k h = cc
 first_found {A = A} test i (x ∷ xs) k h = by (test x) refl (first_found test (i + 1) xs k) h
   where
-  by : (t : Bool) → test x ≡ t → (first_at test (i + 1) xs ≡ Some k → FoundAt test (i + 1) xs k) → cond t (Some i) (first_at test (i + 1) xs) ≡ Some k → FoundAt test i (x ∷ xs) k
-  by true is rest h = let same : i ≡ k = cc in record { place = 0; item = x; number = omega (same, arith); there = refl; passes = is }
-  by false is rest h =
-      let r = rest h in
-      let n : k ≡ i + 1 + r.place = r.number in
-      record { place = suc r.place; item = r.item; number = omega (n, arith); there = r.there; passes = r.passes }
+    by : (t : Bool) → test x ≡ t → (first_at test (i + 1) xs ≡ Some k → FoundAt test (i + 1) xs k) → cond t (Some i) (first_at test (i + 1) xs) ≡ Some k → FoundAt test i (x ∷ xs) k
+    by true is rest h = let same : i ≡ k = cc in record { place = 0; item = x; number = omega (same, arith); there = refl; passes = is }
+    by false is rest h =
+        let r = rest h in
+        let n : k ≡ i + 1 + r.place = r.number in
+        record { place = suc r.place; item = r.item; number = omega (n, arith); there = r.there; passes = r.passes }
 
 some_found : (found : ℕ → Option ℕ) (cs : List ℕ) (k : ℕ) → first_some found cs ≡ Some k → (d : ℕ) × IsMember d cs × (found d ≡ Some k)
 some_found found [] k h = cc
 some_found found (c ∷ cs) k h = by (found c) refl (some_found found cs k) h
   where
-  by : (o : Option ℕ) → found c ≡ o → (first_some found cs ≡ Some k → (d : ℕ) × IsMember d cs × (found d ≡ Some k)) → first_or o (first_some found cs) ≡ Some k → (d : ℕ) × (IsMember d (c ∷ cs)) × (found d ≡ Some k)
-  by None is rest h = let r = rest h in (r.0, inr r.1, r.2)
-  by (Some n) is rest h = (c, inl refl, is ∙ h)
+    by : (o : Option ℕ) → found c ≡ o → (first_some found cs ≡ Some k → (d : ℕ) × IsMember d cs × (found d ≡ Some k)) → first_or o (first_some found cs) ≡ Some k → (d : ℕ) × (IsMember d (c ∷ cs)) × (found d ≡ Some k)
+    by None is rest h = let r = rest h in (r.0, inr r.1, r.2)
+    by (Some n) is rest h = (c, inl refl, is ∙ h)
 
 -- members
 
@@ -67,9 +67,9 @@ member_split x [] ys h = inr h
 member_split x (y ∷ xs) ys (inl e) = inl (inl e)
 member_split x (y ∷ xs) ys (inr h) = by (member_split x xs ys h)
   where
-  by : IsMember x xs ⊎ IsMember x ys → IsMember x (y ∷ xs) ⊎ IsMember x ys
-  by (inl a) = inl (inr a)
-  by (inr b) = inr b
+    by : IsMember x xs ⊎ IsMember x ys → IsMember x (y ∷ xs) ⊎ IsMember x ys
+    by (inl a) = inl (inr a)
+    by (inr b) = inr b
 
 some_member : (test : ℕ → Bool) (xs : List ℕ) (x : ℕ) → IsMember x xs → test x ≡ true → some_of test xs ≡ true
 some_member test [] x h t = absurd h
@@ -93,18 +93,18 @@ flat_member : (f : ClassNo → List ℕ) (xs : List ClassNo) (d : ℕ) → IsMem
 flat_member f [] d h = absurd h
 flat_member f (x ∷ xs) d h = by (member_split d (f x) (flat_map f xs) h) (flat_member f xs d)
   where
-  by : IsMember d (f x) ⊎ IsMember d (flat_map f xs) → (IsMember d (flat_map f xs) → (i : ℕ) × (s : ClassNo) × (slice_get xs i ≡ Some s) × IsMember d (f s)) → (i : ℕ) × (s : ClassNo) × (slice_get (x ∷ xs) i ≡ Some s) × IsMember d (f s)
-  by (inl a) rest = (0, x, refl, a)
-  by (inr b) rest = let r = rest b in (suc r.0, r.1, r.2, r.3)
+    by : IsMember d (f x) ⊎ IsMember d (flat_map f xs) → (IsMember d (flat_map f xs) → (i : ℕ) × (s : ClassNo) × (slice_get xs i ≡ Some s) × IsMember d (f s)) → (i : ℕ) × (s : ClassNo) × (slice_get (x ∷ xs) i ≡ Some s) × IsMember d (f s)
+    by (inl a) rest = (0, x, refl, a)
+    by (inr b) rest = let r = rest b in (suc r.0, r.1, r.2, r.3)
 
 filter_back : {A : Type 0} (test : A → Bool) (xs : List A) (i : ℕ) (x : A) → slice_get (filter test xs) i ≡ Some x → (j : ℕ) × (slice_get xs j ≡ Some x)
 filter_back test [] i x h = cc
 filter_back {A = A} test (y ∷ xs) i x h = by (test y) i h (λ i. filter_back test xs i x)
   where
-  by : (t : Bool) (i : ℕ) → slice_get (cond t (y ∷ filter test xs) (filter test xs)) i ≡ Some x → ((i : ℕ) → slice_get (filter test xs) i ≡ Some x → (j : ℕ) × (slice_get xs j ≡ Some x)) → (j : ℕ) × (slice_get (y ∷ xs) j ≡ Some x)
-  by true zero h rest = (0, h)
-  by true (suc i) h rest = let r = rest i h in (suc r.0, r.1)
-  by false i h rest = let r = rest i h in (suc r.0, r.1)
+    by : (t : Bool) (i : ℕ) → slice_get (cond t (y ∷ filter test xs) (filter test xs)) i ≡ Some x → ((i : ℕ) → slice_get (filter test xs) i ≡ Some x → (j : ℕ) × (slice_get xs j ≡ Some x)) → (j : ℕ) × (slice_get (y ∷ xs) j ≡ Some x)
+    by true zero h rest = (0, h)
+    by true (suc i) h rest = let r = rest i h in (suc r.0, r.1)
+    by false i h rest = let r = rest i h in (suc r.0, r.1)
 
 all_parts : (a b c : Bool) → (a && b && c) ≡ true → (a ≡ true) × (b ≡ true) × (c ≡ true)
 all_parts true true c h = (refl, refl, h)
@@ -128,16 +128,17 @@ module _ (P : Program) (B : BaseTyped P) where
   walk_reaches (suc n) c d (inr h) = or_right (eqb c d) (some_of (λ s. reaches P n s.0 d) (supers_of (class_info P c)))
       (by (member_split d (walk_parent P (walk_by P n) (parent_of (class_info P c))) (flat_map (λ s. walk_by P n s.0) (interfaces P c)) h) (λ c h. walk_reaches n c d h))
     where
-    by_parent : (o : Option Class) → class_info P c ≡ o → (p : Option ClassNo) → parent_of o ≡ p → IsMember d (walk_parent P (walk_by P n) p) → ((c : ℕ) → IsMember d (walk_by P n c) → reaches P n c d ≡ true) → some_of (λ s. reaches P n s.0 d) (supers_of o) ≡ true
-    by_parent o io None ip h rest = absurd h
-    by_parent None io (Some p) ip h rest = cc
-    by_parent (Some x) io (Some p) ip h rest = some_more (λ s. eqb s.0 p.0) (λ s. reaches P n s.0 d) x.supers (λ s e. subst (λ c. reaches P n c d ≡ true) (sym (eqb-true s.0 p.0 e)) (rest p.0 h)) (B.parents c x p io ip)
-    by : IsMember d (walk_parent P (walk_by P n) (parent_of (class_info P c))) ⊎ IsMember d (flat_map (λ s. walk_by P n s.0) (interfaces P c)) → ((c : ℕ) → IsMember d (walk_by P n c) → reaches P n c d ≡ true) → some_of (λ s. reaches P n s.0 d) (supers_of (class_info P c)) ≡ true
-    by (inl a) rest = by_parent (class_info P c) refl (parent_of (class_info P c)) refl a rest
-    by (inr b) rest =
-        let m = flat_member (λ s. walk_by P n s.0) (interfaces P c) d b in
-        let k = filter_back (λ s. not (is_class (parent_of (class_info P c)) s)) (supers_of (class_info P c)) m.0 m.1 m.2 in
-        some_at (λ s. reaches P n s.0 d) (supers_of (class_info P c)) k.0 m.1 k.1 (rest m.1.0 m.3)
+      by_parent : (o : Option Class) → class_info P c ≡ o → (p : Option ClassNo) → parent_of o ≡ p → IsMember d (walk_parent P (walk_by P n) p) → ((c : ℕ) → IsMember d (walk_by P n c) → reaches P n c d ≡ true) → some_of (λ s. reaches P n s.0 d) (supers_of o) ≡ true
+      by_parent o io None ip h rest = absurd h
+      by_parent None io (Some p) ip h rest = cc
+      by_parent (Some x) io (Some p) ip h rest = some_more (λ s. eqb s.0 p.0) (λ s. reaches P n s.0 d) x.supers (λ s e. subst (λ c. reaches P n c d ≡ true) (sym (eqb-true s.0 p.0 e)) (rest p.0 h)) (B.parents c x p io ip)
+
+      by : IsMember d (walk_parent P (walk_by P n) (parent_of (class_info P c))) ⊎ IsMember d (flat_map (λ s. walk_by P n s.0) (interfaces P c)) → ((c : ℕ) → IsMember d (walk_by P n c) → reaches P n c d ≡ true) → some_of (λ s. reaches P n s.0 d) (supers_of (class_info P c)) ≡ true
+      by (inl a) rest = by_parent (class_info P c) refl (parent_of (class_info P c)) refl a rest
+      by (inr b) rest =
+          let m = flat_member (λ s. walk_by P n s.0) (interfaces P c) d b in
+          let k = filter_back (λ s. not (is_class (parent_of (class_info P c)) s)) (supers_of (class_info P c)) m.0 m.1 m.2 in
+          some_at (λ s. reaches P n s.0 d) (supers_of (class_info P c)) k.0 m.1 k.1 (rest m.1.0 m.3)
 
   -- what selection finds
 
@@ -154,9 +155,9 @@ module _ (P : Program) (B : BaseTyped P) where
   bodied None k h = cc
   bodied (Some j) k h = by (body_of (method_at P j)) h
     where
-    by : (o : Option ℕ) → where_some o j ≡ Some k → Some j ≡ Some k
-    by None h = cc
-    by (Some b) h = h
+      by : (o : Option ℕ) → where_some o j ≡ Some k → Some j ≡ Some k
+      by None h = cc
+      by (Some b) h = h
 
   found : (c m k : ℕ) (v : IsVirtual P m) → dispatch P c m ≡ Some k → Found c k v.info
   found c m k v h =
@@ -186,9 +187,9 @@ module _ (P : Program) (B : BaseTyped P) where
   not_equal : (a b : ℕ) → (a ≡ b → ⊥) → not (eqb a b) ≡ true
   not_equal a b n = by (eqb a b) refl
     where
-    by : (t : Bool) → eqb a b ≡ t → not t ≡ true
-    by true e = absurd (n (eqb-true a b e))
-    by false e = refl
+      by : (t : Bool) → eqb a b ≡ t → not t ≡ true
+      by true e = absurd (n (eqb-true a b e))
+      by false e = refl
 
   named : (info x : Method) → info.ctor ≡ false → x.name.0 ≡ info.name.0 → length x.params ≡ length info.params → is_named info x.name.0 (length x.params) ≡ true
   named info x c n a = both_true (not info.ctor && eqb info.name.0 x.name.0) (eqb (length info.params) (length x.params)) (both_true (not info.ctor) (eqb info.name.0 x.name.0) (false_not info.ctor c) (eq-eqb info.name.0 x.name.0 (sym n))) (eq-eqb (length info.params) (length x.params) (sym a))
@@ -197,12 +198,12 @@ module _ (P : Program) (B : BaseTyped P) where
   overriding c m k o v f s d =
       let x : Method = f.info in
       let class : class_pair P k x v.info c ≡ true = both_true (not (interface_of (class_info P c)) && is_number (method_of P c x.name.0 (length x.params)) k) (sub P c v.info.owner.0)
-            (both_true (not (interface_of (class_info P c))) (is_number (method_of P c x.name.0 (length x.params)) k) (false_not (interface_of (class_info P c)) (ap interface_of o.there ∙ o.class)) (is_the (method_of P c x.name.0 (length x.params)) k f.has)) s in
+      (both_true (not (interface_of (class_info P c))) (is_number (method_of P c x.name.0 (length x.params)) k) (false_not (interface_of (class_info P c)) (ap interface_of o.there ∙ o.class)) (is_the (method_of P c x.name.0 (length x.params)) k f.has)) s in
       let some : some_of (class_pair P k x v.info) (below (length P.classes)) ≡ true = some_member (class_pair P k x v.info) (below (length P.classes)) c (below_member (length P.classes) c (slice_get_within P.classes c o.info o.there)) class in
       let pairs : class_pairs P k m x v.info ≡ true = both_true (not (eqb k m) && not v.info.is_private && not v.info.is_static) (some_of (class_pair P k x v.info) (below (length P.classes)))
-            (both_true (not (eqb k m) && not v.info.is_private) (not v.info.is_static) (both_true (not (eqb k m)) (not v.info.is_private) (not_equal k m d) (false_not v.info.is_private v.open_to_all)) (false_not v.info.is_static v.instance)) some in
+      (both_true (not (eqb k m) && not v.info.is_private) (not v.info.is_static) (both_true (not (eqb k m)) (not v.info.is_private) (not_equal k m d) (false_not v.info.is_private v.open_to_all)) (false_not v.info.is_static v.instance)) some in
       let all : pairs_of P k m (Some x) (Some v.info) ≡ true = both_true (not x.ctor && is_named v.info x.name.0 (length x.params)) (class_pairs P k m x v.info || interface_pairs P x v.info)
-            (both_true (not x.ctor) (is_named v.info x.name.0 (length x.params)) (false_not x.ctor f.method) (named v.info x v.method f.name f.arity)) (or_left (class_pairs P k m x v.info) (interface_pairs P x v.info) pairs) in
+      (both_true (not x.ctor) (is_named v.info x.name.0 (length x.params)) (false_not x.ctor f.method) (named v.info x v.method f.name f.arity)) (or_left (class_pairs P k m x v.info) (interface_pairs P x v.info) pairs) in
       subst (λ o. pairs_of P k m o (method_at P m) ≡ true) (sym f.there) (subst (λ o. pairs_of P k m (Some x) o ≡ true) (sym v.there) all)
 
 -- qualifiers of slots
@@ -222,9 +223,9 @@ module _ (W : World) where
       let x = or_none (not (within a b)) (some_outside W.program W.sig as' bs) h in
       (not_not (within a b) x.0, none_outside as' bs (omega (n, arith)) x.1)
     where
-    not_not : (t : Bool) → not t ≡ false → t ≡ true
-    not_not true h = refl
-    not_not false h = cc
+      not_not : (t : Bool) → not t ≡ false → t ≡ true
+      not_not true h = refl
+      not_not false h = cc
 
 quals_within_refl : (qs : List Qualifier) → QualsWithin qs qs
 quals_within_refl [] = tt
@@ -273,15 +274,15 @@ module _ (W : World) (R : Regular W.program) (B : BaseTyped W.program) where
         let all : override_rows W.program W.sig (Some x) o ≡ [] = pair_none k m x y ik im p in
         let front : row_if outside x.span OvrParam ++ row_if (not receiver) x.span OvrReceiver ≡ [] = no_left (row_if outside x.span OvrParam ++ row_if (not receiver) x.span OvrReceiver) (row_if (not result) x.span OvrResult) all in
         let size : length (slot_quals W.sig (slots_of o)) ≡ length (slot_quals W.sig x.param_slots) =
-              quals_length W.sig (slots_of o) ∙ param_slots_length m y im ∙ sym (ap length t.params) ∙ sym (param_slots_length k x ik) ∙ ap (λ z. length (slots_of z)) ik ∙ sym (quals_length W.sig x.param_slots) in
+        quals_length W.sig (slots_of o) ∙ param_slots_length m y im ∙ sym (ap length t.params) ∙ sym (param_slots_length k x ik) ∙ ap (λ z. length (slots_of z)) ik ∙ sym (quals_length W.sig x.param_slots) in
         record {
           over = record {
             params = subst (λ z. QualsWithin (slot_quals W.sig (slots_of o)) (slot_quals W.sig (slots_of z))) (sym ik)
-              (none_outside W (slot_quals W.sig (slots_of o)) (slot_quals W.sig x.param_slots) size (row_none outside x.span OvrParam (no_left (row_if outside x.span OvrParam) (row_if (not receiver) x.span OvrReceiver) front)));
+                (none_outside W (slot_quals W.sig (slots_of o)) (slot_quals W.sig x.param_slots) size (row_none outside x.span OvrParam (no_left (row_if outside x.span OvrParam) (row_if (not receiver) x.span OvrReceiver) front)));
             receiver = subst (λ z. IsTrue (within (receiver_of W.sig o) (receiver_of W.sig z))) (sym ik)
-              (not_not receiver (row_none (not receiver) x.span OvrReceiver (no_right (row_if outside x.span OvrParam) (row_if (not receiver) x.span OvrReceiver) front)));
+                (not_not receiver (row_none (not receiver) x.span OvrReceiver (no_right (row_if outside x.span OvrParam) (row_if (not receiver) x.span OvrReceiver) front)));
             result = subst (λ z. IsTrue (within (result_of W.sig z) (result_of W.sig o))) (sym ik)
-              (not_not result (row_none (not result) x.span OvrResult (no_right (row_if outside x.span OvrParam ++ row_if (not receiver) x.span OvrReceiver) (row_if (not result) x.span OvrResult) all)));
+                (not_not result (row_none (not result) x.span OvrResult (no_right (row_if outside x.span OvrParam ++ row_if (not receiver) x.span OvrReceiver) (row_if (not result) x.span OvrResult) all)));
             method = ap ctor_of ik ∙ c;
             instance = t.both (ap static_of im ∙ i);
           };
@@ -294,10 +295,10 @@ module _ (W : World) (R : Regular W.program) (B : BaseTyped W.program) where
         let x = found W.program B c m k v d in
         (by x (eqb_cases k m), subst (λ z. sub W.program c (class_of z) ≡ true) (sym x.there) x.above)
       where
-      by : Found W.program B c k v.info → (k ≡ m) ⊎ (k ≡ m → ⊥) → Selects W k m
-      by x (inl e) = subst (λ z. Selects W z m) (sym e) (same_selects m (ap ctor_of v.there ∙ v.method) (ap static_of v.there ∙ v.instance))
-      by x (inr n) = over_selects k m x.info v.info x.there v.there x.method v.instance
-          (overriding W.program B c m k o v x (subst (λ z. sub W.program c (class_of z) ≡ true) v.there f) n)
+        by : Found W.program B c k v.info → (k ≡ m) ⊎ (k ≡ m → ⊥) → Selects W k m
+        by x (inl e) = subst (λ z. Selects W z m) (sym e) (same_selects m (ap ctor_of v.there ∙ v.method) (ap static_of v.there ∙ v.instance))
+        by x (inr n) = over_selects k m x.info v.info x.there v.there x.method v.instance
+            (overriding W.program B c m k o v x (subst (λ z. sub W.program c (class_of z) ≡ true) v.there f) n)
 
   pub body_method : (m b : ℕ) → body_of (method_at W.program m) ≡ Some b → method_in W.program b ≡ method_at W.program m
   body_method m b is =
@@ -307,9 +308,9 @@ module _ (W : World) (R : Regular W.program) (B : BaseTyped W.program) where
   plain_field : (f : ℕ) → ref_field W.program f ≡ false → is_ref_base (field_base W.program f) ≡ false
   plain_field f n = by (field_info W.program f) refl n
     where
-    by : (o : Option Field) → field_info W.program f ≡ o → ref_of o ≡ false → is_ref_base (field_base_of o) ≡ false
-    by None is n = refl
-    by (Some x) is n = sym (R.fields f x is) ∙ n
+      by : (o : Option Field) → field_info W.program f ≡ o → ref_of o ≡ false → is_ref_base (field_base_of o) ≡ false
+      by None is n = refl
+      by (Some x) is n = sym (R.fields f x is) ∙ n
 
   slots_ref : (xs : List (Option SlotNo)) (ts : List BaseType) → SlotsMatch xs ts → SlotsRef W xs ts
   slots_ref [] ts h = tt
@@ -320,9 +321,9 @@ module _ (W : World) (R : Regular W.program) (B : BaseTyped W.program) where
   method_slots_ref : (m : ℕ) → SlotsRef W (slots_of (method_at W.program m)) (params_of (method_at W.program m))
   method_slots_ref m = by (method_at W.program m) refl
     where
-    by : (o : Option Method) → method_at W.program m ≡ o → SlotsRef W (slots_of o) (params_of o)
-    by None is = tt
-    by (Some x) is = slots_ref x.param_slots x.params (R.params m x is)
+      by : (o : Option Method) → method_at W.program m ≡ o → SlotsRef W (slots_of o) (params_of o)
+      by None is = tt
+      by (Some x) is = slots_ref x.param_slots x.params (R.params m x is)
 
   names_at : (b p : ℕ) (pt : Point) (k : PointKind) → point_at W.program b p ≡ Some pt → pt.kind ≡ k → Names W.program b k
   names_at b p pt k is e = subst (λ k. Names W.program b k) e (R.points b p pt is).names
@@ -353,4 +354,4 @@ module _ (W : World) (R : Regular W.program) (B : BaseTyped W.program) where
       let static : static_of (method_at W.program m) ≡ true = ap static_of main.there ∙ (R.mains m x main.there main.is_main).1 in
       let start : StartsWith W.program (reg_base W.program b) (given_bases W.program m) = B.starts m b (ap body_of main.there ∙ main.body) in
       subst (λ ts. StartsWith W.program (reg_base W.program b) ts) params
-        (subst (λ t. StartsWith W.program (reg_base W.program b) (cond t (params_of (method_at W.program m)) (Ref (record { 0 = class_of (method_at W.program m) }) ∷ params_of (method_at W.program m)))) static start)
+      (subst (λ t. StartsWith W.program (reg_base W.program b) (cond t (params_of (method_at W.program m)) (Ref (record { 0 = class_of (method_at W.program m) }) ∷ params_of (method_at W.program m)))) static start)

@@ -1,16 +1,15 @@
 -- A program of plain points that has no row is accepted, and its runs need no base typing.
-use Rattle.std.proofs.Common.{◌≡◌, ℕ, zero, suc, ◌+◌, Bool, true, false, not, ◌&&◌, ◌||◌, cond, ◌⊎◌, inl, inr, List, [], ◌∷◌, Option, Some, None, refl, sym, ap, ◌∙◌, subst, arith}
+use Rattle.std.proofs.Common.{◌≡◌, ℕ, zero, suc, ◌+◌, Bool, true, false, cond, inr, List, [], ◌∷◌, Option, Some, None, refl, sym, ap, ◌∙◌, subst}
 use Rattle.std.specs.Prelude.{slice_get, slice_index_or, IsTrue}
 use Rattle.jn_quals.specs.Qualifier.{Qualifier}
 use Rattle.jn_quals.specs.Order.{within, no_qual, committed_only}
 use Rattle.jn_points.specs.declared.point.Point.{Point}
 use Rattle.jn_points.specs.declared.point.PointKind.{PointKind}
 use Rattle.jn_points.specs.declared.point.PointKind.TheVariants.{FieldRead, FieldWrite, ElemRead, ElemWrite, ArrayOf, New, CtorCall, Call, TestInst, TestNull, Return}
-use Rattle.jn_points.specs.declared.program.Field.{Field}
 use Rattle.jn_points.specs.declared.program.SlotInfo.{SlotInfo}
 use Rattle.jn_points.specs.declared.program.Program.{Program}
-use Rattle.jn_points.specs.Lookup.{ctor_of, class_of, point_at, field_info, owner, method_in}
-use Rattle.jn_points.specs.Members.{object_has, has_field}
+use Rattle.jn_points.specs.Lookup.{class_of, point_at, field_info, method_in}
+use Rattle.jn_points.specs.Members.{object_has}
 use Rattle.jn_points.specs.Regular.{Test, FromRead, test_of, test_in, test_at, Early, Names, NotEarlyReturn, Passes, StartsRegular, RegularPoint, Regular}
 use Rattle.jn_sigs.specs.Signature.{uncalled_from, start_of, starts_from, start_signature}
 use Rattle.jn_env.specs.declared.env.Env.{Env}
@@ -72,9 +71,9 @@ module _ (P : Program) (H : PlainProgram P) where
   no_test : (b p : ℕ) → test_at P b p ≡ None
   no_test b p = by (point_at P b p) refl
     where
-    by : (o : Option Point) → point_at P b p ≡ o → test_in o ≡ None
-    by None is = refl
-    by (Some pt) is = plain_test pt.kind (H.kinds b p pt is)
+      by : (o : Option Point) → point_at P b p ≡ o → test_in o ≡ None
+      by None is = refl
+      by (Some pt) is = plain_test pt.kind (H.kinds b p pt is)
 
   free_entry : (k : PointKind) (o : Option Test) → o ≡ None → FromRead k o
   free_entry k None h = tt

@@ -1,14 +1,13 @@
 -- The plain example is accepted and has a main.
-use Rattle.std.proofs.Common.{◌≡◌, ℕ, zero, suc, ◌<◌, Bool, true, false, List, [], ◌∷◌, length, Option, Some, None, refl, sym, ap, ◌∙◌, subst, arith}
-use Rattle.std.specs.Prelude.{slice_get, slice_index_or, IsTrue}
-use Rattle.jn_quals.specs.Qualifier.{Qualifier}
+use Rattle.std.proofs.Common.{◌≡◌, ℕ, zero, suc, ◌<◌, true, false, [], ◌∷◌, length, Some, None, refl, sym, ◌∙◌, subst, arith}
+use Rattle.std.specs.Prelude.{slice_index_or}
 use Rattle.jn_quals.specs.Order.{committed_only, no_qual}
 use Rattle.jn_points.specs.declared.point.Point.{Point}
 use Rattle.jn_points.specs.declared.point.PointKind.{PointKind}
 use Rattle.jn_points.specs.declared.point.PointKind.TheVariants.{Return}
 use Rattle.jn_points.specs.declared.program.Method.{Method}
 use Rattle.jn_points.specs.declared.program.Body.{Body}
-use Rattle.jn_points.specs.Lookup.{body_of, body_no, body_at, point_at, method_at, method_in, method_of_body, ctor_of, static_of}
+use Rattle.jn_points.specs.Lookup.{body_of, body_at, point_at, method_at, method_in, ctor_of}
 use Rattle.jn_points.specs.Regular.{SlotsMatch}
 use Rattle.jn_sigs.specs.Signature.{start_signature}
 use Rattle.jn_env.specs.declared.env.Env.{Env}
@@ -16,7 +15,7 @@ use Rattle.jn_env.specs.Order.{EnvWithin, SlotWithin, env_in}
 use Rattle.jn_transfer.specs.Transfer.{transfer, IsAmong}
 use Rattle.jn_transfer.specs.Least.{Respects}
 use Rattle.jn_heap.specs.Machine.{MainForm}
-use Rattle.jn_soundness.specs.PlainPrograms.{PlainKind, PlainProgram, PlainAccepted}
+use Rattle.jn_soundness.specs.PlainPrograms.{PlainKind, PlainAccepted}
 use Rattle.jn_soundness.specs.PlainExample.{point_of, main_method, quals_env, plain_program, plain_table, plain_points}
 use Rattle.jn_soundness.proofs.Finite.{each_at, some_is, AllOf, all_of}
 
@@ -48,14 +47,16 @@ flows p e is h f reached = some_is (λ e. (x : ℕ × Env) → IsAmong x (transf
 edges : (p : ℕ) (pt : Point) (e : Env) → point_at plain_program 0 p ≡ Some pt → env_in plain_table p ≡ Some e → (x : ℕ × Env) → IsAmong x (transfer plain_program (start_signature plain_program) 0 pt.kind p e) → Stays x
 edges p pt e is reached =
     each_at (λ p pt. (e : Env) → env_in plain_table p ≡ Some e → (x : ℕ × Env) → IsAmong x (transfer plain_program (start_signature plain_program) 0 pt.kind p e) → Stays x) plain_points
-      (flows 0 start refl (within, tt), (flows 1 held refl (within, tt), (flows 2 held refl (within, tt), (flows 3 held refl (within, tt), (flows 4 held refl tt, tt))))) p pt is e reached
+    (flows 0 start refl (within, tt), (flows 1 held refl (within, tt), (flows 2 held refl (within, tt), (flows 3 held refl (within, tt), (flows 4 held refl tt, tt))))) p pt is e reached
   where
-  start : Env
-  start = quals_env (committed_only ∷ no_qual ∷ no_qual ∷ [])
-  held : Env
-  held = quals_env (committed_only ∷ committed_only ∷ no_qual ∷ [])
-  within : EnvWithin (quals_env (committed_only ∷ committed_only ∷ no_qual ∷ [])) (quals_env (committed_only ∷ committed_only ∷ no_qual ∷ []))
-  within = record { quals = (refl, (refl, (refl, tt))); facts = tt; assigned = tt }
+    start : Env
+    start = quals_env (committed_only ∷ no_qual ∷ no_qual ∷ [])
+
+    held : Env
+    held = quals_env (committed_only ∷ committed_only ∷ no_qual ∷ [])
+
+    within : EnvWithin (quals_env (committed_only ∷ committed_only ∷ no_qual ∷ [])) (quals_env (committed_only ∷ committed_only ∷ no_qual ∷ []))
+    within = record { quals = (refl, (refl, (refl, tt))); facts = tt; assigned = tt }
 
 respects : (b : ℕ) (x : Body) → body_at plain_program b ≡ Some x → Respects plain_program (start_signature plain_program) b (slice_index_or (plain_table ∷ []) b [])
 respects zero x is = record { entry = record { quals = (refl, (refl, (refl, tt))); facts = tt; assigned = tt }; edges = edges }

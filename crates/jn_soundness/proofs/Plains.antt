@@ -11,14 +11,14 @@ use Rattle.jn_points.specs.declared.point.Elem.TheVariants.{Ref as RefElem}
 use Rattle.jn_points.specs.declared.point.PointKind.{PointKind}
 use Rattle.jn_points.specs.declared.point.PointKind.TheVariants.{Const, Move, Unary, Binary, Concat, SameRef, FieldRead, FieldWrite, StaticRead, StaticWrite, ElemRead, ElemWrite, ArrayLen, NewArray, ArrayOf, New, CtorCall, Call, StrOp, Print, Cast, TestInst, TestNull, Branch, Goto, Return}
 use Rattle.jn_soundness.specs.Checked.{AllWithin, NewArrayPasses, PointOk, WritePasses, ref_elems}
-use Rattle.jn_heap.specs.Values.{At, Elems, Fails, Gives, Got, Lacks, NullRef, Object, Plain, Prim, Text, Thing, Value, default_of, index, same, text_of}
+use Rattle.jn_heap.specs.Values.{At, Elems, Fails, Gives, Got, Lacks, NullRef, Object, Plain, Prim, Text, Thing, Value, default_of, index}
 use Rattle.jn_soundness.specs.Good.{Committed, Describes, ElemsFit, Good, GoodNext, GoodTop, HoldsRef, MarkFits, Marked, Marking, Marks, Settled, TestOk, Typed, HoldsPlain, AllPlain, FieldOk}
 use Rattle.jn_env.specs.declared.env.Env.{Env}
 use Rattle.jn_transfer.specs.Transfer.{IsAmong, elem_qual, elem_read, learn, literal_qual, put, read_qual, refine, side, written}
 use Rattle.jn_heap.specs.Machine.{Regs, State, act, allocates, array_of, branch, count_of, field_at, gather, gather_more, goes_by, got_of, got_sets, holds_at, is_within, literal_value, may_hold, moves, moves_to, new_array, object_of, prim_of, print, put_thing, read_field, sets, step, store_in, stored, test_inst, test_null, value_at, value_of, write_elem, write_field, write_in, write_static, int_of, truth_of, text_in, got_plain, got_prim}
 use Rattle.jn_env.specs.Order.{SlotWithin, qual_at}
 use Rattle.jn_soundness.specs.World.{World, env_at}
-use Rattle.jn_points.specs.Members.{below, has_field}
+use Rattle.jn_points.specs.Members.{has_field}
 use Rattle.jn_quals.specs.Order.{committed_only, is_none, no_qual, null_part, settle, within, without_null}
 use Rattle.jn_points.specs.Lookup.{ctor_of, method_in, ref_field, reg_base, owner, elem_base}
 use Rattle.jn_sigs.specs.Signature.{field_qual}
@@ -70,7 +70,7 @@ module _ (W : World) (st : State) (mk : Marking) (good : Good W st mk) where
   value_side og r to v is h s t =
       let q = qual_at good.top.env r in
       keep st.statics st.out to st.top.regs (learn_top W mk.marks st.heap st.top mk.top good.top og to r (without_null q) v s t is h
-        (subst (λ x. Describes mk.marks mk.top.era (without_null q) x) (sym is) (without_null_describes mk.marks mk.top.era q v h (described_is r (Some v) is))))
+      (subst (λ x. Describes mk.marks mk.top.era (without_null q) x) (sym is) (without_null_describes mk.marks mk.top.era q v h (described_is r (Some v) is))))
 
   test_null_good : (of : Operand) (og : Option Origin) (a b : ℕ) (o : Option Value) → value_at st.top.regs of.reg.0 ≡ o → TestOk W st.heap st.top.regs (test_by og of.reg.0) →
       ((x : ℕ × Env) → IsAmong x (side (is_none (null_part (qual_at good.top.env of.reg.0))) a (refine good.top.env of.reg.0 (null_part (qual_at good.top.env of.reg.0))) ++ side (is_none (without_null (qual_at good.top.env of.reg.0))) b (learn W.program st.top.body og (refine good.top.env of.reg.0 (without_null (qual_at good.top.env of.reg.0))))) → Step W st.top.body st.top.at x) →
@@ -80,7 +80,7 @@ module _ (W : World) (st : State) (mk : Marking) (good : Good W st mk) where
       let q = qual_at good.top.env of.reg.0 in
       let d = described_is of.reg.0 (Some NullRef) is in
       keep st.statics st.out a st.top.regs (refine_top W mk.marks st.heap st.top mk.top good.top a of.reg.0 (null_part q) (c _ (side_among (is_none (null_part q)) a (refine good.top.env of.reg.0 (null_part q)) _ (null_alive q d)))
-        (subst (λ x. Describes mk.marks mk.top.era (null_part q) x) (sym is) d))
+      (subst (λ x. Describes mk.marks mk.top.era (null_part q) x) (sym is) d))
   test_null_good of og a b (Some (Text x)) is t c =
       let q = qual_at good.top.env of.reg.0 in
       value_side og of.reg.0 b (Text x) is tt (c _ (among_right _ (side (is_none (null_part q)) a (refine good.top.env of.reg.0 (null_part q))) _ (side_alone (is_none (without_null q)) b _ (alive mk.marks mk.top.era q (Text x) (described_is of.reg.0 (Some (Text x)) is) tt)))) t
@@ -137,22 +137,22 @@ module _ (W : World) (st : State) (mk : Marking) (good : Good W st mk) where
       value ∙ now
 
   module _ (dst : ℕ) (r f : ℕ) (e' : Env) (same : e' ≡ put W.program st.top.body good.top.env dst (read_qual W.program W.sig st.top.body good.top.env r f))
-    (s : SlotWithin (Some e') (env_at W st.top.body (st.top.at + 1))) (early : Early W.program st.top.body st.top.at → Early W.program st.top.body (st.top.at + 1))
-    (kept : ctor_of (method_in W.program st.top.body) ≡ true → Some dst ≡ Some 0 → ⊥)
-    (h : (t : Test) → test_at W.program st.top.body (st.top.at + 1) ≡ Some t → (dst ≡ t.tested) × (r ≡ t.reg) × (f ≡ t.field) × (t.reg ≡ t.tested → ⊥)) where
+      (s : SlotWithin (Some e') (env_at W st.top.body (st.top.at + 1))) (early : Early W.program st.top.body st.top.at → Early W.program st.top.body (st.top.at + 1))
+      (kept : ctor_of (method_in W.program st.top.body) ≡ true → Some dst ≡ Some 0 → ⊥)
+      (h : (t : Test) → test_at W.program st.top.body (st.top.at + 1) ≡ Some t → (dst ≡ t.tested) × (r ≡ t.reg) × (f ≡ t.field) × (t.reg ≡ t.tested → ⊥)) where
     read_top : (o : ℕ) (v : Value) → value_at st.top.regs r ≡ Some (At o) → field_at W.program st.heap o f ≡ Some v → Describes mk.marks mk.top.era (read_qual W.program W.sig st.top.body good.top.env r f) (Some v) → GoodTop W mk.marks st.heap (holds_at st.top dst v) mk.top
     read_top o v is at' d =
         let q = read_qual W.program W.sig st.top.body good.top.env r f in
         let e = good.top.env in
         arrives W mk.marks st.heap (holds_at st.top dst v) mk.top (put W.program st.top.body e dst q)
-          (subst (λ x. SlotWithin (Some x) (env_at W st.top.body (st.top.at + 1))) same s)
-          (record {
-            quals = described_set mk.marks mk.top.era e.quals st.top.regs dst q v d good.top.stands.quals;
-            assigned = good.top.stands.assigned;
-            ctor = ctor_moves W mk.marks st.heap st.top mk.top (st.top.at + 1) (slice_set st.top.regs dst (Some v)) mk.top.built good.top.stands.ctor (λ c. value_zero st.top.regs dst (Some v) (some_zero W mk.marks st.heap dst (kept c))) early;
-          })
-          (facts_set W mk.marks st.heap st.top.body st.top.regs dst (Some v) e.facts good.top.facts)
-          (read_test r f o dst v (test_at W.program st.top.body (st.top.at + 1)) is at' h)
+        (subst (λ x. SlotWithin (Some x) (env_at W st.top.body (st.top.at + 1))) same s)
+        (record {
+          quals = described_set mk.marks mk.top.era e.quals st.top.regs dst q v d good.top.stands.quals;
+          assigned = good.top.stands.assigned;
+          ctor = ctor_moves W mk.marks st.heap st.top mk.top (st.top.at + 1) (slice_set st.top.regs dst (Some v)) mk.top.built good.top.stands.ctor (λ c. value_zero st.top.regs dst (Some v) (some_zero W mk.marks st.heap dst (kept c))) early;
+        })
+        (facts_set W mk.marks st.heap st.top.body st.top.regs dst (Some v) e.facts good.top.facts)
+        (read_test r f o dst v (test_at W.program st.top.body (st.top.at + 1)) is at' h)
 
     read_value : (o : ℕ) (v : Option Value) → value_at st.top.regs r ≡ Some (At o) → field_at W.program st.heap o f ≡ v → GotOk (λ v. Describes mk.marks mk.top.era (read_qual W.program W.sig st.top.body good.top.env r f) (Some v)) (got_of v) → GoodNext W (got_sets st dst (got_of v))
     read_value o None is at' d = tt
@@ -167,9 +167,9 @@ module _ (W : World) (st : State) (mk : Marking) (good : Good W st mk) where
     null_slot : (v : Value) → value_at st.top.regs s ≡ Some v → v ≡ NullRef → (field_qual W.program W.sig f).null ≡ true
     null_slot v is n = by (ref_field W.program f) refl
       where
-      by : (t : Bool) → ref_field W.program f ≡ t → (field_qual W.program W.sig f).null ≡ true
-      by true ir = within_null (settle (qual_at good.top.env s)) (field_qual W.program W.sig f) (u.value ir) (described_is s (Some NullRef) (is ∙ ap (λ x. Some x) n))
-      by false ir = absurd (subst HoldsPlain (is ∙ ap (λ x. Some x) n) (ty ir))
+        by : (t : Bool) → ref_field W.program f ≡ t → (field_qual W.program W.sig f).null ≡ true
+        by true ir = within_null (settle (qual_at good.top.env s)) (field_qual W.program W.sig f) (u.value ir) (described_is s (Some NullRef) (is ∙ ap (λ x. Some x) n))
+        by false ir = absurd (subst HoldsPlain (is ∙ ap (λ x. Some x) n) (ty ir))
 
     null_qual : (v : Value) → value_at st.top.regs s ≡ Some v → v ≡ NullRef → (qual_at good.top.env s).null ≡ true
     null_qual v is n = described_is s (Some NullRef) (is ∙ ap (λ x. Some x) n)
@@ -178,18 +178,18 @@ module _ (W : World) (st : State) (mk : Marking) (good : Good W st mk) where
       write_top : (t : Bool) → ref_field W.program f ≡ t → Step W st.top.body st.top.at (st.top.at + 1, written W.program st.top.body good.top.env r f s t) → GoodTop W mk.marks (slice_set st.heap o (Object c (slice_set fs f v))) (moves_to st.top (st.top.at + 1)) mk.top
       write_top true ir step =
           goes_top W mk.marks (slice_set st.heap o (Object c (slice_set fs f v))) st.top mk.top (st.top.at + 1) st.top.regs (written W.program st.top.body good.top.env r f s true)
-            (ctor_later W mk.marks st.heap mk.marks (slice_set st.heap o (Object c (slice_set fs f v))) st.top mk.top (later_after W st.heap o c fs f v thing mk.marks mk.top.era (null_slot v is)) mk.top.built good.top.stands.ctor)
-            step good.top.stands.quals
-            (assigned_after W st.heap o c fs f v thing st.top.body good.top.env st.top.regs r s at' (null_qual v is) mk.marks st.top mk.top mk.top.built refl good.top.stands.ctor (null_slot v is) good.top.stands.assigned)
-            (facts_after W st.heap o c fs f v thing st.top.body good.top.env st.top.regs r s at' (null_qual v is) good.top.facts)
-            (λ c. refl)
+          (ctor_later W mk.marks st.heap mk.marks (slice_set st.heap o (Object c (slice_set fs f v))) st.top mk.top (later_after W st.heap o c fs f v thing mk.marks mk.top.era (null_slot v is)) mk.top.built good.top.stands.ctor)
+          step good.top.stands.quals
+          (assigned_after W st.heap o c fs f v thing st.top.body good.top.env st.top.regs r s at' (null_qual v is) mk.marks st.top mk.top mk.top.built refl good.top.stands.ctor (null_slot v is) good.top.stands.assigned)
+          (facts_after W st.heap o c fs f v thing st.top.body good.top.env st.top.regs r s at' (null_qual v is) good.top.facts)
+          (λ c. refl)
       write_top false ir step =
           goes_top W mk.marks (slice_set st.heap o (Object c (slice_set fs f v))) st.top mk.top (st.top.at + 1) st.top.regs good.top.env
-            (ctor_later W mk.marks st.heap mk.marks (slice_set st.heap o (Object c (slice_set fs f v))) st.top mk.top (later_after W st.heap o c fs f v thing mk.marks mk.top.era (null_slot v is)) mk.top.built good.top.stands.ctor)
-            step good.top.stands.quals
-            (assigned_kept W st.heap o c fs f v thing st.top.body good.top.env st.top.regs r s at' (null_qual v is) mk.top.built (null_slot v is) good.top.stands.assigned)
-            (facts_same W st.heap o c fs f v thing st.top.body good.top.env st.top.regs r s at' (null_qual v is) (λ n. true_false (ref_field W.program f) (null_is_ref W (slice_get W.program.fields f) (null_slot v is n)) ir) good.top.facts)
-            (λ c. refl)
+          (ctor_later W mk.marks st.heap mk.marks (slice_set st.heap o (Object c (slice_set fs f v))) st.top mk.top (later_after W st.heap o c fs f v thing mk.marks mk.top.era (null_slot v is)) mk.top.built good.top.stands.ctor)
+          step good.top.stands.quals
+          (assigned_kept W st.heap o c fs f v thing st.top.body good.top.env st.top.regs r s at' (null_qual v is) mk.top.built (null_slot v is) good.top.stands.assigned)
+          (facts_same W st.heap o c fs f v thing st.top.body good.top.env st.top.regs r s at' (null_qual v is) (λ n. true_false (ref_field W.program f) (null_is_ref W (slice_get W.program.fields f) (null_slot v is n)) ir) good.top.facts)
+          (λ c. refl)
 
       written_fits : (t : Bool) → ref_field W.program f ≡ t → FieldOk mk.marks (mk.marks o) (owner W.program f) (ref_field W.program f) (field_qual W.program W.sig f) v
       written_fits true ir = fits_field W mk.marks mk.top.era good.top.env r f s v (mk.marks o) ir u (described_is r (Some (At o)) at') (described_is s (Some v) is)
@@ -200,11 +200,11 @@ module _ (W : World) (st : State) (mk : Marking) (good : Good W st mk) where
         mark = mk;
         good = record {
           heap = heap_ok_after W st.heap o c fs f v thing mk.marks (mk.top ∷ mk.waiting) good.heap
-            (written_fits (ref_field W.program f) refl);
+              (written_fits (ref_field W.program f) refl);
           top = write_top (ref_field W.program f) refl step;
           waiting = waiting_later W mk.marks st.heap mk.marks (slice_set st.heap o (Object c (slice_set fs f v))) st.top.body mk.top st.waiting mk.waiting
-            (all_later W mk.marks st.heap mk.marks (slice_set st.heap o (Object c (slice_set fs f v))) (λ a. later_after W st.heap o c fs f v thing mk.marks a (null_slot v is)) mk.waiting)
-            good.waiting;
+              (all_later W mk.marks st.heap mk.marks (slice_set st.heap o (Object c (slice_set fs f v))) (λ a. later_after W st.heap o c fs f v thing mk.marks a (null_slot v is)) mk.waiting)
+              good.waiting;
           below = good.below;
         };
       }
@@ -238,10 +238,10 @@ module _ (W : World) (st : State) (mk : Marking) (good : Good W st mk) where
           mark = mk;
           good = record {
             heap = elems_heap W st.heap o b xs i v thing mk.marks (mk.top ∷ mk.waiting) good.heap
-              (elem_fits_in o b xs v at' is thing (ref_elems (reg_base W.program st.top.body r)) refl);
+                (elem_fits_in o b xs v at' is thing (ref_elems (reg_base W.program st.top.body r)) refl);
             top = move_top W mk.marks heap' st.top mk.top t (st.top.at + 1) step;
             waiting = waiting_later W mk.marks st.heap mk.marks heap' st.top.body mk.top st.waiting mk.waiting
-              (all_later W mk.marks st.heap mk.marks heap' (λ a. elems_later W st.heap o b xs i v thing mk.marks a) mk.waiting) good.waiting;
+                (all_later W mk.marks st.heap mk.marks heap' (λ a. elems_later W st.heap o b xs i v thing mk.marks a) mk.waiting) good.waiting;
             below = good.below;
           };
         }
@@ -277,7 +277,7 @@ module _ (W : World) (st : State) (mk : Marking) (good : Good W st mk) where
             heap = grown_heap W mk.marks gs st.heap good.heap (Elems b xs) Committed gs (λ o a x. x) (refl, h);
             top = set_top W n heap' st.top mk.top t dst committed_only (At (length st.heap)) step kept (subst (λ k. MarkFits mk.top.era committed_only k) (sym (mark_same mk.marks (length st.heap) Committed)) refl);
             waiting = waiting_later W mk.marks st.heap n heap' st.top.body mk.top st.waiting mk.waiting
-              (all_later W mk.marks st.heap n heap' (λ a. grown_later W mk.marks gs st.heap good.heap (Elems b xs) Committed a) mk.waiting) good.waiting;
+                (all_later W mk.marks st.heap n heap' (λ a. grown_later W mk.marks gs st.heap good.heap (Elems b xs) Committed a) mk.waiting) good.waiting;
             below = good.below;
           };
         }
@@ -285,13 +285,14 @@ module _ (W : World) (st : State) (mk : Marking) (good : Good W st mk) where
     defaults_good : (b : BaseType) (n : ℕ) → NewArrayPasses b → GoodNext W (allocates st dst (Elems b (replicate n (default_of (elem_base b)))))
     defaults_good b n h = array_good b (replicate n (default_of (elem_base b))) (λ i v x. subst (λ v. Settled (grown_marks W mk.marks (mk.top ∷ mk.waiting) st.heap good.heap (Elems b (replicate n (default_of (elem_base b)))) Committed) (elem_qual b) v) (replicated n (default_of (elem_base b)) i v x) (default_settled (grown_marks W mk.marks (mk.top ∷ mk.waiting) st.heap good.heap (Elems b (replicate n (default_of (elem_base b)))) Committed) b h))
       where
-      replicated : (n : ℕ) (x : Value) (i : ℕ) (v : Value) → slice_get (replicate n x) i ≡ Some v → x ≡ v
-      replicated zero x i v h = cc
-      replicated (suc n) x zero v h = cc
-      replicated (suc n) x (suc i) v h = replicated n x i v h
-      default_settled : (m : Marks) (b : BaseType) → NewArrayPasses b → Settled m (elem_qual b) (default_of (elem_base b))
-      default_settled m (Array (RefElem c) nullable) h = h
-      default_settled m b h = tt
+        replicated : (n : ℕ) (x : Value) (i : ℕ) (v : Value) → slice_get (replicate n x) i ≡ Some v → x ≡ v
+        replicated zero x i v h = cc
+        replicated (suc n) x zero v h = cc
+        replicated (suc n) x (suc i) v h = replicated n x i v h
+
+        default_settled : (m : Marks) (b : BaseType) → NewArrayPasses b → Settled m (elem_qual b) (default_of (elem_base b))
+        default_settled m (Array (RefElem c) nullable) h = h
+        default_settled m b h = tt
 
     new_array_good : (b : BaseType) (n : Got ℕ) → NewArrayPasses b → GoodNext W (new_array st dst b n)
     new_array_good b (Gives n) h = defaults_good b n h
@@ -309,13 +310,14 @@ module _ (W : World) (st : State) (mk : Marking) (good : Good W st mk) where
         absurd (let k : None ≡ Some v = bad in cc)
     gathered_at P (a ∷ args) vs w is i v h = more (value_at st.top.regs a.reg.0) (gather st.top.regs args) vs is i v h w.0 (λ us k. gathered_at P args us w.1 k)
       where
-      at_place : (x : Value) (us : List Value) (i : ℕ) (v : Value) → slice_get (x ∷ us) i ≡ Some v → P (Some x) → ((i : ℕ) (v : Value) → slice_get us i ≡ Some v → P (Some v)) → P (Some v)
-      at_place x us zero v h d k = let same : x ≡ v = cc in subst (λ v. P (Some v)) same d
-      at_place x us (suc i) v h d k = k i v h
-      more : (x : Option Value) (o : Option (List Value)) (vs : List Value) → gather_more x o ≡ Some vs → (i : ℕ) (v : Value) → slice_get vs i ≡ Some v → P x → ((us : List Value) → o ≡ Some us → (i : ℕ) (v : Value) → slice_get us i ≡ Some v → P (Some v)) → P (Some v)
-      more None o vs e i v h d k = cc
-      more (Some x) None vs e i v h d k = cc
-      more (Some x) (Some us) vs e i v h d k = let same : x ∷ us ≡ vs = cc in at_place x us i v (subst (λ y. slice_get y i ≡ Some v) (sym same) h) d (k us refl)
+        at_place : (x : Value) (us : List Value) (i : ℕ) (v : Value) → slice_get (x ∷ us) i ≡ Some v → P (Some x) → ((i : ℕ) (v : Value) → slice_get us i ≡ Some v → P (Some v)) → P (Some v)
+        at_place x us zero v h d k = let same : x ≡ v = cc in subst (λ v. P (Some v)) same d
+        at_place x us (suc i) v h d k = k i v h
+
+        more : (x : Option Value) (o : Option (List Value)) (vs : List Value) → gather_more x o ≡ Some vs → (i : ℕ) (v : Value) → slice_get vs i ≡ Some v → P x → ((us : List Value) → o ≡ Some us → (i : ℕ) (v : Value) → slice_get us i ≡ Some v → P (Some v)) → P (Some v)
+        more None o vs e i v h d k = cc
+        more (Some x) None vs e i v h d k = cc
+        more (Some x) (Some us) vs e i v h d k = let same : x ∷ us ≡ vs = cc in at_place x us i v (subst (λ y. slice_get y i ≡ Some v) (sym same) h) d (k us refl)
 
     all_described : (q : Qualifier) (args : List Operand) → AllWithin good.top.env q args → AllHold (Describes mk.marks mk.top.era q) args
     all_described q [] w = tt
@@ -334,7 +336,7 @@ module _ (W : World) (st : State) (mk : Marking) (good : Good W st mk) where
       array_of_good None is = tt
       array_of_good (Some vs) is = array_good b vs (λ i v x.
           settled_later W mk.marks (grown_marks W mk.marks (mk.top ∷ mk.waiting) st.heap good.heap (Elems b vs) Committed) (committed_grown W mk.marks (mk.top ∷ mk.waiting) st.heap good.heap (Elems b vs) Committed) (elem_qual b) v
-            (item_settled vs is i v x (ref_elems b) refl))
+          (item_settled vs is i v x (ref_elems b) refl))
 
   abbrev pub IsPlainKind : PointKind → Type 0
   IsPlainKind (New dst m args) = ⊥
@@ -353,9 +355,9 @@ module _ (W : World) (st : State) (mk : Marking) (good : Good W st mk) where
   plain_good names (FieldRead dst r f) x ok pl t ty =
       let edge = ok.edges (st.top.at + 1, put W.program st.top.body good.top.env dst.0 (read_qual W.program W.sig st.top.body good.top.env r.reg.0 f.0)) (inl refl) in
       read_good dst.0 r.reg.0 f.0 (put W.program st.top.body good.top.env dst.0 (read_qual W.program W.sig st.top.body good.top.env r.reg.0 f.0)) refl edge.within (edge.early tt) ok.this_kept
-        (λ k is. subst (λ o. FromRead (FieldRead dst r f) o) is edge.test)
-        (object_of (value_at st.top.regs r.reg.0)) refl
-        (read_fits W mk.marks mk.top.era st.top.body good.top.env st.heap st.top.regs (mk.top ∷ mk.waiting) good.heap good.top.stands.quals r.reg.0 f.0 (object_of (value_at st.top.regs r.reg.0)) refl good.top.facts ty)
+      (λ k is. subst (λ o. FromRead (FieldRead dst r f) o) is edge.test)
+      (object_of (value_at st.top.regs r.reg.0)) refl
+      (read_fits W mk.marks mk.top.era st.top.body good.top.env st.heap st.top.regs (mk.top ∷ mk.waiting) good.heap good.top.stands.quals r.reg.0 f.0 (object_of (value_at st.top.regs r.reg.0)) refl good.top.facts ty)
   plain_good names (FieldWrite r f s) x ok pl t ty = write_good r.reg.0 f.0 s.reg.0 ok.rules ty (plain_step W _ _ _ _ tt tt (ok.edges _ (inl refl))) (object_of (value_at st.top.regs r.reg.0)) (value_at st.top.regs s.reg.0) refl refl
   plain_good names (StaticRead dst f) x ok pl t ty = got_good dst.0 no_qual (got_plain (got_prim (slice_get st.statics f.0))) (plain_step W _ _ _ _ tt tt (ok.edges _ (inl refl))) ok.this_kept (plain_fits W mk.marks mk.top.era (got_prim (slice_get st.statics f.0)))
   plain_good names (StaticWrite f s) x ok pl t ty = static_good f.0 (prim_of (value_at st.top.regs s.reg.0)) (plain_step W _ _ _ _ tt tt (ok.edges _ (inl refl)))

@@ -19,7 +19,7 @@ use Rattle.jn_points.specs.declared.point.PointKind.TheVariants.{FieldRead, Fiel
 use Rattle.jn_points.specs.declared.program.Field.{Field}
 use Rattle.jn_points.specs.declared.program.Method.{Method}
 use Rattle.jn_points.specs.declared.program.Body.{Body}
-use Rattle.jn_points.specs.Lookup.{points_of, ref_of, ctor_of, class_of, static_of, slots_of, dereferences, body_at, point_at, owner, ref_field, reg_base, method_at, method_in}
+use Rattle.jn_points.specs.Lookup.{points_of, ref_of, ctor_of, class_of, slots_of, dereferences, body_at, point_at, owner, ref_field, reg_base, method_at, method_in}
 use Rattle.jn_points.specs.Members.{some_of, below}
 use Rattle.jn_points.specs.Regular.{Passes, ReceiverMatches}
 use Rattle.jn_sigs.specs.Signature.{slot_quals, result_of, receiver_of, field_qual}
@@ -78,7 +78,7 @@ pass_none : (code init : Code) (e : Env) (a : Operand) (slot : Qualifier) → pa
 pass_none code init e a slot h =
     let q = qual_at e a.reg.0 in
     within_of q slot (row_none (lacks_null q slot) a.span code (no_left (row_if (lacks_null q slot) a.span code) (row_if (lacks_init q slot) a.span init) h))
-      (row_none (lacks_init q slot) a.span init (no_right (row_if (lacks_null q slot) a.span code) (row_if (lacks_init q slot) a.span init) h))
+    (row_none (lacks_init q slot) a.span init (no_right (row_if (lacks_null q slot) a.span code) (row_if (lacks_init q slot) a.span init) h))
 
 args_none : (e : Env) (qs : List Qualifier) (args : List Operand) → arg_rows e qs args ≡ [] → length args ≡ length qs → ArgsPass e qs args
 args_none e [] [] h n = tt
@@ -98,9 +98,9 @@ elem_none : (e : Env) (base : BaseType) (a : Operand) → elem_rows e base a ≡
 elem_none e (Array (RefElem c) nullable) a h r =
     let q = qual_at e a.reg.0 in
     all_three (not q.null || nullable) (not q.committed || true) (not q.free || false)
-      (implies q.null nullable (row_none (q.null && not nullable) a.span _ (no_left _ (row_if q.free a.span _) h)))
-      (or_true (not q.committed))
-      (not_false q.free false (row_none q.free a.span _ (no_right (row_if (q.null && not nullable) a.span _) (row_if q.free a.span _) h)))
+    (implies q.null nullable (row_none (q.null && not nullable) a.span _ (no_left _ (row_if q.free a.span _) h)))
+    (or_true (not q.committed))
+    (not_false q.free false (row_none q.free a.span _ (no_right (row_if (q.null && not nullable) a.span _) (row_if q.free a.span _) h)))
 elem_none e base a h r = cc
 
 elems_none : (e : Env) (base : BaseType) (xs : List Operand) → elems_rows e base xs ≡ [] → ref_elems base ≡ true → AllWithin e (elem_qual base) xs
@@ -137,18 +137,18 @@ pub below_member : (n k : ℕ) → k < n → IsMember k (below n)
 below_member zero k h = absurd (omega (h, arith))
 below_member (suc n) k h = by (eqb_cases k n) (below_member n k)
   where
-  by : (k ≡ n) ⊎ (k ≡ n → ⊥) → (k < n → IsMember k (below n)) → IsMember k (below n ++ n ∷ [])
-  by (inl e) rest = subst (λ z. IsMember z (below n ++ n ∷ [])) (sym e) (member_last n (below n))
-  by (inr l) rest = member_left k (below n) (n ∷ []) (rest (omega (h, l, arith)))
+    by : (k ≡ n) ⊎ (k ≡ n → ⊥) → (k < n → IsMember k (below n)) → IsMember k (below n ++ n ∷ [])
+    by (inl e) rest = subst (λ z. IsMember z (below n ++ n ∷ [])) (sym e) (member_last n (below n))
+    by (inr l) rest = member_left k (below n) (n ∷ []) (rest (omega (h, l, arith)))
 
 filter_member : (test : ℕ → Bool) (xs : List ℕ) (x : ℕ) → IsMember x xs → test x ≡ true → IsMember x (filter test xs)
 filter_member test [] x h t = absurd h
 filter_member test (y ∷ xs) x (inl e) t = subst (λ b. IsMember x (cond b (y ∷ filter test xs) (filter test xs))) (sym (subst (λ z. test z ≡ true) e t)) (inl e)
 filter_member test (y ∷ xs) x (inr h) t = by (test y) (filter_member test xs x h t)
   where
-  by : (b : Bool) → IsMember x (filter test xs) → IsMember x (cond b (y ∷ filter test xs) (filter test xs))
-  by true m = inr m
-  by false m = m
+    by : (b : Bool) → IsMember x (filter test xs) → IsMember x (cond b (y ∷ filter test xs) (filter test xs))
+    by true m = inr m
+    by false m = m
 
 pub flat_none : {A : Type 0} (f : ℕ → List A) (xs : List ℕ) (x : ℕ) → flat_map f xs ≡ [] → IsMember x xs → f x ≡ []
 flat_none f [] x h is = absurd is
@@ -164,9 +164,9 @@ module _ (W : World) where
       let n : q.null ≡ false = deref_none e a d in
       (n, within_of q slot (no_and q.null (not slot.null) n) (row_none (lacks_init q slot) a.span _ h), s)
     where
-    no_and : (a b : Bool) → a ≡ false → (a && b) ≡ false
-    no_and false b h = refl
-    no_and true b h = cc
+      no_and : (a b : Bool) → a ≡ false → (a && b) ≡ false
+      no_and false b h = refl
+      no_and true b h = cc
 
   return_none : (e : Env) (b : ℕ) (v : Option Operand) → return_rows e v (result_of W.sig (method_in W.program b)) ≡ [] → ResultPasses W e b v
   return_none e b None h = tt
@@ -184,18 +184,19 @@ module _ (W : World) where
         record {
           not_null = d;
           value = λ ir. all_three (not q.null || slot.null) (not (q.committed || q.free) || slot.committed) (not false || slot.free)
-            (implies q.null slot.null (row_none (lacks_null q slot) v.span _ (no_left (row_if (lacks_null q slot) v.span _) (row_if (q.free && (qual_at e r.reg.0).committed) v.span _) h)))
-            (holds (q.committed || q.free) slot.committed (s ir)) refl;
+              (implies q.null slot.null (row_none (lacks_null q slot) v.span _ (no_left (row_if (lacks_null q slot) v.span _) (row_if (q.free && (qual_at e r.reg.0).committed) v.span _) h)))
+              (holds (q.committed || q.free) slot.committed (s ir)) refl;
           init = λ x y. not_both q.free (qual_at e r.reg.0).committed init x y;
         }
       where
-      holds : (a x : Bool) → (a ≡ true → x ≡ true) → (not a || x) ≡ true
-      holds false x k = refl
-      holds true x k = k refl
-      not_both : (a x : Bool) → (a && x) ≡ false → a ≡ true → x ≡ true → ⊥
-      not_both true true h p q = cc
-      not_both true false h p q = cc
-      not_both false x h p q = cc
+        holds : (a x : Bool) → (a ≡ true → x ≡ true) → (not a || x) ≡ true
+        holds false x k = refl
+        holds true x k = k refl
+
+        not_both : (a x : Bool) → (a && x) ≡ false → a ≡ true → x ≡ true → ⊥
+        not_both true true h p q = cc
+        not_both true false h p q = cc
+        not_both false x h p q = cc
 
     unbroken : (k : PointKind) → deref_rows e (dereferences k) ++ kind_rows W.program W.sig b e span k ≡ [] → Passes W.program k → FieldSettles W e k → ((v : Option Operand) → k ≡ Return v → AllAssigned W b e) → Unbroken W b e k
     unbroken (FieldRead dst r f) h p s a = deref_none e r (no_left (deref_rows e (Some r)) [] h)
@@ -222,18 +223,18 @@ module _ (W : World) where
     own_member f c o r = filter_member (is_own W.program (method_in W.program b)) (below (length W.program.fields)) f (below_member (length W.program.fields) f (inside (slice_get W.program.fields f) refl r))
         (all_three (ctor_of (method_in W.program b)) (eqb (owner W.program f) (class_of (method_in W.program b))) (ref_field W.program f) c (eq-eqb (owner W.program f) (class_of (method_in W.program b)) o) r)
       where
-      inside : (x : Option Field) → slice_get W.program.fields f ≡ x → ref_of x ≡ true → f < length W.program.fields
-      inside None is h = cc
-      inside (Some x) is h = slice_get_within W.program.fields f x is
+        inside : (x : Option Field) → slice_get W.program.fields f ≡ x → ref_of x ≡ true → f < length W.program.fields
+        inside None is h = cc
+        inside (Some x) is h = slice_get_within W.program.fields f x is
 
     set_all : is_unset W.program W.sig b e ≡ false → AllAssigned W b e
     set_all h c f o r n = on ((field_qual W.program W.sig f).null) (is_on (λ k. eqb k f) (own_keys W.program b) e.assigned) n
         (member_none (λ f. not (field_qual W.program W.sig f).null && not (is_on (λ k. eqb k f) (own_keys W.program b) e.assigned)) (own_keys W.program b) f h (own_member f c o r))
       where
-      on : (a x : Bool) → a ≡ false → (not a && not x) ≡ false → x ≡ true
-      on true x p q = cc
-      on false true p q = refl
-      on false false p q = cc
+        on : (a x : Bool) → a ≡ false → (not a && not x) ≡ false → x ≡ true
+        on true x p q = cc
+        on false true p q = refl
+        on false false p q = cc
 
   -- from the rows of a body to those of a point
 
@@ -266,9 +267,9 @@ module _ (W : World) where
   pub point_body : (b p : ℕ) (pt : Point) → point_at W.program b p ≡ Some pt → (x : Body) × (body_at W.program b ≡ Some x)
   point_body b p pt is = by (body_at W.program b) refl
     where
-    by : (o : Option Body) → body_at W.program b ≡ o → (x : Body) × (body_at W.program b ≡ Some x)
-    by (Some x) ib = (x, ib)
-    by None ib = absurd (let bad : slice_get (points_of None) p ≡ Some pt = subst (λ o. slice_get (points_of o) p ≡ Some pt) ib is in let k : None ≡ Some pt = bad in cc)
+      by : (o : Option Body) → body_at W.program b ≡ o → (x : Body) × (body_at W.program b ≡ Some x)
+      by (Some x) ib = (x, ib)
+      by None ib = absurd (let bad : slice_get (points_of None) p ≡ Some pt = subst (λ o. slice_get (points_of o) p ≡ Some pt) ib is in let k : None ≡ Some pt = bad in cc)
 
   module _ (none : rows W.program W.sig W.tables ≡ []) (b p : ℕ) (pt : Point) (e : Env) (is : point_at W.program b p ≡ Some pt) (reached : env_at W b p ≡ Some e) where
     here : body_rows W.program W.sig b (table_at W b) ≡ []
@@ -280,22 +281,23 @@ module _ (W : World) where
     at_point =
         let place : 0 + p ≡ p = omega arith in
         subst (λ o. rows_at W.program W.sig b pt o ≡ []) (ap (env_in (table_at W b)) place ∙ reached)
-          (rows_point b (table_at W b) (points_of (body_at W.program b)) 0 p pt (no_left (rows_from W.program W.sig b (points_of (body_at W.program b)) 0 (table_at W b)) (ctor_rows W.program W.sig b (method_in W.program b) (table_at W b)) here) is)
+        (rows_point b (table_at W b) (points_of (body_at W.program b)) 0 p pt (no_left (rows_from W.program W.sig b (points_of (body_at W.program b)) 0 (table_at W b)) (ctor_rows W.program W.sig b (method_in W.program b) (table_at W b)) here) is)
 
     set_at_return : (v : Option Operand) → pt.kind ≡ Return v → AllAssigned W b e
     set_at_return v k c = by (method_in W.program b) refl c (no_right (rows_from W.program W.sig b (points_of (body_at W.program b)) 0 (table_at W b)) (ctor_rows W.program W.sig b (method_in W.program b) (table_at W b)) here)
       where
-      left : (x y : Bool) → x ≡ true → (x && y) ≡ false → y ≡ false
-      left true y c h = h
-      left false y c h = cc
-      by : (m : Option Method) → method_in W.program b ≡ m → ctor_of m ≡ true → ctor_rows W.program W.sig b m (table_at W b) ≡ [] → (f : ℕ) → owner W.program f ≡ class_of (method_in W.program b) → ref_field W.program f ≡ true → (field_qual W.program W.sig f).null ≡ false → is_on (λ k. eqb k f) (own_keys W.program b) e.assigned ≡ true
-      by None im ic h = cc
-      by (Some m) im ic h =
-          let pts = points_of (body_at W.program b) in
-          let unset : unset_from W.program W.sig b pts 0 (table_at W b) ≡ false = left m.ctor (unset_from W.program W.sig b pts 0 (table_at W b)) ic (row_none (m.ctor && unset_from W.program W.sig b pts 0 (table_at W b)) m.span _ h) in
-          let place : 0 + p ≡ p = omega arith in
-          let at_end : unset_at W.program W.sig b pt.kind (Some e) ≡ false = subst (λ o. unset_at W.program W.sig b pt.kind o ≡ false) (ap (env_in (table_at W b)) place ∙ reached) (unset_point b (table_at W b) pts 0 p pt unset is) in
-          set_all b e pt.span (subst (λ k. unset_at W.program W.sig b k (Some e) ≡ false) k at_end) c
+        left : (x y : Bool) → x ≡ true → (x && y) ≡ false → y ≡ false
+        left true y c h = h
+        left false y c h = cc
+
+        by : (m : Option Method) → method_in W.program b ≡ m → ctor_of m ≡ true → ctor_rows W.program W.sig b m (table_at W b) ≡ [] → (f : ℕ) → owner W.program f ≡ class_of (method_in W.program b) → ref_field W.program f ≡ true → (field_qual W.program W.sig f).null ≡ false → is_on (λ k. eqb k f) (own_keys W.program b) e.assigned ≡ true
+        by None im ic h = cc
+        by (Some m) im ic h =
+            let pts = points_of (body_at W.program b) in
+            let unset : unset_from W.program W.sig b pts 0 (table_at W b) ≡ false = left m.ctor (unset_from W.program W.sig b pts 0 (table_at W b)) ic (row_none (m.ctor && unset_from W.program W.sig b pts 0 (table_at W b)) m.span _ h) in
+            let place : 0 + p ≡ p = omega arith in
+            let at_end : unset_at W.program W.sig b pt.kind (Some e) ≡ false = subst (λ o. unset_at W.program W.sig b pt.kind o ≡ false) (ap (env_in (table_at W b)) place ∙ reached) (unset_point b (table_at W b) pts 0 p pt unset is) in
+            set_all b e pt.span (subst (λ k. unset_at W.program W.sig b k (Some e) ≡ false) k at_end) c
 
     -- no rule is broken at a reached point
     pub none_broken : Passes W.program pt.kind → FieldSettles W e pt.kind → Unbroken W b e pt.kind

@@ -9,11 +9,10 @@ use Rattle.jn_points.specs.declared.point.Point.{Point}
 use Rattle.jn_points.specs.declared.point.PointKind.{PointKind}
 use Rattle.jn_points.specs.declared.point.PointKind.TheVariants.{FieldRead, FieldWrite, ElemRead, ElemWrite, ArrayLen, StrOp, New, CtorCall, Call, Return}
 use Rattle.jn_soundness.specs.Good.{AlwaysTyped, Committed, Describes, FrameMark, Good, GoodNext, IsMain, Marked, Marking, Marks, Settled, TestOk, ThingOk, Typed, TypedAt, Unborn, NoFault}
-use Rattle.jn_heap.specs.Values.{At, Elems, NullRef, Prim, Text, Value, same}
+use Rattle.jn_heap.specs.Values.{At, Elems, NullRef, Prim, Text, Value}
 use Rattle.jn_soundness.specs.Checked.{Checked, PointOk, Unbroken}
 use Rattle.jn_heap.specs.Machine.{Ends, Goes, Next, NullFault, State, Stuck, act, derefs_null, fault_at, run, start_state, step_at, texts, then_step, value_at}
 use Rattle.jn_soundness.specs.World.{World}
-use Rattle.jn_points.specs.Members.{below}
 use Rattle.jn_points.specs.Lookup.{dereferences, point_at}
 use Rattle.jn_env.specs.Order.{qual_at}
 use Rattle.jn_soundness.proofs.Basics.{true_false, described_at, AllDescribed}
@@ -90,9 +89,9 @@ module _ (W : World) (checked : Checked W) (names : List (List ℕ)) where
         };
       }
     where
-    things : (m : Marks) (g : FrameMark) (words : List (List ℕ)) (o : ℕ) → ThingOk W m (g ∷ []) o (cond (eqb o 0) Committed Unborn) (slice_get (Elems (Array (RefElem (record { 0 = 1 })) false) (texts words) ∷ []) o)
-    things m g words zero = (refl, text_items m words)
-    things m g words (suc o) = ap (λ t. cond t Committed Unborn) (eqb-suc-zero o)
+      things : (m : Marks) (g : FrameMark) (words : List (List ℕ)) (o : ℕ) → ThingOk W m (g ∷ []) o (cond (eqb o 0) Committed Unborn) (slice_get (Elems (Array (RefElem (record { 0 = 1 })) false) (texts words) ∷ []) o)
+      things m g words zero = (refl, text_items m words)
+      things m g words (suc o) = ap (λ t. cond t Committed Unborn) (eqb-suc-zero o)
 
   pub never_null : (b : ℕ) → IsMain W b → (words : List (List ℕ)) → AlwaysTyped W names (Goes (start_state W.program b words)) → NoFault W names (Goes (start_state W.program b words))
   never_null b main words ty n st is fault =

@@ -8,7 +8,7 @@ use Rattle.jn_points.specs.declared.point.Origin.{Origin}
 use Rattle.jn_points.specs.declared.point.PointKind.{PointKind}
 use Rattle.jn_points.specs.declared.point.PointKind.TheVariants.{FieldRead}
 use Rattle.jn_soundness.specs.Good.{AllOn, AssignedOk, Committed, CtorOk, Described, Describes, FactOk, FieldSet, FrameMark, Free, GoodTop, HoldsRef, MarkFits, Marks, ObjMark, Stands, TestOk, Unborn}
-use Rattle.jn_heap.specs.Values.{At, Fails, Gives, Got, Lacks, NullRef, Plain, Text, Thing, Value, same}
+use Rattle.jn_heap.specs.Values.{At, Fails, Gives, Got, Lacks, NullRef, Plain, Text, Thing, Value}
 use Rattle.jn_env.specs.Order.{BitsAbove, EnvWithin, SlotWithin}
 use Rattle.jn_soundness.specs.Checked.{Edge}
 use Rattle.jn_env.specs.declared.env.Env.{Env}
@@ -46,30 +46,32 @@ pub alive : (m : Marks) (a : ℕ) (q : Qualifier) (v : Value) → Describes m a 
 alive m a q NullRef d h = absurd h
 alive m a q (Text t) d h = some_left q.committed q.free d
   where
-  some_left : (c f : Bool) → c ≡ true → not (false || (c || f)) ≡ false
-  some_left true f h = refl
-  some_left false f h = cc
+    some_left : (c f : Bool) → c ≡ true → not (false || (c || f)) ≡ false
+    some_left true f h = refl
+    some_left false f h = cc
 alive m a q (Plain p) d h = absurd h
 alive m a q (At o) d h = by_mark (m o) d
   where
-  some_left : (c f : Bool) → c ≡ true → not (false || (c || f)) ≡ false
-  some_left true f h = refl
-  some_left false f h = cc
-  some_right : (c f : Bool) → f ≡ true → not (false || (c || f)) ≡ false
-  some_right true f h = refl
-  some_right false true h = refl
-  some_right false false h = cc
-  by_mark : (k : ObjMark) → MarkFits a q k → is_none (without_null q) ≡ false
-  by_mark Unborn h = absurd h
-  by_mark Committed h = some_left q.committed q.free h
-  by_mark (Free e ended) h = some_right q.committed q.free h.0
+    some_left : (c f : Bool) → c ≡ true → not (false || (c || f)) ≡ false
+    some_left true f h = refl
+    some_left false f h = cc
+
+    some_right : (c f : Bool) → f ≡ true → not (false || (c || f)) ≡ false
+    some_right true f h = refl
+    some_right false true h = refl
+    some_right false false h = cc
+
+    by_mark : (k : ObjMark) → MarkFits a q k → is_none (without_null q) ≡ false
+    by_mark Unborn h = absurd h
+    by_mark Committed h = some_left q.committed q.free h
+    by_mark (Free e ended) h = some_right q.committed q.free h.0
 
 pub null_alive : (q : Qualifier) → q.null ≡ true → is_none (null_part q) ≡ false
 null_alive q h = some_null q.null h
   where
-  some_null : (n : Bool) → n ≡ true → not (n || (false || false)) ≡ false
-  some_null true h = refl
-  some_null false h = cc
+    some_null : (n : Bool) → n ≡ true → not (n || (false || false)) ≡ false
+    some_null true h = refl
+    some_null false h = cc
 
 pub without_null_describes : (m : Marks) (a : ℕ) (q : Qualifier) (v : Value) → HoldsRef v → Describes m a q (Some v) → Describes m a (without_null q) (Some v)
 without_null_describes m a q NullRef n d = absurd n
@@ -77,10 +79,10 @@ without_null_describes m a q (Text t) n d = d
 without_null_describes m a q (Plain p) n d = tt
 without_null_describes m a q (At o) n d = by_mark (m o) d
   where
-  by_mark : (k : ObjMark) → MarkFits a q k → MarkFits a (without_null q) k
-  by_mark Unborn h = h
-  by_mark Committed h = h
-  by_mark (Free e ended) h = h
+    by_mark : (k : ObjMark) → MarkFits a q k → MarkFits a (without_null q) k
+    by_mark Unborn h = h
+    by_mark Committed h = h
+    by_mark (Free e ended) h = h
 
 pub among_right : (x : ℕ × Env) (xs ys : List (ℕ × Env)) → IsAmong x ys → IsAmong x (xs ++ ys)
 among_right x [] ys h = h
@@ -151,9 +153,9 @@ module _ (W : World) where
     module _ (f : Frame) (g : FrameMark) (t : GoodTop W m heap f g) where
       pub set_top : (dst : ℕ) (q : Qualifier) (v : Value) → Step f.body f.at (f.at + 1, put W.program f.body t.env dst q) → (ctor_of (method_in W.program f.body) ≡ true → Some dst ≡ Some 0 → ⊥) → Describes m g.era q (Some v) → GoodTop W m heap (holds_at f dst v) g
       set_top dst q v s k d = goes_top f g (f.at + 1) (slice_set f.regs dst (Some v)) (put W.program f.body t.env dst q) t.stands.ctor s
-        (described_set m g.era t.env.quals f.regs dst q v d t.stands.quals) t.stands.assigned
-        (facts_set f.body f.regs dst (Some v) t.env.facts t.facts)
-        (λ c. value_zero f.regs dst (Some v) (some_zero dst (k c)))
+          (described_set m g.era t.env.quals f.regs dst q v d t.stands.quals) t.stands.assigned
+          (facts_set f.body f.regs dst (Some v) t.env.facts t.facts)
+          (λ c. value_zero f.regs dst (Some v) (some_zero dst (k c)))
 
       pub move_top : (to : ℕ) → Step f.body f.at (to, t.env) → GoodTop W m heap (moves_to f to) g
       move_top to s = goes_top f g to f.regs t.env t.stands.ctor s t.stands.quals t.stands.assigned t.facts (λ c. refl)
@@ -172,6 +174,6 @@ module _ (W : World) where
       pub learn_top : (og : Option Origin) (to r : ℕ) (q : Qualifier) (v : Value) → Step f.body f.at (to, learn W.program f.body og (refine t.env r q)) → TestOk W heap f.regs (test_by og r) → value_at f.regs r ≡ Some v → HoldsRef v → Describes m g.era q (value_at f.regs r) → GoodTop W m heap (moves_to f to) g
       learn_top None to r q v s h is n d = refine_top to r q s d
       learn_top (Some og) to r q v s h is n d = goes_top f g to f.regs (learn W.program f.body (Some og) (refine t.env r q)) t.stands.ctor s
-        (described_refined m g.era t.env.quals f.regs r q d t.stands.quals) t.stands.assigned
-        (on_also (FactOk W heap f.regs) (FactOk W heap f.regs) (is_key og.reg.0 og.field.0) (fact_keys W.program f.body) t.env.facts t.facts (λ k x. x) (λ k e. learned og r v h is n k e))
-        (λ c. refl)
+          (described_refined m g.era t.env.quals f.regs r q d t.stands.quals) t.stands.assigned
+          (on_also (FactOk W heap f.regs) (FactOk W heap f.regs) (is_key og.reg.0 og.field.0) (fact_keys W.program f.body) t.env.facts t.facts (λ k x. x) (λ k e. learned og r v h is n k e))
+          (λ c. refl)

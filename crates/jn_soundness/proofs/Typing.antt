@@ -2,7 +2,7 @@
 use Rattle.std.proofs.Common.{◌≡◌, ℕ, zero, suc, Bool, true, false, ◌⊎◌, inl, inr, List, [], ◌∷◌, ◌++◌, length, replicate, Option, Some, None, refl, sym, ap, ◌∙◌, subst, cond, ◌+◌, ltb}
 use Rattle.std.specs.Prelude.{slice_get, slice_set, eqb, ltb, ℤ}
 use Rattle.jn_points.specs.BaseTyping.{AllTyped, ArgsTyped, ConstTyped, PointTyped, ResultTyped, ReturnTyped, StartsWith, given_bases, Ordered}
-use Rattle.jn_points.specs.Regular.{writes, IsVirtual}
+use Rattle.jn_points.specs.Regular.{IsVirtual}
 use Rattle.jn_base.specs.declared.number.RegNo.{RegNo}
 use Rattle.jn_base.specs.declared.number.ClassNo.{ClassNo}
 use Rattle.jn_base.specs.declared.number.MethodNo.{MethodNo}
@@ -21,7 +21,7 @@ use Rattle.jn_points.specs.declared.point.PointKind.TheVariants.{Const, Move, Un
 use Rattle.jn_points.specs.declared.program.Field.{Field}
 use Rattle.jn_soundness.specs.Types.{GivesTo, HasType, HeapTyped, ProgramTyped, RegsTyped, ReturnFits, ReturnFitsAt, Selects, SlotsRef, StateTyped, ThingFits, ThingTyped, WaitTyped, base_of_thing}
 use Rattle.jn_soundness.specs.Good.{ArgsRef, Typed, HoldsPlain, AllPlain}
-use Rattle.jn_heap.specs.Values.{At, Elems, Fails, Gives, Got, Lacks, NullRef, Object, Plain, Prim, Text, Thing, Value, binary, deepest, default_of, defaults, index, same, text_of, unary, longest, units, text_op}
+use Rattle.jn_heap.specs.Values.{At, Elems, Fails, Gives, Got, Lacks, NullRef, Object, Plain, Prim, Text, Thing, Value, binary, deepest, default_of, defaults, index, same, unary, longest, units, text_op}
 use Rattle.jn_heap.specs.Machine.{Ends, Frame, Goes, Next, Regs, State, Stuck, act, allocates, array_len, array_of, binary_of, branch, calls, calls_on, calls_this, cast_as, cast_of, class_in, concat_of, count_of, ctor_calls, dispatched, elem_in, enter, field_at, field_in, gather, gather_more, gives, gives_to, goes_by, got_of, got_plain, got_sets, holds_at, is_within, item_or_index, length_in, literal_value, may_hold, moves, new_array, news, object_of, pad, prim_of, print, put_thing, read_elem, read_field, resumes, returns, run, same_of, selected, sets, step_at, store_in, stored, str_op, takes, takes_at, test_inst, test_null, text_or_long, then_step, unary_of, value_at, value_of, write_elem, write_field, write_in, write_static, int_of, truth_of, text_in, got_prim, thing_within}
 use Rattle.jn_soundness.specs.World.{World}
 use Rattle.jn_points.specs.Lookup.{body_at, body_of, class_of, field_base, field_base_of, flat_of, is_flat, is_ref_base, method_at, method_in, params_of, point_at, reg_base, regs_of, result_base_of, slots_of, static_of, is_array, elem_base}
@@ -49,9 +49,9 @@ module _ (W : World) (T : Ordered W.program) (P : ProgramTyped W) where
   within_thing heap c (Some (Object d fs)) t h = h
   within_thing heap c (Some (Elems b xs)) t h = array_within b t.0
     where
-    array_within : (b : BaseType) → is_array b ≡ true → fits W.program b (Ref c) ≡ true
-    array_within (Array e nullable) a = h
-    array_within b a = cc
+      array_within : (b : BaseType) → is_array b ≡ true → fits W.program b (Ref c) ≡ true
+      array_within (Array e nullable) a = h
+      array_within b a = cc
 
   within_has : (heap : List Thing) → HeapTyped W heap → (v : Value) (c : ClassNo) → is_within W.program heap v c.0 ≡ true → HasType W heap (Ref c) v
   within_has heap typed NullRef c h = refl
@@ -81,9 +81,9 @@ module _ (W : World) (T : Ordered W.program) (P : ProgramTyped W) where
   no_thing heap t (Some (Object c fs)) n h f = true_false (is_ref_base t) (sym (fits_refs W.program T (Ref (record { 0 = c })) t f)) n
   no_thing heap t (Some (Elems b xs)) n h f = true_false (is_ref_base t) (sym (fits_refs W.program T b t f) ∙ array_ref b h.0) n
     where
-    array_ref : (b : BaseType) → is_array b ≡ true → is_ref_base b ≡ true
-    array_ref (Array e nullable) a = refl
-    array_ref b a = cc
+      array_ref : (b : BaseType) → is_array b ≡ true → is_ref_base b ≡ true
+      array_ref (Array e nullable) a = refl
+      array_ref b a = cc
 
   holds_plain : (heap : List Thing) → HeapTyped W heap → (t : BaseType) → is_ref_base t ≡ false → (v : Option Value) → ((w : Value) → v ≡ Some w → HasType W heap t w) → HoldsPlain v
   holds_plain heap typed t n None h = tt
@@ -140,7 +140,7 @@ module _ (W : World) (T : Ordered W.program) (P : ProgramTyped W) where
     selects_on pt dst m r true args is e p o k io ik =
         let same : m.0 ≡ k = cc in
         subst (λ k. Selects W k m.0 × ThingFits W (slice_get st.heap o) (Ref (record { 0 = class_of (method_at W.program k) }))) same
-          (P.direct b st.top.at pt dst m r args is e, fits_thing (slice_get st.heap o) (reg_base W.program b r.reg.0) (Ref (record { 0 = class_of (method_at W.program m.0) })) p.0 (at_reg r.reg.0 o io))
+        (P.direct b st.top.at pt dst m r args is e, fits_thing (slice_get st.heap o) (reg_base W.program b r.reg.0) (Ref (record { 0 = class_of (method_at W.program m.0) })) p.0 (at_reg r.reg.0 o io))
     selects_on pt dst m r false args is e p o k io ik = call_selects m.0 r.reg.0 o k (P.virtual b st.top.at pt dst m r args is e) (slice_get st.heap o) refl p.0 (at_reg r.reg.0 o io) ik
 
     all_hold_plain : (t : BaseType) → is_ref_base t ≡ false → (args : List Operand) → AllTyped W.program b t args → AllPlain st.top.regs args
@@ -164,11 +164,11 @@ module _ (W : World) (T : Ordered W.program) (P : ProgramTyped W) where
     regs_set : (dst : ℕ) (v : Value) → HasType W st.heap (reg_base W.program b dst) v → RegsTyped W st.heap b (slice_set st.top.regs dst (Some v))
     regs_set dst v h r w is = by (eqb_cases r dst)
       where
-      by : (r ≡ dst) ⊎ (r ≡ dst → ⊥) → HasType W st.heap (reg_base W.program b r) w
-      by (inl same) =
-          let now : v ≡ w = value_same st.top.regs dst v w (subst (λ x. value_at (slice_set st.top.regs dst (Some v)) x ≡ Some w) same is) in
-          subst (λ x. HasType W st.heap (reg_base W.program b x) w) (sym same) (subst (λ w. HasType W st.heap (reg_base W.program b dst) w) now h)
-      by (inr n) = ty.top r w (sym (value_other st.top.regs dst r (Some v) n) ∙ is)
+        by : (r ≡ dst) ⊎ (r ≡ dst → ⊥) → HasType W st.heap (reg_base W.program b r) w
+        by (inl same) =
+            let now : v ≡ w = value_same st.top.regs dst v w (subst (λ x. value_at (slice_set st.top.regs dst (Some v)) x ≡ Some w) same is) in
+            subst (λ x. HasType W st.heap (reg_base W.program b x) w) (sym same) (subst (λ w. HasType W st.heap (reg_base W.program b dst) w) now h)
+        by (inr n) = ty.top r w (sym (value_other st.top.regs dst r (Some v) n) ∙ is)
 
     abbrev NextTyped : Next → Type 0
     NextTyped (Goes x) = StateTyped W x
@@ -331,18 +331,18 @@ module _ (W : World) (T : Ordered W.program) (P : ProgramTyped W) where
   put_more : (heap : List Thing) (o : ℕ) (x y : Thing) → slice_get heap o ≡ Some x → base_of_thing x ≡ base_of_thing y → HeapMore heap (slice_set heap o y)
   put_more heap o x y is same p t h = by (eqb_cases o p)
     where
-    by : (o ≡ p) ⊎ (o ≡ p → ⊥) → ThingFits W (slice_get (slice_set heap o y) p) t
-    by (inr n) = subst (λ z. ThingFits W z t) (sym (set_other heap o p y n)) h
-    by (inl e) =
-        let old : fits W.program (base_of_thing x) t ≡ true = subst (λ z. ThingFits W z t) (subst (λ z. slice_get heap z ≡ Some x) e is) h in
-        subst (λ z. ThingFits W z t) (sym (subst (λ z. slice_get (slice_set heap o y) z ≡ Some y) e (set_there heap o x y is))) (subst (λ z. fits W.program z t ≡ true) same old)
+      by : (o ≡ p) ⊎ (o ≡ p → ⊥) → ThingFits W (slice_get (slice_set heap o y) p) t
+      by (inr n) = subst (λ z. ThingFits W z t) (sym (set_other heap o p y n)) h
+      by (inl e) =
+          let old : fits W.program (base_of_thing x) t ≡ true = subst (λ z. ThingFits W z t) (subst (λ z. slice_get heap z ≡ Some x) e is) h in
+          subst (λ z. ThingFits W z t) (sym (subst (λ z. slice_get (slice_set heap o y) z ≡ Some y) e (set_there heap o x y is))) (subst (λ z. fits W.program z t ≡ true) same old)
 
   put_heap : (heap : List Thing) (o : ℕ) (x y : Thing) → slice_get heap o ≡ Some x → (more : HeapMore heap (slice_set heap o y)) → HeapTyped W heap → ThingTyped W (slice_set heap o y) (Some y) → HeapTyped W (slice_set heap o y)
   put_heap heap o x y is more h new p = by (eqb_cases o p)
     where
-    by : (o ≡ p) ⊎ (o ≡ p → ⊥) → ThingTyped W (slice_set heap o y) (slice_get (slice_set heap o y) p)
-    by (inr n) = subst (λ z. ThingTyped W (slice_set heap o y) z) (sym (set_other heap o p y n)) (thing_more heap (slice_set heap o y) more (slice_get heap p) (h p))
-    by (inl e) = subst (λ z. ThingTyped W (slice_set heap o y) z) (sym (subst (λ z. slice_get (slice_set heap o y) z ≡ Some y) e (set_there heap o x y is))) new
+      by : (o ≡ p) ⊎ (o ≡ p → ⊥) → ThingTyped W (slice_set heap o y) (slice_get (slice_set heap o y) p)
+      by (inr n) = subst (λ z. ThingTyped W (slice_set heap o y) z) (sym (set_other heap o p y n)) (thing_more heap (slice_set heap o y) more (slice_get heap p) (h p))
+      by (inl e) = subst (λ z. ThingTyped W (slice_set heap o y) z) (sym (subst (λ z. slice_get (slice_set heap o y) z ≡ Some y) e (set_there heap o x y is))) new
 
   push_more : (heap : List Thing) (x : Thing) → HeapMore heap (heap ++ x ∷ [])
   push_more heap x o t h = subst (λ z. ThingFits W z t) (sym (append_other heap x o (λ e. subst (λ z. ThingFits W z t) (ap (λ y. slice_get heap y) e ∙ past_end heap) h))) h
@@ -350,9 +350,9 @@ module _ (W : World) (T : Ordered W.program) (P : ProgramTyped W) where
   push_heap : (heap : List Thing) (x : Thing) → HeapTyped W heap → ThingTyped W (heap ++ x ∷ []) (Some x) → HeapTyped W (heap ++ x ∷ [])
   push_heap heap x h new o = by (eqb_cases o (length heap))
     where
-    by : (o ≡ length heap) ⊎ (o ≡ length heap → ⊥) → ThingTyped W (heap ++ x ∷ []) (slice_get (heap ++ x ∷ []) o)
-    by (inl e) = subst (λ z. ThingTyped W (heap ++ x ∷ []) z) (sym (ap (λ y. slice_get (heap ++ x ∷ []) y) e ∙ append_last heap x)) new
-    by (inr n) = subst (λ z. ThingTyped W (heap ++ x ∷ []) z) (sym (append_other heap x o n)) (thing_more heap (heap ++ x ∷ []) (push_more heap x) (slice_get heap o) (h o))
+      by : (o ≡ length heap) ⊎ (o ≡ length heap → ⊥) → ThingTyped W (heap ++ x ∷ []) (slice_get (heap ++ x ∷ []) o)
+      by (inl e) = subst (λ z. ThingTyped W (heap ++ x ∷ []) z) (sym (ap (λ y. slice_get (heap ++ x ∷ []) y) e ∙ append_last heap x)) new
+      by (inr n) = subst (λ z. ThingTyped W (heap ++ x ∷ []) z) (sym (append_other heap x o n)) (thing_more heap (heap ++ x ∷ []) (push_more heap x) (slice_get heap o) (h o))
 
   abbrev pub NextOk : Next → Type 0
   NextOk (Goes x) = StateTyped W x
@@ -393,13 +393,14 @@ module _ (W : World) (T : Ordered W.program) (P : ProgramTyped W) where
     items_have t [] vs a is i v h = let same : [] ≡ vs = cc in absurd (let bad : slice_get [] i ≡ Some v = subst (λ x. slice_get x i ≡ Some v) (sym same) h in let k : None ≡ Some v = bad in cc)
     items_have t (x ∷ args) vs a is i v h = more (value_at st.top.regs x.reg.0) (gather st.top.regs args) vs is i v h (λ w e. fits_type st.heap (reg_base W.program st.top.body x.reg.0) t w a.0 (ty.top x.reg.0 w e)) (λ us e. items_have t args us a.1 e)
       where
-      place : (w : Value) (us : List Value) (i : ℕ) (v : Value) → slice_get (w ∷ us) i ≡ Some v → HasType W st.heap t w → ((i : ℕ) (v : Value) → slice_get us i ≡ Some v → HasType W st.heap t v) → HasType W st.heap t v
-      place w us zero v h f g = let same : w ≡ v = cc in subst (λ v. HasType W st.heap t v) same f
-      place w us (suc i) v h f g = g i v h
-      more : (w : Option Value) (o : Option (List Value)) (vs : List Value) → gather_more w o ≡ Some vs → (i : ℕ) (v : Value) → slice_get vs i ≡ Some v → ((u : Value) → w ≡ Some u → HasType W st.heap t u) → ((us : List Value) → o ≡ Some us → (i : ℕ) (v : Value) → slice_get us i ≡ Some v → HasType W st.heap t v) → HasType W st.heap t v
-      more None o vs e i v h f g = cc
-      more (Some w) None vs e i v h f g = cc
-      more (Some w) (Some us) vs e i v h f g = let same : w ∷ us ≡ vs = cc in place w us i v (subst (λ y. slice_get y i ≡ Some v) (sym same) h) (f w refl) (g us refl)
+        place : (w : Value) (us : List Value) (i : ℕ) (v : Value) → slice_get (w ∷ us) i ≡ Some v → HasType W st.heap t w → ((i : ℕ) (v : Value) → slice_get us i ≡ Some v → HasType W st.heap t v) → HasType W st.heap t v
+        place w us zero v h f g = let same : w ≡ v = cc in subst (λ v. HasType W st.heap t v) same f
+        place w us (suc i) v h f g = g i v h
+
+        more : (w : Option Value) (o : Option (List Value)) (vs : List Value) → gather_more w o ≡ Some vs → (i : ℕ) (v : Value) → slice_get vs i ≡ Some v → ((u : Value) → w ≡ Some u → HasType W st.heap t u) → ((us : List Value) → o ≡ Some us → (i : ℕ) (v : Value) → slice_get us i ≡ Some v → HasType W st.heap t v) → HasType W st.heap t v
+        more None o vs e i v h f g = cc
+        more (Some w) None vs e i v h f g = cc
+        more (Some w) (Some us) vs e i v h f g = let same : w ∷ us ≡ vs = cc in place w us i v (subst (λ y. slice_get y i ≡ Some v) (sym same) h) (f w refl) (g us refl)
 
     -- writes
     put_typed : (o : ℕ) (x y : Thing) → slice_get st.heap o ≡ Some x → base_of_thing x ≡ base_of_thing y → ThingTyped W (slice_set st.heap o y) (Some y) → NextOk (put_thing st o (Gives y))
@@ -421,9 +422,9 @@ module _ (W : World) (T : Ordered W.program) (P : ProgramTyped W) where
         let more : HeapMore st.heap heap' = put_more st.heap o (Object c fs) (Object c (slice_set fs f v)) is refl in
         put_typed o (Object c fs) (Object c (slice_set fs f v)) is refl ((known o (Object c fs) is).0, λ g w x. has_more st.heap heap' more (field_base W.program g) w (by g w (cond_by (has_field W.program c g) (slice_get (slice_set fs f v) g) None w x refl) (eqb_cases f g)))
       where
-      by : (g : ℕ) (w : Value) → (slice_get (slice_set fs f v) g ≡ Some w) × (has_field W.program c g ≡ true) → (f ≡ g) ⊎ (f ≡ g → ⊥) → HasType W st.heap (field_base W.program g) w
-      by g w x (inl e) = subst (λ y. HasType W st.heap (field_base W.program y) w) e (subst (λ w. HasType W st.heap (field_base W.program f) w) (set_same fs f v w (subst (λ y. slice_get (slice_set fs f v) y ≡ Some w) (sym e) x.0)) h)
-      by g w x (inr n) = (known o (Object c fs) is).1 g w (ap (λ t. cond t (slice_get fs g) None) x.1 ∙ (sym (set_other fs f g v n) ∙ x.0))
+        by : (g : ℕ) (w : Value) → (slice_get (slice_set fs f v) g ≡ Some w) × (has_field W.program c g ≡ true) → (f ≡ g) ⊎ (f ≡ g → ⊥) → HasType W st.heap (field_base W.program g) w
+        by g w x (inl e) = subst (λ y. HasType W st.heap (field_base W.program y) w) e (subst (λ w. HasType W st.heap (field_base W.program f) w) (set_same fs f v w (subst (λ y. slice_get (slice_set fs f v) y ≡ Some w) (sym e) x.0)) h)
+        by g w x (inr n) = (known o (Object c fs) is).1 g w (ap (λ t. cond t (slice_get fs g) None) x.1 ∙ (sym (set_other fs f g v n) ∙ x.0))
 
     write_thing : (o f : ℕ) (v : Value) → HasType W st.heap (field_base W.program f) v → (x : Option Thing) → slice_get st.heap o ≡ x → NextOk (put_thing st o (write_in W.program x f v))
     write_thing o f v h None is = tt
@@ -443,9 +444,9 @@ module _ (W : World) (T : Ordered W.program) (P : ProgramTyped W) where
         let more : HeapMore st.heap heap' = put_more st.heap o (Elems c xs) (Elems c (slice_set xs i v)) is refl in
         put_typed o (Elems c xs) (Elems c (slice_set xs i v)) is refl ((known o (Elems c xs) is).0, λ j w x. has_more st.heap heap' more (elem_base c) w (by j w x (eqb_cases i j)))
       where
-      by : (j : ℕ) (w : Value) → slice_get (slice_set xs i v) j ≡ Some w → (i ≡ j) ⊎ (i ≡ j → ⊥) → HasType W st.heap (elem_base c) w
-      by j w x (inl e) = subst (λ w. HasType W st.heap (elem_base c) w) (set_same xs i v w (subst (λ y. slice_get (slice_set xs i v) y ≡ Some w) (sym e) x)) (held_has st.heap ty.heap (elem_base c) v m)
-      by j w x (inr n) = (known o (Elems c xs) is).1 j w (sym (set_other xs i j v n) ∙ x)
+        by : (j : ℕ) (w : Value) → slice_get (slice_set xs i v) j ≡ Some w → (i ≡ j) ⊎ (i ≡ j → ⊥) → HasType W st.heap (elem_base c) w
+        by j w x (inl e) = subst (λ w. HasType W st.heap (elem_base c) w) (set_same xs i v w (subst (λ y. slice_get (slice_set xs i v) y ≡ Some w) (sym e) x)) (held_has st.heap ty.heap (elem_base c) v m)
+        by j w x (inr n) = (known o (Elems c xs) is).1 j w (sym (set_other xs i j v n) ∙ x)
 
     store_typed : (o : ℕ) (i : Option ℕ) (v : Value) (x : Option Thing) → slice_get st.heap o ≡ x → NextOk (put_thing st o (store_in W.program st.heap x i v))
     store_typed o i v None is = tt
@@ -470,11 +471,11 @@ module _ (W : World) (T : Ordered W.program) (P : ProgramTyped W) where
           waiting = wait_more st.heap heap' more st.top.body st.waiting ty.waiting;
         }
       where
-      by : (r : ℕ) (w : Value) → value_at (slice_set st.top.regs dst (Some (At (length st.heap)))) r ≡ Some w → (r ≡ dst) ⊎ (r ≡ dst → ⊥) → HasType W (st.heap ++ x ∷ []) (reg_base W.program st.top.body r) w
-      by r w is (inl e) =
-          let now : At (length st.heap) ≡ w = value_same st.top.regs dst (At (length st.heap)) w (subst (λ y. value_at (slice_set st.top.regs dst (Some (At (length st.heap)))) y ≡ Some w) e is) in
-          subst (λ w. HasType W (st.heap ++ x ∷ []) (reg_base W.program st.top.body r) w) now (subst (λ z. ThingFits W z (reg_base W.program st.top.body r)) (sym (append_last st.heap x)) (subst (λ y. fits W.program (base_of_thing x) (reg_base W.program st.top.body y) ≡ true) (sym e) f))
-      by r w is (inr n) = has_more st.heap (st.heap ++ x ∷ []) (push_more st.heap x) (reg_base W.program st.top.body r) w (ty.top r w (sym (value_other st.top.regs dst r (Some (At (length st.heap))) n) ∙ is))
+        by : (r : ℕ) (w : Value) → value_at (slice_set st.top.regs dst (Some (At (length st.heap)))) r ≡ Some w → (r ≡ dst) ⊎ (r ≡ dst → ⊥) → HasType W (st.heap ++ x ∷ []) (reg_base W.program st.top.body r) w
+        by r w is (inl e) =
+            let now : At (length st.heap) ≡ w = value_same st.top.regs dst (At (length st.heap)) w (subst (λ y. value_at (slice_set st.top.regs dst (Some (At (length st.heap)))) y ≡ Some w) e is) in
+            subst (λ w. HasType W (st.heap ++ x ∷ []) (reg_base W.program st.top.body r) w) now (subst (λ z. ThingFits W z (reg_base W.program st.top.body r)) (sym (append_last st.heap x)) (subst (λ y. fits W.program (base_of_thing x) (reg_base W.program st.top.body y) ≡ true) (sym e) f))
+        by r w is (inr n) = has_more st.heap (st.heap ++ x ∷ []) (push_more st.heap x) (reg_base W.program st.top.body r) w (ty.top r w (sym (value_other st.top.regs dst r (Some (At (length st.heap))) n) ∙ is))
 
     replicated : (n : ℕ) (x : Value) (i : ℕ) (v : Value) → slice_get (replicate n x) i ≡ Some v → x ≡ v
     replicated zero x i v h = cc
@@ -525,7 +526,7 @@ module _ (W : World) (T : Ordered W.program) (P : ProgramTyped W) where
       static_typed_call dst m direct args e p None iv = tt
       static_typed_call dst m direct args e p (Some vs) iv =
           enter_typed st.heap same_more ty.heap m.0 vs (subst (λ ts. AllHave st.heap ts vs) (sym (given_static m.0 (P.receivers st.top.body st.top.at pt dst m direct args is e))) (args_have (params_of (method_at W.program m.0)) args vs p.2 iv))
-            (λ b ib. return_fits pt is (Call dst m None direct args) e b (own_result m.0 b dst ib p.1)) (ltb deepest (length st.waiting + 2)) (body_of (method_at W.program m.0)) refl
+          (λ b ib. return_fits pt is (Call dst m None direct args) e b (own_result m.0 b dst ib p.1)) (ltb deepest (length st.waiting + 2)) (body_of (method_at W.program m.0)) refl
 
       on_typed : (dst : Option RegNo) (m : MethodNo) (r : Operand) (direct : Bool) (args : List Operand) → pt.kind ≡ Call dst m (Some r) direct args → PointTyped W.program st.top.body (Call dst m (Some r) direct args) → (vs : List Value) → gather st.top.regs args ≡ Some vs → (o : ℕ) → value_at st.top.regs r.reg.0 ≡ Some (At o) → (k : Option ℕ) → selected W.program st.heap o m.0 direct ≡ k → NextOk (calls_on W.program st k (At o ∷ vs))
       on_typed dst m r direct args e p vs iv o io None ik = tt
@@ -533,15 +534,15 @@ module _ (W : World) (T : Ordered W.program) (P : ProgramTyped W) where
           let u = selects_on st ty pt dst m r direct args is e p o k io ik in
           let rest : AllHave st.heap (params_of (method_at W.program k)) vs = subst (λ ts. AllHave st.heap ts vs) (sym u.0.params) (args_have (params_of (method_at W.program m.0)) args vs p.2 iv) in
           enter_typed st.heap same_more ty.heap k (At o ∷ vs) (subst (λ ts. AllHave st.heap ts (At o ∷ vs)) (sym (given_this k u.0.over.instance)) (u.1, rest))
-            (λ b ib. return_fits pt is (Call dst m (Some r) direct args) e b (gives_by k m.0 b dst ib u.0.result p.1)) (ltb deepest (length st.waiting + 2)) (body_of (method_at W.program k)) refl
+          (λ b ib. return_fits pt is (Call dst m (Some r) direct args) e b (gives_by k m.0 b dst ib u.0.result p.1)) (ltb deepest (length st.waiting + 2)) (body_of (method_at W.program k)) refl
 
       this_typed : (dst : Option RegNo) (m : MethodNo) (r : Operand) (direct : Bool) (args : List Operand) → pt.kind ≡ Call dst m (Some r) direct args → PointTyped W.program st.top.body (Call dst m (Some r) direct args) → (vs : Option (List Value)) → gather st.top.regs args ≡ vs → (o : Option ℕ) → object_of (value_at st.top.regs r.reg.0) ≡ o → NextOk (calls W.program st m.0 (Some r) direct vs)
       this_typed dst m r direct args e p None iv o io = tt
       this_typed dst m r direct args e p (Some vs) iv o io = subst (λ x. NextOk (calls_this W.program st x m.0 direct vs)) (sym io) (by o io)
         where
-        by : (o : Option ℕ) → object_of (value_at st.top.regs r.reg.0) ≡ o → NextOk (calls_this W.program st o m.0 direct vs)
-        by None io = tt
-        by (Some o) io = on_typed dst m r direct args e p vs iv o (object_is (value_at st.top.regs r.reg.0) o io) (selected W.program st.heap o m.0 direct) refl
+          by : (o : Option ℕ) → object_of (value_at st.top.regs r.reg.0) ≡ o → NextOk (calls_this W.program st o m.0 direct vs)
+          by None io = tt
+          by (Some o) io = on_typed dst m r direct args e p vs iv o (object_is (value_at st.top.regs r.reg.0) o io) (selected W.program st.heap o m.0 direct) refl
 
       ctor_typed : (m : MethodNo) (args : List Operand) (own : Bool) → pt.kind ≡ CtorCall m args own → PointTyped W.program st.top.body (CtorCall m args own) → (v : Option Value) → value_at st.top.regs 0 ≡ v → (vs : Option (List Value)) → gather st.top.regs args ≡ vs → NextOk (ctor_calls W.program st m.0 v vs)
       ctor_typed m args own e p v io None iv = tt
@@ -550,15 +551,15 @@ module _ (W : World) (T : Ordered W.program) (P : ProgramTyped W) where
           let this : HasType W st.heap (Ref (record { 0 = class_of (method_at W.program m.0) })) v = fits_type st.heap (reg_base W.program st.top.body 0) (Ref (record { 0 = class_of (method_at W.program m.0) })) v p.0 (ty.top 0 v io) in
           by (body_of (method_at W.program m.0)) refl this
         where
-        by : (x : Option ℕ) → body_of (method_at W.program m.0) ≡ x → HasType W st.heap (Ref (record { 0 = class_of (method_at W.program m.0) })) v → NextOk (enter W.program (ltb deepest (length st.waiting + 2)) st st.heap (body_of (method_at W.program m.0)) (v ∷ vs))
-        by None ib this = subst (λ x. NextOk (enter W.program (ltb deepest (length st.waiting + 2)) st st.heap x (v ∷ vs))) (sym ib) (stuck (ltb deepest (length st.waiting + 2)))
-          where
-          stuck : (t : Bool) → NextOk (enter W.program t st st.heap None (v ∷ vs))
-          stuck true = tt
-          stuck false = tt
-        by (Some b) ib this =
-            let s = P.ctor_reg m.0 b ib (P.ctors st.top.body st.top.at pt m args own is e) in
-            enter_typed st.heap same_more ty.heap m.0 (v ∷ vs) (subst (λ ts. AllHave st.heap ts (v ∷ vs)) (sym (given_this m.0 s.1)) (this, args_have (params_of (method_at W.program m.0)) args vs p.1 iv))
+          by : (x : Option ℕ) → body_of (method_at W.program m.0) ≡ x → HasType W st.heap (Ref (record { 0 = class_of (method_at W.program m.0) })) v → NextOk (enter W.program (ltb deepest (length st.waiting + 2)) st st.heap (body_of (method_at W.program m.0)) (v ∷ vs))
+          by None ib this = subst (λ x. NextOk (enter W.program (ltb deepest (length st.waiting + 2)) st st.heap x (v ∷ vs))) (sym ib) (stuck (ltb deepest (length st.waiting + 2)))
+            where
+              stuck : (t : Bool) → NextOk (enter W.program t st st.heap None (v ∷ vs))
+              stuck true = tt
+              stuck false = tt
+          by (Some b) ib this =
+              let s = P.ctor_reg m.0 b ib (P.ctors st.top.body st.top.at pt m args own is e) in
+              enter_typed st.heap same_more ty.heap m.0 (v ∷ vs) (subst (λ ts. AllHave st.heap ts (v ∷ vs)) (sym (given_this m.0 s.1)) (this, args_have (params_of (method_at W.program m.0)) args vs p.1 iv))
               (λ b ib. return_fits pt is (CtorCall m args own) e b tt) (ltb deepest (length st.waiting + 2)) (body_of (method_at W.program m.0)) refl
 
       field_default : (heap : List Thing) (fs : List Field) (f : ℕ) (v : Value) → slice_get (defaults fs) f ≡ Some v → HasType W heap (field_base_of (slice_get fs f)) v
@@ -570,34 +571,35 @@ module _ (W : World) (T : Ordered W.program) (P : ProgramTyped W) where
       new_typed dst m args e p None iv = tt
       new_typed dst m args e p (Some vs) iv = by (body_of (method_at W.program m.0)) refl
         where
-        c : ℕ
-        c = class_of (method_at W.program m.0)
-        by : (x : Option ℕ) → body_of (method_at W.program m.0) ≡ x → NextOk (enter W.program (ltb deepest (length st.waiting + 2)) st (st.heap ++ Object (class_of (method_at W.program m.0)) (defaults W.program.fields) ∷ []) (body_of (method_at W.program m.0)) (At (length st.heap) ∷ vs))
-        by None ib = subst (λ x. NextOk (enter W.program (ltb deepest (length st.waiting + 2)) st (st.heap ++ Object (class_of (method_at W.program m.0)) (defaults W.program.fields) ∷ []) x (At (length st.heap) ∷ vs))) (sym ib) (stuck (ltb deepest (length st.waiting + 2)))
-          where
-          stuck : (t : Bool) → NextOk (enter W.program t st (st.heap ++ Object (class_of (method_at W.program m.0)) (defaults W.program.fields) ∷ []) None (At (length st.heap) ∷ vs))
-          stuck true = tt
-          stuck false = tt
-        by (Some b) ib =
-            let made : Thing = Object (class_of (method_at W.program m.0)) (defaults W.program.fields) in
-            let heap' = st.heap ++ made ∷ [] in
-            let more : HeapMore st.heap heap' = push_more st.heap made in
-            let s = P.ctor_reg m.0 b ib (P.news st.top.body st.top.at pt dst m args is e).0 in
-            let owner_t : BaseType = Ref (record { 0 = class_of (method_at W.program m.0) }) in
-            let heap_ok : HeapTyped W heap' = push_heap st.heap made ty.heap ((P.news st.top.body st.top.at pt dst m args is e).1, λ f v x. field_default heap' W.program.fields f v (cond_is (has_field W.program (class_of (method_at W.program m.0)) f) (slice_get (defaults W.program.fields) f) v x)) in
-            let this : HasType W heap' owner_t (At (length st.heap)) = subst (λ z. ThingFits W z owner_t) (sym (append_last st.heap made)) (fits_self W.program owner_t) in
-            enter_typed heap' more heap_ok m.0 (At (length st.heap) ∷ vs) (subst (λ ts. AllHave heap' ts (At (length st.heap) ∷ vs)) (sym (given_this m.0 s.1)) (this, all_more st.heap heap' more (params_of (method_at W.program m.0)) vs (args_have (params_of (method_at W.program m.0)) args vs p.1 iv)))
+          c : ℕ
+          c = class_of (method_at W.program m.0)
+
+          by : (x : Option ℕ) → body_of (method_at W.program m.0) ≡ x → NextOk (enter W.program (ltb deepest (length st.waiting + 2)) st (st.heap ++ Object (class_of (method_at W.program m.0)) (defaults W.program.fields) ∷ []) (body_of (method_at W.program m.0)) (At (length st.heap) ∷ vs))
+          by None ib = subst (λ x. NextOk (enter W.program (ltb deepest (length st.waiting + 2)) st (st.heap ++ Object (class_of (method_at W.program m.0)) (defaults W.program.fields) ∷ []) x (At (length st.heap) ∷ vs))) (sym ib) (stuck (ltb deepest (length st.waiting + 2)))
+            where
+              stuck : (t : Bool) → NextOk (enter W.program t st (st.heap ++ Object (class_of (method_at W.program m.0)) (defaults W.program.fields) ∷ []) None (At (length st.heap) ∷ vs))
+              stuck true = tt
+              stuck false = tt
+          by (Some b) ib =
+              let made : Thing = Object (class_of (method_at W.program m.0)) (defaults W.program.fields) in
+              let heap' = st.heap ++ made ∷ [] in
+              let more : HeapMore st.heap heap' = push_more st.heap made in
+              let s = P.ctor_reg m.0 b ib (P.news st.top.body st.top.at pt dst m args is e).0 in
+              let owner_t : BaseType = Ref (record { 0 = class_of (method_at W.program m.0) }) in
+              let heap_ok : HeapTyped W heap' = push_heap st.heap made ty.heap ((P.news st.top.body st.top.at pt dst m args is e).1, λ f v x. field_default heap' W.program.fields f v (cond_is (has_field W.program (class_of (method_at W.program m.0)) f) (slice_get (defaults W.program.fields) f) v x)) in
+              let this : HasType W heap' owner_t (At (length st.heap)) = subst (λ z. ThingFits W z owner_t) (sym (append_last st.heap made)) (fits_self W.program owner_t) in
+              enter_typed heap' more heap_ok m.0 (At (length st.heap) ∷ vs) (subst (λ ts. AllHave heap' ts (At (length st.heap) ∷ vs)) (sym (given_this m.0 s.1)) (this, all_more st.heap heap' more (params_of (method_at W.program m.0)) vs (args_have (params_of (method_at W.program m.0)) args vs p.1 iv)))
               (λ b' ib'. return_fits pt is (New dst m args) e b' (subst (λ t. fits W.program t (reg_base W.program st.top.body dst.0) ≡ true) (sym (P.ctor_reg m.0 b' ib' (P.news st.top.body st.top.at pt dst m args is e).0).0) p.0)) (ltb deepest (length st.waiting + 2)) (body_of (method_at W.program m.0)) refl
 
     -- Return
     resume_set : (w : Frame) (ws : List Frame) (dst : ℕ) (v : Value) → RegsTyped W st.heap w.body w.regs → WaitTyped W st.heap w.body ws → HasType W st.heap (reg_base W.program w.body dst) v → NextOk (resumes st (holds_at w dst v) ws)
     resume_set w ws dst v h rest d = record { heap = ty.heap; top = λ r u x. by r u x (eqb_cases r dst); waiting = rest }
       where
-      by : (r : ℕ) (u : Value) → value_at (slice_set w.regs dst (Some v)) r ≡ Some u → (r ≡ dst) ⊎ (r ≡ dst → ⊥) → HasType W st.heap (reg_base W.program w.body r) u
-      by r u x (inl e) =
-          let now : v ≡ u = value_same w.regs dst v u (subst (λ y. value_at (slice_set w.regs dst (Some v)) y ≡ Some u) e x) in
-          subst (λ y. HasType W st.heap (reg_base W.program w.body y) u) (sym e) (subst (λ u. HasType W st.heap (reg_base W.program w.body dst) u) now d)
-      by r u x (inr n) = h r u (sym (value_other w.regs dst r (Some v) n) ∙ x)
+        by : (r : ℕ) (u : Value) → value_at (slice_set w.regs dst (Some v)) r ≡ Some u → (r ≡ dst) ⊎ (r ≡ dst → ⊥) → HasType W st.heap (reg_base W.program w.body r) u
+        by r u x (inl e) =
+            let now : v ≡ u = value_same w.regs dst v u (subst (λ y. value_at (slice_set w.regs dst (Some v)) y ≡ Some u) e x) in
+            subst (λ y. HasType W st.heap (reg_base W.program w.body y) u) (sym e) (subst (λ u. HasType W st.heap (reg_base W.program w.body dst) u) now d)
+        by r u x (inr n) = h r u (sym (value_other w.regs dst r (Some v) n) ∙ x)
 
     gives_typed : (w : Frame) (ws : List Frame) (dst : ℕ) (v : Option Value) → RegsTyped W st.heap w.body w.regs → WaitTyped W st.heap w.body ws → ((u : Value) → v ≡ Some u → HasType W st.heap (reg_base W.program w.body dst) u) → NextOk (gives st w ws dst v)
     gives_typed w ws dst None h rest d = tt

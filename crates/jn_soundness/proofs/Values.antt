@@ -4,7 +4,6 @@ use Rattle.std.specs.Prelude.{slice_get, eqb, ltb, ℤ}
 use Rattle.std.proofs.lemmas.Bool.{eqb-true}
 use Rattle.jn_base.specs.declared.number.SlotNo.{SlotNo}
 use Rattle.jn_quals.specs.Qualifier.{Qualifier}
-use Rattle.jn_points.specs.declared.point.Operand.{Operand}
 use Rattle.jn_points.specs.declared.point.Operator.{Operator}
 use Rattle.jn_points.specs.declared.point.StrOperation.{StrOperation}
 use Rattle.jn_points.specs.declared.point.BaseType.{BaseType}
@@ -12,7 +11,7 @@ use Rattle.jn_points.specs.declared.point.Literal.{Literal}
 use Rattle.jn_points.specs.declared.point.Literal.TheVariants.{Int, Truth as TruthOf, Str, Null}
 use Rattle.jn_points.specs.declared.program.Field.{Field}
 use Rattle.jn_soundness.specs.Good.{AllOn, Committed, Described, Describes, FactOk, FieldOk, FrameMark, Free, FreeField, HeapOk, MarkFits, Marks, ObjMark, Settled, ThingOk, Unborn}
-use Rattle.jn_heap.specs.Values.{At, Elems, Fails, Gives, Got, Lacks, NullRef, Object, Plain, Prim, Text, Thing, Value, binary, index, same, text_of, unary, longest, units, text_op}
+use Rattle.jn_heap.specs.Values.{At, Elems, Fails, Gives, Got, Lacks, NullRef, Object, Plain, Prim, Text, Thing, Value, binary, index, unary, longest, units, text_op}
 use Rattle.jn_env.specs.declared.env.Env.{Env}
 use Rattle.jn_heap.specs.Machine.{Regs, array_len, binary_of, cast_as, cast_of, class_at, class_in, concat_of, elem_in, field_at, field_in, got_of, got_plain, is_within, item_at, item_or_index, length_in, literal_value, object_of, read_elem, read_field, same_of, str_op, text_or_long, unary_of, value_at}
 use Rattle.jn_soundness.specs.World.{World}
@@ -117,9 +116,9 @@ module _ (W : World) (m : Marks) (a : ℕ) where
   no_ref_qual None h = refl
   no_ref_qual (Some f) h = by_slot f.slot h
     where
-    by_slot : (s : Option SlotNo) → has_slot s ≡ false → slot_qual W.sig s ≡ no_qual
-    by_slot None h = refl
-    by_slot (Some s) h = cc
+      by_slot : (s : Option SlotNo) → has_slot s ≡ false → slot_qual W.sig s ≡ no_qual
+      by_slot None h = refl
+      by_slot (Some s) h = cc
 
   less_null_fits : (b : Bool) (q : Qualifier) (v : Value) → Fits q v → (b ≡ true → v ≡ NullRef → ⊥) → Fits (less_null b q) v
   less_null_fits false q v d n = d
@@ -168,10 +167,10 @@ module _ (W : World) (m : Marks) (a : ℕ) where
   fact_on : (b : ℕ) (e : Env) (heap : List Thing) (regs : Regs) (r f o : ℕ) (v : Value) → AllOn (FactOk W heap regs) (fact_keys W.program b) e.facts → value_at regs r ≡ Some (At o) → field_at W.program heap o f ≡ Some v → is_on (is_key r f) (fact_keys W.program b) e.facts ≡ true → v ≡ NullRef → ⊥
   fact_on b e heap regs r f o v fa is at' on null =
       on_is_on (FactOk W heap regs) (is_key r f) (fact_keys W.program b) e.facts fa on (λ k t h.
-        let both = and_true (eqb k.reg r) (eqb k.field f) t in
-        let same_reg : k.reg ≡ r = eqb-true k.reg r both.0 in
-        let same_field : k.field ≡ f = eqb-true k.field f both.1 in
-        h o (subst (λ x. value_at regs x ≡ Some (At o)) (sym same_reg) is) (subst (λ x. field_at W.program heap o x ≡ Some NullRef) (sym same_field) (at' ∙ ap (λ x. Some x) null)))
+      let both = and_true (eqb k.reg r) (eqb k.field f) t in
+      let same_reg : k.reg ≡ r = eqb-true k.reg r both.0 in
+      let same_field : k.field ≡ f = eqb-true k.field f both.1 in
+      h o (subst (λ x. value_at regs x ≡ Some (At o)) (sym same_reg) is) (subst (λ x. field_at W.program heap o x ≡ Some NullRef) (sym same_field) (at' ∙ ap (λ x. Some x) null)))
 
   module _ (b : ℕ) (e : Env) (heap : List Thing) (regs : Regs) (gs : List FrameMark) (h : HeapOk W m gs heap) (d : Described m a e.quals regs) where
     fits_at : (r o : ℕ) → value_at regs r ≡ Some (At o) → MarkFits a (qual_at e r) (m o)
@@ -183,8 +182,8 @@ module _ (W : World) (m : Marks) (a : ℕ) where
         let q = qual_at e r in
         let ok = field_ok gs heap h o f v at' in
         less_null_fits (is_on (is_key r f) (fact_keys W.program b) e.facts) (cond (ref_field W.program f) (read_part W.program W.sig f (without_null q)) no_qual) v
-          (by_mark f q v (m o) (ref_field W.program f) refl (fits_at r o is) (alive m a q (At o) (fits_at r o is) tt) ok (λ p same fl fit. flat_committed gs heap h p all_quals (ty p (at' ∙ ap (λ x. Some x) same) fl) fit))
-          (λ on null. fact_on b e heap regs r f o v fa is at' on null)
+        (by_mark f q v (m o) (ref_field W.program f) refl (fits_at r o is) (alive m a q (At o) (fits_at r o is) tt) ok (λ p same fl fit. flat_committed gs heap h p all_quals (ty p (at' ∙ ap (λ x. Some x) same) fl) fit))
+        (λ on null. fact_on b e heap regs r f o v fa is at' on null)
 
     pub read_fits : (r f : ℕ) (o : Option ℕ) → object_of (value_at regs r) ≡ o → AllOn (FactOk W heap regs) (fact_keys W.program b) e.facts → ((o p : ℕ) → value_at regs r ≡ Some (At o) → field_at W.program heap o f ≡ Some (At p) → flat_field W.program f ≡ true → class_at heap p ≡ None) → GotOk (Fits (read_qual W.program W.sig b e r f)) (read_field W.program heap o f)
     read_fits r f None is fa ty = tt
@@ -217,4 +216,4 @@ module _ (W : World) (m : Marks) (a : ℕ) where
     elem_fits r (Some o) (Some i) is ty =
         let at' = object_is (value_at regs r) o is in
         alive_elem r (is_none (without_null (qual_at e r))) (elem_in (slice_get heap o) (index i)) (alive m a (qual_at e r) (At o) (fits_at r o at') tt)
-          (elem_got (elem_qual (reg_base W.program b r)) o (m o) (slice_get heap o) (index i) (h o) (λ c xs x. ty o c xs at' x))
+        (elem_got (elem_qual (reg_base W.program b r)) o (m o) (slice_get heap o) (index i) (h o) (λ c xs x. ty o c xs at' x))

@@ -10,7 +10,7 @@ use Rattle.jn_points.specs.declared.point.BaseType.TheVariants.{Ref, Array}
 use Rattle.jn_points.specs.declared.point.Elem.TheVariants.{Ref as RefElem}
 use Rattle.jn_points.specs.declared.point.Point.{Point}
 use Rattle.jn_soundness.specs.Good.{AlwaysTyped, IsMain, TypedAt, NoFault, MainsOk, RunsTyped}
-use Rattle.jn_heap.specs.Values.{At, Elems, Text, Thing, Value, same}
+use Rattle.jn_heap.specs.Values.{At, Elems, Text, Thing, Value}
 use Rattle.jn_soundness.specs.Checked.{Checked}
 use Rattle.jn_soundness.specs.Types.{HasType, MainTyped, ProgramTyped, StateTyped, ThingTyped, MainsTyped}
 use Rattle.jn_heap.specs.Machine.{Goes, Next, State, start_state, texts, MainForm, NeverNull}
@@ -35,9 +35,9 @@ module _ (W : World) (T : Ordered W.program) (P : ProgramTyped W) where
         waiting = tt;
       }
     where
-    things : (o : ℕ) → ThingTyped W (Elems (Array (RefElem (record { 0 = 1 })) false) (texts words) ∷ []) (slice_get (Elems (Array (RefElem (record { 0 = 1 })) false) (texts words) ∷ []) o)
-    things zero = (refl, words_typed (Elems (Array (RefElem (record { 0 = 1 })) false) (texts words) ∷ []) words)
-    things (suc o) = tt
+      things : (o : ℕ) → ThingTyped W (Elems (Array (RefElem (record { 0 = 1 })) false) (texts words) ∷ []) (slice_get (Elems (Array (RefElem (record { 0 = 1 })) false) (texts words) ∷ []) o)
+      things zero = (refl, words_typed (Elems (Array (RefElem (record { 0 = 1 })) false) (texts words) ∷ []) words)
+      things (suc o) = tt
 
   typed_at : (st : State) → StateTyped W st → (o : Option Point) → point_at W.program st.top.body st.top.at ≡ o → TypedAt W st o
   typed_at st h None is = tt
@@ -64,8 +64,8 @@ module _ (W : World) (checked : Checked W) (mains : MainsOk W) where
         committed = mains.slot m b main;
       }
     where
-    given : static_of (Some main.method) ≡ true → given_quals W.sig (Some main.method) ≡ slot_qual W.sig (Some main.slot) ∷ []
-    given s = subst (λ t. cond t (slot_quals W.sig main.method.param_slots) (this_qual W.sig (Some main.method) ∷ slot_quals W.sig main.method.param_slots) ≡ slot_qual W.sig (Some main.slot) ∷ []) (sym s) (ap (slot_quals W.sig) main.param)
+      given : static_of (Some main.method) ≡ true → given_quals W.sig (Some main.method) ≡ slot_qual W.sig (Some main.slot) ∷ []
+      given s = subst (λ t. cond t (slot_quals W.sig main.method.param_slots) (this_qual W.sig (Some main.method) ∷ slot_quals W.sig main.method.param_slots) ≡ slot_qual W.sig (Some main.slot) ∷ []) (sym s) (ap (slot_quals W.sig) main.param)
 
   pub untyped_never_null : RunsTyped W → NeverNull W.program
   untyped_never_null typed m b main names words n st goes fault = never_null W checked names b (is_main m b main) words (typed m b main names words) n st goes fault

@@ -14,10 +14,10 @@ use Rattle.jn_soundness.specs.World.{World}
 use Rattle.jn_soundness.specs.Checked.{WritePasses}
 use Rattle.jn_points.specs.Lookup.{class_of, ctor_of, locals, method_in, owner, ref_field, ref_of, has_slot}
 use Rattle.jn_sigs.specs.Signature.{field_qual, field_qual_of, slot_qual}
-use Rattle.jn_points.specs.Members.{fits, has_field}
+use Rattle.jn_points.specs.Members.{has_field}
 use Rattle.jn_env.specs.Order.{qual_at}
 use Rattle.jn_quals.specs.Order.{settle}
-use Rattle.jn_transfer.specs.Transfer.{write_assigned, write_facts, written}
+use Rattle.jn_transfer.specs.Transfer.{write_assigned, write_facts}
 use Rattle.jn_soundness.proofs.Basics.{and_true, not_true, true_false, within_null, within_committed, settled_of, settled_within, on_mask, on_also, on_map, eqb_cases}
 use Rattle.jn_soundness.proofs.Laters.{Later}
 
@@ -50,9 +50,9 @@ pub null_is_ref : (W : World) (x : Option Field) → (field_qual_of W.sig x).nul
 null_is_ref W None h = cc
 null_is_ref W (Some f) h = by_slot f.slot h
   where
-  by_slot : (s : Option SlotNo) → (slot_qual W.sig s).null ≡ true → has_slot s ≡ true
-  by_slot None h = cc
-  by_slot (Some s) h = refl
+    by_slot : (s : Option SlotNo) → (slot_qual W.sig s).null ≡ true → has_slot s ≡ true
+    by_slot None h = cc
+    by_slot (Some s) h = refl
 
 or_left : (a b : Bool) → a ≡ true → (a || b) ≡ true
 or_left true b h = refl
@@ -73,29 +73,33 @@ module _ (W : World) (m : Marks) (a : ℕ) where
   fits_field e r f s v Committed ir u h d =
       let q = qual_at e s in
       settled_within m q (field_qual W.program W.sig f) v (λ x. within_null (settle q) (field_qual W.program W.sig f) (u.value ir) x) (λ x. within_committed (settle q) (field_qual W.program W.sig f) (u.value ir) (or_left q.committed q.free x))
-        (settled_of m a q v (or_free q.free (λ x. u.init x h)) d)
+      (settled_of m a q v (or_free q.free (λ x. u.init x h)) d)
   fits_field e r f s v (Free era ended) ir u h d = record { value = here v d; slot = slot v d; ends = λ x y. within_null (settle (qual_at e s)) (field_qual W.program W.sig f) (u.value ir) (null v d y) }
     where
-    null : (v : Value) → Describes m a (qual_at e s) (Some v) → v ≡ NullRef → (qual_at e s).null ≡ true
-    null v d y = subst (λ v. Describes m a (qual_at e s) (Some v)) y d
-    by_mark : (k : ObjMark) → MarkFits a (qual_at e s) k → MarkFits era (free_qual (ref_field W.program f)) k
-    by_mark Unborn d = d
-    by_mark Committed d = refl
-    by_mark (Free x y) d = (refl, d.1 ∙ sym h.1)
-    here : (v : Value) → Describes m a (qual_at e s) (Some v) → Describes m era (free_qual (ref_field W.program f)) (Some v)
-    here NullRef d = null_is_ref W (slice_get W.program.fields f) (within_null (settle (qual_at e s)) (field_qual W.program W.sig f) (u.value ir) d)
-    here (Text t) d = refl
-    here (Plain p) d = tt
-    here (At o) d = by_mark (m o) d
-    either : (k : ObjMark) → MarkFits a (qual_at e s) k → (settle (qual_at e s)).committed ≡ true
-    either Unborn d = absurd d
-    either Committed d = or_left (qual_at e s).committed (qual_at e s).free d
-    either (Free x y) d = or_right (qual_at e s).committed (qual_at e s).free d.0
-    slot : (v : Value) → Describes m a (qual_at e s) (Some v) → HoldsRef v → (field_qual W.program W.sig f).committed ≡ true
-    slot NullRef d n = absurd n
-    slot (Text t) d n = within_committed (settle (qual_at e s)) (field_qual W.program W.sig f) (u.value ir) (or_left (qual_at e s).committed (qual_at e s).free d)
-    slot (Plain p) d n = absurd n
-    slot (At o) d n = within_committed (settle (qual_at e s)) (field_qual W.program W.sig f) (u.value ir) (either (m o) d)
+      null : (v : Value) → Describes m a (qual_at e s) (Some v) → v ≡ NullRef → (qual_at e s).null ≡ true
+      null v d y = subst (λ v. Describes m a (qual_at e s) (Some v)) y d
+
+      by_mark : (k : ObjMark) → MarkFits a (qual_at e s) k → MarkFits era (free_qual (ref_field W.program f)) k
+      by_mark Unborn d = d
+      by_mark Committed d = refl
+      by_mark (Free x y) d = (refl, d.1 ∙ sym h.1)
+
+      here : (v : Value) → Describes m a (qual_at e s) (Some v) → Describes m era (free_qual (ref_field W.program f)) (Some v)
+      here NullRef d = null_is_ref W (slice_get W.program.fields f) (within_null (settle (qual_at e s)) (field_qual W.program W.sig f) (u.value ir) d)
+      here (Text t) d = refl
+      here (Plain p) d = tt
+      here (At o) d = by_mark (m o) d
+
+      either : (k : ObjMark) → MarkFits a (qual_at e s) k → (settle (qual_at e s)).committed ≡ true
+      either Unborn d = absurd d
+      either Committed d = or_left (qual_at e s).committed (qual_at e s).free d
+      either (Free x y) d = or_right (qual_at e s).committed (qual_at e s).free d.0
+
+      slot : (v : Value) → Describes m a (qual_at e s) (Some v) → HoldsRef v → (field_qual W.program W.sig f).committed ≡ true
+      slot NullRef d n = absurd n
+      slot (Text t) d n = within_committed (settle (qual_at e s)) (field_qual W.program W.sig f) (u.value ir) (or_left (qual_at e s).committed (qual_at e s).free d)
+      slot (Plain p) d n = absurd n
+      slot (At o) d n = within_committed (settle (qual_at e s)) (field_qual W.program W.sig f) (u.value ir) (either (m o) d)
 
   -- an int or boolean fits any field
   pub plain_field : (mark : ObjMark) (own : ℕ) (is_ref : Bool) (q : Qualifier) (v : Value) → HoldsPlain (Some v) → FieldOk m mark own is_ref q v
@@ -136,9 +140,9 @@ module _ (W : World) (heap : List Thing) (o c : ℕ) (fs : List Value) (f : ℕ)
   pub set_after : (v ≡ NullRef → (field_qual W.program W.sig f).null ≡ true) → (p g : ℕ) → FieldSet W heap p g → FieldSet W heap_after p g
   set_after null p g s h = by (written_field p g NullRef h)
     where
-    by : Written p g NullRef → (field_qual W.program W.sig g).null ≡ true
-    by (inl x) = subst (λ y. (field_qual W.program W.sig y).null ≡ true) x.1 (null x.2)
-    by (inr x) = s x.1
+      by : Written p g NullRef → (field_qual W.program W.sig g).null ≡ true
+      by (inl x) = subst (λ y. (field_qual W.program W.sig y).null ≡ true) x.1 (null x.2)
+      by (inr x) = s x.1
 
   pub later_after : (m : Marks) (a : ℕ) → (v ≡ NullRef → (field_qual W.program W.sig f).null ≡ true) → Later W a m heap m heap_after
   later_after m a null = record {
@@ -154,9 +158,9 @@ module _ (W : World) (heap : List Thing) (o c : ℕ) (fs : List Value) (f : ℕ)
       let old : ObjectOk W m gs p (m p) c fs = subst (λ t. ThingOk W m gs p (m p) t) (subst (λ x. slice_get heap x ≡ Some (Object c fs)) e is) (h p) in
       subst (λ t. ThingOk W m gs p (m p) t) (sym (object_after p e)) (record { fields = λ g w x. by g w (in_object p g w e (eqb_cases f g) x); built = old.built })
     where
-    by : (g : ℕ) (w : Value) → Written p g w → FieldOk m (m p) (owner W.program g) (ref_field W.program g) (field_qual W.program W.sig g) w
-    by g w (inl x) = subst (λ y. FieldOk m (m p) (owner W.program g) (ref_field W.program g) (field_qual W.program W.sig g) y) x.2 (subst (λ y. FieldOk m (m p) (owner W.program y) (ref_field W.program y) (field_qual W.program W.sig y) v) x.1 (subst (λ y. FieldOk m (m y) (owner W.program f) (ref_field W.program f) (field_qual W.program W.sig f) v) x.0 ok))
-    by g w (inr x) = (subst (λ t. ThingOk W m gs p (m p) t) (subst (λ x. slice_get heap x ≡ Some (Object c fs)) e is) (h p)).fields g w (subst (λ t. field_in W.program t g ≡ Some w) (subst (λ x. slice_get heap x ≡ Some (Object c fs)) e is) x.1)
+      by : (g : ℕ) (w : Value) → Written p g w → FieldOk m (m p) (owner W.program g) (ref_field W.program g) (field_qual W.program W.sig g) w
+      by g w (inl x) = subst (λ y. FieldOk m (m p) (owner W.program g) (ref_field W.program g) (field_qual W.program W.sig g) y) x.2 (subst (λ y. FieldOk m (m p) (owner W.program y) (ref_field W.program y) (field_qual W.program W.sig y) v) x.1 (subst (λ y. FieldOk m (m y) (owner W.program f) (ref_field W.program f) (field_qual W.program W.sig f) v) x.0 ok))
+      by g w (inr x) = (subst (λ t. ThingOk W m gs p (m p) t) (subst (λ x. slice_get heap x ≡ Some (Object c fs)) e is) (h p)).fields g w (subst (λ t. field_in W.program t g ≡ Some w) (subst (λ x. slice_get heap x ≡ Some (Object c fs)) e is) x.1)
 
   pub heap_ok_after : (m : Marks) (gs : List FrameMark) → HeapOk W m gs heap → FieldOk m (m o) (owner W.program f) (ref_field W.program f) (field_qual W.program W.sig f) v → HeapOk W m gs heap_after
   heap_ok_after m gs h ok p = heap_by m gs h ok p (eqb_cases o p)
@@ -166,29 +170,30 @@ module _ (W : World) (heap : List Thing) (o c : ℕ) (fs : List Value) (f : ℕ)
     fact_dropped : (k : Key) → not (has_key_field f k) ≡ true → FactOk W heap regs k → FactOk W heap_after regs k
     fact_dropped k n h p is' z = by (written_field p k.field NullRef z)
       where
-      by : Written p k.field NullRef → ⊥
-      by (inl x) = true_false (eqb k.field f) (eq-eqb k.field f (sym x.1)) (not_true (eqb k.field f) n)
-      by (inr x) = h p is' x.1
+        by : Written p k.field NullRef → ⊥
+        by (inl x) = true_false (eqb k.field f) (eq-eqb k.field f (sym x.1)) (not_true (eqb k.field f) n)
+        by (inr x) = h p is' x.1
 
     fact_added : (qual_at e s).null ≡ false → (k : Key) → is_key r f k ≡ true → FactOk W heap_after regs k
     fact_added q k t p is' z = by (written_field p k.field NullRef z)
       where
-      both : (eqb k.reg r ≡ true) × (eqb k.field f ≡ true)
-      both = and_true (eqb k.reg r) (eqb k.field f) t
-      by : Written p k.field NullRef → ⊥
-      by (inl x) = true_false (qual_at e s).null (null x.2) q
-      by (inr x) =
-          let same_field : f ≡ k.field = sym (eqb-true k.field f both.1) in
-          let there : value_at regs r ≡ Some (At p) = subst (λ y. value_at regs y ≡ Some (At p)) (eqb-true k.reg r both.0) is' in
-          let same : o ≡ p = cc in
-          x.0 (same, same_field)
+        both : (eqb k.reg r ≡ true) × (eqb k.field f ≡ true)
+        both = and_true (eqb k.reg r) (eqb k.field f) t
+
+        by : Written p k.field NullRef → ⊥
+        by (inl x) = true_false (qual_at e s).null (null x.2) q
+        by (inr x) =
+            let same_field : f ≡ k.field = sym (eqb-true k.field f both.1) in
+            let there : value_at regs r ≡ Some (At p) = subst (λ y. value_at regs y ≡ Some (At p)) (eqb-true k.reg r both.0) is' in
+            let same : o ≡ p = cc in
+            x.0 (same, same_field)
 
     facts_by : (t : Bool) → (ltb r (locals W.program b) && not (qual_at e s).null) ≡ t → AllOn (FactOk W heap regs) (fact_keys W.program b) e.facts → AllOn (FactOk W heap_after regs) (fact_keys W.program b) (cond t (also (is_key r f) (fact_keys W.program b) (mask (λ k. not (has_key_field f k)) (fact_keys W.program b) e.facts)) (mask (λ k. not (has_key_field f k)) (fact_keys W.program b) e.facts))
     facts_by false t h = on_mask (FactOk W heap regs) (FactOk W heap_after regs) (λ k. not (has_key_field f k)) (fact_keys W.program b) e.facts h fact_dropped
     facts_by true t h =
         on_also (FactOk W heap_after regs) (FactOk W heap_after regs) (is_key r f) (fact_keys W.program b) (mask (λ k. not (has_key_field f k)) (fact_keys W.program b) e.facts)
-          (on_mask (FactOk W heap regs) (FactOk W heap_after regs) (λ k. not (has_key_field f k)) (fact_keys W.program b) e.facts h fact_dropped)
-          (λ k x. x) (λ k x. fact_added (not_true (qual_at e s).null (and_true (ltb r (locals W.program b)) (not (qual_at e s).null) t).1) k x)
+        (on_mask (FactOk W heap regs) (FactOk W heap_after regs) (λ k. not (has_key_field f k)) (fact_keys W.program b) e.facts h fact_dropped)
+        (λ k x. x) (λ k x. fact_added (not_true (qual_at e s).null (and_true (ltb r (locals W.program b)) (not (qual_at e s).null) t).1) k x)
 
     pub facts_after : AllOn (FactOk W heap regs) (fact_keys W.program b) e.facts → AllOn (FactOk W heap_after regs) (fact_keys W.program b) (write_facts W.program b e r f s)
     facts_after h = facts_by (ltb r (locals W.program b) && not (qual_at e s).null) refl h
@@ -197,27 +202,29 @@ module _ (W : World) (heap : List Thing) (o c : ℕ) (fs : List Value) (f : ℕ)
     pub facts_same : (v ≡ NullRef → ⊥) → AllOn (FactOk W heap regs) (fact_keys W.program b) e.facts → AllOn (FactOk W heap_after regs) (fact_keys W.program b) e.facts
     facts_same n h = on_map (FactOk W heap regs) (FactOk W heap_after regs) (fact_keys W.program b) e.facts (λ k x p is' z. by k p x is' (written_field p k.field NullRef z)) h
       where
-      by : (k : Key) (p : ℕ) → FactOk W heap regs k → value_at regs k.reg ≡ Some (At p) → Written p k.field NullRef → ⊥
-      by k p x is' (inl y) = n y.2
-      by k p x is' (inr y) = x p is' y.1
+        by : (k : Key) (p : ℕ) → FactOk W heap regs k → value_at regs k.reg ≡ Some (At p) → Written p k.field NullRef → ⊥
+        by k p x is' (inl y) = n y.2
+        by k p x is' (inr y) = x p is' y.1
 
     assigned_by : (t : Bool) (p : ℕ) → (ctor_of (method_in W.program b) && eqb r 0 && eqb (owner W.program f) (class_of (method_in W.program b))) ≡ t → value_at regs 0 ≡ Some (At p) → (v ≡ NullRef → (field_qual W.program W.sig f).null ≡ true) → AllOn (FieldSet W heap p) (own_keys W.program b) e.assigned → AllOn (FieldSet W heap_after p) (own_keys W.program b) (cond t (also (λ k. eqb k f) (own_keys W.program b) e.assigned) e.assigned)
     assigned_by false p t this fq h = on_map (FieldSet W heap p) (FieldSet W heap_after p) (own_keys W.program b) e.assigned (λ k x. set_after fq p k x) h
     assigned_by true p t this fq h =
         on_also (FieldSet W heap p) (FieldSet W heap_after p) (λ k. eqb k f) (own_keys W.program b) e.assigned h (λ k x. set_after fq p k x) (λ k x z. by k x (written_field p k NullRef z))
       where
-      zero_reg : (a b c : Bool) → (a && b && c) ≡ true → b ≡ true
-      zero_reg true true c h = refl
-      zero_reg true false c h = cc
-      zero_reg false b c h = cc
-      is_zero : r ≡ 0
-      is_zero = eqb-true r 0 (zero_reg (ctor_of (method_in W.program b)) (eqb r 0) (eqb (owner W.program f) (class_of (method_in W.program b))) t)
-      by : (k : ℕ) → eqb k f ≡ true → Written p k NullRef → (field_qual W.program W.sig k).null ≡ true
-      by k x (inl y) = subst (λ z. (field_qual W.program W.sig z).null ≡ true) y.1 (fq y.2)
-      by k x (inr y) =
-          let there : value_at regs r ≡ Some (At p) = subst (λ z. value_at regs z ≡ Some (At p)) (sym is_zero) this in
-          let same : o ≡ p = cc in
-          absurd (y.0 (same, sym (eqb-true k f x)))
+        zero_reg : (a b c : Bool) → (a && b && c) ≡ true → b ≡ true
+        zero_reg true true c h = refl
+        zero_reg true false c h = cc
+        zero_reg false b c h = cc
+
+        is_zero : r ≡ 0
+        is_zero = eqb-true r 0 (zero_reg (ctor_of (method_in W.program b)) (eqb r 0) (eqb (owner W.program f) (class_of (method_in W.program b))) t)
+
+        by : (k : ℕ) → eqb k f ≡ true → Written p k NullRef → (field_qual W.program W.sig k).null ≡ true
+        by k x (inl y) = subst (λ z. (field_qual W.program W.sig z).null ≡ true) y.1 (fq y.2)
+        by k x (inr y) =
+            let there : value_at regs r ≡ Some (At p) = subst (λ z. value_at regs z ≡ Some (At p)) (sym is_zero) this in
+            let same : o ≡ p = cc in
+            absurd (y.0 (same, sym (eqb-true k f x)))
 
     pub assigned_after : (m : Marks) (f' : Frame) (g : FrameMark) (x : Option ℕ) → f'.regs ≡ regs → CtorOk W m heap f' g x → (v ≡ NullRef → (field_qual W.program W.sig f).null ≡ true) → AssignedOk W heap x b e.assigned → AssignedOk W heap_after x b (write_assigned W.program b e r f)
     assigned_after m f' g None same ok fq h = tt

@@ -2,7 +2,7 @@
 --   class A { A peer; A() { this.peer = new A(this); }  A(@UnderInitialization A p) { this.peer = p; } }
 --   class B extends A { String name; B() { super(); this.name = ""; }
 --     public static void main(String[] words) { B b = new B(); String[] a = new String[] {""}; String s = b.name; A p = b.peer.peer; } }
-use Rattle.std.specs.Prelude.{ℕ, Bool, true, false, List, [], ◌∷◌, length, Option, Some, None, pos}
+use Rattle.std.specs.Prelude.{ℕ, Bool, true, false, List, [], ◌∷◌, Option, Some, None, pos}
 use Rattle.jn_base.specs.declared.number.SlotNo.{SlotNo}
 use Rattle.jn_quals.specs.Qualifier.{Qualifier}
 use Rattle.jn_quals.specs.Order.{no_qual, committed_only, free_only}
@@ -73,10 +73,10 @@ chain_program = record {
   fields = field_in_class 2 2 0 ∷ field_in_class 3 1 1 ∷ [];
   methods = ctor_in 2 [] [] 0 ∷ ctor_in 2 (ref 2 ∷ []) (Some (record { 0 = 2 }) ∷ []) 1 ∷ ctor_in 3 [] [] 2 ∷ main_method 3 3 3 ∷ [];
   bodies = body_of_method 0 (ref 2 ∷ ref 2 ∷ []) 1 first_points
-    ∷ body_of_method 1 (ref 2 ∷ ref 2 ∷ []) 2 second_points
-    ∷ body_of_method 2 (ref 3 ∷ ref 1 ∷ []) 1 third_points
-    ∷ body_of_method 3 (strings ∷ ref 3 ∷ ref 1 ∷ ref 2 ∷ []) 4 main_points
-    ∷ [];
+      ∷ body_of_method 1 (ref 2 ∷ ref 2 ∷ []) 2 second_points
+      ∷ body_of_method 2 (ref 3 ∷ ref 1 ∷ []) 1 third_points
+      ∷ body_of_method 3 (strings ∷ ref 3 ∷ ref 1 ∷ ref 2 ∷ []) 4 main_points
+      ∷ [];
   slots = record { start = committed_only; inferred = false } ∷ record { start = committed_only; inferred = false } ∷ record { start = free_only; inferred = false } ∷ record { start = committed_only; inferred = false } ∷ [];
 }
 

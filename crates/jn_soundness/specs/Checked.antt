@@ -1,16 +1,14 @@
 -- No rule is broken, tables respect the edges, and what the law asks of a regular program.
-use Rattle.std.specs.Prelude.{ℕ, zero, suc, ◌+◌, ◌≡◌, ◌≤◌, ◌⊎◌, Bool, true, false, cond, not, ◌&&◌, ◌||◌, IsTrue, eqb, ltb, List, [], ◌∷◌, ◌++◌, Option, Some, None, slice_get, slice_set, slice_index_or}
+use Rattle.std.specs.Prelude.{ℕ, suc, ◌≡◌, ◌⊎◌, Bool, true, false, IsTrue, eqb, List, [], ◌∷◌, Option, Some, None, slice_get}
 use Rattle.jn_points.specs.Regular.{FromRead, NotCtorCall, writes, test_at, Early, Names, NotEarlyReturn}
-use Rattle.jn_base.specs.declared.number.MethodNo.{MethodNo}
 use Rattle.jn_points.specs.declared.point.Operand.{Operand}
-use Rattle.jn_points.specs.declared.point.Origin.{Origin}
 use Rattle.jn_quals.specs.Qualifier.{Qualifier}
 use Rattle.jn_points.specs.declared.point.BaseType.{BaseType}
 use Rattle.jn_points.specs.declared.point.BaseType.TheVariants.{Array}
 use Rattle.jn_points.specs.declared.point.Elem.TheVariants.{Ref as RefElem}
 use Rattle.jn_points.specs.declared.point.Point.{Point}
 use Rattle.jn_points.specs.declared.point.PointKind.{PointKind}
-use Rattle.jn_points.specs.declared.point.PointKind.TheVariants.{Const, Move, Unary, Binary, Concat, SameRef, FieldRead, FieldWrite, StaticRead, ElemRead, ElemWrite, ArrayLen, NewArray, ArrayOf, New, CtorCall, Call, StrOp, Cast, TestInst, TestNull, Return}
+use Rattle.jn_points.specs.declared.point.PointKind.TheVariants.{FieldRead, FieldWrite, ElemRead, ElemWrite, ArrayLen, NewArray, ArrayOf, New, CtorCall, Call, StrOp, Return}
 use Rattle.jn_points.specs.declared.program.Field.{Field}
 use Rattle.jn_points.specs.declared.program.Method.{Method}
 use Rattle.jn_points.specs.declared.program.Body.{Body}
@@ -19,7 +17,6 @@ use Rattle.jn_transfer.specs.Transfer.{IsAmong, elem_qual, entry_env, transfer}
 use Rattle.jn_env.specs.Order.{SlotWithin, qual_at}
 use Rattle.jn_soundness.specs.World.{World, env_at, param_quals}
 use Rattle.jn_points.specs.Lookup.{body_at, body_of, class_of, ctor_of, is_ref_base, method_at, method_in, owner, point_at, ref_field, reg_base, regs_of, static_of}
-use Rattle.jn_heap.specs.Machine.{entered}
 use Rattle.jn_sigs.specs.Signature.{field_qual, receiver_of, result_of}
 use Rattle.jn_points.specs.Members.{has_field}
 use Rattle.jn_transfer.specs.Keys.{is_on, own_keys}

@@ -12,7 +12,7 @@ use Rattle.jn_points.specs.declared.point.PointKind.{PointKind}
 use Rattle.jn_points.specs.declared.point.PointKind.TheVariants.{FieldRead, ElemRead, ElemWrite, New, CtorCall, Call, FieldWrite, ArrayOf}
 use Rattle.jn_heap.specs.Values.{At, Elems, NullRef, Object, Plain, Prim, Text, Thing, Value}
 use Rattle.jn_soundness.specs.Checked.{ref_elems}
-use Rattle.jn_heap.specs.Machine.{Ends, Frame, Goes, Next, NullFault, Regs, State, Stuck, class_at, entered, field_at, field_in, gives, run, selected, takes, value_at, MainForm, start_state}
+use Rattle.jn_heap.specs.Machine.{Ends, Frame, Goes, Next, NullFault, Regs, State, Stuck, class_at, field_at, field_in, run, selected, value_at, MainForm, start_state}
 use Rattle.jn_env.specs.declared.env.Env.{Env}
 use Rattle.jn_transfer.specs.Keys.{Key, fact_keys, own_keys}
 use Rattle.jn_env.specs.Order.{QualsWithin}
@@ -20,7 +20,7 @@ use Rattle.jn_soundness.specs.World.{World, env_at}
 use Rattle.jn_points.specs.Lookup.{body_at, class_of, ctor_of, flat_field, method_at, method_in, owner, point_at, ref_field, reg_base, slots_of, static_of}
 use Rattle.jn_transfer.specs.Transfer.{elem_qual, given_quals, new_qual, ref_quals}
 use Rattle.jn_sigs.specs.Signature.{field_qual, receiver_of, result_of, slot_quals, slot_qual}
-use Rattle.jn_points.specs.Members.{has_field, reaches}
+use Rattle.jn_points.specs.Members.{has_field}
 use Rattle.jn_quals.specs.Order.{within}
 
 pub data ObjMark : Type 0 where

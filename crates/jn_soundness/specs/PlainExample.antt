@@ -1,6 +1,5 @@
 -- A program of one body, so that no law on plain programs is empty: `String s = "x"; println(s.length()); if (s == null) ; return`.
-use Rattle.std.specs.Prelude.{ℕ, true, false, List, [], ◌∷◌, Option, Some, None, pos}
-use Rattle.jn_base.specs.declared.number.RegNo.{RegNo}
+use Rattle.std.specs.Prelude.{ℕ, true, false, List, [], ◌∷◌, Option, Some, None}
 use Rattle.jn_base.specs.declared.place.Span.{Span}
 use Rattle.jn_quals.specs.Qualifier.{Qualifier}
 use Rattle.jn_quals.specs.Order.{no_qual, committed_only}
@@ -15,8 +14,6 @@ use Rattle.jn_points.specs.declared.point.PointKind.{PointKind}
 use Rattle.jn_points.specs.declared.point.PointKind.TheVariants.{Const, StrOp, Print, TestNull, Return}
 use Rattle.jn_points.specs.declared.program.Class.{Class}
 use Rattle.jn_points.specs.declared.program.Method.{Method}
-use Rattle.jn_points.specs.declared.program.Body.{Body}
-use Rattle.jn_points.specs.declared.program.SlotInfo.{SlotInfo}
 use Rattle.jn_points.specs.declared.program.Program.{Program}
 use Rattle.jn_env.specs.declared.env.Env.{Env}
 

@@ -1,6 +1,5 @@
 -- Programs without fields, calls and elements of arrays: what their front end has to establish.
-use Rattle.std.specs.Prelude.{ℕ, suc, ◌≡◌, ◌<◌, true, false, IsTrue, List, [], length, Option, Some, None, slice_index_or}
-use Rattle.jn_quals.specs.Qualifier.{Qualifier}
+use Rattle.std.specs.Prelude.{ℕ, suc, ◌≡◌, ◌<◌, true, false, List, [], length, Option, Some, None, slice_index_or}
 use Rattle.jn_points.specs.declared.point.Point.{Point}
 use Rattle.jn_points.specs.declared.point.PointKind.{PointKind}
 use Rattle.jn_points.specs.declared.point.PointKind.TheVariants.{Const, Move, Unary, Binary, Concat, SameRef, StaticRead, StaticWrite, ArrayLen, NewArray, StrOp, Print, Cast, TestInst, TestNull, Branch, Goto, Return}

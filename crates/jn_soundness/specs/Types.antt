@@ -1,29 +1,23 @@
 -- Base typing of states, which soundness asks of a run.
-use Rattle.std.specs.Prelude.{ℕ, suc, ◌≡◌, Bool, true, false, cond, eqb, List, [], ◌∷◌, Option, Some, None, slice_get}
+use Rattle.std.specs.Prelude.{ℕ, ◌≡◌, Bool, true, false, List, [], ◌∷◌, Option, Some, None, slice_get}
 use Rattle.jn_points.specs.Regular.{IsObjectClass, IsVirtual}
 use Rattle.jn_points.specs.BaseTyping.{PointTyped, StartsWith, given_bases}
-use Rattle.jn_points.specs.declared.program.Program.{Program}
 use Rattle.jn_base.specs.declared.number.RegNo.{RegNo}
-use Rattle.jn_base.specs.declared.number.ClassNo.{ClassNo}
 use Rattle.jn_base.specs.declared.number.MethodNo.{MethodNo}
 use Rattle.jn_base.specs.declared.number.SlotNo.{SlotNo}
 use Rattle.jn_points.specs.declared.point.Operand.{Operand}
 use Rattle.jn_points.specs.declared.point.BaseType.{BaseType}
 use Rattle.jn_points.specs.declared.point.BaseType.TheVariants.{Ref, Array}
 use Rattle.jn_points.specs.declared.point.Elem.TheVariants.{Ref as RefElem}
-use Rattle.jn_points.specs.declared.point.Literal.{Literal}
-use Rattle.jn_points.specs.declared.point.Literal.TheVariants.{Null, Str}
 use Rattle.jn_points.specs.declared.point.Point.{Point}
 use Rattle.jn_points.specs.declared.point.PointKind.{PointKind}
-use Rattle.jn_points.specs.declared.point.PointKind.TheVariants.{Const, Move, Unary, Binary, Concat, SameRef, FieldRead, FieldWrite, StaticRead, ElemRead, ElemWrite, ArrayLen, NewArray, ArrayOf, New, CtorCall, Call, StrOp, Cast, Return}
+use Rattle.jn_points.specs.declared.point.PointKind.TheVariants.{New, CtorCall, Call}
 use Rattle.jn_heap.specs.Values.{At, Elems, NullRef, Object, Plain, Text, Thing, Value}
-use Rattle.jn_heap.specs.Machine.{Frame, Regs, State, field_in, gives, is_within, may_hold, takes, value_at, MainForm}
+use Rattle.jn_heap.specs.Machine.{Frame, Regs, State, field_in, value_at, MainForm}
 use Rattle.jn_soundness.specs.Good.{Overrides}
 use Rattle.jn_soundness.specs.World.{World}
-use Rattle.jn_points.specs.Lookup.{body_of, class_of, ctor_of, field_base, is_flat, is_ref_base, method_at, method_in, params_of, point_at, reg_base, result_base_of, slots_of, static_of, ref_field, is_array, elem_base}
-use Rattle.jn_points.specs.Members.{dispatch, fits, sub}
-use Rattle.jn_transfer.specs.Transfer.{elem_qual}
-use Rattle.jn_quals.specs.Order.{within}
+use Rattle.jn_points.specs.Lookup.{body_of, class_of, ctor_of, field_base, is_ref_base, method_at, method_in, params_of, point_at, reg_base, result_base_of, slots_of, static_of, ref_field, is_array, elem_base}
+use Rattle.jn_points.specs.Members.{dispatch, fits}
 
 abbrev pub base_of_thing : Thing → BaseType
 base_of_thing (Object c fs) = Ref (record { 0 = c })

@@ -16,8 +16,7 @@ ghost use Rattle.jn_soundness.specs.PlainExample.{plain_program, plain_table};
 /// registers of its points hold what soundness asks of base typing.
 pub fn checked_programs_never_fault()
     ensures { (W : World) → Checked W → MainsOk W → RunsTyped W → NeverNull W.program }
-{
-}
+{}
 
 /// A regular program without a row of the rules, under tables that respect its edges, never
 /// dereferences null: where its runs hold what soundness asks of base typing, and so where it is
@@ -25,22 +24,19 @@ pub fn checked_programs_never_fault()
 pub fn accepted_programs_never_fault()
     ensures untyped { (W : World) → Accepted W → RunsTyped W → NeverNull W.program }
     ensures typed { (W : World) → Accepted W → BaseTyped W.program → NeverNull W.program }
-{
-}
+{}
 
 /// A program without fields, calls and elements that has no row under the start signature never
 /// dereferences null, whatever its base types.
 pub fn plain_programs_never_fault()
     ensures { (P : ProgramOf) (tables : List (List (Option Env))) → PlainAccepted P tables → NeverNull P }
-{
-}
+{}
 
 /// The law on plain programs is of use: one with a main, texts and a null test is accepted.
 pub fn plain_programs_are_accepted()
     ensures accepted { PlainAccepted plain_program (plain_table ∷ []) }
     ensures main { MainForm plain_program 0 0 }
-{
-}
+{}
 
 /// The law on accepted programs is of use: one with a chain of constructors, a cycle of objects
 /// that is built by an escaping `this`, field reads and an array is accepted and base-typed.
@@ -48,5 +44,4 @@ pub fn constructor_chains_are_accepted()
     ensures accepted { Accepted chain_world }
     ensures typed { BaseTyped chain_program }
     ensures main { MainForm chain_program 3 3 }
-{
-}
+{}

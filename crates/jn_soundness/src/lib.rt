@@ -1,5 +1,4 @@
 // The law that accepted programs never dereference null.
 #![tactic(auto)]
 
-
 pub mod law;
