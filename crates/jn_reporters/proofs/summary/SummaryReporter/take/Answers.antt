@@ -1,4 +1,4 @@
-use Rattle.std.proofs.Common.{◌≡◌, ℕ, ◌<◌, ◌^◌, ◌++◌, ◌∷◌, [], length, List, sym, subst, ap, ◌∙◌}
+use Rattle.std.proofs.Common.{◌≡◌, ◌<◌, ◌^◌, ◌++◌, ◌∷◌, [], length, List, sym, subst, ap, ◌∙◌}
 use Rattle.jn_diag.specs.declared.shown.RowText.{RowText}
 use Rattle.jn_reporters.specs.Counts.{Counts}
 use Rattle.jn_reporters.specs.Reports.{summary_lines, all_codes}
