@@ -60,3 +60,7 @@ begins_bad_dot (c ∷ d ∷ ds) = nat_eq c 46 && is_digit d
 abbrev pub escape_at : Bool → List ℕ → Option ℕ
 escape_at slash [] = None
 escape_at slash (c ∷ cs) = if slash && nat_eq c 117 then Some 0 else option_map suc (escape_at (nat_eq c 92 && not slash) cs)
+
+-- a place behind i characters, as a place in the whole
+abbrev pub shifted : ℕ → Option ℕ → Option ℕ
+shifted i place = option_map (λ n. i + n) place

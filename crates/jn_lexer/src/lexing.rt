@@ -1,11 +1,12 @@
 // Texts as tokens.
 
-ghost use Rattle.std.specs.Prelude.{◌≡◌, ◌+◌, ◌-◌, ◌≤◌, ◌<◌, ◌^◌, false, length, chars, IsUtf8, IfOk, IfErr, OnOk, OnErr, MatchOption};
+ghost use Rattle.std.specs.Prelude.{◌≡◌, ◌+◌, ◌-◌, ◌≤◌, ◌<◌, ◌^◌, false, length, chars, IsUtf8, IfOk, IfErr, IfSome, OnOk, OnErr, MatchOption, take, slice_get, Some};
 ghost use Rattle.jn_trees.specs.Names.{Extends};
 ghost use Rattle.jn_lexer.specs.Characters.{width};
 ghost use Rattle.jn_lexer.specs.Faults.{LexicalFault, HasNoUnicodeEscape, IsFirstEscape, IsTokenFault, IsAtCharacter};
 ghost use Rattle.jn_lexer.specs.Lexed.{Lexed, IfRefused, names_with, kind_of, IsLexing};
 ghost use Rattle.jn_lexer.specs.Found.{lexeme_of};
+ghost use Rattle.jn_lexer.specs.Scan.{escape_at};
 
 use crate::characters::width;
 use crate::gap::gap_len;
@@ -16,18 +17,29 @@ use jn_base::{Code, Fail, FileNo, OutOfMemory, Row, Span};
 use jn_trees::{Names, Token, TokenKind};
 use std::alloc::{AllocError, Global};
 
-/// Behind how many characters the first Unicode escape begins.
+/// The `u` of the first Unicode escape.
 fn escape_at(text: &[char]) -> Option<usize>
-    ensures { MatchOption result (HasNoUnicodeEscape text.now) (λ n. (n < length text.now) × IsFirstEscape text.now (take n text.now)) }
+    ensures value { result ≡ escape_at false text.now }
+    ensures within { IfSome result (λ n. (0 < n) × (n < length text.now)) }
 {
     let mut slash = false;
     for (i, c) in text.iter().enumerate() {
         if slash && *c == 'u' {
-            return Some(i - 1);
+            return Some(i);
         }
         slash = !slash && *c == '\\';
     }
     None
+}
+
+/// Behind how many characters the first Unicode escape begins.
+fn first_escape(text: &[char]) -> Option<usize>
+    ensures { MatchOption result (HasNoUnicodeEscape text.now) (λ n. (n < length text.now) × (slice_get text.now n ≡ Some 92) × IsFirstEscape text.now (take n text.now)) }
+{
+    match escape_at(text) {
+        Some(letter) => Some(letter - 1),
+        None => None,
+    }
 }
 
 /// The characters of a text.
@@ -162,7 +174,7 @@ pub fn lex(
         }
     };
     let text = characters(alloc, decoded)?;
-    if let Some(before) = escape_at(&text) {
+    if let Some(before) = first_escape(&text) {
         let escape = Fault {
             code: Code::L2,
             before,
