@@ -1,3 +1,4 @@
 pub mod Lists
 pub mod Comments
 pub mod Classes
+pub mod Tables
