@@ -46,6 +46,9 @@ white_ascii : (c : ℕ) → is_white c ≡ ascii_white c
 unfolding is_white is_line_end
 white_ascii c = refl
 
+pub digit_48 : is_digit 48 ≡ true
+digit_48 = digit_ascii 48
+
 or_left : (a b : Bool) → a ≡ true → (a || b) ≡ true
 or_left a b e = ap (λ x. x || b) e
 

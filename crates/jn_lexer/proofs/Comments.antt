@@ -22,11 +22,11 @@ pub record Closes (star : Bool) (text : List ℕ) (n : ℕ) : Type 0 where
   pub least : (inside tail : List ℕ) → text ≡ inside ++ 42 ∷ 47 ∷ tail → n ≤ length inside + 2
 
 -- the option's suc is some
-suc_some : (x : Option ℕ) (n : ℕ) → option_map suc x ≡ Some n → (m : ℕ) × (x ≡ Some m) × (n ≡ suc m)
+pub suc_some : (x : Option ℕ) (n : ℕ) → option_map suc x ≡ Some n → (m : ℕ) × (x ≡ Some m) × (n ≡ suc m)
 suc_some None n e = absurd (let f : ◌≡◌ {A = Option ℕ} None (Some n) = e in cc)
 suc_some (Some m) n e = (m, refl, let f : ◌≡◌ {A = Option ℕ} (Some (suc m)) (Some n) = e in cc)
 
-suc_none : (x : Option ℕ) → option_map suc x ≡ None → x ≡ None
+pub suc_none : (x : Option ℕ) → option_map suc x ≡ None → x ≡ None
 suc_none None e = refl
 suc_none (Some m) e = absurd (let f : ◌≡◌ {A = Option ℕ} (Some (suc m)) None = e in cc)
 

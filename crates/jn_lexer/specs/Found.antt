@@ -73,3 +73,8 @@ NoToken text = (lexeme : Lexeme) (word rest : List ℕ) → text ≡ word ++ res
 
 abbrev pub is_quote : ℕ → Bool
 is_quote c = nat_eq c 34
+
+-- a string's word has its two quotes
+abbrev pub HasQuotes : Shape → List ℕ → Type 0
+HasQuotes shape.Quoted word = 2 ≤ length word
+HasQuotes _ word = Unit {0}

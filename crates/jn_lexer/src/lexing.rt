@@ -5,7 +5,7 @@ ghost use Rattle.jn_trees.specs.Names.{Extends};
 ghost use Rattle.jn_lexer.specs.Characters.{width};
 ghost use Rattle.jn_lexer.specs.Faults.{LexicalFault, HasNoUnicodeEscape, IsFirstEscape, IsTokenFault, IsAtCharacter};
 ghost use Rattle.jn_lexer.specs.Lexed.{Lexed, IfRefused, names_with, kind_of, IsLexing};
-ghost use Rattle.jn_lexer.specs.Found.{lexeme_of};
+ghost use Rattle.jn_lexer.specs.Found.{lexeme_of, HasQuotes};
 ghost use Rattle.jn_lexer.specs.Scan.{escape_at};
 
 use crate::characters::width;
@@ -76,7 +76,7 @@ fn kind_of(
     names: &mut Names,
 ) -> Result<TokenKind, OutOfMemory>
     requires room { length names.old < 2 ^ 32 - 1 }
-    requires quotes { shape ≡ Quoted → 2 ≤ length word.now }
+    requires quotes { HasQuotes shape word.now }
     ensures kind { IfOk result (λ kind. kind ≡ kind_of names.old (lexeme_of shape word.now)) }
     ensures names { OnOk result (names.new ≡ names_with names.old (lexeme_of shape word.now)) }
     ensures unchanged { OnErr result (names.new ≡ names.old) }

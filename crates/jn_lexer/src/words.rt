@@ -3,7 +3,7 @@
 ghost use Rattle.std.specs.Prelude.{◌≡◌, ◌≤◌, ◌<◌, ◌^◌, false, length, MatchOption, MatchResult};
 ghost use Rattle.std.specs.List.{prefix_len};
 ghost use Rattle.jn_lexer.specs.Characters.{is_part, is_start, is_digit};
-ghost use Rattle.jn_lexer.specs.Scan.{begins_blank, begins_bad_dot};
+ghost use Rattle.jn_lexer.specs.Scan.{begins_blank, begins_bad_dot, begins_dot};
 ghost use Rattle.jn_lexer.specs.Found.{IsFound, IsFaultHere, BeginsWith, IsMarkPlace, NoToken};
 
 use crate::characters::{is_digit, is_part, is_start};
@@ -39,6 +39,16 @@ fn word_at(text: &[char]) -> Found
     Found { shape, count }
 }
 
+/// Whether a `.` stands at the front.
+fn begins_dot(text: &[char]) -> bool
+    ensures { result ≡ begins_dot text.now }
+{
+    match text {
+        [] => false,
+        [first, ..] => *first == '.',
+    }
+}
+
 /// A number at the front.
 fn number_at(text: &[char]) -> Result<Found, Fault>
     requires { BeginsWith is_digit text.now }
@@ -49,7 +59,7 @@ fn number_at(text: &[char]) -> Result<Found, Fault>
         before: 0,
     };
     let count = run_len(text);
-    if count < text.len() && text[count] == '.' {
+    if begins_dot(&text[count..]) {
         return Err(bad);
     }
     match number_value(&text[..count]) {
