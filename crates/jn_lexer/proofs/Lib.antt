@@ -4,3 +4,7 @@ pub mod Classes
 pub mod Tables
 pub mod Standing
 pub mod Quotes
+pub mod Escaping
+pub mod Values
+pub mod Widths
+pub mod Reading

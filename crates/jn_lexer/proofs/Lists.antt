@@ -1,7 +1,7 @@
 -- Fronts of lists.
 use Rattle.std.proofs.Common.{◌≡◌, ℕ, zero, suc, ◌+◌, ◌<◌, ◌≤◌, Bool, true, false, cond, ◌⊎◌, inl, inr, List, [], ◌∷◌, ◌++◌, length, take, drop, refl, sym, ap, ◌∙◌, subst, arith, length-append, append_assoc}
 use Rattle.std.specs.List.{prefix_len}
-use Rattle.std.specs.Prelude.{get_or, nat_eq}
+use Rattle.std.specs.Prelude.{get_or, nat_eq, slice_get, Option, Some, None}
 use Rattle.std.proofs.lemmas.Bool.{eqb-true}
 use Rattle.jn_lexer.specs.Characters.{AllAre, BeginsOnly, BeginsNot}
 
@@ -68,3 +68,8 @@ test_false x n f = here (nat_eq x n) refl
     here : (b : Bool) → nat_eq x n ≡ b → b ≡ false
     here true e = absurd (f (eqb-true x n e))
     here false e = refl
+
+-- the element behind a front
+pub get_at : (xs ys : List ℕ) (y n : ℕ) → length xs ≡ n → slice_get (xs ++ y ∷ ys) n ≡ Some y
+get_at [] ys y n l = subst (λ m. slice_get (y ∷ ys) m ≡ Some y) l refl
+get_at (x ∷ xs) ys y n l = subst (λ m. slice_get (x ∷ (xs ++ y ∷ ys)) m ≡ Some y) l (get_at xs ys y (length xs) refl)

@@ -1,16 +1,16 @@
 // Texts as tokens.
 
-ghost use Rattle.std.specs.Prelude.{◌≡◌, ◌+◌, ◌-◌, ◌≤◌, ◌<◌, ◌^◌, false, length, chars, IsUtf8, IfOk, IfErr, IfSome, OnOk, OnErr, MatchOption, take, slice_get, Some};
+ghost use Rattle.std.specs.Prelude.{◌≡◌, ◌+◌, ◌-◌, ◌≤◌, ◌<◌, ◌^◌, false, length, chars, IsUtf8, IfOk, IfErr, IfSome, OnOk, OnErr, MatchOption, MatchResult, take, slice_get, Some, ℕ};
 ghost use Rattle.jn_trees.specs.Names.{Extends};
 ghost use Rattle.jn_lexer.specs.Characters.{width};
 ghost use Rattle.jn_lexer.specs.Faults.{LexicalFault, HasNoUnicodeEscape, IsFirstEscape, IsTokenFault, IsAtCharacter};
 ghost use Rattle.jn_lexer.specs.Lexed.{Lexed, IfRefused, names_with, kind_of, IsLexing};
-ghost use Rattle.jn_lexer.specs.Found.{lexeme_of, HasQuotes};
+ghost use Rattle.jn_lexer.specs.Found.{lexeme_of, HasQuotes, IsNextOrEnd, IsFaultNext};
 ghost use Rattle.jn_lexer.specs.Scan.{escape_at};
 
 use crate::characters::width;
 use crate::gap::gap_len;
-use crate::shape::{Fault, Found, Shape};
+use crate::shape::{Fault, Shape, Spelled};
 use crate::strings::{text_of, value_of};
 use crate::words::token_at;
 use jn_base::{Code, Fail, FileNo, OutOfMemory, Row, Span};
@@ -46,11 +46,7 @@ fn first_escape(text: &[char]) -> Option<usize>
 fn characters(alloc: Global, text: &str) -> Result<Vec<char>, AllocError>
     ensures { IfOk result (λ cs. cs.items ≡ chars text.now) }
 {
-    let mut characters = Vec::new(alloc);
-    for c in text.chars() {
-        characters.push(c)?;
-    }
-    Ok(characters)
+    text.chars().collect(alloc)
 }
 
 /// The row of a fault behind so many characters of a text whose first byte is `at`.
@@ -97,6 +93,41 @@ fn kind_of(
     }
 }
 
+/// The next token of a text whose first byte is `at`; none at its end.
+fn next_token(text: &[char], file: FileNo, at: u32) -> Result<Option<Spelled>, Row>
+    requires { at + width text.now < 2 ^ 32 }
+    ensures { MatchResult result (λ next. IsNextOrEnd text.now at next) (λ row. IsFaultNext file text.now at row) }
+{
+    let gap = match gap_len(text) {
+        Ok(gap) => gap,
+        Err(before) => {
+            let open = Fault {
+                code: Code::L4,
+                before,
+            };
+            return Err(row_at(text, file, at, open));
+        }
+    };
+    let from = at + width(&text[..gap]) as u32;
+    let body = &text[gap..];
+    if body.len() == 0 {
+        return Ok(None);
+    }
+    match token_at(body) {
+        Ok(found) => {
+            let to = from + width(&body[..found.count]) as u32;
+            Ok(Some(Spelled {
+                shape: found.shape,
+                gap,
+                count: found.count,
+                from,
+                to,
+            }))
+        }
+        Err(fault) => Err(row_at(body, file, from, fault)),
+    }
+}
+
 /// The tokens of the characters.
 fn tokens_of(
     alloc: Global,
@@ -113,37 +144,23 @@ fn tokens_of(
     let mut rest = text;
     let mut at = 0;
     loop {
-        let gap = match gap_len(rest) {
-            Ok(gap) => gap,
-            Err(before) => {
-                let open = Fault {
-                    code: Code::L4,
-                    before,
-                };
-                return Err(Fail::Refused(row_at(rest, file, at, open)));
-            }
+        let next = match next_token(rest, file, at) {
+            Ok(Some(next)) => next,
+            Ok(None) => return Ok(tokens),
+            Err(row) => return Err(Fail::Refused(row)),
         };
-        let from = at + width(&rest[..gap]) as u32;
-        rest = &rest[gap..];
-        if rest.len() == 0 {
-            return Ok(tokens);
-        }
-        let found = match token_at(rest) {
-            Ok(found) => found,
-            Err(fault) => return Err(Fail::Refused(row_at(rest, file, from, fault))),
+        let body = &rest[next.gap..];
+        let kind = kind_of(alloc, next.shape, &body[..next.count], names)?;
+        let span = Span {
+            file,
+            from: next.from,
+            to: next.to,
         };
-        let word = &rest[..found.count];
-        let to = from + width(word) as u32;
-        let kind = kind_of(alloc, found.shape, word, names)?;
-        let token = Token {
-            kind,
-            span: Span { file, from, to },
-        };
-        if let Err(_) = tokens.push(token) {
+        if let Err(_) = tokens.push(Token { kind, span }) {
             return Err(Fail::OutOfMemory);
         }
-        rest = &rest[found.count..];
-        at = to;
+        rest = &body[next.count..];
+        at = next.to;
     }
 }
 
