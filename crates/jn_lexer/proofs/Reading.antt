@@ -1,10 +1,11 @@
 -- One token after another.
-use Rattle.std.proofs.Common.{◌≡◌, ℕ, zero, suc, ◌+◌, ◌-◌, ◌<◌, ◌≤◌, Bool, true, false, ◌⊎◌, inl, inr, ⊎_elim, List, [], ◌∷◌, ◌++◌, length, take, drop, Option, Some, None, refl, sym, ap, ◌∙◌, subst, arith, length-append, append_assoc, length-drop}
+use Rattle.std.proofs.Common.{◌≡◌, ℕ, zero, suc, ◌+◌, ◌-◌, ◌<◌, ◌≤◌, Bool, true, false, ◌⊎◌, inl, inr, ⊎_elim, List, [], ◌∷◌, ◌++◌, length, take, drop, Option, Some, None, refl, sym, ap, ◌∙◌, subst, arith, length-append, append_assoc, length-drop, add-zero}
 use Rattle.std.specs.Prelude.{slice_get, encode_utf8_all, bytes_eq, cond}
 use Rattle.std.specs.List.{list_any}
 use Rattle.std.proofs.lemmas.List.{take-append-drop, take_at, drop_at, length-take-le, drop-drop, append-nil}
 use Rattle.jn_base.specs.declared.number.FileNo.{FileNo}
 use Rattle.jn_base.specs.declared.place.Row.{Row}
+use Rattle.jn_base.specs.declared.code.Code.TheVariants.{L4}
 use Rattle.jn_trees.specs.Names.{with_name, Extends}
 use Rattle.jn_trees.specs.declared.token.Token.{Token}
 use Rattle.jn_lexer.specs.declared.shape.Spelled.{Spelled}
@@ -148,4 +149,23 @@ fault_next file text at n fault row from g f code start r =
       c = f.1;
       fault = subst (λ k. IsFault k body f.0 f.1) (sym code) f.5;
       place = subst (λ k. IsAtCharacter file (at + width (gap_text g.0) + width f.0) k row) (sym same) (subst (λ k. IsAtCharacter file k r.0 row) (ap (λ xs. from + width xs) front ∙ ap (λ k. k + width f.0) start ∙ ap (λ xs. at + width xs + width f.0) (sym g.1)) r.2);
+    }
+
+pub open_next : (file : FileNo) (text : List ℕ) (at n : ℕ) (row : Row) → n < length text → IsGapOf text n → IsOpenComment (drop n text) → row.code ≡ L4 → (c : ℕ) × (slice_get text n ≡ Some c) × IsAtCharacter file (at + width (take n text)) c row → IsFaultNext file text at row
+open_next file text at n row l g opens code r =
+    let whole : text ≡ take n text ++ 47 ∷ 42 ∷ opens.back = sym (take-append-drop n text) ∙ ap (λ xs. take n text ++ xs) opens.is in
+    let long : length (take n text) ≡ n = length-take-le n text (omega arith) in
+    let get : slice_get text n ≡ Some 47 = ap (λ xs. slice_get xs n) whole ∙ get_at (take n text) (42 ∷ opens.back) 47 n long in
+    let some : ◌≡◌ {A = Option ℕ} (Some r.0) (Some 47) = sym r.1 ∙ get in
+    let same : r.0 ≡ 47 = cc in
+    let place : at + width (take n text) ≡ at + width (gap_text g.0) + width [] = ap (λ xs. at + width xs) (sym g.1) ∙ sym (add-zero (at + width (gap_text g.0))) in
+    record {
+      blanks = g.0;
+      body = drop n text;
+      is = sym (ap (λ xs. xs ++ drop n text) g.1 ∙ take-append-drop n text);
+      gap = g.2;
+      front = [];
+      c = 47;
+      fault = subst (λ k. IsFault k (drop n text) [] 47) (sym code) (refl, refl, opens);
+      place = subst (λ k. IsAtCharacter file k 47 row) place (subst (λ k. IsAtCharacter file (at + width (take n text)) k row) same r.2);
     }

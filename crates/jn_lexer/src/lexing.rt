@@ -150,7 +150,10 @@ fn tokens_of(
             Err(row) => return Err(Fail::Refused(row)),
         };
         let body = &rest[next.gap..];
-        let kind = kind_of(alloc, next.shape, &body[..next.count], names)?;
+        let kind = match kind_of(alloc, next.shape, &body[..next.count], names) {
+            Ok(kind) => kind,
+            Err(_) => return Err(Fail::OutOfMemory),
+        };
         let span = Span {
             file,
             from: next.from,
@@ -190,7 +193,10 @@ pub fn lex(
             }));
         }
     };
-    let text = characters(alloc, decoded)?;
+    let text = match characters(alloc, decoded) {
+        Ok(text) => text,
+        Err(_) => return Err(Fail::OutOfMemory),
+    };
     if let Some(before) = first_escape(&text) {
         let escape = Fault {
             code: Code::L2,
