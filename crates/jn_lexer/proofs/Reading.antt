@@ -1,6 +1,8 @@
 -- One token after another.
 use Rattle.std.proofs.Common.{◌≡◌, ℕ, zero, suc, ◌+◌, ◌-◌, ◌<◌, ◌≤◌, Bool, true, false, ◌⊎◌, inl, inr, ⊎_elim, List, [], ◌∷◌, ◌++◌, length, take, drop, Option, Some, None, refl, sym, ap, ◌∙◌, subst, arith, length-append, append_assoc, length-drop, add-zero}
-use Rattle.std.specs.Prelude.{slice_get, encode_utf8_all, bytes_eq, cond}
+use Rattle.std.specs.Prelude.{slice_get, encode_utf8_all, bytes_eq, cond, Result, Ok, Err, IfOk, IfErr}
+use Rattle.jn_base.specs.declared.refusal.Fail.{Fail}
+use Rattle.jn_base.specs.declared.refusal.Fail.TheVariants.{Refused, OutOfMemory}
 use Rattle.std.specs.List.{list_any}
 use Rattle.std.proofs.lemmas.List.{take-append-drop, take_at, drop_at, length-take-le, drop-drop, append-nil}
 use Rattle.jn_base.specs.declared.number.FileNo.{FileNo}
@@ -15,7 +17,7 @@ use Rattle.jn_lexer.specs.Gaps.{Blank, gap_text, IsGap}
 use Rattle.jn_lexer.specs.Lexemes.{Lexeme, Word, Quoted, Numeral, Fixed, NoneLonger}
 use Rattle.jn_lexer.specs.Pieces.{Piece, Stands, Behind, ArePieces}
 use Rattle.jn_lexer.specs.Faults.{IsFault, IsAtCharacter, IsTokenFault, IsOpenComment}
-use Rattle.jn_lexer.specs.Lexed.{names_with, kind_of, names_after, tokens_of, IsLexing}
+use Rattle.jn_lexer.specs.Lexed.{names_with, kind_of, names_after, tokens_of, IsLexing, IfRefused}
 use Rattle.jn_lexer.specs.Found.{IsToken, IsGapOf, IsNext, IsFaultNext, IsFaultHere, IsAllGap, lexeme_of, body_of, word_of}
 use Rattle.jn_lexer.proofs.Lists.{get_at}
 use Rattle.jn_lexer.proofs.Widths.{width-append, width-split, length-width}
@@ -169,3 +171,36 @@ open_next file text at n row l g opens code r =
       fault = subst (λ k. IsFault k (drop n text) [] 47) (sym code) (refl, refl, opens);
       place = subst (λ k. IsAtCharacter file k 47 row) place (subst (λ k. IsAtCharacter file (at + width (take n text)) k row) same r.2);
     }
+
+-- places and rooms
+
+pub places_more : (rest : List ℕ) (at : ℕ) (s : Spelled) → IsNext rest at s → s.to + width (drop s.count (body_of rest s)) ≡ at + width rest
+places_more rest at s n =
+    let a = width-split s.gap rest in
+    let b = width-split s.count (body_of rest s) in
+    let f = n.from in
+    let t = n.to in
+    omega (arith, a, b, f, t)
+
+pub rest_shorter : (rest : List ℕ) (at : ℕ) (s : Spelled) → IsNext rest at s → 1 + length (drop s.count (body_of rest s)) ≤ length rest
+rest_shorter rest at s n =
+    let a = length-drop s.gap rest in
+    let b = length-drop s.count (body_of rest s) in
+    let w = n.within in
+    let m = n.token.some in
+    omega (arith, a, b, w, m)
+
+pub more_extends : (old names : List (List ℕ)) (l : Lexeme) → Extends old names → Extends old (names_with names l)
+more_extends old names l e =
+    let a = lexeme_extends names l in
+    (e.0 ++ a.0, a.1 ∙ ap (λ ns. ns ++ a.0) e.1 ∙ append_assoc old e.0 a.0)
+
+-- answers that go over to another meaning
+pub if_ok : {A E : Type 0} (P Q : A → Type 0) → ((a : A) → P a → Q a) → (r : Result A E) → IfOk r P → IfOk r Q
+if_ok P Q f (Ok a) h = f a h
+if_ok P Q f (Err e) h = h
+
+pub if_refused : {A : Type 0} (P Q : Row → Type 0) → ((row : Row) → P row → Q row) → (r : Result A (Fail Row)) → IfErr r (λ fail. IfRefused fail P) → IfErr r (λ fail. IfRefused fail Q)
+if_refused P Q f (Ok a) h = h
+if_refused P Q f (Err (Refused row)) h = f row h
+if_refused P Q f (Err OutOfMemory) h = h

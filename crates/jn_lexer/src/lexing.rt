@@ -1,11 +1,11 @@
 // Texts as tokens.
 
-ghost use Rattle.std.specs.Prelude.{◌≡◌, ◌+◌, ◌-◌, ◌≤◌, ◌<◌, ◌^◌, false, length, chars, IsUtf8, IfOk, IfErr, IfSome, OnOk, OnErr, MatchOption, MatchResult, take, slice_get, Some, ℕ};
+ghost use Rattle.std.specs.Prelude.{◌≡◌, ◌+◌, ◌-◌, ◌≤◌, ◌<◌, ◌^◌, false, length, chars, IsUtf8, IfOk, IfErr, IfSome, OnOk, OnErr, MatchOption, MatchResult, take, drop, slice_get, Some, ℕ};
 ghost use Rattle.jn_trees.specs.Names.{Extends};
 ghost use Rattle.jn_lexer.specs.Characters.{width};
 ghost use Rattle.jn_lexer.specs.Faults.{LexicalFault, HasNoUnicodeEscape, IsFirstEscape, IsTokenFault, IsAtCharacter};
 ghost use Rattle.jn_lexer.specs.Lexed.{Lexed, IfRefused, names_with, kind_of, IsLexing};
-ghost use Rattle.jn_lexer.specs.Found.{lexeme_of, HasQuotes, IsNextOrEnd, IsFaultNext};
+ghost use Rattle.jn_lexer.specs.Found.{lexeme_of, body_of, word_of, HasQuotes, IsNextOrEnd, IsFaultNext};
 ghost use Rattle.jn_lexer.specs.Scan.{escape_at};
 
 use crate::characters::width;
@@ -128,6 +128,24 @@ fn next_token(text: &[char], file: FileNo, at: u32) -> Result<Option<Spelled>, R
     }
 }
 
+/// The characters of the next token.
+fn word_of(text: &[char], next: Spelled) -> &[char]
+    requires { next.gap + next.count ≤ length text.now }
+    ensures { result.now ≡ word_of text.now next }
+{
+    let body = &text[next.gap..];
+    &body[..next.count]
+}
+
+/// What stands behind the next token.
+fn text_behind(text: &[char], next: Spelled) -> &[char]
+    requires { next.gap + next.count ≤ length text.now }
+    ensures { result.now ≡ drop next.count (body_of text.now next) }
+{
+    let body = &text[next.gap..];
+    &body[next.count..]
+}
+
 /// The tokens of the characters.
 fn tokens_of(
     alloc: Global,
@@ -149,8 +167,7 @@ fn tokens_of(
             Ok(None) => return Ok(tokens),
             Err(row) => return Err(Fail::Refused(row)),
         };
-        let body = &rest[next.gap..];
-        let kind = match kind_of(alloc, next.shape, &body[..next.count], names) {
+        let kind = match kind_of(alloc, next.shape, word_of(rest, next), names) {
             Ok(kind) => kind,
             Err(_) => return Err(Fail::OutOfMemory),
         };
@@ -162,7 +179,7 @@ fn tokens_of(
         if let Err(_) = tokens.push(Token { kind, span }) {
             return Err(Fail::OutOfMemory);
         }
-        rest = &body[next.count..];
+        rest = text_behind(rest, next);
         at = next.to;
     }
 }
