@@ -38,9 +38,9 @@ closes star (c ∷ cs) n e = here (star && nat_eq c 47) refl (closes (nat_eq c 4
     shut m s r g = record {
       after = r.after;
       where_is = inr (⊎_elim
-        (λ a. ([], ap (λ x. x ∷ cs) (eqb-true c 42 a.0) ∙ ap (λ xs. 42 ∷ xs) a.1, (let p = a.2 in omega arith)))
-        (λ b. (c ∷ b.0, ap (λ xs. c ∷ xs) b.1, (let p = b.2 in omega arith)))
-        r.where_is);
+          (λ a. ([], ap (λ x. x ∷ cs) (eqb-true c 42 a.0) ∙ ap (λ xs. 42 ∷ xs) a.1, (let p = a.2 in omega arith)))
+          (λ b. (c ∷ b.0, ap (λ xs. c ∷ xs) b.1, (let p = b.2 in omega arith)))
+          r.where_is);
       least = last;
     }
       where
@@ -160,7 +160,7 @@ gap_more text i n within fits g h =
     let behind : drop n left ≡ drop (i + n) text = drop-drop n i text in
     let whole : blank_text h.0 ++ drop n left ≡ left = ap (λ xs. xs ++ drop n left) h.1 ∙ take-append-drop n left in
     let text_is : gap_text (g.0 ++ h.0 ∷ []) ++ drop (i + n) text ≡ text =
-        ap (λ xs. xs ++ drop (i + n) text) (gap_text-push g.0 h.0) ∙ append_assoc (gap_text g.0) (blank_text h.0) (drop (i + n) text) ∙ ap (λ xs. gap_text g.0 ++ (blank_text h.0 ++ xs)) (sym behind) ∙ ap (λ xs. gap_text g.0 ++ xs) whole ∙ ap (λ xs. xs ++ left) g.1 ∙ take-append-drop i text in
+    ap (λ xs. xs ++ drop (i + n) text) (gap_text-push g.0 h.0) ∙ append_assoc (gap_text g.0) (blank_text h.0) (drop (i + n) text) ∙ ap (λ xs. gap_text g.0 ++ (blank_text h.0 ++ xs)) (sym behind) ∙ ap (λ xs. gap_text g.0 ++ xs) whole ∙ ap (λ xs. xs ++ left) g.1 ∙ take-append-drop i text in
     let a : length (gap_text g.0) ≡ i = ap length g.1 ∙ length-take-le i text within in
     let b : length (blank_text h.0) ≡ n = ap length h.1 ∙ length-take-le n left fits in
     let long : length (gap_text (g.0 ++ h.0 ∷ [])) ≡ i + n = ap length (gap_text-push g.0 h.0) ∙ length-append (gap_text g.0) (blank_text h.0) ∙ ap (λ x. x + length (blank_text h.0)) a ∙ ap (λ x. i + x) b in (

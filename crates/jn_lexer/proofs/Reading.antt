@@ -69,10 +69,10 @@ IsRead file text old rest at tokens names = (pieces : List Piece) × Behind text
 module _ (file : FileNo) (text : List ℕ) (old : List (List ℕ)) (rest : List ℕ) (at : ℕ) (tokens : List Token) (names : List (List ℕ)) (read : IsRead file text old rest at tokens names) where
   pub read_more : (s : Spelled) (next : IsNext rest at s) (more : List Token) (new : List (List ℕ)) → more ≡ tokens ++ token file names (piece_of rest s) ∷ [] → new ≡ names_with names (lexeme_of s.shape (word_of rest s)) → IsRead file text old (drop s.count (body_of rest s)) s.to more new
   read_more s next more new t n = (
-      read.0 ++ piece_of rest s ∷ [],
-      behind_push text 0 read.0 rest at (piece_of rest s) (drop s.count (body_of rest s)) read.1 (stands rest at s next),
-      t ∙ ap (λ ts. ts ++ token file names (piece_of rest s) ∷ []) read.2 ∙ ap (λ ns. tokens_of file old read.0 ++ token file ns (piece_of rest s) ∷ []) read.3 ∙ sym (tokens_push file old read.0 (piece_of rest s)),
-      n ∙ ap (λ ns. names_with ns (lexeme_of s.shape (word_of rest s))) read.3 ∙ sym (names_push old read.0 (piece_of rest s)),
+    read.0 ++ piece_of rest s ∷ [],
+    behind_push text 0 read.0 rest at (piece_of rest s) (drop s.count (body_of rest s)) read.1 (stands rest at s next),
+    t ∙ ap (λ ts. ts ++ token file names (piece_of rest s) ∷ []) read.2 ∙ ap (λ ns. tokens_of file old read.0 ++ token file ns (piece_of rest s) ∷ []) read.3 ∙ sym (tokens_push file old read.0 (piece_of rest s)),
+    n ∙ ap (λ ns. names_with ns (lexeme_of s.shape (word_of rest s))) read.3 ∙ sym (names_push old read.0 (piece_of rest s)),
   )
 
   pub read_all : IsAllGap rest → IsLexing file text old tokens names

@@ -280,13 +280,13 @@ module _ (text : List ℕ) (place : IsMarkPlace text) where
             let r = begins_is text (spelling kind) t in
             ⊎_elim
             (λ d.
-                let text_is : text ≡ 46 ∷ r.0 = r.1 ∙ ap (λ k. spelling k ++ r.0) d in
-                subst (λ k. BeginsNot (hinders_kind k) (drop 1 text)) (sym d) (subst (BeginsNot is_digit) (sym (ap (drop 1) text_is)) (after_dot r.0 (subst (λ x. begins_bad_dot x ≡ false) text_is dot))))
+            let text_is : text ≡ 46 ∷ r.0 = r.1 ∙ ap (λ k. spelling k ++ r.0) d in
+            subst (λ k. BeginsNot (hinders_kind k) (drop 1 text)) (sym d) (subst (BeginsNot is_digit) (sym (ap (drop 1) text_is)) (after_dot r.0 (subst (λ x. begins_bad_dot x ≡ false) text_is dot))))
             (λ s. ⊎_elim
-                (λ d.
-                    let text_is : text ≡ 47 ∷ r.0 = r.1 ∙ ap (λ k. spelling k ++ r.0) d in
-                    subst (λ k. BeginsNot (hinders_kind k) (drop 1 text)) (sym d) (subst (BeginsNot (hinders_kind Slash)) (sym (ap (drop 1) text_is)) (after_slash r.0 (blank_of (47 ∷ r.0) (subst IsMarkPlace text_is place)))))
-                (λ f. any (drop 1 text) f) s)
+            (λ d.
+            let text_is : text ≡ 47 ∷ r.0 = r.1 ∙ ap (λ k. spelling k ++ r.0) d in
+            subst (λ k. BeginsNot (hinders_kind k) (drop 1 text)) (sym d) (subst (BeginsNot (hinders_kind Slash)) (sym (ap (drop 1) text_is)) (after_slash r.0 (blank_of (47 ∷ r.0) (subst IsMarkPlace text_is place)))))
+            (λ f. any (drop 1 text) f) s)
             (free_cases kind)
 
     pub no_token : find (λ k. begins text (spelling k)) SINGLES ≡ None → NoToken text

@@ -21,11 +21,11 @@ overflow_add-to c =
 
 pub returns-clause-place : goal.returns-clause-place
 returns-clause-place c = (
-    c.index-text-fault.result,
-    get-at c.args.fault.before c.args.text.now c.index-text-fault.result c.requires.before c.index-text-fault.is,
-    record {
-      file_is = refl;
-      from = ap (λ n. c.args.at + n) c.width.ensures;
-      to = (let w = c.width.ensures in let l = c.len_utf8.ensures.value in let o = width-one c.index-text-fault.result in omega (arith, w, l, o));
-    },
+  c.index-text-fault.result,
+  get-at c.args.fault.before c.args.text.now c.index-text-fault.result c.requires.before c.index-text-fault.is,
+  record {
+    file_is = refl;
+    from = ap (λ n. c.args.at + n) c.width.ensures;
+    to = (let w = c.width.ensures in let l = c.len_utf8.ensures.value in let o = width-one c.index-text-fault.result in omega (arith, w, l, o));
+  },
 )
