@@ -1,0 +1,10 @@
+pub mod Lists
+pub mod Comments
+pub mod Classes
+pub mod Tables
+pub mod Standing
+pub mod Quotes
+pub mod Escaping
+pub mod Values
+pub mod Widths
+pub mod Reading

@@ -4,12 +4,15 @@ use Rattle.jn_lexer.specs.declared.shape.Shape.{Shape}
 use Rattle.jn_lexer.specs.declared.shape.Found.{Found}
 use Rattle.jn_lexer.specs.declared.shape.Fault.{Fault}
 use Rattle.jn_lexer.specs.declared.shape.Step.{Step}
+use Rattle.jn_lexer.specs.declared.shape.Spelled.{Spelled}
+use Rattle.jn_base.specs.declared.number.FileNo.{FileNo}
+use Rattle.jn_base.specs.declared.place.Row.{Row}
 use Rattle.jn_lexer.specs.declared.shape.Shape.TheVariants as shape
 use Rattle.jn_lexer.specs.declared.shape.Step.TheVariants.{Of, Ends, Opens}
-use Rattle.jn_lexer.specs.Characters.{BeginsNot, is_start, is_digit}
+use Rattle.jn_lexer.specs.Characters.{BeginsNot, is_start, is_digit, width}
 use Rattle.jn_lexer.specs.Gaps.{Blank, blank_text, IsBlank, gap_text, IsGap}
 use Rattle.jn_lexer.specs.Lexemes.{Lexeme, Word, Quoted, Numeral, Fixed, IsSpelling, hinders, NoneLonger}
-use Rattle.jn_lexer.specs.Faults.{IsFault, IsOpenComment}
+use Rattle.jn_lexer.specs.Faults.{IsFault, IsOpenComment, IsAtCharacter}
 use Rattle.jn_lexer.specs.Scan.{unescaped, begins_blank}
 
 -- what stands between the first and the last character
@@ -73,3 +76,42 @@ NoToken text = (lexeme : Lexeme) (word rest : List ℕ) → text ≡ word ++ res
 
 abbrev pub is_quote : ℕ → Bool
 is_quote c = nat_eq c 34
+
+-- a string's word has its two quotes
+abbrev pub HasQuotes : Shape → List ℕ → Type 0
+HasQuotes shape.Quoted word = 2 ≤ length word
+HasQuotes _ word = Unit {0}
+
+-- the text is white space and comments
+abbrev pub IsAllGap : List ℕ → Type 0
+IsAllGap text = (blanks : List Blank) × (text ≡ gap_text blanks) × IsGap blanks []
+
+abbrev pub body_of : List ℕ → Spelled → List ℕ
+body_of text s = drop s.gap text
+
+abbrev pub word_of : List ℕ → Spelled → List ℕ
+word_of text s = take s.count (body_of text s)
+
+-- the next token of the text, whose first byte is `at`
+pub record IsNext (text : List ℕ) (at : ℕ) (s : Spelled) : Type 0 where
+  pub gap : IsGapOf text s.gap
+  pub token : IsToken (body_of text s) (lexeme_of s.shape (word_of text s)) s.count
+  pub from : s.from ≡ at + width (take s.gap text)
+  pub to : s.to ≡ s.from + width (word_of text s)
+  pub within : s.gap + s.count ≤ length text
+
+-- behind white space and comments of the text, whose first byte is `at`, there is a fault
+pub record IsFaultNext (file : FileNo) (text : List ℕ) (at : ℕ) (row : Row) : Type 0 where
+  pub blanks : List Blank
+  pub body : List ℕ
+  pub is : text ≡ gap_text blanks ++ body
+  pub gap : IsGap blanks body
+  pub front : List ℕ
+  pub c : ℕ
+  pub fault : IsFault row.code body front c
+  pub place : IsAtCharacter file (at + width (gap_text blanks) + width front) c row
+
+-- whether there is a next token
+abbrev pub IsNextOrEnd : List ℕ → ℕ → Option Spelled → Type 0
+IsNextOrEnd text at None = IsAllGap text
+IsNextOrEnd text at (Some s) = IsNext text at s

@@ -18,15 +18,27 @@ abbrev pub IsWord : List ℕ → Type 0
 IsWord [] = ⊥
 IsWord (c ∷ cs) = (is_start c ≡ true) × AllAre is_part cs
 
--- `0`, or 1 to 9 and then digits and underscores, the last a digit (JLS 3.10.1)
+-- `0`
+abbrev pub is_zero : List ℕ → Bool
+is_zero [] = false
+is_zero (c ∷ cs) = nat_eq c 48 && nat_eq (length cs) 0
+
+abbrev pub ends_in_digit : List ℕ → Bool
+ends_in_digit word = is_digit (slice_index word (length word - 1))
+
+-- 1 to 9 and then digits and underscores, the last a digit
+abbrev pub is_long : List ℕ → Bool
+is_long [] = false
+is_long (c ∷ cs) = (is_digit c && not (nat_eq c 48)) && list_all is_digit_or_low cs && ends_in_digit (c ∷ cs)
+
+-- how a number is written (JLS 3.10.1)
 unfoldable pub is_decimal : List ℕ → Bool
-is_decimal [] = false
-is_decimal (c ∷ cs) = (nat_eq c 48 && nat_eq (length cs) 0) || (is_digit c && not (nat_eq c 48) && list_all is_digit_or_low cs && is_digit (slice_index (c ∷ cs) (length cs)))
+is_decimal word = is_zero word || is_long word
 
 -- the value of decimal digits behind those of `n`; underscores don't count
 abbrev pub value_from : ℕ → List ℕ → ℕ
 value_from n [] = n
-value_from n (c ∷ cs) = value_from (if nat_eq c 95 then n else n * 10 + (c - 48)) cs
+value_from n (c ∷ cs) = value_from (if is_digit c then n * 10 + (c - 48) else n) cs
 
 abbrev pub IsNumeral : List ℕ → ℕ → Type 0
 IsNumeral word value = (is_decimal word ≡ true) × (value ≡ value_from 0 word) × (value ≤ 2147483648)

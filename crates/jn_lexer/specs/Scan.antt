@@ -1,5 +1,5 @@
 -- How far a token or a comment goes, as a scan finds it.
-use Rattle.std.specs.Prelude.{◌≡◌, ℕ, suc, ◌+◌, ◌-◌, ◌<◌, ◌≤◌, Bool, true, false, not, ◌&&◌, ◌||◌, nat_eq, if◌then◌else◌, List, [], ◌∷◌, ◌++◌, length, take, drop, Option, Some, None, option_map, unwrap_or}
+use Rattle.std.specs.Prelude.{◌≡◌, ℕ, suc, ◌+◌, ◌-◌, ◌<◌, ◌≤◌, Bool, true, false, not, ◌&&◌, ◌||◌, nat_eq, if◌then◌else◌, List, [], ◌∷◌, ◌++◌, length, take, drop, Option, Some, None, option_map, unwrap_or, is_none}
 use Rattle.jn_base.specs.declared.code.Code.{Code}
 use Rattle.jn_trees.specs.declared.token.TokenKind.{TokenKind}
 use Rattle.jn_lexer.specs.Characters.{is_line_end, is_white, is_digit, BeginsNot}
@@ -22,7 +22,7 @@ string_len slash (c ∷ cs) =
 -- the place of the first character behind a backslash with which it is no escape
 abbrev pub bad_letter : Bool → List ℕ → Option ℕ
 bad_letter slash [] = None
-bad_letter true (c ∷ cs) = if nat_eq (unwrap_or (option_map (λ v. 0) (escape_value c)) 1) 1 then Some 0 else option_map suc (bad_letter false cs)
+bad_letter true (c ∷ cs) = if is_none (escape_value c) then Some 0 else option_map suc (bad_letter false cs)
 bad_letter false (c ∷ cs) = option_map suc (bad_letter (nat_eq c 92) cs)
 
 -- what the inside of a string stands for
@@ -60,3 +60,11 @@ begins_bad_dot (c ∷ d ∷ ds) = nat_eq c 46 && is_digit d
 abbrev pub escape_at : Bool → List ℕ → Option ℕ
 escape_at slash [] = None
 escape_at slash (c ∷ cs) = if slash && nat_eq c 117 then Some 0 else option_map suc (escape_at (nat_eq c 92 && not slash) cs)
+
+-- a place behind i characters, as a place in the whole
+abbrev pub shifted : ℕ → Option ℕ → Option ℕ
+shifted i place = option_map (λ n. i + n) place
+
+abbrev pub begins_dot : List ℕ → Bool
+begins_dot [] = false
+begins_dot (c ∷ cs) = nat_eq c 46

@@ -1,44 +1,52 @@
 // Texts as tokens.
 
-ghost use Rattle.std.specs.Prelude.{◌≡◌, ◌+◌, ◌-◌, ◌≤◌, ◌<◌, ◌^◌, false, length, chars, IsUtf8, IfOk, IfErr, OnOk, OnErr, MatchOption};
+ghost use Rattle.std.specs.Prelude.{◌≡◌, ◌+◌, ◌-◌, ◌≤◌, ◌<◌, ◌^◌, false, length, chars, IsUtf8, IfOk, IfErr, IfSome, OnOk, OnErr, MatchOption, MatchResult, take, drop, slice_get, Some, ℕ};
 ghost use Rattle.jn_trees.specs.Names.{Extends};
 ghost use Rattle.jn_lexer.specs.Characters.{width};
 ghost use Rattle.jn_lexer.specs.Faults.{LexicalFault, HasNoUnicodeEscape, IsFirstEscape, IsTokenFault, IsAtCharacter};
 ghost use Rattle.jn_lexer.specs.Lexed.{Lexed, IfRefused, names_with, kind_of, IsLexing};
-ghost use Rattle.jn_lexer.specs.Found.{lexeme_of};
+ghost use Rattle.jn_lexer.specs.Found.{lexeme_of, body_of, word_of, HasQuotes, IsNextOrEnd, IsFaultNext};
+ghost use Rattle.jn_lexer.specs.Scan.{escape_at};
 
 use crate::characters::width;
 use crate::gap::gap_len;
-use crate::shape::{Fault, Found, Shape};
+use crate::shape::{Fault, Shape, Spelled};
 use crate::strings::{text_of, value_of};
 use crate::words::token_at;
 use jn_base::{Code, Fail, FileNo, OutOfMemory, Row, Span};
 use jn_trees::{Names, Token, TokenKind};
 use std::alloc::{AllocError, Global};
 
-/// Behind how many characters the first Unicode escape begins.
+/// The `u` of the first Unicode escape.
 fn escape_at(text: &[char]) -> Option<usize>
-    ensures { MatchOption result (HasNoUnicodeEscape text.now) (λ n. (n < length text.now) × IsFirstEscape text.now (take n text.now)) }
+    ensures value { result ≡ escape_at false text.now }
+    ensures within { IfSome result (λ n. (0 < n) × (n < length text.now)) }
 {
     let mut slash = false;
     for (i, c) in text.iter().enumerate() {
         if slash && *c == 'u' {
-            return Some(i - 1);
+            return Some(i);
         }
         slash = !slash && *c == '\\';
     }
     None
 }
 
+/// Behind how many characters the first Unicode escape begins.
+fn first_escape(text: &[char]) -> Option<usize>
+    ensures { MatchOption result (HasNoUnicodeEscape text.now) (λ n. (n < length text.now) × (slice_get text.now n ≡ Some 92) × IsFirstEscape text.now (take n text.now)) }
+{
+    match escape_at(text) {
+        Some(letter) => Some(letter - 1),
+        None => None,
+    }
+}
+
 /// The characters of a text.
 fn characters(alloc: Global, text: &str) -> Result<Vec<char>, AllocError>
     ensures { IfOk result (λ cs. cs.items ≡ chars text.now) }
 {
-    let mut characters = Vec::new(alloc);
-    for c in text.chars() {
-        characters.push(c)?;
-    }
-    Ok(characters)
+    text.chars().collect(alloc)
 }
 
 /// The row of a fault behind so many characters of a text whose first byte is `at`.
@@ -64,7 +72,7 @@ fn kind_of(
     names: &mut Names,
 ) -> Result<TokenKind, OutOfMemory>
     requires room { length names.old < 2 ^ 32 - 1 }
-    requires quotes { shape ≡ Quoted → 2 ≤ length word.now }
+    requires quotes { HasQuotes shape word.now }
     ensures kind { IfOk result (λ kind. kind ≡ kind_of names.old (lexeme_of shape word.now)) }
     ensures names { OnOk result (names.new ≡ names_with names.old (lexeme_of shape word.now)) }
     ensures unchanged { OnErr result (names.new ≡ names.old) }
@@ -85,6 +93,59 @@ fn kind_of(
     }
 }
 
+/// The next token of a text whose first byte is `at`; none at its end.
+fn next_token(text: &[char], file: FileNo, at: u32) -> Result<Option<Spelled>, Row>
+    requires { at + width text.now < 2 ^ 32 }
+    ensures { MatchResult result (λ next. IsNextOrEnd text.now at next) (λ row. IsFaultNext file text.now at row) }
+{
+    let gap = match gap_len(text) {
+        Ok(gap) => gap,
+        Err(before) => {
+            let open = Fault {
+                code: Code::L4,
+                before,
+            };
+            return Err(row_at(text, file, at, open));
+        }
+    };
+    let from = at + width(&text[..gap]) as u32;
+    let body = &text[gap..];
+    if body.len() == 0 {
+        return Ok(None);
+    }
+    match token_at(body) {
+        Ok(found) => {
+            let to = from + width(&body[..found.count]) as u32;
+            Ok(Some(Spelled {
+                shape: found.shape,
+                gap,
+                count: found.count,
+                from,
+                to,
+            }))
+        }
+        Err(fault) => Err(row_at(body, file, from, fault)),
+    }
+}
+
+/// The characters of the next token.
+fn word_of(text: &[char], next: Spelled) -> &[char]
+    requires { next.gap + next.count ≤ length text.now }
+    ensures { result.now ≡ word_of text.now next }
+{
+    let body = &text[next.gap..];
+    &body[..next.count]
+}
+
+/// What stands behind the next token.
+fn text_behind(text: &[char], next: Spelled) -> &[char]
+    requires { next.gap + next.count ≤ length text.now }
+    ensures { result.now ≡ drop next.count (body_of text.now next) }
+{
+    let body = &text[next.gap..];
+    &body[next.count..]
+}
+
 /// The tokens of the characters.
 fn tokens_of(
     alloc: Global,
@@ -101,37 +162,25 @@ fn tokens_of(
     let mut rest = text;
     let mut at = 0;
     loop {
-        let gap = match gap_len(rest) {
-            Ok(gap) => gap,
-            Err(before) => {
-                let open = Fault {
-                    code: Code::L4,
-                    before,
-                };
-                return Err(Fail::Refused(row_at(rest, file, at, open)));
-            }
+        let next = match next_token(rest, file, at) {
+            Ok(Some(next)) => next,
+            Ok(None) => return Ok(tokens),
+            Err(row) => return Err(Fail::Refused(row)),
         };
-        let from = at + width(&rest[..gap]) as u32;
-        rest = &rest[gap..];
-        if rest.len() == 0 {
-            return Ok(tokens);
-        }
-        let found = match token_at(rest) {
-            Ok(found) => found,
-            Err(fault) => return Err(Fail::Refused(row_at(rest, file, from, fault))),
+        let kind = match kind_of(alloc, next.shape, word_of(rest, next), names) {
+            Ok(kind) => kind,
+            Err(_) => return Err(Fail::OutOfMemory),
         };
-        let word = &rest[..found.count];
-        let to = from + width(word) as u32;
-        let kind = kind_of(alloc, found.shape, word, names)?;
-        let token = Token {
-            kind,
-            span: Span { file, from, to },
+        let span = Span {
+            file,
+            from: next.from,
+            to: next.to,
         };
-        if let Err(_) = tokens.push(token) {
+        if let Err(_) = tokens.push(Token { kind, span }) {
             return Err(Fail::OutOfMemory);
         }
-        rest = &rest[found.count..];
-        at = to;
+        rest = text_behind(rest, next);
+        at = next.to;
     }
 }
 
@@ -161,8 +210,11 @@ pub fn lex(
             }));
         }
     };
-    let text = characters(alloc, decoded)?;
-    if let Some(before) = escape_at(&text) {
+    let text = match characters(alloc, decoded) {
+        Ok(text) => text,
+        Err(_) => return Err(Fail::OutOfMemory),
+    };
+    if let Some(before) = first_escape(&text) {
         let escape = Fault {
             code: Code::L2,
             before,

@@ -40,3 +40,13 @@ pub enum Step {
     /// A comment that isn't closed.
     Opens,
 }
+
+/// The next token of a text: how many characters of white space and comments stand before it, how many are its own, and the bytes of the file from which and up to which it goes.
+#[derive(Clone, Copy, Debug, PartialEq, Eq)]
+pub struct Spelled {
+    pub shape: Shape,
+    pub gap: usize,
+    pub count: usize,
+    pub from: u32,
+    pub to: u32,
+}

@@ -7,7 +7,7 @@ ghost use Rattle.jn_lexer.specs.Scan.{begins, is_spelled};
 use jn_trees::TokenKind;
 
 /// The keywords, and the words of literals.
-pub const WORDS: [TokenKind; 53] = [
+const WORDS: [TokenKind; 53] = [
     TokenKind::Abstract,
     TokenKind::Assert,
     TokenKind::Boolean,
@@ -64,7 +64,7 @@ pub const WORDS: [TokenKind; 53] = [
 ];
 
 /// The operators of two characters.
-pub const PAIRS: [TokenKind; 13] = [
+const PAIRS: [TokenKind; 13] = [
     TokenKind::EqualEqual,
     TokenKind::LessEqual,
     TokenKind::GreaterEqual,
@@ -81,7 +81,7 @@ pub const PAIRS: [TokenKind; 13] = [
 ];
 
 /// The separators and operators of one character.
-pub const SINGLES: [TokenKind; 21] = [
+const SINGLES: [TokenKind; 21] = [
     TokenKind::LeftParen,
     TokenKind::RightParen,
     TokenKind::LeftBrace,
@@ -106,7 +106,7 @@ pub const SINGLES: [TokenKind; 21] = [
 ];
 
 /// The one spelling of a kind of token; empty for identifiers, strings and numbers.
-pub fn spelling(kind: TokenKind) -> &'static str
+fn spelling(kind: TokenKind) -> &'static str
     ensures { result.now ≡ spelling kind }
 {
     match kind {
@@ -218,7 +218,7 @@ fn begins(text: &[char], word: &str) -> bool
 }
 
 /// The first of the kinds whose spelling stands at the text's front.
-pub fn kind_begun(kinds: &[TokenKind], text: &[char]) -> Option<TokenKind>
+fn kind_begun(kinds: &[TokenKind], text: &[char]) -> Option<TokenKind>
     ensures { result ≡ find (λ kind. begins text.now (spelling kind)) kinds.now }
 {
     for kind in kinds {
@@ -237,7 +237,7 @@ fn is_spelled(text: &[char], word: &str) -> bool
 }
 
 /// The first of the kinds whose spelling the word is.
-pub fn kind_spelled(kinds: &[TokenKind], word: &[char]) -> Option<TokenKind>
+fn kind_spelled(kinds: &[TokenKind], word: &[char]) -> Option<TokenKind>
     ensures { result ≡ find (λ kind. is_spelled word.now (spelling kind)) kinds.now }
 {
     for kind in kinds {
@@ -246,4 +246,25 @@ pub fn kind_spelled(kinds: &[TokenKind], word: &[char]) -> Option<TokenKind>
         }
     }
     None
+}
+
+/// The keyword, or the word of a literal, that the word is.
+pub fn keyword(word: &[char]) -> Option<TokenKind>
+    ensures { result ≡ find (λ kind. is_spelled word.now (spelling kind)) WORDS }
+{
+    kind_spelled(&WORDS, word)
+}
+
+/// The operator of two characters at the text's front.
+pub fn pair(text: &[char]) -> Option<TokenKind>
+    ensures { result ≡ find (λ kind. begins text.now (spelling kind)) PAIRS }
+{
+    kind_begun(&PAIRS, text)
+}
+
+/// The separator or the operator of one character at the text's front.
+pub fn single(text: &[char]) -> Option<TokenKind>
+    ensures { result ≡ find (λ kind. begins text.now (spelling kind)) SINGLES }
+{
+    kind_begun(&SINGLES, text)
 }

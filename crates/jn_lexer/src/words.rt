@@ -3,13 +3,13 @@
 ghost use Rattle.std.specs.Prelude.{◌≡◌, ◌≤◌, ◌<◌, ◌^◌, false, length, MatchOption, MatchResult};
 ghost use Rattle.std.specs.List.{prefix_len};
 ghost use Rattle.jn_lexer.specs.Characters.{is_part, is_start, is_digit};
-ghost use Rattle.jn_lexer.specs.Scan.{begins_blank, begins_bad_dot};
+ghost use Rattle.jn_lexer.specs.Scan.{begins_blank, begins_bad_dot, begins_dot};
 ghost use Rattle.jn_lexer.specs.Found.{IsFound, IsFaultHere, BeginsWith, IsMarkPlace, NoToken};
 
 use crate::characters::{is_digit, is_part, is_start};
 use crate::numbers::number_value;
 use crate::shape::{Fault, Found, Shape};
-use crate::spelling::{PAIRS, SINGLES, WORDS, kind_begun, kind_spelled};
+use crate::spelling::{keyword, pair, single};
 use crate::strings::quoted_at;
 use jn_base::Code;
 
@@ -32,11 +32,21 @@ fn word_at(text: &[char]) -> Found
     ensures { IsFound text.now result }
 {
     let count = run_len(text);
-    let shape = match kind_spelled(&WORDS, &text[..count]) {
+    let shape = match keyword(&text[..count]) {
         Some(kind) => Shape::Fixed(kind),
         None => Shape::Word,
     };
     Found { shape, count }
+}
+
+/// Whether a `.` stands at the front.
+fn begins_dot(text: &[char]) -> bool
+    ensures { result ≡ begins_dot text.now }
+{
+    match text {
+        [] => false,
+        [first, ..] => *first == '.',
+    }
 }
 
 /// A number at the front.
@@ -49,7 +59,7 @@ fn number_at(text: &[char]) -> Result<Found, Fault>
         before: 0,
     };
     let count = run_len(text);
-    if count < text.len() && text[count] == '.' {
+    if begins_dot(&text[count..]) {
         return Err(bad);
     }
     match number_value(&text[..count]) {
@@ -63,16 +73,17 @@ fn number_at(text: &[char]) -> Result<Found, Fault>
 
 /// A separator or an operator at the front, where no comment begins.
 fn mark_at(text: &[char]) -> Option<Found>
-    requires { IsMarkPlace text.now }
+    requires place { IsMarkPlace text.now }
+    requires no_bad_dot { begins_bad_dot text.now ≡ false }
     ensures { MatchOption result (NoToken text.now) (λ found. IsFound text.now found) }
 {
-    if let Some(kind) = kind_begun(&PAIRS, text) {
+    if let Some(kind) = pair(text) {
         return Some(Found {
             shape: Shape::Fixed(kind),
             count: 2,
         });
     }
-    if let Some(kind) = kind_begun(&SINGLES, text) {
+    if let Some(kind) = single(text) {
         return Some(Found {
             shape: Shape::Fixed(kind),
             count: 1,

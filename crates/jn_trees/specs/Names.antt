@@ -1,5 +1,5 @@
 -- Lists of distinct texts, by which names are numbered.
-use Rattle.std.specs.Prelude.{◌≡◌, ℕ, ◌+◌, ◌<◌, ◌≤◌, Bool, List, [], ◌∷◌, ◌++◌, length, bytes_eq, position, slice_get, Some, if◌then◌else◌}
+use Rattle.std.specs.Prelude.{◌≡◌, ℕ, List, [], ◌∷◌, ◌++◌, bytes_eq, slice_get, Some, if◌then◌else◌}
 use Rattle.std.specs.List.{list_any, position_or_len}
 
 -- the texts with one more: a known text stays where it is, and a new one goes last

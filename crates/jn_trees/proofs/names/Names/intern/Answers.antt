@@ -1,5 +1,5 @@
-use Rattle.std.proofs.Common.{◌≡◌, sym, ◌∙◌, ap}
-use Rattle.std.specs.Prelude.{bytes_eq, string_bytes, map}
+use Rattle.std.proofs.Common.{sym, ◌∙◌, ap}
+use Rattle.std.specs.Prelude.{string_bytes, map}
 use Rattle.jn_trees.specs.Names.{with_name, number_in}
 use Rattle.jn_trees.proofs.Texts.{known_number, known_names, new_number, new_names}
 use Rattle.jn_trees.proofs.names.Names.intern.Goals as goal

@@ -1,4 +1,4 @@
-use Rattle.std.proofs.Common.{◌≡◌, sym, ◌∙◌, ap}
+use Rattle.std.proofs.Common.{sym, ◌∙◌, ap}
 use Rattle.std.specs.Prelude.{bytes_eq, string_bytes, position}
 use Rattle.jn_trees.proofs.Texts.{position-map}
 use Rattle.jn_trees.proofs.names.Names.number.Goals as goal

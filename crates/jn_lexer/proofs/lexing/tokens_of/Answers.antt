@@ -1,0 +1,52 @@
+use Rattle.std.proofs.Common.{◌≡◌, ◌∙◌, ℕ, ◌+◌, ◌<◌, ◌++◌, ◌∷◌, [], List, sym, ap, subst, arith, drop, take, length}
+use Rattle.jn_lexer.specs.Characters.{width}
+use Rattle.jn_lexer.specs.Lexed.{names_with, kind_of}
+use Rattle.jn_lexer.specs.Found.{IsNext, IsNextOrEnd, lexeme_of, word_of, body_of}
+use Rattle.jn_lexer.proofs.Widths.{length-width}
+use Rattle.jn_lexer.proofs.Reading.{IsRead, read_more, after_extends, more_extends, one_more, places_more, rest_shorter, token, piece_of}
+use Rattle.jn_lexer.proofs.lexing.tokens_of.Goals as goal
+
+pub returns-in-Ok-None-clause-extends : goal.returns-in-Ok-None-clause-extends
+returns-in-Ok-None-clause-extends c = let r = c.loop-next.invariant.read in let e = after_extends c.args.names.now r.0 in (e.0, r.3 ∙ e.1)
+
+pub returns-in-Err-clause-extends : goal.returns-in-Err-clause-extends
+returns-in-Err-clause-extends c = let r = c.loop-next.invariant.read in let e = after_extends c.args.names.now r.0 in (e.0, r.3 ∙ e.1)
+
+pub kind_of-requires-clause-room : goal.kind_of-requires-clause-room
+kind_of-requires-clause-room c =
+    let n : IsNext c.loop-next.rest.now c.loop-next.at c.in-Ok-Some.next = subst (IsNextOrEnd c.loop-next.rest.now c.loop-next.at) c.in-Ok-Some.field-0-is c.in-Ok-Some.ensures in
+    let l = length-width c.args.text.now in
+    let s = rest_shorter c.loop-next.rest.now c.loop-next.at c.in-Ok-Some.next n in
+    let r = c.loop-next.invariant.room in
+    let f = c.requires in
+    omega (arith, l, s, r, f)
+
+pub returns-in-Err-kind_of-clause-extends : goal.returns-in-Err-kind_of-clause-extends
+returns-in-Err-kind_of-clause-extends c = let r = c.loop-next.invariant.read in let e = after_extends c.args.names.now r.0 in (e.0, c.in-Err-kind_of.ensures.unchanged ∙ r.3 ∙ e.1)
+
+pub returns-in-Err-push-clause-extends : goal.returns-in-Err-push-clause-extends
+returns-in-Err-push-clause-extends c =
+    let r = c.loop-next.invariant.read in
+    let a = after_extends c.args.names.now r.0 in
+    let e = more_extends c.args.names.now c.loop-next.names (lexeme_of c.in-Ok-Some.next.shape c.word_of.result.now) (a.0, r.3 ∙ a.1) in
+    (e.0, c.in-Ok.ensures.names ∙ e.1)
+
+pub loop-next-preserved : goal.loop-next-preserved
+loop-next-preserved c =
+    let n : IsNext c.loop-next.rest.now c.loop-next.at c.in-Ok-Some.next = subst (IsNextOrEnd c.loop-next.rest.now c.loop-next.at) c.in-Ok-Some.field-0-is c.in-Ok-Some.ensures in
+    let word : c.word_of.result.now ≡ word_of c.loop-next.rest.now c.in-Ok-Some.next = c.word_of.ensures in
+    let rest : c.text_behind-rest.result.now ≡ drop c.in-Ok-Some.next.count (body_of c.loop-next.rest.now c.in-Ok-Some.next) = c.text_behind-rest.ensures in
+    let names : c.kind_of.new.names ≡ names_with c.loop-next.names (lexeme_of c.in-Ok-Some.next.shape (word_of c.loop-next.rest.now c.in-Ok-Some.next)) = c.in-Ok.ensures.names ∙ ap (λ w. names_with c.loop-next.names (lexeme_of c.in-Ok-Some.next.shape w)) word in
+    let kind : c.in-Ok.kind ≡ kind_of c.loop-next.names (lexeme_of c.in-Ok-Some.next.shape (word_of c.loop-next.rest.now c.in-Ok-Some.next)) = c.in-Ok.ensures.kind ∙ ap (λ w. kind_of c.loop-next.names (lexeme_of c.in-Ok-Some.next.shape w)) word in
+    let items : c.push.new.self.items ≡ c.loop-next.tokens.items ++ token c.args.file c.loop-next.names (piece_of c.loop-next.rest.now c.in-Ok-Some.next) ∷ [] = c.in_default.ensures.items ∙ ap (λ k. c.loop-next.tokens.items ++ (record { kind = k; span = record { file = c.args.file; from = c.in-Ok-Some.next.from; to = c.in-Ok-Some.next.to } }) ∷ []) kind in
+    record {
+      read = subst (λ xs. IsRead c.args.file c.args.text.now c.args.names.now xs c.in-Ok-Some.next.to c.push.new.self.items c.kind_of.new.names) (sym rest) (read_more c.args.file c.args.text.now c.args.names.now c.loop-next.rest.now c.loop-next.at c.loop-next.tokens.items c.loop-next.names c.loop-next.invariant.read c.in-Ok-Some.next n c.push.new.self.items c.kind_of.new.names items names);
+      places = (let p = places_more c.loop-next.rest.now c.loop-next.at c.in-Ok-Some.next n in ap (λ xs. c.in-Ok-Some.next.to + width xs) rest ∙ p ∙ c.loop-next.invariant.places);
+      room = (
+          let a = ap length names in
+          let b = one_more c.loop-next.names (lexeme_of c.in-Ok-Some.next.shape (word_of c.loop-next.rest.now c.in-Ok-Some.next)) in
+          let d = ap length rest in
+          let s = rest_shorter c.loop-next.rest.now c.loop-next.at c.in-Ok-Some.next n in
+          let r = c.loop-next.invariant.room in
+          omega (arith, a, b, d, s, r));
+    }

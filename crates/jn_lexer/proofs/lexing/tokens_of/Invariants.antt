@@ -1,0 +1,14 @@
+use Rattle.std.proofs.Common.{◌≡◌, ◌≤◌, ◌+◌, ◌<◌, ◌^◌, ◌-◌, length, List}
+use Rattle.jn_lexer.specs.Characters.{width}
+use Rattle.jn_lexer.proofs.Reading.{IsRead}
+use Rattle.jn_lexer.proofs.lexing.tokens_of.Given as goal
+
+abbrev pub invariant-loop-next : goal.invariant-loop-next
+invariant-loop-next l = record {
+  read : IsRead l.file l.text l.fn.names l.rest l.at l.tokens.items l.names;
+  places : l.at + width l.rest ≡ width l.text;
+  room : length l.names + length l.rest ≤ length l.fn.names + length l.text;
+}
+
+abbrev pub decreases-loop-next : goal.decreases-loop-next
+decreases-loop-next l = length l.rest
