@@ -1,6 +1,6 @@
 // All bodies on one thread.
 ghost use Rattle.std.specs.Prelude.{◌≡◌, ◌≢◌, ◌⊎◌, ◌↔◌, ℕ, ◌<◌, ◌/◌, true, false, [], length, get_or, slice_index, slice_set, bit_or, IfOk, OnOk};
-ghost use Rattle.jn_sigtable.specs.System.{least, ones_in};
+ghost use Rattle.jn_sigtable.specs.System.{least, IsLeast, ones_in};
 ghost use Rattle.jn_sigtable.specs.Machine.{dirty_words};
 ghost use Rattle.jn_worklist.specs.Plans.{plan_of, IsDue, Lists};
 ghost use Rattle.jn_worklist.specs.Drains.{IsDraining, IsDrainingBut, IsDirtyOrClosed, Moved};
@@ -114,7 +114,8 @@ fn settle<C: Constraints>(
     requires count { length words.old ≡ (C.describe system.now).words }
     requires room { length dirty.old ≡ dirty_words (C.describe system.now) }
     requires each { (b : ℕ) → b < (C.describe system.now).bodies → IsDirtyOrClosed (C.describe system.now) words.old dirty.old b }
-    ensures { OnOk result (words.new ≡ least (C.describe system.now) words.old) }
+    ensures words { OnOk result (words.new ≡ least (C.describe system.now) words.old) }
+    ensures least { OnOk result (IsLeast (C.describe system.now) words.old words.new) }
 {
     for _ in 0..64 * system.words() as u64 + 1 {
         let raised = round(alloc, system, plan, words, dirty)?;
@@ -138,7 +139,8 @@ pub fn drain<C: Constraints>(
     requires count { length words.items ≡ (C.describe system.now).words }
     requires room { length dirty.items ≡ dirty_words (C.describe system.now) }
     requires each { (b : ℕ) → b < (C.describe system.now).bodies → IsDirtyOrClosed (C.describe system.now) words.items dirty.items b }
-    ensures { IfOk result (λ drained. drained.items ≡ least (C.describe system.now) words.items) }
+    ensures words { IfOk result (λ drained. drained.items ≡ least (C.describe system.now) words.items) }
+    ensures least { IfOk result (λ drained. IsLeast (C.describe system.now) words.items drained.items) }
 {
     settle(alloc, system, plan, &mut words, &mut dirty)?;
     Ok(words)

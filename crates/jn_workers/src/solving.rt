@@ -1,0 +1,150 @@
+// All workers.
+ghost use Rattle.std.specs.Prelude.{◌≡◌, ℕ, ◌+◌, ◌-◌, ◌/◌, ◌<◌, ◌≤◌, length, replicate, IfOk};
+ghost use Rattle.std.specs.Thread.{IsSync};
+ghost use Rattle.jn_sigtable.specs.System.{least};
+ghost use Rattle.jn_sigtable.specs.Machine.{IsAtRest, HasSeenAll, AreBetween};
+ghost use Rattle.jn_sigtable.specs.Words.{system_of, view_of, IsPassOf};
+ghost use Rattle.jn_worklist.specs.Plans.{plan_of};
+ghost use Rattle.jn_workers.specs.Ends.{WeighsAs};
+
+use crate::gate::Gate;
+use crate::working::{Worked, work};
+use jn_base::OutOfMemory;
+use jn_sigtable::{Constraints, Pass, SigTable};
+use jn_worklist::{Plan, drain, plan};
+use std::alloc::{AllocError, Global};
+use std::thread::{Threads, join};
+
+// The worse of two ends.
+fn worse(a: Worked, b: Worked) -> Worked
+    ensures { result ≡ Worked.Emptied → (a ≡ Worked.Emptied) × (b ≡ Worked.Emptied) }
+{
+    match a {
+        Worked::Emptied => b,
+        Worked::Spent => match b {
+            Worked::OutOfMemory => Worked::OutOfMemory,
+            _ => Worked::Spent,
+        },
+        Worked::OutOfMemory => Worked::OutOfMemory,
+    }
+}
+
+fn work_alone<C: Constraints, G: Gate>(
+    alloc: Global,
+    table: &SigTable<C>,
+    plan: &Plan,
+    mut pass: Pass<C>,
+    worker: u32,
+    gate: &G,
+) -> (Pass<C>, Worked)
+    requires own { IsPassOf table.now pass }
+    requires plan { plan.now ≡ plan_of (C.describe (system_of table.now)) }
+    requires idle { IsAtRest (C.describe (system_of table.now)) (view_of pass) }
+    ensures own { IsPassOf table.now result.0 }
+    ensures idle { IsAtRest (C.describe (system_of table.now)) (view_of result.0) }
+    ensures share { (view_of result.0).share ≡ (view_of pass).share }
+    ensures emptied { result.1 ≡ Worked.Emptied → HasSeenAll (C.describe (system_of table.now)) (view_of result.0) }
+{
+    let budget = 4 * table.system().bodies() as u64 + 64;
+    let end = work(alloc, table, plan, &mut pass, worker, budget, gate);
+    (pass, end)
+}
+
+// The pass works as worker 0, and one that is split from it as each of the `more` others.
+#[cycle(spread)]
+fn spread<R: Threads + Sync, C: Constraints + Sync, G: Gate + Sync>(
+    rt: &R,
+    alloc: Global,
+    table: &SigTable<C>,
+    plan: &Plan,
+    mut pass: Pass<C>,
+    more: u32,
+    gate: &G,
+) -> (Pass<C>, Worked)
+    requires own { IsPassOf table.now pass }
+    requires plan { plan.now ≡ plan_of (C.describe (system_of table.now)) }
+    requires idle { IsAtRest (C.describe (system_of table.now)) (view_of pass) }
+    ensures own { IsPassOf table.now result.0 }
+    ensures idle { IsAtRest (C.describe (system_of table.now)) (view_of result.0) }
+    ensures share { WeighsAs (view_of result.0) (view_of pass) }
+    ensures emptied { result.1 ≡ Worked.Emptied → HasSeenAll (C.describe (system_of table.now)) (view_of result.0) }
+{
+    if more == 0 {
+        return work_alone(alloc, table, plan, pass, 0, gate);
+    }
+    let other = table.split(&mut pass);
+    let theirs = move || -> (Pass<C>, Worked)
+        requires { IsPassOf table.now other × IsAtRest (C.describe (system_of table.now)) (view_of other) × (plan.now ≡ plan_of (C.describe (system_of table.now))) }
+        ensures own { IsPassOf table.entry.now result.0 }
+        ensures idle { IsAtRest (C.describe (system_of table.entry.now)) (view_of result.0) }
+        ensures share { (view_of result.0).share ≡ (view_of other).share }
+        ensures emptied { result.1 ≡ Worked.Emptied → HasSeenAll (C.describe (system_of table.entry.now)) (view_of result.0) }
+    { work_alone(alloc, table, plan, other, more, gate) };
+    let ours = move || -> (Pass<C>, Worked)
+        requires { IsSync R.row × IsSync C.row × IsSync G.row × (0 < more) × IsPassOf table.now pass × IsAtRest (C.describe (system_of table.now)) (view_of pass) × (plan.now ≡ plan_of (C.describe (system_of table.now))) }
+        ensures own { IsPassOf table.entry.now result.0 }
+        ensures idle { IsAtRest (C.describe (system_of table.entry.now)) (view_of result.0) }
+        ensures share { WeighsAs (view_of result.0) (view_of pass) }
+        ensures emptied { result.1 ≡ Worked.Emptied → HasSeenAll (C.describe (system_of table.entry.now)) (view_of result.0) }
+    { spread(rt, alloc, table, plan, pass, more - 1, gate) };
+    let ((theirs, end), (mut ours, last)) = join(rt, theirs, ours);
+    table.join_pass(&mut ours, theirs);
+    (ours, worse(end, last))
+}
+
+// Dirty words in which every bit is set.
+fn all_dirty(alloc: Global, bodies: u32) -> Result<Vec<u64>, AllocError>
+    ensures { IfOk result (λ dirty. dirty.items ≡ replicate ((bodies + 63) / 64) 18446744073709551615) }
+{
+    let mut dirty = Vec::new(alloc);
+    for _ in 0..(bodies as usize + 63) / 64 {
+        dirty.push(u64::MAX)?;
+    }
+    Ok(dirty)
+}
+
+// Drains words that workers left between the start and the least words.
+fn drain_rest<C: Constraints>(
+    alloc: Global,
+    system: &C,
+    plan: &Plan,
+    start: &[u64],
+    words: Vec<u64>,
+) -> Result<Vec<u64>, OutOfMemory>
+    requires plan { plan.now ≡ plan_of (C.describe system.now) }
+    requires count { length start.now ≡ (C.describe system.now).words }
+    requires between { AreBetween (C.describe system.now) start.now words.items }
+    ensures { IfOk result (λ drained. drained.items ≡ least (C.describe system.now) start.now) }
+{
+    let dirty = all_dirty(alloc, system.bodies())?;
+    let drained = drain(alloc, system, plan, words, dirty)?;
+    Ok(drained)
+}
+
+/// The least words above the start, found by the given number of workers, 1 to 16, on one table.
+/// The first works on the caller's thread or another, each further one on a pass of its own. It
+/// goes by `join`, and so may wait for its workers. Where a worker was spent, the rest is drained
+/// on one thread.
+pub fn solve<R: Threads + Sync, C: Constraints + Sync, G: Gate + Sync>(
+    rt: &R,
+    alloc: Global,
+    system: C,
+    start: &[u64],
+    workers: u32,
+    gate: &G,
+) -> Result<Vec<u64>, OutOfMemory>
+    requires any { 0 < (C.describe system).bodies }
+    requires count { length start.now ≡ (C.describe system).words }
+    requires workers { (0 < workers) × (workers ≤ 16) }
+    ensures { IfOk result (λ words. words.items ≡ least (C.describe system) start.now) }
+{
+    let plan = plan(alloc, &system)?;
+    let (table, pass) = SigTable::new(alloc, system, start)?;
+    let (pass, end) = spread(rt, alloc, &table, &plan, pass, workers - 1, gate);
+    let (system, words) = table.close(alloc, pass)?;
+    match end {
+        Worked::Emptied => Ok(words),
+        Worked::Spent => drain_rest(alloc, &system, &plan, start, words),
+        Worked::OutOfMemory => Err(OutOfMemory),
+    }
+}
