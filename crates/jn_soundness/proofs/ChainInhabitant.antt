@@ -1,7 +1,14 @@
 -- The example with a chain of constructors, a cycle and an array is accepted and base-typed, and has a main.
-use Rattle.std.proofs.Common.{◌≡◌, ℕ, zero, suc, ◌<◌, Bool, true, false, ◌||◌, ◌⊎◌, inl, inr, List, [], ◌∷◌, length, Option, Some, None, refl, sym, ◌∙◌, subst, arith, eqb, ◌&&◌, not}
-use Rattle.std.specs.Prelude.{slice_index_or, IsTrue}
+use Rattle.std.proofs.Common.{◌≡◌, ℕ, zero, suc, ◌<◌, Bool, true, false, ◌||◌, ◌⊎◌, inl, inr, List, [], ◌∷◌, length, Option, Some, None, refl, sym, ◌∙◌, subst, arith, eqb, ◌&&◌, not, cond, ◌++◌}
+use Rattle.std.specs.Prelude.{slice_index_or, IsTrue, slice_get}
 use Rattle.std.proofs.lemmas.Bool.{eqb-true, eq-eqb}
+use Rattle.jn_quals.specs.Qualifier.{Qualifier}
+use Rattle.jn_points.specs.declared.program.SlotInfo.{SlotInfo}
+use Rattle.jn_points.specs.declared.program.Field.{Field}
+use Rattle.jn_soundness.specs.Solved.{Solved}
+use Rattle.jn_base.specs.declared.number.SlotNo.{SlotNo}
+use Rattle.jn_transfer.specs.Keys.{is_on}
+use Rattle.jn_transfer.specs.Contributions.{IsSent, kind_sends, unset_sends}
 use Rattle.jn_base.specs.declared.number.ClassNo.{ClassNo}
 use Rattle.jn_quals.specs.Order.{no_qual, committed_only, within}
 use Rattle.jn_points.specs.declared.point.Point.{Point}
@@ -11,7 +18,7 @@ use Rattle.jn_points.specs.declared.program.Class.{Class}
 use Rattle.jn_points.specs.declared.program.Method.{Method}
 use Rattle.jn_points.specs.declared.program.Body.{Body}
 use Rattle.jn_points.specs.Edges.{edges_of}
-use Rattle.jn_points.specs.Lookup.{has_slot, is_ref_base, body_of, body_at, point_at, method_at, method_in, ctor_of, static_of, class_of, class_info, owner, regs_of, reg_base, supers_of}
+use Rattle.jn_points.specs.Lookup.{has_slot, is_ref_base, body_of, body_at, point_at, method_at, method_in, ctor_of, static_of, class_of, class_info, owner, regs_of, reg_base, supers_of, field_info}
 use Rattle.jn_points.specs.Members.{some_of, reaches, sub, has_field, pairs_of, is_pair, is_named, class_pairs, interface_pairs}
 use Rattle.jn_points.specs.Regular.{FromRead, NotCtorCall, writes, test_at, test_in, test_of, Early, IsObjectClass, Chains, SlotsMatch, LeadsTo, RegularEdge, RegularPoint, StartsRegular, Regular, Names, Passes, NotEarlyReturn}
 use Rattle.jn_points.specs.BaseTyping.{Ordered, PointTyped, StartsWith, given_bases, BaseTyped}
@@ -412,4 +419,38 @@ chain_typed = record {
   ctor_reg = on_bodies (λ m b. ctor_of (method_at chain_program m) ≡ true → reg_base chain_program b 0 ≡ ref (class_of (method_at chain_program m))) (λ c. refl) (λ c. refl) (λ c. refl) (λ c. cc);
   pairs = λ m k h. let bad : false ≡ true = sym (no_pairs m k) ∙ h in cc;
   mains = each_at (λ m x. x.is_main ≡ true → x.params ≡ strings ∷ []) chain_program.methods ((λ h. cc), ((λ h. cc), ((λ h. cc), ((λ h. refl), tt))));
+}
+
+-- no slot is inferred, so nothing is sent
+
+nothing_sent : (b p : ℕ) (pt : Point) → point_at chain_program b p ≡ Some pt → (e : Env) (x : ℕ × Qualifier) → IsSent x (kind_sends chain_program b e pt.kind) → ⊥
+nothing_sent = points_each chain_program (λ b p pt. (e : Env) (x : ℕ × Qualifier) → IsSent x (kind_sends chain_program b e pt.kind) → ⊥)
+  (((λ e x s. s), ((λ e x s. s), ((λ e x s. unset_first e x s), tt))),
+   (((λ e x s. s), ((λ e x s. unset_first e x s), tt)),
+   (((λ e x s. s), ((λ e x s. s), ((λ e x s. s), ((λ e x s. unset_second e x s), tt)))),
+   (((λ e x s. s), ((λ e x s. s), ((λ e x s. s), ((λ e x s. s), ((λ e x s. s), ((λ e x s. s), ((λ e x s. s), tt))))))), tt))))
+  where
+  nothing : (t : Bool) (x : ℕ × Qualifier) → IsSent x (cond t [] [] ++ []) → ⊥
+  nothing true x s = s
+  nothing false x s = s
+  unset_first : (e : Env) (x : ℕ × Qualifier) → IsSent x (unset_sends chain_program (0 ∷ []) (0 ∷ []) e.assigned) → ⊥
+  unset_first e x s = nothing (is_on (λ k. eqb k 0) (0 ∷ []) e.assigned) x s
+  unset_second : (e : Env) (x : ℕ × Qualifier) → IsSent x (unset_sends chain_program (1 ∷ []) (1 ∷ []) e.assigned) → ⊥
+  unset_second e x s = nothing (is_on (λ k. eqb k 1) (1 ∷ []) e.assigned) x s
+
+slot_of : (n : ℕ) (m : SlotNo) → Some (record { 0 = n }) ≡ Some m → (info : SlotInfo) → slice_get chain_program.slots n ≡ Some info → (info.inferred ≡ false → info.start.committed ≡ true) → (info : SlotInfo) × (slice_get chain_program.slots m.0 ≡ Some info) × (info.inferred ≡ false → info.start.committed ≡ true)
+slot_of n m h info is c = some_is (λ m. (info : SlotInfo) × (slice_get chain_program.slots m.0 ≡ Some info) × (info.inferred ≡ false → info.start.committed ≡ true)) (record { 0 = n }) m h (info, is, c)
+
+field_slots : (f : ℕ) (x : Field) → field_info chain_program f ≡ Some x → (n : SlotNo) → x.slot ≡ Some n → (info : SlotInfo) × (slice_get chain_program.slots n.0 ≡ Some info) × (info.inferred ≡ false → info.start.committed ≡ true)
+field_slots = each_at (λ f x. (n : SlotNo) → x.slot ≡ Some n → (info : SlotInfo) × (slice_get chain_program.slots n.0 ≡ Some info) × (info.inferred ≡ false → info.start.committed ≡ true)) chain_program.fields
+  ((λ n h. slot_of 0 n h (record { start = committed_only; inferred = false }) refl (λ c. refl)), ((λ n h. slot_of 1 n h (record { start = committed_only; inferred = false }) refl (λ c. refl)), tt))
+
+pub chain_solved : Solved chain_world
+chain_solved = record {
+  regular = chain_regular;
+  slots = λ f x n io so. field_slots f x io n so;
+  starts = chain_accepted.starts;
+  respects = respects;
+  closed = λ b p pt e is reached x s. absurd (nothing_sent b p pt is e x s);
+  none = refl;
 }

@@ -20,3 +20,4 @@ pub mod PlainAccepts
 pub mod Finite
 pub mod PlainInhabitant
 pub mod ChainInhabitant
+pub mod Solves

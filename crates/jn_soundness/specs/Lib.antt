@@ -6,3 +6,4 @@ pub mod Accepted
 pub mod PlainPrograms
 pub mod PlainExample
 pub mod ChainExample
+pub mod Solved

@@ -3,6 +3,7 @@ ghost use Rattle.std.specs.Prelude.{List, [], ◌∷◌, Option};
 ghost use Rattle.jn_points.specs.declared.program.Program.{Program as ProgramOf};
 ghost use Rattle.jn_env.specs.declared.env.Env.{Env};
 ghost use Rattle.jn_heap.specs.Machine.{NeverNull, MainForm};
+ghost use Rattle.jn_soundness.specs.Solved.{Solved};
 ghost use Rattle.jn_soundness.specs.World.{World};
 ghost use Rattle.jn_soundness.specs.Checked.{Checked};
 ghost use Rattle.jn_soundness.specs.Good.{MainsOk, RunsTyped};
@@ -26,6 +27,13 @@ pub fn accepted_programs_never_fault()
     ensures typed { (W : World) → Accepted W → BaseTyped W.program → NeverNull W.program }
 {}
 
+/// A regular, base-typed program never dereferences null where its signature is closed, its tables
+/// respect the edges, and no rule has a row.
+pub fn solved_programs_never_fault()
+    ensures { (W : World) → Solved W → BaseTyped W.program → NeverNull W.program }
+{
+}
+
 /// A program without fields, calls and elements that has no row under the start signature never
 /// dereferences null, whatever its base types.
 pub fn plain_programs_never_fault()
@@ -42,6 +50,7 @@ pub fn plain_programs_are_accepted()
 /// that is built by an escaping `this`, field reads and an array is accepted and base-typed.
 pub fn constructor_chains_are_accepted()
     ensures accepted { Accepted chain_world }
+    ensures solved { Solved chain_world }
     ensures typed { BaseTyped chain_program }
     ensures main { MainForm chain_program 3 3 }
 {}

@@ -2,3 +2,4 @@ pub mod Keys
 pub mod Transfer
 pub mod Least
 pub mod Rules
+pub mod Contributions
