@@ -21,3 +21,4 @@ pub mod Finite
 pub mod PlainInhabitant
 pub mod ChainInhabitant
 pub mod Solves
+pub mod OneMethods

@@ -1,6 +1,7 @@
 -- The plain example is accepted and has a main.
 use Rattle.std.proofs.Common.{◌≡◌, ℕ, zero, suc, ◌<◌, true, false, [], ◌∷◌, length, Some, None, refl, sym, ◌∙◌, subst, arith}
 use Rattle.std.specs.Prelude.{slice_index_or}
+use Rattle.jn_points.specs.declared.point.BaseType.TheVariants.{Int, Ref}
 use Rattle.jn_quals.specs.Order.{committed_only, no_qual}
 use Rattle.jn_points.specs.declared.point.Point.{Point}
 use Rattle.jn_points.specs.declared.point.PointKind.{PointKind}
@@ -15,8 +16,8 @@ use Rattle.jn_env.specs.Order.{EnvWithin, SlotWithin, env_in}
 use Rattle.jn_transfer.specs.Transfer.{transfer, IsAmong}
 use Rattle.jn_transfer.specs.Least.{Respects}
 use Rattle.jn_heap.specs.Machine.{MainForm}
-use Rattle.jn_soundness.specs.PlainPrograms.{PlainKind, PlainAccepted}
-use Rattle.jn_soundness.specs.PlainExample.{point_of, main_method, quals_env, plain_program, plain_table, plain_points}
+use Rattle.jn_soundness.specs.PlainPrograms.{PlainKind, PlainAccepted, OneAccepted}
+use Rattle.jn_soundness.specs.PlainExample.{point_of, main_method, quals_env, plain_program, plain_table, plain_points, strings}
 use Rattle.jn_soundness.proofs.Finite.{each_at, some_is, AllOf, all_of}
 
 kinds : (b p : ℕ) (pt : Point) → point_at plain_program b p ≡ Some pt → PlainKind pt.kind
@@ -89,3 +90,23 @@ inhabited = record {
 
 pub has_main : MainForm plain_program 0 0
 has_main = record { method = main_method 2 0 0; there = refl; is_main = refl; body = refl; slot = record { 0 = 0 }; info = record { start = committed_only; inferred = false }; param = refl; start = refl; written = refl; committed = refl }
+
+pub one : OneAccepted plain_program plain_table
+one = record {
+  one = record {
+    method = main_method 2 0 0;
+    body = record { method = record { 0 = 0 }; regs = strings ∷ Ref (record { 0 = 1 }) ∷ Int ∷ []; locals = 2; points = plain_points };
+    fields = refl;
+    methods = refl;
+    bodies = refl;
+    its_body = refl;
+    of_method = refl;
+    static = refl;
+    plain = refl;
+    params = (refl, tt);
+    points = (tt, (tt, (tt, (tt, (tt, tt)))));
+    entered = omega arith;
+  };
+  respects = respects 0 (record { method = record { 0 = 0 }; regs = strings ∷ Ref (record { 0 = 1 }) ∷ Int ∷ []; locals = 2; points = plain_points }) refl;
+  none = refl;
+}

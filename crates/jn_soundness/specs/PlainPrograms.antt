@@ -1,17 +1,17 @@
 -- Programs without fields, calls and elements of arrays: what their front end has to establish.
-use Rattle.std.specs.Prelude.{ℕ, suc, ◌≡◌, ◌<◌, true, false, List, [], length, Option, Some, None, slice_index_or}
+use Rattle.std.specs.Prelude.{ℕ, suc, ◌≡◌, ◌<◌, true, false, List, [], length, Option, Some, None, slice_index_or, ◌∷◌}
 use Rattle.jn_points.specs.declared.point.Point.{Point}
 use Rattle.jn_points.specs.declared.point.PointKind.{PointKind}
 use Rattle.jn_points.specs.declared.point.PointKind.TheVariants.{Const, Move, Unary, Binary, Concat, SameRef, StaticRead, StaticWrite, ArrayLen, NewArray, StrOp, Print, Cast, TestInst, TestNull, Branch, Goto, Return}
 use Rattle.jn_points.specs.declared.program.Method.{Method}
 use Rattle.jn_points.specs.declared.program.Body.{Body}
 use Rattle.jn_points.specs.declared.program.Program.{Program}
-use Rattle.jn_points.specs.Lookup.{regs_of, body_of, ctor_of, static_of, body_at, point_at, method_at, method_in}
+use Rattle.jn_points.specs.Lookup.{regs_of, body_of, ctor_of, static_of, body_at, point_at, method_at, method_in, points_of}
 use Rattle.jn_points.specs.Regular.{SlotsMatch, writes}
 use Rattle.jn_sigs.specs.Signature.{start_signature}
 use Rattle.jn_env.specs.declared.env.Env.{Env}
 use Rattle.jn_transfer.specs.Least.{Respects}
-use Rattle.jn_transfer.specs.Rules.{rows}
+use Rattle.jn_transfer.specs.Rules.{rows, rows_from}
 
 -- a point that names no field and no method and reads no element
 abbrev pub PlainKind : PointKind → Type 0
@@ -52,3 +52,28 @@ pub record PlainAccepted (P : Program) (tables : List (List (Option Env))) : Typ
   pub plain : PlainProgram P
   pub respects : (b : ℕ) (x : Body) → body_at P b ≡ Some x → Respects P (start_signature P) b (slice_index_or tables b [])
   pub none : rows P (start_signature P) tables ≡ []
+
+abbrev pub PlainPoints : List Point → Type 0
+PlainPoints [] = Unit {0}
+PlainPoints (pt ∷ pts) = PlainKind pt.kind × PlainPoints pts
+
+-- a program of one static method with one body of plain points, as its lists show it
+pub record OneMethod (P : Program) : Type 0 where
+  pub method : Method
+  pub body : Body
+  pub fields : P.fields ≡ []
+  pub methods : P.methods ≡ method ∷ []
+  pub bodies : P.bodies ≡ body ∷ []
+  pub its_body : method.body ≡ Some (record { 0 = 0 })
+  pub of_method : body.method.0 ≡ 0
+  pub static : method.is_static ≡ true
+  pub plain : method.ctor ≡ false
+  pub params : SlotsMatch method.param_slots method.params
+  pub points : PlainPoints body.points
+  pub entered : 0 < length body.points
+
+-- its table respects the edges under the start signature, and no point has a row
+pub record OneAccepted (P : Program) (table : List (Option Env)) : Type 0 where
+  pub one : OneMethod P
+  pub respects : Respects P (start_signature P) 0 table
+  pub none : rows_from P (start_signature P) 0 (points_of (body_at P 0)) 0 table ≡ []

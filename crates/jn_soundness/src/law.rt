@@ -9,7 +9,7 @@ ghost use Rattle.jn_soundness.specs.Checked.{Checked};
 ghost use Rattle.jn_soundness.specs.Good.{MainsOk, RunsTyped};
 ghost use Rattle.jn_points.specs.BaseTyping.{BaseTyped};
 ghost use Rattle.jn_soundness.specs.Accepted.{Accepted};
-ghost use Rattle.jn_soundness.specs.PlainPrograms.{PlainAccepted};
+ghost use Rattle.jn_soundness.specs.PlainPrograms.{PlainAccepted, OneAccepted};
 ghost use Rattle.jn_soundness.specs.ChainExample.{chain_program, chain_world};
 ghost use Rattle.jn_soundness.specs.PlainExample.{plain_program, plain_table};
 
@@ -40,9 +40,17 @@ pub fn plain_programs_never_fault()
     ensures { (P : ProgramOf) (tables : List (List (Option Env))) → PlainAccepted P tables → NeverNull P }
 {}
 
+/// A program of one static method with plain points never dereferences null where its table respects
+/// the edges under the start signature and no point has a row.
+pub fn one_method_never_faults()
+    ensures { (P : ProgramOf) (table : List (Option Env)) → OneAccepted P table → NeverNull P }
+{
+}
+
 /// The law on plain programs is of use: one with a main, texts and a null test is accepted.
 pub fn plain_programs_are_accepted()
     ensures accepted { PlainAccepted plain_program (plain_table ∷ []) }
+    ensures one { OneAccepted plain_program plain_table }
     ensures main { MainForm plain_program 0 0 }
 {}
 
