@@ -424,26 +424,33 @@ chain_typed = record {
 -- no slot is inferred, so nothing is sent
 
 nothing_sent : (b p : ℕ) (pt : Point) → point_at chain_program b p ≡ Some pt → (e : Env) (x : ℕ × Qualifier) → IsSent x (kind_sends chain_program b e pt.kind) → ⊥
-nothing_sent = points_each chain_program (λ b p pt. (e : Env) (x : ℕ × Qualifier) → IsSent x (kind_sends chain_program b e pt.kind) → ⊥)
-  (((λ e x s. s), ((λ e x s. s), ((λ e x s. unset_first e x s), tt))),
-   (((λ e x s. s), ((λ e x s. unset_first e x s), tt)),
-   (((λ e x s. s), ((λ e x s. s), ((λ e x s. s), ((λ e x s. unset_second e x s), tt)))),
-   (((λ e x s. s), ((λ e x s. s), ((λ e x s. s), ((λ e x s. s), ((λ e x s. s), ((λ e x s. s), ((λ e x s. s), tt))))))), tt))))
+nothing_sent = points_each chain_program (λ b p pt. (e : Env) (x : ℕ × Qualifier) → IsSent x (kind_sends chain_program b e pt.kind) → ⊥) (
+  ((λ e x s. s), ((λ e x s. s), ((λ e x s. unset_first e x s), tt))),
+  (
+    ((λ e x s. s), ((λ e x s. unset_first e x s), tt)),
+    (
+      ((λ e x s. s), ((λ e x s. s), ((λ e x s. s), ((λ e x s. unset_second e x s), tt)))),
+      (((λ e x s. s), ((λ e x s. s), ((λ e x s. s), ((λ e x s. s), ((λ e x s. s), ((λ e x s. s), ((λ e x s. s), tt))))))), tt),
+    ),
+  ),
+)
   where
-  nothing : (t : Bool) (x : ℕ × Qualifier) → IsSent x (cond t [] [] ++ []) → ⊥
-  nothing true x s = s
-  nothing false x s = s
-  unset_first : (e : Env) (x : ℕ × Qualifier) → IsSent x (unset_sends chain_program (0 ∷ []) (0 ∷ []) e.assigned) → ⊥
-  unset_first e x s = nothing (is_on (λ k. eqb k 0) (0 ∷ []) e.assigned) x s
-  unset_second : (e : Env) (x : ℕ × Qualifier) → IsSent x (unset_sends chain_program (1 ∷ []) (1 ∷ []) e.assigned) → ⊥
-  unset_second e x s = nothing (is_on (λ k. eqb k 1) (1 ∷ []) e.assigned) x s
+    nothing : (t : Bool) (x : ℕ × Qualifier) → IsSent x (cond t [] [] ++ []) → ⊥
+    nothing true x s = s
+    nothing false x s = s
+
+    unset_first : (e : Env) (x : ℕ × Qualifier) → IsSent x (unset_sends chain_program (0 ∷ []) (0 ∷ []) e.assigned) → ⊥
+    unset_first e x s = nothing (is_on (λ k. eqb k 0) (0 ∷ []) e.assigned) x s
+
+    unset_second : (e : Env) (x : ℕ × Qualifier) → IsSent x (unset_sends chain_program (1 ∷ []) (1 ∷ []) e.assigned) → ⊥
+    unset_second e x s = nothing (is_on (λ k. eqb k 1) (1 ∷ []) e.assigned) x s
 
 slot_of : (n : ℕ) (m : SlotNo) → Some (record { 0 = n }) ≡ Some m → (info : SlotInfo) → slice_get chain_program.slots n ≡ Some info → (info.inferred ≡ false → info.start.committed ≡ true) → (info : SlotInfo) × (slice_get chain_program.slots m.0 ≡ Some info) × (info.inferred ≡ false → info.start.committed ≡ true)
 slot_of n m h info is c = some_is (λ m. (info : SlotInfo) × (slice_get chain_program.slots m.0 ≡ Some info) × (info.inferred ≡ false → info.start.committed ≡ true)) (record { 0 = n }) m h (info, is, c)
 
 field_slots : (f : ℕ) (x : Field) → field_info chain_program f ≡ Some x → (n : SlotNo) → x.slot ≡ Some n → (info : SlotInfo) × (slice_get chain_program.slots n.0 ≡ Some info) × (info.inferred ≡ false → info.start.committed ≡ true)
 field_slots = each_at (λ f x. (n : SlotNo) → x.slot ≡ Some n → (info : SlotInfo) × (slice_get chain_program.slots n.0 ≡ Some info) × (info.inferred ≡ false → info.start.committed ≡ true)) chain_program.fields
-  ((λ n h. slot_of 0 n h (record { start = committed_only; inferred = false }) refl (λ c. refl)), ((λ n h. slot_of 1 n h (record { start = committed_only; inferred = false }) refl (λ c. refl)), tt))
+    ((λ n h. slot_of 0 n h (record { start = committed_only; inferred = false }) refl (λ c. refl)), ((λ n h. slot_of 1 n h (record { start = committed_only; inferred = false }) refl (λ c. refl)), tt))
 
 pub chain_solved : Solved chain_world
 chain_solved = record {

@@ -8,7 +8,7 @@ use Rattle.jn_points.specs.declared.point.Point.{Point}
 use Rattle.jn_points.specs.declared.program.Method.{Method}
 use Rattle.jn_points.specs.declared.program.Body.{Body}
 use Rattle.jn_points.specs.declared.program.Program.{Program}
-use Rattle.jn_points.specs.Lookup.{points_of, body_of, body_no, ctor_of, static_of, body_at, point_at, method_at, method_in, method_of_body}
+use Rattle.jn_points.specs.Lookup.{points_of, body_of, body_no, ctor_of, body_at, point_at, method_at, method_in, method_of_body}
 use Rattle.jn_points.specs.Members.{below, sub, in_interface, is_named, class_pairs, interface_pairs, pairs_of, is_pair}
 use Rattle.jn_points.specs.Regular.{SlotsMatch}
 use Rattle.jn_sigs.specs.Signature.{start_signature}
@@ -59,35 +59,35 @@ module _ (P : Program) (O : OneMethod P) where
   no_ctor : (m : ℕ) → ctor_of (method_at P m) ≡ false
   no_ctor m = by (method_at P m) refl
     where
-    by : (o : Option Method) → method_at P m ≡ o → ctor_of o ≡ false
-    by None is = refl
-    by (Some x) is = subst (λ y. y.ctor ≡ false) (the_method m x is).1 O.plain
+      by : (o : Option Method) → method_at P m ≡ o → ctor_of o ≡ false
+      by None is = refl
+      by (Some x) is = subst (λ y. y.ctor ≡ false) (the_method m x is).1 O.plain
 
   no_ctor_in : (b : ℕ) → ctor_of (method_in P b) ≡ false
   no_ctor_in b = by (body_at P b)
     where
-    by : (o : Option Body) → ctor_of (method_of_body P o) ≡ false
-    by None = refl
-    by (Some x) = no_ctor x.method.0
+      by : (o : Option Body) → ctor_of (method_of_body P o) ≡ false
+      by None = refl
+      by (Some x) = no_ctor x.method.0
 
   kinds : (b p : ℕ) (pt : Point) → point_at P b p ≡ Some pt → PlainKind pt.kind
   kinds b p pt is = by (body_at P b) refl
     where
-    by : (o : Option Body) → body_at P b ≡ o → PlainKind pt.kind
-    by None ib = absurd (let bad : slice_get (points_of None) p ≡ Some pt = subst (λ o. slice_get (points_of o) p ≡ Some pt) ib is in let k : None ≡ Some pt = bad in cc)
-    by (Some x) ib = plain_at x.points (subst (λ y. PlainPoints y.points) (the_body b x ib).1 O.points) p pt (subst (λ o. slice_get (points_of o) p ≡ Some pt) ib is)
+      by : (o : Option Body) → body_at P b ≡ o → PlainKind pt.kind
+      by None ib = absurd (let bad : slice_get (points_of None) p ≡ Some pt = subst (λ o. slice_get (points_of o) p ≡ Some pt) ib is in let k : None ≡ Some pt = bad in cc)
+      by (Some x) ib = plain_at x.points (subst (λ y. PlainPoints y.points) (the_body b x ib).1 O.points) p pt (subst (λ o. slice_get (points_of o) p ≡ Some pt) ib is)
 
   bodies : (m b : ℕ) → body_of (method_at P m) ≡ Some b → (x : Body) × (body_at P b ≡ Some x) × (x.method.0 ≡ m)
   bodies m b is = by (method_at P m) refl is
     where
-    by : (o : Option Method) → method_at P m ≡ o → body_of o ≡ Some b → (x : Body) × (body_at P b ≡ Some x) × (x.method.0 ≡ m)
-    by None im h = cc
-    by (Some x) im h =
-        let t = the_method m x im in
-        let body : body_no O.method.body ≡ Some b = subst (λ y. body_no y.body ≡ Some b) (sym t.1) h in
-        let first : Some 0 ≡ Some b = sym (ap body_no O.its_body) ∙ body in
-        let same : 0 ≡ b = cc in
-        (O.body, subst (λ b. body_at P b ≡ Some O.body) same body_here, O.of_method ∙ sym t.0)
+      by : (o : Option Method) → method_at P m ≡ o → body_of o ≡ Some b → (x : Body) × (body_at P b ≡ Some x) × (x.method.0 ≡ m)
+      by None im h = cc
+      by (Some x) im h =
+          let t = the_method m x im in
+          let body : body_no O.method.body ≡ Some b = subst (λ y. body_no y.body ≡ Some b) (sym t.1) h in
+          let first : Some 0 ≡ Some b = sym (ap body_no O.its_body) ∙ body in
+          let same : 0 ≡ b = cc in
+          (O.body, subst (λ b. body_at P b ≡ Some O.body) same body_here, O.of_method ∙ sym t.0)
 
   pub one_plain : PlainProgram P
   one_plain = record {
@@ -110,14 +110,14 @@ module _ (P : Program) (O : OneMethod P) where
   no_pair : is_pair P 0 0 ≡ false
   no_pair = subst (λ o. pairs_of P 0 0 o o ≡ false) (sym method_here)
       (and_false (not O.method.ctor && is_named O.method O.method.name.0 (length O.method.params)) (class_pairs P 0 0 O.method O.method || interface_pairs P O.method O.method)
-        (or_false (class_pairs P 0 0 O.method O.method) (interface_pairs P O.method O.method) refl (no_interface_pair O.method)))
+      (or_false (class_pairs P 0 0 O.method O.method) (interface_pairs P O.method O.method) refl (no_interface_pair O.method)))
 
   no_ctor_rows : (s : List Qualifier) (t : List (Option Env)) (o : Option Method) → ctor_of o ≡ false → ctor_rows P s 0 o t ≡ []
   no_ctor_rows s t None h = refl
   no_ctor_rows s t (Some m) h = subst (λ c. cond_row c ≡ []) (sym h) refl
     where
-    cond_row : Bool → List Row
-    cond_row c = ctor_rows P s 0 (Some (record m { ctor = c })) t
+      cond_row : Bool → List Row
+      cond_row c = ctor_rows P s 0 (Some (record m { ctor = c })) t
 
   one_rows : (s : List Qualifier) (t : List (Option Env)) → rows_from P s 0 (points_of (body_at P 0)) 0 t ≡ [] → rows P s (t ∷ []) ≡ []
   one_rows s t h =
@@ -128,8 +128,8 @@ module _ (P : Program) (O : OneMethod P) where
       let pairs : flat_map (λ m. flat_map (pair_rows P s m) (0 ∷ [])) (0 ∷ []) ≡ [] = subst (λ x. (x ++ []) ++ [] ≡ []) (sym pair) refl in
       let first : bodies_rows P s (0 ∷ []) (t ∷ []) ≡ [] = subst (λ x. x ++ [] ≡ []) (sym body) refl in
       subst (λ n. bodies_rows P s (below n) (t ∷ []) ++ flat_map (λ m. flat_map (pair_rows P s m) (below (length P.methods))) (below (length P.methods)) ≡ []) (sym bodies)
-        (subst (λ n. bodies_rows P s (0 ∷ []) (t ∷ []) ++ flat_map (λ m. flat_map (pair_rows P s m) (below n)) (below n) ≡ []) (sym methods)
-          (subst (λ x. x ++ flat_map (λ m. flat_map (pair_rows P s m) (0 ∷ [])) (0 ∷ []) ≡ []) (sym first) pairs))
+      (subst (λ n. bodies_rows P s (0 ∷ []) (t ∷ []) ++ flat_map (λ m. flat_map (pair_rows P s m) (below n)) (below n) ≡ []) (sym methods)
+      (subst (λ x. x ++ flat_map (λ m. flat_map (pair_rows P s m) (0 ∷ [])) (0 ∷ []) ≡ []) (sym first) pairs))
 
 pub one_accepted : (P : Program) (t : List (Option Env)) → OneAccepted P t → PlainAccepted P (t ∷ [])
 one_accepted P t A = record {

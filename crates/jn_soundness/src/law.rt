@@ -31,8 +31,7 @@ pub fn accepted_programs_never_fault()
 /// respect the edges, and no rule has a row.
 pub fn solved_programs_never_fault()
     ensures { (W : World) → Solved W → BaseTyped W.program → NeverNull W.program }
-{
-}
+{}
 
 /// A program without fields, calls and elements that has no row under the start signature never
 /// dereferences null, whatever its base types.
@@ -44,8 +43,7 @@ pub fn plain_programs_never_fault()
 /// the edges under the start signature and no point has a row.
 pub fn one_method_never_faults()
     ensures { (P : ProgramOf) (table : List (Option Env)) → OneAccepted P table → NeverNull P }
-{
-}
+{}
 
 /// The law on plain programs is of use: one with a main, texts and a null test is accepted.
 pub fn plain_programs_are_accepted()
