@@ -26,7 +26,7 @@ or_false true b e = absurd (false≢true (sym e))
 or_false false b e = (refl, e)
 
 -- what a plain character isn't
-plain_is : (c : ℕ) → is_plain c ≡ true → (nat_eq c 34 ≡ false) × (nat_eq c 92 ≡ false) × (is_line_end c ≡ false)
+pub plain_is : (c : ℕ) → is_plain c ≡ true → (nat_eq c 34 ≡ false) × (nat_eq c 92 ≡ false) × (is_line_end c ≡ false)
 unfolding is_plain
 plain_is c h = let p = or_false _ _ (not_flips _ h) in let q = or_false _ _ p.0 in (q.0, q.1, p.1)
 
