@@ -11,3 +11,5 @@ pub mod Reading
 pub mod OneGap
 pub mod OneToken
 pub mod OneList
+pub mod OneFault
+pub mod OneRow
