@@ -1,21 +1,18 @@
 -- One fault stands at a place, and where one stands no token does.
-use Rattle.std.proofs.Common.{◌≡◌, ℕ, zero, suc, ◌+◌, ◌<◌, ◌≤◌, Bool, true, false, not, ◌&&◌, ◌||◌, ◌⊎◌, inl, inr, ⊎_elim, List, [], ◌∷◌, ◌++◌, length, Option, Some, None, refl, sym, ap, ◌∙◌, subst, arith, length-append, append_assoc, lit≤}
+use Rattle.std.proofs.Common.{◌≡◌, ℕ, Bool, true, false, ◌||◌, ◌⊎◌, inl, inr, ⊎_elim, List, [], ◌∷◌, ◌++◌, length, Option, Some, None, refl, sym, ap, ◌∙◌, subst, arith, append_assoc, lit≤}
 use Rattle.std.specs.Prelude.{nat_eq}
 use Rattle.std.proofs.lemmas.Bool.{eqb-true, eq-eqb, false≢true}
-use Rattle.std.proofs.lemmas.List.{append-nil}
 use Rattle.jn_base.specs.declared.code.Code.{Code}
 use Rattle.jn_base.specs.declared.code.Code.TheVariants.{L3, L4, L5, L6, L7}
-use Rattle.jn_trees.specs.declared.token.TokenKind.{TokenKind}
 use Rattle.jn_trees.specs.declared.token.TokenKind.TheVariants.{Dot}
-use Rattle.jn_lexer.specs.Characters.{is_white, is_start, is_part, is_digit, AllAre, BeginsNot}
-use Rattle.jn_lexer.specs.Gaps.{Blank, Space, Line, Block, blank_text, IsBlank}
+use Rattle.jn_lexer.specs.Characters.{is_white, is_part, is_digit, AllAre, BeginsNot}
+use Rattle.jn_lexer.specs.Gaps.{Space, Line, Block}
 use Rattle.jn_lexer.specs.Spelling.{spelling}
-use Rattle.jn_lexer.specs.Lexemes.{Lexeme, Word, Quoted, Numeral, Fixed, IsSpelling, hinders, hinders_kind, Part, Plain, Escape, inside, AreParts, part_value, escape_value, Mean}
-use Rattle.jn_lexer.specs.Scan.{begins_mark, begins_blank}
+use Rattle.jn_lexer.specs.Lexemes.{Lexeme, Word, Quoted, Numeral, Fixed, IsSpelling, hinders, Part, Escape, inside, AreParts, part_value, escape_value, Mean}
+use Rattle.jn_lexer.specs.Scan.{begins_blank}
 use Rattle.jn_lexer.specs.Faults.{IsBadCharacter, IsOpenComment, IsOpenString, IsBadEscape, IsRun, IsBadRun, IsBadDot, IsFault, is_special}
-use Rattle.jn_lexer.proofs.Lists.{same_front}
-use Rattle.jn_lexer.proofs.Classes.{white_47, digit_part, digit_bounds, digit_start, quote_start, quote_digit, mark_start, mark_digit, not_both, not_true, white_digit, white_46, white_34, dot_start}
-use Rattle.jn_lexer.proofs.Tables.{Among, one_kind, pair_no_dot, single_length}
+use Rattle.jn_lexer.proofs.Classes.{digit_part, digit_bounds, digit_start, quote_start, quote_digit, not_both, not_true, white_digit, white_46, white_34, dot_start}
+use Rattle.jn_lexer.proofs.Tables.{one_kind, pair_no_dot, single_length}
 use Rattle.jn_lexer.proofs.Standing.{first, some_spelling, digit_parts}
 use Rattle.jn_lexer.proofs.OneGap.{NotBlank, not_blank, block_tail, white_not_47, or_true}
 use Rattle.jn_lexer.proofs.OneToken.{parts_one, token_blank, fixed_digit, fixed_quote, plain_first}

@@ -1,9 +1,8 @@
 -- White space and comments end at one place.
-use Rattle.std.proofs.Common.{◌≡◌, ℕ, zero, suc, ◌+◌, ◌<◌, ◌≤◌, Bool, true, false, not, ◌&&◌, ◌||◌, ◌⊎◌, inl, inr, ⊎_elim, List, [], ◌∷◌, ◌++◌, length, refl, sym, ap, ◌∙◌, subst, arith, length-append, append_assoc}
+use Rattle.std.proofs.Common.{◌≡◌, ℕ, Bool, true, false, not, ◌&&◌, ◌||◌, List, [], ◌∷◌, ◌++◌, length, refl, sym, ap, ◌∙◌, subst, arith, length-append, append_assoc}
 use Rattle.std.specs.Prelude.{nat_eq}
 use Rattle.std.proofs.lemmas.Bool.{false≢true}
-use Rattle.std.proofs.lemmas.List.{append-nil}
-use Rattle.jn_lexer.specs.Characters.{is_white, is_line_end, is_in_line, AllAre, BeginsOnly, BeginsNot, width}
+use Rattle.jn_lexer.specs.Characters.{is_white, is_line_end, is_in_line, AllAre, BeginsOnly}
 use Rattle.jn_lexer.specs.Gaps.{Blank, Space, Line, Block, blank_text, IsBlank, IsNextClose, gap_text, IsGap}
 use Rattle.jn_lexer.specs.Scan.{begins_mark, begins_blank}
 use Rattle.jn_lexer.proofs.Lists.{same_front}

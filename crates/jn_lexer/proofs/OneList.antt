@@ -1,15 +1,15 @@
 -- A text has one list of tokens.
-use Rattle.std.proofs.Common.{◌≡◌, ℕ, List, [], ◌∷◌, ◌++◌, refl, sym, ap, ◌∙◌, subst}
+use Rattle.std.proofs.Common.{◌≡◌, ℕ, List, [], ◌∷◌, ◌++◌, sym, ap, ◌∙◌}
 use Rattle.std.specs.Prelude.{chars}
 use Rattle.std.proofs.lemmas.List.{append-nil}
 use Rattle.jn_base.specs.declared.number.FileNo.{FileNo}
 use Rattle.jn_trees.specs.declared.token.Token.{Token}
 use Rattle.jn_lexer.specs.Gaps.{Blank, gap_text, IsGap}
 use Rattle.jn_lexer.specs.Lexemes.{Lexeme, IsSpelling}
-use Rattle.jn_lexer.specs.Pieces.{Piece, Stands, Behind, ArePieces}
+use Rattle.jn_lexer.specs.Pieces.{Piece, ArePieces}
 use Rattle.jn_lexer.specs.Lexed.{Lexed, tokens_of, names_after}
 use Rattle.jn_lexer.proofs.Standing.{some_spelling}
-use Rattle.jn_lexer.proofs.OneGap.{NotBlank, gap_one, nil_not_blank}
+use Rattle.jn_lexer.proofs.OneGap.{gap_one, nil_not_blank}
 use Rattle.jn_lexer.proofs.OneToken.{Stops, behind_one, stands_not_blank}
 
 empty_word : (l : Lexeme) (word after : List ℕ) → [] ≡ word ++ after → IsSpelling l word → ⊥

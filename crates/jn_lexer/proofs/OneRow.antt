@@ -1,20 +1,19 @@
 -- A text has one fault, and none where it has a list of tokens.
-use Rattle.std.proofs.Common.{◌≡◌, ℕ, ◌+◌, ◌<◌, ◌≤◌, ◌⊎◌, inl, inr, ⊎_elim, List, [], ◌∷◌, ◌++◌, length, refl, sym, ap, ◌∙◌, subst, arith, length-append}
+use Rattle.std.proofs.Common.{◌≡◌, ℕ, ◌+◌, ⊎_elim, List, [], ◌∷◌, ◌++◌, refl, sym, ap, ◌∙◌, subst, arith}
 use Rattle.std.specs.Prelude.{chars}
 use Rattle.std.proofs.lemmas.Str.{utf8_valid_len-IsValidUpTo}
 use Rattle.std.proofs.lemmas.List.{append-nil}
 use Rattle.jn_base.specs.declared.number.FileNo.{FileNo}
 use Rattle.jn_base.specs.declared.code.Code.{Code}
-use Rattle.jn_base.specs.declared.place.Span.{Span}
 use Rattle.jn_base.specs.declared.place.Row.{Row}
 use Rattle.jn_trees.specs.declared.token.Token.{Token}
 use Rattle.jn_lexer.specs.Characters.{width}
-use Rattle.jn_lexer.specs.Gaps.{Blank, gap_text, IsGap}
-use Rattle.jn_lexer.specs.Pieces.{Piece, Stands, Behind, ArePieces}
-use Rattle.jn_lexer.specs.Faults.{IsFault, IsAtCharacter, IsTokenFault, IsNotUtf8, HasUnicodeEscape, HasTokenFault, LexicalFault}
+use Rattle.jn_lexer.specs.Gaps.{gap_text}
+use Rattle.jn_lexer.specs.Pieces.{Piece, ArePieces}
+use Rattle.jn_lexer.specs.Faults.{IsFault, IsAtCharacter, IsTokenFault, IsNotUtf8, HasUnicodeEscape, LexicalFault}
 use Rattle.jn_lexer.specs.Lexed.{Lexed}
 use Rattle.jn_lexer.proofs.Lists.{same_front}
-use Rattle.jn_lexer.proofs.OneGap.{NotBlank, gap_one, nil_not_blank, front_one}
+use Rattle.jn_lexer.proofs.OneGap.{gap_one, nil_not_blank, front_one}
 use Rattle.jn_lexer.proofs.OneToken.{Stops, behind_one, stands_not_blank}
 use Rattle.jn_lexer.proofs.OneList.{pieces_stop}
 use Rattle.jn_lexer.proofs.OneFault.{fault_not_blank, fault_some, fault_token, fault_one}
@@ -71,7 +70,7 @@ one_fault file text r s f g =
     ⊎_elim
     (λ a. ⊎_elim (λ b. not_utf8_one file text r s a b) (λ y. absurd (⊎_elim (λ b. a.not_utf8 b.utf8) (λ b. a.not_utf8 b.utf8) y)) g)
     (λ x. ⊎_elim
-        (λ a. ⊎_elim (λ b. absurd (b.not_utf8 a.utf8)) (λ y. ⊎_elim (λ b. escape_one file text r s a b) (λ b. absurd (b.plain a.before a.first.0)) y) g)
-        (λ a. ⊎_elim (λ b. absurd (b.not_utf8 a.utf8)) (λ y. ⊎_elim (λ b. absurd (a.plain b.before b.first.0)) (λ b. token_fault_one file (chars text) r s a.fault b.fault) y) g)
-        x)
+    (λ a. ⊎_elim (λ b. absurd (b.not_utf8 a.utf8)) (λ y. ⊎_elim (λ b. escape_one file text r s a b) (λ b. absurd (b.plain a.before a.first.0)) y) g)
+    (λ a. ⊎_elim (λ b. absurd (b.not_utf8 a.utf8)) (λ y. ⊎_elim (λ b. absurd (a.plain b.before b.first.0)) (λ b. token_fault_one file (chars text) r s a.fault b.fault) y) g)
+    x)
     f

@@ -1,17 +1,16 @@
 -- One token stands at a place.
-use Rattle.std.proofs.Common.{◌≡◌, ℕ, zero, suc, ◌+◌, ◌<◌, ◌≤◌, Bool, true, false, not, ◌&&◌, ◌||◌, ◌⊎◌, inl, inr, ⊎_elim, List, [], ◌∷◌, ◌++◌, length, Option, Some, None, refl, sym, ap, ◌∙◌, subst, arith, length-append, append_assoc}
-use Rattle.std.specs.Prelude.{nat_eq, find}
-use Rattle.std.proofs.lemmas.Bool.{eqb-true, eq-eqb, false≢true}
+use Rattle.std.proofs.Common.{◌≡◌, ℕ, ◌+◌, ◌≤◌, true, false, ◌&&◌, ◌||◌, ⊎_elim, List, [], ◌∷◌, ◌++◌, length, Option, Some, refl, sym, ap, ◌∙◌, subst, arith}
+use Rattle.std.specs.Prelude.{nat_eq}
+use Rattle.std.proofs.lemmas.Bool.{eqb-true, eq-eqb}
 use Rattle.jn_trees.specs.declared.token.TokenKind.{TokenKind}
-use Rattle.jn_lexer.specs.Characters.{is_white, is_start, is_part, is_digit, is_plain, AllAre, BeginsNot, width}
-use Rattle.jn_lexer.specs.Gaps.{Blank, gap_text, IsGap}
-use Rattle.jn_lexer.specs.Spelling.{spelling}
-use Rattle.jn_lexer.specs.Lexemes.{Lexeme, Word, Quoted, Numeral, Fixed, IsSpelling, hinders, hinders_kind, NoneLonger, Part, Plain, Escape, part_text, IsPart, inside, AreParts, part_value, escape_value, Mean}
+use Rattle.jn_lexer.specs.Characters.{is_white, is_start, is_digit, is_plain, BeginsNot, width}
+use Rattle.jn_lexer.specs.Gaps.{gap_text}
+use Rattle.jn_lexer.specs.Lexemes.{Lexeme, Word, Quoted, Numeral, Fixed, IsSpelling, hinders, Part, Plain, Escape, inside, AreParts, Mean}
 use Rattle.jn_lexer.specs.Pieces.{Piece, Stands, Behind}
 use Rattle.jn_lexer.specs.Scan.{begins_mark, begins_blank}
 use Rattle.jn_lexer.proofs.Lists.{same_front}
-use Rattle.jn_lexer.proofs.Classes.{white_is, white_start, white_digit, digit_bounds, digit_start, quote_start, quote_digit, mark_start, mark_digit, mark_quote, slash_start, not_both, not_true}
-use Rattle.jn_lexer.proofs.Tables.{Among, pair_blank, single_blank, one_kind}
+use Rattle.jn_lexer.proofs.Classes.{white_is, white_start, white_digit, digit_bounds, digit_start, quote_start, quote_digit, mark_digit, mark_quote, slash_start, not_both, not_true}
+use Rattle.jn_lexer.proofs.Tables.{pair_blank, single_blank, one_kind}
 use Rattle.jn_lexer.proofs.Standing.{first, some_spelling}
 use Rattle.jn_lexer.proofs.Quotes.{plain_is}
 use Rattle.jn_lexer.proofs.OneGap.{NotBlank, gap_one, front_one, not_blank}

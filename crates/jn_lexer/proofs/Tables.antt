@@ -1,19 +1,16 @@
 -- The tables of tokens that have one spelling.
-use Rattle.std.proofs.Common.{◌≡◌, ℕ, zero, suc, ◌+◌, ◌<◌, ◌≤◌, Bool, true, false, not, cond, ◌&&◌, ◌||◌, ◌⊎◌, inl, inr, ⊎_elim, List, [], ◌∷◌, ◌++◌, length, take, drop, Option, Some, None, refl, sym, ap, ◌∙◌, subst, arith}
-use Rattle.std.specs.Prelude.{nat_eq, nat_le, nat_lt, find}
+use Rattle.std.proofs.Common.{◌≡◌, ℕ, ◌≤◌, Bool, true, false, not, cond, ◌&&◌, ◌||◌, ◌⊎◌, inl, inr, ⊎_elim, List, [], ◌∷◌, ◌++◌, length, Option, Some, None, refl, sym, ap, ◌∙◌, subst, arith}
+use Rattle.std.specs.Prelude.{nat_eq, find}
 use Rattle.std.specs.List.{list_all}
-use Rattle.std.specs.Char.{is_ascii_alphabetic, is_ascii_alphanumeric}
-use Rattle.std.proofs.lemmas.Bool.{eqb-true, eq-eqb, and_parts, or_cases, ltb-true, leb-true, false≢true}
-use Rattle.unicode_ident.specs.Ident.{is_xid_start, is_xid_continue}
-use Rattle.unicode_ident.proofs.IdentLemmas.{is_xid_start-ascii, is_xid_continue-ascii, is_xid_start-is_xid_continue}
+use Rattle.std.proofs.lemmas.Bool.{eqb-true, eq-eqb, and_parts, false≢true}
 use Rattle.jn_trees.specs.declared.token.TokenKind.{TokenKind}
 use Rattle.jn_trees.specs.declared.token.TokenKind.TheVariants.{Id, Str, Number, Abstract, Assert, Boolean, Break, Byte, Case, Catch, Char, Class, Const, Continue, Default, Do, Double, Else, Enum, Extends, Final, Finally, Float, For, Goto, If, Implements, Import, Instanceof, Int, Interface, Long, Native, New, Package, Private, Protected, Public, Return, Short, Static, Strictfp, Super, Switch, Synchronized, This, Throw, Throws, Transient, Try, Void, Volatile, While, True, False, Null, LeftParen, RightParen, LeftBrace, RightBrace, LeftBracket, RightBracket, Semicolon, Comma, Dot, At, Assign, Greater, Less, Not, Question, Colon, EqualEqual, LessEqual, GreaterEqual, NotEqual, AndAnd, OrOr, PlusPlus, MinusMinus, Plus, Minus, Star, Slash, Percent, PlusAssign, MinusAssign, StarAssign, SlashAssign, PercentAssign}
 use Rattle.jn_lexer.specs.declared.spelling.TheConstants.{WORDS, PAIRS, SINGLES}
-use Rattle.jn_lexer.specs.Characters.{is_start, is_part, is_digit, AllAre, BeginsNot}
+use Rattle.jn_lexer.specs.Characters.{is_part, AllAre, BeginsNot}
 use Rattle.jn_lexer.specs.Spelling.{spelling}
 use Rattle.jn_lexer.specs.Lexemes.{hinders_kind}
 use Rattle.jn_lexer.specs.Scan.{begins, is_spelled, begins_blank, begins_mark}
-use Rattle.jn_lexer.proofs.Classes.{is_lower, is_mark, white_is, ascii_white, lower_start, lower_part, mark_start, not_true, not_flips}
+use Rattle.jn_lexer.proofs.Classes.{is_lower, is_mark, white_is, ascii_white, lower_start, lower_part, mark_start, not_flips}
 
 -- members of a list
 abbrev pub Among : TokenKind → List TokenKind → Type 0
@@ -301,11 +298,11 @@ one_kind k j l e =
     ⊎_elim
     (λ a. ⊎_elim (λ x. found_one k j WORDS a x e) (λ y. absurd (word_and_mark k j (in_table k WORDS a) (⊎_elim (λ p. inl (in_table j PAIRS p)) (λ q. inr (in_table j SINGLES q)) y) e l)) other)
     (λ b. ⊎_elim (λ x. absurd (word_and_mark j k (in_table j WORDS x) (⊎_elim (λ p. inl (in_table k PAIRS p)) (λ q. inr (in_table k SINGLES q)) b) (sym e) m))
-        (λ y. ⊎_elim
-            (λ p. ⊎_elim (λ q. found_one k j PAIRS p q e) (λ r. absurd (pair_and_single k j (in_table k PAIRS p) (in_table j SINGLES r) e)) y)
-            (λ p. ⊎_elim (λ q. absurd (pair_and_single j k (in_table j PAIRS q) (in_table k SINGLES p) (sym e))) (λ r. found_one k j SINGLES p r e) y)
-            b)
-        other)
+    (λ y. ⊎_elim
+    (λ p. ⊎_elim (λ q. found_one k j PAIRS p q e) (λ r. absurd (pair_and_single k j (in_table k PAIRS p) (in_table j SINGLES r) e)) y)
+    (λ p. ⊎_elim (λ q. absurd (pair_and_single j k (in_table j PAIRS q) (in_table k SINGLES p) (sym e))) (λ r. found_one k j SINGLES p r e) y)
+    b)
+    other)
     (listed k l)
   where
     m : 1 ≤ length (spelling j)
