@@ -7,17 +7,9 @@ ghost use Rattle.jn_trees.specs.declared.token.Token.{Token};
 ghost use Rattle.jn_lexer.specs.Faults.{LexicalFault};
 ghost use Rattle.jn_lexer.specs.Lexed.{Lexed};
 
-/// A text has at most one list of tokens, and numbers its names in one way.
-pub fn texts_have_one_token_list()
-    ensures { (file : FileNo) (text : List ℕ) (old : List (List ℕ)) (ts us : List Token) (ns ms : List (List ℕ)) → Lexed file text old ts ns → Lexed file text old us ms → (ts ≡ us) × (ns ≡ ms) }
-{}
-
-/// A text that has a list of tokens has no fault.
-pub fn lexed_texts_have_no_fault()
-    ensures { (file other : FileNo) (text : List ℕ) (old : List (List ℕ)) (ts : List Token) (ns : List (List ℕ)) (row : Row) → Lexed file text old ts ns → LexicalFault other text row → ⊥ }
-{}
-
-/// A text has at most one fault.
-pub fn texts_have_one_fault()
-    ensures { (file : FileNo) (text : List ℕ) (row other : Row) → LexicalFault file text row → LexicalFault file text other → row ≡ other }
+/// A text has at most one list of tokens, one that has such a list has no fault, and a text has at most one fault.
+pub fn texts_have_one_reading()
+    ensures one { (file : FileNo) (text : List ℕ) (old : List (List ℕ)) (ts us : List Token) (ns ms : List (List ℕ)) → Lexed file text old ts ns → Lexed file text old us ms → (ts ≡ us) × (ns ≡ ms) }
+    ensures faultless { (file : FileNo) (text : List ℕ) (old : List (List ℕ)) (ts : List Token) (ns : List (List ℕ)) (row : Row) → Lexed file text old ts ns → LexicalFault file text row → ⊥ }
+    ensures one_fault { (file : FileNo) (text : List ℕ) (row other : Row) → LexicalFault file text row → LexicalFault file text other → row ≡ other }
 {}
