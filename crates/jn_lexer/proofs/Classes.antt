@@ -3,7 +3,7 @@ use Rattle.std.proofs.Common.{◌≡◌, ℕ, ◌<◌, ◌≤◌, Bool, true, fa
 use Rattle.std.specs.Prelude.{nat_eq, nat_le, nat_lt}
 use Rattle.std.specs.Char.{is_ascii_alphabetic, is_ascii_alphanumeric}
 use Rattle.std.proofs.lemmas.Bool.{eqb-true, eq-eqb, and_parts, or_cases, ltb-true, leb-true, false≢true}
-use Rattle.unicode_ident.specs.Ident.{is_xid_start, is_xid_continue}
+use Rattle.unicode_ident.specs.Ident.{is_xid_continue}
 use Rattle.unicode_ident.proofs.IdentLemmas.{is_xid_start-ascii, is_xid_continue-ascii, is_xid_start-is_xid_continue}
 use Rattle.jn_lexer.specs.Characters.{is_start, is_part, is_digit, is_digit_or_low, is_white, is_line_end}
 
@@ -146,3 +146,15 @@ white_digit c h = white_cases (λ x. is_digit x ≡ true → ⊥) c h (λ s. fal
 
 pub white_is : (c : ℕ) → ascii_white c ≡ false → is_white c ≡ false
 white_is c h = white_ascii c ∙ h
+
+pub slash_start : (c : ℕ) → c ≡ 47 → is_start c ≡ true → ⊥
+slash_start c q s = false≢true (sym (start_ascii 47 (lit< tt)) ∙ subst (λ x. is_start x ≡ true) q s)
+
+pub dot_start : (c : ℕ) → c ≡ 46 → is_start c ≡ true → ⊥
+dot_start c q s = false≢true (sym (start_ascii 46 (lit< tt)) ∙ subst (λ x. is_start x ≡ true) q s)
+
+pub white_46 : is_white 46 ≡ false
+white_46 = white_ascii 46
+
+pub white_34 : is_white 34 ≡ false
+white_34 = white_ascii 34

@@ -1,15 +1,14 @@
 -- White space and comments, as a scan finds them.
-use Rattle.std.proofs.Common.{◌≡◌, ℕ, zero, suc, ◌+◌, ◌<◌, ◌≤◌, Bool, true, false, not, cond, ◌&&◌, ◌||◌, ◌⊎◌, inl, inr, ⊎_elim, List, [], ◌∷◌, ◌++◌, length, take, drop, Option, Some, None, refl, sym, ap, ◌∙◌, subst, arith, length-append, append_assoc}
+use Rattle.std.proofs.Common.{◌≡◌, ℕ, suc, ◌+◌, ◌<◌, ◌≤◌, Bool, true, false, not, cond, ◌&&◌, ◌||◌, ◌⊎◌, inl, inr, ⊎_elim, List, [], ◌∷◌, ◌++◌, length, take, drop, Option, Some, None, refl, sym, ap, ◌∙◌, subst, arith, length-append, append_assoc}
 use Rattle.std.specs.Prelude.{nat_eq, option_map, get_or}
 use Rattle.std.specs.List.{prefix_len}
 use Rattle.std.proofs.lemmas.Bool.{eqb-true, eq-eqb, and_parts, false≢true}
-use Rattle.std.proofs.lemmas.List.{take-append-drop, take_at, drop_at, length-take-le, drop-drop, length-drop, append-nil}
+use Rattle.std.proofs.lemmas.List.{take-append-drop, take_at, drop_at, length-take-le, drop-drop, append-nil}
 use Rattle.jn_lexer.specs.declared.shape.Step.{Step}
-use Rattle.jn_lexer.specs.declared.shape.Step.TheVariants.{Of, Ends, Opens}
-use Rattle.jn_lexer.specs.Characters.{is_white, is_line_end, is_in_line, AllAre, BeginsOnly, BeginsNot}
+use Rattle.jn_lexer.specs.declared.shape.Step.TheVariants.{Of}
+use Rattle.jn_lexer.specs.Characters.{is_white, is_line_end, is_in_line, BeginsOnly, BeginsNot}
 use Rattle.jn_lexer.specs.Gaps.{Blank, Space, Line, Block, blank_text, IsBlank, IsNextClose, gap_text, IsGap}
 use Rattle.jn_lexer.specs.Scan.{block_len, begins_mark, begins_blank}
-use Rattle.jn_lexer.specs.Faults.{IsOpenComment}
 use Rattle.jn_lexer.specs.Found.{IsBlankOf, IsStep, IsGapOf, closed}
 use Rattle.jn_lexer.proofs.Lists.{prefix_passes, prefix_ends, prefix_within, from_first, from_none, test_false}
 use Rattle.jn_lexer.proofs.Classes.{white_47}

@@ -8,3 +8,8 @@ pub mod Escaping
 pub mod Values
 pub mod Widths
 pub mod Reading
+pub mod OneGap
+pub mod OneToken
+pub mod OneList
+pub mod OneFault
+pub mod OneRow

@@ -1,9 +1,9 @@
 -- Fronts of lists.
-use Rattle.std.proofs.Common.{◌≡◌, ℕ, zero, suc, ◌+◌, ◌<◌, ◌≤◌, Bool, true, false, cond, ◌⊎◌, inl, inr, List, [], ◌∷◌, ◌++◌, length, take, drop, refl, sym, ap, ◌∙◌, subst, arith, length-append, append_assoc}
+use Rattle.std.proofs.Common.{◌≡◌, ℕ, suc, ◌+◌, ◌<◌, ◌≤◌, Bool, true, false, cond, List, [], ◌∷◌, ◌++◌, length, take, drop, refl, sym, ap, ◌∙◌, subst, arith}
 use Rattle.std.specs.List.{prefix_len}
-use Rattle.std.specs.Prelude.{get_or, nat_eq, slice_get, Option, Some, None}
+use Rattle.std.specs.Prelude.{get_or, nat_eq, slice_get, Some}
 use Rattle.std.proofs.lemmas.Bool.{eqb-true}
-use Rattle.jn_lexer.specs.Characters.{AllAre, BeginsOnly, BeginsNot}
+use Rattle.jn_lexer.specs.Characters.{AllAre, BeginsNot}
 
 -- the front that passes
 pub prefix_passes : (p : ℕ → Bool) (xs : List ℕ) → AllAre p (take (prefix_len p xs) xs)

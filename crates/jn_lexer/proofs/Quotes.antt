@@ -1,17 +1,17 @@
 -- Strings, as a scan finds them.
-use Rattle.std.proofs.Common.{◌≡◌, ℕ, zero, suc, ◌+◌, ◌-◌, ◌<◌, ◌≤◌, Bool, true, false, not, cond, ◌&&◌, ◌||◌, ◌⊎◌, inl, inr, ⊎_elim, List, [], ◌∷◌, ◌++◌, length, take, drop, Option, Some, None, refl, sym, ap, ◌∙◌, subst, arith, length-append, append_assoc}
+use Rattle.std.proofs.Common.{◌≡◌, ℕ, suc, ◌+◌, ◌-◌, Bool, true, false, not, cond, ◌||◌, ⊎_elim, List, [], ◌∷◌, ◌++◌, length, take, drop, Option, Some, None, refl, sym, ap, ◌∙◌, subst, arith, length-append, append_assoc}
 use Rattle.std.specs.Prelude.{nat_eq, option_map, unwrap_or, is_none}
-use Rattle.std.proofs.lemmas.Bool.{eqb-true, eq-eqb, and_parts, or_cases, false≢true}
-use Rattle.std.proofs.lemmas.List.{take-append-drop, take_at, drop_at, length-take-le}
-use Rattle.jn_lexer.specs.Characters.{is_plain, is_line_end, is_start, is_digit, BeginsNot}
-use Rattle.jn_lexer.specs.Lexemes.{Lexeme, Word, Quoted, Numeral, Fixed, IsSpelling, NoneLonger, Part, Plain, Escape, part_text, IsPart, inside, AreParts, part_value, escape_value, Mean}
+use Rattle.std.proofs.lemmas.Bool.{eqb-true, false≢true}
+use Rattle.std.proofs.lemmas.List.{take_at}
+use Rattle.jn_lexer.specs.Characters.{is_plain, is_line_end, BeginsNot}
+use Rattle.jn_lexer.specs.Lexemes.{Word, Quoted, Numeral, Fixed, NoneLonger, Part, Plain, Escape, part_text, inside, AreParts, escape_value, Mean}
 use Rattle.jn_lexer.specs.Faults.{IsOpenString, IsBadEscape}
 use Rattle.jn_lexer.specs.Scan.{string_len, bad_letter, unescaped}
 use Rattle.jn_base.specs.declared.code.Code.TheVariants.{L5, L6}
 use Rattle.jn_lexer.specs.Found.{IsToken, between, BeginsWith, is_quote, IsFaultHere}
-use Rattle.jn_lexer.proofs.Classes.{quote_start, quote_digit, mark_quote, not_flips, not_both}
+use Rattle.jn_lexer.proofs.Classes.{quote_start, quote_digit, mark_quote, not_flips}
 use Rattle.jn_lexer.proofs.Comments.{suc_some, suc_none}
-use Rattle.jn_lexer.proofs.Standing.{first, some_spelling}
+use Rattle.jn_lexer.proofs.Standing.{first}
 
 line_end_34 : is_line_end 34 ≡ false
 unfolding is_line_end
@@ -26,7 +26,7 @@ or_false true b e = absurd (false≢true (sym e))
 or_false false b e = (refl, e)
 
 -- what a plain character isn't
-plain_is : (c : ℕ) → is_plain c ≡ true → (nat_eq c 34 ≡ false) × (nat_eq c 92 ≡ false) × (is_line_end c ≡ false)
+pub plain_is : (c : ℕ) → is_plain c ≡ true → (nat_eq c 34 ≡ false) × (nat_eq c 92 ≡ false) × (is_line_end c ≡ false)
 unfolding is_plain
 plain_is c h = let p = or_false _ _ (not_flips _ h) in let q = or_false _ _ p.0 in (q.0, q.1, p.1)
 

@@ -1,10 +1,10 @@
 -- One token after another.
-use Rattle.std.proofs.Common.{◌≡◌, ℕ, zero, suc, ◌+◌, ◌-◌, ◌<◌, ◌≤◌, Bool, true, false, ◌⊎◌, inl, inr, ⊎_elim, List, [], ◌∷◌, ◌++◌, length, take, drop, Option, Some, None, refl, sym, ap, ◌∙◌, subst, arith, length-append, append_assoc, length-drop, add-zero}
+use Rattle.std.proofs.Common.{◌≡◌, ℕ, ◌+◌, ◌<◌, ◌≤◌, Bool, true, false, List, [], ◌∷◌, ◌++◌, length, take, drop, Option, Some, refl, sym, ap, ◌∙◌, subst, arith, length-append, append_assoc, length-drop, add-zero}
 use Rattle.std.specs.Prelude.{slice_get, encode_utf8_all, bytes_eq, cond, Result, Ok, Err, IfOk, IfErr}
 use Rattle.jn_base.specs.declared.refusal.Fail.{Fail}
 use Rattle.jn_base.specs.declared.refusal.Fail.TheVariants.{Refused, OutOfMemory}
 use Rattle.std.specs.List.{list_any}
-use Rattle.std.proofs.lemmas.List.{take-append-drop, take_at, drop_at, length-take-le, drop-drop, append-nil}
+use Rattle.std.proofs.lemmas.List.{take-append-drop, take_at, length-take-le, append-nil}
 use Rattle.jn_base.specs.declared.number.FileNo.{FileNo}
 use Rattle.jn_base.specs.declared.place.Row.{Row}
 use Rattle.jn_base.specs.declared.code.Code.TheVariants.{L4}
@@ -13,14 +13,14 @@ use Rattle.jn_trees.specs.declared.token.Token.{Token}
 use Rattle.jn_lexer.specs.declared.shape.Spelled.{Spelled}
 use Rattle.jn_lexer.specs.declared.shape.Fault.{Fault}
 use Rattle.jn_lexer.specs.Characters.{width}
-use Rattle.jn_lexer.specs.Gaps.{Blank, gap_text, IsGap}
+use Rattle.jn_lexer.specs.Gaps.{gap_text, IsGap}
 use Rattle.jn_lexer.specs.Lexemes.{Lexeme, Word, Quoted, Numeral, Fixed, NoneLonger}
-use Rattle.jn_lexer.specs.Pieces.{Piece, Stands, Behind, ArePieces}
+use Rattle.jn_lexer.specs.Pieces.{Piece, Stands, Behind}
 use Rattle.jn_lexer.specs.Faults.{IsFault, IsAtCharacter, IsTokenFault, IsOpenComment}
 use Rattle.jn_lexer.specs.Lexed.{names_with, kind_of, names_after, tokens_of, IsLexing, IfRefused}
-use Rattle.jn_lexer.specs.Found.{IsToken, IsGapOf, IsNext, IsFaultNext, IsFaultHere, IsAllGap, lexeme_of, body_of, word_of}
+use Rattle.jn_lexer.specs.Found.{IsGapOf, IsNext, IsFaultNext, IsFaultHere, IsAllGap, lexeme_of, body_of, word_of}
 use Rattle.jn_lexer.proofs.Lists.{get_at}
-use Rattle.jn_lexer.proofs.Widths.{width-append, width-split, length-width}
+use Rattle.jn_lexer.proofs.Widths.{width-split}
 
 -- pieces
 

@@ -1,22 +1,21 @@
 -- What tokens begin with, and how long they are.
-use Rattle.std.proofs.Common.{◌≡◌, ℕ, zero, suc, ◌+◌, ◌<◌, ◌≤◌, Bool, true, false, not, cond, ◌&&◌, ◌||◌, ◌⊎◌, inl, inr, ⊎_elim, List, [], ◌∷◌, ◌++◌, length, take, drop, Option, Some, None, refl, sym, ap, ◌∙◌, subst, arith, length-append, append_assoc}
-use Rattle.std.specs.Prelude.{nat_eq, nat_le, slice_index, find, get_or}
+use Rattle.std.proofs.Common.{◌≡◌, ℕ, zero, suc, ◌≤◌, Bool, true, false, not, ◌&&◌, ◌||◌, ◌⊎◌, inl, inr, ⊎_elim, List, [], ◌∷◌, ◌++◌, length, take, drop, Some, None, refl, sym, ap, ◌∙◌, subst, arith, length-append}
+use Rattle.std.specs.Prelude.{nat_eq, find}
 use Rattle.std.specs.List.{prefix_len, list_all}
-use Rattle.std.proofs.lemmas.Bool.{eqb-true, eq-eqb, and_parts, or_cases, ltb-true, leb-true, false≢true}
-use Rattle.std.proofs.lemmas.List.{take-append-drop, take_at, drop_at, length-take-le}
+use Rattle.std.proofs.lemmas.Bool.{eqb-true, eq-eqb, and_parts, or_cases, false≢true}
+use Rattle.std.proofs.lemmas.List.{take-append-drop, take_at, length-take-le}
 use Rattle.jn_trees.specs.declared.token.TokenKind.{TokenKind}
 use Rattle.jn_trees.specs.declared.token.TokenKind.TheVariants.{Dot, Slash}
 use Rattle.jn_lexer.specs.declared.spelling.TheConstants.{WORDS, PAIRS, SINGLES}
 use Rattle.jn_lexer.specs.Characters.{is_start, is_part, is_digit, is_digit_or_low, AllAre, BeginsNot}
 use Rattle.jn_lexer.specs.Spelling.{spelling}
-use Rattle.jn_lexer.specs.Lexemes.{Lexeme, Word, Quoted, Numeral, Fixed, IsWord, is_decimal, is_zero, is_long, ends_in_digit, IsNumeral, IsSpelling, hinders, hinders_kind, NoneLonger}
-use Rattle.jn_lexer.specs.Scan.{begins, is_spelled, begins_mark, begins_blank, begins_bad_dot, begins_dot}
-use Rattle.jn_lexer.specs.Characters.{is_white}
-use Rattle.jn_lexer.specs.Faults.{IsRun, IsBadRun, IsBadDot, IsBadCharacter, is_special}
+use Rattle.jn_lexer.specs.Lexemes.{Lexeme, Word, Quoted, Numeral, Fixed, IsWord, is_decimal, is_zero, is_long, ends_in_digit, IsNumeral, IsSpelling, hinders_kind, NoneLonger}
+use Rattle.jn_lexer.specs.Scan.{begins, is_spelled, begins_blank, begins_bad_dot, begins_dot}
+use Rattle.jn_lexer.specs.Faults.{IsRun, IsBadRun, IsBadDot, is_special}
 use Rattle.jn_base.specs.declared.code.Code.TheVariants.{L3, L7}
 use Rattle.jn_lexer.specs.Found.{IsToken, BeginsWith, IsMarkPlace, NoToken, IsFaultHere}
 use Rattle.jn_lexer.proofs.Lists.{prefix_passes, prefix_longest, prefix_within, prefix_ends}
-use Rattle.jn_lexer.proofs.Classes.{is_mark, is_lower, white_47, digit_48, lower_start, digit_part, low_part, start_part, digit_start, quote_start, quote_digit, mark_start, mark_digit, mark_quote, not_both, not_true}
+use Rattle.jn_lexer.proofs.Classes.{is_mark, is_lower, white_47, digit_48, lower_start, digit_part, low_part, start_part, digit_start, quote_start, quote_digit, mark_start, mark_digit, not_both, not_true}
 use Rattle.jn_lexer.proofs.Tables.{Among, among, found_passes, none_passes, begins_is, begins_front, spelled_is, is_spelled_same, word_frees, pair_frees, pair_length, single_length, word_lower, pair_mark, single_mark, lower_parts, free_cases}
 
 blank_of : (xs : List ℕ) → IsMarkPlace xs → begins_blank xs ≡ false

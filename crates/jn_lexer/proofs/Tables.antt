@@ -1,19 +1,16 @@
 -- The tables of tokens that have one spelling.
-use Rattle.std.proofs.Common.{◌≡◌, ℕ, zero, suc, ◌+◌, ◌<◌, ◌≤◌, Bool, true, false, not, cond, ◌&&◌, ◌||◌, ◌⊎◌, inl, inr, ⊎_elim, List, [], ◌∷◌, ◌++◌, length, take, drop, Option, Some, None, refl, sym, ap, ◌∙◌, subst, arith}
-use Rattle.std.specs.Prelude.{nat_eq, nat_le, nat_lt, find}
+use Rattle.std.proofs.Common.{◌≡◌, ℕ, ◌≤◌, Bool, true, false, not, cond, ◌&&◌, ◌||◌, ◌⊎◌, inl, inr, ⊎_elim, List, [], ◌∷◌, ◌++◌, length, Option, Some, None, refl, sym, ap, ◌∙◌, subst, arith}
+use Rattle.std.specs.Prelude.{nat_eq, find}
 use Rattle.std.specs.List.{list_all}
-use Rattle.std.specs.Char.{is_ascii_alphabetic, is_ascii_alphanumeric}
-use Rattle.std.proofs.lemmas.Bool.{eqb-true, eq-eqb, and_parts, or_cases, ltb-true, leb-true, false≢true}
-use Rattle.unicode_ident.specs.Ident.{is_xid_start, is_xid_continue}
-use Rattle.unicode_ident.proofs.IdentLemmas.{is_xid_start-ascii, is_xid_continue-ascii, is_xid_start-is_xid_continue}
+use Rattle.std.proofs.lemmas.Bool.{eqb-true, eq-eqb, and_parts, false≢true}
 use Rattle.jn_trees.specs.declared.token.TokenKind.{TokenKind}
 use Rattle.jn_trees.specs.declared.token.TokenKind.TheVariants.{Id, Str, Number, Abstract, Assert, Boolean, Break, Byte, Case, Catch, Char, Class, Const, Continue, Default, Do, Double, Else, Enum, Extends, Final, Finally, Float, For, Goto, If, Implements, Import, Instanceof, Int, Interface, Long, Native, New, Package, Private, Protected, Public, Return, Short, Static, Strictfp, Super, Switch, Synchronized, This, Throw, Throws, Transient, Try, Void, Volatile, While, True, False, Null, LeftParen, RightParen, LeftBrace, RightBrace, LeftBracket, RightBracket, Semicolon, Comma, Dot, At, Assign, Greater, Less, Not, Question, Colon, EqualEqual, LessEqual, GreaterEqual, NotEqual, AndAnd, OrOr, PlusPlus, MinusMinus, Plus, Minus, Star, Slash, Percent, PlusAssign, MinusAssign, StarAssign, SlashAssign, PercentAssign}
 use Rattle.jn_lexer.specs.declared.spelling.TheConstants.{WORDS, PAIRS, SINGLES}
-use Rattle.jn_lexer.specs.Characters.{is_start, is_part, is_digit, AllAre, BeginsNot}
+use Rattle.jn_lexer.specs.Characters.{is_part, AllAre, BeginsNot}
 use Rattle.jn_lexer.specs.Spelling.{spelling}
 use Rattle.jn_lexer.specs.Lexemes.{hinders_kind}
 use Rattle.jn_lexer.specs.Scan.{begins, is_spelled, begins_blank, begins_mark}
-use Rattle.jn_lexer.proofs.Classes.{is_lower, is_mark, white_is, ascii_white, lower_start, lower_part, not_true, not_flips}
+use Rattle.jn_lexer.proofs.Classes.{is_lower, is_mark, white_is, ascii_white, lower_start, lower_part, mark_start, not_flips}
 
 -- members of a list
 abbrev pub Among : TokenKind → List TokenKind → Type 0
@@ -273,3 +270,51 @@ pub free_cases : (k : TokenKind) → (k ≡ Dot) ⊎ ((k ≡ Slash) ⊎ ((c : �
 free_cases Dot = inl refl
 free_cases Slash = inr (inl refl)
 free_cases _ = inr (inr (λ c. refl))
+
+-- a spelling is of one kind
+word_and_mark : (k j : TokenKind) → Among k WORDS → (Among j PAIRS ⊎ Among j SINGLES) → spelling k ≡ spelling j → 1 ≤ length (spelling k) → ⊥
+word_and_mark k j m n e l = go (spelling k) refl l
+  where
+    mark : (w : ℕ) (ws : List ℕ) → spelling k ≡ w ∷ ws → is_mark w ≡ true
+    mark w ws s = ⊎_elim (λ p. pair_mark j p w ws (sym s ∙ e)) (λ p. single_mark j p w ws (sym s ∙ e)) n
+
+    go : (s : List ℕ) → spelling k ≡ s → 1 ≤ length s → ⊥
+    go [] s l = omega arith
+    go (w ∷ ws) s l = mark_start w (mark w ws s) (lower_start w (and_parts _ _ (subst (λ x. list_all is_lower x ≡ true) s (word_lower k m))).0)
+
+pair_and_single : (k j : TokenKind) → Among k PAIRS → Among j SINGLES → spelling k ≡ spelling j → ⊥
+pair_and_single k j m n e = let a = pair_length k m in let b = single_length j n in let c = ap length e in omega arith
+
+found_one : (k j : TokenKind) (xs : List TokenKind) → IsFoundIn k xs → IsFoundIn j xs → spelling k ≡ spelling j → k ≡ j
+found_one k j xs g h e =
+    let some : ◌≡◌ {A = Option TokenKind} (Some k) (Some j) = sym g ∙ ap (λ s. find (λ i. is_spelled s (spelling i)) xs) e ∙ h in
+    cc
+
+in_table : (k : TokenKind) (xs : List TokenKind) → IsFoundIn k xs → Among k xs
+in_table k xs e = (found_passes (λ j. is_spelled (spelling k) (spelling j)) xs k e).1
+
+pub one_kind : (k j : TokenKind) → 1 ≤ length (spelling k) → spelling k ≡ spelling j → k ≡ j
+one_kind k j l e =
+    ⊎_elim
+    (λ a. ⊎_elim (λ x. found_one k j WORDS a x e) (λ y. absurd (word_and_mark k j (in_table k WORDS a) (⊎_elim (λ p. inl (in_table j PAIRS p)) (λ q. inr (in_table j SINGLES q)) y) e l)) other)
+    (λ b. ⊎_elim (λ x. absurd (word_and_mark j k (in_table j WORDS x) (⊎_elim (λ p. inl (in_table k PAIRS p)) (λ q. inr (in_table k SINGLES q)) b) (sym e) m))
+    (λ y. ⊎_elim
+    (λ p. ⊎_elim (λ q. found_one k j PAIRS p q e) (λ r. absurd (pair_and_single k j (in_table k PAIRS p) (in_table j SINGLES r) e)) y)
+    (λ p. ⊎_elim (λ q. absurd (pair_and_single j k (in_table j PAIRS q) (in_table k SINGLES p) (sym e))) (λ r. found_one k j SINGLES p r e) y)
+    b)
+    other)
+    (listed k l)
+  where
+    m : 1 ≤ length (spelling j)
+    m = subst (λ s. 1 ≤ length s) e l
+
+    other : IsFoundIn j WORDS ⊎ (IsFoundIn j PAIRS ⊎ IsFoundIn j SINGLES)
+    other = listed j m
+
+-- no operator of two characters begins with `.`
+abbrev begins_without_dot : List ℕ → Bool
+begins_without_dot [] = false
+begins_without_dot (c ∷ cs) = not (nat_eq c 46)
+
+pub pair_no_dot : (k : TokenKind) → Among k PAIRS → (ws : List ℕ) → 46 ∷ ws ≡ spelling k → ⊥
+pair_no_dot k m ws e = false≢true (subst (λ s. begins_without_dot s ≡ true) (sym e) (all_pass (λ j. begins_without_dot (spelling j)) PAIRS k refl m))

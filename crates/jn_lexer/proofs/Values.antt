@@ -1,5 +1,5 @@
 -- Values of numbers.
-use Rattle.std.proofs.Common.{◌≡◌, ℕ, zero, suc, ◌+◌, ◌-◌, ◌*◌, ◌<◌, ◌≤◌, Bool, true, false, cond, List, [], ◌∷◌, length, drop, refl, sym, ap, ◌∙◌, subst, arith}
+use Rattle.std.proofs.Common.{◌≡◌, ℕ, zero, suc, ◌+◌, ◌-◌, ◌*◌, ◌<◌, ◌≤◌, Bool, true, false, cond, List, [], ◌∷◌, length, drop, sym, ap, arith}
 use Rattle.std.specs.Prelude.{get_or}
 use Rattle.jn_lexer.specs.Characters.{is_digit}
 use Rattle.jn_lexer.specs.Lexemes.{value_from, IsNumeral}

@@ -1,6 +1,6 @@
 -- How many bytes characters are.
-use Rattle.std.proofs.Common.{◌≡◌, ℕ, zero, suc, ◌+◌, ◌-◌, ◌<◌, ◌≤◌, List, [], ◌∷◌, ◌++◌, length, take, drop, refl, sym, ap, ◌∙◌, subst, arith, length-append}
-use Rattle.std.specs.Prelude.{get_or, encode_utf8, encode_utf8_all, slice_get, Option, Some, None, chars, IsUtf8}
+use Rattle.std.proofs.Common.{◌≡◌, ℕ, zero, suc, ◌+◌, ◌<◌, ◌≤◌, List, [], ◌∷◌, ◌++◌, length, take, drop, sym, ap, ◌∙◌, arith, length-append}
+use Rattle.std.specs.Prelude.{get_or, encode_utf8, encode_utf8_all, slice_get, Some, chars, IsUtf8}
 use Rattle.std.specs.Char.{len_utf8}
 use Rattle.std.proofs.lemmas.Str.{encodes-append, length-encode, encodes-chars, length-le-encodes}
 use Rattle.std.proofs.lemmas.List.{take-append-drop}

@@ -3,7 +3,7 @@ use Rattle.std.specs.Prelude.{◌≡◌, ℕ, ◌+◌, ◌-◌, ◌*◌, ◌≤�
 use Rattle.std.specs.List.{list_all}
 use Rattle.jn_trees.specs.declared.token.TokenKind.{TokenKind}
 use Rattle.jn_trees.specs.declared.token.TokenKind.TheVariants.{Dot, Slash}
-use Rattle.jn_lexer.specs.Characters.{is_start, is_part, is_digit, is_digit_or_low, is_plain, is_line_end, AllAre, BeginsNot}
+use Rattle.jn_lexer.specs.Characters.{is_start, is_part, is_digit, is_digit_or_low, is_plain, is_line_end, AllAre}
 use Rattle.jn_lexer.specs.Spelling.{spelling}
 
 -- what a token says: an identifier's characters, a string's value, a number's value, or its kind

@@ -1,10 +1,7 @@
 -- How far a token or a comment goes, as a scan finds it.
-use Rattle.std.specs.Prelude.{◌≡◌, ℕ, suc, ◌+◌, ◌-◌, ◌<◌, ◌≤◌, Bool, true, false, not, ◌&&◌, ◌||◌, nat_eq, if◌then◌else◌, List, [], ◌∷◌, ◌++◌, length, take, drop, Option, Some, None, option_map, unwrap_or, is_none}
-use Rattle.jn_base.specs.declared.code.Code.{Code}
-use Rattle.jn_trees.specs.declared.token.TokenKind.{TokenKind}
-use Rattle.jn_lexer.specs.Characters.{is_line_end, is_white, is_digit, BeginsNot}
-use Rattle.jn_lexer.specs.Lexemes.{Lexeme, Word, Quoted, Numeral, Fixed, IsSpelling, hinders, NoneLonger, escape_value}
-use Rattle.jn_lexer.specs.Faults.{IsFault}
+use Rattle.std.specs.Prelude.{ℕ, suc, ◌+◌, Bool, true, false, not, ◌&&◌, ◌||◌, nat_eq, if◌then◌else◌, List, [], ◌∷◌, length, Option, Some, None, option_map, unwrap_or, is_none}
+use Rattle.jn_lexer.specs.Characters.{is_line_end, is_white, is_digit}
+use Rattle.jn_lexer.specs.Lexemes.{escape_value}
 
 -- the length up to and with the next `*/`; `star` says whether a `*` stands just before
 abbrev pub block_len : Bool → List ℕ → Option ℕ

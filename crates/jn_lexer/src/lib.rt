@@ -3,6 +3,7 @@
 
 mod characters;
 mod gap;
+pub mod law;
 mod lexing;
 mod numbers;
 mod shape;

@@ -25,8 +25,10 @@ fn tokens_have_kinds_and_places(rt: HostRuntime) {
         ("\\\\u", TokenKind::Null, 0, 0),
     ];
     for (text, kind, from, to) in table {
+        let bytes = text.as_bytes();
+        assert!(rt; bytes.len() < 100);
         let mut names = Names::new(rt.alloc());
-        match lex(rt.alloc(), text.as_bytes(), FileNo(0), &mut names) {
+        match lex(rt.alloc(), bytes, FileNo(0), &mut names) {
             Ok(tokens) => {
                 assert!(rt; tokens.len() == 1, "{text}");
                 let token = tokens[0];
@@ -51,8 +53,10 @@ fn tokens_follow_each_other(rt: HostRuntime) {
         ("a==b=c!=!d<=<e&&f||g%=%h", 18, 8),
     ];
     for (text, count, texts) in table {
+        let bytes = text.as_bytes();
+        assert!(rt; bytes.len() < 100);
         let mut names = Names::new(rt.alloc());
-        match lex(rt.alloc(), text.as_bytes(), FileNo(0), &mut names) {
+        match lex(rt.alloc(), bytes, FileNo(0), &mut names) {
             Ok(tokens) => assert!(rt; tokens.len() == count && names.len() == texts, "{text}"),
             Err(_) => assert!(rt; false, "{text}"),
         }
@@ -118,6 +122,7 @@ fn faults_have_codes_and_places(rt: HostRuntime) {
         (b"2147483649", Code::L7, 0),
     ];
     for (text, code, from) in table {
+        assert!(rt; text.len() < 100);
         let mut names = Names::new(rt.alloc());
         match lex(rt.alloc(), text, FileNo(7), &mut names) {
             Err(Fail::Refused(row)) => {

@@ -1,6 +1,7 @@
 // Tokens and names.
 #![tactic(auto)]
 
+pub mod law;
 pub mod names;
 pub mod token;
 

@@ -1,4 +1,4 @@
-use Rattle.std.proofs.Common.{◌≡◌, ◌∙◌, sym}
+use Rattle.std.proofs.Common.{◌∙◌, sym}
 use Rattle.jn_lexer.proofs.Comments.{white_case}
 use Rattle.jn_lexer.proofs.gap.blank_at.Goals as goal
 

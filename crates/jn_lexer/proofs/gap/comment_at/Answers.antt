@@ -1,4 +1,4 @@
-use Rattle.std.proofs.Common.{◌≡◌, ◌∙◌, ap, sym, subst}
+use Rattle.std.proofs.Common.{◌∙◌, ap}
 use Rattle.std.proofs.lemmas.List.{take_rest}
 use Rattle.jn_lexer.specs.Found.{closed}
 use Rattle.jn_lexer.proofs.Comments.{empty_case, line_case, block_case, no_case}

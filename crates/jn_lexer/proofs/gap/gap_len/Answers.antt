@@ -1,4 +1,4 @@
-use Rattle.std.proofs.Common.{◌≡◌, ◌+◌, ◌≤◌, ◌∙◌, length, drop, sym, subst, arith, length-drop}
+use Rattle.std.proofs.Common.{drop, subst, arith, length-drop}
 use Rattle.std.proofs.lemmas.List.{take_rest}
 use Rattle.jn_lexer.specs.Found.{IsStep}
 use Rattle.jn_lexer.specs.declared.shape.Step.TheVariants.{Of}

@@ -1,4 +1,4 @@
-use Rattle.std.proofs.Common.{◌≡◌, ◌≤◌, ◌-◌, length, drop}
+use Rattle.std.proofs.Common.{◌≤◌, ◌-◌, length}
 use Rattle.jn_lexer.specs.Found.{IsGapOf}
 use Rattle.jn_lexer.proofs.gap.gap_len.Given as goal
 

@@ -1,4 +1,4 @@
-use Rattle.std.proofs.Common.{◌≡◌, ◌∙◌, sym}
+use Rattle.std.proofs.Common.{◌∙◌, sym}
 use Rattle.jn_lexer.proofs.Escaping.{no_escape, an_escape}
 use Rattle.jn_lexer.proofs.lexing.first_escape.Goals as goal
 

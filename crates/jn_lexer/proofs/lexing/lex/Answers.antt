@@ -1,8 +1,7 @@
-use Rattle.std.proofs.Common.{◌≡◌, ◌∙◌, ℕ, ◌+◌, ◌<◌, List, sym, ap, subst, arith, length, inl, inr}
-use Rattle.std.specs.Prelude.{IsUtf8, chars, Some, None, MatchOption, take}
-use Rattle.jn_base.specs.declared.place.Row.{Row}
+use Rattle.std.proofs.Common.{◌≡◌, ◌∙◌, ap, subst, arith, inr}
+use Rattle.std.specs.Prelude.{chars}
 use Rattle.jn_lexer.specs.Characters.{width}
-use Rattle.jn_lexer.specs.Faults.{HasNoUnicodeEscape, IsFirstEscape, IsTokenFault, LexicalFault}
+use Rattle.jn_lexer.specs.Faults.{HasNoUnicodeEscape, IsTokenFault, LexicalFault}
 use Rattle.jn_lexer.specs.Pieces.{ArePieces}
 use Rattle.jn_lexer.specs.Lexed.{IsLexing, Lexed}
 use Rattle.jn_lexer.proofs.Widths.{width-chars}

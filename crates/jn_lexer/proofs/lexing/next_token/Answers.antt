@@ -1,4 +1,4 @@
-use Rattle.std.proofs.Common.{◌≡◌, ◌∙◌, ℕ, ◌+◌, ◌<◌, sym, ap, subst, arith, drop, take, length, List}
+use Rattle.std.proofs.Common.{◌≡◌, ℕ, ◌+◌, ap, arith, drop, take}
 use Rattle.std.proofs.lemmas.List.{take_rest}
 use Rattle.std.specs.Prelude.{Some, slice_get}
 use Rattle.jn_lexer.specs.Characters.{width}

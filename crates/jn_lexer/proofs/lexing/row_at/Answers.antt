@@ -1,4 +1,4 @@
-use Rattle.std.proofs.Common.{◌≡◌, ◌∙◌, refl, sym, ap, arith, ◌+◌}
+use Rattle.std.proofs.Common.{refl, ap, arith, ◌+◌}
 use Rattle.jn_lexer.proofs.Widths.{width-split, width-at, width-one, get-at}
 use Rattle.jn_lexer.proofs.lexing.row_at.Goals as goal
 

@@ -1,4 +1,4 @@
-use Rattle.std.proofs.Common.{◌≡◌, ◌∙◌, ℕ, ◌+◌, ◌<◌, ◌++◌, ◌∷◌, [], List, sym, ap, subst, arith, drop, take, length}
+use Rattle.std.proofs.Common.{◌≡◌, ◌∙◌, ◌+◌, ◌++◌, ◌∷◌, [], sym, ap, subst, arith, drop, length}
 use Rattle.jn_lexer.specs.Characters.{width}
 use Rattle.jn_lexer.specs.Lexed.{names_with, kind_of}
 use Rattle.jn_lexer.specs.Found.{IsNext, IsNextOrEnd, lexeme_of, word_of, body_of}

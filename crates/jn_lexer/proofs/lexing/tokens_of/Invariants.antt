@@ -1,4 +1,4 @@
-use Rattle.std.proofs.Common.{◌≡◌, ◌≤◌, ◌+◌, ◌<◌, ◌^◌, ◌-◌, length, List}
+use Rattle.std.proofs.Common.{◌≡◌, ◌≤◌, ◌+◌, length}
 use Rattle.jn_lexer.specs.Characters.{width}
 use Rattle.jn_lexer.proofs.Reading.{IsRead}
 use Rattle.jn_lexer.proofs.lexing.tokens_of.Given as goal

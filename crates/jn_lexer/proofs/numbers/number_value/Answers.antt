@@ -1,4 +1,3 @@
-use Rattle.std.proofs.Common.{◌≡◌, ◌∙◌, sym}
 use Rattle.jn_lexer.proofs.Values.{too_great}
 use Rattle.jn_lexer.proofs.numbers.number_value.Goals as goal
 

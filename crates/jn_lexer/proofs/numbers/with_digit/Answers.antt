@@ -1,4 +1,4 @@
-use Rattle.std.proofs.Common.{◌≡◌, ◌∙◌, sym}
+use Rattle.std.proofs.Common.{◌∙◌, sym}
 use Rattle.jn_lexer.proofs.Classes.{digit_bounds}
 use Rattle.jn_lexer.proofs.numbers.with_digit.Goals as goal
 

@@ -1,4 +1,4 @@
-use Rattle.std.proofs.Common.{◌≡◌, drop, ◌<◌, ◌≤◌, length}
+use Rattle.std.proofs.Common.{◌≡◌, drop}
 use Rattle.jn_lexer.specs.Scan.{begins}
 use Rattle.jn_lexer.proofs.spelling.begins.Given as goal
 

@@ -1,6 +1,6 @@
 use Rattle.std.proofs.Common.{◌≡◌, ◌∙◌, sym}
 use Rattle.std.proofs.lemmas.List.{take_rest}
-use Rattle.std.specs.Prelude.{Some, None, false, drop, take}
+use Rattle.std.specs.Prelude.{false, drop, take}
 use Rattle.jn_lexer.specs.Scan.{string_len, bad_letter}
 use Rattle.jn_lexer.proofs.Quotes.{open_fault, escape_fault, quoted_token}
 use Rattle.jn_lexer.proofs.strings.quoted_at.Goals as goal

@@ -1,4 +1,4 @@
-use Rattle.std.proofs.Common.{◌≡◌, ◌∙◌, sym}
+use Rattle.std.proofs.Common.{◌∙◌, sym}
 use Rattle.jn_lexer.proofs.Standing.{pair_token, single_token, no_token}
 use Rattle.jn_lexer.proofs.words.mark_at.Goals as goal
 

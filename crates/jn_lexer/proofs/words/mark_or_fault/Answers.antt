@@ -1,4 +1,4 @@
-use Rattle.std.proofs.Common.{◌≡◌, ◌∙◌, sym, subst}
+use Rattle.std.proofs.Common.{◌∙◌, sym, subst}
 use Rattle.std.specs.Prelude.{MatchOption}
 use Rattle.jn_lexer.specs.Found.{NoToken, IsFound}
 use Rattle.jn_lexer.proofs.Standing.{character_fault, dot_fault}

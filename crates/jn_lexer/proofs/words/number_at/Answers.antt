@@ -1,7 +1,6 @@
-use Rattle.std.proofs.Common.{◌≡◌, ◌∙◌, sym, subst, ℕ}
+use Rattle.std.proofs.Common.{◌≡◌, ◌∙◌, sym}
 use Rattle.std.proofs.lemmas.List.{take_rest}
-use Rattle.std.specs.Prelude.{MatchOption, drop, take}
-use Rattle.jn_lexer.specs.Lexemes.{IsNumeral}
+use Rattle.std.specs.Prelude.{drop}
 use Rattle.jn_lexer.specs.Scan.{begins_dot}
 use Rattle.jn_lexer.proofs.Standing.{number_token, number_free, dotted_fault, numeral_fault}
 use Rattle.jn_lexer.proofs.words.number_at.Goals as goal

@@ -1,4 +1,4 @@
-use Rattle.std.proofs.Common.{◌≡◌, ◌∙◌, sym}
+use Rattle.std.proofs.Common.{◌∙◌, sym}
 use Rattle.jn_lexer.proofs.Standing.{word_fixed, word_plain}
 use Rattle.jn_lexer.proofs.words.word_at.Goals as goal
 
