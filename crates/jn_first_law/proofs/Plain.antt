@@ -1,5 +1,5 @@
 -- Programs of the first form are plain.
-use Rattle.std.proofs.Common.{◌≡◌, ℕ, zero, suc, ◌+◌, ◌<◌, true, false, List, [], ◌∷◌, Option, Some, None, length, refl, sym, ap, ◌∙◌, subst}
+use Rattle.std.proofs.Common.{◌≡◌, ℕ, zero, suc, ◌+◌, ◌<◌, true, false, List, [], ◌∷◌, Some, None, length, refl, sym, subst}
 use Rattle.std.specs.Prelude.{slice_get}
 use Rattle.jn_trees.specs.declared.token.Token.{Token}
 use Rattle.jn_points.specs.declared.point.Literal.TheVariants.{Null, Str}
@@ -10,12 +10,12 @@ use Rattle.jn_points.specs.declared.point.PointKind.TheVariants.{Const, Move, St
 use Rattle.jn_points.specs.declared.program.Method.{Method}
 use Rattle.jn_points.specs.declared.program.Body.{Body}
 use Rattle.jn_points.specs.declared.program.Program.{Program}
-use Rattle.jn_points.specs.Lookup.{regs_of, body_of, ctor_of, static_of, body_at, point_at, method_at, method_in}
-use Rattle.jn_points.specs.Regular.{SlotsMatch, writes}
+use Rattle.jn_points.specs.Lookup.{body_of, ctor_of, body_at, point_at, method_at, method_in}
+use Rattle.jn_points.specs.Regular.{SlotsMatch}
 use Rattle.jn_first_form.specs.Trees.{FormTree}
 use Rattle.jn_first_form.specs.Lowered.{span_at}
-use Rattle.jn_first_form.specs.Form.{IsForm, main_method, points_of_form, body_of_form, program_of_form}
-use Rattle.jn_first_form.specs.Facts.{FormKind, FormPoints, FormFacts}
+use Rattle.jn_first_form.specs.Form.{IsForm, main_method, body_of_form, program_of_form}
+use Rattle.jn_first_form.specs.Facts.{FormKind, FormPoints}
 use Rattle.jn_first_form.proofs.PointFacts.{form_facts}
 use Rattle.jn_soundness.specs.PlainPrograms.{PlainKind, PlainProgram}
 
@@ -92,5 +92,5 @@ form_plain tokens p h =
     let body : body_of_form tokens h.tree ≡ own.body = cc in
     subst PlainProgram (sym h.lowered)
     (plain tokens h.tree
-        (subst (λ b. FormPoints (length b.points) (length b.regs) 0 b.points) (sym body) own.points)
-        (subst (λ b. 0 < length b.points) (sym body) own.some))
+    (subst (λ b. FormPoints (length b.points) (length b.regs) 0 b.points) (sym body) own.points)
+    (subst (λ b. 0 < length b.points) (sym body) own.some))

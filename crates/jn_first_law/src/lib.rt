@@ -10,5 +10,4 @@ ghost use Rattle.jn_soundness.specs.PlainPrograms.{PlainProgram};
 /// A program of the first form has no fields, calls and elements of arrays, and its lists belong together.
 pub fn form_programs_are_plain()
     ensures { (tokens : List Token) (p : Program) → IsForm tokens p → PlainProgram p }
-{
-}
+{}
