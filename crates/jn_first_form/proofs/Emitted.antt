@@ -1,8 +1,8 @@
 -- The points and the place of a block, a test and a choice, put together from their parts.
-use Rattle.std.proofs.Common.{◌≡◌, ℕ, ◌+◌, Bool, List, [], ◌∷◌, ◌++◌, drop, refl, sym, ap, ◌∙◌, arith, append_assoc}
+use Rattle.std.proofs.Common.{◌≡◌, ℕ, ◌+◌, Bool, List, [], ◌∷◌, ◌++◌, drop, refl, ap, ◌∙◌, arith, append_assoc}
 use Rattle.jn_trees.specs.declared.token.Token.{Token}
 use Rattle.jn_points.specs.declared.point.Point.{Point}
-use Rattle.jn_first_form.specs.Trees.{Tree, Trees, BlockTree, WhenTree, ChoiceTree}
+use Rattle.jn_first_form.specs.Trees.{Trees, BlockTree, WhenTree, ChoiceTree}
 use Rattle.jn_first_form.specs.Lowered.{Place, further, leaves, all_size, behind, behind_all, tests, goes, lowered, all_lowered}
 use Rattle.jn_first_form.proofs.Places.{equal_places}
 

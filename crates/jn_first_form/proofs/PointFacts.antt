@@ -1,5 +1,5 @@
 -- The points of a form's program: their number, their kinds, and that targets and registers stay inside.
-use Rattle.std.proofs.Common.{◌≡◌, ℕ, ◌+◌, ◌<◌, ◌≤◌, Bool, true, false, ◌||◌, nat_eq, if◌then◌else◌, List, [], ◌∷◌, ◌++◌, length, map, replicate, drop, refl, sym, ap, ◌∙◌, subst, arith, length-append}
+use Rattle.std.proofs.Common.{◌≡◌, ℕ, ◌+◌, ◌<◌, ◌≤◌, Bool, true, false, ◌||◌, nat_eq, if◌then◌else◌, List, [], ◌∷◌, ◌++◌, length, map, replicate, refl, sym, ap, subst, arith, length-append}
 use Rattle.std.specs.Prelude.{None}
 use Rattle.std.proofs.lemmas.List.{length-map, length-replicate}
 use Rattle.jn_base.specs.declared.place.Span.{Span}
@@ -163,9 +163,10 @@ mutual
       let reg = reg_below s.next s.locals x h.start h.below in
       gives_fit n r first s 2 (reg_of s.locals x) _ v 0 (omega arith) (record { points_fit = h.points_fit; below = h.below; start = h.start; locals_fit = h.locals_fit; temporaries_fit = h.temporaries_fit })
   lowered_fits n r first s (WhenTree x eq ts) h =
-      let reg = reg_below s.next s.locals x h.start h.below in
-      (tests_fit n r first s x eq (s.point + 1 + all_size ts) s.point (omega arith) (omega arith) (omega arith),
-       all_fit n r first (further s 7 1) ts (record { points_fit = omega arith; below = h.below; start = h.start; locals_fit = h.locals_fit; temporaries_fit = h.temporaries_fit }))
+      let reg = reg_below s.next s.locals x h.start h.below in (
+        tests_fit n r first s x eq (s.point + 1 + all_size ts) s.point (omega arith) (omega arith) (omega arith),
+        all_fit n r first (further s 7 1) ts (record { points_fit = omega arith; below = h.below; start = h.start; locals_fit = h.locals_fit; temporaries_fit = h.temporaries_fit }),
+      )
   lowered_fits n r first s (ChoiceTree x eq ts us) h =
       let reg = reg_below s.next s.locals x h.start h.below in
       let b = behind_all (further s 7 1) ts in
@@ -177,11 +178,12 @@ mutual
       let long = length-all_lowered first (further s 7 1) ts in
       let e : m.point ≡ s.point + 1 + length a + 1 = omega arith in
       let there = s.point + 1 + all_size ts + 1 in
-      let others = all_fit n r first m us (record { points_fit = omega arith; below = below_more s.next b.next s.locals (omega arith) h.below; start = omega arith; locals_fit = omega arith; temporaries_fit = h.temporaries_fit }) in
-      (tests_fit n r first s x eq there s.point (omega arith) (omega arith) (omega arith),
-       fits_append n r (s.point + 1) a (goes first b (there + all_size us) ∷ all_lowered first m us)
-        (all_fit n r first (further s 7 1) ts (record { points_fit = omega arith; below = h.below; start = h.start; locals_fit = omega arith; temporaries_fit = omega arith }))
-        (omega arith, subst (λ p. FormPoints n r p (all_lowered first m us)) e others))
+      let others = all_fit n r first m us (record { points_fit = omega arith; below = below_more s.next b.next s.locals (omega arith) h.below; start = omega arith; locals_fit = omega arith; temporaries_fit = h.temporaries_fit }) in (
+        tests_fit n r first s x eq there s.point (omega arith) (omega arith) (omega arith),
+        fits_append n r (s.point + 1) a (goes first b (there + all_size us) ∷ all_lowered first m us)
+            (all_fit n r first (further s 7 1) ts (record { points_fit = omega arith; below = h.below; start = h.start; locals_fit = omega arith; temporaries_fit = omega arith }))
+            (omega arith, subst (λ p. FormPoints n r p (all_lowered first m us)) e others),
+      )
   lowered_fits n r first s (LengthTree x) h =
       let reg = reg_below s.next s.locals x h.start h.below in
       let t = needed_below s.temporaries Int in
@@ -205,7 +207,7 @@ mutual
       fits_append n r s.point (lowered first s t) (all_lowered first (behind s t) ts)
       (lowered_fits n r first s t (record { points_fit = omega arith; below = h.below; start = h.start; locals_fit = omega arith; temporaries_fit = omega arith }))
       (subst (λ p. FormPoints n r p (all_lowered first (behind s t) ts)) e
-        (all_fit n r first (behind s t) ts (record { points_fit = omega arith; below = below_behind s t h.below; start = omega arith; locals_fit = omega arith; temporaries_fit = h.temporaries_fit })))
+      (all_fit n r first (behind s t) ts (record { points_fit = omega arith; below = below_behind s t h.below; start = omega arith; locals_fit = omega arith; temporaries_fit = h.temporaries_fit })))
 
 length-points : (tokens : List Token) (f : FormTree) → length (points_of_form tokens f) ≡ all_size f.body + 1
 length-points tokens f =
@@ -227,8 +229,8 @@ form_facts tokens p h =
     let a = all_lowered first (start_place tokens) f.body in
     let room : Room n r first (start_place tokens) (all_size f.body) (all_declared f.body) (temporaries_of tokens f) = record { points_fit = omega arith; below = tt; start = omega arith; locals_fit = omega arith; temporaries_fit = omega arith } in
     record {
-        body = body_of_form tokens f;
-        bodies = ap (λ q. q.bodies) h.lowered;
-        points = fits_append n r 0 a (point_of (Return None) (span_at tokens 6) ∷ []) (all_fit n r first (start_place tokens) f.body room) (tt, tt);
-        some = omega arith;
+      body = body_of_form tokens f;
+      bodies = ap (λ q. q.bodies) h.lowered;
+      points = fits_append n r 0 a (point_of (Return None) (span_at tokens 6) ∷ []) (all_fit n r first (start_place tokens) f.body room) (tt, tt);
+      some = omega arith;
     }

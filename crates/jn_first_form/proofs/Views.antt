@@ -1,11 +1,11 @@
 -- The view of each form of statement, and of the statements that a loop has left.
-use Rattle.std.proofs.Common.{◌≡◌, ℕ, ◌+◌, ◌<◌, ◌≤◌, Bool, List, [], ◌∷◌, length, drop, get_or, Vec, Global, refl, sym, ap, ◌∙◌, subst}
+use Rattle.std.proofs.Common.{◌≡◌, ℕ, ◌+◌, ◌<◌, ◌≤◌, Bool, List, length, drop, get_or, Vec, Global, sym, ap, ◌∙◌}
 use Rattle.std.proofs.lemmas.List.{drop_more}
 use Rattle.std.proofs.Math.ListN.{drop_of_length-le}
 use Rattle.jn_base.specs.declared.number.NameNo.{NameNo}
 use Rattle.jn_first_form.specs.declared.tree.Statement.{Statement}
 use Rattle.jn_first_form.specs.declared.tree.Statement.TheVariants.{Block, When, Choice}
-use Rattle.jn_first_form.specs.Trees.{Tree, Trees, BlockTree, WhenTree, ChoiceTree, NoTrees, MoreTrees}
+use Rattle.jn_first_form.specs.Trees.{BlockTree, WhenTree, ChoiceTree, NoTrees, MoreTrees}
 use Rattle.jn_first_form.specs.View.{view, views}
 use Rattle.jn_first_form.proofs.Reading.{view_block, view_when, view_choice}
 

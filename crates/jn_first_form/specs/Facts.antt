@@ -1,5 +1,5 @@
 -- What the points of a program of the form are: their kinds, and that targets and registers stay inside.
-use Rattle.std.specs.Prelude.{ℕ, ◌+◌, ◌<◌, ◌≡◌, List, [], ◌∷◌, length, Some, None}
+use Rattle.std.specs.Prelude.{ℕ, ◌+◌, ◌<◌, ◌≡◌, List, [], ◌∷◌, length, None}
 use Rattle.jn_points.specs.declared.point.Literal.TheVariants.{Null, Str}
 use Rattle.jn_points.specs.declared.point.StrOperation.TheVariants.{Length}
 use Rattle.jn_points.specs.declared.point.Point.{Point}

@@ -1,11 +1,8 @@
 -- Files of the first form, and the program of each.
-use Rattle.std.specs.Prelude.{ℕ, ◌+◌, ◌≤◌, ◌≡◌, Bool, true, false, List, [], ◌∷◌, ◌++◌, length, map, replicate, drop, Option, Some, None}
-use Rattle.jn_base.specs.declared.number.ClassNo.{ClassNo}
-use Rattle.jn_base.specs.declared.number.NameNo.{NameNo}
+use Rattle.std.specs.Prelude.{ℕ, ◌+◌, ◌≤◌, ◌≡◌, Bool, true, false, List, [], ◌∷◌, ◌++◌, length, map, replicate, drop, Some, None}
 use Rattle.jn_base.specs.declared.place.Span.{Span}
 use Rattle.jn_trees.specs.declared.token.Token.{Token}
 use Rattle.jn_trees.specs.declared.token.TokenKind.{TokenKind}
-use Rattle.jn_quals.specs.Qualifier.{Qualifier}
 use Rattle.jn_points.specs.declared.point.BaseType.{BaseType}
 use Rattle.jn_points.specs.declared.point.BaseType.TheVariants.{Int, Void, Null, Ref, Array}
 use Rattle.jn_points.specs.declared.point.Elem.TheVariants.{Ref as RefElem}

@@ -15,7 +15,7 @@ pub record IsWithin (tokens : List Token) (tree : FormTree) : Type 0 where
 
 -- what of it is known before the temporaries are
 abbrev pub may_lower : FormTree → Bool
-may_lower tree = form_in_scope tree && nat_lt (all_size tree.body) 65535 && nat_lt (all_declared tree.body) 1024
+may_lower tree = nat_lt (all_size tree.body) 65535 && nat_lt (all_declared tree.body) 1024 && form_in_scope tree
 
 abbrev pub first_registers : List Body → ℕ
 first_registers [] = 0

@@ -1,9 +1,5 @@
 -- The points of a tree: one row for each form, with absolute targets (JLS 15.7, 15.12, 14.9).
-use Rattle.std.specs.Prelude.{ℕ, ◌+◌, ◌≡◌, Bool, true, false, ◌||◌, nat_eq, if◌then◌else◌, List, [], ◌∷◌, ◌++◌, length, drop, Option, Some, None, slice_index_or}
-use Rattle.jn_base.specs.declared.number.FileNo.{FileNo}
-use Rattle.jn_base.specs.declared.number.NameNo.{NameNo}
-use Rattle.jn_base.specs.declared.number.PointNo.{PointNo}
-use Rattle.jn_base.specs.declared.number.RegNo.{RegNo}
+use Rattle.std.specs.Prelude.{ℕ, ◌+◌, Bool, true, false, ◌||◌, nat_eq, if◌then◌else◌, List, [], ◌∷◌, ◌++◌, drop, None, slice_index_or}
 use Rattle.jn_base.specs.declared.place.Span.{Span}
 use Rattle.jn_trees.specs.declared.token.Token.{Token}
 use Rattle.jn_trees.specs.declared.token.TokenKind.TheVariants.{Semicolon}

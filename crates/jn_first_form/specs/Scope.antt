@@ -1,5 +1,5 @@
 -- Which names may be declared and used where (JLS 6.3, 6.4).
-use Rattle.std.specs.Prelude.{ℕ, ◌+◌, ◌≡◌, Bool, true, false, not, ◌&&◌, ◌||◌, nat_eq, nat_le, nat_lt, List, [], ◌∷◌, ◌++◌}
+use Rattle.std.specs.Prelude.{ℕ, Bool, true, false, not, ◌&&◌, ◌||◌, nat_eq, nat_le, nat_lt, List, [], ◌∷◌, ◌++◌}
 use Rattle.jn_first_form.specs.Trees.{ValueTree, NullValue, TextValue, LocalValue, Tree, Trees, BlockTree, DeclareTree, AssignTree, WhenTree, ChoiceTree, LengthTree, PrintLocalTree, PrintLengthTree, NoTrees, MoreTrees, FormTree, string_name, system_name, object_name}
 
 -- the names of Object's members, among the known ones

@@ -1,6 +1,5 @@
 -- Trees of the first form, and the tokens that spell them (JLS 8.1, 8.4, 14).
-use Rattle.std.specs.Prelude.{ℕ, ◌+◌, ◌≡◌, Bool, true, false, List, [], ◌∷◌, ◌++◌}
-use Rattle.jn_base.specs.declared.number.NameNo.{NameNo}
+use Rattle.std.specs.Prelude.{ℕ, ◌≡◌, Bool, true, false, List, [], ◌∷◌, ◌++◌}
 use Rattle.jn_trees.specs.declared.token.TokenKind.{TokenKind}
 use Rattle.jn_trees.specs.declared.token.TokenKind.TheVariants.{Id, Str, Null, If, Else, Class, Public, Static, Void, LeftParen, RightParen, LeftBrace, RightBrace, LeftBracket, RightBracket, Semicolon, Dot, Assign, EqualEqual, NotEqual}
 

@@ -76,14 +76,17 @@ fn program_within(
     Ok(Some(program))
 }
 
-/// Whether the form's names are in scope, and its points and locals within the limits.
+/// Whether the form's points and locals are within the limits, and its names in scope.
 fn may_lower(alloc: Global, form: &FirstForm) -> Result<bool, OutOfMemory>
     ensures { IfOk result (λ b. b ≡ may_lower (form_view form.now)) }
 {
-    let scoped = form_in_scope(alloc, form)?;
     let points = all_size(&form.body) < MOST_POINTS;
     let locals = all_declared(&form.body) < MOST_REGISTERS as u32;
-    Ok(scoped && points && locals)
+    if points && locals {
+        form_in_scope(alloc, form)
+    } else {
+        Ok(false)
+    }
 }
 
 /// How many registers the first body has.

@@ -1,5 +1,4 @@
-use Rattle.std.proofs.Common.{◌≡◌, true, Bool, sym, ap, ◌∙◌, subst}
-use Rattle.jn_first_form.specs.Form.{kinds_of}
+use Rattle.std.proofs.Common.{sym, ap, ◌∙◌, subst}
 use Rattle.jn_first_form.specs.Reads.{ReadsForm, within_brackets}
 use Rattle.jn_first_form.specs.View.{form_view}
 use Rattle.jn_first_form.proofs.Programs.{answers_form, answers_none}

@@ -1,5 +1,5 @@
-use Rattle.std.proofs.Common.{◌≡◌, refl, ◌+◌, ◌≤◌, ◌++◌, length, take, drop, sym, ap, ◌∙◌, arith, append_assoc}
-use Rattle.jn_first_form.specs.Lowered.{further, size, all_size, declared, all_declared, behind, behind_all, lowered, all_lowered}
+use Rattle.std.proofs.Common.{refl, ◌+◌, ◌++◌, length, take, drop, sym, ap, ◌∙◌, arith, append_assoc}
+use Rattle.jn_first_form.specs.Lowered.{size, all_size, declared, all_declared, behind, behind_all, lowered, all_lowered}
 use Rattle.jn_first_form.specs.Placed.{place_at}
 use Rattle.jn_first_form.specs.View.{view, views}
 use Rattle.jn_first_form.proofs.Places.{equal_places, behind-point, behind-next, behind_all-point, behind_all-next, scope_left}

@@ -1,10 +1,10 @@
-use Rattle.std.proofs.Common.{◌≡◌, ◌&&◌, Bool, true, false, take, length, sym, ap, ◌∙◌, refl, subst}
+use Rattle.std.proofs.Common.{◌≡◌, take, sym, ap, ◌∙◌, refl, subst}
 use Rattle.std.specs.Prelude.{IfOk}
 use Rattle.std.proofs.lemmas.List.{take-map}
 use Rattle.jn_base.specs.declared.number.NameNo.{NameNo}
-use Rattle.jn_first_form.specs.Scope.{is_among, all_in_scope, in_scope}
+use Rattle.jn_first_form.specs.Scope.{is_among, all_in_scope}
 use Rattle.jn_first_form.specs.Names.{names}
-use Rattle.jn_first_form.specs.View.{view, views}
+use Rattle.jn_first_form.specs.View.{views}
 use Rattle.jn_first_form.proofs.Views.{seen_block, seen_when, seen_choice}
 use Rattle.jn_first_form.proofs.scope.+scoping.Goals as goal
 

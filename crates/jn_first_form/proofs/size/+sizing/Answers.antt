@@ -1,7 +1,6 @@
-use Rattle.std.proofs.Common.{◌≡◌, ◌-◌, ◌^◌, ◌+◌, min, drop, sym, ap, ◌∙◌, arith}
-use Rattle.jn_first_form.specs.Lowered.{size, all_size}
-use Rattle.jn_first_form.specs.View.{views}
-use Rattle.jn_first_form.proofs.Views.{seen_block, seen_when, seen_choice, left_before}
+use Rattle.std.proofs.Common.{◌-◌, ◌^◌, min, sym, ap, ◌∙◌, arith}
+use Rattle.jn_first_form.specs.Lowered.{size}
+use Rattle.jn_first_form.proofs.Views.{seen_block, seen_when, seen_choice}
 use Rattle.jn_first_form.proofs.size.+sizing.Goals as goal
 
 pub size-returns-in-Block : goal.size-returns-in-Block
