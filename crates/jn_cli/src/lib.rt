@@ -7,3 +7,6 @@ mod options;
 mod parse;
 
 pub use command::{Command, Usage, read_words};
+
+#[cfg(test)]
+mod tests;

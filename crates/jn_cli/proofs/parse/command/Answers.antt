@@ -1,8 +1,8 @@
 use Rattle.std.proofs.Common.{◌≡◌, ◌∙◌, ap, codes, rules, true}
 use Rattle.std.proofs.lemmas.Result.{IfOk-weaker}
-use Rattle.clap.specs.Words.{App, app_of, rule_of, with_rule}
+use Rattle.clap.specs.Words.{app_of, rule_of}
 use Rattle.clap.specs.Simple.{app_of_fields, on_top}
-use Rattle.jn_cli.specs.Words.{bare_app, file_rule, nullcheck_app, run_flag, single}
+use Rattle.jn_cli.specs.Words.{bare_app, nullcheck_app, single}
 use Rattle.jn_cli.proofs.Taken.{added}
 use Rattle.jn_cli.proofs.parse.command.Goals as goal
 
@@ -10,8 +10,8 @@ pub returns : goal.returns
 unfolding nullcheck_app
 returns c =
     let bare : app_of c.disable_help_flag-command.result ≡ bare_app =
-      ap app_of_fields c.disable_help_flag-command.ensures ∙ ap (on_top (λ s. record s { disable_help_flag = true }))
-      (ap app_of_fields c.no_binary_name.ensures ∙ ap (on_top (λ s. record s { no_binary_name = true })) c.new.ensures.app) in
+    ap app_of_fields c.disable_help_flag-command.ensures ∙ ap (on_top (λ s. record s { disable_help_flag = true }))
+    (ap app_of_fields c.no_binary_name.ensures ∙ ap (on_top (λ s. record s { no_binary_name = true })) c.new.ensures.app) in
     let r1 : rule_of c.single.result ≡ single (codes "workers") = search rules in
     let r2 : rule_of c.single-2.result ≡ single (codes "report") = search rules in
     let r3 : rule_of c.single-3.result ≡ single (codes "steps") = search rules in

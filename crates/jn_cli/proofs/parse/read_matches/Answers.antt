@@ -1,4 +1,4 @@
-use Rattle.std.proofs.Common.{◌∙◌, map, sym}
+use Rattle.std.proofs.Common.{◌∙◌, map}
 use Rattle.std.specs.Prelude.{string_bytes}
 use Rattle.clap.specs.Words.{app_of}
 use Rattle.jn_cli.proofs.Taken.{found, refused, taken}
@@ -15,5 +15,5 @@ returns c = record {
   taken = tt;
   ok = tt;
   usage = refused (app_of c.in-Ok.command) c.in-Ok.ensures (map string_bytes c.args.words.now) c.in-Err-try_get_matches_from.error
-    (λ e. c.in_default.not-OutOfMemory (c.kind.ensures ∙ e)) c.in-Err-try_get_matches_from.ensures.kinds;
+      (λ e. c.in_default.not-OutOfMemory (c.kind.ensures ∙ e)) c.in-Err-try_get_matches_from.ensures.kinds;
 }
