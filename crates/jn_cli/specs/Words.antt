@@ -1,0 +1,127 @@
+-- What the words of the command line mean.
+use Rattle.std.specs.Prelude.{ℕ, ◌+◌, ◌-◌, ◌*◌, ◌==◌, ◌&&◌, ◌||◌, Bool, true, false, not, List, [], ◌∷◌, length, Option, Some, None, is_some, nat_le, codes, unwrap_or, option_and_then, if◌then◌else◌}
+use Rattle.std.specs.List.{filter, list_all, slice_split}
+use Rattle.std.specs.Char.{is_ascii_digit}
+use Rattle.std.specs.Option.{option_map_or}
+use Rattle.std.specs.Str.{bytes_eq}
+use Rattle.clap.specs.Words.{App, Kinds, Row, Rule, fault_of, first_of, all_of, matches_of, new_app, new_rule, with_rule}
+use Rattle.clap.specs.Simple.{on_top}
+use Rattle.clap.specs.declared.builder.ArgAction.TheVariants.{Append, SetTrue}
+use Rattle.jn_cli.specs.declared.command.Command.{Command}
+use Rattle.jn_cli.specs.declared.options.Options.{Options}
+
+-- ---- the command as clap sees it
+
+abbrev pub single : List ℕ → Rule
+single name = record (new_rule name) { long = Some name }
+
+abbrev pub run_flag : Rule
+run_flag = record (single (codes "run")) { action = Some SetTrue }
+
+abbrev pub file_rule : Rule
+file_rule = record (new_rule (codes "FILE")) { action = Some Append }
+
+-- the words are those after the program's name, and there is no help flag
+abbrev pub bare_app : App
+bare_app = on_top (λ s. record s { no_binary_name = true; disable_help_flag = true }) (new_app (codes "nullcheck"))
+
+unfoldable pub nullcheck_app : App
+nullcheck_app =
+    with_rule (with_rule (with_rule (with_rule (with_rule (with_rule (with_rule bare_app
+    (single (codes "workers"))) (single (codes "report"))) run_flag)
+    (single (codes "steps"))) (single (codes "words"))) (single (codes "gen"))) file_rule
+
+abbrev pub no_fault : Kinds → Bool
+no_fault [] = true
+no_fault (kind ∷ kinds) = false
+
+-- the command takes the words
+abbrev pub takes_words : List (List ℕ) → Bool
+takes_words words = no_fault (fault_of nullcheck_app words)
+
+abbrev pub is_on : Option (List ℕ) → Bool
+is_on text = option_map_or (λ t. bytes_eq t (codes "true")) text false
+
+abbrev pub options_in : List Row → Options
+options_in rows = record {
+  workers = first_of (codes "workers") rows;
+  report = first_of (codes "report") rows;
+  run = is_on (first_of (codes "run") rows);
+  steps = first_of (codes "steps") rows;
+  words = first_of (codes "words") rows;
+  classes = first_of (codes "gen") rows;
+  files = unwrap_or (all_of (codes "FILE") rows) [];
+}
+
+-- the texts that stand behind the options
+abbrev pub options_of : List (List ℕ) → Options
+options_of words = options_in (matches_of nullcheck_app words)
+
+-- ---- numbers
+
+abbrev pub value_after : ℕ → List ℕ → ℕ
+value_after n [] = n
+value_after n (digit ∷ rest) = value_after (10 * n + (digit - 48)) rest
+
+-- one to ten decimal digits
+abbrev pub is_number : List ℕ → Bool
+is_number text = nat_le 1 (length text) && nat_le (length text) 10 && list_all is_ascii_digit text
+
+unfoldable pub number_of : List ℕ → Option ℕ
+number_of text = if is_number text then Some (value_after 0 text) else None
+
+abbrev pub is_within : ℕ → ℕ → Option ℕ → Bool
+is_within least most number = option_map_or (λ n. nat_le least n && nat_le n most) number false
+
+-- the option is absent, or a number in the range
+abbrev pub fits : ℕ → ℕ → Option (List ℕ) → Bool
+fits least most text = option_map_or (λ t. is_within least most (number_of t)) text true
+
+abbrev pub number_or : ℕ → Option (List ℕ) → ℕ
+number_or default text = unwrap_or (option_and_then number_of text) default
+
+-- ---- usage
+
+abbrev pub is_report : List ℕ → Bool
+is_report name = bytes_eq name (codes "plain") || bytes_eq name (codes "tabbed") || bytes_eq name (codes "summary")
+
+abbrev pub is_empty : {X : Type 0} → List X → Bool
+is_empty xs = length xs == 0
+
+-- a value is not one that its option takes
+abbrev pub has_bad_value : Options → Bool
+has_bad_value o =
+    not (fits 1 16 o.workers)
+    || not (fits 1 1000000000 o.steps)
+    || not (fits 1 500 o.classes)
+    || not (option_map_or is_report o.report true)
+
+-- neither a FILE nor --gen; --gen with a FILE or with --run; --steps or --words without --run
+abbrev pub is_bad_mix : Options → Bool
+is_bad_mix o =
+    (is_empty o.files && not (is_some o.classes))
+    || (is_some o.classes && (not (is_empty o.files) || o.run))
+    || ((is_some o.steps || is_some o.words) && not o.run)
+
+abbrev pub are_refused : Options → Bool
+are_refused o = has_bad_value o || is_bad_mix o
+
+abbrev pub is_usage : List (List ℕ) → Bool
+is_usage words = not (takes_words words) || are_refused (options_of words)
+
+-- ---- the command
+
+-- a text split at spaces, without its empty pieces
+abbrev pub pieces_of : List ℕ → List (List ℕ)
+pieces_of text = filter (λ piece. not (is_empty piece)) (slice_split (λ byte. byte == 32) text)
+
+unfoldable pub command_of : Options → Command
+command_of o = record {
+  workers = number_or 4 o.workers;
+  report = unwrap_or o.report (codes "plain");
+  run = o.run;
+  steps = number_or 1000000 o.steps;
+  args = pieces_of (unwrap_or o.words []);
+  classes = number_or 0 o.classes;
+  files = o.files;
+}
