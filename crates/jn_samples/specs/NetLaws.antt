@@ -38,17 +38,17 @@ module _ (from : ℕ → ℕ) (n : ℕ) (inside : (b : ℕ) → b < n → from b
   net_named b q low (suc i) o at = absurd (some-ne-none o (sym at))
 
   abbrev own_output : ℕ → ℕ → List (WordNo × ℕ)
-  own_output b x = (record { 0 = b }, bit_or x (one_at (b % 64))) ∷ []
+  own_output b x = (record { 0 = b }, bit_or x (one_at (b % 8))) ∷ []
 
   pub by_lawful : IsLawful (net_by from n)
   by_lawful = record {
     monotone = λ b xs ys low _ _ h w _.
-        single_within (record { 0 = b }) (bit_or (slice_index xs (from b)) (one_at (b % 64))) (bit_or (slice_index ys (from b)) (one_at (b % 64)))
-        (or_within (slice_index xs (from b)) (one_at (b % 64)) _ (within_trans (slice_index xs (from b)) (slice_index ys (from b)) _ (h (from b) (inside b low)) (within_or_l (slice_index ys (from b)) (one_at (b % 64)))) (within_or_r (slice_index ys (from b)) (one_at (b % 64)))) w;
+        single_within (record { 0 = b }) (bit_or (slice_index xs (from b)) (one_at (b % 8))) (bit_or (slice_index ys (from b)) (one_at (b % 8)))
+        (or_within (slice_index xs (from b)) (one_at (b % 8)) _ (within_trans (slice_index xs (from b)) (slice_index ys (from b)) _ (h (from b) (inside b low)) (within_or_l (slice_index ys (from b)) (one_at (b % 8)))) (within_or_r (slice_index ys (from b)) (one_at (b % 8)))) w;
     reads_only = λ b xs ys low _ _ h. ap (own_output b) (h (from b) (inside b low) (eq-eqb (from b) (from b) refl));
-    named = λ b xs low _ i o at. net_named b (record { 0 = b }, bit_or (slice_index xs (from b)) (one_at (b % 64))) low i o at;
-    once = λ b xs _ _. one_named (record { 0 = b }, bit_or (slice_index xs (from b)) (one_at (b % 64)));
-    bounded = λ b xs low _ small w. single_small (record { 0 = b }) (bit_or (slice_index xs (from b)) (one_at (b % 64))) (or_lt 64 (slice_index xs (from b)) (one_at (b % 64)) (small (from b)) (one_small (b % 64))) w;
+    named = λ b xs low _ i o at. net_named b (record { 0 = b }, bit_or (slice_index xs (from b)) (one_at (b % 8))) low i o at;
+    once = λ b xs _ _. one_named (record { 0 = b }, bit_or (slice_index xs (from b)) (one_at (b % 8)));
+    bounded = λ b xs low _ small w. single_small (record { 0 = b }) (bit_or (slice_index xs (from b)) (one_at (b % 8))) (or_lt 64 (slice_index xs (from b)) (one_at (b % 8)) (small (from b)) (one_small (b % 8))) w;
   }
 
 source_inside : (shape : Shape) (n b : ℕ) → b < n → source shape n b < n

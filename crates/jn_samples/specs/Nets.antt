@@ -18,7 +18,7 @@ net_by from n = record {
   bodies = n;
   words = n;
   reads = λ b w. from b == w;
-  output = λ b words. (record { 0 = b }, bit_or (slice_index words (from b)) (one_at (b % 64))) ∷ [];
+  output = λ b words. (record { 0 = b }, bit_or (slice_index words (from b)) (one_at (b % 8))) ∷ [];
 }
 
 abbrev pub net_of : Shape → ℕ → System

@@ -32,13 +32,7 @@ fn source_of(net: &Net, body: u32) -> u32
     match net.shape {
         Shape::Chain => body.saturating_sub(1),
         Shape::Star => 0,
-        Shape::Ring => {
-            if body == 0 {
-                net.bodies - 1
-            } else {
-                body - 1
-            }
-        }
+        Shape::Ring => { if body == 0 { net.bodies - 1 } else { body - 1 } }
     }
 }
 
@@ -67,7 +61,7 @@ impl Constraints for Net {
         words: &[u64],
     ) -> Result<Vec<(WordNo, u64)>, OutOfMemory> {
         let from = source_of(self, body.0);
-        let bits = words[from as usize] | 1u64 << (body.0 % 64);
+        let bits = words[from as usize] | 1u64 << (body.0 % 8);
         let mut output = Vec::new(alloc);
         if output.push((WordNo(body.0), bits)).is_err() {
             return Err(OutOfMemory);

@@ -5,20 +5,10 @@ ghost use Rattle.jn_samples.specs.Nets.{net_of};
 
 use crate::net::Net;
 use jn_base::OutOfMemory;
-use jn_worklist::{drain, plan};
 use jn_workers::{Straight, solve};
-use std::alloc::{AllocError, Global};
+use jn_worklist::{drain, plan};
+use std::alloc::Global;
 use std::thread::Threads;
-
-fn repeated(alloc: Global, word: u64, count: usize) -> Result<Vec<u64>, AllocError>
-    ensures { IfOk result (λ all. all.items ≡ replicate count word) }
-{
-    let mut all = Vec::new(alloc);
-    for _ in 0..count {
-        all.push(word)?;
-    }
-    Ok(all)
-}
 
 /// The least words of a net above zeros, by workers.
 pub fn solved<R: Threads + Sync>(
@@ -31,7 +21,7 @@ pub fn solved<R: Threads + Sync>(
     requires workers { (0 < workers) × (workers ≤ 16) }
     ensures { IfOk result (λ words. words.items ≡ least (net_of net.shape net.bodies) (replicate net.bodies 0)) }
 {
-    let start = repeated(alloc, 0, net.bodies as usize)?;
+    let start = vec![in alloc; 0; net.bodies as usize]?;
     solve(rt, alloc, net, start.as_slice(), workers, &Straight)
 }
 
@@ -39,8 +29,8 @@ pub fn solved<R: Threads + Sync>(
 pub fn drained(alloc: Global, net: Net) -> Result<Vec<u64>, OutOfMemory>
     ensures { IfOk result (λ words. words.items ≡ least (net_of net.shape net.bodies) (replicate net.bodies 0)) }
 {
-    let start = repeated(alloc, 0, net.bodies as usize)?;
-    let dirty = repeated(alloc, u64::MAX, (net.bodies as usize + 63) / 64)?;
+    let start = vec![in alloc; 0; net.bodies as usize]?;
+    let dirty = vec![in alloc; u64::MAX; (net.bodies as usize + 63) / 64]?;
     let readers = plan(alloc, &net)?;
     drain(alloc, &net, &readers, start, dirty)
 }
