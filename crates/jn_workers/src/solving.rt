@@ -12,7 +12,7 @@ use crate::working::{Worked, work};
 use jn_base::OutOfMemory;
 use jn_sigtable::{Constraints, Pass, SigTable};
 use jn_worklist::{Plan, drain, plan};
-use std::alloc::{AllocError, Global};
+use std::alloc::Global;
 use std::thread::{Threads, join};
 
 // The worse of two ends.
@@ -92,17 +92,6 @@ fn spread<R: Threads + Sync, C: Constraints + Sync, G: Gate + Sync>(
     (ours, worse(end, last))
 }
 
-// Dirty words in which every bit is set.
-fn all_dirty(alloc: Global, bodies: u32) -> Result<Vec<u64>, AllocError>
-    ensures { IfOk result (λ dirty. dirty.items ≡ replicate ((bodies + 63) / 64) 18446744073709551615) }
-{
-    let mut dirty = Vec::new(alloc);
-    for _ in 0..(bodies as usize + 63) / 64 {
-        dirty.push(u64::MAX)?;
-    }
-    Ok(dirty)
-}
-
 // Drains words that workers left between the start and the least words.
 fn drain_rest<C: Constraints>(
     alloc: Global,
@@ -116,7 +105,7 @@ fn drain_rest<C: Constraints>(
     requires between { AreBetween (C.describe system.now) start.now words.items }
     ensures { IfOk result (λ drained. drained.items ≡ least (C.describe system.now) start.now) }
 {
-    let dirty = all_dirty(alloc, system.bodies())?;
+    let dirty = vec![in alloc; u64::MAX; (system.bodies() as usize + 63) / 64]?;
     let drained = drain(alloc, system, plan, words, dirty)?;
     Ok(drained)
 }

@@ -4,18 +4,6 @@ ghost use Rattle.jn_sigtable.specs.System.{ones_below};
 ghost use Rattle.jn_worklist.specs.Plans.{IsDue, Lists};
 
 use jn_base::{BodyNo, Seq};
-use std::alloc::{AllocError, Global};
-
-// So many words without a bit.
-pub fn zeros(alloc: Global, count: usize) -> Result<Vec<u64>, AllocError>
-    ensures { IfOk result (λ v. v.items ≡ replicate count 0) }
-{
-    let mut all = Vec::new(alloc);
-    for _ in 0..count {
-        all.push(0)?;
-    }
-    Ok(all)
-}
 
 fn add_body(due: &mut [u64], body: BodyNo)
     requires { body.0 / 64 < length due.old }

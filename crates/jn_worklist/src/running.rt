@@ -5,7 +5,6 @@ ghost use Rattle.jn_sigtable.specs.Words.{system_of, view_of, IsPassOf};
 ghost use Rattle.jn_worklist.specs.Plans.{plan_of};
 ghost use Rattle.jn_worklist.specs.Runs.{IsFresh, HasRun, HasGivenBack};
 
-use crate::bits::zeros;
 use crate::marking::{mark_again, mark_due};
 use crate::raising::raise_all;
 use crate::readers::Plan;
@@ -36,11 +35,11 @@ pub fn run_body<C: Constraints>(
 {
     let words = table.system().words() as usize;
     let dirty = (table.system().bodies() as usize + 63) / 64;
-    let Ok(values) = zeros(alloc, words) else {
+    let Ok(values) = vec![in alloc; 0; words] else {
         mark_again(table, pass, body);
         return Err(OutOfMemory);
     };
-    let Ok(mut due) = zeros(alloc, dirty) else {
+    let Ok(mut due) = vec![in alloc; 0; dirty] else {
         mark_again(table, pass, body);
         return Err(OutOfMemory);
     };

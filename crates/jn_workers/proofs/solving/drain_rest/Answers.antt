@@ -4,7 +4,7 @@ use Rattle.jn_workers.proofs.ScanFacts.{all_due, same_least}
 use Rattle.jn_workers.proofs.solving.drain_rest.Goals as goal
 
 pub drain-requires-clause-each : goal.drain-requires-clause-each
-drain-requires-clause-each g c = λ b inside. inl (all_due c.in_ok-dirty.dirty.items c.bodies.result c.in_ok-dirty.ensures b (let n = c.bodies.ensures in omega arith))
+drain-requires-clause-each g c = λ b inside. inl (all_due c.in_ok-dirty.dirty.items c.bodies.result (c.in_ok-dirty.ensures.items_if_clones_equal (λ y e. e)) b (let n = c.bodies.ensures in omega arith))
 
 pub returns : goal.returns
 returns g c =

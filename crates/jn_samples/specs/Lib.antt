@@ -1,0 +1,4 @@
+pub mod Pairs
+pub mod Nets
+pub mod PairLaws
+pub mod NetLaws

@@ -1,0 +1,14 @@
+// Small systems and a gate, on which the solver is tried.
+#![tactic(auto)]
+
+mod meet;
+mod net;
+mod pair;
+mod solving;
+#[cfg(test)]
+mod tests;
+
+pub use meet::Meet;
+pub use net::{Net, Shape};
+pub use pair::Pair;
+pub use solving::{drained, solved};
