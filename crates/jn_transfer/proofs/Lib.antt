@@ -1,0 +1,4 @@
+pub mod BitOrder
+pub mod Monotone
+pub mod Sized
+pub mod Along
