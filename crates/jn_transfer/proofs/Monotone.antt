@@ -19,6 +19,7 @@ use Rattle.jn_env.specs.Order.{qual_at, QualsWithin, EnvWithin, BitsAbove}
 use Rattle.jn_env.proofs.Order.{quals_set, env_qual, env_refl}
 use Rattle.jn_transfer.specs.Keys.{is_key, has_reg, has_key_field, mask, also, is_on, fact_keys, own_keys}
 use Rattle.jn_transfer.specs.Transfer.{literal_qual, elem_qual, refine, side, any_empty, any_free, all_settled, ref_quals, new_qual, less_null, put, drop_all, put_to, learn, write_facts, write_assigned, written, ctor_called, elem_read, read_part, read_qual, transfer, IsAmong}
+use Rattle.jn_transfer.specs.Covered.{Covered}
 use Rattle.jn_transfer.proofs.BitOrder.{mask_above, also_above, also_left, is_on_above}
 
 pub among_left : (x : ℕ × Env) (xs ys : List (ℕ × Env)) → IsAmong x xs → IsAmong x (xs ++ ys)
@@ -35,28 +36,22 @@ among_cases x [] ys h = inr h
 among_cases x (y ∷ xs) ys (inl e) = inl (inl e)
 among_cases x (y ∷ xs) ys (inr h) = ⊎_elim (λ a. inl (inr a)) (λ b. inr b) (among_cases x xs ys h)
 
--- an edge of a greater environment goes where the lesser one's goes, with a greater environment
-pub record Above (x : ℕ × Env) (ys : List (ℕ × Env)) : Type 0 where
-  pub env : Env
-  pub there : IsAmong (x.0, env) ys
-  pub above : EnvWithin x.1 env
-
-one_above : (to : ℕ) (e f : Env) (x : ℕ × Env) → EnvWithin e f → IsAmong x ((to, e) ∷ []) → Above x ((to, f) ∷ [])
-one_above to e f x w (inl i) = subst (λ y. Above y ((to, f) ∷ [])) (sym i) (record { env = f; there = inl refl; above = w })
+one_above : (to : ℕ) (e f : Env) (x : ℕ × Env) → EnvWithin e f → IsAmong x ((to, e) ∷ []) → Covered x ((to, f) ∷ [])
+one_above to e f x w (inl i) = subst (λ y. Covered y ((to, f) ∷ [])) (sym i) (record { env = f; there = inl refl; above = w })
 one_above to e f x w (inr m) = absurd m
 
-side_above : (b c : Bool) (to : ℕ) (e f : Env) (x : ℕ × Env) → (c ≡ true → b ≡ true) → EnvWithin e f → IsAmong x (side b to e) → Above x (side c to f)
+side_above : (b c : Bool) (to : ℕ) (e f : Env) (x : ℕ × Env) → (c ≡ true → b ≡ true) → EnvWithin e f → IsAmong x (side b to e) → Covered x (side c to f)
 side_above true c to e f x h w m = absurd m
 side_above false true to e f x h w m = absurd (let k = h refl in cc)
 side_above false false to e f x h w m = one_above to e f x w m
 
-above_left : (x : ℕ × Env) (ys zs : List (ℕ × Env)) → Above x ys → Above x (ys ++ zs)
+above_left : (x : ℕ × Env) (ys zs : List (ℕ × Env)) → Covered x ys → Covered x (ys ++ zs)
 above_left x ys zs a = record { env = a.env; there = among_left _ ys zs a.there; above = a.above }
 
-above_right : (x : ℕ × Env) (ys zs : List (ℕ × Env)) → Above x zs → Above x (ys ++ zs)
+above_right : (x : ℕ × Env) (ys zs : List (ℕ × Env)) → Covered x zs → Covered x (ys ++ zs)
 above_right x ys zs a = record { env = a.env; there = among_right _ ys zs a.there; above = a.above }
 
-both_above : (x : ℕ × Env) (xs xs' ys ys' : List (ℕ × Env)) → (IsAmong x xs → Above x ys) → (IsAmong x xs' → Above x ys') → IsAmong x (xs ++ xs') → Above x (ys ++ ys')
+both_above : (x : ℕ × Env) (xs xs' ys ys' : List (ℕ × Env)) → (IsAmong x xs → Covered x ys) → (IsAmong x xs' → Covered x ys') → IsAmong x (xs ++ xs') → Covered x (ys ++ ys')
 both_above x xs xs' ys ys' f g m = ⊎_elim (λ s. above_left x ys ys' (f s)) (λ s. above_right x ys ys' (g s)) (among_cases x xs xs' m)
 
 refine_above : (e f : Env) (r : ℕ) (p q : Qualifier) → IsTrue (within p q) → EnvWithin e f → EnvWithin (refine e r p) (refine f r q)
@@ -183,7 +178,7 @@ module _ (P : Program) (s : List Qualifier) (b : ℕ) where
       (is_on_above (is_key r g) (fact_keys P b) e.facts f.facts w.facts)
       (field_part (ref_field P g) g p q (without_null_within (qual_at e r) (qual_at f r) (env_qual e f r w)))
 
-  pub edge_above : (k : PointKind) (p : ℕ) (e f : Env) (x : ℕ × Env) → EnvWithin e f → IsAmong x (transfer P s b k p e) → Above x (transfer P s b k p f)
+  pub edge_above : (k : PointKind) (p : ℕ) (e f : Env) (x : ℕ × Env) → EnvWithin e f → IsAmong x (transfer P s b k p e) → Covered x (transfer P s b k p f)
   edge_above (Const dst v) p e f x w m = one_above _ _ _ x (put_above e f dst.0 _ _ (within_refl (literal_qual v)) w) m
   edge_above (Move dst from bound) p e f x w m = one_above _ _ _ x (put_above e f dst.0 _ _ (env_qual e f from.reg.0 w) w) m
   edge_above (Unary dst neg of) p e f x w m = one_above _ _ _ x (put_above e f dst.0 _ _ (within_refl no_qual) w) m

@@ -37,7 +37,7 @@ module _ (P : Program) (s : List Qualifier) (b n : ℕ) where
   put_sized : (e : Env) (r : ℕ) (q : Qualifier) → EnvSized P b e → EnvSized P b (put P b e r q)
   put_sized e r q l = record { quals = length-set e.quals r q ∙ l.quals; facts = length-mask _ (fact_keys P b) e.facts ∙ l.facts; assigned = l.assigned }
 
-  drop_sized : (e : Env) → EnvSized P b e → EnvSized P b (drop_all P b e)
+  pub drop_sized : (e : Env) → EnvSized P b e → EnvSized P b (drop_all P b e)
   drop_sized e l = record { quals = l.quals; facts = length-mask _ (fact_keys P b) e.facts ∙ l.facts; assigned = l.assigned }
 
   put_to_sized : (e : Env) (dst : Option RegNo) (q : Qualifier) → EnvSized P b e → EnvSized P b (put_to P b e dst q)

@@ -4,3 +4,4 @@ pub mod Least
 pub mod Rules
 pub mod Sized
 pub mod Code
+pub mod Covered

@@ -59,7 +59,8 @@ pub fn set_bits(keys: &[FieldKey], bits: &mut Seq<bool>, which: Which)
     }
 }
 
-fn either(bit: bool, set: bool) -> bool
+/// Whether one of them is set.
+pub fn either(bit: bool, set: bool) -> bool
     ensures { result ≡ (bit || set) }
 {
     bit || set
@@ -97,7 +98,8 @@ pub fn has_bit(keys: &[FieldKey], bits: &[bool], reg: RegNo, field: FieldNo) -> 
     on
 }
 
-fn is_set(bit: bool, meant: bool) -> bool
+/// Whether both are set.
+pub fn is_set(bit: bool, meant: bool) -> bool
     ensures { result ≡ (bit && meant) }
 {
     bit && meant

@@ -1,0 +1,4 @@
+// The least table of a body, by whole rounds.
+#![tactic(auto)]
+
+pub mod law;
