@@ -1,4 +1,4 @@
-use Rattle.jn_flow.proofs.Rounds.{least_respects, least_least, least_unique}
+use Rattle.jn_flow.proofs.Climbing.{least_respects, least_least, least_unique}
 use Rattle.jn_flow.proofs.law.rounds_give_the_least_table.Goals as goal
 
 pub returns : goal.returns

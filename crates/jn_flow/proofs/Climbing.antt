@@ -1,29 +1,33 @@
 -- Whole rounds climb, so they end, and in the least table that respects all edges.
-use Rattle.std.proofs.Common.{◌≡◌, ℕ, zero, suc, ◌+◌, ◌-◌, ◌*◌, ◌<◌, ◌≤◌, Bool, true, false, ◌⊎◌, inl, inr, ⊎_elim, List, [], ◌∷◌, ◌++◌, length, replicate, Option, Some, None, refl, sym, ap, ◌∙◌, subst, arith, length-set}
+use Rattle.std.proofs.Common.{◌≡◌, ℕ, zero, suc, ◌+◌, ◌-◌, ◌*◌, ◌<◌, ◌≤◌, Bool, true, false, ◌⊎◌, inl, inr, ⊎_elim, List, [], ◌∷◌, ◌++◌, ◌||◌, length, drop, replicate, Option, Some, None, refl, sym, ap, ◌∙◌, subst, add-one, append_assoc, append-nil, arith, length-set}
 use Rattle.std.specs.Prelude.{slice_get, slice_set, slice_index_or, IsTrue}
-use Rattle.std.proofs.lemmas.List.{get_or-set_same}
+use Rattle.std.proofs.lemmas.List.{get_or-set_same, at_drop_more}
+use Rattle.std.proofs.lemmas.Bool.{cases_lt}
 use Rattle.jn_fixpoint.specs.Climb.{IsLeastFixpoint, Climb, Bounds}
 use Rattle.jn_fixpoint.specs.Climb.{rounds as rounds_of}
 use Rattle.jn_fixpoint.proofs.Fixpoint.{unique, settled, valid, above, below}
 use Rattle.jn_points.specs.declared.point.Point.{Point}
+use Rattle.jn_points.specs.declared.program.Body.{Body}
 use Rattle.jn_points.specs.declared.program.Program.{Program}
 use Rattle.jn_points.specs.Edges.{edges_of}
-use Rattle.jn_points.specs.Lookup.{points_of, regs_of, body_at, point_at}
+use Rattle.jn_points.specs.Lookup.{points_of, regs_of, body_at, point_at, method_at, method_of_body}
 use Rattle.jn_quals.specs.Qualifier.{Qualifier}
 use Rattle.jn_env.specs.declared.env.Env.{Env}
 use Rattle.jn_env.specs.Order.{Table, env_in, EnvWithin, SlotWithin, TableWithin, join_env, join_slot, join_quals, meet_bits}
 use Rattle.jn_env.specs.Size.{SameSize}
 use Rattle.jn_env.specs.Weight.{weight, quals_weight, bits_weight}
 use Rattle.jn_env.proofs.Order.{env_refl, env_join_left, env_join_right, length-join_quals, length-meet_bits, slot_refl, slot_trans, slot_join_least, table_refl, table_trans, table_at, table_set_within, table_set_above}
-use Rattle.jn_env.proofs.Weight.{table_grows, quals_bounded, bits_bounded}
-use Rattle.jn_transfer.specs.Keys.{fact_keys, own_keys}
-use Rattle.jn_transfer.specs.Transfer.{transfer, entry_env, IsAmong}
+use Rattle.jn_env.proofs.Weight.{same_env, table_grows, quals_bounded, bits_bounded}
+use Rattle.jn_transfer.specs.Keys.{no_bits, fact_keys, own_keys}
+use Rattle.jn_quals.specs.Order.{no_qual}
+use Rattle.jn_transfer.specs.Transfer.{transfer, entry_env, pad_quals, given_quals, IsAmong}
 use Rattle.jn_transfer.specs.Least.{flow_in, flow_all, edges_from, all_edges, round, rounds, start_table, IsLeastTable, Respects}
 use Rattle.jn_transfer.specs.Sized.{EnvSized, Sized, Below, StaysInside}
 use Rattle.jn_transfer.specs.Covered.{Covered}
 use Rattle.jn_transfer.proofs.Monotone.{among_left, among_right, among_cases, edge_above}
-use Rattle.jn_transfer.proofs.Sized.{Fine, edge_fine, entry_sized}
+use Rattle.jn_transfer.proofs.Sized.{edge_fine, entry_sized}
 use Rattle.jn_flow.specs.Size.{IsTableOf, height}
+use Rattle.jn_flow.specs.Fits.{EdgeFits, AllFit, JoinFits, SlotSized}
 
 -- sizes
 pub same_size : (P : Program) (b : ℕ) (e f : Env) → EnvSized P b e → EnvSized P b f → SameSize e f
@@ -58,11 +62,8 @@ weight_bounded P b (Some e ∷ t) s =
     let g : bits_weight e.assigned ≤ length (own_keys P b) = subst (λ n. bits_weight e.assigned ≤ n) s.0.assigned (bits_bounded e.assigned) in
     omega arith
 
-pub AllFine : Program → ℕ → ℕ → List (ℕ × Env) → Type 0
-AllFine P b n xs = (x : ℕ × Env) → IsAmong x xs → Fine P b n x
-
 -- one edge
-module _ (P : Program) (b : ℕ) (t : Table) (x : ℕ × Env) (s : Sized P b t) (f : Fine P b (length t) x) where
+module _ (P : Program) (b : ℕ) (t : Table) (x : ℕ × Env) (s : Sized P b t) (f : EdgeFits P b (length t) x) where
   joined_above : (o : Option Env) → env_in t x.0 ≡ o → SlotWithin o (join_slot o x.1)
   joined_above None is = tt
   joined_above (Some e) is = env_join_left e x.1 (same_size P b e x.1 (sized_at P b t x.0 e s is) f.size)
@@ -90,11 +91,10 @@ pub record Flowed (P : Program) (b n : ℕ) (xs : List (ℕ × Env)) (t u : Tabl
   pub long : length u ≡ n
   pub has : (x : ℕ × Env) → IsAmong x xs → SlotWithin (Some x.1) (env_in u x.0)
 
-pub flow_all_has : (P : Program) (b n : ℕ) (xs : List (ℕ × Env)) (t : Table) → length t ≡ n → Sized P b t → AllFine P b n xs → Flowed P b n xs t (flow_all xs t)
-unfolding AllFine
+pub flow_all_has : (P : Program) (b n : ℕ) (xs : List (ℕ × Env)) (t : Table) → length t ≡ n → Sized P b t → AllFit P b n xs → Flowed P b n xs t (flow_all xs t)
 flow_all_has P b n [] t l s f = record { above = table_refl t; sized = s; long = l; has = λ x m. absurd m }
 flow_all_has P b n (y ∷ xs) t l s f =
-    let fy : Fine P b (length t) y = subst (λ m. Fine P b m y) (sym l) (f y (inl refl)) in
+    let fy : EdgeFits P b (length t) y = subst (λ m. EdgeFits P b m y) (sym l) (f y (inl refl)) in
     let l' = length-set t y.0 (join_slot (env_in t y.0) y.1) ∙ l in
     let r = flow_all_has P b n xs (flow_in y t) l' (flow_in_sized P b t y s fy) (λ x m. f x (inr m)) in
     record {
@@ -173,14 +173,14 @@ module _ (P : Program) (s : List Qualifier) (b : ℕ) where
     abbrev points : List Point
     points = points_of (body_at P b)
 
-    pub edges_fine : (t : Table) → Sized P b t → AllFine P b (length points) (all_edges P s b points 0 t)
-    unfolding AllFine
+    pub edges_fine : (t : Table) → Sized P b t → AllFit P b (length points) (all_edges P s b points 0 t)
     edges_fine t l x m =
         let c = comes points 0 t x m in
         let k = c.k in
         let here : k ≡ 0 + k = omega arith in
         let fits = inside.edges c.k c.pt c.point in
-        edge_fine P s b (length points) c.pt.kind (0 + c.k) c.env x (subst (λ n. Below (length points) (edges_of c.pt.kind n).first × Below (length points) (edges_of c.pt.kind n).second) here fits) (sized_at P b t (0 + c.k) c.env l c.reached) c.edge
+        let f = edge_fine P s b (length points) c.pt.kind (0 + c.k) c.env x (subst (λ n. Below (length points) (edges_of c.pt.kind n).first × Below (length points) (edges_of c.pt.kind n).second) here fits) (sized_at P b t (0 + c.k) c.env l c.reached) c.edge in
+        record { size = f.size; target = f.target }
 
     pub round_flows : (t : Table) → IsTableOf P b t → Flowed P b (length points) (all_edges P s b points 0 t) t (round P s b t)
     round_flows t v = flow_all_has P b (length points) (all_edges P s b points 0 t) t v.long v.sized (edges_fine t v.sized)
@@ -200,7 +200,10 @@ module _ (P : Program) (s : List Qualifier) (b : ℕ) where
     }
 
     -- the start
-    length-unreached : (n : ℕ) → length (replicate n (None {A = Env})) ≡ n
+    abbrev unreached : ℕ → Table
+    unreached n = replicate n None
+
+    length-unreached : (n : ℕ) → length (unreached n) ≡ n
     length-unreached zero = refl
     length-unreached (suc n) = ap suc (length-unreached n)
 
@@ -260,3 +263,117 @@ module _ (P : Program) (s : List Qualifier) (b : ℕ) where
               let here : p ≡ 0 + p = omega arith in
               subst (λ u. SlotWithin (Some x.1) (env_in u x.0)) is.stable (f.has x (is_edge points 0 p pt e t x point (subst (λ n. env_in t n ≡ Some e) here reached) (subst (λ n. IsAmong x (transfer P s b pt.kind n e)) here m)));
         }
+
+-- steps of the code's loops
+pub slot_sized : (P : Program) (b : ℕ) (t : Table) (p : ℕ) (o : Option Env) → Sized P b t → env_in t p ≡ o → SlotSized P b o
+slot_sized P b t p None s is = tt
+slot_sized P b t p (Some e) s is = sized_at P b t p e s is
+
+joins_fit_at : (P : Program) (b : ℕ) (t : Table) (p : ℕ) (e : Env) (o : Option Env) → Sized P b t → EnvSized P b e → env_in t p ≡ o → JoinFits o e
+joins_fit_at P b t p e None s l is = tt
+joins_fit_at P b t p e (Some a) s l is = same_size P b a e (sized_at P b t p a s is) l
+
+pub joins_fit : (P : Program) (b : ℕ) (t : Table) (p : ℕ) (e : Env) → Sized P b t → EnvSized P b e → JoinFits (env_in t p) e
+joins_fit P b t p e s l = joins_fit_at P b t p e (env_in t p) s l refl
+
+pub among_here : (xs : List (ℕ × Env)) (i : ℕ) (x : ℕ × Env) → i < length xs → x ≡ slice_index_or xs i x → IsAmong x (drop i xs)
+among_here [] i x lt is = absurd (omega (arith, lt))
+among_here (y ∷ xs) zero x lt is = inl is
+among_here (y ∷ xs) (suc i) x lt is = among_here xs i x (omega (arith, lt)) is
+
+pub among_later : (xs : List (ℕ × Env)) (i : ℕ) (x : ℕ × Env) → IsAmong x (drop (suc i) xs) → IsAmong x (drop i xs)
+among_later [] zero x m = m
+among_later [] (suc i) x m = m
+among_later (y ∷ xs) zero x m = inr m
+among_later (y ∷ xs) (suc i) x m = among_later xs i x m
+
+pub flow_step : (xs : List (ℕ × Env)) (i : ℕ) (x : ℕ × Env) (t new all : Table) → i < length xs → x ≡ slice_index_or xs i x → new ≡ flow_in x t → flow_all (drop i xs) t ≡ all → flow_all (drop (i + 1) xs) new ≡ all
+flow_step xs i x t new all lt is e h =
+    ap (λ u. flow_all (drop (i + 1) xs) u) (e ∙ ap (λ y. flow_in y t) is) ∙ sym (at_drop_more (λ ys. flow_all ys t) xs i x lt) ∙ h
+
+pub set_same_slot : (t : Table) (p : ℕ) → slice_set t p (env_in t p) ≡ t
+set_same_slot [] p = refl
+set_same_slot (a ∷ t) zero = refl
+set_same_slot (a ∷ t) (suc p) = ap (λ u. a ∷ u) (set_same_slot t p)
+
+-- how far the edges so far got
+pub record Progress (start t : Table) (changed : Bool) : Type 0 where
+  pub same : changed ≡ false → t ≡ start
+  pub heavier : changed ≡ true → weight start < weight t
+  pub above : TableWithin start t
+
+pub progress_step : (start t u : Table) (c d : Bool) → Progress start t c → TableWithin t u → (d ≡ false → u ≡ t) → (d ≡ true → u ≡ t → ⊥) → Progress start u (c || d)
+progress_step start t u true d p w same other = record {
+  same = λ h. absurd cc;
+  heavier = λ h. let a = p.heavier refl in let g = (table_grows t u w).0 in omega (arith, a, g);
+  above = table_trans start t u p.above w;
+}
+progress_step start t u false true p w same other = record {
+  same = λ h. absurd cc;
+  heavier = λ h. let a = (table_grows start t p.above).0 in ⊎_elim (λ lt. omega (arith, a, lt)) (λ le. absurd (other refl (sym ((table_grows t u w).1 le)))) (cases_lt (weight t) (weight u));
+  above = table_trans start t u p.above w;
+}
+progress_step start t u false false p w same other = record {
+  same = λ h. same refl ∙ p.same refl;
+  heavier = λ h. absurd cc;
+  above = table_trans start t u p.above w;
+}
+
+pub unlike : (start t : Table) → weight start < weight t → t ≡ start → ⊥
+unlike start t lt e = let h = ap weight e in omega (arith, lt, h)
+
+-- the edges of one point more
+pub edges_step : (P : Program) (s : List Qualifier) (b : ℕ) (points : List Point) (t : Table) (at : ℕ) (d : Point) (edges more next : List (ℕ × Env)) (all : List (ℕ × Env)) → at < length points → more ≡ edges_from P s b (slice_index_or points at d) at (env_in t at) → next ≡ edges ++ more → edges ++ all_edges P s b (drop at points) at t ≡ all → next ++ all_edges P s b (drop (at + 1) points) (at + 1) t ≡ all
+edges_step P s b points t at d edges more next all lt is e h =
+    let p = slice_index_or points at d in
+    let rest = all_edges P s b (drop (at + 1) points) (at + 1) t in
+    ap (λ r. r ++ rest) (e ∙ ap (λ m. edges ++ m) is)
+    ∙ append_assoc edges (edges_from P s b p at (env_in t at)) rest
+    ∙ ap (λ r. edges ++ r) (sym (at_drop_more (λ pts. all_edges P s b pts at t) points at d lt))
+    ∙ h
+
+-- a list that is filled up
+pad_one : (qs : List Qualifier) (i n : ℕ) → pad_quals (drop i qs) (suc n) ≡ slice_index_or qs i no_qual ∷ pad_quals (drop (suc i) qs) n
+pad_one [] zero n = refl
+pad_one [] (suc i) n = refl
+pad_one (q ∷ qs) zero n = refl
+pad_one (q ∷ qs) (suc i) n = pad_one qs i n
+
+pub pad_step : (qs quals more all : List Qualifier) (i n : ℕ) → i < n → more ≡ quals ++ slice_index_or qs i no_qual ∷ [] → quals ++ pad_quals (drop i qs) (n - i) ≡ all → more ++ pad_quals (drop (i + 1) qs) (n - (i + 1)) ≡ all
+pad_step qs quals more all i n lt e h =
+    let q = slice_index_or qs i no_qual in
+    let k = n - (i + 1) in
+    let next : n - i ≡ suc k = omega (arith, lt) in
+    ap (λ m. m ++ pad_quals (drop (i + 1) qs) k) e
+    ∙ append_assoc quals (q ∷ []) (pad_quals (drop (i + 1) qs) k)
+    ∙ ap (λ m. quals ++ m) (ap (λ j. q ∷ pad_quals (drop j qs) k) (add-one i) ∙ sym (pad_one qs i k))
+    ∙ ap (λ m. quals ++ pad_quals (drop i qs) m) (sym next)
+    ∙ h
+
+pub pad_end : (qs quals all : List Qualifier) (n i : ℕ) → n ≤ i → quals ++ pad_quals (drop i qs) (n - i) ≡ all → quals ≡ all
+pad_end qs quals all n i le h =
+    let none_left : n - i ≡ 0 = omega (arith, le) in
+    sym (append-nil quals) ∙ ap (λ m. quals ++ pad_quals (drop i qs) m) (sym none_left) ∙ h
+
+pub no_bits_replicate : {K : Type 0} (keys : List K) → replicate (length keys) false ≡ no_bits keys
+no_bits_replicate [] = refl
+no_bits_replicate (k ∷ keys) = ap (λ bs. false ∷ bs) (no_bits_replicate keys)
+
+pub round_heavier : (P : Program) (s : List Qualifier) (b : ℕ) → StaysInside P b → (t new : Table) → IsTableOf P b t → new ≡ round P s b t → (new ≡ t → ⊥) → height P b - weight new < height P b - weight t
+round_heavier P s b inside t new v e other =
+    let c = climb P s b inside in
+    let bound : weight new ≤ height P b = subst (λ u. weight u ≤ height P b) (sym e) (c.bounded (round P s b t) (c.kept t v)) in
+    ⊎_elim
+    (λ (lt : weight t < weight new). omega (arith, lt, bound))
+    (λ (le : weight new ≤ weight t). absurd (other (e ∙ settled (IsTableOf P b) TableWithin weight (height P b) (round P s b) c t v (subst (λ u. weight u ≤ weight t) e le))))
+    (cases_lt (weight t) (weight new))
+
+pub flow_ended : (xs : List (ℕ × Env)) (i : ℕ) (t all : Table) → length xs ≤ i → flow_all (drop i xs) t ≡ all → t ≡ all
+flow_ended [] zero t all le h = h
+flow_ended [] (suc i) t all le h = h
+flow_ended (y ∷ xs) zero t all le h = absurd (omega (arith, le))
+flow_ended (y ∷ xs) (suc i) t all le h = flow_ended xs i t all (omega (arith, le)) h
+
+pub entry_is : (P : Program) (s : List Qualifier) (b : ℕ) (info : Body) (e : Env) → body_at P b ≡ Some info → e.quals ≡ pad_quals (given_quals s (method_at P info.method.0)) (length info.regs) → e.facts ≡ no_bits (fact_keys P b) → e.assigned ≡ no_bits (own_keys P b) → e ≡ entry_env P s b
+entry_is P s b info e at q f g =
+    same_env e (entry_env P s b) (q ∙ ap (λ o. pad_quals (given_quals s (method_of_body P o)) (regs_of o)) (sym at)) f g
