@@ -1,2 +1,15 @@
 // What a point makes of an environment, least tables, and the rules.
 #![tactic(auto)]
+
+pub mod analysis;
+pub mod bits;
+pub mod creation;
+pub mod edges;
+pub mod keys;
+pub mod law;
+pub mod lookup;
+
+
+pub use analysis::{Analysis, Edge};
+pub use keys::{find_keys, FieldKey, Keys};
+pub use edges::transfer;

@@ -1,0 +1,379 @@
+-- Whole rounds climb, so they end, and in the least table that respects all edges.
+use Rattle.std.proofs.Common.{◌≡◌, ℕ, zero, suc, ◌+◌, ◌-◌, ◌*◌, ◌<◌, ◌≤◌, Bool, true, false, ◌⊎◌, inl, inr, ⊎_elim, List, [], ◌∷◌, ◌++◌, ◌||◌, length, drop, replicate, Option, Some, None, refl, sym, ap, ◌∙◌, subst, add-one, append_assoc, append-nil, arith, length-set}
+use Rattle.std.specs.Prelude.{slice_get, slice_set, slice_index_or, IsTrue}
+use Rattle.std.proofs.lemmas.List.{get_or-set_same, at_drop_more}
+use Rattle.std.proofs.lemmas.Bool.{cases_lt}
+use Rattle.jn_fixpoint.specs.Climb.{IsLeastFixpoint, Climb, Bounds}
+use Rattle.jn_fixpoint.specs.Climb.{rounds as rounds_of}
+use Rattle.jn_fixpoint.proofs.Fixpoint.{unique, settled, valid, above, below}
+use Rattle.jn_points.specs.declared.point.Point.{Point}
+use Rattle.jn_points.specs.declared.program.Body.{Body}
+use Rattle.jn_points.specs.declared.program.Program.{Program}
+use Rattle.jn_points.specs.Edges.{edges_of}
+use Rattle.jn_points.specs.Lookup.{points_of, regs_of, body_at, point_at, method_at, method_of_body}
+use Rattle.jn_quals.specs.Qualifier.{Qualifier}
+use Rattle.jn_env.specs.declared.env.Env.{Env}
+use Rattle.jn_env.specs.Order.{Table, env_in, EnvWithin, SlotWithin, TableWithin, join_env, join_slot, join_quals, meet_bits}
+use Rattle.jn_env.specs.Size.{SameSize}
+use Rattle.jn_env.specs.Weight.{weight, quals_weight, bits_weight}
+use Rattle.jn_env.proofs.Order.{env_refl, env_join_left, env_join_right, length-join_quals, length-meet_bits, slot_refl, slot_trans, slot_join_least, table_refl, table_trans, table_at, table_set_within, table_set_above}
+use Rattle.jn_env.proofs.Weight.{same_env, table_grows, quals_bounded, bits_bounded}
+use Rattle.jn_transfer.specs.Keys.{no_bits, fact_keys, own_keys}
+use Rattle.jn_quals.specs.Order.{no_qual}
+use Rattle.jn_transfer.specs.Transfer.{transfer, entry_env, pad_quals, given_quals, IsAmong}
+use Rattle.jn_transfer.specs.Least.{flow_in, flow_all, edges_from, all_edges, round, rounds, start_table, IsLeastTable, Respects}
+use Rattle.jn_transfer.specs.Sized.{EnvSized, Sized, Below, StaysInside}
+use Rattle.jn_transfer.specs.Covered.{Covered}
+use Rattle.jn_transfer.proofs.Monotone.{among_left, among_right, among_cases, edge_above}
+use Rattle.jn_transfer.proofs.Sized.{edge_fine, entry_sized}
+use Rattle.jn_flow.specs.Size.{IsTableOf, height}
+use Rattle.jn_flow.specs.Fits.{EdgeFits, AllFit, JoinFits, SlotSized}
+
+-- sizes
+pub same_size : (P : Program) (b : ℕ) (e f : Env) → EnvSized P b e → EnvSized P b f → SameSize e f
+same_size P b e f l m = record { quals = l.quals ∙ sym m.quals; facts = l.facts ∙ sym m.facts; assigned = l.assigned ∙ sym m.assigned }
+
+join_sized : (P : Program) (b : ℕ) (e f : Env) → EnvSized P b e → EnvSized P b f → EnvSized P b (join_env e f)
+join_sized P b e f l m =
+    let s = same_size P b e f l m in
+    record { quals = length-join_quals e.quals f.quals s.quals ∙ m.quals; facts = length-meet_bits e.facts f.facts s.facts ∙ m.facts; assigned = length-meet_bits e.assigned f.assigned s.assigned ∙ m.assigned }
+
+pub sized_at : (P : Program) (b : ℕ) (t : Table) (p : ℕ) (e : Env) → Sized P b t → env_in t p ≡ Some e → EnvSized P b e
+sized_at P b [] p e s is = cc
+sized_at P b (None ∷ t) zero e s is = cc
+sized_at P b (None ∷ t) (suc p) e s is = sized_at P b t p e s is
+sized_at P b (Some f ∷ t) zero e s is = let same : f ≡ e = cc in subst (λ g. EnvSized P b g) same s.0
+sized_at P b (Some f ∷ t) (suc p) e s is = sized_at P b t p e s.1 is
+
+pub sized_set : (P : Program) (b : ℕ) (t : Table) (p : ℕ) (e : Env) → Sized P b t → EnvSized P b e → Sized P b (slice_set t p (Some e))
+sized_set P b [] p e s l = tt
+sized_set P b (None ∷ t) zero e s l = (l, s)
+sized_set P b (None ∷ t) (suc p) e s l = sized_set P b t p e s l
+sized_set P b (Some f ∷ t) zero e s l = (l, s.1)
+sized_set P b (Some f ∷ t) (suc p) e s l = (s.0, sized_set P b t p e s.1 l)
+
+pub weight_bounded : (P : Program) (b : ℕ) (t : Table) → Sized P b t → weight t ≤ length t * (3 * regs_of (body_at P b) + length (fact_keys P b) + length (own_keys P b) + 1)
+weight_bounded P b [] s = omega arith
+weight_bounded P b (None ∷ t) s = let h = weight_bounded P b t s in omega arith
+weight_bounded P b (Some e ∷ t) s =
+    let h = weight_bounded P b t s.1 in
+    let q : quals_weight e.quals ≤ 3 * regs_of (body_at P b) = subst (λ n. quals_weight e.quals ≤ 3 * n) s.0.quals (quals_bounded e.quals) in
+    let f : bits_weight e.facts ≤ length (fact_keys P b) = subst (λ n. bits_weight e.facts ≤ n) s.0.facts (bits_bounded e.facts) in
+    let g : bits_weight e.assigned ≤ length (own_keys P b) = subst (λ n. bits_weight e.assigned ≤ n) s.0.assigned (bits_bounded e.assigned) in
+    omega arith
+
+-- one edge
+module _ (P : Program) (b : ℕ) (t : Table) (x : ℕ × Env) (s : Sized P b t) (f : EdgeFits P b (length t) x) where
+  joined_above : (o : Option Env) → env_in t x.0 ≡ o → SlotWithin o (join_slot o x.1)
+  joined_above None is = tt
+  joined_above (Some e) is = env_join_left e x.1 (same_size P b e x.1 (sized_at P b t x.0 e s is) f.size)
+
+  joined_has : (o : Option Env) → env_in t x.0 ≡ o → SlotWithin (Some x.1) (join_slot o x.1)
+  joined_has None is = env_refl x.1
+  joined_has (Some e) is = env_join_right e x.1 (same_size P b e x.1 (sized_at P b t x.0 e s is) f.size)
+
+  joined_sized : (o : Option Env) → env_in t x.0 ≡ o → Sized P b (slice_set t x.0 (join_slot o x.1))
+  joined_sized None is = sized_set P b t x.0 x.1 s f.size
+  joined_sized (Some e) is = sized_set P b t x.0 (join_env e x.1) s (join_sized P b e x.1 (sized_at P b t x.0 e s is) f.size)
+
+  pub flow_in_above : TableWithin t (flow_in x t)
+  flow_in_above = table_set_above t x.0 (join_slot (env_in t x.0) x.1) (joined_above (env_in t x.0) refl)
+
+  flow_in_has : SlotWithin (Some x.1) (env_in (flow_in x t) x.0)
+  flow_in_has = subst (λ o. SlotWithin (Some x.1) o) (sym (get_or-set_same t x.0 (join_slot (env_in t x.0) x.1) None f.target)) (joined_has (env_in t x.0) refl)
+
+  pub flow_in_sized : Sized P b (flow_in x t)
+  flow_in_sized = joined_sized (env_in t x.0) refl
+
+pub record Flowed (P : Program) (b n : ℕ) (xs : List (ℕ × Env)) (t u : Table) : Type 0 where
+  pub above : TableWithin t u
+  pub sized : Sized P b u
+  pub long : length u ≡ n
+  pub has : (x : ℕ × Env) → IsAmong x xs → SlotWithin (Some x.1) (env_in u x.0)
+
+pub flow_all_has : (P : Program) (b n : ℕ) (xs : List (ℕ × Env)) (t : Table) → length t ≡ n → Sized P b t → AllFit P b n xs → Flowed P b n xs t (flow_all xs t)
+flow_all_has P b n [] t l s f = record { above = table_refl t; sized = s; long = l; has = λ x m. absurd m }
+flow_all_has P b n (y ∷ xs) t l s f =
+    let fy : EdgeFits P b (length t) y = subst (λ m. EdgeFits P b m y) (sym l) (f y (inl refl)) in
+    let l' = length-set t y.0 (join_slot (env_in t y.0) y.1) ∙ l in
+    let r = flow_all_has P b n xs (flow_in y t) l' (flow_in_sized P b t y s fy) (λ x m. f x (inr m)) in
+    record {
+      above = table_trans t (flow_in y t) (flow_all xs (flow_in y t)) (flow_in_above P b t y s fy) r.above;
+      sized = r.sized;
+      long = r.long;
+      has = λ x m. ⊎_elim (λ e. first r x e (flow_in_has P b t y s fy)) (λ h. r.has x h) m;
+    }
+  where
+    first : Flowed P b n xs (flow_in y t) (flow_all xs (flow_in y t)) → (x : ℕ × Env) → x ≡ y → SlotWithin (Some y.1) (env_in (flow_in y t) y.0) → SlotWithin (Some x.1) (env_in (flow_all xs (flow_in y t)) x.0)
+    first r x e h = subst (λ (z : ℕ × Env). SlotWithin (Some z.1) (env_in (flow_all xs (flow_in y t)) z.0)) (sym e) (slot_trans (Some y.1) (env_in (flow_in y t) y.0) (env_in (flow_all xs (flow_in y t)) y.0) h (table_at (flow_in y t) (flow_all xs (flow_in y t)) y.0 r.above))
+
+flow_all_least : (xs : List (ℕ × Env)) (t u : Table) → TableWithin t u → ((x : ℕ × Env) → IsAmong x xs → SlotWithin (Some x.1) (env_in u x.0)) → TableWithin (flow_all xs t) u
+flow_all_least [] t u w h = w
+flow_all_least (y ∷ xs) t u w h =
+    flow_all_least xs (flow_in y t) u (table_set_within t u y.0 (join_slot (env_in t y.0) y.1) w (slot_join_least (env_in t y.0) y.1 (env_in u y.0) (table_at t u y.0 w) (h y (inl refl)))) (λ x m. h x (inr m))
+
+module _ (P : Program) (s : List Qualifier) (b : ℕ) where
+  -- where an edge of the table comes from
+  record Comes (points : List Point) (p0 : ℕ) (t : Table) (x : ℕ × Env) : Type 0 where
+    pub k : ℕ
+    pub pt : Point
+    pub env : Env
+    pub point : slice_get points k ≡ Some pt
+    pub reached : env_in t (p0 + k) ≡ Some env
+    pub edge : IsAmong x (transfer P s b pt.kind (p0 + k) env)
+
+  comes_here : (pt : Point) (pts : List Point) (p : ℕ) (t : Table) (x : ℕ × Env) (o : Option Env) → env_in t p ≡ o → IsAmong x (edges_from P s b pt p o) → Comes (pt ∷ pts) p t x
+  comes_here pt pts p t x None is m = absurd m
+  comes_here pt pts p t x (Some e) is m =
+      let here : p ≡ p + 0 = omega arith in
+      record { k = 0; pt = pt; env = e; point = refl; reached = subst (λ n. env_in t n ≡ Some e) here is; edge = subst (λ n. IsAmong x (transfer P s b pt.kind n e)) here m }
+
+  comes_later : (pt : Point) (pts : List Point) (p : ℕ) (t : Table) (x : ℕ × Env) → Comes pts (p + 1) t x → Comes (pt ∷ pts) p t x
+  comes_later pt pts p t x c =
+      let k = c.k in
+      let next : (p + 1) + k ≡ p + suc k = omega arith in
+      record { k = suc c.k; pt = c.pt; env = c.env; point = c.point; reached = subst (λ n. env_in t n ≡ Some c.env) next c.reached; edge = subst (λ n. IsAmong x (transfer P s b c.pt.kind n c.env)) next c.edge }
+
+  comes : (points : List Point) (p : ℕ) (t : Table) (x : ℕ × Env) → IsAmong x (all_edges P s b points p t) → Comes points p t x
+  comes [] p t x m = absurd m
+  comes (pt ∷ pts) p t x m =
+      ⊎_elim (λ h. comes_here pt pts p t x (env_in t p) refl h) (λ h. comes_later pt pts p t x (comes pts (p + 1) t x h)) (among_cases x (edges_from P s b pt p (env_in t p)) (all_edges P s b pts (p + 1) t) m)
+
+  -- and each edge of a reached point is among them
+  is_edge : (points : List Point) (p0 k : ℕ) (pt : Point) (e : Env) (t : Table) (x : ℕ × Env) → slice_get points k ≡ Some pt → env_in t (p0 + k) ≡ Some e → IsAmong x (transfer P s b pt.kind (p0 + k) e) → IsAmong x (all_edges P s b points p0 t)
+  is_edge [] p0 k pt e t x at is m = cc
+  is_edge (pt' ∷ pts) p0 zero pt e t x at is m =
+      let here : p0 + 0 ≡ p0 = omega arith in
+      let same : pt' ≡ pt = cc in
+      among_left x (edges_from P s b pt' p0 (env_in t p0)) (all_edges P s b pts (p0 + 1) t)
+      (subst (λ q. IsAmong x (edges_from P s b q p0 (env_in t p0))) (sym same)
+      (subst (λ o. IsAmong x (edges_from P s b pt p0 o)) (sym (subst (λ n. env_in t n ≡ Some e) here is))
+      (subst (λ n. IsAmong x (transfer P s b pt.kind n e)) here m)))
+  is_edge (pt' ∷ pts) p0 (suc k) pt e t x at is m =
+      let next : p0 + suc k ≡ (p0 + 1) + k = omega arith in
+      among_right x (edges_from P s b pt' p0 (env_in t p0)) (all_edges P s b pts (p0 + 1) t)
+      (is_edge pts (p0 + 1) k pt e t x at (subst (λ n. env_in t n ≡ Some e) next is) (subst (λ n. IsAmong x (transfer P s b pt.kind n e)) next m))
+
+  -- the least table is the least fixpoint of the round above the start
+  rounds_same : (n : ℕ) (t : Table) → rounds P s b n t ≡ rounds_of (round P s b) n t
+  rounds_same zero t = refl
+  rounds_same (suc n) t = ap (λ u. round P s b u) (rounds_same n t)
+
+  pub is_fixpoint : (t : Table) → IsLeastTable P s b t → IsLeastFixpoint (round P s b) (start_table P s b) t
+  is_fixpoint t is = record { turns = is.turns; made = is.made ∙ rounds_same is.turns (start_table P s b); stable = is.stable }
+
+  pub fixpoint_is : (t : Table) → IsLeastFixpoint (round P s b) (start_table P s b) t → IsLeastTable P s b t
+  fixpoint_is t is = record { turns = is.turns; made = is.made ∙ sym (rounds_same is.turns (start_table P s b)); stable = is.stable }
+
+  -- there is one
+  pub least_unique : (t u : Table) → IsLeastTable P s b t → IsLeastTable P s b u → t ≡ u
+  least_unique t u is iu = unique (round P s b) (start_table P s b) t u (is_fixpoint t is) (is_fixpoint u iu)
+
+  module _ (inside : StaysInside P b) where
+    abbrev points : List Point
+    points = points_of (body_at P b)
+
+    pub edges_fine : (t : Table) → Sized P b t → AllFit P b (length points) (all_edges P s b points 0 t)
+    edges_fine t l x m =
+        let c = comes points 0 t x m in
+        let k = c.k in
+        let here : k ≡ 0 + k = omega arith in
+        let fits = inside.edges c.k c.pt c.point in
+        let f = edge_fine P s b (length points) c.pt.kind (0 + c.k) c.env x (subst (λ n. Below (length points) (edges_of c.pt.kind n).first × Below (length points) (edges_of c.pt.kind n).second) here fits) (sized_at P b t (0 + c.k) c.env l c.reached) c.edge in
+        record { size = f.size; target = f.target }
+
+    pub round_flows : (t : Table) → IsTableOf P b t → Flowed P b (length points) (all_edges P s b points 0 t) t (round P s b t)
+    round_flows t v = flow_all_has P b (length points) (all_edges P s b points 0 t) t v.long v.sized (edges_fine t v.sized)
+
+    pub round_table : (t : Table) → IsTableOf P b t → IsTableOf P b (round P s b t)
+    round_table t v = let f = round_flows t v in record { long = f.long; sized = f.sized }
+
+    pub climb : Climb (IsTableOf P b) TableWithin weight (height P b) (round P s b)
+    climb = record {
+      self = table_refl;
+      chain = table_trans;
+      lighter = λ t u w. (table_grows t u w).0;
+      equal = λ t u w. (table_grows t u w).1;
+      bounded = λ t v. subst (λ n. weight t ≤ n * (3 * regs_of (body_at P b) + length (fact_keys P b) + length (own_keys P b) + 1)) v.long (weight_bounded P b t v.sized);
+      kept = round_table;
+      climbs = λ t v. (round_flows t v).above;
+    }
+
+    -- the start
+    abbrev unreached : ℕ → Table
+    unreached n = replicate n None
+
+    length-unreached : (n : ℕ) → length (unreached n) ≡ n
+    length-unreached zero = refl
+    length-unreached (suc n) = ap suc (length-unreached n)
+
+    unreached_sized : (n : ℕ) → Sized P b (replicate n None)
+    unreached_sized zero = tt
+    unreached_sized (suc n) = unreached_sized n
+
+    pub start_is_table : IsTableOf P b (start_table P s b)
+    start_is_table = record {
+      long = length-set (replicate (length points) None) 0 (Some (entry_env P s b)) ∙ length-unreached (length points);
+      sized = sized_set P b (replicate (length points) None) 0 (entry_env P s b) (unreached_sized (length points)) (entry_sized P s b 0);
+    }
+
+    unreached_within : (u : Table) → TableWithin (replicate (length u) None) u
+    unreached_within [] = tt
+    unreached_within (a ∷ u) = (tt, unreached_within u)
+
+    start_within : (u : Table) → length u ≡ length points → Respects P s b u → TableWithin (start_table P s b) u
+    start_within u l r = table_set_within (replicate (length points) None) u 0 (Some (entry_env P s b)) (subst (λ n. TableWithin (replicate n None) u) l (unreached_within u)) r.entry
+
+    -- no round leaves a table that respects all edges
+    respecting_bounds : (u : Table) → Respects P s b u → Bounds (IsTableOf P b) TableWithin (round P s b) u
+    respecting_bounds u r t v w = flow_all_least (all_edges P s b points 0 t) t u w (λ x m. within_u x (comes points 0 t x m))
+      where
+        under : (x : ℕ × Env) (c : Comes points 0 t x) (o : Option Env) → env_in u c.k ≡ o → SlotWithin (Some c.env) o → SlotWithin (Some x.1) (env_in u x.0)
+        under x c None is h = absurd h
+        under x c (Some f) is h =
+            let k = c.k in
+            let here : 0 + k ≡ k = omega arith in
+            let a = edge_above P s b c.pt.kind c.k c.env f x h (subst (λ n. IsAmong x (transfer P s b c.pt.kind n c.env)) here c.edge) in
+            slot_trans (Some x.1) (Some a.env) (env_in u x.0) a.above (r.edges c.k c.pt f c.point is (x.0, a.env) a.there)
+
+        within_u : (x : ℕ × Env) → Comes points 0 t x → SlotWithin (Some x.1) (env_in u x.0)
+        within_u x c =
+            let k = c.k in
+            let here : 0 + k ≡ k = omega arith in
+            let at : env_in t c.k ≡ Some c.env = subst (λ n. env_in t n ≡ Some c.env) here c.reached in
+            under x c (env_in u c.k) refl (subst (λ o. SlotWithin o (env_in u c.k)) at (table_at t u c.k w))
+
+    pub least_is_table : (t : Table) → IsLeastTable P s b t → IsTableOf P b t
+    least_is_table t is = valid (IsTableOf P b) TableWithin weight (height P b) (round P s b) climb (start_table P s b) t start_is_table (is_fixpoint t is)
+
+    -- it is within every table that respects all edges
+    pub least_least : (t u : Table) → IsLeastTable P s b t → length u ≡ length points → Respects P s b u → TableWithin t u
+    least_least t u is l r = below (IsTableOf P b) TableWithin weight (height P b) (round P s b) climb (start_table P s b) t u start_is_table (is_fixpoint t is) (start_within u l r) (respecting_bounds u r)
+
+    -- and respects them itself
+    pub least_respects : (t : Table) → IsLeastTable P s b t → Respects P s b t
+    least_respects t is =
+        let v = least_is_table t is in
+        let f = round_flows t v in
+        let first : env_in (start_table P s b) 0 ≡ Some (entry_env P s b) = get_or-set_same (replicate (length points) None) 0 (Some (entry_env P s b)) None (let l = length-unreached (length points) in let h = inside.some in omega arith) in
+        let over = above (IsTableOf P b) TableWithin weight (height P b) (round P s b) climb (start_table P s b) t start_is_table (is_fixpoint t is) in
+        record {
+          entry = subst (λ o. SlotWithin o (env_in t 0)) first (table_at (start_table P s b) t 0 over);
+          edges = λ p pt e point reached x m.
+              let here : p ≡ 0 + p = omega arith in
+              subst (λ u. SlotWithin (Some x.1) (env_in u x.0)) is.stable (f.has x (is_edge points 0 p pt e t x point (subst (λ n. env_in t n ≡ Some e) here reached) (subst (λ n. IsAmong x (transfer P s b pt.kind n e)) here m)));
+        }
+
+-- steps of the code's loops
+pub slot_sized : (P : Program) (b : ℕ) (t : Table) (p : ℕ) (o : Option Env) → Sized P b t → env_in t p ≡ o → SlotSized P b o
+slot_sized P b t p None s is = tt
+slot_sized P b t p (Some e) s is = sized_at P b t p e s is
+
+joins_fit_at : (P : Program) (b : ℕ) (t : Table) (p : ℕ) (e : Env) (o : Option Env) → Sized P b t → EnvSized P b e → env_in t p ≡ o → JoinFits o e
+joins_fit_at P b t p e None s l is = tt
+joins_fit_at P b t p e (Some a) s l is = same_size P b a e (sized_at P b t p a s is) l
+
+pub joins_fit : (P : Program) (b : ℕ) (t : Table) (p : ℕ) (e : Env) → Sized P b t → EnvSized P b e → JoinFits (env_in t p) e
+joins_fit P b t p e s l = joins_fit_at P b t p e (env_in t p) s l refl
+
+pub among_here : (xs : List (ℕ × Env)) (i : ℕ) (x : ℕ × Env) → i < length xs → x ≡ slice_index_or xs i x → IsAmong x (drop i xs)
+among_here [] i x lt is = absurd (omega (arith, lt))
+among_here (y ∷ xs) zero x lt is = inl is
+among_here (y ∷ xs) (suc i) x lt is = among_here xs i x (omega (arith, lt)) is
+
+pub among_later : (xs : List (ℕ × Env)) (i : ℕ) (x : ℕ × Env) → IsAmong x (drop (suc i) xs) → IsAmong x (drop i xs)
+among_later [] zero x m = m
+among_later [] (suc i) x m = m
+among_later (y ∷ xs) zero x m = inr m
+among_later (y ∷ xs) (suc i) x m = among_later xs i x m
+
+pub flow_step : (xs : List (ℕ × Env)) (i : ℕ) (x : ℕ × Env) (t new all : Table) → i < length xs → x ≡ slice_index_or xs i x → new ≡ flow_in x t → flow_all (drop i xs) t ≡ all → flow_all (drop (i + 1) xs) new ≡ all
+flow_step xs i x t new all lt is e h =
+    ap (λ u. flow_all (drop (i + 1) xs) u) (e ∙ ap (λ y. flow_in y t) is) ∙ sym (at_drop_more (λ ys. flow_all ys t) xs i x lt) ∙ h
+
+pub set_same_slot : (t : Table) (p : ℕ) → slice_set t p (env_in t p) ≡ t
+set_same_slot [] p = refl
+set_same_slot (a ∷ t) zero = refl
+set_same_slot (a ∷ t) (suc p) = ap (λ u. a ∷ u) (set_same_slot t p)
+
+-- how far the edges so far got
+pub record Progress (start t : Table) (changed : Bool) : Type 0 where
+  pub same : changed ≡ false → t ≡ start
+  pub heavier : changed ≡ true → weight start < weight t
+  pub above : TableWithin start t
+
+pub progress_step : (start t u : Table) (c d : Bool) → Progress start t c → TableWithin t u → (d ≡ false → u ≡ t) → (d ≡ true → u ≡ t → ⊥) → Progress start u (c || d)
+progress_step start t u true d p w same other = record {
+  same = λ h. absurd cc;
+  heavier = λ h. let a = p.heavier refl in let g = (table_grows t u w).0 in omega (arith, a, g);
+  above = table_trans start t u p.above w;
+}
+progress_step start t u false true p w same other = record {
+  same = λ h. absurd cc;
+  heavier = λ h. let a = (table_grows start t p.above).0 in ⊎_elim (λ lt. omega (arith, a, lt)) (λ le. absurd (other refl (sym ((table_grows t u w).1 le)))) (cases_lt (weight t) (weight u));
+  above = table_trans start t u p.above w;
+}
+progress_step start t u false false p w same other = record {
+  same = λ h. same refl ∙ p.same refl;
+  heavier = λ h. absurd cc;
+  above = table_trans start t u p.above w;
+}
+
+pub unlike : (start t : Table) → weight start < weight t → t ≡ start → ⊥
+unlike start t lt e = let h = ap weight e in omega (arith, lt, h)
+
+-- the edges of one point more
+pub edges_step : (P : Program) (s : List Qualifier) (b : ℕ) (points : List Point) (t : Table) (at : ℕ) (d : Point) (edges more next : List (ℕ × Env)) (all : List (ℕ × Env)) → at < length points → more ≡ edges_from P s b (slice_index_or points at d) at (env_in t at) → next ≡ edges ++ more → edges ++ all_edges P s b (drop at points) at t ≡ all → next ++ all_edges P s b (drop (at + 1) points) (at + 1) t ≡ all
+edges_step P s b points t at d edges more next all lt is e h =
+    let p = slice_index_or points at d in
+    let rest = all_edges P s b (drop (at + 1) points) (at + 1) t in
+    ap (λ r. r ++ rest) (e ∙ ap (λ m. edges ++ m) is)
+    ∙ append_assoc edges (edges_from P s b p at (env_in t at)) rest
+    ∙ ap (λ r. edges ++ r) (sym (at_drop_more (λ pts. all_edges P s b pts at t) points at d lt))
+    ∙ h
+
+-- a list that is filled up
+pad_one : (qs : List Qualifier) (i n : ℕ) → pad_quals (drop i qs) (suc n) ≡ slice_index_or qs i no_qual ∷ pad_quals (drop (suc i) qs) n
+pad_one [] zero n = refl
+pad_one [] (suc i) n = refl
+pad_one (q ∷ qs) zero n = refl
+pad_one (q ∷ qs) (suc i) n = pad_one qs i n
+
+pub pad_step : (qs quals more all : List Qualifier) (i n : ℕ) → i < n → more ≡ quals ++ slice_index_or qs i no_qual ∷ [] → quals ++ pad_quals (drop i qs) (n - i) ≡ all → more ++ pad_quals (drop (i + 1) qs) (n - (i + 1)) ≡ all
+pad_step qs quals more all i n lt e h =
+    let q = slice_index_or qs i no_qual in
+    let k = n - (i + 1) in
+    let next : n - i ≡ suc k = omega (arith, lt) in
+    ap (λ m. m ++ pad_quals (drop (i + 1) qs) k) e
+    ∙ append_assoc quals (q ∷ []) (pad_quals (drop (i + 1) qs) k)
+    ∙ ap (λ m. quals ++ m) (ap (λ j. q ∷ pad_quals (drop j qs) k) (add-one i) ∙ sym (pad_one qs i k))
+    ∙ ap (λ m. quals ++ pad_quals (drop i qs) m) (sym next)
+    ∙ h
+
+pub pad_end : (qs quals all : List Qualifier) (n i : ℕ) → n ≤ i → quals ++ pad_quals (drop i qs) (n - i) ≡ all → quals ≡ all
+pad_end qs quals all n i le h =
+    let none_left : n - i ≡ 0 = omega (arith, le) in
+    sym (append-nil quals) ∙ ap (λ m. quals ++ pad_quals (drop i qs) m) (sym none_left) ∙ h
+
+pub no_bits_replicate : {K : Type 0} (keys : List K) → replicate (length keys) false ≡ no_bits keys
+no_bits_replicate [] = refl
+no_bits_replicate (k ∷ keys) = ap (λ bs. false ∷ bs) (no_bits_replicate keys)
+
+pub round_heavier : (P : Program) (s : List Qualifier) (b : ℕ) → StaysInside P b → (t new : Table) → IsTableOf P b t → new ≡ round P s b t → (new ≡ t → ⊥) → height P b - weight new < height P b - weight t
+round_heavier P s b inside t new v e other =
+    let c = climb P s b inside in
+    let bound : weight new ≤ height P b = subst (λ u. weight u ≤ height P b) (sym e) (c.bounded (round P s b t) (c.kept t v)) in
+    ⊎_elim
+    (λ (lt : weight t < weight new). omega (arith, lt, bound))
+    (λ (le : weight new ≤ weight t). absurd (other (e ∙ settled (IsTableOf P b) TableWithin weight (height P b) (round P s b) c t v (subst (λ u. weight u ≤ weight t) e le))))
+    (cases_lt (weight t) (weight new))
+
+pub flow_ended : (xs : List (ℕ × Env)) (i : ℕ) (t all : Table) → length xs ≤ i → flow_all (drop i xs) t ≡ all → t ≡ all
+flow_ended [] zero t all le h = h
+flow_ended [] (suc i) t all le h = h
+flow_ended (y ∷ xs) zero t all le h = absurd (omega (arith, le))
+flow_ended (y ∷ xs) (suc i) t all le h = flow_ended xs i t all (omega (arith, le)) h
+
+pub entry_is : (P : Program) (s : List Qualifier) (b : ℕ) (info : Body) (e : Env) → body_at P b ≡ Some info → e.quals ≡ pad_quals (given_quals s (method_at P info.method.0)) (length info.regs) → e.facts ≡ no_bits (fact_keys P b) → e.assigned ≡ no_bits (own_keys P b) → e ≡ entry_env P s b
+entry_is P s b info e at q f g =
+    same_env e (entry_env P s b) (q ∙ ap (λ o. pad_quals (given_quals s (method_of_body P o)) (regs_of o)) (sym at)) f g

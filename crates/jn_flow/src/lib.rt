@@ -1,0 +1,12 @@
+// The least table of a body, by whole rounds.
+#![tactic(auto)]
+
+pub mod initial;
+pub mod law;
+pub mod least;
+pub mod rounds;
+pub mod table;
+
+pub use initial::entry;
+pub use least::flow;
+pub use table::FlowTable;
