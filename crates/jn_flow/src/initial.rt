@@ -5,13 +5,14 @@ ghost use Rattle.jn_points.specs.Lookup.{method_at};
 ghost use Rattle.jn_sigs.specs.Signature.{slot_quals};
 ghost use Rattle.jn_transfer.specs.Transfer.{pad_quals, given_quals, this_qual, entry_env};
 ghost use Rattle.jn_transfer.specs.Code.{AreKeys};
+ghost use Rattle.jn_transfer.specs.Sized.{EnvSized};
 
 use jn_base::{OutOfMemory, Seq, SlotNo};
 use jn_env::Env;
 use jn_points::{Body, Method, Program};
 use jn_quals::Qual;
-use jn_transfer::lookup::slot_qual;
 use jn_transfer::Analysis;
+use jn_transfer::lookup::slot_qual;
 use std::alloc::{AllocError, Global};
 
 /// What is known before a body runs: parameters and receiver as their slots say, a constructor's
@@ -22,7 +23,8 @@ use std::alloc::{AllocError, Global};
 pub fn entry(alloc: Global, analysis: &Analysis) -> Result<Env, OutOfMemory>
     requires inside { analysis.now.body.0 < length analysis.now.program.now.bodies }
     requires keys { AreKeys analysis.now.program.now analysis.now.body.0 analysis.now.keys.now }
-    ensures { IfOk result (λ env. env ≡ entry_env analysis.now.program.now analysis.now.sig.now analysis.now.body.0) }
+    ensures is { IfOk result (λ env. env ≡ entry_env analysis.now.program.now analysis.now.sig.now analysis.now.body.0) }
+    ensures sized { IfOk result (λ env. EnvSized analysis.now.program.now analysis.now.body.0 env) }
 {
     let info = &analysis.program.bodies.as_slice()[analysis.body.0 as usize];
     let given = given_by(alloc, analysis.program, analysis.sig, info)?;

@@ -12,7 +12,7 @@ use jn_base::{BodyNo, OutOfMemory};
 use jn_env::Env;
 use jn_points::Program;
 use jn_quals::Qual;
-use jn_transfer::{find_keys, Analysis};
+use jn_transfer::{Analysis, find_keys};
 use std::alloc::{AllocError, Global};
 
 /// The least table of a body: whole rounds until nothing changes.

@@ -2,11 +2,16 @@
 #![tactic(auto)]
 
 pub mod initial;
+pub mod inside;
 pub mod law;
 pub mod least;
 pub mod rounds;
 pub mod table;
 
 pub use initial::entry;
+pub use inside::stays_inside;
 pub use least::flow;
 pub use table::FlowTable;
+
+#[cfg(test)]
+mod tests;

@@ -42,11 +42,7 @@ fn join_slot(alloc: Global, slot: Option<Env>, env: &Env) -> Result<Joined, OutO
 }
 
 /// Joins the environment of an edge into the table. Gives whether that changed it.
-fn flow_in(
-    alloc: Global,
-    table: &mut Vec<Option<Env>>,
-    edge: &Edge,
-) -> Result<bool, OutOfMemory>
+fn flow_in(alloc: Global, table: &mut Vec<Option<Env>>, edge: &Edge) -> Result<bool, OutOfMemory>
     requires target { edge.now.0 < length table.old.items }
     requires size { JoinFits (slot_at table.old.items edge.now.0) edge.now.1 }
     ensures { IfOk result (λ changed. Stepped (flow_in edge.now table.old.items) table.old.items table.new.items changed) }
