@@ -29,11 +29,7 @@ pub fn checks(
     ensures { IfOk result (λ rows. rows.items ≡ body_rows program.now sig.now body.0 table.now) }
 {
     let info = &program.bodies.as_slice()[body.0 as usize];
-    Ok(point_rows(
-        alloc,
-        info.points.as_slice(),
-        table.slots(),
-    )?)
+    Ok(point_rows(alloc, info.points.as_slice(), table.slots())?)
 }
 
 fn point_rows(

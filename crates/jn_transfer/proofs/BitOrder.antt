@@ -1,8 +1,7 @@
 -- Bits along a list of keys keep their number, and the order.
-use Rattle.std.proofs.Common.{◌≡◌, ℕ, zero, suc, ◌+◌, Bool, true, false, not, ◌&&◌, ◌||◌, List, [], ◌∷◌, length, refl, sym, ap, ◌∙◌, subst}
+use Rattle.std.proofs.Common.{◌≡◌, suc, Bool, true, false, not, ◌&&◌, ◌||◌, List, [], ◌∷◌, length, refl, ap}
 use Rattle.std.specs.Prelude.{IsTrue}
 use Rattle.jn_env.specs.Order.{BitsAbove}
-use Rattle.jn_env.proofs.Order.{bits_refl}
 use Rattle.jn_transfer.specs.Keys.{mask, also, is_on, no_bits}
 
 bit_mask : (a b k : Bool) → IsTrue (not b || a) → IsTrue (not (b && k) || (a && k))

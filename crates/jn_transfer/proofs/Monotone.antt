@@ -1,12 +1,12 @@
 -- A greater environment has greater ones behind all edges, at each of the 26 kinds of points.
-use Rattle.std.proofs.Common.{◌≡◌, ℕ, zero, suc, ◌+◌, Bool, true, false, not, ◌&&◌, ◌||◌, cond, ◌⊎◌, inl, inr, ⊎_elim, List, [], ◌∷◌, ◌++◌, Option, Some, None, refl, sym, ap, ◌∙◌, subst}
-use Rattle.std.specs.Prelude.{IsTrue, ltb, eqb, slice_set}
+use Rattle.std.proofs.Common.{◌≡◌, ℕ, Bool, true, false, not, ◌&&◌, ◌||◌, cond, ◌⊎◌, inl, inr, ⊎_elim, List, [], ◌∷◌, ◌++◌, Option, Some, None, refl, sym, subst}
+use Rattle.std.specs.Prelude.{IsTrue, ltb, eqb}
 use Rattle.std.proofs.lemmas.Bool.{and_parts, and_from}
 use Rattle.jn_base.specs.declared.number.SlotNo.{SlotNo}
 use Rattle.jn_base.specs.declared.number.RegNo.{RegNo}
 use Rattle.jn_quals.specs.Qualifier.{Qualifier}
-use Rattle.jn_quals.specs.Order.{within, no_qual, null_only, committed_only, null_or_committed, all_quals, without_null, without_free, null_part, is_none}
-use Rattle.jn_quals.proofs.Order.{Included, included, within_of, within_refl, nothing_within, without_null_within, without_free_within, null_part_within, is_none_within}
+use Rattle.jn_quals.specs.Order.{within, no_qual, committed_only, null_or_committed, all_quals, without_null, without_free, null_part, is_none}
+use Rattle.jn_quals.proofs.Order.{included, within_of, within_refl, nothing_within, without_null_within, null_part_within, is_none_within}
 use Rattle.jn_points.specs.declared.point.Operand.{Operand}
 use Rattle.jn_points.specs.declared.point.Origin.{Origin}
 use Rattle.jn_points.specs.declared.point.PointKind.{PointKind}
@@ -16,9 +16,9 @@ use Rattle.jn_points.specs.Lookup.{slots_of, class_of, ctor_of, locals, owner, r
 use Rattle.jn_sigs.specs.Signature.{result_of, field_qual}
 use Rattle.jn_env.specs.declared.env.Env.{Env}
 use Rattle.jn_env.specs.Order.{qual_at, QualsWithin, EnvWithin, BitsAbove}
-use Rattle.jn_env.proofs.Order.{quals_set, env_qual, env_refl}
-use Rattle.jn_transfer.specs.Keys.{is_key, has_reg, has_key_field, mask, also, is_on, fact_keys, own_keys}
-use Rattle.jn_transfer.specs.Transfer.{literal_qual, elem_qual, refine, side, any_empty, any_free, all_settled, ref_quals, new_qual, less_null, put, drop_all, put_to, learn, write_facts, write_assigned, written, ctor_called, elem_read, read_part, read_qual, transfer, IsAmong}
+use Rattle.jn_env.proofs.Order.{quals_set, env_qual}
+use Rattle.jn_transfer.specs.Keys.{is_key, has_key_field, also, is_on, fact_keys, own_keys}
+use Rattle.jn_transfer.specs.Transfer.{literal_qual, elem_qual, refine, side, any_empty, any_free, all_settled, ref_quals, new_qual, less_null, put, drop_all, put_to, learn, written, ctor_called, elem_read, read_part, read_qual, transfer, IsAmong}
 use Rattle.jn_transfer.specs.Covered.{Covered}
 use Rattle.jn_transfer.proofs.BitOrder.{mask_above, also_above, also_left, is_on_above}
 

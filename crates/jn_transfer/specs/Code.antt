@@ -1,6 +1,5 @@
 -- What the code's values say in the terms of the definitions.
-use Rattle.std.specs.Prelude.{ℕ, ◌≡◌, Bool, true, ◌&&◌, eqb, Option, Some, None, List, [], ◌∷◌}
-use Rattle.jn_base.specs.declared.number.RegNo.{RegNo}
+use Rattle.std.specs.Prelude.{ℕ, ◌≡◌, Bool, true, eqb, Option, Some, None}
 use Rattle.jn_base.specs.declared.number.FieldNo.{FieldNo}
 use Rattle.jn_points.specs.declared.program.Program.{Program}
 use Rattle.jn_transfer.specs.Keys.{Key, has_reg, has_key_field, is_key, fact_keys, own_keys}

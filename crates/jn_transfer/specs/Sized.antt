@@ -1,7 +1,6 @@
 -- Environments and tables of a body: as many qualifiers as it has registers, and bits as it has keys.
-use Rattle.std.specs.Prelude.{ℕ, ◌≡◌, ◌<◌, List, [], ◌∷◌, length, Option, Some, None, slice_get}
+use Rattle.std.specs.Prelude.{ℕ, ◌≡◌, ◌<◌, [], ◌∷◌, length, Option, Some, None}
 use Rattle.jn_base.specs.declared.number.PointNo.{PointNo}
-use Rattle.jn_points.specs.declared.leads.Edges.{Edges}
 use Rattle.jn_points.specs.declared.point.Point.{Point}
 use Rattle.jn_points.specs.declared.program.Program.{Program}
 use Rattle.jn_points.specs.Edges.{edges_of}

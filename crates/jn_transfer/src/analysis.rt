@@ -8,9 +8,9 @@ ghost use Rattle.jn_transfer.specs.Transfer.{put, drop_all, put_to, learn, refin
 ghost use Rattle.jn_transfer.specs.Sized.{EnvSized};
 ghost use Rattle.jn_transfer.specs.Code.{AreKeys};
 
-use crate::bits::{assign_bits, clear_bits, has_bit, set_bits, Which};
+use crate::bits::{Which, assign_bits, clear_bits, has_bit, set_bits};
 use crate::creation::{new_qual, ref_quals};
-use crate::keys::{is_ref_field, owner, Keys};
+use crate::keys::{Keys, is_ref_field, owner};
 use crate::lookup::{
     class_of, elem_qual, field_qual, is_ctor, is_flat_field, literal_qual, locals, reg_base,
     result_qual,
@@ -41,7 +41,11 @@ impl<'a> Analysis<'a> {
         ensures { env.new ≡ put self.now.program.now self.now.body.0 env.old reg.0 qual }
     {
         env.set_qual(reg, qual);
-        clear_bits(self.keys.facts.as_slice(), &mut env.facts, Which::OfReg(reg));
+        clear_bits(
+            self.keys.facts.as_slice(),
+            &mut env.facts,
+            Which::OfReg(reg),
+        );
     }
 
     /// All facts go.
@@ -392,9 +396,11 @@ impl<'a> Analysis<'a> {
                 let qual = self.read_qual(env, object.reg, *field);
                 self.putting(alloc, next, env, *dst, qual)
             }
-            PointKind::FieldWrite { object, field, value } => {
-                self.after_write(alloc, next, env, object.reg, *field, value.reg)
-            }
+            PointKind::FieldWrite {
+                object,
+                field,
+                value,
+            } => { self.after_write(alloc, next, env, object.reg, *field, value.reg) }
             PointKind::StaticRead { dst, .. } => self.putting(alloc, next, env, *dst, plain),
             PointKind::StaticWrite { .. } => one_edge(alloc, next, env.copy(alloc)?),
             PointKind::ElemRead { dst, array, .. } => {
@@ -416,12 +422,19 @@ impl<'a> Analysis<'a> {
             PointKind::Cast { dst, of, .. } => {
                 self.putting(alloc, next, env, *dst, env.qual(of.reg))
             }
-            PointKind::TestInst { of, origin, yes, no, .. } => {
-                self.instance_test(alloc, env, of.reg, *origin, yes.0, no.0)
-            }
-            PointKind::TestNull { of, origin, null, non_null } => {
-                self.null_test(alloc, env, of.reg, *origin, null.0, non_null.0)
-            }
+            PointKind::TestInst {
+                of,
+                origin,
+                yes,
+                no,
+                ..
+            } => { self.instance_test(alloc, env, of.reg, *origin, yes.0, no.0) }
+            PointKind::TestNull {
+                of,
+                origin,
+                null,
+                non_null,
+            } => { self.null_test(alloc, env, of.reg, *origin, null.0, non_null.0) }
             PointKind::Branch { yes, no, .. } => two_edges(alloc, yes.0, no.0, env),
             PointKind::Goto { to } => one_edge(alloc, to.0, env.copy(alloc)?),
             PointKind::Return { .. } => Ok(Vec::new(alloc)),

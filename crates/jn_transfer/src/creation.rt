@@ -34,11 +34,7 @@ fn least(left: usize, right: usize) -> usize
     if left < right { left } else { right }
 }
 
-fn push_reference(
-    quals: &mut Vec<Qual>,
-    slot: Option<SlotNo>,
-    qual: Qual,
-) -> Result<(), AllocError>
+fn push_reference(quals: &mut Vec<Qual>, slot: Option<SlotNo>, qual: Qual) -> Result<(), AllocError>
     ensures { OnOk result (quals.new.items ≡ quals.old.items ++ cond (has_slot slot) (qual ∷ []) []) }
 {
     if slot.is_some() {

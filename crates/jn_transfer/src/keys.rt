@@ -85,11 +85,7 @@ pub fn find_keys(alloc: Global, program: &Program, body: BodyNo) -> Result<Keys,
     })
 }
 
-fn fact_keys(
-    alloc: Global,
-    program: &Program,
-    body: BodyNo,
-) -> Result<Vec<FieldKey>, AllocError>
+fn fact_keys(alloc: Global, program: &Program, body: BodyNo) -> Result<Vec<FieldKey>, AllocError>
     requires inside { body.0 < length program.now.bodies }
     ensures { IfOk result (λ keys. keys.items ≡ fact_keys program.now body.0) }
 {
@@ -147,11 +143,7 @@ pub fn is_ref_field(program: &Program, field: u32) -> bool
 }
 
 /// The key, and all others of the list.
-fn with_first(
-    alloc: Global,
-    key: FieldKey,
-    rest: &[FieldKey],
-) -> Result<Vec<FieldKey>, AllocError>
+fn with_first(alloc: Global, key: FieldKey, rest: &[FieldKey]) -> Result<Vec<FieldKey>, AllocError>
     ensures { IfOk result (λ keys. keys.items ≡ key ∷ filter (λ x. not (is_key key.reg key.field x)) rest.now) }
 {
     let mut keys = Vec::new(alloc);

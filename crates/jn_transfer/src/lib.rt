@@ -9,7 +9,6 @@ pub mod keys;
 pub mod law;
 pub mod lookup;
 
-
 pub use analysis::{Analysis, Edge};
-pub use keys::{find_keys, FieldKey, Keys};
 pub use edges::transfer;
+pub use keys::{FieldKey, Keys, find_keys};

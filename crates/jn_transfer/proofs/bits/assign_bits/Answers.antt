@@ -1,8 +1,8 @@
-use Rattle.std.proofs.Common.{◌≡◌, ◌&&◌, ◌||◌, not, Some, length, take, sym, ap, ◌∙◌, add-one, arith}
+use Rattle.std.proofs.Common.{◌≡◌, ◌||◌, Some, length, take, ap, ◌∙◌, add-one, arith}
 use Rattle.std.specs.Prelude.{slice_get, slice_set, slice_index_or}
 use Rattle.std.proofs.lemmas.List.{get_or_default}
-use Rattle.jn_transfer.specs.Code.{picks, is_field}
-use Rattle.jn_transfer.proofs.Along.{along, keeps, sets, length-along, along_step}
+use Rattle.jn_transfer.specs.Code.{is_field}
+use Rattle.jn_transfer.proofs.Along.{along, sets, length-along, along_step}
 use Rattle.jn_transfer.proofs.bits.assign_bits.Goals as goal
 
 pub at-requires : goal.at-requires

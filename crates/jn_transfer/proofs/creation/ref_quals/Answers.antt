@@ -1,4 +1,4 @@
-use Rattle.std.proofs.Common.{◌≡◌, ◌<◌, ◌⊎◌, ⊎_elim, inl, inr, ◌≤◌, ◌++◌, ◌∷◌, [], cond, None, length, ap, ◌∙◌, arith}
+use Rattle.std.proofs.Common.{◌<◌, ⊎_elim, inl, inr, ◌≤◌, ◌++◌, ◌∷◌, [], cond, None, length, ap, ◌∙◌, arith}
 use Rattle.std.specs.Prelude.{slice_index_or}
 use Rattle.std.proofs.lemmas.List.{get_or_default}
 use Rattle.jn_points.specs.Lookup.{has_slot}

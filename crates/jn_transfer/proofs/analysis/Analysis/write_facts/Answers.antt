@@ -1,5 +1,5 @@
-use Rattle.std.proofs.Common.{◌≡◌, not, length, sym, ap, ◌∙◌}
-use Rattle.jn_transfer.specs.Keys.{has_key_field, mask}
+use Rattle.std.proofs.Common.{not, length, sym, ap, ◌∙◌}
+use Rattle.jn_transfer.specs.Keys.{has_key_field}
 use Rattle.jn_transfer.proofs.BitOrder.{length-mask}
 use Rattle.jn_transfer.proofs.analysis.Analysis.write_facts.Goals as goal
 
