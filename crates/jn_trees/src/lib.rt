@@ -7,3 +7,6 @@ pub mod token;
 
 pub use names::Names;
 pub use token::{Token, TokenKind};
+
+#[cfg(test)]
+mod tests;
