@@ -1,9 +1,11 @@
 use crate::{Meet, Net, Pair, Shape, drained, solved};
-use jn_base::{BodyNo, WordNo};
+use jn_base::{BodyNo, OutOfMemory, WordNo};
 use jn_sigtable::SigTable;
 use jn_workers::{Straight, solve};
 use jn_worklist::{drain, plan};
+use std::alloc::Global;
 use std::test::Fail;
+use std::thread::Threads;
 
 #[test]
 fn one_two_and_sixteen_workers(rt: HostRuntime) -> Result<(), Fail> {
@@ -63,37 +65,36 @@ fn two_workers_meet(rt: HostRuntime) -> Result<(), Fail> {
     Ok(())
 }
 
-// The words of a net by 1, 2, 4 and 16 workers are those of a drain.
-fn compare(rt: &HostRuntime, shape: Shape) {
+// Whether the words of a net by 1, 2, 4 and 16 workers are those of a drain.
+fn agrees<R: Threads + Sync>(rt: &R, alloc: Global, shape: Shape) -> Result<bool, OutOfMemory> {
     let net = Net {
         shape,
         bodies: 2000,
     };
-    let Ok(expected) = drained(rt.alloc(), net) else {
-        panic!(rt; "no memory")
-    };
+    let expected = drained(alloc, net)?;
     for workers in [1, 2, 4, 16] {
-        let Ok(words) = solved(rt, rt.alloc(), net, workers) else {
-            panic!(rt; "no memory")
-        };
-        assert!(rt; words == expected);
+        let words = solved(rt, alloc, net, workers)?;
+        if words != expected {
+            return Ok(false);
+        }
     }
+    Ok(true)
 }
 
 #[test]
 fn a_chain_of_bodies(rt: HostRuntime) -> Result<(), Fail> {
-    compare(&rt, Shape::Chain);
+    assert!(rt; matches!(agrees(&rt, rt.alloc(), Shape::Chain), Ok(true)));
     Ok(())
 }
 
 #[test]
 fn a_star_of_bodies(rt: HostRuntime) -> Result<(), Fail> {
-    compare(&rt, Shape::Star);
+    assert!(rt; matches!(agrees(&rt, rt.alloc(), Shape::Star), Ok(true)));
     Ok(())
 }
 
 #[test]
 fn a_ring_of_bodies(rt: HostRuntime) -> Result<(), Fail> {
-    compare(&rt, Shape::Ring);
+    assert!(rt; matches!(agrees(&rt, rt.alloc(), Shape::Ring), Ok(true)));
     Ok(())
 }
