@@ -1,9 +1,13 @@
+ghost use Rattle.std.specs.Prelude.{◌<◌, ◌≤◌};
+
 use crate::{Meet, Net, Pair, Shape, drained, solved};
-use jn_base::{BodyNo, WordNo};
+use jn_base::{BodyNo, OutOfMemory};
 use jn_sigtable::SigTable;
 use jn_workers::{Straight, solve};
-use jn_worklist::{drain, plan};
+use jn_worklist::{plan, run_body};
+use std::alloc::Global;
 use std::test::Fail;
+use std::thread::Threads;
 
 #[test]
 fn one_two_and_sixteen_workers(rt: HostRuntime) -> Result<(), Fail> {
@@ -18,16 +22,7 @@ fn one_two_and_sixteen_workers(rt: HostRuntime) -> Result<(), Fail> {
 
 #[test]
 fn a_drain_of_the_pair(rt: HostRuntime) -> Result<(), Fail> {
-    let Ok(readers) = plan(rt.alloc(), &Pair) else {
-        panic!(rt; "no memory")
-    };
-    let Ok(words) = drain(
-        rt.alloc(),
-        &Pair,
-        &readers,
-        vec![in rt.alloc(); 0]?,
-        vec![in rt.alloc(); 3]?,
-    ) else {
+    let Ok(words) = drained(rt.alloc(), &Pair) else {
         panic!(rt; "no memory")
     };
     assert!(rt; words.len() == 1 && words[0] == 6);
@@ -35,15 +30,18 @@ fn a_drain_of_the_pair(rt: HostRuntime) -> Result<(), Fail> {
 }
 
 #[test]
-fn a_taken_body_is_clear(rt: HostRuntime) -> Result<(), Fail> {
+fn a_body_that_was_run_is_clear(rt: HostRuntime) -> Result<(), Fail> {
+    let Ok(readers) = plan(rt.alloc(), &Pair) else {
+        panic!(rt; "no memory")
+    };
     let Ok((table, mut pass)) = SigTable::new(rt.alloc(), Pair, &[0]) else {
         panic!(rt; "no memory")
     };
-    assert!(rt; table.take_body(&mut pass, BodyNo(0)) == Some(BodyNo(0)));
-    let old = table.raise_word(&mut pass, WordNo(0), 2);
-    assert!(rt; old == 0);
-    let marked = table.mark(&mut pass, WordNo(0), 2);
-    assert!(rt; marked == 2);
+    let Some(body) = table.take_body(&mut pass, BodyNo(0)) else {
+        panic!(rt; "not dirty at the start")
+    };
+    let run = run_body(rt.alloc(), &table, &readers, &mut pass, body);
+    assert!(rt; run.is_ok());
     assert!(rt; table.take_body(&mut pass, BodyNo(0)) == None);
     let Ok((_, words)) = table.close(rt.alloc(), pass) else {
         panic!(rt; "no memory")
@@ -63,37 +61,49 @@ fn two_workers_meet(rt: HostRuntime) -> Result<(), Fail> {
     Ok(())
 }
 
-// The words of a net by 1, 2, 4 and 16 workers are those of a drain.
-fn compare(rt: &HostRuntime, shape: Shape) {
+// Whether so many workers find these words of a net.
+fn finds<R: Threads + Sync>(
+    rt: &R,
+    alloc: Global,
+    net: Net,
+    workers: u32,
+    expected: &Vec<u64>,
+) -> Result<bool, OutOfMemory>
+    requires any { 0 < net.bodies }
+    requires workers { (0 < workers) × (workers ≤ 16) }
+{
+    let words = solved(rt, alloc, net, workers)?;
+    Ok(words == *expected)
+}
+
+// Whether the words of a net by 1, 2, 4 and 16 workers are those of a drain.
+fn agrees<R: Threads + Sync>(rt: &R, alloc: Global, shape: Shape) -> Result<bool, OutOfMemory> {
     let net = Net {
         shape,
         bodies: 2000,
     };
-    let Ok(expected) = drained(rt.alloc(), net) else {
-        panic!(rt; "no memory")
-    };
-    for workers in [1, 2, 4, 16] {
-        let Ok(words) = solved(rt, rt.alloc(), net, workers) else {
-            panic!(rt; "no memory")
-        };
-        assert!(rt; words == expected);
-    }
+    let expected = drained(alloc, &net)?;
+    let one = finds(rt, alloc, net, 1, &expected)?;
+    let two = finds(rt, alloc, net, 2, &expected)?;
+    let four = finds(rt, alloc, net, 4, &expected)?;
+    let sixteen = finds(rt, alloc, net, 16, &expected)?;
+    Ok(one && two && four && sixteen)
 }
 
 #[test]
 fn a_chain_of_bodies(rt: HostRuntime) -> Result<(), Fail> {
-    compare(&rt, Shape::Chain);
+    assert!(rt; matches!(agrees(&rt, rt.alloc(), Shape::Chain), Ok(true)));
     Ok(())
 }
 
 #[test]
 fn a_star_of_bodies(rt: HostRuntime) -> Result<(), Fail> {
-    compare(&rt, Shape::Star);
+    assert!(rt; matches!(agrees(&rt, rt.alloc(), Shape::Star), Ok(true)));
     Ok(())
 }
 
 #[test]
 fn a_ring_of_bodies(rt: HostRuntime) -> Result<(), Fail> {
-    compare(&rt, Shape::Ring);
+    assert!(rt; matches!(agrees(&rt, rt.alloc(), Shape::Ring), Ok(true)));
     Ok(())
 }
