@@ -1,0 +1,9 @@
+pub mod Showing
+pub mod Answering
+pub mod RuleRows
+pub mod Known
+pub mod Fronts
+pub mod Inside
+pub mod Laws
+pub mod MainRows
+pub mod Reporting

@@ -1,0 +1,101 @@
+-- What an answer says of the words, the files and the output.
+use Rattle.std.specs.Prelude.{ℕ, ◌<◌, ◌≤◌, ◌≡◌, ◌≢◌, ◌⊎◌, List, [], ◌∷◌, map, Option, Some, None}
+use Rattle.jn_outside.specs.Files.{Holding, Holds}
+use Rattle.jn_outside.specs.Causes.{Rose}
+use Rattle.jn_outside.specs.Sink.{Appends, AppendsPrefix}
+use Rattle.nullcheck_top.specs.declared.status.Status.{Status}
+use Rattle.nullcheck_top.specs.declared.status.Status.TheVariants.{Ok, Rejected, Refused, RunFault, Stopped, ReadFault, WriteFault, OutOfMemory, Usage}
+use Rattle.nullcheck_top.specs.Words.{usage_line}
+use Rattle.nullcheck_top.specs.declared.source.SourceFile.{SourceFile}
+use Rattle.nullcheck_top.specs.Report.{Report, IsReport, status_of, IsSafe}
+use Rattle.nullcheck_top.specs.Shown.{shown}
+
+-- the bytes are those that the source tells, where it tells
+abbrev pub AreHeld : Option Holding → List SourceFile → Type 0
+AreHeld None files = Unit {0}
+AreHeld (Some held) [] = Unit {0}
+AreHeld (Some held) (file ∷ files) = (held file.name ≡ Some file.bytes) × AreHeld (Some held) files
+
+-- files of these names, with the bytes that the source tells
+pub record AreFiles (held : Option Holding) (names : List (List ℕ)) (files : List SourceFile) : Type 0 where
+  pub named : map (λ (file : SourceFile). file.name) files ≡ names
+  pub told : AreHeld held files
+
+-- status and bytes are those of the report of the files
+pub record IsReportOfFiles (files : List SourceFile) (status : Status) (bytes : List ℕ) : Type 0 where
+  pub report : Report
+  pub is : IsReport files report
+  pub ends : status ≡ status_of report
+  pub shows : bytes ≡ shown files report
+
+-- they are those of the report of files that the source holds under these names
+pub record IsReportOf (held : Option Holding) (names : List (List ℕ)) (status : Status) (bytes : List ℕ) : Type 0 where
+  pub files : List SourceFile
+  pub read : AreFiles held names files
+  pub report : IsReportOfFiles files status bytes
+
+-- the status and the bytes that the words and the files define
+abbrev pub Defines : Option Holding → Option (List (List ℕ)) → Status → List ℕ → Type 0
+Defines held None status bytes = (status ≡ Usage) × (bytes ≡ usage_line)
+Defines held (Some names) status bytes = IsReportOf held names status bytes
+
+-- what is defined was written whole
+abbrev pub Writes : Option Holding → Option (List (List ℕ)) → Option (List ℕ) → Option (List ℕ) → Status → Type 0
+Writes held names old new status = (bytes : List ℕ) × Defines held names status bytes × Appends old new bytes
+
+-- of what is defined a prefix was written
+abbrev pub WritesPrefix : Option Holding → Option (List (List ℕ)) → Option (List ℕ) → Option (List ℕ) → Type 0
+WritesPrefix held names old new = (status : Status) × (bytes : List ℕ) × Defines held names status bytes × AppendsPrefix old new bytes
+
+abbrev pub NamesFiles : Option (List (List ℕ)) → Type 0
+NamesFiles None = ⊥
+NamesFiles (Some names) = Unit {0}
+
+-- what stands behind each status
+abbrev pub Answers : Option Holding → Option (List (List ℕ)) → Option (List ℕ) → Option (List ℕ) → Status → Type 0
+Answers held names old new Ok = Writes held names old new Ok
+Answers held names old new Rejected = Writes held names old new Rejected
+Answers held names old new Refused = Writes held names old new Refused
+Answers held names old new RunFault = ⊥
+Answers held names old new Stopped = ⊥
+Answers held names old new ReadFault = NamesFiles names × (new ≡ old)
+Answers held names old new WriteFault = WritesPrefix held names old new
+Answers held names old new OutOfMemory = new ≡ old
+Answers held names old new Usage = Writes held names old new Usage
+
+-- words that name files, and no fault: the report was written whole, or no memory was found
+abbrev pub Completes : Option Holding → Option (List (List ℕ)) → Option (List ℕ) → Option (List ℕ) → Status → Type 0
+Completes held None old new status = Unit {0}
+Completes held (Some names) old new status = (status ≡ OutOfMemory) ⊎ ((bytes : List ℕ) × IsReportOf held names status bytes × Appends old new bytes)
+
+-- every file is held
+abbrev pub AllHeld : Option Holding → List (List ℕ) → Type 0
+AllHeld held [] = Unit {0}
+AllHeld held (name ∷ names) = Holds held name × AllHeld held names
+
+abbrev pub HoldsFiles : Option Holding → Option (List (List ℕ)) → Type 0
+HoldsFiles held None = Unit {0}
+HoldsFiles held (Some names) = AllHeld held names
+
+-- the files that were read, whose program has no null fault
+pub record IsSafeOf (held : Option Holding) (names : List (List ℕ)) : Type 0 where
+  pub files : List SourceFile
+  pub read : AreFiles held names files
+  pub safe : IsSafe files
+
+abbrev pub Safe : Option Holding → Option (List (List ℕ)) → Type 0
+Safe held None = ⊥
+Safe held (Some names) = IsSafeOf held names
+
+-- all went out, or a prefix and the sink's count rose
+abbrev pub Finished : Option (List ℕ) → Option (List ℕ) → List ℕ → Status → ℕ → ℕ → Status → Type 0
+Finished old new bytes status before now result =
+    ((result ≡ status) × Appends old new bytes × (now ≡ before)) ⊎ ((result ≡ WriteFault) × AppendsPrefix old new bytes × Rose before now × (before ≤ now))
+
+-- a report, written; of a file that is too long, or no memory for it
+abbrev pub FinishedOrNot : Option (List ℕ) → Option (List ℕ) → List ℕ → Status → ℕ → ℕ → Status → Type 0
+FinishedOrNot old new bytes status before now result =
+    ((result ≡ OutOfMemory) × (new ≡ old) × (now ≡ before)) ⊎ Finished old new bytes status before now result
+
+abbrev pub one_file : List ℕ → List ℕ → List SourceFile
+one_file name bytes = record { name = name; bytes = bytes } ∷ []
