@@ -1,12 +1,10 @@
 class Forgotten {
   public static void main(String[] args) {
-    String first = "one";
-    String second = null;
-    if (first != null) {
-      second = first;
-    } else {
-      System.out.println(second);
+    String title = "draft";
+    String subtitle = null;
+    if (subtitle == null) {
+      title = subtitle; // meant the other way round
     }
-    second.length(); // null where the test failed
+    System.out.println(title.length());
   }
 }
