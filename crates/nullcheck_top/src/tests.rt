@@ -1,4 +1,6 @@
 // The top call over files and a sink in memory.
+ghost use Rattle.std.specs.Prelude.{◌≤◌};
+
 use crate::{Status, nullcheck};
 use jn_base::OutOfMemory;
 use jn_outside::{MemFile, MemFiles, MemSink};
@@ -148,6 +150,19 @@ fn checks_bodies(rt: HostRuntime) -> Result<(), OutOfMemory> {
     Ok(())
 }
 
+/// How many of the two words are not empty, where the second is only if the first is.
+fn count(first: &str, second: &str) -> usize
+    ensures { result ≤ 2 }
+{
+    if first.is_empty() {
+        0
+    } else if second.is_empty() {
+        1
+    } else {
+        2
+    }
+}
+
 #[test]
 fn answers_words_and_faults(rt: HostRuntime) -> Result<(), OutOfMemory> {
     let alloc = rt.alloc();
@@ -171,14 +186,7 @@ fn answers_words_and_faults(rt: HostRuntime) -> Result<(), OutOfMemory> {
         ("--run", "", 0, 6, Status::WriteFault, "usage:"),
     ] {
         let both = [first, second];
-        let words = if first.is_empty() {
-            &both[..0]
-        } else if second.is_empty() {
-            &both[..1]
-        } else {
-            &both
-        };
-        let (ended, bytes) = outcome(alloc, words, &text, failing, room)?;
+        let (ended, bytes) = outcome(alloc, &both[..count(first, second)], &text, failing, room)?;
         assert_eq!(rt; ended, status, "{first} {second} {failing} {room}");
         assert_eq!(rt;
             bytes.as_slice(),
