@@ -2,13 +2,13 @@
 # Times the solver on generated systems: the drain on one thread, and 1, 2 and 4 workers.
 # Usage: bench/solver.sh [COUNT [REPEATS [RUNS]]]
 #   COUNT    bodies of each system (2000)
-#   REPEATS  how often one run solves its system (100)
+#   REPEATS  how often one run solves its system (200)
 #   RUNS     runs of each, of which the best time counts (3)
 # Prints a table with the best time of each in seconds and its ratio to the drain's. Ends with 1
 # where a run fails or two ways find words with another number of bits.
 set -eu
 count=${1:-2000}
-repeats=${2:-100}
+repeats=${2:-200}
 runs=${3:-3}
 root=$(cd "$(dirname "$(readlink -f "${BASH_SOURCE[0]}")")/.." && pwd)
 crate="$root/crates/solver_bench"
