@@ -1,6 +1,9 @@
 // The rules at the points of a body, as rows.
 #![tactic(auto)]
 
+pub mod ctor;
+pub mod kinds;
 pub mod rows;
+pub mod rules;
 
 pub use rows::checks;

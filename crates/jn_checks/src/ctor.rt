@@ -1,0 +1,124 @@
+// A constructor's fields that are left unassigned.
+ghost use Rattle.std.specs.Prelude.{◌≡◌, ◌++◌, ◌&&◌, eqb, false, not, OnOk, length, Some, slice_index_or};
+ghost use Rattle.jn_points.specs.Lookup.{method_of_body, body_at, points_of};
+ghost use Rattle.jn_points.specs.Members.{some_of};
+ghost use Rattle.jn_sigs.specs.Signature.{field_qual};
+ghost use Rattle.jn_transfer.specs.Keys.{is_on, own_keys};
+ghost use Rattle.jn_transfer.specs.Rules.{is_unset, unset_at, unset_from, ctor_rows};
+ghost use Rattle.jn_transfer.specs.Code.{AreKeys};
+
+use crate::rules::push_if;
+use jn_base::{Code, Row};
+use jn_env::Env;
+use jn_points::{Body, Point, PointKind};
+use jn_transfer::Analysis;
+use jn_transfer::bits::{either, is_set};
+use jn_transfer::lookup::field_qual;
+use std::alloc::AllocError;
+
+/// The constructor's row, where it returns with a field that is not assigned.
+pub fn push_ctor(
+    rows: &mut Vec<Row>,
+    analysis: &Analysis,
+    info: &Body,
+    slots: &[Option<Env>],
+) -> Result<(), AllocError>
+    requires keys { AreKeys analysis.now.program.now analysis.now.body.0 analysis.now.keys.now }
+    requires body { body_at analysis.now.program.now analysis.now.body.0 ≡ Some info.now }
+    requires long { length slots.now ≡ length info.now.points }
+    ensures { OnOk result (rows.new.items ≡ rows.old.items ++ ctor_rows analysis.now.program.now analysis.now.sig.now analysis.now.body.0 (method_of_body analysis.now.program.now (Some info.now)) slots.now) }
+{
+    match analysis.program.methods.as_slice().get(info.method.0 as usize) {
+        None => Ok(()),
+        Some(method) => push_if(
+            rows,
+            leaves_unset(analysis, method.ctor, info.points.as_slice(), slots),
+            method.span,
+            Code::CtorFields,
+        ),
+    }
+}
+
+fn leaves_unset(
+    analysis: &Analysis,
+    is_ctor: bool,
+    points: &[Point],
+    slots: &[Option<Env>],
+) -> bool
+    requires keys { AreKeys analysis.now.program.now analysis.now.body.0 analysis.now.keys.now }
+    requires long { length slots.now ≡ length points.now }
+    ensures { result ≡ (is_ctor && unset_from analysis.now.program.now analysis.now.sig.now analysis.now.body.0 points.now 0 slots.now) }
+{
+    is_ctor && is_unset_at_end(analysis, points, slots)
+}
+
+/// Whether at some reached Return a field is not assigned.
+fn is_unset_at_end(analysis: &Analysis, points: &[Point], slots: &[Option<Env>]) -> bool
+    requires keys { AreKeys analysis.now.program.now analysis.now.body.0 analysis.now.keys.now }
+    requires long { length slots.now ≡ length points.now }
+    ensures { result ≡ unset_from analysis.now.program.now analysis.now.sig.now analysis.now.body.0 points.now 0 slots.now }
+{
+    let mut unset = false;
+    for at in 0..points.len() {
+        unset = either(unset, is_unset_at(analysis, &points[at].kind, &slots[at]));
+    }
+    unset
+}
+
+fn is_unset_at(analysis: &Analysis, kind: &PointKind, slot: &Option<Env>) -> bool
+    requires keys { AreKeys analysis.now.program.now analysis.now.body.0 analysis.now.keys.now }
+    ensures { result ≡ unset_at analysis.now.program.now analysis.now.sig.now analysis.now.body.0 kind.now slot.now }
+{
+    match kind {
+        PointKind::Return { .. } => match slot {
+            None => false,
+            Some(env) => is_unset(analysis, env),
+        },
+        _ => false,
+    }
+}
+
+/// Whether a field whose slot has no null is not assigned.
+fn is_unset(analysis: &Analysis, env: &Env) -> bool
+    requires keys { AreKeys analysis.now.program.now analysis.now.body.0 analysis.now.keys.now }
+    ensures { result ≡ is_unset analysis.now.program.now analysis.now.sig.now analysis.now.body.0 env.now }
+{
+    let own = analysis.keys.own.as_slice();
+    let mut unset = false;
+    for field in own {
+        unset = either(
+            unset,
+            lacks_value(analysis, own, env.assigned.as_slice(), *field),
+        );
+    }
+    unset
+}
+
+/// Whether the field's slot has no null, and it is not assigned.
+fn lacks_value(analysis: &Analysis, own: &[u32], assigned: &[bool], field: u32) -> bool
+    ensures { result ≡ (not (field_qual analysis.now.program.now analysis.now.sig.now field).null && not (is_on (λ k. eqb k field) own.now assigned.now)) }
+{
+    !field_qual(analysis.program, analysis.sig, field).has_null()
+        && !is_assigned(own, assigned, field)
+}
+
+/// Whether the bit of the field is set.
+fn is_assigned(own: &[u32], assigned: &[bool], field: u32) -> bool
+    ensures { result ≡ is_on (λ k. eqb k field) own.now assigned.now }
+{
+    let mut on = false;
+    for i in 0..own.len() {
+        on = either(on, is_set(bit_at(assigned, i), own[i] == field));
+    }
+    on
+}
+
+/// The bit; false for one that is not there.
+fn bit_at(bits: &[bool], i: usize) -> bool
+    ensures { result ≡ slice_index_or bits.now i false }
+{
+    match bits.get(i) {
+        None => false,
+        Some(bit) => *bit,
+    }
+}
