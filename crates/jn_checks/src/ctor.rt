@@ -28,7 +28,12 @@ pub fn push_ctor(
     requires long { length slots.now ≡ length info.now.points }
     ensures { OnOk result (rows.new.items ≡ rows.old.items ++ ctor_rows analysis.now.program.now analysis.now.sig.now analysis.now.body.0 (method_of_body analysis.now.program.now (Some info.now)) slots.now) }
 {
-    match analysis.program.methods.as_slice().get(info.method.0 as usize) {
+    match analysis
+        .program
+        .methods
+        .as_slice()
+        .get(info.method.0 as usize)
+    {
         None => Ok(()),
         Some(method) => push_if(
             rows,
@@ -39,12 +44,7 @@ pub fn push_ctor(
     }
 }
 
-fn leaves_unset(
-    analysis: &Analysis,
-    is_ctor: bool,
-    points: &[Point],
-    slots: &[Option<Env>],
-) -> bool
+fn leaves_unset(analysis: &Analysis, is_ctor: bool, points: &[Point], slots: &[Option<Env>]) -> bool
     requires keys { AreKeys analysis.now.program.now analysis.now.body.0 analysis.now.keys.now }
     requires long { length slots.now ≡ length points.now }
     ensures { result ≡ (is_ctor && unset_from analysis.now.program.now analysis.now.sig.now analysis.now.body.0 points.now 0 slots.now) }

@@ -7,3 +7,6 @@ pub mod rows;
 pub mod rules;
 
 pub use rows::checks;
+
+#[cfg(test)]
+mod tests;

@@ -38,7 +38,14 @@ pub fn checks(
         keys: &keys,
     };
     let mut rows = Vec::new(alloc);
-    push_points(&mut rows, program, sig, body, info.points.as_slice(), table.slots())?;
+    push_points(
+        &mut rows,
+        program,
+        sig,
+        body,
+        info.points.as_slice(),
+        table.slots(),
+    )?;
     push_ctor(&mut rows, &analysis, info, table.slots())?;
     Ok(rows)
 }

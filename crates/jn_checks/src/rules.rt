@@ -12,12 +12,7 @@ use jn_transfer::lookup::{elem_qual, field_qual, result_qual, slot_qual};
 use std::alloc::AllocError;
 
 /// The row, where the rule is broken.
-pub fn push_if(
-    rows: &mut Vec<Row>,
-    broken: bool,
-    span: Span,
-    code: Code,
-) -> Result<(), AllocError>
+pub fn push_if(rows: &mut Vec<Row>, broken: bool, span: Span, code: Code) -> Result<(), AllocError>
     ensures { OnOk result (rows.new.items ≡ rows.old.items ++ row_if broken span code) }
 {
     if broken {
@@ -57,11 +52,7 @@ fn push_pass(
 }
 
 /// A dereference of what may be null.
-pub fn push_deref(
-    rows: &mut Vec<Row>,
-    env: &Env,
-    object: Option<Operand>,
-) -> Result<(), AllocError>
+pub fn push_deref(rows: &mut Vec<Row>, env: &Env, object: Option<Operand>) -> Result<(), AllocError>
     ensures { OnOk result (rows.new.items ≡ rows.old.items ++ deref_rows env.now object) }
 {
     match object {
