@@ -1,0 +1,117 @@
+// The fields that a constructor leaves unassigned at some of its ends.
+ghost use Rattle.std.specs.Prelude.{◌≡◌, ◌<◌, ◌++◌, ◌∷◌, ◌^◌, [], IfOk, OnOk, MatchOption, cond, eqb, filter, length, false, slice_index_or, Some, None};
+ghost use Rattle.jn_env.specs.Order.{env_in};
+ghost use Rattle.jn_transfer.specs.Keys.{is_on};
+ghost use Rattle.jn_ctor.specs.Unassigned.{field_numbers, lacks, lacks_from, unassigned_at_end};
+
+use jn_base::{BodyNo, FieldNo, OutOfMemory};
+use jn_env::Env;
+use jn_flow::FlowTable;
+use jn_points::{Point, PointKind, Program};
+use jn_quals::Qual;
+use jn_transfer::bits::{either, is_set};
+use jn_transfer::find_keys;
+use std::alloc::{AllocError, Global};
+
+/// The reference fields of the body's class that aren't assigned at some reached return of the
+/// body under the table, by rising numbers; none where the body is no constructor's.
+///
+/// # Errors
+/// No memory was found.
+pub fn unassigned_at_end(
+    alloc: Global,
+    program: &Program,
+    _sig: &[Qual],
+    body: BodyNo,
+    table: &FlowTable,
+) -> Result<Vec<FieldNo>, OutOfMemory>
+    requires inside { body.0 < length program.now.bodies }
+    requires few { length program.now.fields < 2 ^ 32 }
+    ensures { IfOk result (λ fields. field_numbers fields.items ≡ unassigned_at_end program.now body.0 table.now) }
+{
+    let keys = find_keys(alloc, program, body)?;
+    let info = &program.bodies.as_slice()[body.0 as usize];
+    let points = info.points.as_slice();
+    let found = unassigned(alloc, keys.own.as_slice(), points, table.slots())?;
+    Ok(found)
+}
+
+fn unassigned(
+    alloc: Global,
+    own: &[u32],
+    points: &[Point],
+    slots: &[Option<Env>],
+) -> Result<Vec<FieldNo>, AllocError>
+    ensures { IfOk result (λ fields. field_numbers fields.items ≡ filter (λ f. lacks_from own.now f points.now 0 slots.now) own.now) }
+{
+    let mut fields = Vec::new(alloc);
+    for field in own {
+        let wanted = is_left(own, points, slots, *field);
+        push_if(&mut fields, wanted, FieldNo(*field))?;
+    }
+    Ok(fields)
+}
+
+fn push_if(fields: &mut Vec<FieldNo>, wanted: bool, field: FieldNo) -> Result<(), AllocError>
+    ensures { OnOk result (fields.new.items ≡ fields.old.items ++ cond wanted (field ∷ []) []) }
+{
+    if wanted {
+        fields.push(field)?;
+    }
+    Ok(())
+}
+
+/// Whether some reached return lacks the field.
+fn is_left(own: &[u32], points: &[Point], slots: &[Option<Env>], field: u32) -> bool
+    ensures { result ≡ lacks_from own.now field points.now 0 slots.now }
+{
+    let mut left = false;
+    for at in 0..points.len() {
+        left = either(left, lacks(own, &points[at].kind, slots, at, field));
+    }
+    left
+}
+
+/// Whether the point is a reached return that lacks the field.
+fn lacks(own: &[u32], kind: &PointKind, slots: &[Option<Env>], at: usize, field: u32) -> bool
+    ensures { result ≡ lacks own.now field kind.now (env_in slots.now at) }
+{
+    match kind {
+        PointKind::Return { .. } => match env_at(slots, at) {
+            None => false,
+            Some(env) => !is_assigned(own, env.assigned.as_slice(), field),
+        },
+        _ => false,
+    }
+}
+
+/// The environment of a point; None where it is unreached or not there.
+pub fn env_at(slots: &[Option<Env>], at: usize) -> Option<&Env>
+    ensures { MatchOption result (env_in slots.now at ≡ None) (λ env. env_in slots.now at ≡ Some env.now) }
+{
+    match slots.get(at) {
+        None => None,
+        Some(slot) => slot.as_ref(),
+    }
+}
+
+/// Whether the field's bit is set among a constructor's own fields.
+pub fn is_assigned(own: &[u32], bits: &[bool], field: u32) -> bool
+    ensures { result ≡ is_on (λ k. eqb k field) own.now bits.now }
+{
+    let mut on = false;
+    for i in 0..own.len() {
+        on = either(on, is_set(bit_at(bits, i), own[i] == field));
+    }
+    on
+}
+
+/// The bit at a place; false where there is none.
+fn bit_at(bits: &[bool], i: usize) -> bool
+    ensures { result ≡ slice_index_or bits.now i false }
+{
+    match bits.get(i) {
+        None => false,
+        Some(bit) => *bit,
+    }
+}
