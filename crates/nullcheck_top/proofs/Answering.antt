@@ -1,15 +1,15 @@
 -- What is written answers the words.
-use Rattle.std.proofs.Common.{◌≡◌, ℕ, zero, suc, ◌+◌, ◌<◌, ◌≤◌, ◌⊎◌, inl, inr, List, [], ◌∷◌, length, Option, Some, None, refl, sym, ap, ◌∙◌, subst, arith}
+use Rattle.std.proofs.Common.{◌≡◌, ℕ, zero, suc, ◌+◌, ◌<◌, inl, inr, List, [], ◌∷◌, length, Option, Some, None, refl, sym, ◌∙◌, subst, arith}
 use Rattle.jn_points.specs.declared.program.Program.{Program}
 use Rattle.jn_heap.specs.Machine.{NeverNull}
 use Rattle.jn_outside.specs.Causes.{Rose}
 use Rattle.jn_outside.specs.Files.{Holding, Gives, HoldsMore, IsLonger}
-use Rattle.jn_outside.specs.Sink.{Appends, AppendsPrefix}
+use Rattle.jn_outside.specs.Sink.{Appends}
 use Rattle.nullcheck_top.specs.declared.source.SourceFile.{SourceFile}
 use Rattle.nullcheck_top.specs.declared.status.Status.{Status}
 use Rattle.nullcheck_top.specs.declared.status.Status.TheVariants.{Ok, Rejected, Refused as RefusedStatus, RunFault, Stopped, ReadFault, WriteFault, OutOfMemory, Usage}
 use Rattle.nullcheck_top.specs.Words.{usage_line}
-use Rattle.nullcheck_top.specs.Report.{Report, Refused, Checked, IsReport, IsCheckedBy, RulesGive, ProgramOf, IsSafe, status_of, unbuilt_row, limit}
+use Rattle.nullcheck_top.specs.Report.{Report, Refused, Checked, IsReport, RulesGive, ProgramOf, IsSafe, status_of, unbuilt_row, limit}
 use Rattle.nullcheck_top.specs.Shown.{shown}
 use Rattle.nullcheck_top.specs.Answer.{AreHeld, AreFiles, IsReportOfFiles, IsReportOf, Defines, Answers, Completes, Safe, Finished, FinishedOrNot, one_file}
 use Rattle.nullcheck_top.proofs.Showing.{unbuilt_shown}

@@ -1,5 +1,5 @@
 -- The edges of a program of the first form stay in its body.
-use Rattle.std.proofs.Common.{◌≡◌, ℕ, zero, suc, ◌+◌, ◌<◌, List, [], ◌∷◌, length, Option, Some, None, refl, sym, ap, ◌∙◌, subst, arith}
+use Rattle.std.proofs.Common.{◌≡◌, ℕ, zero, suc, ◌+◌, ◌<◌, List, [], ◌∷◌, length, Some, None, sym, ap, subst, arith}
 use Rattle.std.specs.Prelude.{slice_get}
 use Rattle.jn_points.specs.declared.point.Literal.TheVariants.{Null, Str}
 use Rattle.jn_points.specs.declared.point.StrOperation.TheVariants.{Length}
@@ -9,7 +9,7 @@ use Rattle.jn_points.specs.declared.point.PointKind.TheVariants.{Const, Move, St
 use Rattle.jn_points.specs.declared.program.Body.{Body}
 use Rattle.jn_points.specs.declared.program.Program.{Program}
 use Rattle.jn_points.specs.Edges.{edges_of}
-use Rattle.jn_points.specs.Lookup.{points_of, body_at, point_at}
+use Rattle.jn_points.specs.Lookup.{points_of, body_at}
 use Rattle.jn_transfer.specs.Sized.{Below, StaysInside}
 use Rattle.jn_first_form.specs.Facts.{FormKind, FormPoints, FormFacts}
 

@@ -1,70 +1,43 @@
 -- The body of a form's program is one that flow and checks take, and what they give are the rules' rows.
-use Rattle.std.proofs.Common.{◌≡◌, ℕ, ◌+◌, ◌<◌, ◌≤◌, false, List, [], ◌∷◌, ◌++◌, length, map, Option, Some, None, refl, sym, ap, ◌∙◌, subst, arith, length-append}
-use Rattle.std.specs.Prelude.{slice_get}
+use Rattle.std.proofs.Common.{◌≡◌, ◌+◌, ◌<◌, ◌≤◌, List, [], ◌∷◌, length, map, None, refl, sym, ap, ◌∙◌, subst, arith, length-append}
 use Rattle.jn_base.specs.declared.place.Row.{Row}
 use Rattle.jn_quals.specs.Qualifier.{Qualifier}
 use Rattle.jn_trees.specs.declared.token.Token.{Token}
-use Rattle.jn_points.specs.declared.point.Literal.TheVariants.{Null, Str}
-use Rattle.jn_points.specs.declared.point.StrOperation.TheVariants.{Length}
-use Rattle.jn_points.specs.declared.point.Point.{Point}
-use Rattle.jn_points.specs.declared.point.PointKind.{PointKind}
-use Rattle.jn_points.specs.declared.point.PointKind.TheVariants.{Const, Move, StrOp, Print, TestNull, Goto, Return}
-use Rattle.jn_points.specs.declared.program.Body.{Body}
+use Rattle.jn_points.specs.declared.point.PointKind.TheVariants.{Return}
 use Rattle.jn_points.specs.declared.program.SlotInfo.{SlotInfo}
 use Rattle.jn_points.specs.declared.program.Program.{Program}
-use Rattle.jn_points.specs.Lookup.{points_of, body_at, method_in, ctor_of}
+use Rattle.jn_points.specs.Lookup.{points_of, body_at}
 use Rattle.jn_sigs.specs.Signature.{start_signature}
 use Rattle.jn_transfer.specs.Rules.{Breaks}
-use Rattle.jn_checks.specs.Plain.{IsPlain, AllPlain}
 use Rattle.jn_diag.specs.Order.{IsOrderOf}
 use Rattle.jn_first_form.specs.Trees.{FormTree}
 use Rattle.jn_first_form.specs.Lowered.{all_lowered, all_size, span_at, point_of}
-use Rattle.jn_first_form.specs.Facts.{FormKind, FormPoints, FormFacts}
-use Rattle.jn_first_form.specs.Form.{IsForm, program_of_form, points_of_form, first_temporary, start_place}
+use Rattle.jn_first_form.specs.Form.{program_of_form, first_temporary, start_place}
 use Rattle.jn_first_form.proofs.PointFacts.{length-all_lowered}
 use Rattle.nullcheck_top.specs.FormProgram.{IsFormProgram, AreMainRows}
 use Rattle.nullcheck_top.specs.Report.{RulesGive}
 use Rattle.nullcheck_top.proofs.RuleRows.{rules_break}
-
-plain_kind : (n regs p : ℕ) (kind : PointKind) → FormKind n regs p kind → IsPlain kind
-plain_kind n regs p (Const dst value) f = tt
-plain_kind n regs p (Move dst from None) f = tt
-plain_kind n regs p (StrOp dst Length of None) f = tt
-plain_kind n regs p (Print of) f = tt
-plain_kind n regs p (TestNull of origin at_null at_value) f = tt
-plain_kind n regs p (Goto to) f = tt
-plain_kind n regs p (Return None) f = tt
-plain_kind n regs p kind f = absurd f
-
-plain_points : (n regs p : ℕ) (pts : List Point) → FormPoints n regs p pts → AllPlain pts
-plain_points n regs p [] f = tt
-plain_points n regs p (pt ∷ pts) f = (plain_kind n regs p pt.kind f.0, plain_points n regs (p + 1) pts f.1)
 
 -- what flow and checks ask of a program's first body
 pub record Suits (P : Program) : Type 0 where
   pub inside : 0 < length P.bodies
   pub few : length P.fields < 4294967296
   pub short : length (points_of (body_at P 0)) < 4294967296
-  pub plain : AllPlain (points_of (body_at P 0))
-  pub method : ctor_of (method_in P 0) ≡ false
 
-suits_form : (tokens : List Token) (f : FormTree) → all_size f.body + 1 ≤ 65535 → FormFacts (program_of_form tokens f) → Suits (program_of_form tokens f)
-suits_form tokens f few facts =
+suits_form : (tokens : List Token) (f : FormTree) → all_size f.body + 1 ≤ 65535 → Suits (program_of_form tokens f)
+suits_form tokens f few =
     let whole = length-append (all_lowered (first_temporary f) (start_place tokens) f.body) (point_of (Return None) (span_at tokens 6) ∷ []) in
     let part = length-all_lowered (first_temporary f) (start_place tokens) f.body in
-    let same : points_of_form tokens f ≡ facts.body.points = ap (λ (bs : List Body). points_of (slice_get bs 0)) facts.bodies in
     record {
       inside = omega arith;
       few = omega arith;
       short = omega (arith, whole, part);
-      plain = subst AllPlain (sym same) (plain_points _ _ 0 facts.body.points facts.points);
-      method = refl;
     }
 
-pub suits : (P : Program) (form : IsFormProgram P) → FormFacts P → Suits P
-suits P form facts =
+pub suits : (P : Program) (form : IsFormProgram P) → Suits P
+suits P form =
     let is = form.form.lowered in
-    subst Suits (sym is) (suits_form form.tokens form.form.tree form.form.points (subst FormFacts is facts))
+    subst Suits (sym is) (suits_form form.tokens form.form.tree form.form.points)
 
 starts_form : (tokens : List Token) (f : FormTree) → map (λ (slot : SlotInfo). slot.start) (program_of_form tokens f).slots ≡ start_signature (program_of_form tokens f)
 starts_form tokens f = refl

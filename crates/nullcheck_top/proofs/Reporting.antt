@@ -1,5 +1,5 @@
 -- The parts of a report are one.
-use Rattle.std.proofs.Common.{◌≡◌, ℕ, ◌≤◌, List, [], ◌∷◌, length, map, Option, Some, None, refl, sym, ap, ◌∙◌, subst}
+use Rattle.std.proofs.Common.{◌≡◌, ℕ, List, [], ◌∷◌, map, Option, Some, refl, ap, ◌∙◌}
 use Rattle.jn_base.specs.declared.place.Row.{Row}
 use Rattle.jn_points.specs.declared.program.Program.{Program}
 use Rattle.jn_diag.specs.declared.shown.RowText.{RowText}

@@ -1,5 +1,5 @@
 -- What an answer says of the words, the files and the output.
-use Rattle.std.specs.Prelude.{ℕ, ◌<◌, ◌≤◌, ◌≡◌, ◌≢◌, ◌⊎◌, List, [], ◌∷◌, map, Option, Some, None}
+use Rattle.std.specs.Prelude.{ℕ, ◌≤◌, ◌≡◌, ◌⊎◌, List, [], ◌∷◌, map, Option, Some, None}
 use Rattle.jn_outside.specs.Files.{Holding, Holds}
 use Rattle.jn_outside.specs.Causes.{Rose}
 use Rattle.jn_outside.specs.Sink.{Appends, AppendsPrefix}

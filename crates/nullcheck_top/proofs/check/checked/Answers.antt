@@ -1,4 +1,4 @@
-use Rattle.std.proofs.Common.{◌≡◌, sym, ap, subst, ◌∙◌, Some, map}
+use Rattle.std.proofs.Common.{ap, ◌∙◌, Some, map}
 use Rattle.nullcheck_top.specs.Answer.{one_file}
 use Rattle.nullcheck_top.specs.Report.{status_of_rows}
 use Rattle.nullcheck_top.specs.Shown.{row_of, verdict_of_rows}

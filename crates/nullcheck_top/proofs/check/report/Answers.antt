@@ -1,4 +1,3 @@
-use Rattle.std.proofs.Common.{◌≡◌}
 use Rattle.nullcheck_top.proofs.Reporting.{unbuilt_report}
 use Rattle.nullcheck_top.proofs.check.report.Goals as goal
 

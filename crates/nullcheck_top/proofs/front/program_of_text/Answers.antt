@@ -1,4 +1,4 @@
-use Rattle.std.proofs.Common.{◌≡◌, sym, subst}
+use Rattle.std.proofs.Common.{sym, subst}
 use Rattle.jn_lexer.specs.Lexed.{Lexed}
 use Rattle.jn_first_form.specs.Known.{known_names}
 use Rattle.nullcheck_top.proofs.Fronts.{file, faulty, not_formed}

@@ -1,5 +1,4 @@
-use Rattle.std.proofs.Common.{◌≡◌, sym, subst, ◌∙◌}
-use Rattle.nullcheck_top.specs.FormProgram.{AreMainRows}
+use Rattle.std.proofs.Common.{◌∙◌}
 use Rattle.nullcheck_top.proofs.MainRows.{rules_give}
 use Rattle.nullcheck_top.proofs.rules.broken_rules.Goals as goal
 

@@ -7,10 +7,7 @@ pub flow-requires-clause-stays : goal.flow-requires-clause-stays
 flow-requires-clause-stays c = stays c.args.program.now (c.programs_stay_inside.ensures c.requires.tokens c.args.program.now c.requires.form)
 
 pub flow-requires-clause-short : goal.flow-requires-clause-short
-flow-requires-clause-short c = (suits c.args.program.now c.requires (c.programs_stay_inside.ensures c.requires.tokens c.args.program.now c.requires.form)).short
-
-pub checks-requires-clause-plain : goal.checks-requires-clause-plain
-checks-requires-clause-plain c = (suits c.args.program.now c.requires (c.programs_stay_inside.ensures c.requires.tokens c.args.program.now c.requires.form)).plain
+flow-requires-clause-short c = (suits c.args.program.now c.requires).short
 
 pub checks-requires-clause-long : goal.checks-requires-clause-long
 checks-requires-clause-long c =

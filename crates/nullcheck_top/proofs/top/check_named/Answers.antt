@@ -1,4 +1,4 @@
-use Rattle.std.proofs.Common.{◌≡◌, ◌∙◌, ap, sym, subst, Err, Some, ◌∷◌, []}
+use Rattle.std.proofs.Common.{◌∙◌, ap, sym, subst, Err, Some, ◌∷◌, []}
 use Rattle.jn_outside.specs.Files.{Gives}
 use Rattle.nullcheck_top.specs.Answer.{Finished}
 use Rattle.jn_base.specs.declared.refusal.Fail.TheVariants.{Refused as RefusedFail}

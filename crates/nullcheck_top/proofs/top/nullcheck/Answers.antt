@@ -1,4 +1,4 @@
-use Rattle.std.proofs.Common.{◌≡◌, sym, subst}
+use Rattle.std.proofs.Common.{sym, subst}
 use Rattle.nullcheck_top.specs.Answer.{Answers}
 use Rattle.nullcheck_top.proofs.Answering.{usage}
 use Rattle.nullcheck_top.proofs.top.nullcheck.Goals as goal
