@@ -1,0 +1,10 @@
+// What a body sends into inferred slots.
+#![tactic(auto)]
+
+pub mod body;
+pub mod sends;
+
+pub use body::contrib;
+
+#[cfg(test)]
+mod tests;
