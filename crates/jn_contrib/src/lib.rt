@@ -2,6 +2,7 @@
 #![tactic(auto)]
 
 pub mod body;
+pub mod law;
 pub mod sends;
 
 pub use body::contrib;
