@@ -1,0 +1,11 @@
+// What a body sends into inferred slots.
+#![tactic(auto)]
+
+pub mod body;
+pub mod law;
+pub mod sends;
+
+pub use body::contrib;
+
+#[cfg(test)]
+mod tests;
