@@ -1,5 +1,5 @@
 -- What is left of lists beyond their ends, and bits one key after another.
-use Rattle.std.proofs.Common.{◌≡◌, ℕ, zero, suc, ◌+◌, ◌<◌, ◌≤◌, ◌⊎◌, inl, inr, Bool, true, false, List, [], ◌∷◌, ◌++◌, ◌&&◌, ◌||◌, length, drop, Option, Some, None, refl, sym, ap, ◌∙◌, add-one, append-nil, arith}
+use Rattle.std.proofs.Common.{◌≡◌, ℕ, zero, suc, ◌+◌, ◌<◌, ◌≤◌, ◌⊎◌, inl, inr, Bool, true, false, List, [], ◌∷◌, ◌++◌, ◌&&◌, ◌||◌, length, drop, Option, refl, sym, ap, ◌∙◌, add-one, append-nil, arith}
 use Rattle.std.specs.Prelude.{slice_index_or}
 use Rattle.jn_base.specs.declared.number.SlotNo.{SlotNo}
 use Rattle.jn_base.specs.declared.place.Row.{Row}

@@ -1,4 +1,4 @@
-use Rattle.std.proofs.Common.{◌≡◌, ◌&&◌, ◌||◌, ap, ◌∙◌}
+use Rattle.std.proofs.Common.{◌&&◌, ◌||◌, ap, ◌∙◌}
 use Rattle.std.specs.Prelude.{eqb, slice_index_or}
 use Rattle.jn_checks.proofs.Steps.{on_more}
 use Rattle.jn_checks.proofs.ctor.is_assigned.Goals as goal

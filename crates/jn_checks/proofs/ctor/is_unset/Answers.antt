@@ -1,4 +1,4 @@
-use Rattle.std.proofs.Common.{◌≡◌, ℕ, List, ◌&&◌, not, ap, ◌∙◌, arith}
+use Rattle.std.proofs.Common.{ℕ, List, ◌&&◌, not, ap, ◌∙◌, arith}
 use Rattle.std.specs.Prelude.{eqb}
 use Rattle.jn_points.specs.Members.{some_of}
 use Rattle.jn_sigs.specs.Signature.{field_qual}
