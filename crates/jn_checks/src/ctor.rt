@@ -1,5 +1,5 @@
 // A constructor's fields that are left unassigned.
-ghost use Rattle.std.specs.Prelude.{◌≡◌, ◌++◌, ◌&&◌, eqb, false, not, OnOk, length, Some, slice_index_or};
+ghost use Rattle.std.specs.Prelude.{◌≡◌, ◌++◌, ◌&&◌, eqb, false, not, OnOk, length, Some};
 ghost use Rattle.jn_points.specs.Lookup.{method_of_body, body_at, points_of};
 ghost use Rattle.jn_points.specs.Members.{some_of};
 ghost use Rattle.jn_sigs.specs.Signature.{field_qual};
@@ -9,10 +9,11 @@ ghost use Rattle.jn_transfer.specs.Code.{AreKeys};
 
 use crate::rules::push_if;
 use jn_base::{Code, Row};
+use jn_ctor::is_assigned;
 use jn_env::Env;
 use jn_points::{Body, Point, PointKind};
 use jn_transfer::Analysis;
-use jn_transfer::bits::{either, is_set};
+use jn_transfer::bits::either;
 use jn_transfer::lookup::field_qual;
 use std::alloc::AllocError;
 
@@ -100,25 +101,4 @@ fn lacks_value(analysis: &Analysis, own: &[u32], assigned: &[bool], field: u32) 
 {
     !field_qual(analysis.program, analysis.sig, field).has_null()
         && !is_assigned(own, assigned, field)
-}
-
-/// Whether the bit of the field is set.
-fn is_assigned(own: &[u32], assigned: &[bool], field: u32) -> bool
-    ensures { result ≡ is_on (λ k. eqb k field) own.now assigned.now }
-{
-    let mut on = false;
-    for i in 0..own.len() {
-        on = either(on, is_set(bit_at(assigned, i), own[i] == field));
-    }
-    on
-}
-
-/// The bit; false for one that is not there.
-fn bit_at(bits: &[bool], i: usize) -> bool
-    ensures { result ≡ slice_index_or bits.now i false }
-{
-    match bits.get(i) {
-        None => false,
-        Some(bit) => *bit,
-    }
 }
