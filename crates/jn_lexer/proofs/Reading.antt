@@ -17,7 +17,8 @@ use Rattle.jn_lexer.specs.Gaps.{gap_text, IsGap}
 use Rattle.jn_lexer.specs.Lexemes.{Lexeme, Word, Quoted, Numeral, Fixed, NoneLonger}
 use Rattle.jn_lexer.specs.Pieces.{Piece, Stands, Behind}
 use Rattle.jn_lexer.specs.Faults.{IsFault, IsAtCharacter, IsTokenFault, IsOpenComment}
-use Rattle.jn_lexer.specs.Lexed.{names_with, kind_of, names_after, tokens_of, IsLexing, IfRefused}
+use Rattle.jn_lexer.specs.Lexed.{names_with, kind_of, names_after, tokens_of, IsLexing}
+use Rattle.jn_trees.specs.Refused.{IfRefused}
 use Rattle.jn_lexer.specs.Found.{IsGapOf, IsNext, IsFaultNext, IsFaultHere, IsAllGap, lexeme_of, body_of, word_of}
 use Rattle.jn_lexer.proofs.Lists.{get_at}
 use Rattle.jn_lexer.proofs.Widths.{width-split}

@@ -1,9 +1,6 @@
 -- The tokens of a text, with their names numbered.
 use Rattle.std.specs.Prelude.{◌≡◌, ℕ, List, [], ◌∷◌, IsUtf8, chars, encode_utf8_all}
 use Rattle.jn_base.specs.declared.number.FileNo.{FileNo}
-use Rattle.jn_base.specs.declared.place.Row.{Row}
-use Rattle.jn_base.specs.declared.refusal.Fail.{Fail}
-use Rattle.jn_base.specs.declared.refusal.Fail.TheVariants.{Refused, OutOfMemory}
 use Rattle.jn_trees.specs.Names.{with_name, number_in}
 use Rattle.jn_trees.specs.declared.token.Token.{Token}
 use Rattle.jn_trees.specs.declared.token.TokenKind.{TokenKind}
@@ -44,11 +41,6 @@ pub record Lexed (file : FileNo) (text : List ℕ) (old : List (List ℕ)) (toke
   pub are : ArePieces (chars text) pieces
   pub tokens_are : tokens ≡ tokens_of file old pieces
   pub names_are : new ≡ names_after old pieces
-
--- what holds of the row of a refusal
-abbrev pub IfRefused : Fail Row → (Row → Type 0) → Type 0
-IfRefused (Refused row) P = P row
-IfRefused OutOfMemory P = Unit {0}
 
 -- the characters are these tokens, and their names make the old list the new one
 pub record IsLexing (file : FileNo) (text : List ℕ) (old : List (List ℕ)) (tokens : List Token) (new : List (List ℕ)) : Type 0 where

@@ -4,7 +4,8 @@ ghost use Rattle.std.specs.Prelude.{◌≡◌, ◌+◌, ◌-◌, ◌≤◌, ◌<
 ghost use Rattle.jn_trees.specs.Names.{Extends};
 ghost use Rattle.jn_lexer.specs.Characters.{width};
 ghost use Rattle.jn_lexer.specs.Faults.{LexicalFault, HasNoUnicodeEscape, IsFirstEscape, IsTokenFault, IsAtCharacter};
-ghost use Rattle.jn_lexer.specs.Lexed.{Lexed, IfRefused, names_with, kind_of, IsLexing};
+ghost use Rattle.jn_trees.specs.Refused.{IfRefused};
+ghost use Rattle.jn_lexer.specs.Lexed.{Lexed, names_with, kind_of, IsLexing};
 ghost use Rattle.jn_lexer.specs.Found.{lexeme_of, body_of, word_of, HasQuotes, IsNextOrEnd, IsFaultNext};
 ghost use Rattle.jn_lexer.specs.Scan.{escape_at};
 

