@@ -1,4 +1,3 @@
-pub mod Known
 pub mod Trees
 pub mod View
 pub mod Reads

@@ -4,7 +4,6 @@
 mod brackets;
 pub mod form;
 mod front;
-pub mod known;
 pub mod law;
 mod leaves;
 pub mod local;

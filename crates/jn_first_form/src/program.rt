@@ -6,7 +6,7 @@ ghost use Rattle.jn_first_form.specs.Lowered.{all_size, all_declared, no_span, s
 ghost use Rattle.jn_first_form.specs.Trees.{string_name};
 ghost use Rattle.jn_first_form.specs.View.{views, form_view};
 
-use crate::known::{MAIN, OBJECT, STRING};
+use jn_known::{MAIN, OBJECT, STRING};
 use crate::local::Temporary;
 use crate::lower::lower_block;
 use crate::lowering::Lowering;

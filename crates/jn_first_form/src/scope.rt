@@ -5,7 +5,7 @@ ghost use Rattle.jn_first_form.specs.Scope.{is_member_name, may_name_class, may_
 ghost use Rattle.jn_first_form.specs.Names.{names};
 ghost use Rattle.jn_first_form.specs.View.{value_view, view, views, form_view};
 
-use crate::known::{FIRST_MEMBER, KNOWN_NAMES, OBJECT, STRING, SYSTEM};
+use jn_known::{FIRST_MEMBER, KNOWN_NAMES, OBJECT, STRING, SYSTEM};
 use crate::put::put;
 use crate::tree::{FirstForm, Statement, Value};
 use jn_base::{NameNo, OutOfMemory};

@@ -13,3 +13,4 @@ pub mod OneToken
 pub mod OneList
 pub mod OneFault
 pub mod OneRow
+pub mod Few

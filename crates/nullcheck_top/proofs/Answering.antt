@@ -1,18 +1,23 @@
 -- What is written answers the words.
-use Rattle.std.proofs.Common.{◌≡◌, ℕ, zero, suc, ◌+◌, ◌<◌, inl, inr, List, [], ◌∷◌, length, Option, Some, None, refl, sym, ◌∙◌, subst, arith}
+use Rattle.std.proofs.Common.{◌≡◌, ℕ, ◌<◌, ◌≤◌, inl, inr, List, [], ◌∷◌, length, Option, Some, None, Result, Ok as Made, Err, refl, sym, ◌∙◌, subst, arith, ap}
+use Rattle.std.specs.Prelude.{map}
+use Rattle.jn_base.specs.declared.refusal.OutOfMemory.{OutOfMemory as NoMemory}
 use Rattle.jn_points.specs.declared.program.Program.{Program}
 use Rattle.jn_heap.specs.Machine.{NeverNull}
 use Rattle.jn_outside.specs.Causes.{Rose}
-use Rattle.jn_outside.specs.Files.{Holding, Gives, HoldsMore, IsLonger}
+use Rattle.jn_outside.specs.Files.{Holding}
 use Rattle.jn_outside.specs.Sink.{Appends}
-use Rattle.nullcheck_top.specs.declared.source.SourceFile.{SourceFile}
+use Rattle.jn_reporters.specs.Sheet.{Taken}
+use Rattle.jn_reporters.specs.Reports.{plain_shown}
+use Rattle.jn_front.specs.declared.source.SourceFile.{SourceFile}
+use Rattle.jn_front.specs.declared.source.SourceRead.{SourceRead}
+use Rattle.jn_front.specs.Files.{names_of, most_files, ReadFrom, AreReads}
 use Rattle.nullcheck_top.specs.declared.status.Status.{Status}
 use Rattle.nullcheck_top.specs.declared.status.Status.TheVariants.{Ok, Rejected, Refused as RefusedStatus, RunFault, Stopped, ReadFault, WriteFault, OutOfMemory, Usage}
 use Rattle.nullcheck_top.specs.Words.{usage_line}
-use Rattle.nullcheck_top.specs.Report.{Report, Refused, Checked, IsReport, RulesGive, ProgramOf, IsSafe, status_of, unbuilt_row, limit}
-use Rattle.nullcheck_top.specs.Shown.{shown}
-use Rattle.nullcheck_top.specs.Answer.{AreHeld, AreFiles, IsReportOfFiles, IsReportOf, Defines, Answers, Completes, Safe, Finished, FinishedOrNot, one_file}
-use Rattle.nullcheck_top.proofs.Showing.{unbuilt_shown}
+use Rattle.nullcheck_top.specs.Report.{Report, Refused, Checked, IsReport, RulesGive, ProgramOf, IsSafe, status_of}
+use Rattle.nullcheck_top.specs.Answer.{AreFiles, IsReportOfFiles, IsReportOf, Defines, Answers, Completes, Safe, Finished}
+use Rattle.nullcheck_top.specs.Made.{IfMade}
 
 -- statuses behind which something was written whole
 abbrev pub Written : Status → Type 0
@@ -31,8 +36,12 @@ report_written (Refused rows) = tt
 report_written (Checked []) = tt
 report_written (Checked (row ∷ rows)) = tt
 
-pub files_written : (files : List SourceFile) (status : Status) (bytes : List ℕ) → IsReportOfFiles files status bytes → Written status
+files_written : (files : List SourceFile) (status : Status) (bytes : List ℕ) → IsReportOfFiles files status bytes → Written status
 files_written files status bytes r = subst Written (sym r.ends) (report_written r.report)
+
+-- what the sink took, and the answer
+abbrev pub Ends : Option (List ℕ) → Option (List ℕ) → ℕ → ℕ → Status → Result (Status × Taken) NoMemory → Type 0
+Ends old new before now result made = IfMade made (λ status bytes. Finished old new bytes status before now result) ((result ≡ OutOfMemory) × (new ≡ old) × (now ≡ before))
 
 module _ (held : Option Holding) where
   written : (names : Option (List (List ℕ))) (old new : Option (List ℕ)) (bytes : List ℕ) (status : Status) → Written status → Defines held names status bytes → Appends old new bytes → Answers held names old new status
@@ -46,7 +55,7 @@ module _ (held : Option Holding) where
   written names old new bytes WriteFault w s a = absurd w
   written names old new bytes OutOfMemory w s a = absurd w
 
-  pub finished : (names : Option (List (List ℕ))) (old new : Option (List ℕ)) (bytes : List ℕ) (status : Status) (before now : ℕ) (result : Status) → Written status → Defines held names status bytes → Finished old new bytes status before now result → Answers held names old new result
+  finished : (names : Option (List (List ℕ))) (old new : Option (List ℕ)) (bytes : List ℕ) (status : Status) (before now : ℕ) (result : Status) → Written status → Defines held names status bytes → Finished old new bytes status before now result → Answers held names old new result
   finished names old new bytes status before now result w s (inl p) = subst (λ r. Answers held names old new r) (sym p.0) (written names old new bytes status w s p.1)
   finished names old new bytes status before now result w s (inr p) = subst (λ r. Answers held names old new r) (sym p.0) (status, bytes, s, p.1)
 
@@ -55,58 +64,46 @@ module _ (held : Option Holding) where
   usage names old new bytes before now result e b f =
       finished names old new bytes Usage before now result tt (subst (λ x. Defines held x Usage bytes) (sym e) (refl, b)) f
 
+  -- the report of files of these names, if one was made
+  abbrev pub MadeOf : List (List ℕ) → Result (Status × Taken) NoMemory → Type 0
+  MadeOf names made = IfMade made (λ status bytes. IsReportOf held names status bytes) (Unit {0})
+
+  pub answers : (names : List (List ℕ)) (old new : Option (List ℕ)) (before now : ℕ) (result : Status) (made : Result (Status × Taken) NoMemory) → MadeOf names made → Ends old new before now result made → Answers held (Some names) old new result
+  answers names old new before now result (Made r) m f =
+      finished (Some names) old new (plain_shown r.1.rows r.1.verdict) r.0 before now result (files_written m.files r.0 (plain_shown r.1.rows r.1.verdict) m.report) m f
+  answers names old new before now result (Err e) m f = subst (λ r. Answers held (Some names) old new r) (sym f.0) f.1
+
   -- no fault was counted
-  pub completes : (names : List (List ℕ)) (old new : Option (List ℕ)) (bytes : List ℕ) (status : Status) (before now : ℕ) (result : Status) → IsReportOf held names status bytes → Finished old new bytes status before now result → (Rose before now → ⊥) → Completes held (Some names) old new result
-  completes names old new bytes status before now result s (inl p) quiet = inr (bytes, subst (λ r. IsReportOf held names r bytes) (sym p.0) s, p.1)
-  completes names old new bytes status before now result s (inr p) quiet = absurd (quiet p.2)
+  pub completes : (names : List (List ℕ)) (old new : Option (List ℕ)) (before now : ℕ) (result : Status) (made : Result (Status × Taken) NoMemory) → MadeOf names made → Ends old new before now result made → (Rose before now → ⊥) → Completes held (Some names) old new result
+  completes names old new before now result (Made r) m (inl p) quiet = inr (plain_shown r.1.rows r.1.verdict, subst (λ s. IsReportOf held names s (plain_shown r.1.rows r.1.verdict)) (sym p.0) m, p.1)
+  completes names old new before now result (Made r) m (inr p) quiet = absurd (quiet p.2)
+  completes names old new before now result (Err e) m f quiet = inl f.0
 
-are_held : (held : Option Holding) (name bytes : List ℕ) → Gives held name bytes → AreHeld held (one_file name bytes)
-are_held None name bytes g = tt
-are_held (Some h) name bytes g = (g, tt)
+  -- of files that were read
+  pub made_of_reads : (names : List (List ℕ)) (reads : List SourceRead) (made : Result (Status × Taken) NoMemory) → ReadFrom held names reads → IfMade made (λ status bytes. (files : List SourceFile) → AreReads reads files → IsReportOfFiles files status bytes) (Unit {0}) → MadeOf names made
+  made_of_reads names reads (Made r) from report = record { files = from.files; read = record { named = from.named; told = λ few. from.told }; report = report from.files from.are }
+  made_of_reads names reads (Err e) from report = tt
 
-pub are_files : (held : Option Holding) (name bytes : List ℕ) → Gives held name bytes → AreFiles held (name ∷ []) (one_file name bytes)
-are_files held name bytes g = record { named = refl; told = are_held held name bytes g }
+-- no write fault where none was counted, and none unless the count rose
+pub no_fault : (old new : Option (List ℕ)) (before now : ℕ) (result : Status) (made : Result (Status × Taken) NoMemory) → IfMade made (λ status bytes. Written status) (Unit {0}) → Ends old new before now result made → result ≡ WriteFault → Rose before now
+no_fault old new before now result (Made r) w (inl p) e = absurd (subst Written (sym p.0 ∙ e) w)
+no_fault old new before now result (Made r) w (inr p) e = p.2
+no_fault old new before now result (Err e1) w f e = absurd (let x : OutOfMemory ≡ WriteFault = sym f.0 ∙ e in cc)
 
-pub report_of : (held : Option Holding) (name bytes : List ℕ) (status : Status) (text : List ℕ) → Gives held name bytes → IsReportOfFiles (one_file name bytes) status text → IsReportOf held (name ∷ []) status text
-report_of held name bytes status text g r = record { files = one_file name bytes; read = are_files held name bytes g; report = r }
+pub always_fault : (old new : Option (List ℕ)) (before now : ℕ) (result : Status) (made : Result (Status × Taken) NoMemory) → Ends old new before now result made → before < now → result ≡ WriteFault
+always_fault old new before now result (Made r) (inl p) lt = absurd (omega (arith, lt, p.2))
+always_fault old new before now result (Made r) (inr p) lt = p.0
+always_fault old new before now result (Err e) f lt = absurd (omega (arith, lt, f.2))
 
--- a file that is too long
+-- a report is never a read fault
+pub no_read_fault : (old new : Option (List ℕ)) (before now : ℕ) (result : Status) (made : Result (Status × Taken) NoMemory) → IfMade made (λ status bytes. Written status) (Unit {0}) → Ends old new before now result made → result ≡ ReadFault → ⊥
+no_read_fault old new before now result (Made r) w (inl p) e = absurd (subst Written (sym p.0 ∙ e) w)
+no_read_fault old new before now result (Made r) w (inr p) e = let x : WriteFault ≡ ReadFault = sym p.0 ∙ e in cc
+no_read_fault old new before now result (Err e1) w f e = let x : OutOfMemory ≡ ReadFault = sym f.0 ∙ e in cc
 
-zeros : ℕ → List ℕ
-zeros zero = []
-zeros (suc n) = 0 ∷ zeros n
-
-length-zeros : (n : ℕ) → length (zeros n) ≡ n
-unfolding zeros
-length-zeros zero = refl
-length-zeros (suc n) = let ih = length-zeros n in omega arith
-
-some_longer : (n : ℕ) → (bytes : List ℕ) × (n < length bytes)
-some_longer n = (zeros (n + 1), (let e = length-zeros (n + 1) in omega arith))
-
-refused : (name bytes : List ℕ) → limit < length bytes → IsReportOfFiles (one_file name bytes) RefusedStatus (shown (one_file name []) (Refused (unbuilt_row ∷ [])))
-refused name bytes long = record {
-  report = Refused (unbuilt_row ∷ []);
-  is = record { no_program = λ P p. omega (arith, p.within, long); row = refl };
-  ends = refl;
-  shows = unbuilt_shown name bytes;
-}
-
-longer : (h : Holding) (name : List ℕ) (o : Option (List ℕ)) → h name ≡ o → IsLonger o limit → IsReportOf (Some h) (name ∷ []) RefusedStatus (shown (one_file name []) (Refused (unbuilt_row ∷ [])))
-longer h name None e l = absurd l
-longer h name (Some bytes) e l = report_of (Some h) name bytes _ _ e (refused name bytes l)
-
-pub too_long : (held : Option Holding) (name : List ℕ) → HoldsMore held name limit → IsReportOf held (name ∷ []) RefusedStatus (shown (one_file name []) (Refused (unbuilt_row ∷ [])))
-too_long None name m = let b = some_longer limit in report_of None name b.0 _ _ tt (refused name b.0 b.1)
-too_long (Some h) name m = longer h name (h name) refl m
-
-pub too_long_answers : (held : Option Holding) (name : List ℕ) (old new : Option (List ℕ)) (before now : ℕ) (result : Status) → HoldsMore held name limit → FinishedOrNot old new (shown (one_file name []) (Refused (unbuilt_row ∷ []))) RefusedStatus before now result → Answers held (Some (name ∷ [])) old new result
-too_long_answers held name old new before now result m (inl p) = subst (λ r. Answers held (Some (name ∷ [])) old new r) (sym p.0) p.1
-too_long_answers held name old new before now result m (inr f) = finished held (Some (name ∷ [])) old new _ RefusedStatus before now result tt (too_long held name m) f
-
-pub too_long_completes : (held : Option Holding) (name : List ℕ) (old new : Option (List ℕ)) (before now : ℕ) (result : Status) → HoldsMore held name limit → FinishedOrNot old new (shown (one_file name []) (Refused (unbuilt_row ∷ []))) RefusedStatus before now result → (Rose before now → ⊥) → Completes held (Some (name ∷ [])) old new result
-too_long_completes held name old new before now result m (inl p) quiet = inl p.0
-too_long_completes held name old new before now result m (inr f) quiet = completes held (name ∷ []) old new _ RefusedStatus before now result (too_long held name m) f quiet
+pub made_written : (held : Option Holding) (names : List (List ℕ)) (made : Result (Status × Taken) NoMemory) → MadeOf held names made → IfMade made (λ status bytes. Written status) (Unit {0})
+made_written held names (Made r) m = files_written m.files r.0 (plain_shown r.1.rows r.1.verdict) m.report
+made_written held names (Err e) m = tt
 
 -- accepted files are safe
 module _ (law : (files : List SourceFile) (P : Program) → ProgramOf files P → RulesGive P [] → NeverNull P) where
@@ -115,7 +112,7 @@ module _ (law : (files : List SourceFile) (P : Program) → ProgramOf files P �
   safe_report files (Checked []) is e = record { P = is.P; of_files = is.of_files; never = law files is.P is.of_files is.rules }
   safe_report files (Checked (row ∷ rows)) is e = cc
 
-  pub safe : (held : Option Holding) (name bytes : List ℕ) (old new : Option (List ℕ)) (text sent : List ℕ) (status : Status) (before now : ℕ) (result : Status) → Gives held name bytes → IsReportOfFiles (one_file name bytes) status text → Finished old new sent status before now result → result ≡ Ok → Safe held (Some (name ∷ []))
-  safe held name bytes old new text sent status before now result g r (inl p) a =
-      record { files = one_file name bytes; read = are_files held name bytes g; safe = safe_report _ r.report r.is (sym r.ends ∙ sym p.0 ∙ a) }
-  safe held name bytes old new text sent status before now result g r (inr p) a = let w : WriteFault ≡ Ok = sym p.0 ∙ a in cc
+  pub safe : (held : Option Holding) (names : List (List ℕ)) (old new : Option (List ℕ)) (before now : ℕ) (result : Status) (made : Result (Status × Taken) NoMemory) → MadeOf held names made → Ends old new before now result made → result ≡ Ok → Safe held (Some names)
+  safe held names old new before now result (Made r) m (inl p) a = record { files = m.files; read = m.read; safe = safe_report m.files m.report.report m.report.is (sym m.report.ends ∙ sym p.0 ∙ a) }
+  safe held names old new before now result (Made r) m (inr p) a = let w : WriteFault ≡ Ok = sym p.0 ∙ a in cc
+  safe held names old new before now result (Err e) m f a = let w : OutOfMemory ≡ Ok = sym f.0 ∙ a in cc

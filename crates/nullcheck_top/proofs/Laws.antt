@@ -1,7 +1,6 @@
 -- Accepted programs are safe, and files have one report.
-use Rattle.std.proofs.Common.{◌≡◌, ℕ, zero, suc, ◌<◌, arith, List, [], ◌∷◌, length, Option, Some, refl, sym, ap, ◌∙◌, subst}
+use Rattle.std.proofs.Common.{◌≡◌, ℕ, zero, suc, ◌<◌, arith, List, [], ◌∷◌, length, Option, Some, inl, inr, refl, sym, ap, ◌∙◌, subst}
 use Rattle.std.specs.Prelude.{slice_get, slice_index_or}
-use Rattle.jn_base.specs.declared.number.FileNo.{FileNo}
 use Rattle.jn_base.specs.declared.place.Row.{Row}
 use Rattle.jn_quals.specs.Qualifier.{Qualifier}
 use Rattle.jn_trees.specs.declared.token.Token.{Token}
@@ -16,11 +15,11 @@ use Rattle.jn_transfer.specs.Sized.{StaysInside}
 use Rattle.jn_heap.specs.Machine.{NeverNull}
 use Rattle.jn_soundness.specs.PlainPrograms.{PlainProgram, PlainAccepted}
 use Rattle.jn_diag.specs.Order.{IsOrderOf}
-use Rattle.jn_lexer.specs.Lexed.{Lexed}
 use Rattle.jn_first_form.specs.Facts.{FormFacts}
 use Rattle.jn_first_form.specs.Form.{IsForm}
-use Rattle.nullcheck_top.specs.declared.source.SourceFile.{SourceFile}
-use Rattle.nullcheck_top.specs.Report.{ProgramOf, ProgramOfText, Report, Refused, Checked, RulesGive, IsReport}
+use Rattle.jn_front.specs.declared.source.SourceFile.{SourceFile}
+use Rattle.jn_front.specs.Phases.{IsRead, FrontRows}
+use Rattle.nullcheck_top.specs.Report.{IsFormOf, ProgramOf, Report, Refused, Checked, RulesGive, IsFront, IsUnbuilt, IsCheckedBy, IsReport}
 use Rattle.nullcheck_top.proofs.Inside.{stays}
 use Rattle.nullcheck_top.proofs.RuleRows.{breaks_once}
 
@@ -36,6 +35,11 @@ only_body : (P : Program) → FormFacts P → (b : ℕ) (x : Body) → body_at P
 only_body P facts b x e =
     let none : slice_get (facts.body ∷ []) (suc b) ≡ Some x = subst (λ (bs : List Body). slice_get bs (suc b) ≡ Some x) facts.bodies e in
     cc
+
+form_of : (tss : List (List Token)) (P : Program) → IsFormOf tss P → (ts : List Token) × IsForm ts P
+form_of [] P f = absurd f
+form_of (ts ∷ []) P f = (ts, f)
+form_of (ts ∷ us ∷ tss) P f = absurd f
 
 module _ (plain : (tokens : List Token) (p : Program) → IsForm tokens p → PlainProgram p) (inside : (tokens : List Token) (p : Program) → IsForm tokens p → FormFacts p) (respects : (P : Program) (s : List Qualifier) (b : ℕ) (t : List (Option Env)) → StaysInside P b → IsLeastTable P s b t → Respects P s b t) (law : (P : Program) (tables : List (List (Option Env))) → PlainAccepted P tables → NeverNull P) where
   form_safe : (tokens : List Token) (P : Program) → IsForm tokens P → RulesGive P [] → NeverNull P
@@ -54,30 +58,45 @@ module _ (plain : (tokens : List Token) (p : Program) → IsForm tokens p → Pl
       respects_all P facts breaks (suc b) x e = absurd (only_body P facts b x e)
 
   pub accepted_safe : (files : List SourceFile) (P : Program) → ProgramOf files P → RulesGive P [] → NeverNull P
-  accepted_safe [] P of_files rules = absurd of_files
-  accepted_safe (file ∷ []) P of_files rules = form_safe of_files.tokens P of_files.form rules
-  accepted_safe (file ∷ other ∷ files) P of_files rules = absurd of_files
+  accepted_safe files P of_files rules = let f = form_of of_files.tokens P of_files.form in form_safe f.0 P f.1 rules
 
-module _ (read : (file : FileNo) (text : List ℕ) (old : List (List ℕ)) (ts us : List Token) (ns ms : List (List ℕ)) → Lexed file text old ts ns → Lexed file text old us ms → (ts ≡ us) × (ns ≡ ms)) (formed : (tokens : List Token) (p q : Program) → IsForm tokens p → IsForm tokens q → p ≡ q) (table : (P : Program) (s : List Qualifier) (b : ℕ) (t u : List (Option Env)) → IsLeastTable P s b t → IsLeastTable P s b u → t ≡ u) (ordered : (old one other : List Row) → IsOrderOf old one → IsOrderOf old other → one ≡ other) where
-  one_text : (text : List ℕ) (P Q : Program) → ProgramOfText text P → ProgramOfText text Q → P ≡ Q
-  one_text text P Q x y =
-      let same = (read _ text _ x.tokens y.tokens x.names y.names x.lexed y.lexed).0 in
-      formed y.tokens P Q (subst (λ ts. IsForm ts P) same x.form) y.form
+module _ (fronted : (files : List SourceFile) (rows others : List Row) → FrontRows files rows → FrontRows files others → rows ≡ others) (read : (files : List SourceFile) (one other : List (List Token)) → IsRead files one → IsRead files other → one ≡ other) (apart : (files : List SourceFile) (tokens : List (List Token)) (rows : List Row) → IsRead files tokens → FrontRows files rows → ⊥) (formed : (tokens : List Token) (p q : Program) → IsForm tokens p → IsForm tokens q → p ≡ q) (table : (P : Program) (s : List Qualifier) (b : ℕ) (t u : List (Option Env)) → IsLeastTable P s b t → IsLeastTable P s b u → t ≡ u) (ordered : (old one other : List Row) → IsOrderOf old one → IsOrderOf old other → one ≡ other) where
+  one_form : (tss : List (List Token)) (P Q : Program) → IsFormOf tss P → IsFormOf tss Q → P ≡ Q
+  one_form [] P Q x y = absurd x
+  one_form (ts ∷ []) P Q x y = formed ts P Q x y
+  one_form (ts ∷ us ∷ tss) P Q x y = absurd x
 
   one_program : (files : List SourceFile) (P Q : Program) → ProgramOf files P → ProgramOf files Q → P ≡ Q
-  one_program [] P Q x y = absurd x
-  one_program (file ∷ []) P Q x y = one_text file.bytes P Q x y
-  one_program (file ∷ other ∷ files) P Q x y = absurd x
+  one_program files P Q x y =
+      let same = read files x.tokens y.tokens x.read y.read in
+      one_form y.tokens P Q (subst (λ tss. IsFormOf tss P) same x.form) y.form
 
   one_rules : (P : Program) (rows others : List Row) → RulesGive P rows → RulesGive P others → rows ≡ others
   one_rules P rows others x y =
       let same = breaks_once P (start_signature P) (table P (start_signature P)) x.broken y.broken x.breaks y.breaks in
       ordered y.broken rows others (subst (λ broken. IsOrderOf broken rows) same x.order) y.order
 
+  one_front : (files : List SourceFile) (rows others : List Row) → IsFront files rows → IsFront files others → rows ≡ others
+  one_front files rows others x y =
+      let same = fronted files x.broken y.broken x.phase y.phase in
+      ordered y.broken rows others (subst (λ broken. IsOrderOf broken rows) same x.order) y.order
+
+  one_refused : (files : List SourceFile) (rows others : List Row) → IsReport files (Refused rows) → IsReport files (Refused others) → rows ≡ others
+  one_refused files rows others (inl x) (inl y) = one_front files rows others x y
+  one_refused files rows others (inl x) (inr y) = absurd (apart files y.tokens x.broken y.read x.phase)
+  one_refused files rows others (inr x) (inl y) = absurd (apart files x.tokens y.broken x.read y.phase)
+  one_refused files rows others (inr x) (inr y) = x.row ∙ sym y.row
+
+  never_both : (files : List SourceFile) (rows others : List Row) → IsReport files (Refused rows) → IsCheckedBy files others → ⊥
+  never_both files rows others (inl x) y = apart files y.of_files.tokens x.broken y.of_files.read x.phase
+  never_both files rows others (inr x) y =
+      let same = read files y.of_files.tokens x.tokens y.of_files.read x.read in
+      x.no_form y.P (subst (λ tss. IsFormOf tss y.P) same y.of_files.form)
+
   pub one_report : (files : List SourceFile) (one other : Report) → IsReport files one → IsReport files other → one ≡ other
-  one_report files (Refused rows) (Refused others) x y = ap Refused (x.row ∙ sym y.row)
-  one_report files (Refused rows) (Checked others) x y = absurd (x.no_program y.P y.of_files)
-  one_report files (Checked rows) (Refused others) x y = absurd (y.no_program x.P x.of_files)
+  one_report files (Refused rows) (Refused others) x y = ap Refused (one_refused files rows others x y)
+  one_report files (Refused rows) (Checked others) x y = absurd (never_both files rows others x y)
+  one_report files (Checked rows) (Refused others) x y = absurd (never_both files others rows y x)
   one_report files (Checked rows) (Checked others) x y =
       let same = one_program files x.P y.P x.of_files y.of_files in
       ap Checked (one_rules y.P rows others (subst (λ P. RulesGive P rows) same x.rules) y.rules)

@@ -1,25 +1,20 @@
 -- What an answer says of the words, the files and the output.
-use Rattle.std.specs.Prelude.{ℕ, ◌≤◌, ◌≡◌, ◌⊎◌, List, [], ◌∷◌, map, Option, Some, None}
+use Rattle.std.specs.Prelude.{ℕ, ◌≤◌, ◌<◌, ◌≡◌, ◌⊎◌, List, [], ◌∷◌, length, Option, Some, None}
 use Rattle.jn_outside.specs.Files.{Holding, Holds}
 use Rattle.jn_outside.specs.Causes.{Rose}
 use Rattle.jn_outside.specs.Sink.{Appends, AppendsPrefix}
 use Rattle.nullcheck_top.specs.declared.status.Status.{Status}
 use Rattle.nullcheck_top.specs.declared.status.Status.TheVariants.{Ok, Rejected, Refused, RunFault, Stopped, ReadFault, WriteFault, OutOfMemory, Usage}
 use Rattle.nullcheck_top.specs.Words.{usage_line}
-use Rattle.nullcheck_top.specs.declared.source.SourceFile.{SourceFile}
+use Rattle.jn_front.specs.declared.source.SourceFile.{SourceFile}
+use Rattle.jn_front.specs.Files.{names_of, most_files, AreHeld, AllHeld}
 use Rattle.nullcheck_top.specs.Report.{Report, IsReport, status_of, IsSafe}
 use Rattle.nullcheck_top.specs.Shown.{shown}
 
--- the bytes are those that the source tells, where it tells
-abbrev pub AreHeld : Option Holding → List SourceFile → Type 0
-AreHeld None files = Unit {0}
-AreHeld (Some held) [] = Unit {0}
-AreHeld (Some held) (file ∷ files) = (held file.name ≡ Some file.bytes) × AreHeld (Some held) files
-
--- files of these names, with the bytes that the source tells
+-- files of these names; those that are read, where there are not too many, have the bytes that the source tells
 pub record AreFiles (held : Option Holding) (names : List (List ℕ)) (files : List SourceFile) : Type 0 where
-  pub named : map (λ (file : SourceFile). file.name) files ≡ names
-  pub told : AreHeld held files
+  pub named : names_of files ≡ names
+  pub told : length names ≤ most_files → AreHeld held files
 
 -- status and bytes are those of the report of the files
 pub record IsReportOfFiles (files : List SourceFile) (status : Status) (bytes : List ℕ) : Type 0 where
@@ -47,9 +42,15 @@ Writes held names old new status = (bytes : List ℕ) × Defines held names stat
 abbrev pub WritesPrefix : Option Holding → Option (List (List ℕ)) → Option (List ℕ) → Option (List ℕ) → Type 0
 WritesPrefix held names old new = (status : Status) × (bytes : List ℕ) × Defines held names status bytes × AppendsPrefix old new bytes
 
+-- files are read: the words name some, and not too many
 abbrev pub NamesFiles : Option (List (List ℕ)) → Type 0
 NamesFiles None = ⊥
-NamesFiles (Some names) = Unit {0}
+NamesFiles (Some names) = length names ≤ most_files
+
+-- no file is read
+abbrev pub ReadsNothing : Option (List (List ℕ)) → Type 0
+ReadsNothing None = Unit {0}
+ReadsNothing (Some names) = most_files < length names
 
 -- what stands behind each status
 abbrev pub Answers : Option Holding → Option (List (List ℕ)) → Option (List ℕ) → Option (List ℕ) → Status → Type 0
@@ -67,11 +68,6 @@ Answers held names old new Usage = Writes held names old new Usage
 abbrev pub Completes : Option Holding → Option (List (List ℕ)) → Option (List ℕ) → Option (List ℕ) → Status → Type 0
 Completes held None old new status = Unit {0}
 Completes held (Some names) old new status = (status ≡ OutOfMemory) ⊎ ((bytes : List ℕ) × IsReportOf held names status bytes × Appends old new bytes)
-
--- every file is held
-abbrev pub AllHeld : Option Holding → List (List ℕ) → Type 0
-AllHeld held [] = Unit {0}
-AllHeld held (name ∷ names) = Holds held name × AllHeld held names
 
 abbrev pub HoldsFiles : Option Holding → Option (List (List ℕ)) → Type 0
 HoldsFiles held None = Unit {0}
@@ -96,6 +92,3 @@ Finished old new bytes status before now result =
 abbrev pub FinishedOrNot : Option (List ℕ) → Option (List ℕ) → List ℕ → Status → ℕ → ℕ → Status → Type 0
 FinishedOrNot old new bytes status before now result =
     ((result ≡ OutOfMemory) × (new ≡ old) × (now ≡ before)) ⊎ Finished old new bytes status before now result
-
-abbrev pub one_file : List ℕ → List ℕ → List SourceFile
-one_file name bytes = record { name = name; bytes = bytes } ∷ []

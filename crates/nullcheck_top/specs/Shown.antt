@@ -6,7 +6,7 @@ use Rattle.jn_diag.specs.declared.shown.Verdict.{Verdict}
 use Rattle.jn_diag.specs.declared.shown.Verdict.TheVariants.{Accepted, Rejected, Refused as RefusedVerdict}
 use Rattle.jn_diag.specs.Shown.{row_shown}
 use Rattle.jn_reporters.specs.Reports.{plain_shown}
-use Rattle.nullcheck_top.specs.declared.source.SourceFile.{SourceFile}
+use Rattle.jn_front.specs.declared.source.SourceFile.{SourceFile}
 use Rattle.nullcheck_top.specs.Report.{Report, Refused, Checked}
 
 -- a row as a reader sees it; one of no file has no name, and stands at its beginning

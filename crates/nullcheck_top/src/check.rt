@@ -1,40 +1,28 @@
-// The report of a file.
-ghost use Rattle.std.specs.Prelude.{◌≡◌, ◌≤◌, ◌∷◌, [], length, IfOk};
+// The report of files that were read.
+ghost use Rattle.std.specs.Prelude.{◌≡◌, ◌≤◌, ◌×◌, ◌∷◌, [], List, length, map, IfOk, IfSome, IfNone, string_bytes};
+ghost use Rattle.jn_base.specs.declared.place.Row.{Row as SpecRow};
+ghost use Rattle.jn_points.specs.declared.program.Program.{Program as SpecProgram};
+ghost use Rattle.jn_diag.specs.Order.{IsOrderOf};
+ghost use Rattle.jn_front.specs.Counted.{ReadsFit};
+ghost use Rattle.jn_front.specs.declared.source.SourceFile.{SourceFile as SpecFile};
+ghost use Rattle.jn_front.specs.Files.{files_of_reads, names_of, AreReads};
 ghost use Rattle.jn_reporters.specs.Reports.{plain_shown};
-ghost use Rattle.nullcheck_top.specs.Answer.{IsReportOfFiles, one_file};
-ghost use Rattle.nullcheck_top.specs.Report.{ProgramOfText, Refused, status_of_rows, unbuilt_row};
+ghost use Rattle.nullcheck_top.specs.Answer.{IsReportOfFiles};
+ghost use Rattle.jn_front.specs.Phases.{IsRead};
+ghost use Rattle.nullcheck_top.specs.Report.{IsFormOf, ProgramOf, Refused, status_of_rows, unbuilt_row};
 ghost use Rattle.nullcheck_top.specs.Shown.{shown, verdict_of_rows};
 
-use crate::front::program_of_text;
 use crate::rules::broken_rules;
 use crate::show::show;
 use crate::status::Status;
-use jn_base::{Code, FileNo, OutOfMemory, Row, Span};
-use jn_diag::Verdict;
+use jn_base::{Code, OutOfMemory, Row, Seq};
+use jn_diag::{Verdict, order, row_text};
+use jn_first_form::form::recognize;
+use jn_front::{SourceRead, lex_all, limit_rows, parse_all, row_at};
 use jn_points::Program;
-use jn_reporters::Plain;
+use jn_reporters::{Plain, Reporter};
+use jn_trees::Token;
 use std::alloc::Global;
-
-fn unbuilt_row() -> Row
-    ensures { result ≡ unbuilt_row }
-{
-    Row {
-        span: Span {
-            file: FileNo(0),
-            from: 0,
-            to: 0,
-        },
-        code: Code::Unbuilt,
-    }
-}
-
-/// The report of a file that is not of the form, or too long.
-pub fn unbuilt(alloc: Global, name: &str, text: &[u8]) -> Result<Plain, OutOfMemory>
-    requires { length text.now ≤ 1048576 }
-    ensures { IfOk result (λ plain. plain_shown plain.rows plain.verdict ≡ shown (one_file name.now text.now) (Refused (unbuilt_row ∷ []))) }
-{
-    show(alloc, name, text, &[unbuilt_row()], Verdict::Refused(1))
-}
 
 fn verdict_of(rows: &[Row]) -> Verdict
     ensures { result ≡ verdict_of_rows rows.now }
@@ -54,28 +42,103 @@ fn status_of(rows: &[Row]) -> Status
     }
 }
 
-/// The status and the report of a file with this program.
+/// The status and the report of files that are refused by these rows.
+pub fn refused(
+    alloc: Global,
+    reads: &[SourceRead],
+    rows: Vec<Row>,
+) -> Result<(Status, Plain), OutOfMemory>
+    requires { ReadsFit reads.now }
+    ensures status { IfOk result (λ r. r.0 ≡ Status.Refused) }
+    ensures shows { IfOk result (λ r. (sorted : List SpecRow) × IsOrderOf rows.items sorted × (plain_shown r.1.rows r.1.verdict ≡ shown (files_of_reads reads.now) (Refused sorted))) }
+{
+    let mut rows = rows;
+    order(&mut rows)?;
+    let plain = show(alloc, reads, &rows, Verdict::Refused(rows.len() as u64))?;
+    Ok((Status::Refused, plain))
+}
+
+/// The program of the files with these tokens, or None where there is none yet.
+fn program_of(alloc: Global, tokens: &[Seq<Token>]) -> Result<Option<Program>, OutOfMemory>
+    ensures found { IfOk result (λ o. IfSome o (λ p. IsFormOf tokens.now p)) }
+    ensures none { IfOk result (λ o. IfNone o ((p : SpecProgram) → IsFormOf tokens.now p → ⊥)) }
+{
+    match tokens {
+        [tokens] => recognize(alloc, tokens.as_slice()),
+        _ => Ok(None),
+    }
+}
+
+/// The status and the report of files with these tokens, which have trees.
+fn parsed(
+    alloc: Global,
+    reads: &[SourceRead],
+    tokens: &[Seq<Token>],
+) -> Result<(Status, Plain), OutOfMemory>
+    requires fit { ReadsFit reads.now }
+    requires read { IsRead (files_of_reads reads.now) tokens.now }
+    ensures { IfOk result (λ r. IsReportOfFiles (files_of_reads reads.now) r.0 (plain_shown r.1.rows r.1.verdict)) }
+{
+    match program_of(alloc, tokens)? {
+        None => unbuilt(alloc, reads),
+        Some(program) => checked(alloc, reads, &program),
+    }
+}
+
+/// The report of files that have no program yet.
+fn unbuilt(alloc: Global, reads: &[SourceRead]) -> Result<(Status, Plain), OutOfMemory>
+    requires { ReadsFit reads.now }
+    ensures status { IfOk result (λ r. r.0 ≡ Status.Refused) }
+    ensures shows { IfOk result (λ r. plain_shown r.1.rows r.1.verdict ≡ shown (files_of_reads reads.now) (Refused (unbuilt_row ∷ []))) }
+{
+    let plain = show(alloc, reads, &[row_at(0, Code::Unbuilt)], Verdict::Refused(1))?;
+    Ok((Status::Refused, plain))
+}
+
+/// The status and the report of files with this program.
 fn checked(
     alloc: Global,
-    name: &str,
-    text: &[u8],
+    reads: &[SourceRead],
     program: &Program,
 ) -> Result<(Status, Plain), OutOfMemory>
-    requires { ProgramOfText text.now program.now }
-    ensures { IfOk result (λ r. IsReportOfFiles (one_file name.now text.now) r.0 (plain_shown r.1.rows r.1.verdict)) }
+    requires fit { ReadsFit reads.now }
+    requires program { ProgramOf (files_of_reads reads.now) program.now }
+    ensures { IfOk result (λ r. IsReportOfFiles (files_of_reads reads.now) r.0 (plain_shown r.1.rows r.1.verdict)) }
 {
     let rows = broken_rules(alloc, program)?;
-    let plain = show(alloc, name, text, &rows, verdict_of(&rows))?;
+    let plain = show(alloc, reads, &rows, verdict_of(&rows))?;
     Ok((status_of(&rows), plain))
 }
 
-/// The status and the report of a file.
-pub fn report(alloc: Global, name: &str, text: &[u8]) -> Result<(Status, Plain), OutOfMemory>
-    requires { length text.now ≤ 1048576 }
-    ensures { IfOk result (λ r. IsReportOfFiles (one_file name.now text.now) r.0 (plain_shown r.1.rows r.1.verdict)) }
+/// The status and the report of files that were read, at most 64.
+pub fn report(alloc: Global, reads: &[SourceRead]) -> Result<(Status, Plain), OutOfMemory>
+    requires few { length reads.now ≤ 64 }
+    requires fit { ReadsFit reads.now }
+    ensures { IfOk result (λ r. (files : List SpecFile) → AreReads reads.now files → IsReportOfFiles files r.0 (plain_shown r.1.rows r.1.verdict)) }
 {
-    match program_of_text(alloc, text)? {
-        None => Ok((Status::Refused, unbuilt(alloc, name, text)?)),
-        Some(program) => checked(alloc, name, text, &program),
+    let limits = limit_rows(alloc, reads)?;
+    if !limits.is_empty() {
+        return refused(alloc, reads, limits);
     }
+    let lexed = lex_all(alloc, reads)?;
+    if !lexed.faults.is_empty() {
+        return refused(alloc, reads, lexed.faults);
+    }
+    let syntax = parse_all(alloc, reads, &lexed.tokens)?;
+    if !syntax.is_empty() {
+        return refused(alloc, reads, syntax);
+    }
+    parsed(alloc, reads, &lexed.tokens)
+}
+
+/// The status and the report of more files than there may be.
+pub fn too_many(alloc: Global, names: &[String]) -> Result<(Status, Plain), OutOfMemory>
+    requires { 64 < length names.now }
+    ensures { IfOk result (λ r. (files : List SpecFile) → names_of files ≡ map string_bytes names.now → IsReportOfFiles files r.0 (plain_shown r.1.rows r.1.verdict)) }
+{
+    let shown = row_text(alloc, &row_at(64, Code::B1), names[64].as_str(), &[])?;
+    let mut plain = Plain::new(alloc);
+    plain.take(&shown)?;
+    plain.finish(Verdict::Refused(1))?;
+    Ok((Status::Refused, plain))
 }

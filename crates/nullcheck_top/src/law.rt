@@ -2,14 +2,14 @@
 ghost use Rattle.std.specs.Prelude.{◌≡◌, List, []};
 ghost use Rattle.jn_points.specs.declared.program.Program.{Program};
 ghost use Rattle.jn_heap.specs.Machine.{NeverNull};
-ghost use Rattle.nullcheck_top.specs.declared.source.SourceFile.{SourceFile};
+ghost use Rattle.jn_front.specs.declared.source.SourceFile.{SourceFile};
 ghost use Rattle.nullcheck_top.specs.Report.{ProgramOf, Report, RulesGive, IsReport};
 
 use jn_diag::rows_have_one_order;
 use jn_first_form::program_law::{files_have_one_program, programs_stay_inside};
 use jn_first_law::form_programs_are_plain;
+use jn_front::law::files_have_one_front;
 use jn_flow::law::rounds_give_the_least_table;
-use jn_lexer::law::texts_have_one_reading;
 use jn_soundness::law::plain_programs_never_fault;
 
 /// Files whose program breaks no rule have no null fault in any run.
@@ -26,7 +26,7 @@ pub fn accepted_programs_never_fault()
 pub fn files_have_one_report()
     ensures { (files : List SourceFile) (one other : Report) → IsReport files one → IsReport files other → one ≡ other }
 {
-    texts_have_one_reading();
+    files_have_one_front();
     files_have_one_program();
     rounds_give_the_least_table();
     rows_have_one_order();

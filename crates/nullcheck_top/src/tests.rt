@@ -16,6 +16,8 @@ const END: &str = "  }\n}\n";
 const USAGE: &str =
     "usage: nullcheck [--workers N] [--report NAME] [--run] [--steps N] [--words TEXT] [--gen N] FILE..\n";
 
+const UNBUILT: &str = "A.java:1:1: UNBUILT\nrefused 1\n";
+
 /// The status and the output of the words over one file `A.java`, where the call of this number fails.
 fn outcome(
     alloc: Global,
@@ -140,7 +142,17 @@ fn checks_bodies(rt: HostRuntime) -> Result<(), OutOfMemory> {
         (
             "String s = \"a;\n",
             Status::Refused,
-            "A.java:1:1: UNBUILT\nrefused 1\n",
+            "A.java:3:12: L5\nrefused 1\n",
+        ),
+        (
+            "    int x = 1;\n    x = x +",
+            Status::Refused,
+            "A.java:4:5: S1\nrefused 1\n",
+        ),
+        (
+            "    int a = 2147483648;\n",
+            Status::Refused,
+            "A.java:3:5: S1\nrefused 1\n",
         ),
     ] {
         let (ended, bytes) = checked(rt.alloc(), body)?;
@@ -174,7 +186,10 @@ fn answers_words_and_faults(rt: HostRuntime) -> Result<(), OutOfMemory> {
     for (first, second, failing, room, status, want) in [
         ("A.java", "", 0, 1000, Status::Rejected, report),
         ("", "", 0, 1000, Status::Usage, USAGE),
-        ("A.java", "A.java", 0, 1000, Status::Usage, USAGE),
+        ("A.java", "A.java", 0, 1000, Status::Refused, UNBUILT),
+        ("A.java", "--run", 0, 1000, Status::Usage, USAGE),
+        ("A.java", "B.java", 0, 1000, Status::ReadFault, ""),
+        ("A.java", "A.java", 4, 1000, Status::ReadFault, ""),
         ("-", "", 0, 1000, Status::Usage, USAGE),
         ("--run", "", 0, 1000, Status::Usage, USAGE),
         ("B.java", "", 0, 1000, Status::ReadFault, ""),
@@ -198,22 +213,58 @@ fn answers_words_and_faults(rt: HostRuntime) -> Result<(), OutOfMemory> {
 }
 
 #[test]
-fn refuses_what_is_no_file_of_the_form(rt: HostRuntime) -> Result<(), OutOfMemory> {
+fn reports_the_first_phase_that_has_rows(rt: HostRuntime) -> Result<(), OutOfMemory> {
     let alloc = rt.alloc();
-    let unbuilt = "A.java:1:1: UNBUILT\nrefused 1\n";
     let long = vec![in alloc; b' '; 1_048_577]?;
-    for text in [
-        "class A { }\n".as_bytes(),
-        b"",
-        b"\xff\x00",
-        b"class String { public static void main(String[] a) { } }",
-        b"class A { public static void main(String[] a) { } } }",
-        &long,
+    let spaces = vec![in alloc; b' '; 1_048_576]?;
+    for (text, want) in [
+        ("class A { }\n".as_bytes(), UNBUILT),
+        (b"", UNBUILT),
+        (&spaces, UNBUILT),
+        (b"class String { public static void main(String[] a) { } }", UNBUILT),
+        (b"\xff\x00", "A.java:1:1: L1\nrefused 1\n"),
+        (b"class A { } // \\u0041\n", "A.java:1:16: L2\nrefused 1\n"),
+        (b"class A { int x = 017; }", "A.java:1:19: L7\nrefused 1\n"),
+        (b"class A { } }", "A.java:1:13: S1\nrefused 1\n"),
+        (b"class A { A(int x) { break; } }", "A.java:1:22: S1\nrefused 1\n"),
+        (b"class A { void f(boolean b) { if (b) f(b); else 1; } }", "A.java:1:44: S1\nrefused 1\n"),
+        (b"class A {\n  int x = 1", "A.java:2:3: S1\nrefused 1\n"),
+        (&long, "A.java:1:1: B2\nrefused 1\n"),
     ] {
         let (ended, bytes) = outcome(alloc, &["A.java"], text, 0, 1000)?;
-        assert_eq!(rt; ended, Status::Refused);
-        assert_eq!(rt; bytes.as_slice(), unbuilt.as_bytes());
+        assert_eq!(rt; ended, Status::Refused, "{want}");
+        assert_eq!(rt; bytes.as_slice(), want.as_bytes(), "{want}");
     }
+    Ok(())
+}
+
+#[test]
+fn reports_rows_of_several_files(rt: HostRuntime) -> Result<(), OutOfMemory> {
+    let alloc = rt.alloc();
+    let spaces = vec![in alloc; b' '; 1_048_576]?;
+    for (text, count, want) in [
+        ("class A".as_bytes(), 2, "A.java:1:1: S1\nA.java:1:1: S1\nrefused 2\n"),
+        (b"#", 3, "A.java:1:1: L3\nA.java:1:1: L3\nA.java:1:1: L3\nrefused 3\n"),
+        (&spaces, 4, UNBUILT),
+        (&spaces, 5, "A.java:1:1: B3\nrefused 1\n"),
+        (b"", 64, UNBUILT),
+        (b"#", 65, "A.java:1:1: B1\nrefused 1\n"),
+    ] {
+        let words = vec![in alloc; "A.java"; count]?;
+        let (ended, bytes) = outcome(alloc, &words, text, 0, 1000)?;
+        assert_eq!(rt; ended, Status::Refused, "{want}");
+        assert_eq!(rt; bytes.as_slice(), want.as_bytes(), "{want}");
+    }
+    Ok(())
+}
+
+#[test]
+fn reads_nothing_of_too_many_files(rt: HostRuntime) -> Result<(), OutOfMemory> {
+    let alloc = rt.alloc();
+    let words = vec![in alloc; "B.java"; 65]?;
+    let (ended, bytes) = outcome(alloc, &words, b"", 1, 1000)?;
+    assert_eq!(rt; ended, Status::Refused);
+    assert_eq!(rt; bytes.as_slice(), "B.java:1:1: B1\nrefused 1\n".as_bytes());
     Ok(())
 }
 

@@ -1,24 +1,25 @@
 // Words in, the report out.
-ghost use Rattle.std.specs.Prelude.{◌≡◌, ◌≢◌, ◌<◌, ◌≤◌, ◌⊎◌, ℕ, List, map, Option, None, Some, ◌∷◌, [], MatchOption, IfOk, IfErr, length, Err, Ok, OnOk};
+ghost use Rattle.std.specs.Prelude.{◌≡◌, ◌≢◌, ◌<◌, ◌≤◌, ◌⊎◌, ℕ, List, map, Option, None, Some, ◌∷◌, [], IfOk, IfErr, length, Err, Ok, OnOk, true, false, ◌×◌};
 ghost use Rattle.std.specs.String.{string_bytes};
 ghost use Rattle.std.specs.Option.{option_copied};
 ghost use Rattle.jn_outside.specs.Causes.{Rose};
 ghost use Rattle.jn_outside.specs.Files.{Holds};
-ghost use Rattle.nullcheck_top.specs.Report.{Refused, unbuilt_row};
-ghost use Rattle.nullcheck_top.specs.Shown.{shown};
-ghost use Rattle.nullcheck_top.specs.Words.{files_of, begins_with_dash};
-ghost use Rattle.nullcheck_top.specs.Answer.{Answers, Completes, FinishedOrNot, one_file, Finished, HoldsFiles, Safe};
+ghost use Rattle.nullcheck_top.specs.Words.{files_of, begins_with_dash, any_dash};
+ghost use Rattle.nullcheck_top.specs.Answer.{Answers, Completes, Finished, HoldsFiles, ReadsNothing, Safe};
+ghost use Rattle.nullcheck_top.specs.Made.{IfMade};
+ghost use Rattle.jn_front.specs.Files.{AllHeld, most_files};
 
-use crate::check::{report, unbuilt};
+use crate::check::{report, too_many};
 use crate::law::accepted_programs_never_fault;
 use crate::status::Status;
-use jn_base::Fail;
-use jn_outside::{Files, ReadFail, Sink, read_whole, write_whole};
-use jn_reporters::Reporter;
+use jn_base::{Fail, OutOfMemory};
+use jn_front::read_all;
+use jn_outside::{Files, Sink, write_whole};
+use jn_reporters::{Plain, Reporter};
 use std::alloc::Global;
 
-/// The greatest number of bytes of a file that is checked.
-const LIMIT: u32 = 1_048_576;
+/// The greatest number of files.
+const MOST_FILES: usize = 64;
 
 const USAGE: &str =
     "usage: nullcheck [--workers N] [--report NAME] [--run] [--steps N] [--words TEXT] [--gen N] FILE..\n";
@@ -41,56 +42,64 @@ fn begins_with_dash(word: &str) -> bool
     }
 }
 
-/// The one file among the words.
-fn file_word(words: &[String]) -> Option<&str>
-    ensures { MatchOption result (files_of (map string_bytes words.now) ≡ None) (λ name. files_of (map string_bytes words.now) ≡ Some (name.now ∷ [])) }
+/// Whether a word begins with a dash.
+fn any_dash(words: &[String]) -> bool
+    ensures { result ≡ any_dash (map string_bytes words.now) }
 {
-    match words {
-        [word] => {
-            let name = word.as_str();
-            if begins_with_dash(name) {
-                None
-            } else {
-                Some(name)
-            }
+    'words: for word in words {
+        if begins_with_dash(word.as_str()) {
+            return true;
         }
-        _ => None,
     }
+    false
 }
 
-/// The report of a file that is too long, written.
-fn too_large<K: Sink>(alloc: Global, name: &str, out: &mut K) -> Status
-    ensures { FinishedOrNot (K.written out.old) (K.written out.new) (shown (one_file name.now []) (Refused (unbuilt_row ∷ []))) Status.Refused (K.faults out.old) (K.faults out.new) result }
+/// Whether the words name files: one or more, none of which begins with a dash.
+fn name_files(words: &[String]) -> bool
+    ensures yes { result ≡ true → files_of (map string_bytes words.now) ≡ Some (map string_bytes words.now) }
+    ensures no { result ≡ false → files_of (map string_bytes words.now) ≡ None }
 {
-    match unbuilt(alloc, name, &[]) {
+    !words.is_empty() && !any_dash(words)
+}
+
+/// Writes a report that was made, or answers that no memory was found for it.
+fn write<K: Sink>(made: Result<(Status, Plain), OutOfMemory>, out: &mut K) -> Status
+    ensures { IfMade made.entry (λ status bytes. Finished (K.written out.old) (K.written out.new) bytes status (K.faults out.old) (K.faults out.new) result) ((result ≡ Status.OutOfMemory) × (K.written out.new ≡ K.written out.old) × (K.faults out.new ≡ K.faults out.old)) }
+{
+    match made {
         Err(_) => Status::OutOfMemory,
-        Ok(text) => finish(out, text.bytes(), Status::Refused),
+        Ok((status, text)) => finish(out, text.bytes(), status),
     }
 }
 
-/// Checks the file of this name, and writes its report.
-fn check_named<F: Files, K: Sink>(alloc: Global, name: &str, files: &mut F, out: &mut K) -> Status
-    ensures answer { Answers (F.held files.old) (Some (name.now ∷ [])) (K.written out.old) (K.written out.new) result }
-    ensures safe { result ≡ Status.Ok → Safe (F.held files.old) (Some (name.now ∷ [])) }
-    ensures complete { (Rose (F.faults files.old) (F.faults files.new) → ⊥) → (Rose (K.faults out.old) (K.faults out.new) → ⊥) → Completes (F.held files.old) (Some (name.now ∷ [])) (K.written out.old) (K.written out.new) result }
+/// Checks the files of these names, and writes their report.
+fn check_named<F: Files, K: Sink>(
+    alloc: Global,
+    names: &[String],
+    files: &mut F,
+    out: &mut K,
+) -> Status
+    ensures answer { Answers (F.held files.old) (Some (map string_bytes names.now)) (K.written out.old) (K.written out.new) result }
+    ensures safe { result ≡ Status.Ok → Safe (F.held files.old) (Some (map string_bytes names.now)) }
+    ensures complete { (Rose (F.faults files.old) (F.faults files.new) → ⊥) → (Rose (K.faults out.old) (K.faults out.new) → ⊥) → Completes (F.held files.old) (Some (map string_bytes names.now)) (K.written out.old) (K.written out.new) result }
     ensures read { result ≡ Status.ReadFault → Rose (F.faults files.old) (F.faults files.new) }
     ensures read_always { F.faults files.old < F.faults files.new → result ≡ Status.ReadFault }
-    ensures read_steady { F.steady files.old → Holds (F.held files.old) name.now → result ≢ Status.ReadFault }
-    ensures read_count { F.steady files.old → Holds (F.held files.old) name.now → F.faults files.new ≡ F.faults files.old }
+    ensures read_steady { F.steady files.old → AllHeld (F.held files.old) (map string_bytes names.now) → result ≢ Status.ReadFault }
+    ensures read_count { F.steady files.old → AllHeld (F.held files.old) (map string_bytes names.now) → F.faults files.new ≡ F.faults files.old }
+    ensures unread { most_files < length names.now → F.faults files.new ≡ F.faults files.old }
     ensures write { result ≡ Status.WriteFault → Rose (K.faults out.old) (K.faults out.new) }
     ensures write_always { K.faults out.old < K.faults out.new → result ≡ Status.WriteFault }
 {
     accepted_programs_never_fault();
-    let bytes = match read_whole(alloc, files, name, LIMIT) {
-        Ok(bytes) => bytes,
-        Err(Fail::Refused(ReadFail::Failed)) => return Status::ReadFault,
-        Err(Fail::Refused(ReadFail::TooLarge)) => return too_large(alloc, name, out),
+    if names.len() > MOST_FILES {
+        return write(too_many(alloc, names), out);
+    }
+    let reads = match read_all(alloc, files, names) {
+        Ok(reads) => reads,
+        Err(Fail::Refused(_)) => return Status::ReadFault,
         Err(Fail::OutOfMemory) => return Status::OutOfMemory,
     };
-    match report(alloc, name, &bytes) {
-        Err(_) => Status::OutOfMemory,
-        Ok((status, text)) => finish(out, text.bytes(), status),
-    }
+    write(report(alloc, &reads), out)
 }
 
 /// Checks the files that the words name, and writes their report.
@@ -111,12 +120,14 @@ pub fn nullcheck<F: Files, K: Sink>(
     ensures read_always { F.faults files.old < F.faults files.new → result ≡ Status.ReadFault }
     ensures read_steady { F.steady files.old → HoldsFiles (F.held files.old) (files_of (map string_bytes words.now)) → result ≢ Status.ReadFault }
     ensures read_count { F.steady files.old → HoldsFiles (F.held files.old) (files_of (map string_bytes words.now)) → F.faults files.new ≡ F.faults files.old }
-    ensures usage_count { files_of (map string_bytes words.now) ≡ None → F.faults files.new ≡ F.faults files.old }
+    // Nothing is read where the words name no file, or too many.
+    ensures unread { ReadsNothing (files_of (map string_bytes words.now)) → F.faults files.new ≡ F.faults files.old }
     ensures write { result ≡ Status.WriteFault → Rose (K.faults out.old) (K.faults out.new) }
     ensures write_always { K.faults out.old < K.faults out.new → result ≡ Status.WriteFault }
 {
-    match file_word(words) {
-        None => finish(out, USAGE.as_bytes(), Status::Usage),
-        Some(name) => check_named(alloc, name, files, out),
+    if name_files(words) {
+        check_named(alloc, words, files, out)
+    } else {
+        finish(out, USAGE.as_bytes(), Status::Usage)
     }
 }

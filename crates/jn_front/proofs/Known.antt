@@ -4,7 +4,7 @@ use Rattle.std.proofs.Common.{◌≡◌, ℕ, ◌+◌, ◌<◌, ◌≤◌, take,
 use Rattle.std.specs.Prelude.{bytes_eq, if◌then◌else◌}
 use Rattle.std.specs.List.{list_any}
 use Rattle.jn_trees.specs.Names.{with_name}
-use Rattle.nullcheck_top.specs.Interned.{interned}
+use Rattle.jn_front.specs.Interned.{interned}
 
 pub interned_more : (names : List (List ℕ)) (bs : List (Bor (List ℕ))) (b : Bor (List ℕ)) → interned names (bs ++ b ∷ []) ≡ with_name (interned names bs) b.now
 interned_more names [] b = refl

@@ -1,4 +1,6 @@
 // Names that have a number before any file is read.
+#![tactic(auto)]
+
 use jn_base::NameNo;
 
 /// The texts that are numbered first, in the order of their numbers: the words of the form, and the members of Object.

@@ -1,0 +1,4 @@
+pub mod Known
+pub mod OneFront
+pub mod Loops
+pub mod Reading

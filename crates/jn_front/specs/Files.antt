@@ -1,0 +1,64 @@
+-- Source files, and what is read of them.
+use Rattle.std.specs.Prelude.{◌≡◌, ◌⊎◌, ℕ, ◌≤◌, ◌<◌, Bool, true, false, List, [], ◌∷◌, length, map, Option, Some, None, Result, Ok, Err}
+use Rattle.jn_base.specs.declared.refusal.Fail.{Fail}
+use Rattle.jn_base.specs.declared.refusal.Fail.TheVariants.{Refused, OutOfMemory}
+use Rattle.jn_outside.specs.declared.files.Failed.{Failed}
+use Rattle.jn_outside.specs.Files.{Holding, Holds}
+use Rattle.jn_front.specs.declared.source.SourceFile.{SourceFile}
+use Rattle.jn_front.specs.declared.source.SourceRead.{SourceRead}
+
+-- bytes of a file that is read whole
+abbrev pub file_limit : ℕ
+file_limit = 1048576
+
+-- files that are read
+abbrev pub most_files : ℕ
+most_files = 64
+
+abbrev pub names_of : List SourceFile → List (List ℕ)
+names_of files = map (λ (file : SourceFile). file.name) files
+
+-- the bytes are those that the source tells, where it tells
+abbrev pub AreHeld : Option Holding → List SourceFile → Type 0
+AreHeld None files = Unit {0}
+AreHeld (Some held) [] = Unit {0}
+AreHeld (Some held) (file ∷ files) = (held file.name ≡ Some file.bytes) × AreHeld (Some held) files
+
+-- every file is held
+abbrev pub AllHeld : Option Holding → List (List ℕ) → Type 0
+AllHeld held [] = Unit {0}
+AllHeld held (name ∷ names) = Holds held name × AllHeld held names
+
+abbrev pub read_as : List ℕ → List ℕ → Bool → SourceRead
+read_as name bytes whole = record { file = record { name = name; bytes = bytes }; whole = whole }
+
+-- the file was read whole, or its name alone where it is larger than the limit
+abbrev pub IsReadOf : SourceRead → SourceFile → Type 0
+IsReadOf read file = ((read.whole ≡ true) × (read.file ≡ file) × (length file.bytes ≤ file_limit)) ⊎ ((read.whole ≡ false) × (read.file.name ≡ file.name) × (file_limit < length file.bytes))
+
+abbrev pub AreReads : List SourceRead → List SourceFile → Type 0
+AreReads [] [] = Unit {0}
+AreReads [] (file ∷ files) = ⊥
+AreReads (read ∷ reads) [] = ⊥
+AreReads (read ∷ reads) (file ∷ files) = IsReadOf read file × AreReads reads files
+
+-- what was read are files of these names, with the bytes that the source tells
+pub record ReadFrom (held : Option Holding) (names : List (List ℕ)) (reads : List SourceRead) : Type 0 where
+  pub files : List SourceFile
+  pub named : names_of files ≡ names
+  pub told : AreHeld held files
+  pub are : AreReads reads files
+
+abbrev pub files_of_reads : List SourceRead → List SourceFile
+files_of_reads reads = map (λ (read : SourceRead). read.file) reads
+
+-- each file was read whole
+abbrev pub AllWhole : List SourceRead → Type 0
+AllWhole [] = Unit {0}
+AllWhole (read ∷ reads) = (read.whole ≡ true) × (length read.file.bytes ≤ file_limit) × AllWhole reads
+
+-- a file could not be read
+abbrev pub CannotRead : {A : Type 0} → Result A (Fail Failed) → Type 0
+CannotRead (Ok a) = ⊥
+CannotRead (Err (Refused failed)) = Unit {0}
+CannotRead (Err OutOfMemory) = ⊥

@@ -1,0 +1,6 @@
+pub mod Files
+pub mod Limits
+pub mod Phases
+pub mod Interned
+pub mod Counted
+pub mod Steps

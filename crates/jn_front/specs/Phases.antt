@@ -1,0 +1,68 @@
+-- What files are before they are programs: their tokens, or the lexical fault of each; their trees, or the syntax row of each.
+use Rattle.std.specs.Prelude.{◌≡◌, ◌⊎◌, ℕ, ◌+◌, List, [], ◌∷◌, length}
+use Rattle.jn_base.specs.declared.place.Row.{Row}
+use Rattle.jn_base.specs.declared.number.FileNo.{FileNo}
+use Rattle.jn_trees.specs.declared.token.Token.{Token}
+use Rattle.jn_trees.specs.Trees.{SourceTree}
+use Rattle.jn_trees.specs.Pieces.{IsFile, IsSyntaxRow}
+use Rattle.jn_lexer.specs.Lexed.{Lexed}
+use Rattle.jn_lexer.specs.Faults.{LexicalFault}
+use Rattle.jn_known.specs.Known.{known_names}
+use Rattle.jn_front.specs.declared.source.SourceFile.{SourceFile}
+use Rattle.jn_front.specs.Limits.{limit_rows}
+
+abbrev pub file_no : ℕ → FileNo
+file_no k = record { 0 = k }
+
+-- the files from the k-th on are these tokens, their names numbered behind those of the files before
+abbrev pub LexedFrom : ℕ → List (List ℕ) → List SourceFile → List (List Token) → Type 0
+LexedFrom k names [] [] = Unit {0}
+LexedFrom k names [] (ts ∷ tss) = ⊥
+LexedFrom k names (file ∷ files) [] = ⊥
+LexedFrom k names (file ∷ files) (ts ∷ tss) = (new : List (List ℕ)) × Lexed (file_no k) file.bytes names ts new × LexedFrom (k + 1) new files tss
+
+-- the lexical fault of each file that has one
+abbrev pub FaultRows : ℕ → List SourceFile → List Row → Type 0
+FaultRows k [] rows = rows ≡ []
+FaultRows k (file ∷ files) rows =
+    (((row : Row) → LexicalFault (file_no k) file.bytes row → ⊥) × FaultRows (k + 1) files rows)
+    ⊎ ((row : Row) × (rest : List Row) × (rows ≡ row ∷ rest) × LexicalFault (file_no k) file.bytes row × FaultRows (k + 1) files rest)
+
+-- the tokens are a file
+abbrev pub Parses : List Token → Type 0
+Parses ts = (tree : SourceTree) × IsFile ts tree
+
+-- the syntax row of each file that has one
+abbrev pub SyntaxRows : ℕ → List SourceFile → List (List Token) → List Row → Type 0
+SyntaxRows k [] [] rows = rows ≡ []
+SyntaxRows k [] (ts ∷ tss) rows = ⊥
+SyntaxRows k (file ∷ files) [] rows = ⊥
+SyntaxRows k (file ∷ files) (ts ∷ tss) rows =
+    (Parses ts × SyntaxRows (k + 1) files tss rows)
+    ⊎ ((row : Row) × (rest : List Row) × (rows ≡ row ∷ rest) × IsSyntaxRow (file_no k) (length file.bytes) ts row × SyntaxRows (k + 1) files tss rest)
+
+-- within the limits, and each file has tokens and a tree
+pub record IsRead (files : List SourceFile) (tokens : List (List Token)) : Type 0 where
+  pub within : limit_rows files ≡ []
+  pub lexed : LexedFrom 0 known_names files tokens
+  pub parsed : SyntaxRows 0 files tokens []
+
+-- the rows of the first phase that has any
+pub record LimitRows (files : List SourceFile) (rows : List Row) : Type 0 where
+  pub are : rows ≡ limit_rows files
+  pub some : rows ≡ [] → ⊥
+
+pub record LexicalRows (files : List SourceFile) (rows : List Row) : Type 0 where
+  pub within : limit_rows files ≡ []
+  pub are : FaultRows 0 files rows
+  pub some : rows ≡ [] → ⊥
+
+pub record GrammarRows (files : List SourceFile) (rows : List Row) : Type 0 where
+  pub within : limit_rows files ≡ []
+  pub tokens : List (List Token)
+  pub lexed : LexedFrom 0 known_names files tokens
+  pub are : SyntaxRows 0 files tokens rows
+  pub some : rows ≡ [] → ⊥
+
+abbrev pub FrontRows : List SourceFile → List Row → Type 0
+FrontRows files rows = LimitRows files rows ⊎ (LexicalRows files rows ⊎ GrammarRows files rows)
