@@ -1,11 +1,12 @@
 -- What stands at the front of tokens: annotations, marks, type uses, parameters, declarators, lists of expressions (JLS 8, 9.7, 10.1, 14.4). Each reads as far as it goes, once.
-use Rattle.std.specs.Prelude.{ℕ, zero, suc, List, [], ◌∷◌, length, Bool, true, false, ◌&&◌, Option, Some, None, cond}
+use Rattle.std.specs.Prelude.{ℕ, zero, suc, List, [], ◌∷◌, length, Bool, true, ◌&&◌, Option, Some, None, cond}
 use Rattle.jn_base.specs.declared.number.NameNo.{NameNo}
 use Rattle.jn_trees.specs.declared.token.TokenKind.{TokenKind}
-use Rattle.jn_trees.specs.declared.token.TokenKind.TheVariants.{Id, Boolean, Final, Int, RightParen, LeftBracket, RightBracket, Semicolon, Comma, At, Assign}
-use Rattle.jn_trees.specs.Trees.{BaseTree, ClassBase, IntBase, BooleanBase, Tree, Trees, NoTrees, MoreTrees, LocalMark, AnnotationMark, FinalMark, TypeUseTree, DeclaratorTree, LocalTree, ParameterTree}
+use Rattle.jn_trees.specs.declared.token.TokenKind.TheVariants.{Id, Final, RightParen, LeftBracket, RightBracket, Semicolon, Comma, At, Assign}
+use Rattle.jn_trees.specs.Trees.{BaseTree, Tree, Trees, NoTrees, MoreTrees, LocalMark, AnnotationMark, FinalMark, TypeUseTree, DeclaratorTree, LocalTree, ParameterTree}
 use Rattle.jn_trees.specs.WellFormed.{is_effect, final_once}
 use Rattle.jn_trees.specs.Longest.{Try}
+use Rattle.jn_expr_law.specs.Reader.{annotations, base_of, all_items}
 
 -- what is read, and the tokens behind it
 abbrev pub Behind : Type 0 → Type 0
@@ -35,20 +36,13 @@ put a r = (a ∷ r.0, r.1)
 
 -- annotations in a row
 abbrev pub read_annotations : List TokenKind → Behind (List NameNo)
-read_annotations (At ∷ Id n ∷ ts) = put n (read_annotations ts)
-read_annotations ts = ([], ts)
+read_annotations = annotations
 
 -- annotations and `final` in a row
 abbrev pub read_marks : List TokenKind → Behind (List LocalMark)
 read_marks (At ∷ Id n ∷ ts) = put (AnnotationMark n) (read_marks ts)
 read_marks (Final ∷ ts) = put FinalMark (read_marks ts)
 read_marks ts = ([], ts)
-
-abbrev pub base_of : TokenKind → Option BaseTree
-base_of (Id n) = Some (ClassBase n)
-base_of Int = Some IntBase
-base_of Boolean = Some BooleanBase
-base_of _ = None
 
 -- both brackets behind these annotations; where they don't stand there, what stood before the annotations follows
 abbrev pub brackets_or : List TokenKind → List NameNo → List TokenKind → Behind (Option (List NameNo))
@@ -134,38 +128,18 @@ local_behind whole p ts = local_of p (declarators_behind whole p.name ts)
 abbrev pub read_local : (List TokenKind → Try) → List TokenKind → Read LocalTree
 read_local whole ts = then_read (read_parameter ts) (λ p us. Some (local_behind whole p us))
 
-abbrev pub put_tree : Tree → Behind Trees → Behind Trees
-put_tree t r = (MoreTrees t r.0, r.1)
-
--- the expression that was read and those behind it, or none before these tokens
-abbrev pub trees_or : List TokenKind → Try → (List TokenKind → Behind Trees) → Behind Trees
-trees_or us None f = (NoTrees, us)
-trees_or us (Some r) f = put_tree r.0 (f r.1)
-
--- at most n expressions, each with its comma before it
-abbrev pub more_expressions : (List TokenKind → Try) → ℕ → List TokenKind → Behind Trees
-more_expressions whole zero ts = (NoTrees, ts)
-more_expressions whole (suc n) (Comma ∷ ts) = trees_or (Comma ∷ ts) (whole ts) (more_expressions whole n)
-more_expressions whole (suc n) ts = (NoTrees, ts)
-
--- all of them
-unfoldable pub all_expressions : (List TokenKind → Try) → List TokenKind → Behind Trees
-all_expressions whole ts = more_expressions whole (length ts) ts
-
--- expressions with commas between them, or none
-abbrev pub read_expressions : (List TokenKind → Try) → List TokenKind → Behind Trees
-read_expressions whole ts = trees_or ts (whole ts) (all_expressions whole)
+-- expressions with commas between them, or none, through the semicolon
+abbrev pub read_initial : (List TokenKind → Try) → List TokenKind → Read Trees
+read_initial whole (Semicolon ∷ ts) = Some (NoTrees, ts)
+read_initial whole ts = then_read (all_items whole ts) ended
 
 abbrev pub are_effects : Trees → Bool
 are_effects NoTrees = true
 are_effects (MoreTrees e es) = is_effect e && are_effects es
 
-abbrev pub if_effects : Behind Trees → Read Trees
-if_effects r = cond (are_effects r.0) (Some r) None
-
--- expressions that can stand as statements
-abbrev pub read_effects : (List TokenKind → Try) → List TokenKind → Read Trees
-read_effects whole ts = if_effects (read_expressions whole ts)
+-- all of them can stand as statements
+abbrev pub if_effects : Trees → List TokenKind → Read Trees
+if_effects es ts = cond (are_effects es) (Some (es, ts)) None
 
 -- an expression before a semicolon, or the semicolon alone
 abbrev pub read_optional : (List TokenKind → Try) → List TokenKind → Read (Option Tree)

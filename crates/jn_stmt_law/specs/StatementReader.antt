@@ -1,12 +1,13 @@
 -- What a descent with a bound on nesting reads as a statement at the front of tokens (JLS 14).
-use Rattle.std.specs.Prelude.{ℕ, zero, suc, List, [], ◌∷◌, length, Bool, true, false, Option, Some, None, cond}
+use Rattle.std.specs.Prelude.{ℕ, zero, suc, List, ◌∷◌, length, Bool, Some, None, cond}
 use Rattle.jn_trees.specs.declared.token.TokenKind.{TokenKind}
 use Rattle.jn_trees.specs.declared.token.TokenKind.TheVariants.{Break, Continue, Do, Else, For, If, Return, Super, This, While, LeftParen, LeftBrace, RightBrace, Semicolon, Colon}
 use Rattle.jn_trees.specs.declared.context.Context.{Context}
 use Rattle.jn_trees.specs.Trees.{Tree, Trees, LocalTree, ParameterTree, InitTree, ExpressionsInit, DeclarationInit, Statement, Statements, BlockStatement, EmptyStatement, ExpressionStatement, BreakStatement, ContinueStatement, ReturnStatement, LocalStatement, IfStatement, IfElseStatement, WhileStatement, DoStatement, ForStatement, ForEachStatement, ThisCallStatement, SuperCallStatement, NoStatements, MoreStatements}
 use Rattle.jn_trees.specs.WellFormed.{is_effect, ends_open, under, in_block, loop_body}
 use Rattle.jn_trees.specs.Longest.{Try, TryStatement}
-use Rattle.jn_stmt_law.specs.Parts.{Behind, Read, then_read, ended, closed, read_parameter, local_behind, read_expressions, read_effects, read_optional}
+use Rattle.jn_expr_law.specs.Reader.{reader, arguments_in}
+use Rattle.jn_stmt_law.specs.Parts.{Behind, Read, then_read, ended, closed, read_parameter, local_behind, read_initial, if_effects, read_optional}
 
 -- a statement around the one that is read
 abbrev pub around : (Statement → Statement) → TryStatement → TryStatement
@@ -39,12 +40,9 @@ loop_word in_loop s ts = cond in_loop (ended s ts) None
 abbrev pub return_statement : (List TokenKind → Try) → List TokenKind → TryStatement
 return_statement whole ts = then_read (read_optional whole ts) (λ e us. Some (ReturnStatement e, us))
 
-abbrev pub arguments_end : (Trees → Statement) → Behind Trees → TryStatement
-arguments_end f r = then_read (closed r.0 r.1) (λ es us. ended (f es) us)
-
 -- a call of a constructor, behind its opening parenthesis
 abbrev pub constructor_call : (List TokenKind → Try) → Bool → (Trees → Statement) → List TokenKind → TryStatement
-constructor_call whole leading f ts = cond leading (arguments_end f (read_expressions whole ts)) None
+constructor_call whole leading f ts = cond leading (then_read (arguments_in whole ts) (λ es us. ended (f es) us)) None
 
 -- the `if` alone, with `else` left over, where no statement is behind `else`
 abbrev pub with_else : Tree → Statement → List TokenKind → TryStatement → TryStatement
@@ -75,7 +73,7 @@ for_each whole one p ts = then_read (then_read (whole ts) closed) (λ e us. arou
 -- a `for` behind its first semicolon
 abbrev pub for_rest : (List TokenKind → Try) → (List TokenKind → TryStatement) → InitTree → List TokenKind → TryStatement
 for_rest whole one i ts =
-    then_read (read_optional whole ts) (λ c us. then_read (then_read (read_effects whole us) closed) (λ es vs. around (ForStatement i c es) (one vs)))
+    then_read (read_optional whole ts) (λ c us. then_read (then_read (arguments_in whole us) if_effects) (λ es vs. around (ForStatement i c es) (one vs)))
 
 abbrev pub for_local : (List TokenKind → Try) → (List TokenKind → TryStatement) → Behind LocalTree → TryStatement
 for_local whole one l = then_read (ended (DeclarationInit l.0) l.1) (for_rest whole one)
@@ -86,7 +84,7 @@ for_named whole one p (Colon ∷ ts) = for_each whole one p ts
 for_named whole one p ts = for_local whole one (local_behind whole p ts)
 
 abbrev pub for_from : (List TokenKind → Try) → (List TokenKind → TryStatement) → List TokenKind → Read ParameterTree → TryStatement
-for_from whole one ts None = then_read (then_read (read_effects whole ts) (λ es us. ended (ExpressionsInit es) us)) (for_rest whole one)
+for_from whole one ts None = then_read (then_read (read_initial whole ts) if_effects) (λ es us. for_rest whole one (ExpressionsInit es) us)
 for_from whole one ts (Some p) = for_named whole one p.0 p.1
 
 abbrev pub for_statement : (List TokenKind → Try) → (List TokenKind → TryStatement) → List TokenKind → TryStatement
@@ -125,3 +123,7 @@ statement_at whole one c ts = simple whole c.direct ts
 abbrev pub statement_by : (ℕ → List TokenKind → Try) → ℕ → Context → List TokenKind → TryStatement
 statement_by whole zero c ts = None
 statement_by whole (suc d) c ts = statement_at (whole d) (statement_by whole d) c ts
+
+-- what is read as a statement in this context, with nesting at most d
+abbrev pub statement_reader : ℕ → Context → List TokenKind → TryStatement
+statement_reader d c ts = statement_by (λ n. (reader n).whole) d c ts
