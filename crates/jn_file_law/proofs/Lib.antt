@@ -1,1 +1,5 @@
 pub mod Places
+pub mod PartFacts
+pub mod HeadsRead
+pub mod Begins
+pub mod ParametersRead

@@ -1,5 +1,4 @@
 pub mod Runs
 pub mod Built
-pub mod Stubs
 pub mod PieceReader
 pub mod Progress

@@ -8,7 +8,9 @@ use Rattle.jn_trees.specs.Trees.{ClassBase, BaseTree, LocalMark, AnnotationMark,
 use Rattle.jn_trees.specs.WellFormed.{final_once, every, no_clash, marks_type, marks_interface, marks_field, marks_method, marks_interface_method, marks_constructor, has_static, deepest, body_context}
 use Rattle.jn_trees.specs.Longest.{TryStatement}
 use Rattle.jn_trees.specs.Pieces.{Piece, PackagePiece, ImportPiece, ClassHead, InterfaceHead, FieldPiece, MethodPiece, MethodHead, ConstructorHead, StatementPiece, BodyEnd, TypeEnd, Around, AtStart, BehindLines, BehindTypes, InType, InBody}
-use Rattle.jn_file_law.specs.Stubs.{read_marks, read_type_use, read_declarators, statement_reader}
+use Rattle.jn_expr_law.specs.Reader.{reader}
+use Rattle.jn_stmt_law.specs.Parts.{read_marks, read_type_use, read_declarators}
+use Rattle.jn_stmt_law.specs.StatementReader.{statement_reader}
 
 -- a piece and the tokens behind it, or none
 abbrev pub TryPiece : Type 0
@@ -251,7 +253,7 @@ field_end ms u d ds _ = None
 
 -- the longest declarators of nesting at most `deepest`
 unfoldable pub read_field_declarators : List TokenKind → Option ((DeclaratorTree × List DeclaratorTree) × List TokenKind)
-read_field_declarators ts = read_declarators deepest ts
+read_field_declarators ts = read_declarators (reader deepest).whole ts
 
 abbrev pub after_declarators : (DeclaratorTree → List DeclaratorTree → List TokenKind → TryPiece) → Option ((DeclaratorTree × List DeclaratorTree) × List TokenKind) → TryPiece
 after_declarators f None = None
