@@ -3,3 +3,5 @@ pub mod PartFacts
 pub mod HeadsRead
 pub mod Begins
 pub mod ParametersRead
+pub mod MembersRead
+pub mod PiecesRead
