@@ -5,3 +5,4 @@ pub mod Begins
 pub mod ParametersRead
 pub mod MembersRead
 pub mod PiecesRead
+pub mod TreePieces
