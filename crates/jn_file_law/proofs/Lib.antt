@@ -6,3 +6,4 @@ pub mod ParametersRead
 pub mod MembersRead
 pub mod PiecesRead
 pub mod TreePieces
+pub mod Building
