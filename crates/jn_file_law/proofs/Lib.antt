@@ -7,3 +7,4 @@ pub mod MembersRead
 pub mod PiecesRead
 pub mod TreePieces
 pub mod Building
+pub mod FileLaws

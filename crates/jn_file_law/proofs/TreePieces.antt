@@ -119,7 +119,7 @@ pub tree_ordered : (f : SourceTree) → GoodFile f → InOrder pieces AtStart (t
 tree_ordered f g = file_ordered f.package_line f.imports f.types g
 
 -- they build it
-add_both : (b : Built) (ps qs : List Piece) → add_all b (ps ++ qs) ≡ add_all (add_all b ps) qs
+pub add_both : (b : Built) (ps qs : List Piece) → add_all b (ps ++ qs) ≡ add_all (add_all b ps) qs
 add_both b [] qs = refl
 add_both b (p ∷ ps) qs = add_both (add b p) ps qs
 
