@@ -7,14 +7,11 @@ use Rattle.jn_trees.specs.Trees.{BaseTree, ClassBase, IntBase, BooleanBase, Loca
 use Rattle.jn_trees.specs.Spelling.{base_token, spell_annotations, spell_marks, spell_brackets, spell_type_use, spell_parameter}
 use Rattle.jn_trees.specs.WellFormed.{final_once}
 use Rattle.jn_expr_law.specs.Reader.{add_annotation, annotations, base_of}
+use Rattle.jn_expr_law.proofs.Sound.{annotations_spell}
 use Rattle.jn_stmt_law.specs.Parts.{Behind, Read, then_read, put, read_annotations, read_marks, brackets_or, read_brackets, use_of, type_use_from, read_type_use, named, parameter_from, read_parameter}
 use Rattle.jn_stmt_law.specs.Fronts.{starts_annotation, starts_mark, starts_brackets, Spelled, SpelledIfRead, SoundParameter}
 
 -- annotations
-pub annotations_spell : (ts : List TokenKind) → Spelled spell_annotations ts (read_annotations ts)
-annotations_spell (At ∷ Id n ∷ ts) = ap (λ x. At ∷ Id n ∷ x) (annotations_spell ts)
-annotations_spell _ = refl
-
 no_annotation : (rest : List TokenKind) → starts_annotation rest ≡ false → read_annotations rest ≡ ([], rest)
 no_annotation (At ∷ ts) h = cc
 no_annotation _ h = refl

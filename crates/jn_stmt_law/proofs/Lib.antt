@@ -1,3 +1,4 @@
 pub mod Fronts
-pub mod Wholes
 pub mod Begins
+pub mod Wholes
+pub mod Declarators
