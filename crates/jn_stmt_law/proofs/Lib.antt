@@ -2,3 +2,4 @@ pub mod Fronts
 pub mod Begins
 pub mod Wholes
 pub mod Declarators
+pub mod StatementsSound
