@@ -3,3 +3,4 @@ pub mod Begins
 pub mod Wholes
 pub mod Declarators
 pub mod StatementsSound
+pub mod Statements

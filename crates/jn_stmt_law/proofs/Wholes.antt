@@ -66,14 +66,14 @@ all_exact d whole w end c t es rest g m =
     let long : count es < suc (length ts) = omega (arith, some_tokens end es, length-append (spell t) (spell_more end es ++ rest), length-append (spell_more end es) rest) in
     from_exact d whole w end c t es (suc (length ts)) rest g m long
 
-begins_list : (end : TokenKind) (t : Tree) (es : Trees) (rest : List TokenKind) → Quiet (spell_more end es ++ rest) → begins ((spell t ++ spell_more end es) ++ rest) ≡ true
+pub begins_list : (end : TokenKind) (t : Tree) (es : Trees) (rest : List TokenKind) → Quiet (spell_more end es ++ rest) → begins ((spell t ++ spell_more end es) ++ rest) ≡ true
 begins_list end t es rest q = ap begins (append_assoc (spell t) (spell_more end es) rest) ∙ begins_tree t (spell_more end es ++ rest) q
 
 quiet_paren : (es : Trees) (rest : List TokenKind) → Quiet (spell_more RightParen es ++ rest)
 quiet_paren NoTrees rest = (refl, refl)
 quiet_paren (MoreTrees t es) rest = (refl, refl)
 
-quiet_semicolon : (es : Trees) (rest : List TokenKind) → Quiet (spell_more Semicolon es ++ rest)
+pub quiet_semicolon : (es : Trees) (rest : List TokenKind) → Quiet (spell_more Semicolon es ++ rest)
 quiet_semicolon NoTrees rest = (refl, refl)
 quiet_semicolon (MoreTrees t es) rest = (refl, refl)
 
