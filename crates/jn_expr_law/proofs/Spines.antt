@@ -119,7 +119,7 @@ pub reads_build : (f : Tree → Tree) (i j : ℕ) (t : Tree) (rest : List TokenK
 reads_build f i j t rest None le s = absurd s
 reads_build f i j t rest (Some r) le s = (s.0, λ lt. ap (λ (q : Got). (f q.0, q.1)) (s.1 (omega (arith, lt, le))))
 
-extend_from : (step : Tree → List TokenKind → Try) (t : Tree) (ts : List TokenKind) (i : ℕ) (u : Tree) (rest : List TokenKind) → ReadsAt i u rest (step t ts) → ReadsAt i u rest (extend step (Some (t, ts)))
+pub extend_from : (step : Tree → List TokenKind → Try) (t : Tree) (ts : List TokenKind) (i : ℕ) (u : Tree) (rest : List TokenKind) → ReadsAt i u rest (step t ts) → ReadsAt i u rest (extend step (Some (t, ts)))
 extend_from step t ts i u rest s =
     (elim (step t ts) as (λ o. ReadsAt i u rest o → ReadsAt i u rest (elim o [ None ↦ Some (t, ts) | Some q ↦ Some q ])) [ None ↦ λ q. absurd q | Some q ↦ λ r. r ]) s
 
