@@ -1,11 +1,10 @@
 -- What a well-formed tree spells is read, and as far as it goes.
-use Rattle.std.proofs.Common.{◌≡◌, ℕ, zero, suc, ◌+◌, ◌-◌, ◌<◌, ◌≤◌, max, List, [], ◌∷◌, ◌++◌, length, refl, sym, ap, ◌∙◌, subst, arith, append_assoc, length-append, Option, Some, None, Bool, true, false, cond, nat_lt, nat_eq, ◌⊎◌, inl, inr}
-use Rattle.std.proofs.lemmas.Bool.{cond_below, cond_above, eq-eqb, ne_eqb, eqb-true, cases_lt}
+use Rattle.std.proofs.Common.{◌≡◌, ℕ, zero, suc, ◌+◌, ◌<◌, ◌≤◌, List, [], ◌∷◌, ◌++◌, refl, sym, ap, ◌∙◌, subst, arith, append_assoc, Option, Some, None, Bool, true, false, cond, nat_lt, nat_eq, inl, inr}
+use Rattle.std.proofs.lemmas.Bool.{cond_below, eq-eqb, ne_eqb, eqb-true, cases_lt}
 use Rattle.jn_base.specs.declared.number.NameNo.{NameNo}
 use Rattle.jn_trees.specs.declared.token.TokenKind.{TokenKind}
-use Rattle.jn_trees.specs.declared.token.TokenKind.TheVariants.{Id, Str, Number, Boolean, Instanceof, Int, New, Super, This, True, False, Null, LeftParen, RightParen, LeftBrace, RightBrace, LeftBracket, RightBracket, Comma, Dot, At, Assign, Greater, Less, Not, Question, Colon, EqualEqual, LessEqual, GreaterEqual, NotEqual, AndAnd, OrOr, PlusPlus, MinusMinus, Plus, Minus, Star, Slash, Percent, PlusAssign, MinusAssign, StarAssign, SlashAssign, PercentAssign}
-use Rattle.jn_trees.specs.declared.expression.Literal.{Literal}
-use Rattle.jn_trees.specs.declared.expression.Literal.TheVariants.{Number as NumberLiteral, Str as StrLiteral, True as TrueLiteral, False as FalseLiteral, Null as NullLiteral}
+use Rattle.jn_trees.specs.declared.token.TokenKind.TheVariants.{Id, Number, Instanceof, LeftParen, RightParen, Question, Colon}
+use Rattle.jn_trees.specs.declared.expression.Literal.TheVariants.{Number as NumberLiteral}
 use Rattle.jn_trees.specs.declared.expression.UnaryOperator.{UnaryOperator}
 use Rattle.jn_trees.specs.declared.expression.UnaryOperator.TheVariants.{Plus as PlusSign, Minus as MinusSign, Not as NotSign}
 use Rattle.jn_trees.specs.declared.expression.Step.{Step}
@@ -14,12 +13,12 @@ use Rattle.jn_trees.specs.declared.expression.BinaryOperator.{BinaryOperator}
 use Rattle.jn_trees.specs.declared.expression.BinaryOperator.TheVariants.{Multiply, Divide, Remainder, Add, Subtract, Less as LessThan, Greater as GreaterThan, LessEqual as AtMost, GreaterEqual as AtLeast, Equal, NotEqual as Unequal, And, Or}
 use Rattle.jn_trees.specs.declared.expression.AssignOperator.{AssignOperator}
 use Rattle.jn_trees.specs.declared.expression.AssignOperator.TheVariants.{Assign as Simple, Add as AddTo, Subtract as SubtractFrom, Multiply as MultiplyBy, Divide as DivideBy, Remainder as RemainderBy}
-use Rattle.jn_trees.specs.Trees.{BaseTree, ClassBase, IntBase, BooleanBase, Tree, Trees, LiteralTree, NameTree, ThisTree, ParenTree, FieldTree, CallTree, OwnCallTree, SuperCallTree, IndexTree, NewTree, NewArrayTree, ArrayOfTree, PostfixTree, PrefixTree, UnaryTree, CastTree, BinaryTree, InstanceOfTree, ConditionalTree, AssignTree, NoTrees, MoreTrees}
-use Rattle.jn_trees.specs.Spelling.{base_token, literal_token, step_token, sign_token, operator_token, assign_token, spell_annotations, spell, spell_list, spell_more}
-use Rattle.jn_trees.specs.WellFormed.{nesting, nesting_all, rank, power, is_left_side, is_indexable, is_castable, is_least_literal, is_least_number, Good, AllGood, GoodLiteral, GoodSigned}
+use Rattle.jn_trees.specs.Trees.{Tree, LiteralTree, NameTree, ParenTree, PostfixTree, PrefixTree, UnaryTree, CastTree, BinaryTree, InstanceOfTree, ConditionalTree, AssignTree}
+use Rattle.jn_trees.specs.Spelling.{step_token, sign_token, operator_token, assign_token, spell}
+use Rattle.jn_trees.specs.WellFormed.{nesting, rank, power, is_left_side, is_castable, Good}
 use Rattle.jn_trees.specs.Longest.{Try}
 use Rattle.jn_expr_law.specs.Follow.{reach, reach_of}
-use Rattle.jn_expr_law.specs.Reader.{Got, TryAll, Reader, iterate, build, build_all, extend, go_on, bind, bind_all, bind_items, close_paren, close_index, add_first, items_behind, items_from, all_items, close_arguments, close_elements, arguments_in, elements_in, arguments, called, base_of, close_array, array_elements, array_inside, array_behind, array_of, array_from, annotations, add_annotation, creation_of, creation, number_at, super_call, head, member, link, primary, trim, left_at, step_of, after_by, after, cast_operand, cast, least, or_least, prefix, unary, Sign, NoSign, OperatorSign, TestSign, sign, test, grow_by, grow, operand_at, choose_end, choose, conditional_at, assign_of, assign_by, assign, whole_at, reader}
+use Rattle.jn_expr_law.specs.Reader.{Got, Reader, build, extend, go_on, bind, close_paren, link, primary, step_of, after_by, after, cast_operand, cast, or_least, prefix, unary, Sign, NoSign, OperatorSign, TestSign, sign, test, grow_by, grow, operand_at, choose_end, choose, conditional_at, assign_of, assign_by, assign, whole_at, reader}
 use Rattle.jn_expr_law.proofs.Sound.{SoundReader, IsStep, is_step, IsSign, is_sign, IsAssign, is_assign, some_power, sound}
 use Rattle.jn_expr_law.proofs.Spines.{ReadsAt, exact_of, got_of, Shorter, ShorterStep, StopsAt, stop_iterate, reads_extend, Spine, spine_reads, spine_step, spine_from, spine_exact, reads_build, extend_from, extend_after, shorter_of, shorter_when, shorter_by, shorter_build, shorter_bind, both_none}
 use Rattle.jn_expr_law.proofs.Items.{CompleteReader, left_side_low, castable_begins, castable_rank, some_nesting}
@@ -38,7 +37,7 @@ after_by_shorter : (D : ℕ) (p : Tree) (o : Option Step) (ts : List TokenKind) 
 after_by_shorter D p None ts = tt
 after_by_shorter D p (Some s) ts =
     shorter_when (is_left_side p) ts (cond (nat_lt (nesting p) D) (Some (PostfixTree p s, ts)) None)
-      (shorter_when (nat_lt (nesting p) D) ts (Some (PostfixTree p s, ts)) (omega arith))
+    (shorter_when (nat_lt (nesting p) D) ts (Some (PostfixTree p s, ts)) (omega arith))
 
 after_shorter : (D : ℕ) → ShorterStep (after D)
 after_shorter D p [] = tt
@@ -58,25 +57,25 @@ after_stops D p ts lt = after_none D p ts (λ e. omega (arith, e, lt))
 after_read : (D : ℕ) (p : Tree) (s : Step) (rest : List TokenKind) → is_left_side p ≡ true → nesting p < D → extend (after D) (Some (p, step_token s ∷ rest)) ≡ Some (PostfixTree p s, rest)
 after_read D p s rest left fits =
     let e : after D p (step_token s ∷ rest) ≡ Some (PostfixTree p s, rest) =
-      ap (λ o. after_by D p o rest) (step_read s)
-      ∙ ap (λ b. cond b (cond (nat_lt (nesting p) D) (Some (PostfixTree p s, rest)) None) None) left
-      ∙ sym (cond_below (nesting p) D (Some (PostfixTree p s, rest)) None fits) in
+    ap (λ o. after_by D p o rest) (step_read s)
+    ∙ ap (λ b. cond b (cond (nat_lt (nesting p) D) (Some (PostfixTree p s, rest)) None) None) left
+    ∙ sym (cond_below (nesting p) D (Some (PostfixTree p s, rest)) None fits) in
     ap (λ (o : Try). elim o as (λ _. Try) [ None ↦ Some (p, step_token s ∷ rest) | Some q ↦ Some q ]) e
 
 postfix_low : (R : Reader) (d : ℕ) → SoundReader R d → CompleteReader R d → (t : Tree) (rest : List TokenKind) → Good t → rank t ≤ 1 → nesting t ≤ suc d → ReadsAt 2 t rest (extend (after (suc d)) (primary R (suc d) (spell t ++ rest)))
 postfix_low R d s h t rest g k m =
     reads_extend 1 2 (after (suc d)) (omega arith) (after_shorter (suc d)) (after_stops (suc d)) t rest (primary R (suc d) (spell t ++ rest))
-      (spine_reads 0 1 (suc d) (link R (suc d)) (omega arith) (link_shorter R d s) (link_stops R (suc d)) t rest (primary R (suc d) (spell t ++ rest)) (primary_spine R d s h t rest g k m))
+    (spine_reads 0 1 (suc d) (link R (suc d)) (omega arith) (link_shorter R d s) (link_stops R (suc d)) t rest (primary R (suc d) (spell t ++ rest)) (primary_spine R d s h t rest g k m))
 
 step_complete : (R : Reader) (d : ℕ) → SoundReader R d → CompleteReader R d → (p : Tree) (st : Step) (rest : List TokenKind) → Good p → is_left_side p ≡ true → nesting p < suc d
-  → extend (after (suc d)) (primary R (suc d) ((spell p ++ step_token st ∷ []) ++ rest)) ≡ Some (PostfixTree p st, rest)
+    → extend (after (suc d)) (primary R (suc d) ((spell p ++ step_token st ∷ []) ++ rest)) ≡ Some (PostfixTree p st, rest)
 step_complete R d s h p st rest g left fits =
     let low = left_side_low p left in
     let more = step_token st ∷ rest in
     let two = step_reach st in
     ap (λ x. extend (after (suc d)) (primary R (suc d) x)) (append_assoc (spell p) (step_token st ∷ []) rest)
     ∙ ap (λ o. extend (after (suc d)) o)
-        (spine_exact 0 (suc d) (link R (suc d)) p more (primary R (suc d) (spell p ++ more)) (primary_spine R d s h p more g low (omega (arith, fits))) (omega (arith, two)) (link_stops R (suc d) p more (omega (arith, two))))
+    (spine_exact 0 (suc d) (link R (suc d)) p more (primary R (suc d) (spell p ++ more)) (primary_spine R d s h p more g low (omega (arith, fits))) (omega (arith, two)) (link_stops R (suc d) p more (omega (arith, two))))
     ∙ after_read (suc d) p st rest left fits
 
 postfix_complete : (R : Reader) (d : ℕ) → SoundReader R d → CompleteReader R d → (t : Tree) (rest : List TokenKind) → Good t → rank t ≤ 2 → nesting t ≤ suc d → ReadsAt 2 t rest (extend (after (suc d)) (primary R (suc d) (spell t ++ rest)))
@@ -114,13 +113,13 @@ cast_stops R _ ts lt = refl
 unary_at_primary : (R : Reader) (D : ℕ) (ts : List TokenKind) (t : Tree) (rest : List TokenKind) → ReadsAt 2 t rest (extend (after D) (primary R D ts)) → unary R D ts ≡ extend (cast R) (extend (after D) (primary R D ts))
 unary_at_primary R D ts t rest s =
     (elim (primary R D ts) as (λ o. ReadsAt 2 t rest (extend (after D) o) → (elim o as (λ _. Try) [ None ↦ prefix R D ts | Some r ↦ extend (cast R) (extend (after D) (Some r)) ]) ≡ extend (cast R) (extend (after D) o))
-      [ None ↦ λ q. absurd q | Some r ↦ λ q. refl ]) s
+    [ None ↦ λ q. absurd q | Some r ↦ λ q. refl ]) s
 
 unary_low : (R : Reader) (d : ℕ) → SoundReader R d → CompleteReader R d → (t : Tree) (rest : List TokenKind) → Good t → rank t ≤ 2 → nesting t ≤ suc d → ReadsAt 3 t rest (unary R (suc d) (spell t ++ rest))
 unary_low R d s h t rest g k m =
     let p = postfix_complete R d s h t rest g k m in
     subst (λ o. ReadsAt 3 t rest o) (sym (unary_at_primary R (suc d) (spell t ++ rest) t rest p))
-      (reads_extend 2 3 (cast R) (omega arith) (cast_shorter R d s) (cast_stops R) t rest (extend (after (suc d)) (primary R (suc d) (spell t ++ rest))) p)
+    (reads_extend 2 3 (cast R) (omega arith) (cast_shorter R d s) (cast_stops R) t rest (extend (after (suc d)) (primary R (suc d) (spell t ++ rest))) p)
 
 cast_complete : (R : Reader) (d : ℕ) → CompleteReader R d → (n : NameNo) (e : Tree) (rest : List TokenKind) → Good e → is_castable e ≡ true → nesting e ≤ d → ReadsAt 3 (CastTree n e) rest (unary R (suc d) (LeftParen ∷ Id n ∷ RightParen ∷ (spell e ++ rest)))
 cast_complete R d h n e rest g c m =
@@ -131,15 +130,15 @@ cast_complete R d h n e rest g c m =
     let paren = ParenTree (NameTree n) in
     let name : R.whole (Id n ∷ RightParen ∷ ts) ≡ Some (NameTree n, RightParen ∷ ts) = exact_of 11 (NameTree n) (RightParen ∷ ts) (R.whole (Id n ∷ RightParen ∷ ts)) (h.whole (NameTree n) (RightParen ∷ ts) tt (omega (arith, deep, m))) (omega arith) in
     let read : primary R (suc d) (LeftParen ∷ Id n ∷ RightParen ∷ ts) ≡ Some (paren, ts) =
-      ap (λ o. go_on (link R (suc d)) (suc d) (bind o close_paren)) name
-      ∙ ap (λ x. Some x) (stop_iterate (link R (suc d)) (suc d) (paren, ts) (link_stops_at_operand R (suc d) paren ts at)) in
+    ap (λ o. go_on (link R (suc d)) (suc d) (bind o close_paren)) name
+    ∙ ap (λ x. Some x) (stop_iterate (link R (suc d)) (suc d) (paren, ts) (link_stops_at_operand R (suc d) paren ts at)) in
     let all : unary R (suc d) (LeftParen ∷ Id n ∷ RightParen ∷ ts) ≡ extend (cast R) (Some (paren, ts)) =
-      ap (λ (o : Try). elim o as (λ _. Try) [ None ↦ prefix R (suc d) (LeftParen ∷ Id n ∷ RightParen ∷ ts) | Some r ↦ extend (cast R) (extend (after (suc d)) (Some r)) ]) read
-      ∙ ap (λ (o : Try). extend (cast R) (elim o as (λ _. Try) [ None ↦ Some (paren, ts) | Some q ↦ Some q ])) (after_none (suc d) paren ts (λ two. omega (arith, at, two))) in
+    ap (λ (o : Try). elim o as (λ _. Try) [ None ↦ prefix R (suc d) (LeftParen ∷ Id n ∷ RightParen ∷ ts) | Some r ↦ extend (cast R) (extend (after (suc d)) (Some r)) ]) read
+    ∙ ap (λ (o : Try). extend (cast R) (elim o as (λ _. Try) [ None ↦ Some (paren, ts) | Some q ↦ Some q ])) (after_none (suc d) paren ts (λ two. omega (arith, at, two))) in
     subst (λ o. ReadsAt 3 (CastTree n e) rest o) (sym all)
-      (extend_from (cast R) paren ts 3 (CastTree n e) rest
-        (subst (λ o. ReadsAt 3 (CastTree n e) rest (build (λ x. CastTree n x) o)) (sym (operand_of_cast R ts at))
-          (reads_build (λ x. CastTree n x) 3 3 e rest (R.operand 0 ts) (omega arith) (h.operand 0 e rest (omega arith) g (omega (arith, low)) m))))
+    (extend_from (cast R) paren ts 3 (CastTree n e) rest
+    (subst (λ o. ReadsAt 3 (CastTree n e) rest (build (λ x. CastTree n x) o)) (sym (operand_of_cast R ts at))
+    (reads_build (λ x. CastTree n x) 3 3 e rest (R.operand 0 ts) (omega arith) (h.operand 0 e rest (omega arith) g (omega (arith, low)) m))))
 
 -- signs and steps before
 signed_reads : (R : Reader) (d : ℕ) → CompleteReader R d → (o : UnaryOperator) (e : Tree) (rest : List TokenKind) → Good e → rank e ≤ 3 → nesting e ≤ d → ReadsAt 3 (UnaryTree o e) rest (build (λ x. UnaryTree o x) (R.operand 0 (spell e ++ rest)))
@@ -157,7 +156,7 @@ neg_least R d n idle rest e lt =
     ∙ sym (cond_below 1 (suc d) (Some (UnaryTree MinusSign (LiteralTree (NumberLiteral n)), rest)) None (omega (arith, lt)))
 
 number_complete : (R : Reader) (d n : ℕ) → CompleteReader R d → Idle R → (rest : List TokenKind) → 0 < d → (b : Bool) → nat_eq n 2147483648 ≡ b → (elim b as (λ _. Type 0) [ true ↦ Unit {0} | false ↦ (n < 2147483648) × (1 ≤ 3) ])
-  → ReadsAt 3 (UnaryTree MinusSign (LiteralTree (NumberLiteral n))) rest (or_least (suc d) (Number n ∷ rest) (build (λ x. UnaryTree MinusSign x) (R.operand 0 (Number n ∷ rest))))
+    → ReadsAt 3 (UnaryTree MinusSign (LiteralTree (NumberLiteral n))) rest (or_least (suc d) (Number n ∷ rest) (build (λ x. UnaryTree MinusSign x) (R.operand 0 (Number n ∷ rest))))
 number_complete R d n h idle rest lt true e g = subst (λ o. ReadsAt 3 (UnaryTree MinusSign (LiteralTree (NumberLiteral n))) rest o) (sym (neg_least R d n idle rest (eqb-true n 2147483648 e) lt)) (omega arith, λ x. refl)
 number_complete R d n h idle rest lt false e g = neg_general R d h (LiteralTree (NumberLiteral n)) rest g.0 (omega arith) (omega (arith, lt))
 
@@ -265,33 +264,33 @@ abbrev Lower : Reader → ℕ → ℕ → Type 0
 Lower R d k = (t : Tree) (rest : List TokenKind) → Good t → rank t ≤ k + 3 → nesting t ≤ suc d → ReadsAt (k + 3) t rest (operand_at R (suc d) k (spell t ++ rest))
 
 operand_spine : (R : Reader) (d : ℕ) → CompleteReader R d → (k : ℕ) → k < 6 → Lower R d k → (t : Tree) (rest : List TokenKind) → Good t → rank t ≤ suc k + 3 → nesting t ≤ suc d
-  → Spine (k + 3) (suc d) (grow R (suc d) k) t rest (operand_at R (suc d) (suc k) (spell t ++ rest))
+    → Spine (k + 3) (suc d) (grow R (suc d) k) t rest (operand_at R (suc d) (suc k) (spell t ++ rest))
 operand_spine R d h k small lower (BinaryTree l o r) rest g w m =
     elim (cases_lt k (power o)) [
-      inr below ↦ spine_from (k + 3) (suc d) (grow R (suc d) k) (BinaryTree l o r) rest (operand_at R (suc d) k (spell (BinaryTree l o r) ++ rest)) (lower (BinaryTree l o r) rest g (omega (arith, below)) m)
-    | inl above ↦
-        let same : power o ≡ k + 1 = omega (arith, above, w) in
-        let more = operator_token o ∷ (spell r ++ rest) in
-        let fits : nesting l < suc d = omega (arith, m) in
-        let q = got_of (k + 3) r rest (R.operand k (spell r ++ rest)) (h.operand k r rest (omega (arith, small)) g.2 (omega (arith, g.3, same)) (omega (arith, m))) in
-        subst (λ x. Spine (k + 3) (suc d) (grow R (suc d) k) (BinaryTree l o r) rest (operand_at R (suc d) (suc k) x)) (sym (append_assoc (spell l) (operator_token o ∷ spell r) rest))
+      | inr below ↦ spine_from (k + 3) (suc d) (grow R (suc d) k) (BinaryTree l o r) rest (operand_at R (suc d) k (spell (BinaryTree l o r) ++ rest)) (lower (BinaryTree l o r) rest g (omega (arith, below)) m)
+      | inl above ↦
+          let same : power o ≡ k + 1 = omega (arith, above, w) in
+          let more = operator_token o ∷ (spell r ++ rest) in
+          let fits : nesting l < suc d = omega (arith, m) in
+          let q = got_of (k + 3) r rest (R.operand k (spell r ++ rest)) (h.operand k r rest (omega (arith, small)) g.2 (omega (arith, g.3, same)) (omega (arith, m))) in
+          subst (λ x. Spine (k + 3) (suc d) (grow R (suc d) k) (BinaryTree l o r) rest (operand_at R (suc d) (suc k) x)) (sym (append_assoc (spell l) (operator_token o ∷ spell r) rest))
           (spine_step (k + 3) (suc d) (grow R (suc d) k) l more (operand_at R (suc d) (suc k) (spell l ++ more))
-            (operand_spine R d h k small lower l more g.0 (omega (arith, g.1, same)) (omega (arith, m)))
-            (omega (arith, operator_reach o, same)) fits (BinaryTree l o q.0.0, q.0.1) (grow_binary R (suc d) k o l (spell r ++ rest) q.0 same fits q.1) (omega arith)
-            (BinaryTree l o r) rest q.2 (λ lt. ap (λ (x : Got). (BinaryTree l o x.0, x.1)) (q.3 lt)))
+          (operand_spine R d h k small lower l more g.0 (omega (arith, g.1, same)) (omega (arith, m)))
+          (omega (arith, operator_reach o, same)) fits (BinaryTree l o q.0.0, q.0.1) (grow_binary R (suc d) k o l (spell r ++ rest) q.0 same fits q.1) (omega arith)
+          (BinaryTree l o r) rest q.2 (λ lt. ap (λ (x : Got). (BinaryTree l o x.0, x.1)) (q.3 lt)))
     ]
 operand_spine R d h k small lower (InstanceOfTree e n) rest g w m =
     elim (cases_lt k 3) [
-      inr below ↦ spine_from (k + 3) (suc d) (grow R (suc d) k) (InstanceOfTree e n) rest (operand_at R (suc d) k (spell (InstanceOfTree e n) ++ rest)) (lower (InstanceOfTree e n) rest g (omega (arith, below)) m)
-    | inl above ↦
-        let same : 3 ≡ k + 1 = omega (arith, above, w) in
-        let more = Instanceof ∷ Id n ∷ rest in
-        let fits : nesting e < suc d = omega (arith, m) in
-        subst (λ x. Spine (k + 3) (suc d) (grow R (suc d) k) (InstanceOfTree e n) rest (operand_at R (suc d) (suc k) x)) (sym (append_assoc (spell e) (Instanceof ∷ Id n ∷ []) rest))
+      | inr below ↦ spine_from (k + 3) (suc d) (grow R (suc d) k) (InstanceOfTree e n) rest (operand_at R (suc d) k (spell (InstanceOfTree e n) ++ rest)) (lower (InstanceOfTree e n) rest g (omega (arith, below)) m)
+      | inl above ↦
+          let same : 3 ≡ k + 1 = omega (arith, above, w) in
+          let more = Instanceof ∷ Id n ∷ rest in
+          let fits : nesting e < suc d = omega (arith, m) in
+          subst (λ x. Spine (k + 3) (suc d) (grow R (suc d) k) (InstanceOfTree e n) rest (operand_at R (suc d) (suc k) x)) (sym (append_assoc (spell e) (Instanceof ∷ Id n ∷ []) rest))
           (spine_step (k + 3) (suc d) (grow R (suc d) k) e more (operand_at R (suc d) (suc k) (spell e ++ more))
-            (operand_spine R d h k small lower e more g.0 (omega (arith, g.1, same)) (omega (arith, m)))
-            (omega (arith, same)) fits (InstanceOfTree e n, rest) (grow_test R (suc d) k n e rest same fits) (omega arith)
-            (InstanceOfTree e n) rest (omega arith) (λ lt. refl))
+          (operand_spine R d h k small lower e more g.0 (omega (arith, g.1, same)) (omega (arith, m)))
+          (omega (arith, same)) fits (InstanceOfTree e n, rest) (grow_test R (suc d) k n e rest same fits) (omega arith)
+          (InstanceOfTree e n) rest (omega arith) (λ lt. refl))
     ]
 operand_spine R d h k small lower (ConditionalTree c a b) rest g w m = absurd (omega (arith, w, small))
 operand_spine R d h k small lower (AssignTree l o r) rest g w m = absurd (omega (arith, w, small))
@@ -302,7 +301,7 @@ operand_complete : (R : Reader) (d : ℕ) → SoundReader R d → CompleteReader
 operand_complete R d s h idle zero le = λ t rest g w m. unary_complete R d s h idle t rest g (omega (arith, w)) m
 operand_complete R d s h idle (suc k) le = λ t rest g w m.
     spine_reads (k + 3) (suc k + 3) (suc d) (grow R (suc d) k) (omega arith) (grow_shorter R d s k (omega (arith, le))) (grow_stops R (suc d) k) t rest (operand_at R (suc d) (suc k) (spell t ++ rest))
-      (operand_spine R d h k (omega (arith, le)) (operand_complete R d s h idle k (omega (arith, le))) t rest g w m)
+    (operand_spine R d h k (omega (arith, le)) (operand_complete R d s h idle k (omega (arith, le))) t rest g w m)
 
 -- conditionals
 choose_end_shorter : (R : Reader) (d : ℕ) → SoundReader R d → (c a : Tree) (ts : List TokenKind) → Shorter ts (choose_end R c a ts)
@@ -314,7 +313,7 @@ choose_shorter : (R : Reader) (d : ℕ) → SoundReader R d → ShorterStep (cho
 choose_shorter R d s c [] = tt
 choose_shorter R d s c (Question ∷ ts) =
     shorter_when (nat_lt (nesting c) (suc d)) (Question ∷ ts) (bind (R.whole ts) (choose_end R c))
-      (shorter_by Question ts (bind (R.whole ts) (choose_end R c)) (shorter_bind (choose_end R c) (choose_end_shorter R d s c) ts (R.whole ts) (shorter_of 11 d ts (R.whole ts) (s.whole ts))))
+    (shorter_by Question ts (bind (R.whole ts) (choose_end R c)) (shorter_bind (choose_end R c) (choose_end_shorter R d s c) ts (R.whole ts) (shorter_of 11 d ts (R.whole ts) (s.whole ts))))
 choose_shorter R d s c (_ ∷ ts) = tt
 
 choose_stops : (R : Reader) (D : ℕ) → StopsAt 10 (choose R D)
@@ -347,14 +346,14 @@ conditional_complete R d s h idle (ConditionalTree c a b) rest g k m =
     let middle = spell a ++ Colon ∷ last in
     let fits : nesting c < suc d = omega (arith, m) in
     let e : operand_at R (suc d) 6 (spell c ++ Question ∷ middle) ≡ Some (c, Question ∷ middle) =
-      exact_of 9 c (Question ∷ middle) (operand_at R (suc d) 6 (spell c ++ Question ∷ middle)) (operand_complete R d s h idle 6 (omega arith) c (Question ∷ middle) g.0 g.1 (omega (arith, m))) (omega arith) in
+    exact_of 9 c (Question ∷ middle) (operand_at R (suc d) 6 (spell c ++ Question ∷ middle)) (operand_complete R d s h idle 6 (omega arith) c (Question ∷ middle) g.0 g.1 (omega (arith, m))) (omega arith) in
     let f : choose R (suc d) c (Question ∷ middle) ≡ build (λ x. ConditionalTree c a x) (R.conditional last) =
-      sym (cond_below (nesting c) (suc d) (bind (R.whole middle) (choose_end R c)) None fits)
-      ∙ ap (λ o. bind o (choose_end R c)) (exact_of 11 a (Colon ∷ last) (R.whole middle) (h.whole a (Colon ∷ last) g.2 (omega (arith, m))) (omega arith)) in
+    sym (cond_below (nesting c) (suc d) (bind (R.whole middle) (choose_end R c)) None fits)
+    ∙ ap (λ o. bind o (choose_end R c)) (exact_of 11 a (Colon ∷ last) (R.whole middle) (h.whole a (Colon ∷ last) g.2 (omega (arith, m))) (omega arith)) in
     subst (λ x. ReadsAt 10 (ConditionalTree c a b) rest (conditional_at R (suc d) x))
-      (sym (append_assoc (spell c) (Question ∷ (spell a ++ Colon ∷ spell b)) rest ∙ ap (λ x. spell c ++ Question ∷ x) (append_assoc (spell a) (Colon ∷ spell b) rest)))
-      (extend_after (choose R (suc d)) c (Question ∷ middle) (operand_at R (suc d) 6 (spell c ++ Question ∷ middle)) (build (λ x. ConditionalTree c a x) (R.conditional last)) e f 10 (ConditionalTree c a b) rest
-        (reads_build (λ x. ConditionalTree c a x) 10 10 b rest (R.conditional last) (omega arith) (h.conditional b rest g.3 g.4 (omega (arith, m)))))
+    (sym (append_assoc (spell c) (Question ∷ (spell a ++ Colon ∷ spell b)) rest ∙ ap (λ x. spell c ++ Question ∷ x) (append_assoc (spell a) (Colon ∷ spell b) rest)))
+    (extend_after (choose R (suc d)) c (Question ∷ middle) (operand_at R (suc d) 6 (spell c ++ Question ∷ middle)) (build (λ x. ConditionalTree c a x) (R.conditional last)) e f 10 (ConditionalTree c a b) rest
+    (reads_build (λ x. ConditionalTree c a x) 10 10 b rest (R.conditional last) (omega arith) (h.conditional b rest g.3 g.4 (omega (arith, m)))))
 conditional_complete R d s h idle (AssignTree l o r) rest g k m = absurd (omega (arith, k))
 conditional_complete R d s h idle (BinaryTree l o r) rest g k m = conditional_low R d s h idle (BinaryTree l o r) rest g (six o) m
 conditional_complete R d s h idle t rest g k m = conditional_low R d s h idle t rest g (omega arith) m
@@ -380,8 +379,8 @@ assign_by_shorter : (R : Reader) (d : ℕ) → SoundReader R d → (l : Tree) (o
 assign_by_shorter R d s l None ts = tt
 assign_by_shorter R d s l (Some o) ts =
     shorter_when (is_left_side l) ts (cond (nat_lt (nesting l) (suc d)) (build (λ r. AssignTree l o r) (R.whole ts)) None)
-      (shorter_when (nat_lt (nesting l) (suc d)) ts (build (λ r. AssignTree l o r) (R.whole ts))
-        (shorter_build (λ r. AssignTree l o r) ts (R.whole ts) (shorter_of 11 d ts (R.whole ts) (s.whole ts))))
+    (shorter_when (nat_lt (nesting l) (suc d)) ts (build (λ r. AssignTree l o r) (R.whole ts))
+    (shorter_build (λ r. AssignTree l o r) ts (R.whole ts) (shorter_of 11 d ts (R.whole ts) (s.whole ts))))
 
 assign_shorter : (R : Reader) (d : ℕ) → SoundReader R d → ShorterStep (assign R (suc d))
 assign_shorter R d s l [] = tt
@@ -405,14 +404,14 @@ whole_complete R d s h idle (AssignTree l o r) rest g m =
     let more = assign_token o ∷ last in
     let low = left_side_low l g.1 in
     let e : conditional_at R (suc d) (spell l ++ more) ≡ Some (l, more) =
-      exact_of 10 l more (conditional_at R (suc d) (spell l ++ more)) (conditional_complete R d s h idle l more g.0 (omega (arith, low)) (omega (arith, m))) (omega (arith, assign_reach o)) in
+    exact_of 10 l more (conditional_at R (suc d) (spell l ++ more)) (conditional_complete R d s h idle l more g.0 (omega (arith, low)) (omega (arith, m))) (omega (arith, assign_reach o)) in
     let f : assign R (suc d) l more ≡ build (λ x. AssignTree l o x) (R.whole last) =
-      ap (λ x. assign_by R (suc d) l x last) (assign_read o)
-      ∙ ap (λ b. cond b (cond (nat_lt (nesting l) (suc d)) (build (λ x. AssignTree l o x) (R.whole last)) None) None) g.1
-      ∙ sym (cond_below (nesting l) (suc d) (build (λ x. AssignTree l o x) (R.whole last)) None (omega (arith, m))) in
+    ap (λ x. assign_by R (suc d) l x last) (assign_read o)
+    ∙ ap (λ b. cond b (cond (nat_lt (nesting l) (suc d)) (build (λ x. AssignTree l o x) (R.whole last)) None) None) g.1
+    ∙ sym (cond_below (nesting l) (suc d) (build (λ x. AssignTree l o x) (R.whole last)) None (omega (arith, m))) in
     subst (λ x. ReadsAt 11 (AssignTree l o r) rest (whole_at R (suc d) x)) (sym (append_assoc (spell l) (assign_token o ∷ spell r) rest))
-      (extend_after (assign R (suc d)) l more (conditional_at R (suc d) (spell l ++ more)) (build (λ x. AssignTree l o x) (R.whole last)) e f 11 (AssignTree l o r) rest
-        (reads_build (λ x. AssignTree l o x) 11 11 r rest (R.whole last) (omega arith) (h.whole r rest g.2 (omega (arith, m)))))
+    (extend_after (assign R (suc d)) l more (conditional_at R (suc d) (spell l ++ more)) (build (λ x. AssignTree l o x) (R.whole last)) e f 11 (AssignTree l o r) rest
+    (reads_build (λ x. AssignTree l o x) 11 11 r rest (R.whole last) (omega arith) (h.whole r rest g.2 (omega (arith, m)))))
 whole_complete R d s h idle (BinaryTree l o r) rest g m = whole_low R d s h idle (BinaryTree l o r) rest g (let k = six o in omega (arith, k)) m
 whole_complete R d s h idle t rest g m = whole_low R d s h idle t rest g (omega arith) m
 

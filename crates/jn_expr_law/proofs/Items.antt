@@ -1,25 +1,19 @@
 -- What trees begin with, and lists of them.
-use Rattle.std.proofs.Common.{◌≡◌, ℕ, zero, suc, ◌+◌, ◌-◌, ◌<◌, ◌≤◌, max, List, [], ◌∷◌, ◌++◌, length, refl, sym, ap, ◌∙◌, subst, arith, append_assoc, length-append, Option, Some, None, Bool, true, false, cond, nat_lt, nat_eq, ◌⊎◌, inl, inr}
-use Rattle.std.proofs.lemmas.Bool.{cond_below, cond_above, eq-eqb, ne_eqb, eqb-true, cases_lt}
-use Rattle.jn_base.specs.declared.number.NameNo.{NameNo}
+use Rattle.std.proofs.Common.{◌≡◌, ℕ, zero, suc, ◌+◌, ◌<◌, ◌≤◌, List, [], ◌∷◌, ◌++◌, length, refl, ap, ◌∙◌, arith, append_assoc, length-append, Some, None, Bool, true, false}
 use Rattle.jn_trees.specs.declared.token.TokenKind.{TokenKind}
-use Rattle.jn_trees.specs.declared.token.TokenKind.TheVariants.{Id, Str, Number, Boolean, Instanceof, Int, New, Super, This, True, False, Null, LeftParen, RightParen, LeftBrace, RightBrace, LeftBracket, RightBracket, Comma, Dot, At, Assign, Greater, Less, Not, Question, Colon, EqualEqual, LessEqual, GreaterEqual, NotEqual, AndAnd, OrOr, PlusPlus, MinusMinus, Plus, Minus, Star, Slash, Percent, PlusAssign, MinusAssign, StarAssign, SlashAssign, PercentAssign}
+use Rattle.jn_trees.specs.declared.token.TokenKind.TheVariants.{Id, Str, Number, Instanceof, New, Super, This, True, False, Null, LeftParen, RightParen, RightBrace, LeftBracket, RightBracket, Dot, Not, Question, Colon, PlusPlus, MinusMinus, Plus, Minus}
 use Rattle.jn_trees.specs.declared.expression.Literal.{Literal}
 use Rattle.jn_trees.specs.declared.expression.Literal.TheVariants.{Number as NumberLiteral, Str as StrLiteral, True as TrueLiteral, False as FalseLiteral, Null as NullLiteral}
 use Rattle.jn_trees.specs.declared.expression.UnaryOperator.{UnaryOperator}
 use Rattle.jn_trees.specs.declared.expression.UnaryOperator.TheVariants.{Plus as PlusSign, Minus as MinusSign, Not as NotSign}
 use Rattle.jn_trees.specs.declared.expression.Step.{Step}
 use Rattle.jn_trees.specs.declared.expression.Step.TheVariants.{Increment, Decrement}
-use Rattle.jn_trees.specs.declared.expression.BinaryOperator.{BinaryOperator}
-use Rattle.jn_trees.specs.declared.expression.BinaryOperator.TheVariants.{Multiply, Divide, Remainder, Add, Subtract, Less as LessThan, Greater as GreaterThan, LessEqual as AtMost, GreaterEqual as AtLeast, Equal, NotEqual as Unequal, And, Or}
-use Rattle.jn_trees.specs.declared.expression.AssignOperator.{AssignOperator}
-use Rattle.jn_trees.specs.declared.expression.AssignOperator.TheVariants.{Assign as Simple, Add as AddTo, Subtract as SubtractFrom, Multiply as MultiplyBy, Divide as DivideBy, Remainder as RemainderBy}
-use Rattle.jn_trees.specs.Trees.{BaseTree, ClassBase, IntBase, BooleanBase, Tree, Trees, LiteralTree, NameTree, ThisTree, ParenTree, FieldTree, CallTree, OwnCallTree, SuperCallTree, IndexTree, NewTree, NewArrayTree, ArrayOfTree, PostfixTree, PrefixTree, UnaryTree, CastTree, BinaryTree, InstanceOfTree, ConditionalTree, AssignTree, NoTrees, MoreTrees}
-use Rattle.jn_trees.specs.Spelling.{base_token, literal_token, step_token, sign_token, operator_token, assign_token, spell_annotations, spell, spell_list, spell_more}
-use Rattle.jn_trees.specs.WellFormed.{nesting, nesting_all, rank, power, is_left_side, is_indexable, is_castable, is_least_literal, is_least_number, Good, AllGood, GoodLiteral, GoodSigned}
+use Rattle.jn_trees.specs.Trees.{Tree, Trees, LiteralTree, NameTree, ThisTree, ParenTree, FieldTree, CallTree, OwnCallTree, SuperCallTree, IndexTree, NewTree, NewArrayTree, ArrayOfTree, PostfixTree, PrefixTree, UnaryTree, CastTree, BinaryTree, InstanceOfTree, ConditionalTree, AssignTree, NoTrees, MoreTrees}
+use Rattle.jn_trees.specs.Spelling.{literal_token, step_token, sign_token, operator_token, assign_token, spell, spell_list, spell_more}
+use Rattle.jn_trees.specs.WellFormed.{nesting, nesting_all, rank, is_left_side, is_castable, Good, AllGood}
 use Rattle.jn_trees.specs.Longest.{Try}
 use Rattle.jn_expr_law.specs.Follow.{reach, reach_of}
-use Rattle.jn_expr_law.specs.Reader.{Got, TryAll, Reader, iterate, build, build_all, extend, go_on, bind, bind_all, bind_items, close_paren, close_index, add_first, items_behind, items_from, all_items, close_arguments, close_elements, arguments_in, elements_in, arguments, called, base_of, close_array, array_elements, array_inside, array_behind, array_of, array_from, annotations, add_annotation, creation_of, creation, number_at, super_call, head, member, link, primary, trim, left_at, step_of, after_by, after, cast_operand, cast, least, or_least, prefix, unary, Sign, NoSign, OperatorSign, TestSign, sign, test, grow_by, grow, operand_at, choose_end, choose, conditional_at, assign_of, assign_by, assign, whole_at, reader}
+use Rattle.jn_expr_law.specs.Reader.{TryAll, Reader, bind_all, bind_items, add_first, items_behind, items_from, all_items, close_arguments, close_elements, arguments_in, elements_in, arguments, called}
 use Rattle.jn_expr_law.proofs.Sound.{some_power}
 use Rattle.jn_expr_law.proofs.Spines.{ReadsAt, exact_of}
 
@@ -164,7 +158,7 @@ count_below end NoTrees = omega arith
 count_below end (MoreTrees t ts) = let ih = count_below end ts in omega (arith, ih, length-append (spell t) (spell_more end ts))
 
 from_exact : (R : Reader) (d : ℕ) → CompleteReader R d → (end : TokenKind) → Ends end → (es : Trees) (n : ℕ) (t : Tree) (rest : List TokenKind) → Good t → AllGood es → nesting t ≤ d → nesting_all es ≤ d → count es < n
-  → items_from R.whole n (spell t ++ (spell_more end es ++ rest)) ≡ Some (MoreTrees t es, end ∷ rest)
+    → items_from R.whole n (spell t ++ (spell_more end es ++ rest)) ≡ Some (MoreTrees t es, end ∷ rest)
 from_exact R d h end ends es zero t rest g gs m ms lt = absurd (omega (arith, lt))
 from_exact R d h end ends NoTrees (suc n) t rest g gs m ms lt =
     ap (λ o. bind_all o (items_behind (items_from R.whole n))) (exact_of 11 t (end ∷ rest) (R.whole (spell t ++ end ∷ rest)) (h.whole t (end ∷ rest) g m) ends.0)
@@ -180,7 +174,7 @@ unfolding all_items
 items_at one ts = refl
 
 items_exact : (R : Reader) (d : ℕ) → CompleteReader R d → (end : TokenKind) → Ends end → (t : Tree) (ts : Trees) (rest : List TokenKind) → Good t → AllGood ts → nesting t ≤ d → nesting_all ts ≤ d
-  → all_items R.whole (spell t ++ (spell_more end ts ++ rest)) ≡ Some (MoreTrees t ts, end ∷ rest)
+    → all_items R.whole (spell t ++ (spell_more end ts ++ rest)) ≡ Some (MoreTrees t ts, end ∷ rest)
 items_exact R d h end ends t ts rest g gs m ms =
     let all = spell t ++ (spell_more end ts ++ rest) in
     let long : count ts < length all = omega (arith, count_below end ts, length-append (spell t) (spell_more end ts ++ rest), length-append (spell_more end ts) rest) in

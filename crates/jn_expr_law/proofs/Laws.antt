@@ -1,5 +1,5 @@
 -- What the reader reads is the longest, and a token list has one tree.
-use Rattle.std.proofs.Common.{◌≡◌, ℕ, ◌+◌, ◌≤◌, ◌<◌, max, List, [], ◌∷◌, ◌++◌, length, take, drop, refl, sym, ap, ◌∙◌, subst, arith, length-append, Option, Some, None}
+use Rattle.std.proofs.Common.{◌≡◌, ℕ, ◌≤◌, max, List, [], ◌++◌, length, take, drop, refl, sym, ap, ◌∙◌, subst, arith, length-append, Some, None}
 use Rattle.std.proofs.Math.Seq.{take-append_seam, drop-append_seam}
 use Rattle.jn_trees.specs.declared.token.TokenKind.{TokenKind}
 use Rattle.jn_trees.specs.Trees.{Tree}
@@ -7,7 +7,7 @@ use Rattle.jn_trees.specs.Spelling.{spell}
 use Rattle.jn_trees.specs.WellFormed.{nesting, Good}
 use Rattle.jn_trees.specs.Longest.{Try, SpellsFront, IsLongest}
 use Rattle.jn_expr_law.specs.Follow.{Reads}
-use Rattle.jn_expr_law.specs.Reader.{Got, reader}
+use Rattle.jn_expr_law.specs.Reader.{reader}
 use Rattle.jn_expr_law.proofs.Sound.{Sound, sound}
 use Rattle.jn_expr_law.proofs.Spines.{ReadsAt, exact_of}
 use Rattle.jn_expr_law.proofs.Complete.{complete}
@@ -26,7 +26,7 @@ longest_of d ts (Some r) s h = ((s.0, s.1, s.3), λ t rest g. (h t rest g).0)
 pub longest : (d : ℕ) (ts : List TokenKind) → IsLongest d ts ((reader d).whole ts)
 longest d ts =
     longest_of d ts ((reader d).whole ts) ((sound d).whole ts)
-      (λ t rest g. subst (λ x. Reads t rest ((reader d).whole x)) (sym g.0) (reads d t rest g.1 g.2))
+    (λ t rest g. subst (λ x. Reads t rest ((reader d).whole x)) (sym g.0) (reads d t rest g.1 g.2))
 
 abbrev tree_of : Tree → Try → Tree
 tree_of t None = t
@@ -42,9 +42,10 @@ one_tree t u g k e =
 
 same_front : (xs ys us vs : List TokenKind) → xs ++ us ≡ ys ++ vs → length us ≡ length vs → (xs ≡ ys) × (us ≡ vs)
 same_front xs ys us vs e m =
-    let n : length xs ≡ length ys = omega (arith, ap length e, length-append xs us, length-append ys vs, m) in
-    (sym (take-append_seam xs us) ∙ ap (λ x. take (length xs) x) e ∙ ap (λ k. take k (ys ++ vs)) n ∙ take-append_seam ys vs,
-     sym (drop-append_seam xs us) ∙ ap (λ x. drop (length xs) x) e ∙ ap (λ k. drop k (ys ++ vs)) n ∙ drop-append_seam ys vs)
+    let n : length xs ≡ length ys = omega (arith, ap length e, length-append xs us, length-append ys vs, m) in (
+      sym (take-append_seam xs us) ∙ ap (λ x. take (length xs) x) e ∙ ap (λ k. take k (ys ++ vs)) n ∙ take-append_seam ys vs,
+      sym (drop-append_seam xs us) ∙ ap (λ x. drop (length xs) x) e ∙ ap (λ k. drop k (ys ++ vs)) n ∙ drop-append_seam ys vs,
+    )
 
 same_got : (t u : Tree) (us vs : List TokenKind) → t ≡ u → us ≡ vs → ◌≡◌ {A = Try} (Some (t, us)) (Some (u, vs))
 same_got t u us vs e f = ap (λ x. Some (x, us)) e ∙ ap (λ x. Some (u, x)) f

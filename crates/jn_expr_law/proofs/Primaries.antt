@@ -1,25 +1,17 @@
 -- Primaries and left sides are read as far as they go.
-use Rattle.std.proofs.Common.{◌≡◌, ℕ, zero, suc, ◌+◌, ◌-◌, ◌<◌, ◌≤◌, max, List, [], ◌∷◌, ◌++◌, length, refl, sym, ap, ◌∙◌, subst, arith, append_assoc, length-append, Option, Some, None, Bool, true, false, cond, nat_lt, nat_eq, ◌⊎◌, inl, inr}
-use Rattle.std.proofs.lemmas.Bool.{cond_below, cond_above, eq-eqb, ne_eqb, eqb-true, cases_lt}
+use Rattle.std.proofs.Common.{◌≡◌, ℕ, zero, suc, ◌<◌, ◌≤◌, List, [], ◌∷◌, ◌++◌, length, refl, sym, ap, ◌∙◌, subst, arith, append_assoc, length-append, Some, None, Bool, true, false, cond, nat_lt}
+use Rattle.std.proofs.lemmas.Bool.{cond_below}
 use Rattle.jn_base.specs.declared.number.NameNo.{NameNo}
 use Rattle.jn_trees.specs.declared.token.TokenKind.{TokenKind}
-use Rattle.jn_trees.specs.declared.token.TokenKind.TheVariants.{Id, Str, Number, Boolean, Instanceof, Int, New, Super, This, True, False, Null, LeftParen, RightParen, LeftBrace, RightBrace, LeftBracket, RightBracket, Comma, Dot, At, Assign, Greater, Less, Not, Question, Colon, EqualEqual, LessEqual, GreaterEqual, NotEqual, AndAnd, OrOr, PlusPlus, MinusMinus, Plus, Minus, Star, Slash, Percent, PlusAssign, MinusAssign, StarAssign, SlashAssign, PercentAssign}
+use Rattle.jn_trees.specs.declared.token.TokenKind.TheVariants.{Id, New, Super, This, LeftParen, RightParen, LeftBrace, RightBrace, LeftBracket, RightBracket, Dot}
 use Rattle.jn_trees.specs.declared.expression.Literal.{Literal}
 use Rattle.jn_trees.specs.declared.expression.Literal.TheVariants.{Number as NumberLiteral, Str as StrLiteral, True as TrueLiteral, False as FalseLiteral, Null as NullLiteral}
-use Rattle.jn_trees.specs.declared.expression.UnaryOperator.{UnaryOperator}
-use Rattle.jn_trees.specs.declared.expression.UnaryOperator.TheVariants.{Plus as PlusSign, Minus as MinusSign, Not as NotSign}
-use Rattle.jn_trees.specs.declared.expression.Step.{Step}
-use Rattle.jn_trees.specs.declared.expression.Step.TheVariants.{Increment, Decrement}
-use Rattle.jn_trees.specs.declared.expression.BinaryOperator.{BinaryOperator}
-use Rattle.jn_trees.specs.declared.expression.BinaryOperator.TheVariants.{Multiply, Divide, Remainder, Add, Subtract, Less as LessThan, Greater as GreaterThan, LessEqual as AtMost, GreaterEqual as AtLeast, Equal, NotEqual as Unequal, And, Or}
-use Rattle.jn_trees.specs.declared.expression.AssignOperator.{AssignOperator}
-use Rattle.jn_trees.specs.declared.expression.AssignOperator.TheVariants.{Assign as Simple, Add as AddTo, Subtract as SubtractFrom, Multiply as MultiplyBy, Divide as DivideBy, Remainder as RemainderBy}
-use Rattle.jn_trees.specs.Trees.{BaseTree, ClassBase, IntBase, BooleanBase, Tree, Trees, LiteralTree, NameTree, ThisTree, ParenTree, FieldTree, CallTree, OwnCallTree, SuperCallTree, IndexTree, NewTree, NewArrayTree, ArrayOfTree, PostfixTree, PrefixTree, UnaryTree, CastTree, BinaryTree, InstanceOfTree, ConditionalTree, AssignTree, NoTrees, MoreTrees}
-use Rattle.jn_trees.specs.Spelling.{base_token, literal_token, step_token, sign_token, operator_token, assign_token, spell_annotations, spell, spell_list, spell_more}
-use Rattle.jn_trees.specs.WellFormed.{nesting, nesting_all, rank, power, is_left_side, is_indexable, is_castable, is_least_literal, is_least_number, Good, AllGood, GoodLiteral, GoodSigned}
+use Rattle.jn_trees.specs.Trees.{BaseTree, ClassBase, IntBase, BooleanBase, Tree, Trees, LiteralTree, NameTree, ThisTree, ParenTree, FieldTree, CallTree, OwnCallTree, SuperCallTree, IndexTree, NewTree, NewArrayTree, ArrayOfTree, PostfixTree, PrefixTree, UnaryTree, CastTree, BinaryTree, InstanceOfTree, ConditionalTree, AssignTree}
+use Rattle.jn_trees.specs.Spelling.{base_token, literal_token, spell_annotations, spell, spell_list}
+use Rattle.jn_trees.specs.WellFormed.{nesting, nesting_all, rank, is_left_side, is_indexable, Good, AllGood, GoodLiteral}
 use Rattle.jn_trees.specs.Longest.{Try}
-use Rattle.jn_expr_law.specs.Follow.{reach, reach_of}
-use Rattle.jn_expr_law.specs.Reader.{Got, TryAll, Reader, iterate, build, build_all, extend, go_on, bind, bind_all, bind_items, close_paren, close_index, add_first, items_behind, items_from, all_items, close_arguments, close_elements, arguments_in, elements_in, arguments, called, base_of, close_array, array_elements, array_inside, array_behind, array_of, array_from, annotations, add_annotation, creation_of, creation, number_at, super_call, head, member, link, primary, trim, left_at, step_of, after_by, after, cast_operand, cast, least, or_least, prefix, unary, Sign, NoSign, OperatorSign, TestSign, sign, test, grow_by, grow, operand_at, choose_end, choose, conditional_at, assign_of, assign_by, assign, whole_at, reader}
+use Rattle.jn_expr_law.specs.Follow.{reach_of}
+use Rattle.jn_expr_law.specs.Reader.{Got, TryAll, Reader, iterate, build_all, bind, close_paren, close_index, arguments, called, base_of, close_array, array_inside, array_of, array_from, annotations, add_annotation, creation, head, member, link, primary, trim, left_at}
 use Rattle.jn_expr_law.proofs.Sound.{SoundReader, SoundCall, call_sound, some_power}
 use Rattle.jn_expr_law.proofs.Spines.{ReadsAt, exact_of, Shorter, ShorterStep, StopsAt, stop_iterate, Spine, spine_step, spine_start, shorter_of, shorter_when, shorter_by, shorter_bind, called_shorter}
 use Rattle.jn_expr_law.proofs.Items.{CompleteReader, begins, begins_tree, in_exact, elements_exact, called_exact}
@@ -40,8 +32,8 @@ link_shorter R d s p [] = tt
 link_shorter R d s p (Dot ∷ ts) = shorter_when (nat_lt (nesting p) (suc d)) (Dot ∷ ts) (member R p ts) (shorter_by Dot ts (member R p ts) (member_shorter R d s p ts))
 link_shorter R d s p (LeftBracket ∷ ts) =
     shorter_when (is_indexable p) (LeftBracket ∷ ts) (cond (nat_lt (nesting p) (suc d)) (bind (R.whole ts) (close_index p)) None)
-      (shorter_when (nat_lt (nesting p) (suc d)) (LeftBracket ∷ ts) (bind (R.whole ts) (close_index p))
-        (shorter_by LeftBracket ts (bind (R.whole ts) (close_index p)) (shorter_bind (close_index p) (close_index_shorter p) ts (R.whole ts) (shorter_of 11 d ts (R.whole ts) (s.whole ts)))))
+    (shorter_when (nat_lt (nesting p) (suc d)) (LeftBracket ∷ ts) (bind (R.whole ts) (close_index p))
+    (shorter_by LeftBracket ts (bind (R.whole ts) (close_index p)) (shorter_bind (close_index p) (close_index_shorter p) ts (R.whole ts) (shorter_of 11 d ts (R.whole ts) (s.whole ts)))))
 link_shorter R d s p (_ ∷ ts) = tt
 
 pub link_stops : (R : Reader) (D : ℕ) → StopsAt 1 (link R D)
@@ -87,7 +79,7 @@ inside_read R names b (RightBracket ∷ ts) e = cc
 inside_read R names b (_ ∷ ts) e = refl
 
 array_exact : (R : Reader) (d : ℕ) → CompleteReader R d → (names : List NameNo) (b : BaseTree) (e : Tree) (rest : List TokenKind) → Good e → nesting e ≤ d
-  → creation R ((spell_annotations names ++ base_token b ∷ LeftBracket ∷ (spell e ++ RightBracket ∷ [])) ++ rest) ≡ Some (NewArrayTree names b e, rest)
+    → creation R ((spell_annotations names ++ base_token b ∷ LeftBracket ∷ (spell e ++ RightBracket ∷ [])) ++ rest) ≡ Some (NewArrayTree names b e, rest)
 array_exact R d h names b e rest g m =
     ap (λ x. creation R x) (append_assoc (spell_annotations names) (base_token b ∷ LeftBracket ∷ (spell e ++ RightBracket ∷ [])) rest)
     ∙ creation_read R names b ((spell e ++ RightBracket ∷ []) ++ rest)
@@ -96,7 +88,7 @@ array_exact R d h names b e rest g m =
     ∙ ap (λ o. bind o (close_array names b)) (exact_of 11 e (RightBracket ∷ rest) (R.whole (spell e ++ RightBracket ∷ rest)) (h.whole e (RightBracket ∷ rest) g m) (omega arith))
 
 array_of_exact : (R : Reader) (d : ℕ) → CompleteReader R d → (names : List NameNo) (b : BaseTree) (es : Trees) (rest : List TokenKind) → AllGood es → nesting_all es ≤ d
-  → creation R ((spell_annotations names ++ base_token b ∷ LeftBracket ∷ RightBracket ∷ LeftBrace ∷ spell_list RightBrace es) ++ rest) ≡ Some (ArrayOfTree names b es, rest)
+    → creation R ((spell_annotations names ++ base_token b ∷ LeftBracket ∷ RightBracket ∷ LeftBrace ∷ spell_list RightBrace es) ++ rest) ≡ Some (ArrayOfTree names b es, rest)
 array_of_exact R d h names b es rest g m =
     ap (λ x. creation R x) (append_assoc (spell_annotations names) (base_token b ∷ LeftBracket ∷ RightBracket ∷ LeftBrace ∷ spell_list RightBrace es) rest)
     ∙ creation_read R names b (RightBracket ∷ LeftBrace ∷ (spell_list RightBrace es ++ rest))
@@ -117,22 +109,22 @@ pub primary_spine : (R : Reader) (d : ℕ) → SoundReader R d → CompleteReade
 primary_spine R d s h (LiteralTree l) rest g k m = head_spine R d (LiteralTree l) rest (literal_token l ∷ rest) (literal_read R l rest g)
 primary_spine R d s h (NameTree n) rest g k m =
     spine_start 0 (suc d) (link R (suc d)) (head R (Id n ∷ rest)) (called (NameTree n) (λ es. OwnCallTree n es) rest (arguments R.whole rest)) refl (NameTree n) rest
-      (called_shorter d (NameTree n) (λ es. OwnCallTree n es) rest (arguments R.whole rest) (call_sound d R.whole s.whole rest))
-      (λ lt. called_exact (NameTree n) (λ es. OwnCallTree n es) R.whole rest lt)
+    (called_shorter d (NameTree n) (λ es. OwnCallTree n es) rest (arguments R.whole rest) (call_sound d R.whole s.whole rest))
+    (λ lt. called_exact (NameTree n) (λ es. OwnCallTree n es) R.whole rest lt)
 primary_spine R d s h ThisTree rest g k m = head_spine R d ThisTree rest (This ∷ rest) refl
 primary_spine R d s h (ParenTree e) rest g k m =
     head_spine R d (ParenTree e) rest (LeftParen ∷ ((spell e ++ RightParen ∷ []) ++ rest))
-      (ap (λ x. bind (R.whole x) close_paren) (append_assoc (spell e) (RightParen ∷ []) rest)
-       ∙ ap (λ o. bind o close_paren) (exact_of 11 e (RightParen ∷ rest) (R.whole (spell e ++ RightParen ∷ rest)) (h.whole e (RightParen ∷ rest) g (omega (arith, m))) (omega arith)))
+    (ap (λ x. bind (R.whole x) close_paren) (append_assoc (spell e) (RightParen ∷ []) rest)
+    ∙ ap (λ o. bind o close_paren) (exact_of 11 e (RightParen ∷ rest) (R.whole (spell e ++ RightParen ∷ rest)) (h.whole e (RightParen ∷ rest) g (omega (arith, m))) (omega arith)))
 primary_spine R d s h (OwnCallTree n es) rest g k m =
     head_spine R d (OwnCallTree n es) rest (Id n ∷ LeftParen ∷ (spell_list RightParen es ++ rest))
-      (ap (λ o. Some (called (NameTree n) (λ us. OwnCallTree n us) (LeftParen ∷ (spell_list RightParen es ++ rest)) o)) (in_exact R d h es rest g (omega (arith, m))))
+    (ap (λ o. Some (called (NameTree n) (λ us. OwnCallTree n us) (LeftParen ∷ (spell_list RightParen es ++ rest)) o)) (in_exact R d h es rest g (omega (arith, m))))
 primary_spine R d s h (SuperCallTree n es) rest g k m =
     head_spine R d (SuperCallTree n es) rest (Super ∷ Dot ∷ Id n ∷ LeftParen ∷ (spell_list RightParen es ++ rest))
-      (ap (λ o. build_all (λ us. SuperCallTree n us) o) (in_exact R d h es rest g (omega (arith, m))))
+    (ap (λ o. build_all (λ us. SuperCallTree n us) o) (in_exact R d h es rest g (omega (arith, m))))
 primary_spine R d s h (NewTree n es) rest g k m =
     head_spine R d (NewTree n es) rest (New ∷ Id n ∷ LeftParen ∷ (spell_list RightParen es ++ rest))
-      (ap (λ o. build_all (λ us. NewTree n us) o) (in_exact R d h es rest g (omega (arith, m))))
+    (ap (λ o. build_all (λ us. NewTree n us) o) (in_exact R d h es rest g (omega (arith, m))))
 primary_spine R d s h (NewArrayTree names b e) rest g k m =
     head_spine R d (NewArrayTree names b e) rest (New ∷ ((spell_annotations names ++ base_token b ∷ LeftBracket ∷ (spell e ++ RightBracket ∷ [])) ++ rest)) (array_exact R d h names b e rest g (omega (arith, m)))
 primary_spine R d s h (ArrayOfTree names b es) rest g k m =
@@ -140,33 +132,33 @@ primary_spine R d s h (ArrayOfTree names b es) rest g k m =
 primary_spine R d s h (FieldTree p n) rest g k m =
     let fits : nesting p < suc d = omega (arith, m) in
     subst (λ x. Spine 0 (suc d) (link R (suc d)) (FieldTree p n) rest (primary R (suc d) x)) (sym (append_assoc (spell p) (Dot ∷ Id n ∷ []) rest))
-      (spine_step 0 (suc d) (link R (suc d)) p (Dot ∷ Id n ∷ rest) (primary R (suc d) (spell p ++ Dot ∷ Id n ∷ rest)) (primary_spine R d s h p (Dot ∷ Id n ∷ rest) g.0 g.1 (omega (arith, m))) (omega arith) fits
-        (called (FieldTree p n) (λ es. CallTree p n es) rest (arguments R.whole rest)) (sym (cond_below (nesting p) (suc d) (member R p (Id n ∷ rest)) None fits))
-        (called_more p n rest (arguments R.whole rest)) (FieldTree p n) rest
-        (called_shorter d (FieldTree p n) (λ es. CallTree p n es) rest (arguments R.whole rest) (call_sound d R.whole s.whole rest))
-        (λ lt. called_exact (FieldTree p n) (λ es. CallTree p n es) R.whole rest lt))
+    (spine_step 0 (suc d) (link R (suc d)) p (Dot ∷ Id n ∷ rest) (primary R (suc d) (spell p ++ Dot ∷ Id n ∷ rest)) (primary_spine R d s h p (Dot ∷ Id n ∷ rest) g.0 g.1 (omega (arith, m))) (omega arith) fits
+    (called (FieldTree p n) (λ es. CallTree p n es) rest (arguments R.whole rest)) (sym (cond_below (nesting p) (suc d) (member R p (Id n ∷ rest)) None fits))
+    (called_more p n rest (arguments R.whole rest)) (FieldTree p n) rest
+    (called_shorter d (FieldTree p n) (λ es. CallTree p n es) rest (arguments R.whole rest) (call_sound d R.whole s.whole rest))
+    (λ lt. called_exact (FieldTree p n) (λ es. CallTree p n es) R.whole rest lt))
 primary_spine R d s h (CallTree p n es) rest g k m =
     let fits : nesting p < suc d = omega (arith, m) in
     let last = LeftParen ∷ (spell_list RightParen es ++ rest) in
     let more = Dot ∷ Id n ∷ last in
     subst (λ x. Spine 0 (suc d) (link R (suc d)) (CallTree p n es) rest (primary R (suc d) x)) (sym (append_assoc (spell p) (Dot ∷ Id n ∷ LeftParen ∷ spell_list RightParen es) rest))
-      (spine_step 0 (suc d) (link R (suc d)) p more (primary R (suc d) (spell p ++ more)) (primary_spine R d s h p more g.0 g.1 (omega (arith, m))) (omega arith) fits
-        (CallTree p n es, rest)
-        (sym (cond_below (nesting p) (suc d) (member R p (Id n ∷ last)) None fits)
-         ∙ ap (λ o. Some (called (FieldTree p n) (λ us. CallTree p n us) last o)) (in_exact R d h es rest g.2 (omega (arith, m))))
-        (omega arith) (CallTree p n es) rest (omega arith) (λ lt. refl))
+    (spine_step 0 (suc d) (link R (suc d)) p more (primary R (suc d) (spell p ++ more)) (primary_spine R d s h p more g.0 g.1 (omega (arith, m))) (omega arith) fits
+    (CallTree p n es, rest)
+    (sym (cond_below (nesting p) (suc d) (member R p (Id n ∷ last)) None fits)
+    ∙ ap (λ o. Some (called (FieldTree p n) (λ us. CallTree p n us) last o)) (in_exact R d h es rest g.2 (omega (arith, m))))
+    (omega arith) (CallTree p n es) rest (omega arith) (λ lt. refl))
 primary_spine R d s h (IndexTree p e) rest g k m =
     let fits : nesting p < suc d = omega (arith, m) in
     let last = spell e ++ RightBracket ∷ rest in
     let more = LeftBracket ∷ last in
     subst (λ x. Spine 0 (suc d) (link R (suc d)) (IndexTree p e) rest (primary R (suc d) x))
-      (sym (append_assoc (spell p) (LeftBracket ∷ (spell e ++ RightBracket ∷ [])) rest ∙ ap (λ x. spell p ++ LeftBracket ∷ x) (append_assoc (spell e) (RightBracket ∷ []) rest)))
-      (spine_step 0 (suc d) (link R (suc d)) p more (primary R (suc d) (spell p ++ more)) (primary_spine R d s h p more g.0 g.1 (omega (arith, m))) (omega arith) fits
-        (IndexTree p e, rest)
-        (ap (λ b. cond b (cond (nat_lt (nesting p) (suc d)) (bind (R.whole last) (close_index p)) None) None) g.2
-         ∙ sym (cond_below (nesting p) (suc d) (bind (R.whole last) (close_index p)) None fits)
-         ∙ ap (λ o. bind o (close_index p)) (exact_of 11 e (RightBracket ∷ rest) (R.whole last) (h.whole e (RightBracket ∷ rest) g.3 (omega (arith, m))) (omega arith)))
-        (omega arith) (IndexTree p e) rest (omega arith) (λ lt. refl))
+    (sym (append_assoc (spell p) (LeftBracket ∷ (spell e ++ RightBracket ∷ [])) rest ∙ ap (λ x. spell p ++ LeftBracket ∷ x) (append_assoc (spell e) (RightBracket ∷ []) rest)))
+    (spine_step 0 (suc d) (link R (suc d)) p more (primary R (suc d) (spell p ++ more)) (primary_spine R d s h p more g.0 g.1 (omega (arith, m))) (omega arith) fits
+    (IndexTree p e, rest)
+    (ap (λ b. cond b (cond (nat_lt (nesting p) (suc d)) (bind (R.whole last) (close_index p)) None) None) g.2
+    ∙ sym (cond_below (nesting p) (suc d) (bind (R.whole last) (close_index p)) None fits)
+    ∙ ap (λ o. bind o (close_index p)) (exact_of 11 e (RightBracket ∷ rest) (R.whole last) (h.whole e (RightBracket ∷ rest) g.3 (omega (arith, m))) (omega arith)))
+    (omega arith) (IndexTree p e) rest (omega arith) (λ lt. refl))
 primary_spine R d s h (PostfixTree p st) rest g k m = absurd (omega (arith, k))
 primary_spine R d s h (PrefixTree st q) rest g k m = absurd (omega (arith, k))
 primary_spine R d s h (UnaryTree o e) rest g k m = absurd (omega (arith, k))
@@ -216,7 +208,7 @@ index_trims : (p : Tree) (ts : List TokenKind) (o : Try) → Shorter ts o → Tr
 index_trims p ts None s = tt
 index_trims p ts (Some r) s =
     (elim (close_index p r.0 r.1) as (λ o. TrimsStep r.1 o → TrimsStep ts o)
-      [ None ↦ λ _. tt | Some q ↦ λ h. (elim (trim q.0 q.1) as (λ o. Trims (length r.1) o → Trims (length ts) o) [ None ↦ λ k. absurd k | Some x ↦ λ k. omega (arith, k, s) ]) h ])
+    [ None ↦ λ _. tt | Some q ↦ λ h. (elim (trim q.0 q.1) as (λ o. Trims (length r.1) o → Trims (length ts) o) [ None ↦ λ k. absurd k | Some x ↦ λ k. omega (arith, k, s) ]) h ])
     (close_index_trims p r.0 r.1)
 
 link_trims : (R : Reader) (d : ℕ) → SoundReader R d → (p : Tree) (ts : List TokenKind) → TrimsStep ts (link R (suc d) p ts)
@@ -224,8 +216,8 @@ link_trims R d s p [] = tt
 link_trims R d s p (Dot ∷ ts) = trims_when (nat_lt (nesting p) (suc d)) (Dot ∷ ts) (member R p ts) (trims_more Dot ts (member R p ts) (member_trims R d s p ts))
 link_trims R d s p (LeftBracket ∷ ts) =
     trims_when (is_indexable p) (LeftBracket ∷ ts) (cond (nat_lt (nesting p) (suc d)) (bind (R.whole ts) (close_index p)) None)
-      (trims_when (nat_lt (nesting p) (suc d)) (LeftBracket ∷ ts) (bind (R.whole ts) (close_index p))
-        (trims_more LeftBracket ts (bind (R.whole ts) (close_index p)) (index_trims p ts (R.whole ts) (shorter_of 11 d ts (R.whole ts) (s.whole ts)))))
+    (trims_when (nat_lt (nesting p) (suc d)) (LeftBracket ∷ ts) (bind (R.whole ts) (close_index p))
+    (trims_more LeftBracket ts (bind (R.whole ts) (close_index p)) (index_trims p ts (R.whole ts) (shorter_of 11 d ts (R.whole ts) (s.whole ts)))))
 link_trims R d s p (_ ∷ ts) = tt
 
 -- what is trimmed is no shorter than what follows
@@ -240,10 +232,11 @@ trim_keeps n _ ts h = absurd h
 iterate_trims : (R : Reader) (d : ℕ) → SoundReader R d → (n m : ℕ) (r : Got) → Trims n (trim r.0 r.1) → Trims n (trim (iterate (link R (suc d)) m r).0 (iterate (link R (suc d)) m r).1)
 iterate_trims R d s n zero r h = h
 iterate_trims R d s n (suc m) r h =
-    (elim (link R (suc d) r.0 r.1) as (λ o. TrimsStep r.1 o → Trims n (trim (elim o as (λ _. Got) [ None ↦ r | Some q ↦ iterate (link R (suc d)) m q ]).0 (elim o as (λ _. Got) [ None ↦ r | Some q ↦ iterate (link R (suc d)) m q ]).1))
-      [ None ↦ λ _. h
+    (elim (link R (suc d) r.0 r.1) as (λ o. TrimsStep r.1 o → Trims n (trim (elim o as (λ _. Got) [ None ↦ r | Some q ↦ iterate (link R (suc d)) m q ]).0 (elim o as (λ _. Got) [ None ↦ r | Some q ↦ iterate (link R (suc d)) m q ]).1)) [
+      | None ↦ λ _. h
       | Some q ↦ λ k. iterate_trims R d s n m q
-          ((elim (trim q.0 q.1) as (λ o. Trims (length r.1) o → Trims n o) [ None ↦ λ x. absurd x | Some x ↦ λ y. let keep = trim_keeps n r.0 r.1 h in omega (arith, y, keep) ]) k) ])
+          ((elim (trim q.0 q.1) as (λ o. Trims (length r.1) o → Trims n o) [ None ↦ λ x. absurd x | Some x ↦ λ y. let keep = trim_keeps n r.0 r.1 h in omega (arith, y, keep) ]) k)
+    ])
     (link_trims R d s r.0 r.1)
 
 trim_left : (t : Tree) (ts : List TokenKind) → is_left_side t ≡ true → trim t ts ≡ Some (t, ts)
@@ -260,10 +253,10 @@ left_from : (R : Reader) (d : ℕ) → SoundReader R d → (t : Tree) (rest : Li
 left_from R d sound t rest o left s trims =
     let end = iterate (link R (suc d)) s.n s.got in
     subst (λ x. ReadsAt 1 t rest (bind x trim)) (sym s.read)
-      (left_reads t rest (trim end.0 end.1) (iterate_trims R d sound (length rest) s.n s.got trims)
-        (λ lt. ap (λ (x : Got). trim (iterate (link R (suc d)) s.n x).0 (iterate (link R (suc d)) s.n x).1) (s.exact (omega (arith, lt)))
-               ∙ ap (λ (x : Got). trim x.0 x.1) (stop_iterate (link R (suc d)) s.n (t, rest) (link_stops R (suc d) t rest lt))
-               ∙ trim_left t rest left))
+    (left_reads t rest (trim end.0 end.1) (iterate_trims R d sound (length rest) s.n s.got trims)
+    (λ lt. ap (λ (x : Got). trim (iterate (link R (suc d)) s.n x).0 (iterate (link R (suc d)) s.n x).1) (s.exact (omega (arith, lt)))
+    ∙ ap (λ (x : Got). trim x.0 x.1) (stop_iterate (link R (suc d)) s.n (t, rest) (link_stops R (suc d) t rest lt))
+    ∙ trim_left t rest left))
 
 -- the spine of a left side, with what it trims to
 record LeftSpine (R : Reader) (d : ℕ) (t : Tree) (rest : List TokenKind) (o : Try) : Type 0 where
@@ -281,10 +274,10 @@ left_spine R d s h (FieldTree p n) rest g l m =
     let fits : nesting p < suc d = omega (arith, m) in
     subst (λ x. LeftSpine R d (FieldTree p n) rest (primary R (suc d) x)) (sym (append_assoc (spell p) (Dot ∷ Id n ∷ []) rest)) (record {
       spine = spine_step 0 (suc d) (link R (suc d)) p (Dot ∷ Id n ∷ rest) (primary R (suc d) (spell p ++ Dot ∷ Id n ∷ rest)) (primary_spine R d s h p (Dot ∷ Id n ∷ rest) g.0 g.1 (omega (arith, m))) (omega arith) fits
-        (called (FieldTree p n) (λ es. CallTree p n es) rest (arguments R.whole rest)) (sym (cond_below (nesting p) (suc d) (member R p (Id n ∷ rest)) None fits))
-        (called_more p n rest (arguments R.whole rest)) (FieldTree p n) rest
-        (called_shorter d (FieldTree p n) (λ es. CallTree p n es) rest (arguments R.whole rest) (call_sound d R.whole s.whole rest))
-        (λ lt. called_exact (FieldTree p n) (λ es. CallTree p n es) R.whole rest lt);
+          (called (FieldTree p n) (λ es. CallTree p n es) rest (arguments R.whole rest)) (sym (cond_below (nesting p) (suc d) (member R p (Id n ∷ rest)) None fits))
+          (called_more p n rest (arguments R.whole rest)) (FieldTree p n) rest
+          (called_shorter d (FieldTree p n) (λ es. CallTree p n es) rest (arguments R.whole rest) (call_sound d R.whole s.whole rest))
+          (λ lt. called_exact (FieldTree p n) (λ es. CallTree p n es) R.whole rest lt);
       trims = called_trims d p n rest (arguments R.whole rest) (call_sound d R.whole s.whole rest);
     })
 left_spine R d s h (IndexTree p e) rest g l m =
@@ -292,13 +285,13 @@ left_spine R d s h (IndexTree p e) rest g l m =
     let last = spell e ++ RightBracket ∷ rest in
     let more = LeftBracket ∷ last in
     subst (λ x. LeftSpine R d (IndexTree p e) rest (primary R (suc d) x))
-      (sym (append_assoc (spell p) (LeftBracket ∷ (spell e ++ RightBracket ∷ [])) rest ∙ ap (λ x. spell p ++ LeftBracket ∷ x) (append_assoc (spell e) (RightBracket ∷ []) rest))) (record {
+    (sym (append_assoc (spell p) (LeftBracket ∷ (spell e ++ RightBracket ∷ [])) rest ∙ ap (λ x. spell p ++ LeftBracket ∷ x) (append_assoc (spell e) (RightBracket ∷ []) rest))) (record {
       spine = spine_step 0 (suc d) (link R (suc d)) p more (primary R (suc d) (spell p ++ more)) (primary_spine R d s h p more g.0 g.1 (omega (arith, m))) (omega arith) fits
-        (IndexTree p e, rest)
-        (ap (λ b. cond b (cond (nat_lt (nesting p) (suc d)) (bind (R.whole last) (close_index p)) None) None) g.2
-         ∙ sym (cond_below (nesting p) (suc d) (bind (R.whole last) (close_index p)) None fits)
-         ∙ ap (λ o. bind o (close_index p)) (exact_of 11 e (RightBracket ∷ rest) (R.whole last) (h.whole e (RightBracket ∷ rest) g.3 (omega (arith, m))) (omega arith)))
-        (omega arith) (IndexTree p e) rest (omega arith) (λ lt. refl);
+          (IndexTree p e, rest)
+          (ap (λ b. cond b (cond (nat_lt (nesting p) (suc d)) (bind (R.whole last) (close_index p)) None) None) g.2
+          ∙ sym (cond_below (nesting p) (suc d) (bind (R.whole last) (close_index p)) None fits)
+          ∙ ap (λ o. bind o (close_index p)) (exact_of 11 e (RightBracket ∷ rest) (R.whole last) (h.whole e (RightBracket ∷ rest) g.3 (omega (arith, m))) (omega arith)))
+          (omega arith) (IndexTree p e) rest (omega arith) (λ lt. refl);
       trims = omega arith;
     })
 left_spine R d s h _ rest g l m = cc

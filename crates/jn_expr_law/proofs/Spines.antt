@@ -1,26 +1,14 @@
 -- Reads that go as far as a tree does, and the loops of the reader.
-use Rattle.std.proofs.Common.{◌≡◌, ℕ, zero, suc, ◌+◌, ◌-◌, ◌<◌, ◌≤◌, max, List, [], ◌∷◌, ◌++◌, length, refl, sym, ap, ◌∙◌, subst, arith, append_assoc, length-append, Option, Some, None, Bool, true, false, cond, nat_lt, nat_eq, ◌⊎◌, inl, inr}
-use Rattle.std.proofs.lemmas.Bool.{cond_below, cond_above, eq-eqb, ne_eqb, eqb-true, cases_lt}
-use Rattle.jn_base.specs.declared.number.NameNo.{NameNo}
+use Rattle.std.proofs.Common.{◌≡◌, ℕ, zero, suc, ◌+◌, ◌<◌, ◌≤◌, List, ◌∷◌, length, refl, sym, ap, ◌∙◌, subst, arith, length-append, Some, None, Bool, true, false, cond}
 use Rattle.jn_trees.specs.declared.token.TokenKind.{TokenKind}
-use Rattle.jn_trees.specs.declared.token.TokenKind.TheVariants.{Id, Str, Number, Boolean, Instanceof, Int, New, Super, This, True, False, Null, LeftParen, RightParen, LeftBrace, RightBrace, LeftBracket, RightBracket, Comma, Dot, At, Assign, Greater, Less, Not, Question, Colon, EqualEqual, LessEqual, GreaterEqual, NotEqual, AndAnd, OrOr, PlusPlus, MinusMinus, Plus, Minus, Star, Slash, Percent, PlusAssign, MinusAssign, StarAssign, SlashAssign, PercentAssign}
-use Rattle.jn_trees.specs.declared.expression.Literal.{Literal}
-use Rattle.jn_trees.specs.declared.expression.Literal.TheVariants.{Number as NumberLiteral, Str as StrLiteral, True as TrueLiteral, False as FalseLiteral, Null as NullLiteral}
-use Rattle.jn_trees.specs.declared.expression.UnaryOperator.{UnaryOperator}
-use Rattle.jn_trees.specs.declared.expression.UnaryOperator.TheVariants.{Plus as PlusSign, Minus as MinusSign, Not as NotSign}
-use Rattle.jn_trees.specs.declared.expression.Step.{Step}
-use Rattle.jn_trees.specs.declared.expression.Step.TheVariants.{Increment, Decrement}
-use Rattle.jn_trees.specs.declared.expression.BinaryOperator.{BinaryOperator}
-use Rattle.jn_trees.specs.declared.expression.BinaryOperator.TheVariants.{Multiply, Divide, Remainder, Add, Subtract, Less as LessThan, Greater as GreaterThan, LessEqual as AtMost, GreaterEqual as AtLeast, Equal, NotEqual as Unequal, And, Or}
-use Rattle.jn_trees.specs.declared.expression.AssignOperator.{AssignOperator}
-use Rattle.jn_trees.specs.declared.expression.AssignOperator.TheVariants.{Assign as Simple, Add as AddTo, Subtract as SubtractFrom, Multiply as MultiplyBy, Divide as DivideBy, Remainder as RemainderBy}
-use Rattle.jn_trees.specs.Trees.{BaseTree, ClassBase, IntBase, BooleanBase, Tree, Trees, LiteralTree, NameTree, ThisTree, ParenTree, FieldTree, CallTree, OwnCallTree, SuperCallTree, IndexTree, NewTree, NewArrayTree, ArrayOfTree, PostfixTree, PrefixTree, UnaryTree, CastTree, BinaryTree, InstanceOfTree, ConditionalTree, AssignTree, NoTrees, MoreTrees}
-use Rattle.jn_trees.specs.Spelling.{base_token, literal_token, step_token, sign_token, operator_token, assign_token, spell_annotations, spell, spell_list, spell_more}
-use Rattle.jn_trees.specs.WellFormed.{nesting, nesting_all, rank, power, is_left_side, is_indexable, is_castable, is_least_literal, is_least_number, Good, AllGood, GoodLiteral, GoodSigned}
+use Rattle.jn_trees.specs.declared.token.TokenKind.TheVariants.{RightParen}
+use Rattle.jn_trees.specs.Trees.{Tree, Trees}
+use Rattle.jn_trees.specs.Spelling.{spell, spell_list}
+use Rattle.jn_trees.specs.WellFormed.{nesting}
 use Rattle.jn_trees.specs.Longest.{Try}
-use Rattle.jn_expr_law.specs.Follow.{reach, reach_of}
-use Rattle.jn_expr_law.specs.Reader.{Got, TryAll, Reader, iterate, build, build_all, extend, go_on, bind, bind_all, bind_items, close_paren, close_index, add_first, items_behind, items_from, all_items, close_arguments, close_elements, arguments_in, elements_in, arguments, called, base_of, close_array, array_elements, array_inside, array_behind, array_of, array_from, annotations, add_annotation, creation_of, creation, number_at, super_call, head, member, link, primary, trim, left_at, step_of, after_by, after, cast_operand, cast, least, or_least, prefix, unary, Sign, NoSign, OperatorSign, TestSign, sign, test, grow_by, grow, operand_at, choose_end, choose, conditional_at, assign_of, assign_by, assign, whole_at, reader}
-use Rattle.jn_expr_law.proofs.Sound.{Spells, Sound, SoundCall, SoundAll}
+use Rattle.jn_expr_law.specs.Follow.{reach_of}
+use Rattle.jn_expr_law.specs.Reader.{Got, TryAll, iterate, build, extend, go_on, bind, called}
+use Rattle.jn_expr_law.proofs.Sound.{Sound, SoundCall}
 
 -- no more is left than `rest`; and just the tree, where what follows does not go on with a tree of rank i
 abbrev pub ReadsAt : ℕ → Tree → List TokenKind → Try → Type 0
@@ -50,7 +38,7 @@ shorter_iterate : (step : Tree → List TokenKind → Try) → ShorterStep step 
 shorter_iterate step h zero r = omega arith
 shorter_iterate step h (suc n) r =
     (elim (step r.0 r.1) as (λ o. Shorter r.1 o → length (elim o as (λ _. Got) [ None ↦ r | Some q ↦ iterate step n q ]).1 ≤ length r.1)
-      [ None ↦ λ _. omega arith | Some q ↦ λ s. let ih = shorter_iterate step h n q in omega (arith, ih, s) ])
+    [ None ↦ λ _. omega arith | Some q ↦ λ s. let ih = shorter_iterate step h n q in omega (arith, ih, s) ])
     (h r.0 r.1)
 
 pub stop_iterate : (step : Tree → List TokenKind → Try) (n : ℕ) (r : Got) → step r.0 r.1 ≡ None → iterate step n r ≡ r
@@ -66,9 +54,10 @@ reads_go_on i j step le h stops n t rest (Some r) s =
 pub reads_extend : (i j : ℕ) (step : Tree → List TokenKind → Try) → i ≤ j → ShorterStep step → StopsAt j step → (t : Tree) (rest : List TokenKind) (o : Try) → ReadsAt i t rest o → ReadsAt j t rest (extend step o)
 reads_extend i j step le h stops t rest None s = absurd s
 reads_extend i j step le h stops t rest (Some r) s =
-    (elim (step r.0 r.1) as (λ o. Shorter r.1 o → (j < reach_of rest → o ≡ None) → ReadsAt j t rest (elim o [ None ↦ Some r | Some q ↦ Some q ]))
-      [ None ↦ λ _ _. (s.0, λ lt. s.1 (omega (arith, lt, le)))
-      | Some q ↦ λ short none. (omega (arith, short, s.0), λ lt. let e : Some q ≡ None = none lt in cc) ])
+    (elim (step r.0 r.1) as (λ o. Shorter r.1 o → (j < reach_of rest → o ≡ None) → ReadsAt j t rest (elim o [ None ↦ Some r | Some q ↦ Some q ])) [
+      | None ↦ λ _ _. (s.0, λ lt. s.1 (omega (arith, lt, le)))
+      | Some q ↦ λ short none. (omega (arith, short, s.0), λ lt. let e : Some q ≡ None = none lt in cc)
+    ])
     (h r.0 r.1)
     (λ lt. subst (λ x. step x.0 x.1 ≡ None) (sym (s.1 (omega (arith, lt, le)))) (stops t rest lt))
 
@@ -85,17 +74,17 @@ pub spine_reads : (i j D : ℕ) (step : Tree → List TokenKind → Try) → i �
 spine_reads i j D step le h stops t rest o s =
     let short = shorter_iterate step h s.n s.got in
     subst (λ x. ReadsAt j t rest x) (sym s.read)
-      (omega (arith, short, s.shorter), λ lt. subst (λ x. iterate step s.n x ≡ (t, rest)) (sym (s.exact (omega (arith, lt, le)))) (stop_iterate step s.n (t, rest) (stops t rest lt)))
+    (omega (arith, short, s.shorter), λ lt. subst (λ x. iterate step s.n x ≡ (t, rest)) (sym (s.exact (omega (arith, lt, le)))) (stop_iterate step s.n (t, rest) (stops t rest lt)))
 
 pub stepped : (step : Tree → List TokenKind → Try) (D n : ℕ) (l : Tree) (ts : List TokenKind) (q : Got) → D ≤ n + nesting l → nesting l < D → nesting l < nesting q.0 → step l ts ≡ Some q
-  → (m : ℕ) × (iterate step n (l, ts) ≡ iterate step m q) × (D ≤ m + nesting q.0)
+    → (m : ℕ) × (iterate step n (l, ts) ≡ iterate step m q) × (D ≤ m + nesting q.0)
 stepped step D zero l ts q room lt more e = absurd (omega (arith, room, lt))
 stepped step D (suc n) l ts q room lt more e =
     (n, ap (λ (o : Try). elim o as (λ _. Got) [ None ↦ (l, ts) | Some p ↦ iterate step n p ]) e, omega (arith, room, lt, more))
 
 -- one step from what was read exactly
 abbrev pub spine_step : (i D : ℕ) (step : Tree → List TokenKind → Try) (l : Tree) (ts : List TokenKind) (o : Try) → Spine i D step l ts o → i < reach_of ts → nesting l < D
-  → (q : Got) → step l ts ≡ Some q → nesting l < nesting q.0 → (t : Tree) (rest : List TokenKind) → length q.1 ≤ length rest → (i < reach_of rest → q ≡ (t, rest)) → Spine i D step t rest o
+    → (q : Got) → step l ts ≡ Some q → nesting l < nesting q.0 → (t : Tree) (rest : List TokenKind) → length q.1 ≤ length rest → (i < reach_of rest → q ≡ (t, rest)) → Spine i D step t rest o
 spine_step i D step l ts o s lt fits q e more t rest short exact =
     let same = s.exact lt in
     let room : D ≤ s.n + nesting l = subst (λ x. D ≤ s.n + nesting x.0) same s.room in
