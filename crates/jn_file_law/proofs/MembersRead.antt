@@ -209,77 +209,76 @@ statement_full_by : (s : Statement) (rest : List TokenKind) (o : TryStatement) �
 statement_full_by s rest None f = absurd f
 statement_full_by s rest (Some r) f = (f.0, λ e. ap (λ (x : Statement × List TokenKind). (StatementPiece x.0, x.1)) (f.1 (λ h. no_else (starts_else rest) (ends_open s) e h)))
 
-module _ (F : PartFacts) where
-  typed_sound : (o : Owner) (ms : List Mark) (u : TypeUseTree) (ts : List TokenKind) → SoundBy (MayMember o) (spell_all_marks ms ++ (spell_type_use u ++ ts)) (typed_member o ms u ts)
-  typed_sound o ms u (Id n ∷ LeftParen ∷ ts) = method_sound o ms (Some u) n ts (read_parameters ts) (parameters_sound F ts)
-  typed_sound o ms u ts = field_sound o ms u ts (read_field_declarators ts) (F.declarators_sound ts)
+typed_sound : (o : Owner) (ms : List Mark) (u : TypeUseTree) (ts : List TokenKind) → SoundBy (MayMember o) (spell_all_marks ms ++ (spell_type_use u ++ ts)) (typed_member o ms u ts)
+typed_sound o ms u (Id n ∷ LeftParen ∷ ts) = method_sound o ms (Some u) n ts (read_parameters ts) (parameters_sound ts)
+typed_sound o ms u ts = field_sound o ms u ts (read_field_declarators ts) (field_declarators_sound ts)
 
-  void_sound : (o : Owner) (ms : List Mark) (ts : List TokenKind) → SoundBy (MayMember o) (spell_all_marks ms ++ Void ∷ ts) (void_method o ms ts)
-  void_sound o ms (Id n ∷ LeftParen ∷ ts) = method_sound o ms None n ts (read_parameters ts) (parameters_sound F ts)
-  void_sound o ms _ = tt
+void_sound : (o : Owner) (ms : List Mark) (ts : List TokenKind) → SoundBy (MayMember o) (spell_all_marks ms ++ Void ∷ ts) (void_method o ms ts)
+void_sound o ms (Id n ∷ LeftParen ∷ ts) = method_sound o ms None n ts (read_parameters ts) (parameters_sound ts)
+void_sound o ms _ = tt
 
-  use_sound : (o : Owner) (ms : List Mark) (ts : List TokenKind) → SoundBy (MayMember o) (spell_all_marks ms ++ ts) (after_type (typed_member o ms) (read_type_use ts))
-  use_sound o ms ts =
-      after_use_sound (λ p. SoundBy (MayMember o) (spell_all_marks ms ++ ts) p) (typed_member o ms) ts (read_type_use ts) tt (F.use_sound ts)
-        (λ u us e. subst (λ x. SoundBy (MayMember o) (spell_all_marks ms ++ x) (typed_member o ms u us)) (sym e) (typed_sound o ms u us))
+use_sound : (o : Owner) (ms : List Mark) (ts : List TokenKind) → SoundBy (MayMember o) (spell_all_marks ms ++ ts) (after_type (typed_member o ms) (read_type_use ts))
+use_sound o ms ts =
+    after_use_sound (λ p. SoundBy (MayMember o) (spell_all_marks ms ++ ts) p) (typed_member o ms) ts (read_type_use ts) tt (type_use_spells ts)
+      (λ u us e. subst (λ x. SoundBy (MayMember o) (spell_all_marks ms ++ x) (typed_member o ms u us)) (sym e) (typed_sound o ms u us))
 
-  behind_sound : (o : Owner) (ms : List Mark) (ts : List TokenKind) → SoundBy (MayMember o) (spell_all_marks ms ++ ts) (member_behind o ms ts)
-  behind_sound o ms (Void ∷ ts) = void_sound o ms ts
-  behind_sound o ms (Id n ∷ LeftParen ∷ ts) = constructor_sound o ms n ts (read_parameters ts) (parameters_sound F ts)
-  behind_sound o ms ts = use_sound o ms ts
+behind_sound : (o : Owner) (ms : List Mark) (ts : List TokenKind) → SoundBy (MayMember o) (spell_all_marks ms ++ ts) (member_behind o ms ts)
+behind_sound o ms (Void ∷ ts) = void_sound o ms ts
+behind_sound o ms (Id n ∷ LeftParen ∷ ts) = constructor_sound o ms n ts (read_parameters ts) (parameters_sound ts)
+behind_sound o ms ts = use_sound o ms ts
 
-  pub member_sound : (o : Owner) (ts : List TokenKind) → SoundBy (MayMember o) ts (read_member o ts)
-  member_sound o (RightBrace ∷ ts) = (refl, tt)
-  member_sound o ts = subst (λ x. SoundBy (MayMember o) x (member_behind o (read_all_marks ts).0 (read_all_marks ts).1)) (sym (all_marks_sound ts)) (behind_sound o (read_all_marks ts).0 (read_all_marks ts).1)
+pub member_sound : (o : Owner) (ts : List TokenKind) → SoundBy (MayMember o) ts (read_member o ts)
+member_sound o (RightBrace ∷ ts) = (refl, tt)
+member_sound o ts = subst (λ x. SoundBy (MayMember o) x (member_behind o (read_all_marks ts).0 (read_all_marks ts).1)) (sym (all_marks_sound ts)) (behind_sound o (read_all_marks ts).0 (read_all_marks ts).1)
 
-  pub in_body_sound : (leading : Bool) (ts : List TokenKind) → SoundBy (MayStatement leading) ts (read_in_body leading ts)
-  in_body_sound leading (RightBrace ∷ ts) = (refl, tt)
-  in_body_sound leading ts = statement_sound_by leading ts (read_body_statement leading ts) (F.statement_sound leading ts)
+pub in_body_sound : (leading : Bool) (ts : List TokenKind) → SoundBy (MayStatement leading) ts (read_in_body leading ts)
+in_body_sound leading (RightBrace ∷ ts) = (refl, tt)
+in_body_sound leading ts = statement_sound_by leading ts (read_body_statement leading ts) (body_statement_sound leading ts)
 
-  -- what stands there is read
-  typed_read : (o : Owner) (ms : List Mark) (u : TypeUseTree) (n : NameNo) (rest : List TokenKind) → read_member o (spell_all_marks ms ++ (spell_type_use u ++ Id n ∷ rest)) ≡ typed_member o ms u (Id n ∷ rest)
-  typed_read o ms u n rest =
-      let more = spell_type_use u ++ Id n ∷ rest in
-      marked o ms more (base_no_end u.base (spell_brackets u.array ++ Id n ∷ rest)) (base_no_mark u.base (spell_brackets u.array ++ Id n ∷ rest))
-      ∙ typed_by o ms u.base u.array n rest
-      ∙ ap (λ x. after_type (typed_member o ms) x) (F.use_exact u (Id n ∷ rest) refl)
+-- what stands there is read
+typed_read : (o : Owner) (ms : List Mark) (u : TypeUseTree) (n : NameNo) (rest : List TokenKind) → read_member o (spell_all_marks ms ++ (spell_type_use u ++ Id n ∷ rest)) ≡ typed_member o ms u (Id n ∷ rest)
+typed_read o ms u n rest =
+    let more = spell_type_use u ++ Id n ∷ rest in
+    marked o ms more (base_no_end u.base (spell_brackets u.array ++ Id n ∷ rest)) (base_no_mark u.base (spell_brackets u.array ++ Id n ∷ rest))
+    ∙ typed_by o ms u.base u.array n rest
+    ∙ ap (λ x. after_type (typed_member o ms) x) (type_use_exact u (Id n ∷ rest) refl)
 
-  result_read : (o : Owner) (ms : List Mark) (u : Option TypeUseTree) (n : NameNo) (rest : List TokenKind) → read_member o (spell_all_marks ms ++ (spell_result u ++ Id n ∷ LeftParen ∷ rest)) ≡ after_parameters (method_end o ms u n) (read_parameters rest)
-  result_read o ms None n rest = marked o ms (Void ∷ Id n ∷ LeftParen ∷ rest) refl refl
-  result_read o ms (Some u) n rest = typed_read o ms u n (LeftParen ∷ rest)
+result_read : (o : Owner) (ms : List Mark) (u : Option TypeUseTree) (n : NameNo) (rest : List TokenKind) → read_member o (spell_all_marks ms ++ (spell_result u ++ Id n ∷ LeftParen ∷ rest)) ≡ after_parameters (method_end o ms u n) (read_parameters rest)
+result_read o ms None n rest = marked o ms (Void ∷ Id n ∷ LeftParen ∷ rest) refl refl
+result_read o ms (Some u) n rest = typed_read o ms u n (LeftParen ∷ rest)
 
-  -- a head of a method, and what stands behind it
-  method_read : (o : Owner) (ms : List Mark) (u : Option TypeUseTree) (n : NameNo) (r : Option ReceiverTree) (ps : List ParameterTree) (k : TokenKind) (rest : List TokenKind) → read_member o ((spell_method_head ms u n r ps ++ k ∷ []) ++ rest) ≡ method_end o ms u n r ps (k ∷ rest)
-  method_read o ms u n r ps k rest =
-      ap (read_member o) (append_assoc (spell_method_head ms u n r ps) (k ∷ []) rest ∙ sym (head_regroup (spell_all_marks ms) (spell_result u) (Id n) LeftParen (spell_parameters r ps) (k ∷ rest)))
-      ∙ result_read o ms u n (spell_parameters r ps ++ k ∷ rest)
-      ∙ ap (λ x. after_parameters (method_end o ms u n) x) (parameters_exact F r ps (k ∷ rest))
+-- a head of a method, and what stands behind it
+method_read : (o : Owner) (ms : List Mark) (u : Option TypeUseTree) (n : NameNo) (r : Option ReceiverTree) (ps : List ParameterTree) (k : TokenKind) (rest : List TokenKind) → read_member o ((spell_method_head ms u n r ps ++ k ∷ []) ++ rest) ≡ method_end o ms u n r ps (k ∷ rest)
+method_read o ms u n r ps k rest =
+    ap (read_member o) (append_assoc (spell_method_head ms u n r ps) (k ∷ []) rest ∙ sym (head_regroup (spell_all_marks ms) (spell_result u) (Id n) LeftParen (spell_parameters r ps) (k ∷ rest)))
+    ∙ result_read o ms u n (spell_parameters r ps ++ k ∷ rest)
+    ∙ ap (λ x. after_parameters (method_end o ms u n) x) (parameters_exact r ps (k ∷ rest))
 
-  constructor_group : (a : List TokenKind) (k l : TokenKind) (c : List TokenKind) (m : TokenKind) (ts : List TokenKind) → ((a ++ k ∷ l ∷ c) ++ m ∷ []) ++ ts ≡ a ++ k ∷ l ∷ (c ++ m ∷ ts)
-  constructor_group a k l c m ts = simp append_assoc
+constructor_group : (a : List TokenKind) (k l : TokenKind) (c : List TokenKind) (m : TokenKind) (ts : List TokenKind) → ((a ++ k ∷ l ∷ c) ++ m ∷ []) ++ ts ≡ a ++ k ∷ l ∷ (c ++ m ∷ ts)
+constructor_group a k l c m ts = simp append_assoc
 
-  pub member_full : (o : Owner) (p : Piece) (rest : List TokenKind) → MayMember o p → read_member o (spell_piece p ++ rest) ≡ Some (p, rest)
-  member_full o (FieldPiece ms u d ds) rest g =
-      ap (read_member o) (sym (field_regroup (spell_all_marks ms) (spell_type_use u) (spell_declarator d) (spell_more_declarators ds) Semicolon rest))
-      ∙ typed_read o ms u d.name (spell_value d.value ++ (spell_more_declarators ds ++ Semicolon ∷ rest))
-      ∙ field_by o ms u d.name d.value ds rest
-      ∙ ap (λ x. after_declarators (field_end ms u) x) (F.declarators_exact d ds rest g.1 g.2)
-      ∙ checked_full (good_marks marks_field ms) (FieldPiece ms u d ds) rest (marks_test marks_field ms g.0)
-  member_full o (MethodPiece ms u n r ps) rest g = method_read o ms u n r ps Semicolon rest ∙ checked_full (good_method_head o ms r ps) (MethodPiece ms u n r ps) rest (method_test o ms r ps g)
-  member_full o (MethodHead ms u n r ps) rest g =
-      method_read o ms u n r ps LeftBrace rest
-      ∙ checked_full (not o.interface && good_method_head o ms r ps) (MethodHead ms u n r ps) rest (both_are (not o.interface) (good_method_head o ms r ps) (is_not o.interface g.0) (method_test o ms r ps g.1))
-  member_full o (ConstructorHead ms n ps) rest g =
-      ap (read_member o) (constructor_group (spell_all_marks ms) (Id n) LeftParen (spell_parameters None ps) LeftBrace rest)
-      ∙ marked o ms (Id n ∷ LeftParen ∷ (spell_parameters None ps ++ LeftBrace ∷ rest)) refl refl
-      ∙ ap (λ x. after_parameters (constructor_end o ms n) x) (parameters_exact F None ps (LeftBrace ∷ rest))
-      ∙ checked_full (good_constructor_head o ms n None ps) (ConstructorHead ms n ps) rest (constructor_test o ms n ps g)
-  member_full o TypeEnd rest g = refl
-  member_full o _ rest g = absurd g
+pub member_full : (o : Owner) (p : Piece) (rest : List TokenKind) → MayMember o p → read_member o (spell_piece p ++ rest) ≡ Some (p, rest)
+member_full o (FieldPiece ms u d ds) rest g =
+    ap (read_member o) (sym (field_regroup (spell_all_marks ms) (spell_type_use u) (spell_declarator d) (spell_more_declarators ds) Semicolon rest))
+    ∙ typed_read o ms u d.name (spell_value d.value ++ (spell_more_declarators ds ++ Semicolon ∷ rest))
+    ∙ field_by o ms u d.name d.value ds rest
+    ∙ ap (λ x. after_declarators (field_end ms u) x) (field_declarators_exact d ds rest g.1 g.2)
+    ∙ checked_full (good_marks marks_field ms) (FieldPiece ms u d ds) rest (marks_test marks_field ms g.0)
+member_full o (MethodPiece ms u n r ps) rest g = method_read o ms u n r ps Semicolon rest ∙ checked_full (good_method_head o ms r ps) (MethodPiece ms u n r ps) rest (method_test o ms r ps g)
+member_full o (MethodHead ms u n r ps) rest g =
+    method_read o ms u n r ps LeftBrace rest
+    ∙ checked_full (not o.interface && good_method_head o ms r ps) (MethodHead ms u n r ps) rest (both_are (not o.interface) (good_method_head o ms r ps) (is_not o.interface g.0) (method_test o ms r ps g.1))
+member_full o (ConstructorHead ms n ps) rest g =
+    ap (read_member o) (constructor_group (spell_all_marks ms) (Id n) LeftParen (spell_parameters None ps) LeftBrace rest)
+    ∙ marked o ms (Id n ∷ LeftParen ∷ (spell_parameters None ps ++ LeftBrace ∷ rest)) refl refl
+    ∙ ap (λ x. after_parameters (constructor_end o ms n) x) (parameters_exact None ps (LeftBrace ∷ rest))
+    ∙ checked_full (good_constructor_head o ms n None ps) (ConstructorHead ms n ps) rest (constructor_test o ms n ps g)
+member_full o TypeEnd rest g = refl
+member_full o _ rest g = absurd g
 
-  pub in_body_full : (leading : Bool) (p : Piece) (rest : List TokenKind) → MayStatement leading p → FullByElse p rest (read_in_body leading (spell_piece p ++ rest))
-  in_body_full leading (StatementPiece s) rest g =
-      subst (λ o. FullByElse (StatementPiece s) rest o) (sym (body_step leading (spell_statement s ++ rest) (begins_no_end (spell_statement s ++ rest) (statement_begins s rest))))
-        (statement_full_by s rest (read_body_statement leading (spell_statement s ++ rest)) (F.statement_full leading s rest g.0 g.1))
-  in_body_full leading BodyEnd rest g = (omega arith, λ e. refl)
-  in_body_full leading _ rest g = absurd g
+pub in_body_full : (leading : Bool) (p : Piece) (rest : List TokenKind) → MayStatement leading p → FullByElse p rest (read_in_body leading (spell_piece p ++ rest))
+in_body_full leading (StatementPiece s) rest g =
+    subst (λ o. FullByElse (StatementPiece s) rest o) (sym (body_step leading (spell_statement s ++ rest) (begins_no_end (spell_statement s ++ rest) (statement_begins s rest))))
+      (statement_full_by s rest (read_body_statement leading (spell_statement s ++ rest)) (body_statement_full leading s rest g.0 g.1))
+in_body_full leading BodyEnd rest g = (omega arith, λ e. refl)
+in_body_full leading _ rest g = absurd g

@@ -87,36 +87,35 @@ receiver_sound ms u ts (Some ns) (Some c) None names class s = tt
 receiver_sound ms u ts (Some ns) None m names class s = tt
 receiver_sound ms u ts None c m names class s = tt
 
-module _ (F : PartFacts) where
-  parameter_from_sound : (more : List TokenKind → TryParameters) → ((ts : List TokenKind) → SoundMore ts (more ts)) → (ts : List TokenKind) → SoundFrom ts (parameter_from more ts)
-  parameter_from_sound more h ts =
-      let q = read_marks ts in
-      after_use_sound (SoundFrom ts) (parameter_end more q.0) q.1 (read_type_use q.1) tt (F.use_sound q.1)
-        (λ u us e. subst (λ x. SoundFrom x (parameter_end more q.0 u us)) (sym (F.marks_sound ts ∙ ap (λ x. spell_marks q.0 ++ x) e)) (parameter_end_sound more h q.0 u us))
+parameter_from_sound : (more : List TokenKind → TryParameters) → ((ts : List TokenKind) → SoundMore ts (more ts)) → (ts : List TokenKind) → SoundFrom ts (parameter_from more ts)
+parameter_from_sound more h ts =
+    let q = read_marks ts in
+    after_use_sound (SoundFrom ts) (parameter_end more q.0) q.1 (read_type_use q.1) tt (type_use_spells q.1)
+      (λ u us e. subst (λ x. SoundFrom x (parameter_end more q.0 u us)) (sym (marks_spell ts ∙ ap (λ x. spell_marks q.0 ++ x) e)) (parameter_end_sound more h q.0 u us))
 
-  more_sound : (n : ℕ) (ts : List TokenKind) → SoundMore ts (more_parameters_from n ts)
-  more_sound zero ts = tt
-  more_sound (suc n) (RightParen ∷ ts) = refl
-  more_sound (suc n) (Comma ∷ ts) = comma_sound ts (parameter_from (more_parameters_from n) ts) (parameter_from_sound (more_parameters_from n) (more_sound n) ts)
-  more_sound (suc n) _ = tt
+more_sound : (n : ℕ) (ts : List TokenKind) → SoundMore ts (more_parameters_from n ts)
+more_sound zero ts = tt
+more_sound (suc n) (RightParen ∷ ts) = refl
+more_sound (suc n) (Comma ∷ ts) = comma_sound ts (parameter_from (more_parameters_from n) ts) (parameter_from_sound (more_parameters_from n) (more_sound n) ts)
+more_sound (suc n) _ = tt
 
-  read_more_sound : (ts : List TokenKind) → SoundMore ts (read_more_parameters ts)
-  unfolding read_more_parameters
-  read_more_sound ts = more_sound (suc (length ts)) ts
+read_more_sound : (ts : List TokenKind) → SoundMore ts (read_more_parameters ts)
+unfolding read_more_parameters
+read_more_sound ts = more_sound (suc (length ts)) ts
 
-  first_end_sound : (ms : List LocalMark) (u : TypeUseTree) (ts : List TokenKind) → SoundAll (spell_marks ms ++ (spell_type_use u ++ ts)) (first_end ms u ts)
-  first_end_sound ms u (This ∷ ts) = receiver_sound ms u ts (annotation_names_of ms) (class_of u) (read_more_parameters ts) (are_names ms) (is_class_by u.base u.array) (read_more_sound ts)
-  first_end_sound ms u ts = without_sound (spell_marks ms ++ (spell_type_use u ++ ts)) (parameter_end read_more_parameters ms u ts) (parameter_end_sound read_more_parameters read_more_sound ms u ts)
+first_end_sound : (ms : List LocalMark) (u : TypeUseTree) (ts : List TokenKind) → SoundAll (spell_marks ms ++ (spell_type_use u ++ ts)) (first_end ms u ts)
+first_end_sound ms u (This ∷ ts) = receiver_sound ms u ts (annotation_names_of ms) (class_of u) (read_more_parameters ts) (are_names ms) (is_class_by u.base u.array) (read_more_sound ts)
+first_end_sound ms u ts = without_sound (spell_marks ms ++ (spell_type_use u ++ ts)) (parameter_end read_more_parameters ms u ts) (parameter_end_sound read_more_parameters read_more_sound ms u ts)
 
-  first_sound : (ts : List TokenKind) → SoundAll ts (after_type (first_end (read_marks ts).0) (read_type_use (read_marks ts).1))
-  first_sound ts =
-      let q = read_marks ts in
-      after_use_sound (SoundAll ts) (first_end q.0) q.1 (read_type_use q.1) tt (F.use_sound q.1)
-        (λ u us e. subst (λ x. SoundAll x (first_end q.0 u us)) (sym (F.marks_sound ts ∙ ap (λ x. spell_marks q.0 ++ x) e)) (first_end_sound q.0 u us))
+first_sound : (ts : List TokenKind) → SoundAll ts (after_type (first_end (read_marks ts).0) (read_type_use (read_marks ts).1))
+first_sound ts =
+    let q = read_marks ts in
+    after_use_sound (SoundAll ts) (first_end q.0) q.1 (read_type_use q.1) tt (type_use_spells q.1)
+      (λ u us e. subst (λ x. SoundAll x (first_end q.0 u us)) (sym (marks_spell ts ∙ ap (λ x. spell_marks q.0 ++ x) e)) (first_end_sound q.0 u us))
 
-  pub parameters_sound : (ts : List TokenKind) → SoundAll ts (read_parameters ts)
-  parameters_sound (RightParen ∷ ts) = refl
-  parameters_sound ts = first_sound ts
+pub parameters_sound : (ts : List TokenKind) → SoundAll ts (read_parameters ts)
+parameters_sound (RightParen ∷ ts) = refl
+parameters_sound ts = first_sound ts
 
 -- and the other way
 marks_end : (b : BaseTree) (us : List TokenKind) → read_marks (base_token b ∷ us) ≡ ([], base_token b ∷ us)
@@ -124,69 +123,68 @@ marks_end (ClassBase n) us = refl
 marks_end IntBase us = refl
 marks_end BooleanBase us = refl
 
-module _ (F : PartFacts) where
-  parameter_exact : (more : List TokenKind → TryParameters) (p : ParameterTree) (us : List TokenKind) → parameter_from more (spell_parameter p ++ us) ≡ add_parameter p (more us)
-  parameter_exact more p us =
-      ap (parameter_from more) (sym (named_regroup (spell_marks p.marks) (spell_type_use p.type_use) (Id p.name) us))
-      ∙ ap (λ (q : List LocalMark × List TokenKind). after_type (parameter_end more q.0) (read_type_use q.1)) (F.marks_exact p.marks (spell_type_use p.type_use ++ Id p.name ∷ us) (marks_end p.type_use.base (spell_brackets p.type_use.array ++ Id p.name ∷ us)))
-      ∙ ap (λ o. after_type (parameter_end more p.marks) o) (F.use_exact p.type_use (Id p.name ∷ us) refl)
+parameter_exact : (more : List TokenKind → TryParameters) (p : ParameterTree) (us : List TokenKind) → parameter_from more (spell_parameter p ++ us) ≡ add_parameter p (more us)
+parameter_exact more p us =
+    ap (parameter_from more) (sym (named_regroup (spell_marks p.marks) (spell_type_use p.type_use) (Id p.name) us))
+    ∙ ap (λ (q : List LocalMark × List TokenKind). after_type (parameter_end more q.0) (read_type_use q.1)) (marks_exact p.marks (spell_type_use p.type_use ++ Id p.name ∷ us) (marks_end p.type_use.base (spell_brackets p.type_use.array ++ Id p.name ∷ us)))
+    ∙ ap (λ o. after_type (parameter_end more p.marks) o) (type_use_exact p.type_use (Id p.name ∷ us) refl)
 
-  more_exact : (n : ℕ) (ps : List ParameterTree) (rest : List TokenKind) → length ps < n → more_parameters_from n (spell_more_parameters ps ++ rest) ≡ Some (ps, rest)
-  more_exact zero ps rest lt = absurd (omega (arith, lt))
-  more_exact (suc n) [] rest lt = refl
-  more_exact (suc n) (p ∷ ps) rest lt =
-      ap (λ x. parameter_from (more_parameters_from n) x) (append_assoc (spell_parameter p) (spell_more_parameters ps) rest)
-      ∙ parameter_exact (more_parameters_from n) p (spell_more_parameters ps ++ rest)
-      ∙ ap (λ o. add_parameter p o) (more_exact n ps rest (omega (arith, lt)))
+more_exact : (n : ℕ) (ps : List ParameterTree) (rest : List TokenKind) → length ps < n → more_parameters_from n (spell_more_parameters ps ++ rest) ≡ Some (ps, rest)
+more_exact zero ps rest lt = absurd (omega (arith, lt))
+more_exact (suc n) [] rest lt = refl
+more_exact (suc n) (p ∷ ps) rest lt =
+    ap (λ x. parameter_from (more_parameters_from n) x) (append_assoc (spell_parameter p) (spell_more_parameters ps) rest)
+    ∙ parameter_exact (more_parameters_from n) p (spell_more_parameters ps ++ rest)
+    ∙ ap (λ o. add_parameter p o) (more_exact n ps rest (omega (arith, lt)))
 
-  long_enough : (ps : List ParameterTree) → length ps < length (spell_more_parameters ps)
-  long_enough [] = omega arith
-  long_enough (p ∷ ps) = let ih = long_enough ps in omega (arith, ih, length-append (spell_parameter p) (spell_more_parameters ps))
+long_enough : (ps : List ParameterTree) → length ps < length (spell_more_parameters ps)
+long_enough [] = omega arith
+long_enough (p ∷ ps) = let ih = long_enough ps in omega (arith, ih, length-append (spell_parameter p) (spell_more_parameters ps))
 
-  read_more_exact : (ps : List ParameterTree) (rest : List TokenKind) → read_more_parameters (spell_more_parameters ps ++ rest) ≡ Some (ps, rest)
-  unfolding read_more_parameters
-  read_more_exact ps rest = more_exact (suc (length (spell_more_parameters ps ++ rest))) ps rest (omega (arith, long_enough ps, length-append (spell_more_parameters ps) rest))
+read_more_exact : (ps : List ParameterTree) (rest : List TokenKind) → read_more_parameters (spell_more_parameters ps ++ rest) ≡ Some (ps, rest)
+unfolding read_more_parameters
+read_more_exact ps rest = more_exact (suc (length (spell_more_parameters ps ++ rest))) ps rest (omega (arith, long_enough ps, length-append (spell_more_parameters ps) rest))
 
-  abbrev first_at : List TokenKind → TryAllParameters
-  first_at ts = after_type (first_end (read_marks ts).0) (read_type_use (read_marks ts).1)
+abbrev first_at : List TokenKind → TryAllParameters
+first_at ts = after_type (first_end (read_marks ts).0) (read_type_use (read_marks ts).1)
 
-  no_end : (ms : List LocalMark) (b : BaseTree) (us : List TokenKind) → read_parameters (spell_marks ms ++ base_token b ∷ us) ≡ first_at (spell_marks ms ++ base_token b ∷ us)
-  no_end [] (ClassBase n) us = refl
-  no_end [] IntBase us = refl
-  no_end [] BooleanBase us = refl
-  no_end (AnnotationMark n ∷ ms) b us = refl
-  no_end (FinalMark ∷ ms) b us = refl
+no_end : (ms : List LocalMark) (b : BaseTree) (us : List TokenKind) → read_parameters (spell_marks ms ++ base_token b ∷ us) ≡ first_at (spell_marks ms ++ base_token b ∷ us)
+no_end [] (ClassBase n) us = refl
+no_end [] IntBase us = refl
+no_end [] BooleanBase us = refl
+no_end (AnnotationMark n ∷ ms) b us = refl
+no_end (FinalMark ∷ ms) b us = refl
 
-  abbrev notes : List NameNo → List LocalMark
-  notes [] = []
-  notes (n ∷ ns) = AnnotationMark n ∷ notes ns
+abbrev notes : List NameNo → List LocalMark
+notes [] = []
+notes (n ∷ ns) = AnnotationMark n ∷ notes ns
 
-  spell_notes : (ns : List NameNo) → spell_annotations ns ≡ spell_marks (notes ns)
-  spell_notes [] = refl
-  spell_notes (n ∷ ns) = ap (λ x. At ∷ Id n ∷ x) (spell_notes ns)
+spell_notes : (ns : List NameNo) → spell_annotations ns ≡ spell_marks (notes ns)
+spell_notes [] = refl
+spell_notes (n ∷ ns) = ap (λ x. At ∷ Id n ∷ x) (spell_notes ns)
 
-  names_of_notes : (ns : List NameNo) → annotation_names_of (notes ns) ≡ Some ns
-  names_of_notes [] = refl
-  names_of_notes (n ∷ ns) = ap (λ o. elim o as (λ _. Option (List NameNo)) [ None ↦ None | Some ms ↦ Some (n ∷ ms) ]) (names_of_notes ns)
+names_of_notes : (ns : List NameNo) → annotation_names_of (notes ns) ≡ Some ns
+names_of_notes [] = refl
+names_of_notes (n ∷ ns) = ap (λ o. elim o as (λ _. Option (List NameNo)) [ None ↦ None | Some ms ↦ Some (n ∷ ms) ]) (names_of_notes ns)
 
-  -- the marks and the type in front
-  front_exact : (ms : List LocalMark) (u : TypeUseTree) (k : TokenKind) (us : List TokenKind) → ends_use (k ∷ us) ≡ true → read_parameters (spell_marks ms ++ (spell_type_use u ++ k ∷ us)) ≡ first_end ms u (k ∷ us)
-  front_exact ms u k us e =
-      no_end ms u.base (spell_brackets u.array ++ k ∷ us)
-      ∙ ap (λ (q : List LocalMark × List TokenKind). after_type (first_end q.0) (read_type_use q.1)) (F.marks_exact ms (spell_type_use u ++ k ∷ us) (marks_end u.base (spell_brackets u.array ++ k ∷ us)))
-      ∙ ap (λ o. after_type (first_end ms) o) (F.use_exact u (k ∷ us) e)
+-- the marks and the type in front
+front_exact : (ms : List LocalMark) (u : TypeUseTree) (k : TokenKind) (us : List TokenKind) → ends_use (k ∷ us) ≡ true → read_parameters (spell_marks ms ++ (spell_type_use u ++ k ∷ us)) ≡ first_end ms u (k ∷ us)
+front_exact ms u k us e =
+    no_end ms u.base (spell_brackets u.array ++ k ∷ us)
+    ∙ ap (λ (q : List LocalMark × List TokenKind). after_type (first_end q.0) (read_type_use q.1)) (marks_exact ms (spell_type_use u ++ k ∷ us) (marks_end u.base (spell_brackets u.array ++ k ∷ us)))
+    ∙ ap (λ o. after_type (first_end ms) o) (type_use_exact u (k ∷ us) e)
 
-  pub parameters_exact : (r : Option ReceiverTree) (ps : List ParameterTree) (rest : List TokenKind) → read_parameters (spell_parameters r ps ++ rest) ≡ Some (r, ps, rest)
-  parameters_exact None [] rest = refl
-  parameters_exact None (p ∷ ps) rest =
-      let more = spell_more_parameters ps ++ rest in
-      ap read_parameters (append_assoc (spell_parameter p) (spell_more_parameters ps) rest ∙ sym (named_regroup (spell_marks p.marks) (spell_type_use p.type_use) (Id p.name) more))
-      ∙ front_exact p.marks p.type_use (Id p.name) more refl
-      ∙ ap (λ o. without_receiver (add_parameter p o)) (read_more_exact ps rest)
-  parameters_exact (Some r) ps rest =
-      let more = spell_more_parameters ps ++ rest in
-      let u : TypeUseTree = record { base = ClassBase r.class; array = None } in
-      ap read_parameters (append_assoc (spell_annotations r.annotations) (Id r.class ∷ This ∷ spell_more_parameters ps) rest ∙ ap (λ x. x ++ Id r.class ∷ This ∷ more) (spell_notes r.annotations))
-      ∙ front_exact (notes r.annotations) u This more refl
-      ∙ ap (λ o. with_receiver (receiver_of o (Some r.class)) (read_more_parameters more)) (names_of_notes r.annotations)
-      ∙ ap (λ o. with_receiver (Some r) o) (read_more_exact ps rest)
+pub parameters_exact : (r : Option ReceiverTree) (ps : List ParameterTree) (rest : List TokenKind) → read_parameters (spell_parameters r ps ++ rest) ≡ Some (r, ps, rest)
+parameters_exact None [] rest = refl
+parameters_exact None (p ∷ ps) rest =
+    let more = spell_more_parameters ps ++ rest in
+    ap read_parameters (append_assoc (spell_parameter p) (spell_more_parameters ps) rest ∙ sym (named_regroup (spell_marks p.marks) (spell_type_use p.type_use) (Id p.name) more))
+    ∙ front_exact p.marks p.type_use (Id p.name) more refl
+    ∙ ap (λ o. without_receiver (add_parameter p o)) (read_more_exact ps rest)
+parameters_exact (Some r) ps rest =
+    let more = spell_more_parameters ps ++ rest in
+    let u : TypeUseTree = record { base = ClassBase r.class; array = None } in
+    ap read_parameters (append_assoc (spell_annotations r.annotations) (Id r.class ∷ This ∷ spell_more_parameters ps) rest ∙ ap (λ x. x ++ Id r.class ∷ This ∷ more) (spell_notes r.annotations))
+    ∙ front_exact (notes r.annotations) u This more refl
+    ∙ ap (λ o. with_receiver (receiver_of o (Some r.class)) (read_more_parameters more)) (names_of_notes r.annotations)
+    ∙ ap (λ o. with_receiver (Some r) o) (read_more_exact ps rest)

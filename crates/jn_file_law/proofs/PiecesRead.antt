@@ -86,27 +86,26 @@ else_full : (p : Piece) (rest : List TokenKind) (o : TryPiece) → FullByElse p 
 else_full p rest None f = f
 else_full p rest (Some r) f = f
 
-module _ (F : PartFacts) where
-  pub sound_at : (s : Around) (ts : List TokenKind) → SoundPiece pieces s ts (piece_reader s ts)
-  sound_at AtStart ts = strict AtStart ts (piece_reader AtStart ts) (first_sound ts)
-  sound_at BehindLines ts = strict BehindLines ts (piece_reader BehindLines ts) (line_sound ts)
-  sound_at BehindTypes ts = strict BehindTypes ts (piece_reader BehindTypes ts) (type_head_sound ts)
-  sound_at (InType o) ts = strict (InType o) ts (piece_reader (InType o) ts) (member_sound F o ts)
-  sound_at (InBody o leading) ts = strict (InBody o leading) ts (piece_reader (InBody o leading) ts) (in_body_sound F leading ts)
+pub sound_at : (s : Around) (ts : List TokenKind) → SoundPiece pieces s ts (piece_reader s ts)
+sound_at AtStart ts = strict AtStart ts (piece_reader AtStart ts) (first_sound ts)
+sound_at BehindLines ts = strict BehindLines ts (piece_reader BehindLines ts) (line_sound ts)
+sound_at BehindTypes ts = strict BehindTypes ts (piece_reader BehindTypes ts) (type_head_sound ts)
+sound_at (InType o) ts = strict (InType o) ts (piece_reader (InType o) ts) (member_sound o ts)
+sound_at (InBody o leading) ts = strict (InBody o leading) ts (piece_reader (InBody o leading) ts) (in_body_sound leading ts)
 
-  pub full_at : (s : Around) (p : Piece) (rest : List TokenKind) → May s p → FullPiece pieces quiet p rest (piece_reader s (spell_piece p ++ rest))
-  full_at AtStart p rest m = exact_full p rest (piece_reader AtStart (spell_piece p ++ rest)) (first_full p rest m)
-  full_at BehindLines p rest m = exact_full p rest (piece_reader BehindLines (spell_piece p ++ rest)) (line_full p rest m)
-  full_at BehindTypes p rest m = exact_full p rest (piece_reader BehindTypes (spell_piece p ++ rest)) (head_full p rest m)
-  full_at (InType o) p rest m = exact_full p rest (piece_reader (InType o) (spell_piece p ++ rest)) (member_full F o p rest m)
-  full_at (InBody o leading) p rest m = else_full p rest (piece_reader (InBody o leading) (spell_piece p ++ rest)) (in_body_full F leading p rest m)
+pub full_at : (s : Around) (p : Piece) (rest : List TokenKind) → May s p → FullPiece pieces quiet p rest (piece_reader s (spell_piece p ++ rest))
+full_at AtStart p rest m = exact_full p rest (piece_reader AtStart (spell_piece p ++ rest)) (first_full p rest m)
+full_at BehindLines p rest m = exact_full p rest (piece_reader BehindLines (spell_piece p ++ rest)) (line_full p rest m)
+full_at BehindTypes p rest m = exact_full p rest (piece_reader BehindTypes (spell_piece p ++ rest)) (head_full p rest m)
+full_at (InType o) p rest m = exact_full p rest (piece_reader (InType o) (spell_piece p ++ rest)) (member_full o p rest m)
+full_at (InBody o leading) p rest m = else_full p rest (piece_reader (InBody o leading) (spell_piece p ++ rest)) (in_body_full leading p rest m)
 
-  abbrev pub file_reader : PieceReader pieces
-  file_reader = record {
-    read = piece_reader;
-    quiet = quiet;
-    sound = sound_at;
-    full = full_at;
-    starts = λ s p rest m. ap not (piece_no_else p rest);
-    stops = refl;
-  }
+abbrev pub file_reader : PieceReader pieces
+file_reader = record {
+  read = piece_reader;
+  quiet = quiet;
+  sound = sound_at;
+  full = full_at;
+  starts = λ s p rest m. ap not (piece_no_else p rest);
+  stops = refl;
+}
