@@ -4,3 +4,4 @@ pub mod Wholes
 pub mod Declarators
 pub mod StatementsSound
 pub mod Statements
+pub mod Laws

@@ -17,7 +17,7 @@ use Rattle.jn_stmt_law.proofs.Wholes.{Whole, exact_tree, arguments_exact, initia
 use Rattle.jn_stmt_law.proofs.Declarators.{first_of, spell_behind, front_exact, local_behind_exact}
 use Rattle.jn_stmt_law.proofs.StatementsSound.{AllRead, SoundStatement, by_sound}
 
-exactly : (s : Statement) (rest : List TokenKind) (o : TryStatement) → ReadsStatement s rest o → (starts_else rest ≡ true → ends_open s ≡ false) → o ≡ Some (s, rest)
+pub exactly : (s : Statement) (rest : List TokenKind) (o : TryStatement) → ReadsStatement s rest o → (starts_else rest ≡ true → ends_open s ≡ false) → o ≡ Some (s, rest)
 exactly s rest None f c = absurd f
 exactly s rest (Some r) f c = ap (λ x. Some x) (f.1 c)
 
