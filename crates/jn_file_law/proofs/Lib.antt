@@ -1,7 +1,6 @@
 pub mod Places
-pub mod PartFacts
 pub mod HeadsRead
-pub mod Begins
+pub mod Parts
 pub mod ParametersRead
 pub mod MembersRead
 pub mod PiecesRead

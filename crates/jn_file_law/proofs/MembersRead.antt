@@ -12,10 +12,13 @@ use Rattle.jn_trees.specs.Longest.{TryStatement}
 use Rattle.jn_trees.specs.Pieces.{Piece, FieldPiece, MethodPiece, MethodHead, ConstructorHead, StatementPiece, BodyEnd, TypeEnd, spell_piece, MayMember, MayStatement}
 use Rattle.jn_stmt_law.specs.Parts.{read_type_use}
 use Rattle.jn_file_law.specs.PieceReader.{TryPiece, checked, read_all_marks, good_marks, TryAllParameters, after_type, read_parameters, same_name, good_parameters, good_receiver, good_method_marks, good_method_head, is_no_receiver, good_constructor_head, after_parameters, constructor_end, method_end, field_end, read_field_declarators, after_declarators, typed_member, void_method, member_behind, read_member, read_body_statement, statement_piece, read_in_body}
-use Rattle.jn_file_law.proofs.PartFacts.{SoundUse, SoundDeclarators, SoundStatement, FullStatement, starts_else, PartFacts}
+use Rattle.jn_stmt_law.specs.Fronts.{SoundDeclarators, ReadsStatement, starts_else}
+use Rattle.jn_stmt_law.proofs.Fronts.{type_use_spells, type_use_exact}
+use Rattle.jn_stmt_law.proofs.StatementsSound.{SoundStatement}
+use Rattle.jn_stmt_law.proofs.Statements.{stands, statement_stands}
+use Rattle.jn_file_law.proofs.Parts.{field_declarators_sound, field_declarators_exact, body_statement_sound, body_statement_full}
 use Rattle.jn_file_law.proofs.HeadsRead.{SoundBy, checked_sound, checked_full, both_true, both_are, marks_good, marks_test, all_marks_sound, all_marks_exact}
 use Rattle.jn_file_law.proofs.ParametersRead.{after_use_sound, SoundAll, parameters_sound, parameters_exact}
-use Rattle.jn_file_law.proofs.Begins.{begins_well, statement_begins}
 
 -- what the tests mean
 not_is : (b : Bool) → not b ≡ true → b ≡ false
@@ -129,11 +132,11 @@ field_end_sound o ms u d ds (Semicolon ∷ ts) g m =
       (field_regroup (spell_all_marks ms) (spell_type_use u) (spell_declarator d) (spell_more_declarators ds) Semicolon ts) (λ e. (marks_good marks_field ms e, g, m))
 field_end_sound o ms u d ds _ g m = tt
 
-field_sound : (o : Owner) (ms : List Mark) (u : TypeUseTree) (ts : List TokenKind) (r : Option ((DeclaratorTree × List DeclaratorTree) × List TokenKind)) → SoundDeclarators ts r → SoundBy (MayMember o) (spell_all_marks ms ++ (spell_type_use u ++ ts)) (after_declarators (field_end ms u) r)
+field_sound : (o : Owner) (ms : List Mark) (u : TypeUseTree) (ts : List TokenKind) (r : Option ((DeclaratorTree × List DeclaratorTree) × List TokenKind)) → SoundDeclarators deepest ts r → SoundBy (MayMember o) (spell_all_marks ms ++ (spell_type_use u ++ ts)) (after_declarators (field_end ms u) r)
 field_sound o ms u ts None s = tt
-field_sound o ms u ts (Some r) s = subst (λ x. SoundBy (MayMember o) (spell_all_marks ms ++ (spell_type_use u ++ x)) (field_end ms u r.0.0 r.0.1 r.1)) (sym s.0) (field_end_sound o ms u r.0.0 r.0.1 r.1 s.1 s.2)
+field_sound o ms u ts (Some r) s = subst (λ x. SoundBy (MayMember o) (spell_all_marks ms ++ (spell_type_use u ++ x)) (field_end ms u r.0.0 r.0.1 r.1)) (sym (s.0 ∙ append_assoc (spell_declarator r.0.0) (spell_more_declarators r.0.1) r.1)) (field_end_sound o ms u r.0.0 r.0.1 r.1 s.1 s.2)
 
-statement_sound_by : (leading : Bool) (ts : List TokenKind) (r : TryStatement) → SoundStatement leading ts r → SoundBy (MayStatement leading) ts (statement_piece r)
+statement_sound_by : (leading : Bool) (ts : List TokenKind) (r : TryStatement) → SoundStatement (body_context leading) deepest ts r → SoundBy (MayStatement leading) ts (statement_piece r)
 statement_sound_by leading ts None s = tt
 statement_sound_by leading ts (Some r) s = (s.0, (s.1, s.2))
 
@@ -188,9 +191,9 @@ abbrev ends_body : List TokenKind → Bool
 ends_body (RightBrace ∷ ts) = true
 ends_body _ = false
 
-begins_no_end : (ts : List TokenKind) → begins_well ts ≡ true → ends_body ts ≡ false
-begins_no_end (RightBrace ∷ ts) e = cc
-begins_no_end _ e = refl
+stands_no_end : (ts : List TokenKind) → stands ts ≡ true → ends_body ts ≡ false
+stands_no_end (RightBrace ∷ ts) e = cc
+stands_no_end _ e = refl
 
 body_step : (leading : Bool) (ts : List TokenKind) → ends_body ts ≡ false → read_in_body leading ts ≡ statement_piece (read_body_statement leading ts)
 body_step leading (RightBrace ∷ ts) e = cc
@@ -205,7 +208,7 @@ no_else : (b c : Bool) → not b ≡ true → b ≡ true → c ≡ false
 no_else true c e f = cc
 no_else false c e f = cc
 
-statement_full_by : (s : Statement) (rest : List TokenKind) (o : TryStatement) → FullStatement s rest o → FullByElse (StatementPiece s) rest (statement_piece o)
+statement_full_by : (s : Statement) (rest : List TokenKind) (o : TryStatement) → ReadsStatement s rest o → FullByElse (StatementPiece s) rest (statement_piece o)
 statement_full_by s rest None f = absurd f
 statement_full_by s rest (Some r) f = (f.0, λ e. ap (λ (x : Statement × List TokenKind). (StatementPiece x.0, x.1)) (f.1 (λ h. no_else (starts_else rest) (ends_open s) e h)))
 
@@ -278,7 +281,7 @@ member_full o _ rest g = absurd g
 
 pub in_body_full : (leading : Bool) (p : Piece) (rest : List TokenKind) → MayStatement leading p → FullByElse p rest (read_in_body leading (spell_piece p ++ rest))
 in_body_full leading (StatementPiece s) rest g =
-    subst (λ o. FullByElse (StatementPiece s) rest o) (sym (body_step leading (spell_statement s ++ rest) (begins_no_end (spell_statement s ++ rest) (statement_begins s rest))))
+    subst (λ o. FullByElse (StatementPiece s) rest o) (sym (body_step leading (spell_statement s ++ rest) (stands_no_end (spell_statement s ++ rest) (statement_stands s rest))))
       (statement_full_by s rest (read_body_statement leading (spell_statement s ++ rest)) (body_statement_full leading s rest g.0 g.1))
 in_body_full leading BodyEnd rest g = (omega arith, λ e. refl)
 in_body_full leading _ rest g = absurd g

@@ -7,9 +7,10 @@ use Rattle.jn_trees.specs.Trees.{BaseTree, ClassBase, IntBase, BooleanBase, Loca
 use Rattle.jn_trees.specs.Spelling.{base_token, spell_annotations, spell_marks, spell_brackets, spell_type_use, spell_parameter, spell_more_parameters, spell_parameters}
 use Rattle.jn_stmt_law.specs.Parts.{read_marks, read_type_use}
 use Rattle.jn_file_law.specs.PieceReader.{TryParameters, TryAllParameters, after_type, add_parameter, parameter_end, parameter_from, more_parameters_from, read_more_parameters, annotation_names_of, class_of, receiver_of, without_receiver, with_receiver, first_end, read_parameters}
-use Rattle.jn_file_law.proofs.PartFacts.{SoundUse, ends_use, PartFacts}
+use Rattle.jn_stmt_law.specs.Fronts.{SpelledIfRead, starts_mark, starts_brackets}
+use Rattle.jn_stmt_law.proofs.Fronts.{marks_spell, marks_exact, type_use_spells, type_use_exact}
 
-pub after_use_sound : {A : Type 0} → (P : Option A → Type 0) (f : TypeUseTree → List TokenKind → Option A) (ts : List TokenKind) (o : Option (TypeUseTree × List TokenKind)) → P None → SoundUse ts o → ((u : TypeUseTree) (us : List TokenKind) → ts ≡ spell_type_use u ++ us → P (f u us)) → P (after_type f o)
+pub after_use_sound : {A : Type 0} → (P : Option A → Type 0) (f : TypeUseTree → List TokenKind → Option A) (ts : List TokenKind) (o : Option (TypeUseTree × List TokenKind)) → P None → SpelledIfRead spell_type_use ts o → ((u : TypeUseTree) (us : List TokenKind) → ts ≡ spell_type_use u ++ us → P (f u us)) → P (after_type f o)
 after_use_sound P f ts None n s h = n
 after_use_sound P f ts (Some r) n s h = h r.0 r.1 s
 
@@ -118,7 +119,7 @@ parameters_sound (RightParen ∷ ts) = refl
 parameters_sound ts = first_sound ts
 
 -- and the other way
-marks_end : (b : BaseTree) (us : List TokenKind) → read_marks (base_token b ∷ us) ≡ ([], base_token b ∷ us)
+marks_end : (b : BaseTree) (us : List TokenKind) → starts_mark (base_token b ∷ us) ≡ false
 marks_end (ClassBase n) us = refl
 marks_end IntBase us = refl
 marks_end BooleanBase us = refl
@@ -168,7 +169,7 @@ names_of_notes [] = refl
 names_of_notes (n ∷ ns) = ap (λ o. elim o as (λ _. Option (List NameNo)) [ None ↦ None | Some ms ↦ Some (n ∷ ms) ]) (names_of_notes ns)
 
 -- the marks and the type in front
-front_exact : (ms : List LocalMark) (u : TypeUseTree) (k : TokenKind) (us : List TokenKind) → ends_use (k ∷ us) ≡ true → read_parameters (spell_marks ms ++ (spell_type_use u ++ k ∷ us)) ≡ first_end ms u (k ∷ us)
+front_exact : (ms : List LocalMark) (u : TypeUseTree) (k : TokenKind) (us : List TokenKind) → starts_brackets (k ∷ us) ≡ false → read_parameters (spell_marks ms ++ (spell_type_use u ++ k ∷ us)) ≡ first_end ms u (k ∷ us)
 front_exact ms u k us e =
     no_end ms u.base (spell_brackets u.array ++ k ∷ us)
     ∙ ap (λ (q : List LocalMark × List TokenKind). after_type (first_end q.0) (read_type_use q.1)) (marks_exact ms (spell_type_use u ++ k ∷ us) (marks_end u.base (spell_brackets u.array ++ k ∷ us)))

@@ -9,9 +9,9 @@ use Rattle.jn_trees.specs.Pieces.{Language, Piece, PackagePiece, ImportPiece, Cl
 use Rattle.jn_file_law.specs.Runs.{Found, run}
 use Rattle.jn_file_law.specs.PieceReader.{TryPiece, piece_reader}
 use Rattle.jn_file_law.proofs.Places.{SoundPiece, FullPiece, PieceReader}
-use Rattle.jn_file_law.proofs.PartFacts.{starts_else, PartFacts}
+use Rattle.jn_stmt_law.specs.Fronts.{starts_else}
+use Rattle.jn_stmt_law.proofs.Statements.{statement_stands, some_tokens, no_else}
 use Rattle.jn_file_law.proofs.HeadsRead.{SoundBy, type_head_sound, line_sound, first_sound, head_full, line_full, first_full}
-use Rattle.jn_file_law.proofs.Begins.{begins_well, statement_begins, statement_tokens}
 use Rattle.jn_file_law.proofs.MembersRead.{member_sound, in_body_sound, member_full, FullByElse, in_body_full}
 
 -- what pieces begin with
@@ -38,10 +38,6 @@ result_no_else : (u : Option TypeUseTree) (ts rest : List TokenKind) → starts_
 result_no_else None ts rest = refl
 result_no_else (Some u) ts rest = base_no_else u.base ((spell_brackets u.array ++ ts) ++ rest)
 
-begins_no_else : (ts : List TokenKind) → begins_well ts ≡ true → starts_else ts ≡ false
-begins_no_else (Else ∷ ts) e = cc
-begins_no_else _ e = refl
-
 pub piece_no_else : (p : Piece) (rest : List TokenKind) → starts_else (spell_piece p ++ rest) ≡ false
 piece_no_else (ClassHead ms n parent interfaces) rest = marked_no_else ms (Class ∷ Id n ∷ (spell_parent parent ++ (spell_names Implements interfaces ++ LeftBrace ∷ []))) rest refl
 piece_no_else (InterfaceHead ms n parents) rest = marked_no_else ms (Interface ∷ Id n ∷ (spell_names Extends parents ++ LeftBrace ∷ [])) rest refl
@@ -56,7 +52,7 @@ piece_no_else (MethodHead ms u n r ps) rest =
     ap starts_else (append_assoc (spell_method_head ms u n r ps) (LeftBrace ∷ []) rest) ∙ marked_no_else ms (spell_result u ++ more) (LeftBrace ∷ rest) (result_no_else u more (LeftBrace ∷ rest))
 piece_no_else (ConstructorHead ms n ps) rest =
     ap starts_else (append_assoc (spell_constructor_head ms n ps) (LeftBrace ∷ []) rest) ∙ marked_no_else ms (Id n ∷ LeftParen ∷ spell_parameters None ps) (LeftBrace ∷ rest) refl
-piece_no_else (StatementPiece s) rest = begins_no_else (spell_statement s ++ rest) (statement_begins s rest)
+piece_no_else (StatementPiece s) rest = no_else (spell_statement s ++ rest) (statement_stands s rest)
 piece_no_else _ rest = refl
 
 -- a piece has tokens
@@ -67,7 +63,7 @@ piece_tokens (FieldPiece ms u d ds) = omega (arith, length-append (spell_all_mar
 piece_tokens (MethodPiece ms u n r ps) = omega (arith, length-append (spell_method_head ms u n r ps) (Semicolon ∷ []))
 piece_tokens (MethodHead ms u n r ps) = omega (arith, length-append (spell_method_head ms u n r ps) (LeftBrace ∷ []))
 piece_tokens (ConstructorHead ms n ps) = omega (arith, length-append (spell_constructor_head ms n ps) (LeftBrace ∷ []))
-piece_tokens (StatementPiece s) = statement_tokens s
+piece_tokens (StatementPiece s) = some_tokens s
 piece_tokens _ = omega arith
 
 -- sound
