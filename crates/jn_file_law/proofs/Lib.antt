@@ -7,3 +7,5 @@ pub mod PiecesRead
 pub mod TreePieces
 pub mod Building
 pub mod FileLaws
+pub mod Examples
+pub mod Outcomes

@@ -1,11 +1,14 @@
 // Laws of the grammar of files.
 
-ghost use Rattle.std.specs.Prelude.{◌≡◌, ◌-◌, ◌<◌, ◌++◌, List, [], length, Option, Some, None};
+ghost use Rattle.std.specs.Prelude.{◌≡◌, ◌-◌, ◌<◌, ◌++◌, ℕ, List, [], length, Option, Some, None};
+ghost use Rattle.jn_base.specs.declared.number.FileNo.{FileNo};
+ghost use Rattle.jn_base.specs.declared.place.Row.{Row};
+ghost use Rattle.jn_trees.specs.declared.token.Token.{Token};
 ghost use Rattle.jn_trees.specs.declared.token.TokenKind.{TokenKind};
 ghost use Rattle.jn_trees.specs.Trees.{SourceTree};
 ghost use Rattle.jn_trees.specs.Spelling.{spell_file};
 ghost use Rattle.jn_trees.specs.WellFormed.{GoodFile};
-ghost use Rattle.jn_trees.specs.Pieces.{Piece, Around, AtStart, May, behind, pieces, spell_piece, spell_pieces, InOrder, IsPlace};
+ghost use Rattle.jn_trees.specs.Pieces.{Piece, Around, AtStart, May, behind, pieces, spell_piece, spell_pieces, InOrder, IsPlace, IsFile, IsSyntaxRow};
 ghost use Rattle.jn_file_law.specs.Built.{Built, nothing, add, add_all, finished};
 ghost use Rattle.jn_file_law.specs.TreePieces.{tree_pieces};
 ghost use Rattle.jn_file_law.specs.PieceReader.{piece_reader};
@@ -14,6 +17,7 @@ ghost use Rattle.jn_file_law.specs.Progress.{file_run, IsReached, SpellsPiece, R
 /// Reading pieces again and again ends at the place of the syntax row, the greatest one before which the tokens are pieces in order.
 pub fn files_are_read_by_pieces()
     ensures place { (ts : List TokenKind) → IsPlace pieces AtStart ts (length ts - length (file_run ts).1) }
+    ensures one_place { (ts : List TokenKind) (m n : ℕ) → IsPlace pieces AtStart ts m → IsPlace pieces AtStart ts n → m ≡ n }
 {}
 
 /// How a loop over pieces gets from the start to the end: nothing is built at first, each piece that is read takes it further, and where none is read it stands at the place of the syntax row.
@@ -44,4 +48,11 @@ pub fn files_are_pieces_in_order()
     ensures built { (tree : SourceTree) → finished (add_all nothing (tree_pieces tree)) ≡ Some tree }
     ensures closed { (row : List Piece) (tree : SourceTree) → InOrder pieces AtStart row → finished (add_all nothing row) ≡ Some tree → GoodFile tree × (row ≡ tree_pieces tree) }
     ensures one_tree { (t u : SourceTree) → GoodFile t → GoodFile u → spell_file t ≡ spell_file u → t ≡ u }
+{}
+
+/// The tokens of a file have one tree or one syntax row, and never both.
+pub fn files_have_one_outcome()
+    ensures one_file { (tokens : List Token) (t u : SourceTree) → IsFile tokens t → IsFile tokens u → t ≡ u }
+    ensures one_row { (file : FileNo) (end : ℕ) (tokens : List Token) (a b : Row) → IsSyntaxRow file end tokens a → IsSyntaxRow file end tokens b → a ≡ b }
+    ensures not_both { (file : FileNo) (end : ℕ) (tokens : List Token) (row : Row) (tree : SourceTree) → IsSyntaxRow file end tokens row → IsFile tokens tree → ⊥ }
 {}
