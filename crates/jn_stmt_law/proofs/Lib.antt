@@ -5,3 +5,4 @@ pub mod Declarators
 pub mod StatementsSound
 pub mod Statements
 pub mod Laws
+pub mod Steps
