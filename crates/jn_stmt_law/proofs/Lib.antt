@@ -6,3 +6,4 @@ pub mod StatementsSound
 pub mod Statements
 pub mod Laws
 pub mod Steps
+pub mod Examples
