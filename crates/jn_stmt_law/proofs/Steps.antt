@@ -4,7 +4,7 @@ use Rattle.jn_base.specs.declared.number.NameNo.{NameNo}
 use Rattle.jn_trees.specs.declared.token.TokenKind.{TokenKind}
 use Rattle.jn_trees.specs.declared.token.TokenKind.TheVariants.{Id, RightBrace, Comma}
 use Rattle.jn_trees.specs.declared.context.Context.{Context}
-use Rattle.jn_trees.specs.Trees.{Statement, Statements, NoStatements, MoreStatements, DeclaratorTree}
+use Rattle.jn_trees.specs.Trees.{Tree, Statement, Statements, NoStatements, MoreStatements, DeclaratorTree}
 use Rattle.jn_trees.specs.Spelling.{spell, spell_value, spell_statement}
 use Rattle.jn_trees.specs.Longest.{Try, TryStatement}
 use Rattle.jn_expr_law.specs.Reader.{reader, TryAll, bind_all, add_first, items_behind, items_from, all_items}
@@ -49,6 +49,26 @@ module _ (d : ℕ) (whole : List TokenKind → Try) (w : Whole d whole) where
   no_more : (ts : List TokenKind) (o : Try) → Sound 11 d ts o → NoMore ts o
   no_more ts None h = tt
   no_more ts (Some r) h = omega (arith, ap (length {A = TokenKind}) h.0, length-append (spell r.0) r.1)
+
+  behind_same : (f g : List TokenKind → TryAll) (t : Tree) (ts : List TokenKind) → ((us : List TokenKind) → length us < length ts → f us ≡ g us) → items_behind f t ts ≡ items_behind g t ts
+  behind_same f g t (Comma ∷ ts) h = ap (λ o. add_first t o) (h ts (omega arith))
+  behind_same f g t _ h = refl
+
+  -- what stands behind the first expression is less than all
+  then_same : (f g : List TokenKind → TryAll) (ts : List TokenKind) (o : Try) → NoMore ts o → ((us : List TokenKind) → length us < length ts → f us ≡ g us) → bind_all o (items_behind f) ≡ bind_all o (items_behind g)
+  then_same f g ts None k h = refl
+  then_same f g ts (Some r) k h = behind_same f g r.0 r.1 (λ us lt. h us (omega (arith, lt, k)))
+
+  any_items : (n m : ℕ) (ts : List TokenKind) → length ts < n → length ts < m → items_from whole n ts ≡ items_from whole m ts
+  any_items zero m ts h k = absurd (omega (arith, h))
+  any_items (suc n) zero ts h k = absurd (omega (arith, k))
+  any_items (suc n) (suc m) ts h k =
+      then_same (items_from whole n) (items_from whole m) ts (whole ts) (no_more ts (whole ts) (w.sound ts)) (λ us lt. any_items n m us (omega (arith, lt, h)) (omega (arith, lt, k)))
+
+  pub expressions_go_on : (ts : List TokenKind) → all_items whole ts ≡ bind_all (whole ts) (items_behind (all_items whole))
+  unfolding all_items
+  expressions_go_on ts =
+      then_same (items_from whole (length ts)) (λ us. items_from whole (suc (length us)) us) ts (whole ts) (no_more ts (whole ts) (w.sound ts)) (λ us lt. any_items (length ts) (suc (length us)) us lt (omega arith))
 
 pub declarators_end : (whole : List TokenKind → Try) (ts : List TokenKind) → ((x : NameNo) (us : List TokenKind) → ts ≡ Comma ∷ Id x ∷ us → ⊥) → all_declarators whole ts ≡ ([], ts)
 unfolding all_declarators
