@@ -5,12 +5,13 @@ use Rattle.jn_trees.specs.Trees.{SourceTree}
 use Rattle.jn_trees.specs.Spelling.{spell_file}
 use Rattle.jn_trees.specs.WellFormed.{GoodFile}
 use Rattle.jn_trees.specs.Pieces.{Piece, Around, AtStart, May, behind, pieces, spell_piece, spell_pieces, InOrder, IsPlace}
+use Rattle.jn_file_law.specs.Runs.{SoundPiece}
 use Rattle.jn_file_law.specs.Built.{Built, nothing, add, add_all, finished}
 use Rattle.jn_file_law.specs.TreePieces.{tree_pieces}
-use Rattle.jn_file_law.specs.PieceReader.{TryPiece, piece_reader}
-use Rattle.jn_file_law.specs.Progress.{file_run, IsReached, SpellsPiece, ReadsPiece}
-use Rattle.jn_file_law.proofs.Places.{SoundPiece, FullPiece, run_place, row_sound, row_more, row_place, row_one, row_full, last_state, nothing_left}
-use Rattle.jn_file_law.proofs.PiecesRead.{quiet, file_reader}
+use Rattle.jn_file_law.specs.PieceReader.{piece_reader}
+use Rattle.jn_file_law.specs.Progress.{file_run, IsReached}
+use Rattle.jn_file_law.proofs.Places.{run_place, row_sound, row_more, row_place, row_one, row_full, last_state, nothing_left}
+use Rattle.jn_file_law.proofs.PiecesRead.{file_reader}
 use Rattle.jn_file_law.proofs.TreePieces.{tree_spelled, tree_ordered, tree_built, add_both}
 use Rattle.jn_file_law.proofs.Building.{closed_row}
 
@@ -23,20 +24,6 @@ more ts built around rest piece us h e = record {
   read = row_more pieces piece_reader AtStart ts h.row around rest piece us h.read e;
   made = ap (λ b. add b piece) h.made ∙ sym (add_both nothing h.row (piece ∷ []));
 }
-
-spells_piece : (around : Around) (ts : List TokenKind) (o : TryPiece) → SoundPiece pieces around ts o → SpellsPiece around ts o
-spells_piece around ts None h = tt
-spells_piece around ts (Some r) h = h
-
-reads_piece : (piece : Piece) (rest : List TokenKind) (o : TryPiece) → FullPiece pieces quiet piece rest o → ReadsPiece piece rest o
-reads_piece piece rest None h = h
-reads_piece piece rest (Some r) h = (h.0, λ e. h.1 (ap not e))
-
-pub piece_sound : (around : Around) (ts : List TokenKind) → SpellsPiece around ts (piece_reader around ts)
-piece_sound around ts = spells_piece around ts (piece_reader around ts) (file_reader.sound around ts)
-
-pub piece_full : (around : Around) (piece : Piece) (rest : List TokenKind) → May around piece → ReadsPiece piece rest (piece_reader around (spell_piece piece ++ rest))
-piece_full around piece rest m = reads_piece piece rest (piece_reader around (spell_piece piece ++ rest)) (file_reader.full around piece rest m)
 
 pub place : (ts : List TokenKind) → IsPlace pieces AtStart ts (length ts - length (file_run ts).1)
 unfolding file_run

@@ -6,9 +6,10 @@ use Rattle.jn_trees.specs.declared.token.TokenKind.TheVariants.{Id, Class, Imple
 use Rattle.jn_trees.specs.Trees.{BaseTree, ClassBase, IntBase, BooleanBase, Mark, NoteMark, PublicMark, ProtectedMark, PrivateMark, StaticMark, ConstantMark, AbstractMark, TypeUseTree}
 use Rattle.jn_trees.specs.Spelling.{base_token, spell_mark, spell_all_marks, spell_parent, spell_names, spell_brackets, spell_type_use, spell_result, spell_declarator, spell_more_declarators, spell_parameters, spell_statement, spell_method_head, spell_constructor_head}
 use Rattle.jn_trees.specs.Pieces.{Language, Piece, PackagePiece, ImportPiece, ClassHead, InterfaceHead, FieldPiece, MethodPiece, MethodHead, ConstructorHead, StatementPiece, BodyEnd, TypeEnd, Around, AtStart, BehindLines, BehindTypes, InType, InBody, spell_piece, May, pieces, IsPlace}
-use Rattle.jn_file_law.specs.Runs.{Found, run}
+use Rattle.jn_file_law.specs.Runs.{SoundPiece, FullPiece}
 use Rattle.jn_file_law.specs.PieceReader.{TryPiece, piece_reader}
-use Rattle.jn_file_law.proofs.Places.{SoundPiece, FullPiece, PieceReader}
+use Rattle.jn_file_law.proofs.Places.{PieceReader}
+use Rattle.jn_file_law.specs.Progress.{no_else_first}
 use Rattle.jn_stmt_law.specs.Fronts.{starts_else}
 use Rattle.jn_stmt_law.proofs.Statements.{statement_stands, some_tokens, no_else}
 use Rattle.jn_file_law.proofs.HeadsRead.{SoundBy, type_head_sound, line_sound, first_sound, head_full, line_full, first_full}
@@ -72,13 +73,10 @@ strict s ts None h = tt
 strict s ts (Some r) h = (h.0, h.1, omega (arith, ap length h.0, length-append (spell_piece r.0) r.1, piece_tokens r.0))
 
 -- full
-abbrev pub quiet : List TokenKind → Bool
-quiet ts = not (starts_else ts)
+exact_full : (p : Piece) (rest : List TokenKind) (o : TryPiece) → o ≡ Some (p, rest) → FullPiece pieces no_else_first p rest o
+exact_full p rest o e = subst (λ x. FullPiece pieces no_else_first p rest x) (sym e) (omega arith, λ q. refl)
 
-exact_full : (p : Piece) (rest : List TokenKind) (o : TryPiece) → o ≡ Some (p, rest) → FullPiece pieces quiet p rest o
-exact_full p rest o e = subst (λ x. FullPiece pieces quiet p rest x) (sym e) (omega arith, λ q. refl)
-
-else_full : (p : Piece) (rest : List TokenKind) (o : TryPiece) → FullByElse p rest o → FullPiece pieces quiet p rest o
+else_full : (p : Piece) (rest : List TokenKind) (o : TryPiece) → FullByElse p rest o → FullPiece pieces no_else_first p rest o
 else_full p rest None f = f
 else_full p rest (Some r) f = f
 
@@ -89,7 +87,7 @@ sound_at BehindTypes ts = strict BehindTypes ts (piece_reader BehindTypes ts) (t
 sound_at (InType o) ts = strict (InType o) ts (piece_reader (InType o) ts) (member_sound o ts)
 sound_at (InBody o leading) ts = strict (InBody o leading) ts (piece_reader (InBody o leading) ts) (in_body_sound leading ts)
 
-pub full_at : (s : Around) (p : Piece) (rest : List TokenKind) → May s p → FullPiece pieces quiet p rest (piece_reader s (spell_piece p ++ rest))
+pub full_at : (s : Around) (p : Piece) (rest : List TokenKind) → May s p → FullPiece pieces no_else_first p rest (piece_reader s (spell_piece p ++ rest))
 full_at AtStart p rest m = exact_full p rest (piece_reader AtStart (spell_piece p ++ rest)) (first_full p rest m)
 full_at BehindLines p rest m = exact_full p rest (piece_reader BehindLines (spell_piece p ++ rest)) (line_full p rest m)
 full_at BehindTypes p rest m = exact_full p rest (piece_reader BehindTypes (spell_piece p ++ rest)) (head_full p rest m)
@@ -99,7 +97,7 @@ full_at (InBody o leading) p rest m = else_full p rest (piece_reader (InBody o l
 abbrev pub file_reader : PieceReader pieces
 file_reader = record {
   read = piece_reader;
-  quiet = quiet;
+  quiet = no_else_first;
   sound = sound_at;
   full = full_at;
   starts = λ s p rest m. ap not (piece_no_else p rest);

@@ -2,18 +2,9 @@
 use Rattle.std.proofs.Common.{◌≡◌, ℕ, zero, suc, ◌+◌, ◌-◌, ◌<◌, ◌≤◌, List, [], ◌∷◌, ◌++◌, length, refl, sym, ap, ◌∙◌, subst, arith, append_assoc, append-nil, length-append, Option, Some, None, Bool, true, false}
 use Rattle.jn_trees.specs.declared.token.TokenKind.{TokenKind}
 use Rattle.jn_trees.specs.Pieces.{Language, spell_pieces, InOrder, Begins, IsPlace}
-use Rattle.jn_file_law.specs.Runs.{Found, run, ReadsRow}
+use Rattle.jn_file_law.specs.Runs.{Found, SoundPiece, FullPiece, run, ReadsRow}
 
--- what is read is a piece that may stand there
-abbrev pub SoundPiece : (L : Language) → L.State → List TokenKind → Found L → Type 0
-SoundPiece L s ts None = Unit {0}
-SoundPiece L s ts (Some r) = (ts ≡ L.spelling r.0 ++ r.1) × L.May s r.0 × (length r.1 < length ts)
-
--- a piece that stands there is read, or one that goes further; and just it, where what follows can begin a piece or is nothing
-abbrev pub FullPiece : (L : Language) → (List TokenKind → Bool) → L.Piece → List TokenKind → Found L → Type 0
-FullPiece L quiet p rest None = ⊥
-FullPiece L quiet p rest (Some r) = (length r.1 ≤ length rest) × (quiet rest ≡ true → r ≡ (p, rest))
-
+-- a reader of one piece that is sound and full, where pieces and the end of the tokens are quiet
 pub record PieceReader (L : Language) : Type 0 where
   pub read : L.State → List TokenKind → Found L
   pub quiet : List TokenKind → Bool

@@ -1,4 +1,4 @@
--- The piece that the front of tokens has, where this stands around: each part is read once, and marks, names and dots as far as they go.
+-- The piece that the front of tokens has, where this stands around (JLS 7 to 9): each part is read once, and marks, names and dots as far as they go.
 use Rattle.std.specs.Prelude.{ℕ, zero, suc, List, [], ◌∷◌, length, Bool, true, false, not, cond, nat_eq, ◌&&◌, Option, Some, None}
 use Rattle.jn_base.specs.declared.number.NameNo.{NameNo}
 use Rattle.jn_trees.specs.declared.token.TokenKind.{TokenKind}
@@ -20,8 +20,7 @@ TryPiece = Option (Piece × List TokenKind)
 abbrev pub checked : Bool → Piece → List TokenKind → TryPiece
 checked b p ts = cond b (Some (p, ts)) None
 
--- marks
-
+-- a mark before others
 abbrev pub add_mark : Mark → List Mark × List TokenKind → List Mark × List TokenKind
 add_mark m r = (m ∷ r.0, r.1)
 
@@ -40,8 +39,7 @@ read_all_marks ts = ([], ts)
 abbrev pub good_marks : (Mark → Bool) → List Mark → Bool
 good_marks may ms = every may ms && no_clash ms
 
--- names
-
+-- a name before others
 abbrev pub add_name : NameNo → List NameNo × List TokenKind → List NameNo × List TokenKind
 add_name n r = (n ∷ r.0, r.1)
 
@@ -70,8 +68,7 @@ abbrev pub read_parent : List TokenKind → Option NameNo × List TokenKind
 read_parent (Extends ∷ Id n ∷ ts) = (Some n, ts)
 read_parent ts = (None, ts)
 
--- lines
-
+-- a package line, where the semicolon follows
 abbrev pub package_end : NameNo → List NameNo → List TokenKind → TryPiece
 package_end n more (Semicolon ∷ ts) = Some (PackagePiece (record { first = n; more = more }), ts)
 package_end n more _ = None
@@ -81,6 +78,7 @@ abbrev pub read_package : List TokenKind → TryPiece
 read_package (Id n ∷ ts) = package_end n (read_dots ts).0 (read_dots ts).1
 read_package _ = None
 
+-- an import, where the semicolon follows, or `.*` and the semicolon
 abbrev pub import_end : NameNo → List NameNo → List TokenKind → TryPiece
 import_end n more (Semicolon ∷ ts) = Some (ImportPiece (record { name = record { first = n; more = more }; all = false }), ts)
 import_end n more (Dot ∷ Star ∷ Semicolon ∷ ts) = Some (ImportPiece (record { name = record { first = n; more = more }; all = true }), ts)
@@ -91,8 +89,7 @@ abbrev pub read_import : List TokenKind → TryPiece
 read_import (Id n ∷ ts) = import_end n (read_dots ts).0 (read_dots ts).1
 read_import _ = None
 
--- heads of types
-
+-- a head of a class, where the brace follows and the marks may stand there
 abbrev pub class_end : List Mark → NameNo → Option NameNo → List NameNo → List TokenKind → TryPiece
 class_end ms n parent interfaces (LeftBrace ∷ ts) = checked (good_marks marks_type ms) (ClassHead ms n parent interfaces) ts
 class_end ms n parent interfaces _ = None
@@ -106,6 +103,7 @@ abbrev pub read_class : List Mark → List TokenKind → TryPiece
 read_class ms (Id n ∷ ts) = class_interfaces ms n (read_parent ts).0 (read_parent ts).1
 read_class ms _ = None
 
+-- a head of an interface, where the brace follows and the marks may stand there
 abbrev pub interface_end : List Mark → NameNo → List NameNo → List TokenKind → TryPiece
 interface_end ms n parents (LeftBrace ∷ ts) = checked (good_marks marks_interface ms) (InterfaceHead ms n parents) ts
 interface_end ms n parents _ = None
@@ -121,6 +119,7 @@ type_behind ms (Class ∷ ts) = read_class ms ts
 type_behind ms (Interface ∷ ts) = read_interface ms ts
 type_behind ms _ = None
 
+-- a head of a class or interface, with its marks (JLS 8.1, 9.1)
 abbrev pub read_type_head : List TokenKind → TryPiece
 read_type_head ts = type_behind (read_all_marks ts).0 (read_all_marks ts).1
 
@@ -134,8 +133,7 @@ abbrev pub read_first : List TokenKind → TryPiece
 read_first (Package ∷ ts) = read_package ts
 read_first ts = read_line ts
 
--- parameters
-
+-- parameters and the tokens behind them, or none
 abbrev pub TryParameters : Type 0
 TryParameters = Option (List ParameterTree × List TokenKind)
 
@@ -143,10 +141,12 @@ TryParameters = Option (List ParameterTree × List TokenKind)
 abbrev pub TryAllParameters : Type 0
 TryAllParameters = Option (Option ReceiverTree × List ParameterTree × List TokenKind)
 
+-- what follows a type use, if one was read
 abbrev pub after_type : {A : Type 0} → (TypeUseTree → List TokenKind → Option A) → Option (TypeUseTree × List TokenKind) → Option A
 after_type f None = None
 after_type f (Some r) = f r.0 r.1
 
+-- a parameter before others
 abbrev pub add_parameter : ParameterTree → TryParameters → TryParameters
 add_parameter p None = None
 add_parameter p (Some r) = Some (p ∷ r.0, r.1)
@@ -167,6 +167,7 @@ more_parameters_from (suc n) (RightParen ∷ ts) = Some ([], ts)
 more_parameters_from (suc n) (Comma ∷ ts) = parameter_from (more_parameters_from n) ts
 more_parameters_from (suc n) _ = None
 
+-- the parameters behind the first or the receiver, and the closing parenthesis
 unfoldable pub read_more_parameters : List TokenKind → TryParameters
 read_more_parameters ts = more_parameters_from (suc (length ts)) ts
 
@@ -180,14 +181,17 @@ annotation_names_of (FinalMark ∷ ms) = None
 abbrev pub class_of : TypeUseTree → Option NameNo
 class_of u = elim u.base as (λ _. Option NameNo) [ ClassBase n ↦ elim u.array as (λ _. Option NameNo) [ None ↦ Some n | Some ns ↦ None ] | _ ↦ None ]
 
+-- a receiver of these annotations and this class
 abbrev pub receiver_of : Option (List NameNo) → Option NameNo → Option ReceiverTree
 receiver_of (Some ns) (Some c) = Some (record { annotations = ns; class = c })
 receiver_of _ _ = None
 
+-- parameters without a receiver
 abbrev pub without_receiver : TryParameters → TryAllParameters
 without_receiver None = None
 without_receiver (Some r) = Some (None, r.0, r.1)
 
+-- a receiver, and the parameters behind it
 abbrev pub with_receiver : Option ReceiverTree → TryParameters → TryAllParameters
 with_receiver (Some r) (Some q) = Some (Some r, q.0, q.1)
 with_receiver _ _ = None
@@ -202,8 +206,7 @@ abbrev pub read_parameters : List TokenKind → TryAllParameters
 read_parameters (RightParen ∷ ts) = Some (None, [], ts)
 read_parameters ts = after_type (first_end (read_marks ts).0) (read_type_use (read_marks ts).1)
 
--- members
-
+-- whether two names are one
 abbrev pub same_name : NameNo → NameNo → Bool
 same_name a b = nat_eq a.0 b.0
 
@@ -217,6 +220,7 @@ abbrev pub good_receiver : NameNo → List Mark → Option ReceiverTree → Bool
 good_receiver owner ms None = true
 good_receiver owner ms (Some r) = not (has_static ms) && same_name r.class owner
 
+-- GoodMethodMarks, as a test
 abbrev pub good_method_marks : Bool → List Mark → Bool
 good_method_marks true ms = good_marks marks_interface_method ms
 good_method_marks false ms = good_marks marks_method ms
@@ -225,6 +229,7 @@ good_method_marks false ms = good_marks marks_method ms
 abbrev pub good_method_head : Owner → List Mark → Option ReceiverTree → List ParameterTree → Bool
 good_method_head o ms r ps = good_method_marks o.interface ms && (good_receiver o.name ms r && good_parameters ps)
 
+-- whether there is no receiver
 abbrev pub is_no_receiver : Option ReceiverTree → Bool
 is_no_receiver None = true
 is_no_receiver (Some r) = false
@@ -233,10 +238,12 @@ is_no_receiver (Some r) = false
 abbrev pub good_constructor_head : Owner → List Mark → NameNo → Option ReceiverTree → List ParameterTree → Bool
 good_constructor_head o ms n r ps = good_marks marks_constructor ms && (not o.interface && (same_name n o.name && (is_no_receiver r && good_parameters ps)))
 
+-- what follows parameters, if they were read
 abbrev pub after_parameters : (Option ReceiverTree → List ParameterTree → List TokenKind → TryPiece) → TryAllParameters → TryPiece
 after_parameters f None = None
 after_parameters f (Some r) = f r.0 r.1 r.2
 
+-- a head of a constructor, where the brace follows (JLS 8.8)
 abbrev pub constructor_end : Owner → List Mark → NameNo → Option ReceiverTree → List ParameterTree → List TokenKind → TryPiece
 constructor_end o ms n r ps (LeftBrace ∷ ts) = checked (good_constructor_head o ms n r ps) (ConstructorHead ms n ps) ts
 constructor_end o ms n r ps _ = None
@@ -247,6 +254,7 @@ method_end o ms u n r ps (LeftBrace ∷ ts) = checked (not o.interface && good_m
 method_end o ms u n r ps (Semicolon ∷ ts) = checked (good_method_head o ms r ps) (MethodPiece ms u n r ps) ts
 method_end o ms u n r ps _ = None
 
+-- a field, where the semicolon follows and the marks may stand there (JLS 8.3)
 abbrev pub field_end : List Mark → TypeUseTree → DeclaratorTree → List DeclaratorTree → List TokenKind → TryPiece
 field_end ms u d ds (Semicolon ∷ ts) = checked (good_marks marks_field ms) (FieldPiece ms u d ds) ts
 field_end ms u d ds _ = None
@@ -255,6 +263,7 @@ field_end ms u d ds _ = None
 unfoldable pub read_field_declarators : List TokenKind → Option ((DeclaratorTree × List DeclaratorTree) × List TokenKind)
 read_field_declarators ts = read_declarators (reader deepest).whole ts
 
+-- what follows declarators, if they were read
 abbrev pub after_declarators : (DeclaratorTree → List DeclaratorTree → List TokenKind → TryPiece) → Option ((DeclaratorTree × List DeclaratorTree) × List TokenKind) → TryPiece
 after_declarators f None = None
 after_declarators f (Some r) = f r.0.0 r.0.1 r.1
@@ -275,24 +284,26 @@ member_behind o ms (Void ∷ ts) = void_method o ms ts
 member_behind o ms (Id n ∷ LeftParen ∷ ts) = after_parameters (constructor_end o ms n) (read_parameters ts)
 member_behind o ms ts = after_type (typed_member o ms) (read_type_use ts)
 
+-- the end of a type, or what may begin a member (JLS 8.2)
 abbrev pub read_member : Owner → List TokenKind → TryPiece
 read_member o (RightBrace ∷ ts) = Some (TypeEnd, ts)
 read_member o ts = member_behind o (read_all_marks ts).0 (read_all_marks ts).1
-
--- statements
 
 -- the longest statement of nesting at most `deepest` of a body, first in a constructor or not
 unfoldable pub read_body_statement : Bool → List TokenKind → TryStatement
 read_body_statement leading ts = statement_reader deepest (body_context leading) ts
 
+-- the statement as a piece
 abbrev pub statement_piece : TryStatement → TryPiece
 statement_piece None = None
 statement_piece (Some r) = Some (StatementPiece r.0, r.1)
 
+-- the end of a body, or a statement
 abbrev pub read_in_body : Bool → List TokenKind → TryPiece
 read_in_body leading (RightBrace ∷ ts) = Some (BodyEnd, ts)
 read_in_body leading ts = statement_piece (read_body_statement leading ts)
 
+-- the piece that is read where this stands around
 abbrev pub piece_reader : Around → List TokenKind → TryPiece
 piece_reader AtStart ts = read_first ts
 piece_reader BehindLines ts = read_line ts

@@ -9,10 +9,11 @@ ghost use Rattle.jn_trees.specs.Trees.{SourceTree};
 ghost use Rattle.jn_trees.specs.Spelling.{spell_file};
 ghost use Rattle.jn_trees.specs.WellFormed.{GoodFile};
 ghost use Rattle.jn_trees.specs.Pieces.{Piece, Around, AtStart, May, behind, pieces, spell_piece, spell_pieces, InOrder, IsPlace, IsFile, IsSyntaxRow};
+ghost use Rattle.jn_file_law.specs.Runs.{SoundPiece, FullPiece};
 ghost use Rattle.jn_file_law.specs.Built.{Built, nothing, add, add_all, finished};
 ghost use Rattle.jn_file_law.specs.TreePieces.{tree_pieces};
 ghost use Rattle.jn_file_law.specs.PieceReader.{piece_reader};
-ghost use Rattle.jn_file_law.specs.Progress.{file_run, IsReached, SpellsPiece, ReadsPiece};
+ghost use Rattle.jn_file_law.specs.Progress.{file_run, no_else_first, IsReached};
 
 /// Reading pieces again and again ends at the place of the syntax row, the greatest one before which the tokens are pieces in order.
 pub fn files_are_read_by_pieces()
@@ -37,8 +38,8 @@ pub fn pieces_build_files()
 
 /// What the reader of one piece gives may stand there and spells the front; a piece that may stand there is read, or one that goes further, and just it where no `else` follows.
 pub fn a_piece_is_read_once()
-    ensures sound { (around : Around) (ts : List TokenKind) → SpellsPiece around ts (piece_reader around ts) }
-    ensures full { (around : Around) (piece : Piece) (rest : List TokenKind) → May around piece → ReadsPiece piece rest (piece_reader around (spell_piece piece ++ rest)) }
+    ensures sound { (around : Around) (ts : List TokenKind) → SoundPiece pieces around ts (piece_reader around ts) }
+    ensures full { (around : Around) (piece : Piece) (rest : List TokenKind) → May around piece → FullPiece pieces no_else_first piece rest (piece_reader around (spell_piece piece ++ rest)) }
 {}
 
 /// A well-formed file is its pieces in order, and pieces in order that leave nothing open are those of a well-formed file; so a token list is the spelling of at most one.
