@@ -1,8 +1,7 @@
 -- What pieces in order build is well formed, and its pieces are these.
-use Rattle.std.proofs.Common.{◌≡◌, ℕ, ◌≤◌, max, List, [], ◌∷◌, ◌++◌, refl, sym, ap, ◌∙◌, subst, arith, append_assoc, append-nil, Option, Some, None, Bool, true, false}
-use Rattle.jn_base.specs.declared.number.NameNo.{NameNo}
+use Rattle.std.proofs.Common.{◌≡◌, ◌≤◌, List, [], ◌∷◌, ◌++◌, refl, sym, ap, ◌∙◌, subst, arith, append_assoc, append-nil, Option, Some, None, Bool, true, false}
 use Rattle.jn_trees.specs.declared.context.Owner.{Owner}
-use Rattle.jn_trees.specs.Trees.{Statement, Statements, NoStatements, MoreStatements, MemberTree, FieldMember, MethodMember, ConstructorMember, TypeDeclaration, ClassType, InterfaceType, DottedName, ImportTree, SourceTree}
+use Rattle.jn_trees.specs.Trees.{Statement, MemberTree, FieldMember, MethodMember, TypeDeclaration, DottedName, ImportTree, SourceTree}
 use Rattle.jn_trees.specs.WellFormed.{GoodMarks, marks_type, marks_interface, GoodMethodHead, GoodConstructorHead, GoodBody, GoodStatement, GoodStatements, nesting_body, nesting_statement, GoodMember, GoodMembers, GoodType, GoodTypes, GoodFile, body_context, deepest}
 use Rattle.jn_trees.specs.Pieces.{InOrder, Piece, PackagePiece, ImportPiece, ClassHead, InterfaceHead, FieldPiece, MethodPiece, MethodHead, ConstructorHead, StatementPiece, BodyEnd, TypeEnd, Around, AtStart, BehindLines, BehindTypes, InType, InBody, May, MayPackage, MayImport, MayHead, MayMember, MayStatement, behind, behind_member, behind_statement, behind_outer, pieces}
 use Rattle.jn_file_law.specs.Built.{TypeOpening, ClassOpening, InterfaceOpening, MemberOpening, MethodOpening, ConstructorOpening, OpenMember, OpenType, Built, nothing, all_statements, member_of, type_of, add, add_all, tree_if_closed, finished}
@@ -160,7 +159,7 @@ member_inside head ms m p e =
 
 -- pieces in a type
 in_type : (q : Option DottedName) (is : List ImportTree) (ts : List TypeDeclaration) (head : TypeOpening) (ms : List MemberTree) (body : Option OpenMember) (o : Owner) (p : Piece) → GoodTypes ts → FitsOpen (InType o) head ms body → MayMember o p
-  → (let b : Built = record { package_line = q; imports = is; types = ts; inside = Some (record { head = head; members = ms; body = body }) } in Kept (behind_member o p) b (add b p) p)
+    → (let b : Built = record { package_line = q; imports = is; types = ts; inside = Some (record { head = head; members = ms; body = body }) } in Kept (behind_member o p) b (add b p) p)
 in_type q is ts head ms (Some m) o p t f may = absurd f
 in_type q is ts head ms None o (FieldPiece ks u d ds) t f may =
     let m = FieldMember ks u d ds in
@@ -168,15 +167,20 @@ in_type q is ts head ms None o (FieldPiece ks u d ds) t f may =
 in_type q is ts head ms None o (MethodPiece ks u n r ps) t f may =
     let m = MethodMember ks u n r ps None in
     ((t, (f.0, f.1, good_members_more o ms m f.2 (may, tt))), inside_more q is ts (Some (record { head = head; members = ms; body = None })) (Some (record { head = head; members = ms ++ m ∷ []; body = None })) (MethodPiece ks u n r ps) (member_inside head ms m (MethodPiece ks u n r ps) refl))
-in_type q is ts head ms None o (MethodHead ks u n r ps) t f may =
-    ((t, (f, (may, tt, refl))), inside_more q is ts (Some (record { head = head; members = ms; body = None })) (Some (record { head = head; members = ms; body = Some (record { head = MethodOpening ks u n r ps; statements = [] }) })) (MethodHead ks u n r ps)
-      (ap (λ x. type_opening_piece head ∷ (x ++ MethodHead ks u n r ps ∷ [])) (sym (append-nil (members_pieces ms)))))
-in_type q is ts head ms None o (ConstructorHead ks n ps) t f may =
-    ((t, (f, (may, tt, refl))), inside_more q is ts (Some (record { head = head; members = ms; body = None })) (Some (record { head = head; members = ms; body = Some (record { head = ConstructorOpening ks n ps; statements = [] }) })) (ConstructorHead ks n ps)
-      (ap (λ x. type_opening_piece head ∷ (x ++ ConstructorHead ks n ps ∷ [])) (sym (append-nil (members_pieces ms)))))
-in_type q is ts head ms None o TypeEnd t f may =
-    (good_types_more ts (type_of head ms) t (good_type_of head ms f.1 (subst (λ x. GoodMembers x ms) (sym f.0) f.2)),
-     ap (λ x. package_pieces q ++ (import_pieces is ++ (x ++ []))) (types_more ts (type_of head ms) ∙ ap (λ x. types_pieces ts ++ x) (type_of_pieces head ms)) ∙ regroup (package_pieces q) (import_pieces is) (types_pieces ts) (type_opening_piece head) (members_pieces ms) TypeEnd)
+in_type q is ts head ms None o (MethodHead ks u n r ps) t f may = (
+  (t, (f, (may, tt, refl))),
+  inside_more q is ts (Some (record { head = head; members = ms; body = None })) (Some (record { head = head; members = ms; body = Some (record { head = MethodOpening ks u n r ps; statements = [] }) })) (MethodHead ks u n r ps)
+      (ap (λ x. type_opening_piece head ∷ (x ++ MethodHead ks u n r ps ∷ [])) (sym (append-nil (members_pieces ms)))),
+)
+in_type q is ts head ms None o (ConstructorHead ks n ps) t f may = (
+  (t, (f, (may, tt, refl))),
+  inside_more q is ts (Some (record { head = head; members = ms; body = None })) (Some (record { head = head; members = ms; body = Some (record { head = ConstructorOpening ks n ps; statements = [] }) })) (ConstructorHead ks n ps)
+      (ap (λ x. type_opening_piece head ∷ (x ++ ConstructorHead ks n ps ∷ [])) (sym (append-nil (members_pieces ms)))),
+)
+in_type q is ts head ms None o TypeEnd t f may = (
+  good_types_more ts (type_of head ms) t (good_type_of head ms f.1 (subst (λ x. GoodMembers x ms) (sym f.0) f.2)),
+  ap (λ x. package_pieces q ++ (import_pieces is ++ (x ++ []))) (types_more ts (type_of head ms) ∙ ap (λ x. types_pieces ts ++ x) (type_of_pieces head ms)) ∙ regroup (package_pieces q) (import_pieces is) (types_pieces ts) (type_opening_piece head) (members_pieces ms) TypeEnd,
+)
   where
     regroup : (a b c : List Piece) (k : Piece) (d : List Piece) (p : Piece) → a ++ (b ++ ((c ++ k ∷ (d ++ p ∷ [])) ++ [])) ≡ (a ++ (b ++ (c ++ k ∷ (d ++ [])))) ++ p ∷ []
     regroup a b c k d p = simp (append_assoc, append-nil)
@@ -184,23 +188,25 @@ in_type q is ts head ms None o _ t f may = absurd may
 
 -- pieces in a body
 in_member : (q : Option DottedName) (is : List ImportTree) (ts : List TypeDeclaration) (head : TypeOpening) (ms : List MemberTree) (m : MemberOpening) (ss : List Statement) (o : Owner) (leading : Bool) (p : Piece) → GoodTypes ts → FitsType o head ms → FitsMember o leading m ss → MayStatement leading p
-  → (let b : Built = record { package_line = q; imports = is; types = ts; inside = Some (record { head = head; members = ms; body = Some (record { head = m; statements = ss }) }) } in Kept (behind_statement o p) b (add b p) p)
-in_member q is ts head ms m ss o leading (StatementPiece s) t f g may =
-    ((t, (f, (g.0, body_more (is_constructor m) ss s g.1 (subst (λ x. GoodStatement (body_context x) s) g.2 may.0) may.1, leads_no_more (is_constructor m) ss s))),
-     inside_more q is ts (Some (record { head = head; members = ms; body = Some (record { head = m; statements = ss }) })) (Some (record { head = head; members = ms; body = Some (record { head = m; statements = ss ++ s ∷ [] }) })) (StatementPiece s)
-       (ap (λ x. type_opening_piece head ∷ (members_pieces ms ++ member_opening_piece m ∷ x)) (row_more ss s) ∙ ap (λ x. type_opening_piece head ∷ x) (sym (append_assoc (members_pieces ms) (member_opening_piece m ∷ statement_row ss) (StatementPiece s ∷ [])))))
+    → (let b : Built = record { package_line = q; imports = is; types = ts; inside = Some (record { head = head; members = ms; body = Some (record { head = m; statements = ss }) }) } in Kept (behind_statement o p) b (add b p) p)
+in_member q is ts head ms m ss o leading (StatementPiece s) t f g may = (
+  (t, (f, (g.0, body_more (is_constructor m) ss s g.1 (subst (λ x. GoodStatement (body_context x) s) g.2 may.0) may.1, leads_no_more (is_constructor m) ss s))),
+  inside_more q is ts (Some (record { head = head; members = ms; body = Some (record { head = m; statements = ss }) })) (Some (record { head = head; members = ms; body = Some (record { head = m; statements = ss ++ s ∷ [] }) })) (StatementPiece s)
+      (ap (λ x. type_opening_piece head ∷ (members_pieces ms ++ member_opening_piece m ∷ x)) (row_more ss s) ∙ ap (λ x. type_opening_piece head ∷ x) (sym (append_assoc (members_pieces ms) (member_opening_piece m ∷ statement_row ss) (StatementPiece s ∷ [])))),
+)
 in_member q is ts head ms m ss o leading BodyEnd t f g may =
-    let k = member_of m ss in
-    ((t, (f.0, f.1, good_members_more o ms k f.2 (good_member_of o m ss g.0 g.1))),
-     inside_more q is ts (Some (record { head = head; members = ms; body = Some (record { head = m; statements = ss }) })) (Some (record { head = head; members = ms ++ k ∷ []; body = None })) BodyEnd
-       (ap (λ x. type_opening_piece head ∷ (x ++ [])) (members_more ms k ∙ ap (λ x. members_pieces ms ++ x) (member_of_pieces m ss)) ∙ regroup (type_opening_piece head) (members_pieces ms) (member_opening_piece m) (statement_row ss) BodyEnd))
+    let k = member_of m ss in (
+      (t, (f.0, f.1, good_members_more o ms k f.2 (good_member_of o m ss g.0 g.1))),
+      inside_more q is ts (Some (record { head = head; members = ms; body = Some (record { head = m; statements = ss }) })) (Some (record { head = head; members = ms ++ k ∷ []; body = None })) BodyEnd
+          (ap (λ x. type_opening_piece head ∷ (x ++ [])) (members_more ms k ∙ ap (λ x. members_pieces ms ++ x) (member_of_pieces m ss)) ∙ regroup (type_opening_piece head) (members_pieces ms) (member_opening_piece m) (statement_row ss) BodyEnd),
+    )
   where
     regroup : (h : Piece) (a : List Piece) (k : Piece) (b : List Piece) (p : Piece) → h ∷ ((a ++ k ∷ (b ++ p ∷ [])) ++ []) ≡ (h ∷ (a ++ k ∷ b)) ++ p ∷ []
     regroup h a k b p = simp (append_assoc, append-nil)
 in_member q is ts head ms m ss o leading _ t f g may = absurd may
 
 in_body : (q : Option DottedName) (is : List ImportTree) (ts : List TypeDeclaration) (head : TypeOpening) (ms : List MemberTree) (body : Option OpenMember) (o : Owner) (leading : Bool) (p : Piece) → GoodTypes ts → FitsOpen (InBody o leading) head ms body → MayStatement leading p
-  → (let b : Built = record { package_line = q; imports = is; types = ts; inside = Some (record { head = head; members = ms; body = body }) } in Kept (behind_statement o p) b (add b p) p)
+    → (let b : Built = record { package_line = q; imports = is; types = ts; inside = Some (record { head = head; members = ms; body = body }) } in Kept (behind_statement o p) b (add b p) p)
 in_body q is ts head ms None o leading p t f may = absurd f
 in_body q is ts head ms (Some m) o leading p t f may = in_member q is ts head ms m.head m.statements o leading p t f.0 f.1 may
 
@@ -303,5 +309,5 @@ closed_row ps t o e =
     let f = is_finished b t e in
     let good : GoodTypes b.types = closed_types (last_state pieces AtStart ps) b k.0 f.0 in
     let same : ps ≡ tree_pieces (record { package_line = b.package_line; imports = b.imports; types = b.types }) =
-      sym k.1 ∙ ap (λ i. package_pieces b.package_line ++ (import_pieces b.imports ++ (types_pieces b.types ++ open_type_pieces i))) f.0 ∙ ap (λ x. package_pieces b.package_line ++ (import_pieces b.imports ++ x)) (append-nil (types_pieces b.types)) in
+    sym k.1 ∙ ap (λ i. package_pieces b.package_line ++ (import_pieces b.imports ++ (types_pieces b.types ++ open_type_pieces i))) f.0 ∙ ap (λ x. package_pieces b.package_line ++ (import_pieces b.imports ++ x)) (append-nil (types_pieces b.types)) in
     (subst GoodFile (sym f.1) good, same ∙ ap tree_pieces (sym f.1))

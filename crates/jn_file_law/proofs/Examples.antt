@@ -1,9 +1,8 @@
 -- Where syntax faults stand in texts that have one.
-use Rattle.std.specs.Prelude.{◌≡◌, [], ◌∷◌, List}
-use Rattle.std.proofs.Common.{refl}
+use Rattle.std.specs.Prelude.{[], ◌∷◌, List}
 use Rattle.jn_base.specs.declared.number.NameNo.{NameNo}
 use Rattle.jn_trees.specs.declared.token.TokenKind.{TokenKind}
-use Rattle.jn_trees.specs.declared.token.TokenKind.TheVariants.{Id, Number, Class, Interface, Public, Static, Void, This, Break, If, Else, Import, Package, LeftParen, RightParen, LeftBrace, RightBrace, Semicolon, Dot, Star, At, Int}
+use Rattle.jn_trees.specs.declared.token.TokenKind.TheVariants.{Id, Class, Interface, Public, Static, Void, This, Break, If, Else, Import, Package, LeftParen, RightParen, LeftBrace, RightBrace, Semicolon}
 use Rattle.jn_trees.specs.Pieces.{AtStart, pieces, IsPlace}
 use Rattle.jn_file_law.specs.PieceReader.{read_more_parameters, read_body_statement}
 use Rattle.jn_file_law.specs.Progress.{file_run}

@@ -1,10 +1,10 @@
 -- A run over pieces finds the one well-formed file that spells the tokens, or shows that there is none.
-use Rattle.std.proofs.Common.{◌≡◌, ℕ, suc, ◌-◌, ◌<◌, List, [], ◌∷◌, ◌++◌, length, refl, sym, ap, ◌∙◌, subst, append-nil, Option, Some, None, Bool, true, false, not}
+use Rattle.std.proofs.Common.{◌≡◌, ◌-◌, ◌<◌, List, [], ◌∷◌, ◌++◌, length, refl, sym, ap, ◌∙◌, subst, append-nil, Option, Some, None}
 use Rattle.jn_trees.specs.declared.token.TokenKind.{TokenKind}
 use Rattle.jn_trees.specs.Trees.{SourceTree}
 use Rattle.jn_trees.specs.Spelling.{spell_file}
 use Rattle.jn_trees.specs.WellFormed.{GoodFile}
-use Rattle.jn_trees.specs.Pieces.{Piece, Around, AtStart, May, behind, pieces, spell_piece, spell_pieces, InOrder, IsPlace}
+use Rattle.jn_trees.specs.Pieces.{Piece, Around, AtStart, behind, pieces, spell_pieces, IsPlace}
 use Rattle.jn_file_law.specs.Runs.{SoundPiece}
 use Rattle.jn_file_law.specs.Built.{Built, nothing, add, add_all, finished}
 use Rattle.jn_file_law.specs.TreePieces.{tree_pieces}

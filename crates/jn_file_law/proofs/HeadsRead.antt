@@ -1,10 +1,10 @@
 -- Lines and heads of types are read, and only they.
-use Rattle.std.proofs.Common.{◌≡◌, ℕ, ◌<◌, ◌≤◌, List, [], ◌∷◌, ◌++◌, length, refl, sym, ap, ◌∙◌, subst, arith, append_assoc, Option, Some, None, Bool, true, false, ◌&&◌, not, nat_eq}
+use Rattle.std.proofs.Common.{◌≡◌, List, [], ◌∷◌, ◌++◌, refl, sym, ap, ◌∙◌, subst, append_assoc, Option, Some, None, Bool, true, false, ◌&&◌}
 use Rattle.jn_base.specs.declared.number.NameNo.{NameNo}
 use Rattle.jn_trees.specs.declared.token.TokenKind.{TokenKind}
-use Rattle.jn_trees.specs.declared.token.TokenKind.TheVariants.{Id, Abstract, Class, Extends, Final, Implements, Import, Interface, Package, Private, Protected, Public, Static, This, Void, LeftParen, RightParen, LeftBrace, RightBrace, Semicolon, Comma, Dot, At, Star}
+use Rattle.jn_trees.specs.declared.token.TokenKind.TheVariants.{Id, Abstract, Class, Extends, Final, Implements, Import, Interface, Package, Private, Protected, Public, Static, LeftBrace, Semicolon, Comma, Dot, At, Star}
 use Rattle.jn_trees.specs.Trees.{Mark, NoteMark, PublicMark, ProtectedMark, PrivateMark, StaticMark, ConstantMark, AbstractMark, DottedName, ImportTree}
-use Rattle.jn_trees.specs.Spelling.{spell_mark, spell_all_marks, spell_more_names, spell_names, spell_parent, spell_dots, spell_class_head, spell_interface_head, spell_import, spell_package, spell_star}
+use Rattle.jn_trees.specs.Spelling.{spell_all_marks, spell_more_names, spell_names, spell_parent, spell_dots, spell_import, spell_package, spell_star}
 use Rattle.jn_trees.specs.WellFormed.{every, no_clash, GoodMarks, marks_type, marks_interface}
 use Rattle.jn_trees.specs.Pieces.{Piece, PackagePiece, ImportPiece, ClassHead, InterfaceHead, spell_piece, MayHead, MayImport, MayPackage}
 use Rattle.jn_file_law.specs.PieceReader.{TryPiece, checked, add_mark, read_all_marks, good_marks, add_name, read_more_names, read_dots, read_implements, read_extends, read_parent, package_end, read_package, import_end, read_import, class_end, class_interfaces, read_class, interface_end, read_interface, type_behind, read_type_head, read_line, read_first}
@@ -142,7 +142,7 @@ class_regroup marks parent interfaces n ts = simp append_assoc
 class_end_sound : (ms : List Mark) (n : NameNo) (parent : Option NameNo) (interfaces : List NameNo) (ts : List TokenKind) → SoundBy MayHead (spell_all_marks ms ++ Class ∷ Id n ∷ (spell_parent parent ++ (spell_names Implements interfaces ++ ts))) (class_end ms n parent interfaces ts)
 class_end_sound ms n parent interfaces (LeftBrace ∷ ts) =
     checked_sound MayHead (spell_all_marks ms ++ Class ∷ Id n ∷ (spell_parent parent ++ (spell_names Implements interfaces ++ LeftBrace ∷ ts))) (good_marks marks_type ms) (ClassHead ms n parent interfaces) ts
-      (class_regroup (spell_all_marks ms) (spell_parent parent) (spell_names Implements interfaces) n ts) (marks_good marks_type ms)
+    (class_regroup (spell_all_marks ms) (spell_parent parent) (spell_names Implements interfaces) n ts) (marks_good marks_type ms)
 class_end_sound ms n parent interfaces _ = tt
 
 class_sound : (ms : List Mark) (ts : List TokenKind) → SoundBy MayHead (spell_all_marks ms ++ Class ∷ ts) (read_class ms ts)
@@ -166,7 +166,7 @@ interface_regroup marks parents n ts = simp append_assoc
 interface_end_sound : (ms : List Mark) (n : NameNo) (parents : List NameNo) (ts : List TokenKind) → SoundBy MayHead (spell_all_marks ms ++ Interface ∷ Id n ∷ (spell_names Extends parents ++ ts)) (interface_end ms n parents ts)
 interface_end_sound ms n parents (LeftBrace ∷ ts) =
     checked_sound MayHead (spell_all_marks ms ++ Interface ∷ Id n ∷ (spell_names Extends parents ++ LeftBrace ∷ ts)) (good_marks marks_interface ms) (InterfaceHead ms n parents) ts
-      (interface_regroup (spell_all_marks ms) (spell_names Extends parents) n ts) (marks_good marks_interface ms)
+    (interface_regroup (spell_all_marks ms) (spell_names Extends parents) n ts) (marks_good marks_interface ms)
 interface_end_sound ms n parents _ = tt
 
 interface_sound : (ms : List Mark) (ts : List TokenKind) → SoundBy MayHead (spell_all_marks ms ++ Interface ∷ ts) (read_interface ms ts)

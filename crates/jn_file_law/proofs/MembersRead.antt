@@ -1,13 +1,13 @@
 -- Members and statements of bodies are read, and only they.
-use Rattle.std.proofs.Common.{◌≡◌, ℕ, ◌<◌, ◌≤◌, List, [], ◌∷◌, ◌++◌, length, refl, sym, ap, ◌∙◌, subst, arith, append_assoc, Option, Some, None, Bool, true, false, ◌&&◌, not}
+use Rattle.std.proofs.Common.{◌≡◌, ◌≤◌, List, [], ◌∷◌, ◌++◌, length, refl, sym, ap, ◌∙◌, subst, arith, append_assoc, Option, Some, None, Bool, true, false, ◌&&◌, not}
 use Rattle.std.proofs.lemmas.Bool.Decides.{Decides-eqb}
 use Rattle.jn_base.specs.declared.number.NameNo.{NameNo}
 use Rattle.jn_trees.specs.declared.token.TokenKind.{TokenKind}
-use Rattle.jn_trees.specs.declared.token.TokenKind.TheVariants.{Id, Void, LeftParen, LeftBrace, RightBrace, Semicolon, Comma, Assign, At, LeftBracket}
+use Rattle.jn_trees.specs.declared.token.TokenKind.TheVariants.{Id, Void, LeftParen, LeftBrace, RightBrace, Semicolon}
 use Rattle.jn_trees.specs.declared.context.Owner.{Owner}
 use Rattle.jn_trees.specs.Trees.{BaseTree, ClassBase, IntBase, BooleanBase, Tree, Mark, NoteMark, PublicMark, ProtectedMark, PrivateMark, StaticMark, ConstantMark, AbstractMark, TypeUseTree, DeclaratorTree, ParameterTree, ReceiverTree, Statement}
-use Rattle.jn_trees.specs.Spelling.{base_token, spell_all_marks, spell_brackets, spell_type_use, spell_value, spell_declarator, spell_more_declarators, spell_parameters, spell_result, spell_method_head, spell_constructor_head, spell_field, spell_statement}
-use Rattle.jn_trees.specs.WellFormed.{final_once, has_static, GoodMarks, GoodParameters, GoodReceiver, GoodMethodMarks, GoodMethodHead, GoodConstructorHead, GoodField, GoodDeclarators, nesting_declarators, deepest, ends_open, marks_field, marks_method, marks_interface_method, marks_constructor, body_context}
+use Rattle.jn_trees.specs.Spelling.{base_token, spell_all_marks, spell_brackets, spell_type_use, spell_value, spell_declarator, spell_more_declarators, spell_parameters, spell_result, spell_method_head, spell_statement}
+use Rattle.jn_trees.specs.WellFormed.{final_once, has_static, GoodParameters, GoodReceiver, GoodMethodMarks, GoodMethodHead, GoodConstructorHead, GoodDeclarators, nesting_declarators, deepest, ends_open, marks_field, marks_method, marks_interface_method, marks_constructor, body_context}
 use Rattle.jn_trees.specs.Longest.{TryStatement}
 use Rattle.jn_trees.specs.Pieces.{Piece, FieldPiece, MethodPiece, MethodHead, ConstructorHead, StatementPiece, BodyEnd, TypeEnd, spell_piece, MayMember, MayStatement}
 use Rattle.jn_stmt_law.specs.Parts.{read_type_use}
@@ -67,7 +67,7 @@ method_good o ms r ps e =
 method_test : (o : Owner) (ms : List Mark) (r : Option ReceiverTree) (ps : List ParameterTree) → GoodMethodHead o ms r ps → good_method_head o ms r ps ≡ true
 method_test o ms r ps g =
     both_are (good_method_marks o.interface ms) (good_receiver o.name ms r && good_parameters ps) (method_marks_test o.interface ms g.0)
-      (both_are (good_receiver o.name ms r) (good_parameters ps) (receiver_test o.name ms r g.1) (parameters_test ps g.2))
+    (both_are (good_receiver o.name ms r) (good_parameters ps) (receiver_test o.name ms r g.1) (parameters_test ps g.2))
 
 no_receiver : (r : Option ReceiverTree) → is_no_receiver r ≡ true → r ≡ None
 no_receiver None e = refl
@@ -84,14 +84,14 @@ constructor_good o ms n r ps e =
 constructor_test : (o : Owner) (ms : List Mark) (n : NameNo) (ps : List ParameterTree) → GoodConstructorHead o ms n ps → good_constructor_head o ms n None ps ≡ true
 constructor_test o ms n ps g =
     both_are (good_marks marks_constructor ms) (not o.interface && (same_name n o.name && (is_no_receiver None && good_parameters ps))) (marks_test marks_constructor ms g.0)
-      (both_are (not o.interface) (same_name n o.name && (is_no_receiver None && good_parameters ps)) (is_not o.interface g.1)
-        (both_are (same_name n o.name) (is_no_receiver None && good_parameters ps) (is_name n o.name g.2) (parameters_test ps g.3)))
+    (both_are (not o.interface) (same_name n o.name && (is_no_receiver None && good_parameters ps)) (is_not o.interface g.1)
+    (both_are (same_name n o.name) (is_no_receiver None && good_parameters ps) (is_name n o.name g.2) (parameters_test ps g.3)))
 
 -- only what stands there is read
 method_end_sound : (o : Owner) (ms : List Mark) (u : Option TypeUseTree) (n : NameNo) (r : Option ReceiverTree) (ps : List ParameterTree) (ts : List TokenKind) → SoundBy (MayMember o) (spell_method_head ms u n r ps ++ ts) (method_end o ms u n r ps ts)
 method_end_sound o ms u n r ps (LeftBrace ∷ ts) =
     checked_sound (MayMember o) (spell_method_head ms u n r ps ++ LeftBrace ∷ ts) (not o.interface && good_method_head o ms r ps) (MethodHead ms u n r ps) ts (sym (append_assoc (spell_method_head ms u n r ps) (LeftBrace ∷ []) ts))
-      (λ e. let b = both_true (not o.interface) (good_method_head o ms r ps) e in (not_is o.interface b.0, method_good o ms r ps b.1))
+    (λ e. let b = both_true (not o.interface) (good_method_head o ms r ps) e in (not_is o.interface b.0, method_good o ms r ps b.1))
 method_end_sound o ms u n r ps (Semicolon ∷ ts) =
     checked_sound (MayMember o) (spell_method_head ms u n r ps ++ Semicolon ∷ ts) (good_method_head o ms r ps) (MethodPiece ms u n r ps) ts (sym (append_assoc (spell_method_head ms u n r ps) (Semicolon ∷ []) ts)) (method_good o ms r ps)
 method_end_sound o ms u n r ps _ = tt
@@ -103,15 +103,16 @@ method_sound : (o : Owner) (ms : List Mark) (u : Option TypeUseTree) (n : NameNo
 method_sound o ms u n ts None s = tt
 method_sound o ms u n ts (Some p) s =
     subst (λ x. SoundBy (MayMember o) x (method_end o ms u n p.0 p.1 p.2)) (sym (ap (λ x. spell_all_marks ms ++ (spell_result u ++ Id n ∷ LeftParen ∷ x)) s ∙ head_regroup (spell_all_marks ms) (spell_result u) (Id n) LeftParen (spell_parameters p.0 p.1) p.2))
-      (method_end_sound o ms u n p.0 p.1 p.2)
+    (method_end_sound o ms u n p.0 p.1 p.2)
 
 constructor_end_sound : (o : Owner) (ms : List Mark) (n : NameNo) (r : Option ReceiverTree) (ps : List ParameterTree) (ts : List TokenKind) → SoundBy (MayMember o) (spell_all_marks ms ++ Id n ∷ LeftParen ∷ (spell_parameters r ps ++ ts)) (constructor_end o ms n r ps ts)
 constructor_end_sound o ms n r ps (LeftBrace ∷ ts) =
-    (elim (good_constructor_head o ms n r ps) as (λ b. (b ≡ true → GoodConstructorHead o ms n ps × (r ≡ None)) → SoundBy (MayMember o) (spell_all_marks ms ++ Id n ∷ LeftParen ∷ (spell_parameters r ps ++ LeftBrace ∷ ts)) (checked b (ConstructorHead ms n ps) ts))
-      [ true ↦ λ h.
+    (elim (good_constructor_head o ms n r ps) as (λ b. (b ≡ true → GoodConstructorHead o ms n ps × (r ≡ None)) → SoundBy (MayMember o) (spell_all_marks ms ++ Id n ∷ LeftParen ∷ (spell_parameters r ps ++ LeftBrace ∷ ts)) (checked b (ConstructorHead ms n ps) ts)) [
+      | true ↦ λ h.
           let g = h refl in
           (ap (λ x. spell_all_marks ms ++ Id n ∷ LeftParen ∷ (spell_parameters x ps ++ LeftBrace ∷ ts)) g.1 ∙ constructor_regroup (spell_all_marks ms) (Id n) LeftParen (spell_parameters None ps) LeftBrace ts, g.0)
-      | false ↦ λ h. tt ])
+      | false ↦ λ h. tt
+    ])
     (constructor_good o ms n r ps)
   where
     constructor_regroup : (a : List TokenKind) (k l : TokenKind) (c : List TokenKind) (m : TokenKind) (ts : List TokenKind) → a ++ k ∷ l ∷ (c ++ m ∷ ts) ≡ ((a ++ k ∷ l ∷ c) ++ m ∷ []) ++ ts
@@ -129,7 +130,7 @@ field_regroup a b c d k ts = simp append_assoc
 field_end_sound : (o : Owner) (ms : List Mark) (u : TypeUseTree) (d : DeclaratorTree) (ds : List DeclaratorTree) (ts : List TokenKind) → GoodDeclarators (d ∷ ds) → nesting_declarators (d ∷ ds) ≤ deepest → SoundBy (MayMember o) (spell_all_marks ms ++ (spell_type_use u ++ (spell_declarator d ++ (spell_more_declarators ds ++ ts)))) (field_end ms u d ds ts)
 field_end_sound o ms u d ds (Semicolon ∷ ts) g m =
     checked_sound (MayMember o) (spell_all_marks ms ++ (spell_type_use u ++ (spell_declarator d ++ (spell_more_declarators ds ++ Semicolon ∷ ts)))) (good_marks marks_field ms) (FieldPiece ms u d ds) ts
-      (field_regroup (spell_all_marks ms) (spell_type_use u) (spell_declarator d) (spell_more_declarators ds) Semicolon ts) (λ e. (marks_good marks_field ms e, g, m))
+    (field_regroup (spell_all_marks ms) (spell_type_use u) (spell_declarator d) (spell_more_declarators ds) Semicolon ts) (λ e. (marks_good marks_field ms e, g, m))
 field_end_sound o ms u d ds _ g m = tt
 
 field_sound : (o : Owner) (ms : List Mark) (u : TypeUseTree) (ts : List TokenKind) (r : Option ((DeclaratorTree × List DeclaratorTree) × List TokenKind)) → SoundDeclarators deepest ts r → SoundBy (MayMember o) (spell_all_marks ms ++ (spell_type_use u ++ ts)) (after_declarators (field_end ms u) r)
@@ -223,7 +224,7 @@ void_sound o ms _ = tt
 use_sound : (o : Owner) (ms : List Mark) (ts : List TokenKind) → SoundBy (MayMember o) (spell_all_marks ms ++ ts) (after_type (typed_member o ms) (read_type_use ts))
 use_sound o ms ts =
     after_use_sound (λ p. SoundBy (MayMember o) (spell_all_marks ms ++ ts) p) (typed_member o ms) ts (read_type_use ts) tt (type_use_spells ts)
-      (λ u us e. subst (λ x. SoundBy (MayMember o) (spell_all_marks ms ++ x) (typed_member o ms u us)) (sym e) (typed_sound o ms u us))
+    (λ u us e. subst (λ x. SoundBy (MayMember o) (spell_all_marks ms ++ x) (typed_member o ms u us)) (sym e) (typed_sound o ms u us))
 
 behind_sound : (o : Owner) (ms : List Mark) (ts : List TokenKind) → SoundBy (MayMember o) (spell_all_marks ms ++ ts) (member_behind o ms ts)
 behind_sound o ms (Void ∷ ts) = void_sound o ms ts
@@ -282,6 +283,6 @@ member_full o _ rest g = absurd g
 pub in_body_full : (leading : Bool) (p : Piece) (rest : List TokenKind) → MayStatement leading p → FullByElse p rest (read_in_body leading (spell_piece p ++ rest))
 in_body_full leading (StatementPiece s) rest g =
     subst (λ o. FullByElse (StatementPiece s) rest o) (sym (body_step leading (spell_statement s ++ rest) (stands_no_end (spell_statement s ++ rest) (statement_stands s rest))))
-      (statement_full_by s rest (read_body_statement leading (spell_statement s ++ rest)) (body_statement_full leading s rest g.0 g.1))
+    (statement_full_by s rest (read_body_statement leading (spell_statement s ++ rest)) (body_statement_full leading s rest g.0 g.1))
 in_body_full leading BodyEnd rest g = (omega arith, λ e. refl)
 in_body_full leading _ rest g = absurd g

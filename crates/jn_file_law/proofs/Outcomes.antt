@@ -1,6 +1,5 @@
 -- A file has one tree or one syntax row.
-use Rattle.std.proofs.Common.{◌≡◌, ℕ, ◌+◌, ◌<◌, ◌≤◌, List, length, take, sym, ap, ◌∙◌, subst, arith, Bool, true, false}
-use Rattle.std.specs.Prelude.{◌⊎◌}
+use Rattle.std.proofs.Common.{◌≡◌, ℕ, ◌+◌, ◌<◌, ◌≤◌, List, take, sym, ap, ◌∙◌, arith}
 use mathlib.Core.Logic.{inl, inr}
 use Rattle.jn_base.specs.declared.number.FileNo.{FileNo}
 use Rattle.jn_base.specs.declared.place.Row.{Row}
@@ -8,7 +7,7 @@ use Rattle.jn_base.specs.declared.code.Code.TheVariants.{S1, S2}
 use Rattle.jn_trees.specs.declared.token.Token.{Token}
 use Rattle.jn_trees.specs.declared.token.TokenKind.{TokenKind}
 use Rattle.jn_trees.specs.Trees.{SourceTree}
-use Rattle.jn_trees.specs.Pieces.{Language, AtStart, pieces, IsPlace, IsTooDeep, Shallow, opened_from, most_open, kinds, token_place, IsFile, IsDeepFault, IsSyntaxFault, IsSyntaxRow}
+use Rattle.jn_trees.specs.Pieces.{Language, AtStart, pieces, IsPlace, IsTooDeep, Shallow, opened_from, most_open, kinds, token_place, IsFile, IsSyntaxRow}
 use Rattle.jn_file_law.proofs.FileLaws.{one_tree}
 
 equal : (m n : ℕ) → m ≤ n → n ≤ m → m ≡ n

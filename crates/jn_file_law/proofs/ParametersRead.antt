@@ -1,8 +1,8 @@
 -- Parameters are read, and only they.
-use Rattle.std.proofs.Common.{◌≡◌, ℕ, zero, suc, ◌+◌, ◌<◌, ◌≤◌, List, [], ◌∷◌, ◌++◌, length, refl, sym, ap, ◌∙◌, subst, arith, append_assoc, length-append, Option, Some, None, Bool, true, false}
+use Rattle.std.proofs.Common.{◌≡◌, ℕ, zero, suc, ◌<◌, List, [], ◌∷◌, ◌++◌, length, refl, sym, ap, ◌∙◌, subst, arith, append_assoc, length-append, Option, Some, None, false}
 use Rattle.jn_base.specs.declared.number.NameNo.{NameNo}
 use Rattle.jn_trees.specs.declared.token.TokenKind.{TokenKind}
-use Rattle.jn_trees.specs.declared.token.TokenKind.TheVariants.{Id, This, RightParen, Comma, At, Final}
+use Rattle.jn_trees.specs.declared.token.TokenKind.TheVariants.{Id, This, RightParen, Comma, At}
 use Rattle.jn_trees.specs.Trees.{BaseTree, ClassBase, IntBase, BooleanBase, LocalMark, AnnotationMark, FinalMark, TypeUseTree, ParameterTree, ReceiverTree}
 use Rattle.jn_trees.specs.Spelling.{base_token, spell_annotations, spell_marks, spell_brackets, spell_type_use, spell_parameter, spell_more_parameters, spell_parameters}
 use Rattle.jn_stmt_law.specs.Parts.{read_marks, read_type_use}
@@ -35,9 +35,10 @@ named_regroup a b k ts = simp append_assoc
 
 parameter_end_sound : (more : List TokenKind → TryParameters) → ((ts : List TokenKind) → SoundMore ts (more ts)) → (ms : List LocalMark) (u : TypeUseTree) (ts : List TokenKind) → SoundFrom (spell_marks ms ++ (spell_type_use u ++ ts)) (parameter_end more ms u ts)
 parameter_end_sound more h ms u (Id n ∷ ts) =
-    (elim (more ts) as (λ o. SoundMore ts o → SoundFrom (spell_marks ms ++ (spell_type_use u ++ Id n ∷ ts)) (add_parameter (record { marks = ms; type_use = u; name = n }) o))
-      [ None ↦ λ _. tt
-      | Some r ↦ λ s. named_regroup (spell_marks ms) (spell_type_use u) (Id n) ts ∙ ap (λ x. (spell_marks ms ++ (spell_type_use u ++ Id n ∷ [])) ++ x) s ])
+    (elim (more ts) as (λ o. SoundMore ts o → SoundFrom (spell_marks ms ++ (spell_type_use u ++ Id n ∷ ts)) (add_parameter (record { marks = ms; type_use = u; name = n }) o)) [
+      | None ↦ λ _. tt
+      | Some r ↦ λ s. named_regroup (spell_marks ms) (spell_type_use u) (Id n) ts ∙ ap (λ x. (spell_marks ms ++ (spell_type_use u ++ Id n ∷ [])) ++ x) s
+    ])
     (h ts)
 parameter_end_sound more h ms u _ = tt
 
@@ -66,7 +67,7 @@ are_names : (ms : List LocalMark) → AreNames ms (annotation_names_of ms)
 are_names [] = refl
 are_names (AnnotationMark n ∷ ms) =
     (elim (annotation_names_of ms) as (λ o. AreNames ms o → AreNames (AnnotationMark n ∷ ms) (elim o as (λ _. Option (List NameNo)) [ None ↦ None | Some ns ↦ Some (n ∷ ns) ]))
-      [ None ↦ λ _. tt | Some ns ↦ λ h. ap (λ x. At ∷ Id n ∷ x) h ])
+    [ None ↦ λ _. tt | Some ns ↦ λ h. ap (λ x. At ∷ Id n ∷ x) h ])
     (are_names ms)
 are_names (FinalMark ∷ ms) = tt
 
@@ -92,7 +93,7 @@ parameter_from_sound : (more : List TokenKind → TryParameters) → ((ts : List
 parameter_from_sound more h ts =
     let q = read_marks ts in
     after_use_sound (SoundFrom ts) (parameter_end more q.0) q.1 (read_type_use q.1) tt (type_use_spells q.1)
-      (λ u us e. subst (λ x. SoundFrom x (parameter_end more q.0 u us)) (sym (marks_spell ts ∙ ap (λ x. spell_marks q.0 ++ x) e)) (parameter_end_sound more h q.0 u us))
+    (λ u us e. subst (λ x. SoundFrom x (parameter_end more q.0 u us)) (sym (marks_spell ts ∙ ap (λ x. spell_marks q.0 ++ x) e)) (parameter_end_sound more h q.0 u us))
 
 more_sound : (n : ℕ) (ts : List TokenKind) → SoundMore ts (more_parameters_from n ts)
 more_sound zero ts = tt
@@ -112,7 +113,7 @@ first_sound : (ts : List TokenKind) → SoundAll ts (after_type (first_end (read
 first_sound ts =
     let q = read_marks ts in
     after_use_sound (SoundAll ts) (first_end q.0) q.1 (read_type_use q.1) tt (type_use_spells q.1)
-      (λ u us e. subst (λ x. SoundAll x (first_end q.0 u us)) (sym (marks_spell ts ∙ ap (λ x. spell_marks q.0 ++ x) e)) (first_end_sound q.0 u us))
+    (λ u us e. subst (λ x. SoundAll x (first_end q.0 u us)) (sym (marks_spell ts ∙ ap (λ x. spell_marks q.0 ++ x) e)) (first_end_sound q.0 u us))
 
 pub parameters_sound : (ts : List TokenKind) → SoundAll ts (read_parameters ts)
 parameters_sound (RightParen ∷ ts) = refl

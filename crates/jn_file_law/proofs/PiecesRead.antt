@@ -1,11 +1,10 @@
 -- The reader of one piece is sound and full, so reading again and again ends at the place.
-use Rattle.std.proofs.Common.{◌≡◌, ℕ, suc, ◌+◌, ◌-◌, ◌<◌, ◌≤◌, List, [], ◌∷◌, ◌++◌, length, refl, sym, ap, ◌∙◌, subst, arith, append_assoc, length-append, Option, Some, None, Bool, true, false, not}
-use Rattle.jn_base.specs.declared.number.NameNo.{NameNo}
+use Rattle.std.proofs.Common.{◌≡◌, ◌<◌, List, [], ◌∷◌, ◌++◌, length, refl, sym, ap, ◌∙◌, subst, arith, append_assoc, length-append, Option, Some, None, false, not}
 use Rattle.jn_trees.specs.declared.token.TokenKind.{TokenKind}
-use Rattle.jn_trees.specs.declared.token.TokenKind.TheVariants.{Id, Class, Implements, Extends, Interface, Else, Void, LeftParen, RightBrace, LeftBrace, Semicolon}
+use Rattle.jn_trees.specs.declared.token.TokenKind.TheVariants.{Id, Class, Implements, Extends, Interface, LeftParen, LeftBrace, Semicolon}
 use Rattle.jn_trees.specs.Trees.{BaseTree, ClassBase, IntBase, BooleanBase, Mark, NoteMark, PublicMark, ProtectedMark, PrivateMark, StaticMark, ConstantMark, AbstractMark, TypeUseTree}
-use Rattle.jn_trees.specs.Spelling.{base_token, spell_mark, spell_all_marks, spell_parent, spell_names, spell_brackets, spell_type_use, spell_result, spell_declarator, spell_more_declarators, spell_parameters, spell_statement, spell_method_head, spell_constructor_head}
-use Rattle.jn_trees.specs.Pieces.{Language, Piece, PackagePiece, ImportPiece, ClassHead, InterfaceHead, FieldPiece, MethodPiece, MethodHead, ConstructorHead, StatementPiece, BodyEnd, TypeEnd, Around, AtStart, BehindLines, BehindTypes, InType, InBody, spell_piece, May, pieces, IsPlace}
+use Rattle.jn_trees.specs.Spelling.{base_token, spell_all_marks, spell_parent, spell_names, spell_brackets, spell_type_use, spell_result, spell_declarator, spell_more_declarators, spell_parameters, spell_statement, spell_method_head, spell_constructor_head}
+use Rattle.jn_trees.specs.Pieces.{Piece, ClassHead, InterfaceHead, FieldPiece, MethodPiece, MethodHead, ConstructorHead, StatementPiece, Around, AtStart, BehindLines, BehindTypes, InType, InBody, spell_piece, May, pieces}
 use Rattle.jn_file_law.specs.Runs.{SoundPiece, FullPiece}
 use Rattle.jn_file_law.specs.PieceReader.{TryPiece, piece_reader}
 use Rattle.jn_file_law.proofs.Places.{PieceReader}

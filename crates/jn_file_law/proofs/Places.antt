@@ -1,7 +1,7 @@
 -- Reading the longest piece again and again ends at the greatest place.
-use Rattle.std.proofs.Common.{◌≡◌, ℕ, zero, suc, ◌+◌, ◌-◌, ◌<◌, ◌≤◌, List, [], ◌∷◌, ◌++◌, length, refl, sym, ap, ◌∙◌, subst, arith, append_assoc, append-nil, length-append, Option, Some, None, Bool, true, false}
+use Rattle.std.proofs.Common.{◌≡◌, ℕ, zero, suc, ◌+◌, ◌-◌, ◌<◌, ◌≤◌, List, [], ◌∷◌, ◌++◌, length, refl, sym, ap, ◌∙◌, subst, arith, append_assoc, append-nil, length-append, Some, None, Bool, true}
 use Rattle.jn_trees.specs.declared.token.TokenKind.{TokenKind}
-use Rattle.jn_trees.specs.Pieces.{Language, spell_pieces, InOrder, Begins, IsPlace}
+use Rattle.jn_trees.specs.Pieces.{Language, spell_pieces, InOrder, IsPlace}
 use Rattle.jn_file_law.specs.Runs.{Found, SoundPiece, FullPiece, run, ReadsRow}
 
 -- a reader of one piece that is sound and full, where pieces and the end of the tokens are quiet
@@ -16,11 +16,12 @@ pub record PieceReader (L : Language) : Type 0 where
 run_sound : (L : Language) (R : PieceReader L) (n : ℕ) (s : L.State) (ts : List TokenKind) → InOrder L s (run L R.read n s ts).0 × (ts ≡ spell_pieces L (run L R.read n s ts).0 ++ (run L R.read n s ts).1)
 run_sound L R zero s ts = (tt, refl)
 run_sound L R (suc n) s ts =
-    (elim (R.read s ts) as (λ o. SoundPiece L s ts o → (let q = elim o as (λ _. List L.Piece × List TokenKind) [ None ↦ ([], ts) | Some r ↦ (let q = run L R.read n (L.next s r.0) r.1 in (r.0 ∷ q.0, q.1)) ] in InOrder L s q.0 × (ts ≡ spell_pieces L q.0 ++ q.1)))
-      [ None ↦ λ _. (tt, refl)
+    (elim (R.read s ts) as (λ o. SoundPiece L s ts o → (let q = elim o as (λ _. List L.Piece × List TokenKind) [ None ↦ ([], ts) | Some r ↦ (let q = run L R.read n (L.next s r.0) r.1 in (r.0 ∷ q.0, q.1)) ] in InOrder L s q.0 × (ts ≡ spell_pieces L q.0 ++ q.1))) [
+      | None ↦ λ _. (tt, refl)
       | Some r ↦ λ g.
           let h = run_sound L R n (L.next s r.0) r.1 in
-          ((g.1, h.0), g.0 ∙ ap (λ x. L.spelling r.0 ++ x) h.1 ∙ sym (append_assoc (L.spelling r.0) (spell_pieces L (run L R.read n (L.next s r.0) r.1).0) (run L R.read n (L.next s r.0) r.1).1)) ])
+          ((g.1, h.0), g.0 ∙ ap (λ x. L.spelling r.0 ++ x) h.1 ∙ sym (append_assoc (L.spelling r.0) (spell_pieces L (run L R.read n (L.next s r.0) r.1).0) (run L R.read n (L.next s r.0) r.1).1))
+    ])
     (R.sound s ts)
 
 run_shorter : (L : Language) (R : PieceReader L) (n : ℕ) (s : L.State) (ts : List TokenKind) → length (run L R.read n s ts).1 ≤ length ts
@@ -35,20 +36,21 @@ further L R zero s ps rest o lt = absurd (omega (arith, lt))
 further L R (suc n) s [] rest o lt = run_shorter L R (suc n) s rest
 further L R (suc n) s (p ∷ []) rest o lt =
     subst (λ x. length (run L R.read (suc n) s x).1 ≤ length rest) (sym (append_assoc (L.spelling p) [] rest))
-      ((elim (R.read s (L.spelling p ++ rest)) as (λ o. FullPiece L R.quiet p rest o → length (elim o as (λ _. List L.Piece × List TokenKind) [ None ↦ ([], L.spelling p ++ rest) | Some r ↦ (let q = run L R.read n (L.next s r.0) r.1 in (r.0 ∷ q.0, q.1)) ]).1 ≤ length rest)
-        [ None ↦ λ f. absurd f | Some r ↦ λ f. let short = run_shorter L R n (L.next s r.0) r.1 in omega (arith, short, f.0) ])
-      (R.full s p rest o.0))
+    ((elim (R.read s (L.spelling p ++ rest)) as (λ o. FullPiece L R.quiet p rest o → length (elim o as (λ _. List L.Piece × List TokenKind) [ None ↦ ([], L.spelling p ++ rest) | Some r ↦ (let q = run L R.read n (L.next s r.0) r.1 in (r.0 ∷ q.0, q.1)) ]).1 ≤ length rest)
+    [ None ↦ λ f. absurd f | Some r ↦ λ f. let short = run_shorter L R n (L.next s r.0) r.1 in omega (arith, short, f.0) ])
+    (R.full s p rest o.0))
 further L R (suc n) s (p ∷ (q ∷ qs)) rest o lt =
     let more = spell_pieces L (q ∷ qs) ++ rest in
     subst (λ x. length (run L R.read (suc n) s x).1 ≤ length rest) (sym (append_assoc (L.spelling p) (spell_pieces L (q ∷ qs)) rest))
-      ((elim (R.read s (L.spelling p ++ more)) as (λ o. FullPiece L R.quiet p more o → SoundPiece L s (L.spelling p ++ more) o → length (elim o as (λ _. List L.Piece × List TokenKind) [ None ↦ ([], L.spelling p ++ more) | Some r ↦ (let q = run L R.read n (L.next s r.0) r.1 in (r.0 ∷ q.0, q.1)) ]).1 ≤ length rest)
-        [ None ↦ λ f g. absurd f
-        | Some r ↦ λ f g.
-            let same : r ≡ (p, more) = f.1 (quiet_pieces L R (L.next s p) q qs rest o.1) in
-            let long : length ((L.spelling p ++ spell_pieces L (q ∷ qs)) ++ rest) ≡ length (L.spelling p ++ more) = ap length (append_assoc (L.spelling p) (spell_pieces L (q ∷ qs)) rest) in
-            let small : length more < n = omega (arith, ap (λ (x : L.Piece × List TokenKind). length x.1) same, g.2, lt, long) in
-            subst (λ (x : L.Piece × List TokenKind). length (run L R.read n (L.next s x.0) x.1).1 ≤ length rest) (sym same) (further L R n (L.next s p) (q ∷ qs) rest o.1 small) ])
-      (R.full s p more o.0) (R.sound s (L.spelling p ++ more)))
+    ((elim (R.read s (L.spelling p ++ more)) as (λ o. FullPiece L R.quiet p more o → SoundPiece L s (L.spelling p ++ more) o → length (elim o as (λ _. List L.Piece × List TokenKind) [ None ↦ ([], L.spelling p ++ more) | Some r ↦ (let q = run L R.read n (L.next s r.0) r.1 in (r.0 ∷ q.0, q.1)) ]).1 ≤ length rest) [
+      | None ↦ λ f g. absurd f
+      | Some r ↦ λ f g.
+          let same : r ≡ (p, more) = f.1 (quiet_pieces L R (L.next s p) q qs rest o.1) in
+          let long : length ((L.spelling p ++ spell_pieces L (q ∷ qs)) ++ rest) ≡ length (L.spelling p ++ more) = ap length (append_assoc (L.spelling p) (spell_pieces L (q ∷ qs)) rest) in
+          let small : length more < n = omega (arith, ap (λ (x : L.Piece × List TokenKind). length x.1) same, g.2, lt, long) in
+          subst (λ (x : L.Piece × List TokenKind). length (run L R.read n (L.next s x.0) x.1).1 ≤ length rest) (sym same) (further L R n (L.next s p) (q ∷ qs) rest o.1 small)
+    ])
+    (R.full s p more o.0) (R.sound s (L.spelling p ++ more)))
 
 -- the place where the run stops
 pub run_place : (L : Language) (R : PieceReader L) (s : L.State) (ts : List TokenKind) → IsPlace L s ts (length ts - length (run L R.read (suc (length ts)) s ts).1)
@@ -59,9 +61,9 @@ run_place L R s ts =
     record {
       reached = record { pieces = end.0; rest = end.1; ordered = h.0; spelled = h.1; place = omega (arith, long) };
       greatest = λ m b.
-        let far : length (run L R.read (suc (length ts)) s (spell_pieces L b.pieces ++ b.rest)).1 ≤ length b.rest = further L R (suc (length ts)) s b.pieces b.rest b.ordered (omega (arith, ap length b.spelled)) in
-        let same : length end.1 ≤ length b.rest = subst (λ x. length (run L R.read (suc (length ts)) s x).1 ≤ length b.rest) (sym b.spelled) far in
-        omega (arith, b.place, same, long, ap length b.spelled, length-append (spell_pieces L b.pieces) b.rest);
+          let far : length (run L R.read (suc (length ts)) s (spell_pieces L b.pieces ++ b.rest)).1 ≤ length b.rest = further L R (suc (length ts)) s b.pieces b.rest b.ordered (omega (arith, ap length b.spelled)) in
+          let same : length end.1 ≤ length b.rest = subst (λ x. length (run L R.read (suc (length ts)) s x).1 ≤ length b.rest) (sym b.spelled) far in
+          omega (arith, b.place, same, long, ap length b.spelled, length-append (spell_pieces L b.pieces) b.rest);
     }
 
 -- pieces that are read one after another are in order, and what is left stands behind them

@@ -1,13 +1,13 @@
 -- The pieces of a well-formed file are in order, spell it, and build it.
-use Rattle.std.proofs.Common.{◌≡◌, ℕ, ◌≤◌, max, List, [], ◌∷◌, ◌++◌, refl, sym, ap, ◌∙◌, subst, arith, append_assoc, append-nil, Option, Some, None, Bool, true, false}
+use Rattle.std.proofs.Common.{◌≡◌, ◌≤◌, List, [], ◌∷◌, ◌++◌, refl, sym, ap, ◌∙◌, subst, arith, append_assoc, append-nil, Option, Some, None, Bool, true, false}
 use Rattle.jn_trees.specs.declared.token.TokenKind.{TokenKind}
-use Rattle.jn_trees.specs.declared.token.TokenKind.TheVariants.{LeftBrace, RightBrace, Semicolon}
+use Rattle.jn_trees.specs.declared.token.TokenKind.TheVariants.{LeftBrace, Semicolon}
 use Rattle.jn_trees.specs.declared.context.Owner.{Owner}
 use Rattle.jn_trees.specs.Trees.{Statement, Statements, NoStatements, MoreStatements, MemberTree, FieldMember, MethodMember, ConstructorMember, TypeDeclaration, ClassType, InterfaceType, DottedName, ImportTree, SourceTree}
 use Rattle.jn_trees.specs.Spelling.{spell_package_line, spell_import, spell_imports, spell_types, spell_type, spell_members, spell_member, spell_body, spell_statement, spell_field, spell_method_head, spell_constructor_head, spell_class_head, spell_interface_head, spell_file}
-use Rattle.jn_trees.specs.WellFormed.{GoodBody, GoodStatements, nesting_body, nesting_statement, GoodMember, GoodMembers, GoodType, GoodTypes, GoodFile, body_context, deepest}
-use Rattle.jn_trees.specs.Pieces.{Language, spell_pieces, InOrder, Piece, PackagePiece, ImportPiece, ClassHead, InterfaceHead, FieldPiece, MethodPiece, MethodHead, ConstructorHead, StatementPiece, BodyEnd, TypeEnd, spell_piece, Around, AtStart, BehindLines, BehindTypes, InType, InBody, pieces}
-use Rattle.jn_file_law.specs.Built.{TypeOpening, ClassOpening, InterfaceOpening, MemberOpening, MethodOpening, ConstructorOpening, OpenMember, OpenType, Built, nothing, all_statements, member_of, type_of, add, add_all, finished}
+use Rattle.jn_trees.specs.WellFormed.{GoodBody, GoodStatements, nesting_body, GoodMember, GoodMembers, GoodType, GoodTypes, GoodFile, body_context, deepest}
+use Rattle.jn_trees.specs.Pieces.{spell_pieces, InOrder, Piece, TypeEnd, spell_piece, Around, AtStart, BehindLines, BehindTypes, InType, InBody, pieces}
+use Rattle.jn_file_law.specs.Built.{TypeOpening, ClassOpening, InterfaceOpening, MemberOpening, MethodOpening, ConstructorOpening, Built, nothing, all_statements, member_of, type_of, add, add_all, finished}
 use Rattle.jn_file_law.specs.TreePieces.{body_pieces, member_pieces, members_pieces, type_pieces, types_pieces, package_pieces, import_pieces, tree_pieces}
 
 abbrev pub spelled : List Piece → List TokenKind

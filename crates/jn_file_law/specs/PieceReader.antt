@@ -4,7 +4,7 @@ use Rattle.jn_base.specs.declared.number.NameNo.{NameNo}
 use Rattle.jn_trees.specs.declared.token.TokenKind.{TokenKind}
 use Rattle.jn_trees.specs.declared.token.TokenKind.TheVariants.{Id, Abstract, Class, Extends, Final, Implements, Import, Interface, Package, Private, Protected, Public, Static, This, Void, LeftParen, RightParen, LeftBrace, RightBrace, Semicolon, Comma, Dot, At, Star}
 use Rattle.jn_trees.specs.declared.context.Owner.{Owner}
-use Rattle.jn_trees.specs.Trees.{ClassBase, BaseTree, LocalMark, AnnotationMark, FinalMark, TypeUseTree, DeclaratorTree, Mark, NoteMark, PublicMark, ProtectedMark, PrivateMark, StaticMark, ConstantMark, AbstractMark, ParameterTree, ReceiverTree}
+use Rattle.jn_trees.specs.Trees.{ClassBase, LocalMark, AnnotationMark, FinalMark, TypeUseTree, DeclaratorTree, Mark, NoteMark, PublicMark, ProtectedMark, PrivateMark, StaticMark, ConstantMark, AbstractMark, ParameterTree, ReceiverTree}
 use Rattle.jn_trees.specs.WellFormed.{final_once, every, no_clash, marks_type, marks_interface, marks_field, marks_method, marks_interface_method, marks_constructor, has_static, deepest, body_context}
 use Rattle.jn_trees.specs.Longest.{TryStatement}
 use Rattle.jn_trees.specs.Pieces.{Piece, PackagePiece, ImportPiece, ClassHead, InterfaceHead, FieldPiece, MethodPiece, MethodHead, ConstructorHead, StatementPiece, BodyEnd, TypeEnd, Around, AtStart, BehindLines, BehindTypes, InType, InBody}
