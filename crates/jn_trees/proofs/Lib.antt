@@ -2,3 +2,4 @@ pub mod Texts
 pub mod Numbers
 pub mod SameTokens
 pub mod OpenBrackets
+pub mod Seen
