@@ -1,16 +1,16 @@
--- Tokens put behind others in parts.
-use Rattle.std.proofs.Common.{◌≡◌, List, ◌++◌, sym, ap, ◌∙◌, append_assoc}
-use Rattle.std.specs.Prelude.{Result, OnOk}
-use Rattle.std.proofs.lemmas.Result.{on_ok_weaker}
+-- Items put behind tokens one after another.
+use Rattle.std.proofs.Common.{◌≡◌, ℕ, ◌+◌, ◌<◌, ◌≤◌, List, [], ◌∷◌, ◌++◌, length, drop, get_or, sym, ap, ◌∙◌, append_assoc}
+use Rattle.std.proofs.lemmas.List.{drop_more}
+use Rattle.std.proofs.Math.ListN.{drop_of_length-le}
 use Rattle.jn_trees.specs.declared.token.TokenKind.{TokenKind}
 
-pub joined : (old mid new a b : List TokenKind) → mid ≡ old ++ a → new ≡ mid ++ b → new ≡ old ++ (a ++ b)
-joined old mid new a b m n = n ∙ ap (λ k. k ++ b) m ∙ append_assoc old a b
+-- a step of a loop, where F spells the items that are left and G one of them
+pub put_more : {X : Type 0} (F : List X → List TokenKind) (G : X → List TokenKind) (step : (x : X) (xs : List X) → F (x ∷ xs) ≡ G x ++ F xs) (xs : List X) (i : ℕ) (d x : X) (old new : List TokenKind) → i < length xs → x ≡ get_or xs i d → new ≡ old ++ G x → new ++ F (drop (i + 1) xs) ≡ old ++ F (drop i xs)
+put_more F G step xs i d x old new lt is n =
+    ap (λ k. k ++ F (drop (i + 1) xs)) n
+    ∙ append_assoc old (G x) (F (drop (i + 1) xs))
+    ∙ ap (λ k. old ++ k) (ap (λ y. G y ++ F (drop (i + 1) xs)) is ∙ sym (step (get_or xs i d) (drop (i + 1) xs)) ∙ sym (ap F (drop_more xs i d lt)))
 
--- the last part is put by a call whose result is given back
-pub ends_with : {T E : Type 0} (r : Result T E) (old mid new a b whole : List TokenKind) → mid ≡ old ++ a → whole ≡ a ++ b → OnOk r (new ≡ mid ++ b) → OnOk r (new ≡ old ++ whole)
-ends_with r old mid new a b whole m w = on_ok_weaker r (λ n. joined old mid new a b m n ∙ ap (λ k. old ++ k) (sym w))
-
--- and is the whole
-pub is_whole : {T E : Type 0} (r : Result T E) (old new b whole : List TokenKind) → whole ≡ b → OnOk r (new ≡ old ++ b) → OnOk r (new ≡ old ++ whole)
-is_whole r old new b whole w = on_ok_weaker r (λ n. n ∙ ap (λ k. old ++ k) (sym w))
+-- and its end
+pub put_none : {X : Type 0} (F : List X → List TokenKind) (xs : List X) (i : ℕ) → length xs ≤ i → F (drop i xs) ≡ F []
+put_none F xs i le = ap F (drop_of_length-le xs le)

@@ -4,7 +4,7 @@ use Rattle.jn_trees.specs.declared.token.TokenKind.{TokenKind}
 use Rattle.jn_trees.specs.declared.token.TokenKind.TheVariants.{Comma}
 use Rattle.jn_trees.specs.Trees.{Tree, Trees, NoTrees, MoreTrees}
 use Rattle.jn_trees.specs.Spelling.{spell, spell_list, spell_more}
-use Rattle.jn_spelling.specs.Commas.{separator}
+use Rattle.jn_spelling.specs.Parts.{separator}
 
 -- the expressions from this number on, through what ends them
 abbrev pub spell_from : TokenKind → ℕ → Trees → List TokenKind

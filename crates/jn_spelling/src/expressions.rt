@@ -2,7 +2,7 @@
 
 ghost use Rattle.std.specs.Prelude.{◌≡◌, ◌++◌, OnOk};
 ghost use Rattle.jn_trees.specs.Spelling.{spell as spec_spell, spell_list as spec_list, spell_annotations as spec_annotations};
-ghost use Rattle.jn_spelling.specs.Commas.{new_front as spec_new};
+ghost use Rattle.jn_spelling.specs.Parts.{new_front as spec_new};
 ghost use Rattle.jn_trees.specs.View.{view, views, annotation_names, base_view};
 
 use crate::put::{put, put_all, separate};

@@ -2,5 +2,8 @@
 #![tactic(auto)]
 
 pub mod expressions;
+pub mod locals;
 pub mod put;
+pub mod statements;
 pub mod words;
+

@@ -1,6 +1,6 @@
 // Tokens behind others.
 
-ghost use Rattle.jn_spelling.specs.Commas.{separator};
+ghost use Rattle.jn_spelling.specs.Parts.{separator};
 ghost use Rattle.std.specs.Prelude.{◌≡◌, ◌++◌, ◌∷◌, [], OnOk};
 
 use jn_base::OutOfMemory;
