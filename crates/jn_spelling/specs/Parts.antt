@@ -1,9 +1,12 @@
 -- Parts of spellings: what stands before an item of a list, the front of a new array, and one modifier.
-use Rattle.std.specs.Prelude.{ℕ, Option, List, [], ◌∷◌, ◌++◌, cond, nat_eq}
+use Rattle.std.specs.Prelude.{ℕ, Option, Bool, true, false, List, [], ◌∷◌, ◌++◌, cond, nat_eq}
 use Rattle.jn_base.specs.declared.number.NameNo.{NameNo}
 use Rattle.jn_trees.specs.declared.token.TokenKind.{TokenKind}
 use Rattle.jn_trees.specs.declared.token.TokenKind.TheVariants.{Id, Final, For, Comma, Colon, At, New, LeftParen, RightParen, LeftBracket, Semicolon}
+use Rattle.jn_trees.specs.declared.expression.UnaryOperator.{UnaryOperator}
+use Rattle.jn_trees.specs.declared.expression.UnaryOperator.TheVariants.{Minus, Not}
 use Rattle.jn_trees.specs.Trees.{BaseTree, Tree, Trees, InitTree, TypeUseTree, LocalMark, AnnotationMark, FinalMark}
+use Rattle.jn_trees.specs.WellFormed.{is_least_number}
 use Rattle.jn_trees.specs.Spelling.{base_token, spell_annotations, spell, spell_list, spell_init, spell_optional, spell_marks, spell_type_use}
 
 -- a comma before each but the first
@@ -33,3 +36,12 @@ each_head ms u n = For ∷ LeftParen ∷ (spell_marks ms ++ (spell_type_use u ++
 -- a call of another constructor (JLS 8.8.7.1)
 abbrev pub other_call : TokenKind → Trees → List TokenKind
 other_call word es = word ∷ LeftParen ∷ (spell_list RightParen es ++ Semicolon ∷ [])
+
+abbrev pub is_not_sign : UnaryOperator → Bool
+is_not_sign Not = true
+is_not_sign _ = false
+
+-- a minus sign and the number that stands behind it alone (JLS 3.10.1)
+abbrev pub is_least_signed : UnaryOperator → Tree → Bool
+is_least_signed Minus e = is_least_number e
+is_least_signed _ e = false

@@ -4,6 +4,8 @@
 pub mod declarations;
 pub mod expressions;
 pub mod files;
+pub mod good;
+pub mod levels;
 pub mod locals;
 pub mod members;
 pub mod put;
