@@ -28,8 +28,8 @@ listed_more end place t left rest old mid new l m n =
     ∙ regrouped old (separator place) (spell t) (spell_more end rest)
     ∙ ap (λ k. old ++ k) (sym (ap (spell_from end place) l ∙ from_more (nat_eq place 0) end t rest))
   where
-  regrouped : (a b c d : List TokenKind) → ((a ++ b) ++ c) ++ d ≡ a ++ (b ++ (c ++ d))
-  regrouped a b c d = simp append_assoc
+    regrouped : (a b c d : List TokenKind) → ((a ++ b) ++ c) ++ d ≡ a ++ (b ++ (c ++ d))
+    regrouped a b c d = simp append_assoc
 
 pub listed_none : (end : TokenKind) (place : ℕ) (left : Trees) (old : List TokenKind) → left ≡ NoTrees → old ++ end ∷ [] ≡ old ++ spell_from end place left
 listed_none end place left old l = ap (λ k. old ++ k) (sym (ap (spell_from end place) l ∙ from_none (nat_eq place 0) end))

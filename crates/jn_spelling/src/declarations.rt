@@ -30,7 +30,11 @@ fn spell_more_names(kinds: &mut Vec<TokenKind>, names: &[Identifier]) -> Result<
 }
 
 /// Puts a word and the names, or nothing where there are none, behind the tokens.
-fn spell_names(kinds: &mut Vec<TokenKind>, word: TokenKind, names: &[Identifier]) -> Result<(), OutOfMemory>
+fn spell_names(
+    kinds: &mut Vec<TokenKind>,
+    word: TokenKind,
+    names: &[Identifier],
+) -> Result<(), OutOfMemory>
     ensures { OnOk result (kinds.new.items ≡ kinds.old.items ++ spec_names word (identifier_names names.now)) }
 {
     match names.split_first() {
@@ -88,11 +92,24 @@ pub fn spell_type(kinds: &mut Vec<TokenKind>, declaration: &TypeTree) -> Result<
     ensures { OnOk result (kinds.new.items ≡ kinds.old.items ++ spec_type (type_view declaration.now)) }
 {
     match declaration {
-        TypeTree::Class { modifiers, name, parent, interfaces, members, .. } => {
+        TypeTree::Class {
+            modifiers,
+            name,
+            parent,
+            interfaces,
+            members,
+            ..
+        } => {
             spell_class_head(kinds, modifiers, name.name, *parent, interfaces)?;
             spell_members(kinds, members)
         }
-        TypeTree::Interface { modifiers, name, parents, members, .. } => {
+        TypeTree::Interface {
+            modifiers,
+            name,
+            parents,
+            members,
+            ..
+        } => {
             spell_interface_head(kinds, modifiers, name.name, parents)?;
             spell_members(kinds, members)
         }

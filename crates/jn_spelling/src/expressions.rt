@@ -6,12 +6,17 @@ ghost use Rattle.jn_spelling.specs.Parts.{new_front as spec_new};
 ghost use Rattle.jn_trees.specs.View.{view, views, annotation_names, base_view};
 
 use crate::put::{put, put_all, separate};
-use crate::words::{assign_token, base_token, literal_token, operator_token, sign_token, step_token};
+use crate::words::{
+    assign_token, base_token, literal_token, operator_token, sign_token, step_token,
+};
 use jn_base::OutOfMemory;
 use jn_trees::{Annotation, Base, Expr, TokenKind};
 
 /// Puts the annotations behind the tokens.
-pub fn spell_annotations(kinds: &mut Vec<TokenKind>, annotations: &[Annotation]) -> Result<(), OutOfMemory>
+pub fn spell_annotations(
+    kinds: &mut Vec<TokenKind>,
+    annotations: &[Annotation],
+) -> Result<(), OutOfMemory>
     ensures { OnOk result (kinds.new.items ≡ kinds.old.items ++ spec_annotations (annotation_names annotations.now)) }
 {
     for annotation in annotations {
@@ -38,19 +43,44 @@ pub fn spell(kinds: &mut Vec<TokenKind>, expression: &Expr) -> Result<(), OutOfM
             spell(kinds, target)?;
             put_all(kinds, &[TokenKind::Dot, TokenKind::Id(name.name)])
         }
-        Expr::Call { target, name, arguments, .. } => {
+        Expr::Call {
+            target,
+            name,
+            arguments,
+            ..
+        } => {
             spell(kinds, target)?;
-            put_all(kinds, &[TokenKind::Dot, TokenKind::Id(name.name), TokenKind::LeftParen])?;
+            put_all(
+                kinds,
+                &[
+                    TokenKind::Dot,
+                    TokenKind::Id(name.name),
+                    TokenKind::LeftParen,
+                ],
+            )?;
             spell_list(kinds, TokenKind::RightParen, arguments)
         }
-        Expr::OwnCall { name, arguments, .. } => {
+        Expr::OwnCall {
+            name,
+            arguments,
+            ..
+        } => {
             put_all(kinds, &[TokenKind::Id(name.name), TokenKind::LeftParen])?;
             spell_list(kinds, TokenKind::RightParen, arguments)
         }
-        Expr::SuperCall { name, arguments, .. } => {
+        Expr::SuperCall {
+            name,
+            arguments,
+            ..
+        } => {
             put_all(
                 kinds,
-                &[TokenKind::Super, TokenKind::Dot, TokenKind::Id(name.name), TokenKind::LeftParen],
+                &[
+                    TokenKind::Super,
+                    TokenKind::Dot,
+                    TokenKind::Id(name.name),
+                    TokenKind::LeftParen,
+                ],
             )?;
             spell_list(kinds, TokenKind::RightParen, arguments)
         }
@@ -60,16 +90,37 @@ pub fn spell(kinds: &mut Vec<TokenKind>, expression: &Expr) -> Result<(), OutOfM
             spell(kinds, index)?;
             put(kinds, TokenKind::RightBracket)
         }
-        Expr::New { class, arguments, .. } => {
-            put_all(kinds, &[TokenKind::New, TokenKind::Id(class.name), TokenKind::LeftParen])?;
+        Expr::New {
+            class,
+            arguments,
+            ..
+        } => {
+            put_all(
+                kinds,
+                &[
+                    TokenKind::New,
+                    TokenKind::Id(class.name),
+                    TokenKind::LeftParen,
+                ],
+            )?;
             spell_list(kinds, TokenKind::RightParen, arguments)
         }
-        Expr::NewArray { annotations, base, length, .. } => {
+        Expr::NewArray {
+            annotations,
+            base,
+            length,
+            ..
+        } => {
             put_new(kinds, annotations, *base)?;
             spell(kinds, length)?;
             put(kinds, TokenKind::RightBracket)
         }
-        Expr::ArrayOf { annotations, base, elements, .. } => {
+        Expr::ArrayOf {
+            annotations,
+            base,
+            elements,
+            ..
+        } => {
             put_new(kinds, annotations, *base)?;
             put_all(kinds, &[TokenKind::RightBracket, TokenKind::LeftBrace])?;
             spell_list(kinds, TokenKind::RightBrace, elements)
@@ -82,15 +133,31 @@ pub fn spell(kinds: &mut Vec<TokenKind>, expression: &Expr) -> Result<(), OutOfM
             put(kinds, step_token(*step))?;
             spell(kinds, target)
         }
-        Expr::Unary { operator, operand, .. } => {
+        Expr::Unary {
+            operator,
+            operand,
+            ..
+        } => {
             put(kinds, sign_token(*operator))?;
             spell(kinds, operand)
         }
         Expr::Cast { class, operand, .. } => {
-            put_all(kinds, &[TokenKind::LeftParen, TokenKind::Id(class.name), TokenKind::RightParen])?;
+            put_all(
+                kinds,
+                &[
+                    TokenKind::LeftParen,
+                    TokenKind::Id(class.name),
+                    TokenKind::RightParen,
+                ],
+            )?;
             spell(kinds, operand)
         }
-        Expr::Binary { left, operator, right, .. } => {
+        Expr::Binary {
+            left,
+            operator,
+            right,
+            ..
+        } => {
             spell(kinds, left)?;
             put(kinds, operator_token(*operator))?;
             spell(kinds, right)
@@ -99,14 +166,24 @@ pub fn spell(kinds: &mut Vec<TokenKind>, expression: &Expr) -> Result<(), OutOfM
             spell(kinds, operand)?;
             put_all(kinds, &[TokenKind::Instanceof, TokenKind::Id(class.name)])
         }
-        Expr::Conditional { condition, then, otherwise, .. } => {
+        Expr::Conditional {
+            condition,
+            then,
+            otherwise,
+            ..
+        } => {
             spell(kinds, condition)?;
             put(kinds, TokenKind::Question)?;
             spell(kinds, then)?;
             put(kinds, TokenKind::Colon)?;
             spell(kinds, otherwise)
         }
-        Expr::Assign { target, operator, value, .. } => {
+        Expr::Assign {
+            target,
+            operator,
+            value,
+            ..
+        } => {
             spell(kinds, target)?;
             put(kinds, assign_token(*operator))?;
             spell(kinds, value)
@@ -116,7 +193,11 @@ pub fn spell(kinds: &mut Vec<TokenKind>, expression: &Expr) -> Result<(), OutOfM
 
 /// Puts the expressions behind the tokens, with commas between and the token that ends them.
 #[cycle(expressions)]
-pub fn spell_list(kinds: &mut Vec<TokenKind>, end: TokenKind, expressions: &[Expr]) -> Result<(), OutOfMemory>
+pub fn spell_list(
+    kinds: &mut Vec<TokenKind>,
+    end: TokenKind,
+    expressions: &[Expr],
+) -> Result<(), OutOfMemory>
     ensures { OnOk result (kinds.new.items ≡ kinds.old.items ++ spec_list end (views expressions.now)) }
 {
     for (place, expression) in expressions.iter().enumerate() {
@@ -127,7 +208,11 @@ pub fn spell_list(kinds: &mut Vec<TokenKind>, end: TokenKind, expressions: &[Exp
 }
 
 /// Puts `new`, the annotations, the type and the opening bracket behind the tokens.
-fn put_new(kinds: &mut Vec<TokenKind>, annotations: &[Annotation], base: Base) -> Result<(), OutOfMemory>
+fn put_new(
+    kinds: &mut Vec<TokenKind>,
+    annotations: &[Annotation],
+    base: Base,
+) -> Result<(), OutOfMemory>
     ensures { OnOk result (kinds.new.items ≡ kinds.old.items ++ spec_new (annotation_names annotations.now) (base_view base)) }
 {
     put(kinds, TokenKind::New)?;

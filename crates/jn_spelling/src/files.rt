@@ -27,7 +27,10 @@ fn spell_dotted(kinds: &mut Vec<TokenKind>, name: &QualifiedName) -> Result<(), 
     spell_dots(kinds, &name.more)
 }
 
-fn spell_package_line(kinds: &mut Vec<TokenKind>, package_line: &Option<PackageLine>) -> Result<(), OutOfMemory>
+fn spell_package_line(
+    kinds: &mut Vec<TokenKind>,
+    package_line: &Option<PackageLine>,
+) -> Result<(), OutOfMemory>
     ensures { OnOk result (kinds.new.items ≡ kinds.old.items ++ spec_package_line (package_view package_line.now)) }
 {
     match package_line {

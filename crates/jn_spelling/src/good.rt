@@ -28,7 +28,11 @@ pub fn good(expression: &Expr) -> bool
         Expr::This { .. } => true,
         Expr::Paren { inner, .. } => good(inner),
         Expr::Field { target, .. } => good(target) && rank(target) <= 1,
-        Expr::Call { target, arguments, .. } => good(target) && rank(target) <= 1 && all_good(arguments),
+        Expr::Call {
+            target,
+            arguments,
+            ..
+        } => good(target) && rank(target) <= 1 && all_good(arguments),
         Expr::OwnCall { arguments, .. } => all_good(arguments),
         Expr::SuperCall { arguments, .. } => all_good(arguments),
         Expr::Index { array, index, .. } => {
@@ -39,16 +43,35 @@ pub fn good(expression: &Expr) -> bool
         Expr::ArrayOf { elements, .. } => all_good(elements),
         Expr::Postfix { target, .. } => good(target) && is_left_side(target),
         Expr::Prefix { target, .. } => good(target) && is_left_side(target),
-        Expr::Unary { operator, operand, .. } => {
-            is_least(*operator, operand) || good(operand) && rank(operand) <= 3
-        }
+        Expr::Unary {
+            operator,
+            operand,
+            ..
+        } => { is_least(*operator, operand) || good(operand) && rank(operand) <= 3 }
         Expr::Cast { operand, .. } => good(operand) && is_castable(operand),
-        Expr::Binary { left, operator, right, .. } => {
-            good(left) && rank(left) <= level(*operator) && good(right) && rank(right) < level(*operator)
+        Expr::Binary {
+            left,
+            operator,
+            right,
+            ..
+        } => {
+            good(left)
+                && rank(left) <= level(*operator)
+                && good(right)
+                && rank(right) < level(*operator)
         }
         Expr::InstanceOf { operand, .. } => good(operand) && rank(operand) <= 6,
-        Expr::Conditional { condition, then, otherwise, .. } => {
-            good(condition) && rank(condition) <= 9 && good(then) && good(otherwise) && rank(otherwise) <= 10
+        Expr::Conditional {
+            condition,
+            then,
+            otherwise,
+            ..
+        } => {
+            good(condition)
+                && rank(condition) <= 9
+                && good(then)
+                && good(otherwise)
+                && rank(otherwise) <= 10
         }
         Expr::Assign { target, value, .. } => good(target) && is_left_side(target) && good(value),
     }

@@ -10,7 +10,9 @@ use crate::good_statements::{DEEPEST, good_body};
 use crate::marks::{good_marks, has_static};
 use crate::place::Place;
 use jn_base::NameNo;
-use jn_trees::{Declarator, FileTree, Member, Modifier, Owner, Parameter, Receiver, Stmt, TypeTree};
+use jn_trees::{
+    Declarator, FileTree, Member, Modifier, Owner, Parameter, Receiver, Stmt, TypeTree,
+};
 
 fn good_parameters(parameters: &[Parameter]) -> bool
     ensures { IsTrue result ↔ GoodParameters (parameter_views parameters.now) }
@@ -93,12 +95,29 @@ fn good_member(owner: Owner, member: &Member) -> bool
     ensures { IsTrue result ↔ GoodMember owner (member_view member.now) }
 {
     match member {
-        Member::Field { modifiers, first, more, .. } => good_field(modifiers, first, more),
-        Member::Method { modifiers, receiver, parameters, body, .. } => {
+        Member::Field {
+            modifiers,
+            first,
+            more,
+            ..
+        } => good_field(modifiers, first, more),
+        Member::Method {
+            modifiers,
+            receiver,
+            parameters,
+            body,
+            ..
+        } => {
             good_method_head(owner, modifiers, receiver, parameters)
                 && good_method_body(owner.interface, body)
         }
-        Member::Constructor { modifiers, name, parameters, body, .. } => {
+        Member::Constructor {
+            modifiers,
+            name,
+            parameters,
+            body,
+            ..
+        } => {
             good_constructor_head(owner, modifiers, name.name, parameters) && good_body(true, body)
         }
     }
@@ -119,14 +138,24 @@ fn good_type(declaration: &TypeTree) -> bool
     ensures { IsTrue result ↔ GoodType (type_view declaration.now) }
 {
     match declaration {
-        TypeTree::Class { modifiers, name, members, .. } => {
+        TypeTree::Class {
+            modifiers,
+            name,
+            members,
+            ..
+        } => {
             let owner = Owner {
                 interface: false,
                 name: name.name,
             };
             good_marks(Place::Class, modifiers) && good_members(owner, members)
         }
-        TypeTree::Interface { modifiers, name, members, .. } => {
+        TypeTree::Interface {
+            modifiers,
+            name,
+            members,
+            ..
+        } => {
             let owner = Owner {
                 interface: true,
                 name: name.name,

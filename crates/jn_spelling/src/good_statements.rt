@@ -5,7 +5,9 @@ ghost use Rattle.jn_trees.specs.WellFormed.{GoodStatement, GoodStatements, GoodB
 ghost use Rattle.jn_trees.specs.View.{statement_view, statement_views};
 
 use crate::good::{all_good, good};
-use crate::good_locals::{final_once, good_effects, good_init, good_local, good_optional, nesting_init, nesting_local};
+use crate::good_locals::{
+    final_once, good_effects, good_init, good_local, good_optional, nesting_init, nesting_local,
+};
 use crate::levels::is_effect;
 use crate::nesting::{deeper, nesting, nesting_all, nesting_optional};
 use jn_trees::{Context, Stmt};
@@ -84,24 +86,50 @@ pub fn good_statement(context: Context, statement: &Stmt) -> bool
         Stmt::Continue { .. } => context.in_loop,
         Stmt::Return { value, .. } => good_optional(value),
         Stmt::Local { declaration, .. } => good_local(declaration) && context.direct,
-        Stmt::If { condition, then, .. } => good(condition) && good_statement(under(context), then),
-        Stmt::IfElse { condition, then, otherwise, .. } => {
+        Stmt::If {
+            condition,
+            then,
+            ..
+        } => good(condition) && good_statement(under(context), then),
+        Stmt::IfElse {
+            condition,
+            then,
+            otherwise,
+            ..
+        } => {
             good(condition)
                 && good_statement(under(context), then)
                 && !ends_open(then)
                 && good_statement(under(context), otherwise)
         }
-        Stmt::While { condition, body, .. } => good(condition) && good_statement(loop_body(), body),
-        Stmt::Do { body, condition, .. } => good_statement(loop_body(), body) && good(condition),
-        Stmt::For { init, condition, update, body, .. } => {
+        Stmt::While {
+            condition,
+            body,
+            ..
+        } => good(condition) && good_statement(loop_body(), body),
+        Stmt::Do {
+            body,
+            condition,
+            ..
+        } => good_statement(loop_body(), body) && good(condition),
+        Stmt::For {
+            init,
+            condition,
+            update,
+            body,
+            ..
+        } => {
             good_init(init)
                 && good_optional(condition)
                 && good_effects(update)
                 && good_statement(loop_body(), body)
         }
-        Stmt::ForEach { modifiers, array, body, .. } => {
-            final_once(modifiers) && good(array) && good_statement(loop_body(), body)
-        }
+        Stmt::ForEach {
+            modifiers,
+            array,
+            body,
+            ..
+        } => { final_once(modifiers) && good(array) && good_statement(loop_body(), body) }
         Stmt::ThisCall { arguments, .. } => all_good(arguments) && context.leading,
         Stmt::SuperCall { arguments, .. } => all_good(arguments) && context.leading,
     }
@@ -133,23 +161,45 @@ pub fn nesting_statement(statement: &Stmt) -> u32
         Stmt::Continue { .. } => 1,
         Stmt::Return { value, .. } => nesting_optional(value).saturating_add(1),
         Stmt::Local { declaration, .. } => nesting_local(declaration).saturating_add(1),
-        Stmt::If { condition, then, .. } => deeper(nesting(condition), nesting_statement(then)).saturating_add(1),
-        Stmt::IfElse { condition, then, otherwise, .. } => {
-            deeper(nesting(condition), deeper(nesting_statement(then), nesting_statement(otherwise)))
-                .saturating_add(1)
+        Stmt::If {
+            condition,
+            then,
+            ..
+        } => deeper(nesting(condition), nesting_statement(then)).saturating_add(1),
+        Stmt::IfElse {
+            condition,
+            then,
+            otherwise,
+            ..
+        } => {
+            deeper(
+                nesting(condition),
+                deeper(nesting_statement(then), nesting_statement(otherwise)),
+            )
+            .saturating_add(1)
         }
-        Stmt::While { condition, body, .. } => {
-            deeper(nesting(condition), nesting_statement(body)).saturating_add(1)
-        }
-        Stmt::Do { body, condition, .. } => {
-            deeper(nesting_statement(body), nesting(condition)).saturating_add(1)
-        }
-        Stmt::For { init, condition, update, body, .. } => {
+        Stmt::While {
+            condition,
+            body,
+            ..
+        } => { deeper(nesting(condition), nesting_statement(body)).saturating_add(1) }
+        Stmt::Do {
+            body,
+            condition,
+            ..
+        } => { deeper(nesting_statement(body), nesting(condition)).saturating_add(1) }
+        Stmt::For {
+            init,
+            condition,
+            update,
+            body,
+            ..
+        } => {
             deeper(
                 deeper(nesting_init(init), nesting_optional(condition)),
                 deeper(nesting_all(update), nesting_statement(body)),
             )
-                .saturating_add(1)
+            .saturating_add(1)
         }
         Stmt::ForEach { array, body, .. } => {
             deeper(nesting(array), nesting_statement(body)).saturating_add(1)

@@ -15,13 +15,19 @@ fn spell_local_mark(kinds: &mut Vec<TokenKind>, modifier: LocalModifier) -> Resu
     ensures { OnOk result (kinds.new.items ≡ kinds.old.items ++ spec_local_mark (local_mark modifier)) }
 {
     match modifier {
-        LocalModifier::Annotation(annotation) => put_all(kinds, &[TokenKind::At, TokenKind::Id(annotation.name)]),
+        LocalModifier::Annotation(annotation) => put_all(
+            kinds,
+            &[TokenKind::At, TokenKind::Id(annotation.name)],
+        ),
         LocalModifier::Final(_) => put(kinds, TokenKind::Final),
     }
 }
 
 /// Puts the modifiers of a local or parameter behind the tokens.
-pub fn spell_local_marks(kinds: &mut Vec<TokenKind>, modifiers: &[LocalModifier]) -> Result<(), OutOfMemory>
+pub fn spell_local_marks(
+    kinds: &mut Vec<TokenKind>,
+    modifiers: &[LocalModifier],
+) -> Result<(), OutOfMemory>
     ensures { OnOk result (kinds.new.items ≡ kinds.old.items ++ spec_marks (local_marks modifiers.now)) }
 {
     for modifier in modifiers {
@@ -30,7 +36,10 @@ pub fn spell_local_marks(kinds: &mut Vec<TokenKind>, modifiers: &[LocalModifier]
     Ok(())
 }
 
-fn spell_brackets(kinds: &mut Vec<TokenKind>, array: &Option<Vec<Annotation>>) -> Result<(), OutOfMemory>
+fn spell_brackets(
+    kinds: &mut Vec<TokenKind>,
+    array: &Option<Vec<Annotation>>,
+) -> Result<(), OutOfMemory>
     ensures { OnOk result (kinds.new.items ≡ kinds.old.items ++ spec_brackets (brackets_view array.now)) }
 {
     match array {
@@ -63,7 +72,10 @@ fn spell_value(kinds: &mut Vec<TokenKind>, value: &Option<Expr>) -> Result<(), O
 }
 
 /// Puts a declared name, with its initializer if it has one, behind the tokens.
-pub fn spell_declarator(kinds: &mut Vec<TokenKind>, declarator: &Declarator) -> Result<(), OutOfMemory>
+pub fn spell_declarator(
+    kinds: &mut Vec<TokenKind>,
+    declarator: &Declarator,
+) -> Result<(), OutOfMemory>
     ensures { OnOk result (kinds.new.items ≡ kinds.old.items ++ spec_declarator (declarator_view declarator.now)) }
 {
     put(kinds, TokenKind::Id(declarator.name.name))?;
@@ -71,7 +83,10 @@ pub fn spell_declarator(kinds: &mut Vec<TokenKind>, declarator: &Declarator) -> 
 }
 
 /// Puts further declared names, each behind a comma, behind the tokens.
-pub fn spell_more_declarators(kinds: &mut Vec<TokenKind>, declarators: &[Declarator]) -> Result<(), OutOfMemory>
+pub fn spell_more_declarators(
+    kinds: &mut Vec<TokenKind>,
+    declarators: &[Declarator],
+) -> Result<(), OutOfMemory>
     ensures { OnOk result (kinds.new.items ≡ kinds.old.items ++ spec_more_declarators (declarator_views declarators.now)) }
 {
     for declarator in declarators {
@@ -82,7 +97,10 @@ pub fn spell_more_declarators(kinds: &mut Vec<TokenKind>, declarators: &[Declara
 }
 
 /// Puts a declaration of locals, without the semicolon, behind the tokens.
-pub fn spell_local(kinds: &mut Vec<TokenKind>, declaration: &LocalDeclaration) -> Result<(), OutOfMemory>
+pub fn spell_local(
+    kinds: &mut Vec<TokenKind>,
+    declaration: &LocalDeclaration,
+) -> Result<(), OutOfMemory>
     ensures { OnOk result (kinds.new.items ≡ kinds.old.items ++ spec_local (local_view declaration.now)) }
 {
     spell_local_marks(kinds, &declaration.modifiers)?;

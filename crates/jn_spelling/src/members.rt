@@ -9,13 +9,18 @@ use crate::locals::{spell_declarator, spell_local_marks, spell_more_declarators,
 use crate::put::{put, put_all};
 use crate::statements::spell_body;
 use jn_base::{NameNo, OutOfMemory};
-use jn_trees::{Declarator, Member, Modifier, Parameter, Receiver, ResultUse, Stmt, TokenKind, TypeUse};
+use jn_trees::{
+    Declarator, Member, Modifier, Parameter, Receiver, ResultUse, Stmt, TokenKind, TypeUse,
+};
 
 fn spell_modifier(kinds: &mut Vec<TokenKind>, modifier: Modifier) -> Result<(), OutOfMemory>
     ensures { OnOk result (kinds.new.items ≡ kinds.old.items ++ spec_mark (mark modifier)) }
 {
     match modifier {
-        Modifier::Annotation(annotation) => put_all(kinds, &[TokenKind::At, TokenKind::Id(annotation.name)]),
+        Modifier::Annotation(annotation) => put_all(
+            kinds,
+            &[TokenKind::At, TokenKind::Id(annotation.name)],
+        ),
         Modifier::Public(_) => put(kinds, TokenKind::Public),
         Modifier::Protected(_) => put(kinds, TokenKind::Protected),
         Modifier::Private(_) => put(kinds, TokenKind::Private),
@@ -26,7 +31,10 @@ fn spell_modifier(kinds: &mut Vec<TokenKind>, modifier: Modifier) -> Result<(), 
 }
 
 /// Puts the modifiers of a type or member behind the tokens.
-pub fn spell_modifiers(kinds: &mut Vec<TokenKind>, modifiers: &[Modifier]) -> Result<(), OutOfMemory>
+pub fn spell_modifiers(
+    kinds: &mut Vec<TokenKind>,
+    modifiers: &[Modifier],
+) -> Result<(), OutOfMemory>
     ensures { OnOk result (kinds.new.items ≡ kinds.old.items ++ spec_all_marks (marks modifiers.now)) }
 {
     for modifier in modifiers {
@@ -44,7 +52,10 @@ fn spell_parameter(kinds: &mut Vec<TokenKind>, parameter: &Parameter) -> Result<
 }
 
 /// Puts further parameters, each behind a comma, and the closing parenthesis behind the tokens.
-fn spell_more_parameters(kinds: &mut Vec<TokenKind>, parameters: &[Parameter]) -> Result<(), OutOfMemory>
+fn spell_more_parameters(
+    kinds: &mut Vec<TokenKind>,
+    parameters: &[Parameter],
+) -> Result<(), OutOfMemory>
     ensures { OnOk result (kinds.new.items ≡ kinds.old.items ++ spec_more_parameters (parameter_views parameters.now)) }
 {
     for parameter in parameters {
@@ -55,7 +66,10 @@ fn spell_more_parameters(kinds: &mut Vec<TokenKind>, parameters: &[Parameter]) -
 }
 
 /// Puts the parameters, where no receiver stands before them, and the closing parenthesis behind the tokens.
-fn spell_plain_parameters(kinds: &mut Vec<TokenKind>, parameters: &[Parameter]) -> Result<(), OutOfMemory>
+fn spell_plain_parameters(
+    kinds: &mut Vec<TokenKind>,
+    parameters: &[Parameter],
+) -> Result<(), OutOfMemory>
     ensures { OnOk result (kinds.new.items ≡ kinds.old.items ++ spec_parameters None (parameter_views parameters.now)) }
 {
     match parameters.split_first() {
@@ -67,14 +81,21 @@ fn spell_plain_parameters(kinds: &mut Vec<TokenKind>, parameters: &[Parameter]) 
     }
 }
 
-fn spell_parameters(kinds: &mut Vec<TokenKind>, receiver: &Option<Receiver>, parameters: &[Parameter]) -> Result<(), OutOfMemory>
+fn spell_parameters(
+    kinds: &mut Vec<TokenKind>,
+    receiver: &Option<Receiver>,
+    parameters: &[Parameter],
+) -> Result<(), OutOfMemory>
     ensures { OnOk result (kinds.new.items ≡ kinds.old.items ++ spec_parameters (receiver_view receiver.now) (parameter_views parameters.now)) }
 {
     match receiver {
         None => spell_plain_parameters(kinds, parameters),
         Some(receiver) => {
             spell_annotations(kinds, &receiver.annotations)?;
-            put_all(kinds, &[TokenKind::Id(receiver.class.name), TokenKind::This])?;
+            put_all(
+                kinds,
+                &[TokenKind::Id(receiver.class.name), TokenKind::This],
+            )?;
             spell_more_parameters(kinds, parameters)
         }
     }
@@ -120,7 +141,10 @@ fn spell_constructor_head(
     spell_plain_parameters(kinds, parameters)
 }
 
-fn spell_method_body(kinds: &mut Vec<TokenKind>, body: &Option<Vec<Stmt>>) -> Result<(), OutOfMemory>
+fn spell_method_body(
+    kinds: &mut Vec<TokenKind>,
+    body: &Option<Vec<Stmt>>,
+) -> Result<(), OutOfMemory>
     ensures { OnOk result (kinds.new.items ≡ kinds.old.items ++ spec_method_body (body_view body.now)) }
 {
     match body {
@@ -153,12 +177,32 @@ pub fn spell_member(kinds: &mut Vec<TokenKind>, member: &Member) -> Result<(), O
     ensures { OnOk result (kinds.new.items ≡ kinds.old.items ++ spec_member (member_view member.now)) }
 {
     match member {
-        Member::Field { modifiers, type_use, first, more, .. } => spell_field(kinds, modifiers, type_use, first, more),
-        Member::Method { modifiers, result, name, receiver, parameters, body, .. } => {
+        Member::Field {
+            modifiers,
+            type_use,
+            first,
+            more,
+            ..
+        } => spell_field(kinds, modifiers, type_use, first, more),
+        Member::Method {
+            modifiers,
+            result,
+            name,
+            receiver,
+            parameters,
+            body,
+            ..
+        } => {
             spell_method_head(kinds, modifiers, result, name.name, receiver, parameters)?;
             spell_method_body(kinds, body)
         }
-        Member::Constructor { modifiers, name, parameters, body, .. } => {
+        Member::Constructor {
+            modifiers,
+            name,
+            parameters,
+            body,
+            ..
+        } => {
             spell_constructor_head(kinds, modifiers, name.name, parameters)?;
             put(kinds, TokenKind::LeftBrace)?;
             spell_body(kinds, body)

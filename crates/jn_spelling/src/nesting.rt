@@ -24,12 +24,16 @@ pub fn nesting(expression: &Expr) -> u32
         Expr::This { .. } => 1,
         Expr::Paren { inner, .. } => nesting(inner).saturating_add(1),
         Expr::Field { target, .. } => nesting(target).saturating_add(1),
-        Expr::Call { target, arguments, .. } => {
-            deeper(nesting(target), nesting_all(arguments)).saturating_add(1)
-        }
+        Expr::Call {
+            target,
+            arguments,
+            ..
+        } => { deeper(nesting(target), nesting_all(arguments)).saturating_add(1) }
         Expr::OwnCall { arguments, .. } => nesting_all(arguments).saturating_add(1),
         Expr::SuperCall { arguments, .. } => nesting_all(arguments).saturating_add(1),
-        Expr::Index { array, index, .. } => deeper(nesting(array), nesting(index)).saturating_add(1),
+        Expr::Index { array, index, .. } => deeper(nesting(array), nesting(index)).saturating_add(
+            1,
+        ),
         Expr::New { arguments, .. } => nesting_all(arguments).saturating_add(1),
         Expr::NewArray { length, .. } => nesting(length).saturating_add(1),
         Expr::ArrayOf { elements, .. } => nesting_all(elements).saturating_add(1),
@@ -39,10 +43,22 @@ pub fn nesting(expression: &Expr) -> u32
         Expr::Cast { operand, .. } => nesting(operand).saturating_add(1),
         Expr::Binary { left, right, .. } => deeper(nesting(left), nesting(right)).saturating_add(1),
         Expr::InstanceOf { operand, .. } => nesting(operand).saturating_add(1),
-        Expr::Conditional { condition, then, otherwise, .. } => {
-            deeper(nesting(condition), deeper(nesting(then), nesting(otherwise))).saturating_add(1)
+        Expr::Conditional {
+            condition,
+            then,
+            otherwise,
+            ..
+        } => {
+            deeper(
+                nesting(condition),
+                deeper(nesting(then), nesting(otherwise)),
+            )
+            .saturating_add(1)
         }
-        Expr::Assign { target, value, .. } => deeper(nesting(target), nesting(value)).saturating_add(1),
+        Expr::Assign { target, value, .. } => deeper(
+            nesting(target),
+            nesting(value),
+        ).saturating_add(1),
     }
 }
 

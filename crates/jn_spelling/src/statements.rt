@@ -33,7 +33,11 @@ fn spell_init(kinds: &mut Vec<TokenKind>, init: &ForInit) -> Result<(), OutOfMem
 }
 
 /// Puts a word, the condition in parentheses, behind the tokens.
-fn spell_condition(kinds: &mut Vec<TokenKind>, word: TokenKind, condition: &Expr) -> Result<(), OutOfMemory>
+fn spell_condition(
+    kinds: &mut Vec<TokenKind>,
+    word: TokenKind,
+    condition: &Expr,
+) -> Result<(), OutOfMemory>
     ensures { OnOk result (kinds.new.items ≡ kinds.old.items ++ spec_condition word (view condition.now)) }
 {
     put_all(kinds, &[word, TokenKind::LeftParen])?;
@@ -67,31 +71,61 @@ pub fn spell_statement(kinds: &mut Vec<TokenKind>, statement: &Stmt) -> Result<(
             spell_local(kinds, declaration)?;
             put(kinds, TokenKind::Semicolon)
         }
-        Stmt::If { condition, then, .. } => {
+        Stmt::If {
+            condition,
+            then,
+            ..
+        } => {
             spell_condition(kinds, TokenKind::If, condition)?;
             spell_statement(kinds, then)
         }
-        Stmt::IfElse { condition, then, otherwise, .. } => {
+        Stmt::IfElse {
+            condition,
+            then,
+            otherwise,
+            ..
+        } => {
             spell_condition(kinds, TokenKind::If, condition)?;
             spell_statement(kinds, then)?;
             put(kinds, TokenKind::Else)?;
             spell_statement(kinds, otherwise)
         }
-        Stmt::While { condition, body, .. } => {
+        Stmt::While {
+            condition,
+            body,
+            ..
+        } => {
             spell_condition(kinds, TokenKind::While, condition)?;
             spell_statement(kinds, body)
         }
-        Stmt::Do { body, condition, .. } => {
+        Stmt::Do {
+            body,
+            condition,
+            ..
+        } => {
             put(kinds, TokenKind::Do)?;
             spell_statement(kinds, body)?;
             spell_condition(kinds, TokenKind::While, condition)?;
             put(kinds, TokenKind::Semicolon)
         }
-        Stmt::For { init, condition, update, body, .. } => {
+        Stmt::For {
+            init,
+            condition,
+            update,
+            body,
+            ..
+        } => {
             spell_for_head(kinds, init, condition, update)?;
             spell_statement(kinds, body)
         }
-        Stmt::ForEach { modifiers, type_use, name, array, body, .. } => {
+        Stmt::ForEach {
+            modifiers,
+            type_use,
+            name,
+            array,
+            body,
+            ..
+        } => {
             spell_each_head(kinds, modifiers, type_use, name.name)?;
             spell(kinds, array)?;
             put(kinds, TokenKind::RightParen)?;
@@ -114,7 +148,12 @@ pub fn spell_body(kinds: &mut Vec<TokenKind>, statements: &[Stmt]) -> Result<(),
 }
 
 /// Puts a `for` through its closing parenthesis behind the tokens.
-fn spell_for_head(kinds: &mut Vec<TokenKind>, init: &ForInit, condition: &Option<Expr>, update: &[Expr]) -> Result<(), OutOfMemory>
+fn spell_for_head(
+    kinds: &mut Vec<TokenKind>,
+    init: &ForInit,
+    condition: &Option<Expr>,
+    update: &[Expr],
+) -> Result<(), OutOfMemory>
     ensures { OnOk result (kinds.new.items ≡ kinds.old.items ++ spec_for_head (init_view init.now) (optional_view condition.now) (views update.now)) }
 {
     put_all(kinds, &[TokenKind::For, TokenKind::LeftParen])?;
@@ -125,7 +164,12 @@ fn spell_for_head(kinds: &mut Vec<TokenKind>, init: &ForInit, condition: &Option
 }
 
 /// Puts a `for` over an array through its colon behind the tokens.
-fn spell_each_head(kinds: &mut Vec<TokenKind>, modifiers: &[LocalModifier], type_use: &TypeUse, name: NameNo) -> Result<(), OutOfMemory>
+fn spell_each_head(
+    kinds: &mut Vec<TokenKind>,
+    modifiers: &[LocalModifier],
+    type_use: &TypeUse,
+    name: NameNo,
+) -> Result<(), OutOfMemory>
     ensures { OnOk result (kinds.new.items ≡ kinds.old.items ++ spec_each_head (local_marks modifiers.now) (type_use_view type_use.now) name) }
 {
     put_all(kinds, &[TokenKind::For, TokenKind::LeftParen])?;
@@ -135,7 +179,11 @@ fn spell_each_head(kinds: &mut Vec<TokenKind>, modifiers: &[LocalModifier], type
 }
 
 /// Puts a call of another constructor behind the tokens.
-fn spell_other_call(kinds: &mut Vec<TokenKind>, word: TokenKind, arguments: &[Expr]) -> Result<(), OutOfMemory>
+fn spell_other_call(
+    kinds: &mut Vec<TokenKind>,
+    word: TokenKind,
+    arguments: &[Expr],
+) -> Result<(), OutOfMemory>
     ensures { OnOk result (kinds.new.items ≡ kinds.old.items ++ spec_other_call word (views arguments.now)) }
 {
     put_all(kinds, &[word, TokenKind::LeftParen])?;

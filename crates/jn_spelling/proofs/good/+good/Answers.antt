@@ -34,8 +34,9 @@ good-returns-then-rank-le1 t c =
     let P : Tree → Type 0 = λ v. IsTrue c.all_good.result ↔ Good v in
     subst P (sym (seen_call _ c.in-Call.target c.in-Call.name c.in-Call.arguments c.in-Call.span c.deref-then-rank-le1.result.now c.in-Call.is c.deref-then-rank-le1.ensures.value))
     (elim c.if-good-2.branch [
-      good-then-good-2 w ↦ first_of (search rules, grind (arith, common_steps))
-    | good-else-good-2 w ↦ absurd (cc) ])
+      | good-then-good-2 w ↦ first_of (search rules, grind (arith, common_steps))
+      | good-else-good-2 w ↦ absurd (cc)
+    ])
 
 pub good-returns-then-is_least : goal.good-returns-then-is_least
 good-returns-then-is_least t c =
