@@ -1,3 +1,5 @@
 pub mod Texts
 pub mod Numbers
 pub mod SameTokens
+pub mod OpenBrackets
+pub mod Seen
