@@ -1,0 +1,5 @@
+pub mod PrimView
+pub mod Ends
+pub mod ValueView
+pub mod ThingView
+pub mod StateView

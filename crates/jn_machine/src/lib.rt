@@ -1,0 +1,15 @@
+// The machine as code: an interpreter of programs, equal to its definition.
+#![tactic(auto)]
+
+pub mod frame;
+pub mod prim;
+pub mod state;
+pub mod text;
+pub mod thing;
+pub mod value;
+
+pub use frame::Frame;
+pub use prim::{End, Got, Plain, Prim};
+pub use state::{MachineState, Stepped};
+pub use thing::Thing;
+pub use value::Value;

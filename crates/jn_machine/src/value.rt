@@ -1,0 +1,152 @@
+// Values.
+ghost use Rattle.std.specs.Prelude.{◌≡◌, IfOk, Some, None, MatchOption};
+ghost use Rattle.jn_heap.specs.Values as spec;
+ghost use Rattle.jn_heap.specs.Machine.{object_of, prim_of};
+ghost use Rattle.jn_machine.specs.Ends.{got_of};
+
+use crate::prim::{Plain, Prim};
+use crate::text;
+use jn_base::Text;
+use jn_points::BaseType;
+use std::alloc::{AllocError, Global};
+use std::marker::Model;
+
+#[derive(Drop)]
+pub(crate) enum Node {
+    Null,
+    Text(Text),
+    Plain(Prim),
+    At(usize),
+}
+
+/// A value: null, a String, an int or a boolean, or the place of a thing on the heap; contracts
+/// see the definition's.
+#[derive(Drop)]
+pub struct Value {
+    node: Node,
+}
+
+impl Model for Value {
+    ghost use Rattle.jn_machine.specs.ValueView.{value_view};
+    ghost use Rattle.jn_heap.specs.Values.{Value as Defined};
+
+    ghost Value = { Defined };
+
+    ghost view = { λ v. value_view v.node };
+}
+
+impl Value {
+    pub fn null() -> Value
+        ensures { result ≡ spec.NullRef }
+    {
+        Value { node: Node::Null }
+    }
+
+    pub fn text(text: Text) -> Value
+        ensures { result ≡ spec.Text text }
+    {
+        Value {
+            node: Node::Text(text),
+        }
+    }
+
+    pub fn plain(prim: Prim) -> Value
+        ensures { result ≡ spec.Plain prim }
+    {
+        Value {
+            node: Node::Plain(prim),
+        }
+    }
+
+    /// A reference to the thing at a place of the heap.
+    pub fn at(place: usize) -> Value
+        ensures { result ≡ spec.At place }
+    {
+        Value {
+            node: Node::At(place),
+        }
+    }
+
+    /// What a field or element of a type has first.
+    pub fn default_of(base: BaseType) -> Value
+        ensures { result ≡ spec.default_of base }
+    {
+        match base {
+            BaseType::Int | BaseType::Void => Value::plain(Prim::int(0)),
+            BaseType::Bool => Value::plain(Prim::bool(false)),
+            BaseType::Null | BaseType::Ref(_) | BaseType::Array(..) => Value::null(),
+        }
+    }
+
+    pub fn copy(&self, alloc: Global) -> Result<Value, AllocError>
+        ensures { IfOk result (λ v. v ≡ self.now) }
+    {
+        match &self.node {
+            Node::Null => Ok(Value::null()),
+            Node::Text(text) => {
+                let copied = text.copy(alloc)?;
+                Ok(Value::text(copied))
+            }
+            Node::Plain(prim) => Ok(Value::plain(prim.copy())),
+            Node::At(place) => Ok(Value::at(*place)),
+        }
+    }
+
+    /// The place on the heap, of a reference to a thing.
+    pub fn object(&self) -> Option<usize>
+        ensures { result ≡ object_of (Some self.now) }
+    {
+        match &self.node {
+            Node::At(place) => Some(*place),
+            Node::Null | Node::Text(_) | Node::Plain(_) => None,
+        }
+    }
+
+    /// The int or boolean, of such a value.
+    pub fn prim(&self) -> Option<Prim>
+        ensures { result ≡ prim_of (Some self.now) }
+    {
+        match &self.node {
+            Node::Plain(prim) => Some(prim.copy()),
+            Node::Null | Node::Text(_) | Node::At(_) => None,
+        }
+    }
+
+    /// The text that joins and prints of the value; None of a thing on the heap.
+    pub fn shown(&self, alloc: Global) -> Result<Option<Text>, AllocError>
+        ensures { IfOk result (λ t. t ≡ spec.text_of self.now) }
+    {
+        let text = match &self.node {
+            Node::Null => Text::of_str(alloc, "null")?,
+            Node::Text(text) => text.copy(alloc)?,
+            Node::Plain(prim) => match prim.plain() {
+                Plain::Int(number) => text::decimal(alloc, number)?,
+                Plain::Bool(true) => Text::of_str(alloc, "true")?,
+                Plain::Bool(false) => Text::of_str(alloc, "false")?,
+            },
+            Node::At(_) => return Ok(None),
+        };
+        Ok(Some(text))
+    }
+
+    /// Whether both are null, or the same thing on the heap.
+    pub fn same(&self, other: &Value) -> bool
+        ensures { result ≡ spec.same self.now other.now }
+    {
+        match (&self.node, &other.node) {
+            (Node::Null, Node::Null) => true,
+            (Node::At(a), Node::At(b)) => *a == *b,
+            _ => false,
+        }
+    }
+
+    /// Whether the value is this text.
+    pub fn is_text(&self, text: &str) -> bool
+        ensures { result ≡ spec.is_text text.now self.now }
+    {
+        match &self.node {
+            Node::Text(own) => text == own.as_str(),
+            Node::Null | Node::Plain(_) | Node::At(_) => false,
+        }
+    }
+}
