@@ -15,7 +15,7 @@ end_of IsArrayStore = ArrayStore
 end_of IsDeep = Deep
 end_of IsLong = Long
 
-abbrev pub got_of : {A : Type 0} → Answer A → Got A
-got_of (IsGiven x) = Gives x
-got_of (HasFailed e) = Fails (end_of e)
-got_of HasNone = Lacks
+abbrev pub answer_of : {A : Type 0} → Answer A → Got A
+answer_of (IsGiven x) = Gives x
+answer_of (HasFailed e) = Fails (end_of e)
+answer_of HasNone = Lacks

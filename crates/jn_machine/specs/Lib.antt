@@ -3,3 +3,4 @@ pub mod Ends
 pub mod ValueView
 pub mod ThingView
 pub mod StateView
+pub mod Parts

@@ -1,9 +1,11 @@
 // The machine as code: an interpreter of programs, equal to its definition.
 #![tactic(auto)]
 
+pub mod classes;
 pub mod frame;
 pub mod prim;
 pub mod state;
+mod straight;
 pub mod text;
 pub mod thing;
 pub mod value;

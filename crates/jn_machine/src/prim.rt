@@ -1,7 +1,7 @@
 // Ints and booleans, ends of runs, and arithmetic.
 ghost use Rattle.std.specs.Prelude.{◌≡◌};
 ghost use Rattle.jn_heap.specs.Values as spec;
-ghost use Rattle.jn_machine.specs.Ends.{got_of};
+ghost use Rattle.jn_machine.specs.Ends.{answer_of};
 
 use jn_points::Operator;
 use std::marker::Model;
@@ -92,7 +92,7 @@ impl Prim {
 
 /// The value negated, or as it is; a boolean lacks.
 pub fn unary(negate: bool, of: &Prim) -> Got<Prim>
-    ensures { got_of result ≡ spec.unary negate of.now }
+    ensures { answer_of result ≡ spec.unary negate of.now }
 {
     match of.plain() {
         Plain::Int(n) if negate => Got::Gives(Prim::int(n.wrapping_neg())),
@@ -103,7 +103,7 @@ pub fn unary(negate: bool, of: &Prim) -> Got<Prim>
 
 /// The quotient, truncated toward zero; the least int by -1 is the least int.
 fn quotient(a: i32, b: i32) -> Got<Prim>
-    ensures { got_of result ≡ spec.of_numbers Operator.Div a b }
+    ensures { answer_of result ≡ spec.of_numbers Operator.Div a b }
 {
     if b == 0 {
         Got::Fails(End::Arithmetic)
@@ -114,7 +114,7 @@ fn quotient(a: i32, b: i32) -> Got<Prim>
 
 /// The remainder, with the sign of `a`.
 fn remainder(a: i32, b: i32) -> Got<Prim>
-    ensures { got_of result ≡ spec.of_numbers Operator.Rem a b }
+    ensures { answer_of result ≡ spec.of_numbers Operator.Rem a b }
 {
     if b == 0 {
         Got::Fails(End::Arithmetic)
@@ -124,7 +124,7 @@ fn remainder(a: i32, b: i32) -> Got<Prim>
 }
 
 fn of_ints(operator: Operator, a: i32, b: i32) -> Got<Prim>
-    ensures { got_of result ≡ spec.of_numbers operator a b }
+    ensures { answer_of result ≡ spec.of_numbers operator a b }
 {
     let prim = match operator {
         Operator::Div => return quotient(a, b),
@@ -143,7 +143,7 @@ fn of_ints(operator: Operator, a: i32, b: i32) -> Got<Prim>
 }
 
 fn of_bools(operator: Operator, a: bool, b: bool) -> Got<Prim>
-    ensures { got_of result ≡ spec.of_truths operator a b }
+    ensures { answer_of result ≡ spec.of_truths operator a b }
 {
     match operator {
         Operator::Equal => Got::Gives(Prim::bool(if a { b } else { !b })),
@@ -154,7 +154,7 @@ fn of_bools(operator: Operator, a: bool, b: bool) -> Got<Prim>
 
 /// The operator on two ints, or `==` and `!=` on two booleans.
 pub fn binary(operator: Operator, left: &Prim, right: &Prim) -> Got<Prim>
-    ensures { got_of result ≡ spec.binary operator left.now right.now }
+    ensures { answer_of result ≡ spec.binary operator left.now right.now }
 {
     match (left.plain(), right.plain()) {
         (Plain::Int(a), Plain::Int(b)) => of_ints(operator, a, b),

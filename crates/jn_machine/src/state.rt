@@ -1,7 +1,8 @@
 // States of the machine.
 ghost use Rattle.std.specs.Prelude.{◌≡◌, ◌<◌, ◌-◌, ◌^◌, ℕ, List, Some};
 ghost use Rattle.jn_heap.specs.Machine as spec;
-ghost use Rattle.jn_machine.specs.Ends.{got_of};
+ghost use Rattle.jn_machine.specs.Ends.{answer_of};
+ghost use Rattle.jn_machine.specs.Parts.{goes_to};
 ghost use Rattle.jn_machine.specs.StateView.{state_of, acted_next};
 
 use crate::frame::Frame;
@@ -46,7 +47,7 @@ pub enum Stepped {
 /// Puts what an operation gives into a register.
 pub(crate) fn settle(state: &mut MachineState, dst: RegNo, got: Got<Value>) -> Acted
     requires { state.old.top.at < 2 ^ 64 - 1 }
-    ensures { (out : List ℕ) → spec.got_sets (state_of state.old out) dst.0 (got_of got) ≡ acted_next result state.new out }
+    ensures { (out : List ℕ) → spec.got_sets (state_of state.old out) dst.0 (answer_of got) ≡ acted_next result state.new out }
 {
     match got {
         Got::Gives(value) => {
@@ -64,4 +65,14 @@ pub(crate) fn jump(state: &mut MachineState, to: PointNo) -> Acted
 {
     state.top.jump(to.0 as usize);
     Acted::Goes
+}
+
+/// Goes to the point, if there is one.
+pub(crate) fn jump_to(state: &mut MachineState, to: Option<PointNo>) -> Acted
+    ensures { (out : List ℕ) → goes_to (state_of state.old out) to ≡ acted_next result state.new out }
+{
+    match to {
+        None => Acted::Stuck,
+        Some(point) => jump(state, point),
+    }
 }

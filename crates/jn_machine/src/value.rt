@@ -1,13 +1,13 @@
 // Values.
-ghost use Rattle.std.specs.Prelude.{◌≡◌, IfOk, Some, None, MatchOption};
+ghost use Rattle.std.specs.Prelude.{◌≡◌, IfOk, Option, Some, None, MatchOption};
 ghost use Rattle.jn_heap.specs.Values as spec;
-ghost use Rattle.jn_heap.specs.Machine.{object_of, prim_of};
-ghost use Rattle.jn_machine.specs.Ends.{got_of};
+ghost use Rattle.jn_heap.specs.Machine.{State, object_of, prim_of, str_op, test_null};
+ghost use Rattle.jn_machine.specs.Parts.{goes_to};
 
 use crate::prim::{Plain, Prim};
 use crate::text;
-use jn_base::Text;
-use jn_points::BaseType;
+use jn_base::{PointNo, Text};
+use jn_points::{BaseType, StrOperation};
 use std::alloc::{AllocError, Global};
 use std::marker::Model;
 
@@ -147,6 +147,27 @@ impl Value {
         match &self.node {
             Node::Text(own) => text == own.as_str(),
             Node::Null | Node::Plain(_) | Node::At(_) => false,
+        }
+    }
+
+    /// The bytes of a String.
+    pub fn as_text(&self) -> Option<&str>
+        ensures { MatchOption result ((op : StrOperation) (other : Option spec.Value) → str_op op (Some self.now) other ≡ spec.Lacks) (λ t. self.now ≡ spec.Text t.now) }
+    {
+        match &self.node {
+            Node::Text(text) => Some(text.as_str()),
+            Node::Null | Node::Plain(_) | Node::At(_) => None,
+        }
+    }
+
+    /// The one point for null, the other for another reference; None of an int or a boolean.
+    pub fn null_side(&self, null: PointNo, non_null: PointNo) -> Option<PointNo>
+        ensures { (st : State) → test_null st null.0 non_null.0 (Some self.now) ≡ goes_to st result }
+    {
+        match &self.node {
+            Node::Null => Some(null),
+            Node::Text(_) | Node::At(_) => Some(non_null),
+            Node::Plain(_) => None,
         }
     }
 }
