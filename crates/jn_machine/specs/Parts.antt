@@ -1,8 +1,13 @@
 -- Parts of the definition's steps, as the code does them.
-use Rattle.std.specs.Prelude.{ℕ, ◌++◌, List, Option, Some, None}
+use Rattle.std.specs.Prelude.{ℕ, ◌++◌, Bool, false, ltb, length, List, Option, Some, None}
 use Rattle.jn_base.specs.declared.number.PointNo.{PointNo}
-use Rattle.jn_heap.specs.Values.{Value}
-use Rattle.jn_heap.specs.Machine.{State, Next, Stuck, moves}
+use Rattle.jn_points.specs.declared.program.Program.{Program}
+use Rattle.jn_points.specs.Lookup.{elem_base}
+use Rattle.jn_heap.specs.Values.{Value, Thing, Object, Elems, End, Deep, Index, Got, Gives, Fails, Lacks}
+use Rattle.jn_heap.specs.Machine.{State, Next, Stuck, moves, stored, may_hold}
+use Rattle.jn_machine.specs.declared.prim.Got.{Got as Answer}
+use Rattle.jn_machine.specs.declared.prim.Got.TheVariants.{Gives as IsGiven, Fails as HasFailed, Lacks as HasNone}
+use Rattle.jn_machine.specs.Ends.{end_of}
 
 -- goes to the point, where there is one
 abbrev pub goes_to : State → Option PointNo → Next
@@ -13,3 +18,20 @@ goes_to st (Some to) = moves st to.0
 abbrev pub prepended : List Value → Option (List Value) → Option (List Value)
 prepended front None = None
 prepended front (Some vs) = Some (front ++ vs)
+
+-- the thing as it is now, where the write was done
+abbrev pub put_answer : {A : Type 0} → Answer A → Thing → Got Thing
+put_answer (IsGiven done) x = Gives x
+put_answer (HasFailed e) x = Fails (end_of e)
+put_answer HasNone x = Lacks
+
+-- whether a thing may hold the value as an element
+abbrev pub may_hold_in : Program → List Thing → Thing → Value → Bool
+may_hold_in P heap (Object c fields) v = false
+may_hold_in P heap (Elems b items) v = may_hold P heap (elem_base b) v
+
+-- the thing with the value as the element at an index, where it may hold it
+abbrev pub store_as : Thing → Option ℕ → Value → Bool → Got Thing
+store_as (Object c fields) i v may = Lacks
+store_as (Elems b items) None v may = Fails Index
+store_as (Elems b items) (Some i) v may = stored b items i v (ltb i (length items)) may

@@ -10,7 +10,7 @@ use Rattle.jn_machine.specs.Ends.{end_of}
 
 -- the state with the text printed so far, which the code doesn't keep
 abbrev pub state_of : MachineState → List ℕ → State
-state_of m out = record { heap = m.heap; statics = m.statics; out = out; top = m.top; waiting = m.waiting.items }
+state_of m out = record { heap = m.heap.items; statics = m.statics.items; out = out; top = m.top; waiting = m.waiting.items }
 
 -- what a point did that left the machine so, where the text printed before it is out
 abbrev pub acted_next : Acted → MachineState → List ℕ → Next

@@ -2,7 +2,7 @@
 ghost use Rattle.std.specs.Prelude.{◌≡◌, ◌<◌, ◌+◌, ◌-◌, ◌^◌, Some, None, MatchOption, slice_set};
 ghost use Rattle.jn_heap.specs.Machine as spec;
 
-use crate::prim::Prim;
+use crate::prim::{Plain, Prim};
 use crate::value::Value;
 use jn_base::RegNo;
 use std::marker::Model;
@@ -89,6 +89,19 @@ impl Frame {
         match self.value(reg) {
             None => None,
             Some(value) => value.prim(),
+        }
+    }
+
+    /// The int in a register.
+    pub fn int(&self, reg: RegNo) -> Option<i32>
+        ensures { result ≡ spec.int_of (spec.prim_of (spec.value_at self.now.regs reg.0)) }
+    {
+        match self.prim(reg) {
+            None => None,
+            Some(prim) => match prim.plain() {
+                Plain::Int(number) => Some(number),
+                Plain::Bool(_) => None,
+            },
         }
     }
 

@@ -9,15 +9,15 @@ use crate::frame::Frame;
 use crate::prim::{End, Got, Prim};
 use crate::thing::Thing;
 use crate::value::Value;
-use jn_base::{PointNo, RegNo, Seq, Text};
+use jn_base::{PointNo, RegNo, Text};
 use std::collections::VecDeque;
 
 /// Heap, static numbers, the frame that runs, and the frames that wait for it, the last caller
 /// first. The text printed isn't kept.
 #[derive(Drop)]
 pub struct MachineState {
-    pub heap: Seq<Thing>,
-    pub statics: Seq<Prim>,
+    pub heap: Vec<Thing>,
+    pub statics: Vec<Prim>,
     pub top: Frame,
     pub waiting: VecDeque<Frame>,
 }

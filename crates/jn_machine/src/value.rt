@@ -1,13 +1,16 @@
 // Values.
 ghost use Rattle.std.specs.Prelude.{◌≡◌, IfOk, Option, Some, None, MatchOption};
 ghost use Rattle.jn_heap.specs.Values as spec;
-ghost use Rattle.jn_heap.specs.Machine.{State, object_of, prim_of, str_op, test_null};
+ghost use Rattle.jn_heap.specs.Machine.{State, object_of, prim_of, str_op, test_null, is_within, may_hold, cast_of, test_inst};
+ghost use Rattle.jn_machine.specs.Ends.{answer_of};
 ghost use Rattle.jn_machine.specs.Parts.{goes_to};
 
-use crate::prim::{Plain, Prim};
+use crate::classes::is_sub;
+use crate::prim::{End, Got, Plain, Prim};
 use crate::text;
-use jn_base::{PointNo, Text};
-use jn_points::{BaseType, StrOperation};
+use crate::thing::Thing;
+use jn_base::{ClassNo, PointNo, Text};
+use jn_points::{BaseType, Program, StrOperation};
 use std::alloc::{AllocError, Global};
 use std::marker::Model;
 
@@ -168,6 +171,86 @@ impl Value {
             Node::Null => Some(null),
             Node::Text(_) | Node::At(_) => Some(non_null),
             Node::Plain(_) => None,
+        }
+    }
+
+    /// Whether the value, if it isn't null, is of the class.
+    pub fn is_within(&self, program: &Program, heap: &[Thing], class: ClassNo) -> bool
+        ensures { result ≡ is_within program.now heap.now self.now class.0 }
+    {
+        match &self.node {
+            Node::Null | Node::Plain(_) => false,
+            Node::Text(_) => is_sub(program, ClassNo(1), class),
+            Node::At(place) => match heap.get(*place) {
+                None => false,
+                Some(thing) => thing.is_within(program, class),
+            },
+        }
+    }
+
+    /// Whether an array of elements of the type may hold the value.
+    pub fn may_be_held(&self, program: &Program, heap: &[Thing], base: BaseType) -> bool
+        ensures { result ≡ may_hold program.now heap.now base self.now }
+    {
+        match &self.node {
+            Node::Null => matches!(base, BaseType::Ref(_)),
+            Node::Text(_) | Node::At(_) => match base {
+                BaseType::Ref(class) => self.is_within(program, heap, class),
+                _ => false,
+            },
+            Node::Plain(prim) => match prim.plain() {
+                Plain::Int(_) => matches!(base, BaseType::Int),
+                Plain::Bool(_) => matches!(base, BaseType::Bool),
+            },
+        }
+    }
+
+    /// The value, where it is null or of the class; another reference ends the run.
+    pub fn cast(
+        &self,
+        alloc: Global,
+        program: &Program,
+        heap: &[Thing],
+        class: ClassNo,
+    ) -> Result<Got<Value>, AllocError>
+        ensures { IfOk result (λ g. answer_of g ≡ cast_of program.now heap.now (Some self.now) class.0) }
+    {
+        match &self.node {
+            Node::Null => Ok(Got::Gives(Value::null())),
+            Node::Plain(_) => Ok(Got::Lacks),
+            Node::Text(_) | Node::At(_) => {
+                if self.is_within(program, heap, class) {
+                    let copy = self.copy(alloc)?;
+                    Ok(Got::Gives(copy))
+                } else {
+                    Ok(Got::Fails(End::ClassCast))
+                }
+            }
+        }
+    }
+
+    /// The one point where the value is of the class, the other where it is null or isn't; None
+    /// of an int or a boolean.
+    pub fn inst_side(
+        &self,
+        program: &Program,
+        heap: &[Thing],
+        class: ClassNo,
+        yes: PointNo,
+        no: PointNo,
+    ) -> Option<PointNo>
+        ensures { (st : State) → st.heap ≡ heap.now → test_inst program.now st class.0 yes.0 no.0 (Some self.now) ≡ goes_to st result }
+    {
+        match &self.node {
+            Node::Null => Some(no),
+            Node::Plain(_) => None,
+            Node::Text(_) | Node::At(_) => {
+                if self.is_within(program, heap, class) {
+                    Some(yes)
+                } else {
+                    Some(no)
+                }
+            }
         }
     }
 }
