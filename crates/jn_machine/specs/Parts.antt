@@ -1,5 +1,5 @@
 -- Parts of the definition's steps, as the code does them.
-use Rattle.std.specs.Prelude.{ℕ, ◌++◌, Bool, false, ltb, length, List, Option, Some, None}
+use Rattle.std.specs.Prelude.{ℕ, ◌++◌, Bool, true, false, ltb, length, List, Option, Some, None}
 use Rattle.jn_base.specs.declared.number.PointNo.{PointNo}
 use Rattle.jn_points.specs.declared.program.Program.{Program}
 use Rattle.jn_points.specs.Lookup.{elem_base}
@@ -35,3 +35,9 @@ abbrev pub store_as : Thing → Option ℕ → Value → Bool → Got Thing
 store_as (Object c fields) i v may = Lacks
 store_as (Elems b items) None v may = Fails Index
 store_as (Elems b items) (Some i) v may = stored b items i v (ltb i (length items)) may
+
+-- the number of the body that a call enters, where that makes few enough frames
+abbrev pub entry_of : Bool → Option ℕ → Got ℕ
+entry_of true b = Fails Deep
+entry_of false None = Lacks
+entry_of false (Some b) = Gives b

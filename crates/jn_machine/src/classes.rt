@@ -12,7 +12,7 @@ fn class_info(program: &Program, class: ClassNo) -> Option<&Class>
     program.classes.as_slice().get(class.0 as usize)
 }
 
-fn method_at(program: &Program, method: usize) -> Option<&Method>
+pub(crate) fn method_at(program: &Program, method: usize) -> Option<&Method>
     ensures { MatchOption result (method_at program.now method ≡ None) (λ m. method_at program.now method ≡ Some m.now) }
 {
     program.methods.as_slice().get(method)

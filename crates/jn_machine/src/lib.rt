@@ -1,8 +1,10 @@
 // The machine as code: an interpreter of programs, equal to its definition.
 #![tactic(auto)]
 
+mod calls;
 pub mod classes;
 pub mod frame;
+mod members;
 pub mod prim;
 pub mod state;
 mod straight;
