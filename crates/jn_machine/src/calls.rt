@@ -37,6 +37,7 @@ pub(crate) fn point_at(program: &Program, body: usize, at: usize) -> Option<&Poi
 }
 
 /// Puts the values of all operands behind those given; None where a register holds none.
+#[tactic(auto, using(crate::proofs::Pieces::prepended_more))]
 pub(crate) fn gather(
     alloc: Global,
     frame: &Frame,
@@ -55,6 +56,14 @@ pub(crate) fn gather(
     Ok(Some(values))
 }
 
+/// The first value is taken, as what the first register holds.
+#[tactic(auto, using(crate::proofs::Pieces::pad_next))]
+fn first_of(rest: &mut VecDeque<Value>) -> Option<Value>
+    ensures { (count i : ℕ) → i < count → spec.pad rest.old.items (count - i) ≡ result ∷ spec.pad rest.new.items (count - (i + 1)) }
+{
+    rest.pop_front()
+}
+
 /// So many registers, the first of which hold the values.
 fn padded(
     alloc: Global,
@@ -66,7 +75,7 @@ fn padded(
     let mut rest = VecDeque::from_vec(values.into_vec());
     let mut regs = Vec::new(alloc);
     for _ in 0..count {
-        regs.push(rest.pop_front())?;
+        regs.push(first_of(&mut rest))?;
     }
     Ok(regs)
 }

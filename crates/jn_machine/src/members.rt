@@ -4,7 +4,7 @@ ghost use Rattle.jn_points.specs.Lookup.{elem_base};
 ghost use Rattle.jn_heap.specs.Values.{count, default_of, index};
 ghost use Rattle.jn_heap.specs.Machine as spec;
 ghost use Rattle.jn_machine.specs.Ends.{answer_of};
-ghost use Rattle.jn_machine.specs.Parts.{goes_to};
+ghost use Rattle.jn_machine.specs.Parts.{goes_to, may_hold_in, put_next, store_as};
 ghost use Rattle.jn_machine.specs.StateView.{state_of, acted_next};
 
 use crate::prim::{End, Got, Prim};
@@ -140,7 +140,29 @@ pub(crate) fn read_elem(
     }
 }
 
+/// Whether the thing at a place is an array that may hold the value.
+fn may_store(program: &Program, heap: &[Thing], place: usize, value: &Value) -> bool
+    ensures { result ≡ may_hold_in program.now heap.now (slice_get heap.now place) value.now }
+{
+    match heap.get(place) {
+        None => false,
+        Some(thing) => thing.may_hold(program, heap, value),
+    }
+}
+
+/// Makes a value an element of the thing at a place, where it may hold it.
+fn set_at(heap: &mut [Thing], place: usize, number: i32, value: Value, may: bool) -> Got<()>
+    ensures { (st : spec.State) → st.heap ≡ heap.old → spec.put_thing st place (store_as (slice_get heap.old place) (index number) value may) ≡ put_next result st heap.new }
+{
+    if place >= heap.len() {
+        return Got::Lacks;
+    }
+    let thing = &mut heap[place];
+    thing.set_element(number, value, may)
+}
+
 /// Makes a value an element of the thing at a place, and goes to the next point.
+#[tactic(auto, using(crate::proofs::Pieces::store_is))]
 fn store_elem(
     program: &Program,
     state: &mut MachineState,
@@ -151,13 +173,8 @@ fn store_elem(
     requires { state.old.top.at < 2 ^ 64 - 1 }
     ensures { (out : List ℕ) → spec.put_thing (state_of state.old out) place (spec.store_in program.now state.old.heap.items (slice_get state.old.heap.items place) (index number) value) ≡ acted_next result state.new out }
 {
-    if place >= state.heap.len() {
-        return Acted::Stuck;
-    }
-    let array = &state.heap[place];
-    let may = array.may_hold(program, &state.heap, &value);
-    let thing = &mut state.heap[place];
-    match thing.set_element(number, value, may) {
+    let may = may_store(program, &state.heap, place, &value);
+    match set_at(&mut state.heap, place, number, value, may) {
         Got::Gives(()) => {
             state.top.advance();
             Acted::Goes

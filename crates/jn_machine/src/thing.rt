@@ -129,7 +129,7 @@ impl Thing {
 
     /// Whether the thing is an array that may hold the value as an element.
     pub fn may_hold(&self, program: &Program, heap: &[Thing], value: &Value) -> bool
-        ensures { result ≡ may_hold_in program.now heap.now self.now value.now }
+        ensures { result ≡ may_hold_in program.now heap.now (Some self.now) value.now }
     {
         match &self.node {
             Node::Object(..) => false,
@@ -140,7 +140,7 @@ impl Thing {
     /// Makes a value the element at an index, where the array may hold it. Out of bounds, and
     /// then where it may not, the run ends.
     pub fn set_element(&mut self, at: i32, value: Value, may: bool) -> Got<()>
-        ensures { store_as self.old (spec.index at) value may ≡ put_answer result self.new }
+        ensures { store_as (Some self.old) (spec.index at) value may ≡ put_answer result self.new }
     {
         match &mut self.node {
             Node::Object(..) => Got::Lacks,
