@@ -9,13 +9,14 @@ ghost use Rattle.jn_machine.specs.StateView.{state_of, acted_next};
 
 use crate::classes::{dispatch, method_at};
 use crate::frame::Frame;
+use crate::members::allocate;
 use crate::prim::{End, Got};
 use crate::state::{Acted, MachineState};
 use crate::straight::copied;
 use crate::thing::Thing;
 use crate::value::Value;
 use jn_base::{ClassNo, MethodNo, RegNo, Seq};
-use jn_points::{Field, Operand, Point, PointKind, Program};
+use jn_points::{BaseType, Field, Operand, Point, PointKind, Program};
 use std::alloc::{AllocError, Global};
 use std::collections::VecDeque;
 use std::mem;
@@ -62,6 +63,23 @@ fn first_of(rest: &mut VecDeque<Value>) -> Option<Value>
     ensures { (count i : ℕ) → i < count → spec.pad rest.old.items (count - i) ≡ result ∷ spec.pad rest.new.items (count - (i + 1)) }
 {
     rest.pop_front()
+}
+
+/// A new array of the values of all operands.
+pub(crate) fn array_of(
+    alloc: Global,
+    state: &mut MachineState,
+    dst: RegNo,
+    base: BaseType,
+    values: &[Operand],
+) -> Result<Acted, AllocError>
+    requires { state.old.top.at < 2 ^ 64 - 1 }
+    ensures { IfOk result (λ acted. (out : List ℕ) → spec.array_of (state_of state.old out) dst.0 base (spec.gather state.old.top.regs values.now) ≡ acted_next acted state.new out) }
+{
+    match gather(alloc, &state.top, values, Seq::new(alloc))? {
+        None => Ok(Acted::Stuck),
+        Some(items) => allocate(state, dst, Thing::array(base, items.into_vec())),
+    }
 }
 
 /// So many registers, the first of which hold the values.
