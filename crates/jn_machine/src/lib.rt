@@ -6,6 +6,7 @@ pub mod classes;
 pub mod frame;
 mod members;
 pub mod prim;
+pub mod runs;
 pub mod state;
 pub mod steps;
 mod straight;
@@ -15,6 +16,7 @@ pub mod value;
 
 pub use frame::Frame;
 pub use prim::{End, Got, Plain, Prim};
+pub use runs::{run, start};
 pub use state::{MachineState, Stepped};
 pub use steps::step;
 pub use thing::Thing;

@@ -1,7 +1,7 @@
 // The points of fields, static fields, arrays, casts and tests of classes.
 ghost use Rattle.std.specs.Prelude.{◌≡◌, ◌<◌, ◌-◌, ◌^◌, ℕ, List, IfOk, replicate, slice_get, slice_set};
 ghost use Rattle.jn_points.specs.Lookup.{elem_base};
-ghost use Rattle.jn_heap.specs.Values.{count, default_of, index};
+ghost use Rattle.jn_heap.specs.Values.{count, default_of};
 ghost use Rattle.jn_heap.specs.Machine as spec;
 ghost use Rattle.jn_machine.specs.Ends.{answer_of};
 ghost use Rattle.jn_machine.specs.Parts.{goes_to, may_hold_in, put_next, store_as};
@@ -10,7 +10,7 @@ ghost use Rattle.jn_machine.specs.StateView.{state_of, acted_next};
 use crate::prim::{End, Got, Prim};
 use crate::state::{Acted, MachineState};
 use crate::straight::{LONGEST, copied};
-use crate::thing::{Thing, elem_base};
+use crate::thing::{Thing, elem_base, index};
 use crate::value::Value;
 use jn_base::{ClassNo, FieldNo, PointNo, RegNo};
 use jn_points::{BaseType, Program};
@@ -151,14 +151,20 @@ fn may_store(program: &Program, heap: &[Thing], place: usize, value: &Value) -> 
 }
 
 /// Makes a value an element of the thing at a place, where it may hold it.
-fn set_at(heap: &mut [Thing], place: usize, number: i32, value: Value, may: bool) -> Got<()>
-    ensures { (st : spec.State) → st.heap ≡ heap.old → spec.put_thing st place (store_as (slice_get heap.old place) (index number) value may) ≡ put_next result st heap.new }
+fn set_at(
+    heap: &mut [Thing],
+    place: usize,
+    at: Option<usize>,
+    value: Value,
+    may: bool,
+) -> Got<()>
+    ensures { (st : spec.State) → st.heap ≡ heap.old → spec.put_thing st place (store_as (slice_get heap.old place) at value may) ≡ put_next result st heap.new }
 {
     if place >= heap.len() {
         return Got::Lacks;
     }
     let thing = &mut heap[place];
-    thing.set_element(number, value, may)
+    thing.set_element(at, value, may)
 }
 
 /// Makes a value an element of the thing at a place, and goes to the next point.
@@ -167,14 +173,14 @@ fn store_elem(
     program: &Program,
     state: &mut MachineState,
     place: usize,
-    number: i32,
+    at: Option<usize>,
     value: Value,
 ) -> Acted
     requires { state.old.top.at < 2 ^ 64 - 1 }
-    ensures { (out : List ℕ) → spec.put_thing (state_of state.old out) place (spec.store_in program.now state.old.heap.items (slice_get state.old.heap.items place) (index number) value) ≡ acted_next result state.new out }
+    ensures { (out : List ℕ) → spec.put_thing (state_of state.old out) place (spec.store_in program.now state.old.heap.items (slice_get state.old.heap.items place) at value) ≡ acted_next result state.new out }
 {
     let may = may_store(program, &state.heap, place, &value);
-    match set_at(&mut state.heap, place, number, value, may) {
+    match set_at(&mut state.heap, place, at, value, may) {
         Got::Gives(()) => {
             state.top.advance();
             Acted::Goes
@@ -204,7 +210,7 @@ pub(crate) fn write_elem(
     let Some(value) = copied(alloc, &state.top, from)? else {
         return Ok(Acted::Stuck);
     };
-    Ok(store_elem(program, state, place, number, value))
+    Ok(store_elem(program, state, place, index(number), value))
 }
 
 /// The length of the array that a register refers to.

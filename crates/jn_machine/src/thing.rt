@@ -137,14 +137,14 @@ impl Thing {
         }
     }
 
-    /// Makes a value the element at an index, where the array may hold it. Out of bounds, and
+    /// Makes a value the element at a place, where the array may hold it. Out of bounds, and
     /// then where it may not, the run ends.
-    pub fn set_element(&mut self, at: i32, value: Value, may: bool) -> Got<()>
-        ensures { store_as (Some self.old) (spec.index at) value may ≡ put_answer result self.new }
+    pub fn set_element(&mut self, at: Option<usize>, value: Value, may: bool) -> Got<()>
+        ensures { store_as (Some self.old) at value may ≡ put_answer result self.new }
     {
         match &mut self.node {
             Node::Object(..) => Got::Lacks,
-            Node::Elems(_, items) => match index(at) {
+            Node::Elems(_, items) => match at {
                 None => Got::Fails(End::Index),
                 Some(place) => {
                     if place >= items.len() {
@@ -171,7 +171,7 @@ fn put(items: &mut [Value], at: usize, value: Value)
 }
 
 /// The place of an element; None below zero.
-fn index(at: i32) -> Option<usize>
+pub(crate) fn index(at: i32) -> Option<usize>
     ensures { result ≡ spec.index at }
 {
     if at < 0 {
