@@ -83,11 +83,7 @@ pub(crate) fn array_of(
 }
 
 /// So many registers, the first of which hold the values.
-fn padded(
-    alloc: Global,
-    values: Seq<Value>,
-    count: usize,
-) -> Result<Vec<Option<Value>>, AllocError>
+fn padded(alloc: Global, values: Seq<Value>, count: usize) -> Result<Vec<Option<Value>>, AllocError>
     ensures { IfOk result (λ regs. regs.items ≡ spec.pad values count) }
 {
     let mut rest = VecDeque::from_vec(values.into_vec());

@@ -151,13 +151,7 @@ fn may_store(program: &Program, heap: &[Thing], place: usize, value: &Value) -> 
 }
 
 /// Makes a value an element of the thing at a place, where it may hold it.
-fn set_at(
-    heap: &mut [Thing],
-    place: usize,
-    at: Option<usize>,
-    value: Value,
-    may: bool,
-) -> Got<()>
+fn set_at(heap: &mut [Thing], place: usize, at: Option<usize>, value: Value, may: bool) -> Got<()>
     ensures { (st : spec.State) → st.heap ≡ heap.old → spec.put_thing st place (store_as (slice_get heap.old place) at value may) ≡ put_next result st heap.new }
 {
     if place >= heap.len() {

@@ -3,11 +3,9 @@ ghost use Rattle.std.specs.Prelude.{◌≡◌, ◌<◌, ◌-◌, ◌^◌, ℕ, L
 ghost use Rattle.jn_heap.specs.Machine as spec;
 ghost use Rattle.jn_machine.specs.StateView.{state_of, acted_next, next_of};
 
-use crate::calls;
-use crate::members;
 use crate::prim::Got;
 use crate::state::{Acted, MachineState, Stepped, jump, jump_to, settle};
-use crate::straight;
+use crate::{calls, members, straight};
 use jn_base::{OutOfMemory, Text};
 use jn_points::{PointKind, Program};
 use std::alloc::{AllocError, Global};
@@ -28,7 +26,11 @@ fn act(
             let made = straight::literal(alloc, names, *value)?;
             Ok(settle(state, *dst, Got::Gives(made)))
         }
-        PointKind::Move { dst, from, bound: _ } => {
+        PointKind::Move {
+            dst,
+            from,
+            bound: _,
+        } => {
             let got = straight::moved(alloc, &state.top, from.reg)?;
             Ok(settle(state, *dst, got))
         }

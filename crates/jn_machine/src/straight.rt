@@ -28,11 +28,7 @@ fn name_at(alloc: Global, names: &[Text], name: usize) -> Result<Text, AllocErro
     }
 }
 
-pub(crate) fn literal(
-    alloc: Global,
-    names: &[Text],
-    value: Literal,
-) -> Result<Value, AllocError>
+pub(crate) fn literal(alloc: Global, names: &[Text], value: Literal) -> Result<Value, AllocError>
     ensures { IfOk result (λ v. v ≡ spec.literal_value names.now value) }
 {
     match value {
@@ -47,11 +43,7 @@ pub(crate) fn literal(
 }
 
 /// The value of a register, copied; None where it holds none.
-pub(crate) fn copied(
-    alloc: Global,
-    frame: &Frame,
-    reg: RegNo,
-) -> Result<Option<Value>, AllocError>
+pub(crate) fn copied(alloc: Global, frame: &Frame, reg: RegNo) -> Result<Option<Value>, AllocError>
     ensures { IfOk result (λ v. v ≡ spec.value_at frame.now.regs reg.0) }
 {
     match frame.value(reg) {
@@ -194,11 +186,7 @@ pub(crate) fn str_op(
 }
 
 /// The text of a register's value and a line feed are printed.
-pub(crate) fn print(
-    alloc: Global,
-    state: &mut MachineState,
-    of: RegNo,
-) -> Result<Acted, AllocError>
+pub(crate) fn print(alloc: Global, state: &mut MachineState, of: RegNo) -> Result<Acted, AllocError>
     requires { state.old.top.at < 2 ^ 64 - 1 }
     ensures { IfOk result (λ acted. (out : List ℕ) → spec.print (state_of state.old out) (spec.text_in (spec.value_at state.old.top.regs of.0)) ≡ acted_next acted state.new out) }
 {
