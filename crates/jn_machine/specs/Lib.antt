@@ -4,4 +4,4 @@ pub mod ValueView
 pub mod ThingView
 pub mod StateView
 pub mod Parts
-pub mod Runs
+pub mod Printed

@@ -6,6 +6,7 @@ pub mod classes;
 pub mod frame;
 mod members;
 pub mod prim;
+pub mod printed;
 pub mod runs;
 pub mod state;
 pub mod steps;
@@ -18,6 +19,7 @@ pub mod value;
 
 pub use frame::Frame;
 pub use prim::{End, Got, Plain, Prim};
+pub use printed::{StepFail, step_to};
 pub use runs::{run, start};
 pub use state::{MachineState, Stepped};
 pub use steps::step;
