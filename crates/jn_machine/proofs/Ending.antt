@@ -1,0 +1,23 @@
+-- Runs, a step more, and behind their end.
+use Rattle.std.proofs.Common.{◌≡◌, ℕ, zero, suc, ◌+◌, ◌-◌, ◌<◌, ◌≤◌, List, refl, ap, ◌∙◌, arith, add-one, add-zero, add-suc}
+use Rattle.jn_points.specs.declared.program.Program.{Program}
+use Rattle.jn_heap.specs.Values.{End}
+use Rattle.jn_heap.specs.Machine.{State, Next, Goes, Ends, Stuck, step, then_step, run}
+
+pub run_more : (P : Program) (names : List (List ℕ)) (start next : Next) (n : ℕ) (st : State) → run P names start n ≡ Goes st → step P names st ≡ next → run P names start (n + 1) ≡ next
+run_more P names start next n st goes does = rw add-one (ap (then_step P names) goes ∙ does)
+
+pub stays_ended : (P : Program) (names : List (List ℕ)) (start : Next) (e : End) (n more : ℕ) → run P names start n ≡ Ends e → run P names start (n + more) ≡ Ends e
+stays_ended P names start e n zero h = rw add-zero h
+stays_ended P names start e n (suc more) h = rw add-suc (ap (then_step P names) (stays_ended P names start e n more h))
+
+pub stays_stuck : (P : Program) (names : List (List ℕ)) (start : Next) (n more : ℕ) → run P names start n ≡ Stuck → run P names start (n + more) ≡ Stuck
+stays_stuck P names start n zero h = rw add-zero h
+stays_stuck P names start n (suc more) h = rw add-suc (ap (then_step P names) (stays_stuck P names start n more h))
+
+-- a step that ends the run, among so many
+pub ends_within : (P : Program) (names : List (List ℕ)) (start : Next) (e : End) (n all : ℕ) (st : State) → n < all → run P names start n ≡ Goes st → step P names st ≡ Ends e → run P names start all ≡ Ends e
+ends_within P names start e n all st lt goes ends = let k : all ≡ (n + 1) + (all - (n + 1)) = omega arith in rw k (stays_ended P names start e (n + 1) (all - (n + 1)) (run_more P names start (Ends e) n st goes ends))
+
+pub sticks_within : (P : Program) (names : List (List ℕ)) (start : Next) (n all : ℕ) (st : State) → n < all → run P names start n ≡ Goes st → step P names st ≡ Stuck → run P names start all ≡ Stuck
+sticks_within P names start n all st lt goes stuck = let k : all ≡ (n + 1) + (all - (n + 1)) = omega arith in rw k (stays_stuck P names start (n + 1) (all - (n + 1)) (run_more P names start Stuck n st goes stuck))

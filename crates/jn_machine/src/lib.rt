@@ -1,0 +1,27 @@
+// The machine as code: an interpreter of programs, equal to its definition.
+#![tactic(auto)]
+
+mod calls;
+pub mod classes;
+pub mod frame;
+mod members;
+pub mod prim;
+pub mod printed;
+pub mod runs;
+pub mod state;
+pub mod steps;
+mod straight;
+#[cfg(test)]
+mod tests;
+pub mod text;
+pub mod thing;
+pub mod value;
+
+pub use frame::Frame;
+pub use prim::{End, Got, Plain, Prim};
+pub use printed::{StepFail, step_to};
+pub use runs::{run, start};
+pub use state::{MachineState, Stepped};
+pub use steps::step;
+pub use thing::Thing;
+pub use value::Value;

@@ -1,0 +1,51 @@
+// Steps that print to a sink.
+ghost use Rattle.std.specs.Prelude.{◌≡◌, ◌≢◌, ◌≤◌, ℕ, List, IfOk, Err};
+ghost use Rattle.jn_outside.specs.Causes.{Rose};
+ghost use Rattle.jn_heap.specs.Machine as spec;
+ghost use Rattle.jn_machine.specs.Printed.{PrintsTo, PrintsSome};
+ghost use Rattle.jn_machine.specs.StateView.{state_of};
+
+use crate::state::{Acted, MachineState, Stepped};
+use crate::steps::step_once;
+use jn_base::Text;
+use jn_outside::{Sink, write_whole};
+use jn_points::Program;
+use std::alloc::Global;
+
+/// Why a step that prints to a sink gave nothing.
+#[derive(Clone, Copy, Debug, PartialEq, Eq)]
+pub enum StepFail {
+    /// The sink failed, and a prefix of what the step prints went out.
+    WriteFault,
+    /// No memory was found; the state is of no use then.
+    OutOfMemory,
+}
+
+/// Runs the next point, one step of the definition. What it prints goes to the sink.
+///
+/// # Errors
+/// `WriteFault` only where the sink's count of faults rose; the step is done then.
+pub fn step_to<K: Sink>(
+    alloc: Global,
+    program: &Program,
+    names: &[Text],
+    state: &mut MachineState,
+    sink: &mut K,
+) -> Result<Stepped, StepFail>
+    ensures ok { IfOk result (λ stepped. PrintsTo (λ out. spec.step program.now names.now (state_of state.old out)) stepped state.new (K.written sink.old) (K.written sink.new)) }
+    ensures prefix { result ≡ Err StepFail.WriteFault → PrintsSome (λ out. spec.step program.now names.now (state_of state.old out)) state.new (K.written sink.old) (K.written sink.new) }
+    ensures failed { result ≡ Err StepFail.WriteFault → Rose (K.faults sink.old) (K.faults sink.new) }
+    ensures later { K.faults sink.old ≤ K.faults sink.new }
+    ensures kept { result ≢ Err StepFail.WriteFault → K.faults sink.new ≡ K.faults sink.old }
+{
+    match step_once(alloc, program, names, state) {
+        Err(_) => Err(StepFail::OutOfMemory),
+        Ok(Acted::Goes) => Ok(Stepped::Goes),
+        Ok(Acted::Ends(end)) => Ok(Stepped::Ends(end)),
+        Ok(Acted::Stuck) => Ok(Stepped::Stuck),
+        Ok(Acted::Prints(line)) => match write_whole(sink, line.as_str().as_bytes()) {
+            Ok(()) => Ok(Stepped::Goes),
+            Err(_) => Err(StepFail::WriteFault),
+        },
+    }
+}

@@ -1,0 +1,228 @@
+// The points of straight code: constants, moves, operators, texts, tests of null, branches.
+ghost use Rattle.std.specs.Prelude.{◌≡◌, ◌<◌, ◌-◌, ◌^◌, [], ℕ, List, IfOk, ltb, slice_index_or};
+ghost use Rattle.jn_heap.specs.Values.{longest, units, text_equals};
+ghost use Rattle.jn_heap.specs.Machine as spec;
+ghost use Rattle.jn_machine.specs.Ends.{answer_of};
+ghost use Rattle.jn_machine.specs.Parts.{goes_to};
+ghost use Rattle.jn_machine.specs.StateView.{state_of, acted_next};
+
+use crate::frame::Frame;
+use crate::prim::{self, End, Got, Plain, Prim};
+use crate::state::{Acted, MachineState};
+use crate::text;
+use crate::value::Value;
+use jn_base::{PointNo, RegNo, Text};
+use jn_points::{Literal, Operand, Operator, StrOperation};
+use std::alloc::{AllocError, Global};
+
+/// The greatest number of elements of an array, or of UTF-16 units of a text.
+pub(crate) const LONGEST: usize = 16_777_216;
+
+/// The text of a name; an empty one where there is none.
+fn name_at(alloc: Global, names: &[Text], name: usize) -> Result<Text, AllocError>
+    ensures { IfOk result (λ t. t ≡ slice_index_or names.now name []) }
+{
+    match names.get(name) {
+        None => Text::of_str(alloc, ""),
+        Some(text) => text.copy(alloc),
+    }
+}
+
+pub(crate) fn literal(alloc: Global, names: &[Text], value: Literal) -> Result<Value, AllocError>
+    ensures { IfOk result (λ v. v ≡ spec.literal_value names.now value) }
+{
+    match value {
+        Literal::Int(number) => Ok(Value::plain(Prim::int(number))),
+        Literal::Truth(truth) => Ok(Value::plain(Prim::bool(truth))),
+        Literal::Str(name) => {
+            let text = name_at(alloc, names, name.0 as usize)?;
+            Ok(Value::text(text))
+        }
+        Literal::Null => Ok(Value::null()),
+    }
+}
+
+/// The value of a register, copied; None where it holds none.
+pub(crate) fn copied(alloc: Global, frame: &Frame, reg: RegNo) -> Result<Option<Value>, AllocError>
+    ensures { IfOk result (λ v. v ≡ spec.value_at frame.now.regs reg.0) }
+{
+    match frame.value(reg) {
+        None => Ok(None),
+        Some(value) => {
+            let copy = value.copy(alloc)?;
+            Ok(Some(copy))
+        }
+    }
+}
+
+pub(crate) fn moved(alloc: Global, frame: &Frame, from: RegNo) -> Result<Got<Value>, AllocError>
+    ensures { IfOk result (λ g. answer_of g ≡ spec.got_of (spec.value_at frame.now.regs from.0)) }
+{
+    match copied(alloc, frame, from)? {
+        None => Ok(Got::Lacks),
+        Some(value) => Ok(Got::Gives(value)),
+    }
+}
+
+/// An int or boolean as a value.
+fn plain(got: Got<Prim>) -> Got<Value>
+    ensures { answer_of result ≡ spec.got_plain (answer_of got) }
+{
+    match got {
+        Got::Gives(prim) => Got::Gives(Value::plain(prim)),
+        Got::Fails(end) => Got::Fails(end),
+        Got::Lacks => Got::Lacks,
+    }
+}
+
+pub(crate) fn unary(frame: &Frame, negate: bool, of: RegNo) -> Got<Value>
+    ensures { answer_of result ≡ spec.unary_of negate (spec.prim_of (spec.value_at frame.now.regs of.0)) }
+{
+    match frame.prim(of) {
+        None => Got::Lacks,
+        Some(prim) => plain(prim::unary(negate, &prim)),
+    }
+}
+
+pub(crate) fn binary(frame: &Frame, operator: Operator, left: RegNo, right: RegNo) -> Got<Value>
+    ensures { answer_of result ≡ spec.binary_of operator (spec.prim_of (spec.value_at frame.now.regs left.0)) (spec.prim_of (spec.value_at frame.now.regs right.0)) }
+{
+    match frame.prim(left) {
+        None => Got::Lacks,
+        Some(a) => match frame.prim(right) {
+            None => Got::Lacks,
+            Some(b) => plain(prim::binary(operator, &a, &b)),
+        },
+    }
+}
+
+/// The text that joins and prints of a register's value.
+fn shown(alloc: Global, frame: &Frame, of: RegNo) -> Result<Option<Text>, AllocError>
+    ensures { IfOk result (λ t. t ≡ spec.text_in (spec.value_at frame.now.regs of.0)) }
+{
+    match frame.value(of) {
+        None => Ok(None),
+        Some(value) => value.shown(alloc),
+    }
+}
+
+fn within_length(text: Text) -> Got<Value>
+    ensures { answer_of result ≡ spec.text_or_long text (ltb longest (units text)) }
+{
+    if text::units(text.as_str()) > LONGEST {
+        Got::Fails(End::Long)
+    } else {
+        Got::Gives(Value::text(text))
+    }
+}
+
+pub(crate) fn concat(
+    alloc: Global,
+    frame: &Frame,
+    left: RegNo,
+    right: RegNo,
+) -> Result<Got<Value>, AllocError>
+    ensures { IfOk result (λ g. answer_of g ≡ spec.concat_of (spec.text_in (spec.value_at frame.now.regs left.0)) (spec.text_in (spec.value_at frame.now.regs right.0))) }
+{
+    let Some(front) = shown(alloc, frame, left)? else {
+        return Ok(Got::Lacks);
+    };
+    let Some(rest) = shown(alloc, frame, right)? else {
+        return Ok(Got::Lacks);
+    };
+    let both = text::joined(alloc, front.as_str(), rest.as_str())?;
+    Ok(within_length(both))
+}
+
+pub(crate) fn same_ref(frame: &Frame, equal: bool, left: RegNo, right: RegNo) -> Got<Value>
+    ensures { answer_of result ≡ spec.same_of equal (spec.value_at frame.now.regs left.0) (spec.value_at frame.now.regs right.0) }
+{
+    match frame.value(left) {
+        None => Got::Lacks,
+        Some(a) => match frame.value(right) {
+            None => Got::Lacks,
+            Some(b) => {
+                let same = a.same(b);
+                Got::Gives(Value::plain(Prim::bool(if equal { same } else { !same })))
+            }
+        },
+    }
+}
+
+/// Whether the operand's value is the text.
+fn text_equals(frame: &Frame, text: &str, other: Option<Operand>) -> Got<Value>
+    ensures { answer_of result ≡ spec.got_plain (text_equals text.now (spec.value_of frame.now.regs other)) }
+{
+    match other {
+        None => Got::Lacks,
+        Some(operand) => match frame.value(operand.reg) {
+            None => Got::Lacks,
+            Some(value) => Got::Gives(Value::plain(Prim::bool(value.is_text(text)))),
+        },
+    }
+}
+
+pub(crate) fn str_op(
+    frame: &Frame,
+    op: StrOperation,
+    of: RegNo,
+    other: Option<Operand>,
+) -> Got<Value>
+    ensures { answer_of result ≡ spec.str_op op (spec.value_at frame.now.regs of.0) (spec.value_of frame.now.regs other) }
+{
+    match frame.value(of) {
+        None => Got::Lacks,
+        Some(value) => match value.as_text() {
+            None => Got::Lacks,
+            Some(text) => match op {
+                StrOperation::Length => {
+                    Got::Gives(Value::plain(prim::number_of(text::units(text))))
+                }
+                StrOperation::IsEmpty => Got::Gives(Value::plain(Prim::bool(text.is_empty()))),
+                StrOperation::Equals => text_equals(frame, text, other),
+            },
+        },
+    }
+}
+
+/// The text of a register's value and a line feed are printed.
+pub(crate) fn print(alloc: Global, state: &mut MachineState, of: RegNo) -> Result<Acted, AllocError>
+    requires { state.old.top.at < 2 ^ 64 - 1 }
+    ensures { IfOk result (λ acted. (out : List ℕ) → spec.print (state_of state.old out) (spec.text_in (spec.value_at state.old.top.regs of.0)) ≡ acted_next acted state.new out) }
+{
+    let Some(text) = shown(alloc, &state.top, of)? else {
+        return Ok(Acted::Stuck);
+    };
+    let line = text::joined(alloc, text.as_str(), "\n")?;
+    state.top.advance();
+    Ok(Acted::Prints(line))
+}
+
+/// Which point a test of null goes to.
+pub(crate) fn test_null(
+    frame: &Frame,
+    of: RegNo,
+    null: PointNo,
+    non_null: PointNo,
+) -> Option<PointNo>
+    ensures { (st : spec.State) → spec.test_null st null.0 non_null.0 (spec.value_at frame.now.regs of.0) ≡ goes_to st result }
+{
+    match frame.value(of) {
+        None => None,
+        Some(value) => value.null_side(null, non_null),
+    }
+}
+
+/// Which point a branch goes to.
+pub(crate) fn branch(frame: &Frame, of: RegNo, yes: PointNo, no: PointNo) -> Option<PointNo>
+    ensures { (st : spec.State) → spec.branch st yes.0 no.0 (spec.truth_of (spec.prim_of (spec.value_at frame.now.regs of.0))) ≡ goes_to st result }
+{
+    match frame.prim(of) {
+        None => None,
+        Some(prim) => match prim.plain() {
+            Plain::Bool(true) => Some(yes),
+            Plain::Bool(false) => Some(no),
+            Plain::Int(_) => None,
+        },
+    }
+}

@@ -1,0 +1,356 @@
+// Small programs run to their end.
+use crate::{End, Stepped, run, start};
+use jn_base::{
+    BodyNo, ClassNo, FieldNo, FileNo, MethodNo, NameNo, OutOfMemory, PointNo, RegNo, Seq, Span,
+    Text,
+};
+use jn_points::{
+    BaseType, Body, Class, Elem, Field, Literal, Method, Operand, Operator, Point, PointKind,
+    Program, StrOperation,
+};
+use std::alloc::{AllocError, Global};
+use std::test::Fail;
+
+fn span() -> Span {
+    Span {
+        file: FileNo(0),
+        from: 0,
+        to: 0,
+    }
+}
+
+fn at(reg: u32) -> Operand {
+    Operand {
+        reg: RegNo(reg),
+        span: span(),
+    }
+}
+
+fn class(alloc: Global, parent: Option<ClassNo>) -> Result<Class, AllocError> {
+    let mut supers = Seq::new(alloc);
+    if let Some(above) = parent {
+        supers.push(above)?;
+    }
+    Ok(Class {
+        name: NameNo(0),
+        span: span(),
+        interface: false,
+        is_abstract: false,
+        is_final: false,
+        parent,
+        supers,
+    })
+}
+
+fn method(
+    alloc: Global,
+    name: u32,
+    ctor: bool,
+    body: u32,
+    params: &[BaseType],
+) -> Result<Method, AllocError> {
+    Ok(Method {
+        name: NameNo(name),
+        span: span(),
+        owner: ClassNo(2),
+        params: Seq::of_vec(Vec::from_slice(alloc, params)?),
+        result: BaseType::Int,
+        ctor,
+        is_static: false,
+        is_private: false,
+        is_abstract: false,
+        is_final: false,
+        is_main: false,
+        body: Some(BodyNo(body)),
+        receiver: None,
+        param_slots: Seq::new(alloc),
+        result_slot: None,
+    })
+}
+
+fn body(alloc: Global, kinds: Vec<PointKind>) -> Result<Body, AllocError> {
+    let mut points = Seq::new(alloc);
+    for kind in kinds {
+        points.push(Point { kind, span: span() })?;
+    }
+    let mut regs = Seq::new(alloc);
+    for _ in 0..6 {
+        regs.push(BaseType::Int)?;
+    }
+    Ok(Body {
+        method: MethodNo(0),
+        regs,
+        locals: 6,
+        points,
+    })
+}
+
+/// Object, String, and a class with a field, a constructor of it, `get`, and a method that calls
+/// itself; `main` has these points.
+fn program(alloc: Global, main: Vec<PointKind>) -> Result<Program, AllocError> {
+    let mut classes = Seq::new(alloc);
+    classes.push(class(alloc, None)?)?;
+    classes.push(class(alloc, Some(ClassNo(0)))?)?;
+    classes.push(class(alloc, Some(ClassNo(0)))?)?;
+    let mut fields = Seq::new(alloc);
+    fields.push(Field {
+        name: NameNo(0),
+        span: span(),
+        owner: ClassNo(2),
+        base: BaseType::Int,
+        is_static: false,
+        is_final: false,
+        is_private: false,
+        first: 3,
+        slot: None,
+    })?;
+    let mut methods = Seq::new(alloc);
+    methods.push(method(alloc, 1, false, 0, &[])?)?;
+    methods.push(method(alloc, 0, true, 1, &[BaseType::Int])?)?;
+    methods.push(method(alloc, 2, false, 2, &[])?)?;
+    methods.push(method(alloc, 3, false, 3, &[])?)?;
+    let mut bodies = Seq::new(alloc);
+    bodies.push(body(alloc, main)?)?;
+    bodies.push(body(alloc, set_field(alloc)?)?)?;
+    bodies.push(body(alloc, get_field(alloc)?)?)?;
+    bodies.push(body(alloc, calls_itself(alloc)?)?)?;
+    Ok(Program {
+        classes,
+        fields,
+        methods,
+        bodies,
+        slots: Seq::new(alloc),
+    })
+}
+
+fn set_field(alloc: Global) -> Result<Vec<PointKind>, AllocError> {
+    Ok(vec![in alloc;
+        PointKind::FieldWrite {
+            object: at(0),
+            field: FieldNo(0),
+            value: at(1)
+        },
+        PointKind::Return { value: None },
+    ]?)
+}
+
+fn get_field(alloc: Global) -> Result<Vec<PointKind>, AllocError> {
+    Ok(vec![in alloc;
+        PointKind::FieldRead {
+            dst: RegNo(1),
+            object: at(0),
+            field: FieldNo(0)
+        },
+        PointKind::Return { value: Some(at(1)) },
+    ]?)
+}
+
+fn calls_itself(alloc: Global) -> Result<Vec<PointKind>, AllocError> {
+    Ok(vec![in alloc; call(None, 3, None, Seq::new(alloc))]?)
+}
+
+fn call(
+    dst: Option<RegNo>,
+    number: u32,
+    receiver: Option<Operand>,
+    args: Seq<Operand>,
+) -> PointKind {
+    PointKind::Call {
+        dst,
+        method: MethodNo(number),
+        receiver,
+        direct: false,
+        args,
+    }
+}
+
+fn int(dst: u32, number: i32) -> PointKind {
+    PointKind::Const {
+        dst: RegNo(dst),
+        value: Literal::Int(number),
+    }
+}
+
+fn string(dst: u32) -> PointKind {
+    PointKind::Const {
+        dst: RegNo(dst),
+        value: Literal::Str(NameNo(0)),
+    }
+}
+
+fn print(reg: u32) -> PointKind {
+    PointKind::Print { of: at(reg) }
+}
+
+fn binary(operator: Operator, left: u32, right: u32) -> PointKind {
+    PointKind::Binary {
+        dst: RegNo(5),
+        operator,
+        left: at(left),
+        right: at(right),
+    }
+}
+
+/// What a run of `main` with two words does within so many steps, and what it prints. The one
+/// name is `a\u{e9}\u{1d11e}`, of four UTF-16 units.
+fn outcome(
+    alloc: Global,
+    main: Vec<PointKind>,
+    steps: u64,
+) -> Result<(Stepped, Vec<u8>), OutOfMemory> {
+    let program = program(alloc, main)?;
+    let names = one_text(alloc, "a\u{e9}\u{1d11e}")?;
+    let words = one_text(alloc, "word")?;
+    let mut state = start(alloc, &program, BodyNo(0), &words)?;
+    let mut out = Vec::new(alloc);
+    let stepped = run(alloc, &program, &names, &mut state, steps, &mut out)?;
+    Ok((stepped, out))
+}
+
+fn one_text(alloc: Global, text: &str) -> Result<Vec<Text>, AllocError> {
+    let mut texts = Vec::new(alloc);
+    texts.push(Text::of_str(alloc, text)?)?;
+    Ok(texts)
+}
+
+#[test]
+fn straight_code(rt: HostRuntime) -> Result<(), Fail> {
+    let alloc = rt.alloc();
+    let main = vec![in alloc;
+        string(1),
+        PointKind::StrOp {
+            dst: RegNo(2),
+            op: StrOperation::Length,
+            of: at(1),
+            other: None
+        },
+        PointKind::Concat {
+            dst: RegNo(1),
+            left: at(1),
+            right: at(2)
+        },
+        print(1),
+        int(3, -2147483648),
+        int(4, -1),
+        binary(Operator::Div, 3, 4),
+        print(5),
+        binary(Operator::Rem, 3, 4),
+        print(5),
+        binary(Operator::Sub, 3, 2),
+        print(5),
+        PointKind::Return { value: None },
+    ]?;
+    let (stepped, out) = outcome(alloc, main, 100)?;
+    assert_eq!(rt; stepped, Stepped::Ends(End::Done));
+    let want = "a\u{e9}\u{1d11e}4\n-2147483648\n0\n2147483644\n";
+    assert_eq!(rt; out.as_slice(), want.as_bytes());
+    Ok(())
+}
+
+#[test]
+fn ends_of_runs(rt: HostRuntime) -> Result<(), Fail> {
+    let alloc = rt.alloc();
+    let divides = vec![in alloc; int(1, 7), int(2, 0), binary(Operator::Div, 1, 2)]?;
+    assert_eq!(rt;
+        outcome(alloc, divides, 100)?.0,
+        Stepped::Ends(End::Arithmetic)
+    );
+    let on_null = vec![in alloc;
+        PointKind::Const {
+            dst: RegNo(1),
+            value: Literal::Null
+        },
+        PointKind::StrOp {
+            dst: RegNo(2),
+            op: StrOperation::Length,
+            of: at(1),
+            other: None
+        },
+    ]?;
+    assert_eq!(rt; outcome(alloc, on_null, 100)?.0, Stepped::Stuck);
+    let deep = vec![in alloc; call(None, 3, None, Seq::new(alloc))]?;
+    assert_eq!(rt; outcome(alloc, deep, 4095)?.0, Stepped::Goes);
+    let deeper = vec![in alloc; call(None, 3, None, Seq::new(alloc))]?;
+    assert_eq!(rt; outcome(alloc, deeper, 4096)?.0, Stepped::Ends(End::Deep));
+    Ok(())
+}
+
+#[test]
+fn objects(rt: HostRuntime) -> Result<(), Fail> {
+    let alloc = rt.alloc();
+    let mut args = Seq::new(alloc);
+    args.push(at(1))?;
+    let main = vec![in alloc;
+        int(1, 41),
+        PointKind::New {
+            dst: RegNo(2),
+            ctor: MethodNo(1),
+            args
+        },
+        call(Some(RegNo(3)), 2, Some(at(2)), Seq::new(alloc)),
+        print(3),
+        PointKind::TestInst {
+            of: at(2),
+            class: ClassNo(1),
+            origin: None,
+            yes: PointNo(6),
+            no: PointNo(5)
+        },
+        PointKind::Cast {
+            dst: RegNo(4),
+            of: at(2),
+            class: ClassNo(1)
+        },
+        PointKind::Return { value: None },
+    ]?;
+    let (stepped, out) = outcome(alloc, main, 100)?;
+    assert_eq!(rt; stepped, Stepped::Ends(End::ClassCast));
+    assert_eq!(rt; out.as_slice(), b"41\n".as_slice());
+    Ok(())
+}
+
+#[test]
+fn arrays(rt: HostRuntime) -> Result<(), Fail> {
+    let alloc = rt.alloc();
+    let ints = BaseType::Array(Elem::Int, false);
+    let main = vec![in alloc;
+        int(1, 2),
+        PointKind::NewArray {
+            dst: RegNo(2),
+            base: ints,
+            length: at(1)
+        },
+        int(3, 0),
+        PointKind::ElemWrite {
+            array: at(2),
+            index: at(3),
+            value: at(1)
+        },
+        PointKind::ElemRead {
+            dst: RegNo(4),
+            array: at(2),
+            index: at(3)
+        },
+        print(4),
+        PointKind::ArrayLen {
+            dst: RegNo(4),
+            array: at(0)
+        },
+        print(4),
+        PointKind::ElemRead {
+            dst: RegNo(4),
+            array: at(0),
+            index: at(3)
+        },
+        print(4),
+        PointKind::ElemRead {
+            dst: RegNo(4),
+            array: at(2),
+            index: at(1)
+        },
+    ]?;
+    let (stepped, out) = outcome(alloc, main, 100)?;
+    assert_eq!(rt; stepped, Stepped::Ends(End::Index));
+    assert_eq!(rt; out.as_slice(), b"2\n1\nword\n".as_slice());
+    Ok(())
+}
