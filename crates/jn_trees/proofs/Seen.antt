@@ -12,7 +12,7 @@ use Rattle.jn_trees.specs.declared.expression.Expr.TheVariants.{Call, OwnCall, S
 use Rattle.jn_trees.specs.declared.statement.Stmt.{Stmt, Row_of-Stmt, end_of-Stmt, more_of-Stmt, items-the_row-Stmt}
 use Rattle.jn_trees.specs.declared.statement.Stmt.TheBlock.{hidden-the_row-Stmt-0, items_hidden-the_row-Stmt-0}
 use Rattle.jn_trees.specs.declared.statement.Stmt.TheVariants.{Block}
-use Rattle.jn_trees.specs.Trees.{Statements, BlockStatement, NoStatements, MoreStatements, Trees, NoTrees, MoreTrees, CallTree, OwnCallTree, SuperCallTree, NewTree, ArrayOfTree}
+use Rattle.jn_trees.specs.Trees.{BlockStatement, NoStatements, MoreStatements, NoTrees, MoreTrees, CallTree, OwnCallTree, SuperCallTree, NewTree, ArrayOfTree}
 use Rattle.jn_trees.specs.View.{view, view_row, views, annotation_names, base_view, statement_view, statement_row, statement_views}
 
 row_views : (n : _) (k : Row_of-Expr n) → view_row k ≡ views (items-the_row-Expr n k)

@@ -1,5 +1,5 @@
 // The report of files that were read.
-ghost use Rattle.std.specs.Prelude.{◌≡◌, ◌≤◌, ◌×◌, ◌∷◌, [], List, length, map, IfOk, IfSome, IfNone, string_bytes};
+ghost use Rattle.std.specs.Prelude.{◌≡◌, ◌≤◌, ◌∷◌, [], List, length, map, IfOk, IfSome, IfNone, string_bytes};
 ghost use Rattle.jn_base.specs.declared.place.Row.{Row as SpecRow};
 ghost use Rattle.jn_points.specs.declared.program.Program.{Program as SpecProgram};
 ghost use Rattle.jn_diag.specs.Order.{IsOrderOf};
