@@ -1,0 +1,6 @@
+use crate::read_expr;
+
+#[test]
+fn one(rt: HostRuntime) {
+    assert!(rt; true);
+}
