@@ -22,7 +22,7 @@ pub fn read_expr(
 ) -> Result<Option<(Expr, &[Token])>, OutOfMemory> {
     match read_whole(alloc, tokens, depth)? {
         None => Ok(None),
-        Some((tree, _, rest)) => Ok(Some((tree, rest))),
+        Some((tree, _, rest)) => Ok(Some((Box::into_inner(tree), rest))),
     }
 }
 

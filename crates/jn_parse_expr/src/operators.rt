@@ -1,13 +1,23 @@
 // Operators between two operands, and `instanceof` (JLS 15.17 to 15.24).
 
-use crate::tail::{Tail, attach, larger};
+ghost use Rattle.std.specs.Prelude.{◌≡◌, ◌-◌, ◌≤◌, ◌<◌, ◌^◌, ℕ, IfOk, IfSome, List, [], ◌∷◌};
+ghost use Rattle.jn_trees.specs.Trees.{Tree};
+ghost use Rattle.jn_trees.specs.WellFormed.{nesting, power as weakness};
+ghost use Rattle.jn_trees.specs.View.{view};
+ghost use Rattle.jn_trees.specs.Pieces.{kinds};
+ghost use Rattle.jn_expr_law.specs.Reader.{reader, sign, grow, grow_by, OperatorSign, test};
+ghost use Rattle.jn_parse_expr.specs.Steps.{ReadAs, TailAs, sign_as};
+
+use crate::tail::{Tail, attach, front, larger};
 use crate::unary::read_unary;
-use jn_trees::reading::{identifier, next};
+use jn_trees::reading::identifier;
 use jn_trees::{BinaryOperator, Expr, Token, TokenKind};
 use std::alloc::{AllocError, Global};
 
 /// The operator that a token is.
-fn binary_operator(kind: TokenKind) -> Option<BinaryOperator> {
+fn binary_operator(kind: TokenKind) -> Option<BinaryOperator>
+    ensures { sign_as result (sign kind) }
+{
     match kind {
         TokenKind::Star => Some(BinaryOperator::Multiply),
         TokenKind::Slash => Some(BinaryOperator::Divide),
@@ -27,7 +37,9 @@ fn binary_operator(kind: TokenKind) -> Option<BinaryOperator> {
 }
 
 /// How weakly an operator binds, from 1 to 6.
-fn power_of(operator: BinaryOperator) -> u32 {
+fn power_of(operator: BinaryOperator) -> u32
+    ensures { result ≡ weakness operator }
+{
     match operator {
         BinaryOperator::Multiply => 1,
         BinaryOperator::Divide => 1,
@@ -52,7 +64,10 @@ pub fn read_operand(
     tokens: &[Token],
     power: u32,
     depth: u32,
-) -> Result<Option<(Expr, u32, &[Token])>, AllocError> {
+) -> Result<Option<(Box<Expr>, u32, &[Token])>, AllocError>
+    requires { power ≤ 6 }
+    ensures { IfOk result (λ o. ReadAs depth o ((reader depth).operand power (kinds tokens.now))) }
+{
     if depth == 0 {
         return Ok(None);
     }
@@ -61,16 +76,16 @@ pub fn read_operand(
     }
     match read_operand(alloc, tokens, power - 1, depth)? {
         None => Ok(None),
-        Some((first, first_nesting, first_rest)) => {
+        Some((first, first_nested, first_rest)) => {
             let mut left = first;
-            let mut nesting = first_nesting;
+            let mut nested = first_nested;
             let mut rest = first_rest;
             'operators: loop {
-                match grow_tail(alloc, nesting, rest, power - 1, depth)? {
-                    None => return Ok(Some((left, nesting, rest))),
+                match grow_tail(alloc, nested, rest, power - 1, depth)? {
+                    None => return Ok(Some((left, nested, rest))),
                     Some((tail, deeper, after)) => {
                         left = attach(alloc, tokens, left, tail, after)?;
-                        nesting = deeper;
+                        nested = deeper;
                         rest = after;
                     }
                 }
@@ -83,22 +98,26 @@ pub fn read_operand(
 #[cycle(parser)]
 fn grow_tail(
     alloc: Global,
-    nesting: u32,
+    nested: u32,
     tokens: &[Token],
     power: u32,
     depth: u32,
-) -> Result<Option<(Tail, u32, &[Token])>, AllocError> {
-    match next(tokens) {
+) -> Result<Option<(Tail, u32, &[Token])>, AllocError>
+    requires { power < 6 }
+    ensures rises { IfOk result (λ o. IfSome o (λ r. nested < r.1)) }
+    ensures gives { IfOk result (λ o. (l : Tree) → nested ≡ nesting l → TailAs depth l o (grow (reader (depth - 1)) depth power l (kinds tokens.now))) }
+{
+    match front(tokens) {
         None => Ok(None),
         Some((first, rest)) => {
-            if nesting >= depth {
+            if nested >= depth {
                 return Ok(None);
             }
-            match binary_operator(first.kind) {
-                Some(operator) => operand_tail(alloc, operator, nesting, rest, power, depth),
+            match binary_operator(first) {
+                Some(operator) => operand_tail(alloc, operator, nested, rest, power, depth),
                 None => {
-                    if first.kind == TokenKind::Instanceof && power == 2 {
-                        Ok(class_tail(nesting, rest))
+                    if first == TokenKind::Instanceof && power == 2 {
+                        Ok(class_tail(nested, rest))
                     } else {
                         Ok(None)
                     }
@@ -113,29 +132,35 @@ fn grow_tail(
 fn operand_tail(
     alloc: Global,
     operator: BinaryOperator,
-    nesting: u32,
+    nested: u32,
     tokens: &[Token],
     power: u32,
     depth: u32,
-) -> Result<Option<(Tail, u32, &[Token])>, AllocError> {
+) -> Result<Option<(Tail, u32, &[Token])>, AllocError>
+    requires small { power < 6 }
+    requires room { nested < depth }
+    ensures rises { IfOk result (λ o. IfSome o (λ r. nested < r.1)) }
+    ensures gives { IfOk result (λ o. (l : Tree) → nested ≡ nesting l → TailAs depth l o (grow_by (reader (depth - 1)) power l (OperatorSign operator) (kinds tokens.now))) }
+{
     if power_of(operator) != power + 1 {
         return Ok(None);
     }
     match read_operand(alloc, tokens, power, depth - 1)? {
         None => Ok(None),
-        Some((right, deeper, rest)) => {
-            let right = Box::new(alloc, right)?;
-            Ok(Some((
-                Tail::Operand(operator, right),
-                larger(nesting, deeper) + 1,
-                rest,
-            )))
-        }
+        Some((right, deeper, rest)) => Ok(Some((
+            Tail::Operand(operator, right),
+            larger(nested, deeper) + 1,
+            rest,
+        ))),
     }
 }
 
 /// The class behind `instanceof`.
-fn class_tail(nesting: u32, tokens: &[Token]) -> Option<(Tail, u32, &[Token])> {
+fn class_tail(nested: u32, tokens: &[Token]) -> Option<(Tail, u32, &[Token])>
+    requires { nested < 2 ^ 32 - 1 }
+    ensures rises { IfSome result (λ r. nested < r.1) }
+    ensures gives { (l : Tree) (d : ℕ) → nested ≡ nesting l → nested < d → TailAs d l result (test l (kinds tokens.now)) }
+{
     let (class, rest) = identifier(tokens)?;
-    Some((Tail::Class(class), nesting + 1, rest))
+    Some((Tail::Class(class), nested + 1, rest))
 }

@@ -1,18 +1,28 @@
 // Unary expressions: signs, steps and casts (JLS 15.14 to 15.16).
 
+ghost use Rattle.std.specs.Prelude.{◌≡◌, ◌-◌, ◌+◌, ◌≤◌, ◌<◌, ◌^◌, ℕ, IfOk, IfSome, List, [], ◌∷◌, Option, nat_eq, option_map};
+ghost use Rattle.jn_trees.specs.declared.expression.UnaryOperator.{UnaryOperator as Operator};
+ghost use Rattle.jn_trees.specs.Trees.{Tree, UnaryTree, PrefixTree};
+ghost use Rattle.jn_trees.specs.WellFormed.{nesting};
+ghost use Rattle.jn_trees.specs.View.{view};
+ghost use Rattle.jn_trees.specs.Longest.{Try};
+ghost use Rattle.jn_trees.specs.Pieces.{kinds};
+ghost use Rattle.jn_expr_law.specs.Follow.{reach_of};
+ghost use Rattle.jn_expr_law.specs.Reader.{reader, step_of as step_at, after, least, build, unary, cast, prefix};
+ghost use Rattle.jn_parse_expr.specs.Steps.{ReadAs, TailAs, sign_before, name_at, name_in_paren};
+
 use crate::operators::read_operand;
 use crate::primary::{Primary, cut, read_primary};
-use crate::tail::{Tail, go_with};
-use crate::whole::is_left_side;
+use crate::tail::{Tail, front, go_with};
+use crate::whole::can_be_assigned;
 use jn_trees::reading::{covered, next};
 use jn_trees::{Expr, Identifier, Literal, Step, Token, TokenKind, UnaryOperator};
 use std::alloc::{AllocError, Global};
 
-/// The number that stands behind a minus sign alone (JLS 3.10.1).
-const LEAST: u32 = 2147483648;
-
 /// The sign that a token is.
-fn sign_of(kind: TokenKind) -> Option<UnaryOperator> {
+fn sign_of(kind: TokenKind) -> Option<UnaryOperator>
+    ensures { result ≡ sign_before kind }
+{
     match kind {
         TokenKind::Plus => Some(UnaryOperator::Plus),
         TokenKind::Minus => Some(UnaryOperator::Minus),
@@ -22,7 +32,9 @@ fn sign_of(kind: TokenKind) -> Option<UnaryOperator> {
 }
 
 /// The step that a token is.
-fn step_of(kind: TokenKind) -> Option<Step> {
+fn step_of(kind: TokenKind) -> Option<Step>
+    ensures { result ≡ step_at kind }
+{
     match kind {
         TokenKind::PlusPlus => Some(Step::Increment),
         TokenKind::MinusMinus => Some(Step::Decrement),
@@ -31,7 +43,9 @@ fn step_of(kind: TokenKind) -> Option<Step> {
 }
 
 /// The name of a tree that is a name.
-fn name_of(tree: &Expr) -> Option<Identifier> {
+fn name_of(tree: &Expr) -> Option<Identifier>
+    ensures { option_map (λ n. n.name) result ≡ name_at (view tree.now) }
+{
     match tree {
         Expr::Name { name } => Some(*name),
         _ => None,
@@ -39,40 +53,67 @@ fn name_of(tree: &Expr) -> Option<Identifier> {
 }
 
 /// The name of a tree that is a name in parentheses.
-fn cast_class(tree: &Expr) -> Option<Identifier> {
+fn cast_class(tree: &Expr) -> Option<Identifier>
+    ensures { option_map (λ n. n.name) result ≡ name_in_paren (view tree.now) }
+{
     match tree {
         Expr::Paren { inner, .. } => name_of(inner),
         _ => None,
     }
 }
 
-/// Whether the tokens begin with what an operand of a cast to a class can't begin with.
-fn is_signed(tokens: &[Token]) -> bool {
-    match next(tokens) {
+/// Whether a token begins what a cast to a class can stand before.
+fn begins(kind: TokenKind) -> bool
+    ensures { result ≡ nat_eq (reach_of (kind ∷ [])) 0 }
+{
+    match kind {
+        TokenKind::Id(_) => true,
+        TokenKind::Number(_) => true,
+        TokenKind::Str(_) => true,
+        TokenKind::True => true,
+        TokenKind::False => true,
+        TokenKind::Null => true,
+        TokenKind::This => true,
+        TokenKind::Super => true,
+        TokenKind::New => true,
+        TokenKind::LeftParen => true,
+        TokenKind::Not => true,
+        _ => false,
+    }
+}
+
+/// Whether the tokens begin as what a cast to a class can stand before.
+fn begins_operand(tokens: &[Token]) -> bool
+    ensures { result ≡ nat_eq (reach_of (kinds tokens.now)) 0 }
+{
+    match front(tokens) {
         None => false,
-        Some((first, _)) => match first.kind {
-            TokenKind::Plus => true,
-            TokenKind::Minus => true,
-            TokenKind::PlusPlus => true,
-            TokenKind::MinusMinus => true,
-            _ => false,
-        },
+        Some((first, _)) => begins(first),
     }
 }
 
 /// A step behind a left side.
 fn step_tail<'t>(
     left: &Expr,
-    nesting: u32,
+    nested: u32,
     tokens: &'t [Token],
     depth: u32,
-) -> Option<(Tail, u32, &'t [Token])> {
-    let (first, rest) = next(tokens)?;
-    let step = step_of(first.kind)?;
-    if nesting >= depth || !is_left_side(left) {
-        return None;
+) -> Option<(Tail, u32, &'t [Token])>
+    requires { nested ≡ nesting (view left.now) }
+    ensures { TailAs depth (view left.now) result (after depth (view left.now) (kinds tokens.now)) }
+{
+    match front(tokens) {
+        None => None,
+        Some((first, rest)) => match step_of(first) {
+            None => None,
+            Some(step) => {
+                if nested >= depth || !can_be_assigned(left) {
+                    return None;
+                }
+                Some((Tail::Step(step), nested + 1, rest))
+            }
+        },
     }
-    Some((Tail::Step(step), nesting + 1, rest))
 }
 
 /// The least number behind its minus sign, which stands at `start`.
@@ -81,13 +122,18 @@ fn least_number<'t>(
     start: &[Token],
     tokens: &'t [Token],
     depth: u32,
-) -> Result<Option<(Expr, u32, &'t [Token])>, AllocError> {
+) -> Result<Option<(Box<Expr>, u32, &'t [Token])>, AllocError>
+    ensures { IfOk result (λ o. ReadAs depth o (least depth (kinds tokens.now))) }
+{
     match next(tokens) {
         None => Ok(None),
-        Some((first, rest)) => {
-            if first.kind == TokenKind::Number(LEAST) && depth > 1 {
+        Some((first, rest)) => match first.kind {
+            TokenKind::Number(value) => {
+                if value != 2147483648 || depth <= 1 {
+                    return Ok(None);
+                }
                 let number = Expr::Literal {
-                    literal: Literal::Number(LEAST),
+                    literal: Literal::Number(value),
                     span: first.span,
                 };
                 let operand = Box::new(alloc, number)?;
@@ -96,10 +142,55 @@ fn least_number<'t>(
                     operand,
                     span: covered(start, rest),
                 };
-                Ok(Some((tree, 2, rest)))
-            } else {
-                Ok(None)
+                let boxed = Box::new(alloc, tree)?;
+                Ok(Some((boxed, 2, rest)))
             }
+            _ => Ok(None),
+        },
+    }
+}
+
+/// An operand with a sign before it, which stands at `start`.
+fn signed<'t>(
+    alloc: Global,
+    start: &[Token],
+    operator: UnaryOperator,
+    read: Option<(Box<Expr>, u32, &'t [Token])>,
+) -> Result<Option<(Box<Expr>, u32, &'t [Token])>, AllocError>
+    requires { IfSome read (λ r. r.1 < 2 ^ 32 - 1) }
+    ensures { IfOk result (λ r. (d : ℕ) (o : Try) → ReadAs d read.entry o → ReadAs (d + 1) r (build (λ e. UnaryTree operator e) o)) }
+{
+    match read {
+        None => Ok(None),
+        Some((operand, nested, rest)) => {
+            let span = covered(start, rest);
+            let tree = Expr::Unary {
+                operator,
+                operand,
+                span,
+            };
+            let boxed = Box::new(alloc, tree)?;
+            Ok(Some((boxed, nested + 1, rest)))
+        }
+    }
+}
+
+/// A left side with a step before it, which stands at `start`.
+fn stepped<'t>(
+    alloc: Global,
+    start: &[Token],
+    step: Step,
+    read: Option<(Box<Expr>, u32, &'t [Token])>,
+) -> Result<Option<(Box<Expr>, u32, &'t [Token])>, AllocError>
+    requires { IfSome read (λ r. r.1 < 2 ^ 32 - 1) }
+    ensures { IfOk result (λ r. (d : ℕ) (o : Try) → ReadAs d read.entry o → ReadAs (d + 1) r (build (λ p. PrefixTree step p) o)) }
+{
+    match read {
+        None => Ok(None),
+        Some((target, nested, rest)) => {
+            let span = covered(start, rest);
+            let boxed = Box::new(alloc, Expr::Prefix { step, target, span })?;
+            Ok(Some((boxed, nested + 1, rest)))
         }
     }
 }
@@ -110,19 +201,22 @@ pub fn read_unary(
     alloc: Global,
     tokens: &[Token],
     depth: u32,
-) -> Result<Option<(Expr, u32, &[Token])>, AllocError> {
+) -> Result<Option<(Box<Expr>, u32, &[Token])>, AllocError>
+    requires { 0 < depth }
+    ensures { IfOk result (λ o. ReadAs depth o (unary (reader (depth - 1)) depth (kinds tokens.now))) }
+{
     match read_primary(alloc, tokens, depth)? {
         None => read_prefix(alloc, tokens, depth),
         Some(Primary {
             tree,
-            nesting,
+            nested,
             rest,
             ..
         }) => {
-            let tail = step_tail(&tree, nesting, rest, depth);
-            let (left, nesting, rest) = go_with(alloc, tokens, tree, nesting, rest, tail)?;
+            let tail = step_tail(&tree, nested, rest, depth);
+            let (left, nested, rest) = go_with(alloc, tokens, tree, nested, rest, tail)?;
             let tail = cast_tail(alloc, &left, rest, depth)?;
-            Ok(Some(go_with(alloc, tokens, left, nesting, rest, tail)?))
+            Ok(Some(go_with(alloc, tokens, left, nested, rest, tail)?))
         }
     }
 }
@@ -134,18 +228,20 @@ fn cast_tail<'t>(
     left: &Expr,
     tokens: &'t [Token],
     depth: u32,
-) -> Result<Option<(Tail, u32, &'t [Token])>, AllocError> {
+) -> Result<Option<(Tail, u32, &'t [Token])>, AllocError>
+    requires { 0 < depth }
+    ensures { IfOk result (λ o. TailAs depth (view left.now) o (cast (reader (depth - 1)) (view left.now) (kinds tokens.now))) }
+{
     match cast_class(left) {
         None => Ok(None),
         Some(class) => {
-            if is_signed(tokens) {
+            if !begins_operand(tokens) {
                 return Ok(None);
             }
             match read_operand(alloc, tokens, 0, depth - 1)? {
                 None => Ok(None),
-                Some((operand, nesting, rest)) => {
-                    let operand = Box::new(alloc, operand)?;
-                    Ok(Some((Tail::Cast(class, operand), nesting + 1, rest)))
+                Some((operand, nested, rest)) => {
+                    Ok(Some((Tail::Cast(class, operand), nested + 1, rest)))
                 }
             }
         }
@@ -158,65 +254,28 @@ fn read_prefix(
     alloc: Global,
     tokens: &[Token],
     depth: u32,
-) -> Result<Option<(Expr, u32, &[Token])>, AllocError> {
-    match next(tokens) {
+) -> Result<Option<(Box<Expr>, u32, &[Token])>, AllocError>
+    requires { 0 < depth }
+    ensures { IfOk result (λ o. ReadAs depth o (prefix (reader (depth - 1)) depth (kinds tokens.now))) }
+{
+    match front(tokens) {
         None => Ok(None),
-        Some((first, rest)) => match sign_of(first.kind) {
-            Some(operator) => read_signed(alloc, tokens, operator, rest, depth),
-            None => match step_of(first.kind) {
-                Some(step) => read_stepped(alloc, tokens, step, rest, depth),
+        Some((first, rest)) => match sign_of(first) {
+            Some(operator) => {
+                let operand = read_operand(alloc, rest, 0, depth - 1)?;
+                if operand.is_none() && operator == UnaryOperator::Minus {
+                    return least_number(alloc, tokens, rest, depth);
+                }
+                signed(alloc, tokens, operator, operand)
+            }
+            None => match step_of(first) {
+                Some(step) => {
+                    let target = read_left_side(alloc, rest, depth - 1)?;
+                    stepped(alloc, tokens, step, target)
+                }
                 None => Ok(None),
             },
         },
-    }
-}
-
-/// The operand behind a sign, which stands at `start`.
-#[cycle(parser)]
-fn read_signed<'t>(
-    alloc: Global,
-    start: &[Token],
-    operator: UnaryOperator,
-    tokens: &'t [Token],
-    depth: u32,
-) -> Result<Option<(Expr, u32, &'t [Token])>, AllocError> {
-    match read_operand(alloc, tokens, 0, depth - 1)? {
-        Some((operand, nesting, rest)) => {
-            let operand = Box::new(alloc, operand)?;
-            let span = covered(start, rest);
-            let tree = Expr::Unary {
-                operator,
-                operand,
-                span,
-            };
-            Ok(Some((tree, nesting + 1, rest)))
-        }
-        None => {
-            if operator == UnaryOperator::Minus {
-                least_number(alloc, start, tokens, depth)
-            } else {
-                Ok(None)
-            }
-        }
-    }
-}
-
-/// The left side behind a step, which stands at `start`.
-#[cycle(parser)]
-fn read_stepped<'t>(
-    alloc: Global,
-    start: &[Token],
-    step: Step,
-    tokens: &'t [Token],
-    depth: u32,
-) -> Result<Option<(Expr, u32, &'t [Token])>, AllocError> {
-    match read_left_side(alloc, tokens, depth - 1)? {
-        None => Ok(None),
-        Some((target, nesting, rest)) => {
-            let target = Box::new(alloc, target)?;
-            let span = covered(start, rest);
-            Ok(Some((Expr::Prefix { step, target, span }, nesting + 1, rest)))
-        }
     }
 }
 
@@ -226,12 +285,14 @@ fn read_left_side(
     alloc: Global,
     tokens: &[Token],
     depth: u32,
-) -> Result<Option<(Expr, u32, &[Token])>, AllocError> {
+) -> Result<Option<(Box<Expr>, u32, &[Token])>, AllocError>
+    ensures { IfOk result (λ o. ReadAs depth o ((reader depth).left (kinds tokens.now))) }
+{
     if depth == 0 {
         return Ok(None);
     }
     match read_primary(alloc, tokens, depth)? {
         None => Ok(None),
-        Some(primary) => Ok(cut(tokens, primary)),
+        Some(primary) => cut(alloc, tokens, primary),
     }
 }
