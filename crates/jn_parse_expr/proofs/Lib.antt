@@ -1,2 +1,6 @@
 pub mod Going
 pub mod Rows
+pub mod Parts
+pub mod Heads
+pub mod Behind
+pub mod Linked

@@ -125,7 +125,7 @@ fn object<'t>(
     arguments: Option<(Vec<Expr>, u32, &'t [Token])>,
 ) -> Result<Option<(Box<Expr>, u32, &'t [Token])>, AllocError>
     requires { IfSome arguments (λ r. r.1 < 2 ^ 32 - 1) }
-    ensures { IfOk result (λ r. (d : ℕ) (o : TryAll) → AllAs d arguments.entry o → ReadAs (d + 1) r (build_all (λ es. NewTree class.name es) o)) }
+    ensures { IfOk result (λ r. (d e : ℕ) (o : TryAll) → d < e → AllAs d arguments.entry o → ReadAs e r (build_all (λ es. NewTree class.name es) o)) }
 {
     match arguments {
         None => Ok(None),
@@ -160,7 +160,7 @@ fn array_of<'t>(
     elements: Option<(Vec<Expr>, u32, &'t [Token])>,
 ) -> Result<Option<(Box<Expr>, u32, &'t [Token])>, AllocError>
     requires { IfSome elements (λ r. r.1 < 2 ^ 32 - 1) }
-    ensures { IfOk result (λ r. (d : ℕ) (o : TryAll) → AllAs d elements.entry o → ReadAs (d + 1) r (build_all (λ es. ArrayOfTree (annotation_names element.annotations.items) (base_view element.base) es) o)) }
+    ensures { IfOk result (λ r. (d e : ℕ) (o : TryAll) → d < e → AllAs d elements.entry o → ReadAs e r (build_all (λ es. ArrayOfTree (annotation_names element.annotations.items) (base_view element.base) es) o)) }
 {
     match elements {
         None => Ok(None),
@@ -195,7 +195,7 @@ fn array_with<'t>(
     length: Option<(Box<Expr>, u32, &'t [Token])>,
 ) -> Result<Option<(Box<Expr>, u32, &'t [Token])>, AllocError>
     requires { IfSome length (λ r. r.1 < 2 ^ 32 - 1) }
-    ensures { IfOk result (λ r. (d : ℕ) (o : Try) → ReadAs d length.entry o → ReadAs (d + 1) r (bind o (close_array (annotation_names element.annotations.items) (base_view element.base)))) }
+    ensures { IfOk result (λ r. (d e : ℕ) (o : Try) → d < e → ReadAs d length.entry o → ReadAs e r (bind o (close_array (annotation_names element.annotations.items) (base_view element.base)))) }
 {
     match length {
         None => Ok(None),

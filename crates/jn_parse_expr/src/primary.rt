@@ -303,7 +303,7 @@ fn named<'t>(
     arguments: Option<(Vec<Expr>, u32, &'t [Token])>,
 ) -> Result<(Box<Expr>, u32, &'t [Token]), AllocError>
     requires { IfSome arguments (λ r. r.1 < 2 ^ 32 - 1) }
-    ensures { IfOk result (λ r. (d : ℕ) (o : TryAll) → AllAs d arguments.entry o → ReadAs (d + 1) (Some r) (Some (called (NameTree name.name) (λ es. OwnCallTree name.name es) (kinds tokens.now) o))) }
+    ensures { IfOk result (λ r. (d e : ℕ) (o : TryAll) → d < e → AllAs d arguments.entry o → ReadAs e (Some r) (Some (called (NameTree name.name) (λ es. OwnCallTree name.name es) (kinds tokens.now) o))) }
 {
     match arguments {
         None => {
@@ -325,7 +325,7 @@ fn super_named<'t>(
     arguments: Option<(Vec<Expr>, u32, &'t [Token])>,
 ) -> Result<Option<(Box<Expr>, u32, &'t [Token])>, AllocError>
     requires { IfSome arguments (λ r. r.1 < 2 ^ 32 - 1) }
-    ensures { IfOk result (λ r. (d : ℕ) (o : TryAll) → AllAs d arguments.entry o → ReadAs (d + 1) r (build_all (λ es. SuperCallTree name.name es) o)) }
+    ensures { IfOk result (λ r. (d e : ℕ) (o : TryAll) → d < e → AllAs d arguments.entry o → ReadAs e r (build_all (λ es. SuperCallTree name.name es) o)) }
 {
     match arguments {
         None => Ok(None),
@@ -343,7 +343,7 @@ fn in_parens<'t>(
     read: Option<(Box<Expr>, u32, &'t [Token])>,
 ) -> Result<Option<(Box<Expr>, u32, &'t [Token])>, AllocError>
     requires { IfSome read (λ r. r.1 < 2 ^ 32 - 1) }
-    ensures { IfOk result (λ r. (d : ℕ) (o : Try) → ReadAs d read.entry o → ReadAs (d + 1) r (bind o close_paren)) }
+    ensures { IfOk result (λ r. (d e : ℕ) (o : Try) → d < e → ReadAs d read.entry o → ReadAs e r (bind o close_paren)) }
 {
     match read {
         None => Ok(None),

@@ -158,7 +158,7 @@ fn signed<'t>(
     read: Option<(Box<Expr>, u32, &'t [Token])>,
 ) -> Result<Option<(Box<Expr>, u32, &'t [Token])>, AllocError>
     requires { IfSome read (λ r. r.1 < 2 ^ 32 - 1) }
-    ensures { IfOk result (λ r. (d : ℕ) (o : Try) → ReadAs d read.entry o → ReadAs (d + 1) r (build (λ e. UnaryTree operator e) o)) }
+    ensures { IfOk result (λ r. (d e : ℕ) (o : Try) → d < e → ReadAs d read.entry o → ReadAs e r (build (λ e. UnaryTree operator e) o)) }
 {
     match read {
         None => Ok(None),
@@ -183,7 +183,7 @@ fn stepped<'t>(
     read: Option<(Box<Expr>, u32, &'t [Token])>,
 ) -> Result<Option<(Box<Expr>, u32, &'t [Token])>, AllocError>
     requires { IfSome read (λ r. r.1 < 2 ^ 32 - 1) }
-    ensures { IfOk result (λ r. (d : ℕ) (o : Try) → ReadAs d read.entry o → ReadAs (d + 1) r (build (λ p. PrefixTree step p) o)) }
+    ensures { IfOk result (λ r. (d e : ℕ) (o : Try) → d < e → ReadAs d read.entry o → ReadAs e r (build (λ p. PrefixTree step p) o)) }
 {
     match read {
         None => Ok(None),
