@@ -1,5 +1,7 @@
 -- What the parts of the reader give, from the parts before.
-use Rattle.std.proofs.Common.{◌≡◌, ℕ, zero, suc, ◌+◌, ◌-◌, ◌<◌, ◌≤◌, max, List, [], ◌∷◌, ◌++◌, length, refl, sym, ap, ◌∙◌, subst, arith, length-append, Option, Some, None}
+use Rattle.std.proofs.Common.{◌≡◌, ℕ, zero, suc, ◌+◌, ◌-◌, ◌<◌, ◌≤◌, max, List, [], ◌∷◌, ◌++◌, length, refl, sym, ap, ◌∙◌, subst, arith, length-append, Box, Global, Option, Some, None}
+use Rattle.std.specs.Borrow.{Bor}
+use Rattle.jn_trees.specs.declared.token.Token.{Token}
 use Rattle.jn_trees.specs.declared.token.TokenKind.{TokenKind}
 use Rattle.jn_trees.specs.declared.token.TokenKind.TheVariants.{Comma}
 use Rattle.jn_trees.specs.declared.expression.Expr.{Expr}
@@ -10,12 +12,15 @@ use Rattle.jn_trees.specs.View.{view, views}
 use Rattle.jn_trees.specs.Longest.{Try}
 use Rattle.jn_expr_law.specs.Reader.{Got, TryAll, Reader, iterate, extend, go_on, bind_all, add_first, items_behind, items_from, all_items, head, link, primary, grow, choose, assign, unary, reader, operand_at}
 use Rattle.jn_expr_law.proofs.Sound.{Sound, sound}
-use Rattle.jn_parse_expr.specs.Steps.{or_else, prepend, joined}
+use Rattle.jn_parse_expr.specs.Steps.{ReadAs, or_else, prepend, joined}
 use Rattle.jn_parse_expr.proofs.Going.{Going, GoingAll}
 
 pub extend_is : (step : Tree → List TokenKind → Try) (l : Tree) (rest : List TokenKind) → extend step (Some (l, rest)) ≡ or_else (step l rest) (Some (l, rest))
 extend_is step l rest =
     elim (step l rest) as (λ o. (elim o as (λ _. Try) [ None ↦ Some (l, rest) | Some q ↦ Some q ]) ≡ or_else o (Some (l, rest))) [ None ↦ refl | Some q ↦ refl ]
+
+pub read_moves : (d : ℕ) (r : Option (Box Expr Global × ℕ × Bor (List Token))) (o p : Try) → p ≡ o → ReadAs d r o → ReadAs d r p
+read_moves d r o p e h = subst (λ x. ReadAs d r x) (sym e) h
 
 pub back : (d : ℕ) → d ≡ suc d - 1
 back d = omega arith

@@ -14,13 +14,13 @@ use Rattle.jn_trees.specs.declared.expression.Literal.TheVariants.{Number as Num
 use Rattle.jn_trees.specs.declared.expression.UnaryOperator.{UnaryOperator}
 use Rattle.jn_trees.specs.declared.expression.UnaryOperator.TheVariants.{Plus as PlusSign, Minus as MinusSign, Not as NotSign}
 use Rattle.jn_trees.specs.declared.expression.BinaryOperator.{BinaryOperator}
-use Rattle.jn_trees.specs.Trees.{BaseTree, Tree, Trees, LiteralTree, NameTree, ThisTree, ParenTree, FieldTree, CallTree, OwnCallTree, IndexTree, PostfixTree, CastTree, BinaryTree, InstanceOfTree, ConditionalTree, AssignTree, NoTrees, MoreTrees}
+use Rattle.jn_trees.specs.Trees.{BaseTree, Tree, Trees, LiteralTree, NameTree, ThisTree, ParenTree, FieldTree, CallTree, OwnCallTree, IndexTree, PostfixTree, UnaryTree, CastTree, BinaryTree, InstanceOfTree, ConditionalTree, AssignTree, NoTrees, MoreTrees}
 use Rattle.jn_trees.specs.Spelling.{spell_list}
 use Rattle.jn_trees.specs.WellFormed.{nesting, nesting_all}
 use Rattle.jn_trees.specs.View.{view, views, annotation_names, base_view}
 use Rattle.jn_trees.specs.Longest.{Try}
 use Rattle.jn_trees.specs.Pieces.{kinds}
-use Rattle.jn_expr_law.specs.Reader.{base_of, TryAll, Sign, NoSign, OperatorSign, TestSign}
+use Rattle.jn_expr_law.specs.Reader.{base_of, build, or_least, TryAll, Sign, NoSign, OperatorSign, TestSign}
 use Rattle.jn_parse_expr.specs.declared.tail.Tail.{Tail}
 use Rattle.jn_parse_expr.specs.declared.tail.Tail.TheVariants.{Field, Call, Index, Step, Cast, Operand, Class, Choice, Value}
 use Rattle.jn_parse_expr.specs.declared.primary.Primary.{Primary}
@@ -80,6 +80,11 @@ sign_before Plus = Some PlusSign
 sign_before Minus = Some MinusSign
 sign_before Not = Some NotSign
 sign_before _ = None
+
+-- a sign with what was read as its operand; where there is none, the least number behind a minus
+abbrev pub signed_by : ℕ → UnaryOperator → List TokenKind → Try → Try
+signed_by d MinusSign ts o = or_least d ts (build (λ e. UnaryTree MinusSign e) o)
+signed_by d s ts o = build (λ e. UnaryTree s e) o
 
 abbrev pub name_at : Tree → Option NameNo
 name_at (NameTree n) = Some n

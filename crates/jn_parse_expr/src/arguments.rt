@@ -12,10 +12,10 @@ use jn_trees::{Expr, Token, TokenKind};
 use std::alloc::{AllocError, Global};
 
 /// Puts the tree behind the others.
-fn put(all: &mut Vec<Expr>, tree: Expr) -> Result<(), AllocError>
-    ensures { OnOk result (all.new.items ≡ all.old.items ++ tree ∷ []) }
+fn put(all: &mut Vec<Expr>, tree: Box<Expr>) -> Result<(), AllocError>
+    ensures { OnOk result (all.new.items ≡ all.old.items ++ tree.value ∷ []) }
 {
-    all.push(tree)?;
+    all.push(Box::into_inner(tree))?;
     Ok(())
 }
 
@@ -116,7 +116,7 @@ fn read_items(
         match read_whole(alloc, left, depth)? {
             None => return Ok(None),
             Some((item, deeper, rest)) => {
-                put(&mut all, Box::into_inner(item))?;
+                put(&mut all, item)?;
                 nested = larger(nested, deeper);
                 match expect(rest, TokenKind::Comma) {
                     None => return Ok(Some((all, nested, rest))),

@@ -7,7 +7,7 @@ ghost use Rattle.jn_trees.specs.Trees.{NewTree, NewArrayTree, ArrayOfTree};
 ghost use Rattle.jn_trees.specs.View.{view, views, annotation_names, base_view};
 ghost use Rattle.jn_trees.specs.Longest.{Try};
 ghost use Rattle.jn_trees.specs.Pieces.{kinds};
-ghost use Rattle.jn_expr_law.specs.Reader.{reader, TryAll, annotations as annotations_of, base_of, build_all, bind, close_array, array_behind, creation};
+ghost use Rattle.jn_expr_law.specs.Reader.{reader, TryAll, annotations as annotations_of, base_of, build_all, bind, close_array, array_behind, array_from, creation};
 ghost use Rattle.jn_parse_expr.specs.Steps.{ReadAs, AllAs, ElementAs};
 
 use crate::arguments::{read_arguments_in, read_elements_in};
@@ -224,7 +224,7 @@ pub fn read_creation<'t>(
         Some((class, rest)) => match expect(rest, TokenKind::LeftParen) {
             Some(inside) => {
                 let arguments = read_arguments_in(alloc, inside, depth - 1)?;
-                object(alloc, start, class, arguments)
+                Ok(object(alloc, start, class, arguments)?)
             }
             None => {
                 let element = Element {
@@ -234,10 +234,24 @@ pub fn read_creation<'t>(
                 read_array(alloc, start, element, rest, depth)
             }
         },
-        None => match read_element(alloc, tokens)? {
-            None => Ok(None),
-            Some((element, rest)) => read_array(alloc, start, element, rest, depth),
-        },
+        None => read_annotated(alloc, start, tokens, depth),
+    }
+}
+
+/// A new array from the annotations on; its `new` stands at `start`.
+#[cycle(parser)]
+fn read_annotated<'t>(
+    alloc: Global,
+    start: &[Token],
+    tokens: &'t [Token],
+    depth: u32,
+) -> Result<Option<(Box<Expr>, u32, &'t [Token])>, AllocError>
+    requires { 0 < depth }
+    ensures { IfOk result (λ o. ReadAs depth o (array_from (reader (depth - 1)) (annotations_of (kinds tokens.now)).0 (annotations_of (kinds tokens.now)).1)) }
+{
+    match read_element(alloc, tokens)? {
+        None => Ok(None),
+        Some((element, rest)) => read_array(alloc, start, element, rest, depth),
     }
 }
 
@@ -264,7 +278,7 @@ fn read_array<'t>(
                 None => Ok(None),
                 Some(inside) => {
                     let elements = read_elements_in(alloc, inside, depth - 1)?;
-                    array_of(alloc, start, element, elements)
+                    Ok(array_of(alloc, start, element, elements)?)
                 }
             },
         },

@@ -410,7 +410,7 @@ fn read_super<'t>(
         None => Ok(None),
         Some((name, rest)) => {
             let arguments = read_arguments(alloc, rest, depth - 1)?;
-            super_named(alloc, start, name, arguments)
+            Ok(super_named(alloc, start, name, arguments)?)
         }
     }
 }

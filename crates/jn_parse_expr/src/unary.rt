@@ -2,14 +2,14 @@
 
 ghost use Rattle.std.specs.Prelude.{◌≡◌, ◌-◌, ◌+◌, ◌≤◌, ◌<◌, ◌^◌, ℕ, IfOk, IfSome, List, [], ◌∷◌, Option, nat_eq, option_map};
 ghost use Rattle.jn_trees.specs.declared.expression.UnaryOperator.{UnaryOperator as Operator};
-ghost use Rattle.jn_trees.specs.Trees.{Tree, UnaryTree, PrefixTree};
+ghost use Rattle.jn_trees.specs.Trees.{Tree, PrefixTree};
 ghost use Rattle.jn_trees.specs.WellFormed.{nesting};
 ghost use Rattle.jn_trees.specs.View.{view};
 ghost use Rattle.jn_trees.specs.Longest.{Try};
 ghost use Rattle.jn_trees.specs.Pieces.{kinds};
 ghost use Rattle.jn_expr_law.specs.Follow.{reach_of};
 ghost use Rattle.jn_expr_law.specs.Reader.{reader, step_of as step_at, after, least, build, unary, cast, prefix};
-ghost use Rattle.jn_parse_expr.specs.Steps.{ReadAs, TailAs, sign_before, name_at, name_in_paren};
+ghost use Rattle.jn_parse_expr.specs.Steps.{ReadAs, TailAs, sign_before, signed_by, name_at, name_in_paren};
 
 use crate::operators::read_operand;
 use crate::primary::{Primary, cut, read_primary};
@@ -150,18 +150,26 @@ fn least_number<'t>(
     }
 }
 
-/// An operand with a sign before it, which stands at `start`.
+/// An operand with a sign before it, which stands at `start`; where there is none, the least number at the tokens behind a minus.
 fn signed<'t>(
     alloc: Global,
     start: &[Token],
     operator: UnaryOperator,
     read: Option<(Box<Expr>, u32, &'t [Token])>,
+    tokens: &'t [Token],
+    depth: u32,
 ) -> Result<Option<(Box<Expr>, u32, &'t [Token])>, AllocError>
     requires { IfSome read (λ r. r.1 < 2 ^ 32 - 1) }
-    ensures { IfOk result (λ r. (d e : ℕ) (o : Try) → d < e → ReadAs d read.entry o → ReadAs e r (build (λ e. UnaryTree operator e) o)) }
+    ensures { IfOk result (λ r. (d : ℕ) (o : Try) → d < depth → ReadAs d read.entry o → ReadAs depth r (signed_by depth operator (kinds tokens.now) o)) }
 {
     match read {
-        None => Ok(None),
+        None => {
+            if operator == UnaryOperator::Minus {
+                least_number(alloc, start, tokens, depth)
+            } else {
+                Ok(None)
+            }
+        }
         Some((operand, nested, rest)) => {
             let span = covered(start, rest);
             let tree = Expr::Unary {
@@ -263,15 +271,12 @@ fn read_prefix(
         Some((first, rest)) => match sign_of(first) {
             Some(operator) => {
                 let operand = read_operand(alloc, rest, 0, depth - 1)?;
-                if operand.is_none() && operator == UnaryOperator::Minus {
-                    return least_number(alloc, tokens, rest, depth);
-                }
-                signed(alloc, tokens, operator, operand)
+                Ok(signed(alloc, tokens, operator, operand, rest, depth)?)
             }
             None => match step_of(first) {
                 Some(step) => {
                     let target = read_left_side(alloc, rest, depth - 1)?;
-                    stepped(alloc, tokens, step, target)
+                    Ok(stepped(alloc, tokens, step, target)?)
                 }
                 None => Ok(None),
             },
@@ -293,6 +298,6 @@ fn read_left_side(
     }
     match read_primary(alloc, tokens, depth)? {
         None => Ok(None),
-        Some(primary) => cut(alloc, tokens, primary),
+        Some(primary) => Ok(cut(alloc, tokens, primary)?),
     }
 }

@@ -53,13 +53,13 @@ abbrev pub decreases-primary::index_tail : goal.decreases-primary::index_tail
 decreases-primary::index_tail l = 32 * l.depth + 1
 
 abbrev pub decreases-primary::read_head : goal.decreases-primary::read_head
-decreases-primary::read_head l = 32 * l.depth + 4
+decreases-primary::read_head l = 32 * l.depth + 5
 
 abbrev pub decreases-primary::read_super : goal.decreases-primary::read_super
 decreases-primary::read_super l = 32 * l.depth + 1
 
 abbrev pub decreases-creation::read_creation : goal.decreases-creation::read_creation
-decreases-creation::read_creation l = 32 * l.depth + 3
+decreases-creation::read_creation l = 32 * l.depth + 4
 
 abbrev pub decreases-creation::read_array : goal.decreases-creation::read_array
 decreases-creation::read_array l = 32 * l.depth + 2
@@ -111,3 +111,6 @@ invariant-arguments::read_items-items l = record {
 
 abbrev pub decreases-arguments::read_items-items : goal.decreases-arguments::read_items-items
 decreases-arguments::read_items-items l = length l.left
+
+abbrev pub decreases-creation::read_annotated : goal.decreases-creation::read_annotated
+decreases-creation::read_annotated l = 32 * l.depth + 3
