@@ -111,7 +111,7 @@ primary::read_primary-returns-in-None-2 t c =
 
 pub primary::read_head-returns-in-Some : goal.primary::read_head-returns-in-Some
 primary::read_head-returns-in-Some t c =
-    let r = c.in_ok-named-in-Some.ensures (c.args.depth - 1) c.args.depth (arguments (reader (c.args.depth - 1)).whole (kinds c.in-Some.rest.now)) (omega (arith, c.requires)) c.in_ok-arguments-in-Some.ensures in
+    let r = c.in_ok-named.ensures (c.args.depth - 1) c.args.depth (arguments (reader (c.args.depth - 1)).whole (kinds c.in-Some.rest.now)) (omega (arith, c.requires)) c.in_ok-arguments.ensures in
     (ap (λ x. head (reader (c.args.depth - 1)) x) c.in-Some.ensures ∙ r.0, r.1, r.2)
 
 pub primary::read_super-returns-in_ok-super_named-in-Some : goal.primary::read_super-returns-in_ok-super_named-in-Some
