@@ -19,7 +19,7 @@ pub mod value;
 
 pub use frame::Frame;
 pub use prim::{End, Got, Plain, Prim};
-pub use printed::{StepFail, step_to};
+pub use printed::{StepFail, run_to, step_to};
 pub use runs::{run, start};
 pub use state::{MachineState, Stepped};
 pub use steps::step;

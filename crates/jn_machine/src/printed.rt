@@ -49,3 +49,36 @@ pub fn step_to<K: Sink>(
         },
     }
 }
+
+/// Runs at most so many steps, and prints to the sink. `Stepped::Goes` says that the machine
+/// still goes on after all of them.
+///
+/// # Errors
+/// `WriteFault` only where the sink's count of faults rose; some steps, the last of which prints,
+/// are done then.
+#[tactic(auto, using(crate::proofs::Printing::prints_first, crate::proofs::Printing::prints_more, crate::proofs::Printing::prints_prefix, crate::proofs::Printing::prints_ended, crate::proofs::Printing::prints_stuck))]
+pub fn run_to<K: Sink>(
+    alloc: Global,
+    program: &Program,
+    names: &[Text],
+    state: &mut MachineState,
+    steps: u64,
+    sink: &mut K,
+) -> Result<Stepped, StepFail>
+    ensures ok { IfOk result (λ stepped. PrintsTo (λ out. spec.run program.now names.now (spec.Goes (state_of state.old out)) steps) stepped state.new (K.written sink.old) (K.written sink.new)) }
+    ensures prefix { result ≡ Err StepFail.WriteFault → (n : ℕ) × (n ≤ steps) × PrintsSome (λ out. spec.run program.now names.now (spec.Goes (state_of state.old out)) n) state.new (K.written sink.old) (K.written sink.new) }
+    ensures failed { result ≡ Err StepFail.WriteFault → Rose (K.faults sink.old) (K.faults sink.new) }
+    ensures later { K.faults sink.old ≤ K.faults sink.new }
+    ensures kept { result ≢ Err StepFail.WriteFault → K.faults sink.new ≡ K.faults sink.old }
+{
+    for _ in 0..steps {
+        match step_to(alloc, program, names, state, sink) {
+            Ok(Stepped::Goes) => {}
+            Ok(Stepped::Ends(end)) => return Ok(Stepped::Ends(end)),
+            Ok(Stepped::Stuck) => return Ok(Stepped::Stuck),
+            Err(StepFail::WriteFault) => return Err(StepFail::WriteFault),
+            Err(StepFail::OutOfMemory) => return Err(StepFail::OutOfMemory),
+        }
+    }
+    Ok(Stepped::Goes)
+}
