@@ -1,9 +1,9 @@
 -- An operand behind a sign: the least number behind a minus, or one that is good by itself.
-use Rattle.std.proofs.Common.{◌≡◌, ◌↔◌, Bool, true, false, sym, subst}
+use Rattle.std.proofs.Common.{◌≡◌, Bool, true, false, sym, subst}
 use Rattle.jn_trees.specs.declared.expression.UnaryOperator.{UnaryOperator}
 use Rattle.jn_trees.specs.declared.expression.UnaryOperator.TheVariants.{Plus, Minus, Not}
 use Rattle.jn_trees.specs.Trees.{Tree}
-use Rattle.jn_trees.specs.WellFormed.{GoodSigned, is_least_number}
+use Rattle.jn_trees.specs.WellFormed.{GoodSigned}
 use Rattle.jn_spelling.specs.Parts.{is_least_signed}
 
 abbrev Chosen : Type 0 → Bool → Type 0

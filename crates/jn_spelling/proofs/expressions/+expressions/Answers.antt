@@ -1,6 +1,6 @@
-use Rattle.std.proofs.Common.{◌≡◌, ◌+◌, ◌++◌, [], ◌∷◌, drop, rules, sym, ap, ◌∙◌, append_assoc}
+use Rattle.std.proofs.Common.{◌+◌, drop, rules, ap, ◌∙◌, append_assoc}
 use Rattle.std.proofs.lemmas.Result.{IfOk-equal}
-use Rattle.jn_trees.specs.Spelling.{spell, spell_list}
+use Rattle.jn_trees.specs.Spelling.{spell}
 use Rattle.jn_trees.specs.View.{view, views}
 use Rattle.jn_trees.proofs.Seen.{seen_call, seen_own_call, seen_super_call, seen_new, seen_array_of, left_before, none_left}
 use Rattle.jn_spelling.proofs.Listed.{listed_more, listed_none}

@@ -1,9 +1,9 @@
 use Rattle.std.proofs.Common.{◌≡◌, ◌↔◌, ◌≤◌, IsTrue, rules, sym, ap, ◌∙◌, subst, arith}
 use Rattle.jn_trees.specs.Trees.{Tree, UnaryTree}
-use Rattle.jn_trees.specs.WellFormed.{Good, AllGood, rank}
-use Rattle.jn_trees.specs.View.{view, views}
-use Rattle.jn_trees.proofs.Seen.{seen_call, seen_own_call, seen_super_call, seen_new, seen_array_of, left_before, none_left}
-use Rattle.jn_spelling.proofs.Signed.{least_is_good, other_is_good, good_of_other}
+use Rattle.jn_trees.specs.WellFormed.{Good, rank}
+use Rattle.jn_trees.specs.View.{view}
+use Rattle.jn_trees.proofs.Seen.{seen_call, seen_own_call, seen_super_call, seen_new, seen_array_of}
+use Rattle.jn_spelling.proofs.Signed.{least_is_good, good_of_other}
 use Rattle.std.proofs.lemmas.Grind.{common_steps}
 use Rattle.jn_trees.specs.declared.expression.Expr.{Expr}
 use Rattle.jn_spelling.proofs.good.+good.Goals as goal

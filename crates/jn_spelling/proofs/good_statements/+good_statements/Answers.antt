@@ -1,7 +1,7 @@
-use Rattle.std.proofs.Common.{◌≡◌, ◌↔◌, IsTrue, sym, subst, ◌∙◌, ap}
+use Rattle.std.proofs.Common.{◌↔◌, IsTrue, sym, subst}
 use Rattle.jn_trees.specs.Trees.{Statement}
-use Rattle.jn_trees.specs.WellFormed.{GoodStatement, GoodStatements, in_block}
-use Rattle.jn_trees.specs.View.{statement_view, statement_views}
+use Rattle.jn_trees.specs.WellFormed.{GoodStatement, GoodStatements}
+use Rattle.jn_trees.specs.View.{statement_views}
 use Rattle.jn_trees.specs.declared.context.Context.{Context}
 use Rattle.jn_trees.proofs.Seen.{seen_block}
 use Rattle.jn_spelling.proofs.good_statements.+good_statements.Goals as goal

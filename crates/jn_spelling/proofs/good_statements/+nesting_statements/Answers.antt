@@ -1,4 +1,4 @@
-use Rattle.std.proofs.Common.{◌-◌, ◌^◌, min, ap, arith}
+use Rattle.std.proofs.Common.{ap, arith}
 use Rattle.jn_trees.specs.WellFormed.{nesting_statement}
 use Rattle.jn_trees.proofs.Seen.{seen_block}
 use Rattle.jn_spelling.proofs.good_statements.+nesting_statements.Goals as goal

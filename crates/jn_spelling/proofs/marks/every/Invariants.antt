@@ -1,6 +1,6 @@
 use Rattle.std.proofs.Common.{◌≡◌, drop}
 use Rattle.jn_trees.specs.WellFormed.{every}
-use Rattle.jn_trees.specs.View.{mark, marks}
+use Rattle.jn_trees.specs.View.{marks}
 use Rattle.jn_spelling.specs.Allowed.{allowed}
 use Rattle.jn_spelling.proofs.marks.every.Given as goal
 

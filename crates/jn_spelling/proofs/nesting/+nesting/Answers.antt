@@ -1,7 +1,7 @@
-use Rattle.std.proofs.Common.{◌-◌, ◌^◌, min, sym, ap, ◌∙◌, arith}
-use Rattle.jn_trees.specs.WellFormed.{nesting, nesting_all}
+use Rattle.std.proofs.Common.{ap, arith}
+use Rattle.jn_trees.specs.WellFormed.{nesting}
 use Rattle.jn_trees.specs.View.{view}
-use Rattle.jn_trees.proofs.Seen.{seen_call, seen_own_call, seen_super_call, seen_new, seen_array_of, left_before, none_left}
+use Rattle.jn_trees.proofs.Seen.{seen_call, seen_own_call, seen_super_call, seen_new, seen_array_of}
 use Rattle.jn_spelling.proofs.nesting.+nesting.Goals as goal
 
 pub nesting-returns-in-Call : goal.nesting-returns-in-Call
