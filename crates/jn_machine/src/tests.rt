@@ -1,9 +1,10 @@
 // Small programs run to their end.
-use crate::{End, Stepped, run, start};
+use crate::{End, StepFail, Stepped, run, run_to, start};
 use jn_base::{
     BodyNo, ClassNo, FieldNo, FileNo, MethodNo, NameNo, OutOfMemory, PointNo, RegNo, Seq, Span,
     Text,
 };
+use jn_outside::MemSink;
 use jn_points::{
     BaseType, Body, Class, Elem, Field, Literal, Method, Operand, Operator, Point, PointKind,
     Program, StrOperation,
@@ -352,5 +353,29 @@ fn arrays(rt: HostRuntime) -> Result<(), Fail> {
     let (stepped, out) = outcome(alloc, main, 100)?;
     assert_eq!(rt; stepped, Stepped::Ends(End::Index));
     assert_eq!(rt; out.as_slice(), b"2\n1\nword\n".as_slice());
+    Ok(())
+}
+
+#[test]
+fn prints_to_a_sink(rt: HostRuntime) -> Result<(), Fail> {
+    let alloc = rt.alloc();
+    let main = vec![in alloc;
+        int(1, 7),
+        print(1),
+        print(1),
+        PointKind::Return { value: None },
+    ]?;
+    let program = program(alloc, main)?;
+    let none = Vec::new(alloc);
+    for (failing, want, end) in [
+        (9, b"7\n7\n".as_slice(), Ok(Stepped::Ends(End::Done))),
+        (2, b"7\n".as_slice(), Err(StepFail::WriteFault)),
+    ] {
+        let mut sink = MemSink::new(alloc, Vec::from_slice(alloc, &[failing])?, 10, 10)?;
+        let mut state = start(alloc, &program, BodyNo(0), &none)?;
+        let ended = run_to(alloc, &program, &none, &mut state, 100, &mut sink);
+        assert_eq!(rt; ended, end);
+        assert_eq!(rt; sink.bytes(), want);
+    }
     Ok(())
 }
