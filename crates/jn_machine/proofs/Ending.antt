@@ -1,5 +1,5 @@
 -- Runs, a step more, and behind their end.
-use Rattle.std.proofs.Common.{◌≡◌, ℕ, zero, suc, ◌+◌, ◌-◌, ◌<◌, ◌≤◌, List, refl, ap, ◌∙◌, arith, add-one, add-zero, add-suc}
+use Rattle.std.proofs.Common.{◌≡◌, ℕ, zero, suc, ◌+◌, ◌-◌, ◌<◌, List, ap, ◌∙◌, arith, add-one, add-zero, add-suc}
 use Rattle.jn_points.specs.declared.program.Program.{Program}
 use Rattle.jn_heap.specs.Values.{End}
 use Rattle.jn_heap.specs.Machine.{State, Next, Goes, Ends, Stuck, step, then_step, run}

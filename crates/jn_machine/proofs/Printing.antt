@@ -3,8 +3,7 @@ use Rattle.std.proofs.Common.{◌≡◌, ℕ, ◌+◌, ◌-◌, ◌<◌, ◌≤�
 use Rattle.std.proofs.Math.Seq.{take-append-add}
 use Rattle.jn_outside.specs.Sink.{Appends, AppendsPrefix}
 use Rattle.jn_points.specs.declared.program.Program.{Program}
-use Rattle.jn_heap.specs.Values.{End}
-use Rattle.jn_heap.specs.Machine.{Next, Goes, Ends, Stuck, step, run}
+use Rattle.jn_heap.specs.Machine.{Next, Goes, step, run}
 use Rattle.jn_machine.specs.declared.prim.End.{End as Ended}
 use Rattle.jn_machine.specs.declared.state.MachineState.{MachineState}
 use Rattle.jn_machine.specs.declared.state.Stepped.{Stepped}

@@ -1,5 +1,5 @@
 -- Steps of the walk along supertypes.
-use Rattle.std.proofs.Common.{◌≡◌, ℕ, zero, suc, ◌-◌, ◌<◌, ◌++◌, ◌∷◌, [], ◌||◌, Bool, true, false, cond, not, eqb, List, Option, Some, None, refl, ap, sym, ◌∙◌, arith, ◌+◌, length, drop, get_or}
+use Rattle.std.proofs.Common.{◌≡◌, ℕ, zero, suc, ◌-◌, ◌<◌, ◌++◌, ◌∷◌, [], ◌||◌, true, false, not, eqb, List, Option, Some, None, refl, ap, sym, ◌∙◌, arith, ◌+◌, length, drop, get_or}
 use Rattle.std.proofs.lemmas.List.{at_drop_more}
 use Rattle.std.specs.Prelude.{filter, flat_map}
 use Rattle.jn_base.specs.declared.number.ClassNo.{ClassNo}

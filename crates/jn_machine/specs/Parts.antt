@@ -3,7 +3,7 @@ use Rattle.std.specs.Prelude.{ℕ, ◌+◌, ◌++◌, Bool, true, false, ltb, le
 use Rattle.jn_base.specs.declared.number.PointNo.{PointNo}
 use Rattle.jn_points.specs.declared.program.Program.{Program}
 use Rattle.jn_points.specs.Lookup.{elem_base}
-use Rattle.jn_heap.specs.Values.{Value, Thing, Object, Elems, End, Deep, Index, Got, Gives, Fails, Lacks}
+use Rattle.jn_heap.specs.Values.{Value, Thing, Object, Elems, Deep, Index, Got, Gives, Fails, Lacks}
 use Rattle.jn_heap.specs.Machine.{State, Next, Goes, Ends, Stuck, moves, moves_to, stored, may_hold}
 use Rattle.jn_machine.specs.declared.prim.Got.{Got as Answer}
 use Rattle.jn_machine.specs.declared.prim.Got.TheVariants.{Gives as IsGiven, Fails as HasFailed, Lacks as HasNone}

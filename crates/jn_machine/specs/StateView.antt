@@ -1,5 +1,5 @@
 -- States of the code as those of the definition, and what a point did.
-use Rattle.std.specs.Prelude.{ℕ, List, ◌++◌, Option, Some, None}
+use Rattle.std.specs.Prelude.{ℕ, List, ◌++◌}
 use Rattle.jn_machine.specs.declared.state.MachineState.{MachineState}
 use Rattle.jn_machine.specs.declared.state.Acted.{Acted}
 use Rattle.jn_machine.specs.declared.state.Acted.TheVariants.{Goes as HasGone, Prints as HasPrinted, Ends as HasEnded, Stuck as IsStuck}

@@ -1,9 +1,10 @@
 // Small programs run to their end.
-use crate::{End, Stepped, run, start};
+use crate::{End, StepFail, Stepped, run, run_to, start};
 use jn_base::{
     BodyNo, ClassNo, FieldNo, FileNo, MethodNo, NameNo, OutOfMemory, PointNo, RegNo, Seq, Span,
     Text,
 };
+use jn_outside::MemSink;
 use jn_points::{
     BaseType, Body, Class, Elem, Field, Literal, Method, Operand, Operator, Point, PointKind,
     Program, StrOperation,
@@ -213,97 +214,99 @@ fn one_text(alloc: Global, text: &str) -> Result<Vec<Text>, AllocError> {
     Ok(texts)
 }
 
+/// One list behind the other.
+fn both(mut front: Vec<PointKind>, mut rest: Vec<PointKind>) -> Result<Vec<PointKind>, AllocError> {
+    front.append(&mut rest)?;
+    Ok(front)
+}
+
+fn length(dst: u32, of: u32) -> PointKind {
+    PointKind::StrOp { dst: RegNo(dst), op: StrOperation::Length, of: at(of), other: None }
+}
+
+fn prints_a_text(alloc: Global) -> Result<Vec<PointKind>, AllocError> {
+    let joins = PointKind::Concat { dst: RegNo(1), left: at(1), right: at(2) };
+    Ok(vec![in alloc; string(1), length(2, 1), joins, print(1)]?)
+}
+
+fn prints_numbers(alloc: Global) -> Result<Vec<PointKind>, AllocError> {
+    let quotient = vec![in alloc; int(3, -2147483648), int(4, -1), binary(Operator::Div, 3, 4), print(5)]?;
+    let rest = vec![in alloc; binary(Operator::Rem, 3, 4), print(5), PointKind::Return { value: None }]?;
+    both(quotient, rest)
+}
+
+fn straight(alloc: Global) -> Result<Vec<PointKind>, AllocError> {
+    both(prints_a_text(alloc)?, prints_numbers(alloc)?)
+}
+
+fn divides(alloc: Global) -> Result<Vec<PointKind>, AllocError> {
+    Ok(vec![in alloc; int(1, 7), int(2, 0), binary(Operator::Div, 1, 2)]?)
+}
+
+fn on_null(alloc: Global) -> Result<Vec<PointKind>, AllocError> {
+    let null = PointKind::Const { dst: RegNo(1), value: Literal::Null };
+    Ok(vec![in alloc; null, length(2, 1)]?)
+}
+
+fn makes_an_object(alloc: Global) -> Result<Vec<PointKind>, AllocError> {
+    let mut args = Seq::new(alloc);
+    args.push(at(1))?;
+    let made = PointKind::New { dst: RegNo(2), ctor: MethodNo(1), args };
+    let got = call(Some(RegNo(3)), 2, Some(at(2)), Seq::new(alloc));
+    let cast = PointKind::Cast { dst: RegNo(4), of: at(2), class: ClassNo(1) };
+    Ok(vec![in alloc; int(1, 41), made, got, print(3), cast]?)
+}
+
+fn read(array: u32, index: u32) -> PointKind {
+    PointKind::ElemRead { dst: RegNo(4), array: at(array), index: at(index) }
+}
+
+fn reads_elements(alloc: Global) -> Result<Vec<PointKind>, AllocError> {
+    let made = PointKind::NewArray { dst: RegNo(2), base: BaseType::Array(Elem::Int, false), length: at(1) };
+    let written = PointKind::ElemWrite { array: at(2), index: at(3), value: at(1) };
+    let front = vec![in alloc; int(1, 2), made, int(3, 0), written]?;
+    let rest = vec![in alloc; read(2, 3), print(4), read(0, 3), print(4), read(2, 1)]?;
+    both(front, rest)
+}
+
+fn prints_twice(alloc: Global) -> Result<Vec<PointKind>, AllocError> {
+    Ok(vec![in alloc; int(1, 7), print(1), print(1), PointKind::Return { value: None }]?)
+}
+
 #[test]
 fn straight_code(rt: HostRuntime) -> Result<(), Fail> {
-    let alloc = rt.alloc();
-    let main = vec![in alloc;
-        string(1),
-        PointKind::StrOp {
-            dst: RegNo(2),
-            op: StrOperation::Length,
-            of: at(1),
-            other: None
-        },
-        PointKind::Concat {
-            dst: RegNo(1),
-            left: at(1),
-            right: at(2)
-        },
-        print(1),
-        int(3, -2147483648),
-        int(4, -1),
-        binary(Operator::Div, 3, 4),
-        print(5),
-        binary(Operator::Rem, 3, 4),
-        print(5),
-        binary(Operator::Sub, 3, 2),
-        print(5),
-        PointKind::Return { value: None },
-    ]?;
-    let (stepped, out) = outcome(alloc, main, 100)?;
+    let (stepped, out) = outcome(rt.alloc(), straight(rt.alloc())?, 100)?;
     assert_eq!(rt; stepped, Stepped::Ends(End::Done));
-    let want = "a\u{e9}\u{1d11e}4\n-2147483648\n0\n2147483644\n";
-    assert_eq!(rt; out.as_slice(), want.as_bytes());
+    assert_eq!(rt; out.as_slice(), "a\u{e9}\u{1d11e}4\n-2147483648\n0\n".as_bytes());
     Ok(())
 }
 
 #[test]
-fn ends_of_runs(rt: HostRuntime) -> Result<(), Fail> {
-    let alloc = rt.alloc();
-    let divides = vec![in alloc; int(1, 7), int(2, 0), binary(Operator::Div, 1, 2)]?;
-    assert_eq!(rt;
-        outcome(alloc, divides, 100)?.0,
-        Stepped::Ends(End::Arithmetic)
-    );
-    let on_null = vec![in alloc;
-        PointKind::Const {
-            dst: RegNo(1),
-            value: Literal::Null
-        },
-        PointKind::StrOp {
-            dst: RegNo(2),
-            op: StrOperation::Length,
-            of: at(1),
-            other: None
-        },
-    ]?;
-    assert_eq!(rt; outcome(alloc, on_null, 100)?.0, Stepped::Stuck);
-    let deep = vec![in alloc; call(None, 3, None, Seq::new(alloc))]?;
-    assert_eq!(rt; outcome(alloc, deep, 4095)?.0, Stepped::Goes);
-    let deeper = vec![in alloc; call(None, 3, None, Seq::new(alloc))]?;
-    assert_eq!(rt; outcome(alloc, deeper, 4096)?.0, Stepped::Ends(End::Deep));
+fn division_by_zero(rt: HostRuntime) -> Result<(), Fail> {
+    let (stepped, _) = outcome(rt.alloc(), divides(rt.alloc())?, 100)?;
+    assert_eq!(rt; stepped, Stepped::Ends(End::Arithmetic));
+    Ok(())
+}
+
+#[test]
+fn length_of_null(rt: HostRuntime) -> Result<(), Fail> {
+    let (stepped, _) = outcome(rt.alloc(), on_null(rt.alloc())?, 100)?;
+    assert_eq!(rt; stepped, Stepped::Stuck);
+    Ok(())
+}
+
+#[test]
+fn deepest_call(rt: HostRuntime) -> Result<(), Fail> {
+    let (goes, _) = outcome(rt.alloc(), calls_itself(rt.alloc())?, 4095)?;
+    assert_eq!(rt; goes, Stepped::Goes);
+    let (ends, _) = outcome(rt.alloc(), calls_itself(rt.alloc())?, 4096)?;
+    assert_eq!(rt; ends, Stepped::Ends(End::Deep));
     Ok(())
 }
 
 #[test]
 fn objects(rt: HostRuntime) -> Result<(), Fail> {
-    let alloc = rt.alloc();
-    let mut args = Seq::new(alloc);
-    args.push(at(1))?;
-    let main = vec![in alloc;
-        int(1, 41),
-        PointKind::New {
-            dst: RegNo(2),
-            ctor: MethodNo(1),
-            args
-        },
-        call(Some(RegNo(3)), 2, Some(at(2)), Seq::new(alloc)),
-        print(3),
-        PointKind::TestInst {
-            of: at(2),
-            class: ClassNo(1),
-            origin: None,
-            yes: PointNo(6),
-            no: PointNo(5)
-        },
-        PointKind::Cast {
-            dst: RegNo(4),
-            of: at(2),
-            class: ClassNo(1)
-        },
-        PointKind::Return { value: None },
-    ]?;
-    let (stepped, out) = outcome(alloc, main, 100)?;
+    let (stepped, out) = outcome(rt.alloc(), makes_an_object(rt.alloc())?, 100)?;
     assert_eq!(rt; stepped, Stepped::Ends(End::ClassCast));
     assert_eq!(rt; out.as_slice(), b"41\n".as_slice());
     Ok(())
@@ -311,46 +314,29 @@ fn objects(rt: HostRuntime) -> Result<(), Fail> {
 
 #[test]
 fn arrays(rt: HostRuntime) -> Result<(), Fail> {
-    let alloc = rt.alloc();
-    let ints = BaseType::Array(Elem::Int, false);
-    let main = vec![in alloc;
-        int(1, 2),
-        PointKind::NewArray {
-            dst: RegNo(2),
-            base: ints,
-            length: at(1)
-        },
-        int(3, 0),
-        PointKind::ElemWrite {
-            array: at(2),
-            index: at(3),
-            value: at(1)
-        },
-        PointKind::ElemRead {
-            dst: RegNo(4),
-            array: at(2),
-            index: at(3)
-        },
-        print(4),
-        PointKind::ArrayLen {
-            dst: RegNo(4),
-            array: at(0)
-        },
-        print(4),
-        PointKind::ElemRead {
-            dst: RegNo(4),
-            array: at(0),
-            index: at(3)
-        },
-        print(4),
-        PointKind::ElemRead {
-            dst: RegNo(4),
-            array: at(2),
-            index: at(1)
-        },
-    ]?;
-    let (stepped, out) = outcome(alloc, main, 100)?;
+    let (stepped, out) = outcome(rt.alloc(), reads_elements(rt.alloc())?, 100)?;
     assert_eq!(rt; stepped, Stepped::Ends(End::Index));
-    assert_eq!(rt; out.as_slice(), b"2\n1\nword\n".as_slice());
+    assert_eq!(rt; out.as_slice(), b"2\nword\n".as_slice());
+    Ok(())
+}
+
+/// What a run prints to a sink whose write of this number fails.
+fn printed(alloc: Global, failing: u32) -> Result<(Result<Stepped, StepFail>, Vec<u8>), OutOfMemory> {
+    let program = program(alloc, prints_twice(alloc)?)?;
+    let none = Vec::new(alloc);
+    let mut sink = MemSink::new(alloc, Vec::from_slice(alloc, &[failing])?, 10, 10)?;
+    let mut state = start(alloc, &program, BodyNo(0), &none)?;
+    let ended = run_to(alloc, &program, &none, &mut state, 100, &mut sink);
+    Ok((ended, Vec::from_slice(alloc, sink.bytes())?))
+}
+
+#[test]
+fn prints_to_a_sink(rt: HostRuntime) -> Result<(), Fail> {
+    let (ended, out) = printed(rt.alloc(), 9)?;
+    assert_eq!(rt; ended, Ok(Stepped::Ends(End::Done)));
+    assert_eq!(rt; out.as_slice(), b"7\n7\n".as_slice());
+    let (failed, front) = printed(rt.alloc(), 2)?;
+    assert_eq!(rt; failed, Err(StepFail::WriteFault));
+    assert_eq!(rt; front.as_slice(), b"7\n".as_slice());
     Ok(())
 }

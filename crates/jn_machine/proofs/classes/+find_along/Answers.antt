@@ -1,4 +1,4 @@
-use Rattle.std.proofs.Common.{◌≡◌, ◌-◌, sym, ◌∙◌}
+use Rattle.std.proofs.Common.{◌-◌, sym, ◌∙◌}
 use Rattle.jn_points.specs.Members as spec
 use Rattle.jn_machine.proofs.Walks.{along_found, along_missed}
 use Rattle.jn_machine.proofs.classes.+find_along.Goals as goal

@@ -1,4 +1,4 @@
-use Rattle.std.proofs.Common.{◌≡◌, ◌&&◌, ◌||◌, not, eqb, length, drop}
+use Rattle.std.proofs.Common.{◌≡◌, ◌&&◌, ◌||◌, not, eqb, drop}
 use Rattle.jn_points.specs.Members as spec
 use Rattle.jn_machine.proofs.classes.declared_method.Given as goal
 
