@@ -1,10 +1,10 @@
 -- What the reader reads is spelled so, and is well formed.
-use Rattle.std.proofs.Common.{◌≡◌, ℕ, zero, suc, ◌+◌, ◌-◌, ◌<◌, ◌≤◌, max, List, [], ◌∷◌, ◌++◌, length, refl, sym, ap, ◌∙◌, subst, arith, append_assoc, length-append, Option, Some, None, Bool, true, false, cond, nat_lt, nat_eq}
-use Rattle.std.proofs.lemmas.Bool.{ltb-true, eqb-true, eqb-false, ne_eqb}
+use Rattle.std.proofs.Common.{◌≡◌, ℕ, zero, suc, ◌+◌, ◌<◌, ◌≤◌, List, [], ◌∷◌, ◌++◌, length, refl, sym, ap, ◌∙◌, subst, arith, append_assoc, Option, Some, None, Bool, true, false, cond, nat_lt, nat_eq}
+use Rattle.std.proofs.lemmas.Bool.{ltb-true, eqb-true, ne_eqb}
 use Rattle.jn_base.specs.declared.number.NameNo.{NameNo}
 use Rattle.jn_trees.specs.declared.token.TokenKind.{TokenKind}
 use Rattle.jn_trees.specs.declared.token.TokenKind.TheVariants.{Id, Str, Number, Boolean, Instanceof, Int, New, Super, This, True, False, Null, LeftParen, RightParen, LeftBrace, RightBrace, LeftBracket, RightBracket, Comma, Dot, At, Assign, Greater, Less, Not, Question, Colon, EqualEqual, LessEqual, GreaterEqual, NotEqual, AndAnd, OrOr, PlusPlus, MinusMinus, Plus, Minus, Star, Slash, Percent, PlusAssign, MinusAssign, StarAssign, SlashAssign, PercentAssign}
-use Rattle.jn_trees.specs.declared.expression.Literal.TheVariants.{Number as NumberLiteral, Str as StrLiteral, True as TrueLiteral, False as FalseLiteral, Null as NullLiteral}
+use Rattle.jn_trees.specs.declared.expression.Literal.TheVariants.{Number as NumberLiteral}
 use Rattle.jn_trees.specs.declared.expression.UnaryOperator.{UnaryOperator}
 use Rattle.jn_trees.specs.declared.expression.UnaryOperator.TheVariants.{Plus as PlusSign, Minus as MinusSign, Not as NotSign}
 use Rattle.jn_trees.specs.declared.expression.Step.{Step}
@@ -12,7 +12,7 @@ use Rattle.jn_trees.specs.declared.expression.Step.TheVariants.{Increment, Decre
 use Rattle.jn_trees.specs.declared.expression.BinaryOperator.{BinaryOperator}
 use Rattle.jn_trees.specs.declared.expression.BinaryOperator.TheVariants.{Multiply, Divide, Remainder, Add, Subtract, Less as LessThan, Greater as GreaterThan, LessEqual as AtMost, GreaterEqual as AtLeast, Equal, NotEqual as Unequal, And, Or}
 use Rattle.jn_trees.specs.declared.expression.AssignOperator.{AssignOperator}
-use Rattle.jn_trees.specs.Trees.{BaseTree, ClassBase, IntBase, BooleanBase, Tree, Trees, LiteralTree, NameTree, ThisTree, ParenTree, FieldTree, CallTree, OwnCallTree, SuperCallTree, IndexTree, NewTree, NewArrayTree, ArrayOfTree, PostfixTree, PrefixTree, UnaryTree, CastTree, BinaryTree, InstanceOfTree, ConditionalTree, AssignTree, NoTrees, MoreTrees}
+use Rattle.jn_trees.specs.Trees.{BaseTree, ClassBase, Tree, Trees, LiteralTree, NameTree, ParenTree, FieldTree, CallTree, OwnCallTree, SuperCallTree, IndexTree, NewTree, ArrayOfTree, PostfixTree, PrefixTree, UnaryTree, CastTree, BinaryTree, InstanceOfTree, ConditionalTree, AssignTree, NoTrees, MoreTrees}
 use Rattle.jn_trees.specs.Spelling.{base_token, step_token, sign_token, operator_token, assign_token, spell_annotations, spell, spell_list, spell_more}
 use Rattle.jn_trees.specs.WellFormed.{nesting, nesting_all, rank, power, is_left_side, is_indexable, is_castable, Good, AllGood}
 use Rattle.jn_trees.specs.Longest.{Try}
@@ -49,7 +49,7 @@ sound_iterate : (i d : ℕ) (step : Tree → List TokenKind → Try) → SoundSt
 sound_iterate i d step h zero ts r s = s
 sound_iterate i d step h (suc n) ts r s =
     (elim (step r.0 r.1) as (λ o. Sound i d (spell r.0 ++ r.1) o → Spells i d ts (elim o [ None ↦ r | Some q ↦ iterate step n q ]))
-       [ None ↦ λ _. s | Some q ↦ λ g. sound_iterate i d step h n ts q (s.0 ∙ g.0, g.1, g.2, g.3) ])
+    [ None ↦ λ _. s | Some q ↦ λ g. sound_iterate i d step h n ts q (s.0 ∙ g.0, g.1, g.2, g.3) ])
     (h r.0 r.1 s.1 s.2 s.3)
 
 sound_go_on : (i d : ℕ) (step : Tree → List TokenKind → Try) → SoundStep i i d step → (n : ℕ) (ts : List TokenKind) (o : Try) → Sound i d ts o → Sound i d ts (go_on step n o)
@@ -60,7 +60,7 @@ sound_extend : (i j d : ℕ) (step : Tree → List TokenKind → Try) → i ≤ 
 sound_extend i j d step le h ts None s = tt
 sound_extend i j d step le h ts (Some r) s =
     (elim (step r.0 r.1) as (λ o. Sound j d (spell r.0 ++ r.1) o → Sound j d ts (elim o [ None ↦ Some r | Some q ↦ Some q ]))
-       [ None ↦ λ _. weaker i j d ts r le s | Some q ↦ λ g. (s.0 ∙ g.0, g.1, g.2, g.3) ])
+    [ None ↦ λ _. weaker i j d ts r le s | Some q ↦ λ g. (s.0 ∙ g.0, g.1, g.2, g.3) ])
     (h r.0 r.1 s.1 s.2 s.3)
 
 lift_sound : (i j d : ℕ) (ts : List TokenKind) (o : Try) → i ≤ j → Sound i d ts o → Sound j d ts o
@@ -77,9 +77,10 @@ last_item d t ts g n = (λ end rest e. ap (λ x. Comma ∷ x) (ap (λ x. spell t
 
 behind_sound : (d : ℕ) (more : List TokenKind → TryAll) → ((ts : List TokenKind) → SoundItems d ts (more ts)) → (t : Tree) (ts : List TokenKind) → Good t → nesting t ≤ d → SoundItems d (spell t ++ ts) (items_behind more t ts)
 behind_sound d more h t (Comma ∷ ts) g n =
-    (elim (more ts) as (λ o. SoundItems d ts o → SoundItems d (spell t ++ Comma ∷ ts) (add_first t o))
-      [ None ↦ λ _. tt
-      | Some r ↦ λ s. (λ end rest e. ap (λ x. Comma ∷ x) (ap (λ x. spell t ++ x) (s.0 end rest e) ∙ sym (append_assoc (spell t) (spell_more end r.0) rest)), (g, s.1), omega (arith, n, s.2)) ])
+    (elim (more ts) as (λ o. SoundItems d ts o → SoundItems d (spell t ++ Comma ∷ ts) (add_first t o)) [
+      | None ↦ λ _. tt
+      | Some r ↦ λ s. (λ end rest e. ap (λ x. Comma ∷ x) (ap (λ x. spell t ++ x) (s.0 end rest e) ∙ sym (append_assoc (spell t) (spell_more end r.0) rest)), (g, s.1), omega (arith, n, s.2))
+    ])
     (h ts)
 behind_sound d more h t ts g n = last_item d t ts g n
 
@@ -87,7 +88,7 @@ from_sound : (d : ℕ) (one : List TokenKind → Try) → ((ts : List TokenKind)
 from_sound d one h zero ts = tt
 from_sound d one h (suc n) ts =
     (elim (one ts) as (λ o. Sound 11 d ts o → SoundItems d ts (bind_all o (items_behind (items_from one n))))
-      [ None ↦ λ _. tt | Some r ↦ λ s. subst (λ x. SoundItems d x (items_behind (items_from one n) r.0 r.1)) (sym s.0) (behind_sound d (items_from one n) (from_sound d one h n) r.0 r.1 s.1 s.3) ])
+    [ None ↦ λ _. tt | Some r ↦ λ s. subst (λ x. SoundItems d x (items_behind (items_from one n) r.0 r.1)) (sym s.0) (behind_sound d (items_from one n) (from_sound d one h n) r.0 r.1 s.1 s.3) ])
     (h ts)
 
 pub items_sound : (d : ℕ) (one : List TokenKind → Try) → ((ts : List TokenKind) → Sound 11 d ts (one ts)) → (ts : List TokenKind) → SoundItems d ts (all_items one ts)
@@ -286,8 +287,8 @@ link_sound R d h p [] g k m = tt
 link_sound R d h p (Dot ∷ ts) g k m = within 1 (suc d) (spell p ++ Dot ∷ ts) (nesting p) (member R p ts) (λ lt. member_sound R d h p ts g k (omega (arith, lt)))
 link_sound R d h p (LeftBracket ∷ ts) g k m =
     where_true 1 (suc d) (spell p ++ LeftBracket ∷ ts) (is_indexable p) (cond (nat_lt (nesting p) (suc d)) (bind (R.whole ts) (close_index p)) None) (λ i.
-      within 1 (suc d) (spell p ++ LeftBracket ∷ ts) (nesting p) (bind (R.whole ts) (close_index p)) (λ lt.
-        bound 11 1 d (suc d) ts (spell p ++ LeftBracket ∷ ts) (close_index p) (λ r s. index_closed d p ts r.0 r.1 i g k (omega (arith, lt)) s) (R.whole ts) (h.whole ts)))
+    within 1 (suc d) (spell p ++ LeftBracket ∷ ts) (nesting p) (bind (R.whole ts) (close_index p)) (λ lt.
+    bound 11 1 d (suc d) ts (spell p ++ LeftBracket ∷ ts) (close_index p) (λ r s. index_closed d p ts r.0 r.1 i g k (omega (arith, lt)) s) (R.whole ts) (h.whole ts)))
 link_sound R d h p (_ ∷ ts) g k m = tt
 
 pub primary_sound : (R : Reader) (d : ℕ) → SoundReader R d → (ts : List TokenKind) → Sound 1 (suc d) ts (primary R (suc d) ts)
@@ -307,8 +308,8 @@ after_by_sound : (d : ℕ) (p : Tree) (k : TokenKind) (o : Option Step) → IsSt
 after_by_sound d p k None is ts g = tt
 after_by_sound d p k (Some s) is ts g =
     where_true 2 (suc d) (spell p ++ k ∷ ts) (is_left_side p) (cond (nat_lt (nesting p) (suc d)) (Some (PostfixTree p s, ts)) None) (λ l.
-      within 2 (suc d) (spell p ++ k ∷ ts) (nesting p) (Some (PostfixTree p s, ts)) (λ lt.
-        (ap (λ x. spell p ++ x ∷ ts) is ∙ sym (append_assoc (spell p) (step_token s ∷ []) ts), (g, l), omega arith, omega (arith, lt))))
+    within 2 (suc d) (spell p ++ k ∷ ts) (nesting p) (Some (PostfixTree p s, ts)) (λ lt.
+    (ap (λ x. spell p ++ x ∷ ts) is ∙ sym (append_assoc (spell p) (step_token s ∷ []) ts), (g, l), omega arith, omega (arith, lt))))
 
 after_sound : (d : ℕ) → SoundStep 1 2 (suc d) (after (suc d))
 after_sound d p [] g k m = tt
@@ -352,12 +353,12 @@ castable_of _ rest k h = refl
 cast_built : (d : ℕ) (n : NameNo) (ts : List TokenKind) → reach_of ts ≡ 0 → (o : Try) → Sound 3 d ts o → Sound 3 (suc d) (LeftParen ∷ Id n ∷ RightParen ∷ ts) (build (λ e. CastTree n e) o)
 cast_built d n ts h o s =
     built 3 3 d (suc d) ts (LeftParen ∷ Id n ∷ RightParen ∷ ts) (λ e. CastTree n e)
-      (λ r g. (ap (λ x. LeftParen ∷ Id n ∷ RightParen ∷ x) g.0, (g.1, castable_of r.0 r.1 g.2 (ap reach_of (sym g.0) ∙ h)), omega arith, omega (arith, g.3))) o s
+    (λ r g. (ap (λ x. LeftParen ∷ Id n ∷ RightParen ∷ x) g.0, (g.1, castable_of r.0 r.1 g.2 (ap reach_of (sym g.0) ∙ h)), omega arith, omega (arith, g.3))) o s
 
 cast_operand_sound : (R : Reader) (d : ℕ) → SoundReader R d → (n : NameNo) (ts : List TokenKind) → Sound 3 (suc d) (LeftParen ∷ Id n ∷ RightParen ∷ ts) (build (λ e. CastTree n e) (cast_operand R ts))
 cast_operand_sound R d h n ts =
     (elim (nat_eq (reach_of ts) 0) as (λ b. (b ≡ true → reach_of ts ≡ 0) → Sound 3 (suc d) (LeftParen ∷ Id n ∷ RightParen ∷ ts) (build (λ e. CastTree n e) (cond b (R.operand 0 ts) None)))
-      [ true ↦ λ e. cast_built d n ts (e refl) (R.operand 0 ts) (h.operand 0 ts (omega arith)) | false ↦ λ _. tt ])
+    [ true ↦ λ e. cast_built d n ts (e refl) (R.operand 0 ts) (h.operand 0 ts (omega arith)) | false ↦ λ _. tt ])
     (eqb-true (reach_of ts) 0)
 
 cast_sound : (R : Reader) (d : ℕ) → SoundReader R d → SoundStep 2 3 (suc d) (cast R)
@@ -394,8 +395,8 @@ least_sound : (D : ℕ) (ts : List TokenKind) → Sound 3 D (Minus ∷ ts) (leas
 least_sound D [] = tt
 least_sound D (Number n ∷ ts) =
     where_equal 3 D (Minus ∷ Number n ∷ ts) n 2147483648 (cond (nat_lt 1 D) (Some (UnaryTree MinusSign (LiteralTree (NumberLiteral n)), ts)) None) (λ same.
-      within 3 D (Minus ∷ Number n ∷ ts) 1 (Some (UnaryTree MinusSign (LiteralTree (NumberLiteral n)), ts)) (λ lt.
-        (refl, subst (λ (x : ℕ). Good (UnaryTree MinusSign (LiteralTree (NumberLiteral x)))) (sym same) tt, omega arith, omega (arith, lt))))
+    within 3 D (Minus ∷ Number n ∷ ts) 1 (Some (UnaryTree MinusSign (LiteralTree (NumberLiteral n)), ts)) (λ lt.
+    (refl, subst (λ (x : ℕ). Good (UnaryTree MinusSign (LiteralTree (NumberLiteral x)))) (sym same) tt, omega arith, omega (arith, lt))))
 least_sound D (_ ∷ ts) = tt
 
 or_least_sound : (D : ℕ) (ts : List TokenKind) (o : Try) → Sound 3 D (Minus ∷ ts) o → Sound 3 D (Minus ∷ ts) (or_least D ts o)
@@ -417,9 +418,10 @@ prefix_sound R d h (_ ∷ ts) = tt
 
 pub unary_sound : (R : Reader) (d : ℕ) → SoundReader R d → (ts : List TokenKind) → Sound 3 (suc d) ts (unary R (suc d) ts)
 unary_sound R d h ts =
-    (elim (primary R (suc d) ts) as (λ o. Sound 1 (suc d) ts o → Sound 3 (suc d) ts (elim o [ None ↦ prefix R (suc d) ts | Some r ↦ extend (cast R) (extend (after (suc d)) (Some r)) ]))
-      [ None ↦ λ _. prefix_sound R d h ts
-      | Some r ↦ λ s. sound_extend 2 3 (suc d) (cast R) (omega arith) (cast_sound R d h) ts (extend (after (suc d)) (Some r)) (sound_extend 1 2 (suc d) (after (suc d)) (omega arith) (after_sound d) ts (Some r) s) ])
+    (elim (primary R (suc d) ts) as (λ o. Sound 1 (suc d) ts o → Sound 3 (suc d) ts (elim o [ None ↦ prefix R (suc d) ts | Some r ↦ extend (cast R) (extend (after (suc d)) (Some r)) ])) [
+      | None ↦ λ _. prefix_sound R d h ts
+      | Some r ↦ λ s. sound_extend 2 3 (suc d) (cast R) (omega arith) (cast_sound R d h) ts (extend (after (suc d)) (Some r)) (sound_extend 1 2 (suc d) (after (suc d)) (omega arith) (after_sound d) ts (Some r) s)
+    ])
     (primary_sound R d h ts)
 
 -- operators
@@ -451,20 +453,20 @@ test_sound d l (Id n ∷ ts) g k m = (sym (append_assoc (spell l) (Instanceof �
 test_sound d l (_ ∷ ts) g k m = tt
 
 binary_sound : (R : Reader) (d : ℕ) → SoundReader R d → (k : ℕ) → k < 6 → (o : BinaryOperator) (l : Tree) (ts : List TokenKind) → Good l → rank l ≤ suc k + 3 → nesting l < suc d
-  → Sound (suc k + 3) (suc d) (spell l ++ operator_token o ∷ ts) (cond (nat_eq (power o) (k + 1)) (build (λ r. BinaryTree l o r) (R.operand k ts)) None)
+    → Sound (suc k + 3) (suc d) (spell l ++ operator_token o ∷ ts) (cond (nat_eq (power o) (k + 1)) (build (λ r. BinaryTree l o r) (R.operand k ts)) None)
 binary_sound R d h k small o l ts g w m =
     where_equal (suc k + 3) (suc d) (spell l ++ operator_token o ∷ ts) (power o) (k + 1) (build (λ r. BinaryTree l o r) (R.operand k ts)) (λ same.
-      built (k + 3) (suc k + 3) d (suc d) ts (spell l ++ operator_token o ∷ ts) (λ r. BinaryTree l o r)
-        (λ r s. (ap (λ x. spell l ++ operator_token o ∷ x) s.0 ∙ sym (append_assoc (spell l) (operator_token o ∷ spell r.0) r.1), (g, omega (arith, w, same), s.1, omega (arith, s.2, same)), omega (arith, same), omega (arith, m, s.3)))
-        (R.operand k ts) (h.operand k ts (omega (arith, small))))
+    built (k + 3) (suc k + 3) d (suc d) ts (spell l ++ operator_token o ∷ ts) (λ r. BinaryTree l o r)
+    (λ r s. (ap (λ x. spell l ++ operator_token o ∷ x) s.0 ∙ sym (append_assoc (spell l) (operator_token o ∷ spell r.0) r.1), (g, omega (arith, w, same), s.1, omega (arith, s.2, same)), omega (arith, same), omega (arith, m, s.3)))
+    (R.operand k ts) (h.operand k ts (omega (arith, small))))
 
 grow_by_sound : (R : Reader) (d : ℕ) → SoundReader R d → (k : ℕ) → k < 6 → (l : Tree) (x : TokenKind) (s : Sign) → IsSign x s → (ts : List TokenKind) → Good l → rank l ≤ suc k + 3 → nesting l < suc d
-  → Sound (suc k + 3) (suc d) (spell l ++ x ∷ ts) (grow_by R k l s ts)
+    → Sound (suc k + 3) (suc d) (spell l ++ x ∷ ts) (grow_by R k l s ts)
 grow_by_sound R d h k small l x NoSign is ts g w lt = tt
 grow_by_sound R d h k small l x (OperatorSign o) is ts g w lt = subst (λ y. Sound (suc k + 3) (suc d) (spell l ++ y ∷ ts) (grow_by R k l (OperatorSign o) ts)) (sym is) (binary_sound R d h k small o l ts g w lt)
 grow_by_sound R d h k small l x TestSign is ts g w lt =
     subst (λ y. Sound (suc k + 3) (suc d) (spell l ++ y ∷ ts) (grow_by R k l TestSign ts)) (sym is)
-      (where_equal (suc k + 3) (suc d) (spell l ++ Instanceof ∷ ts) 3 (k + 1) (test l ts) (λ same. lift_sound 6 (suc k + 3) (suc d) (spell l ++ Instanceof ∷ ts) (test l ts) (omega (arith, same)) (test_sound (suc d) l ts g (omega (arith, w, same)) lt)))
+    (where_equal (suc k + 3) (suc d) (spell l ++ Instanceof ∷ ts) 3 (k + 1) (test l ts) (λ same. lift_sound 6 (suc k + 3) (suc d) (spell l ++ Instanceof ∷ ts) (test l ts) (omega (arith, same)) (test_sound (suc d) l ts g (omega (arith, w, same)) lt)))
 
 grow_sound : (R : Reader) (d : ℕ) → SoundReader R d → (k : ℕ) → k < 6 → SoundStep (suc k + 3) (suc k + 3) (suc d) (grow R (suc d) k)
 grow_sound R d h k small l [] g w m = tt
@@ -474,16 +476,20 @@ pub operand_sound : (R : Reader) (d : ℕ) → SoundReader R d → (k : ℕ) (ts
 operand_sound R d h zero ts le = unary_sound R d h ts
 operand_sound R d h (suc k) ts le =
     sound_go_on (suc k + 3) (suc d) (grow R (suc d) k) (grow_sound R d h k (omega (arith, le))) (suc d) ts (operand_at R (suc d) k ts)
-      (lift_sound (k + 3) (suc k + 3) (suc d) ts (operand_at R (suc d) k ts) (omega arith) (operand_sound R d h k ts (omega (arith, le))))
+    (lift_sound (k + 3) (suc k + 3) (suc d) ts (operand_at R (suc d) k ts) (omega arith) (operand_sound R d h k ts (omega (arith, le))))
 
 -- conditionals
 choice_built : (R : Reader) (d : ℕ) → SoundReader R d → (c : Tree) (ts : List TokenKind) (a : Tree) (rest : List TokenKind) → Good c → rank c ≤ 9 → nesting c < suc d → Spells 11 d ts (a, rest) → Sound 10 (suc d) (spell c ++ Question ∷ ts) (choose_end R c a rest)
 choice_built R d h c ts a [] g k m s = tt
 choice_built R d h c ts a (Colon ∷ rest) g k m s =
     built 10 10 d (suc d) rest (spell c ++ Question ∷ ts) (λ b. ConditionalTree c a b)
-      (λ r q. (ap (λ x. spell c ++ Question ∷ x) (s.0 ∙ ap (λ x. spell a ++ Colon ∷ x) q.0 ∙ sym (append_assoc (spell a) (Colon ∷ spell r.0) r.1)) ∙ sym (append_assoc (spell c) (Question ∷ (spell a ++ Colon ∷ spell r.0)) r.1),
-        (g, k, s.1, q.1, q.2), omega arith, omega (arith, m, s.3, q.3)))
-      (R.conditional rest) (h.conditional rest)
+    (λ r q. (
+      ap (λ x. spell c ++ Question ∷ x) (s.0 ∙ ap (λ x. spell a ++ Colon ∷ x) q.0 ∙ sym (append_assoc (spell a) (Colon ∷ spell r.0) r.1)) ∙ sym (append_assoc (spell c) (Question ∷ (spell a ++ Colon ∷ spell r.0)) r.1),
+      (g, k, s.1, q.1, q.2),
+      omega arith,
+      omega (arith, m, s.3, q.3),
+    ))
+    (R.conditional rest) (h.conditional rest)
 choice_built R d h c ts a (_ ∷ rest) g k m s = tt
 
 choose_sound : (R : Reader) (d : ℕ) → SoundReader R d → SoundStep 9 10 (suc d) (choose R (suc d))
@@ -513,9 +519,9 @@ assign_by_sound : (R : Reader) (d : ℕ) → SoundReader R d → (l : Tree) (k :
 assign_by_sound R d h l k None is ts g = tt
 assign_by_sound R d h l k (Some o) is ts g =
     where_true 11 (suc d) (spell l ++ k ∷ ts) (is_left_side l) (cond (nat_lt (nesting l) (suc d)) (build (λ r. AssignTree l o r) (R.whole ts)) None) (λ left.
-      within 11 (suc d) (spell l ++ k ∷ ts) (nesting l) (build (λ r. AssignTree l o r) (R.whole ts)) (λ lt.
-        built 11 11 d (suc d) ts (spell l ++ k ∷ ts) (λ r. AssignTree l o r)
-          (λ r s. (ap (λ y. spell l ++ y ∷ ts) is ∙ ap (λ x. spell l ++ assign_token o ∷ x) s.0 ∙ sym (append_assoc (spell l) (assign_token o ∷ spell r.0) r.1), (g, left, s.1), omega arith, omega (arith, lt, s.3))) (R.whole ts) (h.whole ts)))
+    within 11 (suc d) (spell l ++ k ∷ ts) (nesting l) (build (λ r. AssignTree l o r) (R.whole ts)) (λ lt.
+    built 11 11 d (suc d) ts (spell l ++ k ∷ ts) (λ r. AssignTree l o r)
+    (λ r s. (ap (λ y. spell l ++ y ∷ ts) is ∙ ap (λ x. spell l ++ assign_token o ∷ x) s.0 ∙ sym (append_assoc (spell l) (assign_token o ∷ spell r.0) r.1), (g, left, s.1), omega arith, omega (arith, lt, s.3))) (R.whole ts) (h.whole ts)))
 
 assign_sound : (R : Reader) (d : ℕ) → SoundReader R d → SoundStep 10 11 (suc d) (assign R (suc d))
 assign_sound R d h l [] g k m = tt
