@@ -263,6 +263,9 @@ grow_test R D k n l ts same fits =
 abbrev Lower : Reader → ℕ → ℕ → Type 0
 Lower R d k = (t : Tree) (rest : List TokenKind) → Good t → rank t ≤ k + 3 → nesting t ≤ suc d → ReadsAt (k + 3) t rest (operand_at R (suc d) k (spell t ++ rest))
 
+binary_got : (o : BinaryOperator) (l : Tree) (q p : Got) → q ≡ p → ◌≡◌ {A = Got} (BinaryTree l o q.0, q.1) (BinaryTree l o p.0, p.1)
+binary_got o l q p e = ap (λ (x : Got). (BinaryTree l o x.0, x.1)) e
+
 operand_spine : (R : Reader) (d : ℕ) → CompleteReader R d → (k : ℕ) → k < 6 → Lower R d k → (t : Tree) (rest : List TokenKind) → Good t → rank t ≤ suc k + 3 → nesting t ≤ suc d
     → Spine (k + 3) (suc d) (grow R (suc d) k) t rest (operand_at R (suc d) (suc k) (spell t ++ rest))
 operand_spine R d h k small lower (BinaryTree l o r) rest g w m =
@@ -277,7 +280,7 @@ operand_spine R d h k small lower (BinaryTree l o r) rest g w m =
           (spine_step (k + 3) (suc d) (grow R (suc d) k) l more (operand_at R (suc d) (suc k) (spell l ++ more))
           (operand_spine R d h k small lower l more g.0 (omega (arith, g.1, same)) (omega (arith, m)))
           (omega (arith, operator_reach o, same)) fits (BinaryTree l o q.0.0, q.0.1) (grow_binary R (suc d) k o l (spell r ++ rest) q.0 same fits q.1) (omega arith)
-          (BinaryTree l o r) rest q.2 (λ lt. ap (λ (x : Got). (BinaryTree l o x.0, x.1)) (q.3 lt)))
+          (BinaryTree l o r) rest q.2 (λ lt. binary_got o l q.0 (r, rest) (q.3 lt)))
     ]
 operand_spine R d h k small lower (InstanceOfTree e n) rest g w m =
     elim (cases_lt k 3) [

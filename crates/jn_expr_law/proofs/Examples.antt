@@ -43,7 +43,7 @@ stepped_call b = refl
 
 -- `new @A int[] {1}[0]` ends before the index, and `new int[n][0]`, too
 array_of_elements : (a : NameNo) → (reader 9).whole (New ∷ At ∷ Id a ∷ Int ∷ LeftBracket ∷ RightBracket ∷ LeftBrace ∷ Number 1 ∷ RightBrace ∷ LeftBracket ∷ Number 0 ∷ RightBracket ∷ [])
-  ≡ Some (ArrayOfTree (a ∷ []) IntBase (MoreTrees (LiteralTree (NumberLiteral 1)) NoTrees), LeftBracket ∷ Number 0 ∷ RightBracket ∷ [])
+    ≡ Some (ArrayOfTree (a ∷ []) IntBase (MoreTrees (LiteralTree (NumberLiteral 1)) NoTrees), LeftBracket ∷ Number 0 ∷ RightBracket ∷ [])
 unfolding all_items
 array_of_elements a = refl
 

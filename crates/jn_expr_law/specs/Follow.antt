@@ -45,6 +45,7 @@ reach SlashAssign = 11
 reach PercentAssign = 11
 reach _ = 12
 
+-- the reach of the first token; no token goes on with none
 abbrev pub reach_of : List TokenKind → ℕ
 reach_of [] = 12
 reach_of (k ∷ ks) = reach k

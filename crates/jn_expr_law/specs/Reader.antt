@@ -21,6 +21,7 @@ use Rattle.jn_expr_law.specs.Follow.{reach_of}
 abbrev pub Got : Type 0
 Got = Tree × List TokenKind
 
+-- a list of trees and the tokens behind it, or none
 abbrev pub TryAll : Type 0
 TryAll = Option (Trees × List TokenKind)
 
@@ -37,10 +38,12 @@ abbrev pub iterate : (Tree → List TokenKind → Try) → ℕ → Got → Got
 iterate step zero r = r
 iterate step (suc n) r = elim (step r.0 r.1) [ None ↦ r | Some q ↦ iterate step n q ]
 
+-- a tree around what was read
 abbrev pub build : (Tree → Tree) → Try → Try
 build f None = None
 build f (Some r) = Some (f r.0, r.1)
 
+-- a tree around the list that was read
 abbrev pub build_all : (Trees → Tree) → TryAll → Try
 build_all f None = None
 build_all f (Some r) = Some (f r.0, r.1)
@@ -55,26 +58,32 @@ abbrev pub go_on : (Tree → List TokenKind → Try) → ℕ → Try → Try
 go_on step n None = None
 go_on step n (Some r) = Some (iterate step n r)
 
+-- what is read behind what was read
 abbrev pub bind : Try → (Tree → List TokenKind → Try) → Try
 bind None f = None
 bind (Some r) f = f r.0 r.1
 
+-- what is read of a list behind its first tree
 abbrev pub bind_all : Try → (Tree → List TokenKind → TryAll) → TryAll
 bind_all None f = None
 bind_all (Some r) f = f r.0 r.1
 
+-- what closes a list behind its trees
 abbrev pub bind_items : TryAll → (Trees → List TokenKind → TryAll) → TryAll
 bind_items None f = None
 bind_items (Some r) f = f r.0 r.1
 
+-- `)` behind an expression in parentheses (JLS 15.8.5)
 abbrev pub close_paren : Tree → List TokenKind → Try
 close_paren t (RightParen ∷ ts) = Some (ParenTree t, ts)
 close_paren t _ = None
 
+-- `]` behind an index (JLS 15.10.3)
 abbrev pub close_index : Tree → Tree → List TokenKind → Try
 close_index p t (RightBracket ∷ ts) = Some (IndexTree p t, ts)
 close_index p t _ = None
 
+-- one tree before a list
 abbrev pub add_first : Tree → TryAll → TryAll
 add_first t None = None
 add_first t (Some r) = Some (MoreTrees t r.0, r.1)
@@ -92,10 +101,12 @@ items_from one (suc n) ts = bind_all (one ts) (items_behind (items_from one n))
 unfoldable pub all_items : (List TokenKind → Try) → List TokenKind → TryAll
 all_items one ts = items_from one (suc (length ts)) ts
 
+-- `)` behind arguments
 abbrev pub close_arguments : Trees → List TokenKind → TryAll
 close_arguments es (RightParen ∷ ts) = Some (es, ts)
 close_arguments es _ = None
 
+-- `}` behind elements
 abbrev pub close_elements : Trees → List TokenKind → TryAll
 close_elements es (RightBrace ∷ ts) = Some (es, ts)
 close_elements es _ = None
@@ -110,6 +121,7 @@ abbrev pub elements_in : (List TokenKind → Try) → List TokenKind → TryAll
 elements_in one (RightBrace ∷ ts) = Some (NoTrees, ts)
 elements_in one ts = bind_items (all_items one ts) close_elements
 
+-- arguments with both parentheses (JLS 15.12)
 abbrev pub arguments : (List TokenKind → Try) → List TokenKind → TryAll
 arguments one (LeftParen ∷ ts) = arguments_in one ts
 arguments one _ = None
@@ -119,12 +131,14 @@ abbrev pub called : Tree → (Trees → Tree) → List TokenKind → TryAll → 
 called t f ts None = (t, ts)
 called t f ts (Some r) = (f r.0, r.1)
 
+-- the base of a type that this token is
 abbrev pub base_of : TokenKind → Option BaseTree
 base_of (Id n) = Some (ClassBase n)
 base_of Int = Some IntBase
 base_of Boolean = Some BooleanBase
 base_of _ = None
 
+-- `]` behind the size of a new array (JLS 15.10.1)
 abbrev pub close_array : List NameNo → BaseTree → Tree → List TokenKind → Try
 close_array names b t (RightBracket ∷ ts) = Some (NewArrayTree names b t, ts)
 close_array names b t _ = None
@@ -139,10 +153,12 @@ abbrev pub array_inside : Reader → List NameNo → BaseTree → List TokenKind
 array_inside R names b (RightBracket ∷ ts) = array_elements R names b ts
 array_inside R names b ts = bind (R.whole ts) (close_array names b)
 
+-- what stands behind the base of a new array
 abbrev pub array_behind : Reader → List NameNo → BaseTree → List TokenKind → Try
 array_behind R names b (LeftBracket ∷ ts) = array_inside R names b ts
 array_behind R names b _ = None
 
+-- an array where its base was read
 abbrev pub array_of : Reader → List NameNo → Option BaseTree → List TokenKind → Try
 array_of R names None ts = None
 array_of R names (Some b) ts = array_behind R names b ts
@@ -152,6 +168,7 @@ abbrev pub array_from : Reader → List NameNo → List TokenKind → Try
 array_from R names [] = None
 array_from R names (k ∷ ts) = array_of R names (base_of k) ts
 
+-- one annotation before others
 abbrev pub add_annotation : NameNo → List NameNo × List TokenKind → List NameNo × List TokenKind
 add_annotation n r = (n ∷ r.0, r.1)
 
@@ -170,6 +187,7 @@ abbrev pub creation : Reader → List TokenKind → Try
 creation R (Id n ∷ ts) = creation_of R n ts
 creation R ts = array_from R (annotations ts).0 (annotations ts).1
 
+-- a number by itself (JLS 3.10.1)
 abbrev pub number_at : ℕ → List TokenKind → Try
 number_at n ts = cond (nat_lt n 2147483648) (Some (LiteralTree (NumberLiteral n), ts)) None
 
@@ -192,15 +210,18 @@ head R (New ∷ ts) = creation R ts
 head R (LeftParen ∷ ts) = bind (R.whole ts) close_paren
 head R _ = None
 
+-- a field or a call behind a dot (JLS 15.11, 15.12)
 abbrev pub member : Reader → Tree → List TokenKind → Try
 member R p (Id n ∷ ts) = Some (called (FieldTree p n) (λ es. CallTree p n es) ts (arguments R.whole ts))
 member R p _ = None
 
+-- one member or index behind a primary; no index behind a new array
 abbrev pub link : Reader → ℕ → Tree → List TokenKind → Try
 link R d p (Dot ∷ ts) = cond (nat_lt (nesting p) d) (member R p ts) None
 link R d p (LeftBracket ∷ ts) = cond (is_indexable p) (cond (nat_lt (nesting p) d) (bind (R.whole ts) (close_index p)) None) None
 link R d p _ = None
 
+-- a primary as far as its members and indexes go (JLS 15.8)
 abbrev pub primary : Reader → ℕ → List TokenKind → Try
 primary R d ts = go_on (link R d) d (head R ts)
 
@@ -213,14 +234,17 @@ trim (OwnCallTree n es) ts = Some (NameTree n, LeftParen ∷ (spell_list RightPa
 trim (CallTree p n es) ts = Some (FieldTree p n, LeftParen ∷ (spell_list RightParen es ++ ts))
 trim _ ts = None
 
+-- the longest left side
 abbrev pub left_at : Reader → ℕ → List TokenKind → Try
 left_at R d ts = bind (primary R d ts) trim
 
+-- the step that this token is
 abbrev pub step_of : TokenKind → Option Step
 step_of PlusPlus = Some Increment
 step_of MinusMinus = Some Decrement
 step_of _ = None
 
+-- a step, where there is one and a left side stands before it
 abbrev pub after_by : ℕ → Tree → Option Step → List TokenKind → Try
 after_by d p None ts = None
 after_by d p (Some s) ts = cond (is_left_side p) (cond (nat_lt (nesting p) d) (Some (PostfixTree p s, ts)) None) None
@@ -230,6 +254,7 @@ abbrev pub after : ℕ → Tree → List TokenKind → Try
 after d p [] = None
 after d p (k ∷ ts) = after_by d p (step_of k) ts
 
+-- the operand of a cast (JLS 15.16)
 abbrev pub cast_operand : Reader → List TokenKind → Try
 cast_operand R ts = cond (nat_eq (reach_of ts) 0) (R.operand 0 ts) None
 
@@ -243,10 +268,12 @@ abbrev pub least : ℕ → List TokenKind → Try
 least d (Number n ∷ ts) = cond (nat_eq n 2147483648) (cond (nat_lt 1 d) (Some (UnaryTree MinusSign (LiteralTree (NumberLiteral n)), ts)) None) None
 least d _ = None
 
+-- the least number, where no operand was read
 abbrev pub or_least : ℕ → List TokenKind → Try → Try
 or_least d ts None = least d ts
 or_least d ts (Some r) = Some r
 
+-- what has a sign or a step before it (JLS 15.15)
 abbrev pub prefix : Reader → ℕ → List TokenKind → Try
 prefix R d (Minus ∷ ts) = or_least d ts (build (λ e. UnaryTree MinusSign e) (R.operand 0 ts))
 prefix R d (Plus ∷ ts) = build (λ e. UnaryTree PlusSign e) (R.operand 0 ts)
@@ -255,6 +282,7 @@ prefix R d (PlusPlus ∷ ts) = build (λ p. PrefixTree Increment p) (R.left ts)
 prefix R d (MinusMinus ∷ ts) = build (λ p. PrefixTree Decrement p) (R.left ts)
 prefix R d _ = None
 
+-- a primary, what stands behind it, and what it casts; else a sign or a step
 abbrev pub unary : Reader → ℕ → List TokenKind → Try
 unary R d ts = elim (primary R d ts) [ None ↦ prefix R d ts | Some r ↦ extend (cast R) (extend (after d) (Some r)) ]
 
@@ -264,6 +292,7 @@ pub data Sign : Type 0 where
   OperatorSign : (o : BinaryOperator) → Sign
   TestSign : Sign
 
+-- what this token is between operands
 abbrev pub sign : TokenKind → Sign
 sign Star = OperatorSign Multiply
 sign Slash = OperatorSign Divide
@@ -281,10 +310,12 @@ sign OrOr = OperatorSign Or
 sign Instanceof = TestSign
 sign _ = NoSign
 
+-- the class behind `instanceof` (JLS 15.20.2)
 abbrev pub test : Tree → List TokenKind → Try
 test l (Id n ∷ ts) = Some (InstanceOfTree l n, ts)
 test l _ = None
 
+-- what goes on with the operand l by an operator of power k + 1
 abbrev pub grow_by : Reader → ℕ → Tree → Sign → List TokenKind → Try
 grow_by R k l NoSign ts = None
 grow_by R k l (OperatorSign o) ts = cond (nat_eq (power o) (k + 1)) (build (λ r. BinaryTree l o r) (R.operand k ts)) None
@@ -295,21 +326,26 @@ abbrev pub grow : Reader → ℕ → ℕ → Tree → List TokenKind → Try
 grow R d k l [] = None
 grow R d k l (x ∷ ts) = cond (nat_lt (nesting l) d) (grow_by R k l (sign x) ts) None
 
+-- operands of rank at most k + 3
 abbrev pub operand_at : Reader → ℕ → ℕ → List TokenKind → Try
 operand_at R d zero ts = unary R d ts
 operand_at R d (suc k) ts = go_on (grow R d k) d (operand_at R d k ts)
 
+-- `:` and the second branch of a conditional
 abbrev pub choose_end : Reader → Tree → Tree → List TokenKind → Try
 choose_end R c a (Colon ∷ ts) = build (λ b. ConditionalTree c a b) (R.conditional ts)
 choose_end R c a _ = None
 
+-- the branches of a conditional behind its condition (JLS 15.25)
 abbrev pub choose : Reader → ℕ → Tree → List TokenKind → Try
 choose R d c (Question ∷ ts) = cond (nat_lt (nesting c) d) (bind (R.whole ts) (choose_end R c)) None
 choose R d c _ = None
 
+-- a conditional, or what binds more strongly
 abbrev pub conditional_at : Reader → ℕ → List TokenKind → Try
 conditional_at R d ts = extend (choose R d) (operand_at R d 6 ts)
 
+-- the assignment that this token is
 abbrev pub assign_of : TokenKind → Option AssignOperator
 assign_of Assign = Some Simple
 assign_of PlusAssign = Some AddTo
@@ -319,14 +355,17 @@ assign_of SlashAssign = Some DivideBy
 assign_of PercentAssign = Some RemainderBy
 assign_of _ = None
 
+-- an assignment, where there is one and a left side stands before it
 abbrev pub assign_by : Reader → ℕ → Tree → Option AssignOperator → List TokenKind → Try
 assign_by R d l None ts = None
 assign_by R d l (Some o) ts = cond (is_left_side l) (cond (nat_lt (nesting l) d) (build (λ r. AssignTree l o r) (R.whole ts)) None) None
 
+-- an assignment to what stands before it (JLS 15.26)
 abbrev pub assign : Reader → ℕ → Tree → List TokenKind → Try
 assign R d l [] = None
 assign R d l (k ∷ ts) = assign_by R d l (assign_of k) ts
 
+-- any expression
 abbrev pub whole_at : Reader → ℕ → List TokenKind → Try
 whole_at R d ts = extend (assign R d) (conditional_at R d ts)
 
