@@ -2,12 +2,15 @@
 use Rattle.std.specs.Prelude.{List, [], ◌∷◌, Option, Some, None, Vec}
 use Rattle.std.specs.Borrow.{Bor}
 use Rattle.std.specs.declared.alloc.Global.{Global}
+use Rattle.std.specs.Global.{Box}
 use Rattle.jn_trees.specs.declared.token.Token.{Token}
 use Rattle.jn_trees.specs.declared.token.TokenKind.{TokenKind}
+use Rattle.jn_trees.specs.declared.expression.Expr.{Expr}
+use Rattle.jn_trees.specs.declared.statement.Stmt.{Stmt}
 use Rattle.jn_trees.specs.declared.statement.Declarator.{Declarator}
 use Rattle.jn_trees.specs.declared.token.TokenKind.TheVariants.{Id, Final, At}
-use Rattle.jn_trees.specs.Trees.{BaseTree, DeclaratorTree, LocalMark, AnnotationMark, FinalMark}
-use Rattle.jn_trees.specs.View.{declarator_view, declarator_views}
+use Rattle.jn_trees.specs.Trees.{Tree, Trees, Statement, Statements, BaseTree, DeclaratorTree, LocalMark, AnnotationMark, FinalMark}
+use Rattle.jn_trees.specs.View.{view, views, statement_view, statement_views, declarator_view, declarator_views}
 use Rattle.jn_trees.specs.Pieces.{kinds}
 use Rattle.jn_expr_law.specs.Reader.{base_of}
 use Rattle.jn_stmt_law.specs.Parts.{Behind, Read}
@@ -16,6 +19,18 @@ use Rattle.jn_stmt_law.specs.Parts.{Behind, Read}
 abbrev pub seen_as : {A B : Type 0} → (A → B) → Option (A × Bor (List Token)) → Read B
 seen_as v None = None
 seen_as v (Some r) = Some (v r.0, kinds r.1.now)
+
+abbrev pub all_views : Vec Expr Global → Trees
+all_views v = views v.items
+
+abbrev pub boxed_view : Box Stmt → Statement
+boxed_view b = statement_view b.value
+
+abbrev pub boxed_expression : Box Expr → Tree
+boxed_expression b = view b.value
+
+abbrev pub body_views : Vec Stmt Global → Statements
+body_views v = statement_views v.items
 
 abbrev pub seen_declarators : Declarator × Vec Declarator Global × Bor (List Token) → Behind (DeclaratorTree × List DeclaratorTree)
 seen_declarators r = ((declarator_view r.0, declarator_views r.1.items), kinds r.2.now)
