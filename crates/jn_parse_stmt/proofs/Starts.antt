@@ -47,3 +47,7 @@ module _ (whole : List TokenKind → Try) (one : Context → List TokenKind → 
   at_other This ts h1 h2 h3 h4 h5 h6 h7 h8 h9 h10 h11 = absurd (h10 refl)
   at_other Super ts h1 h2 h3 h4 h5 h6 h7 h8 h9 h10 h11 = absurd (h11 refl)
   at_other _ ts h1 h2 h3 h4 h5 h6 h7 h8 h9 h10 h11 = refl
+
+pub same_read : (c : Context) (d : ℕ) (ts : List TokenKind) → read_one d c ts ≡ statement_reader d c ts
+unfolding read_one
+same_read c d ts = refl
