@@ -1,0 +1,7 @@
+pub mod Going
+pub mod Rows
+pub mod Parts
+pub mod Annotated
+pub mod Heads
+pub mod Behind
+pub mod Linked

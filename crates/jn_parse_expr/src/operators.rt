@@ -1,0 +1,166 @@
+// Operators between two operands, and `instanceof` (JLS 15.17 to 15.24).
+
+ghost use Rattle.std.specs.Prelude.{◌≡◌, ◌-◌, ◌≤◌, ◌<◌, ◌^◌, ℕ, IfOk, IfSome, List, [], ◌∷◌};
+ghost use Rattle.jn_trees.specs.Trees.{Tree};
+ghost use Rattle.jn_trees.specs.WellFormed.{nesting, power as weakness};
+ghost use Rattle.jn_trees.specs.View.{view};
+ghost use Rattle.jn_trees.specs.Pieces.{kinds};
+ghost use Rattle.jn_expr_law.specs.Reader.{reader, sign, grow, grow_by, OperatorSign, test};
+ghost use Rattle.jn_parse_expr.specs.Steps.{ReadAs, TailAs, sign_as};
+
+use crate::tail::{Tail, attach, front, larger};
+use crate::unary::read_unary;
+use jn_trees::reading::identifier;
+use jn_trees::{BinaryOperator, Expr, Token, TokenKind};
+use std::alloc::{AllocError, Global};
+
+/// The operator that a token is.
+fn binary_operator(kind: TokenKind) -> Option<BinaryOperator>
+    ensures { sign_as result (sign kind) }
+{
+    match kind {
+        TokenKind::Star => Some(BinaryOperator::Multiply),
+        TokenKind::Slash => Some(BinaryOperator::Divide),
+        TokenKind::Percent => Some(BinaryOperator::Remainder),
+        TokenKind::Plus => Some(BinaryOperator::Add),
+        TokenKind::Minus => Some(BinaryOperator::Subtract),
+        TokenKind::Less => Some(BinaryOperator::Less),
+        TokenKind::Greater => Some(BinaryOperator::Greater),
+        TokenKind::LessEqual => Some(BinaryOperator::LessEqual),
+        TokenKind::GreaterEqual => Some(BinaryOperator::GreaterEqual),
+        TokenKind::EqualEqual => Some(BinaryOperator::Equal),
+        TokenKind::NotEqual => Some(BinaryOperator::NotEqual),
+        TokenKind::AndAnd => Some(BinaryOperator::And),
+        TokenKind::OrOr => Some(BinaryOperator::Or),
+        _ => None,
+    }
+}
+
+/// How weakly an operator binds, from 1 to 6.
+fn power_of(operator: BinaryOperator) -> u32
+    ensures { result ≡ weakness operator }
+{
+    match operator {
+        BinaryOperator::Multiply => 1,
+        BinaryOperator::Divide => 1,
+        BinaryOperator::Remainder => 1,
+        BinaryOperator::Add => 2,
+        BinaryOperator::Subtract => 2,
+        BinaryOperator::Less => 3,
+        BinaryOperator::Greater => 3,
+        BinaryOperator::LessEqual => 3,
+        BinaryOperator::GreaterEqual => 3,
+        BinaryOperator::Equal => 4,
+        BinaryOperator::NotEqual => 4,
+        BinaryOperator::And => 5,
+        BinaryOperator::Or => 6,
+    }
+}
+
+/// The longest operand whose operators have at most this power; with power 0 a unary expression.
+#[cycle(parser)]
+pub fn read_operand(
+    alloc: Global,
+    tokens: &[Token],
+    power: u32,
+    depth: u32,
+) -> Result<Option<(Box<Expr>, u32, &[Token])>, AllocError>
+    requires { power ≤ 6 }
+    ensures { IfOk result (λ o. ReadAs depth o ((reader depth).operand power (kinds tokens.now))) }
+{
+    if depth == 0 {
+        return Ok(None);
+    }
+    if power == 0 {
+        return read_unary(alloc, tokens, depth);
+    }
+    match read_operand(alloc, tokens, power - 1, depth)? {
+        None => Ok(None),
+        Some((first, first_nested, first_rest)) => {
+            let mut left = first;
+            let mut nested = first_nested;
+            let mut rest = first_rest;
+            'operators: loop {
+                match grow_tail(alloc, nested, rest, power - 1, depth)? {
+                    None => return Ok(Some((left, nested, rest))),
+                    Some((tail, deeper, after)) => {
+                        left = attach(alloc, tokens, left, tail, after)?;
+                        nested = deeper;
+                        rest = after;
+                    }
+                }
+            }
+        }
+    }
+}
+
+/// An operator of the next power and its right operand.
+#[cycle(parser)]
+fn grow_tail(
+    alloc: Global,
+    nested: u32,
+    tokens: &[Token],
+    power: u32,
+    depth: u32,
+) -> Result<Option<(Tail, u32, &[Token])>, AllocError>
+    requires { power < 6 }
+    ensures rises { IfOk result (λ o. IfSome o (λ r. nested < r.1)) }
+    ensures gives { IfOk result (λ o. (l : Tree) → nested ≡ nesting l → TailAs depth l o (grow (reader (depth - 1)) depth power l (kinds tokens.now))) }
+{
+    match front(tokens) {
+        None => Ok(None),
+        Some((first, rest)) => {
+            if nested >= depth {
+                return Ok(None);
+            }
+            match binary_operator(first) {
+                Some(operator) => operand_tail(alloc, operator, nested, rest, power, depth),
+                None => {
+                    if first == TokenKind::Instanceof && power == 2 {
+                        Ok(class_tail(nested, rest))
+                    } else {
+                        Ok(None)
+                    }
+                }
+            }
+        }
+    }
+}
+
+/// The right operand of an operator.
+#[cycle(parser)]
+fn operand_tail(
+    alloc: Global,
+    operator: BinaryOperator,
+    nested: u32,
+    tokens: &[Token],
+    power: u32,
+    depth: u32,
+) -> Result<Option<(Tail, u32, &[Token])>, AllocError>
+    requires small { power < 6 }
+    requires room { nested < depth }
+    ensures rises { IfOk result (λ o. IfSome o (λ r. nested < r.1)) }
+    ensures gives { IfOk result (λ o. (l : Tree) → nested ≡ nesting l → TailAs depth l o (grow_by (reader (depth - 1)) power l (OperatorSign operator) (kinds tokens.now))) }
+{
+    if power_of(operator) != power + 1 {
+        return Ok(None);
+    }
+    match read_operand(alloc, tokens, power, depth - 1)? {
+        None => Ok(None),
+        Some((right, deeper, rest)) => Ok(Some((
+            Tail::Operand(operator, right),
+            larger(nested, deeper) + 1,
+            rest,
+        ))),
+    }
+}
+
+/// The class behind `instanceof`.
+fn class_tail(nested: u32, tokens: &[Token]) -> Option<(Tail, u32, &[Token])>
+    requires { nested < 2 ^ 32 - 1 }
+    ensures rises { IfSome result (λ r. nested < r.1) }
+    ensures gives { (l : Tree) (d : ℕ) → nested ≡ nesting l → nested < d → TailAs d l result (test l (kinds tokens.now)) }
+{
+    let (class, rest) = identifier(tokens)?;
+    Some((Tail::Class(class), nested + 1, rest))
+}
