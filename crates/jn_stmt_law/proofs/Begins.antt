@@ -1,9 +1,9 @@
 -- What expressions begin with: neither a declaration of locals nor a call of a constructor, nor a word of a statement.
-use Rattle.std.proofs.Common.{◌≡◌, ℕ, List, [], ◌∷◌, ◌++◌, refl, sym, ap, ◌∙◌, append_assoc, Option, Some, None, Bool, true, false}
+use Rattle.std.proofs.Common.{◌≡◌, List, [], ◌∷◌, ◌++◌, refl, ap, ◌∙◌, append_assoc, Some, None, Bool, true, false}
 use Rattle.std.specs.Prelude.{not}
 use Rattle.jn_base.specs.declared.number.NameNo.{NameNo}
 use Rattle.jn_trees.specs.declared.token.TokenKind.{TokenKind}
-use Rattle.jn_trees.specs.declared.token.TokenKind.TheVariants.{Id, Str, Number, Boolean, Break, Continue, Do, Final, For, If, Int, New, Return, Super, This, While, True, False, Null, LeftParen, RightParen, LeftBrace, RightBrace, LeftBracket, RightBracket, Semicolon, Dot, At, Not, Instanceof, Question, Colon, PlusPlus, MinusMinus, Plus, Minus}
+use Rattle.jn_trees.specs.declared.token.TokenKind.TheVariants.{Id, Str, Number, Boolean, Break, Continue, Do, Final, For, If, Int, New, Return, Super, This, While, True, False, Null, LeftParen, RightParen, LeftBrace, LeftBracket, RightBracket, Semicolon, Dot, At, Not, Instanceof, Question, Colon, PlusPlus, MinusMinus, Plus, Minus}
 use Rattle.jn_trees.specs.declared.expression.Literal.TheVariants.{Number as NumberLiteral, Str as StrLiteral, True as TrueLiteral, False as FalseLiteral, Null as NullLiteral}
 use Rattle.jn_trees.specs.declared.expression.UnaryOperator.TheVariants.{Plus as PlusSign, Minus as MinusSign, Not as NotSign}
 use Rattle.jn_trees.specs.declared.expression.Step.{Step}
@@ -13,7 +13,7 @@ use Rattle.jn_trees.specs.declared.expression.BinaryOperator.TheVariants.{Multip
 use Rattle.jn_trees.specs.declared.expression.AssignOperator.{AssignOperator}
 use Rattle.jn_trees.specs.declared.expression.AssignOperator.TheVariants.{Assign as Simple, Add as AddTo, Subtract as SubtractFrom, Multiply as MultiplyBy, Divide as DivideBy, Remainder as RemainderBy}
 use Rattle.jn_trees.specs.declared.context.Context.{Context}
-use Rattle.jn_trees.specs.Trees.{Tree, Trees, LiteralTree, NameTree, ThisTree, ParenTree, FieldTree, CallTree, OwnCallTree, SuperCallTree, IndexTree, NewTree, NewArrayTree, ArrayOfTree, PostfixTree, PrefixTree, UnaryTree, CastTree, BinaryTree, InstanceOfTree, ConditionalTree, AssignTree, NoTrees}
+use Rattle.jn_trees.specs.Trees.{Tree, LiteralTree, NameTree, ThisTree, FieldTree, CallTree, IndexTree, PostfixTree, PrefixTree, UnaryTree, BinaryTree, InstanceOfTree, ConditionalTree, AssignTree}
 use Rattle.jn_trees.specs.Spelling.{step_token, operator_token, assign_token, spell, spell_list}
 use Rattle.jn_trees.specs.Longest.{Try, TryStatement}
 use Rattle.jn_expr_law.specs.Reader.{bind_items, all_items, close_arguments, arguments_in}
@@ -102,7 +102,7 @@ begins_tree (CallTree p n es) rest q = along p (Dot ∷ Id n ∷ LeftParen ∷ s
 begins_tree (IndexTree p e) rest q =
     let inside = (spell e ++ RightBracket ∷ []) ++ rest in
     along p (LeftBracket ∷ (spell e ++ RightBracket ∷ [])) rest
-      (begins_tree p (LeftBracket ∷ inside) (quiet_index inside (along e (RightBracket ∷ []) rest (begins_tree e (RightBracket ∷ rest) (refl, refl)))))
+    (begins_tree p (LeftBracket ∷ inside) (quiet_index inside (along e (RightBracket ∷ []) rest (begins_tree e (RightBracket ∷ rest) (refl, refl)))))
 begins_tree (PostfixTree p s) rest q = along p (step_token s ∷ []) rest (begins_tree p (step_token s ∷ rest) (quiet_step s rest))
 begins_tree (PrefixTree Increment p) rest q = refl
 begins_tree (PrefixTree Decrement p) rest q = refl

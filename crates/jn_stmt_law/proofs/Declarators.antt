@@ -1,11 +1,11 @@
 -- Declarators and declarations of locals: what is read spells the front, and what is spelled is read.
-use Rattle.std.proofs.Common.{◌≡◌, ℕ, zero, suc, ◌+◌, ◌<◌, ◌≤◌, max, List, [], ◌∷◌, ◌++◌, length, refl, sym, ap, ◌∙◌, arith, append_assoc, length-append, Option, Some, None, true, false}
+use Rattle.std.proofs.Common.{◌≡◌, ℕ, zero, suc, ◌<◌, ◌≤◌, List, [], ◌∷◌, ◌++◌, length, refl, sym, ap, ◌∙◌, arith, append_assoc, length-append, Option, Some, None, false}
 use Rattle.jn_base.specs.declared.number.NameNo.{NameNo}
 use Rattle.jn_trees.specs.declared.token.TokenKind.{TokenKind}
 use Rattle.jn_trees.specs.declared.token.TokenKind.TheVariants.{Id, Comma, Assign}
 use Rattle.jn_trees.specs.Trees.{Tree, DeclaratorTree, LocalTree, ParameterTree}
 use Rattle.jn_trees.specs.Spelling.{spell, spell_marks, spell_type_use, spell_value, spell_declarator, spell_more_declarators, spell_local, spell_parameter}
-use Rattle.jn_trees.specs.WellFormed.{GoodOptional, nesting_optional, final_once, GoodDeclarators, nesting_declarators, GoodLocal, nesting_local}
+use Rattle.jn_trees.specs.WellFormed.{GoodOptional, nesting_optional, GoodDeclarators, nesting_declarators, GoodLocal, nesting_local}
 use Rattle.jn_trees.specs.Longest.{Try}
 use Rattle.jn_expr_law.specs.Follow.{reach_of}
 use Rattle.jn_expr_law.proofs.Sound.{Sound}
@@ -62,7 +62,7 @@ far_more [] rest far = far
 far_more (x ∷ ds) rest far = omega arith
 
 more_exact : (d : ℕ) (whole : List TokenKind → Try) → Whole d whole → (ds : List DeclaratorTree) (n : ℕ) (rest : List TokenKind) → GoodDeclarators ds → nesting_declarators ds ≤ d → EndsDeclarators rest → length ds ≤ n
-  → more_declarators whole n (spell_more_declarators ds ++ rest) ≡ (ds, rest)
+    → more_declarators whole n (spell_more_declarators ds ++ rest) ≡ (ds, rest)
 more_exact d whole w [] n rest g m ends le = no_more whole n rest ends.1
 more_exact d whole w (x ∷ ds) zero rest g m ends le = absurd (omega (arith, le))
 more_exact d whole w (x ∷ ds) (suc n) rest g m ends le =
@@ -97,14 +97,14 @@ declarators_sound d whole w _ = tt
 
 -- from what stands behind the first name
 pub declarators_behind_exact : (d : ℕ) (whole : List TokenKind → Try) → Whole d whole → (x : DeclaratorTree) (ds : List DeclaratorTree) (rest : List TokenKind) → GoodDeclarators (x ∷ ds) → nesting_declarators (x ∷ ds) ≤ d → EndsDeclarators rest
-  → declarators_behind whole x.name (spell_value x.value ++ (spell_more_declarators ds ++ rest)) ≡ ((x, ds), rest)
+    → declarators_behind whole x.name (spell_value x.value ++ (spell_more_declarators ds ++ rest)) ≡ ((x, ds), rest)
 declarators_behind_exact d whole w x ds rest g m ends =
     let tail = spell_more_declarators ds ++ rest in
     ap (λ v. first_and_more (declarator x.name v) (all_declarators whole)) (value_exact d whole w x.value tail g.0 (omega (arith, m)) (far_more ds rest ends.0))
     ∙ ap (λ (r : Behind (List DeclaratorTree)). ((x, r.0), r.1)) (all_exact d whole w ds rest g.1 (omega (arith, m)) ends)
 
 pub declarators_exact : (d : ℕ) (whole : List TokenKind → Try) → Whole d whole → (x : DeclaratorTree) (ds : List DeclaratorTree) (rest : List TokenKind) → GoodDeclarators (x ∷ ds) → nesting_declarators (x ∷ ds) ≤ d → EndsDeclarators rest
-  → read_declarators whole (spell_declarators (x, ds) ++ rest) ≡ Some ((x, ds), rest)
+    → read_declarators whole (spell_declarators (x, ds) ++ rest) ≡ Some ((x, ds), rest)
 declarators_exact d whole w x ds rest g m ends =
     ap (λ y. Some (declarators_behind whole x.name y)) (append_assoc (spell_value x.value) (spell_more_declarators ds) rest) ∙ ap (λ r. Some r) (declarators_behind_exact d whole w x ds rest g m ends)
 
@@ -112,11 +112,13 @@ declarators_exact d whole w x ds rest g m ends =
 pub local_behind_sound : (d : ℕ) (whole : List TokenKind → Try) → Whole d whole → (us : List TokenKind) (p : ParameterTree) (ts : List TokenKind) → SoundParameter us (Some (p, ts)) → SoundLocal d us (Some (local_behind whole p ts))
 local_behind_sound d whole w us p ts h =
     let k = declarators_behind_sound d whole w p.name ts in
-    let r = declarators_behind whole p.name ts in
-    (h.0 ∙ regroup (spell_marks p.marks) (spell_type_use p.type_use) (Id p.name ∷ []) ts
-     ∙ ap (λ y. spell_marks p.marks ++ (spell_type_use p.type_use ++ y)) k.0
-     ∙ sym (regroup (spell_marks p.marks) (spell_type_use p.type_use) (spell_declarators r.0) r.1),
-     (h.1, k.1), k.2)
+    let r = declarators_behind whole p.name ts in (
+      h.0 ∙ regroup (spell_marks p.marks) (spell_type_use p.type_use) (Id p.name ∷ []) ts
+          ∙ ap (λ y. spell_marks p.marks ++ (spell_type_use p.type_use ++ y)) k.0
+          ∙ sym (regroup (spell_marks p.marks) (spell_type_use p.type_use) (spell_declarators r.0) r.1),
+      (h.1, k.1),
+      k.2,
+    )
   where
     regroup : (a b c e : List TokenKind) → (a ++ (b ++ c)) ++ e ≡ a ++ (b ++ (c ++ e))
     regroup a b c e = simp (append_assoc) refl

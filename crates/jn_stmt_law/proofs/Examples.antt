@@ -2,10 +2,10 @@
 use Rattle.std.specs.Prelude.{◌≡◌, [], ◌∷◌, Some, None, true, false}
 use Rattle.std.proofs.Common.{refl}
 use Rattle.jn_base.specs.declared.number.NameNo.{NameNo}
-use Rattle.jn_trees.specs.declared.token.TokenKind.TheVariants.{Id, Boolean, Break, Do, Else, Final, For, If, Int, Super, This, While, LeftParen, RightParen, LeftBrace, RightBrace, LeftBracket, RightBracket, Semicolon, Comma, Dot, At, Assign, Colon, PlusPlus}
+use Rattle.jn_trees.specs.declared.token.TokenKind.TheVariants.{Id, Break, Do, Else, Final, For, If, Int, Super, This, While, LeftParen, RightParen, LeftBrace, RightBrace, LeftBracket, RightBracket, Semicolon, Comma, Dot, At, Assign, Colon, PlusPlus}
 use Rattle.jn_trees.specs.declared.expression.Step.TheVariants.{Increment}
 use Rattle.jn_trees.specs.declared.expression.AssignOperator.TheVariants.{Assign as Simple}
-use Rattle.jn_trees.specs.Trees.{ClassBase, IntBase, NameTree, IndexTree, PostfixTree, AssignTree, SuperCallTree, NoTrees, MoreTrees, AnnotationMark, FinalMark, ExpressionsInit, DeclarationInit, BlockStatement, EmptyStatement, ExpressionStatement, BreakStatement, LocalStatement, IfStatement, IfElseStatement, WhileStatement, DoStatement, ForStatement, ForEachStatement, ThisCallStatement, NoStatements, MoreStatements}
+use Rattle.jn_trees.specs.Trees.{ClassBase, IntBase, NameTree, IndexTree, PostfixTree, AssignTree, SuperCallTree, NoTrees, MoreTrees, AnnotationMark, FinalMark, ExpressionsInit, DeclarationInit, BlockStatement, EmptyStatement, ExpressionStatement, BreakStatement, LocalStatement, IfStatement, IfElseStatement, DoStatement, ForStatement, ForEachStatement, ThisCallStatement, NoStatements, MoreStatements}
 use Rattle.jn_trees.specs.WellFormed.{body_context, loop_body}
 use Rattle.jn_expr_law.specs.Reader.{all_items}
 use Rattle.jn_stmt_law.specs.Parts.{all_declarators}
@@ -13,7 +13,7 @@ use Rattle.jn_stmt_law.specs.StatementReader.{read_block, statement_reader}
 
 -- `if (a) if (b) ; else ;`: the `else` goes with the last `if`
 last_if : (a b : NameNo) → statement_reader 9 (body_context false) (If ∷ LeftParen ∷ Id a ∷ RightParen ∷ If ∷ LeftParen ∷ Id b ∷ RightParen ∷ Semicolon ∷ Else ∷ Semicolon ∷ [])
-  ≡ Some (IfStatement (NameTree a) (IfElseStatement (NameTree b) EmptyStatement EmptyStatement), [])
+    ≡ Some (IfStatement (NameTree a) (IfElseStatement (NameTree b) EmptyStatement EmptyStatement), [])
 last_if a b = refl
 
 -- `if (a) ; else {;}` at nesting 2, and `if (a) ; else else`: the `if` alone
@@ -26,7 +26,7 @@ no_other a = refl
 
 -- `a[] x, y = z;` declares, and `a[x] = y;` assigns
 declared : (a x y z : NameNo) → statement_reader 9 (body_context false) (Id a ∷ LeftBracket ∷ RightBracket ∷ Id x ∷ Comma ∷ Id y ∷ Assign ∷ Id z ∷ Semicolon ∷ [])
-  ≡ Some (LocalStatement (record { marks = []; type_use = record { base = ClassBase a; array = Some [] }; first = record { name = x; value = None }; more = record { name = y; value = Some (NameTree z) } ∷ [] }), [])
+    ≡ Some (LocalStatement (record { marks = []; type_use = record { base = ClassBase a; array = Some [] }; first = record { name = x; value = None }; more = record { name = y; value = Some (NameTree z) } ∷ [] }), [])
 unfolding all_declarators
 declared a x y z = refl
 
@@ -35,7 +35,7 @@ assigned a x y = refl
 
 -- `final @A int @B [] x;`, and not with `final` twice
 marked : (a b x : NameNo) → statement_reader 9 (body_context false) (Final ∷ At ∷ Id a ∷ Int ∷ At ∷ Id b ∷ LeftBracket ∷ RightBracket ∷ Id x ∷ Semicolon ∷ [])
-  ≡ Some (LocalStatement (record { marks = FinalMark ∷ AnnotationMark a ∷ []; type_use = record { base = IntBase; array = Some (b ∷ []) }; first = record { name = x; value = None }; more = [] }), [])
+    ≡ Some (LocalStatement (record { marks = FinalMark ∷ AnnotationMark a ∷ []; type_use = record { base = IntBase; array = Some (b ∷ []) }; first = record { name = x; value = None }; more = [] }), [])
 unfolding all_declarators
 marked a b x = refl
 
@@ -59,7 +59,7 @@ each : (a x y : NameNo) → statement_reader 9 (body_context false) (For ∷ Lef
 each a x y = refl
 
 counted : (a x y : NameNo) → statement_reader 9 (body_context false) (For ∷ LeftParen ∷ Id a ∷ Id x ∷ Assign ∷ Id y ∷ Semicolon ∷ Semicolon ∷ Id x ∷ PlusPlus ∷ RightParen ∷ Semicolon ∷ [])
-  ≡ Some (ForStatement (DeclarationInit (record { marks = []; type_use = record { base = ClassBase a; array = None }; first = record { name = x; value = Some (NameTree y) }; more = [] })) None (MoreTrees (PostfixTree (NameTree x) Increment) NoTrees) EmptyStatement, [])
+    ≡ Some (ForStatement (DeclarationInit (record { marks = []; type_use = record { base = ClassBase a; array = None }; first = record { name = x; value = Some (NameTree y) }; more = [] })) None (MoreTrees (PostfixTree (NameTree x) Increment) NoTrees) EmptyStatement, [])
 unfolding all_declarators all_items
 counted a x y = refl
 

@@ -1,12 +1,12 @@
 -- Annotations, marks, type uses and parameters: what is read spells the front, and what is spelled is read.
-use Rattle.std.proofs.Common.{◌≡◌, ℕ, List, [], ◌∷◌, ◌++◌, refl, sym, ap, ◌∙◌, append_assoc, Option, Some, None, Bool, true, false, cond}
+use Rattle.std.proofs.Common.{◌≡◌, List, [], ◌∷◌, ◌++◌, refl, sym, ap, ◌∙◌, append_assoc, Option, Some, None, Bool, true, false, cond}
 use Rattle.jn_base.specs.declared.number.NameNo.{NameNo}
 use Rattle.jn_trees.specs.declared.token.TokenKind.{TokenKind}
 use Rattle.jn_trees.specs.declared.token.TokenKind.TheVariants.{Id, Final, Int, Boolean, LeftBracket, RightBracket, At}
 use Rattle.jn_trees.specs.Trees.{BaseTree, ClassBase, IntBase, BooleanBase, LocalMark, AnnotationMark, FinalMark, TypeUseTree, ParameterTree}
 use Rattle.jn_trees.specs.Spelling.{base_token, spell_annotations, spell_marks, spell_brackets, spell_type_use, spell_parameter}
 use Rattle.jn_trees.specs.WellFormed.{final_once}
-use Rattle.jn_expr_law.specs.Reader.{add_annotation, annotations, base_of}
+use Rattle.jn_expr_law.specs.Reader.{add_annotation, base_of}
 use Rattle.jn_expr_law.proofs.Sound.{annotations_spell}
 use Rattle.jn_stmt_law.specs.Parts.{Behind, Read, then_read, put, read_annotations, read_marks, brackets_or, read_brackets, use_of, type_use_from, read_type_use, named, parameter_from, read_parameter}
 use Rattle.jn_stmt_law.specs.Fronts.{starts_annotation, starts_mark, starts_brackets, Spelled, SpelledIfRead, SoundParameter}
@@ -61,7 +61,7 @@ brackets_exact None rest h = no_brackets rest h
 brackets_exact (Some names) rest h =
     let us = (spell_annotations names ++ LeftBracket ∷ RightBracket ∷ []) ++ rest in
     ap (λ (r : Behind (List NameNo)). brackets_or us r.0 r.1)
-      (ap read_annotations (append_assoc (spell_annotations names) (LeftBracket ∷ RightBracket ∷ []) rest) ∙ annotations_exact names (LeftBracket ∷ RightBracket ∷ rest) refl)
+    (ap read_annotations (append_assoc (spell_annotations names) (LeftBracket ∷ RightBracket ∷ []) rest) ∙ annotations_exact names (LeftBracket ∷ RightBracket ∷ rest) refl)
 
 base_is : (b : BaseTree) → base_of (base_token b) ≡ Some b
 base_is (ClassBase n) = refl

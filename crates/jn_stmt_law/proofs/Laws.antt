@@ -1,11 +1,11 @@
 -- What the statement reader reads is the longest, and a token list has one statement.
-use Rattle.std.proofs.Common.{◌≡◌, ℕ, ◌≤◌, max, List, [], ◌++◌, length, take, drop, refl, sym, ap, ◌∙◌, subst, arith, length-append, Some, None, true, false}
+use Rattle.std.proofs.Common.{◌≡◌, ℕ, ◌≤◌, max, List, [], ◌++◌, length, take, drop, refl, sym, ap, ◌∙◌, subst, arith, length-append, Some, None, true}
 use Rattle.std.proofs.Math.Seq.{take-append_seam, drop-append_seam}
 use Rattle.jn_trees.specs.declared.token.TokenKind.{TokenKind}
 use Rattle.jn_trees.specs.declared.context.Context.{Context}
 use Rattle.jn_trees.specs.Trees.{Statement}
 use Rattle.jn_trees.specs.Spelling.{spell_statement}
-use Rattle.jn_trees.specs.WellFormed.{nesting_statement, GoodStatement, ends_open}
+use Rattle.jn_trees.specs.WellFormed.{nesting_statement, GoodStatement}
 use Rattle.jn_trees.specs.Longest.{TryStatement, StatementFront, IsLongestStatement}
 use Rattle.jn_expr_law.specs.Reader.{reader}
 use Rattle.jn_expr_law.proofs.Sound.{sound}
@@ -32,7 +32,7 @@ longest_of c d ts (Some r) h k = (h, λ s rest g. (k s rest g).0)
 pub longest : (c : Context) (d : ℕ) (ts : List TokenKind) → IsLongestStatement c d ts (statement_reader d c ts)
 longest c d ts =
     longest_of c d ts (statement_reader d c ts) (statement_sound d c ts)
-      (λ s rest g. subst (λ x. ReadsStatement s rest (statement_reader d c x)) (sym g.0) (reads c d s rest g.1 g.2))
+    (λ s rest g. subst (λ x. ReadsStatement s rest (statement_reader d c x)) (sym g.0) (reads c d s rest g.1 g.2))
 
 abbrev statement_of : Statement → TryStatement → Statement
 statement_of s None = s

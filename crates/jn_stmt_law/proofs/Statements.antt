@@ -1,16 +1,16 @@
 -- What a well-formed statement spells is read, and as far as it goes.
-use Rattle.std.proofs.Common.{◌≡◌, ℕ, zero, suc, ◌+◌, ◌<◌, ◌≤◌, max, List, [], ◌∷◌, ◌++◌, length, refl, sym, ap, ◌∙◌, subst, arith, append_assoc, length-append, Option, Some, None, Bool, true, false, cond, ◌&&◌}
+use Rattle.std.proofs.Common.{◌≡◌, ℕ, zero, suc, ◌<◌, ◌≤◌, List, [], ◌∷◌, ◌++◌, length, refl, sym, ap, ◌∙◌, subst, arith, append_assoc, length-append, Option, Some, None, Bool, true, false, cond, ◌&&◌}
 use Rattle.jn_trees.specs.declared.token.TokenKind.{TokenKind}
-use Rattle.jn_trees.specs.declared.token.TokenKind.TheVariants.{Id, Else, While, LeftParen, RightParen, LeftBrace, RightBrace, Semicolon, Colon, If, For}
+use Rattle.jn_trees.specs.declared.token.TokenKind.TheVariants.{Id, Else, While, LeftParen, RightParen, RightBrace, Semicolon, Colon}
 use Rattle.jn_trees.specs.declared.context.Context.{Context}
-use Rattle.jn_trees.specs.Trees.{BaseTree, ClassBase, IntBase, BooleanBase, Tree, Trees, NoTrees, MoreTrees, LocalMark, AnnotationMark, FinalMark, TypeUseTree, DeclaratorTree, LocalTree, ParameterTree, InitTree, ExpressionsInit, DeclarationInit, Statement, Statements, BlockStatement, EmptyStatement, ExpressionStatement, BreakStatement, ContinueStatement, ReturnStatement, LocalStatement, IfStatement, IfElseStatement, WhileStatement, DoStatement, ForStatement, ForEachStatement, ThisCallStatement, SuperCallStatement, NoStatements, MoreStatements}
+use Rattle.jn_trees.specs.Trees.{BaseTree, ClassBase, IntBase, BooleanBase, Tree, Trees, NoTrees, MoreTrees, LocalMark, AnnotationMark, FinalMark, DeclaratorTree, LocalTree, ParameterTree, InitTree, ExpressionsInit, DeclarationInit, Statement, Statements, BlockStatement, EmptyStatement, ExpressionStatement, BreakStatement, ContinueStatement, ReturnStatement, LocalStatement, IfStatement, IfElseStatement, WhileStatement, DoStatement, ForStatement, ForEachStatement, ThisCallStatement, SuperCallStatement, NoStatements, MoreStatements}
 use Rattle.jn_trees.specs.Spelling.{base_token, spell, spell_list, spell_more, spell_marks, spell_brackets, spell_type_use, spell_value, spell_declarator, spell_more_declarators, spell_local, spell_parameter, spell_init, spell_optional, spell_statement, spell_body}
-use Rattle.jn_trees.specs.WellFormed.{Good, AllGood, nesting, nesting_all, is_effect, GoodEffects, GoodOptional, nesting_optional, final_once, GoodLocal, nesting_local, GoodInit, nesting_init, nesting_statement, nesting_body, ends_open, under, in_block, loop_body, GoodStatement, GoodStatements}
+use Rattle.jn_trees.specs.WellFormed.{Good, AllGood, nesting, nesting_all, is_effect, GoodEffects, GoodOptional, nesting_optional, GoodLocal, nesting_local, GoodInit, nesting_init, nesting_statement, nesting_body, ends_open, under, in_block, loop_body, GoodStatement, GoodStatements}
 use Rattle.jn_trees.specs.Longest.{Try, TryStatement}
 use Rattle.jn_expr_law.specs.Reader.{arguments_in}
-use Rattle.jn_stmt_law.specs.Parts.{Behind, Read, then_read, ended, closed, read_parameter, local_behind, are_effects, if_effects, read_initial, read_optional}
+use Rattle.jn_stmt_law.specs.Parts.{then_read, ended, closed, read_parameter, local_behind, are_effects, if_effects, read_initial, read_optional}
 use Rattle.jn_stmt_law.specs.Fronts.{starts_else, ReadsStatement}
-use Rattle.jn_stmt_law.specs.StatementReader.{around, in_parens, effect_statement, local_statement, simple_from, simple, loop_word, return_statement, constructor_call, with_else, if_end, if_statement, while_statement, do_end, do_statement, for_each, for_rest, for_local, for_named, for_from, for_statement, block_from, read_block, block_statement, statement_at, statement_by}
+use Rattle.jn_stmt_law.specs.StatementReader.{around, in_parens, effect_statement, local_statement, simple_from, simple, loop_word, return_statement, constructor_call, with_else, if_end, if_statement, while_statement, do_end, do_statement, for_rest, for_local, for_named, for_from, for_statement, block_from, read_block, block_statement, statement_at, statement_by}
 use Rattle.jn_stmt_law.proofs.Begins.{begins, begins_tree, no_parameter, simple_there, optional_there}
 use Rattle.jn_stmt_law.proofs.Fronts.{parameter_exact}
 use Rattle.jn_stmt_law.proofs.Wholes.{Whole, exact_tree, arguments_exact, initial_exact, begins_list, quiet_semicolon}
@@ -114,7 +114,7 @@ base_there whole one c IntBase ts = refl
 base_there whole one c BooleanBase ts = refl
 
 local_there : (whole : List TokenKind → Try) (one : Context → List TokenKind → TryStatement) (c : Context) (marks : List LocalMark) (b : BaseTree) (tail rest : List TokenKind)
-  → statement_at whole one c ((spell_marks marks ++ base_token b ∷ tail) ++ rest) ≡ simple whole c.direct ((spell_marks marks ++ base_token b ∷ tail) ++ rest)
+    → statement_at whole one c ((spell_marks marks ++ base_token b ∷ tail) ++ rest) ≡ simple whole c.direct ((spell_marks marks ++ base_token b ∷ tail) ++ rest)
 local_there whole one c [] b tail rest = base_there whole one c b (tail ++ rest)
 local_there whole one c (AnnotationMark n ∷ marks) b tail rest = refl
 local_there whole one c (FinalMark ∷ marks) b tail rest = refl
@@ -156,22 +156,26 @@ if_stops one e s _ h = refl
 if_reads : (one : List TokenKind → TryStatement) → ((ts : List TokenKind) → Shorter ts (one ts)) → (e : Tree) (s : Statement) (rest : List TokenKind) (o : TryStatement) → ReadsStatement s rest o → ReadsStatement (IfStatement e s) rest (then_read o (if_end one e))
 if_reads one h e s rest None f = absurd f
 if_reads one h e s rest (Some r) f =
-    (elim (if_end one e r.0 r.1) as (λ o. Shorter r.1 o → if_end one e r.0 r.1 ≡ o → IsThere o → ReadsStatement (IfStatement e s) rest o)
-      [ None ↦ λ _ _ none. absurd none
-      | Some q ↦ λ short is _. (omega (arith, short, f.0), λ ends.
-          let plain : starts_else rest ≡ true → ⊥ = λ x. (let none : true ≡ false = ends x in cc) in
-          let same : r ≡ (s, rest) = f.1 (λ x. absurd (plain x)) in
-          let end : if_end one e r.0 r.1 ≡ Some (IfStatement e s, rest) = ap (λ (x : Statement × List TokenKind). if_end one e x.0 x.1) same ∙ if_stops one e s rest plain in
-          let both : ◌≡◌ {A = TryStatement} (Some q) (Some (IfStatement e s, rest)) = sym is ∙ end in
-          cc) ])
+    (elim (if_end one e r.0 r.1) as (λ o. Shorter r.1 o → if_end one e r.0 r.1 ≡ o → IsThere o → ReadsStatement (IfStatement e s) rest o) [
+      | None ↦ λ _ _ none. absurd none
+      | Some q ↦ λ short is _. (
+        omega (arith, short, f.0),
+        λ ends.
+            let plain : starts_else rest ≡ true → ⊥ = λ x. (let none : true ≡ false = ends x in cc) in
+            let same : r ≡ (s, rest) = f.1 (λ x. absurd (plain x)) in
+            let end : if_end one e r.0 r.1 ≡ Some (IfStatement e s, rest) = ap (λ (x : Statement × List TokenKind). if_end one e x.0 x.1) same ∙ if_stops one e s rest plain in
+            let both : ◌≡◌ {A = TryStatement} (Some q) (Some (IfStatement e s, rest)) = sym is ∙ end in
+            cc,
+      )
+    ])
     (if_shorter one h e r.0 r.1) refl (if_there one e r.0 r.1)
 
 if_else_reads : (one : List TokenKind → TryStatement) (e : Tree) (s u : Statement) (rest : List TokenKind) → ends_open s ≡ false → ReadsStatement u rest (one (spell_statement u ++ rest)) → ReadsStatement (IfElseStatement e s u) rest (if_end one e s (Else ∷ (spell_statement u ++ rest)))
 if_else_reads one e s u rest ends f =
     let ts = spell_statement u ++ rest in
     subst (λ o. ReadsStatement (IfElseStatement e s u) rest o) (sym (ap (λ b. cond b (Some (IfStatement e s, Else ∷ ts)) (with_else e s ts (one ts))) ends))
-      ((elim (one ts) as (λ o. ReadsStatement u rest o → ReadsStatement (IfElseStatement e s u) rest (with_else e s ts o))
-        [ None ↦ λ x. absurd x | Some r ↦ λ x. (x.0, λ k. ap (λ (y : Statement × List TokenKind). (IfElseStatement e s y.0, y.1)) (x.1 k)) ]) f)
+    ((elim (one ts) as (λ o. ReadsStatement u rest o → ReadsStatement (IfElseStatement e s u) rest (with_else e s ts o))
+    [ None ↦ λ x. absurd x | Some r ↦ λ x. (x.0, λ k. ap (λ (y : Statement × List TokenKind). (IfElseStatement e s y.0, y.1)) (x.1 k)) ]) f)
 
 -- statements one level deeper
 pub record Inner (d : ℕ) (one : Context → List TokenKind → TryStatement) : Type 0 where
@@ -226,7 +230,7 @@ module _ (d : ℕ) (whole : List TokenKind → Try) (w : Whole d whole) where
 
   -- what a `for` begins with
   no_colon : (one : List TokenKind → TryStatement) (p : ParameterTree) (v : Option Tree) (ds : List DeclaratorTree) (rest : List TokenKind)
-    → for_named whole one p (spell_value v ++ (spell_more_declarators ds ++ Semicolon ∷ rest)) ≡ for_local whole one (local_behind whole p (spell_value v ++ (spell_more_declarators ds ++ Semicolon ∷ rest)))
+      → for_named whole one p (spell_value v ++ (spell_more_declarators ds ++ Semicolon ∷ rest)) ≡ for_local whole one (local_behind whole p (spell_value v ++ (spell_more_declarators ds ++ Semicolon ∷ rest)))
   no_colon one p None [] rest = refl
   no_colon one p None (x ∷ ds) rest = refl
   no_colon one p (Some e) ds rest = refl
@@ -246,7 +250,7 @@ module _ (d : ℕ) (whole : List TokenKind → Try) (w : Whole d whole) where
       ∙ ap (λ r. for_local whole one r) (local_behind_exact d whole w l us g m (omega arith, refl))
 
   rest_exact : (one : List TokenKind → TryStatement) (i : InitTree) (e : Option Tree) (es : Trees) (rest : List TokenKind) → GoodOptional e → nesting_optional e ≤ d → GoodEffects es → nesting_all es ≤ d
-    → for_rest whole one i (spell_optional e ++ Semicolon ∷ (spell_list RightParen es ++ rest)) ≡ around (ForStatement i e es) (one rest)
+      → for_rest whole one i (spell_optional e ++ Semicolon ∷ (spell_list RightParen es ++ rest)) ≡ around (ForStatement i e es) (one rest)
   rest_exact one i e es rest g m k n =
       ap (λ o. then_read o (λ c us. then_read (then_read (arguments_in whole us) if_effects) (λ es vs. around (ForStatement i c es) (one vs)))) (optional_exact e (spell_list RightParen es ++ rest) g m)
       ∙ ap (λ o. then_read o (λ es vs. around (ForStatement i e es) (one vs))) (effects_exact es rest k n)
@@ -263,7 +267,7 @@ module _ (d : ℕ) (whole : List TokenKind → Try) (w : Whole d whole) where
         ap (λ x. block_from (one c) (suc n) x) (append_assoc (spell_statement s) (spell_body ss) rest)
         ∙ block_step (one c) n (spell_statement s ++ more) (statement_stands s more)
         ∙ ap (λ o. then_read o (λ t us. then_read (block_from (one c) n us) (λ ts vs. Some (MoreStatements t ts, vs))))
-            (exactly s more (one c (spell_statement s ++ more)) (r.reads c s more g.0 (omega (arith, m))) (quiet s more (body_quiet ss rest)))
+        (exactly s more (one c (spell_statement s ++ more)) (r.reads c s more g.0 (omega (arith, m))) (quiet s more (body_quiet ss rest)))
         ∙ ap (λ o. then_read o (λ ts vs. Some (MoreStatements s ts, vs))) (block_exact c ss n rest g.1 (omega (arith, m)) (omega (arith, lt)))
 
     read_block_exact : (c : Context) (ss : Statements) (rest : List TokenKind) → GoodStatements c ss → nesting_body ss ≤ d → read_block (one c) (spell_body ss ++ rest) ≡ Some (ss, rest)
@@ -273,11 +277,11 @@ module _ (d : ℕ) (whole : List TokenKind → Try) (w : Whole d whole) where
         block_exact c ss (suc (length (spell_body ss ++ rest))) rest g m long
 
     do_exact : (s : Statement) (e : Tree) (rest : List TokenKind) → GoodStatement loop_body s → nesting_statement s ≤ d → Good e → nesting e ≤ d
-      → do_statement whole (one loop_body) ((spell_statement s ++ While ∷ LeftParen ∷ (spell e ++ RightParen ∷ Semicolon ∷ [])) ++ rest) ≡ Some (DoStatement s e, rest)
+        → do_statement whole (one loop_body) ((spell_statement s ++ While ∷ LeftParen ∷ (spell e ++ RightParen ∷ Semicolon ∷ [])) ++ rest) ≡ Some (DoStatement s e, rest)
     do_exact s e rest g m k n =
         let tail = While ∷ LeftParen ∷ (spell e ++ RightParen ∷ Semicolon ∷ rest) in
         ap (λ x. do_statement whole (one loop_body) x)
-          (append_assoc (spell_statement s) (While ∷ LeftParen ∷ (spell e ++ RightParen ∷ Semicolon ∷ [])) rest ∙ ap (λ x. spell_statement s ++ While ∷ LeftParen ∷ x) (append_assoc (spell e) (RightParen ∷ Semicolon ∷ []) rest))
+        (append_assoc (spell_statement s) (While ∷ LeftParen ∷ (spell e ++ RightParen ∷ Semicolon ∷ [])) rest ∙ ap (λ x. spell_statement s ++ While ∷ LeftParen ∷ x) (append_assoc (spell e) (RightParen ∷ Semicolon ∷ []) rest))
         ∙ ap (λ o. then_read o (do_end whole)) (exactly s tail (one loop_body (spell_statement s ++ tail)) (r.reads loop_body s tail g m) (quiet s tail refl))
         ∙ ap (λ o. then_read o (λ e us. ended (DoStatement s e) us)) (parens_exact e (Semicolon ∷ rest) k n)
 
@@ -293,33 +297,33 @@ module _ (d : ℕ) (whole : List TokenKind → Try) (w : Whole d whole) where
     at_reads c (IfStatement e s) rest g m =
         let more = spell_statement s ++ rest in
         reads_by (IfStatement e s) rest (if_statement whole (one (under c)) (LeftParen ∷ ((spell e ++ RightParen ∷ spell_statement s) ++ rest))) (then_read (one (under c) more) (if_end (one (under c)) e))
-          (ap (λ x. if_statement whole (one (under c)) (LeftParen ∷ x)) (append_assoc (spell e) (RightParen ∷ spell_statement s) rest)
-           ∙ ap (λ o. then_read o (λ e us. then_read (one (under c) us) (if_end (one (under c)) e))) (parens_exact e more g.0 (omega (arith, m))))
-          (if_reads (one (under c)) (shorter (under c)) e s rest (one (under c) more) (r.reads (under c) s rest g.1 (omega (arith, m))))
+        (ap (λ x. if_statement whole (one (under c)) (LeftParen ∷ x)) (append_assoc (spell e) (RightParen ∷ spell_statement s) rest)
+        ∙ ap (λ o. then_read o (λ e us. then_read (one (under c) us) (if_end (one (under c)) e))) (parens_exact e more g.0 (omega (arith, m))))
+        (if_reads (one (under c)) (shorter (under c)) e s rest (one (under c) more) (r.reads (under c) s rest g.1 (omega (arith, m))))
     at_reads c (IfElseStatement e s u) rest g m =
         let last = spell_statement u ++ rest in
         let more = spell_statement s ++ Else ∷ last in
         reads_by (IfElseStatement e s u) rest (if_statement whole (one (under c)) (LeftParen ∷ ((spell e ++ RightParen ∷ (spell_statement s ++ Else ∷ spell_statement u)) ++ rest))) (if_end (one (under c)) e s (Else ∷ last))
-          (ap (λ x. if_statement whole (one (under c)) (LeftParen ∷ x)) (append_assoc (spell e) (RightParen ∷ (spell_statement s ++ Else ∷ spell_statement u)) rest ∙ ap (λ x. spell e ++ RightParen ∷ x) (append_assoc (spell_statement s) (Else ∷ spell_statement u) rest))
-           ∙ ap (λ o. then_read o (λ e us. then_read (one (under c) us) (if_end (one (under c)) e))) (parens_exact e more g.0 (omega (arith, m)))
-           ∙ ap (λ o. then_read o (if_end (one (under c)) e)) (exactly s (Else ∷ last) (one (under c) more) (r.reads (under c) s (Else ∷ last) g.1 (omega (arith, m))) (λ _. g.2)))
-          (if_else_reads (one (under c)) e s u rest g.2 (r.reads (under c) u rest g.3 (omega (arith, m))))
+        (ap (λ x. if_statement whole (one (under c)) (LeftParen ∷ x)) (append_assoc (spell e) (RightParen ∷ (spell_statement s ++ Else ∷ spell_statement u)) rest ∙ ap (λ x. spell e ++ RightParen ∷ x) (append_assoc (spell_statement s) (Else ∷ spell_statement u) rest))
+        ∙ ap (λ o. then_read o (λ e us. then_read (one (under c) us) (if_end (one (under c)) e))) (parens_exact e more g.0 (omega (arith, m)))
+        ∙ ap (λ o. then_read o (if_end (one (under c)) e)) (exactly s (Else ∷ last) (one (under c) more) (r.reads (under c) s (Else ∷ last) g.1 (omega (arith, m))) (λ _. g.2)))
+        (if_else_reads (one (under c)) e s u rest g.2 (r.reads (under c) u rest g.3 (omega (arith, m))))
     at_reads c (WhileStatement e s) rest g m =
         let more = spell_statement s ++ rest in
         reads_by (WhileStatement e s) rest (while_statement whole (one loop_body) (LeftParen ∷ ((spell e ++ RightParen ∷ spell_statement s) ++ rest))) (around (WhileStatement e) (one loop_body more))
-          (ap (λ x. while_statement whole (one loop_body) (LeftParen ∷ x)) (append_assoc (spell e) (RightParen ∷ spell_statement s) rest)
-           ∙ ap (λ o. then_read o (λ e us. around (WhileStatement e) (one loop_body us))) (parens_exact e more g.0 (omega (arith, m))))
-          (around_reads (WhileStatement e) (λ x. refl) s rest (one loop_body more) (r.reads loop_body s rest g.1 (omega (arith, m))))
+        (ap (λ x. while_statement whole (one loop_body) (LeftParen ∷ x)) (append_assoc (spell e) (RightParen ∷ spell_statement s) rest)
+        ∙ ap (λ o. then_read o (λ e us. around (WhileStatement e) (one loop_body us))) (parens_exact e more g.0 (omega (arith, m))))
+        (around_reads (WhileStatement e) (λ x. refl) s rest (one loop_body more) (r.reads loop_body s rest g.1 (omega (arith, m))))
     at_reads c (DoStatement s e) rest g m =
         reads_exact (DoStatement s e) rest (do_statement whole (one loop_body) ((spell_statement s ++ While ∷ LeftParen ∷ (spell e ++ RightParen ∷ Semicolon ∷ [])) ++ rest)) (do_exact s e rest g.0 (omega (arith, m)) g.1 (omega (arith, m)))
     at_reads c (ForStatement i e es s) rest g m =
         let last = spell_statement s ++ rest in
         let more = spell_optional e ++ Semicolon ∷ (spell_list RightParen es ++ last) in
         reads_by (ForStatement i e es s) rest (for_statement whole (one loop_body) (LeftParen ∷ ((spell_init i ++ (spell_optional e ++ Semicolon ∷ (spell_list RightParen es ++ spell_statement s))) ++ rest))) (around (ForStatement i e es) (one loop_body last))
-          (ap (λ x. for_statement whole (one loop_body) (LeftParen ∷ x)) (regroup (spell_init i) (spell_optional e) (spell_list RightParen es) (spell_statement s) rest)
-           ∙ init_exact (one loop_body) i more g.0 (omega (arith, m))
-           ∙ rest_exact (one loop_body) i e es last g.1 (omega (arith, m)) g.2 (omega (arith, m)))
-          (around_reads (ForStatement i e es) (λ x. refl) s rest (one loop_body last) (r.reads loop_body s rest g.3 (omega (arith, m))))
+        (ap (λ x. for_statement whole (one loop_body) (LeftParen ∷ x)) (regroup (spell_init i) (spell_optional e) (spell_list RightParen es) (spell_statement s) rest)
+        ∙ init_exact (one loop_body) i more g.0 (omega (arith, m))
+        ∙ rest_exact (one loop_body) i e es last g.1 (omega (arith, m)) g.2 (omega (arith, m)))
+        (around_reads (ForStatement i e es) (λ x. refl) s rest (one loop_body last) (r.reads loop_body s rest g.3 (omega (arith, m))))
       where
         regroup : (a b u s v : List TokenKind) → (a ++ (b ++ Semicolon ∷ (u ++ s))) ++ v ≡ a ++ (b ++ Semicolon ∷ (u ++ (s ++ v)))
         regroup a b u s v = simp (append_assoc) refl
@@ -328,10 +332,10 @@ module _ (d : ℕ) (whole : List TokenKind → Try) (w : Whole d whole) where
         let last = spell_statement s ++ rest in
         let more = spell e ++ RightParen ∷ last in
         reads_by (ForEachStatement marks u n e s) rest (for_statement whole (one loop_body) (LeftParen ∷ ((spell_marks marks ++ (spell_type_use u ++ Id n ∷ Colon ∷ (spell e ++ RightParen ∷ spell_statement s))) ++ rest))) (around (ForEachStatement marks u n e) (one loop_body last))
-          (ap (λ x. for_statement whole (one loop_body) (LeftParen ∷ x)) (regroup (spell_marks marks) (spell_type_use u) (Id n) (spell e) (spell_statement s) rest)
-           ∙ ap (λ o. for_from whole (one loop_body) (spell_parameter p ++ Colon ∷ more) o) (parameter_exact p (Colon ∷ more) g.0)
-           ∙ ap (λ o. then_read (then_read o closed) (λ e us. around (ForEachStatement marks u n e) (one loop_body us))) (exact_tree d whole w e (RightParen ∷ last) g.1 (omega (arith, m)) (omega arith)))
-          (around_reads (ForEachStatement marks u n e) (λ x. refl) s rest (one loop_body last) (r.reads loop_body s rest g.2 (omega (arith, m))))
+        (ap (λ x. for_statement whole (one loop_body) (LeftParen ∷ x)) (regroup (spell_marks marks) (spell_type_use u) (Id n) (spell e) (spell_statement s) rest)
+        ∙ ap (λ o. for_from whole (one loop_body) (spell_parameter p ++ Colon ∷ more) o) (parameter_exact p (Colon ∷ more) g.0)
+        ∙ ap (λ o. then_read (then_read o closed) (λ e us. around (ForEachStatement marks u n e) (one loop_body us))) (exact_tree d whole w e (RightParen ∷ last) g.1 (omega (arith, m)) (omega arith)))
+        (around_reads (ForEachStatement marks u n e) (λ x. refl) s rest (one loop_body last) (r.reads loop_body s rest g.2 (omega (arith, m))))
       where
         regroup : (a b : List TokenKind) (n : TokenKind) (e s v : List TokenKind) → (a ++ (b ++ n ∷ Colon ∷ (e ++ RightParen ∷ s))) ++ v ≡ (a ++ (b ++ n ∷ [])) ++ Colon ∷ (e ++ RightParen ∷ (s ++ v))
         regroup a b n e s v = simp (append_assoc) refl

@@ -1,5 +1,5 @@
 -- What an expression reader gives, from its two facts; lists of expressions.
-use Rattle.std.proofs.Common.{◌≡◌, ℕ, zero, suc, ◌+◌, ◌<◌, ◌≤◌, max, List, [], ◌∷◌, ◌++◌, length, refl, sym, ap, ◌∙◌, arith, append_assoc, length-append, Option, Some, None, true}
+use Rattle.std.proofs.Common.{◌≡◌, ℕ, zero, suc, ◌<◌, ◌≤◌, List, [], ◌∷◌, ◌++◌, length, refl, ap, ◌∙◌, arith, append_assoc, length-append, Some, None, true}
 use Rattle.jn_trees.specs.declared.token.TokenKind.{TokenKind}
 use Rattle.jn_trees.specs.declared.token.TokenKind.TheVariants.{RightParen, Semicolon, Comma}
 use Rattle.jn_trees.specs.Trees.{Tree, Trees, NoTrees, MoreTrees}
@@ -9,7 +9,7 @@ use Rattle.jn_trees.specs.Longest.{Try}
 use Rattle.jn_expr_law.specs.Follow.{reach_of, Reads}
 use Rattle.jn_expr_law.specs.Reader.{TryAll, bind_all, bind_items, add_first, items_behind, items_from, all_items, close_arguments, arguments_in}
 use Rattle.jn_expr_law.proofs.Sound.{Sound, SoundItems, items_sound, SoundAll}
-use Rattle.jn_stmt_law.specs.Parts.{Read, then_read, ended, read_initial}
+use Rattle.jn_stmt_law.specs.Parts.{then_read, ended, read_initial}
 use Rattle.jn_stmt_law.proofs.Begins.{begins, Quiet, begins_tree, arguments_there, initial_there}
 
 -- `whole` reads the longest expression of nesting at most d
@@ -48,7 +48,7 @@ far_more end c NoTrees rest = c.far rest
 far_more end c (MoreTrees t es) rest = omega arith
 
 from_exact : (d : ℕ) (whole : List TokenKind → Try) → Whole d whole → (end : TokenKind) → Closes end → (t : Tree) (es : Trees) (n : ℕ) (rest : List TokenKind) → AllGood (MoreTrees t es) → nesting_all (MoreTrees t es) ≤ d → count es < n
-  → items_from whole n (spell t ++ (spell_more end es ++ rest)) ≡ Some (MoreTrees t es, end ∷ rest)
+    → items_from whole n (spell t ++ (spell_more end es ++ rest)) ≡ Some (MoreTrees t es, end ∷ rest)
 from_exact d whole w end c t es zero rest g m lt = absurd (omega (arith, lt))
 from_exact d whole w end c t NoTrees (suc n) rest g m lt =
     ap (λ o. bind_all o (items_behind (items_from whole n))) (exact_tree d whole w t (end ∷ rest) g.0 (omega (arith, m)) (c.far rest)) ∙ c.stops (items_from whole n) t rest
@@ -59,7 +59,7 @@ from_exact d whole w end c t (MoreTrees u es) (suc n) rest g m lt =
     ∙ ap (λ o. add_first t o) (from_exact d whole w end c u es n rest g.1 (omega (arith, m)) (omega (arith, lt)))
 
 all_exact : (d : ℕ) (whole : List TokenKind → Try) → Whole d whole → (end : TokenKind) → Closes end → (t : Tree) (es : Trees) (rest : List TokenKind) → AllGood (MoreTrees t es) → nesting_all (MoreTrees t es) ≤ d
-  → all_items whole (spell t ++ (spell_more end es ++ rest)) ≡ Some (MoreTrees t es, end ∷ rest)
+    → all_items whole (spell t ++ (spell_more end es ++ rest)) ≡ Some (MoreTrees t es, end ∷ rest)
 unfolding all_items
 all_exact d whole w end c t es rest g m =
     let ts = spell t ++ (spell_more end es ++ rest) in

@@ -1,5 +1,5 @@
 -- What may follow a part that is read to its end, and what is read of it.
-use Rattle.std.specs.Prelude.{◌≡◌, ℕ, ◌≤◌, ◌<◌, List, ◌∷◌, ◌++◌, length, Bool, true, false, Option, Some, None}
+use Rattle.std.specs.Prelude.{◌≡◌, ℕ, ◌≤◌, ◌<◌, List, ◌∷◌, ◌++◌, length, Bool, true, false, Some, None}
 use Rattle.jn_trees.specs.declared.token.TokenKind.{TokenKind}
 use Rattle.jn_trees.specs.declared.token.TokenKind.TheVariants.{Final, LeftBracket, Comma, At, Else}
 use Rattle.jn_trees.specs.Trees.{DeclaratorTree, LocalTree, ParameterTree, Statement}
