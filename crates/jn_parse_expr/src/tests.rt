@@ -168,16 +168,32 @@ fn part(tree: &Expr, number: usize) -> Option<&Expr> {
     }
 }
 
-/// The label of the part at the end of the path.
-fn label_at(tree: &Expr, path: &[usize]) -> &'static str {
+/// The part at the end of the path, whose digits are numbers of parts.
+fn part_at<'t>(tree: &'t Expr, path: &str) -> Option<&'t Expr> {
     let mut at = tree;
-    for number in path {
-        match part(at, *number) {
-            Some(next) => at = next,
-            None => return "nothing",
-        }
+    for digit in path.as_bytes() {
+        at = part(at, digit.saturating_sub(b'0') as usize)?;
     }
-    label(at)
+    Some(at)
+}
+
+/// How many tokens are read, and the label of the part at the end of the path.
+fn outcome(alloc: Global, text: &str, depth: u32, path: &str) -> (usize, &'static str) {
+    let tokens = match tokens_of(alloc, text) {
+        Ok(tokens) => tokens,
+        Err(_) => return (0, "no memory"),
+    };
+    match read_expr(alloc, &tokens, depth) {
+        Ok(Some((tree, rest))) => {
+            let read = tokens.len().saturating_sub(rest.len());
+            match part_at(&tree, path) {
+                Some(found) => (read, label(found)),
+                None => (read, "nothing"),
+            }
+        }
+        Ok(None) => (0, ""),
+        Err(_) => (0, "no memory"),
+    }
 }
 
 fn spanned(tree: &Expr) -> Option<Span> {
@@ -193,83 +209,133 @@ fn spanned(tree: &Expr) -> Option<Span> {
 }
 
 #[test]
-fn reads_the_longest_expression(rt: HostRuntime) {
+fn reads_operators(rt: HostRuntime) {
     let alloc = rt.alloc();
     for (text, depth, read, path, want) in [
-        ("a + b * 1", 500, 5, &[][..], "+"),
-        ("a + b * 1", 500, 5, &[1][..], "*"),
-        ("a * b + 1", 500, 5, &[0][..], "*"),
-        ("a + b + 1", 500, 5, &[0][..], "+"),
-        ("a || b && a == b < 1 + 1 * 1", 500, 13, &[][..], "||"),
-        ("a || b && a == b < 1 + 1 * 1", 500, 13, &[1, 1, 1, 1][..], "+"),
-        ("a = b += 1", 500, 5, &[][..], "="),
-        ("a = b += 1", 500, 5, &[1][..], "+="),
-        ("a ? b : a ? b : 1", 500, 9, &[][..], "?"),
-        ("a ? b : a ? b : 1", 500, 9, &[2][..], "?"),
-        ("a . b ( 1 , this ) . c [ 1 ]", 500, 13, &[][..], "index"),
-        ("a . b ( 1 , this ) . c [ 1 ]", 500, 13, &[0, 0][..], "call"),
-        ("a . b ( 1 , this ) . c [ 1 ]", 500, 13, &[0, 0, 2][..], "this"),
-        ("super . f ( null )", 500, 6, &[][..], "super call"),
-        ("super . f", 500, 0, &[][..], ""),
-        ("f ( )", 500, 3, &[][..], "own call"),
-        ("f ( 1", 500, 1, &[][..], "name"),
-        ("f ( 1 +", 500, 1, &[][..], "name"),
-        ("f ( 1 , ) ", 500, 1, &[][..], "name"),
-        ("new A ( 1 ) . f ( )", 500, 9, &[][..], "call"),
-        ("new A ( 1 ) . f ( )", 500, 9, &[0][..], "new"),
-        ("new @ N int [ 1 ]", 500, 7, &[][..], "new array"),
-        ("new A [ 1 ] [ 1 ]", 500, 5, &[][..], "new array"),
-        ("new A [ 1 ] . length", 500, 7, &[][..], "field"),
-        ("new int [ ] { 1 , 1 }", 500, 9, &[][..], "array of"),
-        ("new int [ ] { }", 500, 6, &[][..], "array of"),
-        ("new int [ ] { 1 , }", 500, 0, &[][..], ""),
-        ("new int [ ] { 1 } [ 1 ]", 500, 7, &[][..], "array of"),
-        ("a ++ + b --", 500, 5, &[0][..], "x++"),
-        ("a ++ + b --", 500, 5, &[1][..], "x--"),
-        ("++ a . b [ 1 ]", 500, 7, &[][..], "++x"),
-        ("++ a . b [ 1 ]", 500, 7, &[0][..], "index"),
-        ("-- f ( 1 )", 500, 2, &[0][..], "name"),
-        ("++ a . f ( 1 )", 500, 4, &[0][..], "field"),
-        ("++ a ( 1 ) . f ( 1 )", 500, 7, &[0, 0][..], "own call"),
-        ("++ ( a )", 500, 0, &[][..], ""),
-        ("- - a", 500, 3, &[0][..], "-x"),
-        ("! + a", 500, 3, &[0][..], "+x"),
-        ("- 2147483648", 500, 2, &[0][..], "least"),
-        ("- 2147483648", 1, 0, &[][..], ""),
-        ("- 2147483647", 500, 2, &[0][..], "literal"),
-        ("2147483648", 500, 0, &[][..], ""),
-        ("- ( 2147483648 )", 500, 0, &[][..], ""),
-        ("1 - 2147483648", 500, 1, &[][..], "literal"),
-        ("a instanceof A == b", 500, 5, &[0][..], "instanceof"),
-        ("( a )", 500, 3, &[][..], "paren"),
-        ("( a ) b", 500, 4, &[][..], "cast"),
-        ("( a ) ( b )", 500, 6, &[0][..], "paren"),
-        ("( a ) ! b", 500, 5, &[][..], "cast"),
-        ("( a ) ++ b", 500, 3, &[][..], "paren"),
-        ("( a ) - b", 500, 5, &[][..], "-"),
-        ("( a ) - b", 500, 5, &[0][..], "paren"),
-        ("( a . b ) c", 500, 5, &[][..], "paren"),
-        ("( a ) b . c ( )", 500, 8, &[0][..], "call"),
-        ("( a ) \"t\" + b", 500, 6, &[0][..], "cast"),
-        ("", 500, 0, &[][..], ""),
-        (") a", 500, 0, &[][..], ""),
-        ("a", 0, 0, &[][..], ""),
-        ("a + b + a", 2, 3, &[][..], "+"),
-        ("f ( g ( a ) )", 2, 1, &[][..], "name"),
-        ("a ? b = a : b", 2, 1, &[][..], "name"),
+        ("a + b * 1", 500, 5, "", "+"),
+        ("a + b * 1", 500, 5, "1", "*"),
+        ("a * b + 1", 500, 5, "0", "*"),
+        ("a + b + 1", 500, 5, "0", "+"),
+        ("a || b && a == b < 1 + 1 * 1", 500, 13, "", "||"),
+        ("a || b && a == b < 1 + 1 * 1", 500, 13, "1111", "+"),
+        ("a = b += 1", 500, 5, "", "="),
+        ("a = b += 1", 500, 5, "1", "+="),
+        ("a ? b : a ? b : 1", 500, 9, "", "?"),
+        ("a ? b : a ? b : 1", 500, 9, "2", "?"),
+        ("a instanceof A == b", 500, 5, "0", "instanceof"),
     ] {
-        let tokens = match tokens_of(alloc, text) {
-            Ok(tokens) => tokens,
-            Err(_) => Vec::new(alloc),
-        };
-        match read_expr(alloc, &tokens, depth) {
-            Ok(Some((tree, rest))) => {
-                assert_eq!(rt; tokens.len().saturating_sub(rest.len()), read, "{text}");
-                assert_eq!(rt; label_at(&tree, path), want, "{text}");
-            }
-            Ok(None) => assert_eq!(rt; 0, read, "{text}"),
-            Err(_) => assert!(rt; false, "{text}"),
-        }
+        let (tokens, label) = outcome(alloc, text, depth, path);
+        assert_eq!(rt; tokens, read, "{text}");
+        assert_eq!(rt; label, want, "{text}");
+    }
+}
+
+#[test]
+fn reads_primaries(rt: HostRuntime) {
+    let alloc = rt.alloc();
+    for (text, depth, read, path, want) in [
+        ("a . b ( 1 , this ) . c [ 1 ]", 500, 13, "", "index"),
+        ("a . b ( 1 , this ) . c [ 1 ]", 500, 13, "00", "call"),
+        ("a . b ( 1 , this ) . c [ 1 ]", 500, 13, "002", "this"),
+        ("super . f ( null )", 500, 6, "", "super call"),
+        ("super . f", 500, 0, "", ""),
+        ("f ( )", 500, 3, "", "own call"),
+        ("f ( 1", 500, 1, "", "name"),
+        ("f ( 1 +", 500, 1, "", "name"),
+        ("f ( 1 , ) ", 500, 1, "", "name"),
+    ] {
+        let (tokens, label) = outcome(alloc, text, depth, path);
+        assert_eq!(rt; tokens, read, "{text}");
+        assert_eq!(rt; label, want, "{text}");
+    }
+}
+
+#[test]
+fn reads_new_objects_and_arrays(rt: HostRuntime) {
+    let alloc = rt.alloc();
+    for (text, depth, read, path, want) in [
+        ("new A ( 1 ) . f ( )", 500, 9, "", "call"),
+        ("new A ( 1 ) . f ( )", 500, 9, "0", "new"),
+        ("new @ N int [ 1 ]", 500, 7, "", "new array"),
+        ("new A [ 1 ] [ 1 ]", 500, 5, "", "new array"),
+        ("new A [ 1 ] . length", 500, 7, "", "field"),
+        ("new int [ ] { 1 , 1 }", 500, 9, "", "array of"),
+        ("new int [ ] { }", 500, 6, "", "array of"),
+        ("new int [ ] { 1 , }", 500, 0, "", ""),
+        ("new int [ ] { 1 } [ 1 ]", 500, 7, "", "array of"),
+    ] {
+        let (tokens, label) = outcome(alloc, text, depth, path);
+        assert_eq!(rt; tokens, read, "{text}");
+        assert_eq!(rt; label, want, "{text}");
+    }
+}
+
+#[test]
+fn reads_unary_expressions(rt: HostRuntime) {
+    let alloc = rt.alloc();
+    for (text, depth, read, path, want) in [
+        ("a ++ + b --", 500, 5, "0", "x++"),
+        ("a ++ + b --", 500, 5, "1", "x--"),
+        ("++ a . b [ 1 ]", 500, 7, "", "++x"),
+        ("++ a . b [ 1 ]", 500, 7, "0", "index"),
+        ("-- f ( 1 )", 500, 2, "0", "name"),
+        ("++ a . f ( 1 )", 500, 4, "0", "field"),
+        ("++ a ( 1 ) . f ( 1 )", 500, 7, "00", "own call"),
+        ("++ ( a )", 500, 0, "", ""),
+        ("- - a", 500, 3, "0", "-x"),
+        ("! + a", 500, 3, "0", "+x"),
+        ("- 2147483648", 500, 2, "0", "least"),
+        ("- 2147483648", 1, 0, "", ""),
+        ("- 2147483647", 500, 2, "0", "literal"),
+        ("2147483648", 500, 0, "", ""),
+        ("- ( 2147483648 )", 500, 0, "", ""),
+        ("1 - 2147483648", 500, 1, "", "literal"),
+    ] {
+        let (tokens, label) = outcome(alloc, text, depth, path);
+        assert_eq!(rt; tokens, read, "{text}");
+        assert_eq!(rt; label, want, "{text}");
+    }
+}
+
+#[test]
+fn reads_casts_and_limits(rt: HostRuntime) {
+    let alloc = rt.alloc();
+    for (text, depth, read, path, want) in [
+        ("( a )", 500, 3, "", "paren"),
+        ("( a ) b", 500, 4, "", "cast"),
+        ("( a ) ( b )", 500, 6, "0", "paren"),
+        ("( a ) ! b", 500, 5, "", "cast"),
+        ("( a ) ++ b", 500, 3, "", "paren"),
+        ("( a ) - b", 500, 5, "", "-"),
+        ("( a ) - b", 500, 5, "0", "paren"),
+        ("( a . b ) c", 500, 5, "", "paren"),
+        ("( a ) b . c ( )", 500, 8, "0", "call"),
+        ("( a ) \"t\" + b", 500, 6, "0", "cast"),
+        ("", 500, 0, "", ""),
+        (") a", 500, 0, "", ""),
+        ("a", 0, 0, "", ""),
+        ("a + b + a", 2, 3, "", "+"),
+        ("f ( g ( a ) )", 2, 1, "", "name"),
+        ("a ? b = a : b", 2, 1, "", "name"),
+    ] {
+        let (tokens, label) = outcome(alloc, text, depth, path);
+        assert_eq!(rt; tokens, read, "{text}");
+        assert_eq!(rt; label, want, "{text}");
+    }
+}
+
+/// The span of the part at the end of the path.
+fn span_at(alloc: Global, text: &str, path: &str) -> Option<Span> {
+    let tokens = match tokens_of(alloc, text) {
+        Ok(tokens) => tokens,
+        Err(_) => return None,
+    };
+    match read_expr(alloc, &tokens, 500) {
+        Ok(Some((tree, _))) => match part_at(&tree, path) {
+            Some(found) => spanned(found),
+            None => None,
+        },
+        _ => None,
     }
 }
 
@@ -277,37 +343,20 @@ fn reads_the_longest_expression(rt: HostRuntime) {
 fn spans_go_from_the_first_token_through_the_last(rt: HostRuntime) {
     let alloc = rt.alloc();
     for (text, path, from, to) in [
-        ("a + b * 1", &[][..], 0, 5),
-        ("a + b * 1", &[1][..], 2, 5),
-        ("a . b ( 1 ) . c", &[][..], 0, 8),
-        ("a . b ( 1 ) . c", &[0][..], 0, 6),
-        ("1 + ( a ) b", &[1][..], 2, 6),
-        ("++ a . f ( 1 )", &[0][..], 1, 4),
-        ("1 + new int [ ] { 1 }", &[1][..], 2, 9),
+        ("a + b * 1", "", 0, 5),
+        ("a + b * 1", "1", 2, 5),
+        ("a . b ( 1 ) . c", "", 0, 8),
+        ("a . b ( 1 ) . c", "0", 0, 6),
+        ("1 + ( a ) b", "1", 2, 6),
+        ("++ a . f ( 1 )", "0", 1, 4),
+        ("1 + new int [ ] { 1 }", "1", 2, 9),
     ] {
-        let tokens = match tokens_of(alloc, text) {
-            Ok(tokens) => tokens,
-            Err(_) => Vec::new(alloc),
+        let want = Span {
+            file: FileNo(0),
+            from,
+            to,
         };
-        match read_expr(alloc, &tokens, 500) {
-            Ok(Some((tree, _))) => {
-                let mut at = &tree;
-                for number in path {
-                    match part(at, *number) {
-                        Some(next) => at = next,
-                        None => {}
-                    }
-                }
-                match spanned(at) {
-                    Some(span) => {
-                        assert_eq!(rt; span.from, from, "{text}");
-                        assert_eq!(rt; span.to, to, "{text}");
-                    }
-                    None => assert!(rt; false, "{text}"),
-                }
-            }
-            _ => assert!(rt; false, "{text}"),
-        }
+        assert_eq!(rt; span_at(alloc, text, path), Some(want), "{text}");
     }
 }
 
