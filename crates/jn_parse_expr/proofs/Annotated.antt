@@ -15,7 +15,7 @@ push [] a r = refl
 push (x ∷ all) a r = ap (λ (q : List NameNo × List TokenKind). (x.name ∷ q.0, q.1)) (push all a r)
 
 pub annotation_more : (ts us rest : List TokenKind) (old new : List Annotation) (a : Annotation) → annotations ts ≡ prepended (annotation_names old) (annotations us) → us ≡ At ∷ Id a.name ∷ rest → new ≡ old ++ a ∷ []
-  → annotations ts ≡ prepended (annotation_names new) (annotations rest)
+    → annotations ts ≡ prepended (annotation_names new) (annotations rest)
 annotation_more ts us rest old new a g is same =
     g ∙ ap (λ x. prepended (annotation_names old) (annotations x)) is ∙ push old a (annotations rest) ∙ ap (λ xs. prepended (annotation_names xs) (annotations rest)) (sym same)
 

@@ -131,7 +131,7 @@ link_link R d D h start p [] = tt
 link_link R d D h start p (Dot ∷ ts) = where_true start p (Dot ∷ ts) (nat_lt (nesting p) D) (member R p ts) (members_link R d h start p ts)
 link_link R d D h start p (LeftBracket ∷ ts) =
     where_true start p (LeftBracket ∷ ts) (is_indexable p) (cond (nat_lt (nesting p) D) (bind (R.whole ts) (close_index p)) None)
-      (where_true start p (LeftBracket ∷ ts) (nat_lt (nesting p) D) (bind (R.whole ts) (close_index p)) (indices_link start p (LeftBracket ∷ ts) (R.whole ts)))
+    (where_true start p (LeftBracket ∷ ts) (nat_lt (nesting p) D) (bind (R.whole ts) (close_index p)) (indices_link start p (LeftBracket ∷ ts) (R.whole ts)))
 link_link R d D h start p (_ ∷ ts) = tt
 
 links_to : (start : List TokenKind) (p : Tree) (ts : List TokenKind) (o : Try) (t : Tree) (rest : List TokenKind) → LinksTo start p ts o → o ≡ Some (t, rest) → IsLinked start t (nesting p) ts rest

@@ -46,9 +46,9 @@ operand_starts (suc d) (suc k) ts l rest lt some e deep = record {
   n = suc d;
   room = omega arith;
   gives =
-    ap (λ o. go_on (grow (reader d) (suc d) k) (suc d) o) (ap (λ j. operand_at (reader d) (suc d) j ts) (back k) ∙ e)
-    ∙ ap (λ n. Some (iterate (grow (reader n) (suc d) k) (suc d) (l, rest))) (back d)
-    ∙ ap (λ j. Some (iterate (grow (reader (suc d - 1)) (suc d) j) (suc d) (l, rest))) (back k);
+      ap (λ o. go_on (grow (reader d) (suc d) k) (suc d) o) (ap (λ j. operand_at (reader d) (suc d) j ts) (back k) ∙ e)
+      ∙ ap (λ n. Some (iterate (grow (reader n) (suc d) k) (suc d) (l, rest))) (back d)
+      ∙ ap (λ j. Some (iterate (grow (reader (suc d - 1)) (suc d) j) (suc d) (l, rest))) (back k);
 }
 
 pub primary_starts : (R : Reader) (d : ℕ) (ts : List TokenKind) (l : Tree) (rest : List TokenKind) → head R ts ≡ Some (l, rest) → (deep : ℕ) → Going (link R d) d deep (l, rest) (primary R d ts)
@@ -98,7 +98,7 @@ items_fail one b ts o g e = fails_by one b ts o g.n g.gives e
 
 -- an expression, and what is behind it
 behind_by : (one : List TokenKind → Try) (b : Trees) (ts : List TokenKind) (o : TryAll) (n : ℕ) (t : Tree) (rest : List TokenKind) → length ts < n → o ≡ prepend b (items_from one n ts) → one ts ≡ Some (t, rest)
-  → (m : ℕ) × (length ts < suc m) × (o ≡ prepend b (items_behind (items_from one m) t rest))
+    → (m : ℕ) × (length ts < suc m) × (o ≡ prepend b (items_behind (items_from one m) t rest))
 behind_by one b ts o zero t rest lt g e = absurd (omega (arith, lt))
 behind_by one b ts o (suc n) t rest lt g e = (n, lt, g ∙ ap (λ p. prepend b (bind_all p (items_behind (items_from one n)))) e)
 
@@ -107,7 +107,7 @@ behind_last more t (Comma ∷ ts) h = absurd (h ts refl)
 behind_last more t ts h = refl
 
 pub items_end : (one : List TokenKind → Try) (es : List Expr) (ts : List TokenKind) (o : TryAll) (e : Expr) (rest : List TokenKind) → GoingAll one (views es) ts o → one ts ≡ Some (view e, rest)
-  → ((x : List TokenKind) → rest ≡ Comma ∷ x → ⊥) → o ≡ Some (views (es ++ e ∷ []), rest)
+    → ((x : List TokenKind) → rest ≡ Comma ∷ x → ⊥) → o ≡ Some (views (es ++ e ∷ []), rest)
 items_end one es ts o e rest g is h =
     let p = behind_by one (views es) ts o g.n (view e) rest g.room g.gives is in
     p.2 ∙ ap (λ x. prepend (views es) x) (behind_last (items_from one p.0) (view e) rest h) ∙ ap (λ us. Some (us, rest)) (views_push es e)
@@ -122,7 +122,7 @@ pub read_shorter : (d : ℕ) (ts : List TokenKind) (t : Tree) (rest : List Token
 read_shorter d ts t rest e = shorter_by d ts ((reader d).whole ts) t rest ((sound d).whole ts) e
 
 pub items_go : (d : ℕ) (es : List Expr) (ts : List TokenKind) (o : TryAll) (e : Expr) (rest after : List TokenKind) (all : List Expr) → GoingAll (reader d).whole (views es) ts o → (reader d).whole ts ≡ Some (view e, rest) → rest ≡ Comma ∷ after → all ≡ es ++ e ∷ []
-  → GoingAll (reader d).whole (views all) after o
+    → GoingAll (reader d).whole (views all) after o
 items_go d es ts o e rest after all g is comma same =
     let p = behind_by (reader d).whole (views es) ts o g.n (view e) rest g.room g.gives is in
     let short = read_shorter d ts (view e) rest is in
@@ -131,7 +131,7 @@ items_go d es ts o e rest after all g is comma same =
       n = p.0;
       room = omega (arith, short, long, p.1);
       gives =
-        p.2 ∙ ap (λ x. prepend (views es) (items_behind (items_from (reader d).whole p.0) (view e) x)) comma
-        ∙ prepend_push es e (items_from (reader d).whole p.0 after)
-        ∙ ap (λ xs. prepend (views xs) (items_from (reader d).whole p.0 after)) (sym same);
+          p.2 ∙ ap (λ x. prepend (views es) (items_behind (items_from (reader d).whole p.0) (view e) x)) comma
+          ∙ prepend_push es e (items_from (reader d).whole p.0 after)
+          ∙ ap (λ xs. prepend (views xs) (items_from (reader d).whole p.0 after)) (sym same);
     }

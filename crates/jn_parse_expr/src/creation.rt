@@ -52,10 +52,7 @@ fn annotation(tokens: &[Token]) -> Option<(Annotation, &[Token])>
 }
 
 /// The annotations at the front.
-fn annotations(
-    alloc: Global,
-    tokens: &[Token],
-) -> Result<(Vec<Annotation>, &[Token]), AllocError>
+fn annotations(alloc: Global, tokens: &[Token]) -> Result<(Vec<Annotation>, &[Token]), AllocError>
     ensures { IfOk result (λ r. annotations_of (kinds tokens.now) ≡ (annotation_names r.0.items, kinds r.1.now)) }
 {
     let mut all = Vec::new(alloc);
@@ -87,10 +84,7 @@ fn base_at(token: Token) -> Option<Base>
 }
 
 /// The type of a new array's elements.
-fn read_element(
-    alloc: Global,
-    tokens: &[Token],
-) -> Result<Option<(Element, &[Token])>, AllocError>
+fn read_element(alloc: Global, tokens: &[Token]) -> Result<Option<(Element, &[Token])>, AllocError>
     ensures { IfOk result (λ o. ElementAs o (annotations_of (kinds tokens.now))) }
 {
     let (annotations, rest) = annotations(alloc, tokens)?;
@@ -103,11 +97,7 @@ fn read_element(
     }
 }
 
-fn new_object(
-    class: Identifier,
-    arguments: Vec<Expr>,
-    span: Span,
-) -> Expr
+fn new_object(class: Identifier, arguments: Vec<Expr>, span: Span) -> Expr
     ensures { view result ≡ NewTree class.name (views arguments.items) }
 {
     Expr::New {
@@ -136,11 +126,7 @@ fn object<'t>(
     }
 }
 
-fn new_array(
-    element: Element,
-    elements: Vec<Expr>,
-    span: Span,
-) -> Expr
+fn new_array(element: Element, elements: Vec<Expr>, span: Span) -> Expr
     ensures { view result ≡ ArrayOfTree (annotation_names element.annotations.items) (base_view element.base) (views elements.items) }
 {
     let Element { annotations, base } = element;
@@ -171,11 +157,7 @@ fn array_of<'t>(
     }
 }
 
-fn array_tree(
-    element: Element,
-    length: Box<Expr>,
-    span: Span,
-) -> Expr
+fn array_tree(element: Element, length: Box<Expr>, span: Span) -> Expr
     ensures { view result ≡ NewArrayTree (annotation_names element.annotations.items) (base_view element.base) (view length.value) }
 {
     let Element { annotations, base } = element;

@@ -257,20 +257,12 @@ fn index_tail(
         None => Ok(None),
         Some((index, deeper, rest)) => match expect(rest, TokenKind::RightBracket) {
             None => Ok(None),
-            Some(rest) => Ok(Some((
-                Tail::Index(index),
-                larger(nested, deeper) + 1,
-                rest,
-            ))),
+            Some(rest) => Ok(Some((Tail::Index(index), larger(nested, deeper) + 1, rest))),
         },
     }
 }
 
-fn own_call(
-    name: Identifier,
-    arguments: Vec<Expr>,
-    span: Span,
-) -> Expr
+fn own_call(name: Identifier, arguments: Vec<Expr>, span: Span) -> Expr
     ensures { view result ≡ OwnCallTree name.name (views arguments.items) }
 {
     Expr::OwnCall {
@@ -280,11 +272,7 @@ fn own_call(
     }
 }
 
-fn super_method(
-    name: Identifier,
-    arguments: Vec<Expr>,
-    span: Span,
-) -> Expr
+fn super_method(name: Identifier, arguments: Vec<Expr>, span: Span) -> Expr
     ensures { view result ≡ SuperCallTree name.name (views arguments.items) }
 {
     Expr::SuperCall {

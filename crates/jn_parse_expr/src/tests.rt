@@ -133,7 +133,9 @@ fn part(tree: &Expr, number: usize) -> Option<&Expr> {
         Expr::Paren { inner, .. } => Some(inner),
         Expr::Field { target, .. } => Some(target),
         Expr::Call {
-            target, arguments, ..
+            target,
+            arguments,
+            ..
         } => {
             if number == 0 {
                 Some(target)

@@ -215,12 +215,14 @@ pub fn read_unary(
 {
     match read_primary(alloc, tokens, depth)? {
         None => read_prefix(alloc, tokens, depth),
-        Some(Primary {
-            tree,
-            nested,
-            rest,
-            ..
-        }) => {
+        Some(
+            Primary {
+                tree,
+                nested,
+                rest,
+                ..
+            },
+        ) => {
             let tail = step_tail(&tree, nested, rest, depth);
             let (left, nested, rest) = go_with(alloc, tokens, tree, nested, rest, tail)?;
             let tail = cast_tail(alloc, &left, rest, depth)?;

@@ -62,8 +62,8 @@ operators::read_operand-operators-preserved t c =
       fits = h.2;
       nests = h.1 ∙ ap nesting (sym built);
       on = went (grow (reader (c.args.depth - 1)) c.args.depth (c.args.power - 1)) c.args.depth c.operators.nested c.in-Some-2.deeper
-             (view c.operators.left.value, kinds c.operators.rest.now) (view c.in_ok-left-in-Some-2.left.value, kinds c.in-Some-2.after.now) ((reader c.args.depth).operand c.args.power (kinds c.args.tokens.now))
-             inv.on (h.0 ∙ ap (λ x. Some (x, kinds c.in-Some-2.after.now)) (sym built)) (omega (arith, rises, h.2)) rises;
+          (view c.operators.left.value, kinds c.operators.rest.now) (view c.in_ok-left-in-Some-2.left.value, kinds c.in-Some-2.after.now) ((reader c.args.depth).operand c.args.power (kinds c.args.tokens.now))
+          inv.on (h.0 ∙ ap (λ x. Some (x, kinds c.in-Some-2.after.now)) (sym built)) (omega (arith, rises, h.2)) rises;
     }
 
 pub operators::read_operand-returns : goal.operators::read_operand-returns
@@ -95,10 +95,10 @@ primary::read_primary-links-preserved t c =
       fits = h.2;
       nests = h.1 ∙ ap nesting (sym built);
       linked = subst (λ n. IsLinked (kinds c.args.tokens.now) (view c.in_ok-tree-in-Some-2.tree.value) n (kinds c.links.rest.now) (kinds c.in-Some-2.after.now)) (sym inv.nests)
-                 (link_linked (reader (c.args.depth - 1)) (c.args.depth - 1) c.args.depth (sound (c.args.depth - 1)) (kinds c.args.tokens.now) (view c.links.tree.value) (kinds c.links.rest.now) (view c.in_ok-tree-in-Some-2.tree.value) (kinds c.in-Some-2.after.now) step);
+          (link_linked (reader (c.args.depth - 1)) (c.args.depth - 1) c.args.depth (sound (c.args.depth - 1)) (kinds c.args.tokens.now) (view c.links.tree.value) (kinds c.links.rest.now) (view c.in_ok-tree-in-Some-2.tree.value) (kinds c.in-Some-2.after.now) step);
       on = went (link (reader (c.args.depth - 1)) c.args.depth) c.args.depth c.links.nested c.in-Some-2.deeper
-             (view c.links.tree.value, kinds c.links.rest.now) (view c.in_ok-tree-in-Some-2.tree.value, kinds c.in-Some-2.after.now) (primary (reader (c.args.depth - 1)) c.args.depth (kinds c.args.tokens.now))
-             inv.on step (omega (arith, rises, h.2)) rises;
+          (view c.links.tree.value, kinds c.links.rest.now) (view c.in_ok-tree-in-Some-2.tree.value, kinds c.in-Some-2.after.now) (primary (reader (c.args.depth - 1)) c.args.depth (kinds c.args.tokens.now))
+          inv.on step (omega (arith, rises, h.2)) rises;
     }
 
 pub primary::read_primary-returns-in-None-2 : goal.primary::read_primary-returns-in-None-2
@@ -117,14 +117,14 @@ primary::read_head-returns-in-Some t c =
 pub primary::read_super-returns-in_ok-super_named-in-Some : goal.primary::read_super-returns-in_ok-super_named-in-Some
 primary::read_super-returns-in_ok-super_named-in-Some t c =
     read_moves c.args.depth c.in_ok-super_named-in-Some.field-0 (build_all (λ es. SuperCallTree c.in-Some.name.name es) (arguments (reader (c.args.depth - 1)).whole (kinds c.in-Some.rest.now))) (super_call (reader (c.args.depth - 1)) (kinds c.args.tokens.now))
-      (ap (λ x. super_call (reader (c.args.depth - 1)) x) c.in-Some.ensures)
-      (c.in_ok-super_named-in-Some.ensures (c.args.depth - 1) c.args.depth (arguments (reader (c.args.depth - 1)).whole (kinds c.in-Some.rest.now)) (omega (arith, c.requires)) c.in_ok-arguments-in-Some.ensures)
+    (ap (λ x. super_call (reader (c.args.depth - 1)) x) c.in-Some.ensures)
+    (c.in_ok-super_named-in-Some.ensures (c.args.depth - 1) c.args.depth (arguments (reader (c.args.depth - 1)).whole (kinds c.in-Some.rest.now)) (omega (arith, c.requires)) c.in_ok-arguments-in-Some.ensures)
 
 pub creation::read_creation-returns-in_ok-object-in-Some-expect : goal.creation::read_creation-returns-in_ok-object-in-Some-expect
 creation::read_creation-returns-in_ok-object-in-Some-expect t c =
     read_moves c.args.depth c.in_ok-object-in-Some-expect.field-0 (build_all (λ es. NewTree c.in-Some.class.name es) (arguments_in (reader (c.args.depth - 1)).whole (kinds c.in-Some-expect.inside.now))) (creation (reader (c.args.depth - 1)) (kinds c.args.tokens.now))
-      (ap (λ x. creation (reader (c.args.depth - 1)) x) (c.in-Some.ensures ∙ ap (λ x. Id c.in-Some.class.name ∷ x) c.in-Some-expect.ensures))
-      (c.in_ok-object-in-Some-expect.ensures (c.args.depth - 1) c.args.depth (arguments_in (reader (c.args.depth - 1)).whole (kinds c.in-Some-expect.inside.now)) (omega (arith, c.requires)) c.in_ok-arguments-in-Some-expect.ensures)
+    (ap (λ x. creation (reader (c.args.depth - 1)) x) (c.in-Some.ensures ∙ ap (λ x. Id c.in-Some.class.name ∷ x) c.in-Some-expect.ensures))
+    (c.in_ok-object-in-Some-expect.ensures (c.args.depth - 1) c.args.depth (arguments_in (reader (c.args.depth - 1)).whole (kinds c.in-Some-expect.inside.now)) (omega (arith, c.requires)) c.in_ok-arguments-in-Some-expect.ensures)
 
 pub creation::read_creation-returns-in-None : goal.creation::read_creation-returns-in-None
 creation::read_creation-returns-in-None t c =
@@ -138,33 +138,33 @@ pub creation::read_annotated-returns-in-Some : goal.creation::read_annotated-ret
 creation::read_annotated-returns-in-Some t c =
     let h = rw c.in-Some.is at c.in_ok-read_element.ensures in
     subst (λ o. IfOk c.read_array.result (λ r. ReadAs c.args.depth r o))
-      (sym (from_some (reader (c.args.depth - 1)) (annotations (kinds c.args.tokens.now)).0 (annotation_names c.in-Some.element.annotations.items) (annotations (kinds c.args.tokens.now)).1 (base_view c.in-Some.element.base) (kinds c.in-Some.rest.now) h.0 h.1))
-      c.read_array.ensures
+    (sym (from_some (reader (c.args.depth - 1)) (annotations (kinds c.args.tokens.now)).0 (annotation_names c.in-Some.element.annotations.items) (annotations (kinds c.args.tokens.now)).1 (base_view c.in-Some.element.base) (kinds c.in-Some.rest.now) h.0 h.1))
+    c.read_array.ensures
 
 pub creation::read_array-returns-in_ok-array_of-in-Some-expect-2 : goal.creation::read_array-returns-in_ok-array_of-in-Some-expect-2
 creation::read_array-returns-in_ok-array_of-in-Some-expect-2 t c =
     read_moves c.args.depth c.in_ok-array_of-in-Some-expect-2.field-0 (build_all (λ es. ArrayOfTree (annotation_names c.args.element.annotations.items) (base_view c.args.element.base) es) (elements_in (reader (c.args.depth - 1)).whole (kinds c.in-Some-expect-2.inside.now))) (array_behind (reader (c.args.depth - 1)) (annotation_names c.args.element.annotations.items) (base_view c.args.element.base) (kinds c.args.tokens.now))
-      (ap (λ x. array_behind (reader (c.args.depth - 1)) (annotation_names c.args.element.annotations.items) (base_view c.args.element.base) x) (c.in-Some.ensures ∙ ap (λ x. LeftBracket ∷ x) (c.in-Some-expect.ensures ∙ ap (λ x. RightBracket ∷ x) c.in-Some-expect-2.ensures)))
-      (c.in_ok-array_of-in-Some-expect-2.ensures (c.args.depth - 1) c.args.depth (elements_in (reader (c.args.depth - 1)).whole (kinds c.in-Some-expect-2.inside.now)) (omega (arith, c.requires)) c.in_ok-elements-in-Some-expect-2.ensures)
+    (ap (λ x. array_behind (reader (c.args.depth - 1)) (annotation_names c.args.element.annotations.items) (base_view c.args.element.base) x) (c.in-Some.ensures ∙ ap (λ x. LeftBracket ∷ x) (c.in-Some-expect.ensures ∙ ap (λ x. RightBracket ∷ x) c.in-Some-expect-2.ensures)))
+    (c.in_ok-array_of-in-Some-expect-2.ensures (c.args.depth - 1) c.args.depth (elements_in (reader (c.args.depth - 1)).whole (kinds c.in-Some-expect-2.inside.now)) (omega (arith, c.requires)) c.in_ok-elements-in-Some-expect-2.ensures)
 
 pub unary::read_left_side-returns-in_ok-cut-in-Some : goal.unary::read_left_side-returns-in_ok-cut-in-Some
 unary::read_left_side-returns-in_ok-cut-in-Some t c =
     let h = rw c.in-Some.is at c.in_ok-read_primary.ensures in
     read_moves c.args.depth c.in_ok-cut-in-Some.field-0 (trim (view c.in-Some.primary.tree.value) (kinds c.in-Some.primary.rest.now)) ((reader c.args.depth).left (kinds c.args.tokens.now))
-      (left_is c.args.depth (kinds c.args.tokens.now) (view c.in-Some.primary.tree.value) (kinds c.in-Some.primary.rest.now) (omega (arith, c.if-depth-eq0.false)) h.0)
-      (c.in_ok-cut-in-Some.ensures c.args.depth h.2)
+    (left_is c.args.depth (kinds c.args.tokens.now) (view c.in-Some.primary.tree.value) (kinds c.in-Some.primary.rest.now) (omega (arith, c.if-depth-eq0.false)) h.0)
+    (c.in_ok-cut-in-Some.ensures c.args.depth h.2)
 
 pub unary::read_prefix-returns-in_ok-signed-in-Some-sign_of : goal.unary::read_prefix-returns-in_ok-signed-in-Some-sign_of
 unary::read_prefix-returns-in_ok-signed-in-Some-sign_of t c =
     read_moves c.args.depth c.in_ok-signed-in-Some-sign_of.field-0 (signed_by c.args.depth c.in-Some-sign_of.operator (kinds c.in-Some.rest.now) ((reader (c.args.depth - 1)).operand 0 (kinds c.in-Some.rest.now))) (prefix (reader (c.args.depth - 1)) c.args.depth (kinds c.args.tokens.now))
-      (ap (λ x. prefix (reader (c.args.depth - 1)) c.args.depth x) c.in-Some.ensures ∙ prefix_sign (reader (c.args.depth - 1)) c.args.depth c.in-Some.first c.in-Some-sign_of.operator (kinds c.in-Some.rest.now) (sym c.in-Some-sign_of.ensures))
-      (c.in_ok-signed-in-Some-sign_of.ensures (c.args.depth - 1) ((reader (c.args.depth - 1)).operand 0 (kinds c.in-Some.rest.now)) (omega (arith, c.requires)) c.in_ok-operand-in-Some-sign_of.ensures)
+    (ap (λ x. prefix (reader (c.args.depth - 1)) c.args.depth x) c.in-Some.ensures ∙ prefix_sign (reader (c.args.depth - 1)) c.args.depth c.in-Some.first c.in-Some-sign_of.operator (kinds c.in-Some.rest.now) (sym c.in-Some-sign_of.ensures))
+    (c.in_ok-signed-in-Some-sign_of.ensures (c.args.depth - 1) ((reader (c.args.depth - 1)).operand 0 (kinds c.in-Some.rest.now)) (omega (arith, c.requires)) c.in_ok-operand-in-Some-sign_of.ensures)
 
 pub unary::read_prefix-returns-in_ok-stepped-in-Some-step_of : goal.unary::read_prefix-returns-in_ok-stepped-in-Some-step_of
 unary::read_prefix-returns-in_ok-stepped-in-Some-step_of t c =
     read_moves c.args.depth c.in_ok-stepped-in-Some-step_of.field-0 (build (λ p. PrefixTree c.in-Some-step_of.step p) ((reader (c.args.depth - 1)).left (kinds c.in-Some.rest.now))) (prefix (reader (c.args.depth - 1)) c.args.depth (kinds c.args.tokens.now))
-      (ap (λ x. prefix (reader (c.args.depth - 1)) c.args.depth x) c.in-Some.ensures ∙ prefix_step (reader (c.args.depth - 1)) c.args.depth c.in-Some.first c.in-Some-step_of.step (kinds c.in-Some.rest.now) (sym c.in-None-sign_of.ensures) (sym c.in-Some-step_of.ensures))
-      (c.in_ok-stepped-in-Some-step_of.ensures (c.args.depth - 1) c.args.depth ((reader (c.args.depth - 1)).left (kinds c.in-Some.rest.now)) (omega (arith, c.requires)) c.in_ok-target-in-Some-step_of.ensures)
+    (ap (λ x. prefix (reader (c.args.depth - 1)) c.args.depth x) c.in-Some.ensures ∙ prefix_step (reader (c.args.depth - 1)) c.args.depth c.in-Some.first c.in-Some-step_of.step (kinds c.in-Some.rest.now) (sym c.in-None-sign_of.ensures) (sym c.in-Some-step_of.ensures))
+    (c.in_ok-stepped-in-Some-step_of.ensures (c.args.depth - 1) c.args.depth ((reader (c.args.depth - 1)).left (kinds c.in-Some.rest.now)) (omega (arith, c.requires)) c.in_ok-target-in-Some-step_of.ensures)
 
 pub arguments::read_items-items-init : goal.arguments::read_items-items-init
 arguments::read_items-items-init t c =
@@ -182,7 +182,7 @@ arguments::read_items-returns-in-None-expect t c =
     let more : c.put.new.all.items ≡ c.items.all.items ++ c.in-Some.item.value ∷ [] = search rules in
     let end = items_end (reader c.args.depth).whole c.items.all.items (kinds c.items.left.now) (all_items (reader c.args.depth).whole (kinds c.args.tokens.now)) c.in-Some.item.value (kinds c.in-Some.rest.now) inv.on h.0 c.in-None-expect.ensures in
     let deep : c.larger-nested.result ≡ nesting_all (views c.put.new.all.items) =
-      c.larger-nested.ensures ∙ ap (λ x. max x c.in-Some.deeper) inv.nests ∙ ap (λ x. max (nesting_all (views c.items.all.items)) x) h.1 ∙ sym (nesting_push c.items.all.items c.in-Some.item.value) ∙ ap (λ xs. nesting_all (views xs)) (sym more) in
+    c.larger-nested.ensures ∙ ap (λ x. max x c.in-Some.deeper) inv.nests ∙ ap (λ x. max (nesting_all (views c.items.all.items)) x) h.1 ∙ sym (nesting_push c.items.all.items c.in-Some.item.value) ∙ ap (λ xs. nesting_all (views xs)) (sym more) in
     (end ∙ ap (λ (xs : List Expr). Some (views xs, kinds c.in-Some.rest.now)) (sym more), deep, omega (arith, c.larger-nested.ensures, inv.fits, h.2))
 
 pub arguments::read_items-items-smaller : goal.arguments::read_items-items-smaller
@@ -201,7 +201,7 @@ arguments::read_items-items-preserved t c =
     let h = rw c.in-Some.is at c.in_ok-read_whole.ensures in
     let more : c.put.new.all.items ≡ c.items.all.items ++ c.in-Some.item.value ∷ [] = search rules in
     let deep : c.larger-nested.result ≡ nesting_all (views c.put.new.all.items) =
-      c.larger-nested.ensures ∙ ap (λ x. max x c.in-Some.deeper) inv.nests ∙ ap (λ x. max (nesting_all (views c.items.all.items)) x) h.1 ∙ sym (nesting_push c.items.all.items c.in-Some.item.value) ∙ ap (λ xs. nesting_all (views xs)) (sym more) in
+    c.larger-nested.ensures ∙ ap (λ x. max x c.in-Some.deeper) inv.nests ∙ ap (λ x. max (nesting_all (views c.items.all.items)) x) h.1 ∙ sym (nesting_push c.items.all.items c.in-Some.item.value) ∙ ap (λ xs. nesting_all (views xs)) (sym more) in
     record {
       fits = omega (arith, c.larger-nested.ensures, inv.fits, h.2);
       nests = deep;
