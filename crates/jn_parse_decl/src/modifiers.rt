@@ -1,0 +1,229 @@
+// Modifiers of types and members (JLS 8.1.1, 8.3.1, 8.4.3, 8.8.3, 9.4).
+ghost use Rattle.std.specs.Prelude.{◌≡◌, ◌&&◌};
+ghost use Rattle.jn_trees.specs.View.{mark, marks};
+ghost use Rattle.jn_trees.specs.WellFormed as good;
+ghost use Rattle.jn_parse_decl.specs.Bearers.{may};
+
+use crate::put::put;
+use jn_base::OutOfMemory;
+use jn_trees::reading::{covered, expect, identifier, next};
+use jn_trees::{Annotation, Modifier, Token, TokenKind};
+use std::alloc::Global;
+
+/// What modifiers may stand before.
+#[derive(Clone, Copy, Debug, PartialEq, Eq)]
+pub enum Bearer {
+    Class,
+    Interface,
+    Field,
+    Method,
+    InterfaceMethod,
+    Constructor,
+}
+
+fn is_access(modifier: &Modifier) -> bool
+    ensures { result ≡ good.is_access (mark modifier.now) }
+{
+    match modifier {
+        Modifier::Public(_) => true,
+        Modifier::Protected(_) => true,
+        Modifier::Private(_) => true,
+        _ => false,
+    }
+}
+
+fn is_static(modifier: &Modifier) -> bool
+    ensures { result ≡ good.is_static_mark (mark modifier.now) }
+{
+    match modifier {
+        Modifier::Static(_) => true,
+        _ => false,
+    }
+}
+
+/// Whether this modifier may stand before that.
+fn may_stand(modifier: &Modifier, bearer: Bearer) -> bool
+    ensures { result ≡ may bearer (mark modifier.now) }
+{
+    match bearer {
+        Bearer::Class => may_mark_type(modifier),
+        Bearer::Interface => may_mark_interface(modifier),
+        Bearer::Field => may_mark_field(modifier),
+        Bearer::Method => true,
+        Bearer::InterfaceMethod => may_mark_interface_method(modifier),
+        Bearer::Constructor => may_mark_constructor(modifier),
+    }
+}
+
+fn may_mark_type(modifier: &Modifier) -> bool
+    ensures { result ≡ good.marks_type (mark modifier.now) }
+{
+    match modifier {
+        Modifier::Protected(_) => false,
+        Modifier::Private(_) => false,
+        Modifier::Static(_) => false,
+        _ => true,
+    }
+}
+
+fn may_mark_interface(modifier: &Modifier) -> bool
+    ensures { result ≡ good.marks_interface (mark modifier.now) }
+{
+    match modifier {
+        Modifier::Annotation(_) => true,
+        Modifier::Public(_) => true,
+        Modifier::Abstract(_) => true,
+        _ => false,
+    }
+}
+
+fn may_mark_field(modifier: &Modifier) -> bool
+    ensures { result ≡ good.marks_field (mark modifier.now) }
+{
+    match modifier {
+        Modifier::Abstract(_) => false,
+        _ => true,
+    }
+}
+
+fn may_mark_interface_method(modifier: &Modifier) -> bool
+    ensures { result ≡ good.marks_interface_method (mark modifier.now) }
+{
+    match modifier {
+        Modifier::Annotation(_) => true,
+        Modifier::Public(_) => true,
+        Modifier::Abstract(_) => true,
+        _ => false,
+    }
+}
+
+fn may_mark_constructor(modifier: &Modifier) -> bool
+    ensures { result ≡ good.marks_constructor (mark modifier.now) }
+{
+    match modifier {
+        Modifier::Annotation(_) => true,
+        _ => is_access(modifier),
+    }
+}
+
+fn all_may_stand(modifiers: &[Modifier], bearer: Bearer) -> bool
+    ensures { result ≡ good.every (may bearer) (marks modifiers.now) }
+{
+    for modifier in modifiers {
+        if !may_stand(modifier, bearer) {
+            return false;
+        }
+    }
+    true
+}
+
+/// Whether none stands twice, and at most one word of access stands.
+fn no_clash(modifiers: &[Modifier]) -> bool
+    ensures { result ≡ good.no_clash (marks modifiers.now) }
+{
+    let mut access = false;
+    let mut fixed = false;
+    let mut constant = false;
+    let mut without_body = false;
+    for modifier in modifiers {
+        match modifier {
+            Modifier::Annotation(_) => {}
+            Modifier::Static(_) => {
+                if fixed {
+                    return false;
+                }
+                fixed = true;
+            }
+            Modifier::Final(_) => {
+                if constant {
+                    return false;
+                }
+                constant = true;
+            }
+            Modifier::Abstract(_) => {
+                if without_body {
+                    return false;
+                }
+                without_body = true;
+            }
+            _ => {
+                if access {
+                    return false;
+                }
+                access = true;
+            }
+        }
+    }
+    true
+}
+
+/// Whether each of these may stand before that, and no two clash.
+pub fn may_all_stand(modifiers: &[Modifier], bearer: Bearer) -> bool
+    ensures { result ≡ (good.every (may bearer) (marks modifiers.now) && good.no_clash (marks modifiers.now)) }
+{
+    all_may_stand(modifiers, bearer) && no_clash(modifiers)
+}
+
+/// Whether `static` is one of these.
+pub fn has_static(modifiers: &[Modifier]) -> bool
+    ensures { result ≡ good.has_static (marks modifiers.now) }
+{
+    for modifier in modifiers {
+        if is_static(modifier) {
+            return true;
+        }
+    }
+    false
+}
+
+/// The modifier that one word is.
+fn word(token: &Token) -> Option<Modifier> {
+    match token.kind {
+        TokenKind::Public => Some(Modifier::Public(token.span)),
+        TokenKind::Protected => Some(Modifier::Protected(token.span)),
+        TokenKind::Private => Some(Modifier::Private(token.span)),
+        TokenKind::Static => Some(Modifier::Static(token.span)),
+        TokenKind::Final => Some(Modifier::Final(token.span)),
+        TokenKind::Abstract => Some(Modifier::Abstract(token.span)),
+        _ => None,
+    }
+}
+
+/// The annotation at the front, and what follows it.
+fn annotation(tokens: &[Token]) -> Option<(Annotation, &[Token])> {
+    let rest = expect(tokens, TokenKind::At)?;
+    let (name, rest) = identifier(rest)?;
+    let note = Annotation {
+        name: name.name,
+        span: covered(tokens, rest),
+    };
+    Some((note, rest))
+}
+
+/// The modifier at the front, and what follows it.
+fn modifier(tokens: &[Token]) -> Option<(Modifier, &[Token])> {
+    if let Some((note, rest)) = annotation(tokens) {
+        return Some((Modifier::Annotation(note), rest));
+    }
+    let (first, rest) = next(tokens)?;
+    let found = word(&first)?;
+    Some((found, rest))
+}
+
+/// The modifiers at the front, as many as there are, and what follows them.
+pub fn read_modifiers(
+    alloc: Global,
+    tokens: &[Token],
+) -> Result<(Vec<Modifier>, &[Token]), OutOfMemory> {
+    let mut all = Vec::new(alloc);
+    let mut left = tokens;
+    'modifiers: loop {
+        match modifier(left) {
+            None => return Ok((all, left)),
+            Some((found, rest)) => {
+                put(&mut all, found)?;
+                left = rest;
+            }
+        }
+    }
+}
