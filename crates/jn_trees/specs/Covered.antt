@@ -1,5 +1,5 @@
 -- The place of the tokens that stand before others.
-use Rattle.std.specs.Prelude.{ℕ, ◌-◌, List, [], ◌∷◌, length, Option, Some, None, slice_get}
+use Rattle.std.specs.Prelude.{◌-◌, List, length, Option, Some, None, slice_get}
 use Rattle.jn_base.specs.declared.place.Span.{Span}
 use Rattle.jn_trees.specs.declared.token.Token.{Token}
 

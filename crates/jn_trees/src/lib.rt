@@ -1,6 +1,7 @@
 // Tokens, names and trees.
 #![tactic(auto)]
 
+pub mod brackets;
 pub mod context;
 pub mod declaration;
 pub mod expression;
@@ -10,6 +11,7 @@ pub mod reading;
 pub mod statement;
 pub mod token;
 
+pub use brackets::too_deep;
 pub use context::{Context, Owner};
 pub use declaration::{
     FileTree, Import, Member, Modifier, PackageLine, Parameter, QualifiedName, Receiver, ResultUse,

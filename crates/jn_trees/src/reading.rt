@@ -24,13 +24,7 @@ pub fn expect(tokens: &[Token], kind: TokenKind) -> Option<&[Token]>
 {
     match next(tokens) {
         None => None,
-        Some((first, rest)) => {
-            if first.kind == kind {
-                Some(rest)
-            } else {
-                None
-            }
-        }
+        Some((first, rest)) => { if first.kind == kind { Some(rest) } else { None } }
     }
 }
 
@@ -72,7 +66,10 @@ pub fn covered(tokens: &[Token], rest: &[Token]) -> Span
     ensures { result ≡ covered tokens.now rest.now }
 {
     let first = span_at(tokens, 0);
-    let last = span_at(tokens, tokens.len().saturating_sub(rest.len()).saturating_sub(1));
+    let last = span_at(
+        tokens,
+        tokens.len().saturating_sub(rest.len()).saturating_sub(1),
+    );
     Span {
         file: first.file,
         from: first.from,

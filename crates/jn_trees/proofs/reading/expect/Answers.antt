@@ -1,6 +1,4 @@
-use Rattle.std.proofs.Common.{◌≡◌, ◌∷◌, List, sym, ap, ◌∙◌}
-use Rattle.jn_trees.specs.declared.token.TokenKind.{TokenKind as Kind}
-use Rattle.jn_trees.specs.declared.token.Token.{Token}
+use Rattle.std.proofs.Common.{◌∷◌, sym, ap, ◌∙◌}
 use Rattle.jn_trees.specs.Pieces.{kinds}
 use Rattle.jn_trees.proofs.SameTokens.{same_tokens, other_token}
 use Rattle.jn_trees.proofs.reading.expect.Goals as goal
