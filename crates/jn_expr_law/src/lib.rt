@@ -1,0 +1,2 @@
+// The grammar of expressions: a reader, and laws on what it reads.
+#![tactic(auto)]
