@@ -1,0 +1,18 @@
+-- Pieces read one after another.
+use Rattle.std.specs.Prelude.{◌≡◌, ℕ, zero, suc, List, [], ◌∷◌, Option, Some, None}
+use Rattle.jn_trees.specs.declared.token.TokenKind.{TokenKind}
+use Rattle.jn_trees.specs.Pieces.{Language}
+
+-- a piece and the tokens behind it, or none
+abbrev pub Found : Language → Type 0
+Found L = Option (L.Piece × List TokenKind)
+
+-- reading again and again, at most n times: the pieces, and what is left
+abbrev pub run : (L : Language) → (L.State → List TokenKind → Found L) → ℕ → L.State → List TokenKind → List L.Piece × List TokenKind
+run L read zero s ts = ([], ts)
+run L read (suc n) s ts = elim (read s ts) as (λ _. List L.Piece × List TokenKind) [ None ↦ ([], ts) | Some r ↦ (let q = run L read n (L.next s r.0) r.1 in (r.0 ∷ q.0, q.1)) ]
+
+-- these pieces are read one after another, and then u stands around and the rest is left
+abbrev pub ReadsRow : (L : Language) → (L.State → List TokenKind → Found L) → L.State → List TokenKind → List L.Piece → L.State → List TokenKind → Type 0
+ReadsRow L read s ts [] u rest = (s ≡ u) × (ts ≡ rest)
+ReadsRow L read s ts (p ∷ ps) u rest = (us : List TokenKind) × (read s ts ≡ Some (p, us)) × ReadsRow L read (L.next s p) us ps u rest

@@ -1,0 +1,2 @@
+// Files as pieces in order.
+#![tactic(auto)]
