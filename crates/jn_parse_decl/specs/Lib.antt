@@ -1,1 +1,3 @@
 pub mod Bearers
+pub mod Front
+pub mod Seen

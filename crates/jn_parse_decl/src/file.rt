@@ -7,9 +7,9 @@ ghost use Rattle.jn_trees.specs.View.{file_view};
 use crate::building::{Built, add, finished, nothing};
 use crate::piece::{Around, behind};
 use crate::pieces::read_piece;
-use crate::stubs::too_deep;
 use jn_base::{Code, Fail, FileNo, OutOfMemory, Row, Span};
-use jn_trees::{FileTree, Token};
+use jn_trees::reading::covered;
+use jn_trees::{FileTree, Token, too_deep};
 use std::alloc::Global;
 
 /// The one well-formed tree that spells the tokens of a file, or its syntax row: S2 at the first token with more than 200 open brackets, else S1 at the place where well-formed pieces end. `end` is the text's length in bytes, the place of a fault behind the last token.
@@ -43,7 +43,7 @@ pub fn parse_file(
 }
 
 /// The file, where no token is left and nothing is open.
-fn whole(built: Built<'_>, left: &[Token]) -> Option<FileTree> {
+fn whole(built: Built, left: &[Token]) -> Option<FileTree> {
     if left.is_empty() {
         finished(built)
     } else {
@@ -52,10 +52,10 @@ fn whole(built: Built<'_>, left: &[Token]) -> Option<FileTree> {
 }
 
 /// What the pieces at the front build, as many as there are, and what follows them.
-fn read_pieces<'t>(
+fn read_pieces(
     alloc: Global,
-    tokens: &'t [Token],
-) -> Result<(Built<'t>, &'t [Token]), OutOfMemory> {
+    tokens: &[Token],
+) -> Result<(Built, &[Token]), OutOfMemory> {
     let mut built = nothing(alloc);
     let mut around = Around::AtStart;
     let mut left = tokens;
@@ -64,7 +64,7 @@ fn read_pieces<'t>(
             None => return Ok((built, left)),
             Some((piece, rest)) => {
                 around = behind(around, &piece);
-                built = add(alloc, built, piece, left, rest)?;
+                built = add(alloc, built, piece, covered(left, rest))?;
                 left = rest;
             }
         }

@@ -4,6 +4,7 @@
 mod building;
 mod file;
 mod heads;
+mod lines;
 mod members;
 mod modifiers;
 mod names;

@@ -1,12 +1,18 @@
 // Modifiers of types and members (JLS 8.1.1, 8.3.1, 8.4.3, 8.8.3, 9.4).
-ghost use Rattle.std.specs.Prelude.{◌≡◌, ◌&&◌};
+ghost use Rattle.std.specs.Prelude.{◌≡◌, ◌&&◌, ◌∷◌, [], List, MatchOption, IfOk, option_map};
+ghost use Rattle.jn_base.specs.declared.number.NameNo.{NameNo as Name};
+ghost use Rattle.jn_trees.specs.declared.token.TokenKind.{TokenKind as Kind};
 ghost use Rattle.jn_trees.specs.View.{mark, marks};
+ghost use Rattle.jn_trees.specs.Pieces.{kinds};
 ghost use Rattle.jn_trees.specs.WellFormed as good;
+ghost use Rattle.jn_file_law.specs.PieceReader.{read_all_marks, add_mark, good_marks};
 ghost use Rattle.jn_parse_decl.specs.Bearers.{may};
+ghost use Rattle.jn_parse_decl.specs.Front.{word_mark};
 
+use crate::names::behind_mark;
 use crate::put::put;
 use jn_base::OutOfMemory;
-use jn_trees::reading::{covered, expect, identifier, next};
+use jn_trees::reading::{covered, next};
 use jn_trees::{Annotation, Modifier, Token, TokenKind};
 use std::alloc::Global;
 
@@ -159,7 +165,7 @@ fn no_clash(modifiers: &[Modifier]) -> bool
 
 /// Whether each of these may stand before that, and no two clash.
 pub fn may_all_stand(modifiers: &[Modifier], bearer: Bearer) -> bool
-    ensures { result ≡ (good.every (may bearer) (marks modifiers.now) && good.no_clash (marks modifiers.now)) }
+    ensures { result ≡ good_marks (may bearer) (marks modifiers.now) }
 {
     all_may_stand(modifiers, bearer) && no_clash(modifiers)
 }
@@ -177,7 +183,9 @@ pub fn has_static(modifiers: &[Modifier]) -> bool
 }
 
 /// The modifier that one word is.
-fn word(token: &Token) -> Option<Modifier> {
+fn word(token: &Token) -> Option<Modifier>
+    ensures { option_map mark result ≡ word_mark token.now.kind }
+{
     match token.kind {
         TokenKind::Public => Some(Modifier::Public(token.span)),
         TokenKind::Protected => Some(Modifier::Protected(token.span)),
@@ -189,32 +197,38 @@ fn word(token: &Token) -> Option<Modifier> {
     }
 }
 
-/// The annotation at the front, and what follows it.
-fn annotation(tokens: &[Token]) -> Option<(Annotation, &[Token])> {
-    let rest = expect(tokens, TokenKind::At)?;
-    let (name, rest) = identifier(rest)?;
-    let note = Annotation {
-        name: name.name,
-        span: covered(tokens, rest),
-    };
-    Some((note, rest))
-}
-
-/// The modifier at the front, and what follows it.
-fn modifier(tokens: &[Token]) -> Option<(Modifier, &[Token])> {
-    if let Some((note, rest)) = annotation(tokens) {
-        return Some((Modifier::Annotation(note), rest));
-    }
+/// The modifier at the front where no annotation is, and what follows it.
+fn word_modifier(tokens: &[Token]) -> Option<(Modifier, &[Token])>
+    ensures { ((n : Name) (rest : List Kind) → kinds tokens.now ≡ Kind.At ∷ Kind.Id n ∷ rest → ⊥) → MatchOption result (read_all_marks (kinds tokens.now) ≡ ([], kinds tokens.now)) (λ r. read_all_marks (kinds tokens.now) ≡ add_mark (mark r.0) (read_all_marks (kinds r.1.now))) }
+{
     let (first, rest) = next(tokens)?;
     let found = word(&first)?;
     Some((found, rest))
+}
+
+/// The modifier at the front, and what follows it.
+fn modifier(tokens: &[Token]) -> Option<(Modifier, &[Token])>
+    ensures { MatchOption result (read_all_marks (kinds tokens.now) ≡ ([], kinds tokens.now)) (λ r. read_all_marks (kinds tokens.now) ≡ add_mark (mark r.0) (read_all_marks (kinds r.1.now))) }
+{
+    match behind_mark(tokens, TokenKind::At) {
+        Some((name, rest)) => Some((
+            Modifier::Annotation(Annotation {
+                name: name.name,
+                span: covered(tokens, rest),
+            }),
+            rest,
+        )),
+        None => word_modifier(tokens),
+    }
 }
 
 /// The modifiers at the front, as many as there are, and what follows them.
 pub fn read_modifiers(
     alloc: Global,
     tokens: &[Token],
-) -> Result<(Vec<Modifier>, &[Token]), OutOfMemory> {
+) -> Result<(Vec<Modifier>, &[Token]), OutOfMemory>
+    ensures { IfOk result (λ r. read_all_marks (kinds tokens.now) ≡ (marks r.0.items, kinds r.1.now)) }
+{
     let mut all = Vec::new(alloc);
     let mut left = tokens;
     'modifiers: loop {

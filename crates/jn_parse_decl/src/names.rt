@@ -1,26 +1,37 @@
-// Lists of names, and the lines that begin a file (JLS 7.4, 7.5).
+// Names behind marks, and lists of them.
+ghost use Rattle.std.specs.Prelude.{◌≡◌, ◌∷◌, List, MatchOption, IfOk};
+ghost use Rattle.jn_base.specs.declared.number.NameNo.{NameNo as Name};
+ghost use Rattle.jn_trees.specs.declared.token.TokenKind.{TokenKind as Kind};
+ghost use Rattle.jn_trees.specs.View.{identifier_names, parent_view};
+ghost use Rattle.jn_trees.specs.Pieces.{kinds};
+ghost use Rattle.jn_file_law.specs.PieceReader.{read_dots, read_more_names, read_parent, read_implements, read_extends, add_name};
+ghost use Rattle.jn_parse_decl.specs.Front.{prepend};
+
 use crate::put::put;
 use jn_base::OutOfMemory;
-use jn_trees::reading::{covered, expect, identifier};
-use jn_trees::{Identifier, Import, PackageLine, QualifiedName, Token, TokenKind};
+use jn_trees::reading::{expect, identifier};
+use jn_trees::{Identifier, Token, TokenKind};
 use std::alloc::Global;
 
-/// The name behind this mark.
-fn behind_mark(tokens: &[Token], mark: TokenKind) -> Option<(Identifier, &[Token])> {
+/// The name behind this mark, and what follows it.
+pub fn behind_mark(tokens: &[Token], mark: TokenKind) -> Option<(Identifier, &[Token])>
+    ensures { MatchOption result ((n : Name) (rest : List Kind) → kinds tokens.now ≡ mark ∷ Kind.Id n ∷ rest → ⊥) (λ r. kinds tokens.now ≡ mark ∷ Kind.Id r.0.name ∷ kinds r.1.now) }
+{
     let rest = expect(tokens, mark)?;
     identifier(rest)
 }
 
-/// These names, then those that stand behind a mark each, as many as there are, and what follows them.
-fn marked_names(
-    before: Vec<Identifier>,
+/// The names at the front with a dot before each, as many as there are, and what follows them.
+pub fn dotted_names(
+    alloc: Global,
     tokens: &[Token],
-    mark: TokenKind,
-) -> Result<(Vec<Identifier>, &[Token]), OutOfMemory> {
-    let mut all = before;
+) -> Result<(Vec<Identifier>, &[Token]), OutOfMemory>
+    ensures { IfOk result (λ r. read_dots (kinds tokens.now) ≡ (identifier_names r.0.items, kinds r.1.now)) }
+{
+    let mut all = Vec::new(alloc);
     let mut left = tokens;
     'names: loop {
-        match behind_mark(left, mark) {
+        match behind_mark(left, TokenKind::Dot) {
             None => return Ok((all, left)),
             Some((name, rest)) => {
                 put(&mut all, name)?;
@@ -30,102 +41,71 @@ fn marked_names(
     }
 }
 
-/// The name with dots at the front, as long as it goes, and what follows it.
-fn qualified_name(
-    alloc: Global,
+/// These names, then those at the front with a comma before each, as many as there are, and what follows them.
+fn more_names(
+    before: Vec<Identifier>,
     tokens: &[Token],
-) -> Result<Option<(QualifiedName, &[Token])>, OutOfMemory> {
-    match identifier(tokens) {
-        None => Ok(None),
-        Some((first, rest)) => {
-            let (more, rest) = marked_names(Vec::new(alloc), rest, TokenKind::Dot)?;
-            Ok(Some((QualifiedName { first, more }, rest)))
+) -> Result<(Vec<Identifier>, &[Token]), OutOfMemory>
+    ensures { IfOk result (λ r. prepend (identifier_names before.items) (read_more_names (kinds tokens.now)) ≡ (identifier_names r.0.items, kinds r.1.now)) }
+{
+    let mut all = before;
+    let mut left = tokens;
+    'names: loop {
+        match behind_mark(left, TokenKind::Comma) {
+            None => return Ok((all, left)),
+            Some((name, rest)) => {
+                put(&mut all, name)?;
+                left = rest;
+            }
         }
     }
 }
 
-/// The package line at the front, and what follows it.
-pub fn package_line(
-    alloc: Global,
-    tokens: &[Token],
-) -> Result<Option<(PackageLine, &[Token])>, OutOfMemory> {
-    let after = match expect(tokens, TokenKind::Package) {
-        None => return Ok(None),
-        Some(after) => after,
-    };
-    match qualified_name(alloc, after)? {
-        None => Ok(None),
-        Some((name, rest)) => Ok(ended_package(tokens, name, rest)),
-    }
-}
-
-fn ended_package<'t>(
-    tokens: &[Token],
-    name: QualifiedName,
-    rest: &'t [Token],
-) -> Option<(PackageLine, &'t [Token])> {
-    let rest = expect(rest, TokenKind::Semicolon)?;
-    let span = covered(tokens, rest);
-    Some((PackageLine { name, span }, rest))
-}
-
-/// Whether `.*` is at the front, and what follows it.
-fn star(tokens: &[Token]) -> (bool, &[Token]) {
-    match expect(tokens, TokenKind::Dot) {
-        None => (false, tokens),
-        Some(rest) => match expect(rest, TokenKind::Star) {
-            None => (false, tokens),
-            Some(rest) => (true, rest),
-        },
-    }
-}
-
-/// The import at the front, and what follows it.
-pub fn import_line(
-    alloc: Global,
-    tokens: &[Token],
-) -> Result<Option<(Import, &[Token])>, OutOfMemory> {
-    let after = match expect(tokens, TokenKind::Import) {
-        None => return Ok(None),
-        Some(after) => after,
-    };
-    match qualified_name(alloc, after)? {
-        None => Ok(None),
-        Some((name, rest)) => Ok(ended_import(tokens, name, rest)),
-    }
-}
-
-fn ended_import<'t>(
-    tokens: &[Token],
-    name: QualifiedName,
-    rest: &'t [Token],
-) -> Option<(Import, &'t [Token])> {
-    let (all, rest) = star(rest);
-    let rest = expect(rest, TokenKind::Semicolon)?;
-    let span = covered(tokens, rest);
-    Some((Import { name, all, span }, rest))
-}
-
 /// The name behind `extends`, where it is at the front, and what follows it.
-pub fn parent(tokens: &[Token]) -> (Option<Identifier>, &[Token]) {
+pub fn parent(tokens: &[Token]) -> (Option<Identifier>, &[Token])
+    ensures { read_parent (kinds tokens.now) ≡ (parent_view result.0, kinds result.1.now) }
+{
     match behind_mark(tokens, TokenKind::Extends) {
         None => (None, tokens),
         Some((name, rest)) => (Some(name), rest),
     }
 }
 
-/// The names behind a word, where it is at the front, and what follows them.
-pub fn names_behind(
+/// The names behind `implements`, where it is at the front, and what follows them.
+pub fn implemented(
     alloc: Global,
     tokens: &[Token],
-    word: TokenKind,
-) -> Result<(Vec<Identifier>, &[Token]), OutOfMemory> {
-    match behind_mark(tokens, word) {
+) -> Result<(Vec<Identifier>, &[Token]), OutOfMemory>
+    ensures { IfOk result (λ r. read_implements (kinds tokens.now) ≡ (identifier_names r.0.items, kinds r.1.now)) }
+{
+    match behind_mark(tokens, TokenKind::Implements) {
         None => Ok((Vec::new(alloc), tokens)),
-        Some((first, rest)) => {
-            let mut all = Vec::new(alloc);
-            put(&mut all, first)?;
-            marked_names(all, rest, TokenKind::Comma)
-        }
+        Some((first, rest)) => names_from(alloc, first, rest),
     }
+}
+
+/// The names behind `extends`, where it is at the front, and what follows them.
+pub fn extended(
+    alloc: Global,
+    tokens: &[Token],
+) -> Result<(Vec<Identifier>, &[Token]), OutOfMemory>
+    ensures { IfOk result (λ r. read_extends (kinds tokens.now) ≡ (identifier_names r.0.items, kinds r.1.now)) }
+{
+    match behind_mark(tokens, TokenKind::Extends) {
+        None => Ok((Vec::new(alloc), tokens)),
+        Some((first, rest)) => names_from(alloc, first, rest),
+    }
+}
+
+/// A first name and those behind it.
+fn names_from(
+    alloc: Global,
+    first: Identifier,
+    tokens: &[Token],
+) -> Result<(Vec<Identifier>, &[Token]), OutOfMemory>
+    ensures { IfOk result (λ r. add_name first.name (read_more_names (kinds tokens.now)) ≡ (identifier_names r.0.items, kinds r.1.now)) }
+{
+    let mut all = Vec::new(alloc);
+    put(&mut all, first)?;
+    more_names(all, tokens)
 }

@@ -1,9 +1,28 @@
 // The pieces of a file, and what stands around each.
-use crate::heads::TypeHead;
+ghost use Rattle.std.specs.Prelude.{◌≡◌};
+ghost use Rattle.jn_trees.specs.Pieces as trees;
+ghost use Rattle.jn_parse_decl.specs.Seen.{piece_view, around_view, head_piece};
+
 use jn_trees::{
     Declarator, Identifier, Import, Modifier, Owner, PackageLine, Parameter, Receiver, ResultUse,
     Stmt, TypeUse,
 };
+
+/// What stands before the members of a type.
+#[derive(Drop)]
+pub enum TypeHead {
+    Class {
+        modifiers: Vec<Modifier>,
+        name: Identifier,
+        parent: Option<Identifier>,
+        interfaces: Vec<Identifier>,
+    },
+    Interface {
+        modifiers: Vec<Modifier>,
+        name: Identifier,
+        parents: Vec<Identifier>,
+    },
+}
 
 /// A declaration of fields.
 #[derive(Drop)]
@@ -60,7 +79,9 @@ pub enum Around {
 }
 
 /// What stands around the piece behind this one.
-pub fn behind(around: Around, piece: &Piece) -> Around {
+pub fn behind(around: Around, piece: &Piece) -> Around
+    ensures { around_view result ≡ trees.behind (around_view around) (piece_view piece.now) }
+{
     match around {
         Around::InType(owner) => behind_member(owner, piece),
         Around::InBody { owner, .. } => behind_statement(owner, piece),
@@ -68,7 +89,9 @@ pub fn behind(around: Around, piece: &Piece) -> Around {
     }
 }
 
-fn behind_member(owner: Owner, piece: &Piece) -> Around {
+fn behind_member(owner: Owner, piece: &Piece) -> Around
+    ensures { around_view result ≡ trees.behind_member owner (piece_view piece.now) }
+{
     match piece {
         Piece::MethodHead(_) => Around::InBody {
             owner,
@@ -83,7 +106,9 @@ fn behind_member(owner: Owner, piece: &Piece) -> Around {
     }
 }
 
-fn behind_statement(owner: Owner, piece: &Piece) -> Around {
+fn behind_statement(owner: Owner, piece: &Piece) -> Around
+    ensures { around_view result ≡ trees.behind_statement owner (piece_view piece.now) }
+{
     match piece {
         Piece::BodyEnd => Around::InType(owner),
         _ => Around::InBody {
@@ -93,22 +118,26 @@ fn behind_statement(owner: Owner, piece: &Piece) -> Around {
     }
 }
 
-fn behind_outer(piece: &Piece) -> Around {
+fn behind_outer(piece: &Piece) -> Around
+    ensures { around_view result ≡ trees.behind_outer (piece_view piece.now) }
+{
     match piece {
-        Piece::TypeHead(head) => Around::InType(owner_of(head)),
+        Piece::TypeHead(head) => in_type(head),
         _ => Around::BehindLines,
     }
 }
 
-fn owner_of(head: &TypeHead) -> Owner {
+fn in_type(head: &TypeHead) -> Around
+    ensures { around_view result ≡ trees.behind_outer (head_piece head.now) }
+{
     match head {
-        TypeHead::Class { name, .. } => Owner {
+        TypeHead::Class { name, .. } => Around::InType(Owner {
             interface: false,
             name: name.name,
-        },
-        TypeHead::Interface { name, .. } => Owner {
+        }),
+        TypeHead::Interface { name, .. } => Around::InType(Owner {
             interface: true,
             name: name.name,
-        },
+        }),
     }
 }

@@ -1,0 +1,3 @@
+pub mod Absent
+pub mod Marks
+pub mod Rows
