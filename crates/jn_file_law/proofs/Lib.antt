@@ -1,1 +1,9 @@
 pub mod Places
+pub mod HeadsRead
+pub mod Parts
+pub mod ParametersRead
+pub mod MembersRead
+pub mod PiecesRead
+pub mod TreePieces
+pub mod Building
+pub mod FileLaws

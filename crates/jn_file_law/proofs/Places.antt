@@ -123,7 +123,7 @@ row_full L R s (p ∷ ps) o =
     let here : R.read s (L.spelling p ++ more) ≡ Some (p, more) = exactly L R.quiet p more (R.read s (L.spelling p ++ more)) (R.full s p more o.0) (quiet_row L R (L.next s p) ps o.1) in
     (more, ap (λ x. R.read s x) (append_assoc (L.spelling p) (spell_pieces L ps) []) ∙ here, row_full L R (L.next s p) ps o.1)
 
-nothing_left : (L : Language) (s : L.State) (o : Found L) → SoundPiece L s [] o → o ≡ None
+pub nothing_left : (L : Language) (s : L.State) (o : Found L) → SoundPiece L s [] o → o ≡ None
 nothing_left L s None h = refl
 nothing_left L s (Some r) h = absurd (omega (arith, h.2))
 

@@ -1,5 +1,5 @@
 pub mod Runs
 pub mod Built
-pub mod Stubs
+pub mod TreePieces
 pub mod PieceReader
 pub mod Progress

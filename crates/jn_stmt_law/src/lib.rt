@@ -1,2 +1,4 @@
-// The theory of statements: what a well-formed statement spells is read in one way.
+// The grammar of statements: a reader, and laws on what it reads.
 #![tactic(auto)]
+
+pub mod law;
