@@ -15,14 +15,14 @@ use Rattle.jn_stmt_law.proofs.Fronts.{parameter_sound, parameter_exact}
 use Rattle.jn_stmt_law.proofs.Wholes.{Whole, exact_tree}
 
 -- values
-abbrev SoundValue : ℕ → List TokenKind → Behind (Option Tree) → Type 0
+abbrev pub SoundValue : ℕ → List TokenKind → Behind (Option Tree) → Type 0
 SoundValue d ts r = Spelled spell_value ts r × GoodOptional r.0 × (nesting_optional r.0 ≤ d)
 
 value_or_sound : (d : ℕ) (ts : List TokenKind) (o : Try) → Sound 11 d ts o → SoundValue d (Assign ∷ ts) (value_or (Assign ∷ ts) o)
 value_or_sound d ts None s = (refl, tt, omega arith)
 value_or_sound d ts (Some r) s = (ap (λ x. Assign ∷ x) s.0, s.1, s.3)
 
-value_sound : (d : ℕ) (whole : List TokenKind → Try) → Whole d whole → (ts : List TokenKind) → SoundValue d ts (read_value whole ts)
+pub value_sound : (d : ℕ) (whole : List TokenKind → Try) → Whole d whole → (ts : List TokenKind) → SoundValue d ts (read_value whole ts)
 value_sound d whole w (Assign ∷ ts) = value_or_sound d ts (whole ts) (w.sound ts)
 value_sound d whole w _ = (refl, tt, omega arith)
 

@@ -5,3 +5,5 @@ pub mod Declarators
 pub mod StatementsSound
 pub mod Statements
 pub mod Laws
+pub mod Steps
+pub mod Examples
