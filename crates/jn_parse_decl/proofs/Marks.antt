@@ -6,6 +6,8 @@ use Rattle.jn_trees.specs.declared.token.TokenKind.TheVariants.{Id, At, Public, 
 use Rattle.jn_trees.specs.Trees.{Mark, NoteMark, PublicMark, ProtectedMark, PrivateMark, StaticMark, ConstantMark, AbstractMark}
 use Rattle.jn_trees.specs.WellFormed.{clashes_none, no_clash, is_access}
 use Rattle.jn_file_law.specs.PieceReader.{read_all_marks, add_mark}
+use Rattle.jn_parse_decl.specs.declared.modifiers.Words.{Words}
+use Rattle.jn_parse_decl.specs.Clear.{clear, unless}
 use Rattle.jn_parse_decl.specs.Front.{word_mark}
 
 -- a word that is a mark
@@ -31,16 +33,10 @@ no_mark Final ts e h = cc
 no_mark Abstract ts e h = cc
 no_mark _ ts e h = refl
 
--- no mark of this kind, where one stands before
-abbrev pub unless : Bool → Mark → List Mark → Bool
-unless before m ms = not before || clashes_none m ms
-
--- no two clash, neither among each other nor with those before
-abbrev pub clear : Bool → Bool → Bool → Bool → List Mark → Bool
-clear access fixed constant without_body ms = no_clash ms && (unless access PublicMark ms && (unless fixed StaticMark ms && (unless constant ConstantMark ms && unless without_body AbstractMark ms)))
-
-pub clear_start : (ms : List Mark) → clear false false false false ms ≡ no_clash ms
-clear_start ms = elim (no_clash ms) as (λ b. (b && true) ≡ b) [ true ↦ refl | false ↦ refl ]
+pub clear_start : (w : Words) (ms : List Mark) → w.access ≡ false → w.fixed ≡ false → w.constant ≡ false → w.without_body ≡ false → clear w ms ≡ no_clash ms
+clear_start w ms a f c b =
+    let e : clear w ms ≡ (no_clash ms && ((not false || clashes_none PublicMark ms) && ((not false || clashes_none StaticMark ms) && ((not false || clashes_none ConstantMark ms) && (not false || clashes_none AbstractMark ms))))) = cc in
+    e ∙ elim (no_clash ms) as (λ b. (b && true) ≡ b) [ true ↦ refl | false ↦ refl ]
 
 protected_same : (ms : List Mark) → clashes_none ProtectedMark ms ≡ clashes_none PublicMark ms
 protected_same [] = refl
@@ -53,13 +49,6 @@ private_same (m ∷ ms) = ap (λ b. not (is_access m) && b) (private_same ms)
 note_none : (n : NameNo) (ms : List Mark) → clashes_none (NoteMark n) ms ≡ true
 note_none n [] = refl
 note_none n (m ∷ ms) = note_none n ms
-
-pub clear_note : (n : NameNo) (a f c w : Bool) (ms : List Mark) → clear a f c w (NoteMark n ∷ ms) ≡ clear a f c w ms
-clear_note n a f c w ms = ap (λ b. (b && no_clash ms) && (unless a PublicMark ms && (unless f StaticMark ms && (unless c ConstantMark ms && unless w AbstractMark ms)))) (note_none n ms)
-
-or_false : (a : Bool) → (not a || false) ≡ not a
-or_false true = refl
-or_false false = refl
 
 -- booleans of one step
 access_step : (a n k u v w : Bool) → ((k && n) && ((not a || false) && (u && (v && w)))) ≡ cond a false (n && ((not true || k) && (u && (v && w))))
@@ -101,24 +90,26 @@ third_step false false false u v w = refl
 fourth_step : (d n k u v w : Bool) → ((k && n) && (u && (v && (w && (not d || false))))) ≡ cond d false (n && (u && (v && (w && (not true || k)))))
 fourth_step d n k u v w = grind arith
 
-pub clear_public : (a f c w : Bool) (ms : List Mark) → clear a f c w (PublicMark ∷ ms) ≡ cond a false (clear true f c w ms)
-clear_public a f c w ms = access_step a (no_clash ms) (clashes_none PublicMark ms) (unless f StaticMark ms) (unless c ConstantMark ms) (unless w AbstractMark ms)
+pub clear_note : (n : NameNo) (w : Words) (ms : List Mark) → clear w (NoteMark n ∷ ms) ≡ clear w ms
+clear_note n w ms = ap (λ b. (b && no_clash ms) && (unless w.access PublicMark ms && (unless w.fixed StaticMark ms && (unless w.constant ConstantMark ms && unless w.without_body AbstractMark ms)))) (note_none n ms)
 
-pub clear_protected : (a f c w : Bool) (ms : List Mark) → clear a f c w (ProtectedMark ∷ ms) ≡ cond a false (clear true f c w ms)
-clear_protected a f c w ms =
-    ap (λ b. (b && no_clash ms) && ((not a || false) && (unless f StaticMark ms && (unless c ConstantMark ms && unless w AbstractMark ms)))) (protected_same ms)
-    ∙ access_step a (no_clash ms) (clashes_none PublicMark ms) (unless f StaticMark ms) (unless c ConstantMark ms) (unless w AbstractMark ms)
+pub clear_protected : (w : Words) (ms : List Mark) → clear w (ProtectedMark ∷ ms) ≡ clear w (PublicMark ∷ ms)
+clear_protected w ms =
+    ap (λ b. (b && no_clash ms) && ((not w.access || false) && (unless w.fixed StaticMark ms && (unless w.constant ConstantMark ms && unless w.without_body AbstractMark ms)))) (protected_same ms)
 
-pub clear_private : (a f c w : Bool) (ms : List Mark) → clear a f c w (PrivateMark ∷ ms) ≡ cond a false (clear true f c w ms)
-clear_private a f c w ms =
-    ap (λ b. (b && no_clash ms) && ((not a || false) && (unless f StaticMark ms && (unless c ConstantMark ms && unless w AbstractMark ms)))) (private_same ms)
-    ∙ access_step a (no_clash ms) (clashes_none PublicMark ms) (unless f StaticMark ms) (unless c ConstantMark ms) (unless w AbstractMark ms)
+pub clear_private : (w : Words) (ms : List Mark) → clear w (PrivateMark ∷ ms) ≡ clear w (PublicMark ∷ ms)
+clear_private w ms =
+    ap (λ b. (b && no_clash ms) && ((not w.access || false) && (unless w.fixed StaticMark ms && (unless w.constant ConstantMark ms && unless w.without_body AbstractMark ms)))) (private_same ms)
 
-pub clear_static : (a f c w : Bool) (ms : List Mark) → clear a f c w (StaticMark ∷ ms) ≡ cond f false (clear a true c w ms)
-clear_static a f c w ms = second_step f (no_clash ms) (clashes_none StaticMark ms) (unless a PublicMark ms) (unless c ConstantMark ms) (unless w AbstractMark ms)
+-- a word more, where it stood before and where it did not
+pub clear_public : (w : Words) (ms : List Mark) → clear w (PublicMark ∷ ms) ≡ cond w.access false (clear (record w { access = true }) ms)
+clear_public w ms = access_step w.access (no_clash ms) (clashes_none PublicMark ms) (unless w.fixed StaticMark ms) (unless w.constant ConstantMark ms) (unless w.without_body AbstractMark ms)
 
-pub clear_constant : (a f c w : Bool) (ms : List Mark) → clear a f c w (ConstantMark ∷ ms) ≡ cond c false (clear a f true w ms)
-clear_constant a f c w ms = third_step c (no_clash ms) (clashes_none ConstantMark ms) (unless a PublicMark ms) (unless f StaticMark ms) (unless w AbstractMark ms)
+pub clear_static : (w : Words) (ms : List Mark) → clear w (StaticMark ∷ ms) ≡ cond w.fixed false (clear (record w { fixed = true }) ms)
+clear_static w ms = second_step w.fixed (no_clash ms) (clashes_none StaticMark ms) (unless w.access PublicMark ms) (unless w.constant ConstantMark ms) (unless w.without_body AbstractMark ms)
 
-pub clear_abstract : (a f c w : Bool) (ms : List Mark) → clear a f c w (AbstractMark ∷ ms) ≡ cond w false (clear a f c true ms)
-clear_abstract a f c w ms = fourth_step w (no_clash ms) (clashes_none AbstractMark ms) (unless a PublicMark ms) (unless f StaticMark ms) (unless c ConstantMark ms)
+pub clear_constant : (w : Words) (ms : List Mark) → clear w (ConstantMark ∷ ms) ≡ cond w.constant false (clear (record w { constant = true }) ms)
+clear_constant w ms = third_step w.constant (no_clash ms) (clashes_none ConstantMark ms) (unless w.access PublicMark ms) (unless w.fixed StaticMark ms) (unless w.without_body AbstractMark ms)
+
+pub clear_abstract : (w : Words) (ms : List Mark) → clear w (AbstractMark ∷ ms) ≡ cond w.without_body false (clear (record w { without_body = true }) ms)
+clear_abstract w ms = fourth_step w.without_body (no_clash ms) (clashes_none AbstractMark ms) (unless w.access PublicMark ms) (unless w.fixed StaticMark ms) (unless w.constant ConstantMark ms)

@@ -1,10 +1,13 @@
 -- What loops keep that read one item after another.
-use Rattle.std.proofs.Common.{◌≡◌, ℕ, zero, suc, ◌<◌, List, [], ◌∷◌, ◌++◌, map, refl, sym, ap, ◌∙◌, append-nil, length, arith, Option, Some, None, subst}
+use Rattle.std.proofs.Common.{◌≡◌, ℕ, zero, suc, ◌+◌, ◌<◌, List, [], ◌∷◌, ◌++◌, map, refl, sym, ap, ◌∙◌, append-nil, length, length-append, arith, Option, Some, None, subst}
 use Rattle.jn_base.specs.declared.number.NameNo.{NameNo}
 use Rattle.jn_trees.specs.declared.token.TokenKind.{TokenKind}
 use Rattle.jn_trees.specs.declared.token.TokenKind.TheVariants.{Id, RightParen, Comma}
 use Rattle.jn_trees.specs.Trees.{LocalMark, TypeUseTree, ParameterTree}
+use Rattle.jn_trees.specs.Spelling.{spell_marks, spell_type_use}
+use Rattle.jn_stmt_law.specs.Fronts.{SpelledIfRead}
 use Rattle.jn_stmt_law.specs.Parts.{read_marks, read_type_use}
+use Rattle.jn_stmt_law.proofs.Fronts.{marks_spell, type_use_spells}
 use Rattle.jn_file_law.specs.PieceReader.{TryParameters, after_type, parameter_end, parameter_from, add_parameter, more_parameters_from, read_more_parameters}
 use Rattle.jn_parse_decl.specs.Front.{prepend, prepend_parameters, name_behind, one_parameter}
 use Rattle.jn_parse_decl.proofs.Absent.{no_more}
@@ -98,6 +101,34 @@ goes before left after rest p whole (suc n) room gives e is less =
 
 pub going_on : (before : List ParameterTree) (left after rest : List TokenKind) (p : ParameterTree) (whole : TryParameters) → Going before left whole → left ≡ Comma ∷ after → one_parameter after ≡ Some (p, rest) → length rest < length after → Going (before ++ p ∷ []) rest whole
 going_on before left after rest p whole g e is less = goes before left after rest p whole g.n g.room g.gives e is less
+
+-- the first parameter before others
+pub first_more : (p : ParameterTree) (o : TryParameters) → prepend_parameters (p ∷ []) o ≡ add_parameter p o
+first_more p None = refl
+first_more p (Some r) = refl
+
+name_shorter : (ms : List LocalMark) (u : TypeUseTree) (ts : List TokenKind) (p : ParameterTree) (rest : List TokenKind) → name_behind ms u ts ≡ Some (p, rest) → length rest < length ts
+name_shorter ms u [] p rest e = cc
+name_shorter ms u (Id n ∷ ts) p rest e =
+    let q : ParameterTree = record { marks = ms; type_use = u; name = n } in
+    let same : ◌≡◌ {A = ParameterTree × List TokenKind} (q, ts) (p, rest) = cc in
+    let as_long : length ts ≡ length rest = ap (λ (r : ParameterTree × List TokenKind). length r.1) same in
+    omega (arith, as_long)
+name_shorter ms u (_ ∷ ts) p rest e = cc
+
+typed_shorter : (ms : List LocalMark) (us : List TokenKind) (o : Option (TypeUseTree × List TokenKind)) (p : ParameterTree) (rest : List TokenKind) → SpelledIfRead spell_type_use us o → after_type (name_behind ms) o ≡ Some (p, rest) → length rest < length us
+typed_shorter ms us None p rest s e = cc
+typed_shorter ms us (Some q) p rest s e =
+    let less : length rest < length q.1 = name_shorter ms q.0 q.1 p rest e in
+    let long : length us ≡ length (spell_type_use q.0) + length q.1 = ap length s ∙ length-append (spell_type_use q.0) q.1 in
+    omega (arith, less, long)
+
+-- a parameter takes tokens
+pub one_shorter : (ts : List TokenKind) (p : ParameterTree) (rest : List TokenKind) → one_parameter ts ≡ Some (p, rest) → length rest < length ts
+one_shorter ts p rest e =
+    let less : length rest < length (read_marks ts).1 = typed_shorter (read_marks ts).0 (read_marks ts).1 (read_type_use (read_marks ts).1) p rest (type_use_spells (read_marks ts).1) e in
+    let long : length ts ≡ length (spell_marks (read_marks ts).0) + length (read_marks ts).1 = ap length (marks_spell ts) ∙ length-append (spell_marks (read_marks ts).0) (read_marks ts).1 in
+    omega (arith, less, long)
 
 -- names of annotations before those that are left
 abbrev pub with_names : List NameNo → Option (List NameNo) → Option (List NameNo)

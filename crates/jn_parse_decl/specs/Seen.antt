@@ -71,14 +71,6 @@ abbrev pub names_seen : Option (Vec Annotation Global) → Option (List NameNo)
 names_seen None = None
 names_seen (Some v) = Some (annotation_names v.items)
 
-abbrev pub seen_use : Option (TypeUse × Bor (List Token)) → Option (TypeUseTree × List TokenKind)
-seen_use None = None
-seen_use (Some r) = Some (type_use_view r.0, kinds r.1.now)
-
-abbrev pub seen_declarators : Option ((Declarator × Vec Declarator Global) × Bor (List Token)) → Option ((DeclaratorTree × List DeclaratorTree) × List TokenKind)
-seen_declarators None = None
-seen_declarators (Some r) = Some ((declarator_view r.0.0, declarator_views r.0.1.items), kinds r.1.now)
-
 abbrev pub seen_parameters : Option (Parameters × Bor (List Token)) → TryAllParameters
 seen_parameters None = None
 seen_parameters (Some r) = Some (receiver_view r.0.receiver, parameter_views r.0.parameters.items, kinds r.1.now)

@@ -357,6 +357,7 @@ fn members_with(
     }
 }
 
+#[tactic(auto, using(crate::proofs::Views::same_statements))]
 fn member_of(head: MemberHead, body: Vec<Stmt>, span: Span) -> Member
     ensures { member_view result ≡ law.member_of (member_opening head) (map statement_view body.items) }
 {

@@ -8,11 +8,11 @@ mod lines;
 mod members;
 mod modifiers;
 mod names;
+mod nested;
 mod parameters;
 mod piece;
 mod pieces;
 mod put;
-mod stubs;
 
 pub use file::parse_file;
 

@@ -8,10 +8,11 @@ ghost use Rattle.jn_file_law.specs.PieceReader as reader;
 ghost use Rattle.jn_parse_decl.specs.Seen.{seen_piece};
 
 use crate::modifiers::{Bearer, has_static, may_all_stand, read_modifiers};
+use crate::nested::field_declarators;
 use crate::parameters::{Parameters, each_final_once, read_parameters};
 use crate::piece::{ConstructorHead, FieldParts, MethodHead, Piece};
-use crate::stubs::{read_field_declarators, read_type_use};
 use jn_base::{NameNo, OutOfMemory};
+use jn_parse_stmt::read_type_use;
 use jn_trees::reading::{covered, expect, identifier};
 use jn_trees::{Identifier, Modifier, Owner, Receiver, ResultUse, Token, TokenKind, TypeUse};
 use std::alloc::Global;
@@ -111,9 +112,9 @@ fn field(
 ) -> Result<Option<(Piece, &[Token])>, OutOfMemory>
     ensures { IfOk result (λ o. seen_piece o ≡ reader.after_declarators (reader.field_end (marks modifiers.items) (type_use_view type_use)) (reader.read_field_declarators (kinds tokens.now))) }
 {
-    match read_field_declarators(alloc, tokens)? {
+    match field_declarators(alloc, tokens)? {
         None => Ok(None),
-        Some(((first, more), rest)) => {
+        Some((first, more, rest)) => {
             let parts = FieldParts {
                 modifiers,
                 type_use,

@@ -2,11 +2,13 @@
 ghost use Rattle.std.specs.Prelude.{◌≡◌, ◌&&◌, ◌∷◌, [], List, MatchOption, IfOk, option_map};
 ghost use Rattle.jn_base.specs.declared.number.NameNo.{NameNo as Name};
 ghost use Rattle.jn_trees.specs.declared.token.TokenKind.{TokenKind as Kind};
+ghost use Rattle.jn_trees.specs.Trees.{Mark, PublicMark};
 ghost use Rattle.jn_trees.specs.View.{mark, marks};
 ghost use Rattle.jn_trees.specs.Pieces.{kinds};
 ghost use Rattle.jn_trees.specs.WellFormed as good;
 ghost use Rattle.jn_file_law.specs.PieceReader.{read_all_marks, add_mark, good_marks};
 ghost use Rattle.jn_parse_decl.specs.Bearers.{may};
+ghost use Rattle.jn_parse_decl.specs.Clear.{clear, clear_behind};
 ghost use Rattle.jn_parse_decl.specs.Front.{word_mark};
 
 use crate::names::behind_mark;
@@ -17,7 +19,7 @@ use jn_trees::{Annotation, Modifier, Token, TokenKind};
 use std::alloc::Global;
 
 /// What modifiers may stand before.
-#[derive(Clone, Copy, Debug, PartialEq, Eq)]
+#[derive(Clone, Copy)]
 pub enum Bearer {
     Class,
     Interface,
@@ -123,41 +125,86 @@ fn all_may_stand(modifiers: &[Modifier], bearer: Bearer) -> bool
     true
 }
 
+/// The words that stand before others: one of access, `static`, `final`, `abstract`.
+#[derive(Clone, Copy)]
+struct Words {
+    access: bool,
+    fixed: bool,
+    constant: bool,
+    without_body: bool,
+}
+
+/// These words with one modifier more, where it clashes with none of them.
+#[tactic(auto, using(crate::proofs::Marks::clear_note))]
+fn with_modifier(words: Words, modifier: &Modifier) -> Option<Words>
+    ensures { (ms : List Mark) → clear words (mark modifier.now ∷ ms) ≡ clear_behind result ms }
+{
+    match modifier {
+        Modifier::Annotation(_) => Some(words),
+        Modifier::Static(_) => {
+            if words.fixed {
+                None
+            } else {
+                Some(Words {
+                    fixed: true,
+                    ..words
+                })
+            }
+        }
+        Modifier::Final(_) => {
+            if words.constant {
+                None
+            } else {
+                Some(Words {
+                    constant: true,
+                    ..words
+                })
+            }
+        }
+        Modifier::Abstract(_) => {
+            if words.without_body {
+                None
+            } else {
+                Some(Words {
+                    without_body: true,
+                    ..words
+                })
+            }
+        }
+        Modifier::Public(_) => with_access(words),
+        Modifier::Protected(_) => with_access(words),
+        Modifier::Private(_) => with_access(words),
+    }
+}
+
+/// These words with one of access more.
+fn with_access(words: Words) -> Option<Words>
+    ensures { (ms : List Mark) → clear words (PublicMark ∷ ms) ≡ clear_behind result ms }
+{
+    if words.access {
+        None
+    } else {
+        Some(Words {
+            access: true,
+            ..words
+        })
+    }
+}
+
 /// Whether none stands twice, and at most one word of access stands.
 fn no_clash(modifiers: &[Modifier]) -> bool
     ensures { result ≡ good.no_clash (marks modifiers.now) }
 {
-    let mut access = false;
-    let mut fixed = false;
-    let mut constant = false;
-    let mut without_body = false;
+    let mut words = Words {
+        access: false,
+        fixed: false,
+        constant: false,
+        without_body: false,
+    };
     for modifier in modifiers {
-        match modifier {
-            Modifier::Annotation(_) => {}
-            Modifier::Static(_) => {
-                if fixed {
-                    return false;
-                }
-                fixed = true;
-            }
-            Modifier::Final(_) => {
-                if constant {
-                    return false;
-                }
-                constant = true;
-            }
-            Modifier::Abstract(_) => {
-                if without_body {
-                    return false;
-                }
-                without_body = true;
-            }
-            _ => {
-                if access {
-                    return false;
-                }
-                access = true;
-            }
+        match with_modifier(words, modifier) {
+            None => return false,
+            Some(more) => words = more,
         }
     }
     true

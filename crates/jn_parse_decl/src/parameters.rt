@@ -2,13 +2,14 @@
 ghost use Rattle.std.specs.Prelude.{◌≡◌, ◌<◌, length, IfOk, IfSome, Some};
 ghost use Rattle.jn_trees.specs.View.{local_marks, type_use_view, receiver_view, parameter_view, parameter_views, parent_view};
 ghost use Rattle.jn_trees.specs.Pieces.{kinds};
+ghost use Rattle.jn_stmt_law.specs.Parts.{read_marks, read_type_use as spec_type_use};
 ghost use Rattle.jn_file_law.specs.PieceReader as reader;
 ghost use Rattle.jn_parse_decl.specs.Front.{prepend_parameters, one_parameter, name_behind};
 ghost use Rattle.jn_parse_decl.specs.Seen.{seen_parameter, seen_row, seen_parameters, names_seen};
 
 use crate::put::put;
-use crate::stubs::{final_once, read_local_modifiers, read_type_use};
 use jn_base::OutOfMemory;
+use jn_parse_stmt::{final_once, read_local_modifiers, read_type_use};
 use jn_trees::reading::{expect, identifier};
 use jn_trees::{
     Annotation, Base, Identifier, LocalModifier, Parameter, Receiver, Token, TokenKind, TypeUse,
@@ -30,21 +31,28 @@ pub fn read_parameters(
     ensures { IfOk result (λ o. seen_parameters o ≡ reader.read_parameters (kinds tokens.now)) }
 {
     match expect(tokens, TokenKind::RightParen) {
-        Some(rest) => Ok(Some((without_receiver(Vec::new(alloc)), rest))),
-        None => {
-            let (modifiers, rest) = read_local_modifiers(alloc, tokens)?;
-            match read_type_use(alloc, rest)? {
-                None => Ok(None),
-                Some((type_use, rest)) => first_end(alloc, modifiers, type_use, rest),
-            }
-        }
+        Some(rest) => Ok(Some((
+            Parameters {
+                receiver: None,
+                parameters: Vec::new(alloc),
+            },
+            rest,
+        ))),
+        None => some_parameters(alloc, tokens),
     }
 }
 
-fn without_receiver(parameters: Vec<Parameter>) -> Parameters {
-    Parameters {
-        receiver: None,
-        parameters,
+/// The receiver or the first parameter, and the parameters behind it.
+fn some_parameters(
+    alloc: Global,
+    tokens: &[Token],
+) -> Result<Option<(Parameters, &[Token])>, OutOfMemory>
+    ensures { IfOk result (λ o. seen_parameters o ≡ reader.after_type (reader.first_end (read_marks (kinds tokens.now)).0) (spec_type_use (read_marks (kinds tokens.now)).1)) }
+{
+    let (modifiers, rest) = read_local_modifiers(alloc, tokens)?;
+    match read_type_use(alloc, rest)? {
+        None => Ok(None),
+        Some((type_use, rest)) => first_end(alloc, modifiers, type_use, rest),
     }
 }
 
@@ -90,6 +98,7 @@ fn behind_receiver(
 }
 
 /// The first parameter, and those behind it.
+#[tactic(auto, using(crate::proofs::Rows::first_more))]
 fn behind_first(
     alloc: Global,
     first: Parameter,
@@ -101,7 +110,13 @@ fn behind_first(
     put(&mut all, first)?;
     match more_parameters(alloc, all, tokens)? {
         None => Ok(None),
-        Some((parameters, rest)) => Ok(Some((without_receiver(parameters), rest))),
+        Some((parameters, rest)) => Ok(Some((
+            Parameters {
+                receiver: None,
+                parameters,
+            },
+            rest,
+        ))),
     }
 }
 

@@ -69,7 +69,7 @@ pub enum Piece {
 }
 
 /// Where a piece stands: first in a file, behind a line, behind a type, in a type, or in a body, where the next statement may be the first of a constructor.
-#[derive(Clone, Copy, Debug, PartialEq, Eq)]
+#[derive(Clone, Copy)]
 pub enum Around {
     AtStart,
     BehindLines,

@@ -7,8 +7,8 @@ ghost use Rattle.jn_parse_decl.specs.Seen.{seen_piece, around_view};
 use crate::heads::read_type_head;
 use crate::lines::{import_line, package_line};
 use crate::members::read_member;
+use crate::nested::body_statement;
 use crate::piece::{Around, Piece};
-use crate::stubs::read_body_statement;
 use jn_base::OutOfMemory;
 use jn_trees::reading::expect;
 use jn_trees::{Token, TokenKind};
@@ -67,7 +67,7 @@ fn read_in_body(
 {
     match expect(tokens, TokenKind::RightBrace) {
         Some(rest) => Ok(Some((Piece::BodyEnd, rest))),
-        None => match read_body_statement(alloc, tokens, leading)? {
+        None => match body_statement(alloc, tokens, leading)? {
             Some((statement, rest)) => Ok(Some((Piece::Statement(statement), rest))),
             None => Ok(None),
         },
