@@ -391,6 +391,9 @@ fn member_of(head: MemberHead, body: Vec<Stmt>, span: Span) -> Member
     }
 }
 
+/// Drops what no type has.
+fn forget(_body: Option<OpenMember>) {}
+
 fn types_with(
     types: Vec<TypeTree>,
     inside: Option<OpenType>,
@@ -403,9 +406,12 @@ fn types_with(
         Some(OpenType {
             head,
             members,
-            body: _,
+            body,
             from,
-        }) => with(types, type_of(head, members, through(from, end))),
+        }) => {
+            forget(body);
+            with(types, type_of(head, members, through(from, end)))
+        }
     }
 }
 

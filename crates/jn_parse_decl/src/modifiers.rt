@@ -1,5 +1,5 @@
 // Modifiers of types and members (JLS 8.1.1, 8.3.1, 8.4.3, 8.8.3, 9.4).
-ghost use Rattle.std.specs.Prelude.{◌≡◌, ◌&&◌, ◌∷◌, [], List, MatchOption, IfOk, option_map};
+ghost use Rattle.std.specs.Prelude.{◌≡◌, ◌&&◌, ◌∷◌, [], List, MatchOption, IfOk, IfSome, option_map, length, ◌<◌};
 ghost use Rattle.jn_base.specs.declared.number.NameNo.{NameNo as Name};
 ghost use Rattle.jn_trees.specs.declared.token.TokenKind.{TokenKind as Kind};
 ghost use Rattle.jn_trees.specs.Trees.{Mark, PublicMark};
@@ -246,7 +246,8 @@ fn word(token: &Token) -> Option<Modifier>
 
 /// The modifier at the front where no annotation is, and what follows it.
 fn word_modifier(tokens: &[Token]) -> Option<(Modifier, &[Token])>
-    ensures { ((n : Name) (rest : List Kind) → kinds tokens.now ≡ Kind.At ∷ Kind.Id n ∷ rest → ⊥) → MatchOption result (read_all_marks (kinds tokens.now) ≡ ([], kinds tokens.now)) (λ r. read_all_marks (kinds tokens.now) ≡ add_mark (mark r.0) (read_all_marks (kinds r.1.now))) }
+    ensures reads { ((n : Name) (rest : List Kind) → kinds tokens.now ≡ Kind.At ∷ Kind.Id n ∷ rest → ⊥) → MatchOption result (read_all_marks (kinds tokens.now) ≡ ([], kinds tokens.now)) (λ r. read_all_marks (kinds tokens.now) ≡ add_mark (mark r.0) (read_all_marks (kinds r.1.now))) }
+    ensures shorter { IfSome result (λ r. length (kinds r.1.now) < length (kinds tokens.now)) }
 {
     let (first, rest) = next(tokens)?;
     let found = word(&first)?;
@@ -255,7 +256,8 @@ fn word_modifier(tokens: &[Token]) -> Option<(Modifier, &[Token])>
 
 /// The modifier at the front, and what follows it.
 fn modifier(tokens: &[Token]) -> Option<(Modifier, &[Token])>
-    ensures { MatchOption result (read_all_marks (kinds tokens.now) ≡ ([], kinds tokens.now)) (λ r. read_all_marks (kinds tokens.now) ≡ add_mark (mark r.0) (read_all_marks (kinds r.1.now))) }
+    ensures reads { MatchOption result (read_all_marks (kinds tokens.now) ≡ ([], kinds tokens.now)) (λ r. read_all_marks (kinds tokens.now) ≡ add_mark (mark r.0) (read_all_marks (kinds r.1.now))) }
+    ensures shorter { IfSome result (λ r. length (kinds r.1.now) < length (kinds tokens.now)) }
 {
     match behind_mark(tokens, TokenKind::At) {
         Some((name, rest)) => Some((

@@ -1,5 +1,5 @@
 use Rattle.jn_trees.specs.Pieces.{kinds}
-use Rattle.jn_parse_decl.proofs.Nested.{fields_read}
+use Rattle.jn_parse_decl.proofs.Depth.{fields_read}
 use Rattle.jn_parse_decl.proofs.nested.declarators_within.Goals as goal
 
 pub returns : goal.returns

@@ -1,5 +1,5 @@
 use Rattle.jn_trees.specs.Pieces.{kinds}
-use Rattle.jn_parse_decl.proofs.Nested.{body_read}
+use Rattle.jn_parse_decl.proofs.Depth.{body_read}
 use Rattle.jn_parse_decl.proofs.nested.statement_within.Goals as goal
 
 pub returns : goal.returns
