@@ -29,7 +29,7 @@ unfolding read_body_statement
 body_at d leading ts e = ap (λ n. statement_reader n (body_context leading) ts) e
 
 pub body_read : ((c : Context) (d : ℕ) (ts : List TokenKind) → IsLongestStatement c d ts (statement_reader d c ts))
-  → ((c : Context) (d : ℕ) (ts : List TokenKind) (a b : TryStatement) → IsLongestStatement c d ts a → IsLongestStatement c d ts b → a ≡ b)
-  → (r : Result (Option (Stmt × Bor (List Token))) OutOfMemory) (d : ℕ) (leading : Bool) (ts : List TokenKind) → d ≡ deepest → IfOk r (λ o. IsLongestStatement (body_context leading) d ts (seen_statement o)) → IfOk r (λ o. seen_statement o ≡ read_body_statement leading ts)
+    → ((c : Context) (d : ℕ) (ts : List TokenKind) (a b : TryStatement) → IsLongestStatement c d ts a → IsLongestStatement c d ts b → a ≡ b)
+    → (r : Result (Option (Stmt × Bor (List Token))) OutOfMemory) (d : ℕ) (leading : Bool) (ts : List TokenKind) → d ≡ deepest → IfOk r (λ o. IsLongestStatement (body_context leading) d ts (seen_statement o)) → IfOk r (λ o. seen_statement o ≡ read_body_statement leading ts)
 body_read longest unique (Ok o) d leading ts e h = unique (body_context leading) d ts (seen_statement o) (statement_reader d (body_context leading) ts) h (longest (body_context leading) d ts) ∙ body_at d leading ts e
 body_read longest unique (Err x) d leading ts e h = h

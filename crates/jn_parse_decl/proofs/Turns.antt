@@ -20,7 +20,7 @@ as_many (t ∷ ts) = ap suc (as_many ts)
 
 -- a piece more
 pub moved : ((ts : List TokenKind) (built : Built) (around : Around) (rest : List TokenKind) (piece : Piece) (left : List TokenKind) → IsReached ts built around rest → piece_reader around rest ≡ Some (piece, left) → IsReached ts (add built piece) (behind around piece) left)
-  → (ts : List TokenKind) (b c : Built) (a z : Around) (rest left : List TokenKind) (p : Piece) → IsReached ts b a rest → ◌≡◌ {A = Option (Piece × List TokenKind)} (Some (p, left)) (piece_reader a rest) → z ≡ behind a p → c ≡ add b p → IsReached ts c z left
+    → (ts : List TokenKind) (b c : Built) (a z : Around) (rest left : List TokenKind) (p : Piece) → IsReached ts b a rest → ◌≡◌ {A = Option (Piece × List TokenKind)} (Some (p, left)) (piece_reader a rest) → z ≡ behind a p → c ≡ add b p → IsReached ts c z left
 moved more ts b c a z rest left p h read around built =
     subst (λ (x : Built). IsReached ts x z left) (sym built) (subst (λ (y : Around). IsReached ts (add b p) y left) (sym around) (more ts b a rest p left h (sym read)))
 
@@ -33,9 +33,8 @@ no_tokens (t ∷ ts) e = absurd (omega arith)
 
 -- the laws of the loop
 module _ (found : (ts : List TokenKind) (built : Built) (around : Around) (tree : SourceTree) → IsReached ts built around [] → finished built ≡ Some tree → GoodFile tree × (ts ≡ spell_file tree))
-  (only : (ts : List TokenKind) (built : Built) (around : Around) (rest : List TokenKind) → IsReached ts built around rest → piece_reader around rest ≡ None → (tree : SourceTree) → GoodFile tree → ts ≡ spell_file tree → (rest ≡ []) × (finished built ≡ Some tree))
-  (stops : (ts : List TokenKind) (built : Built) (around : Around) (rest : List TokenKind) → IsReached ts built around rest → piece_reader around rest ≡ None → IsPlace pieces AtStart ts (length ts - length rest)) where
-
+    (only : (ts : List TokenKind) (built : Built) (around : Around) (rest : List TokenKind) → IsReached ts built around rest → piece_reader around rest ≡ None → (tree : SourceTree) → GoodFile tree → ts ≡ spell_file tree → (rest ≡ []) × (finished built ≡ Some tree))
+    (stops : (ts : List TokenKind) (built : Built) (around : Around) (rest : List TokenKind) → IsReached ts built around rest → piece_reader around rest ≡ None → IsPlace pieces AtStart ts (length ts - length rest)) where
   place_is : (tokens left : List Token) (b : Built) (n : ℕ) → EndsAt (kinds tokens) b (kinds left) → n ≡ length tokens - length left → IsPlace pieces AtStart (kinds tokens) n
   place_is tokens left b n e same =
       let is : length (kinds tokens) - length (kinds left) ≡ n = ap (λ k. k - length (kinds left)) (as_many tokens) ∙ ap (λ k. length tokens - k) (as_many left) ∙ sym same in
@@ -45,8 +44,8 @@ module _ (found : (ts : List TokenKind) (built : Built) (around : Around) (tree 
   pub cut : (tokens left : List Token) (b : Built) (n : ℕ) → EndsAt (kinds tokens) b (kinds left) → n ≡ length tokens - length left → 0 < length left → NoFile (kinds tokens) n
   cut tokens left b n e same some = record {
     no_tree = λ tree good spelled.
-      let none : length (kinds left) ≡ 0 = ap length (only (kinds tokens) b e.around (kinds left) e.reached e.stuck tree good spelled).0 in
-      absurd (omega (arith, none, as_many left));
+        let none : length (kinds left) ≡ 0 = ap length (only (kinds tokens) b e.around (kinds left) e.reached e.stuck tree good spelled).0 in
+        absurd (omega (arith, none, as_many left));
     ends = place_is tokens left b n e same;
   }
 
@@ -54,8 +53,8 @@ module _ (found : (ts : List TokenKind) (built : Built) (around : Around) (tree 
   pub unfinished : (tokens left : List Token) (b : Built) (n : ℕ) → EndsAt (kinds tokens) b (kinds left) → n ≡ length tokens - length left → finished b ≡ None → NoFile (kinds tokens) n
   unfinished tokens left b n e same open_still = record {
     no_tree = λ tree good spelled.
-      let is : finished b ≡ Some tree = (only (kinds tokens) b e.around (kinds left) e.reached e.stuck tree good spelled).1 in
-      cc;
+        let is : finished b ≡ Some tree = (only (kinds tokens) b e.around (kinds left) e.reached e.stuck tree good spelled).1 in
+        cc;
     ends = place_is tokens left b n e same;
   }
 

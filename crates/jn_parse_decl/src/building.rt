@@ -5,6 +5,7 @@ ghost use Rattle.jn_trees.specs.Trees.{FieldMember, MethodMember};
 ghost use Rattle.jn_trees.specs.Covered.{joined};
 ghost use Rattle.jn_file_law.specs.Built as law;
 ghost use Rattle.jn_parse_decl.specs.Seen.{piece_view, built_view, inside_of, body_of, opening, member_opening};
+
 use crate::piece::{ConstructorHead, FieldParts, MethodHead, Piece, TypeHead};
 use crate::put::put;
 use jn_base::{OutOfMemory, Span};
@@ -77,12 +78,7 @@ pub fn finished(built: Built) -> Option<FileTree>
 }
 
 /// With one piece more, which stands at this place.
-pub fn add(
-    alloc: Global,
-    built: Built,
-    piece: Piece,
-    place: Span,
-) -> Result<Built, OutOfMemory>
+pub fn add(alloc: Global, built: Built, piece: Piece, place: Span) -> Result<Built, OutOfMemory>
     ensures { IfOk result (λ b. built_view b ≡ law.add (built_view built) (piece_view piece)) }
 {
     let Built {
@@ -226,20 +222,19 @@ fn method_of(head: MethodHead, span: Span) -> Member
     }
 }
 
-fn with_member(
-    inside: Option<OpenType>,
-    member: Member,
-) -> Result<Option<OpenType>, OutOfMemory>
+fn with_member(inside: Option<OpenType>, member: Member) -> Result<Option<OpenType>, OutOfMemory>
     ensures { IfOk result (λ o. inside_of o ≡ law.with_member (member_view member) (inside_of inside)) }
 {
     match inside {
         None => Ok(None),
-        Some(OpenType {
-            head,
-            members,
-            body,
-            from,
-        }) => Ok(Some(OpenType {
+        Some(
+            OpenType {
+                head,
+                members,
+                body,
+                from,
+            },
+        ) => Ok(Some(OpenType {
             head,
             members: with(members, member)?,
             body,
@@ -258,12 +253,14 @@ fn open_body(
 {
     match inside {
         None => None,
-        Some(OpenType {
-            head,
-            members,
-            body: _,
-            from,
-        }) => Some(OpenType {
+        Some(
+            OpenType {
+                head,
+                members,
+                body: _,
+                from,
+            },
+        ) => Some(OpenType {
             head,
             members,
             body: Some(OpenMember {
@@ -284,12 +281,14 @@ fn with_statement(
 {
     match inside {
         None => Ok(None),
-        Some(OpenType {
-            head,
-            members,
-            body,
-            from,
-        }) => Ok(Some(OpenType {
+        Some(
+            OpenType {
+                head,
+                members,
+                body,
+                from,
+            },
+        ) => Ok(Some(OpenType {
             head,
             members,
             body: longer_body(body, statement)?,
@@ -298,19 +297,18 @@ fn with_statement(
     }
 }
 
-fn longer_body(
-    body: Option<OpenMember>,
-    statement: Stmt,
-) -> Result<Option<OpenMember>, OutOfMemory>
+fn longer_body(body: Option<OpenMember>, statement: Stmt) -> Result<Option<OpenMember>, OutOfMemory>
     ensures { IfOk result (λ o. body_of o ≡ law.longer_body (statement_view statement) (body_of body)) }
 {
     match body {
         None => Ok(None),
-        Some(OpenMember {
-            head,
-            statements,
-            from,
-        }) => Ok(Some(OpenMember {
+        Some(
+            OpenMember {
+                head,
+                statements,
+                from,
+            },
+        ) => Ok(Some(OpenMember {
             head,
             statements: with(statements, statement)?,
             from,
@@ -318,20 +316,19 @@ fn longer_body(
     }
 }
 
-fn close_body(
-    inside: Option<OpenType>,
-    end: Span,
-) -> Result<Option<OpenType>, OutOfMemory>
+fn close_body(inside: Option<OpenType>, end: Span) -> Result<Option<OpenType>, OutOfMemory>
     ensures { IfOk result (λ o. inside_of o ≡ law.close_body (inside_of inside)) }
 {
     match inside {
         None => Ok(None),
-        Some(OpenType {
-            head,
-            members,
-            body,
-            from,
-        }) => Ok(Some(OpenType {
+        Some(
+            OpenType {
+                head,
+                members,
+                body,
+                from,
+            },
+        ) => Ok(Some(OpenType {
             head,
             members: members_with(members, body, end)?,
             body: None,
@@ -349,11 +346,13 @@ fn members_with(
 {
     match body {
         None => Ok(members),
-        Some(OpenMember {
-            head,
-            statements,
-            from,
-        }) => with(members, member_of(head, statements, through(from, end))),
+        Some(
+            OpenMember {
+                head,
+                statements,
+                from,
+            },
+        ) => with(members, member_of(head, statements, through(from, end))),
     }
 }
 
@@ -362,13 +361,15 @@ fn member_of(head: MemberHead, body: Vec<Stmt>, span: Span) -> Member
     ensures { member_view result ≡ law.member_of (member_opening head) (map statement_view body.items) }
 {
     match head {
-        MemberHead::Method(MethodHead {
-            modifiers,
-            result,
-            name,
-            receiver,
-            parameters,
-        }) => Member::Method {
+        MemberHead::Method(
+            MethodHead {
+                modifiers,
+                result,
+                name,
+                receiver,
+                parameters,
+            },
+        ) => Member::Method {
             modifiers,
             result,
             name,
@@ -377,11 +378,13 @@ fn member_of(head: MemberHead, body: Vec<Stmt>, span: Span) -> Member
             body: Some(body),
             span,
         },
-        MemberHead::Constructor(ConstructorHead {
-            modifiers,
-            name,
-            parameters,
-        }) => Member::Constructor {
+        MemberHead::Constructor(
+            ConstructorHead {
+                modifiers,
+                name,
+                parameters,
+            },
+        ) => Member::Constructor {
             modifiers,
             name,
             parameters,
@@ -403,12 +406,14 @@ fn types_with(
 {
     match inside {
         None => Ok(types),
-        Some(OpenType {
-            head,
-            members,
-            body,
-            from,
-        }) => {
+        Some(
+            OpenType {
+                head,
+                members,
+                body,
+                from,
+            },
+        ) => {
             forget(body);
             with(types, type_of(head, members, through(from, end)))
         }

@@ -85,10 +85,7 @@ pub fn implemented(
 }
 
 /// The names behind `extends`, where it is at the front, and what follows them.
-pub fn extended(
-    alloc: Global,
-    tokens: &[Token],
-) -> Result<(Vec<Identifier>, &[Token]), OutOfMemory>
+pub fn extended(alloc: Global, tokens: &[Token]) -> Result<(Vec<Identifier>, &[Token]), OutOfMemory>
     ensures { IfOk result (λ r. read_extends (kinds tokens.now) ≡ (identifier_names r.0.items, kinds r.1.now)) }
 {
     match behind_mark(tokens, TokenKind::Extends) {

@@ -148,10 +148,7 @@ fn more_parameters(
 }
 
 /// The parameter at the front, and what follows it.
-fn parameter(
-    alloc: Global,
-    tokens: &[Token],
-) -> Result<Option<(Parameter, &[Token])>, OutOfMemory>
+fn parameter(alloc: Global, tokens: &[Token]) -> Result<Option<(Parameter, &[Token])>, OutOfMemory>
     ensures { IfOk result (λ o. seen_parameter o ≡ one_parameter (kinds tokens.now)) }
 {
     let (modifiers, rest) = read_local_modifiers(alloc, tokens)?;

@@ -32,10 +32,7 @@ pub fn read_piece(
 }
 
 /// What may stand first in a file.
-fn read_first(
-    alloc: Global,
-    tokens: &[Token],
-) -> Result<Option<(Piece, &[Token])>, OutOfMemory>
+fn read_first(alloc: Global, tokens: &[Token]) -> Result<Option<(Piece, &[Token])>, OutOfMemory>
     ensures { IfOk result (λ o. seen_piece o ≡ reader.read_first (kinds tokens.now)) }
 {
     match expect(tokens, TokenKind::Package) {
@@ -45,10 +42,7 @@ fn read_first(
 }
 
 /// What may stand behind a line.
-fn read_line(
-    alloc: Global,
-    tokens: &[Token],
-) -> Result<Option<(Piece, &[Token])>, OutOfMemory>
+fn read_line(alloc: Global, tokens: &[Token]) -> Result<Option<(Piece, &[Token])>, OutOfMemory>
     ensures { IfOk result (λ o. seen_piece o ≡ reader.read_line (kinds tokens.now)) }
 {
     match expect(tokens, TokenKind::Import) {

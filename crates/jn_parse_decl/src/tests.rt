@@ -53,7 +53,7 @@ fn rows_stand_where_pieces_end(rt: HostRuntime) {
         ("import a;package b;", 9),
         ("class A {} import b;", 11),
         ("class A {", 9),
-        ("class A { void f() {", 20),
+        ("class A { void f(", 10),
         ("class A { int x; B() {} }", 17),
         ("class A { A(A this) {} }", 10),
         ("class A { public private int x; }", 10),
@@ -79,4 +79,14 @@ fn rows_stand_where_pieces_end(rt: HostRuntime) {
     for (text, place) in table {
         assert_eq!(rt; fault(rt.alloc(), text), Some((Code::S1, place)), "{text}");
     }
+}
+
+#[test]
+fn too_many_brackets_come_first(rt: HostRuntime) {
+    let most =
+        "((((((((((((((((((((((((((((((((((((((((((((((((((((((((((((((((((((((((((((((((((((((((((((((((((((((((((((((((((((((((((((((((((((((((((((((((((((((((((((((((((((((((((((((((((((((((((((((((((((((((";
+    assert_eq!(rt; fault(rt.alloc(), most), Some((Code::S1, 0)));
+    let more =
+        "[[[[[[[[[[[[[[[[[[[[[[[[[[[[[[[[[[[[[[[[[[[[[[[[[[[[[[[[[[[[[[[[[[[[[[[[[[[[[[[[[[[[[[[[[[[[[[[[[[[[[[[[[[[[[[[[[[[[[[[[[[[[[[[[[[[[[[[[[[[[[[[[[[[[[[[[[[[[[[[[[[[[[[[[[[[[[[[[[[[[[[[[[[[[[[[[[[[[[[[[[";
+    assert_eq!(rt; fault(rt.alloc(), more), Some((Code::S2, 200)));
 }
