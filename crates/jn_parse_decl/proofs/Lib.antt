@@ -1,0 +1,7 @@
+pub mod Absent
+pub mod Depth
+pub mod Found
+pub mod Marks
+pub mod Rows
+pub mod Turns
+pub mod Views

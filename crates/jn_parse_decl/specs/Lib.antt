@@ -1,0 +1,5 @@
+pub mod Bearers
+pub mod Clear
+pub mod Ends
+pub mod Front
+pub mod Seen

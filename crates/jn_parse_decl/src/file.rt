@@ -1,0 +1,128 @@
+// Files from tokens.
+ghost use Rattle.std.specs.Prelude.{◌≡◌, ◌<◌, ◌^◌, length, IfOk, IfErr};
+ghost use Rattle.jn_trees.specs.Refused.{IfRefused};
+ghost use Rattle.jn_trees.specs.Pieces.{IsFile, IsSyntaxRow, Shallow, kinds, token_place as spec_place};
+ghost use Rattle.jn_trees.specs.View.{file_view};
+ghost use Rattle.jn_parse_decl.specs.Ends.{EndsAt, IsWhole, NoFileAt};
+ghost use Rattle.jn_parse_decl.specs.Seen.{built_view};
+
+use crate::building::{Built, add, finished, nothing};
+use crate::piece::{Around, behind};
+use crate::pieces::read_piece;
+use jn_base::{Code, Fail, FileNo, OutOfMemory, Row, Span};
+use jn_file_law::law::{pieces_are_read_in_turn, pieces_build_files};
+use jn_trees::reading::covered;
+use jn_trees::{FileTree, Token, too_deep};
+use std::alloc::Global;
+
+/// The one well-formed tree that spells the tokens of a file, or its syntax row: S2 at the first token with more than 200 open brackets, else S1 at the place where well-formed pieces end. `end` is the text's length in bytes, the place of a fault behind the last token.
+///
+/// Takes time in proportion to the tokens.
+///
+/// # Errors
+///
+/// [`Fail::Refused`] with the row where no well-formed tree spells the tokens or too many brackets are open, [`Fail::OutOfMemory`] where the tree found no memory.
+pub fn parse_file(
+    alloc: Global,
+    tokens: &[Token],
+    file: FileNo,
+    end: u32,
+) -> Result<FileTree, Fail<Row>>
+    requires { length tokens.now < 2 ^ 32 }
+    ensures tree { IfOk result (λ tree. IsFile tokens.now (file_view tree)) }
+    ensures row { IfErr result (λ fail. IfRefused fail (λ row. IsSyntaxRow file end tokens.now row)) }
+{
+    match too_deep(tokens) {
+        Some(place) => Err(Fail::Refused(row(Code::S2, file, end, tokens, place))),
+        None => match read_file(alloc, tokens) {
+            Ok(tree) => Ok(tree),
+            Err(fail) => Err(syntax_row(fail, file, end, tokens)),
+        },
+    }
+}
+
+/// The row of a place where pieces end.
+fn syntax_row(fail: Fail<usize>, file: FileNo, end: u32, tokens: &[Token]) -> Fail<Row>
+    requires shallow { Shallow (kinds tokens.now) }
+    requires none { NoFileAt (kinds tokens.now) fail }
+    ensures { IfRefused result (λ row. IsSyntaxRow file end tokens.now row) }
+{
+    match fail {
+        Fail::Refused(place) => Fail::Refused(row(Code::S1, file, end, tokens, place)),
+        Fail::OutOfMemory => Fail::OutOfMemory,
+    }
+}
+
+/// The file that the tokens spell, or the place where pieces end.
+fn read_file(alloc: Global, tokens: &[Token]) -> Result<FileTree, Fail<usize>>
+    ensures tree { IfOk result (λ tree. IsWhole (kinds tokens.now) (file_view tree)) }
+    ensures place { IfErr result (λ fail. NoFileAt (kinds tokens.now) fail) }
+{
+    match read_pieces(alloc, tokens) {
+        Err(_) => Err(Fail::OutOfMemory),
+        Ok((built, left)) => file_of(tokens, built, left),
+    }
+}
+
+/// The file that was built before the tokens that are left, or the place of these.
+fn file_of(tokens: &[Token], built: Built, left: &[Token]) -> Result<FileTree, Fail<usize>>
+    requires { EndsAt (kinds tokens.now) (built_view built) (kinds left.now) }
+    ensures tree { IfOk result (λ tree. IsWhole (kinds tokens.now) (file_view tree)) }
+    ensures place { IfErr result (λ fail. NoFileAt (kinds tokens.now) fail) }
+{
+    pieces_are_read_in_turn();
+    pieces_build_files();
+    let unread = left.len();
+    let place = tokens.len().saturating_sub(unread);
+    if unread > 0 {
+        return Err(Fail::Refused(place));
+    }
+    match finished(built) {
+        Some(tree) => Ok(tree),
+        None => Err(Fail::Refused(place)),
+    }
+}
+
+/// What the pieces at the front build, as many as there are, and what follows them.
+fn read_pieces(alloc: Global, tokens: &[Token]) -> Result<(Built, &[Token]), OutOfMemory>
+    ensures { IfOk result (λ r. EndsAt (kinds tokens.now) (built_view r.0) (kinds r.1.now)) }
+{
+    pieces_are_read_in_turn();
+    let mut built = nothing(alloc);
+    let mut around = Around::AtStart;
+    let mut left = tokens;
+    'pieces: loop {
+        match read_piece(alloc, left, around)? {
+            None => return Ok((built, left)),
+            Some((piece, rest)) => {
+                around = behind(around, &piece);
+                built = add(alloc, built, piece, covered(left, rest))?;
+                left = rest;
+            }
+        }
+    }
+}
+
+/// A row at a token, or at the end of the text behind the last.
+fn row(code: Code, file: FileNo, end: u32, tokens: &[Token], place: usize) -> Row
+    ensures { result ≡ record { span = spec_place file end tokens.now place; code = code } }
+{
+    Row {
+        span: token_place(file, end, tokens, place),
+        code,
+    }
+}
+
+fn token_place(file: FileNo, end: u32, tokens: &[Token], place: usize) -> Span
+    ensures { result ≡ spec_place file end tokens.now place }
+{
+    if place < tokens.len() {
+        tokens[place].span
+    } else {
+        Span {
+            file,
+            from: end,
+            to: end,
+        }
+    }
+}
