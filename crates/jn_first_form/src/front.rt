@@ -6,9 +6,9 @@ ghost use Rattle.jn_first_form.specs.Trees.{ValueTree, id, spell_value, spell_te
 ghost use Rattle.jn_first_form.specs.View.{value_view};
 ghost use Rattle.jn_first_form.specs.Statements.{ReadsStatement, ReadsDeclaration, ReadsPrint, given, tested, headed};
 
-use jn_known::{LENGTH, MAIN, OUT, PRINTLN, STRING, SYSTEM};
 use crate::tree::{Statement, Value};
 use jn_base::NameNo;
+use jn_known::{LENGTH, MAIN, OUT, PRINTLN, STRING, SYSTEM};
 use jn_trees::TokenKind;
 
 /// A test of a local against null: `==` where it is `equal`, else `!=`.

@@ -6,7 +6,6 @@ ghost use Rattle.jn_first_form.specs.Lowered.{all_size, all_declared, no_span, s
 ghost use Rattle.jn_first_form.specs.Trees.{string_name};
 ghost use Rattle.jn_first_form.specs.View.{views, form_view};
 
-use jn_known::{MAIN, OBJECT, STRING};
 use crate::local::Temporary;
 use crate::lower::lower_block;
 use crate::lowering::Lowering;
@@ -16,6 +15,7 @@ use crate::size::all_declared;
 use crate::spans::{no_span, skip, span_at};
 use crate::tree::FirstForm;
 use jn_base::{BodyNo, ClassNo, MethodNo, NameNo, OutOfMemory, Seq, SlotNo, Span};
+use jn_known::{MAIN, OBJECT, STRING};
 use jn_points::{BaseType, Body, Class, Elem, Method, Point, PointKind, Program, SlotInfo};
 use jn_quals::Qual;
 use jn_trees::Token;

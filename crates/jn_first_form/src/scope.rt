@@ -5,10 +5,10 @@ ghost use Rattle.jn_first_form.specs.Scope.{is_member_name, may_name_class, may_
 ghost use Rattle.jn_first_form.specs.Names.{names};
 ghost use Rattle.jn_first_form.specs.View.{value_view, view, views, form_view};
 
-use jn_known::{FIRST_MEMBER, KNOWN_NAMES, OBJECT, STRING, SYSTEM};
 use crate::put::put;
 use crate::tree::{FirstForm, Statement, Value};
 use jn_base::{NameNo, OutOfMemory};
+use jn_known::{FIRST_MEMBER, KNOWN_NAMES, OBJECT, STRING, SYSTEM};
 use std::alloc::Global;
 
 /// Whether each name that the form declares may be declared where it is, and each local that it uses is in scope.

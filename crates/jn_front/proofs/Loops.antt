@@ -43,15 +43,15 @@ module _ (faultless : (file : FileNo) (text : List ℕ) (old : List (List ℕ)) 
   lexed_more reads i read names new tokens more faults faults_now is h (inl s) = record {
     faulty = λ rows f. subst (λ fs. FaultRows 0 (files_of_reads reads) (fs ++ rows)) (sym s.faults_are) (h.faulty rows (subst (λ fs. FaultRows i fs rows) (sym is) (inl ((λ row. faultless (file_no i) read.file.bytes names s.of_file new row s.lexed), f))));
     plain = λ none tss f.
-      subst (λ us. LexedFrom 0 known_names (files_of_reads reads) (us ++ tss)) (sym s.tokens_are)
-      (subst (λ us. LexedFrom 0 known_names (files_of_reads reads) us) (sym (append_assoc tokens (s.of_file ∷ []) tss))
-      (h.plain (sym s.faults_are ∙ none) (s.of_file ∷ tss) (subst (λ fs. LexedFrom i names fs (s.of_file ∷ tss)) (sym is) (new, s.lexed, f))));
+        subst (λ us. LexedFrom 0 known_names (files_of_reads reads) (us ++ tss)) (sym s.tokens_are)
+        (subst (λ us. LexedFrom 0 known_names (files_of_reads reads) us) (sym (append_assoc tokens (s.of_file ∷ []) tss))
+        (h.plain (sym s.faults_are ∙ none) (s.of_file ∷ tss) (subst (λ fs. LexedFrom i names fs (s.of_file ∷ tss)) (sym is) (new, s.lexed, f))));
   }
   lexed_more reads i read names new tokens more faults faults_now is h (inr s) = record {
     faulty = λ rows f.
-      subst (λ fs. FaultRows 0 (files_of_reads reads) (fs ++ rows)) (sym s.faults_are)
-      (subst (λ fs. FaultRows 0 (files_of_reads reads) fs) (sym (append_assoc faults (s.row ∷ []) rows))
-      (h.faulty (s.row ∷ rows) (subst (λ fs. FaultRows i fs (s.row ∷ rows)) (sym is) (inr (s.row, rows, refl, s.fault, f)))));
+        subst (λ fs. FaultRows 0 (files_of_reads reads) (fs ++ rows)) (sym s.faults_are)
+        (subst (λ fs. FaultRows 0 (files_of_reads reads) fs) (sym (append_assoc faults (s.row ∷ []) rows))
+        (h.faulty (s.row ∷ rows) (subst (λ fs. FaultRows i fs (s.row ∷ rows)) (sym is) (inr (s.row, rows, refl, s.fault, f)))));
     plain = λ none. absurd (not_both faults s.row (sym s.faults_are ∙ none));
   }
 
@@ -66,9 +66,9 @@ parsed_more reads i read tokens ts end rows rows_now is are size h (inl s) = rec
 }
 parsed_more reads i read tokens ts end rows rows_now is are size h (inr s) = record {
   parsed = λ more f.
-    subst (λ rs. SyntaxRows 0 (files_of_reads reads) tokens (rs ++ more)) (sym s.2)
-    (subst (λ rs. SyntaxRows 0 (files_of_reads reads) tokens rs) (sym (append_assoc rows (s.0 ∷ []) more))
-    (h.parsed (s.0 ∷ more) (subst (λ fs. SyntaxRows i fs (drop i tokens) (s.0 ∷ more)) (sym is) (subst (λ tss. SyntaxRows i (read.file ∷ files_of_reads (drop (i + 1) reads)) tss (s.0 ∷ more)) (sym are) (inr (s.0, more, refl, subst (λ n. IsSyntaxRow (file_no i) n ts s.0) size s.1, f))))));
+      subst (λ rs. SyntaxRows 0 (files_of_reads reads) tokens (rs ++ more)) (sym s.2)
+      (subst (λ rs. SyntaxRows 0 (files_of_reads reads) tokens rs) (sym (append_assoc rows (s.0 ∷ []) more))
+      (h.parsed (s.0 ∷ more) (subst (λ fs. SyntaxRows i fs (drop i tokens) (s.0 ∷ more)) (sym is) (subst (λ tss. SyntaxRows i (read.file ∷ files_of_reads (drop (i + 1) reads)) tss (s.0 ∷ more)) (sym are) (inr (s.0, more, refl, subst (λ n. IsSyntaxRow (file_no i) n ts s.0) size s.1, f))))));
 }
 
 -- ---- what was read
@@ -180,7 +180,7 @@ pub rows_step : (reads : List SourceRead) (i file before size : ℕ) (read : Sou
 rows_step reads i file before size read whole rows one two h number lt is first second =
     let rest = size_rows (i + 1) (before + size) (map counted_read (drop (i + 1) reads)) in
     let here : size_rows i before (map counted_read (drop i reads)) ≡ large_row i size ++ (passing_row i before size ++ rest) =
-      sizes_more reads i before read lt ∙ ap (λ n. large_row i n ++ (passing_row i before n ++ size_rows (i + 1) (before + n) (map counted_read (drop (i + 1) reads)))) (sym is) in
+    sizes_more reads i before read lt ∙ ap (λ n. large_row i n ++ (passing_row i before n ++ size_rows (i + 1) (before + n) (map counted_read (drop (i + 1) reads)))) (sym is) in
     let now : two ≡ (rows ++ large_row i size) ++ passing_row i before size = second ∙ ap (λ xs. xs ++ passing_row file before size) first ∙ ap (λ n. (rows ++ large_row n size) ++ passing_row n before size) number in
     h ∙ ap (λ xs. rows ++ xs) here ∙ sym (append_assoc rows (large_row i size) (passing_row i before size ++ rest)) ∙ sym (append_assoc (rows ++ large_row i size) (passing_row i before size) rest) ∙ ap (λ xs. xs ++ rest) (sym now)
 

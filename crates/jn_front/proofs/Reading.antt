@@ -99,7 +99,7 @@ map_both (x ∷ xs) ys = ap (λ ns. string_bytes x ∷ ns) (map_both xs ys)
 pub one_more : (held now : Option Holding) (names : List (String Global)) (i : ℕ) (d : String Global) (text : List ℕ) (reads more : List SourceRead) (read : SourceRead) → now ≡ held → i < length names → text ≡ string_bytes (get_or names i d) → ReadFrom held (map string_bytes (take i names)) reads → ReadFrom now (text ∷ []) (read ∷ []) → more ≡ reads ++ read ∷ [] → ReadFrom held (map string_bytes (take (i + 1) names)) more
 one_more held now names i d text reads more read same lt is before next more_is =
     let here : map string_bytes (take (i + 1) names) ≡ map string_bytes (take i names) ++ text ∷ [] =
-      ap (map string_bytes) (take_more names i d lt) ∙ map_both (take i names) (get_or names i d ∷ []) ∙ ap (λ t. map string_bytes (take i names) ++ t ∷ []) (sym is) in
+    ap (map string_bytes) (take_more names i d lt) ∙ map_both (take i names) (get_or names i d ∷ []) ∙ ap (λ t. map string_bytes (take i names) ++ t ∷ []) (sym is) in
     subst (λ ns. ReadFrom held ns more) (sym here) (subst (λ rs. ReadFrom held (map string_bytes (take i names) ++ text ∷ []) rs) (sym more_is)
     (both held (map string_bytes (take i names)) (text ∷ []) reads (read ∷ []) before (subst (λ h. ReadFrom h (text ∷ []) (read ∷ [])) same next)))
 

@@ -78,7 +78,13 @@ pub fn lex_all(alloc: Global, reads: &[SourceRead]) -> Result<LexedFiles, OutOfM
     let mut names = known_names(alloc)?;
     let mut file = 0;
     'files: for read in reads {
-        names = lex_next(alloc, &mut lexed, names, read.file.bytes.as_slice(), FileNo(file))?;
+        names = lex_next(
+            alloc,
+            &mut lexed,
+            names,
+            read.file.bytes.as_slice(),
+            FileNo(file),
+        )?;
         file += 1;
     }
     Ok(lexed)

@@ -13,12 +13,7 @@ use std::alloc::Global;
 const LIMIT: u32 = 1_048_576;
 
 /// A file of this name, read whole or not.
-fn named(
-    alloc: Global,
-    name: &str,
-    bytes: Vec<u8>,
-    whole: bool,
-) -> Result<SourceRead, Fail<Failed>>
+fn named(alloc: Global, name: &str, bytes: Vec<u8>, whole: bool) -> Result<SourceRead, Fail<Failed>>
     ensures read { IfOk result (λ read. read ≡ read_as name.now bytes.items whole) }
     ensures able { CannotRead result → ⊥ }
 {

@@ -221,17 +221,35 @@ fn both(mut front: Vec<PointKind>, mut rest: Vec<PointKind>) -> Result<Vec<Point
 }
 
 fn length(dst: u32, of: u32) -> PointKind {
-    PointKind::StrOp { dst: RegNo(dst), op: StrOperation::Length, of: at(of), other: None }
+    PointKind::StrOp {
+        dst: RegNo(dst),
+        op: StrOperation::Length,
+        of: at(of),
+        other: None,
+    }
 }
 
 fn prints_a_text(alloc: Global) -> Result<Vec<PointKind>, AllocError> {
-    let joins = PointKind::Concat { dst: RegNo(1), left: at(1), right: at(2) };
+    let joins = PointKind::Concat {
+        dst: RegNo(1),
+        left: at(1),
+        right: at(2),
+    };
     Ok(vec![in alloc; string(1), length(2, 1), joins, print(1)]?)
 }
 
 fn prints_numbers(alloc: Global) -> Result<Vec<PointKind>, AllocError> {
-    let quotient = vec![in alloc; int(3, -2147483648), int(4, -1), binary(Operator::Div, 3, 4), print(5)]?;
-    let rest = vec![in alloc; binary(Operator::Rem, 3, 4), print(5), PointKind::Return { value: None }]?;
+    let quotient = vec![in alloc;
+        int(3, -2147483648),
+        int(4, -1),
+        binary(Operator::Div, 3, 4),
+        print(5),
+    ]?;
+    let rest = vec![in alloc;
+        binary(Operator::Rem, 3, 4),
+        print(5),
+        PointKind::Return { value: None },
+    ]?;
     both(quotient, rest)
 }
 
@@ -244,40 +262,71 @@ fn divides(alloc: Global) -> Result<Vec<PointKind>, AllocError> {
 }
 
 fn on_null(alloc: Global) -> Result<Vec<PointKind>, AllocError> {
-    let null = PointKind::Const { dst: RegNo(1), value: Literal::Null };
+    let null = PointKind::Const {
+        dst: RegNo(1),
+        value: Literal::Null,
+    };
     Ok(vec![in alloc; null, length(2, 1)]?)
 }
 
 fn makes_an_object(alloc: Global) -> Result<Vec<PointKind>, AllocError> {
     let mut args = Seq::new(alloc);
     args.push(at(1))?;
-    let made = PointKind::New { dst: RegNo(2), ctor: MethodNo(1), args };
+    let made = PointKind::New {
+        dst: RegNo(2),
+        ctor: MethodNo(1),
+        args,
+    };
     let got = call(Some(RegNo(3)), 2, Some(at(2)), Seq::new(alloc));
-    let cast = PointKind::Cast { dst: RegNo(4), of: at(2), class: ClassNo(1) };
+    let cast = PointKind::Cast {
+        dst: RegNo(4),
+        of: at(2),
+        class: ClassNo(1),
+    };
     Ok(vec![in alloc; int(1, 41), made, got, print(3), cast]?)
 }
 
 fn read(array: u32, index: u32) -> PointKind {
-    PointKind::ElemRead { dst: RegNo(4), array: at(array), index: at(index) }
+    PointKind::ElemRead {
+        dst: RegNo(4),
+        array: at(array),
+        index: at(index),
+    }
 }
 
 fn reads_elements(alloc: Global) -> Result<Vec<PointKind>, AllocError> {
-    let made = PointKind::NewArray { dst: RegNo(2), base: BaseType::Array(Elem::Int, false), length: at(1) };
-    let written = PointKind::ElemWrite { array: at(2), index: at(3), value: at(1) };
+    let made = PointKind::NewArray {
+        dst: RegNo(2),
+        base: BaseType::Array(Elem::Int, false),
+        length: at(1),
+    };
+    let written = PointKind::ElemWrite {
+        array: at(2),
+        index: at(3),
+        value: at(1),
+    };
     let front = vec![in alloc; int(1, 2), made, int(3, 0), written]?;
     let rest = vec![in alloc; read(2, 3), print(4), read(0, 3), print(4), read(2, 1)]?;
     both(front, rest)
 }
 
 fn prints_twice(alloc: Global) -> Result<Vec<PointKind>, AllocError> {
-    Ok(vec![in alloc; int(1, 7), print(1), print(1), PointKind::Return { value: None }]?)
+    Ok(vec![in alloc;
+        int(1, 7),
+        print(1),
+        print(1),
+        PointKind::Return { value: None },
+    ]?)
 }
 
 #[test]
 fn straight_code(rt: HostRuntime) -> Result<(), Fail> {
     let (stepped, out) = outcome(rt.alloc(), straight(rt.alloc())?, 100)?;
     assert_eq!(rt; stepped, Stepped::Ends(End::Done));
-    assert_eq!(rt; out.as_slice(), "a\u{e9}\u{1d11e}4\n-2147483648\n0\n".as_bytes());
+    assert_eq!(rt;
+        out.as_slice(),
+        "a\u{e9}\u{1d11e}4\n-2147483648\n0\n".as_bytes()
+    );
     Ok(())
 }
 
@@ -321,7 +370,10 @@ fn arrays(rt: HostRuntime) -> Result<(), Fail> {
 }
 
 /// What a run prints to a sink whose write of this number fails.
-fn printed(alloc: Global, failing: u32) -> Result<(Result<Stepped, StepFail>, Vec<u8>), OutOfMemory> {
+fn printed(
+    alloc: Global,
+    failing: u32,
+) -> Result<(Result<Stepped, StepFail>, Vec<u8>), OutOfMemory> {
     let program = program(alloc, prints_twice(alloc)?)?;
     let none = Vec::new(alloc);
     let mut sink = MemSink::new(alloc, Vec::from_slice(alloc, &[failing])?, 10, 10)?;

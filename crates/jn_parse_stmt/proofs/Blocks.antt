@@ -70,7 +70,7 @@ no_brace one n (RightBrace ∷ ts) h = absurd (h ts refl)
 no_brace one n _ h = refl
 
 turn_by : (one : List TokenKind → TryStatement) (before : Statements) (left : List TokenKind) (all : Read Statements) (n : ℕ) → length left < n → all ≡ ahead_of before (block_from one n left) → ((x : List TokenKind) → left ≡ RightBrace ∷ x → ⊥)
-  → (o : TryStatement) → one left ≡ o → (m : ℕ) × (length left < suc m) × (all ≡ ahead_of before (then_read o (λ s us. add s (block_from one m us))))
+    → (o : TryStatement) → one left ≡ o → (m : ℕ) × (length left < suc m) × (all ≡ ahead_of before (then_read o (λ s us. add s (block_from one m us))))
 turn_by one before left all zero lt g h o e = absurd (omega (arith, lt))
 turn_by one before left all (suc n) lt g h o e =
     (n, lt, g ∙ ap (λ x. ahead_of before x) (no_brace one n left h) ∙ ap (λ x. ahead_of before (then_read x (λ s us. add s (block_from one n us)))) e)
@@ -79,7 +79,7 @@ pub blocking_fails : (one : List TokenKind → TryStatement) (before : Statement
 blocking_fails one before left all g h e = (turn_by one before left all g.n g.room g.gives h None e).2
 
 pub blocking_goes : (one : List TokenKind → TryStatement) (ss all_ss : List Stmt) (left : List TokenKind) (all : Read Statements) (s : Stmt) (rest : List TokenKind) → Blocking one (statement_views ss) left all → ((x : List TokenKind) → left ≡ RightBrace ∷ x → ⊥)
-  → one left ≡ Some (statement_view s, rest) → length rest < length left → all_ss ≡ ss ++ s ∷ [] → Blocking one (statement_views all_ss) rest all
+    → one left ≡ Some (statement_view s, rest) → length rest < length left → all_ss ≡ ss ++ s ∷ [] → Blocking one (statement_views all_ss) rest all
 blocking_goes one ss all_ss left all s rest g h e short same =
     let p = turn_by one (statement_views ss) left all g.n g.room g.gives h (Some (statement_view s, rest)) e in
     record {

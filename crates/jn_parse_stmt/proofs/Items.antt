@@ -57,7 +57,7 @@ listing_fails one before left all g e = fails_by one before left all g.n g.gives
 
 -- one item, and what is behind it
 behind_by : (one : List TokenKind → Try) (before : Trees) (left : List TokenKind) (all : TryAll) (n : ℕ) (t : Tree) (rest : List TokenKind) → length left < n → all ≡ ahead_of before (items_from one n left) → one left ≡ Some (t, rest)
-  → (m : ℕ) × (length left < suc m) × (all ≡ ahead_of before (items_behind (items_from one m) t rest))
+    → (m : ℕ) × (length left < suc m) × (all ≡ ahead_of before (items_behind (items_from one m) t rest))
 behind_by one before left all zero t rest lt g e = absurd (omega (arith, lt))
 behind_by one before left all (suc n) t rest lt g e = (n, lt, g ∙ ap (λ p. ahead_of before (bind_all p (items_behind (items_from one n)))) e)
 
@@ -66,13 +66,13 @@ no_comma more t (Comma ∷ ts) h = absurd (h ts refl)
 no_comma more t _ h = refl
 
 pub listing_ends : (one : List TokenKind → Try) (es all_es : List Expr) (left : List TokenKind) (all : TryAll) (e : Expr) (rest : List TokenKind) → Listing one (views es) left all → one left ≡ Some (view e, rest)
-  → ((x : List TokenKind) → rest ≡ Comma ∷ x → ⊥) → all_es ≡ es ++ e ∷ [] → all ≡ Some (views all_es, rest)
+    → ((x : List TokenKind) → rest ≡ Comma ∷ x → ⊥) → all_es ≡ es ++ e ∷ [] → all ≡ Some (views all_es, rest)
 listing_ends one es all_es left all e rest g is h same =
     let p = behind_by one (views es) left all g.n (view e) rest g.room g.gives is in
     p.2 ∙ ap (λ x. ahead_of (views es) x) (no_comma (items_from one p.0) (view e) rest h) ∙ ap (λ ts. Some (ts, rest)) (views_push es e) ∙ ap (λ xs. Some (views xs, rest)) (sym same)
 
 pub listing_goes : (one : List TokenKind → Try) (es all_es : List Expr) (left : List TokenKind) (all : TryAll) (e : Expr) (rest after : List TokenKind) → Listing one (views es) left all → one left ≡ Some (view e, rest)
-  → rest ≡ Comma ∷ after → length rest ≤ length left → all_es ≡ es ++ e ∷ [] → Listing one (views all_es) after all
+    → rest ≡ Comma ∷ after → length rest ≤ length left → all_es ≡ es ++ e ∷ [] → Listing one (views all_es) after all
 listing_goes one es all_es left all e rest after g is comma short same =
     let p = behind_by one (views es) left all g.n (view e) rest g.room g.gives is in
     let long : length rest ≡ suc (length after) = ap length comma in
@@ -80,9 +80,9 @@ listing_goes one es all_es left all e rest after g is comma short same =
       n = p.0;
       room = omega (arith, short, long, p.1);
       gives =
-        p.2 ∙ ap (λ x. ahead_of (views es) (items_behind (items_from one p.0) (view e) x)) comma
-        ∙ ahead_push es e (items_from one p.0 after)
-        ∙ ap (λ xs. ahead_of (views xs) (items_from one p.0 after)) (sym same);
+          p.2 ∙ ap (λ x. ahead_of (views es) (items_behind (items_from one p.0) (view e) x)) comma
+          ∙ ahead_push es e (items_from one p.0 after)
+          ∙ ap (λ xs. ahead_of (views xs) (items_from one p.0 after)) (sym same);
     }
 
 pub not_closed : (one : List TokenKind → Try) (ts : List TokenKind) → ((x : List TokenKind) → ts ≡ RightParen ∷ x → ⊥) → arguments_in one ts ≡ bind_items (all_items one ts) close_arguments

@@ -101,21 +101,21 @@ push_declarator : (before : List DeclaratorTree) (x : DeclaratorTree) (r : Behin
 push_declarator before x r = let e : before ++ (x ∷ r.0) ≡ (before ++ x ∷ []) ++ r.0 = sym (append_assoc before (x ∷ []) r.0) in ap (λ xs. (xs, r.1)) e
 
 declaring_by : (whole : List TokenKind → Try) (before : List DeclaratorTree) (left : List TokenKind) (all : Behind (List DeclaratorTree)) (n : ℕ) → length left ≤ n → all ≡ ahead before (more_declarators whole n left)
-  → (name : NameNo) (after rest : List TokenKind) (x : DeclaratorTree) → left ≡ Comma ∷ Id name ∷ after → declarator_behind whole name after ≡ (x, rest) → length rest ≤ length after
-  → Declaring whole (before ++ x ∷ []) rest all
+    → (name : NameNo) (after rest : List TokenKind) (x : DeclaratorTree) → left ≡ Comma ∷ Id name ∷ after → declarator_behind whole name after ≡ (x, rest) → length rest ≤ length after
+    → Declaring whole (before ++ x ∷ []) rest all
 declaring_by whole before left all zero room gives name after rest x e is le = absurd (omega (arith, ap length e))
 declaring_by whole before left all (suc n) room gives name after rest x e is le = record {
   n = n;
   room = omega (arith, ap length e);
   gives =
-    gives ∙ ap (λ ts. ahead before (more_declarators whole (suc n) ts)) e
-    ∙ ap (λ (r : Behind DeclaratorTree). ahead before (put r.0 (more_declarators whole n r.1))) is
-    ∙ push_declarator before x (more_declarators whole n rest);
+      gives ∙ ap (λ ts. ahead before (more_declarators whole (suc n) ts)) e
+      ∙ ap (λ (r : Behind DeclaratorTree). ahead before (put r.0 (more_declarators whole n r.1))) is
+      ∙ push_declarator before x (more_declarators whole n rest);
 }
 
 pub declaring_goes : (whole : List TokenKind → Try) (before : List DeclaratorTree) (left : List TokenKind) (all : Behind (List DeclaratorTree)) → Declaring whole before left all
-  → (name : NameNo) (after rest : List TokenKind) (x : DeclaratorTree) → left ≡ Comma ∷ Id name ∷ after → declarator_behind whole name after ≡ (x, rest) → length rest ≤ length after
-  → Declaring whole (before ++ x ∷ []) rest all
+    → (name : NameNo) (after rest : List TokenKind) (x : DeclaratorTree) → left ≡ Comma ∷ Id name ∷ after → declarator_behind whole name after ≡ (x, rest) → length rest ≤ length after
+    → Declaring whole (before ++ x ∷ []) rest all
 declaring_goes whole before left all d name after rest x e is le = declaring_by whole before left all d.n d.room d.gives name after rest x e is le
 
 -- a list of views with one more

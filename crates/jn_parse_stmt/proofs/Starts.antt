@@ -34,7 +34,7 @@ module _ (whole : List TokenKind → Try) (one : Context → List TokenKind → 
 
   -- no statement has a word of its own there
   pub at_other : (k : TokenKind) (ts : List TokenKind) → (k ≡ LeftBrace → ⊥) → (k ≡ Semicolon → ⊥) → (k ≡ Break → ⊥) → (k ≡ Continue → ⊥) → (k ≡ Return → ⊥) → (k ≡ If → ⊥) → (k ≡ While → ⊥) → (k ≡ Do → ⊥) → (k ≡ For → ⊥) → (k ≡ This → ⊥) → (k ≡ Super → ⊥)
-    → statement_at whole one c (k ∷ ts) ≡ simple whole c.direct (k ∷ ts)
+      → statement_at whole one c (k ∷ ts) ≡ simple whole c.direct (k ∷ ts)
   at_other LeftBrace ts h1 h2 h3 h4 h5 h6 h7 h8 h9 h10 h11 = absurd (h1 refl)
   at_other Semicolon ts h1 h2 h3 h4 h5 h6 h7 h8 h9 h10 h11 = absurd (h2 refl)
   at_other Break ts h1 h2 h3 h4 h5 h6 h7 h8 h9 h10 h11 = absurd (h3 refl)

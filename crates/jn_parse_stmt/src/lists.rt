@@ -44,9 +44,7 @@ fn are_effects(expressions: &[Expr]) -> bool
 }
 
 /// What was read, where all of it can stand as statements.
-pub fn only_effects<'t>(
-    read: Option<(Vec<Expr>, &'t [Token])>,
-) -> Option<(Vec<Expr>, &'t [Token])>
+pub fn only_effects<'t>(read: Option<(Vec<Expr>, &'t [Token])>) -> Option<(Vec<Expr>, &'t [Token])>
     ensures { then_read (seen_as all_views read.entry) if_effects ≡ seen_as all_views result }
 {
     match read {

@@ -69,11 +69,7 @@ fn loop_body() -> Context
 }
 
 #[inline(never)]
-fn block_of(
-    alloc: Global,
-    statements: Vec<Stmt>,
-    span: Span,
-) -> Result<Box<Stmt>, OutOfMemory>
+fn block_of(alloc: Global, statements: Vec<Stmt>, span: Span) -> Result<Box<Stmt>, OutOfMemory>
     ensures { IfOk result (λ b. statement_view b.value ≡ BlockStatement (statement_views statements.items)) }
 {
     boxed(alloc, Stmt::Block { statements, span })
@@ -256,9 +252,7 @@ fn if_statement<'t>(
         None => Ok(None),
         Some((condition, after)) => match statement(alloc, after, depth, under(context))? {
             None => Ok(None),
-            Some((then, rest)) => {
-                if_end(alloc, tokens, condition, then, rest, depth, context)
-            }
+            Some((then, rest)) => { if_end(alloc, tokens, condition, then, rest, depth, context) }
         },
     }
 }

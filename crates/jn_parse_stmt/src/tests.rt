@@ -1,5 +1,8 @@
 // Statements, as words: what each is, what stands first in it, and how many tokens are left.
-use crate::{final_once, read_annotations, read_declarators, read_local_modifiers, read_statement, read_type_use};
+use crate::{
+    final_once, read_annotations, read_declarators, read_local_modifiers, read_statement,
+    read_type_use,
+};
 use jn_base::{FileNo, NameNo, Span};
 use jn_trees::{Context, Stmt, Token, TokenKind};
 use std::alloc::{AllocError, Global};
@@ -179,7 +182,10 @@ fn reads(rt: &impl Abort, alloc: Global, context: Context, depth: u32, case: Cas
             assert!(rt; is_shaped(&statement, letters), "at {text}");
             assert!(rt; rest.len() == left, "at {text}");
             let last = tokens.len().saturating_sub(left).saturating_sub(1);
-            let to = u32::try_from(last).unwrap_or(0).wrapping_mul(10).wrapping_add(9);
+            let to = u32::try_from(last)
+                .unwrap_or(0)
+                .wrapping_mul(10)
+                .wrapping_add(9);
             let span = span_of(&statement);
             assert!(rt; span.from == 0 && span.to == to, "at {text}");
         }

@@ -91,7 +91,12 @@ fn unbuilt(alloc: Global, reads: &[SourceRead]) -> Result<(Status, Plain), OutOf
     ensures status { IfOk result (λ r. r.0 ≡ Status.Refused) }
     ensures shows { IfOk result (λ r. plain_shown r.1.rows r.1.verdict ≡ shown (files_of_reads reads.now) (Refused (unbuilt_row ∷ []))) }
 {
-    let plain = show(alloc, reads, &[row_at(0, Code::Unbuilt)], Verdict::Refused(1))?;
+    let plain = show(
+        alloc,
+        reads,
+        &[row_at(0, Code::Unbuilt)],
+        Verdict::Refused(1),
+    )?;
     Ok((Status::Refused, plain))
 }
 

@@ -8,8 +8,8 @@ ghost use Rattle.nullcheck_top.specs.Report.{ProgramOf, Report, RulesGive, IsRep
 use jn_diag::rows_have_one_order;
 use jn_first_form::program_law::{files_have_one_program, programs_stay_inside};
 use jn_first_law::form_programs_are_plain;
-use jn_front::law::files_have_one_front;
 use jn_flow::law::rounds_give_the_least_table;
+use jn_front::law::files_have_one_front;
 use jn_soundness::law::plain_programs_never_fault;
 
 /// Files whose program breaks no rule have no null fault in any run.

@@ -221,13 +221,22 @@ fn reports_the_first_phase_that_has_rows(rt: HostRuntime) -> Result<(), OutOfMem
         ("class A { }\n".as_bytes(), UNBUILT),
         (b"", UNBUILT),
         (&spaces, UNBUILT),
-        (b"class String { public static void main(String[] a) { } }", UNBUILT),
+        (
+            b"class String { public static void main(String[] a) { } }",
+            UNBUILT,
+        ),
         (b"\xff\x00", "A.java:1:1: L1\nrefused 1\n"),
         (b"class A { } // \\u0041\n", "A.java:1:16: L2\nrefused 1\n"),
         (b"class A { int x = 017; }", "A.java:1:19: L7\nrefused 1\n"),
         (b"class A { } }", "A.java:1:13: S1\nrefused 1\n"),
-        (b"class A { A(int x) { break; } }", "A.java:1:22: S1\nrefused 1\n"),
-        (b"class A { void f(boolean b) { if (b) f(b); else 1; } }", "A.java:1:44: S1\nrefused 1\n"),
+        (
+            b"class A { A(int x) { break; } }",
+            "A.java:1:22: S1\nrefused 1\n",
+        ),
+        (
+            b"class A { void f(boolean b) { if (b) f(b); else 1; } }",
+            "A.java:1:44: S1\nrefused 1\n",
+        ),
         (b"class A {\n  int x = 1", "A.java:2:3: S1\nrefused 1\n"),
         (&long, "A.java:1:1: B2\nrefused 1\n"),
     ] {
@@ -243,8 +252,16 @@ fn reports_rows_of_several_files(rt: HostRuntime) -> Result<(), OutOfMemory> {
     let alloc = rt.alloc();
     let spaces = vec![in alloc; b' '; 1_048_576]?;
     for (text, count, want) in [
-        ("class A".as_bytes(), 2, "A.java:1:1: S1\nA.java:1:1: S1\nrefused 2\n"),
-        (b"#", 3, "A.java:1:1: L3\nA.java:1:1: L3\nA.java:1:1: L3\nrefused 3\n"),
+        (
+            "class A".as_bytes(),
+            2,
+            "A.java:1:1: S1\nA.java:1:1: S1\nrefused 2\n",
+        ),
+        (
+            b"#",
+            3,
+            "A.java:1:1: L3\nA.java:1:1: L3\nA.java:1:1: L3\nrefused 3\n",
+        ),
         (&spaces, 4, UNBUILT),
         (&spaces, 5, "A.java:1:1: B3\nrefused 1\n"),
         (b"", 64, UNBUILT),

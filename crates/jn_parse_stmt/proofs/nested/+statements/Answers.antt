@@ -87,8 +87,8 @@ statement-returns-in_default t c =
     let n = c.in_default in
     subst (λ x. IfOk c.simple_statement-in_default.result (λ o. x ≡ seen_as boxed_view o))
     (ap (λ ts. simple (reader (c.args.depth - 1)).whole c.args.context.direct ts) e
-     ∙ sym (at_other (reader (c.args.depth - 1)).whole (read_one (c.args.depth - 1)) c.args.context c.in-Some.first.kind (kinds c.in-Some.after.now) n.not-LeftBrace n.not-Semicolon n.not-Break n.not-Continue n.not-Return n.not-If n.not-While n.not-Do n.not-For n.not-This n.not-Super)
-     ∙ sym (one_at c.args.context c.args.depth (kinds c.args.tokens.now) (c.in-Some.first.kind ∷ kinds c.in-Some.after.now) lt e))
+    ∙ sym (at_other (reader (c.args.depth - 1)).whole (read_one (c.args.depth - 1)) c.args.context c.in-Some.first.kind (kinds c.in-Some.after.now) n.not-LeftBrace n.not-Semicolon n.not-Break n.not-Continue n.not-Return n.not-If n.not-While n.not-Do n.not-For n.not-This n.not-Super)
+    ∙ sym (one_at c.args.context c.args.depth (kinds c.args.tokens.now) (c.in-Some.first.kind ∷ kinds c.in-Some.after.now) lt e))
     c.simple_statement-in_default.ensures
 
 pub statement-returns-in-None-expect : goal.statement-returns-in-None-expect
@@ -97,8 +97,8 @@ statement-returns-in-None-expect t c =
     let e = ap kinds c.in-Some.ensures ∙ ap (λ k. k ∷ kinds c.in-Some.after.now) c.in-This.is in
     subst (λ x. IfOk c.simple_statement-in-None-expect.result (λ o. x ≡ seen_as boxed_view o))
     (ap (λ ts. simple (reader (c.args.depth - 1)).whole c.args.context.direct ts) e
-     ∙ sym (at_this (reader (c.args.depth - 1)).whole (read_one (c.args.depth - 1)) c.args.context (kinds c.in-Some.after.now) c.in-None-expect.ensures)
-     ∙ sym (one_at c.args.context c.args.depth (kinds c.args.tokens.now) (This ∷ kinds c.in-Some.after.now) lt e))
+    ∙ sym (at_this (reader (c.args.depth - 1)).whole (read_one (c.args.depth - 1)) c.args.context (kinds c.in-Some.after.now) c.in-None-expect.ensures)
+    ∙ sym (one_at c.args.context c.args.depth (kinds c.args.tokens.now) (This ∷ kinds c.in-Some.after.now) lt e))
     c.simple_statement-in-None-expect.ensures
 
 pub statement-returns-in-Some-expect : goal.statement-returns-in-Some-expect
@@ -113,8 +113,8 @@ statement-returns-in-None-expect-2 t c =
     let e = ap kinds c.in-Some.ensures ∙ ap (λ k. k ∷ kinds c.in-Some.after.now) c.in-Super.is in
     subst (λ x. IfOk c.simple_statement-in-None-expect-2.result (λ o. x ≡ seen_as boxed_view o))
     (ap (λ ts. simple (reader (c.args.depth - 1)).whole c.args.context.direct ts) e
-     ∙ sym (at_super (reader (c.args.depth - 1)).whole (read_one (c.args.depth - 1)) c.args.context (kinds c.in-Some.after.now) c.in-None-expect-2.ensures)
-     ∙ sym (one_at c.args.context c.args.depth (kinds c.args.tokens.now) (Super ∷ kinds c.in-Some.after.now) lt e))
+    ∙ sym (at_super (reader (c.args.depth - 1)).whole (read_one (c.args.depth - 1)) c.args.context (kinds c.in-Some.after.now) c.in-None-expect-2.ensures)
+    ∙ sym (one_at c.args.context c.args.depth (kinds c.args.tokens.now) (Super ∷ kinds c.in-Some.after.now) lt e))
     c.simple_statement-in-None-expect-2.ensures
 
 pub statement-returns-in-Some-expect-2 : goal.statement-returns-in-Some-expect-2
