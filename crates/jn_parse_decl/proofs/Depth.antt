@@ -1,5 +1,5 @@
 -- Declarators and statements of the greatest nesting.
-use Rattle.std.proofs.Common.{◌≡◌, ℕ, List, refl, sym, ap, ◌∙◌, Option, Result, Ok, Err, IfOk, Vec, Bool}
+use Rattle.std.proofs.Common.{◌≡◌, ℕ, List, sym, ap, ◌∙◌, Option, Result, Ok, Err, IfOk, Vec, Bool}
 use Rattle.std.specs.Borrow.{Bor}
 use Rattle.std.specs.declared.alloc.Global.{Global}
 use Rattle.jn_base.specs.declared.refusal.OutOfMemory.{OutOfMemory}

@@ -1,42 +1,20 @@
 -- What loops keep that read one item after another.
-use Rattle.std.proofs.Common.{◌≡◌, ℕ, zero, suc, ◌+◌, ◌<◌, List, [], ◌∷◌, ◌++◌, map, refl, sym, ap, ◌∙◌, append-nil, length, length-append, arith, Option, Some, None, subst}
+use Rattle.std.proofs.Common.{◌≡◌, ℕ, zero, suc, ◌+◌, ◌<◌, List, [], ◌∷◌, ◌++◌, refl, ap, ◌∙◌, length, length-append, arith, Option, Some, None}
 use Rattle.jn_base.specs.declared.number.NameNo.{NameNo}
 use Rattle.jn_trees.specs.declared.token.TokenKind.{TokenKind}
-use Rattle.jn_trees.specs.declared.token.TokenKind.TheVariants.{Id, RightParen, Comma}
+use Rattle.jn_trees.specs.declared.token.TokenKind.TheVariants.{Id, Comma}
 use Rattle.jn_trees.specs.Trees.{LocalMark, TypeUseTree, ParameterTree}
 use Rattle.jn_trees.specs.Spelling.{spell_marks, spell_type_use}
 use Rattle.jn_stmt_law.specs.Fronts.{SpelledIfRead}
 use Rattle.jn_stmt_law.specs.Parts.{read_marks, read_type_use}
 use Rattle.jn_stmt_law.proofs.Fronts.{marks_spell, type_use_spells}
 use Rattle.jn_file_law.specs.PieceReader.{TryParameters, after_type, parameter_end, parameter_from, add_parameter, more_parameters_from, read_more_parameters}
-use Rattle.jn_parse_decl.specs.Front.{prepend, prepend_parameters, name_behind, one_parameter}
-use Rattle.jn_parse_decl.proofs.Absent.{no_more}
-
-pub pushed : {A B : Type 0} (f : A → B) (xs : List A) (x : A) (ys : List B) → map f (xs ++ x ∷ []) ++ ys ≡ map f xs ++ f x ∷ ys
-pushed f [] x ys = refl
-pushed f (y ∷ xs) x ys = ap (λ zs. f y ∷ zs) (pushed f xs x ys)
-
--- one item more
-pub went : {A B : Type 0} (f : A → B) (whole here : List B × List TokenKind) (xs all : List A) (x : A) (behind : List B × List TokenKind) → whole ≡ prepend (map f xs) here → here ≡ (f x ∷ behind.0, behind.1) → all ≡ xs ++ x ∷ [] → whole ≡ prepend (map f all) behind
-went f whole here xs all x behind start step more =
-    start ∙ ap (λ r. prepend (map f xs) r) step ∙ ap (λ ys. (ys, behind.1)) (sym (pushed f xs x behind.0)) ∙ ap (λ zs. prepend (map f zs) behind) (sym more)
-
--- no item more
-pub stopped : {A B : Type 0} (f : A → B) (whole here : List B × List TokenKind) (xs : List A) (ts : List TokenKind) → whole ≡ prepend (map f xs) here → here ≡ ([], ts) → whole ≡ (map f xs, ts)
-stopped f whole here xs ts start step = start ∙ ap (λ r. prepend (map f xs) r) step ∙ ap (λ ys. (ys, ts)) (append-nil (map f xs))
-
--- parameters
+use Rattle.jn_parse_decl.specs.Front.{prepend_parameters, name_behind, one_parameter}
 
 end_by : (more : List TokenKind → TryParameters) (ms : List LocalMark) (u : TypeUseTree) (ts : List TokenKind) (r : Option (ParameterTree × List TokenKind)) → name_behind ms u ts ≡ r → parameter_end more ms u ts ≡ elim r as (λ _. TryParameters) [ None ↦ None | Some q ↦ add_parameter q.0 (more q.1) ]
 end_by more ms u [] r e = ap (λ (o : Option (ParameterTree × List TokenKind)). elim o as (λ _. TryParameters) [ None ↦ None | Some q ↦ add_parameter q.0 (more q.1) ]) e
 end_by more ms u (Id n ∷ ts) r e = ap (λ (o : Option (ParameterTree × List TokenKind)). elim o as (λ _. TryParameters) [ None ↦ None | Some q ↦ add_parameter q.0 (more q.1) ]) e
 end_by more ms u (_ ∷ ts) r e = ap (λ (o : Option (ParameterTree × List TokenKind)). elim o as (λ _. TryParameters) [ None ↦ None | Some q ↦ add_parameter q.0 (more q.1) ]) e
-
-pub end_none : (more : List TokenKind → TryParameters) (ms : List LocalMark) (u : TypeUseTree) (ts : List TokenKind) → name_behind ms u ts ≡ None → parameter_end more ms u ts ≡ None
-end_none more ms u ts e = end_by more ms u ts None e
-
-pub end_some : (more : List TokenKind → TryParameters) (ms : List LocalMark) (u : TypeUseTree) (ts : List TokenKind) (p : ParameterTree) (rest : List TokenKind) → name_behind ms u ts ≡ Some (p, rest) → parameter_end more ms u ts ≡ add_parameter p (more rest)
-end_some more ms u ts p rest e = end_by more ms u ts (Some (p, rest)) e
 
 from_by : (more : List TokenKind → TryParameters) (ms : List LocalMark) (o : Option (TypeUseTree × List TokenKind)) (r : Option (ParameterTree × List TokenKind)) → after_type (name_behind ms) o ≡ r → after_type (parameter_end more ms) o ≡ elim r as (λ _. TryParameters) [ None ↦ None | Some q ↦ add_parameter q.0 (more q.1) ]
 from_by more ms None r e = ap (λ (o : Option (ParameterTree × List TokenKind)). elim o as (λ _. TryParameters) [ None ↦ None | Some q ↦ add_parameter q.0 (more q.1) ]) e
@@ -57,21 +35,6 @@ pub record Going (before : List ParameterTree) (left : List TokenKind) (whole : 
 pub going_start : (before : List ParameterTree) (ts : List TokenKind) → Going before ts (prepend_parameters before (read_more_parameters ts))
 unfolding read_more_parameters
 going_start before ts = record { n = suc (length ts); room = omega arith; gives = refl }
-
-closes : (before : List ParameterTree) (left rest : List TokenKind) (whole : TryParameters) (n : ℕ) → length left < n → whole ≡ prepend_parameters before (more_parameters_from n left) → left ≡ RightParen ∷ rest → whole ≡ Some (before, rest)
-closes before left rest whole zero room gives e = absurd (omega arith)
-closes before left rest whole (suc n) room gives e =
-    gives ∙ ap (λ ts. prepend_parameters before (more_parameters_from (suc n) ts)) e ∙ ap (λ ps. Some (ps, rest)) (append-nil before)
-
-pub going_closed : (before : List ParameterTree) (left rest : List TokenKind) (whole : TryParameters) → Going before left whole → left ≡ RightParen ∷ rest → whole ≡ Some (before, rest)
-going_closed before left rest whole g e = closes before left rest whole g.n g.room g.gives e
-
-stops : (before : List ParameterTree) (left : List TokenKind) (whole : TryParameters) (n : ℕ) → whole ≡ prepend_parameters before (more_parameters_from n left) → ((rest : List TokenKind) → left ≡ RightParen ∷ rest → ⊥) → ((rest : List TokenKind) → left ≡ Comma ∷ rest → ⊥) → whole ≡ None
-stops before left whole zero gives h k = gives
-stops before left whole (suc n) gives h k = gives ∙ ap (λ o. prepend_parameters before o) (no_more n left h k)
-
-pub going_stops : (before : List ParameterTree) (left : List TokenKind) (whole : TryParameters) → Going before left whole → ((rest : List TokenKind) → left ≡ RightParen ∷ rest → ⊥) → ((rest : List TokenKind) → left ≡ Comma ∷ rest → ⊥) → whole ≡ None
-going_stops before left whole g h k = stops before left whole g.n g.gives h k
 
 fails : (before : List ParameterTree) (left after : List TokenKind) (whole : TryParameters) (n : ℕ) → whole ≡ prepend_parameters before (more_parameters_from n left) → left ≡ Comma ∷ after → one_parameter after ≡ None → whole ≡ None
 fails before left after whole zero gives e none = gives

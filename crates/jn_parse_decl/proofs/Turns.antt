@@ -1,5 +1,5 @@
 -- The loop over pieces, and what its end says of a file.
-use Rattle.std.proofs.Common.{◌≡◌, ℕ, suc, ◌-◌, ◌<◌, List, [], ◌∷◌, length, map, refl, sym, ap, ◌∙◌, subst, arith, inl, inr, Option, Some, None}
+use Rattle.std.proofs.Common.{◌≡◌, ℕ, suc, ◌-◌, ◌<◌, List, [], ◌∷◌, length, refl, sym, ap, ◌∙◌, subst, arith, inl, inr, Option, Some, None}
 use Rattle.jn_base.specs.declared.number.FileNo.{FileNo}
 use Rattle.jn_base.specs.declared.place.Row.{Row}
 use Rattle.jn_base.specs.declared.code.Code.TheVariants.{S1, S2}
@@ -23,9 +23,6 @@ pub moved : ((ts : List TokenKind) (built : Built) (around : Around) (rest : Lis
     → (ts : List TokenKind) (b c : Built) (a z : Around) (rest left : List TokenKind) (p : Piece) → IsReached ts b a rest → ◌≡◌ {A = Option (Piece × List TokenKind)} (Some (p, left)) (piece_reader a rest) → z ≡ behind a p → c ≡ add b p → IsReached ts c z left
 moved more ts b c a z rest left p h read around built =
     subst (λ (x : Built). IsReached ts x z left) (sym built) (subst (λ (y : Around). IsReached ts (add b p) y left) (sym around) (more ts b a rest p left h (sym read)))
-
-pub ends : (ts : List TokenKind) (b : Built) (a : Around) (rest : List TokenKind) → IsReached ts b a rest → None ≡ piece_reader a rest → EndsAt ts b rest
-ends ts b a rest h e = record { around = a; reached = h; stuck = sym e }
 
 no_tokens : (ts : List Token) → length ts ≡ 0 → kinds ts ≡ []
 no_tokens [] e = refl

@@ -15,9 +15,6 @@ map_push f (y ∷ xs) x = ap (λ zs. f y ∷ zs) (map_push f xs x)
 pub more : {A B : Type 0} (f : A → B) (xs all : List A) (x : A) → all ≡ xs ++ x ∷ [] → map f all ≡ map f xs ++ f x ∷ []
 more f xs all x e = ap (map f) e ∙ map_push f xs x
 
-pub none_yet : {A B : Type 0} (f : A → B) (all : List A) → all ≡ [] → map f all ≡ []
-none_yet f all e = ap (map f) e
-
 pub same_statements : (ss : List Stmt) → statement_views ss ≡ all_statements (map statement_view ss)
 same_statements [] = refl
 same_statements (s ∷ ss) = ap (λ us. MoreStatements (statement_view s) us) (same_statements ss)

@@ -1,21 +1,17 @@
 -- What was read, without its places, and the tokens that follow it.
-use Rattle.std.specs.Prelude.{List, ◌∷◌, ◌++◌, map, Option, Some, None, Vec}
+use Rattle.std.specs.Prelude.{List, map, Option, Some, None, Vec}
 use Rattle.std.specs.Borrow.{Bor}
 use Rattle.std.specs.declared.alloc.Global.{Global}
 use Rattle.jn_base.specs.declared.number.NameNo.{NameNo}
 use Rattle.jn_trees.specs.declared.expression.Annotation.{Annotation}
-use Rattle.jn_trees.specs.declared.statement.TypeUse.{TypeUse}
-use Rattle.jn_trees.specs.declared.statement.Declarator.{Declarator}
 use Rattle.jn_trees.specs.declared.token.Token.{Token}
 use Rattle.jn_trees.specs.declared.token.TokenKind.{TokenKind}
-use Rattle.jn_trees.specs.declared.token.TokenKind.TheVariants.{Id, Public as PublicWord, Protected as ProtectedWord, Private as PrivateWord, Static as StaticWord, Final as FinalWord, Abstract as AbstractWord}
 use Rattle.jn_trees.specs.declared.declaration.Parameter.{Parameter}
-use Rattle.jn_trees.specs.Trees.{Mark, PublicMark, ProtectedMark, PrivateMark, StaticMark, ConstantMark, AbstractMark, ParameterTree, LocalMark, TypeUseTree, DeclaratorTree}
-use Rattle.jn_trees.specs.View.{marks, annotation_names, identifier_names, parent_view, type_use_view, declarator_view, declarator_views, result_view, receiver_view, parameter_view, parameter_views, statement_view, dotted_view, package_view, import_view, member_view, member_views, type_view}
+use Rattle.jn_trees.specs.Trees.{ParameterTree}
+use Rattle.jn_trees.specs.View.{marks, annotation_names, identifier_names, parent_view, type_use_view, declarator_view, declarator_views, result_view, receiver_view, parameter_view, parameter_views, statement_view, dotted_view, package_view, import_view, member_views, type_view}
 use Rattle.jn_trees.specs.Pieces as trees
 use Rattle.jn_trees.specs.Pieces.{kinds, PackagePiece, ImportPiece, ClassHead, InterfaceHead, FieldPiece, MethodPiece, ConstructorHead, StatementPiece}
-use Rattle.jn_file_law.specs.PieceReader.{TryPiece, TryParameters, TryAllParameters, after_type}
-use Rattle.jn_stmt_law.specs.Parts.{read_marks, read_type_use}
+use Rattle.jn_file_law.specs.PieceReader.{TryPiece, TryParameters, TryAllParameters}
 use Rattle.jn_file_law.specs.Built as law
 use Rattle.jn_file_law.specs.Built.{ClassOpening, InterfaceOpening, MethodOpening, ConstructorOpening}
 use Rattle.jn_parse_decl.specs.declared.piece.TypeHead.{TypeHead}
