@@ -40,25 +40,25 @@ unfolding zeros
 length-zeros zero = refl
 length-zeros (suc n) = ap suc (length-zeros n)
 
-longer_from : (held : Option Holding) (name bytes none : List ℕ) → Gives held name bytes → file_limit < length bytes → ReadFrom held (name ∷ []) (read_as name none false ∷ [])
-longer_from held name bytes none g lt = record {
+longer_from : (held : Option Holding) (name bytes : List ℕ) → Gives held name bytes → file_limit < length bytes → ReadFrom held (name ∷ []) (read_as name [] false ∷ [])
+longer_from held name bytes g lt = record {
   files = record { name = name; bytes = bytes } ∷ [];
   named = refl;
   told = one_held held name bytes g;
   are = (inr (refl, refl, lt), tt);
 }
 
-longer_held : (h : Holding) (name none : List ℕ) (o : Option (List ℕ)) → h name ≡ o → IsLonger o file_limit → ReadFrom (Some h) (name ∷ []) (read_as name none false ∷ [])
-longer_held h name none None e l = absurd l
-longer_held h name none (Some bytes) e l = longer_from (Some h) name bytes none e l
+longer_held : (h : Holding) (name : List ℕ) (o : Option (List ℕ)) → h name ≡ o → IsLonger o file_limit → ReadFrom (Some h) (name ∷ []) (read_as name [] false ∷ [])
+longer_held h name None e l = absurd l
+longer_held h name (Some bytes) e l = longer_from (Some h) name bytes e l
 
-large_from : (held : Option Holding) (name none : List ℕ) → HoldsMore held name file_limit → ReadFrom held (name ∷ []) (read_as name none false ∷ [])
-large_from None name none m = let long = length-zeros (file_limit + 1) in longer_from None name (zeros (file_limit + 1)) none tt (omega (arith, long))
-large_from (Some h) name none m = longer_held h name none (h name) refl m
+large_from : (held : Option Holding) (name : List ℕ) → HoldsMore held name file_limit → ReadFrom held (name ∷ []) (read_as name [] false ∷ [])
+large_from None name m = let long = length-zeros (file_limit + 1) in longer_from None name (zeros (file_limit + 1)) tt (omega (arith, long))
+large_from (Some h) name m = longer_held h name (h name) refl m
 
-pub read_large_from : {E : Type 0} (held : Option Holding) (name none : List ℕ) (r : Result SourceRead E) → IfOk r (λ read. read ≡ read_as name none false) → HoldsMore held name file_limit → IfOk r (λ read. ReadFrom held (name ∷ []) (read ∷ []))
-read_large_from held name none (Ok read) is m = subst (λ read. ReadFrom held (name ∷ []) (read ∷ [])) (sym is) (large_from held name none m)
-read_large_from held name none (Err e) is m = tt
+pub read_large_from : {E : Type 0} (held : Option Holding) (name none : List ℕ) (r : Result SourceRead E) → none ≡ [] → IfOk r (λ read. read ≡ read_as name none false) → HoldsMore held name file_limit → IfOk r (λ read. ReadFrom held (name ∷ []) (read ∷ []))
+read_large_from held name none (Ok read) empty is m = subst (λ read. ReadFrom held (name ∷ []) (read ∷ [])) (sym (is ∙ ap (λ bytes. read_as name bytes false) empty)) (large_from held name m)
+read_large_from held name none (Err e) empty is m = tt
 
 -- ---- one file more
 

@@ -34,7 +34,7 @@ read_as name bytes whole = record { file = record { name = name; bytes = bytes }
 
 -- the file was read whole, or its name alone where it is larger than the limit
 abbrev pub IsReadOf : SourceRead → SourceFile → Type 0
-IsReadOf read file = ((read.whole ≡ true) × (read.file ≡ file) × (length file.bytes ≤ file_limit)) ⊎ ((read.whole ≡ false) × (read.file.name ≡ file.name) × (file_limit < length file.bytes))
+IsReadOf read file = ((read.whole ≡ true) × (read.file ≡ file) × (length file.bytes ≤ file_limit)) ⊎ ((read.whole ≡ false) × (read.file ≡ record { name = file.name; bytes = [] }) × (file_limit < length file.bytes))
 
 abbrev pub AreReads : List SourceRead → List SourceFile → Type 0
 AreReads [] [] = Unit {0}

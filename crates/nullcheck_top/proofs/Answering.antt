@@ -1,6 +1,9 @@
 -- What is written answers the words.
-use Rattle.std.proofs.Common.{◌≡◌, ℕ, ◌<◌, ◌≤◌, inl, inr, List, [], ◌∷◌, length, Option, Some, None, Result, Ok as Made, Err, refl, sym, ◌∙◌, subst, arith, ap}
-use Rattle.std.specs.Prelude.{map}
+use Rattle.std.proofs.Common.{◌≡◌, ℕ, suc, ◌<◌, ◌≤◌, inl, inr, List, [], ◌∷◌, length, Option, Some, None, Result, Ok as Made, Err, refl, sym, ◌∙◌, subst, arith, ap}
+use Rattle.std.specs.Prelude.{map, IfOk, string_bytes}
+use Rattle.std.specs.declared.string.String.{String}
+use Rattle.std.specs.declared.alloc.Global.{Global}
+use Rattle.nullcheck_top.proofs.WholeFiles.{as_many_reads}
 use Rattle.jn_base.specs.declared.refusal.OutOfMemory.{OutOfMemory as NoMemory}
 use Rattle.jn_points.specs.declared.program.Program.{Program}
 use Rattle.jn_heap.specs.Machine.{NeverNull}
@@ -79,10 +82,24 @@ module _ (held : Option Holding) where
   completes names old new before now result (Made r) m (inr p) quiet = absurd (quiet p.2)
   completes names old new before now result (Err e) m f quiet = inl f.0
 
-  -- of files that were read
-  pub made_of_reads : (names : List (List ℕ)) (reads : List SourceRead) (made : Result (Status × Taken) NoMemory) → ReadFrom held names reads → IfMade made (λ status bytes. (files : List SourceFile) → AreReads reads files → IsReportOfFiles files status bytes) (Unit {0}) → MadeOf names made
-  made_of_reads names reads (Made r) from report = record { files = from.files; read = record { named = from.named; told = λ few. from.told }; report = report from.files from.are }
-  made_of_reads names reads (Err e) from report = tt
+-- files of these names without bytes
+files_named : List (List ℕ) → List SourceFile
+files_named [] = []
+files_named (name ∷ names) = record { name = name; bytes = [] } ∷ files_named names
+
+named_are : (names : List (List ℕ)) → names_of (files_named names) ≡ names
+unfolding files_named
+named_are [] = refl
+named_are (name ∷ names) = ap (λ ns. name ∷ ns) (named_are names)
+
+-- of too many files
+pub made_of_many : (held : Option Holding) (names : List (List ℕ)) (made : Result (Status × Taken) NoMemory) → most_files < length names → IfOk made (λ r. (files : List SourceFile) → names_of files ≡ names → IsReportOfFiles files r.0 (plain_shown r.1.rows r.1.verdict)) → MadeOf held names made
+made_of_many held names (Made r) many report = record { files = files_named names; read = record { named = named_are names; told = λ few. absurd (omega (arith, few, many)) }; report = report (files_named names) (named_are names) }
+made_of_many held names (Err e) many report = tt
+
+pub made_all : (held : Option Holding) (names : List (List ℕ)) (reads : List SourceRead) (made : Result (Status × Taken) NoMemory) → ReadFrom held names reads → IfOk made (λ r. (files : List SourceFile) → AreReads reads files → IsReportOfFiles files r.0 (plain_shown r.1.rows r.1.verdict)) → MadeOf held names made
+made_all held names reads (Made r) from report = record { files = from.files; read = record { named = from.named; told = λ few. from.told }; report = report from.files from.are }
+made_all held names reads (Err e) from report = tt
 
 -- no write fault where none was counted, and none unless the count rose
 pub no_fault : (old new : Option (List ℕ)) (before now : ℕ) (result : Status) (made : Result (Status × Taken) NoMemory) → IfMade made (λ status bytes. Written status) (Unit {0}) → Ends old new before now result made → result ≡ WriteFault → Rose before now
@@ -116,3 +133,18 @@ module _ (law : (files : List SourceFile) (P : Program) → ProgramOf files P �
   safe held names old new before now result (Made r) m (inl p) a = record { files = m.files; read = m.read; safe = safe_report m.files m.report.report m.report.is (sym m.report.ends ∙ sym p.0 ∙ a) }
   safe held names old new before now result (Made r) m (inr p) a = let w : WriteFault ≡ Ok = sym p.0 ∙ a in cc
   safe held names old new before now result (Err e) m f a = let w : OutOfMemory ≡ Ok = sym f.0 ∙ a in cc
+
+pub map_length : (xs : List (String Global)) → length (map string_bytes xs) ≡ length xs
+map_length [] = refl
+map_length (x ∷ xs) = ap suc (map_length xs)
+
+-- at most so many were read
+pub few_reads : (held : Option Holding) (words : List (String Global)) (reads : List SourceRead) → length words ≤ most_files → ReadFrom held (map string_bytes words) reads → length reads ≤ most_files
+few_reads held words reads le from =
+    let many = as_many_reads reads from.files from.are in
+    let named = ap length from.named in
+    let long = map_length words in
+    omega (arith, many, named, long, le)
+
+pub many_names : (words : List (String Global)) → most_files < length words → most_files < length (map string_bytes words)
+many_names words lt = let long = map_length words in omega (arith, long, lt)

@@ -1,9 +1,7 @@
-pub mod Showing
-pub mod Answering
-pub mod RuleRows
-pub mod Known
-pub mod Fronts
-pub mod Inside
-pub mod Laws
-pub mod MainRows
 pub mod Reporting
+pub mod WholeFiles
+pub mod Answering
+pub mod Inside
+pub mod RuleRows
+pub mod MainRows
+pub mod Laws

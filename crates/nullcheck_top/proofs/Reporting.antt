@@ -1,25 +1,28 @@
 -- The report of files that were read.
 use Rattle.std.proofs.Common.{◌≡◌, ℕ, ◌+◌, ◌<◌, ◌≤◌, suc, zero, Bool, true, false, List, [], ◌∷◌, ◌++◌, length, map, get_or, Option, Some, None, inl, inr, ⊎_elim, refl, sym, ap, ◌∙◌, subst, arith}
 use Rattle.std.proofs.lemmas.Bool.{lt-ltb}
-use Rattle.std.specs.Prelude.{◌⊎◌, Contains, cond, nat_lt, nat_le, slice_get, ◌&&◌}
+use Rattle.std.specs.declared.string.String.{String}
+use Rattle.std.specs.declared.alloc.Global.{Global}
+use Rattle.std.specs.Prelude.{string_bytes, ◌⊎◌, Contains, cond, nat_lt, nat_le, slice_get, ◌&&◌}
 use Rattle.jn_base.specs.declared.place.Row.{Row}
 use Rattle.jn_base.specs.declared.code.Code.{Code}
 use Rattle.jn_base.specs.declared.code.Code.TheVariants.{B1, B2, B3}
 use Rattle.jn_trees.specs.declared.token.Token.{Token}
 use Rattle.jn_points.specs.declared.program.Program.{Program}
-use Rattle.jn_diag.specs.Order.{IsOrderOf}
+use Rattle.std.specs.List.Sorted.{IsStrictlySortedBy}
+use Rattle.jn_diag.specs.Order.{IsOrderOf, row_cmp}
 use Rattle.jn_diag.specs.declared.shown.RowText.{RowText}
 use Rattle.jn_diag.specs.declared.shown.Verdict.{Verdict}
 use Rattle.jn_diag.specs.declared.shown.Verdict.TheVariants.{Refused as RefusedVerdict}
 use Rattle.jn_reporters.specs.Reports.{plain_shown}
 use Rattle.jn_front.specs.declared.source.SourceFile.{SourceFile}
 use Rattle.jn_front.specs.declared.source.SourceRead.{SourceRead}
-use Rattle.jn_front.specs.Files.{names_of, files_of_reads, AreReads, most_files, file_limit}
+use Rattle.jn_front.specs.Files.{names_of, files_of_reads, AreReads, IsReadOf, most_files, file_limit}
 use Rattle.jn_front.specs.Limits.{row_at, large_row, passing_row, size_rows, limit_rows, counted, all_limit}
-use Rattle.jn_front.specs.Phases.{FrontRows}
+use Rattle.jn_front.specs.Phases.{FrontRows, IsRead}
 use Rattle.nullcheck_top.specs.declared.status.Status.{Status}
 use Rattle.nullcheck_top.specs.declared.status.Status.TheVariants.{Refused as RefusedStatus}
-use Rattle.nullcheck_top.specs.Report.{ProgramOf, RulesGive, IsFront, Refused, Checked, status_of_rows, unbuilt_row}
+use Rattle.nullcheck_top.specs.Report.{ProgramOf, IsFormOf, RulesGive, IsFront, Refused, Checked, status_of_rows, unbuilt_row}
 use Rattle.nullcheck_top.specs.Shown.{shown, row_of, row_of_file, verdict_of_rows}
 use Rattle.nullcheck_top.specs.Answer.{IsReportOfFiles}
 
@@ -89,7 +92,7 @@ pub sorted_at_start : (files : List SourceFile) (broken sorted : List Row) → b
 sorted_at_start files broken sorted are order =
     each_at_start sorted (λ row h. at_start_in broken row (subst AllAtStart (sym are) (limits_at_start files)) ((order.same row).0 h))
 
-name_in : Option SourceFile → Option (List ℕ)
+abbrev name_in : Option SourceFile → Option (List ℕ)
 name_in None = None
 name_in (Some file) = Some file.name
 
@@ -107,7 +110,7 @@ name_at (file ∷ files) zero = refl
 name_at (file ∷ files) (suc k) = name_at files k
 
 same_row : (files others : List SourceFile) (row : Row) → names_of files ≡ names_of others → IsAtStart row → row_of files row ≡ row_of others row
-same_row files others row e (k, (code, is)) =
+same_row files others row e (k, code, is) =
     let here = name_at files k ∙ ap (λ ns. slice_get ns k) e ∙ sym (name_at others k) in
     ap (row_of files) is ∙ same_file (slice_get files k) (slice_get others k) k code here ∙ ap (row_of others) (sym is)
 
@@ -125,15 +128,19 @@ read_names [] (file ∷ files) are = absurd are
 read_names (read ∷ reads) [] are = absurd are
 read_names (read ∷ reads) (file ∷ files) are = ap (λ n. n ∷ names_of (files_of_reads reads)) (one are.0) ∙ ap (λ ns. file.name ∷ ns) (read_names reads files are.1)
   where
-    one : ((read.whole ≡ true) × (read.file ≡ file) × (length file.bytes ≤ file_limit)) ⊎ ((read.whole ≡ false) × (read.file.name ≡ file.name) × (file_limit < length file.bytes)) → read.file.name ≡ file.name
+    one : IsReadOf read file → read.file.name ≡ file.name
     one (inl w) = ap (λ (f : SourceFile). f.name) w.1
-    one (inr l) = l.1
+    one (inr l) = ap (λ (f : SourceFile). f.name) l.1
+
+one_sorted : (row : Row) → IsStrictlySortedBy row_cmp (row ∷ [])
+unfolding IsStrictlySortedBy
+one_sorted row = (tt, tt)
 
 -- too many files: the row of the first that is too many, which shows no byte
 pub too_many_report : (files : List SourceFile) (names : List (List ℕ)) (name : List ℕ) (status : Status) (rows : List RowText) (verdict : Option Verdict) → names_of files ≡ names → most_files < length names → slice_get names most_files ≡ Some name → status ≡ RefusedStatus → rows ≡ record { name = name; line = 1; col = 1; code = B1 } ∷ [] → verdict ≡ Some (RefusedVerdict 1) → IsReportOfFiles files status (plain_shown rows verdict)
 too_many_report files names name status rows verdict named many is ends lines end = record {
   report = Refused (row_at most_files B1 ∷ []);
-  is = inl (record { broken = row_at most_files B1 ∷ []; phase = inl (record { are = limit_is; some = λ e. cc }); order = record { sorted = (tt, tt); same = λ row. (λ h. h, λ h. h) } });
+  is = inl (record { broken = row_at most_files B1 ∷ []; phase = inl (record { are = limit_is; some = λ e. cc }); order = record { sorted = one_sorted (row_at most_files B1); same = λ row. (λ h. h, λ h. h) } });
   ends = ends;
   shows = ap (λ rs. plain_shown rs verdict) (lines ∙ ap (λ r. r ∷ []) row_is) ∙ ap (λ v. plain_shown (row_of files (row_at most_files B1) ∷ []) v) end;
 }
@@ -152,3 +159,23 @@ too_many_report files names name status rows verdict named many is ends lines en
 
     row_is : record { name = name; line = 1; col = 1; code = B1 } ≡ row_of files (row_at most_files B1)
     row_is = same_file (Some (record { name = name; bytes = [] })) (slice_get files most_files) most_files B1 (sym here)
+
+pub refused_shown : (files : List SourceFile) (sorted : List Row) (rows : List RowText) (verdict : Option Verdict) → rows ≡ map (row_of files) sorted → verdict ≡ Some (RefusedVerdict (length sorted)) → plain_shown rows verdict ≡ shown files (Refused sorted)
+refused_shown files sorted rows verdict lines end = ap (λ rs. plain_shown rs verdict) lines ∙ ap (λ v. plain_shown (map (row_of files) sorted) v) end
+
+pub unbuilt_report : (files : List SourceFile) (tokens : List (List Token)) (status : Status) (bytes : List ℕ) → IsRead files tokens → ((P : Program) → IsFormOf tokens P → ⊥) → status ≡ RefusedStatus → bytes ≡ shown files (Refused (unbuilt_row ∷ [])) → IsReportOfFiles files status bytes
+unbuilt_report files tokens status bytes read none ends is = record {
+  report = Refused (unbuilt_row ∷ []);
+  is = inr (record { tokens = tokens; read = read; no_form = none; row = refl });
+  ends = ends;
+  shows = is;
+}
+
+-- the name at a place
+pub name_there : (words : List (String Global)) (i : ℕ) (d : String Global) (text : List ℕ) → i < length words → d ≡ get_or words i d → text ≡ string_bytes d → slice_get (map string_bytes words) i ≡ Some text
+name_there words i d text lt is value = there words i d lt ∙ ap (λ w. Some (string_bytes w)) (sym is) ∙ ap Some (sym value)
+  where
+    there : (words : List (String Global)) (i : ℕ) (d : String Global) → i < length words → slice_get (map string_bytes words) i ≡ Some (string_bytes (get_or words i d))
+    there [] i d lt = absurd (omega (arith, lt))
+    there (word ∷ words) zero d lt = refl
+    there (word ∷ words) (suc i) d lt = there words i d (omega (arith, lt))

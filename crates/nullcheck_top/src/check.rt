@@ -1,8 +1,10 @@
 // The report of files that were read.
-ghost use Rattle.std.specs.Prelude.{◌≡◌, ◌≤◌, ◌∷◌, [], List, length, map, IfOk, IfSome, IfNone, string_bytes};
+ghost use Rattle.std.specs.Prelude.{◌≡◌, ◌<◌, ◌≤◌, ◌∷◌, [], List, true, false, length, map, Some, IfOk, IfSome, IfNone, string_bytes};
 ghost use Rattle.jn_base.specs.declared.place.Row.{Row as SpecRow};
 ghost use Rattle.jn_points.specs.declared.program.Program.{Program as SpecProgram};
 ghost use Rattle.jn_diag.specs.Order.{IsOrderOf};
+ghost use Rattle.jn_diag.specs.Shown.{row_shown};
+ghost use Rattle.jn_front.specs.Limits.{row_at};
 ghost use Rattle.jn_front.specs.Counted.{ReadsFit};
 ghost use Rattle.jn_front.specs.declared.source.SourceFile.{SourceFile as SpecFile};
 ghost use Rattle.jn_front.specs.Files.{files_of_reads, names_of, AreReads};
@@ -115,25 +117,45 @@ fn checked(
     Ok((status_of(&rows), plain))
 }
 
+fn no_rows(rows: &Vec<Row>) -> bool
+    ensures some { result ≡ false → rows.now.items ≡ [] → ⊥ }
+    ensures none { result ≡ true → rows.now.items ≡ [] }
+{
+    rows.is_empty()
+}
+
 /// The status and the report of files that were read, at most 64.
 pub fn report(alloc: Global, reads: &[SourceRead]) -> Result<(Status, Plain), OutOfMemory>
     requires few { length reads.now ≤ 64 }
     requires fit { ReadsFit reads.now }
+    requires read { (files : List SpecFile) × AreReads reads.now files }
     ensures { IfOk result (λ r. (files : List SpecFile) → AreReads reads.now files → IsReportOfFiles files r.0 (plain_shown r.1.rows r.1.verdict)) }
 {
     let limits = limit_rows(alloc, reads)?;
-    if !limits.is_empty() {
+    if !no_rows(&limits) {
         return refused(alloc, reads, limits);
     }
     let lexed = lex_all(alloc, reads)?;
-    if !lexed.faults.is_empty() {
+    if !no_rows(&lexed.faults) {
         return refused(alloc, reads, lexed.faults);
     }
     let syntax = parse_all(alloc, reads, &lexed.tokens)?;
-    if !syntax.is_empty() {
+    if !no_rows(&syntax) {
         return refused(alloc, reads, syntax);
     }
     parsed(alloc, reads, &lexed.tokens)
+}
+
+/// The report of more files than there may be; this is the name of the first that is too many.
+fn show_too_many(alloc: Global, name: &str) -> Result<Plain, OutOfMemory>
+    ensures rows { IfOk result (λ plain. plain.rows ≡ row_shown name.now [] (row_at 64 Code.B1) ∷ []) }
+    ensures verdict { IfOk result (λ plain. plain.verdict ≡ Some (Verdict.Refused 1)) }
+{
+    let shown = row_text(alloc, &row_at(64, Code::B1), name, &[])?;
+    let mut plain = Plain::new(alloc);
+    plain.take(&shown)?;
+    plain.finish(Verdict::Refused(1))?;
+    Ok(plain)
 }
 
 /// The status and the report of more files than there may be.
@@ -141,9 +163,6 @@ pub fn too_many(alloc: Global, names: &[String]) -> Result<(Status, Plain), OutO
     requires { 64 < length names.now }
     ensures { IfOk result (λ r. (files : List SpecFile) → names_of files ≡ map string_bytes names.now → IsReportOfFiles files r.0 (plain_shown r.1.rows r.1.verdict)) }
 {
-    let shown = row_text(alloc, &row_at(64, Code::B1), names[64].as_str(), &[])?;
-    let mut plain = Plain::new(alloc);
-    plain.take(&shown)?;
-    plain.finish(Verdict::Refused(1))?;
+    let plain = show_too_many(alloc, names[64].as_str())?;
     Ok((Status::Refused, plain))
 }

@@ -64,7 +64,7 @@ fn name_files(words: &[String]) -> bool
 
 /// Writes a report that was made, or answers that no memory was found for it.
 fn write<K: Sink>(made: Result<(Status, Plain), OutOfMemory>, out: &mut K) -> Status
-    ensures { IfMade made.entry (λ status bytes. Finished (K.written out.old) (K.written out.new) bytes status (K.faults out.old) (K.faults out.new) result) ((result ≡ Status.OutOfMemory) × (K.written out.new ≡ K.written out.old) × (K.faults out.new ≡ K.faults out.old)) }
+    ensures { IfMade made (λ status bytes. Finished (K.written out.old) (K.written out.new) bytes status (K.faults out.old) (K.faults out.new) result) ((result ≡ Status.OutOfMemory) × (K.written out.new ≡ K.written out.old) × (K.faults out.new ≡ K.faults out.old)) }
 {
     match made {
         Err(_) => Status::OutOfMemory,

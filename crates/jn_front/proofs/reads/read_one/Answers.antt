@@ -10,4 +10,4 @@ pub returns-in-Err-Refused-TooLarge-clause-ok : goal.returns-in-Err-Refused-TooL
 returns-in-Err-Refused-TooLarge-clause-ok g c =
     let w = c.in-Err-Refused-TooLarge in
     let e = w.is ∙ ap Err (w.field-0-is ∙ ap RefusedFail w.field-0-0-is) in
-    read_large_from (g.F.Files.held c.args.files.now) c.args.name.now _ c.named-in-Err-Refused-TooLarge.result c.named-in-Err-Refused-TooLarge.ensures.read (c.read_whole.ensures.too_large e)
+    read_large_from (g.F.Files.held c.args.files.now) c.args.name.now _ c.named-in-Err-Refused-TooLarge.result c.new.ensures.items c.named-in-Err-Refused-TooLarge.ensures.read (c.read_whole.ensures.too_large e)

@@ -1,37 +1,77 @@
-use Rattle.std.proofs.Common.{◌∙◌, ap, sym, subst, Err, Some, ◌∷◌, []}
-use Rattle.jn_outside.specs.Files.{Gives}
-use Rattle.nullcheck_top.specs.Answer.{Finished}
-use Rattle.jn_base.specs.declared.refusal.Fail.TheVariants.{Refused as RefusedFail}
-use Rattle.nullcheck_top.proofs.Answering.{too_long_answers, too_long_completes, finished, files_written, report_of, safe}
+use Rattle.std.proofs.Common.{◌≡◌, map, length, sym, subst, arith}
+use Rattle.std.specs.Prelude.{string_bytes}
+use Rattle.jn_front.specs.Counted.{ReadsFit}
+use Rattle.jn_front.specs.Files.{ReadFrom}
+use Rattle.nullcheck_top.proofs.WholeFiles.{reads_fit}
+use Rattle.nullcheck_top.proofs.Answering.{answers, completes, safe, made_of_many, made_all, made_written, no_fault, no_read_fault, few_reads, many_names}
 use Rattle.nullcheck_top.proofs.top.check_named.Goals as goal
 
-pub returns-in-Err-Refused-TooLarge-clause-answer :
-    goal.returns-in-Err-Refused-TooLarge-clause-answer
-returns-in-Err-Refused-TooLarge-clause-answer g c =
-    let w = c.in-Err-Refused-TooLarge in
-    let e = w.is ∙ ap Err (w.field-0-is ∙ ap RefusedFail w.field-0-0-is) in
-    too_long_answers (g.F.Files.held c.args.files.now) c.args.name.now (g.K.Sink.written c.args.out.now) (g.K.Sink.written c.too_large.new.out) _ _ c.too_large.result (c.read_whole.ensures.too_large e) c.too_large.ensures
+pub returns-then-names-gt-MOST_FILES-clause-answer : goal.returns-then-names-gt-MOST_FILES-clause-answer
+returns-then-names-gt-MOST_FILES-clause-answer g c =
+    let held = g.F.Files.held c.args.files.now in
+    let names = map string_bytes c.args.names.now in
+    answers held names (g.K.Sink.written c.args.out.now) (g.K.Sink.written c.write.new.out) (g.K.Sink.faults c.args.out.now) (g.K.Sink.faults c.write.new.out) c.write.result c.too_many.result (made_of_many held names c.too_many.result (many_names c.args.names.now c.if-names-gt-MOST_FILES.true) c.too_many.ensures) c.write.ensures
 
-pub returns-in-Err-Refused-TooLarge-clause-complete :
-    goal.returns-in-Err-Refused-TooLarge-clause-complete
-returns-in-Err-Refused-TooLarge-clause-complete g c quiet silent =
-    let w = c.in-Err-Refused-TooLarge in
-    let e = w.is ∙ ap Err (w.field-0-is ∙ ap RefusedFail w.field-0-0-is) in
-    too_long_completes (g.F.Files.held c.args.files.now) c.args.name.now (g.K.Sink.written c.args.out.now) (g.K.Sink.written c.too_large.new.out) _ _ c.too_large.result (c.read_whole.ensures.too_large e) c.too_large.ensures silent
+pub returns-then-names-gt-MOST_FILES-clause-safe : goal.returns-then-names-gt-MOST_FILES-clause-safe
+returns-then-names-gt-MOST_FILES-clause-safe g c ok =
+    let held = g.F.Files.held c.args.files.now in
+    let names = map string_bytes c.args.names.now in
+    safe c.accepted_programs_never_fault.ensures held names (g.K.Sink.written c.args.out.now) (g.K.Sink.written c.write.new.out) (g.K.Sink.faults c.args.out.now) (g.K.Sink.faults c.write.new.out) c.write.result c.too_many.result (made_of_many held names c.too_many.result (many_names c.args.names.now c.if-names-gt-MOST_FILES.true) c.too_many.ensures) c.write.ensures ok
+
+pub returns-then-names-gt-MOST_FILES-clause-complete : goal.returns-then-names-gt-MOST_FILES-clause-complete
+returns-then-names-gt-MOST_FILES-clause-complete g c quiet silent =
+    let held = g.F.Files.held c.args.files.now in
+    let names = map string_bytes c.args.names.now in
+    completes held names (g.K.Sink.written c.args.out.now) (g.K.Sink.written c.write.new.out) (g.K.Sink.faults c.args.out.now) (g.K.Sink.faults c.write.new.out) c.write.result c.too_many.result (made_of_many held names c.too_many.result (many_names c.args.names.now c.if-names-gt-MOST_FILES.true) c.too_many.ensures) c.write.ensures silent
+
+pub returns-then-names-gt-MOST_FILES-clause-read : goal.returns-then-names-gt-MOST_FILES-clause-read
+returns-then-names-gt-MOST_FILES-clause-read g c e =
+    let held = g.F.Files.held c.args.files.now in
+    let names = map string_bytes c.args.names.now in
+    let made = made_of_many held names c.too_many.result (many_names c.args.names.now c.if-names-gt-MOST_FILES.true) c.too_many.ensures in
+    absurd (no_read_fault (g.K.Sink.written c.args.out.now) (g.K.Sink.written c.write.new.out) (g.K.Sink.faults c.args.out.now) (g.K.Sink.faults c.write.new.out) c.write.result c.too_many.result (made_written held names c.too_many.result made) c.write.ensures e)
+
+pub returns-then-names-gt-MOST_FILES-clause-read_steady : goal.returns-then-names-gt-MOST_FILES-clause-read_steady
+returns-then-names-gt-MOST_FILES-clause-read_steady g c steady all e =
+    let held = g.F.Files.held c.args.files.now in
+    let names = map string_bytes c.args.names.now in
+    let made = made_of_many held names c.too_many.result (many_names c.args.names.now c.if-names-gt-MOST_FILES.true) c.too_many.ensures in
+    no_read_fault (g.K.Sink.written c.args.out.now) (g.K.Sink.written c.write.new.out) (g.K.Sink.faults c.args.out.now) (g.K.Sink.faults c.write.new.out) c.write.result c.too_many.result (made_written held names c.too_many.result made) c.write.ensures e
+
+pub returns-then-names-gt-MOST_FILES-clause-write : goal.returns-then-names-gt-MOST_FILES-clause-write
+returns-then-names-gt-MOST_FILES-clause-write g c e =
+    let held = g.F.Files.held c.args.files.now in
+    let names = map string_bytes c.args.names.now in
+    let made = made_of_many held names c.too_many.result (many_names c.args.names.now c.if-names-gt-MOST_FILES.true) c.too_many.ensures in
+    no_fault (g.K.Sink.written c.args.out.now) (g.K.Sink.written c.write.new.out) (g.K.Sink.faults c.args.out.now) (g.K.Sink.faults c.write.new.out) c.write.result c.too_many.result (made_written held names c.too_many.result made) c.write.ensures e
+
+pub report-requires-clause-few : goal.report-requires-clause-few
+report-requires-clause-few g c =
+    let from = subst (λ rs. ReadFrom (g.F.Files.held c.args.files.now) (map string_bytes c.args.names.now) rs) (sym c.deref.ensures.value) c.in-Ok.ensures.ok in
+    few_reads (g.F.Files.held c.args.files.now) c.args.names.now c.deref.result.now c.if-names-gt-MOST_FILES.false from
+
+pub report-requires-clause-fit : goal.report-requires-clause-fit
+report-requires-clause-fit g c =
+    let from = subst (λ rs. ReadFrom (g.F.Files.held c.args.files.now) (map string_bytes c.args.names.now) rs) (sym c.deref.ensures.value) c.in-Ok.ensures.ok in
+    reads_fit c.deref.result.now from.files from.are
 
 pub returns-clause-answer : goal.returns-clause-answer
 returns-clause-answer g c =
     let held = g.F.Files.held c.args.files.now in
-    let r = c.in-Ok-report in
-    let given : Gives held c.args.name.now c.deref.result.now = subst (λ t. Gives held c.args.name.now t) (sym c.deref.ensures.value) c.in-Ok.ensures.ok.0 in
-    let of_files = r.ensures in
-    let f = subst (λ bs. Finished (g.K.Sink.written c.args.out.now) (g.K.Sink.written c.finish.new.out) bs r.status (g.K.Sink.faults c.args.out.now) (g.K.Sink.faults c.finish.new.out) c.finish.result) c.bytes.ensures c.finish.ensures in
-    finished held (Some (c.args.name.now ∷ [])) (g.K.Sink.written c.args.out.now) (g.K.Sink.written c.finish.new.out) _ r.status _ _ c.finish.result
-    (files_written _ r.status _ of_files) (report_of held c.args.name.now c.deref.result.now r.status _ given of_files) f
+    let names = map string_bytes c.args.names.now in
+    let from = subst (λ rs. ReadFrom held names rs) (sym c.deref.ensures.value) c.in-Ok.ensures.ok in
+    answers held names (g.K.Sink.written c.args.out.now) (g.K.Sink.written c.write-2.new.out) (g.K.Sink.faults c.args.out.now) (g.K.Sink.faults c.write-2.new.out) c.write-2.result c.report.result (made_all held names c.deref.result.now c.report.result from c.report.ensures) c.write-2.ensures
 
 pub returns-clause-safe : goal.returns-clause-safe
 returns-clause-safe g c ok =
     let held = g.F.Files.held c.args.files.now in
-    let r = c.in-Ok-report in
-    let given : Gives held c.args.name.now c.deref.result.now = subst (λ t. Gives held c.args.name.now t) (sym c.deref.ensures.value) c.in-Ok.ensures.ok.0 in
-    safe c.accepted_programs_never_fault.ensures held c.args.name.now c.deref.result.now (g.K.Sink.written c.args.out.now) (g.K.Sink.written c.finish.new.out) _ c.bytes.result.now r.status _ _ c.finish.result given r.ensures c.finish.ensures ok
+    let names = map string_bytes c.args.names.now in
+    let from = subst (λ rs. ReadFrom held names rs) (sym c.deref.ensures.value) c.in-Ok.ensures.ok in
+    safe c.accepted_programs_never_fault.ensures held names (g.K.Sink.written c.args.out.now) (g.K.Sink.written c.write-2.new.out) (g.K.Sink.faults c.args.out.now) (g.K.Sink.faults c.write-2.new.out) c.write-2.result c.report.result (made_all held names c.deref.result.now c.report.result from c.report.ensures) c.write-2.ensures ok
+
+pub returns-clause-complete : goal.returns-clause-complete
+returns-clause-complete g c quiet silent =
+    let held = g.F.Files.held c.args.files.now in
+    let names = map string_bytes c.args.names.now in
+    let from = subst (λ rs. ReadFrom held names rs) (sym c.deref.ensures.value) c.in-Ok.ensures.ok in
+    completes held names (g.K.Sink.written c.args.out.now) (g.K.Sink.written c.write-2.new.out) (g.K.Sink.faults c.args.out.now) (g.K.Sink.faults c.write-2.new.out) c.write-2.result c.report.result (made_all held names c.deref.result.now c.report.result from c.report.ensures) c.write-2.ensures silent
