@@ -315,3 +315,50 @@ fn nesting_is_at_most_five_hundred(rt: HostRuntime) -> Result<(), OutOfMemory> {
     }
     Ok(())
 }
+
+/// A stack of texts as it is usually written.
+const STACK: [&str; 31] = [
+    "package demo;",
+    "import org.checkerframework.checker.nullness.qual.Nullable;",
+    "public class Stack {",
+    "  private @Nullable Cell top;",
+    "  private int size;",
+    "  public void push(String text) {",
+    "    top = new Cell(text, top);",
+    "    size++;",
+    "  }",
+    "  public @Nullable String pop() {",
+    "    Cell c = top;",
+    "    if (c == null) return null;",
+    "    top = c.below;",
+    "    size--;",
+    "    return c.text;",
+    "  }",
+    "  public static void main(String[] args) {",
+    "    Stack s = new Stack();",
+    "    for (String a : args) s.push(a);",
+    "    String t = s.pop();",
+    "    while (t != null) {",
+    "      System.out.println(t);",
+    "      t = s.pop();",
+    "    }",
+    "  }",
+    "}",
+    "class Cell {",
+    "  final String text;",
+    "  final @Nullable Cell below;",
+    "  Cell(String text, @Nullable Cell below) { this.text = text; this.below = below; }",
+    "}",
+];
+
+#[test]
+fn a_stack_is_read_and_spelled_back(rt: HostRuntime) -> Result<(), OutOfMemory> {
+    let mut text = Vec::new(rt.alloc());
+    for line in STACK.as_slice() {
+        text.extend_from_slice(line.as_bytes())?;
+        text.extend_from_slice(b"\n")?;
+    }
+    let found = outcome(rt.alloc(), &text)?;
+    assert!(rt; found.as_str().as_bytes().starts_with(b"class Stack {"), "{found}");
+    Ok(())
+}
