@@ -298,28 +298,13 @@ fn each_statement_takes_one_step_of_depth(rt: HostRuntime) {
     }
 }
 
-/// How deep the statement is that stands in others; none where there is none.
-fn height_of(alloc: Global, times: usize, before: &str, behind: &str) -> Option<u32> {
+/// Whether all of the statement that stands in others is read; none where no memory was found.
+fn is_read_whole(alloc: Global, times: usize, before: &str, behind: &str) -> Option<bool> {
     let tokens = tower_of(alloc, times, before, behind).ok()?;
     match read_statement(alloc, &tokens, 500, IN_BLOCK) {
         Err(_) => None,
-        Ok(None) => Some(0),
-        Ok(Some((statement, _))) => Some(height(&statement)),
-    }
-}
-
-fn height(statement: &Stmt) -> u32 {
-    match last_inside(statement) {
-        None => 1,
-        Some(inner) => height(inner).saturating_add(1),
-    }
-}
-
-/// The statement that stands last in this one.
-fn last_inside(statement: &Stmt) -> Option<&Stmt> {
-    match statement {
-        Stmt::IfElse { otherwise, .. } => Some(otherwise),
-        _ => first_inside(statement),
+        Ok(None) => Some(false),
+        Ok(Some((_, rest))) => Some(rest.is_empty()),
     }
 }
 
@@ -327,20 +312,20 @@ fn last_inside(statement: &Stmt) -> Option<&Stmt> {
 fn deep_statements_fit_the_stack(rt: HostRuntime) {
     let alloc = rt.alloc();
     for (times, before, behind, wanted) in [
-        (190, "{", "}", 191),
-        (499, "{", "}", 500),
-        (500, "{", "}", 0),
-        (499, "if ( b )", "", 500),
-        (499, "if ( b ) ; else", "", 500),
-        (499, "while ( b )", "", 500),
-        (499, "do", "while ( b ) ;", 500),
-        (499, "for ( ; ; )", "", 500),
-        (499, "for ( T x = b ; b ; f ( ) )", "", 500),
-        (499, "for ( T x : b )", "", 500),
-        (500, "for ( T x : b )", "", 0),
+        (190, "{", "}", true),
+        (499, "{", "}", true),
+        (500, "{", "}", false),
+        (499, "if ( b )", "", true),
+        (499, "if ( b ) ; else", "", true),
+        (499, "while ( b )", "", true),
+        (499, "do", "while ( b ) ;", true),
+        (499, "for ( ; ; )", "", true),
+        (499, "for ( T x = b ; b ; f ( ) )", "", true),
+        (499, "for ( T x : b )", "", true),
+        (500, "for ( T x : b )", "", false),
     ] {
-        match height_of(alloc, times, before, behind) {
-            None => {}
+        match is_read_whole(alloc, times, before, behind) {
+            None => assert!(rt; false, "no memory"),
             Some(found) => assert!(rt; found == wanted, "{times} times {before}"),
         }
     }
