@@ -11,16 +11,12 @@ mod lower;
 mod lowering;
 pub mod program;
 pub mod program_law;
-#[cfg(test)]
-mod program_tests;
 mod put;
 pub mod recognize;
 mod registers;
 pub mod scope;
 pub mod size;
 mod spans;
-#[cfg(test)]
-mod tests;
 pub mod tree;
 
 pub use brackets::within_brackets;

@@ -12,6 +12,3 @@ mod strings;
 mod words;
 
 pub use lexing::lex;
-
-#[cfg(test)]
-mod tests;

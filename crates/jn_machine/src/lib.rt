@@ -11,8 +11,6 @@ pub mod runs;
 pub mod state;
 pub mod steps;
 mod straight;
-#[cfg(test)]
-mod tests;
 pub mod text;
 pub mod thing;
 pub mod value;

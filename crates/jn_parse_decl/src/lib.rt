@@ -15,6 +15,3 @@ mod pieces;
 mod put;
 
 pub use file::parse_file;
-
-#[cfg(test)]
-mod tests;

@@ -79,6 +79,3 @@ pub fn parse_expr(
         Some((tree, rest)) => Ok(Some((tree, place_before(tokens, rest)))),
     }
 }
-
-#[cfg(test)]
-mod tests;

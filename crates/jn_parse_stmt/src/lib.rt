@@ -22,9 +22,6 @@ pub use parts::{
 };
 use std::alloc::Global;
 
-#[cfg(test)]
-mod tests;
-
 /// The longest statement, well formed in this context and of nesting at most `depth`, that the front of the tokens spells, and what follows it; None exactly where there is none.
 ///
 /// # Errors

@@ -6,8 +6,6 @@ pub mod law;
 mod rules;
 mod show;
 pub mod status;
-#[cfg(test)]
-mod tests;
 pub mod top;
 
 pub use status::Status;

@@ -1,7 +1,7 @@
 // Files by their tokens.
-use crate::file::parse_file;
 use jn_base::{Code, Fail, FileNo};
 use jn_lexer::lex;
+use jn_parse_decl::parse_file;
 use jn_trees::Names;
 use std::alloc::Global;
 

@@ -1,6 +1,6 @@
 // Tables of texts with their tokens, and of bad texts with the code and the byte of their fault.
-use crate::lexing::lex;
 use jn_base::{Code, Fail, FileNo, NameNo};
+use jn_lexer::lex;
 use jn_trees::{Names, TokenKind};
 
 #[test]

@@ -1,6 +1,6 @@
 // Expressions, as lists of words.
-use crate::{parse_expr, read_expr};
 use jn_base::{FileNo, NameNo, Span};
+use jn_parse_expr::{parse_expr, read_expr};
 use jn_trees::{
     AssignOperator, BinaryOperator, Expr, Literal, Step, Token, TokenKind, UnaryOperator,
 };

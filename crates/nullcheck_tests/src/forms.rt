@@ -1,7 +1,6 @@
 // Files of the first form, as lists of words.
-use crate::tree::Statement;
-use crate::{read_form, within_brackets};
 use jn_base::NameNo;
+use jn_first_form::{Statement, read_form, within_brackets};
 use jn_trees::TokenKind;
 use std::alloc::{AllocError, Global};
 

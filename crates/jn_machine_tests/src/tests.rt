@@ -1,9 +1,9 @@
 // Small programs run to their end.
-use crate::{End, StepFail, Stepped, run, run_to, start};
 use jn_base::{
     BodyNo, ClassNo, FieldNo, FileNo, MethodNo, NameNo, OutOfMemory, PointNo, RegNo, Seq, Span,
     Text,
 };
+use jn_machine::{End, StepFail, Stepped, run, run_to, start};
 use jn_outside::MemSink;
 use jn_points::{
     BaseType, Body, Class, Elem, Field, Literal, Method, Operand, Operator, Point, PointKind,

@@ -1,9 +1,9 @@
 // The top call over files and a sink in memory.
 ghost use Rattle.std.specs.Prelude.{◌≤◌};
 
-use crate::{Status, nullcheck};
 use jn_base::OutOfMemory;
 use jn_outside::{MemFile, MemFiles, MemSink};
+use nullcheck_top::{Status, nullcheck};
 use std::alloc::Global;
 
 const HEAD: &str = "class A {\n  public static void main(String[] args) {\n";

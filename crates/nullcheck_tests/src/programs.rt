@@ -1,7 +1,7 @@
 // Programs of files of the first form, as lists of their points.
-use crate::form::recognize;
-use crate::tests::{HEADING, kinds_of};
+use crate::forms::{HEADING, kinds_of};
 use jn_base::{FileNo, Span};
+use jn_first_form::form::recognize;
 use jn_points::PointKind;
 use jn_trees::Token;
 use std::alloc::{AllocError, Global};

@@ -1,9 +1,9 @@
 // Statements, as words: what each is, what stands first in it, and how many tokens are left.
-use crate::{
+use jn_base::{FileNo, NameNo, Span};
+use jn_parse_stmt::{
     final_once, read_annotations, read_declarators, read_local_modifiers, read_statement,
     read_type_use,
 };
-use jn_base::{FileNo, NameNo, Span};
 use jn_trees::{Context, Stmt, Token, TokenKind};
 use std::alloc::{AllocError, Global};
 use std::process::Abort;

@@ -1,0 +1,5 @@
+// Tests of the machine: small programs run to their end.
+#![tactic(auto)]
+
+#[cfg(test)]
+mod tests;
