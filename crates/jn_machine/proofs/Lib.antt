@@ -1,4 +1,3 @@
 pub mod Ending
 pub mod Pieces
 pub mod Printing
-pub mod Walks

@@ -7,7 +7,6 @@ ghost use Rattle.jn_machine.specs.Ends.{answer_of};
 ghost use Rattle.jn_machine.specs.Parts.{prepended, entry_of};
 ghost use Rattle.jn_machine.specs.StateView.{state_of, acted_next};
 
-use crate::classes::{dispatch, method_at};
 use crate::frame::Frame;
 use crate::members::allocate;
 use crate::prim::{End, Got};
@@ -16,6 +15,7 @@ use crate::straight::copied;
 use crate::thing::Thing;
 use crate::value::Value;
 use jn_base::{ClassNo, MethodNo, RegNo, Seq};
+use jn_points::members::{method_at, selected};
 use jn_points::{BaseType, Field, Operand, Point, PointKind, Program};
 use std::alloc::{AllocError, Global};
 use std::collections::VecDeque;
@@ -288,7 +288,7 @@ fn selected(
         None => None,
         Some(thing) => match thing.class() {
             None => None,
-            Some(class) => dispatch(program, ClassNo(class), method),
+            Some(class) => selected(program, ClassNo(class), method),
         },
     }
 }

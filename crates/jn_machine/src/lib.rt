@@ -2,7 +2,6 @@
 #![tactic(auto)]
 
 mod calls;
-pub mod classes;
 pub mod frame;
 mod members;
 pub mod prim;

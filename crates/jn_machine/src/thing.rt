@@ -6,10 +6,10 @@ ghost use Rattle.jn_heap.specs.Machine.{class_in, field_in, write_in, thing_with
 ghost use Rattle.jn_machine.specs.Ends.{answer_of};
 ghost use Rattle.jn_machine.specs.Parts.{put_answer, may_hold_in, store_as};
 
-use crate::classes::{has_field, is_sub};
 use crate::prim::{self, End, Got};
 use crate::value::Value;
 use jn_base::{ClassNo, FieldNo};
+use jn_points::members::{has_field, is_subclass};
 use jn_points::{BaseType, Elem, Program};
 use std::alloc::{AllocError, Global};
 use std::marker::Model;
@@ -102,7 +102,7 @@ impl Thing {
         ensures { result ≡ thing_within program.now (Some self.now) class.0 }
     {
         match &self.node {
-            Node::Object(own, _) => is_sub(program, *own, class),
+            Node::Object(own, _) => is_subclass(program, *own, class),
             Node::Elems(..) => class.0 == 0,
         }
     }

@@ -5,11 +5,11 @@ ghost use Rattle.jn_heap.specs.Machine.{State, object_of, prim_of, str_op, test_
 ghost use Rattle.jn_machine.specs.Ends.{answer_of};
 ghost use Rattle.jn_machine.specs.Parts.{goes_to};
 
-use crate::classes::is_sub;
 use crate::prim::{End, Got, Plain, Prim};
 use crate::text;
 use crate::thing::Thing;
 use jn_base::{ClassNo, PointNo, Text};
+use jn_points::members::is_subclass;
 use jn_points::{BaseType, Program, StrOperation};
 use std::alloc::{AllocError, Global};
 use std::marker::Model;
@@ -180,7 +180,7 @@ impl Value {
     {
         match &self.node {
             Node::Null | Node::Plain(_) => false,
-            Node::Text(_) => is_sub(program, ClassNo(1), class),
+            Node::Text(_) => is_subclass(program, ClassNo(1), class),
             Node::At(place) => match heap.get(*place) {
                 None => false,
                 Some(thing) => thing.is_within(program, class),

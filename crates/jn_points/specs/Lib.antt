@@ -3,3 +3,4 @@ pub mod Lookup
 pub mod Members
 pub mod Regular
 pub mod BaseTyping
+pub mod Sought

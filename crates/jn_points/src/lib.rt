@@ -5,11 +5,15 @@ ghost use Rattle.std.specs.Prelude.{◌≡◌, ◌<◌, ◌^◌, ◌-◌, length
 ghost use Rattle.jn_points.specs.Edges.{edges_at, two};
 
 pub mod leads;
+pub mod members;
+pub mod pairs;
 pub mod point;
 pub mod program;
 
 use jn_base::PointNo;
 pub use leads::Edges;
+pub use members::{dispatch, field_of, has_field, is_sub, is_subclass, method_of};
+pub use pairs::is_pair;
 pub use point::{
     BaseType, Elem, Literal, Operand, Operator, Origin, Point, PointKind, StrOperation,
 };

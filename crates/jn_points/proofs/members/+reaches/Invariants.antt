@@ -1,6 +1,6 @@
 use Rattle.std.proofs.Common.{◌≡◌, ◌-◌, drop}
 use Rattle.jn_points.specs.Members as spec
-use Rattle.jn_machine.proofs.classes.+reaches.Given as goal
+use Rattle.jn_points.proofs.members.+reaches.Given as goal
 
 abbrev pub decreases-reaches : goal.decreases-reaches
 decreases-reaches l = l.steps
