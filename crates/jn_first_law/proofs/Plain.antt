@@ -11,7 +11,7 @@ use Rattle.jn_points.specs.declared.program.Method.{Method}
 use Rattle.jn_points.specs.declared.program.Body.{Body}
 use Rattle.jn_points.specs.declared.program.Program.{Program}
 use Rattle.jn_points.specs.Lookup.{body_of, ctor_of, body_at, point_at, method_at, method_in}
-use Rattle.jn_points.specs.Regular.{SlotsMatch}
+use Rattle.jn_points.specs.Shaped.{SlotsMatch}
 use Rattle.jn_first_form.specs.Trees.{FormTree}
 use Rattle.jn_first_form.specs.Lowered.{span_at}
 use Rattle.jn_first_form.specs.Form.{IsForm, main_method, body_of_form, program_of_form}

@@ -15,7 +15,7 @@ use crate::straight::copied;
 use crate::thing::Thing;
 use crate::value::Value;
 use jn_base::{ClassNo, MethodNo, RegNo, Seq};
-use jn_points::members::{method_at, selected};
+use jn_points::members::{method_at, selected as method_selected};
 use jn_points::{BaseType, Field, Operand, Point, PointKind, Program};
 use std::alloc::{AllocError, Global};
 use std::collections::VecDeque;
@@ -288,7 +288,7 @@ fn selected(
         None => None,
         Some(thing) => match thing.class() {
             None => None,
-            Some(class) => selected(program, ClassNo(class), method),
+            Some(class) => method_selected(program, ClassNo(class), method),
         },
     }
 }

@@ -1,5 +1,5 @@
 -- Numbers below one more.
-use Rattle.std.proofs.Common.{◌≡◌, ℕ, suc, ◌+◌, Bool, true, false, ◌||◌, List, [], ◌∷◌, ◌++◌, refl, arith, ap, ◌∙◌, sym}
+use Rattle.std.proofs.Common.{◌≡◌, ℕ, suc, ◌+◌, Bool, true, false, ◌||◌, List, [], ◌∷◌, ◌++◌, refl, arith, ap, ◌∙◌}
 use Rattle.jn_points.specs.Members.{below, some_of}
 
 or_assoc : (a b c : Bool) → (a || (b || c)) ≡ ((a || b) || c)

@@ -1,6 +1,10 @@
 pub mod Edges
 pub mod Lookup
 pub mod Members
-pub mod Regular
+pub mod Shaped
 pub mod BaseTyping
 pub mod Sought
+pub mod Operands
+pub mod Paths
+pub mod BaseRows
+pub mod Regular

@@ -1,174 +1,308 @@
--- What is regular in a program as points: shapes on which the flow of facts and the construction of objects rest.
-use Rattle.std.specs.Prelude.{ℕ, suc, eqb, ◌≡◌, ◌<◌, ◌≤◌, ◌⊎◌, Bool, true, false, List, [], ◌∷◌, length, Option, Some, None}
-use Rattle.jn_base.specs.declared.number.MethodNo.{MethodNo}
+-- Regular programs: what the lists of a program have where its files have no row of the class table and of lowering. Class 0 is Object and class 1 String.
+use Rattle.std.specs.Prelude.{ℕ, ◌≡◌, ◌<◌, ◌≤◌, ◌⊎◌, Bool, true, false, not, ◌||◌, cond, eqb, List, [], ◌∷◌, length, pos, Option, Some, None, slice_get}
+use Rattle.jn_base.specs.declared.number.BodyNo.{BodyNo}
+use Rattle.jn_base.specs.declared.number.ClassNo.{ClassNo}
 use Rattle.jn_base.specs.declared.number.PointNo.{PointNo}
 use Rattle.jn_base.specs.declared.number.SlotNo.{SlotNo}
-use Rattle.jn_points.specs.declared.leads.Edges.{Edges}
 use Rattle.jn_points.specs.declared.point.Operand.{Operand}
-use Rattle.jn_points.specs.declared.point.Origin.{Origin}
+use Rattle.jn_points.specs.declared.point.Operator.{Operator}
+use Rattle.jn_points.specs.declared.point.Operator.TheVariants.{Add, Sub, Mul, Div, Rem}
+use Rattle.jn_points.specs.declared.point.StrOperation.{StrOperation}
+use Rattle.jn_points.specs.declared.point.StrOperation.TheVariants.{Length}
+use Rattle.jn_points.specs.declared.point.Literal.{Literal}
+use Rattle.jn_points.specs.declared.point.Literal.TheVariants.{Int as IntOf, Truth, Str, Null}
 use Rattle.jn_points.specs.declared.point.BaseType.{BaseType}
+use Rattle.jn_points.specs.declared.point.BaseType.TheVariants.{Int, Bool as BoolBase, Void, Null as NullBase, Ref, Array}
+use Rattle.jn_points.specs.declared.point.Elem.TheVariants.{Ref as RefElem}
 use Rattle.jn_points.specs.declared.point.Point.{Point}
 use Rattle.jn_points.specs.declared.point.PointKind.{PointKind}
-use Rattle.jn_points.specs.declared.point.PointKind.TheVariants.{Const, Move, Unary, Binary, Concat, SameRef, FieldRead, StaticRead, ElemRead, ArrayLen, NewArray, ArrayOf, New, CtorCall, Call, StrOp, Cast, TestInst, TestNull, Return}
+use Rattle.jn_points.specs.declared.point.PointKind.TheVariants.{Const, Unary, Binary, Concat, SameRef, FieldRead, FieldWrite, StaticRead, StaticWrite, ElemRead, ArrayLen, NewArray, ArrayOf, New, CtorCall, Call, StrOp, Cast, Return}
 use Rattle.jn_points.specs.declared.program.Class.{Class}
 use Rattle.jn_points.specs.declared.program.Field.{Field}
 use Rattle.jn_points.specs.declared.program.Method.{Method}
 use Rattle.jn_points.specs.declared.program.Body.{Body}
+use Rattle.jn_points.specs.declared.program.SlotInfo.{SlotInfo}
 use Rattle.jn_points.specs.declared.program.Program.{Program}
 use Rattle.jn_points.specs.Edges.{edges_of}
-use Rattle.jn_points.specs.Lookup.{is_ref_base, regs_of, has_slot, class_of, body_of, ctor_of, static_of, slots_of, body_at, point_at, field_info, owner, method_at, method_in, class_info}
-use Rattle.jn_points.specs.Members.{has_field}
+use Rattle.jn_points.specs.Lookup.{elem_base, is_array, is_ref_base, has_slot, points_of, regs_of, locals_of, class_of, body_of, ctor_of, static_of, private_of, params_of, result_base_of, interface_of, parent_of, class_info, body_at, point_at, reg_base, field_info, field_base, method_at, method_in}
+use Rattle.jn_points.specs.Members.{some_of, sub, fits, dispatch, is_pair, is_class, is_named}
+use Rattle.jn_points.specs.Shaped.{FromRead, IsVirtual, LeadsTo, ReceiverMatches, SlotsMatch, test_at, writes}
+use Rattle.jn_points.specs.BaseRows.{is_void, is_primitive, string_base, given_count}
+use Rattle.jn_points.specs.BaseTyping.{given_bases}
+use Rattle.jn_points.specs.Operands.{operands, regs_in, origin_reg, origin_in, fields_named, methods_named, classes_named, classes_of_base}
 
--- the field read behind which a test stands, and the register tested
-pub record Test : Type 0 where
-  pub reg : ℕ
-  pub field : ℕ
-  pub tested : ℕ
+abbrev pub AllBelow : ℕ → List ℕ → Type 0
+AllBelow n [] = Unit {0}
+AllBelow n (x ∷ xs) = (x < n) × AllBelow n xs
 
-abbrev pub test_by : Option Origin → ℕ → Option Test
-test_by None t = None
-test_by (Some og) t = Some (record { reg = og.reg.0; field = og.field.0; tested = t })
+abbrev pub Below : ℕ → Option PointNo → Type 0
+Below n None = Unit {0}
+Below n (Some to) = to.0 < n
 
-abbrev pub test_of : PointKind → Option Test
-test_of (TestInst of c og at_yes at_no) = test_by og of.reg.0
-test_of (TestNull of og at_null at_value) = test_by og of.reg.0
-test_of k = None
+abbrev pub SlotBelow : ℕ → Option SlotNo → Type 0
+SlotBelow n None = Unit {0}
+SlotBelow n (Some slot) = slot.0 < n
 
-abbrev pub test_in : Option Point → Option Test
-test_in None = None
-test_in (Some pt) = test_of pt.kind
+abbrev pub SlotsBelow : ℕ → List (Option SlotNo) → Type 0
+SlotsBelow n [] = Unit {0}
+SlotsBelow n (x ∷ xs) = SlotBelow n x × SlotsBelow n xs
 
--- a test with an origin is entered from the read of that field alone
-abbrev pub FromRead : PointKind → Option Test → Type 0
-FromRead k None = Unit {0}
-FromRead (FieldRead dst r f) (Some t) = (dst.0 ≡ t.tested) × (r.reg.0 ≡ t.reg) × (f.0 ≡ t.field) × (t.reg ≡ t.tested → ⊥)
-FromRead k (Some t) = ⊥
+abbrev pub register_if : Option ℕ → List ℕ
+register_if None = []
+register_if (Some r) = r ∷ []
 
-abbrev pub NotCtorCall : PointKind → Type 0
-NotCtorCall (CtorCall m args own) = ⊥
-NotCtorCall k = Unit {0}
+-- the types stand at the front of the registers
+abbrev pub FrontOf : List BaseType → List BaseType → Type 0
+FrontOf [] regs = Unit {0}
+FrontOf (t ∷ ts) [] = ⊥
+FrontOf (t ∷ ts) (r ∷ regs) = (r ≡ t) × FrontOf ts regs
 
-abbrev pub writes : PointKind → Option ℕ
-writes (Const dst value) = Some dst.0
-writes (Move dst from bound) = Some dst.0
-writes (Unary dst neg of) = Some dst.0
-writes (Binary dst op l r) = Some dst.0
-writes (Concat dst l r) = Some dst.0
-writes (SameRef dst eq l r) = Some dst.0
-writes (FieldRead dst r f) = Some dst.0
-writes (StaticRead dst f) = Some dst.0
-writes (ElemRead dst r i) = Some dst.0
-writes (ArrayLen dst r) = Some dst.0
-writes (NewArray dst base n) = Some dst.0
-writes (ArrayOf dst base xs) = Some dst.0
-writes (New dst m args) = Some dst.0
-writes (Call (Some dst) m r direct args) = Some dst.0
-writes (StrOp dst op of other) = Some dst.0
-writes (Cast dst of c) = Some dst.0
-writes k = None
+abbrev pub literal_base : Literal → BaseType
+literal_base (IntOf i) = Int
+literal_base (Truth b) = BoolBase
+literal_base (Str n) = string_base
+literal_base Null = NullBase
 
-abbrev pub IsAt : Option PointNo → ℕ → Type 0
-IsAt None to = ⊥
-IsAt (Some n) to = n.0 ≡ to
+abbrev pub is_sum : Operator → Bool
+is_sum Add = true
+is_sum Sub = true
+is_sum Mul = true
+is_sum Div = true
+is_sum Rem = true
+is_sum op = false
 
--- an edge leads there
-abbrev pub LeadsTo : Edges → ℕ → Type 0
-LeadsTo e to = IsAt e.first to ⊎ IsAt e.second to
+abbrev pub operation_base : StrOperation → BaseType
+operation_base Length = Int
+operation_base op = BoolBase
 
--- exactly the reference types have slots
-abbrev pub SlotsMatch : List (Option SlotNo) → List BaseType → Type 0
-SlotsMatch [] [] = Unit {0}
-SlotsMatch [] (t ∷ ts) = ⊥
-SlotsMatch (x ∷ xs) [] = ⊥
-SlotsMatch (x ∷ xs) (t ∷ ts) = (has_slot x ≡ is_ref_base t) × SlotsMatch xs ts
+-- a static field is an int or a boolean; a boolean one starts with 0 or 1
+abbrev pub StaticField : Field → Type 0
+StaticField f = (is_primitive f.base ≡ true) × (f.base ≡ BoolBase → (f.first ≡ pos 0) ⊎ (f.first ≡ pos 1))
+
+abbrev pub has_body : Option BodyNo → Bool
+has_body None = false
+has_body (Some b) = true
+
+abbrev pub has_number : Option ℕ → Bool
+has_number None = false
+has_number (Some n) = true
+
+-- two methods, and no constructors, of one name and arity
+abbrev pub HasName : Method → Method → Type 0
+HasName x y = (x.ctor ≡ false) × (is_named y x.name.0 (length x.params) ≡ true)
 
 module _ (P : Program) where
-  -- the test with an origin at a point
-  abbrev pub test_at : ℕ → ℕ → Option Test
-  test_at b p = test_in (point_at P b p)
+  abbrev pub ClassBelow : Option ClassNo → Type 0
+  ClassBelow None = Unit {0}
+  ClassBelow (Some c) = c.0 < length P.classes
 
-  -- a call of the constructor's own class or its parent stands at the point or behind it
-  pub record Early (b p : ℕ) : Type 0 where
-    pub place : ℕ
+  abbrev pub AllClasses : List ClassNo → Type 0
+  AllClasses [] = Unit {0}
+  AllClasses (c ∷ cs) = (c.0 < length P.classes) × AllClasses cs
+
+  abbrev pub AllBases : List BaseType → Type 0
+  AllBases [] = Unit {0}
+  AllBases (t ∷ ts) = AllBelow (length P.classes) (classes_of_base t) × AllBases ts
+
+  abbrev pub BodyBelow : Option BodyNo → Type 0
+  BodyBelow None = Unit {0}
+  BodyBelow (Some b) = b.0 < length P.bodies
+
+  -- numbers of classes: none is its own supertype (JLS 8, 8.1.4 and 9.1.3), so supertypes can have lower ranks; what Object, String and interfaces have above them
+  pub record RegularClass (rank : ℕ → ℕ) (c : ℕ) (x : Class) : Type 0 where
+    pub supers : AllClasses x.supers
+    pub ranked : (s : ClassNo) → some_of (λ t. eqb t.0 s.0) x.supers ≡ true → rank s.0 < rank c
+    pub parent : (p : ClassNo) → x.parent ≡ Some p → some_of (λ t. eqb t.0 p.0) x.supers ≡ true
+    pub parent_class : (p : ClassNo) → x.parent ≡ Some p → x.interface ≡ false → interface_of (class_info P p.0) ≡ false
+    pub interfaces : (s : ClassNo) → some_of (λ t. eqb t.0 s.0) x.supers ≡ true → is_class x.parent s ≡ false → interface_of (class_info P s.0) ≡ true
+    -- an interface has no parent but perhaps Object
+    pub above_interface : (p : ClassNo) → x.interface ≡ true → x.parent ≡ Some p → p.0 ≡ 0
+    -- nothing stands under String or a final class (8.1.1.2)
+    pub no_string : (s : ClassNo) → some_of (λ t. eqb t.0 s.0) x.supers ≡ true → s.0 ≡ 1 → ⊥
+    pub no_final : (p : ClassNo) (y : Class) → x.parent ≡ Some p → class_info P p.0 ≡ Some y → y.is_final ≡ false
+
+  pub record RegularClasses : Type 0 where
+    pub rank : ℕ → ℕ
+    pub few : (c : ℕ) → rank c < length P.classes
+    pub classes : (c : ℕ) (x : Class) → class_info P c ≡ Some x → RegularClass rank c x
+    pub object : Class
+    pub object_there : class_info P 0 ≡ Some object
+    pub object_class : object.interface ≡ false
+    pub above_object : object.supers ≡ []
+    pub string : Class
+    pub string_there : class_info P 1 ≡ Some string
+    pub string_class : string.interface ≡ false
+    pub above_string : (s : ClassNo) → some_of (λ t. eqb t.0 s.0) string.supers ≡ true → s.0 ≡ 0
+    -- one declared class of a name, and none named as Object or String (7.6)
+    pub names : (c d : ℕ) (x y : Class) → class_info P c ≡ Some x → class_info P d ≡ Some y → 1 < d → x.name ≡ y.name → c ≡ d
+
+  pub record RegularField (f : ℕ) (x : Field) : Type 0 where
+    pub owner : x.owner.0 < length P.classes
+    pub no_interface : interface_of (class_info P x.owner.0) ≡ false
+    pub declared : 1 < x.owner.0
+    pub base : AllBelow (length P.classes) (classes_of_base x.base)
+    pub static : x.is_static ≡ true → StaticField x
+    pub slot : has_slot x.slot ≡ is_ref_base x.base
+    pub slot_there : SlotBelow (length P.slots) x.slot
+    -- a field's slot that isn't inferred has C, and no F
+    pub slot_committed : (n : SlotNo) (info : SlotInfo) → x.slot ≡ Some n → slice_get P.slots n.0 ≡ Some info → info.inferred ≡ false → (info.start.committed ≡ true) × (info.start.free ≡ false)
+    -- one field of a name along the supertypes of a class (8.3)
+    pub names : (g : ℕ) (y : Field) → field_info P g ≡ Some y → sub P x.owner.0 y.owner.0 ≡ true → x.name ≡ y.name → f ≡ g
+
+  pub record RegularMethod (m : ℕ) (x : Method) : Type 0 where
+    pub owner : x.owner.0 < length P.classes
+    pub bases : AllBases (x.result ∷ x.params)
+    pub body : BodyBelow x.body
+    pub params : SlotsMatch x.param_slots x.params
+    pub params_there : SlotsBelow (length P.slots) x.param_slots
+    pub result : has_slot x.result_slot ≡ is_ref_base x.result
+    pub result_there : SlotBelow (length P.slots) x.result_slot
+    pub receiver : has_slot x.receiver ≡ not (x.is_static || x.ctor)
+    pub receiver_there : SlotBelow (length P.slots) x.receiver
+    -- one method or constructor of a name and arity in a class
+    pub names : (k : ℕ) (y : Method) → method_at P k ≡ Some y → x.owner ≡ y.owner → x.name ≡ y.name → length x.params ≡ length y.params → m ≡ k
+    -- what has no body is abstract, and neither private, static, final nor a constructor (8.4.3.1)
+    pub abstract : x.is_abstract ≡ not (has_body x.body)
+    pub plain : x.is_abstract ≡ true → (x.is_private || x.is_static || x.is_final || x.ctor) ≡ false
+    pub ctor : x.ctor ≡ true → (x.is_static ≡ false) × (x.result ≡ Void)
+    pub ctor_class : x.ctor ≡ true → interface_of (class_info P x.owner.0) ≡ false
+    -- Object has no member but a constructor without parameters, and String has none
+    pub of_object : x.owner.0 ≡ 0 → (x.ctor ≡ true) × (x.params ≡ [])
+    pub of_string : x.owner.0 ≡ 1 → ⊥
+    -- a main (12.1.4)
+    pub main : x.is_main ≡ true → (x.ctor ≡ false) × (x.is_static ≡ true) × (has_body x.body ≡ true) × (x.result ≡ Void) × (x.params ≡ Array (RefElem (record { 0 = 1 })) false ∷ [])
+    -- a static method may hide one of the same types only, and an instance method none (8.4.8)
+    pub hides : (k : ℕ) (y : Method) → method_at P k ≡ Some y → HasName x y → y.is_static ≡ true → y.is_private ≡ false → eqb x.owner.0 y.owner.0 ≡ false → sub P x.owner.0 y.owner.0 ≡ true → (x.is_static ≡ true) × (x.params ≡ y.params) × (fits P x.result y.result ≡ true) × (y.is_final ≡ false)
+
+  abbrev pub IsParent : ℕ → ℕ → Type 0
+  IsParent c p = parent_of (class_info P c) ≡ Some (record { 0 = p })
+
+  abbrev pub UnderObject : ℕ → Type 0
+  UnderObject c = (c ≡ 0) ⊎ IsParent c 0
+
+  abbrev pub has_body_at : ℕ → Bool
+  has_body_at m = has_number (body_of (method_at P m))
+
+  -- an overriding pair agrees in its types (8.4.8.3), and the overridden method is not final
+  pub record RegularPair (over under : Method) : Type 0 where
+    pub params : over.params ≡ under.params
+    pub result : fits P over.result under.result ≡ true
+    pub no_final : under.is_final ≡ false
+    pub instance : over.is_static ≡ under.is_static
+
+  -- a class that is neither abstract nor an interface has a body for each method (8.1.1.1)
+  abbrev pub IsConcrete : ℕ → Type 0
+  IsConcrete c = (x : Class) × (class_info P c ≡ Some x) × (x.interface ≡ false) × (x.is_abstract ≡ false)
+
+  pub record Implements : Type 0 where
+    pub bodies : (c m : ℕ) → IsConcrete c → IsVirtual P m → sub P c (class_of (method_at P m)) ≡ true → (k : ℕ) × (dispatch P c m ≡ Some k)
+
+  -- the register that a point writes has the type of the value that it gives; that of a Move is the local's
+  abbrev pub Typed : ℕ → PointKind → Type 0
+  Typed b (Const dst value) = reg_base P b dst.0 ≡ literal_base value
+  Typed b (Unary dst negate of) = reg_base P b dst.0 ≡ Int
+  Typed b (Binary dst op l r) = reg_base P b dst.0 ≡ cond (is_sum op) Int BoolBase
+  Typed b (Concat dst l r) = reg_base P b dst.0 ≡ string_base
+  Typed b (SameRef dst equal l r) = reg_base P b dst.0 ≡ BoolBase
+  Typed b (FieldRead dst object field) = reg_base P b dst.0 ≡ field_base P field.0
+  Typed b (StaticRead dst field) = reg_base P b dst.0 ≡ field_base P field.0
+  Typed b (ElemRead dst array index) = reg_base P b dst.0 ≡ elem_base (reg_base P b array.reg.0)
+  Typed b (ArrayLen dst array) = reg_base P b dst.0 ≡ Int
+  Typed b (NewArray dst base count) = (is_array base ≡ true) × (reg_base P b dst.0 ≡ base)
+  Typed b (ArrayOf dst base values) = (is_array base ≡ true) × (reg_base P b dst.0 ≡ base)
+  Typed b (New dst ctor args) = reg_base P b dst.0 ≡ Ref (record { 0 = class_of (method_at P ctor.0) })
+  Typed b (Call (Some dst) method receiver direct args) = (is_void (result_base_of (method_at P method.0)) ≡ false) × (reg_base P b dst.0 ≡ result_base_of (method_at P method.0))
+  Typed b (StrOp dst op of other) = reg_base P b dst.0 ≡ operation_base op
+  Typed b (Cast dst of class) = reg_base P b dst.0 ≡ Ref class
+  Typed b kind = Unit {0}
+
+  abbrev pub static_field : Option Field → Bool
+  static_field None = false
+  static_field (Some f) = f.is_static
+
+  abbrev pub NamesFields : PointKind → Type 0
+  NamesFields (FieldRead dst object field) = static_field (field_info P field.0) ≡ false
+  NamesFields (FieldWrite object field value) = static_field (field_info P field.0) ≡ false
+  NamesFields (StaticRead dst field) = static_field (field_info P field.0) ≡ true
+  NamesFields (StaticWrite field value) = static_field (field_info P field.0) ≡ true
+  NamesFields kind = Unit {0}
+
+  abbrev pub ArgumentsMatch : ℕ → List Operand → Type 0
+  ArgumentsMatch m args = length args ≡ length (params_of (method_at P m))
+
+  -- a virtual call names no private method; one without dispatch names a method with a body
+  abbrev pub Selects : ℕ → Option Operand → Bool → Type 0
+  Selects m None direct = Unit {0}
+  Selects m (Some r) true = has_body_at m ≡ true
+  Selects m (Some r) false = private_of (method_at P m) ≡ false
+
+  abbrev pub NamesMethods : PointKind → Type 0
+  NamesMethods (New dst ctor args) = (ctor_of (method_at P ctor.0) ≡ true) × IsConcrete (class_of (method_at P ctor.0)) × ArgumentsMatch ctor.0 args
+  NamesMethods (CtorCall ctor args own) = (ctor_of (method_at P ctor.0) ≡ true) × ArgumentsMatch ctor.0 args
+  NamesMethods (Call dst method receiver direct args) = (ctor_of (method_at P method.0) ≡ false) × ArgumentsMatch method.0 args × ReceiverMatches P method.0 receiver × Selects method.0 receiver direct
+  NamesMethods kind = Unit {0}
+
+  -- numbers that a point of a body names are in range
+  pub record InRange (b : ℕ) (k : PointKind) : Type 0 where
+    pub reads : AllBelow (regs_of (body_at P b)) (regs_in (operands k))
+    pub written : AllBelow (regs_of (body_at P b)) (register_if (writes k))
+    pub origin : AllBelow (locals_of (body_at P b)) (origin_reg (origin_in k))
+    pub fields : AllBelow (length P.fields) (fields_named k)
+    pub methods : AllBelow (length P.methods) (methods_named k)
+    pub classes : AllBelow (length P.classes) (classes_named k)
+
+  -- the constructor call of body b
+  pub record CtorCallAt (b p : ℕ) (ctor : ℕ) (own : Bool) : Type 0 where
     pub pt : Point
-    pub ctor : MethodNo
     pub args : List Operand
-    pub own : Bool
-    pub point : point_at P b place ≡ Some pt
-    pub calls : pt.kind ≡ CtorCall ctor args own
-    pub before : p ≤ place
+    pub there : point_at P b p ≡ Some pt
+    pub calls : pt.kind ≡ CtorCall (record { 0 = ctor }) args own
 
-  -- the constructor that a constructor calls is its own class's, or the parent's, whose objects have all other fields
-  pub record Chains (b : ℕ) (m : ℕ) (own : Bool) : Type 0 where
-    pub ctor : ctor_of (method_at P m) ≡ true
+  abbrev pub CallsCtor : ℕ → Type 0
+  CallsCtor b = (p : ℕ) × (ctor : ℕ) × (own : Bool) × CtorCallAt b p ctor own
+
+  -- a constructor call: in constructors alone, at most one; of the own class, without a circle (8.8.7), or of the parent; nothing but its own edge passes it, nothing leads back behind it or ends before it (8.8.7.1)
+  pub record RegularCtorCall (ctor_rank : ℕ → ℕ) (b p ctor : ℕ) (own : Bool) : Type 0 where
     pub inside : ctor_of (method_in P b) ≡ true
-    pub same : own ≡ true → class_of (method_at P m) ≡ class_of (method_in P b)
-    pub fields : (f : ℕ) → has_field P (class_of (method_in P b)) f ≡ true → (owner P f ≡ class_of (method_in P b)) ⊎ (has_field P (class_of (method_at P m)) f ≡ true)
-
-  -- a class of which there are objects: no interface, and not String
-  pub record IsObjectClass (c : ℕ) : Type 0 where
-    pub info : Class
-    pub there : class_info P c ≡ Some info
-    pub class : info.interface ≡ false
-    pub no_string : eqb c 1 ≡ false
-
-  -- a method that an object selects: neither static nor private, and no constructor
-  pub record IsVirtual (m : ℕ) : Type 0 where
-    pub info : Method
-    pub there : method_at P m ≡ Some info
-    pub method : info.ctor ≡ false
-    pub instance : info.is_static ≡ false
-    pub open_to_all : info.is_private ≡ false
-
-  abbrev pub Names : ℕ → PointKind → Type 0
-  Names b (New dst m args) = (ctor_of (method_at P m.0) ≡ true) × IsObjectClass (class_of (method_at P m.0))
-  Names b (CtorCall m args own) = Chains b m.0 own
-  Names b (Call dst m (Some r) false args) = (ctor_of (method_at P m.0) ≡ false) × IsVirtual m.0
-  Names b (Call dst m r direct args) = (ctor_of (method_at P m.0) ≡ false) × Unit {0}
-  Names b k = Unit {0}
-
-  abbrev pub NotEarlyReturn : ℕ → ℕ → PointKind → Type 0
-  NotEarlyReturn b p (Return v) = Early b p → ⊥
-  NotEarlyReturn b p k = Unit {0}
-
-  -- as many arguments as parameters, and a receiver exactly where the method isn't static
-  abbrev pub ArgsMatch : ℕ → List Operand → Type 0
-  ArgsMatch m args = length args ≡ length (slots_of (method_at P m))
-
-  abbrev pub ReceiverMatches : ℕ → Option Operand → Type 0
-  ReceiverMatches m None = static_of (method_at P m) ≡ true
-  ReceiverMatches m (Some r) = static_of (method_at P m) ≡ false
-
-  abbrev pub Passes : PointKind → Type 0
-  Passes (New dst m args) = ArgsMatch m.0 args
-  Passes (CtorCall m args own) = ArgsMatch m.0 args
-  Passes (Call dst m r direct args) = ArgsMatch m.0 args × ReceiverMatches m.0 r
-  Passes k = Unit {0}
-
-  -- an edge of the point leads to the place: a test is entered by its read, and no edge but a constructor call's own leads past that call
-  pub record RegularEdge (b p : ℕ) (k : PointKind) (to : ℕ) : Type 0 where
-    pub test : FromRead k (test_at b to)
-    pub early : NotCtorCall k → Early b p → Early b to
+    pub one : (q k : ℕ) (o : Bool) → CtorCallAt b q k o → q ≡ p
+    pub same : own ≡ true → class_of (method_at P ctor) ≡ class_of (method_in P b)
+    pub above : own ≡ false → IsParent (class_of (method_in P b)) (class_of (method_at P ctor))
+    pub no_circle : (x : Body) → own ≡ true → body_at P b ≡ Some x → ctor_rank ctor < ctor_rank x.method.0
+    pub passed : (q to : ℕ) (pt : Point) → point_at P b q ≡ Some pt → q ≤ p → LeadsTo (edges_of pt.kind q) to → p < to → q ≡ p
+    pub back : (q to : ℕ) (pt : Point) → point_at P b q ≡ Some pt → p < q → LeadsTo (edges_of pt.kind q) to → p < to
+    pub no_return : (q : ℕ) (pt : Point) (v : Option Operand) → point_at P b q ≡ Some pt → q ≤ p → pt.kind ≡ Return v → ⊥
 
   pub record RegularPoint (b p : ℕ) (k : PointKind) : Type 0 where
-    pub edges : (to : ℕ) → LeadsTo (edges_of k p) to → RegularEdge b p k to
-    pub this_kept : ctor_of (method_in P b) ≡ true → writes k ≡ Some 0 → ⊥
-    pub names : Names b k
-    pub passes : Passes k
-    pub end : ctor_of (method_in P b) ≡ true → NotEarlyReturn b p k
+    pub range : InRange b k
+    pub inside : Below (length (points_of (body_at P b))) (edges_of k p).first × Below (length (points_of (body_at P b))) (edges_of k p).second
+    pub typed : Typed b k
+    pub fields : NamesFields k
+    pub methods : NamesMethods k
+    -- a test with an origin is entered by the edge of the read of that field alone
+    pub tests : (to : ℕ) → LeadsTo (edges_of k p) to → FromRead k (test_at P b to)
+    pub this_kept : static_of (method_in P b) ≡ false → writes k ≡ Some 0 → ⊥
 
-  -- a constructor calls another one, or its class has no fields but its own
-  abbrev pub StartsRegular : ℕ → Type 0
-  StartsRegular b = ctor_of (method_in P b) ≡ true → Early b 0 ⊎ ((f : ℕ) → has_field P (class_of (method_in P b)) f ≡ true → owner P f ≡ class_of (method_in P b))
+  pub record RegularBody (ctor_rank : ℕ → ℕ) (b : ℕ) (x : Body) : Type 0 where
+    pub some : 0 < length x.points
+    pub method : x.method.0 < length P.methods
+    pub its_own : (m : ℕ) → body_of (method_at P m) ≡ Some b → m ≡ x.method.0
+    pub of_method : body_of (method_at P x.method.0) ≡ Some b
+    pub front : FrontOf (given_bases P x.method.0) x.regs
+    pub given : given_count (method_at P x.method.0) ≤ x.locals
+    pub locals : x.locals ≤ length x.regs
+    pub bases : AllBases x.regs
+    pub entry : test_at P b 0 ≡ None
+    pub points : (p : ℕ) (pt : Point) → point_at P b p ≡ Some pt → RegularPoint b p pt.kind
+    pub ctor_calls : (p ctor : ℕ) (own : Bool) → CtorCallAt b p ctor own → RegularCtorCall ctor_rank b p ctor own
+    -- a constructor calls another one unless its class is Object or stands right under it
+    pub calls : ctor_of (method_in P b) ≡ true → CallsCtor b ⊎ UnderObject (class_of (method_in P b))
 
   pub record Regular : Type 0 where
-    pub bodies : (m b : ℕ) → body_of (method_at P m) ≡ Some b → (x : Body) × (body_at P b ≡ Some x) × (x.method.0 ≡ m)
-    pub entered : (b : ℕ) (x : Body) → body_at P b ≡ Some x → 0 < length x.points
-    pub entry_test : (b : ℕ) → test_at b 0 ≡ None
-    pub entry_early : (b : ℕ) → StartsRegular b
-    pub points : (b p : ℕ) (pt : Point) → point_at P b p ≡ Some pt → RegularPoint b p pt.kind
-    pub ctor_this : (m : ℕ) → ctor_of (method_at P m) ≡ true → static_of (method_at P m) ≡ false
-    pub ctor_regs : (b : ℕ) → ctor_of (method_in P b) ≡ true → (n : ℕ) × (regs_of (body_at P b) ≡ suc n)
-    pub fields : (f : ℕ) (x : Field) → field_info P f ≡ Some x → has_slot x.slot ≡ is_ref_base x.base
-    pub params : (m : ℕ) (x : Method) → method_at P m ≡ Some x → SlotsMatch x.param_slots x.params
-    pub mains : (m : ℕ) (x : Method) → method_at P m ≡ Some x → x.is_main ≡ true → (x.ctor ≡ false) × (x.is_static ≡ true)
+    pub classes : RegularClasses
+    pub fields : (f : ℕ) (x : Field) → field_info P f ≡ Some x → RegularField f x
+    pub methods : (m : ℕ) (x : Method) → method_at P m ≡ Some x → RegularMethod m x
+    pub pairs : (m k : ℕ) (x y : Method) → is_pair P m k ≡ true → method_at P m ≡ Some x → method_at P k ≡ Some y → RegularPair x y
+    pub implements : Implements
+    -- constructors of a class call each other without a circle
+    pub ctor_rank : ℕ → ℕ
+    pub bodies : (b : ℕ) (x : Body) → body_at P b ≡ Some x → RegularBody ctor_rank b x

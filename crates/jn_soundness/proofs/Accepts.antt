@@ -8,7 +8,7 @@ use Rattle.jn_points.specs.declared.point.PointKind.TheVariants.{TestInst, TestN
 use Rattle.jn_points.specs.declared.program.Field.{Field}
 use Rattle.jn_points.specs.Edges.{edges_of, one}
 use Rattle.jn_points.specs.Lookup.{ref_of, ctor_of, static_of, is_ref_base, point_at, ref_field, method_at, method_of_body}
-use Rattle.jn_points.specs.Regular.{LeadsTo}
+use Rattle.jn_points.specs.Shaped.{LeadsTo}
 use Rattle.jn_sigs.specs.Signature.{slot_qual}
 use Rattle.jn_env.specs.declared.env.Env.{Env}
 use Rattle.jn_env.specs.Order.{qual_at}
@@ -66,7 +66,7 @@ module _ (W : World) where
 module _ (W : World) (A : Accepted W) where
   point_ok : (b p : ℕ) (pt : Point) (e : Env) → point_at W.program b p ≡ Some pt → env_at W b p ≡ Some e → PointOk W b p e pt.kind
   point_ok b p pt e is reached =
-      let r = A.regular.points b p pt is in
+      let r = A.shaped.points b p pt is in
       let x = point_body W b p pt is in
       record {
         edges = λ y among.
@@ -79,24 +79,24 @@ module _ (W : World) (A : Accepted W) where
       }
 
   plain_base : (f : ℕ) (x : Field) → slice_get W.program.fields f ≡ Some x → ref_field W.program f ≡ false → is_ref_base x.base ≡ false
-  plain_base f x is n = sym (A.regular.fields f x is) ∙ (sym (ap ref_of is) ∙ n)
+  plain_base f x is n = sym (A.shaped.fields f x is) ∙ (sym (ap ref_of is) ∙ n)
 
   pub accepted_checked : Checked W
   accepted_checked = record {
     entry = λ b x is. (A.respects b x is).entry;
-    entry_test = A.regular.entry_test;
-    entry_early = A.regular.entry_early;
+    entry_test = A.shaped.entry_test;
+    entry_early = A.shaped.entry_early;
     points = point_ok;
-    bodies = λ m b is. let x = A.regular.bodies m b is in ap (method_of_body W.program) x.1 ∙ ap (method_at W.program) x.2;
-    there = λ m b is. let x = A.regular.bodies m b is in (x.0, x.1);
-    ctor_this = A.regular.ctor_this;
-    ctor_regs = A.regular.ctor_regs;
+    bodies = λ m b is. let x = A.shaped.bodies m b is in ap (method_of_body W.program) x.1 ∙ ap (method_at W.program) x.2;
+    there = λ m b is. let x = A.shaped.bodies m b is in (x.0, x.1);
+    ctor_this = A.shaped.ctor_this;
+    ctor_regs = A.shaped.ctor_regs;
     fields = plain_base;
   }
 
   pub accepted_mains : MainsOk W
   accepted_mains = record {
-    static = λ m b main. ap static_of main.there ∙ (A.regular.mains m main.method main.there main.is_main).1;
-    method = λ m b main. ap ctor_of main.there ∙ (A.regular.mains m main.method main.there main.is_main).0;
+    static = λ m b main. ap static_of main.there ∙ (A.shaped.mains m main.method main.there main.is_main).1;
+    method = λ m b main. ap ctor_of main.there ∙ (A.shaped.mains m main.method main.there main.is_main).0;
     slot = λ m b main. within_committed main.info.start (slot_qual W.sig (Some main.slot)) (A.starts main.slot.0 main.info main.start main.written) (ap (λ q. q.committed) main.committed);
   }

@@ -20,7 +20,7 @@ use Rattle.jn_points.specs.declared.program.Body.{Body}
 use Rattle.jn_points.specs.Edges.{edges_of}
 use Rattle.jn_points.specs.Lookup.{has_slot, is_ref_base, body_of, body_at, point_at, method_at, method_in, ctor_of, static_of, class_of, class_info, owner, regs_of, reg_base, supers_of, field_info}
 use Rattle.jn_points.specs.Members.{some_of, reaches, sub, has_field, pairs_of, is_pair, is_named, class_pairs, interface_pairs}
-use Rattle.jn_points.specs.Regular.{FromRead, NotCtorCall, writes, test_at, test_in, test_of, Early, IsObjectClass, Chains, SlotsMatch, LeadsTo, RegularEdge, RegularPoint, StartsRegular, Regular, Names, Passes, NotEarlyReturn}
+use Rattle.jn_points.specs.Shaped.{FromRead, NotCtorCall, writes, test_at, test_in, test_of, Early, IsObjectClass, Chains, SlotsMatch, LeadsTo, RegularEdge, RegularPoint, StartsRegular, Shaped, Names, Passes, NotEarlyReturn}
 use Rattle.jn_points.specs.BaseTyping.{Ordered, PointTyped, StartsWith, given_bases, BaseTyped}
 use Rattle.jn_env.specs.declared.env.Env.{Env}
 use Rattle.jn_env.specs.Order.{SlotWithin, env_in}
@@ -155,7 +155,7 @@ ctor_regs (suc (suc zero)) c = (1, refl)
 ctor_regs (suc (suc (suc zero))) c = cc
 ctor_regs (suc (suc (suc (suc b)))) c = cc
 
-pub chain_regular : Regular chain_program
+pub chain_regular : Shaped chain_program
 chain_regular = record {
   bodies = bodies;
   entered = each_at (λ b x. 0 < length x.points) chain_program.bodies (omega arith, (omega arith, (omega arith, (omega arith, tt))));
@@ -256,7 +256,7 @@ settles = points_each chain_program (λ b p pt. (e : Env) → FieldSettles chain
 
 pub chain_accepted : Accepted chain_world
 chain_accepted = record {
-  regular = chain_regular;
+  shaped = chain_regular;
   respects = respects;
   none = refl;
   starts = each_at (λ n info. info.inferred ≡ false → IsTrue (within info.start (slice_index_or chain_world.sig n no_qual))) chain_program.slots ((λ h. refl), ((λ h. refl), ((λ h. refl), ((λ h. refl), tt))));
@@ -454,7 +454,7 @@ field_slots = each_at (λ f x. (n : SlotNo) → x.slot ≡ Some n → (info : Sl
 
 pub chain_solved : Solved chain_world
 chain_solved = record {
-  regular = chain_regular;
+  shaped = chain_regular;
   slots = λ f x n io so. field_slots f x io n so;
   starts = chain_accepted.starts;
   respects = respects;

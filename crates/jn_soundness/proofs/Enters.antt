@@ -1,7 +1,7 @@
 -- Calls, constructor calls and new enter good frames.
 use Rattle.std.proofs.Common.{◌≡◌, ℕ, zero, suc, ◌+◌, ◌<◌, Bool, true, false, not, ◌&&◌, ◌||◌, ◌⊎◌, inl, inr, List, [], ◌∷◌, ◌++◌, length, Option, Some, None, refl, sym, ap, ◌∙◌, subst, arith, cond, ltb}
 use Rattle.std.specs.Prelude.{slice_get, IsTrue}
-use Rattle.jn_points.specs.Regular.{Chains, Early, test_at}
+use Rattle.jn_points.specs.Shaped.{Chains, Early, test_at}
 use Rattle.jn_base.specs.declared.number.RegNo.{RegNo}
 use Rattle.jn_base.specs.declared.number.MethodNo.{MethodNo}
 use Rattle.jn_base.specs.declared.number.SlotNo.{SlotNo}

@@ -10,7 +10,7 @@ use Rattle.jn_points.specs.declared.program.Body.{Body}
 use Rattle.jn_points.specs.declared.program.Program.{Program}
 use Rattle.jn_points.specs.Lookup.{points_of, body_of, body_no, ctor_of, body_at, point_at, method_at, method_in, method_of_body}
 use Rattle.jn_points.specs.Members.{below, sub, in_interface, is_named, class_pairs, interface_pairs, pairs_of, is_pair}
-use Rattle.jn_points.specs.Regular.{SlotsMatch}
+use Rattle.jn_points.specs.Shaped.{SlotsMatch}
 use Rattle.jn_sigs.specs.Signature.{start_signature}
 use Rattle.jn_env.specs.declared.env.Env.{Env}
 use Rattle.jn_transfer.specs.Least.{Respects}

@@ -20,7 +20,7 @@ use Rattle.jn_points.specs.declared.program.Method.{Method}
 use Rattle.jn_points.specs.declared.program.Program.{Program}
 use Rattle.jn_points.specs.Lookup.{parent_of, supers_of, interface_of, class_of, body_of, ctor_of, static_of, slots_of, params_of, result_base_of, class_info, method_at, method_in, method_of_body, ref_field, is_ref_base, field_base, field_info, field_base_of, ref_of, point_at, reg_base}
 use Rattle.jn_points.specs.Members.{some_of, below, first_at, first_or, first_some, where_some, is_number, is_named, reaches, sub, fits, interfaces, walk_parent, walk_by, walk, declared_method, method_of, is_class, with_body, selected_for, dispatch, class_pair, class_pairs, interface_pairs, pairs_of, is_pair}
-use Rattle.jn_points.specs.Regular.{SlotsMatch, IsObjectClass, IsVirtual, Regular, Names, Passes}
+use Rattle.jn_points.specs.Shaped.{SlotsMatch, IsObjectClass, IsVirtual, Shaped, Names, Passes}
 use Rattle.jn_points.specs.BaseTyping.{PairTyped, BaseTyped, StartsWith, given_bases}
 use Rattle.jn_sigs.specs.Signature.{slot_quals, result_of, receiver_of}
 use Rattle.jn_env.specs.Order.{QualsWithin}
@@ -231,7 +231,7 @@ quals_within_refl : (qs : List Qualifier) → QualsWithin qs qs
 quals_within_refl [] = tt
 quals_within_refl (q ∷ qs) = (within_refl q.null q.committed q.free, quals_within_refl qs)
 
-module _ (W : World) (R : Regular W.program) (B : BaseTyped W.program) where
+module _ (W : World) (R : Shaped W.program) (B : BaseTyped W.program) where
   param_slots_length : (m : ℕ) (x : Method) → method_at W.program m ≡ Some x → length (slots_of (method_at W.program m)) ≡ length (params_of (method_at W.program m))
   param_slots_length m x is = subst (λ o. length (slots_of o) ≡ length (params_of o)) (sym is) (slots_length x.param_slots x.params (R.params m x is))
 

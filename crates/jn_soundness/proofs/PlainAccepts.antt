@@ -10,7 +10,7 @@ use Rattle.jn_points.specs.declared.program.SlotInfo.{SlotInfo}
 use Rattle.jn_points.specs.declared.program.Program.{Program}
 use Rattle.jn_points.specs.Lookup.{class_of, point_at, field_info, method_in}
 use Rattle.jn_points.specs.Members.{object_has}
-use Rattle.jn_points.specs.Regular.{Test, FromRead, test_of, test_in, test_at, Early, Names, NotEarlyReturn, Passes, StartsRegular, RegularPoint, Regular}
+use Rattle.jn_points.specs.Shaped.{Test, FromRead, test_of, test_in, test_at, Early, Names, NotEarlyReturn, Passes, StartsRegular, RegularPoint, Shaped}
 use Rattle.jn_sigs.specs.Signature.{uncalled_from, start_of, starts_from, start_signature}
 use Rattle.jn_env.specs.declared.env.Env.{Env}
 use Rattle.jn_heap.specs.Machine.{State, NeverNull}
@@ -96,7 +96,7 @@ module _ (P : Program) (H : PlainProgram P) where
         end = λ c. no_early_return b p pt.kind;
       }
 
-  plain_regular : Regular P
+  plain_regular : Shaped P
   plain_regular = record {
     bodies = H.bodies;
     entered = H.entered;
@@ -120,7 +120,7 @@ module _ (P : Program) (tables : List (List (Option Env))) (H : PlainAccepted P 
 
   plain_accepted : Accepted world
   plain_accepted = record {
-    regular = plain_regular P H.plain;
+    shaped = plain_regular P H.plain;
     respects = H.respects;
     none = H.none;
     starts = starts_written P 0 P.slots;

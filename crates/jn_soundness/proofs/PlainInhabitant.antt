@@ -9,7 +9,7 @@ use Rattle.jn_points.specs.declared.point.PointKind.TheVariants.{Return}
 use Rattle.jn_points.specs.declared.program.Method.{Method}
 use Rattle.jn_points.specs.declared.program.Body.{Body}
 use Rattle.jn_points.specs.Lookup.{body_of, body_at, point_at, method_at, method_in, ctor_of}
-use Rattle.jn_points.specs.Regular.{SlotsMatch}
+use Rattle.jn_points.specs.Shaped.{SlotsMatch}
 use Rattle.jn_sigs.specs.Signature.{start_signature}
 use Rattle.jn_env.specs.declared.env.Env.{Env}
 use Rattle.jn_env.specs.Order.{EnvWithin, SlotWithin, env_in}

@@ -1,7 +1,7 @@
 -- Each kind of point that enters and leaves no frame keeps a good state.
 use Rattle.std.proofs.Common.{◌≡◌, ℕ, zero, suc, ◌+◌, Bool, true, false, inl, inr, List, [], ◌∷◌, ◌++◌, length, replicate, Option, Some, None, refl, sym, ap, ◌∙◌, subst, cond}
 use Rattle.std.specs.Prelude.{slice_get, slice_set, IsTrue, ltb, ℤ}
-use Rattle.jn_points.specs.Regular.{Early, FromRead, Test, test_at, test_by, test_of}
+use Rattle.jn_points.specs.Shaped.{Early, FromRead, Test, test_at, test_by, test_of}
 use Rattle.jn_quals.specs.Qualifier.{Qualifier}
 use Rattle.jn_points.specs.declared.point.Operand.{Operand}
 use Rattle.jn_points.specs.declared.point.Origin.{Origin}

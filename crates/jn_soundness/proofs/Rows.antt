@@ -21,7 +21,7 @@ use Rattle.jn_points.specs.declared.program.Method.{Method}
 use Rattle.jn_points.specs.declared.program.Body.{Body}
 use Rattle.jn_points.specs.Lookup.{points_of, ref_of, ctor_of, class_of, slots_of, dereferences, body_at, point_at, owner, ref_field, reg_base, method_at, method_in}
 use Rattle.jn_points.specs.Members.{some_of, below}
-use Rattle.jn_points.specs.Regular.{Passes, ReceiverMatches}
+use Rattle.jn_points.specs.Shaped.{Passes, ReceiverMatches}
 use Rattle.jn_sigs.specs.Signature.{slot_quals, result_of, receiver_of, field_qual}
 use Rattle.jn_env.specs.declared.env.Env.{Env}
 use Rattle.jn_env.specs.Order.{Table, env_in, qual_at}

@@ -51,7 +51,7 @@ module _ (W : World) (S : Solved W) where
 
   pub solved_accepted : Accepted W
   solved_accepted = record {
-    regular = S.regular;
+    shaped = S.shaped;
     respects = S.respects;
     none = S.none;
     starts = S.starts;

@@ -2,7 +2,7 @@
 use Rattle.std.proofs.Common.{◌≡◌, ℕ, zero, suc, true, false, List, [], ◌∷◌, Option, Some, None, refl, sym, ap, subst, arith, cond}
 use Rattle.std.specs.Prelude.{slice_get, eqb}
 use Rattle.std.proofs.Math.Dec.{eqb-suc-zero}
-use Rattle.jn_points.specs.Regular.{test_at, test_in, test_of}
+use Rattle.jn_points.specs.Shaped.{test_at, test_in, test_of}
 use Rattle.jn_points.specs.declared.point.BaseType.TheVariants.{Array}
 use Rattle.jn_points.specs.declared.point.Elem.TheVariants.{Ref as RefElem}
 use Rattle.jn_points.specs.declared.point.Point.{Point}

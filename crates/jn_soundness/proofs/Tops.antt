@@ -2,7 +2,7 @@
 use Rattle.std.proofs.Common.{◌≡◌, ℕ, ◌+◌, Bool, true, false, not, ◌||◌, ◌⊎◌, inl, inr, List, [], ◌∷◌, ◌++◌, Option, Some, None, refl, sym, ap, ◌∙◌, subst}
 use Rattle.std.specs.Prelude.{slice_set, eqb}
 use Rattle.std.proofs.lemmas.Bool.{eqb-true, eq-eqb}
-use Rattle.jn_points.specs.Regular.{Early, FromRead, NotCtorCall, Test, test_at, test_by}
+use Rattle.jn_points.specs.Shaped.{Early, FromRead, NotCtorCall, Test, test_at, test_by}
 use Rattle.jn_quals.specs.Qualifier.{Qualifier}
 use Rattle.jn_points.specs.declared.point.Origin.{Origin}
 use Rattle.jn_points.specs.declared.point.PointKind.{PointKind}

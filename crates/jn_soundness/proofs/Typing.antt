@@ -2,7 +2,7 @@
 use Rattle.std.proofs.Common.{◌≡◌, ℕ, zero, suc, Bool, true, false, ◌⊎◌, inl, inr, List, [], ◌∷◌, ◌++◌, length, replicate, Option, Some, None, refl, sym, ap, ◌∙◌, subst, cond, ◌+◌, ltb}
 use Rattle.std.specs.Prelude.{slice_get, slice_set, eqb, ltb, ℤ}
 use Rattle.jn_points.specs.BaseTyping.{AllTyped, ArgsTyped, ConstTyped, PointTyped, ResultTyped, ReturnTyped, StartsWith, given_bases, Ordered}
-use Rattle.jn_points.specs.Regular.{IsVirtual}
+use Rattle.jn_points.specs.Shaped.{IsVirtual}
 use Rattle.jn_base.specs.declared.number.RegNo.{RegNo}
 use Rattle.jn_base.specs.declared.number.ClassNo.{ClassNo}
 use Rattle.jn_base.specs.declared.number.MethodNo.{MethodNo}

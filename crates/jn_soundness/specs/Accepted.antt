@@ -7,7 +7,7 @@ use Rattle.jn_points.specs.declared.point.PointKind.TheVariants.{FieldWrite}
 use Rattle.jn_points.specs.declared.program.Body.{Body}
 use Rattle.jn_points.specs.declared.program.SlotInfo.{SlotInfo}
 use Rattle.jn_points.specs.Lookup.{body_at, point_at, ref_field}
-use Rattle.jn_points.specs.Regular.{Regular}
+use Rattle.jn_points.specs.Shaped.{Shaped}
 use Rattle.jn_sigs.specs.Signature.{field_qual}
 use Rattle.jn_env.specs.declared.env.Env.{Env}
 use Rattle.jn_env.specs.Order.{qual_at}
@@ -22,7 +22,7 @@ module _ (W : World) where
   FieldSettles e k = Unit {0}
 
   pub record Accepted : Type 0 where
-    pub regular : Regular W.program
+    pub shaped : Shaped W.program
     pub respects : (b : ℕ) (x : Body) → body_at W.program b ≡ Some x → Respects W.program W.sig b (table_at W b)
     pub none : rows W.program W.sig W.tables ≡ []
     -- the signature has what the slots that aren't inferred start with, and what is written into fields

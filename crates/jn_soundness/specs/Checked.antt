@@ -1,6 +1,6 @@
 -- No rule is broken, tables respect the edges, and what the law asks of a regular program.
 use Rattle.std.specs.Prelude.{ℕ, suc, ◌≡◌, ◌⊎◌, Bool, true, false, IsTrue, eqb, List, [], ◌∷◌, Option, Some, None, slice_get}
-use Rattle.jn_points.specs.Regular.{FromRead, NotCtorCall, writes, test_at, Early, Names, NotEarlyReturn}
+use Rattle.jn_points.specs.Shaped.{FromRead, NotCtorCall, writes, test_at, Early, Names, NotEarlyReturn}
 use Rattle.jn_points.specs.declared.point.Operand.{Operand}
 use Rattle.jn_quals.specs.Qualifier.{Qualifier}
 use Rattle.jn_points.specs.declared.point.BaseType.{BaseType}

@@ -1,6 +1,6 @@
 -- States that the tables and a marking describe.
 use Rattle.std.specs.Prelude.{ℕ, ◌≡◌, ◌<◌, ◌⊎◌, Bool, true, false, IsTrue, List, [], ◌∷◌, Option, Some, None, slice_get}
-use Rattle.jn_points.specs.Regular.{Early, Test, test_at}
+use Rattle.jn_points.specs.Shaped.{Early, Test, test_at}
 use Rattle.jn_quals.specs.Qualifier.{Qualifier}
 use Rattle.jn_points.specs.declared.point.Point.{Point}
 use Rattle.jn_points.specs.declared.point.Operand.{Operand}

@@ -7,7 +7,7 @@ use Rattle.jn_points.specs.declared.program.Method.{Method}
 use Rattle.jn_points.specs.declared.program.Body.{Body}
 use Rattle.jn_points.specs.declared.program.Program.{Program}
 use Rattle.jn_points.specs.Lookup.{regs_of, body_of, ctor_of, static_of, body_at, point_at, method_at, method_in, points_of}
-use Rattle.jn_points.specs.Regular.{SlotsMatch, writes}
+use Rattle.jn_points.specs.Shaped.{SlotsMatch, writes}
 use Rattle.jn_sigs.specs.Signature.{start_signature}
 use Rattle.jn_env.specs.declared.env.Env.{Env}
 use Rattle.jn_transfer.specs.Least.{Respects}

@@ -4,7 +4,7 @@ use Rattle.jn_quals.specs.Order.{no_qual, within}
 use Rattle.jn_points.specs.declared.program.Body.{Body}
 use Rattle.jn_points.specs.declared.program.SlotInfo.{SlotInfo}
 use Rattle.jn_points.specs.Lookup.{body_at}
-use Rattle.jn_points.specs.Regular.{Regular}
+use Rattle.jn_points.specs.Shaped.{Shaped}
 use Rattle.jn_transfer.specs.Least.{Respects}
 use Rattle.jn_transfer.specs.Rules.{rows}
 use Rattle.jn_transfer.specs.Contributions.{Closed, FieldSlots}
@@ -12,7 +12,7 @@ use Rattle.jn_soundness.specs.World.{World, table_at}
 
 -- a regular program, a signature that is closed and not below the start, tables that respect the edges, and no row of the rules
 pub record Solved (W : World) : Type 0 where
-  pub regular : Regular W.program
+  pub shaped : Shaped W.program
   pub slots : FieldSlots W.program
   pub starts : (n : ℕ) (info : SlotInfo) → slice_get W.program.slots n ≡ Some info → info.inferred ≡ false → IsTrue (within info.start (slice_index_or W.sig n no_qual))
   pub respects : (b : ℕ) (x : Body) → body_at W.program b ≡ Some x → Respects W.program W.sig b (table_at W b)

@@ -1,6 +1,6 @@
 -- Base typing of states, which soundness asks of a run.
 use Rattle.std.specs.Prelude.{ℕ, ◌≡◌, Bool, true, false, List, [], ◌∷◌, Option, Some, None, slice_get}
-use Rattle.jn_points.specs.Regular.{IsObjectClass, IsVirtual}
+use Rattle.jn_points.specs.Shaped.{IsObjectClass, IsVirtual}
 use Rattle.jn_points.specs.BaseTyping.{PointTyped, StartsWith, given_bases}
 use Rattle.jn_base.specs.declared.number.RegNo.{RegNo}
 use Rattle.jn_base.specs.declared.number.MethodNo.{MethodNo}

@@ -1,5 +1,4 @@
 use Rattle.std.proofs.Common.{◌-◌, sym, ◌∙◌}
-use Rattle.jn_points.specs.Members as spec
 use Rattle.jn_points.specs.Sought.{declared}
 use Rattle.jn_points.proofs.Walks.{along_found, along_missed}
 use Rattle.jn_points.proofs.members.+find_along.Goals as goal

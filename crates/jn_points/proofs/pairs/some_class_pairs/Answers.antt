@@ -1,4 +1,4 @@
-use Rattle.std.proofs.Common.{◌≡◌, ◌||◌, ap, sym, ◌∙◌}
+use Rattle.std.proofs.Common.{◌||◌, ap, sym, ◌∙◌}
 use Rattle.jn_points.specs.Members as spec
 use Rattle.jn_points.proofs.Below.{some_below_more}
 use Rattle.jn_points.proofs.pairs.some_class_pairs.Goals as goal
