@@ -1,0 +1,1 @@
+// Packed words, and the start signature of a small program.
