@@ -1,5 +1,5 @@
 -- What packed words hold for each slot.
-use Rattle.std.proofs.Common.{◌≡◌, ◌≢◌, ℕ, zero, suc, ◌+◌, ◌*◌, ◌/◌, ◌%◌, ◌^◌, ◌<◌, ◌≤◌, ◌⊎◌, inl, inr, List, [], ◌∷◌, length, get_or, set, replicate, refl, sym, ap, ◌∙◌, lit<, arith, length-set, get_or-set_same, get_or-set_other}
+use Rattle.std.proofs.Common.{◌≡◌, ◌≢◌, ℕ, zero, suc, ◌+◌, ◌*◌, ◌/◌, ◌%◌, ◌^◌, ◌<◌, ◌≤◌, ◌⊎◌, inl, inr, List, length, get_or, set, replicate, refl, sym, ap, ◌∙◌, lit<, arith, length-set, get_or-set_same, get_or-set_other}
 use Rattle.std.proofs.lemmas.Bool.{cases_order}
 use Rattle.std.proofs.lemmas.List.{ext_get_or, get_or_default, get_or-replicate, get_or_past, length-replicate}
 use Rattle.std.proofs.Math.Nat.{zero-div}
@@ -94,6 +94,7 @@ module _ (words : List ℕ) (slots s : ℕ) (q : Qualifier) (packed : ArePacked 
     where
       elsewhere : i / 21 ≢ s / 21 → at_slot raised_words i ≡ at_slot words i
       elsewhere apart = ap (λ w. unpack w (i % 21)) (get_or-set_other words (s / 21) (i / 21) word 0 apart)
+
       sides : (i / 21 ≡ s / 21) ⊎ ((i / 21 < s / 21) ⊎ (s / 21 < i / 21)) → at_slot raised_words i ≡ at_slot words i
       sides (inl e) =
           let apart : s % 21 ≢ i % 21 = λ h. ne (omega (arith, e, h)) in
@@ -109,6 +110,7 @@ module _ (words : List ℕ) (slots s : ℕ) (q : Qualifier) (packed : ArePacked 
     where
       elsewhere : i ≢ s / 21 → get_or raised_words i 0 < 2 ^ 63
       elsewhere apart = let e = get_or-set_other words (s / 21) i word 0 apart in rw e (packed.top i)
+
       sides : (i ≡ s / 21) ⊎ ((i < s / 21) ⊎ (s / 21 < i)) → get_or raised_words i 0 < 2 ^ 63
       sides (inl e) =
           let f : get_or raised_words i 0 ≡ word = ap (λ k. get_or raised_words k 0) e ∙ here in

@@ -1,5 +1,5 @@
 -- The start signature, raised from an empty one slot by slot.
-use Rattle.std.proofs.Common.{◌≡◌, ◌≢◌, ℕ, zero, suc, ◌+◌, ◌<◌, ◌≤◌, ◌⊎◌, inl, inr, List, [], ◌∷◌, length, get_or, set, replicate, refl, sym, ap, ◌∙◌, arith, length-set, get_or-set_same, get_or-set_other}
+use Rattle.std.proofs.Common.{◌≡◌, ℕ, zero, suc, ◌+◌, ◌<◌, ◌≤◌, ◌⊎◌, inl, inr, List, [], ◌∷◌, length, get_or, replicate, refl, sym, ap, ◌∙◌, arith, length-set, get_or-set_same, get_or-set_other}
 use Rattle.std.proofs.lemmas.Bool.{cases_order}
 use Rattle.std.proofs.lemmas.List.{ext_get_or, get_or-replicate, get_or_past, length-replicate}
 use Rattle.jn_points.specs.declared.program.Program.{Program}
@@ -52,6 +52,7 @@ started_more P sig i q info s lt is e = record {
     here =
         let first : 0 + i ≡ i = omega arith in
         sym (starts_from-at P 0 P.slots i info lt ∙ ap (λ n. start_of P n (get_or P.slots i info)) first ∙ ap (start_of P i) (sym is))
+
     at_each : (k : ℕ) → k < i + 1 → (k ≡ i) ⊎ ((k < i) ⊎ (i < k)) → get_or (raised sig i q) k no_qual ≡ get_or (start_signature P) k no_qual
     at_each k below (inl same) =
         ap (λ n. get_or (raised sig i q) n no_qual) same

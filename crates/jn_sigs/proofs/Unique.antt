@@ -1,5 +1,5 @@
 -- The words of a list of qualifiers are unique.
-use Rattle.std.proofs.Common.{◌≡◌, ℕ, zero, suc, ◌+◌, ◌*◌, ◌/◌, ◌%◌, ◌^◌, ◌<◌, ◌≤◌, ◌⊎◌, inl, inr, List, length, get_or, refl, sym, ap, ◌∙◌, lit<, arith}
+use Rattle.std.proofs.Common.{◌≡◌, ℕ, zero, suc, ◌+◌, ◌*◌, ◌/◌, ◌%◌, ◌^◌, ◌<◌, ◌≤◌, ◌⊎◌, inl, inr, List, get_or, sym, ap, ◌∙◌, lit<, arith}
 use Rattle.std.proofs.lemmas.Bool.{cases_order}
 use Rattle.std.proofs.lemmas.Grind.{same_number_lists}
 use Rattle.std.proofs.lemmas.Nat.{shr-shr, shr_below, mod_below}
@@ -44,8 +44,10 @@ unique words others slots packed more e =
   where
     slot_in : (list : List ℕ) (k j : ℕ) → (k * 21 + j) / 21 ≡ k → (k * 21 + j) % 21 ≡ j → unpack (get_or list k 0) j ≡ at_slot list (k * 21 + j)
     slot_in list k j at index = ap (λ w. unpack (get_or list w 0) j) (sym at) ∙ ap (λ i. unpack (get_or list ((k * 21 + j) / 21) 0) i) (sym index)
+
     past : (i : ℕ) → slots ≤ i → at_slot words i ≡ at_slot others i
     past i le = packed.empty i le ∙ sym (more.empty i le)
+
     slot_same : (i : ℕ) → (i ≡ slots) ⊎ ((i < slots) ⊎ (slots < i)) → at_slot words i ≡ at_slot others i
     slot_same i (inl is) = past i (omega (arith, is))
     slot_same i (inr (inl lt)) = sym (unpacked-at words slots i lt) ∙ ap (λ v. get_or v i no_qual) e ∙ unpacked-at others slots i lt

@@ -6,10 +6,8 @@ pub mod law;
 pub mod sig;
 pub mod sites;
 
-
 pub use initial::start;
 pub use sig::Sig;
-
 
 #[cfg(test)]
 mod tests;

@@ -1,4 +1,4 @@
-use Rattle.std.proofs.Common.{◌≡◌, ◌+◌, ◌<◌, ◌≤◌, ◌∙◌, Bool, true, false, cond, get_or, length, ap, arith}
+use Rattle.std.proofs.Common.{◌≡◌, ◌+◌, ◌<◌, ◌≤◌, ◌∙◌, false, cond, get_or, length, ap, arith}
 use Rattle.jn_quals.specs.Order.{no_qual, committed_only}
 use Rattle.jn_sigs.specs.Signature.{start_of, uncalled_from}
 use Rattle.jn_sigs.proofs.Starts.{Started, started_more, started_all}

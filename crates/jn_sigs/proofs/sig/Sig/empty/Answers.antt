@@ -1,4 +1,4 @@
-use Rattle.std.proofs.Common.{◌≡◌, ℕ, ◌+◌, ◌/◌, List, replicate, ap, ◌∙◌}
+use Rattle.std.proofs.Common.{◌≡◌, ◌+◌, ◌/◌, ap, ◌∙◌}
 use Rattle.jn_sigs.specs.Packed.{unpacked}
 use Rattle.jn_sigs.proofs.Slots.{zeros, zeros_packed, zeros_unpacked}
 use Rattle.jn_sigs.proofs.sig.Sig.empty.Goals as goal

@@ -1,7 +1,7 @@
-use Rattle.std.proofs.Common.{ℕ, ◌≡◌, ◌<◌, ◌/◌, ◌%◌, length, get_or, set, arith, ap, ◌∙◌, sym, rules}
+use Rattle.std.proofs.Common.{◌≡◌, ◌<◌, ◌/◌, ◌%◌, length, get_or, set, arith, ap, ◌∙◌, rules}
 use Rattle.std.proofs.lemmas.List.{get_or_default}
 use Rattle.jn_quals.specs.Word.{pack}
-use Rattle.jn_sigs.specs.Packed.{ArePacked, unpacked, raised}
+use Rattle.jn_sigs.specs.Packed.{unpacked, raised}
 use Rattle.jn_sigs.proofs.Slots.{word_below, raised_packed, raised_unpacked, length-unpacked}
 use Rattle.jn_sigs.proofs.sig.Sig.raise.Goals as goal
 
