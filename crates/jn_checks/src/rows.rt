@@ -9,7 +9,7 @@ use jn_base::{BodyNo, OutOfMemory, Row};
 use jn_env::Env;
 use jn_flow::FlowTable;
 use jn_points::{Point, Program};
-use jn_quals::Qual;
+use jn_sigs::Sig;
 use jn_transfer::{Analysis, find_keys};
 use std::alloc::{AllocError, Global};
 
@@ -20,7 +20,7 @@ use std::alloc::{AllocError, Global};
 pub fn checks(
     alloc: Global,
     program: &Program,
-    sig: &[Qual],
+    sig: &Sig,
     body: BodyNo,
     table: &FlowTable,
 ) -> Result<Vec<Row>, OutOfMemory>
@@ -53,7 +53,7 @@ pub fn checks(
 fn push_points(
     rows: &mut Vec<Row>,
     program: &Program,
-    sig: &[Qual],
+    sig: &Sig,
     body: BodyNo,
     points: &[Point],
     slots: &[Option<Env>],

@@ -11,6 +11,7 @@ use jn_env::Env;
 use jn_flow::FlowTable;
 use jn_points::{Point, Program};
 use jn_quals::Qual;
+use jn_sigs::Sig;
 use jn_transfer::find_keys;
 use std::alloc::{AllocError, Global};
 
@@ -22,7 +23,7 @@ use std::alloc::{AllocError, Global};
 pub fn contrib(
     alloc: Global,
     program: &Program,
-    _sig: &[Qual],
+    _sig: &Sig,
     body: BodyNo,
     table: &FlowTable,
 ) -> Result<Vec<(SlotNo, Qual)>, OutOfMemory>

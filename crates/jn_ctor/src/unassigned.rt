@@ -8,7 +8,7 @@ use jn_base::{BodyNo, FieldNo, OutOfMemory};
 use jn_env::Env;
 use jn_flow::FlowTable;
 use jn_points::{Point, PointKind, Program};
-use jn_quals::Qual;
+use jn_sigs::Sig;
 use jn_transfer::bits::{either, is_set};
 use jn_transfer::find_keys;
 use std::alloc::{AllocError, Global};
@@ -21,7 +21,7 @@ use std::alloc::{AllocError, Global};
 pub fn unassigned_at_end(
     alloc: Global,
     program: &Program,
-    _sig: &[Qual],
+    _sig: &Sig,
     body: BodyNo,
     table: &FlowTable,
 ) -> Result<Vec<FieldNo>, OutOfMemory>

@@ -11,6 +11,7 @@ use jn_base::{OutOfMemory, Seq, SlotNo};
 use jn_env::Env;
 use jn_points::{Body, Method, Program};
 use jn_quals::Qual;
+use jn_sigs::Sig;
 use jn_transfer::Analysis;
 use jn_transfer::lookup::slot_qual;
 use std::alloc::{AllocError, Global};
@@ -52,7 +53,7 @@ fn no_bits(alloc: Global, count: usize) -> Result<Vec<bool>, AllocError>
 fn given_by(
     alloc: Global,
     program: &Program,
-    sig: &[Qual],
+    sig: &Sig,
     body: &Body,
 ) -> Result<Vec<Qual>, AllocError>
     ensures { IfOk result (λ quals. quals.items ≡ given_quals sig.now (method_at program.now body.now.method.0)) }
@@ -64,7 +65,7 @@ fn given_by(
 }
 
 /// What a body of the method is given.
-fn given_quals(alloc: Global, sig: &[Qual], method: &Method) -> Result<Vec<Qual>, AllocError>
+fn given_quals(alloc: Global, sig: &Sig, method: &Method) -> Result<Vec<Qual>, AllocError>
     ensures { IfOk result (λ quals. quals.items ≡ given_quals sig.now (Some method.now)) }
 {
     let mut quals = Vec::new(alloc);
@@ -75,7 +76,7 @@ fn given_quals(alloc: Global, sig: &[Qual], method: &Method) -> Result<Vec<Qual>
     Ok(quals)
 }
 
-fn this_qual(sig: &[Qual], method: &Method) -> Qual
+fn this_qual(sig: &Sig, method: &Method) -> Qual
     ensures { result ≡ this_qual sig.now (Some method.now) }
 {
     if method.ctor {
@@ -87,7 +88,7 @@ fn this_qual(sig: &[Qual], method: &Method) -> Qual
 
 fn push_slots(
     quals: &mut Vec<Qual>,
-    sig: &[Qual],
+    sig: &Sig,
     slots: &[Option<SlotNo>],
 ) -> Result<(), AllocError>
     ensures { OnOk result (quals.new.items ≡ quals.old.items ++ slot_quals sig.now slots.now) }

@@ -11,7 +11,7 @@ use crate::table::FlowTable;
 use jn_base::{BodyNo, OutOfMemory};
 use jn_env::Env;
 use jn_points::Program;
-use jn_quals::Qual;
+use jn_sigs::Sig;
 use jn_transfer::{Analysis, find_keys};
 use std::alloc::{AllocError, Global};
 
@@ -22,7 +22,7 @@ use std::alloc::{AllocError, Global};
 pub fn flow(
     alloc: Global,
     program: &Program,
-    sig: &[Qual],
+    sig: &Sig,
     body: BodyNo,
 ) -> Result<FlowTable, OutOfMemory>
     requires inside { body.0 < length program.now.bodies }

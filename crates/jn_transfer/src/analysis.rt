@@ -19,6 +19,7 @@ use jn_base::{BodyNo, FieldNo, MethodNo, OutOfMemory, RegNo};
 use jn_env::Env;
 use jn_points::{Operand, Origin, PointKind, Program};
 use jn_quals::Qual;
+use jn_sigs::Sig;
 use std::alloc::{AllocError, Global};
 
 /// The number of a target, and the environment there.
@@ -28,7 +29,7 @@ pub type Edge = (u32, Env);
 #[derive(Clone, Copy)]
 pub struct Analysis<'a> {
     pub program: &'a Program,
-    pub sig: &'a [Qual],
+    pub sig: &'a Sig,
     pub body: BodyNo,
     pub keys: &'a Keys,
 }

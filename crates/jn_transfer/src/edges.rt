@@ -11,7 +11,7 @@ use crate::keys::find_keys;
 use jn_base::{BodyNo, OutOfMemory, PointNo};
 use jn_env::Env;
 use jn_points::Program;
-use jn_quals::Qual;
+use jn_sigs::Sig;
 use std::alloc::{AllocError, Global};
 
 /// For each edge of a point its target and the environment after it.
@@ -21,7 +21,7 @@ use std::alloc::{AllocError, Global};
 pub fn transfer(
     alloc: Global,
     program: &Program,
-    sig: &[Qual],
+    sig: &Sig,
     body: BodyNo,
     point: PointNo,
     env: &Env,

@@ -12,6 +12,7 @@ use jn_first_form::program_law::programs_stay_inside;
 use jn_flow::flow;
 use jn_points::Program;
 use jn_quals::Qual;
+use jn_sigs::Sig;
 use std::alloc::{AllocError, Global};
 
 /// The qualifiers with which the slots start.
@@ -26,7 +27,7 @@ fn slot_starts(alloc: Global, program: &Program) -> Result<Vec<Qual>, AllocError
 }
 
 /// The rows of the body of main.
-fn main_rows(alloc: Global, program: &Program, sig: &[Qual]) -> Result<Vec<Row>, OutOfMemory>
+fn main_rows(alloc: Global, program: &Program, sig: &Sig) -> Result<Vec<Row>, OutOfMemory>
     requires { IsFormProgram program.now }
     ensures { IfOk result (λ rows. AreMainRows program.now sig.now rows.items) }
 {
