@@ -86,11 +86,7 @@ fn this_qual(sig: &Sig, method: &Method) -> Qual
     }
 }
 
-fn push_slots(
-    quals: &mut Vec<Qual>,
-    sig: &Sig,
-    slots: &[Option<SlotNo>],
-) -> Result<(), AllocError>
+fn push_slots(quals: &mut Vec<Qual>, sig: &Sig, slots: &[Option<SlotNo>]) -> Result<(), AllocError>
     ensures { OnOk result (quals.new.items ≡ quals.old.items ++ slot_quals sig.now slots.now) }
 {
     for slot in slots {
