@@ -18,11 +18,12 @@ use Rattle.jn_env.specs.Size.{SameSize}
 use Rattle.jn_env.specs.Weight.{weight, quals_weight, bits_weight}
 use Rattle.jn_env.proofs.Order.{env_refl, env_join_left, env_join_right, length-join_quals, length-meet_bits, slot_refl, slot_trans, slot_join_least, table_refl, table_trans, table_at, table_set_within, table_set_above}
 use Rattle.jn_env.proofs.Weight.{same_env, table_grows, quals_bounded, bits_bounded}
-use Rattle.jn_transfer.specs.Keys.{no_bits, fact_keys, own_keys}
+use Rattle.jn_env.specs.Keys.{no_bits, fact_keys, own_keys}
 use Rattle.jn_quals.specs.Order.{no_qual}
 use Rattle.jn_transfer.specs.Transfer.{transfer, entry_env, pad_quals, given_quals, IsAmong}
 use Rattle.jn_transfer.specs.Least.{flow_in, flow_all, edges_from, all_edges, round, rounds, start_table, IsLeastTable, Respects}
-use Rattle.jn_transfer.specs.Sized.{EnvSized, Sized, Below, StaysInside}
+use Rattle.jn_env.specs.Sized.{EnvSized, Sized}
+use Rattle.jn_transfer.specs.Sized.{Below, StaysInside}
 use Rattle.jn_transfer.specs.Covered.{Covered}
 use Rattle.jn_transfer.proofs.Monotone.{among_left, among_right, among_cases, edge_above}
 use Rattle.jn_transfer.proofs.Sized.{edge_fine, entry_sized}

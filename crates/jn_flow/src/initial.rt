@@ -4,8 +4,8 @@ ghost use Rattle.jn_quals.specs.Order.{no_qual};
 ghost use Rattle.jn_points.specs.Lookup.{method_at};
 ghost use Rattle.jn_sigs.specs.Signature.{slot_quals};
 ghost use Rattle.jn_transfer.specs.Transfer.{pad_quals, given_quals, this_qual, entry_env};
-ghost use Rattle.jn_transfer.specs.Code.{AreKeys};
-ghost use Rattle.jn_transfer.specs.Sized.{EnvSized};
+ghost use Rattle.jn_env.specs.Code.{AreKeys};
+ghost use Rattle.jn_env.specs.Sized.{EnvSized};
 
 use jn_base::{OutOfMemory, Seq, SlotNo};
 use jn_env::Env;

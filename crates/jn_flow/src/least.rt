@@ -1,7 +1,7 @@
 // The least table of a body.
 ghost use Rattle.std.specs.Prelude.{◌≡◌, ◌<◌, ◌^◌, IfOk, length, replicate};
 ghost use Rattle.jn_points.specs.Lookup.{body_at, points_of};
-ghost use Rattle.jn_transfer.specs.Code.{AreKeys};
+ghost use Rattle.jn_env.specs.Code.{AreKeys};
 ghost use Rattle.jn_transfer.specs.Least.{start_table, IsLeastTable};
 ghost use Rattle.jn_transfer.specs.Sized.{StaysInside};
 

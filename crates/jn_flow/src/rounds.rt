@@ -2,9 +2,10 @@
 ghost use Rattle.std.specs.Prelude.{◌≡◌, ◌<◌, ◌+◌, ◌^◌, ◌++◌, IfOk, OnOk, Some, length, true, false};
 ghost use Rattle.jn_points.specs.Lookup.{body_at, points_of};
 ghost use Rattle.jn_env.specs.Order.{env_in as slot_at, join_slot};
-ghost use Rattle.jn_transfer.specs.Code.{AreKeys};
+ghost use Rattle.jn_env.specs.Code.{AreKeys};
 ghost use Rattle.jn_transfer.specs.Least.{edges_from, all_edges, flow_in, flow_all, round};
-ghost use Rattle.jn_transfer.specs.Sized.{Sized, EnvSized, StaysInside};
+ghost use Rattle.jn_env.specs.Sized.{Sized, EnvSized};
+ghost use Rattle.jn_transfer.specs.Sized.{StaysInside};
 ghost use Rattle.jn_flow.specs.Fits.{JoinFits, AllFit, SlotSized};
 ghost use Rattle.jn_flow.specs.Size.{IsTableOf};
 ghost use Rattle.jn_flow.specs.Stepped.{Stepped};
@@ -12,7 +13,7 @@ ghost use Rattle.jn_flow.specs.Stepped.{Stepped};
 use jn_base::OutOfMemory;
 use jn_env::Env;
 use jn_points::Point;
-use jn_transfer::bits::either;
+use jn_env::bits::either;
 use jn_transfer::{Analysis, Edge};
 use std::alloc::{AllocError, Global};
 

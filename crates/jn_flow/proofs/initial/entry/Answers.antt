@@ -2,9 +2,9 @@ use Rattle.std.proofs.Common.{◌≡◌, length, replicate, false, Some, refl, s
 use Rattle.std.specs.Prelude.{slice_get, slice_index_or}
 use Rattle.std.proofs.lemmas.Option.{slice_get_read}
 use Rattle.jn_points.specs.Lookup.{method_at}
-use Rattle.jn_transfer.specs.Keys.{fact_keys, own_keys}
+use Rattle.jn_env.specs.Keys.{fact_keys, own_keys}
 use Rattle.jn_transfer.specs.Transfer.{pad_quals, given_quals}
-use Rattle.jn_transfer.specs.Sized.{EnvSized}
+use Rattle.jn_env.specs.Sized.{EnvSized}
 use Rattle.jn_transfer.proofs.Sized.{entry_sized}
 use Rattle.jn_flow.proofs.Climbing.{entry_is, no_bits_replicate}
 use Rattle.jn_flow.proofs.initial.entry.Goals as goal

@@ -3,7 +3,7 @@ use Rattle.jn_env.specs.Order.{env_in, join_slot, TableWithin}
 use Rattle.jn_env.proofs.Order.{table_refl}
 use Rattle.jn_transfer.specs.Transfer.{IsAmong}
 use Rattle.jn_transfer.specs.Least.{flow_in}
-use Rattle.jn_transfer.specs.Sized.{Sized}
+use Rattle.jn_env.specs.Sized.{Sized}
 use Rattle.jn_flow.specs.Fits.{EdgeFits}
 use Rattle.jn_flow.proofs.Climbing.{Progress, among_here, among_later, joins_fit, flow_step, flow_in_sized, flow_in_above, progress_step, unlike, flow_ended}
 use Rattle.jn_flow.proofs.rounds.flow_all.Goals as goal

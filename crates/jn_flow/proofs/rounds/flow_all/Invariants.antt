@@ -1,6 +1,6 @@
 use Rattle.std.proofs.Common.{◌≡◌, length, drop}
 use Rattle.jn_transfer.specs.Least.{flow_all}
-use Rattle.jn_transfer.specs.Sized.{Sized}
+use Rattle.jn_env.specs.Sized.{Sized}
 use Rattle.jn_flow.specs.Fits.{AllFit}
 use Rattle.jn_flow.proofs.Climbing.{Progress}
 use Rattle.jn_flow.proofs.rounds.flow_all.Given as goal
