@@ -5,7 +5,8 @@ use jn_points::{
     BaseType, Body, Elem, Literal, Method, Operand, Point, PointKind, Program, StrOperation,
 };
 use jn_quals::Qual;
-use jn_transfer::{Analysis, find_keys, transfer};
+use jn_env::find_keys;
+use jn_transfer::{Analysis, transfer};
 use std::alloc::{AllocError, Global};
 use std::test::Fail;
 

@@ -3,7 +3,7 @@ ghost use Rattle.std.specs.Prelude.{◌≡◌, ◌≤◌, ◌⊎◌, ◌++◌, �
 ghost use Rattle.jn_points.specs.Lookup.{has_slot};
 ghost use Rattle.jn_transfer.specs.Transfer.{ref_quals, new_qual};
 
-use crate::bits::{either, is_set};
+use jn_env::bits::{either, is_set};
 use jn_base::SlotNo;
 use jn_env::Env;
 use jn_points::Operand;
