@@ -86,7 +86,7 @@ module _ {A : Type 0} where
   over_step (z ∷ xs) (y ∷ ys) zero x lt e = ap (λ a. a ∷ ys) e
   over_step (z ∷ xs) (y ∷ ys) (suc i) x lt e = ap (λ zs. z ∷ zs) (over_step xs ys i x (omega (arith, lt)) e)
 
-  over_is : (xs ys : List A) → over xs ys ≡ take (length ys) xs ++ drop (length xs) ys
+  pub over_is : (xs ys : List A) → over xs ys ≡ take (length ys) xs ++ drop (length xs) ys
   over_is [] [] = refl
   over_is [] (y ∷ ys) = refl
   over_is (x ∷ xs) [] = refl

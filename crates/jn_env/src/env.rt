@@ -123,11 +123,7 @@ impl Env {
         ensures assigned { self.new.assigned ≡ self.old.assigned }
     {
         self.set_qual(reg, qual);
-        clear_bits(
-            keys.facts.as_slice(),
-            &mut self.facts,
-            Which::OfReg(reg),
-        );
+        clear_bits(keys.facts.as_slice(), &mut self.facts, Which::OfReg(reg));
     }
 
     /// Whether the field of the object in the register is known not to be null; not where this is
@@ -135,12 +131,7 @@ impl Env {
     pub fn has_fact(&self, keys: &Keys, reg: RegNo, field: FieldNo) -> bool
         ensures { result ≡ is_on (is_key reg.0 field.0) keys.now.facts self.now.facts }
     {
-        has_bit(
-            keys.facts.as_slice(),
-            self.facts.as_slice(),
-            reg,
-            field,
-        )
+        has_bit(keys.facts.as_slice(), self.facts.as_slice(), reg, field)
     }
 
     /// Lets the field of the object in the register be known not to be null; nothing changes where
@@ -176,11 +167,7 @@ impl Env {
     pub fn has_assigned(&self, keys: &Keys, field: FieldNo) -> bool
         ensures { result ≡ is_on (λ k. eqb k field.0) keys.now.own self.now.assigned }
     {
-        is_assigned(
-            keys.own.as_slice(),
-            self.assigned.as_slice(),
-            field.0,
-        )
+        is_assigned(keys.own.as_slice(), self.assigned.as_slice(), field.0)
     }
 
     /// Assigns one of the constructor's own fields; with None all of them. Nothing changes where

@@ -1,5 +1,5 @@
 -- Edges whose environments and targets are of a body.
-use Rattle.std.specs.Prelude.{ℕ, ◌<◌, length, List, Option, Some, None}
+use Rattle.std.specs.Prelude.{ℕ, ◌<◌, List, Option, Some, None}
 use Rattle.jn_points.specs.declared.program.Program.{Program}
 use Rattle.jn_env.specs.declared.env.Env.{Env}
 use Rattle.jn_env.specs.Size.{SameSize}

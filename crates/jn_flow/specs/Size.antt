@@ -1,8 +1,7 @@
 -- Tables of a body, and what bounds their rounds.
-use Rattle.std.specs.Prelude.{ℕ, ◌+◌, ◌*◌, ◌≡◌, ◌<◌, length, Option}
+use Rattle.std.specs.Prelude.{ℕ, ◌+◌, ◌*◌, ◌≡◌, length}
 use Rattle.jn_points.specs.declared.program.Program.{Program}
 use Rattle.jn_points.specs.Lookup.{points_of, regs_of, body_at}
-use Rattle.jn_env.specs.declared.env.Env.{Env}
 use Rattle.jn_env.specs.Order.{Table}
 use Rattle.jn_env.specs.Keys.{fact_keys, own_keys}
 use Rattle.jn_env.specs.Sized.{Sized}

@@ -121,11 +121,7 @@ fn all_edges(
 }
 
 /// One whole round. Gives whether it changed the table.
-pub fn round(
-    alloc: Global,
-    analysis: &Analysis,
-    table: &mut FlowTable,
-) -> Result<bool, OutOfMemory>
+pub fn round(alloc: Global, analysis: &Analysis, table: &mut FlowTable) -> Result<bool, OutOfMemory>
     requires inside { analysis.now.body.0 < length analysis.now.program.now.bodies }
     requires stays { StaysInside analysis.now.program.now analysis.now.body.0 }
     requires keys { AreKeys analysis.now.program.now analysis.now.body.0 analysis.now.keys.now }
