@@ -1,7 +1,7 @@
 // What a body sends into inferred slots, point by point.
 ghost use Rattle.std.specs.Prelude.{◌≡◌, ◌<◌, ◌++◌, ◌^◌, IfOk, OnOk, length};
 ghost use Rattle.jn_env.specs.Order.{env_in};
-ghost use Rattle.jn_transfer.specs.Keys.{own_keys};
+ghost use Rattle.jn_env.specs.Keys.{own_keys};
 ghost use Rattle.jn_contrib.specs.Sends.{slot_numbers, point_sends, sends_from, body_sends};
 
 use crate::sends::{Send, send_kind};

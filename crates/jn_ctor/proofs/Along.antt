@@ -6,7 +6,7 @@ use Rattle.std.proofs.lemmas.List.Elements.{filter-append}
 use Rattle.jn_base.specs.declared.number.FieldNo.{FieldNo}
 use Rattle.jn_points.specs.declared.point.Point.{Point}
 use Rattle.jn_env.specs.Order.{Table, env_in}
-use Rattle.jn_transfer.specs.Keys.{is_on}
+use Rattle.jn_env.specs.Keys.{is_on}
 use Rattle.jn_ctor.specs.Unassigned.{field_numbers, lacks, lacks_from}
 
 or_assoc : (a b c : Bool) → ((a || b) || c) ≡ (a || (b || c))

@@ -1,7 +1,7 @@
 // The fields that a constructor leaves unassigned at some of its ends.
 ghost use Rattle.std.specs.Prelude.{◌≡◌, ◌<◌, ◌++◌, ◌∷◌, ◌^◌, [], IfOk, OnOk, MatchOption, cond, eqb, filter, length, false, slice_index_or, Some, None};
 ghost use Rattle.jn_env.specs.Order.{env_in};
-ghost use Rattle.jn_transfer.specs.Keys.{is_on};
+ghost use Rattle.jn_env.specs.Keys.{is_on};
 ghost use Rattle.jn_ctor.specs.Unassigned.{field_numbers, lacks, lacks_from, unassigned_at_end};
 
 use jn_base::{BodyNo, FieldNo, OutOfMemory};
@@ -9,7 +9,7 @@ use jn_env::Env;
 use jn_flow::FlowTable;
 use jn_points::{Point, PointKind, Program};
 use jn_sigs::Sig;
-use jn_transfer::bits::{either, is_set};
+use jn_env::bits::{either, is_set};
 use jn_transfer::find_keys;
 use std::alloc::{AllocError, Global};
 

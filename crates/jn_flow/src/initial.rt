@@ -1,13 +1,12 @@
 // The environment at a body's entry.
-ghost use Rattle.std.specs.Prelude.{◌≡◌, ◌<◌, ◌++◌, IfOk, OnOk, length, replicate, false, slice_index_or};
-ghost use Rattle.jn_quals.specs.Order.{no_qual};
+ghost use Rattle.std.specs.Prelude.{◌≡◌, ◌<◌, ◌++◌, IfOk, OnOk, Some, length};
 ghost use Rattle.jn_points.specs.Lookup.{method_at};
 ghost use Rattle.jn_sigs.specs.Signature.{slot_quals};
-ghost use Rattle.jn_transfer.specs.Transfer.{pad_quals, given_quals, this_qual, entry_env};
-ghost use Rattle.jn_transfer.specs.Code.{AreKeys};
-ghost use Rattle.jn_transfer.specs.Sized.{EnvSized};
+ghost use Rattle.jn_transfer.specs.Transfer.{given_quals, this_qual, entry_env};
+ghost use Rattle.jn_env.specs.Code.{AreKeys};
+ghost use Rattle.jn_env.specs.Sized.{EnvSized};
 
-use jn_base::{OutOfMemory, Seq, SlotNo};
+use jn_base::{OutOfMemory, SlotNo};
 use jn_env::Env;
 use jn_points::{Body, Method, Program};
 use jn_quals::Qual;
@@ -29,24 +28,9 @@ pub fn entry(alloc: Global, analysis: &Analysis) -> Result<Env, OutOfMemory>
 {
     let info = &analysis.program.bodies.as_slice()[analysis.body.0 as usize];
     let given = given_by(alloc, analysis.program, analysis.sig, info)?;
-    let quals = pad_quals(alloc, &given, info.regs.len())?;
-    let facts = no_bits(alloc, analysis.keys.facts.len())?;
-    let assigned = no_bits(alloc, analysis.keys.own.len())?;
-    Ok(Env {
-        quals: Seq::of_vec(quals),
-        facts: Seq::of_vec(facts),
-        assigned: Seq::of_vec(assigned),
-    })
-}
-
-fn no_bits(alloc: Global, count: usize) -> Result<Vec<bool>, AllocError>
-    ensures { IfOk result (λ bits. bits.items ≡ replicate count false) }
-{
-    let mut bits = Vec::new(alloc);
-    for _i in 0..count {
-        bits.push(false)?;
-    }
-    Ok(bits)
+    let mut env = Env::empty(alloc, analysis.program, analysis.body, analysis.keys)?;
+    env.give(&given);
+    Ok(env)
 }
 
 /// What the body is given.
@@ -93,24 +77,4 @@ fn push_slots(quals: &mut Vec<Qual>, sig: &Sig, slots: &[Option<SlotNo>]) -> Res
         quals.push(slot_qual(sig, *slot))?;
     }
     Ok(())
-}
-
-/// The qualifiers with empty ones behind them, so many in all.
-fn pad_quals(alloc: Global, given: &[Qual], count: usize) -> Result<Vec<Qual>, AllocError>
-    ensures { IfOk result (λ quals. quals.items ≡ pad_quals given.now count) }
-{
-    let mut quals = Vec::new(alloc);
-    for i in 0..count {
-        quals.push(qual_or_none(given, i))?;
-    }
-    Ok(quals)
-}
-
-fn qual_or_none(quals: &[Qual], i: usize) -> Qual
-    ensures { result ≡ slice_index_or quals.now i no_qual }
-{
-    match quals.get(i) {
-        None => Qual::none(),
-        Some(qual) => *qual,
-    }
 }

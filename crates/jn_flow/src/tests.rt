@@ -3,12 +3,13 @@ use crate::{entry, flow, stays_inside};
 use jn_base::{
     BodyNo, ClassNo, FileNo, MethodNo, NameNo, OutOfMemory, PointNo, RegNo, Seq, SlotNo, Span,
 };
+use jn_env::find_keys;
 use jn_points::{
     BaseType, Body, Elem, Literal, Method, Operand, Point, PointKind, Program, StrOperation,
 };
 use jn_quals::Qual;
 use jn_sigs::Sig;
-use jn_transfer::{Analysis, find_keys, transfer};
+use jn_transfer::{Analysis, transfer};
 use std::alloc::{AllocError, Global};
 use std::test::Fail;
 

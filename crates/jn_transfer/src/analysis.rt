@@ -5,18 +5,17 @@ ghost use Rattle.jn_env.specs.Order.{qual_at};
 ghost use Rattle.jn_points.specs.Lookup.{slots_of, method_at, ref_field};
 ghost use Rattle.jn_sigs.specs.Signature.{result_of};
 ghost use Rattle.jn_transfer.specs.Transfer.{put, drop_all, put_to, learn, refine, side, written, write_facts, write_assigned, ctor_called, elem_read, read_part, read_qual, transfer, ref_quals, new_qual};
-ghost use Rattle.jn_transfer.specs.Sized.{EnvSized};
-ghost use Rattle.jn_transfer.specs.Code.{AreKeys};
+ghost use Rattle.jn_env.specs.Sized.{EnvSized};
+ghost use Rattle.jn_env.specs.Code.{AreKeys};
 
-use crate::bits::{Which, assign_bits, clear_bits, has_bit, set_bits};
 use crate::creation::{new_qual, ref_quals};
-use crate::keys::{Keys, is_ref_field, owner};
 use crate::lookup::{
     class_of, elem_qual, field_qual, is_ctor, is_flat_field, literal_qual, locals, reg_base,
     result_qual,
 };
 use jn_base::{BodyNo, FieldNo, MethodNo, OutOfMemory, RegNo};
-use jn_env::Env;
+use jn_env::keys::{is_ref_field, owner};
+use jn_env::{Env, Keys};
 use jn_points::{Operand, Origin, PointKind, Program};
 use jn_quals::Qual;
 use jn_sigs::Sig;
@@ -41,12 +40,7 @@ impl<'a> Analysis<'a> {
         requires sized { EnvSized self.now.program.now self.now.body.0 env.old }
         ensures { env.new ≡ put self.now.program.now self.now.body.0 env.old reg.0 qual }
     {
-        env.set_qual(reg, qual);
-        clear_bits(
-            self.keys.facts.as_slice(),
-            &mut env.facts,
-            Which::OfReg(reg),
-        );
+        env.set(self.keys, reg, qual);
     }
 
     /// All facts go.
@@ -55,7 +49,7 @@ impl<'a> Analysis<'a> {
         requires sized { EnvSized self.now.program.now self.now.body.0 env.old }
         ensures { env.new ≡ drop_all self.now.program.now self.now.body.0 env.old }
     {
-        clear_bits(self.keys.facts.as_slice(), &mut env.facts, Which::Each);
+        env.drop_facts(self.keys, None);
     }
 
     /// A test's origin is a fact.
@@ -66,11 +60,7 @@ impl<'a> Analysis<'a> {
     {
         match origin {
             None => {}
-            Some(origin) => set_bits(
-                self.keys.facts.as_slice(),
-                &mut env.facts,
-                Which::Exactly(origin.reg, origin.field),
-            ),
+            Some(origin) => env.add_fact(self.keys, origin.reg, origin.field),
         }
     }
 
@@ -102,12 +92,7 @@ impl<'a> Analysis<'a> {
         } else {
             Qual::none()
         };
-        if has_bit(
-            self.keys.facts.as_slice(),
-            env.facts.as_slice(),
-            object,
-            field,
-        ) {
+        if env.has_fact(self.keys, object, field) {
             read.without_null()
         } else {
             read
@@ -133,10 +118,9 @@ impl<'a> Analysis<'a> {
         ensures quals { env.new.quals ≡ env.old.quals }
         ensures assigned { env.new.assigned ≡ env.old.assigned }
     {
-        let facts = self.keys.facts.as_slice();
-        clear_bits(facts, &mut env.facts, Which::OfField(field));
+        env.drop_facts(self.keys, Some(field));
         if object.0 < locals(self.program, self.body) && !env.qual(value).has_null() {
-            set_bits(facts, &mut env.facts, Which::Exactly(object, field));
+            env.add_fact(self.keys, object, field);
         }
     }
 
@@ -151,7 +135,7 @@ impl<'a> Analysis<'a> {
             && object.0 == 0
             && owner(self.program, field.0) == class_of(self.program, self.body)
         {
-            assign_bits(self.keys.own.as_slice(), &mut env.assigned, Some(field));
+            env.assign(self.keys, Some(field));
         }
     }
 
@@ -163,7 +147,7 @@ impl<'a> Analysis<'a> {
     {
         self.drop_all(env);
         if own {
-            assign_bits(self.keys.own.as_slice(), &mut env.assigned, None);
+            env.assign(self.keys, None);
         }
     }
 

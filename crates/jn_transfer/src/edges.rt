@@ -3,13 +3,12 @@ ghost use Rattle.std.specs.Prelude.{◌≡◌, ◌+◌, ◌<◌, ◌^◌, IfOk, 
 ghost use Rattle.jn_points.specs.declared.point.Point.{Point};
 ghost use Rattle.jn_points.specs.Lookup.{body_at, points_of, point_at};
 ghost use Rattle.jn_transfer.specs.Transfer.{transfer};
-ghost use Rattle.jn_transfer.specs.Sized.{EnvSized};
+ghost use Rattle.jn_env.specs.Sized.{EnvSized};
 ghost use Rattle.jn_transfer.specs.Covered.{numbered};
 
 use crate::analysis::{Analysis, Edge};
-use crate::keys::find_keys;
 use jn_base::{BodyNo, OutOfMemory, PointNo};
-use jn_env::Env;
+use jn_env::{Env, find_keys};
 use jn_points::Program;
 use jn_sigs::Sig;
 use std::alloc::{AllocError, Global};
