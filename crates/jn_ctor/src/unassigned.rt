@@ -6,10 +6,10 @@ ghost use Rattle.jn_ctor.specs.Unassigned.{field_numbers, lacks, lacks_from, una
 
 use jn_base::{BodyNo, FieldNo, OutOfMemory};
 use jn_env::Env;
+use jn_env::bits::{either, is_set};
 use jn_flow::FlowTable;
 use jn_points::{Point, PointKind, Program};
 use jn_sigs::Sig;
-use jn_env::bits::{either, is_set};
 use jn_transfer::find_keys;
 use std::alloc::{AllocError, Global};
 
