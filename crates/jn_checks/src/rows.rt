@@ -6,11 +6,10 @@ ghost use Rattle.jn_transfer.specs.Rules.{body_rows, rows_from};
 use crate::ctor::push_ctor;
 use crate::kinds::push_rows;
 use jn_base::{BodyNo, OutOfMemory, Row};
-use jn_env::Env;
-use jn_flow::FlowTable;
+use jn_env::{Env, FlowTable, find_keys};
 use jn_points::{Point, Program};
 use jn_sigs::Sig;
-use jn_transfer::{Analysis, find_keys};
+use jn_transfer::Analysis;
 use std::alloc::{AllocError, Global};
 
 /// The rows of the broken rules of a body under a table: point by point, then the constructor's.

@@ -3,8 +3,7 @@ use crate::checks;
 use jn_base::{
     BodyNo, ClassNo, Code, FieldNo, FileNo, MethodNo, NameNo, OutOfMemory, RegNo, Seq, SlotNo, Span,
 };
-use jn_env::Env;
-use jn_flow::FlowTable;
+use jn_env::{Env, FlowTable};
 use jn_points::{
     BaseType, Body, Elem, Field, Method, Operand, Point, PointKind, Program, StrOperation,
 };

@@ -7,12 +7,10 @@ ghost use Rattle.jn_contrib.specs.Sends.{slot_numbers, point_sends, sends_from, 
 use crate::sends::{Send, send_kind};
 use jn_base::{BodyNo, OutOfMemory, SlotNo};
 use jn_ctor::env_at;
-use jn_env::Env;
-use jn_flow::FlowTable;
+use jn_env::{Env, FlowTable, find_keys};
 use jn_points::{Point, Program};
 use jn_quals::Qual;
 use jn_sigs::Sig;
-use jn_transfer::find_keys;
 use std::alloc::{AllocError, Global};
 
 /// What the body sends into inferred slots under the table: point by point each slot with the

@@ -6,8 +6,7 @@ ghost use Rattle.jn_transfer.specs.Contributions.{is_inferred, field_slot_of, re
 ghost use Rattle.jn_env.specs.Keys.{own_keys};
 
 use jn_base::{BodyNo, MethodNo, SlotNo};
-use jn_ctor::is_assigned;
-use jn_env::Env;
+use jn_env::{Env, is_assigned};
 use jn_points::{Operand, PointKind, Program};
 use jn_quals::Qual;
 use std::alloc::AllocError;
