@@ -22,7 +22,7 @@ use Rattle.jn_points.specs.Members.{some_of, below, is_pair}
 use Rattle.jn_sigs.specs.Signature.{slot_quals, result_of, receiver_of, field_qual}
 use Rattle.jn_env.specs.declared.env.Env.{Env}
 use Rattle.jn_env.specs.Order.{Table, env_in, qual_at}
-use Rattle.jn_transfer.specs.Keys.{is_on, own_keys}
+use Rattle.jn_env.specs.Keys.{is_on, own_keys}
 use Rattle.jn_transfer.specs.Transfer.{elem_qual}
 use Rattle.jn_transfer.specs.Least.{IsLeastTable}
 
