@@ -16,6 +16,7 @@ use Rattle.jn_points.specs.declared.program.Method.{Method}
 use Rattle.jn_points.specs.declared.program.Program.{Program}
 use Rattle.jn_points.specs.Lookup.{elem_base, is_array, is_ref_base, class_of, body_of, ctor_of, static_of, params_of, result_base_of, class_info, point_at, reg_base, field_base, method_at, method_in}
 use Rattle.jn_points.specs.Members.{some_of, sub, fits, is_pair}
+use Rattle.jn_points.specs.BaseRows.{is_void}
 
 -- subtypes are an order, with nothing but Object above Object and nothing but String within String (JLS 8, 4.10.2)
 pub record Ordered (P : Program) : Type 0 where
@@ -45,13 +46,15 @@ module _ (P : Program) where
   ThisTyped b m None = Unit {0}
   ThisTyped b m (Some r) = fits P (reg_base P b r.reg.0) (Ref (record { 0 = class_of (method_at P m) })) ≡ true
 
+  -- a point that takes a method's result names one that has a result
   abbrev pub ResultTyped : ℕ → ℕ → Option RegNo → Type 0
   ResultTyped b m None = Unit {0}
-  ResultTyped b m (Some dst) = fits P (result_base_of (method_at P m)) (reg_base P b dst.0) ≡ true
+  ResultTyped b m (Some dst) = (is_void (result_base_of (method_at P m)) ≡ false) × (fits P (result_base_of (method_at P m)) (reg_base P b dst.0) ≡ true)
 
+  -- what a method with result gives is within it; nobody takes what a void one gives
   abbrev pub ReturnTyped : ℕ → Option Operand → Type 0
   ReturnTyped b None = Unit {0}
-  ReturnTyped b (Some v) = fits P (reg_base P b v.reg.0) (result_base_of (method_in P b)) ≡ true
+  ReturnTyped b (Some v) = is_void (result_base_of (method_in P b)) ≡ false → fits P (reg_base P b v.reg.0) (result_base_of (method_in P b)) ≡ true
 
   -- the registers of a point of body b have the base types that its row wants
   abbrev pub PointTyped : ℕ → PointKind → Type 0

@@ -2,6 +2,7 @@
 use Rattle.std.proofs.Common.{◌≡◌, ℕ, zero, suc, Bool, true, false, ◌&&◌, ◌||◌, length, refl, ap, ◌∙◌, subst, eqb}
 use Rattle.std.proofs.lemmas.Bool.{eqb-true, eq-eqb}
 use Rattle.jn_points.specs.BaseTyping.{Ordered}
+use Rattle.jn_points.specs.BaseRows.{is_void}
 use Rattle.jn_points.specs.declared.point.BaseType.{BaseType}
 use Rattle.jn_points.specs.declared.point.BaseType.TheVariants.{Int, Bool as BoolBase, Void, Null as NullBase, Ref, Array}
 use Rattle.jn_points.specs.declared.point.Elem.{Elem}
@@ -59,6 +60,16 @@ module _ (P : Program) where
   fits_self NullBase = refl
   fits_self (Ref c) = sub_self c.0
   fits_self (Array e m) = both_true (same_flag m m) (elem_within (sub P) e e) (equal_flags m m refl) (elem_self e)
+
+  -- nothing but void is within void, so what is within a type of values is one
+  pub valued_within : (a b : BaseType) → fits P a b ≡ true → is_void b ≡ false → is_void a ≡ false
+  valued_within Int b h v = refl
+  valued_within BoolBase b h v = refl
+  valued_within NullBase b h v = refl
+  valued_within (Ref c) b h v = refl
+  valued_within (Array e m) b h v = refl
+  valued_within Void Void h v = cc
+  valued_within Void b h v = cc
 
   module _ (T : Ordered P) where
     elem_trans : (a b c : Elem) → elem_within (sub P) a b ≡ true → elem_within (sub P) b c ≡ true → elem_within (sub P) a c ≡ true

@@ -1,6 +1,7 @@
 -- Base typing is kept by each step, and gives what soundness asks.
 use Rattle.std.proofs.Common.{◌≡◌, ℕ, zero, suc, Bool, true, false, ◌⊎◌, inl, inr, List, [], ◌∷◌, ◌++◌, length, replicate, Option, Some, None, refl, sym, ap, ◌∙◌, subst, cond, ◌+◌, ltb}
 use Rattle.std.specs.Prelude.{slice_get, slice_set, eqb, ltb, ℤ}
+use Rattle.jn_points.specs.BaseRows.{is_void}
 use Rattle.jn_points.specs.BaseTyping.{AllTyped, ArgsTyped, ConstTyped, PointTyped, ResultTyped, ReturnTyped, StartsWith, given_bases, Ordered}
 use Rattle.jn_points.specs.Shaped.{IsVirtual}
 use Rattle.jn_base.specs.declared.number.RegNo.{RegNo}
@@ -27,7 +28,7 @@ use Rattle.jn_soundness.specs.World.{World}
 use Rattle.jn_points.specs.Lookup.{body_at, body_of, class_of, field_base, field_base_of, flat_of, is_flat, is_ref_base, method_at, method_in, params_of, point_at, reg_base, regs_of, result_base_of, slots_of, static_of, is_array, elem_base}
 use Rattle.jn_points.specs.Members.{fits, has_field}
 use Rattle.jn_soundness.specs.Checked.{ref_elems}
-use Rattle.jn_soundness.proofs.Fits.{fits_self, fits_trans, fits_refs, fits_flat, fits_elems, fits_items}
+use Rattle.jn_soundness.proofs.Fits.{fits_self, fits_trans, valued_within, fits_refs, fits_flat, fits_elems, fits_items}
 use Rattle.jn_soundness.proofs.Basics.{true_false, eqb_cases, value_other, value_same}
 use Rattle.jn_soundness.proofs.Tops.{GotOk, object_is}
 use Rattle.jn_soundness.proofs.Writes.{set_same, set_there, set_other, cond_is}
@@ -506,7 +507,9 @@ module _ (W : World) (T : Ordered W.program) (P : ProgramTyped W) where
 
     gives_by : (k m b : ℕ) (dst : Option RegNo) → body_of (method_at W.program k) ≡ Some b → fits W.program (result_base_of (method_at W.program k)) (result_base_of (method_at W.program m)) ≡ true → ResultTyped W.program st.top.body m dst → GivesTo W b st.top.body dst
     gives_by k m b None ib f r = tt
-    gives_by k m b (Some dst) ib f r = fits_trans W.program T (result_base_of (method_in W.program b)) (result_base_of (method_at W.program m)) (reg_base W.program st.top.body dst.0) (subst (λ y. fits W.program (result_base_of y) (result_base_of (method_at W.program m)) ≡ true) (sym (P.bodies k b ib)) f) r
+    gives_by k m b (Some dst) ib f r =
+        let g : fits W.program (result_base_of (method_in W.program b)) (result_base_of (method_at W.program m)) ≡ true = subst (λ y. fits W.program (result_base_of y) (result_base_of (method_at W.program m)) ≡ true) (sym (P.bodies k b ib)) f in
+        (valued_within W.program (result_base_of (method_in W.program b)) (result_base_of (method_at W.program m)) g r.0, fits_trans W.program T (result_base_of (method_in W.program b)) (result_base_of (method_at W.program m)) (reg_base W.program st.top.body dst.0) g r.1)
 
     given_static : (k : ℕ) → static_of (method_at W.program k) ≡ true → given_bases W.program k ≡ params_of (method_at W.program k)
     given_static k h = ap (λ b. cond b (params_of (method_at W.program k)) (Ref (record { 0 = class_of (method_at W.program k) }) ∷ params_of (method_at W.program k))) h
@@ -520,7 +523,7 @@ module _ (W : World) (T : Ordered W.program) (P : ProgramTyped W) where
     module _ (pt : Point) (is : point_at W.program st.top.body st.top.at ≡ Some pt) where
       own_result : (m b : ℕ) (dst : Option RegNo) → body_of (method_at W.program m) ≡ Some b → ResultTyped W.program st.top.body m dst → GivesTo W b st.top.body dst
       own_result m b None ib r = tt
-      own_result m b (Some dst) ib r = subst (λ y. fits W.program (result_base_of y) (reg_base W.program st.top.body dst.0) ≡ true) (sym (P.bodies m b ib)) r
+      own_result m b (Some dst) ib r = subst (λ y. (is_void (result_base_of y) ≡ false) × (fits W.program (result_base_of y) (reg_base W.program st.top.body dst.0) ≡ true)) (sym (P.bodies m b ib)) r
 
       static_typed_call : (dst : Option RegNo) (m : MethodNo) (direct : Bool) (args : List Operand) → pt.kind ≡ Call dst m None direct args → PointTyped W.program st.top.body (Call dst m None direct args) → (vs : Option (List Value)) → gather st.top.regs args ≡ vs → NextOk (calls W.program st m.0 None direct vs)
       static_typed_call dst m direct args e p None iv = tt
@@ -605,13 +608,13 @@ module _ (W : World) (T : Ordered W.program) (P : ProgramTyped W) where
     gives_typed w ws dst None h rest d = tt
     gives_typed w ws dst (Some v) h rest d = resume_set w ws dst v h rest (d v refl)
 
-    result_has : (vo : Option Operand) (v : Value) → ReturnTyped W.program st.top.body vo → value_of st.top.regs vo ≡ Some v → HasType W st.heap (result_base_of (method_in W.program st.top.body)) v
-    result_has None v p is = cc
-    result_has (Some a) v p is = fits_type st.heap (reg_base W.program st.top.body a.reg.0) (result_base_of (method_in W.program st.top.body)) v p (ty.top a.reg.0 v is)
+    result_has : (vo : Option Operand) (v : Value) → is_void (result_base_of (method_in W.program st.top.body)) ≡ false → ReturnTyped W.program st.top.body vo → value_of st.top.regs vo ≡ Some v → HasType W st.heap (result_base_of (method_in W.program st.top.body)) v
+    result_has None v n p is = cc
+    result_has (Some a) v n p is = fits_type st.heap (reg_base W.program st.top.body a.reg.0) (result_base_of (method_in W.program st.top.body)) v (p n) (ty.top a.reg.0 v is)
 
     call_gives : (w : Frame) (ws : List Frame) (vo : Option Operand) (dst : Option RegNo) → ReturnTyped W.program st.top.body vo → RegsTyped W st.heap w.body w.regs → WaitTyped W st.heap w.body ws → GivesTo W st.top.body w.body dst → NextOk (gives_to st w ws dst (value_of st.top.regs vo))
     call_gives w ws vo None p h rest g = record { heap = ty.heap; top = h; waiting = rest }
-    call_gives w ws vo (Some dst) p h rest g = gives_typed w ws dst.0 (value_of st.top.regs vo) h rest (λ u x. fits_type st.heap (result_base_of (method_in W.program st.top.body)) (reg_base W.program w.body dst.0) u g (result_has vo u p x))
+    call_gives w ws vo (Some dst) p h rest g = gives_typed w ws dst.0 (value_of st.top.regs vo) h rest (λ u x. fits_type st.heap (result_base_of (method_in W.program st.top.body)) (reg_base W.program w.body dst.0) u g.1 (result_has vo u g.0 p x))
 
     takes_typed : (w : Frame) (ws : List Frame) (vo : Option Operand) → ReturnTyped W.program st.top.body vo → RegsTyped W st.heap w.body w.regs → WaitTyped W st.heap w.body ws → (k : PointKind) → ReturnFits W st.top.body w.body k → NextOk (takes st w ws (value_at st.top.regs 0) (value_of st.top.regs vo) k)
     takes_typed w ws vo p h rest (New dst m args) f = gives_typed w ws dst.0 (value_at st.top.regs 0) h rest (λ u x. fits_type st.heap (reg_base W.program st.top.body 0) (reg_base W.program w.body dst.0) u f (ty.top 0 u x))

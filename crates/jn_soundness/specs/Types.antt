@@ -2,6 +2,7 @@
 use Rattle.std.specs.Prelude.{ℕ, ◌≡◌, Bool, true, false, List, [], ◌∷◌, Option, Some, None, slice_get}
 use Rattle.jn_points.specs.Shaped.{IsObjectClass, IsVirtual}
 use Rattle.jn_points.specs.BaseTyping.{PointTyped, StartsWith, given_bases}
+use Rattle.jn_points.specs.BaseRows.{is_void}
 use Rattle.jn_base.specs.declared.number.RegNo.{RegNo}
 use Rattle.jn_base.specs.declared.number.MethodNo.{MethodNo}
 use Rattle.jn_base.specs.declared.number.SlotNo.{SlotNo}
@@ -47,7 +48,7 @@ module _ (W : World) where
 
   abbrev pub GivesTo : ℕ → ℕ → Option RegNo → Type 0
   GivesTo b w None = Unit {0}
-  GivesTo b w (Some dst) = fits W.program (result_base_of (method_in W.program b)) (reg_base W.program w dst.0) ≡ true
+  GivesTo b w (Some dst) = (is_void (result_base_of (method_in W.program b)) ≡ false) × (fits W.program (result_base_of (method_in W.program b)) (reg_base W.program w dst.0) ≡ true)
 
   -- what callee b gives fits the waiting point of body w
   abbrev pub ReturnFits : ℕ → ℕ → PointKind → Type 0

@@ -7,4 +7,4 @@ use Rattle.jn_soundness.proofs.law.solved_programs_never_fault.Goals as goal
 pub returns : goal.returns
 returns c = λ W S B.
     let A = solved_accepted W S in
-    typed_never_null W (accepted_checked W A) (accepted_mains W A) B.ordered (program_typed W S.regular B S.none) (mains_typed W S.regular B)
+    typed_never_null W (accepted_checked W A) (accepted_mains W A) B.ordered (program_typed W S.shaped B S.none) (mains_typed W S.shaped B)
