@@ -11,6 +11,7 @@ use jn_base::{Code, MethodNo, OutOfMemory, Row, SlotNo};
 use jn_points::members::method_at;
 use jn_points::{Method, Program, is_pair};
 use jn_quals::Qual;
+use jn_sigs::Sig;
 use jn_transfer::lookup::slot_qual;
 use std::alloc::{AllocError, Global};
 
@@ -36,7 +37,7 @@ fn least(left: usize, right: usize) -> usize
 }
 
 /// Whether a parameter of the overridden method takes what the overrider's doesn't.
-fn some_outside(sig: &[Qual], under: &[Option<SlotNo>], over: &[Option<SlotNo>]) -> bool
+fn some_outside(sig: &Sig, under: &[Option<SlotNo>], over: &[Option<SlotNo>]) -> bool
     ensures { result ≡ spec.some_outside (slot_quals sig.now under.now) (slot_quals sig.now over.now) }
 {
     let mut some = false;
@@ -52,7 +53,7 @@ fn some_outside(sig: &[Qual], under: &[Option<SlotNo>], over: &[Option<SlotNo>])
 /// The rows of a method that overrides another one.
 fn push_override(
     rows: &mut Vec<Row>,
-    sig: &[Qual],
+    sig: &Sig,
     over: &Method,
     under: &Method,
 ) -> Result<(), AllocError>
@@ -79,7 +80,7 @@ fn push_override(
 fn push_methods(
     rows: &mut Vec<Row>,
     program: &Program,
-    sig: &[Qual],
+    sig: &Sig,
     m: MethodNo,
     k: MethodNo,
 ) -> Result<(), AllocError>
@@ -98,7 +99,7 @@ fn push_methods(
 fn push_pair(
     rows: &mut Vec<Row>,
     program: &Program,
-    sig: &[Qual],
+    sig: &Sig,
     m: MethodNo,
     k: MethodNo,
 ) -> Result<(), AllocError>
@@ -116,7 +117,7 @@ fn push_pair(
 fn push_overrider(
     rows: &mut Vec<Row>,
     program: &Program,
-    sig: &[Qual],
+    sig: &Sig,
     m: MethodNo,
 ) -> Result<(), AllocError>
     requires few { length program.now.classes < 2 ^ 32 }
@@ -133,11 +134,7 @@ fn push_overrider(
 ///
 /// # Errors
 /// No memory was found.
-pub fn override_rows(
-    alloc: Global,
-    program: &Program,
-    sig: &[Qual],
-) -> Result<Vec<Row>, OutOfMemory>
+pub fn override_rows(alloc: Global, program: &Program, sig: &Sig) -> Result<Vec<Row>, OutOfMemory>
     requires few { length program.now.classes < 2 ^ 32 }
     requires methods { length program.now.methods < 2 ^ 32 }
     ensures { IfOk result (λ rows. rows.items ≡ spec.pairs_rows program.now sig.now) }
