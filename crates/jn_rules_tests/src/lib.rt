@@ -12,11 +12,17 @@ mod contrib;
 #[cfg(test)]
 mod ctor;
 #[cfg(test)]
+mod env;
+#[cfg(test)]
 mod flow;
 #[cfg(test)]
 mod lines;
 #[cfg(test)]
+mod members;
+#[cfg(test)]
 mod overriding;
+#[cfg(test)]
+mod private;
 #[cfg(test)]
 mod quals;
 #[cfg(test)]

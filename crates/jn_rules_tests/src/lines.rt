@@ -203,6 +203,22 @@ pub fn call(
     }))
 }
 
+/// The same of a private method.
+pub fn call_private(
+    alloc: Global,
+    method: MethodNo,
+    receiver: Operand,
+    args: &[Operand],
+) -> Result<Point, AllocError> {
+    Ok(point(PointKind::Call {
+        dst: None,
+        method,
+        receiver: Some(receiver),
+        direct: true,
+        args: operands(alloc, args)?,
+    }))
+}
+
 /// `dst = of.length()`
 pub fn length(dst: u32, of: Operand) -> Point {
     point(PointKind::StrOp {
@@ -227,15 +243,6 @@ pub fn print(of: Operand) -> Point {
     point(PointKind::Print { of })
 }
 
-/// `(C) of`
-pub fn cast(dst: u32, of: Operand, class: ClassNo) -> Point {
-    point(PointKind::Cast {
-        dst: RegNo(dst),
-        of,
-        class,
-    })
-}
-
 /// The field of a local that a test reads.
 pub fn origin(reg: u32, field: FieldNo) -> Option<Origin> {
     Some(Origin {
@@ -251,6 +258,17 @@ pub fn test_null(of: Operand, origin: Option<Origin>, null: u32, non_null: u32) 
         origin,
         null: PointNo(null),
         non_null: PointNo(non_null),
+    })
+}
+
+/// Where `of` is an object of the class, one goes on at the first point, else at the second.
+pub fn test_inst(of: Operand, class: ClassNo, yes: u32, no: u32) -> Point {
+    point(PointKind::TestInst {
+        of,
+        class,
+        origin: None,
+        yes: PointNo(yes),
+        no: PointNo(no),
     })
 }
 

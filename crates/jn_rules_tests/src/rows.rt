@@ -1,5 +1,5 @@
 // The rows of a program: those of its bodies, then those of its overriding pairs.
-use jn_base::{BodyNo, OutOfMemory, Row};
+use jn_base::{BodyNo, OutOfMemory, Row, SlotNo};
 use jn_checks::{checks, override_rows};
 use jn_contrib::contrib;
 use jn_env::FlowTable;
@@ -67,7 +67,7 @@ fn start_of(rt: &impl Abort, alloc: Global, program: &Program) -> Result<Sig, Ou
 }
 
 /// The rows of a program in which no slot is inferred.
-pub fn rows_of(rt: &impl Abort, alloc: Global, program: &Program) -> Result<Vec<Row>, OutOfMemory> {
+fn rows_of(rt: &impl Abort, alloc: Global, program: &Program) -> Result<Vec<Row>, OutOfMemory> {
     let sig = start_of(rt, alloc, program)?;
     rows_under(rt, alloc, program, &sig)
 }
@@ -90,24 +90,28 @@ fn raise_body(
     Ok(())
 }
 
-/// The least signature of a program in which this many rounds raise all; a last one changes nothing.
-pub fn inferred_sig(
+/// Raises the signature by what all bodies send.
+fn raise_all(
     rt: &impl Abort,
     alloc: Global,
     program: &Program,
-    rounds: usize,
-) -> Result<Sig, OutOfMemory> {
+    sig: &mut Sig,
+) -> Result<(), OutOfMemory> {
+    for body in 0..program.bodies.len() {
+        raise_body(rt, alloc, program, sig, body)?;
+    }
+    Ok(())
+}
+
+/// The least signature of a small program: some rounds of all bodies, of which the last changes nothing.
+fn inferred_sig(rt: &impl Abort, alloc: Global, program: &Program) -> Result<Sig, OutOfMemory> {
     let mut sig = start_of(rt, alloc, program)?;
-    for _round in 0..rounds {
-        for body in 0..program.bodies.len() {
-            raise_body(rt, alloc, program, &mut sig, body)?;
-        }
+    for _round in 0..5 {
+        raise_all(rt, alloc, program, &mut sig)?;
     }
     let words = Vec::from_slice(alloc, sig.words())?;
-    for body in 0..program.bodies.len() {
-        raise_body(rt, alloc, program, &mut sig, body)?;
-    }
-    assert!(rt; words.as_slice() == sig.words());
+    raise_all(rt, alloc, program, &mut sig)?;
+    assert_eq!(rt; words.as_slice(), sig.words());
     Ok(sig)
 }
 
@@ -123,15 +127,18 @@ pub fn expect_rows(
     Ok(())
 }
 
-/// The program breaks just these rules, where this many rounds infer all slots.
+/// Under the least signature these slots have these bits, and the program breaks just these rules.
 pub fn expect_inferred(
     rt: &impl Abort,
     alloc: Global,
     program: &Program,
-    rounds: usize,
+    slots: &[(u32, u8)],
     wanted: &[Row],
 ) -> Result<(), OutOfMemory> {
-    let sig = inferred_sig(rt, alloc, program, rounds)?;
+    let sig = inferred_sig(rt, alloc, program)?;
+    for (slot, bits) in slots {
+        assert_eq!(rt; sig.get(SlotNo(*slot)).bits(), *bits, "slot {slot}");
+    }
     let rows = rows_under(rt, alloc, program, &sig)?;
     assert_eq!(rt; rows.as_slice(), wanted);
     Ok(())
