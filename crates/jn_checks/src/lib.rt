@@ -9,6 +9,3 @@ pub mod rules;
 
 pub use overriding::override_rows;
 pub use rows::checks;
-
-#[cfg(test)]
-mod tests;

@@ -6,6 +6,3 @@ pub mod law;
 pub mod sends;
 
 pub use body::contrib;
-
-#[cfg(test)]
-mod tests;

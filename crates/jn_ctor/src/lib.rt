@@ -4,6 +4,3 @@
 pub mod unassigned;
 
 pub use unassigned::{env_at, unassigned_at_end};
-
-#[cfg(test)]
-mod tests;

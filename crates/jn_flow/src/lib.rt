@@ -10,6 +10,3 @@ pub mod rounds;
 pub use initial::entry;
 pub use inside::stays_inside;
 pub use least::flow;
-
-#[cfg(test)]
-mod tests;

@@ -7,6 +7,3 @@ pub mod word;
 
 pub use qual::Qual;
 pub use word::{pack, unpack};
-
-#[cfg(test)]
-mod tests;

@@ -8,6 +8,3 @@ pub mod sites;
 
 pub use initial::start;
 pub use sig::Sig;
-
-#[cfg(test)]
-mod tests;

@@ -1,9 +1,9 @@
 // A body with a test for null.
-use crate::{entry, flow, stays_inside};
 use jn_base::{
     BodyNo, ClassNo, FileNo, MethodNo, NameNo, OutOfMemory, PointNo, RegNo, Seq, SlotNo, Span,
 };
 use jn_env::find_keys;
+use jn_flow::{entry, flow, stays_inside};
 use jn_points::{
     BaseType, Body, Elem, Literal, Method, Operand, Point, PointKind, Program, StrOperation,
 };

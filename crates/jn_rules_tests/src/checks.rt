@@ -1,8 +1,8 @@
 // A constructor that breaks rules.
-use crate::checks;
 use jn_base::{
     BodyNo, ClassNo, Code, FieldNo, FileNo, MethodNo, NameNo, OutOfMemory, RegNo, Seq, SlotNo, Span,
 };
+use jn_checks::checks;
 use jn_env::{Env, FlowTable};
 use jn_points::{
     BaseType, Body, Elem, Field, Method, Operand, Point, PointKind, Program, StrOperation,

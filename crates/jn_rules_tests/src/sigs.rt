@@ -1,8 +1,8 @@
 // Packed words, and the start signature of a small program.
-use crate::{Sig, start};
 use jn_base::{BodyNo, ClassNo, FileNo, MethodNo, NameNo, RegNo, Seq, SlotNo, Span};
 use jn_points::{BaseType, Body, Method, Point, PointKind, Program, SlotInfo};
 use jn_quals::Qual;
+use jn_sigs::{Sig, start};
 use std::alloc::{AllocError, Global};
 use std::test::Fail;
 

@@ -1,5 +1,5 @@
 // All pairs of sets, and words.
-use crate::{Qual, pack, unpack};
+use jn_quals::{Qual, pack, unpack};
 
 /// The union of two sets, by their bits.
 const UNIONS: [[u8; 8]; 8] = [

@@ -1,0 +1,425 @@
+// For each rule of bodies a program that breaks it alone, and one that differs in one thing and breaks none.
+use crate::build::{
+    FIRST, Kind, NULLABLE_STRINGS, OBJECT, ProgramBuilder, STRING, STRINGS, Typed, VOID, committed,
+    free, instance, named, nullable, plain,
+};
+use crate::lines::{
+    array_of, at, bounded, call, count, element, end, equals, give, int, length, new, new_array,
+    put, read, row, store, text, write,
+};
+use crate::rows::expect_rows;
+use jn_base::Code;
+use jn_points::{BaseType, Elem, Point, Program};
+use jn_quals::Qual;
+use std::alloc::{AllocError, Global};
+use std::test::Fail;
+
+const A: BaseType = BaseType::Ref(FIRST);
+
+/// The objects of `A[]`.
+const AS: BaseType = BaseType::Array(Elem::Ref(FIRST), false);
+
+/// `class A { static T f(P p, Q q) { points } }`
+fn one_static(
+    alloc: Global,
+    params: &[Typed],
+    gives: Typed,
+    regs: &[BaseType],
+    locals: u32,
+    points: Vec<Point>,
+) -> Result<Program, AllocError> {
+    let mut builder = ProgramBuilder::new(alloc)?;
+    let class = builder.add_class(OBJECT, &[])?;
+    let f = builder.add_method(class, named(1, 115), Kind::Static, params, gives)?;
+    builder.add_body(f, regs, locals, points)?;
+    Ok(builder.finish())
+}
+
+/// `class A { static void f(@Nullable String s) { s.length(); } }`
+fn dereference(alloc: Global, s: Typed) -> Result<Program, AllocError> {
+    let points = vec![in alloc; length(1, at(0, 147)), end()]?;
+    one_static(alloc, &[s], VOID, &[STRING, BaseType::Int], 1, points)
+}
+
+#[test]
+fn deref(rt: HostRuntime) -> Result<(), Fail> {
+    let alloc = rt.alloc();
+    let wanted = [row(Code::Deref, 147)];
+    expect_rows(&rt, alloc, &dereference(alloc, nullable(STRING))?, &wanted)?;
+    expect_rows(&rt, alloc, &dereference(alloc, committed(STRING))?, &[])?;
+    Ok(())
+}
+
+/// ```java
+/// class A {
+///   @Nullable A g;
+///   void f(A a, String[] s) { A t = a.g; a.g = t; a.f(a, s); int n = s.length; s[n] = s[n]; }
+/// }
+/// ```
+fn dereferences(alloc: Global, a: Typed, s: Typed) -> Result<Program, AllocError> {
+    let mut builder = ProgramBuilder::new(alloc)?;
+    let class = builder.add_class(OBJECT, &[])?;
+    let g = builder.add_field(class, 1, nullable(A))?;
+    let f = builder.add_method(class, named(2, 308), instance(), &[a, s], VOID)?;
+    let points = vec![in alloc;
+        read(5, at(1, 335), g),
+        store(3, at(5, 335)),
+        write(at(1, 340), g, at(3, 346)),
+        call(alloc, f, Some(at(1, 349)), &[at(1, 353), at(2, 356)])?,
+        count(6, at(2, 368)),
+        store(4, at(6, 368)),
+        element(7, at(2, 385), at(4, 387)),
+        put(at(2, 378), at(4, 380), at(7, 385)),
+        end(),
+    ]?;
+    let int = BaseType::Int;
+    let regs = [A, A, STRINGS, A, int, A, int, STRING];
+    builder.add_body(f, &regs, 5, points)?;
+    Ok(builder.finish())
+}
+
+#[test]
+fn each_dereference(rt: HostRuntime) -> Result<(), Fail> {
+    let alloc = rt.alloc();
+    let objects = [
+        row(Code::Deref, 335),
+        row(Code::Deref, 340),
+        row(Code::Deref, 349),
+    ];
+    let arrays = [
+        row(Code::Deref, 368),
+        row(Code::Deref, 385),
+        row(Code::Deref, 378),
+    ];
+    let (a, s) = (committed(A), committed(STRINGS));
+    expect_rows(&rt, alloc, &dereferences(alloc, nullable(A), s)?, &objects)?;
+    expect_rows(
+        &rt,
+        alloc,
+        &dereferences(alloc, a, nullable(STRINGS))?,
+        &arrays,
+    )?;
+    expect_rows(&rt, alloc, &dereferences(alloc, a, s)?, &[])?;
+    Ok(())
+}
+
+/// `class A { String f; A(String s) { this.f = s; } }`, with types for `f` and `s`.
+fn field_in_constructor(alloc: Global, f: Typed, s: Typed) -> Result<Program, AllocError> {
+    let mut builder = ProgramBuilder::new(alloc)?;
+    let class = builder.add_class(OBJECT, &[])?;
+    let field = builder.add_field(class, 1, f)?;
+    let constructor = builder.add_method(class, named(2, 121), Kind::Constructor, &[s], VOID)?;
+    let points = vec![in alloc; write(at(0, 135), field, at(1, 144)), end()]?;
+    builder.add_body(constructor, &[A, STRING], 2, points)?;
+    Ok(builder.finish())
+}
+
+#[test]
+fn field(rt: HostRuntime) -> Result<(), Fail> {
+    let alloc = rt.alloc();
+    let wanted = [row(Code::Field, 144)];
+    let (null, whole) = (nullable(STRING), committed(STRING));
+    expect_rows(
+        &rt,
+        alloc,
+        &field_in_constructor(alloc, whole, null)?,
+        &wanted,
+    )?;
+    expect_rows(&rt, alloc, &field_in_constructor(alloc, whole, whole)?, &[])?;
+    expect_rows(&rt, alloc, &field_in_constructor(alloc, null, null)?, &[])?;
+    Ok(())
+}
+
+/// `class A { @Nullable A f; static void g(A a, @UnderInitialization A b) { a.f = b; } }`
+fn early_store(alloc: Global, a: Typed, b: Typed) -> Result<Program, AllocError> {
+    let mut builder = ProgramBuilder::new(alloc)?;
+    let class = builder.add_class(OBJECT, &[])?;
+    let f = builder.add_field(class, 1, nullable(A))?;
+    let g = builder.add_method(class, named(2, 138), Kind::Static, &[a, b], VOID)?;
+    let points = vec![in alloc; write(at(0, 173), f, at(1, 179)), end()]?;
+    builder.add_body(g, &[A, A], 2, points)?;
+    Ok(builder.finish())
+}
+
+#[test]
+fn field_init(rt: HostRuntime) -> Result<(), Fail> {
+    let alloc = rt.alloc();
+    let wanted = [row(Code::FieldInit, 179)];
+    expect_rows(
+        &rt,
+        alloc,
+        &early_store(alloc, committed(A), free(A))?,
+        &wanted,
+    )?;
+    expect_rows(
+        &rt,
+        alloc,
+        &early_store(alloc, committed(A), committed(A))?,
+        &[],
+    )?;
+    expect_rows(&rt, alloc, &early_store(alloc, free(A), free(A))?, &[])?;
+    Ok(())
+}
+
+/// `class A { static void f(String s) { } static void g(@Nullable String t) { f(t); } }`
+fn passing(alloc: Global, base: BaseType, s: Typed, t: Typed) -> Result<Program, AllocError> {
+    let mut builder = ProgramBuilder::new(alloc)?;
+    let class = builder.add_class(OBJECT, &[])?;
+    let f = builder.add_method(class, named(1, 123), Kind::Static, &[s], VOID)?;
+    builder.add_body(f, &[base], 1, vec![in alloc; end()]?)?;
+    let g = builder.add_method(class, named(2, 151), Kind::Static, &[t], VOID)?;
+    let points = vec![in alloc; call(alloc, f, None, &[at(0, 177)])?, end()]?;
+    builder.add_body(g, &[base], 1, points)?;
+    Ok(builder.finish())
+}
+
+/// `class A { A(String s) { } static void g(@Nullable String t) { new A(t); } }`
+fn passing_to_new(alloc: Global, t: Typed) -> Result<Program, AllocError> {
+    let mut builder = ProgramBuilder::new(alloc)?;
+    let class = builder.add_class(OBJECT, &[])?;
+    let s = committed(STRING);
+    let constructor = builder.add_method(class, named(1, 111), Kind::Constructor, &[s], VOID)?;
+    builder.add_body(constructor, &[A, STRING], 2, vec![in alloc; end()]?)?;
+    let g = builder.add_method(class, named(2, 139), Kind::Static, &[t], VOID)?;
+    let points = vec![in alloc; new(alloc, 1, constructor, &[at(0, 169)])?, end()]?;
+    builder.add_body(g, &[STRING, A], 1, points)?;
+    Ok(builder.finish())
+}
+
+#[test]
+fn arg(rt: HostRuntime) -> Result<(), Fail> {
+    let alloc = rt.alloc();
+    let (null, whole) = (nullable(STRING), committed(STRING));
+    let called = [row(Code::Arg, 177)];
+    expect_rows(&rt, alloc, &passing(alloc, STRING, whole, null)?, &called)?;
+    expect_rows(&rt, alloc, &passing(alloc, STRING, whole, whole)?, &[])?;
+    let created = [row(Code::Arg, 169)];
+    expect_rows(&rt, alloc, &passing_to_new(alloc, null)?, &created)?;
+    expect_rows(&rt, alloc, &passing_to_new(alloc, whole)?, &[])?;
+    Ok(())
+}
+
+/// `class A { static void f(String s, @UnderInitialization A a) { s.equals(a); } }`
+fn comparing(alloc: Global, a: Typed) -> Result<Program, AllocError> {
+    let points = vec![in alloc; equals(2, at(0, 163), at(1, 172)), end()]?;
+    let params = [committed(STRING), a];
+    one_static(
+        alloc,
+        &params,
+        VOID,
+        &[STRING, A, BaseType::Bool],
+        2,
+        points,
+    )
+}
+
+#[test]
+fn arg_init(rt: HostRuntime) -> Result<(), Fail> {
+    let alloc = rt.alloc();
+    let called = [row(Code::ArgInit, 177)];
+    expect_rows(
+        &rt,
+        alloc,
+        &passing(alloc, A, committed(A), free(A))?,
+        &called,
+    )?;
+    expect_rows(
+        &rt,
+        alloc,
+        &passing(alloc, A, free(A), committed(A))?,
+        &called,
+    )?;
+    expect_rows(&rt, alloc, &passing(alloc, A, free(A), free(A))?, &[])?;
+    let compared = [row(Code::ArgInit, 172)];
+    expect_rows(&rt, alloc, &comparing(alloc, free(A))?, &compared)?;
+    expect_rows(&rt, alloc, &comparing(alloc, nullable(A))?, &[])?;
+    Ok(())
+}
+
+/// `class A { A() { this.m(); } void m() { } }`, with a qualifier for the receiver of `m`.
+fn early_call(alloc: Global, receiver: Qual) -> Result<Program, AllocError> {
+    let mut builder = ProgramBuilder::new(alloc)?;
+    let class = builder.add_class(OBJECT, &[])?;
+    let m = builder.add_method(class, named(1, 134), Kind::Instance(receiver), &[], VOID)?;
+    builder.add_body(m, &[A], 1, vec![in alloc; end()]?)?;
+    let constructor = builder.add_method(class, named(2, 111), Kind::Constructor, &[], VOID)?;
+    let points = vec![in alloc; call(alloc, m, Some(at(0, 117)), &[])?, end()]?;
+    builder.add_body(constructor, &[A], 1, points)?;
+    Ok(builder.finish())
+}
+
+#[test]
+fn recv_init(rt: HostRuntime) -> Result<(), Fail> {
+    let alloc = rt.alloc();
+    let wanted = [row(Code::RecvInit, 117)];
+    expect_rows(
+        &rt,
+        alloc,
+        &early_call(alloc, Qual::committed_only())?,
+        &wanted,
+    )?;
+    expect_rows(&rt, alloc, &early_call(alloc, Qual::free_only())?, &[])?;
+    Ok(())
+}
+
+/// `class A { static String f(@Nullable String s) { return s; } }`
+fn giving(alloc: Global, base: BaseType, s: Typed, gives: Typed) -> Result<Program, AllocError> {
+    let points = vec![in alloc; give(at(0, 156)), end()]?;
+    one_static(alloc, &[s], gives, &[base], 1, points)
+}
+
+#[test]
+fn returned(rt: HostRuntime) -> Result<(), Fail> {
+    let alloc = rt.alloc();
+    let (null, whole) = (nullable(STRING), committed(STRING));
+    let wanted = [row(Code::Return, 156)];
+    expect_rows(&rt, alloc, &giving(alloc, STRING, null, whole)?, &wanted)?;
+    expect_rows(&rt, alloc, &giving(alloc, STRING, null, null)?, &[])?;
+    let early = [row(Code::ReturnInit, 156)];
+    expect_rows(
+        &rt,
+        alloc,
+        &giving(alloc, A, free(A), committed(A))?,
+        &early,
+    )?;
+    expect_rows(&rt, alloc, &giving(alloc, A, free(A), free(A))?, &[])?;
+    Ok(())
+}
+
+/// `class A { static void f(@Nullable String s) { @NonNull String t = s; } }`, with a bound of `t`.
+fn storing(alloc: Global, base: BaseType, s: Typed, bound: Qual) -> Result<Program, AllocError> {
+    let points = vec![in alloc; bounded(1, at(0, 167), Some(bound)), end()]?;
+    one_static(alloc, &[s], VOID, &[base, base], 2, points)
+}
+
+#[test]
+fn local(rt: HostRuntime) -> Result<(), Fail> {
+    let alloc = rt.alloc();
+    let non_null = Qual::committed_only().join(Qual::free_only());
+    let null = nullable(STRING);
+    let wanted = [row(Code::Local, 167)];
+    expect_rows(
+        &rt,
+        alloc,
+        &storing(alloc, STRING, null, non_null)?,
+        &wanted,
+    )?;
+    expect_rows(&rt, alloc, &storing(alloc, STRING, null, Qual::all())?, &[])?;
+    let initialized = Qual::null_or_committed();
+    let under = Qual::null_only().join(Qual::free_only());
+    let early = [row(Code::LocalInit, 167)];
+    expect_rows(
+        &rt,
+        alloc,
+        &storing(alloc, A, free(A), initialized)?,
+        &early,
+    )?;
+    expect_rows(&rt, alloc, &storing(alloc, A, free(A), under)?, &[])?;
+    Ok(())
+}
+
+/// `class A { static void f(String[] a, @Nullable String s) { a[0] = s; } }`
+fn filling(
+    alloc: Global,
+    array: BaseType,
+    element: BaseType,
+    s: Typed,
+) -> Result<Program, AllocError> {
+    let points = vec![in alloc; int(2, 0), put(at(0, 159), at(2, 161), at(1, 166)), end()]?;
+    let regs = [array, element, BaseType::Int];
+    one_static(alloc, &[committed(array), s], VOID, &regs, 2, points)
+}
+
+/// `class A { static void f(@Nullable String s) { String[] a = new String[] { s }; } }`
+fn listing(
+    alloc: Global,
+    array: BaseType,
+    element: BaseType,
+    s: Typed,
+) -> Result<Program, AllocError> {
+    let made = array_of(alloc, 2, array, &[at(0, 175)])?;
+    let points = vec![in alloc; made, store(1, at(2, 160)), end()]?;
+    one_static(alloc, &[s], VOID, &[element, array, array], 2, points)
+}
+
+#[test]
+fn elem(rt: HostRuntime) -> Result<(), Fail> {
+    let alloc = rt.alloc();
+    let (null, whole) = (nullable(STRING), committed(STRING));
+    let put = [row(Code::Elem, 166)];
+    expect_rows(&rt, alloc, &filling(alloc, STRINGS, STRING, null)?, &put)?;
+    expect_rows(&rt, alloc, &filling(alloc, STRINGS, STRING, whole)?, &[])?;
+    expect_rows(
+        &rt,
+        alloc,
+        &filling(alloc, NULLABLE_STRINGS, STRING, null)?,
+        &[],
+    )?;
+    let listed = [row(Code::Elem, 175)];
+    expect_rows(&rt, alloc, &listing(alloc, STRINGS, STRING, null)?, &listed)?;
+    expect_rows(
+        &rt,
+        alloc,
+        &listing(alloc, NULLABLE_STRINGS, STRING, null)?,
+        &[],
+    )?;
+    Ok(())
+}
+
+#[test]
+fn elem_init(rt: HostRuntime) -> Result<(), Fail> {
+    let alloc = rt.alloc();
+    let put = [row(Code::ElemInit, 166)];
+    expect_rows(&rt, alloc, &filling(alloc, AS, A, free(A))?, &put)?;
+    expect_rows(&rt, alloc, &filling(alloc, AS, A, committed(A))?, &[])?;
+    let listed = [row(Code::ElemInit, 175)];
+    expect_rows(&rt, alloc, &listing(alloc, AS, A, free(A))?, &listed)?;
+    expect_rows(&rt, alloc, &listing(alloc, AS, A, committed(A))?, &[])?;
+    Ok(())
+}
+
+/// `class A { static void f(int n) { String[] a = new String[n]; } }`
+fn allocating(alloc: Global, array: BaseType) -> Result<Program, AllocError> {
+    let made = new_array(2, array, at(0, 158), 147);
+    let points = vec![in alloc; made, store(1, at(2, 147)), end()]?;
+    let regs = [BaseType::Int, array, array];
+    one_static(alloc, &[plain(BaseType::Int)], VOID, &regs, 2, points)
+}
+
+#[test]
+fn array_of_nulls(rt: HostRuntime) -> Result<(), Fail> {
+    let alloc = rt.alloc();
+    let numbers = BaseType::Array(Elem::Int, false);
+    let wanted = [row(Code::NewArray, 147)];
+    expect_rows(&rt, alloc, &allocating(alloc, STRINGS)?, &wanted)?;
+    expect_rows(&rt, alloc, &allocating(alloc, NULLABLE_STRINGS)?, &[])?;
+    expect_rows(&rt, alloc, &allocating(alloc, numbers)?, &[])?;
+    Ok(())
+}
+
+/// `class A { String f; A() { this.f = "x"; } }`, with a type for `f`, and perhaps without the assignment.
+fn constructing(alloc: Global, f: Typed, assigns: bool) -> Result<Program, AllocError> {
+    let mut builder = ProgramBuilder::new(alloc)?;
+    let class = builder.add_class(OBJECT, &[])?;
+    let field = builder.add_field(class, 1, f)?;
+    let constructor = builder.add_method(class, named(2, 121), Kind::Constructor, &[], VOID)?;
+    let mut points = Vec::new(alloc);
+    if assigns {
+        points.push(text(1))?;
+        points.push(write(at(0, 127), field, at(1, 136)))?;
+    }
+    points.push(end())?;
+    builder.add_body(constructor, &[A, STRING], 1, points)?;
+    Ok(builder.finish())
+}
+
+#[test]
+fn ctor_fields(rt: HostRuntime) -> Result<(), Fail> {
+    let alloc = rt.alloc();
+    let wanted = [row(Code::CtorFields, 121)];
+    let (null, whole) = (nullable(STRING), committed(STRING));
+    expect_rows(&rt, alloc, &constructing(alloc, whole, false)?, &wanted)?;
+    expect_rows(&rt, alloc, &constructing(alloc, whole, true)?, &[])?;
+    expect_rows(&rt, alloc, &constructing(alloc, null, false)?, &[])?;
+    Ok(())
+}

@@ -1,0 +1,295 @@
+// Points of bodies made by hand. A place is a number: line times 100 plus column, where its program stands in a file.
+use jn_base::{ClassNo, Code, FieldNo, FileNo, MethodNo, NameNo, PointNo, RegNo, Row, Seq, Span};
+use jn_points::{BaseType, Literal, Operand, Operator, Origin, Point, PointKind, StrOperation};
+use jn_quals::Qual;
+use std::alloc::{AllocError, Global};
+
+pub fn span(from: u32) -> Span {
+    Span {
+        file: FileNo(0),
+        from,
+        to: from,
+    }
+}
+
+pub fn row(code: Code, from: u32) -> Row {
+    Row {
+        span: span(from),
+        code,
+    }
+}
+
+pub fn at(reg: u32, from: u32) -> Operand {
+    Operand {
+        reg: RegNo(reg),
+        span: span(from),
+    }
+}
+
+fn point(kind: PointKind) -> Point {
+    Point {
+        kind,
+        span: span(0),
+    }
+}
+
+fn literal(dst: u32, value: Literal) -> Point {
+    point(PointKind::Const {
+        dst: RegNo(dst),
+        value,
+    })
+}
+
+pub fn int(dst: u32, number: i32) -> Point {
+    literal(dst, Literal::Int(number))
+}
+
+pub fn text(dst: u32) -> Point {
+    literal(dst, Literal::Str(NameNo(0)))
+}
+
+pub fn null(dst: u32) -> Point {
+    literal(dst, Literal::Null)
+}
+
+/// `dst = from`
+pub fn store(dst: u32, from: Operand) -> Point {
+    bounded(dst, from, None)
+}
+
+/// `dst = from`, where the local has annotations with this bound.
+pub fn bounded(dst: u32, from: Operand, bound: Option<Qual>) -> Point {
+    point(PointKind::Move {
+        dst: RegNo(dst),
+        from,
+        bound,
+    })
+}
+
+pub fn add(dst: u32, left: Operand, right: Operand) -> Point {
+    point(PointKind::Binary {
+        dst: RegNo(dst),
+        operator: Operator::Add,
+        left,
+        right,
+    })
+}
+
+/// `left == right` of references.
+pub fn same(dst: u32, left: Operand, right: Operand) -> Point {
+    point(PointKind::SameRef {
+        dst: RegNo(dst),
+        equal: true,
+        left,
+        right,
+    })
+}
+
+/// `dst = object.field`
+pub fn read(dst: u32, object: Operand, field: FieldNo) -> Point {
+    point(PointKind::FieldRead {
+        dst: RegNo(dst),
+        object,
+        field,
+    })
+}
+
+/// `object.field = value`
+pub fn write(object: Operand, field: FieldNo, value: Operand) -> Point {
+    point(PointKind::FieldWrite {
+        object,
+        field,
+        value,
+    })
+}
+
+/// `dst = array[index]`
+pub fn element(dst: u32, array: Operand, index: Operand) -> Point {
+    point(PointKind::ElemRead {
+        dst: RegNo(dst),
+        array,
+        index,
+    })
+}
+
+/// `array[index] = value`
+pub fn put(array: Operand, index: Operand, value: Operand) -> Point {
+    point(PointKind::ElemWrite {
+        array,
+        index,
+        value,
+    })
+}
+
+/// `dst = array.length`
+pub fn count(dst: u32, array: Operand) -> Point {
+    point(PointKind::ArrayLen {
+        dst: RegNo(dst),
+        array,
+    })
+}
+
+/// `dst = new B[length]`, which stands at a place.
+pub fn new_array(dst: u32, base: BaseType, length: Operand, from: u32) -> Point {
+    Point {
+        kind: PointKind::NewArray {
+            dst: RegNo(dst),
+            base,
+            length,
+        },
+        span: span(from),
+    }
+}
+
+fn operands(alloc: Global, list: &[Operand]) -> Result<Seq<Operand>, AllocError> {
+    Ok(Seq::of_vec(Vec::from_slice(alloc, list)?))
+}
+
+/// `dst = new B[] { values }`
+pub fn array_of(
+    alloc: Global,
+    dst: u32,
+    base: BaseType,
+    values: &[Operand],
+) -> Result<Point, AllocError> {
+    Ok(point(PointKind::ArrayOf {
+        dst: RegNo(dst),
+        base,
+        values: operands(alloc, values)?,
+    }))
+}
+
+/// `dst = new C(args)`
+pub fn new(
+    alloc: Global,
+    dst: u32,
+    constructor: MethodNo,
+    args: &[Operand],
+) -> Result<Point, AllocError> {
+    Ok(point(PointKind::New {
+        dst: RegNo(dst),
+        ctor: constructor,
+        args: operands(alloc, args)?,
+    }))
+}
+
+/// `super(args)`, or `this(args)` where it is an own one.
+pub fn construct(
+    alloc: Global,
+    constructor: MethodNo,
+    args: &[Operand],
+    own: bool,
+) -> Result<Point, AllocError> {
+    Ok(point(PointKind::CtorCall {
+        ctor: constructor,
+        args: operands(alloc, args)?,
+        own,
+    }))
+}
+
+/// `receiver.method(args)`, whose result isn't used.
+pub fn call(
+    alloc: Global,
+    method: MethodNo,
+    receiver: Option<Operand>,
+    args: &[Operand],
+) -> Result<Point, AllocError> {
+    Ok(point(PointKind::Call {
+        dst: None,
+        method,
+        receiver,
+        direct: false,
+        args: operands(alloc, args)?,
+    }))
+}
+
+/// The same of a private method.
+pub fn call_private(
+    alloc: Global,
+    method: MethodNo,
+    receiver: Operand,
+    args: &[Operand],
+) -> Result<Point, AllocError> {
+    Ok(point(PointKind::Call {
+        dst: None,
+        method,
+        receiver: Some(receiver),
+        direct: true,
+        args: operands(alloc, args)?,
+    }))
+}
+
+/// `dst = of.length()`
+pub fn length(dst: u32, of: Operand) -> Point {
+    point(PointKind::StrOp {
+        dst: RegNo(dst),
+        op: StrOperation::Length,
+        of,
+        other: None,
+    })
+}
+
+/// `dst = of.equals(other)`
+pub fn equals(dst: u32, of: Operand, other: Operand) -> Point {
+    point(PointKind::StrOp {
+        dst: RegNo(dst),
+        op: StrOperation::Equals,
+        of,
+        other: Some(other),
+    })
+}
+
+pub fn print(of: Operand) -> Point {
+    point(PointKind::Print { of })
+}
+
+/// The field of a local that a test reads.
+pub fn origin(reg: u32, field: FieldNo) -> Option<Origin> {
+    Some(Origin {
+        reg: RegNo(reg),
+        field,
+    })
+}
+
+/// Where `of` is null, one goes on at the first point, else at the second.
+pub fn test_null(of: Operand, origin: Option<Origin>, null: u32, non_null: u32) -> Point {
+    point(PointKind::TestNull {
+        of,
+        origin,
+        null: PointNo(null),
+        non_null: PointNo(non_null),
+    })
+}
+
+/// Where `of` is an object of the class, one goes on at the first point, else at the second.
+pub fn test_inst(of: Operand, class: ClassNo, yes: u32, no: u32) -> Point {
+    point(PointKind::TestInst {
+        of,
+        class,
+        origin: None,
+        yes: PointNo(yes),
+        no: PointNo(no),
+    })
+}
+
+pub fn branch(of: Operand, yes: u32, no: u32) -> Point {
+    point(PointKind::Branch {
+        of,
+        yes: PointNo(yes),
+        no: PointNo(no),
+    })
+}
+
+pub fn goto(to: u32) -> Point {
+    point(PointKind::Goto { to: PointNo(to) })
+}
+
+/// `return value;`
+pub fn give(value: Operand) -> Point {
+    point(PointKind::Return { value: Some(value) })
+}
+
+/// `return;`, and the end of a body.
+pub fn end() -> Point {
+    point(PointKind::Return { value: None })
+}

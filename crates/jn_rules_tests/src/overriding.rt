@@ -1,0 +1,116 @@
+// The rules at overriding pairs.
+use crate::build::{
+    FIRST, Kind, OBJECT, ProgramBuilder, SECOND, STRING, Typed, VOID, committed, instance, named,
+    nullable,
+};
+use crate::lines::{at, end, give, length, row};
+use crate::rows::expect_rows;
+use jn_base::Code;
+use jn_points::{BaseType, Program};
+use jn_quals::Qual;
+use std::alloc::{AllocError, Global};
+use std::test::Fail;
+
+const A: BaseType = BaseType::Ref(FIRST);
+
+const B: BaseType = BaseType::Ref(SECOND);
+
+/// A method's receiver, its parameter and its result.
+#[derive(Clone, Copy)]
+struct Types {
+    receiver: Qual,
+    param: Typed,
+    result: Typed,
+}
+
+/// ```java
+/// class A {
+///   String f(String s) { return s; }
+/// }
+/// class B extends A {
+///   String f(String s) { return s; }
+/// }
+/// ```
+fn overriding(alloc: Global, under: Types, over: Types) -> Result<Program, AllocError> {
+    let mut builder = ProgramBuilder::new(alloc)?;
+    let a = builder.add_class(OBJECT, &[])?;
+    let b = builder.add_class(a, &[])?;
+    for (class, base, types, from) in [(a, A, under, 210), (b, B, over, 510)] {
+        let kind = Kind::Instance(types.receiver);
+        let f = builder.add_method(class, named(1, from), kind, &[types.param], types.result)?;
+        builder.add_body(
+            f,
+            &[base, STRING],
+            2,
+            vec![in alloc; give(at(1, 0)), end()]?,
+        )?;
+    }
+    Ok(builder.finish())
+}
+
+#[test]
+fn parameters_receivers_results(rt: HostRuntime) -> Result<(), Fail> {
+    let alloc = rt.alloc();
+    let narrow = Types {
+        receiver: Qual::committed_only(),
+        param: committed(STRING),
+        result: nullable(STRING),
+    };
+    let wide_param = Types {
+        param: nullable(STRING),
+        ..narrow
+    };
+    let wide_receiver = Types {
+        receiver: Qual::committed_only().join(Qual::free_only()),
+        ..narrow
+    };
+    let narrow_result = Types {
+        result: committed(STRING),
+        ..narrow
+    };
+    for (other, code) in [
+        (wide_param, Code::OvrParam),
+        (wide_receiver, Code::OvrReceiver),
+        (narrow_result, Code::OvrResult),
+    ] {
+        expect_rows(
+            &rt,
+            alloc,
+            &overriding(alloc, other, narrow)?,
+            &[row(code, 510)],
+        )?;
+        expect_rows(&rt, alloc, &overriding(alloc, narrow, other)?, &[])?;
+        expect_rows(&rt, alloc, &overriding(alloc, other, other)?, &[])?;
+    }
+    Ok(())
+}
+
+/// ```java
+/// class A {
+///   void f(@Nullable String s) { }
+/// }
+/// class B extends A {
+///   void f(String s) { s.length(); }
+/// }
+/// ```
+fn narrowed(alloc: Global, over: Typed) -> Result<Program, AllocError> {
+    let mut builder = ProgramBuilder::new(alloc)?;
+    let a = builder.add_class(OBJECT, &[])?;
+    let b = builder.add_class(a, &[])?;
+    let under = builder.add_method(a, named(1, 208), instance(), &[nullable(STRING)], VOID)?;
+    builder.add_body(under, &[A, STRING], 2, vec![in alloc; end()]?)?;
+    let f = builder.add_method(b, named(1, 508), instance(), &[over], VOID)?;
+    let points = vec![in alloc; length(2, at(1, 522)), end()]?;
+    builder.add_body(f, &[B, STRING, BaseType::Int], 2, points)?;
+    Ok(builder.finish())
+}
+
+#[test]
+fn narrowed_parameter(rt: HostRuntime) -> Result<(), Fail> {
+    let alloc = rt.alloc();
+    let param = [row(Code::OvrParam, 508)];
+    let body = [row(Code::Deref, 522)];
+    expect_rows(&rt, alloc, &narrowed(alloc, committed(STRING))?, &param)?;
+    expect_rows(&rt, alloc, &narrowed(alloc, nullable(STRING))?, &body)?;
+    Ok(())
+}
