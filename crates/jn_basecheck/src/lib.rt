@@ -2,5 +2,7 @@
 #![tactic(auto)]
 
 pub mod lookup;
+pub mod operands;
+pub mod paths;
 pub mod points;
 pub mod types;

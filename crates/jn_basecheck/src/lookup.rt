@@ -1,10 +1,28 @@
 // What base typing looks up in a program.
-ghost use Rattle.std.specs.Prelude.{◌≡◌, MatchOption, None, Some};
+ghost use Rattle.std.specs.Prelude.{◌≡◌, ◌<◌, length, MatchOption, None, Some};
 ghost use Rattle.jn_points.specs.Lookup as spec;
 
 use jn_base::{ClassNo, FieldNo, MethodNo, RegNo};
 use jn_points::members::method_at;
-use jn_points::{BaseType, Body, Elem, Field, Method, Program};
+use jn_points::{BaseType, Body, Elem, Field, Method, Point, Program};
+
+/// The body at a place.
+pub fn body_of(program: &Program, body: usize) -> &Body
+    requires { body < length program.now.bodies }
+    ensures { spec.body_at program.now body ≡ Some result.now }
+{
+    &program.bodies.as_slice()[body]
+}
+
+/// The point at a place of the body at a place.
+pub fn point_of(program: &Program, body: usize, point: usize) -> Option<&Point>
+    ensures { MatchOption result (spec.point_at program.now body point ≡ None) (λ p. spec.point_at program.now body point ≡ Some p.now) }
+{
+    match program.bodies.as_slice().get(body) {
+        None => None,
+        Some(info) => info.points.as_slice().get(point),
+    }
+}
 
 /// The base type of a register of the body at a place; Void for one that is not there.
 pub fn reg_base(program: &Program, body: usize, reg: RegNo) -> BaseType
