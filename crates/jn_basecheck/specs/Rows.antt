@@ -1,5 +1,5 @@
 -- The rows J7 to J10 body by body and point by point.
-use Rattle.std.specs.Prelude.{ℕ, ◌≡◌, ◌≤◌, ◌<◌, ◌⊎◌, ◌↔◌, false, cond, eqb, List, [], ◌∷◌, length, Some}
+use Rattle.std.specs.Prelude.{ℕ, ◌≡◌, ◌≤◌, ◌<◌, ◌⊎◌, ◌↔◌, false, cond, eqb, List, [], ◌∷◌, length, Bool, Option, None, Some}
 use Rattle.std.specs.List.{Contains}
 use Rattle.jn_base.specs.declared.place.Row.{Row}
 use Rattle.jn_base.specs.declared.code.Code.TheVariants.{J8}
@@ -7,6 +7,7 @@ use Rattle.jn_points.specs.declared.point.Operand.{Operand}
 use Rattle.jn_points.specs.declared.point.Point.{Point}
 use Rattle.jn_points.specs.declared.program.Program.{Program}
 use Rattle.jn_points.specs.Lookup.{points_of, regs_of, body_at, point_at, reg_base}
+use Rattle.jn_points.specs.Members.{some_of}
 use Rattle.jn_points.specs.Operands.{operands}
 use Rattle.jn_points.specs.BaseRows.{is_void, given, type_rows, result_rows}
 use Rattle.jn_points.specs.Paths.{Reached, Lacks}
@@ -23,6 +24,15 @@ Among Meant n row = (k : ℕ) × (k < n) × Meant k row
 abbrev pub readings : ℕ → List Operand → List Row
 readings r [] = []
 readings r (a ∷ as') = cond (eqb a.reg.0 r) (record { span = a.span; code = J8 } ∷ readings r as') (readings r as')
+
+-- one of the operands reads the register
+abbrev pub reads : ℕ → List Operand → Bool
+reads r as' = some_of (λ a. eqb a.reg.0 r) as'
+
+-- the point is there, and reads the register
+abbrev pub reads_in : ℕ → Option Point → Bool
+reads_in r None = false
+reads_in r (Some pt) = reads r (operands pt.kind)
 
 module _ (P : Program) (b : ℕ) where
   -- a row J7 or J10 of a point

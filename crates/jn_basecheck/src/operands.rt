@@ -7,6 +7,7 @@ use jn_points::{Operand, PointKind};
 
 /// The operands of a point, in the order in which they are evaluated (JLS 8, 15.7): up to three,
 /// then those of a list.
+#[derive(Clone, Copy)]
 pub struct Operands<'a> {
     pub first: Option<Operand>,
     pub second: Option<Operand>,

@@ -64,7 +64,7 @@ fn passes(point: &Point, avoided: Option<usize>) -> bool
     }
 }
 
-fn is_marked(marks: &Seq<bool>, at: usize) -> bool
+pub fn is_marked(marks: &Seq<bool>, at: usize) -> bool
     ensures { result ≡ get_or marks.now at false }
 {
     match marks.as_slice().get(at) {

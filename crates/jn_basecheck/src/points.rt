@@ -1,10 +1,13 @@
 // The rows J7 and J10 at the points of a body.
-ghost use Rattle.std.specs.Prelude.{◌≡◌, ◌++◌, OnOk};
+ghost use Rattle.std.specs.Prelude.{◌≡◌, ◌<◌, ◌++◌, length, OnOk};
 ghost use Rattle.jn_points.specs.BaseRows as rules;
 ghost use Rattle.jn_points.specs.Lookup as spec;
+ghost use Rattle.jn_basecheck.specs.Rows as rows_of;
 ghost use Rattle.jn_basecheck.specs.Wanted.{meant};
 
-use crate::lookup::{class_of, elem_base, field_base, owner, params_of, reg_base, result_base};
+use crate::lookup::{
+    body_of, class_of, elem_base, field_base, owner, params_of, point_of, reg_base, result_base,
+};
 use crate::types::{Want, is_void, push_all, push_arguments, push_operand, push_optional};
 use jn_base::{ClassNo, FieldNo, MethodNo, Row};
 use jn_points::{BaseType, Operand, Operator, PointKind, Program};
@@ -236,4 +239,36 @@ pub fn push_types(
         PointKind::StaticRead { .. } => Ok(()),
         PointKind::Goto { .. } => Ok(()),
     }
+}
+
+fn push_types_at(
+    rows: &mut Vec<Row>,
+    program: &Program,
+    body: usize,
+    at: usize,
+) -> Result<(), AllocError>
+    ensures { OnOk result (rows_of.Adds (rows_of.TypeRowAt program.now body at) rows.old.items rows.new.items) }
+{
+    match point_of(program, body, at) {
+        None => Ok(()),
+        Some(point) => push_types(rows, program, body, &point.kind),
+    }
+}
+
+/// The rows J7 and J10 of the body at a place.
+///
+/// # Errors
+/// No memory was found.
+pub fn push_body_types(
+    rows: &mut Vec<Row>,
+    program: &Program,
+    body: usize,
+) -> Result<(), AllocError>
+    requires { body < length program.now.bodies }
+    ensures { OnOk result (rows_of.Adds (rows_of.TypeRows program.now body) rows.old.items rows.new.items) }
+{
+    for at in 0..body_of(program, body).points.len() {
+        push_types_at(rows, program, body, at)?;
+    }
+    Ok(())
 }
