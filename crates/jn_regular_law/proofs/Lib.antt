@@ -1,0 +1,5 @@
+pub mod Subtypes
+pub mod Typed
+pub mod Bodies
+pub mod Shapes
+pub mod Whole

@@ -1,0 +1,17 @@
+// Laws over the definitions.
+ghost use Rattle.std.specs.Prelude.{ℕ, ◌<◌, length};
+ghost use Rattle.jn_points.specs.declared.program.Program.{Program as ProgramOf};
+ghost use Rattle.jn_points.specs.BaseRows.{NoBaseRows};
+ghost use Rattle.jn_points.specs.BaseTyping.{BaseTyped};
+ghost use Rattle.jn_points.specs.Regular.{Regular};
+ghost use Rattle.jn_points.specs.Shaped.{Shaped};
+ghost use Rattle.jn_transfer.specs.Contributions.{FieldSlots};
+ghost use Rattle.jn_transfer.specs.Sized.{StaysInside};
+
+/// What soundness asks of a program holds of each regular one without a row of base typing.
+pub fn regular_programs_are_typed()
+    ensures shaped { (P : ProgramOf) → Regular P → Shaped P }
+    ensures slots { (P : ProgramOf) → Regular P → FieldSlots P }
+    ensures inside { (P : ProgramOf) → Regular P → (b : ℕ) → b < length P.bodies → StaysInside P b }
+    ensures typed { (P : ProgramOf) → Regular P → NoBaseRows P → BaseTyped P }
+{}
