@@ -47,12 +47,12 @@ module _ (respects : (P : Program) (s : List Qualifier) (b : ℕ) (t : List (Opt
   accepted_never_null P s A =
       let tables = A.unbroken.tables in
       law (record { program = P; sig = s; tables = tables })
-        (record {
-          shaped = shaped P A.regular;
-          slots = slots P A.regular;
-          starts = λ n info is h. starts_there P 0 P.slots s n info A.starts is h;
-          respects = λ b x is. respects P s b (slice_index_or tables b []) (inside P A.regular b (inside_length P.bodies b x is)) (A.unbroken.least b);
-          closed = A.closed tables A.unbroken.least;
-          none = sym A.unbroken.all;
-        })
-        (typed P A.regular A.typed)
+      (record {
+        shaped = shaped P A.regular;
+        slots = slots P A.regular;
+        starts = λ n info is h. starts_there P 0 P.slots s n info A.starts is h;
+        respects = λ b x is. respects P s b (slice_index_or tables b []) (inside P A.regular b (inside_length P.bodies b x is)) (A.unbroken.least b);
+        closed = A.closed tables A.unbroken.least;
+        none = sym A.unbroken.all;
+      })
+      (typed P A.regular A.typed)
