@@ -1,14 +1,17 @@
 -- Rows of numbers below one more, and slots side by side.
-use Rattle.std.proofs.Common.{◌≡◌, ℕ, zero, suc, ◌+◌, ◌≤◌, ◌<◌, ◌⊎◌, inl, inr, length, drop, Bool, true, false, ◌||◌, not, List, [], ◌∷◌, ◌++◌, Option, None, refl, arith, ap, ◌∙◌, sym, append-nil}
+use Rattle.std.proofs.Common.{◌≡◌, ℕ, zero, suc, ◌+◌, ◌≤◌, ◌<◌, ◌⊎◌, inl, inr, length, drop, Bool, true, false, ◌||◌, not, List, [], ◌∷◌, ◌++◌, Option, Some, None, cond, refl, subst, arith, ap, ◌∙◌, sym, append-nil}
 use Rattle.std.specs.Prelude.{flat_map, slice_index_or}
 use Rattle.std.proofs.lemmas.List.{append_assoc}
 use Rattle.jn_base.specs.declared.number.SlotNo.{SlotNo}
 use Rattle.jn_base.specs.declared.place.Row.{Row}
 use Rattle.jn_quals.specs.Qualifier.{Qualifier}
 use Rattle.jn_quals.specs.Order.{within}
-use Rattle.jn_points.specs.Members.{below}
+use Rattle.jn_points.specs.Lookup.{method_at}
+use Rattle.jn_points.specs.Members.{below, is_pair, pairs_of}
 use Rattle.jn_sigs.specs.Signature.{slot_qual, slot_quals}
-use Rattle.jn_transfer.specs.Rules.{some_outside}
+use Rattle.jn_points.specs.declared.program.Method.{Method}
+use Rattle.jn_points.specs.declared.program.Program.{Program}
+use Rattle.jn_transfer.specs.Rules.{some_outside, override_rows, pair_rows}
 
 flat_last : (f : ℕ → List Row) (xs : List ℕ) (n : ℕ) → flat_map f (xs ++ n ∷ []) ≡ flat_map f xs ++ f n
 flat_last f [] n = append-nil (f n)
@@ -61,3 +64,20 @@ outside_more s under over i some more all u o e h =
 -- all slots have been looked at
 pub outside_end : (s : List Qualifier) (under over : List (Option SlotNo)) (i : ℕ) (some all : Bool) → (length under ≤ i) ⊎ (length over ≤ i) → (some || some_outside (slot_quals s (drop i under)) (slot_quals s (drop i over))) ≡ all → some ≡ all
 outside_end s under over i some all le h = sym (or_none some) ∙ ap (λ w. some || w) (sym (outside_past s under over i le)) ∙ h
+
+module _ (P : Program) (s : List Qualifier) (m k : ℕ) where
+  no_under : (over : Option Method) → pairs_of P m k over None ≡ false
+  no_under None = refl
+  no_under (Some over) = refl
+
+  pub no_pair : is_pair P m k ≡ false → pair_rows P s m k ≡ []
+  no_pair h = subst (λ t. cond t (override_rows s (method_at P m) (method_at P k)) [] ≡ []) (sym h) refl
+
+  pub none_over : method_at P m ≡ None → pair_rows P s m k ≡ []
+  none_over e = no_pair (ap (λ o. pairs_of P m k o (method_at P k)) e)
+
+  pub none_under : method_at P k ≡ None → pair_rows P s m k ≡ []
+  none_under e = no_pair (ap (λ o. pairs_of P m k (method_at P m) o) e ∙ no_under (method_at P m))
+
+  pub pair_there : (over under : Method) → method_at P m ≡ Some over → method_at P k ≡ Some under → is_pair P m k ≡ true → pair_rows P s m k ≡ override_rows s (Some over) (Some under)
+  pair_there over under eo eu h = subst (λ t. cond t (override_rows s (method_at P m) (method_at P k)) [] ≡ override_rows s (method_at P m) (method_at P k)) (sym h) refl ∙ ap (λ o. override_rows s o (method_at P k)) eo ∙ ap (λ o. override_rows s (Some over) o) eu

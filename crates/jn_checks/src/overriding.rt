@@ -77,25 +77,8 @@ fn push_override(
     push_if(rows, result, over.span, Code::OvrResult)
 }
 
-fn push_methods(
-    rows: &mut Vec<Row>,
-    program: &Program,
-    sig: &Sig,
-    m: MethodNo,
-    k: MethodNo,
-) -> Result<(), AllocError>
-    ensures { OnOk result (rows.new.items ≡ rows.old.items ++ spec.override_rows sig.now (method_at program.now m.0) (method_at program.now k.0)) }
-{
-    match method_at(program, m.0 as usize) {
-        None => Ok(()),
-        Some(over) => match method_at(program, k.0 as usize) {
-            None => Ok(()),
-            Some(under) => push_override(rows, sig, over, under),
-        },
-    }
-}
-
 /// The rows of two methods, where the first overrides the second.
+#[tactic(auto, using(crate::proofs::Pairs::none_over, crate::proofs::Pairs::none_under, crate::proofs::Pairs::no_pair, crate::proofs::Pairs::pair_there))]
 fn push_pair(
     rows: &mut Vec<Row>,
     program: &Program,
@@ -106,14 +89,23 @@ fn push_pair(
     requires few { length program.now.classes < 2 ^ 32 }
     ensures { OnOk result (rows.new.items ≡ rows.old.items ++ spec.pair_rows program.now sig.now m.0 k.0) }
 {
-    if is_pair(program, m, k) {
-        push_methods(rows, program, sig, m, k)
-    } else {
-        Ok(())
+    match method_at(program, m.0 as usize) {
+        None => Ok(()),
+        Some(over) => match method_at(program, k.0 as usize) {
+            None => Ok(()),
+            Some(under) => {
+                if is_pair(program, m, k) {
+                    push_override(rows, sig, over, under)
+                } else {
+                    Ok(())
+                }
+            }
+        },
     }
 }
 
 /// The rows of a method with all methods that it overrides.
+#[tactic(auto, using(crate::proofs::Pairs::rows_more))]
 fn push_overrider(
     rows: &mut Vec<Row>,
     program: &Program,
@@ -134,6 +126,7 @@ fn push_overrider(
 ///
 /// # Errors
 /// No memory was found.
+#[tactic(auto, using(crate::proofs::Pairs::rows_more))]
 pub fn override_rows(alloc: Global, program: &Program, sig: &Sig) -> Result<Vec<Row>, OutOfMemory>
     requires few { length program.now.classes < 2 ^ 32 }
     requires methods { length program.now.methods < 2 ^ 32 }

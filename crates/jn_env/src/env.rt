@@ -142,11 +142,8 @@ impl Env {
         ensures quals { self.new.quals ≡ self.old.quals }
         ensures assigned { self.new.assigned ≡ self.old.assigned }
     {
-        set_bits(
-            keys.facts.as_slice(),
-            &mut self.facts,
-            Which::Exactly(reg, field),
-        );
+        let facts = keys.facts.as_slice();
+        set_bits(facts, &mut self.facts, Which::Exactly(reg, field));
     }
 
     /// Forgets what is known of the field, in objects of all registers; with None all facts.

@@ -3,3 +3,5 @@ pub mod Typed
 pub mod Bodies
 pub mod Shapes
 pub mod Whole
+pub mod ChainLists
+pub mod ChainPoints

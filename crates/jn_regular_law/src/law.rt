@@ -7,6 +7,7 @@ ghost use Rattle.jn_points.specs.Regular.{Regular};
 ghost use Rattle.jn_points.specs.Shaped.{Shaped};
 ghost use Rattle.jn_transfer.specs.Contributions.{FieldSlots};
 ghost use Rattle.jn_transfer.specs.Sized.{StaysInside};
+ghost use Rattle.jn_soundness.specs.ChainExample.{chain_program};
 
 /// What soundness asks of a program holds of each regular one without a row of base typing.
 pub fn regular_programs_are_typed()
@@ -14,4 +15,11 @@ pub fn regular_programs_are_typed()
     ensures slots { (P : ProgramOf) → Regular P → FieldSlots P }
     ensures inside { (P : ProgramOf) → Regular P → (b : ℕ) → b < length P.bodies → StaysInside P b }
     ensures typed { (P : ProgramOf) → Regular P → NoBaseRows P → BaseTyped P }
+{}
+
+/// The law on regular programs is of use: the example with a chain of constructors, a cycle of
+/// objects and an array is regular and has no row of base typing.
+pub fn regular_programs_exist()
+    ensures regular { Regular chain_program }
+    ensures untouched { NoBaseRows chain_program }
 {}

@@ -59,7 +59,7 @@ no_test b p = by (point_at chain_program b p) refl
     by None is = refl
     by (Some pt) is = all b p pt is
 
-free_entry : (b to : ℕ) (k : PointKind) → FromRead k (test_at chain_program b to)
+pub free_entry : (b to : ℕ) (k : PointKind) → FromRead k (test_at chain_program b to)
 free_entry b to k = subst (λ o. FromRead k o) (sym (no_test b to)) tt
 
 edges_regular : (b p : ℕ) (k : PointKind) → ((b ≡ 2) × (p ≡ 0) → NotCtorCall k → ⊥) → (to : ℕ) → LeadsTo (edges_of k p) to → RegularEdge chain_program b p k to
@@ -92,10 +92,10 @@ module _ (b p : ℕ) (away : (eqb b 2 && eqb p 0) ≡ false) where
       ending k = tt
 
 class_a : IsObjectClass chain_program 2
-class_a = record { info = class_under 0; there = refl; class = refl; no_string = refl }
+class_a = record { info = class_under 2 0 false; there = refl; class = refl; no_string = refl }
 
 class_b : IsObjectClass chain_program 3
-class_b = record { info = class_under 2; there = refl; class = refl; no_string = refl }
+class_b = record { info = class_under 3 2 false; there = refl; class = refl; no_string = refl }
 
 -- fields
 
@@ -399,7 +399,7 @@ ctor_pairs m k (Some x) (Some y) h = by x.ctor h
     by true h = refl
     by false h = cc
 
-no_pairs : (m k : ℕ) → is_pair chain_program m k ≡ false
+pub no_pairs : (m k : ℕ) → is_pair chain_program m k ≡ false
 no_pairs zero k = ctor_pairs 0 k (method_at chain_program 0) (method_at chain_program k) refl
 no_pairs (suc zero) k = ctor_pairs 1 k (method_at chain_program 1) (method_at chain_program k) refl
 no_pairs (suc (suc zero)) k = ctor_pairs 2 k (method_at chain_program 2) (method_at chain_program k) refl

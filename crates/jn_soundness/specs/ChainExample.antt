@@ -22,8 +22,8 @@ use Rattle.jn_soundness.specs.PlainExample.{no_span, point_of, reg, strings, obj
 abbrev pub ref : ℕ → BaseType
 ref c = Ref (record { 0 = c })
 
-abbrev pub field_in_class : ℕ → ℕ → ℕ → Field
-field_in_class class type slot = record { name = record { 0 = slot }; span = no_span; owner = record { 0 = class }; base = ref type; is_static = false; is_final = false; is_private = false; first = pos 0; slot = Some (record { 0 = slot }) }
+abbrev pub field_in_class : ℕ → ℕ → ℕ → ℕ → Field
+field_in_class name class type slot = record { name = record { 0 = name }; span = no_span; owner = record { 0 = class }; base = ref type; is_static = false; is_final = false; is_private = false; first = pos 0; slot = Some (record { 0 = slot }) }
 
 abbrev pub ctor_in : ℕ → List BaseType → List (Option SlotNo) → ℕ → Method
 ctor_in class params slots body = record {
@@ -69,8 +69,8 @@ body_of_method m regs locals points = record { method = record { 0 = m }; regs =
 
 abbrev pub chain_program : Program
 chain_program = record {
-  classes = object_class ∷ class_under 0 ∷ class_under 0 ∷ class_under 2 ∷ [];
-  fields = field_in_class 2 2 0 ∷ field_in_class 3 1 1 ∷ [];
+  classes = object_class ∷ class_under 1 0 true ∷ class_under 2 0 false ∷ class_under 3 2 false ∷ [];
+  fields = field_in_class 5 2 2 0 ∷ field_in_class 6 3 1 1 ∷ [];
   methods = ctor_in 2 [] [] 0 ∷ ctor_in 2 (ref 2 ∷ []) (Some (record { 0 = 2 }) ∷ []) 1 ∷ ctor_in 3 [] [] 2 ∷ main_method 3 3 3 ∷ [];
   bodies = body_of_method 0 (ref 2 ∷ ref 2 ∷ []) 1 first_points
       ∷ body_of_method 1 (ref 2 ∷ ref 2 ∷ []) 2 second_points

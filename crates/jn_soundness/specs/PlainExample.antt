@@ -1,5 +1,5 @@
 -- A program of one body, so that no law on plain programs is empty: `String s = "x"; println(s.length()); if (s == null) ; return`.
-use Rattle.std.specs.Prelude.{ℕ, true, false, List, [], ◌∷◌, Option, Some, None}
+use Rattle.std.specs.Prelude.{ℕ, Bool, true, false, List, [], ◌∷◌, Option, Some, None}
 use Rattle.jn_base.specs.declared.place.Span.{Span}
 use Rattle.jn_quals.specs.Qualifier.{Qualifier}
 use Rattle.jn_quals.specs.Order.{no_qual, committed_only}
@@ -32,14 +32,14 @@ strings = Array (RefElem (record { 0 = 1 })) false
 abbrev pub object_class : Class
 object_class = record { name = record { 0 = 0 }; span = no_span; interface = false; is_abstract = false; is_final = false; parent = None; supers = [] }
 
--- a class within another one
-abbrev pub class_under : ℕ → Class
-class_under parent = record { name = record { 0 = 1 }; span = no_span; interface = false; is_abstract = false; is_final = true; parent = Some (record { 0 = parent }); supers = record { 0 = parent } ∷ [] }
+-- a class of a name right under another one
+abbrev pub class_under : ℕ → ℕ → Bool → Class
+class_under name parent is_final = record { name = record { 0 = name }; span = no_span; interface = false; is_abstract = false; is_final = is_final; parent = Some (record { 0 = parent }); supers = record { 0 = parent } ∷ [] }
 
 -- `main` of a class, with a body, whose parameter has a slot
 abbrev pub main_method : ℕ → ℕ → ℕ → Method
 main_method class body slot = record {
-  name = record { 0 = 2 };
+  name = record { 0 = 4 };
   span = no_span;
   owner = record { 0 = class };
   params = strings ∷ [];
@@ -67,7 +67,7 @@ plain_points =
 
 abbrev pub plain_program : Program
 plain_program = record {
-  classes = object_class ∷ class_under 0 ∷ class_under 0 ∷ [];
+  classes = object_class ∷ class_under 1 0 true ∷ class_under 2 0 false ∷ [];
   fields = [];
   methods = main_method 2 0 0 ∷ [];
   bodies = record { method = record { 0 = 0 }; regs = strings ∷ Ref (record { 0 = 1 }) ∷ Int ∷ []; locals = 2; points = plain_points } ∷ [];

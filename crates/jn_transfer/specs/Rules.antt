@@ -147,7 +147,7 @@ module _ (P : Program) (s : List Qualifier) where
 
   -- broken rules of an overriding pair
   abbrev pub pair_rows : ℕ → ℕ → List Row
-  pair_rows m k = cond (is_pair P m k) (override_rows (method_at P m) (method_at P k)) []
+  pair_rows m k = cond (is_pair P m k) (override_rows s (method_at P m) (method_at P k)) []
 
   abbrev pub pairs_rows : List Row
   pairs_rows = flat_map (λ m. flat_map (pair_rows m) (below (length P.methods))) (below (length P.methods))

@@ -1,10 +1,9 @@
 -- The body of a form's program is one that flow and checks take, and what they give are the rules' rows.
-use Rattle.std.proofs.Common.{◌≡◌, ◌+◌, ◌<◌, ◌≤◌, List, [], ◌∷◌, length, map, None, refl, sym, ap, ◌∙◌, subst, arith, length-append}
+use Rattle.std.proofs.Common.{◌≡◌, ◌+◌, ◌<◌, ◌≤◌, List, [], ◌∷◌, length, None, sym, subst, arith, length-append}
 use Rattle.jn_base.specs.declared.place.Row.{Row}
 use Rattle.jn_quals.specs.Qualifier.{Qualifier}
 use Rattle.jn_trees.specs.declared.token.Token.{Token}
 use Rattle.jn_points.specs.declared.point.PointKind.TheVariants.{Return}
-use Rattle.jn_points.specs.declared.program.SlotInfo.{SlotInfo}
 use Rattle.jn_points.specs.declared.program.Program.{Program}
 use Rattle.jn_points.specs.Lookup.{points_of, body_at}
 use Rattle.jn_sigs.specs.Signature.{start_signature}

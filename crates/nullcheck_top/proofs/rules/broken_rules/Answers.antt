@@ -2,7 +2,7 @@ use Rattle.nullcheck_top.proofs.MainRows.{suits, rules_give}
 use Rattle.nullcheck_top.proofs.rules.broken_rules.Goals as goal
 
 pub start-requires : goal.start-requires
-start-requires c = (suits c.args.program.now c.requires).slots
+start-requires c = record { few = (suits c.args.program.now c.requires).slots }
 
 pub returns : goal.returns
 returns c =
