@@ -1,1 +1,2 @@
+mod OneMain
 mod Solved

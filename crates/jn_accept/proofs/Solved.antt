@@ -1,7 +1,6 @@
 -- Accepted programs are solved: the least tables respect the edges, and slots that aren't inferred have what they start with.
 use Rattle.std.proofs.Common.{◌≡◌, ℕ, zero, suc, ◌+◌, ◌<◌, arith, true, false, cond, IsTrue, List, [], ◌∷◌, length, Option, Some, refl, sym, ap, ◌∙◌, subst}
 use Rattle.std.specs.Prelude.{slice_get, slice_index_or}
-use Rattle.std.proofs.lemmas.Option.{slice_get_inside}
 use Rattle.jn_quals.specs.Qualifier.{Qualifier}
 use Rattle.jn_quals.specs.Order.{no_qual, committed_only, within}
 use Rattle.jn_points.specs.declared.program.Body.{Body}

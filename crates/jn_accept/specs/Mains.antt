@@ -1,5 +1,5 @@
 -- The form of a main, as a test.
-use Rattle.std.specs.Prelude.{ℕ, Bool, true, false, not, ◌&&◌, List, [], ◌∷◌, Option, Some, None, slice_get}
+use Rattle.std.specs.Prelude.{ℕ, ◌<◌, ◌≤◌, Bool, true, false, not, ◌&&◌, List, [], ◌∷◌, Option, Some, None, slice_get}
 use Rattle.jn_base.specs.declared.number.BodyNo.{BodyNo}
 use Rattle.jn_base.specs.declared.number.SlotNo.{SlotNo}
 use Rattle.jn_quals.specs.Order.{committed_only, within}
@@ -7,6 +7,7 @@ use Rattle.jn_points.specs.declared.program.Method.{Method}
 use Rattle.jn_points.specs.declared.program.SlotInfo.{SlotInfo}
 use Rattle.jn_points.specs.declared.program.Program.{Program}
 use Rattle.jn_points.specs.Regular.{has_body}
+use Rattle.jn_accept.specs.Accepting.{IsMain}
 
 abbrev pub is_committed : Option SlotInfo → Bool
 is_committed None = false
@@ -22,3 +23,15 @@ module _ (P : Program) where
   -- declared as a main, with a body, and with one parameter whose slot is written or by default {C}
   abbrev pub has_form : Method → Bool
   has_form x = x.is_main && has_body x.body && takes_committed x.param_slots
+
+  abbrev pub NoneBetween : ℕ → ℕ → Type 0
+  NoneBetween i n = (k : ℕ) → i ≤ k → k < n → IsMain P k → ⊥
+
+  abbrev pub NoneFrom : ℕ → Type 0
+  NoneFrom i = (k : ℕ) → i ≤ k → IsMain P k → ⊥
+
+  -- the first method of the form from place i on
+  pub record IsFirst (i n : ℕ) : Type 0 where
+    pub from : i ≤ n
+    pub main : IsMain P n
+    pub none : NoneBetween i n
