@@ -1,0 +1,15 @@
+use Rattle.std.proofs.Common.{◌≡◌, ◌++◌}
+use Rattle.jn_points.specs.BaseRows.{type_rows}
+use Rattle.jn_basecheck.specs.Rows.{Adds, TypeRowAt}
+use Rattle.jn_basecheck.proofs.Meant.{on_ok, types_here}
+use Rattle.jn_basecheck.proofs.points.push_types_at.Goals as goal
+
+pub returns-in-Some : goal.returns-in-Some
+returns-in-Some c =
+    let P = c.args.program.now in
+    let b = c.args.body in
+    let p = c.args.at in
+    let pt = c.in-Some.point.now in
+    let old = c.args.rows.now.items in
+    let new = c.push_types.new.rows.items in
+    on_ok c.push_types.result (new ≡ old ++ type_rows P b pt.kind) (Adds (TypeRowAt P b p) old new) (types_here P b p pt c.in-Some.ensures old new) c.push_types.ensures

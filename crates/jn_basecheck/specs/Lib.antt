@@ -1,0 +1,4 @@
+pub mod Wanted
+pub mod Rows
+pub mod Marks
+pub mod Listed

@@ -1,0 +1,11 @@
+// Base typing of a program's bodies: the rows J7 to J10.
+#![tactic(auto)]
+
+pub mod assigned;
+pub mod check;
+pub mod lookup;
+pub mod operands;
+pub mod paths;
+pub mod points;
+pub mod results;
+pub mod types;
