@@ -177,8 +177,8 @@ ctor_regular m c b params slots is low high below bases match there i = record {
     never : true ≡ false → ⊥
     never h = cc
 
-hides_none : (k : ℕ) (y : Method) → method_at chain_program k ≡ Some y → is_named y 4 1 ≡ true → eqb 3 y.owner.0 ≡ false → ⊥
-hides_none = each_at (λ k y. is_named y 4 1 ≡ true → eqb 3 y.owner.0 ≡ false → ⊥) chain_program.methods ((λ n o. cc), ((λ n o. cc), ((λ n o. cc), ((λ n o. cc), tt))))
+hides_none : (k : ℕ) (y : Method) → method_at chain_program k ≡ Some y → is_named y 9 1 ≡ true → eqb 3 y.owner.0 ≡ false → ⊥
+hides_none = each_at (λ k y. is_named y 9 1 ≡ true → eqb 3 y.owner.0 ≡ false → ⊥) chain_program.methods ((λ n o. cc), ((λ n o. cc), ((λ n o. cc), ((λ n o. cc), tt))))
 
 main_regular : RegularMethod chain_program 3 (main_method 3 3 3)
 main_regular = record {

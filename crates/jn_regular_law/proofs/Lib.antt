@@ -3,5 +3,8 @@ pub mod Typed
 pub mod Bodies
 pub mod Shapes
 pub mod Whole
+pub mod Given
 pub mod ChainLists
 pub mod ChainPoints
+pub mod DispatchLists
+pub mod DispatchPoints

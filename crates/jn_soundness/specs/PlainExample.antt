@@ -39,7 +39,7 @@ class_under name parent is_final = record { name = record { 0 = name }; span = n
 -- `main` of a class, with a body, whose parameter has a slot
 abbrev pub main_method : ℕ → ℕ → ℕ → Method
 main_method class body slot = record {
-  name = record { 0 = 4 };
+  name = record { 0 = 9 };
   span = no_span;
   owner = record { 0 = class };
   params = strings ∷ [];
