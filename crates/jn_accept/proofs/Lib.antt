@@ -1,0 +1,2 @@
+mod OneMain
+mod Solved
