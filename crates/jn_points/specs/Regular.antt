@@ -1,5 +1,5 @@
 -- Regular programs: what the lists of a program have where its files have no row of the class table and of lowering. Class 0 is Object and class 1 String.
-use Rattle.std.specs.Prelude.{ℕ, ◌≡◌, ◌<◌, ◌≤◌, ◌⊎◌, Bool, true, false, not, ◌||◌, cond, eqb, List, [], ◌∷◌, length, pos, Option, Some, None, slice_get}
+use Rattle.std.specs.Prelude.{ℕ, ◌^◌, ◌≡◌, ◌<◌, ◌≤◌, ◌⊎◌, Bool, true, false, not, ◌||◌, cond, eqb, List, [], ◌∷◌, length, pos, Option, Some, None, slice_get}
 use Rattle.jn_base.specs.declared.number.BodyNo.{BodyNo}
 use Rattle.jn_base.specs.declared.number.ClassNo.{ClassNo}
 use Rattle.jn_base.specs.declared.number.PointNo.{PointNo}
@@ -284,6 +284,7 @@ module _ (P : Program) where
 
   pub record RegularBody (ctor_rank : ℕ → ℕ) (b : ℕ) (x : Body) : Type 0 where
     pub some : 0 < length x.points
+    pub few : length x.points < 2 ^ 32
     pub method : x.method.0 < length P.methods
     pub its_own : (m : ℕ) → body_of (method_at P m) ≡ Some b → m ≡ x.method.0
     pub of_method : body_of (method_at P x.method.0) ≡ Some b
@@ -297,7 +298,16 @@ module _ (P : Program) where
     -- a constructor calls another one unless its class is Object or stands right under it
     pub calls : ctor_of (method_in P b) ≡ true → CallsCtor b ⊎ UnderObject (class_of (method_in P b))
 
+  -- each item has a number of 32 bits
+  pub record FewItems : Type 0 where
+    pub classes : length P.classes < 2 ^ 32
+    pub fields : length P.fields < 2 ^ 32
+    pub methods : length P.methods < 2 ^ 32
+    pub bodies : length P.bodies < 2 ^ 32
+    pub slots : length P.slots < 2 ^ 32
+
   pub record Regular : Type 0 where
+    pub few : FewItems
     pub classes : RegularClasses
     pub fields : (f : ℕ) (x : Field) → field_info P f ≡ Some x → RegularField f x
     pub methods : (m : ℕ) (x : Method) → method_at P m ≡ Some x → RegularMethod m x

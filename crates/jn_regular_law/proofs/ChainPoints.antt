@@ -65,10 +65,11 @@ own_body (suc (suc (suc zero))) b is = cc
 own_body (suc (suc (suc (suc m)))) b is = cc
 
 bodies : (b : ℕ) (x : Body) → body_at chain_program b ≡ Some x → RegularBody chain_program no_rank b x
-bodies = each_at (λ b x. RegularBody chain_program no_rank b x) chain_program.bodies (record { some = omega arith; method = omega arith; its_own = λ m is. own_body m 0 is; of_method = refl; front = (refl, tt); given = omega arith; locals = omega arith; bases = ((omega arith, tt), ((omega arith, tt), tt)); entry = refl; points = points 0; ctor_calls = ctor_calls 0; calls = λ c. inr (inr refl) }, (record { some = omega arith; method = omega arith; its_own = λ m is. own_body m 1 is; of_method = refl; front = (refl, (refl, tt)); given = omega arith; locals = omega arith; bases = ((omega arith, tt), ((omega arith, tt), tt)); entry = refl; points = points 1; ctor_calls = ctor_calls 1; calls = λ c. inr (inr refl) }, (record { some = omega arith; method = omega arith; its_own = λ m is. own_body m 2 is; of_method = refl; front = (refl, tt); given = omega arith; locals = omega arith; bases = ((omega arith, tt), ((omega arith, tt), tt)); entry = refl; points = points 2; ctor_calls = ctor_calls 2; calls = λ c. inl (0, 0, false, record { pt = _; args = []; there = refl; calls = refl }) }, (record { some = omega arith; method = omega arith; its_own = λ m is. own_body m 3 is; of_method = refl; front = (refl, tt); given = omega arith; locals = omega arith; bases = ((omega arith, tt), ((omega arith, tt), ((omega arith, tt), ((omega arith, tt), tt)))); entry = refl; points = points 3; ctor_calls = ctor_calls 3; calls = λ c. cc }, tt))))
+bodies = each_at (λ b x. RegularBody chain_program no_rank b x) chain_program.bodies (record { some = omega arith; few = omega arith; method = omega arith; its_own = λ m is. own_body m 0 is; of_method = refl; front = (refl, tt); given = omega arith; locals = omega arith; bases = ((omega arith, tt), ((omega arith, tt), tt)); entry = refl; points = points 0; ctor_calls = ctor_calls 0; calls = λ c. inr (inr refl) }, (record { some = omega arith; few = omega arith; method = omega arith; its_own = λ m is. own_body m 1 is; of_method = refl; front = (refl, (refl, tt)); given = omega arith; locals = omega arith; bases = ((omega arith, tt), ((omega arith, tt), tt)); entry = refl; points = points 1; ctor_calls = ctor_calls 1; calls = λ c. inr (inr refl) }, (record { some = omega arith; few = omega arith; method = omega arith; its_own = λ m is. own_body m 2 is; of_method = refl; front = (refl, tt); given = omega arith; locals = omega arith; bases = ((omega arith, tt), ((omega arith, tt), tt)); entry = refl; points = points 2; ctor_calls = ctor_calls 2; calls = λ c. inl (0, 0, false, record { pt = _; args = []; there = refl; calls = refl }) }, (record { some = omega arith; few = omega arith; method = omega arith; its_own = λ m is. own_body m 3 is; of_method = refl; front = (refl, tt); given = omega arith; locals = omega arith; bases = ((omega arith, tt), ((omega arith, tt), ((omega arith, tt), ((omega arith, tt), tt)))); entry = refl; points = points 3; ctor_calls = ctor_calls 3; calls = λ c. cc }, tt))))
 
 pub chain_is_regular : Regular chain_program
 chain_is_regular = record {
+  few = record { classes = omega arith; fields = omega arith; methods = omega arith; bodies = omega arith; slots = omega arith };
   classes = chain_classes;
   fields = chain_fields;
   methods = chain_methods;

@@ -93,10 +93,11 @@ own_body (suc (suc (suc (suc (suc (suc (suc zero))))))) b is = some_is (λ b. 7 
 own_body (suc (suc (suc (suc (suc (suc (suc (suc m)))))))) b is = cc
 
 bodies : (b : ℕ) (x : Body) → body_at dispatch_program b ≡ Some x → RegularBody dispatch_program (λ m. m) b x
-bodies = each_at (λ b x. RegularBody dispatch_program (λ m. m) b x) dispatch_program.bodies (record { some = omega arith; method = omega arith; its_own = λ m is. own_body m 0 is; of_method = refl; front = (refl, tt); given = omega arith; locals = omega arith; bases = ((omega arith, tt), tt); entry = refl; points = points 0; ctor_calls = ctor_calls 0; calls = λ c. inr (inl refl) }, (record { some = omega arith; method = omega arith; its_own = λ m is. own_body m 1 is; of_method = refl; front = (refl, (refl, tt)); given = omega arith; locals = omega arith; bases = ((omega arith, tt), ((omega arith, tt), tt)); entry = refl; points = points 1; ctor_calls = ctor_calls 1; calls = λ c. inr (inr refl) }, (record { some = omega arith; method = omega arith; its_own = λ m is. own_body m 2 is; of_method = refl; front = (refl, tt); given = omega arith; locals = omega arith; bases = ((omega arith, tt), (tt, tt)); entry = refl; points = points 2; ctor_calls = ctor_calls 2; calls = λ c. inl (1, 2, true, record { pt = _; args = reg 1 ∷ []; there = refl; calls = refl }) }, (record { some = omega arith; method = omega arith; its_own = λ m is. own_body m 3 is; of_method = refl; front = (refl, tt); given = omega arith; locals = omega arith; bases = ((omega arith, tt), ((omega arith, tt), ((omega arith, tt), tt))); entry = refl; points = points 3; ctor_calls = ctor_calls 3; calls = λ c. cc }, (record { some = omega arith; method = omega arith; its_own = λ m is. own_body m 4 is; of_method = refl; front = (refl, tt); given = omega arith; locals = omega arith; bases = ((omega arith, tt), tt); entry = refl; points = points 4; ctor_calls = ctor_calls 4; calls = λ c. inl (0, 3, false, record { pt = _; args = []; there = refl; calls = refl }) }, (record { some = omega arith; method = omega arith; its_own = λ m is. own_body m 5 is; of_method = refl; front = (refl, tt); given = omega arith; locals = omega arith; bases = ((omega arith, tt), ((omega arith, tt), tt)); entry = refl; points = points 5; ctor_calls = ctor_calls 5; calls = λ c. cc }, (record { some = omega arith; method = omega arith; its_own = λ m is. own_body m 6 is; of_method = refl; front = (refl, tt); given = omega arith; locals = omega arith; bases = ((omega arith, tt), ((omega arith, tt), ((omega arith, tt), (tt, ((omega arith, tt), ((omega arith, tt), (tt, tt))))))); entry = refl; points = points 6; ctor_calls = ctor_calls 6; calls = λ c. cc }, tt)))))))
+bodies = each_at (λ b x. RegularBody dispatch_program (λ m. m) b x) dispatch_program.bodies (record { some = omega arith; few = omega arith; method = omega arith; its_own = λ m is. own_body m 0 is; of_method = refl; front = (refl, tt); given = omega arith; locals = omega arith; bases = ((omega arith, tt), tt); entry = refl; points = points 0; ctor_calls = ctor_calls 0; calls = λ c. inr (inl refl) }, (record { some = omega arith; few = omega arith; method = omega arith; its_own = λ m is. own_body m 1 is; of_method = refl; front = (refl, (refl, tt)); given = omega arith; locals = omega arith; bases = ((omega arith, tt), ((omega arith, tt), tt)); entry = refl; points = points 1; ctor_calls = ctor_calls 1; calls = λ c. inr (inr refl) }, (record { some = omega arith; few = omega arith; method = omega arith; its_own = λ m is. own_body m 2 is; of_method = refl; front = (refl, tt); given = omega arith; locals = omega arith; bases = ((omega arith, tt), (tt, tt)); entry = refl; points = points 2; ctor_calls = ctor_calls 2; calls = λ c. inl (1, 2, true, record { pt = _; args = reg 1 ∷ []; there = refl; calls = refl }) }, (record { some = omega arith; few = omega arith; method = omega arith; its_own = λ m is. own_body m 3 is; of_method = refl; front = (refl, tt); given = omega arith; locals = omega arith; bases = ((omega arith, tt), ((omega arith, tt), ((omega arith, tt), tt))); entry = refl; points = points 3; ctor_calls = ctor_calls 3; calls = λ c. cc }, (record { some = omega arith; few = omega arith; method = omega arith; its_own = λ m is. own_body m 4 is; of_method = refl; front = (refl, tt); given = omega arith; locals = omega arith; bases = ((omega arith, tt), tt); entry = refl; points = points 4; ctor_calls = ctor_calls 4; calls = λ c. inl (0, 3, false, record { pt = _; args = []; there = refl; calls = refl }) }, (record { some = omega arith; few = omega arith; method = omega arith; its_own = λ m is. own_body m 5 is; of_method = refl; front = (refl, tt); given = omega arith; locals = omega arith; bases = ((omega arith, tt), ((omega arith, tt), tt)); entry = refl; points = points 5; ctor_calls = ctor_calls 5; calls = λ c. cc }, (record { some = omega arith; few = omega arith; method = omega arith; its_own = λ m is. own_body m 6 is; of_method = refl; front = (refl, tt); given = omega arith; locals = omega arith; bases = ((omega arith, tt), ((omega arith, tt), ((omega arith, tt), (tt, ((omega arith, tt), ((omega arith, tt), (tt, tt))))))); entry = refl; points = points 6; ctor_calls = ctor_calls 6; calls = λ c. cc }, tt)))))))
 
 pub dispatch_is_regular : Regular dispatch_program
 dispatch_is_regular = record {
+  few = record { classes = omega arith; fields = omega arith; methods = omega arith; bodies = omega arith; slots = omega arith };
   classes = dispatch_classes;
   fields = dispatch_fields;
   methods = dispatch_methods;
