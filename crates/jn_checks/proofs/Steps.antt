@@ -8,7 +8,7 @@ use Rattle.jn_points.specs.declared.point.Operand.{Operand}
 use Rattle.jn_points.specs.Members.{some_of}
 use Rattle.jn_sigs.specs.Signature.{slot_quals}
 use Rattle.jn_env.specs.declared.env.Env.{Env}
-use Rattle.jn_transfer.specs.Keys.{is_on}
+use Rattle.jn_env.specs.Keys.{is_on}
 use Rattle.jn_transfer.specs.Rules.{arg_rows}
 
 none_given : (e : Env) (qs : List Qualifier) → arg_rows e qs [] ≡ []

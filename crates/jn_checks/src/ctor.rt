@@ -3,17 +3,16 @@ ghost use Rattle.std.specs.Prelude.{◌≡◌, ◌++◌, ◌&&◌, eqb, false, n
 ghost use Rattle.jn_points.specs.Lookup.{method_of_body, body_at, points_of};
 ghost use Rattle.jn_points.specs.Members.{some_of};
 ghost use Rattle.jn_sigs.specs.Signature.{field_qual};
-ghost use Rattle.jn_transfer.specs.Keys.{is_on, own_keys};
+ghost use Rattle.jn_env.specs.Keys.{is_on, own_keys};
 ghost use Rattle.jn_transfer.specs.Rules.{is_unset, unset_at, unset_from, ctor_rows};
-ghost use Rattle.jn_transfer.specs.Code.{AreKeys};
+ghost use Rattle.jn_env.specs.Code.{AreKeys};
 
 use crate::rules::push_if;
 use jn_base::{Code, Row};
-use jn_ctor::is_assigned;
-use jn_env::Env;
+use jn_env::bits::either;
+use jn_env::{Env, is_assigned};
 use jn_points::{Body, Point, PointKind};
 use jn_transfer::Analysis;
-use jn_transfer::bits::either;
 use jn_transfer::lookup::field_qual;
 use std::alloc::AllocError;
 

@@ -12,7 +12,7 @@ use crate::rules::{
 use jn_base::{BodyNo, MethodNo, Row};
 use jn_env::Env;
 use jn_points::{Operand, Point, PointKind, Program};
-use jn_quals::Qual;
+use jn_sigs::Sig;
 use jn_transfer::lookup::reg_base;
 use std::alloc::AllocError;
 
@@ -36,7 +36,7 @@ fn dereferences(kind: &PointKind) -> Option<Operand>
 pub fn push_rows(
     rows: &mut Vec<Row>,
     program: &Program,
-    sig: &[Qual],
+    sig: &Sig,
     body: BodyNo,
     point: &Point,
     slot: &Option<Env>,
@@ -56,7 +56,7 @@ pub fn push_rows(
 fn push_kind(
     rows: &mut Vec<Row>,
     program: &Program,
-    sig: &[Qual],
+    sig: &Sig,
     body: BodyNo,
     env: &Env,
     point: &Point,
@@ -99,7 +99,7 @@ fn push_kind(
 fn push_call(
     rows: &mut Vec<Row>,
     program: &Program,
-    sig: &[Qual],
+    sig: &Sig,
     env: &Env,
     method: MethodNo,
     receiver: Option<Operand>,

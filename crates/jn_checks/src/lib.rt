@@ -3,9 +3,11 @@
 
 pub mod ctor;
 pub mod kinds;
+pub mod overriding;
 pub mod rows;
 pub mod rules;
 
+pub use overriding::override_rows;
 pub use rows::checks;
 
 #[cfg(test)]

@@ -6,11 +6,10 @@ ghost use Rattle.jn_transfer.specs.Rules.{body_rows, rows_from};
 use crate::ctor::push_ctor;
 use crate::kinds::push_rows;
 use jn_base::{BodyNo, OutOfMemory, Row};
-use jn_env::Env;
-use jn_flow::FlowTable;
+use jn_env::{Env, FlowTable, find_keys};
 use jn_points::{Point, Program};
-use jn_quals::Qual;
-use jn_transfer::{Analysis, find_keys};
+use jn_sigs::Sig;
+use jn_transfer::Analysis;
 use std::alloc::{AllocError, Global};
 
 /// The rows of the broken rules of a body under a table: point by point, then the constructor's.
@@ -20,7 +19,7 @@ use std::alloc::{AllocError, Global};
 pub fn checks(
     alloc: Global,
     program: &Program,
-    sig: &[Qual],
+    sig: &Sig,
     body: BodyNo,
     table: &FlowTable,
 ) -> Result<Vec<Row>, OutOfMemory>
@@ -53,7 +52,7 @@ pub fn checks(
 fn push_points(
     rows: &mut Vec<Row>,
     program: &Program,
-    sig: &[Qual],
+    sig: &Sig,
     body: BodyNo,
     points: &[Point],
     slots: &[Option<Env>],

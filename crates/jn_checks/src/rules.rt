@@ -8,6 +8,7 @@ use jn_base::{BodyNo, Code, FieldNo, MethodNo, Row, SlotNo, Span};
 use jn_env::Env;
 use jn_points::{BaseType, Elem, Operand, Program, StrOperation};
 use jn_quals::Qual;
+use jn_sigs::Sig;
 use jn_transfer::lookup::{elem_qual, field_qual, result_qual, slot_qual};
 use std::alloc::AllocError;
 
@@ -85,7 +86,7 @@ pub fn push_bound(
 pub fn push_write(
     rows: &mut Vec<Row>,
     program: &Program,
-    sig: &[Qual],
+    sig: &Sig,
     env: &Env,
     object: Operand,
     field: FieldNo,
@@ -166,7 +167,7 @@ pub fn push_new_array(rows: &mut Vec<Row>, span: Span, base: BaseType) -> Result
 pub fn push_call_args(
     rows: &mut Vec<Row>,
     program: &Program,
-    sig: &[Qual],
+    sig: &Sig,
     env: &Env,
     method: MethodNo,
     args: &[Operand],
@@ -181,7 +182,7 @@ pub fn push_call_args(
 
 fn push_args(
     rows: &mut Vec<Row>,
-    sig: &[Qual],
+    sig: &Sig,
     env: &Env,
     slots: &[Option<SlotNo>],
     args: &[Operand],
@@ -213,7 +214,7 @@ fn least(left: usize, right: usize) -> usize
 pub fn push_receiver(
     rows: &mut Vec<Row>,
     program: &Program,
-    sig: &[Qual],
+    sig: &Sig,
     env: &Env,
     receiver: Option<Operand>,
     method: MethodNo,
@@ -232,7 +233,7 @@ pub fn push_receiver(
 }
 
 /// The qualifier of a method's receiver; empty where there is none.
-fn receiver_qual(program: &Program, sig: &[Qual], method: MethodNo) -> Qual
+fn receiver_qual(program: &Program, sig: &Sig, method: MethodNo) -> Qual
     ensures { result ≡ receiver_of sig.now (method_at program.now method.0) }
 {
     match program.methods.as_slice().get(method.0 as usize) {
@@ -269,7 +270,7 @@ pub fn push_equals(
 pub fn push_return(
     rows: &mut Vec<Row>,
     program: &Program,
-    sig: &[Qual],
+    sig: &Sig,
     body: BodyNo,
     env: &Env,
     value: Option<Operand>,
@@ -290,7 +291,7 @@ pub fn push_return(
 }
 
 /// The qualifier of the result of the body's method; empty where there is none.
-fn body_result(program: &Program, sig: &[Qual], body: BodyNo) -> Qual
+fn body_result(program: &Program, sig: &Sig, body: BodyNo) -> Qual
     ensures { result ≡ result_of sig.now (method_in program.now body.0) }
 {
     match program.bodies.as_slice().get(body.0 as usize) {

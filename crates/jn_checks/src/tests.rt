@@ -1,12 +1,14 @@
 // A constructor that breaks rules.
 use crate::checks;
-use jn_base::{BodyNo, ClassNo, Code, FieldNo, FileNo, MethodNo, NameNo, RegNo, Seq, SlotNo, Span};
-use jn_env::Env;
-use jn_flow::FlowTable;
+use jn_base::{
+    BodyNo, ClassNo, Code, FieldNo, FileNo, MethodNo, NameNo, OutOfMemory, RegNo, Seq, SlotNo, Span,
+};
+use jn_env::{Env, FlowTable};
 use jn_points::{
     BaseType, Body, Elem, Field, Method, Operand, Point, PointKind, Program, StrOperation,
 };
 use jn_quals::Qual;
+use jn_sigs::Sig;
 use std::alloc::{AllocError, Global};
 use std::test::Fail;
 
@@ -190,10 +192,19 @@ fn table(alloc: Global, count: usize) -> Result<FlowTable, AllocError> {
     Ok(FlowTable::of_slots(slots))
 }
 
+/// The signature of one slot, which is committed.
+fn one_slot(alloc: Global) -> Result<Sig, OutOfMemory> {
+    let mut sig = Sig::empty(alloc, 1)?;
+    sig.raise(SlotNo(0), Qual::committed_only());
+    Ok(sig)
+}
+
 #[test]
 fn broken_rules(rt: HostRuntime) -> Result<(), Fail> {
     let alloc = rt.alloc();
-    let sig = [Qual::committed_only()];
+    let Ok(sig) = one_slot(alloc) else {
+        panic!(rt; "no memory")
+    };
     let program = program(alloc)?;
     assert!(rt; program.bodies.len() == 1 && program.fields.len() == 1);
     let table = table(alloc, 11)?;

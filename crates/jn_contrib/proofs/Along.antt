@@ -11,7 +11,7 @@ use Rattle.jn_points.specs.declared.program.Program.{Program}
 use Rattle.jn_points.specs.Lookup.{field_info}
 use Rattle.jn_env.specs.declared.env.Env.{Env}
 use Rattle.jn_env.specs.Order.{Table, env_in, qual_at}
-use Rattle.jn_transfer.specs.Keys.{is_on}
+use Rattle.jn_env.specs.Keys.{is_on}
 use Rattle.jn_transfer.specs.Contributions.{sends, arg_sends, unset_sends, field_slot_of}
 use Rattle.jn_contrib.specs.Sends.{point_sends, sends_from, slot_numbers}
 

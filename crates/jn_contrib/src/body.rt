@@ -1,17 +1,16 @@
 // What a body sends into inferred slots, point by point.
 ghost use Rattle.std.specs.Prelude.{◌≡◌, ◌<◌, ◌++◌, ◌^◌, IfOk, OnOk, length};
 ghost use Rattle.jn_env.specs.Order.{env_in};
-ghost use Rattle.jn_transfer.specs.Keys.{own_keys};
+ghost use Rattle.jn_env.specs.Keys.{own_keys};
 ghost use Rattle.jn_contrib.specs.Sends.{slot_numbers, point_sends, sends_from, body_sends};
 
 use crate::sends::{Send, send_kind};
 use jn_base::{BodyNo, OutOfMemory, SlotNo};
 use jn_ctor::env_at;
-use jn_env::Env;
-use jn_flow::FlowTable;
+use jn_env::{Env, FlowTable, find_keys};
 use jn_points::{Point, Program};
 use jn_quals::Qual;
-use jn_transfer::find_keys;
+use jn_sigs::Sig;
 use std::alloc::{AllocError, Global};
 
 /// What the body sends into inferred slots under the table: point by point each slot with the
@@ -22,7 +21,7 @@ use std::alloc::{AllocError, Global};
 pub fn contrib(
     alloc: Global,
     program: &Program,
-    _sig: &[Qual],
+    _sig: &Sig,
     body: BodyNo,
     table: &FlowTable,
 ) -> Result<Vec<(SlotNo, Qual)>, OutOfMemory>

@@ -3,11 +3,10 @@ ghost use Rattle.std.specs.Prelude.{◌≡◌, ◌++◌, ◌∷◌, [], OnOk, co
 ghost use Rattle.jn_points.specs.Lookup.{slots_of, field_info, method_at, method_in};
 ghost use Rattle.jn_quals.specs.Order.{null_only};
 ghost use Rattle.jn_transfer.specs.Contributions.{is_inferred, field_slot_of, receiver_slot_of, result_slot_of, sends, arg_sends, receiver_sends, return_sends, unset_sends, kind_sends};
-ghost use Rattle.jn_transfer.specs.Keys.{own_keys};
+ghost use Rattle.jn_env.specs.Keys.{own_keys};
 
 use jn_base::{BodyNo, MethodNo, SlotNo};
-use jn_ctor::is_assigned;
-use jn_env::Env;
+use jn_env::{Env, is_assigned};
 use jn_points::{Operand, PointKind, Program};
 use jn_quals::Qual;
 use std::alloc::AllocError;

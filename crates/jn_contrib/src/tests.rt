@@ -1,13 +1,15 @@
 // A constructor that calls a method and leaves a field unassigned on one path.
 use crate::contrib;
 use jn_base::{
-    BodyNo, ClassNo, FieldNo, FileNo, MethodNo, NameNo, PointNo, RegNo, Seq, SlotNo, Span,
+    BodyNo, ClassNo, FieldNo, FileNo, MethodNo, NameNo, OutOfMemory, PointNo, RegNo, Seq, SlotNo,
+    Span,
 };
 use jn_flow::{flow, stays_inside};
 use jn_points::{
     BaseType, Body, Field, Literal, Method, Operand, Point, PointKind, Program, SlotInfo,
 };
 use jn_quals::Qual;
+use jn_sigs::Sig;
 use std::alloc::{AllocError, Global};
 use std::test::Fail;
 
@@ -140,12 +142,23 @@ fn program(alloc: Global) -> Result<Program, AllocError> {
     })
 }
 
+/// The signature of four committed slots.
+fn four_slots(alloc: Global) -> Result<Sig, OutOfMemory> {
+    let mut sig = Sig::empty(alloc, 4)?;
+    sig.raise(SlotNo(0), Qual::committed_only());
+    sig.raise(SlotNo(1), Qual::committed_only());
+    sig.raise(SlotNo(2), Qual::committed_only());
+    sig.raise(SlotNo(3), Qual::committed_only());
+    Ok(sig)
+}
+
 #[test]
 fn sends_to_inferred_slots(rt: HostRuntime) -> Result<(), Fail> {
     let alloc = rt.alloc();
     let body = BodyNo(0);
-    let committed = Qual::committed_only();
-    let sig = [committed, committed, committed, committed];
+    let Ok(sig) = four_slots(alloc) else {
+        panic!(rt; "no memory")
+    };
     let program = program(alloc)?;
     assert!(rt; program.bodies.len() == 1 && program.fields.len() == 3);
     assert!(rt; stays_inside(&program, body));

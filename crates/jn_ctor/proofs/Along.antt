@@ -1,34 +1,16 @@
--- Fields, points and bits, one after another.
-use Rattle.std.proofs.Common.{◌≡◌, ℕ, zero, suc, ◌+◌, ◌<◌, Bool, true, false, ◌&&◌, ◌||◌, List, [], ◌∷◌, ◌++◌, length, drop, filter, cond, refl, sym, ap, ◌∙◌, add-one, append_assoc, arith}
+-- Fields and points, one after another.
+use Rattle.std.proofs.Common.{◌≡◌, ℕ, ◌+◌, ◌<◌, Bool, true, false, ◌||◌, List, [], ◌∷◌, ◌++◌, length, drop, filter, cond, refl, sym, ap, ◌∙◌, append_assoc}
 use Rattle.std.specs.Prelude.{slice_index_or}
 use Rattle.std.proofs.lemmas.List.{at_drop_more}
 use Rattle.std.proofs.lemmas.List.Elements.{filter-append}
 use Rattle.jn_base.specs.declared.number.FieldNo.{FieldNo}
 use Rattle.jn_points.specs.declared.point.Point.{Point}
 use Rattle.jn_env.specs.Order.{Table, env_in}
-use Rattle.jn_transfer.specs.Keys.{is_on}
 use Rattle.jn_ctor.specs.Unassigned.{field_numbers, lacks, lacks_from}
 
 or_assoc : (a b c : Bool) → ((a || b) || c) ≡ (a || (b || c))
 or_assoc true b c = refl
 or_assoc false b c = refl
-
-no_bits_on : {K : Type 0} (test : K → Bool) (keys : List K) → is_on test keys [] ≡ false
-no_bits_on test [] = refl
-no_bits_on test (k ∷ keys) = refl
-
--- a bit past the last counts as unset
-on_at : {K : Type 0} (test : K → Bool) (keys : List K) (bits : List Bool) (i : ℕ) (k : K) → i < length keys → is_on test (drop i keys) (drop i bits) ≡ ((slice_index_or bits i false && test (slice_index_or keys i k)) || is_on test (drop (suc i) keys) (drop (suc i) bits))
-on_at test [] bits i k lt = absurd (omega (arith, lt))
-on_at test (x ∷ keys) [] zero k lt = sym (no_bits_on test keys)
-on_at test (x ∷ keys) [] (suc i) k lt = no_bits_on test (drop i keys) ∙ sym (no_bits_on test (drop (suc i) keys))
-on_at test (x ∷ keys) (y ∷ bits) zero k lt = refl
-on_at test (x ∷ keys) (y ∷ bits) (suc i) k lt = on_at test keys bits i k (omega (arith, lt))
-
-pub on_step : {K : Type 0} (test : K → Bool) (keys : List K) (bits : List Bool) (i : ℕ) (k : K) (on more all : Bool) → i < length keys → more ≡ (on || (slice_index_or bits i false && test (slice_index_or keys i k))) → (on || is_on test (drop i keys) (drop i bits)) ≡ all → (more || is_on test (drop (i + 1) keys) (drop (i + 1) bits)) ≡ all
-on_step test keys bits i k on more all lt m h =
-    let now = slice_index_or bits i false && test (slice_index_or keys i k) in
-    rw add-one (ap (λ z. z || is_on test (drop (suc i) keys) (drop (suc i) bits)) m ∙ or_assoc on now (is_on test (drop (suc i) keys) (drop (suc i) bits)) ∙ ap (λ z. on || z) (sym (on_at test keys bits i k lt)) ∙ h)
 
 pub lacks_step : (own : List ℕ) (f : ℕ) (points : List Point) (t : Table) (at : ℕ) (d : Point) (left more all : Bool) → at < length points → more ≡ (left || lacks own f (slice_index_or points at d).kind (env_in t at)) → (left || lacks_from own f (drop at points) at t) ≡ all → (more || lacks_from own f (drop (at + 1) points) (at + 1) t) ≡ all
 lacks_step own f points t at d left more all lt m h =

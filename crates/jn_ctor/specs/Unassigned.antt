@@ -8,7 +8,7 @@ use Rattle.jn_points.specs.declared.program.Program.{Program}
 use Rattle.jn_points.specs.Lookup.{points_of, body_at}
 use Rattle.jn_env.specs.declared.env.Env.{Env}
 use Rattle.jn_env.specs.Order.{Table, env_in}
-use Rattle.jn_transfer.specs.Keys.{is_on, own_keys}
+use Rattle.jn_env.specs.Keys.{is_on, own_keys}
 
 -- at a reached Return the field isn't among the own ones that are assigned
 abbrev pub lacks : List ℕ → ℕ → PointKind → Option Env → Bool

@@ -3,7 +3,7 @@
 
 pub mod unassigned;
 
-pub use unassigned::{env_at, is_assigned, unassigned_at_end};
+pub use unassigned::{env_at, unassigned_at_end};
 
 #[cfg(test)]
 mod tests;

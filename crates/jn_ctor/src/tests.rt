@@ -1,11 +1,13 @@
 // A constructor with two ends.
 use crate::unassigned_at_end;
 use jn_base::{
-    BodyNo, ClassNo, FieldNo, FileNo, MethodNo, NameNo, PointNo, RegNo, Seq, SlotNo, Span,
+    BodyNo, ClassNo, FieldNo, FileNo, MethodNo, NameNo, OutOfMemory, PointNo, RegNo, Seq, SlotNo,
+    Span,
 };
 use jn_flow::{flow, stays_inside};
 use jn_points::{BaseType, Body, Field, Literal, Method, Operand, Point, PointKind, Program};
 use jn_quals::Qual;
+use jn_sigs::Sig;
 use std::alloc::{AllocError, Global};
 use std::test::Fail;
 
@@ -120,11 +122,21 @@ fn program(alloc: Global, ctor: bool) -> Result<Program, AllocError> {
     })
 }
 
+/// The signature of two slots, of which the second may be null.
+fn two_slots(alloc: Global) -> Result<Sig, OutOfMemory> {
+    let mut sig = Sig::empty(alloc, 2)?;
+    sig.raise(SlotNo(0), Qual::committed_only());
+    sig.raise(SlotNo(1), Qual::null_or_committed());
+    Ok(sig)
+}
+
 #[test]
 fn one_end_lacks_a_field(rt: HostRuntime) -> Result<(), Fail> {
     let alloc = rt.alloc();
     let body = BodyNo(0);
-    let sig = [Qual::committed_only(), Qual::null_or_committed()];
+    let Ok(sig) = two_slots(alloc) else {
+        panic!(rt; "no memory")
+    };
     for (ctor, wanted) in [(true, 1), (false, 0)] {
         let program = program(alloc, ctor)?;
         assert!(rt; program.bodies.len() == 1 && program.fields.len() == 3);

@@ -1,16 +1,13 @@
 // The fields that a constructor leaves unassigned at some of its ends.
-ghost use Rattle.std.specs.Prelude.{◌≡◌, ◌<◌, ◌++◌, ◌∷◌, ◌^◌, [], IfOk, OnOk, MatchOption, cond, eqb, filter, length, false, slice_index_or, Some, None};
+ghost use Rattle.std.specs.Prelude.{◌≡◌, ◌<◌, ◌++◌, ◌∷◌, ◌^◌, [], IfOk, OnOk, MatchOption, cond, filter, length, Some, None};
 ghost use Rattle.jn_env.specs.Order.{env_in};
-ghost use Rattle.jn_transfer.specs.Keys.{is_on};
 ghost use Rattle.jn_ctor.specs.Unassigned.{field_numbers, lacks, lacks_from, unassigned_at_end};
 
 use jn_base::{BodyNo, FieldNo, OutOfMemory};
-use jn_env::Env;
-use jn_flow::FlowTable;
+use jn_env::bits::{either, is_assigned};
+use jn_env::{Env, FlowTable, find_keys};
 use jn_points::{Point, PointKind, Program};
-use jn_quals::Qual;
-use jn_transfer::bits::{either, is_set};
-use jn_transfer::find_keys;
+use jn_sigs::Sig;
 use std::alloc::{AllocError, Global};
 
 /// The reference fields of the body's class that aren't assigned at some reached return of the
@@ -21,7 +18,7 @@ use std::alloc::{AllocError, Global};
 pub fn unassigned_at_end(
     alloc: Global,
     program: &Program,
-    _sig: &[Qual],
+    _sig: &Sig,
     body: BodyNo,
     table: &FlowTable,
 ) -> Result<Vec<FieldNo>, OutOfMemory>
@@ -92,26 +89,5 @@ pub fn env_at(slots: &[Option<Env>], at: usize) -> Option<&Env>
     match slots.get(at) {
         None => None,
         Some(slot) => slot.as_ref(),
-    }
-}
-
-/// Whether the field's bit is set among a constructor's own fields.
-pub fn is_assigned(own: &[u32], bits: &[bool], field: u32) -> bool
-    ensures { result ≡ is_on (λ k. eqb k field) own.now bits.now }
-{
-    let mut on = false;
-    for i in 0..own.len() {
-        on = either(on, is_set(bit_at(bits, i), own[i] == field));
-    }
-    on
-}
-
-/// The bit at a place; false where there is none.
-fn bit_at(bits: &[bool], i: usize) -> bool
-    ensures { result ≡ slice_index_or bits.now i false }
-{
-    match bits.get(i) {
-        None => false,
-        Some(bit) => *bit,
     }
 }

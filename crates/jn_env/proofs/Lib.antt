@@ -1,3 +1,5 @@
+pub mod Along
+pub mod BitOrder
 pub mod Pairs
 pub mod Order
 pub mod Weight

@@ -1,7 +1,14 @@
-// Environments: what is known of each register, field and assignment at a point.
+// Environments: what is known of each register, field and assignment at a point, and tables of them.
 #![tactic(auto)]
 
+pub mod bits;
 pub mod env;
+pub mod keys;
+pub mod law;
 pub mod lists;
+pub mod table;
 
+pub use bits::is_assigned;
 pub use env::Env;
+pub use keys::{FieldKey, Keys, find_keys};
+pub use table::FlowTable;

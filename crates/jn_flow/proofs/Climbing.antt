@@ -1,6 +1,6 @@
 -- Whole rounds climb, so they end, and in the least table that respects all edges.
-use Rattle.std.proofs.Common.{◌≡◌, ℕ, zero, suc, ◌+◌, ◌-◌, ◌*◌, ◌<◌, ◌≤◌, Bool, true, false, ◌⊎◌, inl, inr, ⊎_elim, List, [], ◌∷◌, ◌++◌, ◌||◌, length, drop, replicate, Option, Some, None, refl, sym, ap, ◌∙◌, subst, add-one, append_assoc, append-nil, arith, length-set}
-use Rattle.std.specs.Prelude.{slice_get, slice_set, slice_index_or, IsTrue}
+use Rattle.std.proofs.Common.{◌≡◌, ℕ, zero, suc, ◌+◌, ◌-◌, ◌*◌, ◌<◌, ◌≤◌, Bool, true, false, inl, inr, ⊎_elim, List, [], ◌∷◌, ◌++◌, ◌||◌, length, take, drop, replicate, Option, Some, None, refl, sym, ap, ◌∙◌, subst, append_assoc, arith, length-set}
+use Rattle.std.specs.Prelude.{slice_get, slice_set, slice_index_or}
 use Rattle.std.proofs.lemmas.List.{get_or-set_same, at_drop_more}
 use Rattle.std.proofs.lemmas.Bool.{cases_lt}
 use Rattle.jn_fixpoint.specs.Climb.{IsLeastFixpoint, Climb, Bounds}
@@ -10,20 +10,21 @@ use Rattle.jn_points.specs.declared.point.Point.{Point}
 use Rattle.jn_points.specs.declared.program.Body.{Body}
 use Rattle.jn_points.specs.declared.program.Program.{Program}
 use Rattle.jn_points.specs.Edges.{edges_of}
-use Rattle.jn_points.specs.Lookup.{points_of, regs_of, body_at, point_at, method_at, method_of_body}
+use Rattle.jn_points.specs.Lookup.{points_of, regs_of, body_at, method_at, method_of_body}
 use Rattle.jn_quals.specs.Qualifier.{Qualifier}
 use Rattle.jn_env.specs.declared.env.Env.{Env}
-use Rattle.jn_env.specs.Order.{Table, env_in, EnvWithin, SlotWithin, TableWithin, join_env, join_slot, join_quals, meet_bits}
+use Rattle.jn_env.specs.Order.{Table, env_in, SlotWithin, TableWithin, join_env, join_slot}
 use Rattle.jn_env.specs.Size.{SameSize}
 use Rattle.jn_env.specs.Weight.{weight, quals_weight, bits_weight}
-use Rattle.jn_env.proofs.Order.{env_refl, env_join_left, env_join_right, length-join_quals, length-meet_bits, slot_refl, slot_trans, slot_join_least, table_refl, table_trans, table_at, table_set_within, table_set_above}
+use Rattle.jn_env.proofs.Along.{over, over_is}
+use Rattle.jn_env.proofs.Order.{env_refl, env_join_left, env_join_right, length-join_quals, length-meet_bits, slot_trans, slot_join_least, table_refl, table_trans, table_at, table_set_within, table_set_above}
 use Rattle.jn_env.proofs.Weight.{same_env, table_grows, quals_bounded, bits_bounded}
-use Rattle.jn_transfer.specs.Keys.{no_bits, fact_keys, own_keys}
+use Rattle.jn_env.specs.Keys.{no_bits, fact_keys, own_keys}
 use Rattle.jn_quals.specs.Order.{no_qual}
 use Rattle.jn_transfer.specs.Transfer.{transfer, entry_env, pad_quals, given_quals, IsAmong}
 use Rattle.jn_transfer.specs.Least.{flow_in, flow_all, edges_from, all_edges, round, rounds, start_table, IsLeastTable, Respects}
-use Rattle.jn_transfer.specs.Sized.{EnvSized, Sized, Below, StaysInside}
-use Rattle.jn_transfer.specs.Covered.{Covered}
+use Rattle.jn_env.specs.Sized.{EnvSized, Sized}
+use Rattle.jn_transfer.specs.Sized.{Below, StaysInside}
 use Rattle.jn_transfer.proofs.Monotone.{among_left, among_right, among_cases, edge_above}
 use Rattle.jn_transfer.proofs.Sized.{edge_fine, entry_sized}
 use Rattle.jn_flow.specs.Size.{IsTableOf, height}
@@ -332,32 +333,18 @@ edges_step P s b points t at d edges more next all lt is e h =
     ∙ ap (λ r. edges ++ r) (sym (at_drop_more (λ pts. all_edges P s b pts at t) points at d lt))
     ∙ h
 
--- a list that is filled up
-pad_one : (qs : List Qualifier) (i n : ℕ) → pad_quals (drop i qs) (suc n) ≡ slice_index_or qs i no_qual ∷ pad_quals (drop (suc i) qs) n
-pad_one [] zero n = refl
-pad_one [] (suc i) n = refl
-pad_one (q ∷ qs) zero n = refl
-pad_one (q ∷ qs) (suc i) n = pad_one qs i n
+-- empty qualifiers, with what is given laid over the first of them
+none_padded : (n : ℕ) → replicate n no_qual ≡ pad_quals [] n
+none_padded zero = refl
+none_padded (suc n) = ap (λ qs. no_qual ∷ qs) (none_padded n)
 
-pub pad_step : (qs quals more all : List Qualifier) (i n : ℕ) → i < n → more ≡ quals ++ slice_index_or qs i no_qual ∷ [] → quals ++ pad_quals (drop i qs) (n - i) ≡ all → more ++ pad_quals (drop (i + 1) qs) (n - (i + 1)) ≡ all
-pad_step qs quals more all i n lt e h =
-    let q = slice_index_or qs i no_qual in
-    let k = n - (i + 1) in
-    let next : n - i ≡ suc k = omega (arith, lt) in
-    ap (λ m. m ++ pad_quals (drop (i + 1) qs) k) e
-    ∙ append_assoc quals (q ∷ []) (pad_quals (drop (i + 1) qs) k)
-    ∙ ap (λ m. quals ++ m) (ap (λ j. q ∷ pad_quals (drop j qs) k) (add-one i) ∙ sym (pad_one qs i k))
-    ∙ ap (λ m. quals ++ pad_quals (drop i qs) m) (sym next)
-    ∙ h
+over_padded : (qs : List Qualifier) (n : ℕ) → over qs (replicate n no_qual) ≡ pad_quals qs n
+over_padded [] n = none_padded n
+over_padded (q ∷ qs) zero = refl
+over_padded (q ∷ qs) (suc n) = ap (λ zs. q ∷ zs) (over_padded qs n)
 
-pub pad_end : (qs quals all : List Qualifier) (n i : ℕ) → n ≤ i → quals ++ pad_quals (drop i qs) (n - i) ≡ all → quals ≡ all
-pad_end qs quals all n i le h =
-    let none_left : n - i ≡ 0 = omega (arith, le) in
-    sym (append-nil quals) ∙ ap (λ m. quals ++ pad_quals (drop i qs) m) (sym none_left) ∙ h
-
-pub no_bits_replicate : {K : Type 0} (keys : List K) → replicate (length keys) false ≡ no_bits keys
-no_bits_replicate [] = refl
-no_bits_replicate (k ∷ keys) = ap (λ bs. false ∷ bs) (no_bits_replicate keys)
+pub given_padded : (qs old new : List Qualifier) (n : ℕ) → old ≡ replicate n no_qual → new ≡ take (length old) qs ++ drop (length qs) old → new ≡ pad_quals qs n
+given_padded qs old new n e h = h ∙ sym (over_is qs old) ∙ ap (λ base. over qs base) e ∙ over_padded qs n
 
 pub round_heavier : (P : Program) (s : List Qualifier) (b : ℕ) → StaysInside P b → (t new : Table) → IsTableOf P b t → new ≡ round P s b t → (new ≡ t → ⊥) → height P b - weight new < height P b - weight t
 round_heavier P s b inside t new v e other =
@@ -374,6 +361,6 @@ flow_ended [] (suc i) t all le h = h
 flow_ended (y ∷ xs) zero t all le h = absurd (omega (arith, le))
 flow_ended (y ∷ xs) (suc i) t all le h = flow_ended xs i t all (omega (arith, le)) h
 
-pub entry_is : (P : Program) (s : List Qualifier) (b : ℕ) (info : Body) (e : Env) → body_at P b ≡ Some info → e.quals ≡ pad_quals (given_quals s (method_at P info.method.0)) (length info.regs) → e.facts ≡ no_bits (fact_keys P b) → e.assigned ≡ no_bits (own_keys P b) → e ≡ entry_env P s b
+pub entry_is : (P : Program) (s : List Qualifier) (b : ℕ) (info : Body) (e : Env) → body_at P b ≡ Some info → e.quals ≡ pad_quals (given_quals s (method_at P info.method.0)) (regs_of (body_at P b)) → e.facts ≡ no_bits (fact_keys P b) → e.assigned ≡ no_bits (own_keys P b) → e ≡ entry_env P s b
 entry_is P s b info e at q f g =
-    same_env e (entry_env P s b) (q ∙ ap (λ o. pad_quals (given_quals s (method_of_body P o)) (regs_of o)) (sym at)) f g
+    same_env e (entry_env P s b) (q ∙ ap (λ o. pad_quals (given_quals s (method_of_body P o)) (regs_of (body_at P b))) (sym at)) f g

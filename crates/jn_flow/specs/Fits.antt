@@ -1,10 +1,10 @@
 -- Edges whose environments and targets are of a body.
-use Rattle.std.specs.Prelude.{ℕ, ◌<◌, length, List, Option, Some, None}
+use Rattle.std.specs.Prelude.{ℕ, ◌<◌, List, Option, Some, None}
 use Rattle.jn_points.specs.declared.program.Program.{Program}
 use Rattle.jn_env.specs.declared.env.Env.{Env}
 use Rattle.jn_env.specs.Size.{SameSize}
 use Rattle.jn_transfer.specs.Transfer.{IsAmong}
-use Rattle.jn_transfer.specs.Sized.{EnvSized}
+use Rattle.jn_env.specs.Sized.{EnvSized}
 
 pub record EdgeFits (P : Program) (b n : ℕ) (x : ℕ × Env) : Type 0 where
   pub size : EnvSized P b x.1

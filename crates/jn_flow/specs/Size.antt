@@ -1,11 +1,10 @@
 -- Tables of a body, and what bounds their rounds.
-use Rattle.std.specs.Prelude.{ℕ, ◌+◌, ◌*◌, ◌≡◌, ◌<◌, length, Option}
+use Rattle.std.specs.Prelude.{ℕ, ◌+◌, ◌*◌, ◌≡◌, length}
 use Rattle.jn_points.specs.declared.program.Program.{Program}
 use Rattle.jn_points.specs.Lookup.{points_of, regs_of, body_at}
-use Rattle.jn_env.specs.declared.env.Env.{Env}
 use Rattle.jn_env.specs.Order.{Table}
-use Rattle.jn_transfer.specs.Keys.{fact_keys, own_keys}
-use Rattle.jn_transfer.specs.Sized.{Sized}
+use Rattle.jn_env.specs.Keys.{fact_keys, own_keys}
+use Rattle.jn_env.specs.Sized.{Sized}
 
 -- a place for each point of the body, with environments of the body
 pub record IsTableOf (P : Program) (b : ℕ) (t : Table) : Type 0 where

@@ -1,16 +1,16 @@
 // The environment at a body's entry.
-ghost use Rattle.std.specs.Prelude.{◌≡◌, ◌<◌, ◌++◌, IfOk, OnOk, length, replicate, false, slice_index_or};
-ghost use Rattle.jn_quals.specs.Order.{no_qual};
+ghost use Rattle.std.specs.Prelude.{◌≡◌, ◌<◌, ◌++◌, IfOk, OnOk, Some, length};
 ghost use Rattle.jn_points.specs.Lookup.{method_at};
 ghost use Rattle.jn_sigs.specs.Signature.{slot_quals};
-ghost use Rattle.jn_transfer.specs.Transfer.{pad_quals, given_quals, this_qual, entry_env};
-ghost use Rattle.jn_transfer.specs.Code.{AreKeys};
-ghost use Rattle.jn_transfer.specs.Sized.{EnvSized};
+ghost use Rattle.jn_transfer.specs.Transfer.{given_quals, this_qual, entry_env};
+ghost use Rattle.jn_env.specs.Code.{AreKeys};
+ghost use Rattle.jn_env.specs.Sized.{EnvSized};
 
-use jn_base::{OutOfMemory, Seq, SlotNo};
+use jn_base::{OutOfMemory, SlotNo};
 use jn_env::Env;
 use jn_points::{Body, Method, Program};
 use jn_quals::Qual;
+use jn_sigs::Sig;
 use jn_transfer::Analysis;
 use jn_transfer::lookup::slot_qual;
 use std::alloc::{AllocError, Global};
@@ -28,31 +28,16 @@ pub fn entry(alloc: Global, analysis: &Analysis) -> Result<Env, OutOfMemory>
 {
     let info = &analysis.program.bodies.as_slice()[analysis.body.0 as usize];
     let given = given_by(alloc, analysis.program, analysis.sig, info)?;
-    let quals = pad_quals(alloc, &given, info.regs.len())?;
-    let facts = no_bits(alloc, analysis.keys.facts.len())?;
-    let assigned = no_bits(alloc, analysis.keys.own.len())?;
-    Ok(Env {
-        quals: Seq::of_vec(quals),
-        facts: Seq::of_vec(facts),
-        assigned: Seq::of_vec(assigned),
-    })
-}
-
-fn no_bits(alloc: Global, count: usize) -> Result<Vec<bool>, AllocError>
-    ensures { IfOk result (λ bits. bits.items ≡ replicate count false) }
-{
-    let mut bits = Vec::new(alloc);
-    for _i in 0..count {
-        bits.push(false)?;
-    }
-    Ok(bits)
+    let mut env = Env::empty(alloc, analysis.program, analysis.body, analysis.keys)?;
+    env.give(&given);
+    Ok(env)
 }
 
 /// What the body is given.
 fn given_by(
     alloc: Global,
     program: &Program,
-    sig: &[Qual],
+    sig: &Sig,
     body: &Body,
 ) -> Result<Vec<Qual>, AllocError>
     ensures { IfOk result (λ quals. quals.items ≡ given_quals sig.now (method_at program.now body.now.method.0)) }
@@ -64,7 +49,7 @@ fn given_by(
 }
 
 /// What a body of the method is given.
-fn given_quals(alloc: Global, sig: &[Qual], method: &Method) -> Result<Vec<Qual>, AllocError>
+fn given_quals(alloc: Global, sig: &Sig, method: &Method) -> Result<Vec<Qual>, AllocError>
     ensures { IfOk result (λ quals. quals.items ≡ given_quals sig.now (Some method.now)) }
 {
     let mut quals = Vec::new(alloc);
@@ -75,7 +60,7 @@ fn given_quals(alloc: Global, sig: &[Qual], method: &Method) -> Result<Vec<Qual>
     Ok(quals)
 }
 
-fn this_qual(sig: &[Qual], method: &Method) -> Qual
+fn this_qual(sig: &Sig, method: &Method) -> Qual
     ensures { result ≡ this_qual sig.now (Some method.now) }
 {
     if method.ctor {
@@ -85,35 +70,11 @@ fn this_qual(sig: &[Qual], method: &Method) -> Qual
     }
 }
 
-fn push_slots(
-    quals: &mut Vec<Qual>,
-    sig: &[Qual],
-    slots: &[Option<SlotNo>],
-) -> Result<(), AllocError>
+fn push_slots(quals: &mut Vec<Qual>, sig: &Sig, slots: &[Option<SlotNo>]) -> Result<(), AllocError>
     ensures { OnOk result (quals.new.items ≡ quals.old.items ++ slot_quals sig.now slots.now) }
 {
     for slot in slots {
         quals.push(slot_qual(sig, *slot))?;
     }
     Ok(())
-}
-
-/// The qualifiers with empty ones behind them, so many in all.
-fn pad_quals(alloc: Global, given: &[Qual], count: usize) -> Result<Vec<Qual>, AllocError>
-    ensures { IfOk result (λ quals. quals.items ≡ pad_quals given.now count) }
-{
-    let mut quals = Vec::new(alloc);
-    for i in 0..count {
-        quals.push(qual_or_none(given, i))?;
-    }
-    Ok(quals)
-}
-
-fn qual_or_none(quals: &[Qual], i: usize) -> Qual
-    ensures { result ≡ slice_index_or quals.now i no_qual }
-{
-    match quals.get(i) {
-        None => Qual::none(),
-        Some(qual) => *qual,
-    }
 }

@@ -1,19 +1,18 @@
 // The least table of a body.
-ghost use Rattle.std.specs.Prelude.{◌≡◌, ◌<◌, ◌^◌, IfOk, length, replicate};
+ghost use Rattle.std.specs.Prelude.{◌≡◌, ◌<◌, ◌^◌, IfOk, length};
 ghost use Rattle.jn_points.specs.Lookup.{body_at, points_of};
-ghost use Rattle.jn_transfer.specs.Code.{AreKeys};
+ghost use Rattle.jn_env.specs.Code.{AreKeys};
 ghost use Rattle.jn_transfer.specs.Least.{start_table, IsLeastTable};
 ghost use Rattle.jn_transfer.specs.Sized.{StaysInside};
 
 use crate::initial::entry;
 use crate::rounds::round;
-use crate::table::FlowTable;
-use jn_base::{BodyNo, OutOfMemory};
-use jn_env::Env;
+use jn_base::{BodyNo, OutOfMemory, PointNo};
+use jn_env::{FlowTable, find_keys};
 use jn_points::Program;
-use jn_quals::Qual;
-use jn_transfer::{Analysis, find_keys};
-use std::alloc::{AllocError, Global};
+use jn_sigs::Sig;
+use jn_transfer::Analysis;
+use std::alloc::Global;
 
 /// The least table of a body: whole rounds until nothing changes.
 ///
@@ -22,7 +21,7 @@ use std::alloc::{AllocError, Global};
 pub fn flow(
     alloc: Global,
     program: &Program,
-    sig: &[Qual],
+    sig: &Sig,
     body: BodyNo,
 ) -> Result<FlowTable, OutOfMemory>
     requires inside { body.0 < length program.now.bodies }
@@ -41,30 +40,21 @@ pub fn flow(
     let mut table = start(alloc, &analysis)?;
     loop {
         if !round(alloc, &analysis, &mut table)? {
-            return Ok(FlowTable::of_slots(table));
+            return Ok(table);
         }
     }
 }
 
 /// The table of which only the entry is reached.
-fn start(alloc: Global, analysis: &Analysis) -> Result<Vec<Option<Env>>, OutOfMemory>
+fn start(alloc: Global, analysis: &Analysis) -> Result<FlowTable, OutOfMemory>
     requires inside { analysis.now.body.0 < length analysis.now.program.now.bodies }
     requires stays { StaysInside analysis.now.program.now analysis.now.body.0 }
     requires keys { AreKeys analysis.now.program.now analysis.now.body.0 analysis.now.keys.now }
-    ensures { IfOk result (λ table. table.items ≡ start_table analysis.now.program.now analysis.now.sig.now analysis.now.body.0) }
+    requires short { length (points_of (body_at analysis.now.program.now analysis.now.body.0)) < 2 ^ 32 }
+    ensures { IfOk result (λ table. table ≡ start_table analysis.now.program.now analysis.now.sig.now analysis.now.body.0) }
 {
     let info = &analysis.program.bodies.as_slice()[analysis.body.0 as usize];
-    let mut table = unreached(alloc, info.points.len())?;
-    table[0] = Some(entry(alloc, analysis)?);
-    Ok(table)
-}
-
-fn unreached(alloc: Global, count: usize) -> Result<Vec<Option<Env>>, AllocError>
-    ensures { IfOk result (λ table. table.items ≡ replicate count None) }
-{
-    let mut table = Vec::new(alloc);
-    for _i in 0..count {
-        table.push(None)?;
-    }
+    let mut table = FlowTable::unreached(alloc, info.points.len() as u32)?;
+    table.put(PointNo(0), entry(alloc, analysis)?);
     Ok(table)
 }

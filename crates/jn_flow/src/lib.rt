@@ -6,12 +6,10 @@ pub mod inside;
 pub mod law;
 pub mod least;
 pub mod rounds;
-pub mod table;
 
 pub use initial::entry;
 pub use inside::stays_inside;
 pub use least::flow;
-pub use table::FlowTable;
 
 #[cfg(test)]
 mod tests;

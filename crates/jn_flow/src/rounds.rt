@@ -2,17 +2,18 @@
 ghost use Rattle.std.specs.Prelude.{◌≡◌, ◌<◌, ◌+◌, ◌^◌, ◌++◌, IfOk, OnOk, Some, length, true, false};
 ghost use Rattle.jn_points.specs.Lookup.{body_at, points_of};
 ghost use Rattle.jn_env.specs.Order.{env_in as slot_at, join_slot};
-ghost use Rattle.jn_transfer.specs.Code.{AreKeys};
+ghost use Rattle.jn_env.specs.Code.{AreKeys};
 ghost use Rattle.jn_transfer.specs.Least.{edges_from, all_edges, flow_in, flow_all, round};
-ghost use Rattle.jn_transfer.specs.Sized.{Sized, EnvSized, StaysInside};
+ghost use Rattle.jn_env.specs.Sized.{Sized, EnvSized};
+ghost use Rattle.jn_transfer.specs.Sized.{StaysInside};
 ghost use Rattle.jn_flow.specs.Fits.{JoinFits, AllFit, SlotSized};
 ghost use Rattle.jn_flow.specs.Size.{IsTableOf};
 ghost use Rattle.jn_flow.specs.Stepped.{Stepped};
 
-use jn_base::OutOfMemory;
-use jn_env::Env;
+use jn_base::{OutOfMemory, PointNo};
+use jn_env::bits::either;
+use jn_env::{Env, FlowTable};
 use jn_points::Point;
-use jn_transfer::bits::either;
 use jn_transfer::{Analysis, Edge};
 use std::alloc::{AllocError, Global};
 
@@ -42,15 +43,14 @@ fn join_slot(alloc: Global, slot: Option<Env>, env: &Env) -> Result<Joined, OutO
 }
 
 /// Joins the environment of an edge into the table. Gives whether that changed it.
-fn flow_in(alloc: Global, table: &mut Vec<Option<Env>>, edge: &Edge) -> Result<bool, OutOfMemory>
-    requires target { edge.now.0 < length table.old.items }
-    requires size { JoinFits (slot_at table.old.items edge.now.0) edge.now.1 }
-    ensures { IfOk result (λ changed. Stepped (flow_in edge.now table.old.items) table.old.items table.new.items changed) }
+fn flow_in(alloc: Global, table: &mut FlowTable, edge: &Edge) -> Result<bool, OutOfMemory>
+    requires target { edge.now.0 < length table.old }
+    requires size { JoinFits (slot_at table.old edge.now.0) edge.now.1 }
+    ensures { IfOk result (λ changed. Stepped (flow_in edge.now table.old) table.old table.new changed) }
 {
-    let at = edge.0 as usize;
-    let old = table[at].take();
-    let joined = join_slot(alloc, old, &edge.1)?;
-    table[at] = Some(joined.env);
+    let target = PointNo(edge.0);
+    let joined = join_slot(alloc, table.take(target), &edge.1)?;
+    table.put(target, joined.env);
     Ok(joined.changed)
 }
 
@@ -58,12 +58,12 @@ fn flow_in(alloc: Global, table: &mut Vec<Option<Env>>, edge: &Edge) -> Result<b
 fn flow_all(
     alloc: Global,
     analysis: &Analysis,
-    table: &mut Vec<Option<Env>>,
+    table: &mut FlowTable,
     edges: &[Edge],
 ) -> Result<bool, OutOfMemory>
-    requires sized { Sized analysis.now.program.now analysis.now.body.0 table.old.items }
-    requires fits { AllFit analysis.now.program.now analysis.now.body.0 (length table.old.items) edges.now }
-    ensures { IfOk result (λ changed. Stepped (flow_all edges.now table.old.items) table.old.items table.new.items changed) }
+    requires sized { Sized analysis.now.program.now analysis.now.body.0 table.old }
+    requires fits { AllFit analysis.now.program.now analysis.now.body.0 (length table.old) edges.now }
+    ensures { IfOk result (λ changed. Stepped (flow_all edges.now table.old) table.old table.new changed) }
 {
     let mut changed = false;
     for edge in edges {
@@ -121,19 +121,15 @@ fn all_edges(
 }
 
 /// One whole round. Gives whether it changed the table.
-pub fn round(
-    alloc: Global,
-    analysis: &Analysis,
-    table: &mut Vec<Option<Env>>,
-) -> Result<bool, OutOfMemory>
+pub fn round(alloc: Global, analysis: &Analysis, table: &mut FlowTable) -> Result<bool, OutOfMemory>
     requires inside { analysis.now.body.0 < length analysis.now.program.now.bodies }
     requires stays { StaysInside analysis.now.program.now analysis.now.body.0 }
     requires keys { AreKeys analysis.now.program.now analysis.now.body.0 analysis.now.keys.now }
     requires few { length (points_of (body_at analysis.now.program.now analysis.now.body.0)) < 2 ^ 32 }
-    requires table { IsTableOf analysis.now.program.now analysis.now.body.0 table.old.items }
-    ensures { IfOk result (λ changed. Stepped (round analysis.now.program.now analysis.now.sig.now analysis.now.body.0 table.old.items) table.old.items table.new.items changed) }
+    requires table { IsTableOf analysis.now.program.now analysis.now.body.0 table.old }
+    ensures { IfOk result (λ changed. Stepped (round analysis.now.program.now analysis.now.sig.now analysis.now.body.0 table.old) table.old table.new changed) }
 {
     let info = &analysis.program.bodies.as_slice()[analysis.body.0 as usize];
-    let edges = all_edges(alloc, analysis, info.points.as_slice(), table)?;
+    let edges = all_edges(alloc, analysis, info.points.as_slice(), table.slots())?;
     flow_all(alloc, analysis, table, &edges)
 }

@@ -1,11 +1,15 @@
 // A body with a test for null.
 use crate::{entry, flow, stays_inside};
-use jn_base::{BodyNo, ClassNo, FileNo, MethodNo, NameNo, PointNo, RegNo, Seq, SlotNo, Span};
+use jn_base::{
+    BodyNo, ClassNo, FileNo, MethodNo, NameNo, OutOfMemory, PointNo, RegNo, Seq, SlotNo, Span,
+};
+use jn_env::find_keys;
 use jn_points::{
     BaseType, Body, Elem, Literal, Method, Operand, Point, PointKind, Program, StrOperation,
 };
 use jn_quals::Qual;
-use jn_transfer::{Analysis, find_keys, transfer};
+use jn_sigs::Sig;
+use jn_transfer::{Analysis, transfer};
 use std::alloc::{AllocError, Global};
 use std::test::Fail;
 
@@ -117,11 +121,20 @@ fn program(alloc: Global) -> Result<Program, AllocError> {
     })
 }
 
+/// The signature of one slot, which is committed.
+fn one_slot(alloc: Global) -> Result<Sig, OutOfMemory> {
+    let mut sig = Sig::empty(alloc, 1)?;
+    sig.raise(SlotNo(0), Qual::committed_only());
+    Ok(sig)
+}
+
 #[test]
 fn null_test(rt: HostRuntime) -> Result<(), Fail> {
     let alloc = rt.alloc();
     let body = BodyNo(0);
-    let sig = [Qual::committed_only()];
+    let Ok(sig) = one_slot(alloc) else {
+        panic!(rt; "no memory")
+    };
     let program = program(alloc)?;
     assert!(rt; program.bodies.len() == 1 && program.fields.len() == 0);
     assert!(rt; stays_inside(&program, body));
@@ -143,7 +156,9 @@ fn null_test(rt: HostRuntime) -> Result<(), Fail> {
 fn first_edge(rt: HostRuntime) -> Result<(), Fail> {
     let alloc = rt.alloc();
     let body = BodyNo(0);
-    let sig = [Qual::committed_only()];
+    let Ok(sig) = one_slot(alloc) else {
+        panic!(rt; "no memory")
+    };
     let program = program(alloc)?;
     assert!(rt; program.bodies.len() == 1 && program.fields.len() == 0);
     assert!(rt; stays_inside(&program, body));

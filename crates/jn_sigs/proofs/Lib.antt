@@ -1,0 +1,4 @@
+pub mod Slots
+pub mod Unique
+pub mod Uncalled
+pub mod Starts

@@ -1,1 +1,3 @@
 pub mod Signature
+pub mod Packed
+pub mod Marks

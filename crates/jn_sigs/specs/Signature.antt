@@ -1,5 +1,6 @@
 -- Signatures, that is a qualifier for each slot, and the one from which inference starts.
 use Rattle.std.specs.Prelude.{ℕ, ◌+◌, Bool, false, cond, not, ◌&&◌, ◌||◌, eqb, List, [], ◌∷◌, Option, Some, None, slice_get, slice_index_or}
+use Rattle.jn_base.specs.declared.number.MethodNo.{MethodNo}
 use Rattle.jn_base.specs.declared.number.SlotNo.{SlotNo}
 use Rattle.jn_quals.specs.Qualifier.{Qualifier}
 use Rattle.jn_quals.specs.Order.{no_qual, committed_only}
@@ -20,6 +21,10 @@ calls_method m (CtorCall ctor args own) = eqb ctor.0 m
 calls_method m (Call dst method receiver direct args) = eqb method.0 m
 calls_method m kind = false
 
+abbrev pub is_method : ℕ → Option MethodNo → Bool
+is_method m None = false
+is_method m (Some n) = eqb n.0 m
+
 abbrev pub is_slot : ℕ → Option SlotNo → Bool
 is_slot i None = false
 is_slot i (Some s) = eqb s.0 i
@@ -35,6 +40,10 @@ module _ (P : Program) where
 
   abbrev pub has_call_site : ℕ → Method → Bool
   has_call_site m info = some_of (calls_in_class m info.owner.0) P.bodies
+
+  -- a body of the method's class calls it
+  abbrev pub called_in_own_class : ℕ → Bool
+  called_in_own_class m = some_of (calls_in_class m (class_of (method_at P m))) P.bodies
 
   -- the slot is of a method, from number m on, that has no call site in its class
   abbrev pub uncalled_from : ℕ → ℕ → List Method → Bool

@@ -11,7 +11,7 @@ use Rattle.jn_env.specs.Order.{BitsAbove, QualsWithin, qual_at}
 use Rattle.jn_env.specs.declared.env.Env.{Env}
 use Rattle.jn_heap.specs.Machine.{Regs, gather, gather_more, pad, value_at}
 use Rattle.jn_soundness.specs.World.{World}
-use Rattle.jn_transfer.specs.Keys.{also, is_on, mask, no_bits}
+use Rattle.jn_env.specs.Keys.{also, is_on, mask, no_bits}
 use Rattle.jn_quals.specs.Order.{no_qual, within}
 use Rattle.jn_transfer.specs.Transfer.{pad_quals}
 

@@ -7,7 +7,7 @@ use Rattle.jn_points.specs.declared.program.SlotInfo.{SlotInfo}
 use Rattle.jn_points.specs.declared.program.Field.{Field}
 use Rattle.jn_soundness.specs.Solved.{Solved}
 use Rattle.jn_base.specs.declared.number.SlotNo.{SlotNo}
-use Rattle.jn_transfer.specs.Keys.{is_on}
+use Rattle.jn_env.specs.Keys.{is_on}
 use Rattle.jn_transfer.specs.Contributions.{IsSent, kind_sends, unset_sends}
 use Rattle.jn_base.specs.declared.number.ClassNo.{ClassNo}
 use Rattle.jn_quals.specs.Order.{no_qual, committed_only, within}

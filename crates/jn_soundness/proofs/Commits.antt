@@ -12,7 +12,7 @@ use Rattle.jn_soundness.specs.World.{World}
 use Rattle.jn_points.specs.Members.{has_field}
 use Rattle.jn_points.specs.Lookup.{class_of, ctor_of, method_in, owner, ref_field}
 use Rattle.jn_sigs.specs.Signature.{field_qual}
-use Rattle.jn_transfer.specs.Keys.{own_keys}
+use Rattle.jn_env.specs.Keys.{own_keys}
 use Rattle.jn_soundness.proofs.Basics.{on_is_on, eqb_cases}
 use Rattle.jn_soundness.proofs.Laters.{Freed, Later}
 use Rattle.jn_soundness.proofs.Grows.{FitsMark, thing_later, with_mark, mark_other, mark_same}

@@ -23,7 +23,7 @@ use Rattle.jn_soundness.specs.World.{World, param_quals}
 use Rattle.jn_transfer.specs.Transfer.{all_settled, any_empty, any_free, entry_env, given_quals, new_qual, ref_quals, this_qual}
 use Rattle.jn_points.specs.Members.{has_field}
 use Rattle.jn_points.specs.Lookup.{body_at, body_of, class_of, ctor_of, is_ref_base, method_at, method_in, owner, point_at, ref_field, regs_of, slots_of, static_of}
-use Rattle.jn_transfer.specs.Keys.{fact_keys, no_bits, own_keys}
+use Rattle.jn_env.specs.Keys.{fact_keys, no_bits, own_keys}
 use Rattle.jn_sigs.specs.Signature.{field_qual, receiver_of, result_of, slot_quals}
 use Rattle.jn_quals.specs.Order.{free_only, is_none, no_qual, within}
 use Rattle.jn_env.specs.Order.{qual_at}

@@ -8,7 +8,7 @@ use Rattle.jn_points.specs.declared.point.BaseType.{BaseType}
 use Rattle.jn_heap.specs.Values.{At, Elems, NullRef, Object, Plain, Text, Thing, Value, same}
 use Rattle.jn_soundness.specs.Good.{Building, BuiltOk, Committed, Describes, FactOk, FieldOk, FrameMark, Free, GoodTop, HeapOk, MarkFits, Marks, ObjMark, Settled, ThingOk, Unborn, free_qual}
 use Rattle.jn_heap.specs.Machine.{Frame, class_at, class_in, field_at, field_in, value_at}
-use Rattle.jn_transfer.specs.Keys.{Key, fact_keys}
+use Rattle.jn_env.specs.Keys.{Key, fact_keys}
 use Rattle.jn_soundness.specs.World.{World}
 use Rattle.jn_transfer.specs.Transfer.{elem_qual}
 use Rattle.jn_sigs.specs.Signature.{field_qual}

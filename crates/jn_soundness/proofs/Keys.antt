@@ -6,7 +6,7 @@ use Rattle.jn_points.specs.declared.program.Method.{Method}
 use Rattle.std.specs.Prelude.{Option}
 use Rattle.jn_points.specs.Lookup.{class_of, ctor_of, method_in, owner, ref_field}
 use Rattle.jn_points.specs.Members.{below}
-use Rattle.jn_transfer.specs.Keys.{is_own, own_keys}
+use Rattle.jn_env.specs.Keys.{is_own, own_keys}
 use Rattle.jn_soundness.specs.World.{World}
 use Rattle.jn_soundness.specs.Checked.{AllOwn}
 

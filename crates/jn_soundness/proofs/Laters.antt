@@ -7,7 +7,7 @@ use Rattle.jn_env.specs.declared.env.Env.{Env}
 use Rattle.jn_heap.specs.Machine.{Frame, Regs, class_at}
 use Rattle.jn_soundness.specs.World.{World}
 use Rattle.jn_points.specs.Lookup.{class_of, method_in}
-use Rattle.jn_transfer.specs.Keys.{own_keys}
+use Rattle.jn_env.specs.Keys.{own_keys}
 use Rattle.jn_soundness.proofs.Basics.{on_map}
 
 pub record Freed (m : ℕ → ObjMark) (a o : ℕ) (ended : List ℕ) : Type 0 where

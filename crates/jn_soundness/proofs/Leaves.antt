@@ -17,7 +17,7 @@ use Rattle.jn_heap.specs.Machine.{Frame, State, gives, gives_to, holds_at, moves
 use Rattle.jn_soundness.specs.World.{World}
 use Rattle.jn_points.specs.Lookup.{class_of, ctor_of, method_at, method_in, owner, point_at, slots_of}
 use Rattle.jn_transfer.specs.Transfer.{ctor_called, drop_all, new_qual, put, ref_quals}
-use Rattle.jn_transfer.specs.Keys.{fact_keys, mask, own_keys}
+use Rattle.jn_env.specs.Keys.{fact_keys, mask, own_keys}
 use Rattle.jn_points.specs.Members.{has_field}
 use Rattle.jn_env.specs.Order.{qual_at}
 use Rattle.jn_sigs.specs.Signature.{result_of}

@@ -124,7 +124,7 @@ module _ (P : Program) (O : OneMethod P) where
       let methods : length P.methods ≡ 1 = ap length O.methods in
       let bodies : length P.bodies ≡ 1 = ap length O.bodies in
       let body : body_rows P s 0 t ≡ [] = subst (λ x. x ++ ctor_rows P s 0 (method_in P 0) t ≡ []) (sym h) (no_ctor_rows s t (method_in P 0) (no_ctor_in 0)) in
-      let pair : pair_rows P s 0 0 ≡ [] = subst (λ b. cond b (override_rows P s (method_at P 0) (method_at P 0)) [] ≡ []) (sym no_pair) refl in
+      let pair : pair_rows P s 0 0 ≡ [] = subst (λ b. cond b (override_rows s (method_at P 0) (method_at P 0)) [] ≡ []) (sym no_pair) refl in
       let pairs : flat_map (λ m. flat_map (pair_rows P s m) (0 ∷ [])) (0 ∷ []) ≡ [] = subst (λ x. (x ++ []) ++ [] ≡ []) (sym pair) refl in
       let first : bodies_rows P s (0 ∷ []) (t ∷ []) ≡ [] = subst (λ x. x ++ [] ≡ []) (sym body) refl in
       subst (λ n. bodies_rows P s (below n) (t ∷ []) ++ flat_map (λ m. flat_map (pair_rows P s m) (below (length P.methods))) (below (length P.methods)) ≡ []) (sym bodies)

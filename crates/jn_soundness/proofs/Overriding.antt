@@ -215,12 +215,12 @@ slots_length (x ∷ xs) [] h = absurd h
 slots_length (x ∷ xs) (t ∷ ts) h = ap (λ n. suc n) (slots_length xs ts h.1)
 
 module _ (W : World) where
-  none_outside : (as' bs : List Qualifier) → length as' ≡ length bs → some_outside W.program W.sig as' bs ≡ false → QualsWithin as' bs
+  none_outside : (as' bs : List Qualifier) → length as' ≡ length bs → some_outside as' bs ≡ false → QualsWithin as' bs
   none_outside [] [] n h = tt
   none_outside [] (b ∷ bs) n h = cc
   none_outside (a ∷ as') [] n h = cc
   none_outside (a ∷ as') (b ∷ bs) n h =
-      let x = or_none (not (within a b)) (some_outside W.program W.sig as' bs) h in
+      let x = or_none (not (within a b)) (some_outside as' bs) h in
       (not_not (within a b) x.0, none_outside as' bs (omega (n, arith)) x.1)
     where
       not_not : (t : Bool) → not t ≡ false → t ≡ true
@@ -252,13 +252,13 @@ module _ (W : World) (R : Shaped W.program) (B : BaseTyped W.program) where
       }
 
   module _ (none : rows W.program W.sig W.tables ≡ []) where
-    pair_none : (k m : ℕ) (x y : Method) → method_at W.program k ≡ Some x → method_at W.program m ≡ Some y → is_pair W.program k m ≡ true → override_rows W.program W.sig (Some x) (method_at W.program m) ≡ []
+    pair_none : (k m : ℕ) (x y : Method) → method_at W.program k ≡ Some x → method_at W.program m ≡ Some y → is_pair W.program k m ≡ true → override_rows W.sig (Some x) (method_at W.program m) ≡ []
     pair_none k m x y ik im p =
         let n = length W.program.methods in
         let all : pairs_rows W.program W.sig ≡ [] = no_right (bodies_rows W.program W.sig (below (length W.program.bodies)) W.tables) (pairs_rows W.program W.sig) none in
         let row : flat_map (pair_rows W.program W.sig k) (below n) ≡ [] = flat_none (λ k. flat_map (pair_rows W.program W.sig k) (below n)) (below n) k all (below_member n k (slice_get_within W.program.methods k x ik)) in
         let one : pair_rows W.program W.sig k m ≡ [] = flat_none (pair_rows W.program W.sig k) (below n) m row (below_member n m (slice_get_within W.program.methods m y im)) in
-        subst (λ z. override_rows W.program W.sig z (method_at W.program m) ≡ []) ik (subst (λ t. cond t (override_rows W.program W.sig (method_at W.program k) (method_at W.program m)) [] ≡ []) p one)
+        subst (λ z. override_rows W.sig z (method_at W.program m) ≡ []) ik (subst (λ t. cond t (override_rows W.sig (method_at W.program k) (method_at W.program m)) [] ≡ []) p one)
 
     not_not : (t : Bool) → not t ≡ false → t ≡ true
     not_not true h = refl
@@ -268,10 +268,10 @@ module _ (W : World) (R : Shaped W.program) (B : BaseTyped W.program) where
     over_selects k m x y ik im c i p =
         let t : PairTyped W.program k m = B.pairs k m p in
         let o = method_at W.program m in
-        let outside = some_outside W.program W.sig (slot_quals W.sig (slots_of o)) (slot_quals W.sig x.param_slots) in
+        let outside = some_outside (slot_quals W.sig (slots_of o)) (slot_quals W.sig x.param_slots) in
         let receiver = within (receiver_of W.sig o) (receiver_of W.sig (Some x)) in
         let result = within (result_of W.sig (Some x)) (result_of W.sig o) in
-        let all : override_rows W.program W.sig (Some x) o ≡ [] = pair_none k m x y ik im p in
+        let all : override_rows W.sig (Some x) o ≡ [] = pair_none k m x y ik im p in
         let front : row_if outside x.span OvrParam ++ row_if (not receiver) x.span OvrReceiver ≡ [] = no_left (row_if outside x.span OvrParam ++ row_if (not receiver) x.span OvrReceiver) (row_if (not result) x.span OvrResult) all in
         let size : length (slot_quals W.sig (slots_of o)) ≡ length (slot_quals W.sig x.param_slots) =
         quals_length W.sig (slots_of o) ∙ param_slots_length m y im ∙ sym (ap length t.params) ∙ sym (param_slots_length k x ik) ∙ ap (λ z. length (slots_of z)) ik ∙ sym (quals_length W.sig x.param_slots) in

@@ -25,7 +25,7 @@ use Rattle.jn_points.specs.Shaped.{Passes, ReceiverMatches}
 use Rattle.jn_sigs.specs.Signature.{slot_quals, result_of, receiver_of, field_qual}
 use Rattle.jn_env.specs.declared.env.Env.{Env}
 use Rattle.jn_env.specs.Order.{Table, env_in, qual_at}
-use Rattle.jn_transfer.specs.Keys.{is_on, is_own, own_keys}
+use Rattle.jn_env.specs.Keys.{is_on, is_own, own_keys}
 use Rattle.jn_transfer.specs.Transfer.{elem_qual}
 use Rattle.jn_transfer.specs.Rules.{row_if, lacks_null, lacks_init, pass_rows, arg_rows, return_rows, receiver_rows, elem_rows, elems_rows, new_array_rows, deref_rows, write_rows, kind_rows, rows_at, rows_from, is_unset, unset_at, unset_from, ctor_rows, body_rows, bodies_rows, pairs_rows, rows}
 use Rattle.jn_soundness.specs.World.{World, env_at, table_at, param_quals}

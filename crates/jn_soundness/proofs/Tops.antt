@@ -14,7 +14,7 @@ use Rattle.jn_soundness.specs.Checked.{Edge}
 use Rattle.jn_env.specs.declared.env.Env.{Env}
 use Rattle.jn_heap.specs.Machine.{Frame, Regs, field_at, holds_at, moves_to, object_of, value_at}
 use Rattle.jn_transfer.specs.Transfer.{IsAmong, learn, put, refine, side}
-use Rattle.jn_transfer.specs.Keys.{Key, fact_keys, has_reg, is_key, mask, own_keys}
+use Rattle.jn_env.specs.Keys.{Key, fact_keys, has_reg, is_key, mask, own_keys}
 use Rattle.jn_soundness.specs.World.{World, env_at}
 use Rattle.jn_points.specs.Lookup.{ctor_of, method_in}
 use Rattle.jn_quals.specs.Order.{is_none, null_part, without_null}

@@ -17,7 +17,7 @@ use Rattle.jn_heap.specs.Machine.{Regs, array_len, binary_of, cast_as, cast_of, 
 use Rattle.jn_soundness.specs.World.{World}
 use Rattle.jn_quals.specs.Order.{all_quals, committed_only, is_none, no_qual, null_or_committed, without_free, without_null}
 use Rattle.jn_transfer.specs.Transfer.{elem_qual, elem_read, less_null, literal_qual, read_part, read_qual}
-use Rattle.jn_transfer.specs.Keys.{fact_keys, is_key, is_on}
+use Rattle.jn_env.specs.Keys.{fact_keys, is_key, is_on}
 use Rattle.jn_sigs.specs.Signature.{field_qual, field_qual_of, slot_qual}
 use Rattle.jn_points.specs.Lookup.{flat_field, owner, ref_field, ref_of, reg_base, has_slot}
 use Rattle.jn_env.specs.Order.{qual_at}

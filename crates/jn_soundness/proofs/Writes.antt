@@ -9,7 +9,7 @@ use Rattle.jn_soundness.specs.Good.{AllOn, AssignedOk, Committed, CtorOk, Descri
 use Rattle.jn_heap.specs.Values.{At, NullRef, Object, Plain, Text, Thing, Value, same}
 use Rattle.jn_env.specs.declared.env.Env.{Env}
 use Rattle.jn_heap.specs.Machine.{Frame, Regs, class_at, class_in, field_at, field_in, value_at}
-use Rattle.jn_transfer.specs.Keys.{Key, also, fact_keys, has_key_field, is_key, mask, own_keys}
+use Rattle.jn_env.specs.Keys.{Key, also, fact_keys, has_key_field, is_key, mask, own_keys}
 use Rattle.jn_soundness.specs.World.{World}
 use Rattle.jn_soundness.specs.Checked.{WritePasses}
 use Rattle.jn_points.specs.Lookup.{class_of, ctor_of, locals, method_in, owner, ref_field, ref_of, has_slot}

@@ -19,7 +19,7 @@ use Rattle.jn_soundness.specs.World.{World, env_at, param_quals}
 use Rattle.jn_points.specs.Lookup.{body_at, body_of, class_of, ctor_of, is_ref_base, method_at, method_in, owner, point_at, ref_field, reg_base, regs_of, static_of}
 use Rattle.jn_sigs.specs.Signature.{field_qual, receiver_of, result_of}
 use Rattle.jn_points.specs.Members.{has_field}
-use Rattle.jn_transfer.specs.Keys.{is_on, own_keys}
+use Rattle.jn_env.specs.Keys.{is_on, own_keys}
 use Rattle.jn_quals.specs.Order.{settle, within}
 
 -- the arguments are within the parameters' slots, one for each

@@ -14,7 +14,7 @@ use Rattle.jn_heap.specs.Values.{At, Elems, NullRef, Object, Plain, Prim, Text, 
 use Rattle.jn_soundness.specs.Checked.{ref_elems}
 use Rattle.jn_heap.specs.Machine.{Ends, Frame, Goes, Next, NullFault, Regs, State, Stuck, class_at, field_at, field_in, run, selected, value_at, MainForm, start_state}
 use Rattle.jn_env.specs.declared.env.Env.{Env}
-use Rattle.jn_transfer.specs.Keys.{Key, fact_keys, own_keys}
+use Rattle.jn_env.specs.Keys.{Key, fact_keys, own_keys}
 use Rattle.jn_env.specs.Order.{QualsWithin}
 use Rattle.jn_soundness.specs.World.{World, env_at}
 use Rattle.jn_points.specs.Lookup.{body_at, class_of, ctor_of, flat_field, method_at, method_in, owner, point_at, ref_field, reg_base, slots_of, static_of}

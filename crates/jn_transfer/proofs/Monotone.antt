@@ -17,10 +17,10 @@ use Rattle.jn_sigs.specs.Signature.{result_of, field_qual}
 use Rattle.jn_env.specs.declared.env.Env.{Env}
 use Rattle.jn_env.specs.Order.{qual_at, QualsWithin, EnvWithin, BitsAbove}
 use Rattle.jn_env.proofs.Order.{quals_set, env_qual}
-use Rattle.jn_transfer.specs.Keys.{is_key, has_key_field, also, is_on, fact_keys, own_keys}
+use Rattle.jn_env.specs.Keys.{is_key, has_key_field, also, is_on, fact_keys, own_keys}
 use Rattle.jn_transfer.specs.Transfer.{literal_qual, elem_qual, refine, side, any_empty, any_free, all_settled, ref_quals, new_qual, less_null, put, drop_all, put_to, learn, written, ctor_called, elem_read, read_part, read_qual, transfer, IsAmong}
 use Rattle.jn_transfer.specs.Covered.{Covered}
-use Rattle.jn_transfer.proofs.BitOrder.{mask_above, also_above, also_left, is_on_above}
+use Rattle.jn_env.proofs.BitOrder.{mask_above, also_above, also_left, is_on_above}
 
 pub among_left : (x : ℕ × Env) (xs ys : List (ℕ × Env)) → IsAmong x xs → IsAmong x (xs ++ ys)
 among_left x [] ys h = absurd h

@@ -14,7 +14,7 @@ use Rattle.jn_points.specs.declared.program.Program.{Program}
 use Rattle.jn_points.specs.Lookup.{slots_of, point_at, field_info, method_at, method_in}
 use Rattle.jn_env.specs.declared.env.Env.{Env}
 use Rattle.jn_env.specs.Order.{env_in, qual_at}
-use Rattle.jn_transfer.specs.Keys.{is_on, own_keys}
+use Rattle.jn_env.specs.Keys.{is_on, own_keys}
 
 abbrev pub is_inferred : Option SlotInfo → Bool
 is_inferred None = false

@@ -22,7 +22,7 @@ use Rattle.jn_points.specs.Members.{some_of, below, is_pair}
 use Rattle.jn_sigs.specs.Signature.{slot_quals, result_of, receiver_of, field_qual}
 use Rattle.jn_env.specs.declared.env.Env.{Env}
 use Rattle.jn_env.specs.Order.{Table, env_in, qual_at}
-use Rattle.jn_transfer.specs.Keys.{is_on, own_keys}
+use Rattle.jn_env.specs.Keys.{is_on, own_keys}
 use Rattle.jn_transfer.specs.Transfer.{elem_qual}
 use Rattle.jn_transfer.specs.Least.{IsLeastTable}
 
@@ -77,6 +77,21 @@ abbrev pub deref_rows : Env → Option Operand → List Row
 deref_rows e None = []
 deref_rows e (Some a) = row_if (qual_at e a.reg.0).null a.span Deref
 
+-- some qualifier of the first list isn't within the other's
+abbrev pub some_outside : List Qualifier → List Qualifier → Bool
+some_outside [] qs = false
+some_outside (a ∷ as') [] = false
+some_outside (a ∷ as') (b ∷ bs) = not (within a b) || some_outside as' bs
+
+module _ (s : List Qualifier) where
+  -- what an overrider narrows of its parameters and receiver, or widens of its result
+  abbrev pub override_rows : Option Method → Option Method → List Row
+  override_rows None under = []
+  override_rows (Some over) under =
+      row_if (some_outside (slot_quals s (slots_of under)) (slot_quals s over.param_slots)) over.span OvrParam
+      ++ row_if (not (within (receiver_of s under) (receiver_of s (Some over)))) over.span OvrReceiver
+      ++ row_if (not (within (result_of s (Some over)) (result_of s under))) over.span OvrResult
+
 module _ (P : Program) (s : List Qualifier) where
   -- FIELD and FIELD-INIT
   abbrev pub write_rows : Env → Operand → ℕ → Operand → List Row
@@ -130,22 +145,9 @@ module _ (P : Program) (s : List Qualifier) where
   bodies_rows [] tables = []
   bodies_rows (b ∷ bs) tables = body_rows b (slice_index_or tables b []) ++ bodies_rows bs tables
 
-  -- some qualifier of the first list isn't within the other's
-  abbrev pub some_outside : List Qualifier → List Qualifier → Bool
-  some_outside [] qs = false
-  some_outside (a ∷ as') [] = false
-  some_outside (a ∷ as') (b ∷ bs) = not (within a b) || some_outside as' bs
-
-  abbrev pub override_rows : Option Method → Option Method → List Row
-  override_rows None under = []
-  override_rows (Some over) under =
-      row_if (some_outside (slot_quals s (slots_of under)) (slot_quals s over.param_slots)) over.span OvrParam
-      ++ row_if (not (within (receiver_of s under) (receiver_of s (Some over)))) over.span OvrReceiver
-      ++ row_if (not (within (result_of s (Some over)) (result_of s under))) over.span OvrResult
-
   -- broken rules of an overriding pair
   abbrev pub pair_rows : ℕ → ℕ → List Row
-  pair_rows m k = cond (is_pair P m k) (override_rows (method_at P m) (method_at P k)) []
+  pair_rows m k = cond (is_pair P m k) (override_rows s (method_at P m) (method_at P k)) []
 
   abbrev pub pairs_rows : List Row
   pairs_rows = flat_map (λ m. flat_map (pair_rows m) (below (length P.methods))) (below (length P.methods))

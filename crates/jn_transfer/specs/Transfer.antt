@@ -19,7 +19,7 @@ use Rattle.jn_points.specs.Lookup.{regs_of, slots_of, class_of, ctor_of, static_
 use Rattle.jn_sigs.specs.Signature.{slot_quals, result_of, receiver_of, field_qual}
 use Rattle.jn_env.specs.declared.env.Env.{Env}
 use Rattle.jn_env.specs.Order.{qual_at}
-use Rattle.jn_transfer.specs.Keys.{has_reg, has_key_field, is_key, mask, also, is_on, no_bits, fact_keys, own_keys}
+use Rattle.jn_env.specs.Keys.{has_reg, has_key_field, is_key, mask, also, is_on, no_bits, fact_keys, own_keys}
 
 abbrev pub literal_qual : Literal → Qualifier
 literal_qual (Int i) = no_qual

@@ -5,20 +5,20 @@ ghost use Rattle.jn_env.specs.Order.{qual_at};
 ghost use Rattle.jn_points.specs.Lookup.{slots_of, method_at, ref_field};
 ghost use Rattle.jn_sigs.specs.Signature.{result_of};
 ghost use Rattle.jn_transfer.specs.Transfer.{put, drop_all, put_to, learn, refine, side, written, write_facts, write_assigned, ctor_called, elem_read, read_part, read_qual, transfer, ref_quals, new_qual};
-ghost use Rattle.jn_transfer.specs.Sized.{EnvSized};
-ghost use Rattle.jn_transfer.specs.Code.{AreKeys};
+ghost use Rattle.jn_env.specs.Sized.{EnvSized};
+ghost use Rattle.jn_env.specs.Code.{AreKeys};
 
-use crate::bits::{Which, assign_bits, clear_bits, has_bit, set_bits};
 use crate::creation::{new_qual, ref_quals};
-use crate::keys::{Keys, is_ref_field, owner};
 use crate::lookup::{
     class_of, elem_qual, field_qual, is_ctor, is_flat_field, literal_qual, locals, reg_base,
     result_qual,
 };
 use jn_base::{BodyNo, FieldNo, MethodNo, OutOfMemory, RegNo};
-use jn_env::Env;
+use jn_env::keys::{is_ref_field, owner};
+use jn_env::{Env, Keys};
 use jn_points::{Operand, Origin, PointKind, Program};
 use jn_quals::Qual;
+use jn_sigs::Sig;
 use std::alloc::{AllocError, Global};
 
 /// The number of a target, and the environment there.
@@ -28,7 +28,7 @@ pub type Edge = (u32, Env);
 #[derive(Clone, Copy)]
 pub struct Analysis<'a> {
     pub program: &'a Program,
-    pub sig: &'a [Qual],
+    pub sig: &'a Sig,
     pub body: BodyNo,
     pub keys: &'a Keys,
 }
@@ -40,12 +40,7 @@ impl<'a> Analysis<'a> {
         requires sized { EnvSized self.now.program.now self.now.body.0 env.old }
         ensures { env.new ≡ put self.now.program.now self.now.body.0 env.old reg.0 qual }
     {
-        env.set_qual(reg, qual);
-        clear_bits(
-            self.keys.facts.as_slice(),
-            &mut env.facts,
-            Which::OfReg(reg),
-        );
+        env.set(self.keys, reg, qual);
     }
 
     /// All facts go.
@@ -54,7 +49,7 @@ impl<'a> Analysis<'a> {
         requires sized { EnvSized self.now.program.now self.now.body.0 env.old }
         ensures { env.new ≡ drop_all self.now.program.now self.now.body.0 env.old }
     {
-        clear_bits(self.keys.facts.as_slice(), &mut env.facts, Which::Each);
+        env.drop_facts(self.keys, None);
     }
 
     /// A test's origin is a fact.
@@ -65,11 +60,7 @@ impl<'a> Analysis<'a> {
     {
         match origin {
             None => {}
-            Some(origin) => set_bits(
-                self.keys.facts.as_slice(),
-                &mut env.facts,
-                Which::Exactly(origin.reg, origin.field),
-            ),
+            Some(origin) => env.add_fact(self.keys, origin.reg, origin.field),
         }
     }
 
@@ -101,12 +92,7 @@ impl<'a> Analysis<'a> {
         } else {
             Qual::none()
         };
-        if has_bit(
-            self.keys.facts.as_slice(),
-            env.facts.as_slice(),
-            object,
-            field,
-        ) {
+        if env.has_fact(self.keys, object, field) {
             read.without_null()
         } else {
             read
@@ -132,10 +118,9 @@ impl<'a> Analysis<'a> {
         ensures quals { env.new.quals ≡ env.old.quals }
         ensures assigned { env.new.assigned ≡ env.old.assigned }
     {
-        let facts = self.keys.facts.as_slice();
-        clear_bits(facts, &mut env.facts, Which::OfField(field));
+        env.drop_facts(self.keys, Some(field));
         if object.0 < locals(self.program, self.body) && !env.qual(value).has_null() {
-            set_bits(facts, &mut env.facts, Which::Exactly(object, field));
+            env.add_fact(self.keys, object, field);
         }
     }
 
@@ -150,7 +135,7 @@ impl<'a> Analysis<'a> {
             && object.0 == 0
             && owner(self.program, field.0) == class_of(self.program, self.body)
         {
-            assign_bits(self.keys.own.as_slice(), &mut env.assigned, Some(field));
+            env.assign(self.keys, Some(field));
         }
     }
 
@@ -162,7 +147,7 @@ impl<'a> Analysis<'a> {
     {
         self.drop_all(env);
         if own {
-            assign_bits(self.keys.own.as_slice(), &mut env.assigned, None);
+            env.assign(self.keys, None);
         }
     }
 

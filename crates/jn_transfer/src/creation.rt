@@ -3,9 +3,9 @@ ghost use Rattle.std.specs.Prelude.{◌≡◌, ◌≤◌, ◌⊎◌, ◌++◌, �
 ghost use Rattle.jn_points.specs.Lookup.{has_slot};
 ghost use Rattle.jn_transfer.specs.Transfer.{ref_quals, new_qual};
 
-use crate::bits::{either, is_set};
 use jn_base::SlotNo;
 use jn_env::Env;
+use jn_env::bits::{either, is_set};
 use jn_points::Operand;
 use jn_quals::Qual;
 use std::alloc::{AllocError, Global};

@@ -3,15 +3,14 @@ ghost use Rattle.std.specs.Prelude.{◌≡◌, ◌+◌, ◌<◌, ◌^◌, IfOk, 
 ghost use Rattle.jn_points.specs.declared.point.Point.{Point};
 ghost use Rattle.jn_points.specs.Lookup.{body_at, points_of, point_at};
 ghost use Rattle.jn_transfer.specs.Transfer.{transfer};
-ghost use Rattle.jn_transfer.specs.Sized.{EnvSized};
+ghost use Rattle.jn_env.specs.Sized.{EnvSized};
 ghost use Rattle.jn_transfer.specs.Covered.{numbered};
 
 use crate::analysis::{Analysis, Edge};
-use crate::keys::find_keys;
 use jn_base::{BodyNo, OutOfMemory, PointNo};
-use jn_env::Env;
+use jn_env::{Env, find_keys};
 use jn_points::Program;
-use jn_quals::Qual;
+use jn_sigs::Sig;
 use std::alloc::{AllocError, Global};
 
 /// For each edge of a point its target and the environment after it.
@@ -21,7 +20,7 @@ use std::alloc::{AllocError, Global};
 pub fn transfer(
     alloc: Global,
     program: &Program,
-    sig: &[Qual],
+    sig: &Sig,
     body: BodyNo,
     point: PointNo,
     env: &Env,

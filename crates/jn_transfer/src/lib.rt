@@ -2,13 +2,10 @@
 #![tactic(auto)]
 
 pub mod analysis;
-pub mod bits;
 pub mod creation;
 pub mod edges;
-pub mod keys;
 pub mod law;
 pub mod lookup;
 
 pub use analysis::{Analysis, Edge};
 pub use edges::transfer;
-pub use keys::{FieldKey, Keys, find_keys};

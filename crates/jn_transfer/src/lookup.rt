@@ -7,6 +7,7 @@ ghost use Rattle.jn_transfer.specs.Transfer.{literal_qual, elem_qual};
 use jn_base::{BodyNo, ClassNo, MethodNo, RegNo, SlotNo};
 use jn_points::{BaseType, Elem, Literal, Method, Program};
 use jn_quals::Qual;
+use jn_sigs::Sig;
 
 /// The qualifier of a literal.
 pub fn literal_qual(value: Literal) -> Qual
@@ -110,20 +111,17 @@ fn is_flat(base: BaseType) -> bool
 }
 
 /// The qualifier of a slot; empty where there is none.
-pub fn slot_qual(sig: &[Qual], slot: Option<SlotNo>) -> Qual
+pub fn slot_qual(sig: &Sig, slot: Option<SlotNo>) -> Qual
     ensures { result ≡ slot_qual sig.now slot }
 {
     match slot {
         None => Qual::none(),
-        Some(slot) => match sig.get(slot.0 as usize) {
-            None => Qual::none(),
-            Some(qual) => *qual,
-        },
+        Some(slot) => sig.get(slot),
     }
 }
 
 /// The qualifier of a field's slot.
-pub fn field_qual(program: &Program, sig: &[Qual], field: u32) -> Qual
+pub fn field_qual(program: &Program, sig: &Sig, field: u32) -> Qual
     ensures { result ≡ field_qual program.now sig.now field }
 {
     match program.fields.as_slice().get(field as usize) {
@@ -133,7 +131,7 @@ pub fn field_qual(program: &Program, sig: &[Qual], field: u32) -> Qual
 }
 
 /// The qualifier of a method's result.
-pub fn result_qual(program: &Program, sig: &[Qual], method: MethodNo) -> Qual
+pub fn result_qual(program: &Program, sig: &Sig, method: MethodNo) -> Qual
     ensures { result ≡ result_of sig.now (method_at program.now method.0) }
 {
     match program.methods.as_slice().get(method.0 as usize) {

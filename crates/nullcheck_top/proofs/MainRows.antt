@@ -1,10 +1,9 @@
 -- The body of a form's program is one that flow and checks take, and what they give are the rules' rows.
-use Rattle.std.proofs.Common.{◌≡◌, ◌+◌, ◌<◌, ◌≤◌, List, [], ◌∷◌, length, map, None, refl, sym, ap, ◌∙◌, subst, arith, length-append}
+use Rattle.std.proofs.Common.{◌≡◌, ◌+◌, ◌<◌, ◌≤◌, List, [], ◌∷◌, length, None, sym, subst, arith, length-append}
 use Rattle.jn_base.specs.declared.place.Row.{Row}
 use Rattle.jn_quals.specs.Qualifier.{Qualifier}
 use Rattle.jn_trees.specs.declared.token.Token.{Token}
 use Rattle.jn_points.specs.declared.point.PointKind.TheVariants.{Return}
-use Rattle.jn_points.specs.declared.program.SlotInfo.{SlotInfo}
 use Rattle.jn_points.specs.declared.program.Program.{Program}
 use Rattle.jn_points.specs.Lookup.{points_of, body_at}
 use Rattle.jn_sigs.specs.Signature.{start_signature}
@@ -22,6 +21,7 @@ use Rattle.nullcheck_top.proofs.RuleRows.{rules_break}
 pub record Suits (P : Program) : Type 0 where
   pub inside : 0 < length P.bodies
   pub few : length P.fields < 4294967296
+  pub slots : length P.slots < 4294967296
   pub short : length (points_of (body_at P 0)) < 4294967296
 
 suits_form : (tokens : List Token) (f : FormTree) → all_size f.body + 1 ≤ 65535 → Suits (program_of_form tokens f)
@@ -31,6 +31,7 @@ suits_form tokens f few =
     record {
       inside = omega arith;
       few = omega arith;
+      slots = omega arith;
       short = omega (arith, whole, part);
     }
 
@@ -39,16 +40,12 @@ suits P form =
     let is = form.form.lowered in
     subst Suits (sym is) (suits_form form.tokens form.form.tree form.form.points)
 
-starts_form : (tokens : List Token) (f : FormTree) → map (λ (slot : SlotInfo). slot.start) (program_of_form tokens f).slots ≡ start_signature (program_of_form tokens f)
-starts_form tokens f = refl
-
 -- the rows of main's body, in order, are those of the rules
-pub rules_give : (P : Program) (sig : List Qualifier) (rows ordered : List Row) → IsFormProgram P → sig ≡ map (λ (slot : SlotInfo). slot.start) P.slots → AreMainRows P sig rows → IsOrderOf rows ordered → RulesGive P ordered
+pub rules_give : (P : Program) (sig : List Qualifier) (rows ordered : List Row) → IsFormProgram P → sig ≡ start_signature P → AreMainRows P sig rows → IsOrderOf rows ordered → RulesGive P ordered
 rules_give P sig rows ordered form starts main order =
     let is = form.form.lowered in
     let f = form.form.tree in
     let Q : Program = program_of_form form.tokens f in
-    let sig_is : sig ≡ start_signature Q = starts ∙ ap (λ (p : Program). map (λ (slot : SlotInfo). slot.start) p.slots) is ∙ starts_form form.tokens f in
-    let there : AreMainRows Q (start_signature Q) rows = subst (λ s. AreMainRows Q s rows) sig_is (subst (λ p. AreMainRows p sig rows) is main) in
+    let there : AreMainRows Q (start_signature Q) rows = subst (λ p. AreMainRows p (start_signature p) rows) is (subst (λ s. AreMainRows P s rows) starts main) in
     let breaks : Breaks Q (start_signature Q) rows = rules_break form.tokens f there.table rows there.least there.all in
     record { broken = rows; breaks = subst (λ p. Breaks p (start_signature p) rows) (sym is) breaks; order = order }

@@ -1,7 +1,5 @@
 // The rules' rows of a program.
-ghost use Rattle.std.specs.Prelude.{◌≡◌, IfOk, map};
-ghost use Rattle.jn_points.specs.declared.program.SlotInfo.{SlotInfo as SpecSlot};
-ghost use Rattle.jn_sigs.specs.Signature.{start_signature};
+ghost use Rattle.std.specs.Prelude.{◌≡◌, IfOk};
 ghost use Rattle.nullcheck_top.specs.FormProgram.{IsFormProgram, AreMainRows};
 ghost use Rattle.nullcheck_top.specs.Report.{RulesGive};
 
@@ -11,22 +9,11 @@ use jn_diag::order;
 use jn_first_form::program_law::programs_stay_inside;
 use jn_flow::flow;
 use jn_points::Program;
-use jn_quals::Qual;
-use std::alloc::{AllocError, Global};
-
-/// The qualifiers with which the slots start.
-fn slot_starts(alloc: Global, program: &Program) -> Result<Vec<Qual>, AllocError>
-    ensures { IfOk result (λ quals. quals.items ≡ map (λ (slot : SpecSlot). slot.start) program.now.slots) }
-{
-    let mut quals = Vec::new(alloc);
-    for slot in program.slots.as_slice() {
-        quals.push(slot.start)?;
-    }
-    Ok(quals)
-}
+use jn_sigs::{Sig, start};
+use std::alloc::Global;
 
 /// The rows of the body of main.
-fn main_rows(alloc: Global, program: &Program, sig: &[Qual]) -> Result<Vec<Row>, OutOfMemory>
+fn main_rows(alloc: Global, program: &Program, sig: &Sig) -> Result<Vec<Row>, OutOfMemory>
     requires { IsFormProgram program.now }
     ensures { IfOk result (λ rows. AreMainRows program.now sig.now rows.items) }
 {
@@ -40,7 +27,7 @@ pub fn broken_rules(alloc: Global, program: &Program) -> Result<Vec<Row>, OutOfM
     requires { IsFormProgram program.now }
     ensures { IfOk result (λ rows. RulesGive program.now rows.items) }
 {
-    let sig = slot_starts(alloc, program)?;
+    let sig = start(alloc, program)?;
     let mut rows = main_rows(alloc, program, &sig)?;
     order(&mut rows)?;
     Ok(rows)

@@ -2,7 +2,7 @@ use Rattle.std.proofs.Common.{◌≡◌, ℕ, ◌||◌, ◌&&◌, not, drop}
 use Rattle.std.specs.Prelude.{eqb}
 use Rattle.jn_points.specs.Members.{some_of}
 use Rattle.jn_sigs.specs.Signature.{field_qual}
-use Rattle.jn_transfer.specs.Keys.{is_on}
+use Rattle.jn_env.specs.Keys.{is_on}
 use Rattle.jn_checks.proofs.ctor.is_unset.Given as goal
 
 abbrev pub invariant-loop-field : goal.invariant-loop-field

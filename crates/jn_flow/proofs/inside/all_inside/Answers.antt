@@ -1,7 +1,6 @@
-use Rattle.std.proofs.Common.{ℕ, ◌≡◌, ◌<◌, ◌≤◌, ◌+◌, ⊎_elim, eq-or-lt_of_le, length, Some, refl, sym, ap, subst, ◌∙◌, arith}
+use Rattle.std.proofs.Common.{ℕ, ◌≡◌, ◌<◌, ◌≤◌, ⊎_elim, eq-or-lt_of_le, length, Some, refl, sym, ap, subst, ◌∙◌, arith}
 use Rattle.std.specs.Prelude.{slice_get}
 use Rattle.jn_points.specs.declared.leads.Edges.{Edges}
-use Rattle.jn_points.specs.declared.point.Point.{Point}
 use Rattle.jn_points.specs.Edges.{edges_of, edges_at}
 use Rattle.jn_transfer.specs.Sized.{Below}
 use Rattle.jn_flow.proofs.inside.all_inside.Goals as goal

@@ -1,4 +1,3 @@
-use Rattle.std.proofs.Common.{◌≡◌}
 use Rattle.jn_flow.specs.Inside.{AllInside}
 use Rattle.jn_flow.proofs.inside.all_inside.Given as goal
 

@@ -1,5 +1,5 @@
-use Rattle.std.proofs.Common.{◌≡◌, suc, sym, subst, ◌∙◌, ap, true, false}
-use Rattle.jn_transfer.specs.Least.{round, start_table}
+use Rattle.std.proofs.Common.{suc, sym, subst, ◌∙◌, ap}
+use Rattle.jn_transfer.specs.Least.{round}
 use Rattle.jn_flow.specs.Size.{IsTableOf}
 use Rattle.jn_flow.proofs.Climbing.{start_is_table, round_table, round_heavier}
 use Rattle.jn_flow.proofs.least.flow.Goals as goal
@@ -13,7 +13,7 @@ loop-table-init c = record {
 pub loop-table-smaller : goal.loop-table-smaller
 loop-table-smaller c =
     let step = c.in_ok-round.ensures in
-    round_heavier c.args.program.now c.args.sig.now c.args.body.0 c.requires.stays c.loop-table.table.items c.round.new.table.items c.loop-table.invariant.table step.made (step.other c.if-not-branch.false)
+    round_heavier c.args.program.now c.args.sig.now c.args.body.0 c.requires.stays c.loop-table.table c.round.new.table c.loop-table.invariant.table step.made (step.other c.if-not-branch.false)
 
 pub loop-table-preserved : goal.loop-table-preserved
 loop-table-preserved c =
@@ -24,5 +24,5 @@ loop-table-preserved c =
     let made = c.loop-table.invariant.made in
     record {
       made = (suc made.0, step.made ∙ ap (λ t. round P s b t) made.1);
-      table = subst (λ t. IsTableOf P b t) (sym step.made) (round_table P s b c.requires.stays c.loop-table.table.items c.loop-table.invariant.table);
+      table = subst (λ t. IsTableOf P b t) (sym step.made) (round_table P s b c.requires.stays c.loop-table.table c.loop-table.invariant.table);
     }

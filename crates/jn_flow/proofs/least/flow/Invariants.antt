@@ -6,9 +6,9 @@ use Rattle.jn_flow.proofs.least.flow.Given as goal
 
 abbrev pub invariant-loop-table : goal.invariant-loop-table
 invariant-loop-table l = record {
-  made : (n : ℕ) × (l.table.items ≡ rounds l.program l.sig l.fn.body.0 n (start_table l.program l.sig l.fn.body.0));
-  table : IsTableOf l.program l.fn.body.0 l.table.items;
+  made : (n : ℕ) × (l.table ≡ rounds l.program l.sig l.fn.body.0 n (start_table l.program l.sig l.fn.body.0));
+  table : IsTableOf l.program l.fn.body.0 l.table;
 }
 
 abbrev pub decreases-loop-table : goal.decreases-loop-table
-decreases-loop-table l = height l.program l.fn.body.0 - weight l.table.items
+decreases-loop-table l = height l.program l.fn.body.0 - weight l.table

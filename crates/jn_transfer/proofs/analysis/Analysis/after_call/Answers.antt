@@ -1,6 +1,6 @@
 use Rattle.std.proofs.Common.{◌∙◌, ap, sym, subst}
 use Rattle.jn_transfer.specs.Transfer.{drop_all}
-use Rattle.jn_transfer.specs.Sized.{EnvSized}
+use Rattle.jn_env.specs.Sized.{EnvSized}
 use Rattle.jn_transfer.proofs.Sized.{drop_sized}
 use Rattle.jn_transfer.proofs.analysis.Analysis.after_call.Goals as goal
 
