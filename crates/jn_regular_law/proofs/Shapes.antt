@@ -1,11 +1,9 @@
 -- Regular programs have the shapes on which the flow of facts and the construction of objects rest.
-use Rattle.std.proofs.Common.{◌≡◌, ◌<◌, ◌≤◌, ℕ, suc, Bool, true, false, ◌⊎◌, inl, inr, List, [], ◌∷◌, length, Option, Some, None, refl, sym, ap, ◌∙◌, subst, eqb, arith}
+use Rattle.std.proofs.Common.{◌≡◌, ◌<◌, ◌≤◌, ℕ, Bool, true, false, ◌⊎◌, inl, inr, List, length, Option, Some, None, refl, sym, ap, ◌∙◌, subst, eqb, arith}
 use Rattle.std.specs.Prelude.{slice_get}
 use Rattle.std.proofs.lemmas.Bool.{eqb-true, cases_lt}
 use Rattle.jn_base.specs.declared.number.ClassNo.{ClassNo}
 use Rattle.jn_base.specs.declared.number.MethodNo.{MethodNo}
-use Rattle.jn_base.specs.declared.number.SlotNo.{SlotNo}
-use Rattle.jn_points.specs.declared.point.BaseType.{BaseType}
 use Rattle.jn_points.specs.declared.point.Operand.{Operand}
 use Rattle.jn_points.specs.declared.point.Point.{Point}
 use Rattle.jn_points.specs.declared.point.PointKind.{PointKind}
@@ -16,15 +14,10 @@ use Rattle.jn_points.specs.declared.program.Program.{Program}
 use Rattle.jn_points.specs.Edges.{edges_of}
 use Rattle.jn_points.specs.Lookup.{points_of, parent_of, class_info, class_of, ctor_of, static_of, private_of, params_of, slots_of, body_at, method_at, method_in, method_of_body, owner, point_at}
 use Rattle.jn_points.specs.Members.{has_field}
-use Rattle.jn_points.specs.Shaped.{ArgsMatch, Chains, Early, IsObjectClass, IsVirtual, LeadsTo, Names, NotCtorCall, NotEarlyReturn, Passes, RegularPoint, Shaped, SlotsMatch, StartsRegular, test_at, test_in}
+use Rattle.jn_points.specs.Shaped.{ArgsMatch, Chains, Early, IsObjectClass, IsVirtual, LeadsTo, Names, NotCtorCall, NotEarlyReturn, Passes, RegularPoint, Shaped, StartsRegular, test_at, test_in}
 use Rattle.jn_points.specs.Regular.{ArgumentsMatch, CallsCtor, CtorCallAt, IsConcrete, IsParent, NamesMethods, Regular, RegularCtorCall, UnderObject, RegularPoint as PointRegular}
+use Rattle.jn_soundness.proofs.Overriding.{slots_length}
 use Rattle.jn_regular_law.proofs.Bodies.{body_there, ctor_static, ctor_there, ctor_this, method_body, no_object_field, own_or_parent}
-
-slots_length : (xs : List (Option SlotNo)) (ts : List BaseType) → SlotsMatch xs ts → length xs ≡ length ts
-slots_length [] [] h = refl
-slots_length [] (t ∷ ts) h = absurd h
-slots_length (x ∷ xs) [] h = absurd h
-slots_length (x ∷ xs) (t ∷ ts) h = ap (λ n. suc n) (slots_length xs ts h.1)
 
 same_point : (P : Program) (b p : ℕ) (x y : Point) → point_at P b p ≡ Some x → point_at P b p ≡ Some y → x ≡ y
 same_point P b p x y hx hy = let same : Some x ≡ Some y = sym hx ∙ hy in cc

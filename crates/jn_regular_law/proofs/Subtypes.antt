@@ -9,6 +9,7 @@ use Rattle.jn_points.specs.Members.{some_of, is_class, reaches, sub}
 use Rattle.jn_points.specs.BaseTyping.{Ordered}
 use Rattle.jn_points.specs.Regular.{RegularClasses}
 use Rattle.jn_soundness.proofs.Basics.{or_true}
+use Rattle.jn_soundness.proofs.Fits.{reaches_self}
 
 abbrev pub IsSuper : Program → ℕ → ClassNo → Type 0
 IsSuper P c s = some_of (λ t. eqb t.0 s.0) (supers_of (class_info P c)) ≡ true
@@ -37,10 +38,6 @@ module _ (P : Program) where
       by None e h = cc
       by (Some x) e h = (x, e, h)
 
-  reaches_self : (n c : ℕ) → reaches P n c c ≡ true
-  reaches_self zero c = eq-eqb c c refl
-  reaches_self (suc n) c = or_left (eqb c c) (some_of (λ s. reaches P n s.0 c) (supers_of (class_info P c))) (eq-eqb c c refl)
-
   reaches_split : (n c d : ℕ) → reaches P (suc n) c d ≡ true → (c ≡ d) ⊎ ((s : ClassNo) × IsSuper P c s × (reaches P n s.0 d ≡ true))
   reaches_split n c d h = by (or_true (eqb c d) (some_of (λ s. reaches P n s.0 d) (supers_of (class_info P c))) h)
     where
@@ -68,7 +65,7 @@ module _ (P : Program) where
         by (suc k) l (inr s) more = let r : C.rank s.0.0 < C.rank a = ranked a s.0 s.1 in reaches_by k a c s.0 s.1 (more s.0.0 k (omega arith) s.2)
 
     pub enough : (n k c d : ℕ) → C.rank c ≤ k → reaches P n c d ≡ true → reaches P k c d ≡ true
-    enough n k c d l h = goes_on n k c d d l h (λ k l. reaches_self k d)
+    enough n k c d l h = goes_on n k c d d l h (λ k l. reaches_self P k d)
 
     below_count : (c : ℕ) → C.rank c ≤ length P.classes
     below_count c = let r : C.rank c < length P.classes = C.few c in omega arith

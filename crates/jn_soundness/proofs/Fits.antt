@@ -41,7 +41,7 @@ equal_flags false true h = cc
 equal_flags false false h = refl
 
 module _ (P : Program) where
-  reaches_self : (n c : ℕ) → reaches P n c c ≡ true
+  pub reaches_self : (n c : ℕ) → reaches P n c c ≡ true
   reaches_self zero c = eq-eqb c c refl
   reaches_self (suc n) c = or_left (eqb c c) _ (eq-eqb c c refl)
 

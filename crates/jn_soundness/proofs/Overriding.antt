@@ -208,7 +208,7 @@ module _ (P : Program) (B : BaseTyped P) where
 
 -- qualifiers of slots
 
-slots_length : (xs : List (Option SlotNo)) (ts : List BaseType) → SlotsMatch xs ts → length xs ≡ length ts
+pub slots_length : (xs : List (Option SlotNo)) (ts : List BaseType) → SlotsMatch xs ts → length xs ≡ length ts
 slots_length [] [] h = refl
 slots_length [] (t ∷ ts) h = absurd h
 slots_length (x ∷ xs) [] h = absurd h
