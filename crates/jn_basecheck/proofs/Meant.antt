@@ -17,10 +17,6 @@ use Rattle.jn_points.specs.BaseRows.{is_void, given, type_rows, result_rows, IsB
 use Rattle.jn_basecheck.specs.Rows.{Adds, Among, readings, reads, reads_in, TypeRowAt, ResultRowAt, ReadingAt, RegisterRow, TypeRows, RegisterRows, ResultRows, BodyRow}
 use Rattle.jn_basecheck.proofs.Gather.{adds_list}
 
-pub on_ok : {T E : Type 0} (r : Result T E) (P Q : Type 0) → (P → Q) → OnOk r P → OnOk r Q
-on_ok (Ok v) P Q to h = to h
-on_ok (Err e) P Q to h = h
-
 module _ (P : Program) (b p : ℕ) (pt : Point) (there : point_at P b p ≡ Some pt) (old new : List Row) where
   pub types_here : new ≡ old ++ type_rows P b pt.kind → Adds (TypeRowAt P b p) old new
   types_here is = adds_list (TypeRowAt P b p) old new (type_rows P b pt.kind) is

@@ -8,4 +8,8 @@ pub mod operands;
 pub mod paths;
 pub mod points;
 pub mod results;
+pub mod typed;
 pub mod types;
+
+pub use check::base_check;
+pub use typed::BaseTyped;
