@@ -1,5 +1,5 @@
 -- What base typing refuses.
-use Rattle.std.specs.Prelude.{◌≡◌, ◌≢◌, ◌↔◌, [], Vec}
+use Rattle.std.specs.Prelude.{◌≡◌, ◌↔◌, [], Vec}
 use Rattle.std.specs.List.{Contains}
 use Rattle.std.specs.declared.alloc.Global.{Global}
 use Rattle.jn_base.specs.declared.place.Row.{Row}

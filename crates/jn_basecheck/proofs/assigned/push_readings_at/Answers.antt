@@ -1,8 +1,6 @@
 use Rattle.std.proofs.Common.{◌≡◌, ◌++◌, subst}
 use Rattle.std.proofs.lemmas.Result.{on_ok_weaker}
-use Rattle.jn_points.specs.Operands.{operands}
-use Rattle.jn_basecheck.specs.Listed.{listed}
-use Rattle.jn_basecheck.specs.Rows.{Adds, ReadingAt, readings}
+use Rattle.jn_basecheck.specs.Rows.{readings}
 use Rattle.jn_basecheck.proofs.Meant.{readings_here}
 use Rattle.jn_basecheck.proofs.assigned.push_readings_at.Goals as goal
 
@@ -16,4 +14,4 @@ returns-in-Some c =
     let old = c.args.rows.now.items in
     let new = c.push_readings.new.rows.items in
     on_ok_weaker c.push_readings.result
-        (λ is. readings_here P b p pt c.in-Some.ensures old new r (c.requires.lacking c.if-not-is_lacking.false) (subst (λ xs. new ≡ old ++ readings r xs) c.operands_of.ensures is)) c.push_readings.ensures
+    (λ is. readings_here P b p pt c.in-Some.ensures old new r (c.requires.lacking c.if-not-is_lacking.false) (subst (λ xs. new ≡ old ++ readings r xs) c.operands_of.ensures is)) c.push_readings.ensures

@@ -1,7 +1,4 @@
-use Rattle.std.proofs.Common.{◌≡◌, ◌++◌}
 use Rattle.std.proofs.lemmas.Result.{on_ok_weaker}
-use Rattle.jn_points.specs.BaseRows.{type_rows}
-use Rattle.jn_basecheck.specs.Rows.{Adds, TypeRowAt}
 use Rattle.jn_basecheck.proofs.Meant.{types_here}
 use Rattle.jn_basecheck.proofs.points.push_types_at.Goals as goal
 

@@ -1,7 +1,4 @@
-use Rattle.std.proofs.Common.{◌≡◌, ◌++◌}
 use Rattle.std.proofs.lemmas.Result.{on_ok_weaker}
-use Rattle.jn_points.specs.BaseRows.{result_rows}
-use Rattle.jn_basecheck.specs.Rows.{Adds, ResultRowAt}
 use Rattle.jn_basecheck.proofs.Meant.{results_here}
 use Rattle.jn_basecheck.proofs.results.push_result_at.Goals as goal
 
