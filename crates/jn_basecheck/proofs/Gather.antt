@@ -1,9 +1,8 @@
 -- Rows are gathered one after the other.
-use Rattle.std.proofs.Common.{ℕ, zero, suc, ◌+◌, ◌≡◌, ◌<◌, ◌≤◌, ◌⊎◌, ◌↔◌, ◌||◌, ◌∙◌, inl, inr, Bool, true, false, cond, eqb, List, [], ◌∷◌, ◌++◌, length, Option, Some, None, refl, sym, ap, subst, arith, Contains}
+use Rattle.std.proofs.Common.{ℕ, zero, suc, ◌+◌, ◌≡◌, ◌<◌, ◌⊎◌, ◌||◌, ◌∙◌, inl, inr, Bool, true, false, cond, eqb, List, [], ◌∷◌, ◌++◌, refl, sym, ap, subst, arith, Contains}
 use Rattle.std.proofs.lemmas.List.Elements.{Contains-append_left, Contains-append_right, Contains-append_cases}
 use Rattle.jn_base.specs.declared.place.Row.{Row}
 use Rattle.jn_points.specs.declared.point.Operand.{Operand}
-use Rattle.jn_points.specs.Members.{some_of}
 use Rattle.jn_basecheck.specs.Rows.{Adds, Among, readings, reads}
 
 pub adds_none : (Q : Row → Type 0) (xs : List Row) → ((row : Row) → Q row → ⊥) → Adds Q xs xs

@@ -1,15 +1,14 @@
 -- Marks grow until they are closed, and are those of the points that a path comes to.
-use Rattle.std.proofs.Common.{ℕ, zero, suc, ◌+◌, ◌≡◌, ◌≢◌, ◌<◌, ◌≤◌, ◌⊎◌, ◌||◌, ◌∙◌, inl, inr, Bool, true, false, not, eqb, List, [], ◌∷◌, length, get_or, set, replicate, Option, Some, None, refl, sym, ap, subst, arith, length-set, eq-eqb, eqb-true, below_more}
+use Rattle.std.proofs.Common.{ℕ, zero, suc, ◌+◌, ◌≡◌, ◌<◌, ◌≤◌, ◌||◌, ◌∙◌, Bool, true, false, not, eqb, List, [], ◌∷◌, length, get_or, set, Option, Some, None, refl, sym, ap, subst, arith, length-set, eq-eqb, eqb-true, below_more}
 use Rattle.std.proofs.lemmas.Option.{slice_get_within}
-use Rattle.std.specs.Prelude.{slice_get}
 use Rattle.jn_points.specs.declared.point.Point.{Point}
 use Rattle.jn_points.specs.declared.program.Program.{Program}
 use Rattle.jn_points.specs.Edges.{edges_of, edges_at}
 use Rattle.jn_points.specs.Lookup.{point_at, points_of, body_at}
 use Rattle.jn_points.specs.Members.{is_number}
-use Rattle.jn_points.specs.Paths.{Step, Path, Reached, Lacks, Avoids, NotWritten}
+use Rattle.jn_points.specs.Paths.{Step, Path, Avoids, NotWritten}
 use Rattle.jn_points.specs.Shaped.{LeadsTo, writes}
-use Rattle.jn_basecheck.specs.Marks.{IsMarked, unmarked, Grown, passes, ComesTo, GoesOn, HavePaths, AreClosed}
+use Rattle.jn_basecheck.specs.Marks.{IsMarked, unmarked, Grown, passes, ComesTo, GoesOn, AreClosed}
 
 pub grown_none : (xs : List Bool) → Grown xs xs false
 grown_none xs = record { long = refl; keeps = λ p h. h; same = λ h. refl; fewer = λ h. absurd cc }

@@ -1,10 +1,9 @@
 -- What the rows of points, registers and bodies mean.
-use Rattle.std.proofs.Common.{ℕ, zero, suc, ◌+◌, ◌≡◌, ◌<◌, ◌≤◌, ◌⊎◌, ◌↔◌, ◌||◌, ◌∙◌, inl, inr, Bool, true, false, cond, eqb, eqb-true, eq-eqb, List, [], ◌∷◌, ◌++◌, length, get_or, Option, Some, None, Result, Ok, Err, OnOk, refl, sym, ap, subst, arith, Contains, slice_get}
+use Rattle.std.proofs.Common.{ℕ, zero, suc, ◌≡◌, ◌<◌, ◌≤◌, ◌⊎◌, ◌↔◌, ◌||◌, ◌∙◌, inl, inr, Bool, true, false, cond, eqb, eqb-true, eq-eqb, List, [], ◌∷◌, ◌++◌, length, get_or, Option, Some, None, refl, sym, ap, subst, arith, Contains, slice_get}
 use Rattle.std.proofs.lemmas.List.{get_or_past}
 use Rattle.std.proofs.lemmas.Option.{slice_get_within, same_Some}
 use Rattle.jn_base.specs.declared.place.Row.{Row}
 use Rattle.jn_base.specs.declared.code.Code.TheVariants.{J8}
-use Rattle.jn_points.specs.declared.point.BaseType.{BaseType}
 use Rattle.jn_points.specs.declared.point.BaseType.TheVariants.{Void}
 use Rattle.jn_points.specs.declared.point.Operand.{Operand}
 use Rattle.jn_points.specs.declared.point.Point.{Point}
@@ -13,13 +12,9 @@ use Rattle.jn_points.specs.declared.program.Program.{Program}
 use Rattle.jn_points.specs.Lookup.{points_of, regs_of, base_in, body_at, point_at, reg_base}
 use Rattle.jn_points.specs.Operands.{operands}
 use Rattle.jn_points.specs.Paths.{Reached, Lacks}
-use Rattle.jn_points.specs.BaseRows.{is_void, given, type_rows, result_rows, IsBaseRow, IsUnassigned, TypeRow, UnassignedRow, ResultRow}
-use Rattle.jn_basecheck.specs.Rows.{Adds, Among, readings, reads, reads_in, TypeRowAt, ResultRowAt, ReadingAt, RegisterRow, TypeRows, RegisterRows, ResultRows, BodyRow}
+use Rattle.jn_points.specs.BaseRows.{is_void, given, type_rows, result_rows, IsBaseRow, IsUnassigned}
+use Rattle.jn_basecheck.specs.Rows.{Adds, Among, readings, reads, reads_in, TypeRowAt, ResultRowAt, ReadingAt, RegisterRow, BodyRow}
 use Rattle.jn_basecheck.proofs.Gather.{adds_list}
-
-pub on_ok : {T E : Type 0} (r : Result T E) (P Q : Type 0) → (P → Q) → OnOk r P → OnOk r Q
-on_ok (Ok v) P Q to h = to h
-on_ok (Err e) P Q to h = h
 
 module _ (P : Program) (b p : ℕ) (pt : Point) (there : point_at P b p ≡ Some pt) (old new : List Row) where
   pub types_here : new ≡ old ++ type_rows P b pt.kind → Adds (TypeRowAt P b p) old new
@@ -158,12 +153,16 @@ module _ (P : Program) where
           record {
             valued = u.valued;
             local = u.local;
-            read = (q.p, point_within q.b q.p q.pt q.there, record {
-              pt = q.pt;
-              there = q.there;
-              lacks = u.lacks;
-              read = subst (λ x. Contains (readings r (operands q.pt.kind)) x) (sym q.is) (read_in r (operands q.pt.kind) q.operand q.read refl);
-            });
+            read = (
+              q.p,
+              point_within q.b q.p q.pt q.there,
+              record {
+                pt = q.pt;
+                there = q.there;
+                lacks = u.lacks;
+                read = subst (λ x. Contains (readings r (operands q.pt.kind)) x) (sym q.is) (read_in r (operands q.pt.kind) q.operand q.read refl);
+              },
+            );
           },
         )),
       )

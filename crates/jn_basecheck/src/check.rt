@@ -1,14 +1,17 @@
 // Base typing of a program.
-ghost use Rattle.std.specs.Prelude.{◌≡◌, ◌<◌, ◌^◌, ◌↔◌, [], ℕ, length, Contains, IfOk, OnOk};
+ghost use Rattle.std.specs.Prelude.{◌≡◌, ◌<◌, ◌^◌, ◌≢◌, ◌↔◌, [], ℕ, length, Contains, IfOk, OnOk, IfErr};
 ghost use Rattle.jn_base.specs.declared.place.Row.{Row as RowOf};
-ghost use Rattle.jn_points.specs.BaseRows.{IsBaseRow};
+ghost use Rattle.jn_points.specs.BaseRows.{IsBaseRow, NoBaseRows};
+ghost use Rattle.jn_points.specs.Regular.{Regular};
 ghost use Rattle.jn_points.specs.Lookup.{body_at, points_of};
+ghost use Rattle.jn_basecheck.specs.Refusal.{IsRefusedFor};
 ghost use Rattle.jn_basecheck.specs.Rows as rows_of;
 
 use crate::assigned::push_registers;
 use crate::points::push_body_types;
 use crate::results::push_results;
-use jn_base::Row;
+use crate::typed::BaseTyped;
+use jn_base::{Fail, Row};
 use jn_points::Program;
 use std::alloc::{AllocError, Global};
 
@@ -38,4 +41,45 @@ fn all_rows(alloc: Global, program: &Program) -> Result<Vec<Row>, AllocError>
         push_body(alloc, &mut rows, program, body)?;
     }
     Ok(rows)
+}
+
+fn forget<T: Drop>(_value: T) {}
+
+/// The program, where there are no rows.
+fn judged(program: Program, rows: Vec<Row>) -> Result<BaseTyped, Fail<Vec<Row>>>
+    requires regular { Regular program }
+    requires rows { (row : RowOf) → Contains rows.items row ↔ IsBaseRow program row }
+    ensures program { IfOk result (λ typed. typed ≡ program) }
+    ensures typed { IfOk result (λ typed. NoBaseRows program) }
+    ensures refused { IfErr result (λ fail. IsRefusedFor program fail) }
+{
+    if rows.is_empty() {
+        return Ok(BaseTyped::of(program));
+    }
+    forget(program);
+    Err(Fail::Refused(rows))
+}
+
+/// Gives the program back where it is base-typed: no operand has a type that does not fit (J7), or
+/// of which only element nullity does not (J10), no register is read where some path comes without a
+/// write of it (J8), and each reached Return gives a value exactly where its method has a result
+/// (J9).
+///
+/// # Errors
+/// `Refused` with all of the program's rows J7 to J10, each at its place once or more, in no order;
+/// `OutOfMemory` where no memory was found.
+pub fn base_check(alloc: Global, program: Program) -> Result<BaseTyped, Fail<Vec<Row>>>
+    requires regular { Regular program }
+    requires few { (b : ℕ) → length (points_of (body_at program b)) < 2 ^ 32 }
+    ensures program { IfOk result (λ typed. typed ≡ program) }
+    ensures typed { IfOk result (λ typed. NoBaseRows program) }
+    ensures refused { IfErr result (λ fail. IsRefusedFor program fail) }
+{
+    match all_rows(alloc, &program) {
+        Err(_) => {
+            forget(program);
+            Err(Fail::OutOfMemory)
+        }
+        Ok(rows) => judged(program, rows),
+    }
 }

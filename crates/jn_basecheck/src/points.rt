@@ -90,7 +90,13 @@ fn push_object(
     ensures { OnOk result (rows.new.items ≡ rows.old.items ++ rules.operand_rows program.now body (rules.Within (BaseType.Ref (record { 0 = spec.owner program.now field.0 }))) object) }
 {
     let class = owner(program, field);
-    push_operand(rows, program, body, Want::Within(BaseType::Ref(class)), object)
+    push_operand(
+        rows,
+        program,
+        body,
+        Want::Within(BaseType::Ref(class)),
+        object,
+    )
 }
 
 /// The row of a value that a field is given.
@@ -132,7 +138,13 @@ fn push_receiver(
     ensures { OnOk result (rows.new.items ≡ rows.old.items ++ rules.optional_rows program.now body (rules.Within (BaseType.Ref (record { 0 = spec.class_of (spec.method_at program.now method.0) }))) receiver) }
 {
     let class = class_of(program, method);
-    push_optional(rows, program, body, Want::Within(BaseType::Ref(class)), receiver)
+    push_optional(
+        rows,
+        program,
+        body,
+        Want::Within(BaseType::Ref(class)),
+        receiver,
+    )
 }
 
 /// The rows J7 and J10 of a point of the body at a place: an operand whose type does not fit, and

@@ -1,8 +1,7 @@
 use Rattle.std.proofs.Common.{◌≡◌, ◌++◌, subst}
-use Rattle.jn_points.specs.Operands.{operands}
-use Rattle.jn_basecheck.specs.Listed.{listed}
-use Rattle.jn_basecheck.specs.Rows.{Adds, ReadingAt, readings}
-use Rattle.jn_basecheck.proofs.Meant.{on_ok, readings_here}
+use Rattle.std.proofs.lemmas.Result.{on_ok_weaker}
+use Rattle.jn_basecheck.specs.Rows.{readings}
+use Rattle.jn_basecheck.proofs.Meant.{readings_here}
 use Rattle.jn_basecheck.proofs.assigned.push_readings_at.Goals as goal
 
 pub returns-in-Some : goal.returns-in-Some
@@ -14,5 +13,5 @@ returns-in-Some c =
     let pt = c.in-Some.point.now in
     let old = c.args.rows.now.items in
     let new = c.push_readings.new.rows.items in
-    on_ok c.push_readings.result (new ≡ old ++ readings r (listed c.operands_of.result)) (Adds (ReadingAt P b r p) old new)
-        (λ is. readings_here P b p pt c.in-Some.ensures old new r (c.requires.lacking c.if-not-is_lacking.false) (subst (λ xs. new ≡ old ++ readings r xs) c.operands_of.ensures is)) c.push_readings.ensures
+    on_ok_weaker c.push_readings.result
+    (λ is. readings_here P b p pt c.in-Some.ensures old new r (c.requires.lacking c.if-not-is_lacking.false) (subst (λ xs. new ≡ old ++ readings r xs) c.operands_of.ensures is)) c.push_readings.ensures

@@ -1,4 +1,4 @@
-use Rattle.std.proofs.Common.{◌≡◌, ◌<◌, ◌∙◌, Bool, true, false, not, length, get_or, sym, subst, arith}
+use Rattle.std.proofs.Common.{◌≡◌, ◌<◌, true, false, length, get_or, sym, subst, arith}
 use Rattle.jn_basecheck.specs.Marks.{Grown}
 use Rattle.jn_basecheck.proofs.Marking.{grown_set}
 use Rattle.jn_basecheck.proofs.paths.mark_point.Goals as goal

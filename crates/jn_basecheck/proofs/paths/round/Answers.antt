@@ -1,4 +1,4 @@
-use Rattle.std.proofs.Common.{◌≡◌, ◌∙◌, ◌||◌, false, sym, subst}
+use Rattle.std.proofs.Common.{◌∙◌, sym, subst}
 use Rattle.jn_basecheck.specs.Marks.{Grown}
 use Rattle.jn_basecheck.proofs.Marking.{grown_then, closed_more, neither}
 use Rattle.jn_basecheck.proofs.paths.round.Goals as goal

@@ -1,7 +1,7 @@
-use Rattle.std.proofs.Common.{◌≡◌, ◌∙◌, ◌⊎◌, inl, inr, true, false, get_or, sym, subst}
+use Rattle.std.proofs.Common.{◌≡◌, inl, inr, true, false, get_or, subst}
 use Rattle.jn_points.specs.Lookup.{point_at}
 use Rattle.jn_points.specs.Shaped.{LeadsTo}
-use Rattle.jn_basecheck.specs.Marks.{passes, GoesOn}
+use Rattle.jn_basecheck.specs.Marks.{passes}
 use Rattle.jn_basecheck.proofs.Marking.{comes_on}
 use Rattle.jn_basecheck.proofs.paths.visit.Goals as goal
 

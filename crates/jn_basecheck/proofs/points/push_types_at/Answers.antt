@@ -1,7 +1,5 @@
-use Rattle.std.proofs.Common.{◌≡◌, ◌++◌}
-use Rattle.jn_points.specs.BaseRows.{type_rows}
-use Rattle.jn_basecheck.specs.Rows.{Adds, TypeRowAt}
-use Rattle.jn_basecheck.proofs.Meant.{on_ok, types_here}
+use Rattle.std.proofs.lemmas.Result.{on_ok_weaker}
+use Rattle.jn_basecheck.proofs.Meant.{types_here}
 use Rattle.jn_basecheck.proofs.points.push_types_at.Goals as goal
 
 pub returns-in-Some : goal.returns-in-Some
@@ -12,4 +10,4 @@ returns-in-Some c =
     let pt = c.in-Some.point.now in
     let old = c.args.rows.now.items in
     let new = c.push_types.new.rows.items in
-    on_ok c.push_types.result (new ≡ old ++ type_rows P b pt.kind) (Adds (TypeRowAt P b p) old new) (types_here P b p pt c.in-Some.ensures old new) c.push_types.ensures
+    on_ok_weaker c.push_types.result (types_here P b p pt c.in-Some.ensures old new) c.push_types.ensures

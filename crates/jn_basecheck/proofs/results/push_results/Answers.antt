@@ -1,5 +1,5 @@
-use Rattle.std.proofs.Common.{ℕ, ◌≡◌, ◌≤◌, length, sym, ap, subst, arith}
-use Rattle.jn_points.specs.Lookup.{points_of, regs_of, body_at}
+use Rattle.std.proofs.Common.{◌≡◌, length, sym, ap, subst, arith}
+use Rattle.jn_points.specs.Lookup.{points_of, body_at}
 use Rattle.jn_basecheck.specs.Rows.{Adds, Among, ResultRowAt}
 use Rattle.jn_basecheck.proofs.Gather.{adds_more}
 use Rattle.jn_basecheck.proofs.results.push_results.Goals as goal

@@ -1,4 +1,4 @@
-use Rattle.std.proofs.Common.{ℕ, suc, ◌≡◌, ◌⊎◌, ◌++◌, ◌∙◌, inl, inr, refl, sym, ap, List, [], ◌∷◌, length, arith, append-nil}
+use Rattle.std.proofs.Common.{ℕ, ◌≡◌, ◌++◌, ◌∙◌, inl, inr, refl, sym, ap, List, [], ◌∷◌, length, arith, append-nil}
 use Rattle.jn_points.specs.declared.point.BaseType.{BaseType}
 use Rattle.jn_points.specs.declared.point.Operand.{Operand}
 use Rattle.jn_points.specs.declared.program.Program.{Program}
