@@ -1,5 +1,5 @@
 // The signature from which inference starts.
-ghost use Rattle.std.specs.Prelude.{◌≡◌, ◌<◌, ◌^◌, ℕ, cond, length, replicate, slice_index_or, IfOk};
+ghost use Rattle.std.specs.Prelude.{◌≡◌, ◌<◌, ◌^◌, cond, length, replicate, IfOk};
 ghost use Rattle.jn_quals.specs.Order.{no_qual, committed_only};
 ghost use Rattle.jn_sigs.specs.Marks.{AreFlags};
 ghost use Rattle.jn_sigs.specs.Signature.{start_signature, uncalled_from};

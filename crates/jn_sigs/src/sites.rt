@@ -1,14 +1,12 @@
 // Methods that a body of their class calls.
-ghost use Rattle.std.specs.Prelude.{◌≡◌, ℕ, ◌&&◌, ◌||◌, eqb, length, slice_get, IfOk, None};
+ghost use Rattle.std.specs.Prelude.{◌≡◌, ℕ, ◌&&◌, eqb, length, IfOk};
 ghost use Rattle.jn_points.specs.Lookup.{class_of, method_at};
 ghost use Rattle.jn_points.specs.Members.{some_of};
-ghost use Rattle.jn_points.specs.declared.point.Point.{Point as SpecPoint};
-ghost use Rattle.jn_points.specs.declared.program.Method.{Method as SpecMethod};
 ghost use Rattle.jn_sigs.specs.Marks.{AreFlags, Marked};
 ghost use Rattle.jn_sigs.specs.Signature.{calls_method, calls_in_class, is_method, is_slot, method_has_slot, uncalled_from, called_in_own_class};
 
 use jn_base::{MethodNo, SlotNo};
-use jn_points::{Body, Method, Point, PointKind, Program};
+use jn_points::{Body, Method, PointKind, Program};
 use std::alloc::{AllocError, Global};
 
 /// For each slot, whether it is of a method that no body of its class calls.
