@@ -29,6 +29,7 @@ impl Model for FieldKey {
 impl FieldKey {
     ghost use Rattle.jn_env.specs.Keys.{has_reg, has_key_field, is_key};
 
+    /// The key of a field of the object in a register.
     pub fn new(reg: RegNo, field: FieldNo) -> FieldKey
         ensures reg { result.reg ≡ reg.0 }
         ensures field { result.field ≡ field.0 }
@@ -61,12 +62,12 @@ impl FieldKey {
     }
 }
 
-/// The keys of a body.
+/// The keys of a body. They stand beside its environments, one list for all of them.
 #[derive(Drop)]
 pub struct Keys {
-    /// Reference fields read, tested or written through a parameter or local.
+    /// Reference fields read, tested or written through a parameter or local; each once.
     pub facts: Seq<FieldKey>,
-    /// Numbers of the reference fields of a constructor's class.
+    /// Numbers of the reference fields of a constructor's class; none in other bodies.
     pub own: Seq<u32>,
 }
 
