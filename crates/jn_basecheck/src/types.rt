@@ -30,6 +30,7 @@ pub enum Want {
     Valued,
 }
 
+/// Whether the type is that of what gives no value.
 pub fn is_void(base: BaseType) -> bool
     ensures { result ≡ rules.is_void base }
 {
