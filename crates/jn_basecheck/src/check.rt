@@ -68,9 +68,9 @@ fn judged(program: Program, rows: Vec<Row>) -> Result<BaseTyped, Fail<Vec<Row>>>
 /// # Errors
 /// `Refused` with all of the program's rows J7 to J10, each at its place once or more, in no order;
 /// `OutOfMemory` where no memory was found.
+#[tactic(auto, using(crate::proofs::Few::few_points))]
 pub fn base_check(alloc: Global, program: Program) -> Result<BaseTyped, Fail<Vec<Row>>>
-    requires regular { Regular program }
-    requires few { (b : ℕ) → length (points_of (body_at program b)) < 2 ^ 32 }
+    requires { Regular program }
     ensures program { IfOk result (λ typed. typed ≡ program) }
     ensures typed { IfOk result (λ typed. NoBaseRows program) }
     ensures refused { IfErr result (λ fail. IsRefusedFor program fail) }
