@@ -87,8 +87,3 @@ Safe held (Some names) = IsSafeOf held names
 abbrev pub Finished : Option (List ℕ) → Option (List ℕ) → List ℕ → Status → ℕ → ℕ → Status → Type 0
 Finished old new bytes status before now result =
     ((result ≡ status) × Appends old new bytes × (now ≡ before)) ⊎ ((result ≡ WriteFault) × AppendsPrefix old new bytes × Rose before now × (before ≤ now))
-
--- a report, written; of a file that is too long, or no memory for it
-abbrev pub FinishedOrNot : Option (List ℕ) → Option (List ℕ) → List ℕ → Status → ℕ → ℕ → Status → Type 0
-FinishedOrNot old new bytes status before now result =
-    ((result ≡ OutOfMemory) × (new ≡ old) × (now ≡ before)) ⊎ Finished old new bytes status before now result
