@@ -16,7 +16,7 @@ use jn_points::Program;
 use std::alloc::{AllocError, Global};
 
 /// The rows of the body at a place.
-fn push_body(
+pub fn push_body(
     alloc: Global,
     rows: &mut Vec<Row>,
     program: &Program,

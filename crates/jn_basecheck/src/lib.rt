@@ -11,5 +11,5 @@ mod results;
 mod typed;
 mod types;
 
-pub use check::base_check;
+pub use check::{base_check, push_body};
 pub use typed::BaseTyped;

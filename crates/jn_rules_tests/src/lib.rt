@@ -30,4 +30,6 @@ mod rows;
 #[cfg(test)]
 mod sigs;
 #[cfg(test)]
+mod typing;
+#[cfg(test)]
 mod worked;

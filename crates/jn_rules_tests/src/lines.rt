@@ -75,6 +75,16 @@ pub fn add(dst: u32, left: Operand, right: Operand) -> Point {
     })
 }
 
+/// `left == right` where one isn't a reference.
+pub fn equal(dst: u32, left: Operand, right: Operand) -> Point {
+    point(PointKind::Binary {
+        dst: RegNo(dst),
+        operator: Operator::Equal,
+        left,
+        right,
+    })
+}
+
 /// `left == right` of references.
 pub fn same(dst: u32, left: Operand, right: Operand) -> Point {
     point(PointKind::SameRef {
