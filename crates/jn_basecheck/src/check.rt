@@ -15,7 +15,10 @@ use jn_base::{Fail, Row};
 use jn_points::Program;
 use std::alloc::{AllocError, Global};
 
-/// The rows of the body at a place.
+/// Puts the rows J7 to J10 of the body at a place behind others: each row of the body is there, and no other is new.
+///
+/// # Errors
+/// No memory was found.
 pub fn push_body(
     alloc: Global,
     rows: &mut Vec<Row>,
