@@ -1,0 +1,4 @@
+mod Kept
+mod Sends
+mod Signatures
+mod Tables
