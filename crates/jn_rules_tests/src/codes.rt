@@ -1,14 +1,14 @@
 // For each rule of bodies a program that breaks it alone, and one that differs in one thing and breaks none.
-use crate::build::{
+use crate::rows::expect_rows;
+use jn_base::Code;
+use jn_hand_programs::build::{
     FIRST, Kind, NULLABLE_STRINGS, OBJECT, ProgramBuilder, STRING, STRINGS, Typed, VOID, committed,
     free, instance, named, nullable, plain,
 };
-use crate::lines::{
+use jn_hand_programs::lines::{
     array_of, at, bounded, call, count, element, end, equals, give, int, length, new, new_array,
     put, read, row, store, text, write,
 };
-use crate::rows::expect_rows;
-use jn_base::Code;
 use jn_points::{BaseType, Elem, Point, Program};
 use jn_quals::Qual;
 use std::alloc::{AllocError, Global};

@@ -1,11 +1,11 @@
 // The rules at overriding pairs.
-use crate::build::{
+use crate::rows::expect_rows;
+use jn_base::Code;
+use jn_hand_programs::build::{
     FIRST, Kind, OBJECT, ProgramBuilder, SECOND, STRING, Typed, VOID, committed, instance, named,
     nullable,
 };
-use crate::lines::{at, end, give, length, row};
-use crate::rows::expect_rows;
-use jn_base::Code;
+use jn_hand_programs::lines::{at, end, give, length, row};
 use jn_points::{BaseType, Program};
 use jn_quals::Qual;
 use std::alloc::{AllocError, Global};

@@ -1,12 +1,12 @@
 // Whole programs with private members that are inferred. A place is line times 100 plus column.
-use crate::build::{
-    FIRST, Kind, OBJECT, ProgramBuilder, STRING, VOID, committed, inferred, instance, named, plain,
-};
-use crate::lines::{
-    at, call_private, end, give, int, length, null, origin, read, row, test_null, text, write,
-};
 use crate::rows::expect_inferred;
 use jn_base::{Code, FieldNo};
+use jn_hand_programs::build::{
+    FIRST, Kind, OBJECT, ProgramBuilder, STRING, VOID, committed, inferred, instance, named, plain,
+};
+use jn_hand_programs::lines::{
+    at, call_private, end, give, int, length, null, origin, read, row, test_null, text, write,
+};
 use jn_points::{BaseType, Point, Program};
 use std::alloc::{AllocError, Global};
 use std::test::Fail;

@@ -1,14 +1,14 @@
 // Whole programs with the rows that they are known to have. A place is line times 100 plus column.
-use crate::build::{
+use crate::rows::expect_rows;
+use jn_base::{Code, FieldNo, MethodNo};
+use jn_hand_programs::build::{
     FIRST, Kind, NULLABLE_STRINGS, OBJECT, ProgramBuilder, SECOND, STRING, STRINGS, Typed, VOID,
     committed, free, instance, named, nullable, plain,
 };
-use crate::lines::{
+use jn_hand_programs::lines::{
     add, at, branch, call, construct, element, end, give, goto, int, length, new, new_array, null,
     origin, print, read, row, same, store, test_null, text, write,
 };
-use crate::rows::expect_rows;
-use jn_base::{Code, FieldNo, MethodNo};
 use jn_points::{BaseType, Point, Program};
 use jn_quals::Qual;
 use std::alloc::{AllocError, Global};

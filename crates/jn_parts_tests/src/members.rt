@@ -1,9 +1,9 @@
 // Subtypes, members, dispatch, overriding pairs and edges.
-use crate::build::{
+use jn_base::{ClassNo, FieldNo, MethodNo, NameNo, PointNo};
+use jn_hand_programs::build::{
     FIRST, Kind, OBJECT, ProgramBuilder, SECOND, STRING, VOID, committed, inferred, instance, named,
 };
-use crate::lines::{at, branch, end, goto, int, test_inst, test_null};
-use jn_base::{ClassNo, FieldNo, MethodNo, NameNo, PointNo};
+use jn_hand_programs::lines::{at, branch, end, goto, int, test_inst, test_null};
 use jn_points::{
     BaseType, Edges, Elem, Program, dispatch, edges, field_of, has_field, is_pair, is_sub,
     is_subclass, method_of,

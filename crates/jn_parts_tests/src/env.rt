@@ -1,8 +1,8 @@
 // Environments and tables of a constructor.
-use crate::build::{FIRST, Kind, OBJECT, ProgramBuilder, VOID, committed, named};
-use crate::lines::{at, end, read, write};
 use jn_base::{BodyNo, FieldNo, PointNo, RegNo};
 use jn_env::{Env, FieldKey, FlowTable, find_keys};
+use jn_hand_programs::build::{FIRST, Kind, OBJECT, ProgramBuilder, VOID, committed, named};
+use jn_hand_programs::lines::{at, end, read, write};
 use jn_points::{BaseType, Program};
 use jn_quals::Qual;
 use std::alloc::{AllocError, Global};

@@ -1,11 +1,13 @@
 // For each rule of base typing a program that breaks it alone, and one that differs in one thing and breaks none.
-use crate::build::{
+use jn_base::{Code, Row};
+use jn_basecheck::push_body;
+use jn_hand_programs::build::{
     Kind, NULLABLE_STRINGS, OBJECT, ProgramBuilder, STRING, STRINGS, Typed, VOID, committed, named,
     plain,
 };
-use crate::lines::{array_of, at, branch, call, end, equal, give, goto, int, row, store, text};
-use jn_base::{Code, Row};
-use jn_basecheck::push_body;
+use jn_hand_programs::lines::{
+    array_of, at, branch, call, end, equal, give, goto, int, row, store, text,
+};
 use jn_points::{BaseType, Point, Program};
 use std::alloc::{AllocError, Global};
 use std::process::Abort;
