@@ -1,7 +1,8 @@
 -- The form of a main as a test, and the one method that has it.
 use Rattle.std.proofs.Common.{◌≡◌, ℕ, zero, suc, ◌<◌, ◌+◌, ◌≤◌, ◌⊎◌, inl, inr, ⊎_elim, arith, Bool, true, false, not, ◌&&◌, IsTrue, List, [], ◌∷◌, Option, Some, None, length, refl, sym, ap, ◌∙◌, subst}
 use Rattle.std.specs.Prelude.{slice_get}
-use Rattle.std.proofs.lemmas.Bool.{and_parts, both_ways}
+use Rattle.std.proofs.lemmas.Bool.{and_from, and_parts, both_ways}
+use Rattle.std.proofs.lemmas.Option.{slice_get_within}
 use Rattle.jn_base.specs.declared.number.BodyNo.{BodyNo}
 use Rattle.jn_accept.specs.Mains.{NoneBetween, NoneFrom, IsFirst}
 use Rattle.jn_base.specs.declared.number.SlotNo.{SlotNo}
@@ -33,11 +34,6 @@ is_not : (a : Bool) → not a ≡ true → a ≡ false
 is_not true h = cc
 is_not false h = refl
 
-both_bools : (a b : Bool) → a ≡ true → b ≡ true → (a && b) ≡ true
-both_bools true true ha hb = refl
-both_bools true false ha hb = cc
-both_bools false b ha hb = cc
-
 lt_or_is : (k n : ℕ) → k < n + 1 → (k < n) ⊎ (k ≡ n)
 lt_or_is k n lt = nat_cases k n (omega (arith, lt))
   where
@@ -53,7 +49,7 @@ module _ (P : Program) (m : ℕ) where
   slot_form (Some info) h =
       let all = and_parts (not info.inferred && within info.start committed_only) (within committed_only info.start) h in
       let front = and_parts (not info.inferred) (within info.start committed_only) all.0 in
-      (info, refl, is_not info.inferred front.0, only_committed info.start (both_bools (within info.start committed_only) (within committed_only info.start) front.1 all.1))
+      (info, refl, is_not info.inferred front.0, only_committed info.start (and_from (within info.start committed_only) (within committed_only info.start) front.1 all.1))
 
   form_by : (x : Method) → method_at P m ≡ Some x → x.is_main ≡ true → (o : Option BodyNo) → x.body ≡ o → has_body o ≡ true → (xs : List (Option SlotNo)) → x.param_slots ≡ xs → takes_committed P xs ≡ true → IsMain P m
   form_by x at main None ob h xs e t = cc
@@ -83,15 +79,10 @@ module _ (P : Program) (m : ℕ) where
       let same : Some F.method ≡ Some x = sym F.there ∙ at in
       let eq : F.method ≡ x = cc in
       let takes : takes_committed P F.method.param_slots ≡ true = subst (λ xs. takes_committed P xs ≡ true) (sym F.param) (committed_is (slice_get P.slots F.slot.0) F.info F.start F.written F.committed) in
-      let all : has_form P F.method ≡ true = both_bools (F.method.is_main && has_body F.method.body) (takes_committed P F.method.param_slots) (both_bools F.method.is_main (has_body F.method.body) F.is_main (has_some F.method.body y.0 F.body)) takes in
+      let all : has_form P F.method ≡ true = and_from (F.method.is_main && has_body F.method.body) (takes_committed P F.method.param_slots) (and_from F.method.is_main (has_body F.method.body) F.is_main (has_some F.method.body y.0 F.body)) takes in
       subst (λ z. has_form P z ≡ true) eq all
 
 module _ (P : Program) where
-  main_inside : (xs : List Method) (k : ℕ) (x : Method) → slice_get xs k ≡ Some x → k < length xs
-  main_inside [] k x e = cc
-  main_inside (y ∷ xs) zero x e = omega arith
-  main_inside (y ∷ xs) (suc k) x e = let h = main_inside xs k x e in omega (arith, h)
-
   -- a method that isn't of the form is passed
   pub none_more : (i n : ℕ) (x : Method) → method_at P n ≡ Some x → has_form P x ≡ false → NoneBetween P i n → NoneBetween P i (n + 1)
   none_more i n x at isnt h k le lt f = ⊎_elim (λ (below : k < n). h k le below f) (λ (same : k ≡ n). both_ways (has_form P x) isnt (is_form P k x (ap (method_at P) same ∙ at) f)) (lt_or_is k n lt)
@@ -101,7 +92,7 @@ module _ (P : Program) where
   first_there i n x le at is h = record { from = le; main = form_is P n x at is; none = h }
 
   pub none_from : (i n : ℕ) → length P.methods ≤ n → NoneBetween P i n → NoneFrom P i
-  none_from i n le h k from f = h k from (let lt = main_inside P.methods k f.1.method f.1.there in omega (arith, lt, le)) f
+  none_from i n le h k from f = h k from (let lt = slice_get_within P.methods k f.1.method f.1.there in omega (arith, lt, le)) f
 
   pub none_only : NoneFrom P 0 → (m : ℕ) → IsOnlyMain P m → ⊥
   none_only h m o = h m (omega arith) o.0

@@ -1,6 +1,7 @@
 -- Accepted programs are solved: the least tables respect the edges, and slots that aren't inferred have what they start with.
 use Rattle.std.proofs.Common.{◌≡◌, ℕ, zero, suc, ◌+◌, ◌<◌, arith, true, false, cond, IsTrue, List, [], ◌∷◌, length, Option, Some, refl, sym, ap, ◌∙◌, subst}
 use Rattle.std.specs.Prelude.{slice_get, slice_index_or}
+use Rattle.std.proofs.lemmas.Option.{slice_get_within}
 use Rattle.jn_quals.specs.Qualifier.{Qualifier}
 use Rattle.jn_quals.specs.Order.{no_qual, committed_only, within}
 use Rattle.jn_points.specs.declared.program.Body.{Body}
@@ -31,11 +32,6 @@ starts_there P i (x ∷ slots) [] n info w is h = absurd w
 starts_there P i (x ∷ slots) (q ∷ s) zero info w is h = let same : x ≡ info = cc in start_there P i info q h (subst (λ y. IsTrue (within (start_of P i y) q)) same w.0)
 starts_there P i (x ∷ slots) (q ∷ s) (suc n) info w is h = starts_there P (i + 1) slots s n info w.1 is h
 
-inside_length : (xs : List Body) (b : ℕ) (x : Body) → slice_get xs b ≡ Some x → b < length xs
-inside_length [] b x is = cc
-inside_length (y ∷ xs) zero x is = omega arith
-inside_length (y ∷ xs) (suc b) x is = let h = inside_length xs b x is in omega (arith, h)
-
 module _ (respects : (P : Program) (s : List Qualifier) (b : ℕ) (t : List (Option Env)) → StaysInside P b → IsLeastTable P s b t → Respects P s b t)
     (law : (W : World) → Solved W → BaseTyped W.program → NeverNull W.program)
     (shaped : (P : Program) → Regular P → Shaped P)
@@ -50,7 +46,7 @@ module _ (respects : (P : Program) (s : List Qualifier) (b : ℕ) (t : List (Opt
         shaped = shaped P A.regular;
         slots = slots P A.regular;
         starts = λ n info is h. starts_there P 0 P.slots s n info A.starts is h;
-        respects = λ b x is. respects P s b (slice_index_or tables b []) (inside P A.regular b (inside_length P.bodies b x is)) (A.unbroken.least b);
+        respects = λ b x is. respects P s b (slice_index_or tables b []) (inside P A.regular b (slice_get_within P.bodies b x is)) (A.unbroken.least b);
         closed = A.closed tables A.unbroken.least;
         none = sym A.unbroken.all;
       })
