@@ -8,6 +8,9 @@ use Rattle.jn_quals.specs.Qualifier.{Qualifier}
 use Rattle.jn_quals.specs.Order.{within}
 use Rattle.jn_points.specs.Lookup.{method_at}
 use Rattle.jn_points.specs.Members.{below, is_pair, pairs_of}
+use Rattle.jn_index.specs.Numbers.{list_at}
+use Rattle.jn_index.specs.Index.{Lists, IsIndex}
+use Rattle.jn_index.proofs.Named.{flat_named, other_name}
 use Rattle.jn_sigs.specs.Signature.{slot_qual, slot_quals}
 use Rattle.jn_points.specs.declared.program.Method.{Method}
 use Rattle.jn_points.specs.declared.program.Program.{Program}
@@ -81,3 +84,7 @@ module _ (P : Program) (s : List Qualifier) (m k : ℕ) where
 
   pub pair_there : (over under : Method) → method_at P m ≡ Some over → method_at P k ≡ Some under → is_pair P m k ≡ true → pair_rows P s m k ≡ override_rows s (Some over) (Some under)
   pair_there over under eo eu h = subst (λ t. cond t (override_rows s (method_at P m) (method_at P k)) [] ≡ override_rows s (method_at P m) (method_at P k)) (sym h) refl ∙ ap (λ o. override_rows s o (method_at P k)) eo ∙ ap (λ o. override_rows s (Some over) o) eu
+
+-- the pairs of a method stand among the methods of its name
+pub named_rows : (P : Program) (x : Lists) (s : List Qualifier) (m : ℕ) (over : Method) → IsIndex P x → method_at P m ≡ Some over → flat_map (pair_rows P s m) (list_at x.named over.name.0) ≡ flat_map (pair_rows P s m) (below (length P.methods))
+named_rows P x s m over is at = flat_named (pair_rows P s m) over.name.0 P x is (λ k y there e. no_pair P s m k (other_name P m k over y at there e))

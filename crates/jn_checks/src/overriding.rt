@@ -2,12 +2,16 @@
 ghost use Rattle.std.specs.Prelude.{◌≡◌, ◌<◌, ◌≤◌, ◌⊎◌, ◌^◌, ◌++◌, ◌||◌, Some, flat_map, IfOk, OnOk, length, not};
 ghost use Rattle.jn_points.specs.Lookup.{method_at};
 ghost use Rattle.jn_points.specs.Members.{below};
+ghost use Rattle.jn_index.specs.Index.{IsIndex};
+ghost use Rattle.jn_index.specs.Users.{AreUsers};
 ghost use Rattle.jn_quals.specs.Order.{within};
 ghost use Rattle.jn_sigs.specs.Signature.{slot_quals};
 ghost use Rattle.jn_transfer.specs.Rules as spec;
 
 use crate::rules::push_if;
 use jn_base::{Code, MethodNo, OutOfMemory, Row, SlotNo};
+use jn_index::index::Index;
+use jn_index::pairs::{is_pair_of, users};
 use jn_points::members::method_at;
 use jn_points::{Method, Program, is_pair};
 use jn_quals::Qual;
@@ -122,12 +126,100 @@ fn push_overrider(
     Ok(())
 }
 
-/// The rows of all overriding pairs of the program.
-///
-/// # Errors
-/// No memory was found.
+/// The rows of two methods, found by the index.
+#[tactic(auto, using(crate::proofs::Pairs::none_under, crate::proofs::Pairs::no_pair, crate::proofs::Pairs::pair_there))]
+fn push_found(
+    rows: &mut Vec<Row>,
+    program: &Program,
+    index: &Index,
+    sig: &Sig,
+    users: &[u32],
+    m: u32,
+    over: &Method,
+    k: u32,
+) -> Result<(), AllocError>
+    requires is { IsIndex program.now index.now }
+    requires there { method_at program.now m ≡ Some over.now }
+    requires users { AreUsers program.now m over.now users.now }
+    ensures { OnOk result (rows.new.items ≡ rows.old.items ++ spec.pair_rows program.now sig.now m k) }
+{
+    match method_at(program, k as usize) {
+        None => Ok(()),
+        Some(under) => {
+            if is_pair_of(program, index, users, m, over, k, under) {
+                push_override(rows, sig, over, under)
+            } else {
+                Ok(())
+            }
+        }
+    }
+}
+
+/// The rows of a method with those of some methods that it overrides.
+fn push_some(
+    rows: &mut Vec<Row>,
+    program: &Program,
+    index: &Index,
+    sig: &Sig,
+    users: &[u32],
+    m: u32,
+    over: &Method,
+    ks: &[u32],
+) -> Result<(), AllocError>
+    requires is { IsIndex program.now index.now }
+    requires there { method_at program.now m ≡ Some over.now }
+    requires users { AreUsers program.now m over.now users.now }
+    ensures { OnOk result (rows.new.items ≡ rows.old.items ++ flat_map (spec.pair_rows program.now sig.now m) ks.now) }
+{
+    for k in ks {
+        push_found(rows, program, index, sig, users, m, over, *k)?;
+    }
+    Ok(())
+}
+
+/// The rows of a method with all methods that it overrides: those of its name are looked at.
+#[tactic(auto, using(crate::proofs::Pairs::named_rows))]
+fn push_all_found(
+    rows: &mut Vec<Row>,
+    alloc: Global,
+    program: &Program,
+    index: &Index,
+    sig: &Sig,
+    m: u32,
+    over: &Method,
+) -> Result<(), AllocError>
+    requires is { IsIndex program.now index.now }
+    requires there { method_at program.now m ≡ Some over.now }
+    ensures { OnOk result (rows.new.items ≡ rows.old.items ++ flat_map (spec.pair_rows program.now sig.now m) (below (length program.now.methods))) }
+{
+    let users = users(alloc, program, index, m, over)?;
+    let named = index.named(over.name.0);
+    push_some(rows, program, index, sig, users.as_slice(), m, over, named)
+}
+
+/// The rows of all overriding pairs, found by the index.
 #[tactic(auto, using(crate::proofs::Pairs::rows_more))]
-pub fn override_rows(alloc: Global, program: &Program, sig: &Sig) -> Result<Vec<Row>, OutOfMemory>
+fn found_rows(
+    alloc: Global,
+    program: &Program,
+    index: &Index,
+    sig: &Sig,
+) -> Result<Vec<Row>, AllocError>
+    requires is { IsIndex program.now index.now }
+    requires methods { length program.now.methods < 2 ^ 32 }
+    ensures { IfOk result (λ rows. rows.items ≡ spec.pairs_rows program.now sig.now) }
+{
+    let mut rows = Vec::new(alloc);
+    let methods = program.methods.as_slice();
+    for (m, over) in methods.iter().enumerate() {
+        push_all_found(&mut rows, alloc, program, index, sig, m as u32, over)?;
+    }
+    Ok(rows)
+}
+
+/// The rows of all overriding pairs, where no index is found.
+#[tactic(auto, using(crate::proofs::Pairs::rows_more))]
+fn all_rows(alloc: Global, program: &Program, sig: &Sig) -> Result<Vec<Row>, AllocError>
     requires few { length program.now.classes < 2 ^ 32 }
     requires methods { length program.now.methods < 2 ^ 32 }
     ensures { IfOk result (λ rows. rows.items ≡ spec.pairs_rows program.now sig.now) }
@@ -137,4 +229,19 @@ pub fn override_rows(alloc: Global, program: &Program, sig: &Sig) -> Result<Vec<
         push_overrider(&mut rows, program, sig, MethodNo(m as u32))?;
     }
     Ok(rows)
+}
+
+/// The rows of all overriding pairs of the program.
+///
+/// # Errors
+/// No memory was found.
+pub fn override_rows(alloc: Global, program: &Program, sig: &Sig) -> Result<Vec<Row>, OutOfMemory>
+    requires few { length program.now.classes < 2 ^ 32 }
+    requires methods { length program.now.methods < 2 ^ 32 }
+    ensures { IfOk result (λ rows. rows.items ≡ spec.pairs_rows program.now sig.now) }
+{
+    match Index::new(alloc, program)? {
+        None => Ok(all_rows(alloc, program, sig)?),
+        Some(index) => Ok(found_rows(alloc, program, &index, sig)?),
+    }
 }

@@ -8,7 +8,7 @@ ghost use Rattle.jn_first_form.specs.View.{value_view, view, views, form_view};
 use crate::put::put;
 use crate::tree::{FirstForm, Statement, Value};
 use jn_base::{NameNo, OutOfMemory};
-use jn_known::{FIRST_MEMBER, KNOWN_NAMES, OBJECT, STRING, SYSTEM};
+use jn_known::{FIRST_MEMBER, IS_EMPTY, OBJECT, STRING, SYSTEM};
 use std::alloc::Global;
 
 /// Whether each name that the form declares may be declared where it is, and each local that it uses is in scope.
@@ -135,5 +135,5 @@ fn may_name_local(name: NameNo) -> bool
 fn is_member_name(name: NameNo) -> bool
     ensures { result ≡ is_member_name name.0 }
 {
-    FIRST_MEMBER <= name.0 && name.0 < KNOWN_NAMES.len() as u32
+    FIRST_MEMBER.0 <= name.0 && name.0 < IS_EMPTY.0
 }

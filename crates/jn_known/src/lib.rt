@@ -1,10 +1,15 @@
-// Names that have a number before any file is read.
+//! Names that have a number before any file is read, so that a number tells the name.
+//!
+//! `KNOWN_NAMES` is numbered first, in its order; a constant of this crate is the number of its text (`law::numbers_tell_names`).
 #![tactic(auto)]
+
+pub mod law;
 
 use jn_base::NameNo;
 
-/// The texts that are numbered first, in the order of their numbers: the words of the form, and the members of Object.
-pub const KNOWN_NAMES: [&str; 16] = [
+/// The texts that are numbered first, in the order of their numbers: words of the library, the members of Object, the
+/// annotations of the Checker Framework that are known, and the parts of its package's name.
+pub const KNOWN_NAMES: [&str; 25] = [
     "String",
     "System",
     "out",
@@ -21,6 +26,15 @@ pub const KNOWN_NAMES: [&str; 16] = [
     "notifyAll",
     "toString",
     "wait",
+    "isEmpty",
+    "NonNull",
+    "Nullable",
+    "Initialized",
+    "UnderInitialization",
+    "UnknownInitialization",
+    "Override",
+    "org",
+    "checkerframework",
 ];
 
 pub const STRING: NameNo = NameNo(0);
@@ -36,5 +50,27 @@ pub const LENGTH: NameNo = NameNo(4);
 pub const MAIN: NameNo = NameNo(5);
 
 pub const OBJECT: NameNo = NameNo(6);
-/// The first member of Object; all later known names are members, too.
-pub const FIRST_MEMBER: u32 = 7;
+
+/// The first of the members of Object.
+pub const FIRST_MEMBER: NameNo = NameNo(7);
+
+pub const EQUALS: NameNo = NameNo(8);
+
+/// The first name behind the members of Object.
+pub const IS_EMPTY: NameNo = NameNo(16);
+
+pub const NON_NULL: NameNo = NameNo(17);
+
+pub const NULLABLE: NameNo = NameNo(18);
+
+pub const INITIALIZED: NameNo = NameNo(19);
+
+pub const UNDER_INITIALIZATION: NameNo = NameNo(20);
+
+pub const UNKNOWN_INITIALIZATION: NameNo = NameNo(21);
+
+pub const OVERRIDE: NameNo = NameNo(22);
+
+pub const ORG: NameNo = NameNo(23);
+
+pub const CHECKERFRAMEWORK: NameNo = NameNo(24);

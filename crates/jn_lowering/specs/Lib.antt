@@ -1,0 +1,16 @@
+pub mod Fragments
+pub mod Temporaries
+pub mod Scopes
+pub mod Bases
+pub mod Forms
+pub mod Calls
+pub mod Expressions
+pub mod Annotations
+pub mod Locals
+pub mod Statements
+pub mod Bodies
+pub mod ExpressionRows
+pub mod StatementRows
+pub mod BodyRows
+pub mod Sources
+pub mod FileRows
