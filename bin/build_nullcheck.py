@@ -8,8 +8,8 @@ Two commands of rt in one checkout wait for each other, so each runs in a lane: 
 a folder that is removed at the end. The lanes and the checkout share the libraries that were built, by second names of their
 files. What was proved before and hasn't changed isn't proved again.
 
-It says on standard error how far it is. Its status is 0 where the program stands at crates/nullcheck/out/nullcheck, as of the
-sources that were there at the start, and 70 where it doesn't.
+bin/nullcheck calls it, one at a time. It says on standard error how far it is. Its status is 0 where the program stands at
+crates/nullcheck/out/nullcheck, made from the sources that were there at the start, and 70 where it doesn't.
 """
 
 import fcntl
@@ -28,6 +28,8 @@ ROOT = os.path.dirname(os.path.dirname(os.path.realpath(__file__)))
 PARTS = ("src", "specs", "proofs")
 # The greatest number of processes for one crate: more take memory, and save little.
 MOST_JOBS = 4
+# The greatest number of lanes: no more crates than that are ready at a time.
+MOST_LANES = 12
 # Bytes of memory that a process is likely to take.
 PROCESS_MEMORY = 2_000_000_000
 # Lines that a crate counts for beside its own, since each check has a start.
@@ -141,19 +143,10 @@ class Lanes:
 
     def __init__(self, crates, count):
         self.crates, self.count = crates, count
-        out = f"{ROOT}/crates/{PROGRAM}/out"
-        os.makedirs(out, exist_ok=True)
-        self.sweep(out)
-        self.room = f"{out}/build-{os.getpid()}"
+        self.room = f"{ROOT}/crates/{PROGRAM}/out/build"
+        # (a build that was killed leaves its own)
+        shutil.rmtree(self.room, ignore_errors=True)
         os.makedirs(self.room)
-
-    @staticmethod
-    def sweep(out):
-        """Removes what a build that was killed left."""
-        for name in os.listdir(out):
-            pid = name.removeprefix("build-")
-            if name.startswith("build-") and pid.isdigit() and not os.path.exists(f"/proc/{pid}"):
-                shutil.rmtree(f"{out}/{name}", ignore_errors=True)
 
     def fill(self):
         for lane in range(self.count):
@@ -229,8 +222,8 @@ class Lanes:
 class Build:
     """Proves crates in an order that ends soon."""
 
-    def __init__(self, crates, lanes):
-        self.crates, self.lanes = crates, lanes
+    def __init__(self, crates, lanes, processes):
+        self.crates, self.lanes, self.processes = crates, lanes, processes
         self.left, self.done, self.runs = list(crates), set(), []
         self.again = []
         self.started = time.monotonic()
@@ -246,14 +239,14 @@ class Build:
     def jobs_for(self, crate, idle, ready):
         """More than one where processors idle, or where what waits for the crate takes longer than all else together."""
         work = sum(it.work for it in self.left)
-        hurry = math.ceil(crate.chain * self.lanes.count / work - 0.1)
+        hurry = math.ceil(crate.chain * self.processes / work - 0.1)
         return max(1, min(MOST_JOBS, idle, max(idle // ready, hurry)))
 
     def start_ready(self):
         ready = self.ready()
         for at, crate in enumerate(ready):
-            idle = self.lanes.count - sum(it.jobs for it in self.runs)
-            if idle < 1:
+            idle = self.processes - sum(it.jobs for it in self.runs)
+            if idle < 1 or len(self.runs) == self.lanes.count:
                 return
             self.start(crate, self.jobs_for(crate, idle, len(ready) - at))
 
@@ -328,10 +321,10 @@ def build():
     as_of = time.time()
     if not shutil.which("rt"):
         raise Failure("the command rt, which proves and builds it, isn't on the PATH")
-    crates, count = needed_crates(), processes_at_once()
-    lanes = Lanes(crates, count)
-    work = Build(crates, lanes)
-    say(f"proving and building the program, once: {len(crates)} crates, {count} processes")
+    crates, processes = needed_crates(), processes_at_once()
+    lanes = Lanes(crates, min(processes, MOST_LANES))
+    work = Build(crates, lanes, processes)
+    say(f"proving and building the program: {len(crates)} crates, {processes} processes at a time")
     try:
         lanes.fill()
         work.run()
