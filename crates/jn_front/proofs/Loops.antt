@@ -9,6 +9,8 @@ use Rattle.jn_base.specs.declared.number.FileNo.{FileNo}
 use Rattle.jn_base.specs.declared.place.Row.{Row}
 use Rattle.jn_trees.specs.declared.token.Token.{Token}
 use Rattle.jn_trees.specs.Pieces.{IsSyntaxRow}
+use Rattle.jn_places.specs.Placed.{PlacedFile}
+use Rattle.jn_places.specs.Forget.{forget_file}
 use Rattle.jn_lexer.specs.Lexed.{Lexed}
 use Rattle.jn_lexer.specs.Faults.{LexicalFault}
 use Rattle.jn_known.specs.Known.{known_names}
@@ -18,7 +20,7 @@ use Rattle.jn_base.specs.declared.code.Code.TheVariants.{B1}
 use Rattle.jn_front.specs.Counted.{ReadsFit, size_at, counted_read}
 use Rattle.jn_front.specs.Limits.{row_at, counted, large_row, passing_row, size_rows, limit_rows}
 use Rattle.jn_front.specs.Files.{files_of_reads, IsReadOf, AreReads, most_files}
-use Rattle.jn_front.specs.Phases.{file_no, LexedFrom, FaultRows, Parses, SyntaxRows}
+use Rattle.jn_front.specs.Phases.{file_no, ArePlaced, LexedFrom, FaultRows, Parses, SyntaxRows}
 use Rattle.jn_front.specs.Steps.{LexStep, ParseStep}
 
 -- ---- lexing
@@ -26,7 +28,7 @@ use Rattle.jn_front.specs.Steps.{LexStep, ParseStep}
 -- the files before the i-th have these faults, and where there are none these tokens
 pub record LexedSoFar (reads : List SourceRead) (i : ℕ) (names : List (List ℕ)) (tokens : List (List Token)) (faults : List Row) : Type 0 where
   pub faulty : (more : List Row) → FaultRows i (files_of_reads (drop i reads)) more → FaultRows 0 (files_of_reads reads) (faults ++ more)
-  pub plain : faults ≡ [] → (more : List (List Token)) → LexedFrom i names (files_of_reads (drop i reads)) more → LexedFrom 0 known_names (files_of_reads reads) (tokens ++ more)
+  pub plain : faults ≡ [] → (more : List (List Token)) (last : List (List ℕ)) → LexedFrom i names (files_of_reads (drop i reads)) more last → LexedFrom 0 known_names (files_of_reads reads) (tokens ++ more) last
 
 abbrev pub FilesBehind : List SourceRead → ℕ → SourceRead → Type 0
 FilesBehind reads i read = files_of_reads (drop i reads) ≡ read.file ∷ files_of_reads (drop (i + 1) reads)
@@ -42,10 +44,10 @@ module _ (faultless : (file : FileNo) (text : List ℕ) (old : List (List ℕ)) 
   pub lexed_more : (reads : List SourceRead) (i : ℕ) (read : SourceRead) (names new : List (List ℕ)) (tokens more : List (List Token)) (faults faults_now : List Row) → FilesBehind reads i read → LexedSoFar reads i names tokens faults → LexStep (file_no i) read.file.bytes names new tokens more faults faults_now → LexedSoFar reads (i + 1) new more faults_now
   lexed_more reads i read names new tokens more faults faults_now is h (inl s) = record {
     faulty = λ rows f. subst (λ fs. FaultRows 0 (files_of_reads reads) (fs ++ rows)) (sym s.faults_are) (h.faulty rows (subst (λ fs. FaultRows i fs rows) (sym is) (inl ((λ row. faultless (file_no i) read.file.bytes names s.of_file new row s.lexed), f))));
-    plain = λ none tss f.
-        subst (λ us. LexedFrom 0 known_names (files_of_reads reads) (us ++ tss)) (sym s.tokens_are)
-        (subst (λ us. LexedFrom 0 known_names (files_of_reads reads) us) (sym (append_assoc tokens (s.of_file ∷ []) tss))
-        (h.plain (sym s.faults_are ∙ none) (s.of_file ∷ tss) (subst (λ fs. LexedFrom i names fs (s.of_file ∷ tss)) (sym is) (new, s.lexed, f))));
+    plain = λ none tss last f.
+        subst (λ us. LexedFrom 0 known_names (files_of_reads reads) (us ++ tss) last) (sym s.tokens_are)
+        (subst (λ us. LexedFrom 0 known_names (files_of_reads reads) us last) (sym (append_assoc tokens (s.of_file ∷ []) tss))
+        (h.plain (sym s.faults_are ∙ none) (s.of_file ∷ tss) last (subst (λ fs. LexedFrom i names fs (s.of_file ∷ tss) last) (sym is) (new, s.lexed, f))));
   }
   lexed_more reads i read names new tokens more faults faults_now is h (inr s) = record {
     faulty = λ rows f.
@@ -57,18 +59,25 @@ module _ (faultless : (file : FileNo) (text : List ℕ) (old : List (List ℕ)) 
 
 -- ---- parsing
 
-pub record ParsedSoFar (reads : List SourceRead) (i : ℕ) (tokens : List (List Token)) (rows : List Row) : Type 0 where
+-- the files before the i-th have these rows, and where there are none these trees
+pub record ParsedSoFar (reads : List SourceRead) (i : ℕ) (tokens : List (List Token)) (trees : List PlacedFile) (rows : List Row) : Type 0 where
   pub parsed : (more : List Row) → SyntaxRows i (files_of_reads (drop i reads)) (drop i tokens) more → SyntaxRows 0 (files_of_reads reads) tokens (rows ++ more)
+  pub placed : rows ≡ [] → (more : List PlacedFile) → ArePlaced (drop i tokens) more → ArePlaced tokens (trees ++ more)
 
-pub parsed_more : (reads : List SourceRead) (i : ℕ) (read : SourceRead) (tokens : List (List Token)) (ts : List Token) (end : ℕ) (rows rows_now : List Row) → FilesBehind reads i read → drop i tokens ≡ ts ∷ drop (i + 1) tokens → end ≡ length read.file.bytes → ParsedSoFar reads i tokens rows → ParseStep (file_no i) end ts rows rows_now → ParsedSoFar reads (i + 1) tokens rows_now
-parsed_more reads i read tokens ts end rows rows_now is are size h (inl s) = record {
-  parsed = λ more f. subst (λ rs. SyntaxRows 0 (files_of_reads reads) tokens (rs ++ more)) (sym s.1) (h.parsed more (subst (λ fs. SyntaxRows i fs (drop i tokens) more) (sym is) (subst (λ tss. SyntaxRows i (read.file ∷ files_of_reads (drop (i + 1) reads)) tss more) (sym are) (inl (s.0, f)))));
+pub parsed_more : (reads : List SourceRead) (i : ℕ) (read : SourceRead) (tokens : List (List Token)) (ts : List Token) (end : ℕ) (trees trees_now : List PlacedFile) (rows rows_now : List Row) → FilesBehind reads i read → drop i tokens ≡ ts ∷ drop (i + 1) tokens → end ≡ length read.file.bytes → ParsedSoFar reads i tokens trees rows → ParseStep (file_no i) end ts trees trees_now rows rows_now → ParsedSoFar reads (i + 1) tokens trees_now rows_now
+parsed_more reads i read tokens ts end trees trees_now rows rows_now is are size h (inl s) = record {
+  parsed = λ more f. subst (λ rs. SyntaxRows 0 (files_of_reads reads) tokens (rs ++ more)) (sym s.rows_are) (h.parsed more (subst (λ fs. SyntaxRows i fs (drop i tokens) more) (sym is) (subst (λ tss. SyntaxRows i (read.file ∷ files_of_reads (drop (i + 1) reads)) tss more) (sym are) (inl ((forget_file s.tree, s.placed.0), f)))));
+  placed = λ none more f.
+      subst (λ us. ArePlaced tokens (us ++ more)) (sym s.trees_are)
+      (subst (λ us. ArePlaced tokens us) (sym (append_assoc trees (s.tree ∷ []) more))
+      (h.placed (sym s.rows_are ∙ none) (s.tree ∷ more) (subst (λ tss. ArePlaced tss (s.tree ∷ more)) (sym are) (s.placed, f))));
 }
-parsed_more reads i read tokens ts end rows rows_now is are size h (inr s) = record {
+parsed_more reads i read tokens ts end trees trees_now rows rows_now is are size h (inr s) = record {
   parsed = λ more f.
-      subst (λ rs. SyntaxRows 0 (files_of_reads reads) tokens (rs ++ more)) (sym s.2)
-      (subst (λ rs. SyntaxRows 0 (files_of_reads reads) tokens rs) (sym (append_assoc rows (s.0 ∷ []) more))
-      (h.parsed (s.0 ∷ more) (subst (λ fs. SyntaxRows i fs (drop i tokens) (s.0 ∷ more)) (sym is) (subst (λ tss. SyntaxRows i (read.file ∷ files_of_reads (drop (i + 1) reads)) tss (s.0 ∷ more)) (sym are) (inr (s.0, more, refl, subst (λ n. IsSyntaxRow (file_no i) n ts s.0) size s.1, f))))));
+      subst (λ rs. SyntaxRows 0 (files_of_reads reads) tokens (rs ++ more)) (sym s.rows_are)
+      (subst (λ rs. SyntaxRows 0 (files_of_reads reads) tokens rs) (sym (append_assoc rows (s.row ∷ []) more))
+      (h.parsed (s.row ∷ more) (subst (λ fs. SyntaxRows i fs (drop i tokens) (s.row ∷ more)) (sym is) (subst (λ tss. SyntaxRows i (read.file ∷ files_of_reads (drop (i + 1) reads)) tss (s.row ∷ more)) (sym are) (inr (s.row, more, refl, subst (λ n. IsSyntaxRow (file_no i) n ts s.row) size s.is, f))))));
+  placed = λ none. absurd (not_both rows s.row (sym s.rows_are ∙ none));
 }
 
 -- ---- what was read
@@ -93,51 +102,55 @@ pub file_there : (reads : List SourceRead) (i : ℕ) → i < length reads → (r
 file_there [] i lt = absurd (omega (arith, lt))
 file_there (read ∷ reads) i lt = (get_or (read ∷ reads) i read, files_behind (read ∷ reads) i read lt, size_here (read ∷ reads) i read lt)
 
-pub as_many : (k : ℕ) (names : List (List ℕ)) (reads : List SourceRead) (tokens : List (List Token)) → LexedFrom k names (files_of_reads reads) tokens → length tokens ≡ length reads
-as_many k names [] [] h = refl
-as_many k names [] (ts ∷ tss) h = absurd h
-as_many k names (read ∷ reads) [] h = absurd h
-as_many k names (read ∷ reads) (ts ∷ tss) h = ap suc (as_many (k + 1) h.0 reads tss h.2)
+pub as_many : (k : ℕ) (names last : List (List ℕ)) (reads : List SourceRead) (tokens : List (List Token)) → LexedFrom k names (files_of_reads reads) tokens last → length tokens ≡ length reads
+as_many k names last [] [] h = refl
+as_many k names last [] (ts ∷ tss) h = absurd h
+as_many k names last (read ∷ reads) [] h = absurd h
+as_many k names last (read ∷ reads) (ts ∷ tss) h = ap suc (as_many (k + 1) h.0 last reads tss h.2)
 
 module _ (few : (file : FileNo) (text : List ℕ) (old : List (List ℕ)) (tokens : List Token) (new : List (List ℕ)) → Lexed file text old tokens new → length tokens ≤ length text) where
-  pub few_from : (k : ℕ) (names : List (List ℕ)) (reads : List SourceRead) (tokens : List (List Token)) → LexedFrom k names (files_of_reads reads) tokens → ReadsFit reads → (i : ℕ) (d : List Token) → i < length tokens → length (get_or tokens i d) ≤ 1048576
-  few_from k names [] [] h fit i d lt = absurd (omega (arith, lt))
-  few_from k names [] (ts ∷ tss) h fit i d lt = absurd h
-  few_from k names (read ∷ reads) [] h fit i d lt = absurd h
-  few_from k names (read ∷ reads) (ts ∷ tss) h fit zero d lt = let short = few (file_no k) read.file.bytes names ts h.0 h.1 in omega (arith, short, fit.0)
-  few_from k names (read ∷ reads) (ts ∷ tss) h fit (suc i) d lt = few_from (k + 1) h.0 reads tss h.2 fit.1 i d (omega (arith, lt))
+  pub few_from : (k : ℕ) (names last : List (List ℕ)) (reads : List SourceRead) (tokens : List (List Token)) → LexedFrom k names (files_of_reads reads) tokens last → ReadsFit reads → (i : ℕ) (d : List Token) → i < length tokens → length (get_or tokens i d) ≤ 1048576
+  few_from k names last [] [] h fit i d lt = absurd (omega (arith, lt))
+  few_from k names last [] (ts ∷ tss) h fit i d lt = absurd h
+  few_from k names last (read ∷ reads) [] h fit i d lt = absurd h
+  few_from k names last (read ∷ reads) (ts ∷ tss) h fit zero d lt = let short = few (file_no k) read.file.bytes names ts h.0 h.1 in omega (arith, short, fit.0)
+  few_from k names last (read ∷ reads) (ts ∷ tss) h fit (suc i) d lt = few_from (k + 1) h.0 last reads tss h.2 fit.1 i d (omega (arith, lt))
 
-pub parsed_next : (reads : List SourceRead) (i file : ℕ) (tokens : List (List Token)) (d ts : List Token) (end : ℕ) (rows rows_now : List Row) → file ≡ i → i < length tokens → length tokens ≡ length reads → ts ≡ get_or tokens i d → end ≡ size_at reads file → ParsedSoFar reads i tokens rows → ParseStep (file_no file) end ts rows rows_now → ParsedSoFar reads (i + 1) tokens rows_now
-parsed_next reads i file tokens d ts end rows rows_now number lt many item size h step =
+pub parsed_next : (reads : List SourceRead) (i file : ℕ) (tokens : List (List Token)) (d ts : List Token) (end : ℕ) (trees trees_now : List PlacedFile) (rows rows_now : List Row) → file ≡ i → i < length tokens → length tokens ≡ length reads → ts ≡ get_or tokens i d → end ≡ size_at reads file → ParsedSoFar reads i tokens trees rows → ParseStep (file_no file) end ts trees trees_now rows rows_now → ParsedSoFar reads (i + 1) tokens trees_now rows_now
+parsed_next reads i file tokens d ts end trees trees_now rows rows_now number lt many item size h step =
     let there = file_there reads i (omega (arith, lt, many)) in
     let are : drop i tokens ≡ ts ∷ drop (i + 1) tokens = drop_more tokens i d lt ∙ ap (λ x. x ∷ drop (i + 1) tokens) (sym item) in
     let long : end ≡ length there.0.file.bytes = size ∙ ap (size_at reads) number ∙ there.2 in
-    parsed_more reads i there.0 tokens ts end rows rows_now there.1 are long h (subst (λ n. ParseStep (file_no n) end ts rows rows_now) number step)
+    parsed_more reads i there.0 tokens ts end trees trees_now rows rows_now there.1 are long h (subst (λ n. ParseStep (file_no n) end ts trees trees_now rows rows_now) number step)
 
 none_behind : (reads : List SourceRead) (i : ℕ) → length reads ≤ i → files_of_reads (drop i reads) ≡ []
 none_behind reads i le = ap files_of_reads (drop_of_length-le reads le)
 
-pub parsed_end : (reads : List SourceRead) (i : ℕ) (tokens : List (List Token)) (rows : List Row) → length tokens ≤ i → length tokens ≡ length reads → ParsedSoFar reads i tokens rows → SyntaxRows 0 (files_of_reads reads) tokens rows
-parsed_end reads i tokens rows le many h =
+pub parsed_end : (reads : List SourceRead) (i : ℕ) (tokens : List (List Token)) (trees : List PlacedFile) (rows : List Row) → length tokens ≤ i → length tokens ≡ length reads → ParsedSoFar reads i tokens trees rows → SyntaxRows 0 (files_of_reads reads) tokens rows
+parsed_end reads i tokens trees rows le many h =
     let files : files_of_reads (drop i reads) ≡ [] = none_behind reads i (omega (arith, le, many)) in
     let left : drop i tokens ≡ [] = drop_of_length-le tokens le in
     let last : SyntaxRows i (files_of_reads (drop i reads)) (drop i tokens) [] = subst (λ fs. SyntaxRows i fs (drop i tokens) []) (sym files) (subst (λ tss. SyntaxRows i [] tss []) (sym left) refl) in
     subst (λ rs. SyntaxRows 0 (files_of_reads reads) tokens rs) (append-nil rows) (h.parsed [] last)
 
+pub placed_end : (reads : List SourceRead) (i : ℕ) (tokens : List (List Token)) (trees : List PlacedFile) (rows : List Row) → length tokens ≤ i → ParsedSoFar reads i tokens trees rows → rows ≡ [] → ArePlaced tokens trees
+placed_end reads i tokens trees rows le h none =
+    subst (λ us. ArePlaced tokens us) (append-nil trees) (h.placed none [] (subst (λ tss. ArePlaced tss []) (sym (drop_of_length-le tokens le)) tt))
+
 pub faults_end : (reads : List SourceRead) (i : ℕ) (names : List (List ℕ)) (tokens : List (List Token)) (faults : List Row) → length reads ≤ i → LexedSoFar reads i names tokens faults → FaultRows 0 (files_of_reads reads) faults
 faults_end reads i names tokens faults le h =
     subst (λ rs. FaultRows 0 (files_of_reads reads) rs) (append-nil faults) (h.faulty [] (subst (λ fs. FaultRows i fs []) (sym (none_behind reads i le)) refl))
 
-pub tokens_end : (reads : List SourceRead) (i : ℕ) (names : List (List ℕ)) (tokens : List (List Token)) (faults : List Row) → length reads ≤ i → LexedSoFar reads i names tokens faults → faults ≡ [] → LexedFrom 0 known_names (files_of_reads reads) tokens
+pub tokens_end : (reads : List SourceRead) (i : ℕ) (names : List (List ℕ)) (tokens : List (List Token)) (faults : List Row) → length reads ≤ i → LexedSoFar reads i names tokens faults → faults ≡ [] → LexedFrom 0 known_names (files_of_reads reads) tokens names
 tokens_end reads i names tokens faults le h none =
-    subst (λ ts. LexedFrom 0 known_names (files_of_reads reads) ts) (append-nil tokens) (h.plain none [] (subst (λ fs. LexedFrom i names fs []) (sym (none_behind reads i le)) tt))
+    subst (λ ts. LexedFrom 0 known_names (files_of_reads reads) ts names) (append-nil tokens) (h.plain none [] names (subst (λ fs. LexedFrom i names fs [] names) (sym (none_behind reads i le)) refl))
 
 -- ---- bounds
 
 module _ (few : (file : FileNo) (text : List ℕ) (old : List (List ℕ)) (tokens : List Token) (new : List (List ℕ)) → Lexed file text old tokens new → length new ≤ length old + length text) where
-  pub few_names_more : (file : FileNo) (text : List ℕ) (names new : List (List ℕ)) (tokens more : List (List Token)) (faults faults_now : List Row) (i : ℕ) → length names ≤ 16 + i * 1048576 → length text ≤ 1048576 → LexStep file text names new tokens more faults faults_now → length new ≤ 16 + (i + 1) * 1048576
+  pub few_names_more : (file : FileNo) (text : List ℕ) (names new : List (List ℕ)) (tokens more : List (List Token)) (faults faults_now : List Row) (i : ℕ) → length names ≤ 25 + i * 1048576 → length text ≤ 1048576 → LexStep file text names new tokens more faults faults_now → length new ≤ 25 + (i + 1) * 1048576
   few_names_more file text names new tokens more faults faults_now i bound short (inl s) = let l = few file text names s.of_file new s.lexed in omega (arith, l, bound, short)
-  few_names_more file text names new tokens more faults faults_now i bound short (inr s) = let l : length new ≡ 16 = ap length s.names_are in omega (arith, l)
+  few_names_more file text names new tokens more faults faults_now i bound short (inr s) = let l : length new ≡ 25 = ap length s.names_are in omega (arith, l)
 
 -- ---- sizes
 

@@ -1,10 +1,12 @@
--- What files are before they are programs: their tokens, or the lexical fault of each; their trees, or the syntax row of each.
+-- What files are before they are programs: their tokens and the list of all names, or the lexical fault of each; their trees with places, or the syntax row of each.
 use Rattle.std.specs.Prelude.{◌≡◌, ◌⊎◌, ℕ, ◌+◌, List, [], ◌∷◌, length}
 use Rattle.jn_base.specs.declared.place.Row.{Row}
 use Rattle.jn_base.specs.declared.number.FileNo.{FileNo}
 use Rattle.jn_trees.specs.declared.token.Token.{Token}
 use Rattle.jn_trees.specs.Trees.{SourceTree}
 use Rattle.jn_trees.specs.Pieces.{IsFile, IsSyntaxRow}
+use Rattle.jn_places.specs.Placed.{PlacedFile}
+use Rattle.jn_places.specs.Places.{IsPlacedFile}
 use Rattle.jn_lexer.specs.Lexed.{Lexed}
 use Rattle.jn_lexer.specs.Faults.{LexicalFault}
 use Rattle.jn_known.specs.Known.{known_names}
@@ -14,12 +16,12 @@ use Rattle.jn_front.specs.Limits.{limit_rows}
 abbrev pub file_no : ℕ → FileNo
 file_no k = record { 0 = k }
 
--- the files from the k-th on are these tokens, their names numbered behind those of the files before
-abbrev pub LexedFrom : ℕ → List (List ℕ) → List SourceFile → List (List Token) → Type 0
-LexedFrom k names [] [] = Unit {0}
-LexedFrom k names [] (ts ∷ tss) = ⊥
-LexedFrom k names (file ∷ files) [] = ⊥
-LexedFrom k names (file ∷ files) (ts ∷ tss) = (new : List (List ℕ)) × Lexed (file_no k) file.bytes names ts new × LexedFrom (k + 1) new files tss
+-- the files from the k-th on are these tokens, their names numbered behind those of the files before (JLS 3.3 to 3.12); `last` are the names behind all
+abbrev pub LexedFrom : ℕ → List (List ℕ) → List SourceFile → List (List Token) → List (List ℕ) → Type 0
+LexedFrom k names [] [] last = last ≡ names
+LexedFrom k names [] (ts ∷ tss) last = ⊥
+LexedFrom k names (file ∷ files) [] last = ⊥
+LexedFrom k names (file ∷ files) (ts ∷ tss) last = (new : List (List ℕ)) × Lexed (file_no k) file.bytes names ts new × LexedFrom (k + 1) new files tss last
 
 -- the lexical fault of each file that has one
 abbrev pub FaultRows : ℕ → List SourceFile → List Row → Type 0
@@ -41,11 +43,18 @@ SyntaxRows k (file ∷ files) (ts ∷ tss) rows =
     (Parses ts × SyntaxRows (k + 1) files tss rows)
     ⊎ ((row : Row) × (rest : List Row) × (rows ≡ row ∷ rest) × IsSyntaxRow (file_no k) (length file.bytes) ts row × SyntaxRows (k + 1) files tss rest)
 
--- within the limits, and each file has tokens and a tree
-pub record IsRead (files : List SourceFile) (tokens : List (List Token)) : Type 0 where
+-- the trees are, file by file, those of the tokens, each node where its tokens stand (JLS 7.3)
+abbrev pub ArePlaced : List (List Token) → List PlacedFile → Type 0
+ArePlaced [] [] = Unit {0}
+ArePlaced [] (tree ∷ trees) = ⊥
+ArePlaced (ts ∷ tss) [] = ⊥
+ArePlaced (ts ∷ tss) (tree ∷ trees) = IsPlacedFile ts tree × ArePlaced tss trees
+
+-- within the limits, and each file has tokens and a tree: these are all names, and file by file the tokens and the trees
+pub record AreParsed (files : List SourceFile) (names : List (List ℕ)) (tokens : List (List Token)) (trees : List PlacedFile) : Type 0 where
   pub within : limit_rows files ≡ []
-  pub lexed : LexedFrom 0 known_names files tokens
-  pub parsed : SyntaxRows 0 files tokens []
+  pub lexed : LexedFrom 0 known_names files tokens names
+  pub parsed : ArePlaced tokens trees
 
 -- the rows of the first phase that has any
 pub record LimitRows (files : List SourceFile) (rows : List Row) : Type 0 where
@@ -59,8 +68,9 @@ pub record LexicalRows (files : List SourceFile) (rows : List Row) : Type 0 wher
 
 pub record GrammarRows (files : List SourceFile) (rows : List Row) : Type 0 where
   pub within : limit_rows files ≡ []
+  pub names : List (List ℕ)
   pub tokens : List (List Token)
-  pub lexed : LexedFrom 0 known_names files tokens
+  pub lexed : LexedFrom 0 known_names files tokens names
   pub are : SyntaxRows 0 files tokens rows
   pub some : rows ≡ [] → ⊥
 

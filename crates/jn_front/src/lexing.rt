@@ -1,4 +1,4 @@
-// The tokens of files.
+//! The tokens of files, and their names.
 ghost use Rattle.std.specs.Prelude.{◌≡◌, ◌<◌, ◌≤◌, ◌+◌, ◌-◌, ◌^◌, ◌++◌, ◌∷◌, [], length, IfOk, OnOk};
 ghost use Rattle.jn_known.specs.Known.{known_names};
 ghost use Rattle.jn_front.specs.Counted.{ReadsFit};
@@ -14,47 +14,51 @@ use jn_lexer::lex;
 use jn_trees::{Names, Token};
 use std::alloc::{AllocError, Global};
 
-/// The tokens of each file, or where some file has a lexical fault, the first fault of each.
+/// The tokens of each file and the list of all their names, or where some file has a lexical fault, the first fault of each.
 #[derive(Drop)]
 pub struct LexedFiles {
+    /// The names in the order of their numbers, the known ones first. They say nothing where there are faults.
+    pub names: Names,
+    /// The tokens of each file, in the files' order. They say nothing where there are faults.
     pub tokens: Vec<Seq<Token>>,
+    /// The first lexical fault of each file that has one, in the files' order.
     pub faults: Vec<Row>,
 }
 
-fn put_tokens(lexed: &mut LexedFiles, tokens: Vec<Token>) -> Result<(), AllocError>
-    ensures tokens { OnOk result (lexed.new.tokens.items ≡ lexed.old.tokens.items ++ tokens.items ∷ []) }
-    ensures faults { OnOk result (lexed.new.faults.items ≡ lexed.old.faults.items) }
+fn put_tokens(all: &mut Vec<Seq<Token>>, tokens: Vec<Token>) -> Result<(), AllocError>
+    ensures { OnOk result (all.new.items ≡ all.old.items ++ tokens.items ∷ []) }
 {
-    lexed.tokens.push(Seq::of_vec(tokens))?;
+    all.push(Seq::of_vec(tokens))?;
     Ok(())
 }
 
-fn put_fault(lexed: &mut LexedFiles, row: Row) -> Result<(), AllocError>
-    ensures { OnOk result (lexed.new.faults.items ≡ lexed.old.faults.items ++ row ∷ []) }
+fn put_fault(faults: &mut Vec<Row>, row: Row) -> Result<(), AllocError>
+    ensures { OnOk result (faults.new.items ≡ faults.old.items ++ row ∷ []) }
 {
-    lexed.faults.push(row)?;
+    faults.push(row)?;
     Ok(())
 }
 
 /// Lexes one file more, and gives the names with its own.
 fn lex_next(
     alloc: Global,
-    lexed: &mut LexedFiles,
+    tokens: &mut Vec<Seq<Token>>,
+    faults: &mut Vec<Row>,
     names: Names,
     text: &[u8],
     file: FileNo,
 ) -> Result<Names, OutOfMemory>
     requires { length names + length text.now < 2 ^ 32 - 1 }
-    ensures { IfOk result (λ new. LexStep file text.now names new lexed.old.tokens.items lexed.new.tokens.items lexed.old.faults.items lexed.new.faults.items) }
+    ensures { IfOk result (λ new. LexStep file text.now names new tokens.old.items tokens.new.items faults.old.items faults.new.items) }
 {
     let mut names = names;
     match lex(alloc, text, file, &mut names) {
-        Ok(tokens) => {
-            put_tokens(lexed, tokens)?;
+        Ok(more) => {
+            put_tokens(tokens, more)?;
             return Ok(names);
         }
         Err(Fail::Refused(row)) => {
-            put_fault(lexed, row)?;
+            put_fault(faults, row)?;
             let known = known_names(alloc)?;
             return Ok(known);
         }
@@ -62,30 +66,40 @@ fn lex_next(
     }
 }
 
-/// Lexes the files that were read, at most 64.
+/// The tokens (JLS 3.3 to 3.12) and names of the files that were read, or the lexical fault of each file that has one.
+///
+/// Names are numbered over all files, in the order in which they are first met, behind those of `jn_known`. Takes time in
+/// proportion to the bytes.
+///
+/// # Errors
+///
+/// [`OutOfMemory`] where tokens or names found no memory.
 pub fn lex_all(alloc: Global, reads: &[SourceRead]) -> Result<LexedFiles, OutOfMemory>
     requires few { length reads.now ≤ 64 }
     requires fit { ReadsFit reads.now }
     ensures faults { IfOk result (λ l. FaultRows 0 (files_of_reads reads.now) l.faults.items) }
-    ensures tokens { IfOk result (λ l. l.faults.items ≡ [] → LexedFrom 0 known_names (files_of_reads reads.now) l.tokens.items) }
+    ensures tokens { IfOk result (λ l. l.faults.items ≡ [] → LexedFrom 0 known_names (files_of_reads reads.now) l.tokens.items l.names) }
 {
     texts_have_one_reading();
     texts_have_few_tokens();
-    let mut lexed = LexedFiles {
-        tokens: Vec::new(alloc),
-        faults: Vec::new(alloc),
-    };
     let mut names = known_names(alloc)?;
+    let mut tokens = Vec::new(alloc);
+    let mut faults = Vec::new(alloc);
     let mut file = 0;
     'files: for read in reads {
         names = lex_next(
             alloc,
-            &mut lexed,
+            &mut tokens,
+            &mut faults,
             names,
             read.file.bytes.as_slice(),
             FileNo(file),
         )?;
         file += 1;
     }
-    Ok(lexed)
+    Ok(LexedFiles {
+        names,
+        tokens,
+        faults,
+    })
 }

@@ -1,4 +1,4 @@
-// Names that have a number before any file is read.
+//! Names that have a number before any file is read.
 ghost use Rattle.std.specs.Prelude.{◌≡◌, ◌<◌, ◌+◌, ◌-◌, ◌^◌, length, IfOk, OnOk};
 ghost use Rattle.jn_front.specs.Interned.{interned};
 ghost use Rattle.jn_known.specs.Known.{known_names};

@@ -1,4 +1,4 @@
-// Files, read whole one after another.
+//! Files, read whole one after another.
 ghost use Rattle.std.specs.Prelude.{◌≡◌, ◌≤◌, ◌<◌, ◌∷◌, [], ◌++◌, map, IfOk, OnOk, string_bytes};
 ghost use Rattle.jn_outside.specs.Causes.{Rose};
 ghost use Rattle.jn_outside.specs.Files.{Holds};

@@ -1,4 +1,4 @@
-// The files that were read.
+//! The files that were read.
 use jn_base::{Seq, Text};
 
 /// A file by its name and its bytes.

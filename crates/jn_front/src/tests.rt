@@ -1,4 +1,4 @@
-// Files read, lexed and parsed, through memory.
+//! Files read, lexed and parsed, through memory.
 use crate::reads::read_all;
 use jn_base::OutOfMemory;
 use jn_outside::{MemFile, MemFiles};

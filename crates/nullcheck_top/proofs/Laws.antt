@@ -4,6 +4,7 @@ use Rattle.std.specs.Prelude.{slice_get, slice_index_or}
 use Rattle.jn_base.specs.declared.place.Row.{Row}
 use Rattle.jn_quals.specs.Qualifier.{Qualifier}
 use Rattle.jn_trees.specs.declared.token.Token.{Token}
+use Rattle.jn_places.specs.Placed.{PlacedFile}
 use Rattle.jn_points.specs.declared.program.Body.{Body}
 use Rattle.jn_points.specs.declared.program.Program.{Program}
 use Rattle.jn_points.specs.Lookup.{body_at}
@@ -18,7 +19,7 @@ use Rattle.jn_diag.specs.Order.{IsOrderOf}
 use Rattle.jn_first_form.specs.Facts.{FormFacts}
 use Rattle.jn_first_form.specs.Form.{IsForm}
 use Rattle.jn_front.specs.declared.source.SourceFile.{SourceFile}
-use Rattle.jn_front.specs.Phases.{IsRead, FrontRows}
+use Rattle.jn_front.specs.Phases.{AreParsed, FrontRows}
 use Rattle.nullcheck_top.specs.Report.{IsFormOf, ProgramOf, Report, Refused, Checked, RulesGive, IsFront, IsUnbuilt, IsCheckedBy, IsReport}
 use Rattle.nullcheck_top.proofs.Inside.{stays}
 use Rattle.nullcheck_top.proofs.RuleRows.{breaks_once}
@@ -60,7 +61,7 @@ module _ (plain : (tokens : List Token) (p : Program) → IsForm tokens p → Pl
   pub accepted_safe : (files : List SourceFile) (P : Program) → ProgramOf files P → RulesGive P [] → NeverNull P
   accepted_safe files P of_files rules = let f = form_of of_files.tokens P of_files.form in form_safe f.0 P f.1 rules
 
-module _ (fronted : (files : List SourceFile) (rows others : List Row) → FrontRows files rows → FrontRows files others → rows ≡ others) (read : (files : List SourceFile) (one other : List (List Token)) → IsRead files one → IsRead files other → one ≡ other) (apart : (files : List SourceFile) (tokens : List (List Token)) (rows : List Row) → IsRead files tokens → FrontRows files rows → ⊥) (formed : (tokens : List Token) (p q : Program) → IsForm tokens p → IsForm tokens q → p ≡ q) (table : (P : Program) (s : List Qualifier) (b : ℕ) (t u : List (Option Env)) → IsLeastTable P s b t → IsLeastTable P s b u → t ≡ u) (ordered : (old one other : List Row) → IsOrderOf old one → IsOrderOf old other → one ≡ other) where
+module _ (fronted : (files : List SourceFile) (rows others : List Row) → FrontRows files rows → FrontRows files others → rows ≡ others) (parsed : (files : List SourceFile) (names others : List (List ℕ)) (tokens us : List (List Token)) (trees vs : List PlacedFile) → AreParsed files names tokens trees → AreParsed files others us vs → (names ≡ others) × (tokens ≡ us) × (trees ≡ vs)) (apart : (files : List SourceFile) (names : List (List ℕ)) (tokens : List (List Token)) (trees : List PlacedFile) (rows : List Row) → AreParsed files names tokens trees → FrontRows files rows → ⊥) (formed : (tokens : List Token) (p q : Program) → IsForm tokens p → IsForm tokens q → p ≡ q) (table : (P : Program) (s : List Qualifier) (b : ℕ) (t u : List (Option Env)) → IsLeastTable P s b t → IsLeastTable P s b u → t ≡ u) (ordered : (old one other : List Row) → IsOrderOf old one → IsOrderOf old other → one ≡ other) where
   one_form : (tss : List (List Token)) (P Q : Program) → IsFormOf tss P → IsFormOf tss Q → P ≡ Q
   one_form [] P Q x y = absurd x
   one_form (ts ∷ []) P Q x y = formed ts P Q x y
@@ -68,7 +69,7 @@ module _ (fronted : (files : List SourceFile) (rows others : List Row) → Front
 
   one_program : (files : List SourceFile) (P Q : Program) → ProgramOf files P → ProgramOf files Q → P ≡ Q
   one_program files P Q x y =
-      let same = read files x.tokens y.tokens x.read y.read in
+      let same = (parsed files x.names y.names x.tokens y.tokens x.trees y.trees x.parsed y.parsed).1 in
       one_form y.tokens P Q (subst (λ tss. IsFormOf tss P) same x.form) y.form
 
   one_rules : (P : Program) (rows others : List Row) → RulesGive P rows → RulesGive P others → rows ≡ others
@@ -83,14 +84,14 @@ module _ (fronted : (files : List SourceFile) (rows others : List Row) → Front
 
   one_refused : (files : List SourceFile) (rows others : List Row) → IsReport files (Refused rows) → IsReport files (Refused others) → rows ≡ others
   one_refused files rows others (inl x) (inl y) = one_front files rows others x y
-  one_refused files rows others (inl x) (inr y) = absurd (apart files y.tokens x.broken y.read x.phase)
-  one_refused files rows others (inr x) (inl y) = absurd (apart files x.tokens y.broken x.read y.phase)
+  one_refused files rows others (inl x) (inr y) = absurd (apart files y.names y.tokens y.trees x.broken y.parsed x.phase)
+  one_refused files rows others (inr x) (inl y) = absurd (apart files x.names x.tokens x.trees y.broken x.parsed y.phase)
   one_refused files rows others (inr x) (inr y) = x.row ∙ sym y.row
 
   never_both : (files : List SourceFile) (rows others : List Row) → IsReport files (Refused rows) → IsCheckedBy files others → ⊥
-  never_both files rows others (inl x) y = apart files y.of_files.tokens x.broken y.of_files.read x.phase
+  never_both files rows others (inl x) y = apart files y.of_files.names y.of_files.tokens y.of_files.trees x.broken y.of_files.parsed x.phase
   never_both files rows others (inr x) y =
-      let same = read files y.of_files.tokens x.tokens y.of_files.read x.read in
+      let same = (parsed files y.of_files.names x.names y.of_files.tokens x.tokens y.of_files.trees x.trees y.of_files.parsed x.parsed).1 in
       x.no_form y.P (subst (λ tss. IsFormOf tss y.P) same y.of_files.form)
 
   pub one_report : (files : List SourceFile) (one other : Report) → IsReport files one → IsReport files other → one ≡ other

@@ -8,6 +8,7 @@ use Rattle.jn_base.specs.declared.place.Row.{Row}
 use Rattle.jn_base.specs.declared.code.Code.{Code}
 use Rattle.jn_base.specs.declared.code.Code.TheVariants.{B1, B2, B3}
 use Rattle.jn_trees.specs.declared.token.Token.{Token}
+use Rattle.jn_places.specs.Placed.{PlacedFile}
 use Rattle.jn_points.specs.declared.program.Program.{Program}
 use Rattle.std.specs.List.Sorted.{IsStrictlySortedBy}
 use Rattle.jn_diag.specs.Order.{IsOrderOf, row_cmp}
@@ -19,7 +20,7 @@ use Rattle.jn_front.specs.declared.source.SourceFile.{SourceFile}
 use Rattle.jn_front.specs.declared.source.SourceRead.{SourceRead}
 use Rattle.jn_front.specs.Files.{names_of, files_of_reads, AreReads, IsReadOf, most_files, file_limit}
 use Rattle.jn_front.specs.Limits.{row_at, large_row, passing_row, size_rows, limit_rows, counted, all_limit}
-use Rattle.jn_front.specs.Phases.{FrontRows, IsRead}
+use Rattle.jn_front.specs.Phases.{FrontRows, AreParsed}
 use Rattle.nullcheck_top.specs.declared.status.Status.{Status}
 use Rattle.nullcheck_top.specs.declared.status.Status.TheVariants.{Refused as RefusedStatus}
 use Rattle.nullcheck_top.specs.Report.{ProgramOf, IsFormOf, RulesGive, IsFront, Refused, Checked, status_of_rows, unbuilt_row}
@@ -163,10 +164,10 @@ too_many_report files names name status rows verdict named many is ends lines en
 pub refused_shown : (files : List SourceFile) (sorted : List Row) (rows : List RowText) (verdict : Option Verdict) → rows ≡ map (row_of files) sorted → verdict ≡ Some (RefusedVerdict (length sorted)) → plain_shown rows verdict ≡ shown files (Refused sorted)
 refused_shown files sorted rows verdict lines end = ap (λ rs. plain_shown rs verdict) lines ∙ ap (λ v. plain_shown (map (row_of files) sorted) v) end
 
-pub unbuilt_report : (files : List SourceFile) (tokens : List (List Token)) (status : Status) (bytes : List ℕ) → IsRead files tokens → ((P : Program) → IsFormOf tokens P → ⊥) → status ≡ RefusedStatus → bytes ≡ shown files (Refused (unbuilt_row ∷ [])) → IsReportOfFiles files status bytes
-unbuilt_report files tokens status bytes read none ends is = record {
+pub unbuilt_report : (files : List SourceFile) (names : List (List ℕ)) (tokens : List (List Token)) (trees : List PlacedFile) (status : Status) (bytes : List ℕ) → AreParsed files names tokens trees → ((P : Program) → IsFormOf tokens P → ⊥) → status ≡ RefusedStatus → bytes ≡ shown files (Refused (unbuilt_row ∷ [])) → IsReportOfFiles files status bytes
+unbuilt_report files names tokens trees status bytes parsed none ends is = record {
   report = Refused (unbuilt_row ∷ []);
-  is = inr (record { tokens = tokens; read = read; no_form = none; row = refl });
+  is = inr (record { names = names; tokens = tokens; trees = trees; parsed = parsed; no_form = none; row = refl });
   ends = ends;
   shows = is;
 }

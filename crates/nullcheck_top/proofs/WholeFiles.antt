@@ -12,6 +12,7 @@ use Rattle.std.proofs.lemmas.Bool.{lt-ltb}
 use Rattle.jn_base.specs.declared.place.Row.{Row}
 use Rattle.jn_base.specs.declared.code.Code.TheVariants.{B1, B2}
 use Rattle.jn_trees.specs.declared.token.Token.{Token}
+use Rattle.jn_places.specs.Placed.{PlacedFile}
 use Rattle.jn_diag.specs.Order.{IsOrderOf}
 use Rattle.jn_known.specs.Known.{known_names}
 use Rattle.jn_front.specs.declared.source.SourceFile.{SourceFile}
@@ -19,7 +20,7 @@ use Rattle.jn_front.specs.declared.source.SourceRead.{SourceRead}
 use Rattle.jn_front.specs.Files.{files_of_reads, names_of, AreReads, IsReadOf, most_files, file_limit}
 use Rattle.jn_front.specs.Counted.{ReadsFit}
 use Rattle.jn_front.specs.Limits.{row_at, counted, large_row, passing_row, size_rows, limit_rows}
-use Rattle.jn_front.specs.Phases.{IsRead, FaultRows, SyntaxRows, LexedFrom}
+use Rattle.jn_front.specs.Phases.{AreParsed, ArePlaced, FaultRows, SyntaxRows, LexedFrom}
 use Rattle.nullcheck_top.specs.declared.status.Status.{Status}
 use Rattle.nullcheck_top.specs.declared.status.Status.TheVariants.{Refused as RefusedStatus}
 use Rattle.nullcheck_top.specs.Report.{Refused, IsFormOf, unbuilt_row}
@@ -89,16 +90,16 @@ module _ (reads : List SourceRead) (limits : List Row) (limited : Limited reads 
       refused_report files (files_of_reads reads) faults sorted status bytes
       (inr (inl (record { within = w.1; are = subst (λ fs. FaultRows 0 fs faults) w.0 faulty; some = some }))) order ends is (ap (λ fs. shown fs (Refused sorted)) w.0)
 
-  pub grammar_report : (tokens : List (List Token)) (rows sorted : List Row) (status : Status) (bytes : List ℕ) → LexedFrom 0 known_names (files_of_reads reads) tokens → SyntaxRows 0 (files_of_reads reads) tokens rows → (rows ≡ [] → ⊥) → status ≡ RefusedStatus → IsOrderOf rows sorted → bytes ≡ shown (files_of_reads reads) (Refused sorted) → (files : List SourceFile) → AreReads reads files → IsReportOfFiles files status bytes
-  grammar_report tokens rows sorted status bytes lexed syntax some ends order is files are =
+  pub grammar_report : (names : List (List ℕ)) (tokens : List (List Token)) (rows sorted : List Row) (status : Status) (bytes : List ℕ) → LexedFrom 0 known_names (files_of_reads reads) tokens names → SyntaxRows 0 (files_of_reads reads) tokens rows → (rows ≡ [] → ⊥) → status ≡ RefusedStatus → IsOrderOf rows sorted → bytes ≡ shown (files_of_reads reads) (Refused sorted) → (files : List SourceFile) → AreReads reads files → IsReportOfFiles files status bytes
+  grammar_report names tokens rows sorted status bytes lexed syntax some ends order is files are =
       let w = within_limits reads limits limited none files are in
       refused_report files (files_of_reads reads) rows sorted status bytes
-      (inr (inr (record { within = w.1; tokens = tokens; lexed = subst (λ fs. LexedFrom 0 known_names fs tokens) w.0 lexed; are = subst (λ fs. SyntaxRows 0 fs tokens rows) w.0 syntax; some = some }))) order ends is (ap (λ fs. shown fs (Refused sorted)) w.0)
+      (inr (inr (record { within = w.1; names = names; tokens = tokens; lexed = subst (λ fs. LexedFrom 0 known_names fs tokens names) w.0 lexed; are = subst (λ fs. SyntaxRows 0 fs tokens rows) w.0 syntax; some = some }))) order ends is (ap (λ fs. shown fs (Refused sorted)) w.0)
 
-  pub is_read : (tokens : List (List Token)) (rows : List Row) → ((files : List SourceFile) × AreReads reads files) → LexedFrom 0 known_names (files_of_reads reads) tokens → SyntaxRows 0 (files_of_reads reads) tokens rows → rows ≡ [] → IsRead (files_of_reads reads) tokens
-  is_read tokens rows some lexed syntax no_rows =
+  pub are_parsed : (names : List (List ℕ)) (tokens : List (List Token)) (trees : List PlacedFile) → ((files : List SourceFile) × AreReads reads files) → LexedFrom 0 known_names (files_of_reads reads) tokens names → ArePlaced tokens trees → AreParsed (files_of_reads reads) names tokens trees
+  are_parsed names tokens trees some lexed placed =
       let w = within_limits reads limits limited none some.0 some.1 in
-      record { within = ap limit_rows w.0 ∙ w.1; lexed = lexed; parsed = subst (λ rs. SyntaxRows 0 (files_of_reads reads) tokens rs) no_rows syntax }
+      record { within = ap limit_rows w.0 ∙ w.1; lexed = lexed; parsed = placed }
 
   pub checked_files : (status : Status) (bytes : List ℕ) → IsReportOfFiles (files_of_reads reads) status bytes → (files : List SourceFile) → AreReads reads files → IsReportOfFiles files status bytes
   checked_files status bytes report files are = subst (λ fs. IsReportOfFiles fs status bytes) (within_limits reads limits limited none files are).0 report
@@ -143,17 +144,17 @@ pub lexical_made : (reads : List SourceRead) (limits faults : List Row) (made : 
 lexical_made reads limits faults (Ok r) limited none faulty some ends shows = lexical_report reads limits limited none faults shows.0 r.0 (plain_shown r.1.rows r.1.verdict) faulty some ends shows.1 shows.2
 lexical_made reads limits faults (Err e) limited none faulty some ends shows = tt
 
-pub grammar_made : (reads : List SourceRead) (limits rows : List Row) (tokens : List (List Token)) (made : Made) → Limited reads limits → limits ≡ [] → LexedFrom 0 known_names (files_of_reads reads) tokens → SyntaxRows 0 (files_of_reads reads) tokens rows → (rows ≡ [] → ⊥) → EndsRefused made → ShowsSorted reads rows made → ReportsAll reads made
-grammar_made reads limits rows tokens (Ok r) limited none lexed syntax some ends shows = grammar_report reads limits limited none tokens rows shows.0 r.0 (plain_shown r.1.rows r.1.verdict) lexed syntax some ends shows.1 shows.2
-grammar_made reads limits rows tokens (Err e) limited none lexed syntax some ends shows = tt
+pub grammar_made : (reads : List SourceRead) (limits rows : List Row) (names : List (List ℕ)) (tokens : List (List Token)) (made : Made) → Limited reads limits → limits ≡ [] → LexedFrom 0 known_names (files_of_reads reads) tokens names → SyntaxRows 0 (files_of_reads reads) tokens rows → (rows ≡ [] → ⊥) → EndsRefused made → ShowsSorted reads rows made → ReportsAll reads made
+grammar_made reads limits rows names tokens (Ok r) limited none lexed syntax some ends shows = grammar_report reads limits limited none names tokens rows shows.0 r.0 (plain_shown r.1.rows r.1.verdict) lexed syntax some ends shows.1 shows.2
+grammar_made reads limits rows names tokens (Err e) limited none lexed syntax some ends shows = tt
 
 pub checked_made : (reads : List SourceRead) (limits : List Row) (made : Made) → Limited reads limits → limits ≡ [] → IfOk made (λ r. IsReportOfFiles (files_of_reads reads) r.0 (plain_shown r.1.rows r.1.verdict)) → ReportsAll reads made
 checked_made reads limits (Ok r) limited none report = checked_files reads limits limited none r.0 (plain_shown r.1.rows r.1.verdict) report
 checked_made reads limits (Err e) limited none report = tt
 
-pub unbuilt_made : (files : List SourceFile) (tokens : List (List Token)) (made : Made) → IsRead files tokens → ((P : Program) → IsFormOf tokens P → ⊥) → EndsRefused made → IfOk made (λ r. plain_shown r.1.rows r.1.verdict ≡ shown files (Refused (unbuilt_row ∷ []))) → IfOk made (λ r. IsReportOfFiles files r.0 (plain_shown r.1.rows r.1.verdict))
-unbuilt_made files tokens (Ok r) read none ends shows = unbuilt_report files tokens r.0 (plain_shown r.1.rows r.1.verdict) read none ends shows
-unbuilt_made files tokens (Err e) read none ends shows = tt
+pub unbuilt_made : (files : List SourceFile) (names : List (List ℕ)) (tokens : List (List Token)) (trees : List PlacedFile) (made : Made) → AreParsed files names tokens trees → ((P : Program) → IsFormOf tokens P → ⊥) → EndsRefused made → IfOk made (λ r. plain_shown r.1.rows r.1.verdict ≡ shown files (Refused (unbuilt_row ∷ []))) → IfOk made (λ r. IsReportOfFiles files r.0 (plain_shown r.1.rows r.1.verdict))
+unbuilt_made files names tokens trees (Ok r) parsed none ends shows = unbuilt_report files names tokens trees r.0 (plain_shown r.1.rows r.1.verdict) parsed none ends shows
+unbuilt_made files names tokens trees (Err e) parsed none ends shows = tt
 
 -- ---- a row of what was read
 

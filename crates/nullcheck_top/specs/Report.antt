@@ -3,6 +3,7 @@ use Rattle.std.specs.Prelude.{ℕ, ◌≤◌, ◌≡◌, ◌⊎◌, List, [], �
 use Rattle.jn_base.specs.declared.place.Row.{Row}
 use Rattle.jn_base.specs.declared.code.Code.TheVariants.{Unbuilt}
 use Rattle.jn_trees.specs.declared.token.Token.{Token}
+use Rattle.jn_places.specs.Placed.{PlacedFile}
 use Rattle.jn_points.specs.declared.program.Program.{Program}
 use Rattle.jn_first_form.specs.Form.{IsForm}
 use Rattle.nullcheck_top.specs.declared.status.Status.{Status}
@@ -13,7 +14,7 @@ use Rattle.jn_heap.specs.Machine.{NeverNull}
 use Rattle.jn_diag.specs.Order.{IsOrderOf}
 use Rattle.jn_front.specs.declared.source.SourceFile.{SourceFile}
 use Rattle.jn_front.specs.Limits.{row_at}
-use Rattle.jn_front.specs.Phases.{IsRead, FrontRows}
+use Rattle.jn_front.specs.Phases.{AreParsed, FrontRows}
 
 -- the tokens are those of one file, whose tree is spelled as one of the first form, and this is its program
 abbrev pub IsFormOf : List (List Token) → Program → Type 0
@@ -23,8 +24,10 @@ IsFormOf (tokens ∷ others ∷ more) P = ⊥
 
 -- the program of files that have tokens and trees; so far it is that of one file of the first form
 pub record ProgramOf (files : List SourceFile) (P : Program) : Type 0 where
+  pub names : List (List ℕ)
   pub tokens : List (List Token)
-  pub read : IsRead files tokens
+  pub trees : List PlacedFile
+  pub parsed : AreParsed files names tokens trees
   pub form : IsFormOf tokens P
 
 -- files are refused by the rows of the first phase that has any, or checked by the rules, whose rows are in order
@@ -53,8 +56,10 @@ pub record IsFront (files : List SourceFile) (rows : List Row) : Type 0 where
 
 -- files that have trees, but no program yet
 pub record IsUnbuilt (files : List SourceFile) (rows : List Row) : Type 0 where
+  pub names : List (List ℕ)
   pub tokens : List (List Token)
-  pub read : IsRead files tokens
+  pub trees : List PlacedFile
+  pub parsed : AreParsed files names tokens trees
   pub no_form : (P : Program) → IsFormOf tokens P → ⊥
   pub row : rows ≡ unbuilt_row ∷ []
 

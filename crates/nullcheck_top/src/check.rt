@@ -1,7 +1,8 @@
-// The report of files that were read.
-ghost use Rattle.std.specs.Prelude.{◌≡◌, ◌<◌, ◌≤◌, ◌∷◌, [], List, true, false, length, map, Some, IfOk, IfSome, IfNone, string_bytes};
+//! The report of files that were read.
+ghost use Rattle.std.specs.Prelude.{◌≡◌, ◌<◌, ◌≤◌, ◌∷◌, [], List, ℕ, true, false, length, map, Some, IfOk, IfSome, IfNone, string_bytes};
 ghost use Rattle.jn_base.specs.declared.place.Row.{Row as SpecRow};
 ghost use Rattle.jn_points.specs.declared.program.Program.{Program as SpecProgram};
+ghost use Rattle.jn_places.specs.Placed.{PlacedFile};
 ghost use Rattle.jn_diag.specs.Order.{IsOrderOf};
 ghost use Rattle.jn_diag.specs.Shown.{row_shown};
 ghost use Rattle.jn_front.specs.Limits.{row_at};
@@ -10,7 +11,7 @@ ghost use Rattle.jn_front.specs.declared.source.SourceFile.{SourceFile as SpecFi
 ghost use Rattle.jn_front.specs.Files.{files_of_reads, names_of, AreReads};
 ghost use Rattle.jn_reporters.specs.Reports.{plain_shown};
 ghost use Rattle.nullcheck_top.specs.Answer.{IsReportOfFiles};
-ghost use Rattle.jn_front.specs.Phases.{IsRead};
+ghost use Rattle.jn_front.specs.Phases.{AreParsed};
 ghost use Rattle.nullcheck_top.specs.Report.{IsFormOf, ProgramOf, Refused, status_of_rows, unbuilt_row};
 ghost use Rattle.nullcheck_top.specs.Shown.{shown, verdict_of_rows};
 
@@ -71,14 +72,14 @@ fn program_of(alloc: Global, tokens: &[Seq<Token>]) -> Result<Option<Program>, O
     }
 }
 
-/// The status and the report of files with these tokens, which have trees.
-fn parsed(
+/// The status and the report of files with these tokens and trees.
+fn report_trees(
     alloc: Global,
     reads: &[SourceRead],
     tokens: &[Seq<Token>],
 ) -> Result<(Status, Plain), OutOfMemory>
     requires fit { ReadsFit reads.now }
-    requires read { IsRead (files_of_reads reads.now) tokens.now }
+    requires parsed { (names : List (List ℕ)) × (trees : List PlacedFile) × AreParsed (files_of_reads reads.now) names tokens.now trees }
     ensures { IfOk result (λ r. IsReportOfFiles (files_of_reads reads.now) r.0 (plain_shown r.1.rows r.1.verdict)) }
 {
     match program_of(alloc, tokens)? {
@@ -139,11 +140,11 @@ pub fn report(alloc: Global, reads: &[SourceRead]) -> Result<(Status, Plain), Ou
     if !no_rows(&lexed.faults) {
         return refused(alloc, reads, lexed.faults);
     }
-    let syntax = parse_all(alloc, reads, &lexed.tokens)?;
-    if !no_rows(&syntax) {
-        return refused(alloc, reads, syntax);
+    let parsed = parse_all(alloc, reads, &lexed.tokens)?;
+    if !no_rows(&parsed.rows) {
+        return refused(alloc, reads, parsed.rows);
     }
-    parsed(alloc, reads, &lexed.tokens)
+    report_trees(alloc, reads, &lexed.tokens)
 }
 
 /// The report of more files than there may be; this is the name of the first that is too many.

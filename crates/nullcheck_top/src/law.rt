@@ -1,4 +1,4 @@
-// Laws of reports.
+//! Laws of reports.
 ghost use Rattle.std.specs.Prelude.{◌≡◌, List, []};
 ghost use Rattle.jn_points.specs.declared.program.Program.{Program};
 ghost use Rattle.jn_heap.specs.Machine.{NeverNull};

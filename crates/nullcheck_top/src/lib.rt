@@ -1,4 +1,4 @@
-// The top call: words in, the report out.
+//! The top call: words in, the report out.
 #![tactic(auto)]
 
 mod check;

@@ -1,4 +1,4 @@
-// The rules' rows of a program.
+//! The rules' rows of a program.
 ghost use Rattle.std.specs.Prelude.{◌≡◌, IfOk};
 ghost use Rattle.nullcheck_top.specs.FormProgram.{IsFormProgram, AreMainRows};
 ghost use Rattle.nullcheck_top.specs.Report.{RulesGive};

@@ -1,4 +1,4 @@
-// The statuses of the program.
+//! The statuses of the program.
 ghost use Rattle.std.specs.Prelude.{◌≡◌};
 ghost use Rattle.nullcheck_top.specs.Status.{number_of};
 

@@ -1,4 +1,4 @@
-// Words in, the report out.
+//! Words in, the report out.
 ghost use Rattle.std.specs.Prelude.{◌≡◌, ◌≢◌, ◌<◌, ◌≤◌, ◌⊎◌, ℕ, List, map, Option, None, Some, ◌∷◌, [], IfOk, IfErr, length, Err, Ok, OnOk, true, false};
 ghost use Rattle.std.specs.String.{string_bytes};
 ghost use Rattle.std.specs.Option.{option_copied};

@@ -1,8 +1,10 @@
-use Rattle.std.proofs.Common.{◌≡◌, sym, subst}
+use Rattle.std.proofs.Common.{◌≡◌, List, map, sym, subst}
+use Rattle.jn_trees.specs.declared.token.Token.{Token}
 use Rattle.jn_known.specs.Known.{known_names}
+use Rattle.jn_places.specs.PlacedView.{placed_file}
 use Rattle.jn_front.specs.Files.{files_of_reads}
-use Rattle.jn_front.specs.Phases.{IsRead, SyntaxRows}
-use Rattle.nullcheck_top.proofs.WholeFiles.{limited_made, lexical_made, grammar_made, checked_made, is_read}
+use Rattle.jn_front.specs.Phases.{ArePlaced, AreParsed, LexedFrom, SyntaxRows}
+use Rattle.nullcheck_top.proofs.WholeFiles.{limited_made, lexical_made, grammar_made, checked_made, are_parsed}
 use Rattle.nullcheck_top.proofs.check.report.Goals as goal
 
 pub returns-then-not-no_rows : goal.returns-then-not-no_rows
@@ -17,15 +19,26 @@ pub returns-then-not-no_rows-3 : goal.returns-then-not-no_rows-3
 returns-then-not-no_rows-3 c =
     let r = c.refused-then-not-no_rows-3 in
     let lexed = c.in_ok-lexed.ensures.tokens (c.no_rows-2.ensures.none c.if-not-no_rows-2.false) in
-    let syntax = subst (λ tss. SyntaxRows 0 (files_of_reads c.args.reads.now) tss c.in_ok-syntax.syntax.items) c.deref.ensures.value c.in_ok-syntax.ensures in
-    grammar_made c.args.reads.now c.in_ok-limits.limits.items c.in_ok-syntax.syntax.items c.in_ok-lexed.lexed.tokens.items r.result c.in_ok-limits.ensures (c.no_rows.ensures.none c.if-not-no_rows.false) lexed syntax (c.no_rows-3.ensures.some c.if-not-no_rows-3.true) r.ensures.status r.ensures.shows
+    let syntax = subst (λ tss. SyntaxRows 0 (files_of_reads c.args.reads.now) tss c.in_ok-parsed.parsed.rows.items) c.deref.ensures.value c.in_ok-parsed.ensures.rows in
+    grammar_made c.args.reads.now c.in_ok-limits.limits.items c.in_ok-parsed.parsed.rows.items c.in_ok-lexed.lexed.names c.in_ok-lexed.lexed.tokens.items r.result c.in_ok-limits.ensures (c.no_rows.ensures.none c.if-not-no_rows.false) lexed syntax (c.no_rows-3.ensures.some c.if-not-no_rows-3.true) r.ensures.status r.ensures.shows
 
-pub parsed-requires-clause-read : goal.parsed-requires-clause-read
-parsed-requires-clause-read c =
+pub parse_all-requires-clause-lexed : goal.parse_all-requires-clause-lexed
+parse_all-requires-clause-lexed c =
+    let names = c.in_ok-lexed.lexed.names in
+    (names, subst (λ (tss : List (List Token)). LexedFrom 0 known_names (files_of_reads c.args.reads.now) tss names) (sym c.deref.ensures.value) (c.in_ok-lexed.ensures.tokens (c.no_rows-2.ensures.none c.if-not-no_rows-2.false)))
+
+pub report_trees-requires-clause-parsed : goal.report_trees-requires-clause-parsed
+report_trees-requires-clause-parsed c =
+    let reads = c.args.reads.now in
+    let names = c.in_ok-lexed.lexed.names in
+    let trees = map placed_file c.in_ok-parsed.parsed.trees.items in
     let lexed = c.in_ok-lexed.ensures.tokens (c.no_rows-2.ensures.none c.if-not-no_rows-2.false) in
-    let syntax = subst (λ tss. SyntaxRows 0 (files_of_reads c.args.reads.now) tss c.in_ok-syntax.syntax.items) c.deref.ensures.value c.in_ok-syntax.ensures in
-    subst (λ tss. IsRead (files_of_reads c.args.reads.now) tss) (sym c.deref-2.ensures.value)
-    (is_read c.args.reads.now c.in_ok-limits.limits.items c.in_ok-limits.ensures (c.no_rows.ensures.none c.if-not-no_rows.false) c.in_ok-lexed.lexed.tokens.items c.in_ok-syntax.syntax.items c.requires.read lexed syntax (c.no_rows-3.ensures.none c.if-not-no_rows-3.false))
+    let placed = subst (λ (tss : List (List Token)). ArePlaced tss trees) c.deref.ensures.value (c.in_ok-parsed.ensures.trees (c.no_rows-3.ensures.none c.if-not-no_rows-3.false)) in (
+      names,
+      trees,
+      subst (λ (tss : List (List Token)). AreParsed (files_of_reads reads) names tss trees) (sym c.deref-2.ensures.value)
+          (are_parsed reads c.in_ok-limits.limits.items c.in_ok-limits.ensures (c.no_rows.ensures.none c.if-not-no_rows.false) names c.in_ok-lexed.lexed.tokens.items trees c.requires.read lexed placed),
+    )
 
 pub returns : goal.returns
-returns c = checked_made c.args.reads.now c.in_ok-limits.limits.items c.parsed.result c.in_ok-limits.ensures (c.no_rows.ensures.none c.if-not-no_rows.false) c.parsed.ensures
+returns c = checked_made c.args.reads.now c.in_ok-limits.limits.items c.report_trees.result c.in_ok-limits.ensures (c.no_rows.ensures.none c.if-not-no_rows.false) c.report_trees.ensures
