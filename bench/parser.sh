@@ -7,26 +7,17 @@
 set -eu
 runs=${1:-3}
 root=$(cd "$(dirname "$(readlink -f "${BASH_SOURCE[0]}")")/.." && pwd)
-crate="$root/crates/nullcheck"
-program="$crate/out/nullcheck"
+program="$root/crates/nullcheck/out/nullcheck"
 limit=1048576
 
-# Proves and builds the program, unless it is there and newer than each source file.
+# Has the program proved and built, where it isn't yet or a source is newer; on no words it ends with 64.
 build() {
-  if [ -x "$program" ] && [ -z "$(find "$root"/crates/*/src -name '*.rt' -newer "$program" | head -n 1)" ]; then
-    return
-  fi
-  echo "parser.sh: proving and building the program; this takes some minutes" >&2
-  local log
-  log=$(mktemp)
-  (cd "$crate" && rt run) >"$log" 2>&1 </dev/null || true
-  if [ ! -x "$program" ]; then
-    cat "$log" >&2
-    rm -f "$log"
+  local status=0
+  "$root/bin/nullcheck" >/dev/null || status=$?
+  if [ "$status" -ne 64 ]; then
     echo "parser.sh: the program could not be built" >&2
     exit 1
   fi
-  rm -f "$log"
 }
 
 folder=$(mktemp -d)
