@@ -1,5 +1,5 @@
 -- Dispatch selects the method that is invoked.
-use Rattle.std.proofs.Common.{◌≡◌, ◌<◌, ℕ, zero, suc, Bool, true, false, not, ◌||◌, ◌⊎◌, inl, inr, List, [], ◌∷◌, length, Option, Some, None, refl, sym, ap, ◌∙◌, subst, eqb, arith}
+use Rattle.std.proofs.Common.{◌≡◌, ℕ, zero, suc, true, false, not, ◌⊎◌, inl, inr, List, [], ◌∷◌, length, Option, Some, None, refl, sym, ap, ◌∙◌, subst, eqb}
 use Rattle.std.specs.Prelude.{filter}
 use Rattle.std.proofs.lemmas.Bool.{eqb-true}
 use Rattle.jn_base.specs.declared.number.BodyNo.{BodyNo}
@@ -8,11 +8,11 @@ use Rattle.jn_points.specs.declared.program.Method.{Method}
 use Rattle.jn_points.specs.declared.program.Program.{Program}
 use Rattle.jn_points.specs.Lookup.{class_info, parent_of, supers_of, method_at, body_of, body_no, class_of}
 use Rattle.jn_points.specs.Members.{some_of, is_class, is_named, first_some, walk_by, interfaces, sub, declared_method, method_of, with_body, where_some, selected_for, dispatch}
-use Rattle.jn_points.specs.Regular.{RegularClasses, Implements, IsConcrete, IsParent, has_body}
+use Rattle.jn_points.specs.Regular.{RegularClasses, Implements, IsConcrete, has_body}
 use Rattle.jn_points.specs.Shaped.{IsVirtual}
-use Rattle.jn_members_law.specs.Inherited.{SameSignature, IsInterface, IsDirectSuper, Declares, AbstractInterfaces, RegularMethods}
+use Rattle.jn_members_law.specs.Inherited.{SameSignature, IsInterface, Declares, AbstractInterfaces, RegularMethods}
 use Rattle.jn_members_law.specs.Invoked.{Runs, InvokedBy, IsInvoked}
-use Rattle.jn_members_law.proofs.Searches.{true_or_not, or_true, in_filter}
+use Rattle.jn_members_law.proofs.Searches.{true_or_not, or_true}
 use Rattle.jn_members_law.proofs.Supers.{parent_super, other_interface, no_super, interface_parent}
 use Rattle.jn_members_law.proofs.Members.{named_parts, parts_named, declared_is, is_declared, walk_cases, interface_super}
 use Rattle.jn_members_law.proofs.Unique.{one_declaration, no_object}
@@ -81,13 +81,15 @@ module _ (P : Program) where
           here : (r : (x : Method) × Declares P c m x × (is_named x named.name.0 (length named.params) ≡ true) × (x.is_private ≡ true → c ≡ s)) → (past : List ℕ) × InvokedBy P s named past c m x
           here r =
               let same : r.0 ≡ x = same_method P m r.0 x r.1.there at in
-              let parts = named_parts r.0 named.name.0 (length named.params) r.2 in
-              ([], record {
-                declared = subst (λ z. Declares P c m z) same r.1;
-                same = subst (λ z. SameSignature z named) same (parts.1, parts.2);
-                body = body;
-                own = subst (λ z. z.is_private ≡ true → c ≡ s) same r.3;
-              })
+              let parts = named_parts r.0 named.name.0 (length named.params) r.2 in (
+                [],
+                record {
+                  declared = subst (λ z. Declares P c m z) same r.1;
+                  same = subst (λ z. SameSignature z named) same (parts.1, parts.2);
+                  body = body;
+                  own = subst (λ z. z.is_private ≡ true → c ≡ s) same r.3;
+                },
+              )
 
           none_runs : declared_method P s named.name.0 (length named.params) c ≡ None → (j : ℕ) (y : Method) → Runs P s named c j y → ⊥
           none_runs e j y r = let f = is_declared P named.name.0 (length named.params) s c j y r.declared (parts_named y named.name.0 (length named.params) r.declared.method r.same.0 r.same.1) r.own in cc

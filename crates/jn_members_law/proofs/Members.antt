@@ -1,17 +1,17 @@
 -- The method that a class has is one of its members, and the only one that a class declares.
-use Rattle.std.proofs.Common.{◌≡◌, ◌<◌, ◌≤◌, ◌+◌, ℕ, zero, suc, Bool, true, false, not, cond, ◌||◌, ◌&&◌, ◌⊎◌, inl, inr, List, [], ◌∷◌, ◌++◌, length, Option, Some, None, refl, sym, ap, ◌∙◌, subst, eqb, arith}
+use Rattle.std.proofs.Common.{◌≡◌, ◌+◌, ℕ, zero, suc, Bool, true, false, not, ◌||◌, ◌&&◌, ◌⊎◌, inl, inr, [], ◌∷◌, ◌++◌, length, Option, Some, None, refl, sym, ap, ◌∙◌, subst, eqb, arith}
 use Rattle.std.specs.Prelude.{slice_get, flat_map}
 use Rattle.std.proofs.lemmas.Bool.{eqb-true, eq-eqb}
 use Rattle.jn_base.specs.declared.number.ClassNo.{ClassNo}
 use Rattle.jn_points.specs.declared.program.Method.{Method}
 use Rattle.jn_points.specs.declared.program.Program.{Program}
-use Rattle.jn_points.specs.Lookup.{class_info, supers_of, parent_of, interface_of, method_at}
-use Rattle.jn_points.specs.Members.{some_of, first_at, first_or, first_some, is_class, is_named, walk_by, walk_parent, interfaces, declared_method, method_of}
-use Rattle.jn_points.specs.Regular.{RegularClasses, RegularMethod, IsParent}
+use Rattle.jn_points.specs.Lookup.{class_info, supers_of, parent_of, method_at}
+use Rattle.jn_points.specs.Members.{some_of, first_at, first_some, is_class, is_named, walk_by, walk_parent, interfaces, declared_method}
+use Rattle.jn_points.specs.Regular.{RegularClasses}
 use Rattle.jn_points.proofs.Walks.{first_some_append}
-use Rattle.jn_members_law.specs.Inherited.{SameSignature, IsInterface, IsDirectSuper, Declares, DeclaresNone, Inherits, MemberBy, IsMember, KeepsAccess}
-use Rattle.jn_members_law.proofs.Searches.{true_or_not, and_true, and_both, first_passes, none_passes, same_first, found_or_none, passes_found, or_found, or_first, or_none, or_some, along_one, one_along, in_filter}
-use Rattle.jn_members_law.proofs.Supers.{parent_or_interface, lower, parent_super, other_interface, no_super, interface_parent}
+use Rattle.jn_members_law.specs.Inherited.{SameSignature, IsDirectSuper, Declares, DeclaresNone, IsMember, KeepsAccess}
+use Rattle.jn_members_law.proofs.Searches.{true_or_not, and_true, and_both, first_passes, none_passes, same_first, found_or_none, passes_found, or_found, along_one, in_filter}
+use Rattle.jn_members_law.proofs.Supers.{parent_super}
 
 -- class d declares a method of the signature for class c, where one that is private counts at class c alone
 abbrev pub declared_for : ℕ → ℕ → ℕ → ℕ → Method → Bool

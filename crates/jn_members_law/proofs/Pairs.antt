@@ -1,5 +1,5 @@
 -- Overriding pairs are what overrides.
-use Rattle.std.proofs.Common.{◌≡◌, ◌<◌, ◌≤◌, ◌+◌, ℕ, zero, suc, Bool, true, false, not, ◌||◌, ◌&&◌, ◌⊎◌, inl, inr, List, [], ◌∷◌, ◌++◌, length, Option, Some, None, refl, sym, ap, ◌∙◌, subst, eqb, ltb, arith}
+use Rattle.std.proofs.Common.{◌≡◌, ◌<◌, ℕ, zero, suc, Bool, true, false, not, ◌||◌, ◌&&◌, ◌⊎◌, inl, inr, List, [], ◌∷◌, ◌++◌, length, Option, Some, None, refl, sym, ap, ◌∙◌, subst, eqb, arith}
 use Rattle.std.proofs.lemmas.Bool.{eqb-true, eq-eqb, or_left, or_right}
 use Rattle.jn_points.specs.declared.program.Method.{Method}
 use Rattle.jn_points.specs.declared.program.Program.{Program}
@@ -111,19 +111,21 @@ module _ (P : Program) (C : RegularClasses P) (M : RegularMethods P) where
         let signature = named_parts y x.name.0 (length x.params) named in
         let other = not_equal m k first.0 in
         let alone = only c.0 found other signature.1 signature.2 in
-        let declared : Declares P y.owner.0 k y = record { there = at_k; method = signature.0; owner = refl } in
-        (c.0, record {
-          class = not_true (interface_of (class_info P c.0)) two.0;
-          member = subst (λ z. IsMember P c.0 m z) (same_method P m member.0 x there.0 at_m) member.1;
-          instance = instance;
-          above = proper c.0 y.owner.0 (no_object P C M k y at_k signature.0) (λ e. alone (subst (λ z. IsInterface P z false) e (not_true (interface_of (class_info P c.0)) two.0)) (record { from = []; by = record { there = at_k; method = signature.0; owner = sym e } })) parts.1;
-          declared = declared;
-          same = (sym signature.1, sym signature.2);
-          other = other;
-          not_static = not_true y.is_static inner.1;
-          not_private = not_true y.is_private first.1;
-          not_inherited = alone;
-        })
+        let declared : Declares P y.owner.0 k y = record { there = at_k; method = signature.0; owner = refl } in (
+          c.0,
+          record {
+            class = not_true (interface_of (class_info P c.0)) two.0;
+            member = subst (λ z. IsMember P c.0 m z) (same_method P m member.0 x there.0 at_m) member.1;
+            instance = instance;
+            above = proper c.0 y.owner.0 (no_object P C M k y at_k signature.0) (λ e. alone (subst (λ z. IsInterface P z false) e (not_true (interface_of (class_info P c.0)) two.0)) (record { from = []; by = record { there = at_k; method = signature.0; owner = sym e } })) parts.1;
+            declared = declared;
+            same = (sym signature.1, sym signature.2);
+            other = other;
+            not_static = not_true y.is_static inner.1;
+            not_private = not_true y.is_private first.1;
+            not_inherited = alone;
+          },
+        )
       where
         only : (c : ℕ) → method_of P c x.name.0 (length x.params) ≡ Some m → (m ≡ k → ⊥) → y.name.0 ≡ x.name.0 → length y.params ≡ length x.params → IsInterface P y.owner.0 false → IsMember P c k y → ⊥
         only c found other name arity class member =

@@ -1,15 +1,15 @@
 -- A member is found along the walk, and a member that a class declares is the one that is found.
-use Rattle.std.proofs.Common.{◌≡◌, ◌<◌, ◌≤◌, ◌+◌, ℕ, zero, suc, Bool, true, false, not, cond, ◌||◌, ◌&&◌, ◌⊎◌, inl, inr, List, [], ◌∷◌, ◌++◌, length, Option, Some, None, refl, sym, ap, ◌∙◌, subst, eqb, arith}
-use Rattle.std.specs.Prelude.{slice_get, flat_map}
+use Rattle.std.proofs.Common.{◌≡◌, ◌<◌, ℕ, zero, suc, true, false, ◌⊎◌, inl, inr, List, [], ◌∷◌, ◌++◌, length, Option, Some, None, refl, sym, ap, ◌∙◌, subst, eqb, arith}
+use Rattle.std.specs.Prelude.{flat_map}
 use Rattle.jn_base.specs.declared.number.ClassNo.{ClassNo}
 use Rattle.jn_points.specs.declared.program.Method.{Method}
 use Rattle.jn_points.specs.declared.program.Program.{Program}
-use Rattle.jn_points.specs.Lookup.{class_info, parent_of, interface_of, method_at}
-use Rattle.jn_points.specs.Members.{some_of, first_at, first_or, first_some, is_class, is_named, walk_by, walk_parent, interfaces, declared_method, method_of}
+use Rattle.jn_points.specs.Lookup.{class_info, parent_of, method_at}
+use Rattle.jn_points.specs.Members.{some_of, first_or, first_some, is_class, walk_by, walk_parent, interfaces, declared_method, method_of}
 use Rattle.jn_points.specs.Regular.{RegularClasses}
 use Rattle.jn_points.proofs.Walks.{first_some_append}
-use Rattle.jn_members_law.specs.Inherited.{SameSignature, IsInterface, IsDirectSuper, Declares, DeclaresNone, Inherits, MemberBy, IsMember, KeepsAccess, RegularMethods}
-use Rattle.jn_members_law.proofs.Searches.{true_or_not, found_or_none, or_first, or_none, or_some, one_along}
+use Rattle.jn_members_law.specs.Inherited.{SameSignature, IsInterface, IsDirectSuper, Declares, MemberBy, IsMember, KeepsAccess, RegularMethods}
+use Rattle.jn_members_law.proofs.Searches.{found_or_none, or_first, or_none, or_some, one_along}
 use Rattle.jn_members_law.proofs.Supers.{parent_or_interface, lower, other_interface, no_super, interface_parent}
 use Rattle.jn_members_law.proofs.Members.{open_method, named_parts, parts_named, declared_is, open_is, is_declared, is_open, open_alone, kept_none, open_member}
 
