@@ -1,5 +1,5 @@
 -- A class that declares no method of the name and arity has the one that its parent has.
-use Rattle.std.proofs.Common.{◌≡◌, ◌<◌, ◌≤◌, ◌+◌, ℕ, zero, suc, Bool, true, false, not, cond, ◌||◌, ◌&&◌, ◌⊎◌, inl, inr, List, [], ◌∷◌, ◌++◌, length, get_or, Option, Some, None, refl, sym, ap, ◌∙◌, subst, eqb, ltb, arith}
+use Rattle.std.proofs.Common.{◌≡◌, ◌<◌, ◌+◌, ℕ, zero, suc, Bool, true, false, not, cond, ◌||◌, ◌&&◌, ◌⊎◌, inl, inr, List, [], ◌∷◌, ◌++◌, length, get_or, Option, Some, None, refl, sym, ap, ◌∙◌, subst, eqb, ltb, arith}
 use Rattle.std.specs.Prelude.{slice_get, flat_map}
 use Rattle.std.proofs.lemmas.Bool.{eqb-true, eq-eqb, lt-ltb}
 use Rattle.jn_base.specs.declared.number.ClassNo.{ClassNo}
@@ -8,7 +8,6 @@ use Rattle.jn_points.specs.declared.program.Method.{Method}
 use Rattle.jn_points.specs.declared.program.Program.{Program}
 use Rattle.jn_points.specs.Lookup.{class_info, interface_of, parent_of, method_at}
 use Rattle.jn_points.specs.Members.{first_at, first_or, first_some, is_named, is_number, walk_by, walk_parent, interfaces, declared_method, method_of}
-use Rattle.jn_index.specs.Numbers.{list_at}
 use Rattle.jn_index.specs.Index.{declares, Lists, IsIndex}
 use Rattle.jn_index.specs.Users.{has_method, has_inside, AreKnown}
 use Rattle.jn_index.proofs.Found.{true_or_not, or_true, first_some_append}

@@ -1,5 +1,5 @@
 -- Where no class is its own supertype, rounds give each class its walk: after so many rounds, all classes of lower rank have theirs.
-use Rattle.std.proofs.Common.{◌≡◌, ◌<◌, ◌≤◌, ◌+◌, ℕ, zero, suc, Bool, true, false, ◌||◌, ◌&&◌, ◌⊎◌, inl, inr, List, [], ◌∷◌, length, Option, Some, None, refl, sym, ap, ◌∙◌, subst, eqb, arith}
+use Rattle.std.proofs.Common.{◌≡◌, ◌<◌, ◌≤◌, ◌+◌, ℕ, zero, suc, Bool, true, false, ◌⊎◌, inl, inr, List, [], ◌∷◌, length, Option, Some, None, refl, sym, ◌∙◌, subst, eqb, arith}
 use Rattle.std.specs.Prelude.{slice_get}
 use Rattle.std.proofs.lemmas.Bool.{eqb-true, eq-eqb, or_left, or_right}
 use Rattle.jn_base.specs.declared.number.ClassNo.{ClassNo}
@@ -13,7 +13,7 @@ use Rattle.jn_index.specs.Along.{IsWalk, AreWalks, is_filled, all_filled, names_
 use Rattle.jn_index.specs.Index.{HasIndex}
 use Rattle.jn_index.proofs.Found.{true_or_not, or_true}
 use Rattle.jn_index.proofs.Ready.{and_true, filled_walk}
-use Rattle.jn_index.proofs.Having.{same_truth, and_both}
+use Rattle.jn_index.proofs.Having.{and_both}
 use Rattle.jn_index.proofs.Filled.{count_all}
 
 filled_kept : (old new : List (List ℕ)) → Keeps old new → (ss : List ClassNo) → all_filled old ss ≡ true → all_filled new ss ≡ true

@@ -1,4 +1,4 @@
-use Rattle.std.proofs.Common.{rules, arith, get_or}
+use Rattle.std.proofs.Common.{rules, get_or}
 use Rattle.jn_index.proofs.Meets.{outside_pair, item_at}
 use Rattle.jn_index.proofs.under.add_all.Goals as goal
 
