@@ -1,6 +1,6 @@
 -- Rows of numbers below one more, and slots side by side.
 use Rattle.std.proofs.Common.{◌≡◌, ℕ, zero, suc, ◌+◌, ◌≤◌, ◌<◌, ◌⊎◌, inl, inr, length, drop, Bool, true, false, ◌||◌, not, List, [], ◌∷◌, ◌++◌, Option, Some, None, cond, refl, subst, arith, ap, ◌∙◌, sym, append-nil}
-use Rattle.std.specs.Prelude.{flat_map, slice_index_or}
+use Rattle.std.specs.Prelude.{filter, flat_map, slice_index_or}
 use Rattle.std.proofs.lemmas.List.{append_assoc}
 use Rattle.jn_base.specs.declared.number.SlotNo.{SlotNo}
 use Rattle.jn_base.specs.declared.place.Row.{Row}
@@ -8,9 +8,6 @@ use Rattle.jn_quals.specs.Qualifier.{Qualifier}
 use Rattle.jn_quals.specs.Order.{within}
 use Rattle.jn_points.specs.Lookup.{method_at}
 use Rattle.jn_points.specs.Members.{below, is_pair, pairs_of}
-use Rattle.jn_index.specs.Numbers.{list_at}
-use Rattle.jn_index.specs.Index.{Lists, IsIndex}
-use Rattle.jn_index.proofs.Named.{flat_named, other_name}
 use Rattle.jn_sigs.specs.Signature.{slot_qual, slot_quals}
 use Rattle.jn_points.specs.declared.program.Method.{Method}
 use Rattle.jn_points.specs.declared.program.Program.{Program}
@@ -85,6 +82,26 @@ module _ (P : Program) (s : List Qualifier) (m k : ℕ) where
   pub pair_there : (over under : Method) → method_at P m ≡ Some over → method_at P k ≡ Some under → is_pair P m k ≡ true → pair_rows P s m k ≡ override_rows s (Some over) (Some under)
   pair_there over under eo eu h = subst (λ t. cond t (override_rows s (method_at P m) (method_at P k)) [] ≡ override_rows s (method_at P m) (method_at P k)) (sym h) refl ∙ ap (λ o. override_rows s o (method_at P k)) eo ∙ ap (λ o. override_rows s (Some over) o) eu
 
--- the pairs of a method stand among the methods of its name
-pub named_rows : (P : Program) (x : Lists) (s : List Qualifier) (m : ℕ) (over : Method) → IsIndex P x → method_at P m ≡ Some over → flat_map (pair_rows P s m) (list_at x.named over.name.0) ≡ flat_map (pair_rows P s m) (below (length P.methods))
-named_rows P x s m over is at = flat_named (pair_rows P s m) over.name.0 P x is (λ k y there e. no_pair P s m k (other_name P m k over y at there e))
+-- what isn't a pair has no rows
+filter_rows : (f : ℕ → List Row) (p : ℕ → Bool) → ((k : ℕ) → p k ≡ false → f k ≡ []) → (xs : List ℕ) → flat_map f (filter p xs) ≡ flat_map f xs
+filter_rows f p none [] = refl
+filter_rows f p none (x ∷ xs) = by (p x) refl (filter_rows f p none xs)
+  where
+    by : (b : Bool) → p x ≡ b → flat_map f (filter p xs) ≡ flat_map f xs → flat_map f (cond b (x ∷ filter p xs) (filter p xs)) ≡ f x ++ flat_map f xs
+    by true e rest = ap (λ r. f x ++ r) rest
+    by false e rest = rest ∙ sym (ap (λ r. r ++ flat_map f xs) (none x e))
+
+pub pairs_rows : (P : Program) (s : List Qualifier) (m : ℕ) (ks xs : List ℕ) → ks ≡ filter (is_pair P m) xs → flat_map (pair_rows P s m) ks ≡ flat_map (pair_rows P s m) xs
+pairs_rows P s m ks xs e = ap (flat_map (pair_rows P s m)) e ∙ filter_rows (pair_rows P s m) (is_pair P m) (λ k. no_pair P s m k) xs
+
+filter_at : (p : ℕ → Bool) (xs : List ℕ) (i d : ℕ) → i < length (filter p xs) → p (slice_index_or (filter p xs) i d) ≡ true
+filter_at p [] i d lt = absurd (omega (arith, lt))
+filter_at p (x ∷ xs) i d lt = by (p x) refl i lt (filter_at p xs)
+  where
+    by : (b : Bool) → p x ≡ b → (i : ℕ) → i < length (cond b (x ∷ filter p xs) (filter p xs)) → ((i d : ℕ) → i < length (filter p xs) → p (slice_index_or (filter p xs) i d) ≡ true) → p (slice_index_or (cond b (x ∷ filter p xs) (filter p xs)) i d) ≡ true
+    by true e zero lt rest = e
+    by true e (suc i) lt rest = rest i d (omega (arith, lt))
+    by false e i lt rest = rest i d lt
+
+pub pairs_at : (P : Program) (m : ℕ) (ks xs : List ℕ) → ks ≡ filter (is_pair P m) xs → (i : ℕ) → i < length ks → is_pair P m (slice_index_or ks i 0) ≡ true
+pairs_at P m ks xs e i lt = subst (λ zs. is_pair P m (slice_index_or zs i 0) ≡ true) (sym e) (filter_at (is_pair P m) xs i 0 (subst (λ zs. i < length zs) e lt))

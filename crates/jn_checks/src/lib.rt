@@ -7,5 +7,5 @@ pub mod overriding;
 pub mod rows;
 pub mod rules;
 
-pub use overriding::override_rows;
+pub use overriding::{indexed_override_rows, override_rows};
 pub use rows::checks;

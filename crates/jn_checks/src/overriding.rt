@@ -1,9 +1,8 @@
 // The rules at overriding pairs: parameters and receivers may widen, results may narrow (JLS 8, 8.4.8.3; the Checker Framework manual on overriding).
-ghost use Rattle.std.specs.Prelude.{◌≡◌, ◌<◌, ◌≤◌, ◌⊎◌, ◌^◌, ◌++◌, ◌||◌, Some, flat_map, IfOk, OnOk, length, not};
+ghost use Rattle.std.specs.Prelude.{◌≡◌, ◌<◌, ◌≤◌, ◌⊎◌, ◌^◌, ◌++◌, ◌||◌, ℕ, true, Some, flat_map, slice_index, IfOk, OnOk, length, not};
 ghost use Rattle.jn_points.specs.Lookup.{method_at};
-ghost use Rattle.jn_points.specs.Members.{below};
+ghost use Rattle.jn_points.specs.Members.{below, is_pair};
 ghost use Rattle.jn_index.specs.Index.{IsIndex};
-ghost use Rattle.jn_index.specs.Users.{AreUsers};
 ghost use Rattle.jn_quals.specs.Order.{within};
 ghost use Rattle.jn_sigs.specs.Signature.{slot_quals};
 ghost use Rattle.jn_transfer.specs.Rules as spec;
@@ -11,7 +10,7 @@ ghost use Rattle.jn_transfer.specs.Rules as spec;
 use crate::rules::push_if;
 use jn_base::{Code, MethodNo, OutOfMemory, Row, SlotNo};
 use jn_index::index::Index;
-use jn_index::pairs::{is_pair_of, users};
+use jn_index::overridden::overridden;
 use jn_points::members::method_at;
 use jn_points::{Method, Program, is_pair};
 use jn_quals::Qual;
@@ -126,59 +125,47 @@ fn push_overrider(
     Ok(())
 }
 
-/// The rows of two methods, found by the index.
-#[tactic(auto, using(crate::proofs::Pairs::none_under, crate::proofs::Pairs::no_pair, crate::proofs::Pairs::pair_there))]
+/// The rows of a method and one that it overrides.
+#[tactic(auto, using(crate::proofs::Pairs::none_under, crate::proofs::Pairs::pair_there))]
 fn push_found(
     rows: &mut Vec<Row>,
     program: &Program,
-    index: &Index,
     sig: &Sig,
-    users: &[u32],
     m: u32,
     over: &Method,
     k: u32,
 ) -> Result<(), AllocError>
-    requires is { IsIndex program.now index.now }
     requires there { method_at program.now m ≡ Some over.now }
-    requires users { AreUsers program.now m over.now users.now }
+    requires pair { is_pair program.now m k ≡ true }
     ensures { OnOk result (rows.new.items ≡ rows.old.items ++ spec.pair_rows program.now sig.now m k) }
 {
     match method_at(program, k as usize) {
         None => Ok(()),
-        Some(under) => {
-            if is_pair_of(program, index, users, m, over, k, under) {
-                push_override(rows, sig, over, under)
-            } else {
-                Ok(())
-            }
-        }
+        Some(under) => push_override(rows, sig, over, under),
     }
 }
 
-/// The rows of a method with those of some methods that it overrides.
+/// The rows of a method with some methods that it overrides.
 fn push_some(
     rows: &mut Vec<Row>,
     program: &Program,
-    index: &Index,
     sig: &Sig,
-    users: &[u32],
     m: u32,
     over: &Method,
     ks: &[u32],
 ) -> Result<(), AllocError>
-    requires is { IsIndex program.now index.now }
     requires there { method_at program.now m ≡ Some over.now }
-    requires users { AreUsers program.now m over.now users.now }
+    requires pairs { (i : ℕ) → i < length ks.now → is_pair program.now m (slice_index ks.now i) ≡ true }
     ensures { OnOk result (rows.new.items ≡ rows.old.items ++ flat_map (spec.pair_rows program.now sig.now m) ks.now) }
 {
     for k in ks {
-        push_found(rows, program, index, sig, users, m, over, *k)?;
+        push_found(rows, program, sig, m, over, *k)?;
     }
     Ok(())
 }
 
-/// The rows of a method with all methods that it overrides: those of its name are looked at.
-#[tactic(auto, using(crate::proofs::Pairs::named_rows))]
+/// The rows of a method with all methods that it overrides.
+#[tactic(auto, using(crate::proofs::Pairs::pairs_at, crate::proofs::Pairs::pairs_rows))]
 fn push_all_found(
     rows: &mut Vec<Row>,
     alloc: Global,
@@ -192,14 +179,16 @@ fn push_all_found(
     requires there { method_at program.now m ≡ Some over.now }
     ensures { OnOk result (rows.new.items ≡ rows.old.items ++ flat_map (spec.pair_rows program.now sig.now m) (below (length program.now.methods))) }
 {
-    let users = users(alloc, program, index, m, over)?;
-    let named = index.named(over.name.0);
-    push_some(rows, program, index, sig, users.as_slice(), m, over, named)
+    let pairs = overridden(alloc, program, index, m, over)?;
+    push_some(rows, program, sig, m, over, pairs.as_slice())
 }
 
-/// The rows of all overriding pairs, found by the index.
+/// The rows of all overriding pairs of the program, by its index.
+///
+/// # Errors
+/// No memory was found.
 #[tactic(auto, using(crate::proofs::Pairs::rows_more))]
-fn found_rows(
+pub fn indexed_override_rows(
     alloc: Global,
     program: &Program,
     index: &Index,
@@ -242,6 +231,6 @@ pub fn override_rows(alloc: Global, program: &Program, sig: &Sig) -> Result<Vec<
 {
     match Index::new(alloc, program)? {
         None => Ok(all_rows(alloc, program, sig)?),
-        Some(index) => Ok(found_rows(alloc, program, &index, sig)?),
+        Some(index) => Ok(indexed_override_rows(alloc, program, &index, sig)?),
     }
 }

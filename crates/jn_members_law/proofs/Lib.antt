@@ -1,0 +1,6 @@
+pub mod Searches
+pub mod Supers
+pub mod Members
+pub mod Unique
+pub mod Pairs
+pub mod Dispatch
