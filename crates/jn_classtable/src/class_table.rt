@@ -1,6 +1,7 @@
 //! A class table: the program of files before its bodies are lowered, with what holds of it.
-ghost use Rattle.std.specs.Prelude.{ℕ, ◌≡◌, ◌<◌, ◌^◌, List, [], length};
+ghost use Rattle.std.specs.Prelude.{ℕ, ◌≡◌, ◌<◌, ◌^◌, List, [], length, IfSome};
 ghost use Rattle.jn_points.specs.declared.program.Body.{Body as BodyOf};
+ghost use Rattle.jn_index.specs.Index.{IsIndex};
 ghost use Rattle.jn_classtable.specs.Heads.{all_heads};
 ghost use Rattle.jn_classtable.specs.Table.{bodies_of_all, program_with, table};
 ghost use Rattle.jn_classtable.specs.Rows.{called, t_rows};
@@ -9,6 +10,7 @@ ghost use Rattle.jn_classtable.specs.Built.{IsTable};
 
 use crate::declarations::Declarations;
 use crate::head::ClassHead;
+use jn_index::index::Index;
 use jn_points::Program;
 use std::marker::Model;
 
@@ -17,26 +19,39 @@ use std::marker::Model;
 pub struct ClassTable {
     declared: Declarations,
     program: Program,
+    index: Option<Index>,
 }
 
 impl Model for ClassTable {
     ghost use Rattle.std.specs.Prelude.{List};
     ghost use Rattle.jn_classtable.specs.declared.head.ClassHead.{ClassHead};
+    ghost use Rattle.std.specs.Prelude.{IfSome};
+    ghost use Rattle.jn_index.specs.Index.{IsIndex};
+    ghost use Rattle.jn_classtable.specs.Table.{table};
     ghost use Rattle.jn_classtable.specs.Built.{IsTable};
 
     ghost Value = { List ClassHead };
 
     ghost view = { λ t. t.declared };
 
-    ghost invariant = { λ t. IsTable t.declared t.program };
+    ghost invariant = { λ t. IsTable t.declared t.program × IfSome t.index (λ i. IsIndex (table t.declared) i) };
 }
 
 impl ClassTable {
-    pub(crate) fn new(declared: Declarations, program: Program) -> ClassTable
-        requires { IsTable declared program }
+    pub(crate) fn new(
+        declared: Declarations,
+        program: Program,
+        index: Option<Index>,
+    ) -> ClassTable
+        requires table { IsTable declared program }
+        requires index { IfSome index (λ i. IsIndex (table declared) i) }
         ensures { result ≡ declared }
     {
-        ClassTable { declared, program }
+        ClassTable {
+            declared,
+            program,
+            index,
+        }
     }
 
     /// The program without bodies.
@@ -51,6 +66,14 @@ impl ClassTable {
         ensures { result.now ≡ self.now }
     {
         self.declared.heads()
+    }
+
+    /// The index of the program's members. That there is one isn't proved: where there is none, members are looked up in the
+    /// program's lists.
+    pub fn index(&self) -> Option<&Index>
+        ensures { IfSome result (λ i. IsIndex (table self.now) i.now) }
+    {
+        self.index.as_ref()
     }
 
     /// What holds of every class table: it has no row, its fields and methods have numbers of 32 bits, and whatever bodies are

@@ -10,6 +10,6 @@ use Rattle.jn_classtable.proofs.class_table.ClassTable.facts.Goals as goal
 
 pub returns-clause-regular : goal.returns-clause-regular
 returns-clause-regular c =
-    let i = c.self.invariant in
+    let i = c.self.invariant.0 in
     subst (λ (hs : List ClassHead). (bodies : List Body) → length bodies ≡ bodies_of_all (all_heads hs) → RegularTable (program_with hs bodies) (called hs)) c.self.view_is
     (λ bodies many. table_regular c.self.inside.declared bodies i.fit i.rows many i.small.fields i.small.methods)
