@@ -88,15 +88,24 @@ fn each_dereference(rt: HostRuntime) {
         row(Code::Deref, 385),
         row(Code::Deref, 378),
     ];
-    let (a, s) = (committed(A), committed(STRINGS));
-    expect_rows(&rt, alloc, dereferences(alloc, nullable(A), s), &objects);
     expect_rows(
         &rt,
         alloc,
-        dereferences(alloc, a, nullable(STRINGS)),
+        dereferences(alloc, nullable(A), committed(STRINGS)),
+        &objects,
+    );
+    expect_rows(
+        &rt,
+        alloc,
+        dereferences(alloc, committed(A), nullable(STRINGS)),
         &arrays,
     );
-    expect_rows(&rt, alloc, dereferences(alloc, a, s), &[]);
+    expect_rows(
+        &rt,
+        alloc,
+        dereferences(alloc, committed(A), committed(STRINGS)),
+        &[],
+    );
 }
 
 /// `class A { String f; A(String s) { this.f = s; } }`, with types for `f` and `s`.
@@ -115,15 +124,24 @@ fn field_in_constructor(alloc: Global, f: Typed, s: Typed) -> Result<Program, Al
 fn field(rt: HostRuntime) {
     let alloc = rt.alloc();
     let wanted = [row(Code::Field, 144)];
-    let (null, whole) = (nullable(STRING), committed(STRING));
     expect_rows(
         &rt,
         alloc,
-        field_in_constructor(alloc, whole, null),
+        field_in_constructor(alloc, committed(STRING), nullable(STRING)),
         &wanted,
     );
-    expect_rows(&rt, alloc, field_in_constructor(alloc, whole, whole), &[]);
-    expect_rows(&rt, alloc, field_in_constructor(alloc, null, null), &[]);
+    expect_rows(
+        &rt,
+        alloc,
+        field_in_constructor(alloc, committed(STRING), committed(STRING)),
+        &[],
+    );
+    expect_rows(
+        &rt,
+        alloc,
+        field_in_constructor(alloc, nullable(STRING), nullable(STRING)),
+        &[],
+    );
 }
 
 /// `class A { @Nullable A f; static void g(A a, @UnderInitialization A b) { a.f = b; } }`
@@ -189,13 +207,27 @@ fn passing_to_new(alloc: Global, t: Typed) -> Result<Program, AllocError> {
 #[test]
 fn arg(rt: HostRuntime) {
     let alloc = rt.alloc();
-    let (null, whole) = (nullable(STRING), committed(STRING));
     let called = [row(Code::Arg, 177)];
-    expect_rows(&rt, alloc, passing(alloc, STRING, whole, null), &called);
-    expect_rows(&rt, alloc, passing(alloc, STRING, whole, whole), &[]);
+    expect_rows(
+        &rt,
+        alloc,
+        passing(alloc, STRING, committed(STRING), nullable(STRING)),
+        &called,
+    );
+    expect_rows(
+        &rt,
+        alloc,
+        passing(alloc, STRING, committed(STRING), committed(STRING)),
+        &[],
+    );
     let created = [row(Code::Arg, 169)];
-    expect_rows(&rt, alloc, passing_to_new(alloc, null), &created);
-    expect_rows(&rt, alloc, passing_to_new(alloc, whole), &[]);
+    expect_rows(
+        &rt,
+        alloc,
+        passing_to_new(alloc, nullable(STRING)),
+        &created,
+    );
+    expect_rows(&rt, alloc, passing_to_new(alloc, committed(STRING)), &[]);
 }
 
 /// `class A { static void f(String s, @UnderInitialization A a) { s.equals(a); } }`
@@ -267,10 +299,19 @@ fn giving(alloc: Global, base: BaseType, s: Typed, gives: Typed) -> Result<Progr
 #[test]
 fn returned(rt: HostRuntime) {
     let alloc = rt.alloc();
-    let (null, whole) = (nullable(STRING), committed(STRING));
     let wanted = [row(Code::Return, 156)];
-    expect_rows(&rt, alloc, giving(alloc, STRING, null, whole), &wanted);
-    expect_rows(&rt, alloc, giving(alloc, STRING, null, null), &[]);
+    expect_rows(
+        &rt,
+        alloc,
+        giving(alloc, STRING, nullable(STRING), committed(STRING)),
+        &wanted,
+    );
+    expect_rows(
+        &rt,
+        alloc,
+        giving(alloc, STRING, nullable(STRING), nullable(STRING)),
+        &[],
+    );
     let early = [row(Code::ReturnInit, 156)];
     expect_rows(&rt, alloc, giving(alloc, A, free(A), committed(A)), &early);
     expect_rows(&rt, alloc, giving(alloc, A, free(A), free(A)), &[]);
@@ -288,10 +329,19 @@ fn storing(alloc: Global, base: BaseType, s: Typed, bound: Qual) -> Result<Progr
 fn local(rt: HostRuntime) {
     let alloc = rt.alloc();
     let non_null = Qual::committed_only().join(Qual::free_only());
-    let null = nullable(STRING);
     let wanted = [row(Code::Local, 167)];
-    expect_rows(&rt, alloc, storing(alloc, STRING, null, non_null), &wanted);
-    expect_rows(&rt, alloc, storing(alloc, STRING, null, Qual::all()), &[]);
+    expect_rows(
+        &rt,
+        alloc,
+        storing(alloc, STRING, nullable(STRING), non_null),
+        &wanted,
+    );
+    expect_rows(
+        &rt,
+        alloc,
+        storing(alloc, STRING, nullable(STRING), Qual::all()),
+        &[],
+    );
     let initialized = Qual::null_or_committed();
     let under = Qual::null_only().join(Qual::free_only());
     let early = [row(Code::LocalInit, 167)];
@@ -331,22 +381,36 @@ fn listing(
 #[test]
 fn elem(rt: HostRuntime) {
     let alloc = rt.alloc();
-    let (null, whole) = (nullable(STRING), committed(STRING));
     let put = [row(Code::Elem, 166)];
-    expect_rows(&rt, alloc, filling(alloc, STRINGS, STRING, null), &put);
-    expect_rows(&rt, alloc, filling(alloc, STRINGS, STRING, whole), &[]);
     expect_rows(
         &rt,
         alloc,
-        filling(alloc, NULLABLE_STRINGS, STRING, null),
+        filling(alloc, STRINGS, STRING, nullable(STRING)),
+        &put,
+    );
+    expect_rows(
+        &rt,
+        alloc,
+        filling(alloc, STRINGS, STRING, committed(STRING)),
+        &[],
+    );
+    expect_rows(
+        &rt,
+        alloc,
+        filling(alloc, NULLABLE_STRINGS, STRING, nullable(STRING)),
         &[],
     );
     let listed = [row(Code::Elem, 175)];
-    expect_rows(&rt, alloc, listing(alloc, STRINGS, STRING, null), &listed);
     expect_rows(
         &rt,
         alloc,
-        listing(alloc, NULLABLE_STRINGS, STRING, null),
+        listing(alloc, STRINGS, STRING, nullable(STRING)),
+        &listed,
+    );
+    expect_rows(
+        &rt,
+        alloc,
+        listing(alloc, NULLABLE_STRINGS, STRING, nullable(STRING)),
         &[],
     );
 }
@@ -401,8 +465,22 @@ fn constructing(alloc: Global, f: Typed, assigns: bool) -> Result<Program, Alloc
 fn ctor_fields(rt: HostRuntime) {
     let alloc = rt.alloc();
     let wanted = [row(Code::CtorFields, 121)];
-    let (null, whole) = (nullable(STRING), committed(STRING));
-    expect_rows(&rt, alloc, constructing(alloc, whole, false), &wanted);
-    expect_rows(&rt, alloc, constructing(alloc, whole, true), &[]);
-    expect_rows(&rt, alloc, constructing(alloc, null, false), &[]);
+    expect_rows(
+        &rt,
+        alloc,
+        constructing(alloc, committed(STRING), false),
+        &wanted,
+    );
+    expect_rows(
+        &rt,
+        alloc,
+        constructing(alloc, committed(STRING), true),
+        &[],
+    );
+    expect_rows(
+        &rt,
+        alloc,
+        constructing(alloc, nullable(STRING), false),
+        &[],
+    );
 }

@@ -8,6 +8,7 @@ use jn_hand_programs::lines::{at, end, give, length, row};
 use jn_points::{BaseType, Program};
 use jn_quals::Qual;
 use std::alloc::{AllocError, Global};
+use std::process::Abort;
 
 const A: BaseType = BaseType::Ref(FIRST);
 
@@ -29,7 +30,7 @@ struct Types {
 ///   String f(String s) { return s; }
 /// }
 /// ```
-fn overriding(alloc: Global, under: Types, over: Types) -> Result<Program, AllocError> {
+fn overriding(alloc: Global, under: &Types, over: &Types) -> Result<Program, AllocError> {
     let mut hand = Hand::new(alloc);
     let a = hand.class(OBJECT, &[]);
     let b = hand.class(a, &[]);
@@ -43,40 +44,48 @@ fn overriding(alloc: Global, under: Types, over: Types) -> Result<Program, Alloc
     hand.finish()
 }
 
-#[test]
-fn parameters_receivers_results(rt: HostRuntime) {
-    let alloc = rt.alloc();
-    let narrow = Types {
-        receiver: Qual::committed_only(),
-        param: committed(STRING),
-        result: nullable(STRING),
-    };
-    let wide_param = Types {
-        param: nullable(STRING),
-        ..narrow
-    };
-    let wide_receiver = Types {
-        receiver: Qual::committed_only().join(Qual::free_only()),
-        ..narrow
-    };
-    let narrow_result = Types {
-        result: committed(STRING),
-        ..narrow
-    };
-    for (other, code) in [
-        (wide_param, Code::OvrParam),
-        (wide_receiver, Code::OvrReceiver),
-        (narrow_result, Code::OvrResult),
-    ] {
-        expect_rows(
-            &rt,
-            alloc,
-            overriding(alloc, other, narrow),
-            &[row(code, 510)],
-        );
-        expect_rows(&rt, alloc, overriding(alloc, narrow, other), &[]);
-        expect_rows(&rt, alloc, overriding(alloc, other, other), &[]);
+fn typed(receiver: Qual, param: Typed, gives: Typed) -> Types {
+    Types {
+        receiver,
+        param,
+        result: gives,
     }
+}
+
+fn narrow() -> Types {
+    typed(Qual::committed_only(), committed(STRING), nullable(STRING))
+}
+
+/// Only the overridden method may have these types where the other one is narrow, and both may.
+fn expect_code(rt: &impl Abort, alloc: Global, other: &Types, code: Code) {
+    let usual = narrow();
+    expect_rows(
+        rt,
+        alloc,
+        overriding(alloc, other, &usual),
+        &[row(code, 510)],
+    );
+    expect_rows(rt, alloc, overriding(alloc, &usual, other), &[]);
+    expect_rows(rt, alloc, overriding(alloc, other, other), &[]);
+}
+
+#[test]
+fn wider_parameter(rt: HostRuntime) {
+    let wide = typed(Qual::committed_only(), nullable(STRING), nullable(STRING));
+    expect_code(&rt, rt.alloc(), &wide, Code::OvrParam);
+}
+
+#[test]
+fn wider_receiver(rt: HostRuntime) {
+    let receiver = Qual::committed_only().join(Qual::free_only());
+    let wide = typed(receiver, committed(STRING), nullable(STRING));
+    expect_code(&rt, rt.alloc(), &wide, Code::OvrReceiver);
+}
+
+#[test]
+fn narrower_result(rt: HostRuntime) {
+    let narrower = typed(Qual::committed_only(), committed(STRING), committed(STRING));
+    expect_code(&rt, rt.alloc(), &narrower, Code::OvrResult);
 }
 
 /// ```java
