@@ -21,18 +21,23 @@ use std::alloc::{AllocError, Global};
 /// ```
 fn calling(alloc: Global) -> Result<Program, AllocError> {
     let own = BaseType::Ref(FIRST);
-    let b = plain(BaseType::Bool);
     let mut hand = Hand::new(alloc);
     let class = hand.class(OBJECT, &[]);
     let f = hand.field(class, 2, inferred(own));
     hand.field(class, 3, committed(STRING));
     hand.field(class, 4, plain(BaseType::Int));
-    let constructor = hand.method(class, named(1, 0), Kind::Constructor, &[b], VOID);
+    let constructor = hand.method(
+        class,
+        named(1, 0),
+        Kind::Constructor,
+        &[plain(BaseType::Bool)],
+        VOID,
+    );
     let m = hand.method(
         class,
         named(5, 0),
         Kind::Private,
-        &[b, inferred(STRING)],
+        &[plain(BaseType::Bool), inferred(STRING)],
         VOID,
     );
     hand.point(text(2));
