@@ -1,10 +1,11 @@
 // Programs made by hand. Class 0 is Object, with its constructor without parameters, and class 1 is String.
 // A constructor that Java gives a class without one is left out where nothing calls it.
-use crate::lines::{end, span};
-use jn_base::{BodyNo, ClassNo, FieldNo, MethodNo, NameNo, Seq, SlotNo};
-use jn_points::{BaseType, Body, Class, Elem, Field, Method, Point, Program, SlotInfo};
+use crate::lines::{array_of, call, construct, create, end, span};
+use jn_base::{BodyNo, ClassNo, FieldNo, MethodNo, NameNo, RegNo, Seq, SlotNo};
+use jn_points::{BaseType, Body, Class, Elem, Field, Method, Operand, Point, Program, SlotInfo};
 use jn_quals::Qual;
 use std::alloc::{AllocError, Global};
+use std::mem;
 
 pub const OBJECT: ClassNo = ClassNo(0);
 
@@ -92,6 +93,7 @@ pub enum Kind {
     Abstract(Qual),
     /// A private one, whose receiver is inferred.
     Private,
+    PrivateStatic,
 }
 
 /// An instance method whose receiver has no annotation.
@@ -107,15 +109,17 @@ pub struct Name {
 }
 
 /// A program that grows. Classes, fields, methods and bodies have the numbers of the order in which they
-/// are added.
+/// are added, and points are those of the next body. A want of memory is kept until the end.
 #[derive(Drop)]
-pub struct ProgramBuilder {
+pub struct Hand {
     alloc: Global,
     classes: Vec<Class>,
     fields: Vec<Field>,
     methods: Vec<Method>,
     bodies: Vec<Body>,
     slots: Vec<SlotInfo>,
+    points: Vec<Point>,
+    is_short: bool,
 }
 
 /// The number of what is added behind so many; the programs here are small.
@@ -123,27 +127,54 @@ fn number(count: usize) -> u32 {
     if count < 1000 { count as u32 } else { 1000 }
 }
 
-impl ProgramBuilder {
+/// A copy of the items; what finds no memory is noted.
+fn copied<T: Copy + Drop>(alloc: Global, items: &[T], is_short: &mut bool) -> Seq<T> {
+    match Vec::from_slice(alloc, items) {
+        Ok(copy) => Seq::of_vec(copy),
+        Err(_) => {
+            *is_short = true;
+            Seq::new(alloc)
+        }
+    }
+}
+
+/// Adds the item; what finds no memory is noted.
+fn put<T: Drop>(items: &mut Vec<T>, item: T, is_short: &mut bool) {
+    if items.push(item).is_err() {
+        *is_short = true;
+    }
+}
+
+impl Hand {
     /// Object and String.
-    pub fn new(alloc: Global) -> Result<ProgramBuilder, AllocError> {
-        let mut builder = ProgramBuilder {
+    pub fn new(alloc: Global) -> Hand {
+        let mut hand = Hand {
             alloc,
             classes: Vec::new(alloc),
             fields: Vec::new(alloc),
             methods: Vec::new(alloc),
             bodies: Vec::new(alloc),
             slots: Vec::new(alloc),
+            points: Vec::new(alloc),
+            is_short: false,
         };
-        builder.push_class(None, &[], false, false)?;
-        builder.push_class(Some(OBJECT), &[], false, false)?;
-        builder.add_method(OBJECT, named(0, 0), Kind::Constructor, &[], VOID)?;
-        builder.add_body(
-            NEW_OBJECT,
-            &[BaseType::Ref(OBJECT)],
-            1,
-            vec![in alloc; end()]?,
-        )?;
-        Ok(builder)
+        hand.push_class(None, &[], false, false);
+        hand.push_class(Some(OBJECT), &[], false, false);
+        hand.method(OBJECT, named(0, 0), Kind::Constructor, &[], VOID);
+        hand.point(end());
+        hand.body(NEW_OBJECT, &[BaseType::Ref(OBJECT)], 1);
+        hand
+    }
+
+    fn supers(&mut self, parent: Option<ClassNo>, interfaces: &[ClassNo]) -> Seq<ClassNo> {
+        let mut supers = Vec::new(self.alloc);
+        if let Some(parent) = parent {
+            put(&mut supers, parent, &mut self.is_short);
+        }
+        for interface in interfaces {
+            put(&mut supers, *interface, &mut self.is_short);
+        }
+        Seq::of_vec(supers)
     }
 
     fn push_class(
@@ -152,47 +183,40 @@ impl ProgramBuilder {
         interfaces: &[ClassNo],
         interface: bool,
         is_abstract: bool,
-    ) -> Result<ClassNo, AllocError> {
+    ) -> ClassNo {
         let class = number(self.classes.len());
-        let mut supers = Vec::new(self.alloc);
-        if let Some(parent) = parent {
-            supers.push(parent)?;
-        }
-        supers.extend_from_slice(interfaces)?;
-        self.classes.push(Class {
+        let supers = self.supers(parent, interfaces);
+        let added = Class {
             name: NameNo(class),
             span: span(0),
             interface,
             is_abstract,
             is_final: class == 1,
             parent,
-            supers: Seq::of_vec(supers),
-        })?;
-        Ok(ClassNo(class))
+            supers,
+        };
+        put(&mut self.classes, added, &mut self.is_short);
+        ClassNo(class)
     }
 
     /// `class C extends P implements I, ..`
-    pub fn add_class(
-        &mut self,
-        parent: ClassNo,
-        interfaces: &[ClassNo],
-    ) -> Result<ClassNo, AllocError> {
+    pub fn class(&mut self, parent: ClassNo, interfaces: &[ClassNo]) -> ClassNo {
         self.push_class(Some(parent), interfaces, false, false)
     }
 
     /// `abstract class C`
-    pub fn add_abstract_class(&mut self) -> Result<ClassNo, AllocError> {
+    pub fn abstract_class(&mut self) -> ClassNo {
         self.push_class(Some(OBJECT), &[], false, true)
     }
 
     /// `interface I extends J, ..`
-    pub fn add_interface(&mut self, interfaces: &[ClassNo]) -> Result<ClassNo, AllocError> {
+    pub fn interface(&mut self, interfaces: &[ClassNo]) -> ClassNo {
         self.push_class(None, interfaces, true, true)
     }
 
-    fn add_slot(&mut self, slot: Written) -> Result<Option<SlotNo>, AllocError> {
-        let info = match slot {
-            Written::NoSlot => return Ok(None),
+    fn slot(&mut self, written: Written) -> Option<SlotNo> {
+        let info = match written {
+            Written::NoSlot => return None,
             Written::As(start) => SlotInfo {
                 start,
                 inferred: false,
@@ -203,20 +227,15 @@ impl ProgramBuilder {
             },
         };
         let slot = number(self.slots.len());
-        self.slots.push(info)?;
-        Ok(Some(SlotNo(slot)))
+        put(&mut self.slots, info, &mut self.is_short);
+        Some(SlotNo(slot))
     }
 
     /// A field, private where it is inferred.
-    pub fn add_field(
-        &mut self,
-        owner: ClassNo,
-        name: u32,
-        typed: Typed,
-    ) -> Result<FieldNo, AllocError> {
+    pub fn field(&mut self, owner: ClassNo, name: u32, typed: Typed) -> FieldNo {
         let field = number(self.fields.len());
-        let slot = self.add_slot(typed.slot)?;
-        self.fields.push(Field {
+        let slot = self.slot(typed.slot);
+        let added = Field {
             name: NameNo(name),
             span: span(0),
             owner,
@@ -226,78 +245,142 @@ impl ProgramBuilder {
             is_private: is_inferred(typed.slot),
             first: 0,
             slot,
-        })?;
-        Ok(FieldNo(field))
+        };
+        put(&mut self.fields, added, &mut self.is_short);
+        FieldNo(field)
+    }
+
+    fn param_slots(&mut self, params: &[Typed]) -> Seq<Option<SlotNo>> {
+        let mut slots = Vec::new(self.alloc);
+        for param in params {
+            let slot = self.slot(param.slot);
+            put(&mut slots, slot, &mut self.is_short);
+        }
+        Seq::of_vec(slots)
+    }
+
+    fn param_bases(&mut self, params: &[Typed]) -> Seq<BaseType> {
+        let mut bases = Vec::new(self.alloc);
+        for param in params {
+            put(&mut bases, param.base, &mut self.is_short);
+        }
+        Seq::of_vec(bases)
     }
 
     /// The head of a method; its body is added behind.
-    pub fn add_method(
+    pub fn method(
         &mut self,
         owner: ClassNo,
         name: Name,
         kind: Kind,
         params: &[Typed],
         gives: Typed,
-    ) -> Result<MethodNo, AllocError> {
+    ) -> MethodNo {
         let method = number(self.methods.len());
-        let mut bases = Vec::new(self.alloc);
-        let mut param_slots = Vec::new(self.alloc);
-        for param in params {
-            bases.push(param.base)?;
-            param_slots.push(self.add_slot(param.slot)?)?;
-        }
-        let receiver = self.add_slot(receiver_of(kind))?;
-        let result_slot = self.add_slot(gives.slot)?;
-        self.methods.push(Method {
+        let bases = self.param_bases(params);
+        let param_slots = self.param_slots(params);
+        let receiver = self.slot(receiver_of(kind));
+        let result_slot = self.slot(gives.slot);
+        let added = Method {
             name: NameNo(name.number),
             span: span(name.from),
             owner,
-            params: Seq::of_vec(bases),
+            params: bases,
             result: gives.base,
             ctor: matches!(kind, Kind::Constructor),
-            is_static: matches!(kind, Kind::Static),
-            is_private: matches!(kind, Kind::Private),
+            is_static: matches!(kind, Kind::Static | Kind::PrivateStatic),
+            is_private: matches!(kind, Kind::Private | Kind::PrivateStatic),
             is_abstract: matches!(kind, Kind::Abstract(_)),
             is_final: false,
             is_main: false,
             body: None,
             receiver,
-            param_slots: Seq::of_vec(param_slots),
+            param_slots,
             result_slot,
-        })?;
-        Ok(MethodNo(method))
+        };
+        put(&mut self.methods, added, &mut self.is_short);
+        MethodNo(method)
     }
 
-    /// The body of a method: the types of its registers, of which the first ones are `this`, parameters and
-    /// locals, and its points.
-    pub fn add_body(
-        &mut self,
-        method: MethodNo,
-        regs: &[BaseType],
-        locals: u32,
-        points: Vec<Point>,
-    ) -> Result<(), AllocError> {
+    /// A point of the next body.
+    pub fn point(&mut self, point: Point) {
+        put(&mut self.points, point, &mut self.is_short)
+    }
+
+    /// `dst = new B[] { values }`
+    pub fn array_of(&mut self, dst: u32, base: BaseType, values: &[Operand]) {
+        let values = copied(self.alloc, values, &mut self.is_short);
+        self.point(array_of(dst, base, values))
+    }
+
+    /// `dst = new C(args)`
+    pub fn create(&mut self, dst: u32, constructor: MethodNo, args: &[Operand]) {
+        let args = copied(self.alloc, args, &mut self.is_short);
+        self.point(create(dst, constructor, args))
+    }
+
+    /// `super(args)`, or `this(args)` where it is an own one.
+    pub fn construct(&mut self, constructor: MethodNo, args: &[Operand], own: bool) {
+        let args = copied(self.alloc, args, &mut self.is_short);
+        self.point(construct(constructor, args, own))
+    }
+
+    /// `receiver.method(args)`, whose result isn't used.
+    pub fn call(&mut self, method: MethodNo, receiver: Option<Operand>, args: &[Operand]) {
+        let args = copied(self.alloc, args, &mut self.is_short);
+        self.point(call(None, method, receiver, false, args))
+    }
+
+    /// The same of a private method.
+    pub fn call_private(&mut self, method: MethodNo, receiver: Operand, args: &[Operand]) {
+        let args = copied(self.alloc, args, &mut self.is_short);
+        self.point(call(None, method, Some(receiver), true, args))
+    }
+
+    /// `dst = receiver.method(args)`
+    pub fn call_for(&mut self, dst: u32, method: MethodNo, receiver: Operand, args: &[Operand]) {
+        let args = copied(self.alloc, args, &mut self.is_short);
+        self.point(call(Some(RegNo(dst)), method, Some(receiver), false, args))
+    }
+
+    /// The body of a method, of the points since the last one. The first registers are `this`, parameters and locals.
+    pub fn body(&mut self, method: MethodNo, regs: &[BaseType], locals: u32) {
         let body = number(self.bodies.len());
-        let regs = Vec::from_slice(self.alloc, regs)?;
-        self.bodies.push(Body {
+        let points = mem::replace(&mut self.points, Vec::new(self.alloc));
+        let added = Body {
             method,
-            regs: Seq::of_vec(regs),
+            regs: copied(self.alloc, regs, &mut self.is_short),
             locals,
             points: Seq::of_vec(points),
-        })?;
+        };
+        put(&mut self.bodies, added, &mut self.is_short);
         if let Some(head) = self.methods.get_mut(method.0 as usize) {
             head.body = Some(BodyNo(body));
         }
-        Ok(())
     }
 
-    pub fn finish(self) -> Program {
-        Program {
-            classes: Seq::of_vec(self.classes),
-            fields: Seq::of_vec(self.fields),
-            methods: Seq::of_vec(self.methods),
-            bodies: Seq::of_vec(self.bodies),
-            slots: Seq::of_vec(self.slots),
+    /// The program, if memory was found for all of it.
+    pub fn finish(self) -> Result<Program, AllocError> {
+        let Hand {
+            classes,
+            fields,
+            methods,
+            bodies,
+            slots,
+            is_short,
+            ..
+        } = self;
+        let program = Program {
+            classes: Seq::of_vec(classes),
+            fields: Seq::of_vec(fields),
+            methods: Seq::of_vec(methods),
+            bodies: Seq::of_vec(bodies),
+            slots: Seq::of_vec(slots),
+        };
+        if is_short {
+            Err(AllocError)
+        } else {
+            Ok(program)
         }
     }
 }
@@ -314,6 +397,7 @@ fn receiver_of(kind: Kind) -> Written {
     match kind {
         Kind::Constructor => Written::NoSlot,
         Kind::Static => Written::NoSlot,
+        Kind::PrivateStatic => Written::NoSlot,
         Kind::Instance(qual) => Written::As(qual),
         Kind::Abstract(qual) => Written::As(qual),
         Kind::Private => Written::Inferred,

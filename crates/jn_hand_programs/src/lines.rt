@@ -2,7 +2,6 @@
 use jn_base::{ClassNo, Code, FieldNo, FileNo, MethodNo, NameNo, PointNo, RegNo, Row, Seq, Span};
 use jn_points::{BaseType, Literal, Operand, Operator, Origin, Point, PointKind, StrOperation};
 use jn_quals::Qual;
-use std::alloc::{AllocError, Global};
 
 pub fn span(from: u32) -> Span {
     Span {
@@ -66,22 +65,39 @@ pub fn bounded(dst: u32, from: Operand, bound: Option<Qual>) -> Point {
     })
 }
 
-pub fn add(dst: u32, left: Operand, right: Operand) -> Point {
+pub fn binary(dst: u32, operator: Operator, left: Operand, right: Operand) -> Point {
     point(PointKind::Binary {
         dst: RegNo(dst),
-        operator: Operator::Add,
+        operator,
         left,
         right,
     })
 }
 
+pub fn add(dst: u32, left: Operand, right: Operand) -> Point {
+    binary(dst, Operator::Add, left, right)
+}
+
 /// `left == right` where one isn't a reference.
 pub fn equal(dst: u32, left: Operand, right: Operand) -> Point {
-    point(PointKind::Binary {
+    binary(dst, Operator::Equal, left, right)
+}
+
+/// `left + right` of texts.
+pub fn concat(dst: u32, left: Operand, right: Operand) -> Point {
+    point(PointKind::Concat {
         dst: RegNo(dst),
-        operator: Operator::Equal,
         left,
         right,
+    })
+}
+
+/// `dst = (C) of`
+pub fn cast(dst: u32, of: Operand, class: ClassNo) -> Point {
+    point(PointKind::Cast {
+        dst: RegNo(dst),
+        of,
+        class,
     })
 }
 
@@ -151,82 +167,44 @@ pub fn new_array(dst: u32, base: BaseType, length: Operand, from: u32) -> Point 
     }
 }
 
-fn operands(alloc: Global, list: &[Operand]) -> Result<Seq<Operand>, AllocError> {
-    Ok(Seq::of_vec(Vec::from_slice(alloc, list)?))
-}
-
 /// `dst = new B[] { values }`
-pub fn array_of(
-    alloc: Global,
-    dst: u32,
-    base: BaseType,
-    values: &[Operand],
-) -> Result<Point, AllocError> {
-    Ok(point(PointKind::ArrayOf {
+pub fn array_of(dst: u32, base: BaseType, values: Seq<Operand>) -> Point {
+    point(PointKind::ArrayOf {
         dst: RegNo(dst),
         base,
-        values: operands(alloc, values)?,
-    }))
+        values,
+    })
 }
 
 /// `dst = new C(args)`
-pub fn new(
-    alloc: Global,
-    dst: u32,
-    constructor: MethodNo,
-    args: &[Operand],
-) -> Result<Point, AllocError> {
-    Ok(point(PointKind::New {
+pub fn create(dst: u32, ctor: MethodNo, args: Seq<Operand>) -> Point {
+    point(PointKind::New {
         dst: RegNo(dst),
-        ctor: constructor,
-        args: operands(alloc, args)?,
-    }))
+        ctor,
+        args,
+    })
 }
 
 /// `super(args)`, or `this(args)` where it is an own one.
-pub fn construct(
-    alloc: Global,
-    constructor: MethodNo,
-    args: &[Operand],
-    own: bool,
-) -> Result<Point, AllocError> {
-    Ok(point(PointKind::CtorCall {
-        ctor: constructor,
-        args: operands(alloc, args)?,
-        own,
-    }))
+pub fn construct(ctor: MethodNo, args: Seq<Operand>, own: bool) -> Point {
+    point(PointKind::CtorCall { ctor, args, own })
 }
 
-/// `receiver.method(args)`, whose result isn't used.
+/// `dst = receiver.method(args)`, direct where the method is private or static.
 pub fn call(
-    alloc: Global,
+    dst: Option<RegNo>,
     method: MethodNo,
     receiver: Option<Operand>,
-    args: &[Operand],
-) -> Result<Point, AllocError> {
-    Ok(point(PointKind::Call {
-        dst: None,
+    direct: bool,
+    args: Seq<Operand>,
+) -> Point {
+    point(PointKind::Call {
+        dst,
         method,
         receiver,
-        direct: false,
-        args: operands(alloc, args)?,
-    }))
-}
-
-/// The same of a private method.
-pub fn call_private(
-    alloc: Global,
-    method: MethodNo,
-    receiver: Operand,
-    args: &[Operand],
-) -> Result<Point, AllocError> {
-    Ok(point(PointKind::Call {
-        dst: None,
-        method,
-        receiver: Some(receiver),
-        direct: true,
-        args: operands(alloc, args)?,
-    }))
+        direct,
+        args,
+    })
 }
 
 /// `dst = of.length()`

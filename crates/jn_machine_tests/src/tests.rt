@@ -1,394 +1,272 @@
 // Small programs run to their end.
-use jn_base::{
-    BodyNo, ClassNo, FieldNo, FileNo, MethodNo, NameNo, OutOfMemory, PointNo, RegNo, Seq, Span,
-    Text,
+use jn_base::{BodyNo, ClassNo, MethodNo, OutOfMemory, Text};
+use jn_hand_programs::build::{Hand, Kind, OBJECT, VOID, instance, named, plain};
+use jn_hand_programs::lines::{
+    at, binary, cast, concat, element, end, give, int, length, new_array, null, print, put, read,
+    text, write,
 };
 use jn_machine::{End, StepFail, Stepped, run, run_to, start};
 use jn_outside::MemSink;
-use jn_points::{
-    BaseType, Body, Class, Elem, Field, Literal, Method, Operand, Operator, Point, PointKind,
-    Program, StrOperation,
-};
+use jn_points::{BaseType, Elem, Operand, Operator, Program};
 use std::alloc::{AllocError, Global};
-use std::test::Fail;
+use std::process::Abort;
 
-fn span() -> Span {
-    Span {
-        file: FileNo(0),
-        from: 0,
-        to: 0,
-    }
+const INT: BaseType = BaseType::Int;
+
+const REGISTERS: [BaseType; 6] = [INT; 6];
+
+/// Behind that of Object's constructor.
+const MAIN: BodyNo = BodyNo(1);
+
+const NEW: MethodNo = MethodNo(2);
+
+const GET: MethodNo = MethodNo(3);
+
+const AGAIN: MethodNo = MethodNo(4);
+
+fn of(reg: u32) -> Operand {
+    at(reg, 0)
 }
 
-fn at(reg: u32) -> Operand {
-    Operand {
-        reg: RegNo(reg),
-        span: span(),
-    }
+/// ```java
+/// class C {
+///   int x;
+///   static void main() { the points }
+///   C(int a) { this.x = a; }
+///   int get() { return this.x; }
+///   static void again() { again(); }
+/// }
+/// ```
+fn program_of(hand: Hand) -> Result<Program, AllocError> {
+    let mut hand = hand;
+    let class = hand.class(OBJECT, &[]);
+    let x = hand.field(class, 1, plain(INT));
+    let main = hand.method(class, named(1, 0), Kind::Static, &[], VOID);
+    let constructor = hand.method(class, named(2, 0), Kind::Constructor, &[plain(INT)], VOID);
+    let get = hand.method(class, named(3, 0), instance(), &[], plain(INT));
+    let again = hand.method(class, named(4, 0), Kind::Static, &[], VOID);
+    hand.body(main, &REGISTERS, 6);
+    hand.point(write(of(0), x, of(1)));
+    hand.point(end());
+    hand.body(constructor, &REGISTERS, 6);
+    hand.point(read(1, of(0), x));
+    hand.point(give(of(1)));
+    hand.body(get, &REGISTERS, 6);
+    hand.call(again, None, &[]);
+    hand.body(again, &REGISTERS, 6);
+    hand.finish()
 }
 
-fn class(alloc: Global, parent: Option<ClassNo>) -> Result<Class, AllocError> {
-    let mut supers = Seq::new(alloc);
-    if let Some(above) = parent {
-        supers.push(above)?;
-    }
-    Ok(Class {
-        name: NameNo(0),
-        span: span(),
-        interface: false,
-        is_abstract: false,
-        is_final: false,
-        parent,
-        supers,
-    })
+fn made(rt: &impl Abort, hand: Hand) -> Program {
+    let Ok(program) = program_of(hand) else {
+        panic!(rt; "no memory")
+    };
+    program
 }
 
-fn method(
-    alloc: Global,
-    name: u32,
-    ctor: bool,
-    body: u32,
-    params: &[BaseType],
-) -> Result<Method, AllocError> {
-    Ok(Method {
-        name: NameNo(name),
-        span: span(),
-        owner: ClassNo(2),
-        params: Seq::of_vec(Vec::from_slice(alloc, params)?),
-        result: BaseType::Int,
-        ctor,
-        is_static: false,
-        is_private: false,
-        is_abstract: false,
-        is_final: false,
-        is_main: false,
-        body: Some(BodyNo(body)),
-        receiver: None,
-        param_slots: Seq::new(alloc),
-        result_slot: None,
-    })
-}
-
-fn body(alloc: Global, kinds: Vec<PointKind>) -> Result<Body, AllocError> {
-    let mut points = Seq::new(alloc);
-    for kind in kinds {
-        points.push(Point { kind, span: span() })?;
-    }
-    let mut regs = Seq::new(alloc);
-    for _ in 0..6 {
-        regs.push(BaseType::Int)?;
-    }
-    Ok(Body {
-        method: MethodNo(0),
-        regs,
-        locals: 6,
-        points,
-    })
-}
-
-/// Object, String, and a class with a field, a constructor of it, `get`, and a method that calls
-/// itself; `main` has these points.
-fn program(alloc: Global, main: Vec<PointKind>) -> Result<Program, AllocError> {
-    let mut classes = Seq::new(alloc);
-    classes.push(class(alloc, None)?)?;
-    classes.push(class(alloc, Some(ClassNo(0)))?)?;
-    classes.push(class(alloc, Some(ClassNo(0)))?)?;
-    let mut fields = Seq::new(alloc);
-    fields.push(Field {
-        name: NameNo(0),
-        span: span(),
-        owner: ClassNo(2),
-        base: BaseType::Int,
-        is_static: false,
-        is_final: false,
-        is_private: false,
-        first: 3,
-        slot: None,
-    })?;
-    let mut methods = Seq::new(alloc);
-    methods.push(method(alloc, 1, false, 0, &[])?)?;
-    methods.push(method(alloc, 0, true, 1, &[BaseType::Int])?)?;
-    methods.push(method(alloc, 2, false, 2, &[])?)?;
-    methods.push(method(alloc, 3, false, 3, &[])?)?;
-    let mut bodies = Seq::new(alloc);
-    bodies.push(body(alloc, main)?)?;
-    bodies.push(body(alloc, set_field(alloc)?)?)?;
-    bodies.push(body(alloc, get_field(alloc)?)?)?;
-    bodies.push(body(alloc, calls_itself(alloc)?)?)?;
-    Ok(Program {
-        classes,
-        fields,
-        methods,
-        bodies,
-        slots: Seq::new(alloc),
-    })
-}
-
-fn set_field(alloc: Global) -> Result<Vec<PointKind>, AllocError> {
-    Ok(vec![in alloc;
-        PointKind::FieldWrite {
-            object: at(0),
-            field: FieldNo(0),
-            value: at(1)
-        },
-        PointKind::Return { value: None },
-    ]?)
-}
-
-fn get_field(alloc: Global) -> Result<Vec<PointKind>, AllocError> {
-    Ok(vec![in alloc;
-        PointKind::FieldRead {
-            dst: RegNo(1),
-            object: at(0),
-            field: FieldNo(0)
-        },
-        PointKind::Return { value: Some(at(1)) },
-    ]?)
-}
-
-fn calls_itself(alloc: Global) -> Result<Vec<PointKind>, AllocError> {
-    Ok(vec![in alloc; call(None, 3, None, Seq::new(alloc))]?)
-}
-
-fn call(
-    dst: Option<RegNo>,
-    number: u32,
-    receiver: Option<Operand>,
-    args: Seq<Operand>,
-) -> PointKind {
-    PointKind::Call {
-        dst,
-        method: MethodNo(number),
-        receiver,
-        direct: false,
-        args,
-    }
-}
-
-fn int(dst: u32, number: i32) -> PointKind {
-    PointKind::Const {
-        dst: RegNo(dst),
-        value: Literal::Int(number),
-    }
-}
-
-fn string(dst: u32) -> PointKind {
-    PointKind::Const {
-        dst: RegNo(dst),
-        value: Literal::Str(NameNo(0)),
-    }
-}
-
-fn print(reg: u32) -> PointKind {
-    PointKind::Print { of: at(reg) }
-}
-
-fn binary(operator: Operator, left: u32, right: u32) -> PointKind {
-    PointKind::Binary {
-        dst: RegNo(5),
-        operator,
-        left: at(left),
-        right: at(right),
-    }
-}
-
-/// What a run of `main` with two words does within so many steps, and what it prints. The one
-/// name is `a\u{e9}\u{1d11e}`, of four UTF-16 units.
-fn outcome(
-    alloc: Global,
-    main: Vec<PointKind>,
-    steps: u64,
-) -> Result<(Stepped, Vec<u8>), OutOfMemory> {
-    let program = program(alloc, main)?;
-    let names = one_text(alloc, "a\u{e9}\u{1d11e}")?;
-    let words = one_text(alloc, "word")?;
-    let mut state = start(alloc, &program, BodyNo(0), &words)?;
-    let mut out = Vec::new(alloc);
-    let stepped = run(alloc, &program, &names, &mut state, steps, &mut out)?;
-    Ok((stepped, out))
-}
-
-fn one_text(alloc: Global, text: &str) -> Result<Vec<Text>, AllocError> {
+fn texts_of(alloc: Global, text: &str) -> Result<Vec<Text>, AllocError> {
+    let text = Text::of_str(alloc, text)?;
     let mut texts = Vec::new(alloc);
-    texts.push(Text::of_str(alloc, text)?)?;
+    texts.push(text)?;
     Ok(texts)
 }
 
-/// One list behind the other.
-fn both(mut front: Vec<PointKind>, mut rest: Vec<PointKind>) -> Result<Vec<PointKind>, AllocError> {
-    front.append(&mut rest)?;
-    Ok(front)
-}
-
-fn length(dst: u32, of: u32) -> PointKind {
-    PointKind::StrOp {
-        dst: RegNo(dst),
-        op: StrOperation::Length,
-        of: at(of),
-        other: None,
-    }
-}
-
-fn prints_a_text(alloc: Global) -> Result<Vec<PointKind>, AllocError> {
-    let joins = PointKind::Concat {
-        dst: RegNo(1),
-        left: at(1),
-        right: at(2),
+fn one_text(rt: &impl Abort, alloc: Global, text: &str) -> Vec<Text> {
+    let Ok(texts) = texts_of(alloc, text) else {
+        panic!(rt; "no memory")
     };
-    Ok(vec![in alloc; string(1), length(2, 1), joins, print(1)]?)
+    texts
 }
 
-fn prints_numbers(alloc: Global) -> Result<Vec<PointKind>, AllocError> {
-    let quotient = vec![in alloc;
-        int(3, -2147483648),
-        int(4, -1),
-        binary(Operator::Div, 3, 4),
-        print(5),
-    ]?;
-    let rest = vec![in alloc;
-        binary(Operator::Rem, 3, 4),
-        print(5),
-        PointKind::Return { value: None },
-    ]?;
-    both(quotient, rest)
-}
-
-fn straight(alloc: Global) -> Result<Vec<PointKind>, AllocError> {
-    both(prints_a_text(alloc)?, prints_numbers(alloc)?)
-}
-
-fn divides(alloc: Global) -> Result<Vec<PointKind>, AllocError> {
-    Ok(vec![in alloc; int(1, 7), int(2, 0), binary(Operator::Div, 1, 2)]?)
-}
-
-fn on_null(alloc: Global) -> Result<Vec<PointKind>, AllocError> {
-    let null = PointKind::Const {
-        dst: RegNo(1),
-        value: Literal::Null,
+/// A run of `main` with one word goes so far within so many steps, and prints this. The one name is
+/// `a\u{e9}\u{1d11e}`, of four UTF-16 units.
+fn expect_run(
+    rt: &impl Abort,
+    alloc: Global,
+    hand: Hand,
+    steps: u64,
+    want: Stepped,
+    printed: &str,
+) {
+    let program = made(rt, hand);
+    let names = one_text(rt, alloc, "a\u{e9}\u{1d11e}");
+    let words = one_text(rt, alloc, "word");
+    let Ok(mut state) = start(alloc, &program, MAIN, &words) else {
+        panic!(rt; "no memory")
     };
-    Ok(vec![in alloc; null, length(2, 1)]?)
+    let mut out = Vec::new(alloc);
+    let Ok(stepped) = run(alloc, &program, &names, &mut state, steps, &mut out) else {
+        panic!(rt; "no memory")
+    };
+    assert_eq!(rt; stepped, want);
+    assert_eq!(rt; out.as_slice(), printed.as_bytes());
 }
 
-fn makes_an_object(alloc: Global) -> Result<Vec<PointKind>, AllocError> {
-    let mut args = Seq::new(alloc);
-    args.push(at(1))?;
-    let made = PointKind::New {
-        dst: RegNo(2),
-        ctor: MethodNo(1),
-        args,
-    };
-    let got = call(Some(RegNo(3)), 2, Some(at(2)), Seq::new(alloc));
-    let cast = PointKind::Cast {
-        dst: RegNo(4),
-        of: at(2),
-        class: ClassNo(1),
-    };
-    Ok(vec![in alloc; int(1, 41), made, got, print(3), cast]?)
-}
-
-fn read(array: u32, index: u32) -> PointKind {
-    PointKind::ElemRead {
-        dst: RegNo(4),
-        array: at(array),
-        index: at(index),
-    }
-}
-
-fn reads_elements(alloc: Global) -> Result<Vec<PointKind>, AllocError> {
-    let made = PointKind::NewArray {
-        dst: RegNo(2),
-        base: BaseType::Array(Elem::Int, false),
-        length: at(1),
-    };
-    let written = PointKind::ElemWrite {
-        array: at(2),
-        index: at(3),
-        value: at(1),
-    };
-    let front = vec![in alloc; int(1, 2), made, int(3, 0), written]?;
-    let rest = vec![in alloc; read(2, 3), print(4), read(0, 3), print(4), read(2, 1)]?;
-    both(front, rest)
-}
-
-fn prints_twice(alloc: Global) -> Result<Vec<PointKind>, AllocError> {
-    Ok(vec![in alloc;
-        int(1, 7),
-        print(1),
-        print(1),
-        PointKind::Return { value: None },
-    ]?)
+/// Text, its length, and the least int divided by -1.
+fn straight(alloc: Global) -> Hand {
+    let mut hand = Hand::new(alloc);
+    hand.point(text(1));
+    hand.point(length(2, of(1)));
+    hand.point(concat(1, of(1), of(2)));
+    hand.point(print(of(1)));
+    hand.point(int(3, -2147483648));
+    hand.point(int(4, -1));
+    hand.point(binary(5, Operator::Div, of(3), of(4)));
+    hand.point(print(of(5)));
+    hand.point(binary(5, Operator::Rem, of(3), of(4)));
+    hand.point(print(of(5)));
+    hand.point(end());
+    hand
 }
 
 #[test]
-fn straight_code(rt: HostRuntime) -> Result<(), Fail> {
-    let (stepped, out) = outcome(rt.alloc(), straight(rt.alloc())?, 100)?;
-    assert_eq!(rt; stepped, Stepped::Ends(End::Done));
-    assert_eq!(rt;
-        out.as_slice(),
-        "a\u{e9}\u{1d11e}4\n-2147483648\n0\n".as_bytes()
+fn straight_code(rt: HostRuntime) {
+    let printed = "a\u{e9}\u{1d11e}4\n-2147483648\n0\n";
+    let done = Stepped::Ends(End::Done);
+    expect_run(&rt, rt.alloc(), straight(rt.alloc()), 100, done, printed);
+}
+
+fn divides(alloc: Global) -> Hand {
+    let mut hand = Hand::new(alloc);
+    hand.point(int(1, 7));
+    hand.point(int(2, 0));
+    hand.point(binary(5, Operator::Div, of(1), of(2)));
+    hand
+}
+
+#[test]
+fn division_by_zero(rt: HostRuntime) {
+    let ends = Stepped::Ends(End::Arithmetic);
+    expect_run(&rt, rt.alloc(), divides(rt.alloc()), 100, ends, "");
+}
+
+fn on_null(alloc: Global) -> Hand {
+    let mut hand = Hand::new(alloc);
+    hand.point(null(1));
+    hand.point(length(2, of(1)));
+    hand
+}
+
+#[test]
+fn length_of_null(rt: HostRuntime) {
+    expect_run(
+        &rt,
+        rt.alloc(),
+        on_null(rt.alloc()),
+        100,
+        Stepped::Stuck,
+        "",
     );
-    Ok(())
+}
+
+fn calls_itself(alloc: Global) -> Hand {
+    let mut hand = Hand::new(alloc);
+    hand.call(AGAIN, None, &[]);
+    hand
 }
 
 #[test]
-fn division_by_zero(rt: HostRuntime) -> Result<(), Fail> {
-    let (stepped, _) = outcome(rt.alloc(), divides(rt.alloc())?, 100)?;
-    assert_eq!(rt; stepped, Stepped::Ends(End::Arithmetic));
-    Ok(())
+fn deepest_call(rt: HostRuntime) {
+    let deep = Stepped::Ends(End::Deep);
+    expect_run(
+        &rt,
+        rt.alloc(),
+        calls_itself(rt.alloc()),
+        4095,
+        Stepped::Goes,
+        "",
+    );
+    expect_run(&rt, rt.alloc(), calls_itself(rt.alloc()), 4096, deep, "");
+}
+
+fn makes_an_object(alloc: Global) -> Hand {
+    let mut hand = Hand::new(alloc);
+    hand.point(int(1, 41));
+    hand.create(2, NEW, &[of(1)]);
+    hand.call_for(3, GET, of(2), &[]);
+    hand.point(print(of(3)));
+    hand.point(cast(4, of(2), ClassNo(1)));
+    hand
 }
 
 #[test]
-fn length_of_null(rt: HostRuntime) -> Result<(), Fail> {
-    let (stepped, _) = outcome(rt.alloc(), on_null(rt.alloc())?, 100)?;
-    assert_eq!(rt; stepped, Stepped::Stuck);
-    Ok(())
+fn objects(rt: HostRuntime) {
+    let ends = Stepped::Ends(End::ClassCast);
+    expect_run(
+        &rt,
+        rt.alloc(),
+        makes_an_object(rt.alloc()),
+        100,
+        ends,
+        "41\n",
+    );
+}
+
+fn reads_elements(alloc: Global) -> Hand {
+    let mut hand = Hand::new(alloc);
+    hand.point(int(1, 2));
+    hand.point(new_array(2, BaseType::Array(Elem::Int, false), of(1), 0));
+    hand.point(int(3, 0));
+    hand.point(put(of(2), of(3), of(1)));
+    hand.point(element(4, of(2), of(3)));
+    hand.point(print(of(4)));
+    hand.point(element(4, of(0), of(3)));
+    hand.point(print(of(4)));
+    hand.point(element(4, of(2), of(1)));
+    hand
 }
 
 #[test]
-fn deepest_call(rt: HostRuntime) -> Result<(), Fail> {
-    let (goes, _) = outcome(rt.alloc(), calls_itself(rt.alloc())?, 4095)?;
-    assert_eq!(rt; goes, Stepped::Goes);
-    let (ends, _) = outcome(rt.alloc(), calls_itself(rt.alloc())?, 4096)?;
-    assert_eq!(rt; ends, Stepped::Ends(End::Deep));
-    Ok(())
+fn arrays(rt: HostRuntime) {
+    let ends = Stepped::Ends(End::Index);
+    expect_run(
+        &rt,
+        rt.alloc(),
+        reads_elements(rt.alloc()),
+        100,
+        ends,
+        "2\nword\n",
+    );
 }
 
-#[test]
-fn objects(rt: HostRuntime) -> Result<(), Fail> {
-    let (stepped, out) = outcome(rt.alloc(), makes_an_object(rt.alloc())?, 100)?;
-    assert_eq!(rt; stepped, Stepped::Ends(End::ClassCast));
-    assert_eq!(rt; out.as_slice(), b"41\n".as_slice());
-    Ok(())
+fn prints_twice(alloc: Global) -> Hand {
+    let mut hand = Hand::new(alloc);
+    hand.point(int(1, 7));
+    hand.point(print(of(1)));
+    hand.point(print(of(1)));
+    hand.point(end());
+    hand
 }
 
-#[test]
-fn arrays(rt: HostRuntime) -> Result<(), Fail> {
-    let (stepped, out) = outcome(rt.alloc(), reads_elements(rt.alloc())?, 100)?;
-    assert_eq!(rt; stepped, Stepped::Ends(End::Index));
-    assert_eq!(rt; out.as_slice(), b"2\nword\n".as_slice());
-    Ok(())
+fn sink_of(alloc: Global, failing: u32) -> Result<MemSink, OutOfMemory> {
+    let failing = Vec::from_slice(alloc, &[failing])?;
+    MemSink::new(alloc, failing, 10, 10)
 }
 
 /// What a run prints to a sink whose write of this number fails.
-fn printed(
+fn expect_printed(
+    rt: &impl Abort,
     alloc: Global,
     failing: u32,
-) -> Result<(Result<Stepped, StepFail>, Vec<u8>), OutOfMemory> {
-    let program = program(alloc, prints_twice(alloc)?)?;
+    want: Result<Stepped, StepFail>,
+    printed: &str,
+) {
+    let program = made(rt, prints_twice(alloc));
     let none = Vec::new(alloc);
-    let mut sink = MemSink::new(alloc, Vec::from_slice(alloc, &[failing])?, 10, 10)?;
-    let mut state = start(alloc, &program, BodyNo(0), &none)?;
+    let Ok(mut sink) = sink_of(alloc, failing) else {
+        panic!(rt; "no memory")
+    };
+    let Ok(mut state) = start(alloc, &program, MAIN, &none) else {
+        panic!(rt; "no memory")
+    };
     let ended = run_to(alloc, &program, &none, &mut state, 100, &mut sink);
-    Ok((ended, Vec::from_slice(alloc, sink.bytes())?))
+    assert_eq!(rt; ended, want);
+    assert_eq!(rt; sink.bytes(), printed.as_bytes());
 }
 
 #[test]
-fn prints_to_a_sink(rt: HostRuntime) -> Result<(), Fail> {
-    let (ended, out) = printed(rt.alloc(), 9)?;
-    assert_eq!(rt; ended, Ok(Stepped::Ends(End::Done)));
-    assert_eq!(rt; out.as_slice(), b"7\n7\n".as_slice());
-    let (failed, front) = printed(rt.alloc(), 2)?;
-    assert_eq!(rt; failed, Err(StepFail::WriteFault));
-    assert_eq!(rt; front.as_slice(), b"7\n".as_slice());
-    Ok(())
+fn prints_to_a_sink(rt: HostRuntime) {
+    let done = Ok(Stepped::Ends(End::Done));
+    expect_printed(&rt, rt.alloc(), 9, done, "7\n7\n");
+    expect_printed(&rt, rt.alloc(), 2, Err(StepFail::WriteFault), "7\n");
 }

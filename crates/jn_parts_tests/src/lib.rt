@@ -4,6 +4,8 @@
 #[cfg(test)]
 mod checks;
 #[cfg(test)]
+mod common;
+#[cfg(test)]
 mod contrib;
 #[cfg(test)]
 mod ctor;

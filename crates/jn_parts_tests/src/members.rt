@@ -1,7 +1,8 @@
 // Subtypes, members, dispatch, overriding pairs and edges.
+use crate::common::made;
 use jn_base::{ClassNo, FieldNo, MethodNo, NameNo, PointNo};
 use jn_hand_programs::build::{
-    FIRST, Kind, OBJECT, ProgramBuilder, SECOND, STRING, VOID, committed, inferred, instance, named,
+    FIRST, Hand, Kind, OBJECT, SECOND, STRING, VOID, committed, inferred, instance, named,
 };
 use jn_hand_programs::lines::{at, branch, end, goto, int, test_inst, test_null};
 use jn_points::{
@@ -10,7 +11,6 @@ use jn_points::{
 };
 use jn_quals::Qual;
 use std::alloc::{AllocError, Global};
-use std::test::Fail;
 
 const I: ClassNo = FIRST;
 
@@ -66,29 +66,30 @@ const D_M: MethodNo = MethodNo(6);
 /// class E extends D implements I { }
 /// ```
 fn family(alloc: Global) -> Result<Program, AllocError> {
-    let mut builder = ProgramBuilder::new(alloc)?;
-    builder.add_interface(&[])?;
-    builder.add_interface(&[I])?;
-    builder.add_abstract_class()?;
-    builder.add_class(A, &[J])?;
-    builder.add_class(OBJECT, &[])?;
-    builder.add_class(D, &[I])?;
-    builder.add_field(A, 10, inferred(STRING))?;
-    builder.add_field(A, 11, committed(STRING))?;
+    let mut hand = Hand::new(alloc);
+    hand.interface(&[]);
+    hand.interface(&[I]);
+    hand.abstract_class();
+    hand.class(A, &[J]);
+    hand.class(OBJECT, &[]);
+    hand.class(D, &[I]);
+    hand.field(A, 10, inferred(STRING));
+    hand.field(A, 11, committed(STRING));
     for (owner, name) in [(I, 12), (J, 12), (A, 13)] {
         let kind = Kind::Abstract(Qual::committed_only());
-        builder.add_method(owner, named(name, 0), kind, &[], VOID)?;
+        hand.method(owner, named(name, 0), kind, &[], VOID);
     }
     for (owner, name) in [(B, 12), (B, 13), (D, 12)] {
-        let method = builder.add_method(owner, named(name, 0), instance(), &[], VOID)?;
-        builder.add_body(method, &[BaseType::Ref(owner)], 1, vec![in alloc; end()]?)?;
+        let method = hand.method(owner, named(name, 0), instance(), &[], VOID);
+        hand.point(end());
+        hand.body(method, &[BaseType::Ref(owner)], 1);
     }
-    Ok(builder.finish())
+    hand.finish()
 }
 
 #[test]
-fn fields(rt: HostRuntime) -> Result<(), Fail> {
-    let program = family(rt.alloc())?;
+fn fields(rt: HostRuntime) {
+    let program = made(&rt, family(rt.alloc()));
     assert!(rt; program.fields.len() < 1000);
     for (class, name, field) in [
         (A, F, Some(FIELD_F)),
@@ -116,12 +117,11 @@ fn fields(rt: HostRuntime) -> Result<(), Fail> {
             "{class:?} {field:?}"
         );
     }
-    Ok(())
 }
 
 #[test]
-fn methods(rt: HostRuntime) -> Result<(), Fail> {
-    let program = family(rt.alloc())?;
+fn methods(rt: HostRuntime) {
+    let program = made(&rt, family(rt.alloc()));
     assert!(rt; program.methods.len() < 1000);
     for (class, name, arity, method) in [
         (A, K, 0, Some(A_K)),
@@ -149,7 +149,6 @@ fn methods(rt: HostRuntime) -> Result<(), Fail> {
             "{class:?} {called:?}"
         );
     }
-    Ok(())
 }
 
 fn objects(class: ClassNo, nullable: bool) -> BaseType {
@@ -157,8 +156,8 @@ fn objects(class: ClassNo, nullable: bool) -> BaseType {
 }
 
 #[test]
-fn subtypes(rt: HostRuntime) -> Result<(), Fail> {
-    let program = family(rt.alloc())?;
+fn subtypes(rt: HostRuntime) {
+    let program = made(&rt, family(rt.alloc()));
     let numbers = BaseType::Array(Elem::Int, false);
     for (low, high, within) in [
         (BaseType::Ref(B), BaseType::Ref(A), true),
@@ -183,13 +182,13 @@ fn subtypes(rt: HostRuntime) -> Result<(), Fail> {
     ] {
         assert_eq!(rt; is_sub(&program, low, high), within, "{low:?} {high:?}");
     }
-    assert!(rt; is_subclass(&program, E, I) && !is_subclass(&program, I, E));
-    Ok(())
+    assert!(rt; is_subclass(&program, E, I));
+    assert!(rt; !is_subclass(&program, I, E));
 }
 
 #[test]
-fn pairs(rt: HostRuntime) -> Result<(), Fail> {
-    let program = family(rt.alloc())?;
+fn pairs(rt: HostRuntime) {
+    let program = made(&rt, family(rt.alloc()));
     assert!(rt; program.classes.len() < 1000);
     for (over, under, is) in [
         (B_K, A_K, true),
@@ -205,7 +204,6 @@ fn pairs(rt: HostRuntime) -> Result<(), Fail> {
     ] {
         assert_eq!(rt; is_pair(&program, over, under), is, "{over:?} {under:?}");
     }
-    Ok(())
 }
 
 fn one(to: u32) -> Edges {
@@ -224,25 +222,23 @@ fn two(first: u32, second: u32) -> Edges {
 
 /// A method whose points jump about.
 fn jumping(alloc: Global) -> Result<Program, AllocError> {
-    let mut builder = ProgramBuilder::new(alloc)?;
-    let class = builder.add_class(OBJECT, &[])?;
-    let method = builder.add_method(class, named(1, 0), instance(), &[], VOID)?;
-    let points = vec![in alloc;
-        int(1, 0),
-        branch(at(1, 0), 3, 2),
-        goto(0),
-        test_null(at(0, 0), None, 5, 4),
-        test_inst(at(0, 0), class, 2, 5),
-        end(),
-    ]?;
+    let mut hand = Hand::new(alloc);
+    let class = hand.class(OBJECT, &[]);
+    let method = hand.method(class, named(1, 0), instance(), &[], VOID);
+    hand.point(int(1, 0));
+    hand.point(branch(at(1, 0), 3, 2));
+    hand.point(goto(0));
+    hand.point(test_null(at(0, 0), None, 5, 4));
+    hand.point(test_inst(at(0, 0), class, 2, 5));
+    hand.point(end());
     let regs = [BaseType::Ref(class), BaseType::Bool];
-    builder.add_body(method, &regs, 1, points)?;
-    Ok(builder.finish())
+    hand.body(method, &regs, 1);
+    hand.finish()
 }
 
 #[test]
-fn targets(rt: HostRuntime) -> Result<(), Fail> {
-    let program = jumping(rt.alloc())?;
+fn targets(rt: HostRuntime) {
+    let program = made(&rt, jumping(rt.alloc()));
     assert!(rt; program.bodies.len() == 2);
     let body = &program.bodies.as_slice()[1];
     let none = Edges {
@@ -257,8 +253,8 @@ fn targets(rt: HostRuntime) -> Result<(), Fail> {
         (4, two(2, 5)),
         (5, none),
     ] {
-        assert!(rt; (place as usize) < body.points.len() && place < 6);
+        assert!(rt; (place as usize) < body.points.len());
+        assert!(rt; place < 6);
         assert_eq!(rt; edges(body, PointNo(place)), wanted, "at {place}");
     }
-    Ok(())
 }

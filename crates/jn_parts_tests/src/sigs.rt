@@ -1,130 +1,67 @@
 // Packed words, and the start signature of a small program.
-use jn_base::{BodyNo, ClassNo, FileNo, MethodNo, NameNo, RegNo, Seq, SlotNo, Span};
-use jn_points::{BaseType, Body, Method, Point, PointKind, Program, SlotInfo};
+use crate::common::{LIMIT, made};
+use jn_base::SlotNo;
+use jn_hand_programs::build::{FIRST, Hand, Kind, OBJECT, STRING, VOID, inferred, named, nullable};
+use jn_points::{BaseType, Program};
 use jn_quals::Qual;
 use jn_sigs::{Sig, start};
 use std::alloc::{AllocError, Global};
-use std::test::Fail;
+use std::process::Abort;
 
-fn span() -> Span {
-    Span {
-        file: FileNo(0),
-        from: 0,
-        to: 0,
+/// ```java
+/// class C {
+///   private String f;
+///   static void a(@Nullable String s) { b(..); D.d(..); new C(..); }
+///   private static void b(String s) { }
+///   private static void c(String s) { }
+///   private C(String s) { }
+/// }
+/// class D {
+///   private static void d(String s) { }
+/// }
+/// ```
+///
+/// Slot 0 is that of `f`, and 1 to 5 are those of the parameters of `a`, `b`, `c`, `d` and the constructor.
+fn calling(alloc: Global) -> Result<Program, AllocError> {
+    let mut hand = Hand::new(alloc);
+    let one = hand.class(OBJECT, &[]);
+    let other = hand.class(OBJECT, &[]);
+    hand.field(one, 1, inferred(STRING));
+    let s = [inferred(STRING)];
+    let a = hand.method(one, named(2, 0), Kind::Static, &[nullable(STRING)], VOID);
+    let b = hand.method(one, named(3, 0), Kind::PrivateStatic, &s, VOID);
+    hand.method(one, named(4, 0), Kind::PrivateStatic, &s, VOID);
+    let d = hand.method(other, named(5, 0), Kind::PrivateStatic, &s, VOID);
+    let constructor = hand.method(one, named(6, 0), Kind::Constructor, &s, VOID);
+    hand.call(b, None, &[]);
+    hand.call(d, None, &[]);
+    hand.create(0, constructor, &[]);
+    hand.body(a, &[BaseType::Ref(FIRST)], 1);
+    hand.finish()
+}
+
+/// The slots have these bits.
+fn expect_slots(rt: &impl Abort, sig: &Sig, slots: &[(u32, u8)]) {
+    for (slot, bits) in slots {
+        assert_eq!(rt; sig.get(SlotNo(*slot)).bits(), *bits, "slot {slot}");
     }
-}
-
-/// A method of the class with one parameter, which has the slot.
-fn method(alloc: Global, class: u32, slot: u32) -> Result<Method, AllocError> {
-    Ok(Method {
-        name: NameNo(0),
-        span: span(),
-        owner: ClassNo(class),
-        params: Seq::of_vec(vec![in alloc; BaseType::Ref(ClassNo(1))]?),
-        result: BaseType::Void,
-        ctor: false,
-        is_static: true,
-        is_private: true,
-        is_abstract: false,
-        is_final: false,
-        is_main: false,
-        body: None,
-        receiver: None,
-        param_slots: Seq::of_vec(vec![in alloc; Some(SlotNo(slot))]?),
-        result_slot: None,
-    })
-}
-
-fn call(alloc: Global, method: u32) -> Result<Point, AllocError> {
-    Ok(Point {
-        kind: PointKind::Call {
-            dst: None,
-            method: MethodNo(method),
-            receiver: None,
-            direct: true,
-            args: Seq::of_vec(vec![in alloc]?),
-        },
-        span: span(),
-    })
-}
-
-fn creation(alloc: Global, ctor: u32) -> Result<Point, AllocError> {
-    Ok(Point {
-        kind: PointKind::New {
-            dst: RegNo(0),
-            ctor: MethodNo(ctor),
-            args: Seq::of_vec(vec![in alloc]?),
-        },
-        span: span(),
-    })
-}
-
-/// The body of a method of class 2, which calls methods 1 and 3 and creates an object by 4; 3 is of another class.
-fn body(alloc: Global) -> Result<Body, AllocError> {
-    Ok(Body {
-        method: MethodNo(0),
-        regs: Seq::of_vec(vec![in alloc; BaseType::Ref(ClassNo(2))]?),
-        locals: 1,
-        points: Seq::of_vec(vec![in alloc; call(alloc, 1)?, call(alloc, 3)?, creation(alloc, 4)?]?),
-    })
-}
-
-fn inferred() -> SlotInfo {
-    SlotInfo {
-        start: Qual::null_only(),
-        inferred: true,
-    }
-}
-
-fn written() -> SlotInfo {
-    SlotInfo {
-        start: Qual::null_or_committed(),
-        inferred: false,
-    }
-}
-
-fn program(alloc: Global) -> Result<Program, AllocError> {
-    let methods = vec![in alloc;
-        method(alloc, 2, 5)?,
-        method(alloc, 2, 1)?,
-        method(alloc, 2, 2)?,
-        method(alloc, 3, 3)?,
-        method(alloc, 2, 4)?,
-    ]?;
-    let slots = vec![in alloc;
-        inferred(),
-        inferred(),
-        inferred(),
-        inferred(),
-        inferred(),
-        written(),
-    ]?;
-    Ok(Program {
-        classes: Seq::of_vec(vec![in alloc]?),
-        fields: Seq::of_vec(vec![in alloc]?),
-        methods: Seq::of_vec(methods),
-        bodies: Seq::of_vec(vec![in alloc; body(alloc)?]?),
-        slots: Seq::of_vec(slots),
-    })
 }
 
 #[test]
-fn starts(rt: HostRuntime) -> Result<(), Fail> {
+fn starts(rt: HostRuntime) {
     let alloc = rt.alloc();
-    let program = program(alloc)?;
-    assert!(rt; program.slots.len() == 6);
+    let program = made(&rt, calling(alloc));
+    assert!(rt; program.slots.len() < LIMIT);
     let Ok(sig) = start(alloc, &program) else {
         panic!(rt; "no memory")
     };
-    for (slot, bits) in [(0, 0), (1, 0), (2, 2), (3, 2), (4, 0), (5, 3), (6, 0)] {
-        assert_eq!(rt; sig.get(SlotNo(slot)).bits(), bits, "slot {slot}");
-    }
-    assert_eq!(rt; sig.words(), [0x1_8480u64].as_slice());
-    Ok(())
+    let slots = [(0, 0), (1, 3), (2, 0), (3, 2), (4, 2), (5, 0), (6, 0)];
+    expect_slots(&rt, &sig, &slots);
+    assert_eq!(rt; sig.words(), [0x2418u64].as_slice());
 }
 
 #[test]
-fn raises_over_a_border(rt: HostRuntime) -> Result<(), Fail> {
+fn raises_over_a_border(rt: HostRuntime) {
     let Ok(mut sig) = Sig::empty(rt.alloc(), 43) else {
         panic!(rt; "no memory")
     };
@@ -138,7 +75,7 @@ fn raises_over_a_border(rt: HostRuntime) -> Result<(), Fail> {
         sig.raise(SlotNo(slot), qual);
     }
     assert_eq!(rt; sig.words(), [6 << 60, 1u64, 7].as_slice());
-    for (slot, bits) in [
+    let slots = [
         (19, 0),
         (20, 6),
         (21, 1),
@@ -146,24 +83,24 @@ fn raises_over_a_border(rt: HostRuntime) -> Result<(), Fail> {
         (41, 0),
         (42, 7),
         (43, 0),
-    ] {
-        assert_eq!(rt; sig.get(SlotNo(slot)).bits(), bits, "slot {slot}");
-    }
-    Ok(())
+    ];
+    expect_slots(&rt, &sig, &slots);
 }
 
 #[test]
-fn words_and_back(rt: HostRuntime) -> Result<(), Fail> {
+fn words_and_back(rt: HostRuntime) {
     let alloc = rt.alloc();
     let Ok(mut sig) = Sig::empty(alloc, 2) else {
         panic!(rt; "no memory")
     };
     assert!(rt; sig.slots() == 2);
     sig.raise(SlotNo(1), Qual::committed_only());
-    let again = Sig::of_words(Vec::from_slice(alloc, sig.words())?, sig.slots());
+    let Ok(words) = Vec::from_slice(alloc, sig.words()) else {
+        panic!(rt; "no memory")
+    };
+    let again = Sig::of_words(words, sig.slots());
     assert_eq!(rt; again.slots(), 2);
     assert_eq!(rt; again.get(SlotNo(0)).bits(), 0);
     assert_eq!(rt; again.get(SlotNo(1)).bits(), 2);
     assert_eq!(rt; again.words(), [0o20u64].as_slice());
-    Ok(())
 }

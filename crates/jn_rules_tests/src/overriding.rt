@@ -2,14 +2,13 @@
 use crate::rows::expect_rows;
 use jn_base::Code;
 use jn_hand_programs::build::{
-    FIRST, Kind, OBJECT, ProgramBuilder, SECOND, STRING, Typed, VOID, committed, instance, named,
-    nullable,
+    FIRST, Hand, Kind, OBJECT, SECOND, STRING, Typed, VOID, committed, instance, named, nullable,
 };
 use jn_hand_programs::lines::{at, end, give, length, row};
 use jn_points::{BaseType, Program};
 use jn_quals::Qual;
 use std::alloc::{AllocError, Global};
-use std::test::Fail;
+use std::process::Abort;
 
 const A: BaseType = BaseType::Ref(FIRST);
 
@@ -31,58 +30,62 @@ struct Types {
 ///   String f(String s) { return s; }
 /// }
 /// ```
-fn overriding(alloc: Global, under: Types, over: Types) -> Result<Program, AllocError> {
-    let mut builder = ProgramBuilder::new(alloc)?;
-    let a = builder.add_class(OBJECT, &[])?;
-    let b = builder.add_class(a, &[])?;
+fn overriding(alloc: Global, under: &Types, over: &Types) -> Result<Program, AllocError> {
+    let mut hand = Hand::new(alloc);
+    let a = hand.class(OBJECT, &[]);
+    let b = hand.class(a, &[]);
     for (class, base, types, from) in [(a, A, under, 210), (b, B, over, 510)] {
         let kind = Kind::Instance(types.receiver);
-        let f = builder.add_method(class, named(1, from), kind, &[types.param], types.result)?;
-        builder.add_body(
-            f,
-            &[base, STRING],
-            2,
-            vec![in alloc; give(at(1, 0)), end()]?,
-        )?;
+        let f = hand.method(class, named(1, from), kind, &[types.param], types.result);
+        hand.point(give(at(1, 0)));
+        hand.point(end());
+        hand.body(f, &[base, STRING], 2);
     }
-    Ok(builder.finish())
+    hand.finish()
+}
+
+fn typed(receiver: Qual, param: Typed, gives: Typed) -> Types {
+    Types {
+        receiver,
+        param,
+        result: gives,
+    }
+}
+
+fn narrow() -> Types {
+    typed(Qual::committed_only(), committed(STRING), nullable(STRING))
+}
+
+/// Only the overridden method may have these types where the other one is narrow, and both may.
+fn expect_code(rt: &impl Abort, alloc: Global, other: &Types, code: Code) {
+    let usual = narrow();
+    expect_rows(
+        rt,
+        alloc,
+        overriding(alloc, other, &usual),
+        &[row(code, 510)],
+    );
+    expect_rows(rt, alloc, overriding(alloc, &usual, other), &[]);
+    expect_rows(rt, alloc, overriding(alloc, other, other), &[]);
 }
 
 #[test]
-fn parameters_receivers_results(rt: HostRuntime) -> Result<(), Fail> {
-    let alloc = rt.alloc();
-    let narrow = Types {
-        receiver: Qual::committed_only(),
-        param: committed(STRING),
-        result: nullable(STRING),
-    };
-    let wide_param = Types {
-        param: nullable(STRING),
-        ..narrow
-    };
-    let wide_receiver = Types {
-        receiver: Qual::committed_only().join(Qual::free_only()),
-        ..narrow
-    };
-    let narrow_result = Types {
-        result: committed(STRING),
-        ..narrow
-    };
-    for (other, code) in [
-        (wide_param, Code::OvrParam),
-        (wide_receiver, Code::OvrReceiver),
-        (narrow_result, Code::OvrResult),
-    ] {
-        expect_rows(
-            &rt,
-            alloc,
-            &overriding(alloc, other, narrow)?,
-            &[row(code, 510)],
-        )?;
-        expect_rows(&rt, alloc, &overriding(alloc, narrow, other)?, &[])?;
-        expect_rows(&rt, alloc, &overriding(alloc, other, other)?, &[])?;
-    }
-    Ok(())
+fn wider_parameter(rt: HostRuntime) {
+    let wide = typed(Qual::committed_only(), nullable(STRING), nullable(STRING));
+    expect_code(&rt, rt.alloc(), &wide, Code::OvrParam);
+}
+
+#[test]
+fn wider_receiver(rt: HostRuntime) {
+    let receiver = Qual::committed_only().join(Qual::free_only());
+    let wide = typed(receiver, committed(STRING), nullable(STRING));
+    expect_code(&rt, rt.alloc(), &wide, Code::OvrReceiver);
+}
+
+#[test]
+fn narrower_result(rt: HostRuntime) {
+    let narrower = typed(Qual::committed_only(), committed(STRING), committed(STRING));
+    expect_code(&rt, rt.alloc(), &narrower, Code::OvrResult);
 }
 
 /// ```java
@@ -94,23 +97,24 @@ fn parameters_receivers_results(rt: HostRuntime) -> Result<(), Fail> {
 /// }
 /// ```
 fn narrowed(alloc: Global, over: Typed) -> Result<Program, AllocError> {
-    let mut builder = ProgramBuilder::new(alloc)?;
-    let a = builder.add_class(OBJECT, &[])?;
-    let b = builder.add_class(a, &[])?;
-    let under = builder.add_method(a, named(1, 208), instance(), &[nullable(STRING)], VOID)?;
-    builder.add_body(under, &[A, STRING], 2, vec![in alloc; end()]?)?;
-    let f = builder.add_method(b, named(1, 508), instance(), &[over], VOID)?;
-    let points = vec![in alloc; length(2, at(1, 522)), end()]?;
-    builder.add_body(f, &[B, STRING, BaseType::Int], 2, points)?;
-    Ok(builder.finish())
+    let mut hand = Hand::new(alloc);
+    let a = hand.class(OBJECT, &[]);
+    let b = hand.class(a, &[]);
+    let under = hand.method(a, named(1, 208), instance(), &[nullable(STRING)], VOID);
+    hand.point(end());
+    hand.body(under, &[A, STRING], 2);
+    let f = hand.method(b, named(1, 508), instance(), &[over], VOID);
+    hand.point(length(2, at(1, 522)));
+    hand.point(end());
+    hand.body(f, &[B, STRING, BaseType::Int], 2);
+    hand.finish()
 }
 
 #[test]
-fn narrowed_parameter(rt: HostRuntime) -> Result<(), Fail> {
+fn narrowed_parameter(rt: HostRuntime) {
     let alloc = rt.alloc();
     let param = [row(Code::OvrParam, 508)];
     let body = [row(Code::Deref, 522)];
-    expect_rows(&rt, alloc, &narrowed(alloc, committed(STRING))?, &param)?;
-    expect_rows(&rt, alloc, &narrowed(alloc, nullable(STRING))?, &body)?;
-    Ok(())
+    expect_rows(&rt, alloc, narrowed(alloc, committed(STRING)), &param);
+    expect_rows(&rt, alloc, narrowed(alloc, nullable(STRING)), &body);
 }

@@ -2,14 +2,13 @@
 use crate::rows::expect_inferred;
 use jn_base::{Code, FieldNo};
 use jn_hand_programs::build::{
-    FIRST, Kind, OBJECT, ProgramBuilder, STRING, VOID, committed, inferred, instance, named, plain,
+    FIRST, Hand, Kind, OBJECT, STRING, VOID, committed, inferred, instance, named, plain,
 };
 use jn_hand_programs::lines::{
-    at, call_private, end, give, int, length, null, origin, read, row, test_null, text, write,
+    at, end, give, int, length, null, origin, read, row, test_null, text, write,
 };
-use jn_points::{BaseType, Point, Program};
+use jn_points::{BaseType, Program};
 use std::alloc::{AllocError, Global};
-use std::test::Fail;
 
 const INT: BaseType = BaseType::Int;
 
@@ -29,63 +28,60 @@ const CLASS: BaseType = BaseType::Ref(FIRST);
 ///
 /// Or with `return s.length();` at line 6.
 fn perhaps_unassigned(alloc: Global, tests: bool) -> Result<Program, AllocError> {
-    let mut builder = ProgramBuilder::new(alloc)?;
-    let class = builder.add_class(OBJECT, &[])?;
-    let s = builder.add_field(class, 1, inferred(STRING))?;
-    let empty = builder.add_method(class, named(2, 303), Kind::Constructor, &[], VOID)?;
-    builder.add_body(empty, &[CLASS], 1, vec![in alloc; end()]?)?;
+    let mut hand = Hand::new(alloc);
+    let class = hand.class(OBJECT, &[]);
+    let s = hand.field(class, 1, inferred(STRING));
+    let empty = hand.method(class, named(2, 303), Kind::Constructor, &[], VOID);
+    hand.point(end());
+    hand.body(empty, &[CLASS], 1);
     let t = [committed(STRING)];
-    let constructor = builder.add_method(class, named(2, 403), Kind::Constructor, &t, VOID)?;
-    let points = vec![in alloc; write(at(0, 417), s, at(1, 426)), end()]?;
-    builder.add_body(constructor, &[CLASS, STRING], 2, points)?;
-    let n = builder.add_method(class, named(3, 507), instance(), &[], plain(INT))?;
-    let points = if tests {
-        tested_length(alloc, s)?
+    let constructor = hand.method(class, named(2, 403), Kind::Constructor, &t, VOID);
+    hand.point(write(at(0, 417), s, at(1, 426)));
+    hand.point(end());
+    hand.body(constructor, &[CLASS, STRING], 2);
+    let n = hand.method(class, named(3, 507), instance(), &[], plain(INT));
+    if tests {
+        tested_length(&mut hand, s);
     } else {
-        bare_length(alloc, s)?
-    };
-    builder.add_body(n, &[CLASS, STRING, INT], 1, points)?;
-    Ok(builder.finish())
+        bare_length(&mut hand, s);
+    }
+    hand.body(n, &[CLASS, STRING, INT], 1);
+    hand.finish()
 }
 
-fn tested_length(alloc: Global, s: FieldNo) -> Result<Vec<Point>, AllocError> {
-    Ok(vec![in alloc;
-        read(1, at(0, 609), s),
-        test_null(at(1, 609), origin(0, s), 5, 2),
-        read(1, at(0, 627), s),
-        length(2, at(1, 627)),
-        give(at(2, 627)),
-        int(2, 0),
-        give(at(2, 712)),
-        end(),
-    ]?)
+fn tested_length(hand: &mut Hand, s: FieldNo) {
+    hand.point(read(1, at(0, 609), s));
+    hand.point(test_null(at(1, 609), origin(0, s), 5, 2));
+    hand.point(read(1, at(0, 627), s));
+    hand.point(length(2, at(1, 627)));
+    hand.point(give(at(2, 627)));
+    hand.point(int(2, 0));
+    hand.point(give(at(2, 712)));
+    hand.point(end());
 }
 
-fn bare_length(alloc: Global, s: FieldNo) -> Result<Vec<Point>, AllocError> {
-    Ok(vec![in alloc;
-        read(1, at(0, 612), s),
-        length(2, at(1, 612)),
-        give(at(2, 612)),
-        int(2, 0),
-        give(at(2, 712)),
-        end(),
-    ]?)
+fn bare_length(hand: &mut Hand, s: FieldNo) {
+    hand.point(read(1, at(0, 612), s));
+    hand.point(length(2, at(1, 612)));
+    hand.point(give(at(2, 612)));
+    hand.point(int(2, 0));
+    hand.point(give(at(2, 712)));
+    hand.point(end());
 }
 
 #[test]
-fn field_of_two_constructors(rt: HostRuntime) -> Result<(), Fail> {
+fn field_of_two_constructors(rt: HostRuntime) {
     let alloc = rt.alloc();
     let slots = [(0, 3)];
-    expect_inferred(&rt, alloc, &perhaps_unassigned(alloc, true)?, &slots, &[])?;
+    expect_inferred(&rt, alloc, perhaps_unassigned(alloc, true), &slots, &[]);
     let wanted = [row(Code::Deref, 612)];
     expect_inferred(
         &rt,
         alloc,
-        &perhaps_unassigned(alloc, false)?,
+        perhaps_unassigned(alloc, false),
         &slots,
         &wanted,
-    )?;
-    Ok(())
+    );
 }
 
 /// ```java
@@ -97,43 +93,37 @@ fn field_of_two_constructors(rt: HostRuntime) -> Result<(), Fail> {
 /// }
 /// ```
 fn round_of_calls(alloc: Global) -> Result<Program, AllocError> {
-    let mut builder = ProgramBuilder::new(alloc)?;
-    let class = builder.add_class(OBJECT, &[])?;
+    let mut hand = Hand::new(alloc);
+    let class = hand.class(OBJECT, &[]);
     let s = [inferred(STRING)];
-    let f = builder.add_method(class, named(1, 216), Kind::Private, &s, VOID)?;
-    let g = builder.add_method(class, named(2, 316), Kind::Private, &s, VOID)?;
-    let h = builder.add_method(class, named(3, 416), Kind::Private, &s, VOID)?;
-    let go = builder.add_method(class, named(4, 508), instance(), &[], VOID)?;
-    let calls_g = call_private(alloc, g, at(0, 230), &[at(1, 232)])?;
-    builder.add_body(f, &[CLASS, STRING], 2, vec![in alloc; calls_g, end()]?)?;
-    let calls_h = call_private(alloc, h, at(0, 337), &[at(1, 344)])?;
-    let points = vec![in alloc; length(2, at(1, 330)), calls_h, end()]?;
-    builder.add_body(g, &[CLASS, STRING, INT], 2, points)?;
-    let calls_f = call_private(alloc, f, at(0, 430), &[at(1, 432)])?;
-    builder.add_body(h, &[CLASS, STRING], 2, vec![in alloc; calls_f, end()]?)?;
-    let points = vec![in alloc;
-        text(1),
-        call_private(alloc, f, at(0, 515), &[at(1, 517)])?,
-        null(2),
-        call_private(alloc, h, at(0, 523), &[at(2, 525)])?,
-        end(),
-    ]?;
-    builder.add_body(go, &[CLASS, STRING, BaseType::Null], 1, points)?;
-    Ok(builder.finish())
+    let f = hand.method(class, named(1, 216), Kind::Private, &s, VOID);
+    let g = hand.method(class, named(2, 316), Kind::Private, &s, VOID);
+    let h = hand.method(class, named(3, 416), Kind::Private, &s, VOID);
+    let go = hand.method(class, named(4, 508), instance(), &[], VOID);
+    hand.call_private(g, at(0, 230), &[at(1, 232)]);
+    hand.point(end());
+    hand.body(f, &[CLASS, STRING], 2);
+    hand.point(length(2, at(1, 330)));
+    hand.call_private(h, at(0, 337), &[at(1, 344)]);
+    hand.point(end());
+    hand.body(g, &[CLASS, STRING, INT], 2);
+    hand.call_private(f, at(0, 430), &[at(1, 432)]);
+    hand.point(end());
+    hand.body(h, &[CLASS, STRING], 2);
+    hand.point(text(1));
+    hand.call_private(f, at(0, 515), &[at(1, 517)]);
+    hand.point(null(2));
+    hand.call_private(h, at(0, 523), &[at(2, 525)]);
+    hand.point(end());
+    hand.body(go, &[CLASS, STRING, BaseType::Null], 1);
+    hand.finish()
 }
 
 #[test]
-fn parameters_in_a_round(rt: HostRuntime) -> Result<(), Fail> {
+fn parameters_in_a_round(rt: HostRuntime) {
     let slots = [(0, 3), (1, 2), (2, 3), (3, 2), (4, 3), (5, 2)];
     let wanted = [row(Code::Deref, 330)];
-    expect_inferred(
-        &rt,
-        rt.alloc(),
-        &round_of_calls(rt.alloc())?,
-        &slots,
-        &wanted,
-    )?;
-    Ok(())
+    expect_inferred(&rt, rt.alloc(), round_of_calls(rt.alloc()), &slots, &wanted);
 }
 
 /// ```java
@@ -147,55 +137,54 @@ fn parameters_in_a_round(rt: HostRuntime) -> Result<(), Fail> {
 ///
 /// Or without one of the calls, or both.
 fn shown(alloc: Global, early: bool, late: bool) -> Result<Program, AllocError> {
-    let mut builder = ProgramBuilder::new(alloc)?;
-    let class = builder.add_class(OBJECT, &[])?;
-    let x = builder.add_field(class, 1, inferred(STRING))?;
-    let constructor = builder.add_method(class, named(2, 303), Kind::Constructor, &[], VOID)?;
-    let show = builder.add_method(class, named(3, 416), Kind::Private, &[], VOID)?;
-    let go = builder.add_method(class, named(4, 508), instance(), &[], VOID)?;
-    let mut points = Vec::new(alloc);
+    let mut hand = Hand::new(alloc);
+    let class = hand.class(OBJECT, &[]);
+    let x = hand.field(class, 1, inferred(STRING));
+    let constructor = hand.method(class, named(2, 303), Kind::Constructor, &[], VOID);
+    let show = hand.method(class, named(3, 416), Kind::Private, &[], VOID);
+    let go = hand.method(class, named(4, 508), instance(), &[], VOID);
     if early {
-        points.push(call_private(alloc, show, at(0, 309), &[])?)?;
+        hand.call_private(show, at(0, 309), &[]);
     }
-    points.push(text(1))?;
-    points.push(write(at(0, 322), x, at(1, 331)))?;
-    points.push(end())?;
-    builder.add_body(constructor, &[CLASS, STRING], 1, points)?;
-    let points = vec![in alloc; read(1, at(0, 425), x), length(2, at(1, 425)), end()]?;
-    builder.add_body(show, &[CLASS, STRING, INT], 1, points)?;
-    let mut points = Vec::new(alloc);
+    hand.point(text(1));
+    hand.point(write(at(0, 322), x, at(1, 331)));
+    hand.point(end());
+    hand.body(constructor, &[CLASS, STRING], 1);
+    hand.point(read(1, at(0, 425), x));
+    hand.point(length(2, at(1, 425)));
+    hand.point(end());
+    hand.body(show, &[CLASS, STRING, INT], 1);
     if late {
-        points.push(call_private(alloc, show, at(0, 515), &[])?)?;
+        hand.call_private(show, at(0, 515), &[]);
     }
-    points.push(end())?;
-    builder.add_body(go, &[CLASS], 1, points)?;
-    Ok(builder.finish())
+    hand.point(end());
+    hand.body(go, &[CLASS], 1);
+    hand.finish()
 }
 
 #[test]
-fn receiver_during_construction(rt: HostRuntime) -> Result<(), Fail> {
+fn receiver_during_construction(rt: HostRuntime) {
     let alloc = rt.alloc();
     let wanted = [row(Code::Deref, 425)];
     expect_inferred(
         &rt,
         alloc,
-        &shown(alloc, true, true)?,
+        shown(alloc, true, true),
         &[(0, 2), (1, 6)],
         &wanted,
-    )?;
+    );
     expect_inferred(
         &rt,
         alloc,
-        &shown(alloc, false, true)?,
+        shown(alloc, false, true),
         &[(0, 2), (1, 2)],
         &[],
-    )?;
+    );
     expect_inferred(
         &rt,
         alloc,
-        &shown(alloc, false, false)?,
+        shown(alloc, false, false),
         &[(0, 2), (1, 2)],
         &[],
-    )?;
-    Ok(())
+    );
 }

@@ -2,17 +2,16 @@
 use crate::rows::expect_rows;
 use jn_base::{Code, FieldNo, MethodNo};
 use jn_hand_programs::build::{
-    FIRST, Kind, NULLABLE_STRINGS, OBJECT, ProgramBuilder, SECOND, STRING, STRINGS, Typed, VOID,
-    committed, free, instance, named, nullable, plain,
+    FIRST, Hand, Kind, NULLABLE_STRINGS, OBJECT, SECOND, STRING, STRINGS, Typed, VOID, committed,
+    free, instance, named, nullable, plain,
 };
 use jn_hand_programs::lines::{
-    add, at, branch, call, construct, element, end, give, goto, int, length, new, new_array, null,
-    origin, print, read, row, same, store, test_null, text, write,
+    add, at, branch, element, end, give, goto, int, length, new_array, null, origin, print, read,
+    row, same, store, test_null, text, write,
 };
-use jn_points::{BaseType, Point, Program};
+use jn_points::{BaseType, Program};
 use jn_quals::Qual;
 use std::alloc::{AllocError, Global};
-use std::test::Fail;
 
 const INT: BaseType = BaseType::Int;
 
@@ -31,39 +30,38 @@ const OTHER: BaseType = BaseType::Ref(SECOND);
 /// }
 /// ```
 fn list_of_nodes(alloc: Global) -> Result<Program, AllocError> {
-    let mut builder = ProgramBuilder::new(alloc)?;
-    let node = builder.add_class(OBJECT, &[])?;
-    let next = builder.add_field(node, 1, nullable(ONE))?;
-    let constructor = builder.add_method(node, named(0, 107), Kind::Constructor, &[], VOID)?;
-    builder.add_body(constructor, &[ONE], 1, vec![in alloc; end()]?)?;
+    let mut hand = Hand::new(alloc);
+    let node = hand.class(OBJECT, &[]);
+    let next = hand.field(node, 1, nullable(ONE));
+    let constructor = hand.method(node, named(0, 107), Kind::Constructor, &[], VOID);
+    hand.point(end());
+    hand.body(constructor, &[ONE], 1);
     let x = committed(ONE);
-    let size = builder.add_method(node, named(2, 314), Kind::Static, &[x], plain(INT))?;
+    let size = hand.method(node, named(2, 314), Kind::Static, &[x], plain(INT));
     let regs = [ONE, INT, INT, ONE, INT, INT];
-    builder.add_body(size, &regs, 2, counting(alloc, next)?)?;
-    Ok(builder.finish())
+    counting(&mut hand, next);
+    hand.body(size, &regs, 2);
+    hand.finish()
 }
 
-fn counting(alloc: Global, next: FieldNo) -> Result<Vec<Point>, AllocError> {
-    Ok(vec![in alloc;
-        int(2, 1),
-        store(1, at(2, 413)),
-        read(3, at(0, 517), next),
-        store(0, at(3, 517)),
-        test_null(at(0, 513), None, 10, 5),
-        store(2, at(1, 534)),
-        int(4, 1),
-        add(5, at(1, 534), at(4, 534)),
-        store(1, at(5, 534)),
-        goto(2),
-        give(at(1, 612)),
-        end(),
-    ]?)
+fn counting(hand: &mut Hand, next: FieldNo) {
+    hand.point(int(2, 1));
+    hand.point(store(1, at(2, 413)));
+    hand.point(read(3, at(0, 517), next));
+    hand.point(store(0, at(3, 517)));
+    hand.point(test_null(at(0, 513), None, 10, 5));
+    hand.point(store(2, at(1, 534)));
+    hand.point(int(4, 1));
+    hand.point(add(5, at(1, 534), at(4, 534)));
+    hand.point(store(1, at(5, 534)));
+    hand.point(goto(2));
+    hand.point(give(at(1, 612)));
+    hand.point(end());
 }
 
 #[test]
-fn goes_along_a_list(rt: HostRuntime) -> Result<(), Fail> {
-    expect_rows(&rt, rt.alloc(), &list_of_nodes(rt.alloc())?, &[])?;
-    Ok(())
+fn goes_along_a_list(rt: HostRuntime) {
+    expect_rows(&rt, rt.alloc(), list_of_nodes(rt.alloc()), &[]);
 }
 
 /// What stands between the test and the second reading.
@@ -87,63 +85,55 @@ enum Between {
 /// }
 /// ```
 fn tested_field(alloc: Global, between: Between, from: u32) -> Result<Program, AllocError> {
-    let mut builder = ProgramBuilder::new(alloc)?;
-    let class = builder.add_class(OBJECT, &[])?;
-    let f = builder.add_field(class, 1, nullable(ONE))?;
-    let constructor = builder.add_method(class, named(0, 107), Kind::Constructor, &[], VOID)?;
-    builder.add_body(constructor, &[ONE], 1, vec![in alloc; end()]?)?;
-    let m = builder.add_method(class, named(2, 308), instance(), &[], VOID)?;
-    builder.add_body(m, &[ONE], 1, vec![in alloc; end()]?)?;
-    let reset = builder.add_method(class, named(3, 408), instance(), &[], VOID)?;
-    let points = vec![in alloc; null(1), write(at(0, 418), f, at(1, 422)), end()]?;
-    builder.add_body(reset, &[ONE, BaseType::Null], 1, points)?;
+    let mut hand = Hand::new(alloc);
+    let class = hand.class(OBJECT, &[]);
+    let f = hand.field(class, 1, nullable(ONE));
+    let constructor = hand.method(class, named(0, 107), Kind::Constructor, &[], VOID);
+    hand.point(end());
+    hand.body(constructor, &[ONE], 1);
+    let m = hand.method(class, named(2, 308), instance(), &[], VOID);
+    hand.point(end());
+    hand.body(m, &[ONE], 1);
+    let reset = hand.method(class, named(3, 408), instance(), &[], VOID);
+    hand.point(null(1));
+    hand.point(write(at(0, 418), f, at(1, 422)));
+    hand.point(end());
+    hand.body(reset, &[ONE, BaseType::Null], 1);
     let params = [committed(ONE), committed(ONE)];
-    let t = builder.add_method(class, named(4, 508), instance(), &params, VOID)?;
-    let mut points = Vec::new(alloc);
-    points.push(read(3, at(1, 609), f))?;
+    let t = hand.method(class, named(4, 508), instance(), &params, VOID);
+    hand.point(read(3, at(1, 609), f));
     match between {
-        Between::Nothing => points.push(test_null(at(3, 609), origin(1, f), 4, 2))?,
+        Between::Nothing => hand.point(test_null(at(3, 609), origin(1, f), 4, 2)),
         Between::Call => {
-            points.push(test_null(at(3, 609), origin(1, f), 5, 2))?;
-            points.push(call(alloc, reset, Some(at(0, 624)), &[])?)?
+            hand.point(test_null(at(3, 609), origin(1, f), 5, 2));
+            hand.call(reset, Some(at(0, 624)), &[]);
         }
         Between::Write => {
-            points.push(test_null(at(3, 609), origin(1, f), 6, 2))?;
-            points.push(null(4))?;
-            points.push(write(at(2, 624), f, at(4, 630)))?
+            hand.point(test_null(at(3, 609), origin(1, f), 6, 2));
+            hand.point(null(4));
+            hand.point(write(at(2, 624), f, at(4, 630)));
         }
     }
-    points.push(read(3, at(1, from), f))?;
-    points.push(call(alloc, m, Some(at(3, from)), &[])?)?;
-    points.push(end())?;
-    builder.add_body(t, &[ONE, ONE, ONE, ONE, BaseType::Null], 3, points)?;
-    Ok(builder.finish())
+    hand.point(read(3, at(1, from), f));
+    hand.call(m, Some(at(3, from)), &[]);
+    hand.point(end());
+    hand.body(t, &[ONE, ONE, ONE, ONE, BaseType::Null], 3);
+    hand.finish()
 }
 
 #[test]
-fn facts_on_a_field(rt: HostRuntime) -> Result<(), Fail> {
+fn facts_on_a_field(rt: HostRuntime) {
     let alloc = rt.alloc();
-    expect_rows(
-        &rt,
-        alloc,
-        &tested_field(alloc, Between::Nothing, 622)?,
-        &[],
-    )?;
+    expect_rows(&rt, alloc, tested_field(alloc, Between::Nothing, 622), &[]);
     let called = [row(Code::Deref, 633)];
-    expect_rows(
-        &rt,
-        alloc,
-        &tested_field(alloc, Between::Call, 633)?,
-        &called,
-    )?;
+    expect_rows(&rt, alloc, tested_field(alloc, Between::Call, 633), &called);
     let written = [row(Code::Deref, 636)];
     expect_rows(
         &rt,
         alloc,
-        &tested_field(alloc, Between::Write, 636)?,
+        tested_field(alloc, Between::Write, 636),
         &written,
-    )?;
-    Ok(())
+    );
 }
 
 /// ```java
@@ -158,46 +148,41 @@ fn facts_on_a_field(rt: HostRuntime) -> Result<(), Fail> {
 /// }
 /// ```
 fn called_early(alloc: Global, receiver: Qual) -> Result<Program, AllocError> {
-    let mut builder = ProgramBuilder::new(alloc)?;
-    let a = builder.add_abstract_class()?;
-    let b = builder.add_class(a, &[])?;
-    let s = builder.add_field(b, 1, committed(STRING))?;
-    let new_a = builder.add_method(a, named(2, 203), Kind::Constructor, &[], VOID)?;
-    let init = builder.add_method(a, named(3, 317), Kind::Abstract(receiver), &[], VOID)?;
-    let new_b = builder.add_method(b, named(4, 703), Kind::Constructor, &[], VOID)?;
-    let own_init = builder.add_method(b, named(3, 808), Kind::Instance(receiver), &[], VOID)?;
-    let starts = vec![in alloc; call(alloc, init, Some(at(0, 209)), &[])?, end()]?;
-    builder.add_body(new_a, &[ONE], 1, starts)?;
-    let sets = vec![in alloc;
-        construct(alloc, new_a, &[], false)?,
-        text(1),
-        write(at(0, 709), s, at(1, 718)),
-        end(),
-    ]?;
-    builder.add_body(new_b, &[OTHER, STRING], 1, sets)?;
-    let reads = vec![in alloc; read(1, at(0, 844), s), length(2, at(1, 844)), end()]?;
-    builder.add_body(own_init, &[OTHER, STRING, INT], 1, reads)?;
-    Ok(builder.finish())
+    let mut hand = Hand::new(alloc);
+    let a = hand.abstract_class();
+    let b = hand.class(a, &[]);
+    let s = hand.field(b, 1, committed(STRING));
+    let new_a = hand.method(a, named(2, 203), Kind::Constructor, &[], VOID);
+    let init = hand.method(a, named(3, 317), Kind::Abstract(receiver), &[], VOID);
+    let new_b = hand.method(b, named(4, 703), Kind::Constructor, &[], VOID);
+    let own_init = hand.method(b, named(3, 808), Kind::Instance(receiver), &[], VOID);
+    hand.call(init, Some(at(0, 209)), &[]);
+    hand.point(end());
+    hand.body(new_a, &[ONE], 1);
+    hand.construct(new_a, &[], false);
+    hand.point(text(1));
+    hand.point(write(at(0, 709), s, at(1, 718)));
+    hand.point(end());
+    hand.body(new_b, &[OTHER, STRING], 1);
+    hand.point(read(1, at(0, 844), s));
+    hand.point(length(2, at(1, 844)));
+    hand.point(end());
+    hand.body(own_init, &[OTHER, STRING, INT], 1);
+    hand.finish()
 }
 
 #[test]
-fn call_during_construction(rt: HostRuntime) -> Result<(), Fail> {
+fn call_during_construction(rt: HostRuntime) {
     let alloc = rt.alloc();
     let receiver = [row(Code::RecvInit, 209)];
     expect_rows(
         &rt,
         alloc,
-        &called_early(alloc, Qual::committed_only())?,
+        called_early(alloc, Qual::committed_only()),
         &receiver,
-    )?;
+    );
     let reading = [row(Code::Deref, 844)];
-    expect_rows(
-        &rt,
-        alloc,
-        &called_early(alloc, Qual::free_only())?,
-        &reading,
-    )?;
-    Ok(())
+    expect_rows(&rt, alloc, called_early(alloc, Qual::free_only()), &reading);
 }
 
 /// ```java
@@ -215,52 +200,44 @@ fn call_during_construction(rt: HostRuntime) -> Result<(), Fail> {
 /// }
 /// ```
 fn circle(alloc: Global, p: Typed) -> Result<Program, AllocError> {
-    let mut builder = ProgramBuilder::new(alloc)?;
-    let one = builder.add_class(OBJECT, &[])?;
-    let other = builder.add_class(OBJECT, &[])?;
-    let child = builder.add_field(one, 1, committed(OTHER))?;
-    let parent = builder.add_field(other, 2, committed(ONE))?;
-    let new_one = builder.add_method(one, named(3, 303), Kind::Constructor, &[], VOID)?;
-    let new_other = builder.add_method(other, named(4, 1103), Kind::Constructor, &[p], VOID)?;
-    let makes = vec![in alloc;
-        new(alloc, 1, new_other, &[at(0, 337)])?,
-        write(at(0, 314), child, at(1, 327)),
-        end(),
-    ]?;
-    builder.add_body(new_one, &[ONE, OTHER], 1, makes)?;
-    let keeps = vec![in alloc; write(at(0, 1142), parent, at(1, 1156)), end()]?;
-    builder.add_body(new_other, &[OTHER, ONE], 2, keeps)?;
+    let mut hand = Hand::new(alloc);
+    let one = hand.class(OBJECT, &[]);
+    let other = hand.class(OBJECT, &[]);
+    let child = hand.field(one, 1, committed(OTHER));
+    let parent = hand.field(other, 2, committed(ONE));
+    let new_one = hand.method(one, named(3, 303), Kind::Constructor, &[], VOID);
+    let new_other = hand.method(other, named(4, 1103), Kind::Constructor, &[p], VOID);
+    hand.create(1, new_other, &[at(0, 337)]);
+    hand.point(write(at(0, 314), child, at(1, 327)));
+    hand.point(end());
+    hand.body(new_one, &[ONE, OTHER], 1);
+    hand.point(write(at(0, 1142), parent, at(1, 1156)));
+    hand.point(end());
+    hand.body(new_other, &[OTHER, ONE], 2);
     let args = committed(STRINGS);
-    let main = builder.add_method(one, named(5, 422), Kind::Static, &[args], VOID)?;
+    let main = hand.method(one, named(5, 422), Kind::Static, &[args], VOID);
     let regs = [STRINGS, ONE, ONE, OTHER, ONE, BaseType::Bool];
-    builder.add_body(main, &regs, 2, compares(alloc, new_one, child, parent)?)?;
-    Ok(builder.finish())
+    compares(&mut hand, new_one, child, parent);
+    hand.body(main, &regs, 2);
+    hand.finish()
 }
 
-fn compares(
-    alloc: Global,
-    new_one: MethodNo,
-    child: FieldNo,
-    parent: FieldNo,
-) -> Result<Vec<Point>, AllocError> {
-    Ok(vec![in alloc;
-        new(alloc, 2, new_one, &[])?,
-        store(1, at(2, 516)),
-        read(3, at(1, 624), child),
-        read(4, at(3, 624), parent),
-        same(5, at(4, 624), at(1, 642)),
-        print(at(5, 624)),
-        end(),
-    ]?)
+fn compares(hand: &mut Hand, new_one: MethodNo, child: FieldNo, parent: FieldNo) {
+    hand.create(2, new_one, &[]);
+    hand.point(store(1, at(2, 516)));
+    hand.point(read(3, at(1, 624), child));
+    hand.point(read(4, at(3, 624), parent));
+    hand.point(same(5, at(4, 624), at(1, 642)));
+    hand.point(print(at(5, 624)));
+    hand.point(end());
 }
 
 #[test]
-fn objects_in_a_circle(rt: HostRuntime) -> Result<(), Fail> {
+fn objects_in_a_circle(rt: HostRuntime) {
     let alloc = rt.alloc();
-    expect_rows(&rt, alloc, &circle(alloc, free(ONE))?, &[])?;
+    expect_rows(&rt, alloc, circle(alloc, free(ONE)), &[]);
     let passed = [row(Code::ArgInit, 337)];
-    expect_rows(&rt, alloc, &circle(alloc, committed(ONE))?, &passed)?;
-    Ok(())
+    expect_rows(&rt, alloc, circle(alloc, committed(ONE)), &passed);
 }
 
 /// ```java
@@ -273,27 +250,24 @@ fn objects_in_a_circle(rt: HostRuntime) -> Result<(), Fail> {
 /// }
 /// ```
 fn early_end(alloc: Global) -> Result<Program, AllocError> {
-    let mut builder = ProgramBuilder::new(alloc)?;
-    let class = builder.add_class(OBJECT, &[])?;
-    let s = builder.add_field(class, 1, committed(STRING))?;
+    let mut hand = Hand::new(alloc);
+    let class = hand.class(OBJECT, &[]);
+    let s = hand.field(class, 1, committed(STRING));
     let b = plain(BaseType::Bool);
-    let constructor = builder.add_method(class, named(2, 303), Kind::Constructor, &[b], VOID)?;
-    let points = vec![in alloc;
-        branch(at(1, 409), 1, 2),
-        end(),
-        text(2),
-        write(at(0, 505), s, at(2, 514)),
-        end(),
-    ]?;
-    builder.add_body(constructor, &[ONE, BaseType::Bool, STRING], 2, points)?;
-    Ok(builder.finish())
+    let constructor = hand.method(class, named(2, 303), Kind::Constructor, &[b], VOID);
+    hand.point(branch(at(1, 409), 1, 2));
+    hand.point(end());
+    hand.point(text(2));
+    hand.point(write(at(0, 505), s, at(2, 514)));
+    hand.point(end());
+    hand.body(constructor, &[ONE, BaseType::Bool, STRING], 2);
+    hand.finish()
 }
 
 #[test]
-fn field_unassigned_at_one_end(rt: HostRuntime) -> Result<(), Fail> {
+fn field_unassigned_at_one_end(rt: HostRuntime) {
     let wanted = [row(Code::CtorFields, 303)];
-    expect_rows(&rt, rt.alloc(), &early_end(rt.alloc())?, &wanted)?;
-    Ok(())
+    expect_rows(&rt, rt.alloc(), early_end(rt.alloc()), &wanted);
 }
 
 /// ```java
@@ -305,25 +279,26 @@ fn field_unassigned_at_one_end(rt: HostRuntime) -> Result<(), Fail> {
 /// }
 /// ```
 fn registering(alloc: Global, r: Typed) -> Result<Program, AllocError> {
-    let mut builder = ProgramBuilder::new(alloc)?;
-    let reg = builder.add_class(OBJECT, &[])?;
-    let item = builder.add_class(OBJECT, &[])?;
-    let last = builder.add_field(reg, 1, nullable(OTHER))?;
-    let new_reg = builder.add_method(reg, named(2, 107), Kind::Constructor, &[], VOID)?;
-    builder.add_body(new_reg, &[ONE], 1, vec![in alloc; end()]?)?;
-    let new_item = builder.add_method(item, named(3, 503), Kind::Constructor, &[r], VOID)?;
-    let points = vec![in alloc; write(at(1, 517), last, at(0, 526)), end()]?;
-    builder.add_body(new_item, &[OTHER, ONE], 2, points)?;
-    Ok(builder.finish())
+    let mut hand = Hand::new(alloc);
+    let reg = hand.class(OBJECT, &[]);
+    let item = hand.class(OBJECT, &[]);
+    let last = hand.field(reg, 1, nullable(OTHER));
+    let new_reg = hand.method(reg, named(2, 107), Kind::Constructor, &[], VOID);
+    hand.point(end());
+    hand.body(new_reg, &[ONE], 1);
+    let new_item = hand.method(item, named(3, 503), Kind::Constructor, &[r], VOID);
+    hand.point(write(at(1, 517), last, at(0, 526)));
+    hand.point(end());
+    hand.body(new_item, &[OTHER, ONE], 2);
+    hand.finish()
 }
 
 #[test]
-fn stored_too_early(rt: HostRuntime) -> Result<(), Fail> {
+fn stored_too_early(rt: HostRuntime) {
     let alloc = rt.alloc();
     let wanted = [row(Code::FieldInit, 526)];
-    expect_rows(&rt, alloc, &registering(alloc, committed(ONE))?, &wanted)?;
-    expect_rows(&rt, alloc, &registering(alloc, free(ONE))?, &[])?;
-    Ok(())
+    expect_rows(&rt, alloc, registering(alloc, committed(ONE)), &wanted);
+    expect_rows(&rt, alloc, registering(alloc, free(ONE)), &[]);
 }
 
 /// ```java
@@ -336,21 +311,19 @@ fn stored_too_early(rt: HostRuntime) -> Result<(), Fail> {
 /// }
 /// ```
 fn new_arrays(alloc: Global) -> Result<Program, AllocError> {
-    let mut builder = ProgramBuilder::new(alloc)?;
-    let class = builder.add_class(OBJECT, &[])?;
-    let t = builder.add_method(class, named(1, 208), instance(), &[], VOID)?;
-    let points = vec![in alloc;
-        int(3, 3),
-        new_array(4, STRINGS, at(3, 329), 318),
-        store(1, at(4, 318)),
-        int(3, 3),
-        new_array(5, NULLABLE_STRINGS, at(3, 449), 428),
-        store(2, at(5, 428)),
-        int(3, 0),
-        element(6, at(2, 505), at(3, 507)),
-        length(7, at(6, 505)),
-        end(),
-    ]?;
+    let mut hand = Hand::new(alloc);
+    let class = hand.class(OBJECT, &[]);
+    let t = hand.method(class, named(1, 208), instance(), &[], VOID);
+    hand.point(int(3, 3));
+    hand.point(new_array(4, STRINGS, at(3, 329), 318));
+    hand.point(store(1, at(4, 318)));
+    hand.point(int(3, 3));
+    hand.point(new_array(5, NULLABLE_STRINGS, at(3, 449), 428));
+    hand.point(store(2, at(5, 428)));
+    hand.point(int(3, 0));
+    hand.point(element(6, at(2, 505), at(3, 507)));
+    hand.point(length(7, at(6, 505)));
+    hand.point(end());
     let regs = [
         ONE,
         STRINGS,
@@ -361,13 +334,12 @@ fn new_arrays(alloc: Global) -> Result<Program, AllocError> {
         STRING,
         INT,
     ];
-    builder.add_body(t, &regs, 3, points)?;
-    Ok(builder.finish())
+    hand.body(t, &regs, 3);
+    hand.finish()
 }
 
 #[test]
-fn arrays_of_nulls(rt: HostRuntime) -> Result<(), Fail> {
+fn arrays_of_nulls(rt: HostRuntime) {
     let wanted = [row(Code::NewArray, 318), row(Code::Deref, 505)];
-    expect_rows(&rt, rt.alloc(), &new_arrays(rt.alloc())?, &wanted)?;
-    Ok(())
+    expect_rows(&rt, rt.alloc(), new_arrays(rt.alloc()), &wanted);
 }

@@ -1,0 +1,124 @@
+// A case is one line: what is shown, if not shapes; its kind, with a number if not the greatest depth; and its text.
+use crate::expressions::expression_text;
+use crate::forms::{brackets_text, form_text, points_text};
+use crate::outcome::{FILE, LIMIT, fail_text, tree_text};
+use crate::page::Shown;
+use crate::shape::statement_text;
+use crate::source::source_of;
+use crate::tokens::{names_text, tokens_text};
+use jn_base::OutOfMemory;
+use jn_known::KNOWN_NAMES;
+use jn_lexer::lex;
+use jn_trees::{Context, Names, Token};
+use std::alloc::Global;
+
+/// The greatest depth of nesting.
+const DEEPEST: u32 = 500;
+
+/// What a case reads, and what is shown of it.
+#[derive(Clone, Copy)]
+struct Reading<'c> {
+    kind: &'c str,
+    number: u32,
+    shown: Shown,
+}
+
+/// Where a statement stands that is read by this kind.
+fn context_of(kind: &str) -> Context {
+    Context {
+        in_loop: kind == "loop",
+        direct: kind != "loop",
+        leading: kind == "leading",
+    }
+}
+
+/// What becomes of the tokens of a text.
+fn reading_text(
+    alloc: Global,
+    reading: Reading,
+    names: &Names,
+    text: &[u8],
+    tokens: &[Token],
+) -> Result<String, OutOfMemory> {
+    let shown = reading.shown;
+    let number = reading.number;
+    let depth = number.min(DEEPEST);
+    match reading.kind {
+        "tokens" => tokens_text(alloc, tokens),
+        "names" => names_text(alloc, names),
+        "expression" => expression_text(alloc, names, tokens, 0, depth, shown),
+        "from" => expression_text(alloc, names, tokens, number, DEEPEST, shown),
+        "block" | "loop" | "leading" => {
+            statement_text(alloc, names, tokens, depth, context_of(reading.kind), shown)
+        }
+        "brackets" => brackets_text(alloc, tokens),
+        "form" => form_text(alloc, names, tokens),
+        "points" => points_text(alloc, tokens, shown),
+        "field" | "method" | "file" => tree_text(alloc, names, text, tokens, shown),
+        _ => Ok(String::from_str(alloc, "no kind")?),
+    }
+}
+
+/// Numbers the names that are known before any file is read.
+fn know_all(names: &mut Names) -> Result<(), OutOfMemory> {
+    for text in KNOWN_NAMES {
+        if names.len() < LIMIT {
+            names.intern(text)?;
+        }
+    }
+    Ok(())
+}
+
+/// The names that have a number before a text of this kind is read.
+fn names_before(alloc: Global, kind: &str) -> Result<Names, OutOfMemory> {
+    let mut names = Names::new(alloc);
+    if kind == "form" || kind == "points" {
+        know_all(&mut names)?;
+    }
+    Ok(names)
+}
+
+/// What becomes of a text.
+fn source_text(alloc: Global, reading: Reading, text: &[u8]) -> Result<String, OutOfMemory> {
+    let mut names = names_before(alloc, reading.kind)?;
+    if text.len() > LIMIT || names.len() > LIMIT {
+        return Ok(String::from_str(alloc, "too long")?);
+    }
+    match lex(alloc, text, FILE, &mut names) {
+        Ok(tokens) => reading_text(alloc, reading, &names, text, &tokens),
+        Err(fail) => fail_text(alloc, text, fail),
+    }
+}
+
+/// The kind and the number of a case's word, which is the greatest depth where it has none.
+fn reading_of(word: &str, shown: Shown) -> Reading {
+    let (kind, number) = match word.split_once('=') {
+        None => (word, DEEPEST),
+        Some((kind, digits)) => (kind, digits.parse::<u32>().unwrap_or(0)),
+    };
+    Reading {
+        kind,
+        number,
+        shown,
+    }
+}
+
+fn shown_answer(alloc: Global, shown: Shown, line: &str) -> Result<String, OutOfMemory> {
+    match line.split_once(' ') {
+        None => Ok(String::from_str(alloc, "no case")?),
+        Some((word, text)) => {
+            let reading = reading_of(word, shown);
+            let source = source_of(alloc, reading.kind, text)?;
+            source_text(alloc, reading, &source)
+        }
+    }
+}
+
+/// What becomes of the line's text.
+pub fn answer(alloc: Global, line: &str) -> Result<String, OutOfMemory> {
+    match line.split_once(' ') {
+        Some(("spans", rest)) => shown_answer(alloc, Shown::Places, rest),
+        Some(("brief", rest)) => shown_answer(alloc, Shown::Nothing, rest),
+        _ => shown_answer(alloc, Shown::Shapes, line),
+    }
+}
