@@ -302,17 +302,31 @@ fn longer_body(body: Option<OpenMember>, statement: Stmt) -> Result<Option<OpenM
 {
     match body {
         None => Ok(None),
-        Some(
-            OpenMember {
-                head,
-                statements,
-                from,
-            },
-        ) => Ok(Some(OpenMember {
+        Some(member) => Ok(Some(longer(member, statement)?)),
+    }
+}
+
+/// A member with a statement more.
+fn longer(member: OpenMember, statement: Stmt) -> Result<OpenMember, OutOfMemory>
+    ensures head { IfOk result (λ o. o.head ≡ member.head) }
+    ensures statements { IfOk result (λ o. o.statements.items ≡ member.statements.items ++ statement ∷ []) }
+{
+    let OpenMember {
+        head,
+        statements,
+        from,
+    } = member;
+    match with(statements, statement) {
+        Ok(statements) => Ok(OpenMember {
             head,
-            statements: with(statements, statement)?,
+            statements,
             from,
-        })),
+        }),
+        Err(error) => {
+            // A drop here would split the proof by what the head holds.
+            forget(head);
+            Err(error)
+        }
     }
 }
 
@@ -394,8 +408,8 @@ fn member_of(head: MemberHead, body: Vec<Stmt>, span: Span) -> Member
     }
 }
 
-/// Drops what no type has.
-fn forget(_body: Option<OpenMember>) {}
+/// Drops what is left of something that isn't built.
+fn forget<T: Drop>(_rest: T) {}
 
 fn types_with(
     types: Vec<TypeTree>,
