@@ -4,3 +4,4 @@ pub mod Members
 pub mod Unique
 pub mod Pairs
 pub mod Dispatch
+pub mod Examples

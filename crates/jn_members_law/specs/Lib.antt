@@ -1,3 +1,4 @@
 pub mod Inherited
 pub mod Overrides
 pub mod Invoked
+pub mod Example
