@@ -1,12 +1,11 @@
 -- A class stands behind another of its name exactly where the first class of that name stands before it.
-use Rattle.std.proofs.Common.{◌≡◌, ◌<◌, ◌≤◌, ◌+◌, ℕ, zero, suc, Bool, true, false, cond, ◌||◌, List, [], ◌∷◌, map, take, Option, Some, None, refl, sym, ap, ◌∙◌, subst, eqb, ltb, arith}
+use Rattle.std.proofs.Common.{◌≡◌, ◌≤◌, ◌+◌, ℕ, zero, suc, Bool, true, false, cond, ◌||◌, List, [], ◌∷◌, map, take, Option, Some, None, refl, sym, ap, ◌∙◌, subst, eqb, arith}
 use Rattle.std.proofs.lemmas.Bool.{le-ltb, lt-ltb}
-use Rattle.jn_base.specs.declared.number.NameNo.{NameNo}
 use Rattle.jn_points.specs.declared.program.Class.{Class}
 use Rattle.jn_points.specs.Members.{first_at, some_of}
 use Rattle.jn_classtable.specs.declared.head.ClassHead.{ClassHead}
 use Rattle.jn_classtable.specs.Heads.{number, object_head, string_head}
-use Rattle.jn_classtable.specs.Table.{class_under, declared_class, table}
+use Rattle.jn_classtable.specs.Table.{declared_class, table}
 use Rattle.jn_classtable.specs.TypePlaces.{is_before}
 use Rattle.jn_classtable.specs.Rows.{earlier, same_class_name}
 

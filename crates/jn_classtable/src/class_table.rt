@@ -38,11 +38,7 @@ impl Model for ClassTable {
 }
 
 impl ClassTable {
-    pub(crate) fn new(
-        declared: Declarations,
-        program: Program,
-        index: Option<Index>,
-    ) -> ClassTable
+    pub(crate) fn new(declared: Declarations, program: Program, index: Option<Index>) -> ClassTable
         requires table { IsTable declared program }
         requires index { IfSome index (λ i. IsIndex (table declared) i) }
         ensures { result ≡ declared }

@@ -161,10 +161,7 @@ pub fn told(
     if way.len() > 0 && way.len() <= program.classes.len() && leads_back(program, place, way) {
         return Some(true);
     }
-    if !mark_at(met, place)
-        && all_marked(met, class.supers.as_slice())
-        && is_closed(met, program)
-    {
+    if !mark_at(met, place) && all_marked(met, class.supers.as_slice()) && is_closed(met, program) {
         return Some(false);
     }
     None
