@@ -1,6 +1,6 @@
 -- One file more is lexed or parsed.
 use Rattle.std.proofs.Common.{◌≡◌, ℕ, zero, suc, ◌+◌, ◌*◌, ◌<◌, ◌≤◌, List, [], ◌∷◌, ◌++◌, length, drop, get_or, refl, sym, ap, ◌∙◌, subst, arith, inl, inr, append_assoc, append-nil, Bool, true, false}
-use Rattle.std.specs.Prelude.{◌⊎◌, min, cond, map}
+use Rattle.std.specs.Prelude.{cond, map}
 use Rattle.std.proofs.Math.Nat.{min-eq_left, min-eq_right}
 use Rattle.std.proofs.lemmas.Bool.{le-ltb}
 use Rattle.std.proofs.Math.ListN.{drop_of_length-le}
@@ -20,7 +20,7 @@ use Rattle.jn_base.specs.declared.code.Code.TheVariants.{B1}
 use Rattle.jn_front.specs.Counted.{ReadsFit, size_at, counted_read}
 use Rattle.jn_front.specs.Limits.{row_at, counted, large_row, passing_row, size_rows, limit_rows}
 use Rattle.jn_front.specs.Files.{files_of_reads, IsReadOf, AreReads, most_files}
-use Rattle.jn_front.specs.Phases.{file_no, ArePlaced, LexedFrom, FaultRows, Parses, SyntaxRows}
+use Rattle.jn_front.specs.Phases.{file_no, ArePlaced, LexedFrom, FaultRows, SyntaxRows}
 use Rattle.jn_front.specs.Steps.{LexStep, ParseStep}
 
 -- ---- lexing

@@ -1,6 +1,5 @@
 -- Files have one list of names, tokens and trees, or the rows of one phase.
-use Rattle.std.proofs.Common.{◌≡◌, ℕ, ◌+◌, ◌<◌, ◌≤◌, List, [], ◌∷◌, length, refl, sym, ap, ◌∙◌, subst, arith, inl, inr}
-use Rattle.std.specs.Prelude.{◌⊎◌}
+use Rattle.std.proofs.Common.{◌≡◌, ℕ, ◌+◌, List, [], ◌∷◌, refl, sym, ap, ◌∙◌, subst, inl, inr}
 use Rattle.jn_base.specs.declared.number.FileNo.{FileNo}
 use Rattle.jn_base.specs.declared.place.Row.{Row}
 use Rattle.jn_trees.specs.declared.token.Token.{Token}
@@ -13,8 +12,7 @@ use Rattle.jn_lexer.specs.Lexed.{Lexed}
 use Rattle.jn_lexer.specs.Faults.{LexicalFault}
 use Rattle.jn_known.specs.Known.{known_names}
 use Rattle.jn_front.specs.declared.source.SourceFile.{SourceFile}
-use Rattle.jn_front.specs.Limits.{limit_rows}
-use Rattle.jn_front.specs.Phases.{file_no, LexedFrom, FaultRows, Parses, SyntaxRows, ArePlaced, AreParsed, LimitRows, LexicalRows, GrammarRows, FrontRows}
+use Rattle.jn_front.specs.Phases.{file_no, LexedFrom, FaultRows, SyntaxRows, ArePlaced, AreParsed, LexicalRows, GrammarRows, FrontRows}
 
 -- ---- one list of rows
 

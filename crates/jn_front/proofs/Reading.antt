@@ -11,7 +11,7 @@ use Rattle.jn_base.specs.declared.refusal.Fail.TheVariants.{Refused, OutOfMemory
 use Rattle.jn_outside.specs.declared.files.Failed.{Failed}
 use Rattle.jn_front.specs.declared.source.SourceFile.{SourceFile}
 use Rattle.jn_front.specs.declared.source.SourceRead.{SourceRead}
-use Rattle.jn_front.specs.Files.{ReadFrom, AreHeld, AllHeld, AreReads, IsReadOf, CannotRead, read_as, names_of, file_limit}
+use Rattle.jn_front.specs.Files.{ReadFrom, AreHeld, AllHeld, AreReads, CannotRead, read_as, names_of, file_limit}
 
 -- ---- one file
 

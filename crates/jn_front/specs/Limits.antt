@@ -1,10 +1,9 @@
 -- The rows of the limits on files.
-use Rattle.std.specs.Prelude.{ℕ, ◌+◌, ◌≤◌, min, nat_lt, nat_le, Bool, true, false, List, [], ◌∷◌, ◌++◌, length, map, cond, ◌&&◌}
+use Rattle.std.specs.Prelude.{ℕ, ◌+◌, min, nat_lt, nat_le, List, [], ◌∷◌, ◌++◌, length, map, cond, ◌&&◌}
 use Rattle.jn_base.specs.declared.place.Row.{Row}
 use Rattle.jn_base.specs.declared.code.Code.{Code}
 use Rattle.jn_base.specs.declared.code.Code.TheVariants.{B1, B2, B3}
 use Rattle.jn_front.specs.declared.source.SourceFile.{SourceFile}
-use Rattle.jn_front.specs.declared.source.SourceRead.{SourceRead}
 use Rattle.jn_front.specs.Files.{file_limit, most_files}
 
 -- bytes of all files, where a file that is too large counts as one byte more than the limit

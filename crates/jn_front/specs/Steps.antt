@@ -1,5 +1,5 @@
 -- What one file adds to what was lexed and parsed.
-use Rattle.std.specs.Prelude.{◌≡◌, ◌⊎◌, ℕ, List, [], ◌∷◌, ◌++◌, length}
+use Rattle.std.specs.Prelude.{◌≡◌, ◌⊎◌, ℕ, List, [], ◌∷◌, ◌++◌}
 use Rattle.jn_base.specs.declared.place.Row.{Row}
 use Rattle.jn_base.specs.declared.number.FileNo.{FileNo}
 use Rattle.jn_trees.specs.declared.token.Token.{Token}

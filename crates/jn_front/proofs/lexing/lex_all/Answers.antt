@@ -1,4 +1,4 @@
-use Rattle.std.proofs.Common.{◌≡◌, ◌+◌, ◌*◌, ◌≤◌, ◌<◌, length, get_or, ap, sym, ◌∙◌, arith}
+use Rattle.std.proofs.Common.{◌+◌, length, get_or, ap, arith}
 use Rattle.jn_front.specs.declared.source.SourceRead.{SourceRead}
 use Rattle.jn_front.proofs.Loops.{fits_at, files_behind, few_names_more, lexed_more, lex_step_of, faults_end, tokens_end}
 use Rattle.jn_front.proofs.lexing.lex_all.Goals as goal

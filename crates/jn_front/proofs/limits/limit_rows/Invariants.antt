@@ -1,4 +1,4 @@
-use Rattle.std.proofs.Common.{◌≡◌, ◌≤◌, ◌+◌, ◌*◌, ◌++◌, length, drop, map}
+use Rattle.std.proofs.Common.{◌≡◌, ◌≤◌, ◌*◌, ◌++◌, drop, map}
 use Rattle.jn_front.specs.Counted.{counted_read}
 use Rattle.jn_front.specs.Limits.{size_rows}
 use Rattle.jn_front.proofs.limits.limit_rows.Given as goal

@@ -1,4 +1,4 @@
-use Rattle.std.proofs.Common.{◌≡◌, ◌+◌, ◌<◌, length, map, ap, sym, ◌∙◌, arith}
+use Rattle.std.proofs.Common.{◌+◌, length, map, ap, ◌∙◌, arith}
 use Rattle.jn_places.specs.PlacedView.{placed_file}
 use Rattle.jn_known.specs.Known.{known_names}
 use Rattle.jn_front.proofs.Loops.{few_from, as_many, parsed_next, parsed_end, placed_end}

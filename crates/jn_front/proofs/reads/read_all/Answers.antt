@@ -1,4 +1,4 @@
-use Rattle.std.proofs.Common.{◌≡◌, length, get_or, ap, sym, ◌∙◌, subst, Vec, Global}
+use Rattle.std.proofs.Common.{ap, ◌∙◌, Vec, Global}
 use Rattle.jn_front.specs.declared.source.SourceRead.{SourceRead}
 use Rattle.std.specs.Prelude.{string_bytes}
 use Rattle.jn_front.proofs.Reading.{one_more, held_now, passed_on}

@@ -1,4 +1,4 @@
-use Rattle.std.proofs.Common.{◌≡◌, ap, sym, ◌∙◌, Err}
+use Rattle.std.proofs.Common.{ap, ◌∙◌, Err}
 use Rattle.jn_base.specs.declared.refusal.Fail.TheVariants.{Refused as RefusedFail}
 use Rattle.jn_front.proofs.Reading.{read_whole_from, read_large_from}
 use Rattle.jn_front.proofs.reads.read_one.Goals as goal
