@@ -6,6 +6,8 @@
 
 pub mod annotations;
 pub mod files;
+pub mod members;
 pub mod notes;
 
 pub mod row;
+pub mod setting;
