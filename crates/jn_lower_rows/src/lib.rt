@@ -5,9 +5,13 @@
 #![tactic(auto)]
 
 pub mod annotations;
+pub mod calls;
+pub mod expressions;
 pub mod files;
 pub mod members;
+pub mod names;
 pub mod notes;
 
+pub mod receivers;
 pub mod row;
 pub mod setting;
