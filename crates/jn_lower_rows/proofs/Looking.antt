@@ -1,6 +1,6 @@
 -- The rows and the type of each form that has a list of expressions or more than one step, of those of its parts.
-use Rattle.std.proofs.Common.{◌≡◌, ℕ, length, append-nil, suc, zero, Bool, true, false, cond, not, ◌&&◌, ◌||◌, eqb, List, [], ◌∷◌, ◌++◌, Option, Some, None, Box, Vec, Global, refl, sym, ap, ◌∙◌, subst}
-use Rattle.jn_base.specs.declared.code.Code.TheVariants.{J1, J2, J5}
+use Rattle.std.proofs.Common.{◌≡◌, ℕ, length, append-nil, suc, zero, Bool, true, false, cond, not, ◌&&◌, ◌||◌, eqb, List, [], ◌++◌, Option, Some, None, Box, Vec, Global, refl, sym, ap, ◌∙◌, subst}
+use Rattle.jn_base.specs.declared.code.Code.TheVariants.{J1, J5}
 use Rattle.jn_base.specs.declared.place.Row.{Row}
 use Rattle.jn_base.specs.declared.place.Span.{Span}
 use Rattle.jn_trees.specs.declared.expression.Annotation.{Annotation}
@@ -13,20 +13,18 @@ use Rattle.jn_points.specs.declared.point.BaseType.{BaseType}
 use Rattle.jn_points.specs.declared.point.BaseType.TheVariants.{Int, Bool as BoolBase, Void, Null, Ref, Array}
 use Rattle.jn_points.specs.declared.point.StrOperation.TheVariants.{Length, IsEmpty, Equals}
 use Rattle.jn_points.specs.declared.program.Program.{Program}
-use Rattle.jn_points.specs.Lookup.{is_array}
-use Rattle.jn_points.specs.Members.{constructor_of, method_of}
-use Rattle.jn_known.specs.Known.{equals_name, is_empty_name, is_object_member, length_name, println_name}
-use Rattle.jn_places.specs.Placed.{PlacedTree, PlacedTrees, PlacedCall, PlacedOwnCall, PlacedSuperCall, PlacedNew, PlacedArrayOf}
+use Rattle.jn_points.specs.Members.{method_of}
+use Rattle.jn_known.specs.Known.{equals_name, is_empty_name, is_object_member, length_name}
+use Rattle.jn_places.specs.Placed.{PlacedTree, PlacedCall}
 use Rattle.jn_places.specs.PlacedView.{placed_view, placed_views}
 use Rattle.jn_lowering.specs.Annotations.{row, unless, when}
 use Rattle.jn_lowering.specs.Bases.{access_type, array_type, binary_type, callee_type, operator_of, ref, result_type}
 use Rattle.jn_lowering.specs.Expressions.{is_null}
 use Rattle.jn_lowering.specs.ExpressionRows as spec
-use Rattle.jn_lowering.specs.Scopes.{Access, access_by, Callee, Println, OfText, ClassMethod, ObjectMethod, NoMethod, Meaning, LocalMeant, FieldMeant, ClassMeant, SystemMeant, NothingMeant, callee, callee_by, callee_of, class_callee, class_named, count, is_output, object_callee, or_zero, super_method, text_callee}
+use Rattle.jn_lowering.specs.Scopes.{Access, access_by, Callee, Println, OfText, ClassMethod, ObjectMethod, NoMethod, Meaning, LocalMeant, FieldMeant, ClassMeant, SystemMeant, NothingMeant, callee, callee_by, callee_of, class_callee, class_named, count, object_callee, or_zero, super_method, text_callee}
 use Rattle.jn_scopes.specs.declared.context.Context.{Context}
-use Rattle.jn_scopes.specs.Views.{access_of, meaning_of, scope_in, type_in}
+use Rattle.jn_scopes.specs.Views.{meaning_of, scope_in, type_in}
 use Rattle.jn_scopes.proofs.Seen.{seen_call, seen_own_call, seen_super_call, seen_new, seen_array_of}
-use Rattle.jn_scopes.specs.declared.context.Access as accesses
 use Rattle.jn_lower_rows.specs.declared.receivers.Before as receivers
 use Rattle.jn_lower_rows.specs.declared.setting.Setting.{Setting}
 use Rattle.jn_lower_rows.specs.Views.{all_in, assigned_in, rows_in, setting_of}
@@ -100,17 +98,19 @@ module _ (c : Context) (at : Setting) where
 
   pub own_looks : (e : Expr) (n : Identifier) (v : Vec Expr Global) (s : Span) (es : List Expr) (k : ℕ) (base : BaseType) (old r1 r2 : List Row) → e ≡ OwnCall n v s → es ≡ v.items → k ≡ count (placed_views es) →
       base ≡ result_type P (method_of P c.class.0 n.name.0 k) → r1 ≡ old ++ all_in c at (placed_views es) → r2 ≡ r1 ++ member n.name.0 n.span (spec.own_method_rows P (setting_of at) (method_of P c.class.0 n.name.0 k) n.span) → Looks (placed_view e) base old r2
-  own_looks e n v s es k base old r1 r2 is b ke t f g = subst (λ x. Looks x base old r2) (sym (seen_own_call e n v s es is b))
-      (t ∙ ap (λ k. result_type P (method_of P c.class.0 n.name.0 k)) ke,
-      two old (all_in c at (placed_views es)) (member n.name.0 n.span (spec.own_method_rows P (setting_of at) (method_of P c.class.0 n.name.0 (count (placed_views es))) n.span)) r1 r2 f (g ∙ ap (λ k. r1 ++ member n.name.0 n.span (spec.own_method_rows P (setting_of at) (method_of P c.class.0 n.name.0 k) n.span)) ke))
+  own_looks e n v s es k base old r1 r2 is b ke t f g = subst (λ x. Looks x base old r2) (sym (seen_own_call e n v s es is b)) (
+    t ∙ ap (λ k. result_type P (method_of P c.class.0 n.name.0 k)) ke,
+    two old (all_in c at (placed_views es)) (member n.name.0 n.span (spec.own_method_rows P (setting_of at) (method_of P c.class.0 n.name.0 (count (placed_views es))) n.span)) r1 r2 f (g ∙ ap (λ k. r1 ++ member n.name.0 n.span (spec.own_method_rows P (setting_of at) (method_of P c.class.0 n.name.0 k) n.span)) ke),
+  )
 
   pub super_looks : (e : Expr) (n : Identifier) (v : Vec Expr Global) (s : Span) (es : List Expr) (k : ℕ) (base : BaseType) (old r1 r2 r3 : List Row) → e ≡ SuperCall n v s → es ≡ v.items → k ≡ count (placed_views es) →
       base ≡ result_type P (super_method P c.class.0 n.name.0 k) → r1 ≡ old ++ when (not at.this_stands) (row J1 s) → r2 ≡ r1 ++ all_in c at (placed_views es) →
       r3 ≡ r2 ++ member n.name.0 n.span (when at.this_stands (spec.super_method_rows P c.class.0 (super_method P c.class.0 n.name.0 k) n.span)) → Looks (placed_view e) base old r3
-  super_looks e n v s es k base old r1 r2 r3 is b ke t f g h = subst (λ x. Looks x base old r3) (sym (seen_super_call e n v s es is b))
-      (t ∙ ap (λ k. result_type P (super_method P c.class.0 n.name.0 k)) ke,
-      three old (when (not at.this_stands) (row J1 s)) (all_in c at (placed_views es)) (member n.name.0 n.span (when at.this_stands (spec.super_method_rows P c.class.0 (super_method P c.class.0 n.name.0 (count (placed_views es))) n.span))) r1 r2 r3 f g
-          (h ∙ ap (λ k. r2 ++ member n.name.0 n.span (when at.this_stands (spec.super_method_rows P c.class.0 (super_method P c.class.0 n.name.0 k) n.span))) ke))
+  super_looks e n v s es k base old r1 r2 r3 is b ke t f g h = subst (λ x. Looks x base old r3) (sym (seen_super_call e n v s es is b)) (
+    t ∙ ap (λ k. result_type P (super_method P c.class.0 n.name.0 k)) ke,
+    three old (when (not at.this_stands) (row J1 s)) (all_in c at (placed_views es)) (member n.name.0 n.span (when at.this_stands (spec.super_method_rows P c.class.0 (super_method P c.class.0 n.name.0 (count (placed_views es))) n.span))) r1 r2 r3 f g
+        (h ∙ ap (λ k. r2 ++ member n.name.0 n.span (when at.this_stands (spec.super_method_rows P c.class.0 (super_method P c.class.0 n.name.0 k) n.span))) ke),
+  )
 
   pub new_looks : (e : Expr) (n : Identifier) (v : Vec Expr Global) (s : Span) (es : List Expr) (k : ℕ) (base : BaseType) (old r1 r2 : List Row) → e ≡ New n v s → es ≡ v.items → k ≡ count (placed_views es) →
       base ≡ ref (or_zero (class_named P n.name.0)) → r1 ≡ old ++ all_in c at (placed_views es) → r2 ≡ r1 ++ spec.new_rows P c.class.0 (class_named P n.name.0) k n.span → Looks (placed_view e) base old r2
@@ -144,18 +144,20 @@ module _ (c : Context) (at : Setting) where
 
   pub print_looks : (e t : Expr) (p : Box Expr Global) (n : Identifier) (v : Vec Expr Global) (s : Span) (es : List Expr) (k : ℕ) (old r1 : List Row) → e ≡ Call p n v s → t ≡ p.value → es ≡ v.items → k ≡ count (placed_views es) →
       prints (placed_view t) n k ≡ true → r1 ≡ old ++ all_in c at (placed_views es) → Looks (placed_view e) Void old r1
-  print_looks e t p n v s es k old r1 is te b ke q f = subst (λ x. Looks x Void old r1) (sym (seen_dotted e t p n v s es is te b))
-      (subst (λ k. Void ≡ tree_type (placed_view t) n k) ke (ap (λ b. callee_type P (named b (placed_view t) n k)) (sym q)),
-      f ∙ ap (λ x. old ++ x) (subst (λ k. all_in c at (placed_views es) ≡ tree_rows (placed_view t) n k (all_in c at (placed_views es))) ke
-          (ap (λ b. spec.dotted_call_rows P c.class.0 (named b (placed_view t) n k) (before_in c (placed_view t)) (type_in c (placed_view t)) (rows_in c at (placed_view t)) (all_in c at (placed_views es)) n.name.0 k n.span) (sym q))))
+  print_looks e t p n v s es k old r1 is te b ke q f = subst (λ x. Looks x Void old r1) (sym (seen_dotted e t p n v s es is te b)) (
+    subst (λ k. Void ≡ tree_type (placed_view t) n k) ke (ap (λ b. callee_type P (named b (placed_view t) n k)) (sym q)),
+    f ∙ ap (λ x. old ++ x) (subst (λ k. all_in c at (placed_views es) ≡ tree_rows (placed_view t) n k (all_in c at (placed_views es))) ke
+        (ap (λ b. spec.dotted_call_rows P c.class.0 (named b (placed_view t) n k) (before_in c (placed_view t)) (type_in c (placed_view t)) (rows_in c at (placed_view t)) (all_in c at (placed_views es)) n.name.0 k n.span) (sym q))),
+  )
 
   pub call_looks : (e t : Expr) (p : Box Expr Global) (n : Identifier) (v : Vec Expr Global) (s : Span) (es : List Expr) (k : ℕ) (m : Meaning) (base : BaseType) (clean : Bool) (given : BaseType) (old r1 r2 r3 : List Row) → e ≡ Call p n v s → t ≡ p.value → es ≡ v.items → k ≡ count (placed_views es) →
       prints (placed_view t) n k ≡ false → m ≡ before_in c (placed_view t) → base ≡ base_before (before_in c (placed_view t)) (type_in c (placed_view t)) → clean ≡ is_clean (rows_before (before_in c (placed_view t)) (rows_in c at (placed_view t))) →
       r1 ≡ old ++ rows_before (before_in c (placed_view t)) (rows_in c at (placed_view t)) → r2 ≡ r1 ++ all_in c at (placed_views es) → r3 ≡ r2 ++ method_behind P c.class.0 m base clean n.name.0 k n.span →
       given ≡ callee_type P (callee_by P m base n.name.0 k) → Looks (placed_view e) given old r3
-  call_looks e t p n v s es k m base clean given old r1 r2 r3 is te b ke q me be ce f g h ty = subst (λ x. Looks x given old r3) (sym (seen_dotted e t p n v s es is te b))
-      (ty ∙ ap (λ m. callee_type P (callee_by P m base n.name.0 k)) me ∙ ap (λ b. callee_type P (callee_by P B b n.name.0 k)) be ∙ ap (callee_type P) (same_callee P B T n.name.0 k) ∙ ap (λ b. callee_type P (named b x n k)) (sym q) ∙ ap (λ k. tree_type x n k) ke,
-      three old (rows_before B R) A (method_behind P c.class.0 m base clean n.name.0 k n.span) r1 r2 r3 f g h ∙ ap (λ y. old ++ y) rows)
+  call_looks e t p n v s es k m base clean given old r1 r2 r3 is te b ke q me be ce f g h ty = subst (λ x. Looks x given old r3) (sym (seen_dotted e t p n v s es is te b)) (
+    ty ∙ ap (λ m. callee_type P (callee_by P m base n.name.0 k)) me ∙ ap (λ b. callee_type P (callee_by P B b n.name.0 k)) be ∙ ap (callee_type P) (same_callee P B T n.name.0 k) ∙ ap (λ b. callee_type P (named b x n k)) (sym q) ∙ ap (λ k. tree_type x n k) ke,
+    three old (rows_before B R) A (method_behind P c.class.0 m base clean n.name.0 k n.span) r1 r2 r3 f g h ∙ ap (λ y. old ++ y) rows,
+  )
     where
       x : PlacedTree
       x = placed_view t
@@ -224,10 +226,11 @@ module _ (c : Context) (at : Setting) where
   pub assigned_field : (e t : Expr) (p : Box Expr Global) (n : Identifier) (s : Span) (a : Access) (clean : Bool) (given : BaseType) (old r1 r2 : List Row) → e ≡ Field p n s → t ≡ p.value → a ≡ access_in c (placed_view t) n → clean ≡ is_clean (accessed_rows c at (placed_view t) n) → r1 ≡ old ++ accessed_rows c at (placed_view t) n →
       r2 ≡ r1 ++ cond clean (spec.assigned_access_rows P c.class.0 (setting_of at) a (spec.is_this (placed_view t)) s) [] → given ≡ access_type P a → (given ≡ type_in c (placed_view e)) × (r2 ≡ old ++ assigned_in c at (placed_view e))
   assigned_field e t p n s a clean given old r1 r2 is te ae ce f g ty = subst (λ e. (given ≡ type_in c (placed_view e)) × (r2 ≡ old ++ assigned_in c at (placed_view e))) (sym is)
-      (subst (λ x. (given ≡ access_type P (access_in c (placed_view x) n)) × (r2 ≡ old ++ (accessed_rows c at (placed_view x) n ++ unless (accessed_rows c at (placed_view x) n) (spec.assigned_access_rows P c.class.0 (setting_of at) (access_in c (placed_view x) n) (spec.is_this (placed_view x)) s)))) te
-      (ty ∙ ap (access_type P) ae,
-      two old W (cond clean (spec.assigned_access_rows P c.class.0 (setting_of at) a (spec.is_this (placed_view t)) s) []) r1 r2 f g
-      ∙ ap (λ z. old ++ (W ++ z)) (ap (λ z. cond z (spec.assigned_access_rows P c.class.0 (setting_of at) a (spec.is_this (placed_view t)) s) []) ce ∙ ap (λ z. cond (is_clean W) (spec.assigned_access_rows P c.class.0 (setting_of at) z (spec.is_this (placed_view t)) s) []) ae ∙ sym (unless_clean W (spec.assigned_access_rows P c.class.0 (setting_of at) (access_in c (placed_view t) n) (spec.is_this (placed_view t)) s)))))
+      (subst (λ x. (given ≡ access_type P (access_in c (placed_view x) n)) × (r2 ≡ old ++ (accessed_rows c at (placed_view x) n ++ unless (accessed_rows c at (placed_view x) n) (spec.assigned_access_rows P c.class.0 (setting_of at) (access_in c (placed_view x) n) (spec.is_this (placed_view x)) s)))) te (
+        ty ∙ ap (access_type P) ae,
+        two old W (cond clean (spec.assigned_access_rows P c.class.0 (setting_of at) a (spec.is_this (placed_view t)) s) []) r1 r2 f g
+            ∙ ap (λ z. old ++ (W ++ z)) (ap (λ z. cond z (spec.assigned_access_rows P c.class.0 (setting_of at) a (spec.is_this (placed_view t)) s) []) ce ∙ ap (λ z. cond (is_clean W) (spec.assigned_access_rows P c.class.0 (setting_of at) z (spec.is_this (placed_view t)) s) []) ae ∙ sym (unless_clean W (spec.assigned_access_rows P c.class.0 (setting_of at) (access_in c (placed_view t) n) (spec.is_this (placed_view t)) s))),
+      ))
     where
       W : List Row
       W = accessed_rows c at (placed_view t) n
@@ -239,9 +242,10 @@ module _ (c : Context) (at : Setting) where
       r3 ≡ r2 ++ cond (d1 && d2) (spec.equality_rows P o null b1 b2 s) [] → given ≡ binary_type (operator_of o) b1 b2 → Looks (placed_view e) given old r3
   binary_looks e l r p o q s null d1 d2 b1 b2 given old r1 r2 r3 is le re ne t1 c1 f t2 c2 g h ty = subst (λ e. Looks (placed_view e) given old r3) (sym is)
       (subst (λ x. (given ≡ binary_type (operator_of o) (type_in c (placed_view x)) (type_in c (placed_view q.value))) × (r3 ≡ old ++ (rows_in c at (placed_view x) ++ (rows_in c at (placed_view q.value) ++ unless (rows_in c at (placed_view x) ++ rows_in c at (placed_view q.value)) (spec.equality_rows P o (is_null (placed_view x) || is_null (placed_view q.value)) (type_in c (placed_view x)) (type_in c (placed_view q.value)) s))))) le
-      (subst (λ y. (given ≡ binary_type (operator_of o) (type_in c (placed_view l)) (type_in c (placed_view y))) × (r3 ≡ old ++ (rows_in c at (placed_view l) ++ (rows_in c at (placed_view y) ++ unless (rows_in c at (placed_view l) ++ rows_in c at (placed_view y)) (spec.equality_rows P o (is_null (placed_view l) || is_null (placed_view y)) (type_in c (placed_view l)) (type_in c (placed_view y)) s))))) re
-      (ty ∙ ap (λ b. binary_type (operator_of o) b b2) t1 ∙ ap (λ b. binary_type (operator_of o) (type_in c (placed_view l)) b) t2,
-      three old A B (cond (d1 && d2) (spec.equality_rows P o null b1 b2 s) []) r1 r2 r3 f g h ∙ ap (λ z. old ++ (A ++ (B ++ z))) last)))
+      (subst (λ y. (given ≡ binary_type (operator_of o) (type_in c (placed_view l)) (type_in c (placed_view y))) × (r3 ≡ old ++ (rows_in c at (placed_view l) ++ (rows_in c at (placed_view y) ++ unless (rows_in c at (placed_view l) ++ rows_in c at (placed_view y)) (spec.equality_rows P o (is_null (placed_view l) || is_null (placed_view y)) (type_in c (placed_view l)) (type_in c (placed_view y)) s))))) re (
+        ty ∙ ap (λ b. binary_type (operator_of o) b b2) t1 ∙ ap (λ b. binary_type (operator_of o) (type_in c (placed_view l)) b) t2,
+        three old A B (cond (d1 && d2) (spec.equality_rows P o null b1 b2 s) []) r1 r2 r3 f g h ∙ ap (λ z. old ++ (A ++ (B ++ z))) last,
+      )))
     where
       A : List Row
       A = rows_in c at (placed_view l)

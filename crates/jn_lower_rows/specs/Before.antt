@@ -1,6 +1,6 @@
 -- What stands before a dot, as one pass sees it: a class or System has neither rows nor a type.
 use Rattle.std.specs.Prelude.{ℕ, ◌≡◌, ◌++◌, Bool, true, false, cond, not, ◌&&◌, eqb, List, [], ◌∷◌}
-use Rattle.jn_base.specs.declared.code.Code.TheVariants.{J2, J5}
+use Rattle.jn_base.specs.declared.code.Code.TheVariants.{J5}
 use Rattle.jn_base.specs.declared.place.Row.{Row}
 use Rattle.jn_base.specs.declared.place.Span.{Span}
 use Rattle.jn_trees.specs.declared.expression.Identifier.{Identifier}

@@ -10,7 +10,8 @@ use crate::calls::{own_call_rows, super_call_rows};
 use crate::members::{known_class, new_rows};
 use crate::names::{array_rows, assigned_name_rows, name_rows};
 use crate::receivers::{
-    Before, Found, Looked, access_rows, both_rows, call_rows, called_type, either_null, found_rows, index_rows, unseen,
+    Before, Found, Looked, access_rows, both_rows, call_rows, called_type, either_null, found_rows,
+    index_rows, unseen,
 };
 use crate::row::{push, push_if};
 use crate::setting::Setting;
@@ -20,8 +21,8 @@ use jn_scopes::forms::{count, span_of};
 use jn_scopes::lookup::{access_by, before_dot, is_println, meaning};
 use jn_scopes::members::class_or_object;
 use jn_scopes::types::{
-    access_type, array_type, assign_type, binary_type, elem_base, is_local,
-    literal_type, meaning_type, operator_of, own_type, super_type, type_of, unary_type, wider,
+    access_type, array_type, assign_type, binary_type, elem_base, is_local, literal_type,
+    meaning_type, operator_of, own_type, super_type, type_of, unary_type, wider,
 };
 use jn_scopes::{Context, Meaning};
 use jn_trees::{Expr, Identifier};
@@ -132,14 +133,14 @@ pub fn expression(
             Ok(BaseType::Int)
         }
         Expr::Unary {
-            operator, operand, ..
+            operator,
+            operand,
+            ..
         } => {
             expression(operand, c, at, rows)?;
             Ok(unary_type(*operator))
         }
-        Expr::Cast {
-            class, operand, ..
-        } => {
+        Expr::Cast { class, operand, .. } => {
             known_class(rows, c, *class)?;
             expression(operand, c, at, rows)?;
             Ok(BaseType::Ref(class_or_object(c.program, class.name)))
@@ -156,9 +157,7 @@ pub fn expression(
             both_rows(rows, c, *operator, null, one, other, *span)?;
             Ok(binary_type(operator_of(*operator), one.base, other.base))
         }
-        Expr::InstanceOf {
-            operand, class, ..
-        } => {
+        Expr::InstanceOf { operand, class, .. } => {
             known_class(rows, c, *class)?;
             expression(operand, c, at, rows)?;
             Ok(BaseType::Bool)
@@ -204,11 +203,7 @@ fn assigned(
             assigned_name_rows(rows, c, at, meant, name.span)?;
             Ok(meaning_type(c, meant))
         }
-        Expr::Field {
-            target,
-            name,
-            span,
-        } => {
+        Expr::Field { target, name, span } => {
             let found = field(target, *name, c, at, rows)?;
             found_rows(rows, c, at, found, target, *span)?;
             Ok(access_type(c, found.access))
@@ -228,12 +223,7 @@ fn assigned(
 
 /// The rows of an expression, its type, and whether it has none.
 #[cycle(looking)]
-fn looked(
-    tree: &Expr,
-    c: &Context,
-    at: Setting,
-    rows: &mut Seq<Row>,
-) -> Result<Looked, AllocError>
+fn looked(tree: &Expr, c: &Context, at: Setting, rows: &mut Seq<Row>) -> Result<Looked, AllocError>
     requires few { Few c.now.program.now }
     ensures { IfOk result (λ seen. (seen.base ≡ type_in c.now (placed_view tree.now)) × (seen.clean ≡ is_clean (rows_in c.now at (placed_view tree.now))) × (rows.new ≡ rows.old ++ rows_in c.now at (placed_view tree.now))) }
 {
@@ -334,12 +324,7 @@ fn arguments_of(
 
 /// The rows of expressions one after the other.
 #[cycle(looking)]
-pub fn all(
-    trees: &[Expr],
-    c: &Context,
-    at: Setting,
-    rows: &mut Seq<Row>,
-) -> Result<(), AllocError>
+pub fn all(trees: &[Expr], c: &Context, at: Setting, rows: &mut Seq<Row>) -> Result<(), AllocError>
     requires few { Few c.now.program.now }
     ensures { OnOk result (rows.new ≡ rows.old ++ all_in c.now at (placed_views trees.now)) }
 {

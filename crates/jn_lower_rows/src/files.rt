@@ -36,7 +36,9 @@ fn is_int_start(tree: &Expr) -> bool
 {
     match tree {
         Expr::Unary {
-            operator, operand, ..
+            operator,
+            operand,
+            ..
         } => match operator {
             UnaryOperator::Minus => is_number(operand),
             _ => false,
@@ -169,11 +171,7 @@ fn receiver_rows(rows: &mut Seq<Row>, receiver: &Option<Receiver>) -> Result<(),
     }
 }
 
-fn marked_rows(
-    alloc: Global,
-    rows: &mut Seq<Row>,
-    modifiers: &[Modifier],
-) -> Result<(), AllocError>
+fn marked_rows(alloc: Global, rows: &mut Seq<Row>, modifiers: &[Modifier]) -> Result<(), AllocError>
     ensures { OnOk result (rows.new ≡ rows.old ++ annotated.annotation_rows annotated.both_kinds true (spec.notes_of modifiers.now)) }
 {
     let notes = notes(alloc, modifiers)?;
@@ -387,11 +385,7 @@ fn package_behind<'a>(
 }
 
 /// The rows J5 of the files outside bodies.
-pub fn file_rows(
-    alloc: Global,
-    rows: &mut Seq<Row>,
-    files: &[FileTree],
-) -> Result<(), AllocError>
+pub fn file_rows(alloc: Global, rows: &mut Seq<Row>, files: &[FileTree]) -> Result<(), AllocError>
     ensures { OnOk result (rows.new ≡ rows.old ++ spec.outside_rows (map placed_file files.now)) }
 {
     let mut first = None;

@@ -11,7 +11,6 @@ pub mod files;
 pub mod members;
 pub mod names;
 pub mod notes;
-
 pub mod receivers;
 pub mod row;
 pub mod setting;

@@ -13,11 +13,11 @@ use crate::setting::Setting;
 use jn_base::{ClassNo, Code, FieldNo, MethodNo, NameNo, Row, Seq, Span};
 use jn_known::{EQUALS, IS_EMPTY, LENGTH};
 use jn_points::{BaseType, Class, Field, Method, Program};
+use jn_scopes::Context;
 use jn_scopes::members::{
     class_named, constructor_of, field_of, is_static, is_static_field, method_of, super_method,
 };
 use jn_scopes::types::is_string;
-use jn_scopes::Context;
 use jn_trees::Identifier;
 use std::alloc::AllocError;
 
@@ -145,12 +145,7 @@ fn object_field_rows(
         None => push(rows, Code::J2, name.span),
         Some(field) => {
             field_private(rows, c, field, name.span)?;
-            push_if(
-                rows,
-                is_static_field(c.program, field),
-                Code::J2,
-                name.span,
-            )
+            push_if(rows, is_static_field(c.program, field), Code::J2, name.span)
         }
     }
 }
@@ -173,12 +168,7 @@ pub fn value_field_rows(
                 object_field_rows(rows, c, class, name)
             }
         }
-        BaseType::Array(_, _) => push_if(
-            rows,
-            name.name.0 != LENGTH.0,
-            Code::J2,
-            name.span,
-        ),
+        BaseType::Array(_, _) => push_if(rows, name.name.0 != LENGTH.0, Code::J2, name.span),
         _ => push(rows, Code::J2, name.span),
     }
 }
@@ -198,12 +188,7 @@ pub fn class_method_rows(
         None => push(rows, Code::J2, name.span),
         Some(method) => {
             method_private(rows, c, method, name.span)?;
-            push_if(
-                rows,
-                !is_static(c.program, method),
-                Code::J2,
-                name.span,
-            )
+            push_if(rows, !is_static(c.program, method), Code::J2, name.span)
         }
     }
 }
@@ -222,12 +207,7 @@ fn object_method_rows(
         None => push(rows, Code::J2, name.span),
         Some(method) => {
             method_private(rows, c, method, name.span)?;
-            push_if(
-                rows,
-                is_static(c.program, method),
-                Code::J2,
-                name.span,
-            )
+            push_if(rows, is_static(c.program, method), Code::J2, name.span)
         }
     }
 }
@@ -271,12 +251,7 @@ pub fn value_method_rows(
     ensures { OnOk result (rows.new ≡ rows.old ++ spec.value_method_rows c.now.program.now c.now.class.0 base name.name.0 arity name.span) }
 {
     if is_string(base) {
-        push_if(
-            rows,
-            !is_text_method(name.name, arity),
-            Code::J5,
-            name.span,
-        )
+        push_if(rows, !is_text_method(name.name, arity), Code::J5, name.span)
     } else if name.name.0 == EQUALS.0 {
         push(rows, Code::J5, name.span)
     } else {
@@ -370,11 +345,7 @@ pub fn new_rows(
 }
 
 /// J1: the name of a class that isn't there.
-pub fn known_class(
-    rows: &mut Seq<Row>,
-    c: &Context,
-    class: Identifier,
-) -> Result<(), AllocError>
+pub fn known_class(rows: &mut Seq<Row>, c: &Context, class: Identifier) -> Result<(), AllocError>
     requires few { Few c.now.program.now }
     ensures { OnOk result (rows.new ≡ rows.old ++ annotated.known_class c.now.program.now (class_named c.now.program.now class.name.0) class.span) }
 {

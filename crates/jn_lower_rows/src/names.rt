@@ -15,10 +15,10 @@ use crate::row::{push, push_if};
 use crate::setting::Setting;
 use jn_base::{Code, FieldNo, Row, Seq, Span};
 use jn_points::{BaseType, Operator};
+use jn_scopes::forms::span_of;
 use jn_scopes::members::is_static_field;
 use jn_scopes::types::operator_of;
 use jn_scopes::{Access, Context, Faults, Meaning};
-use jn_scopes::forms::span_of;
 use jn_trees::{Annotation, Base, BinaryOperator, Expr};
 use std::alloc::AllocError;
 
@@ -105,12 +105,7 @@ fn final_rows(
 ) -> Result<(), AllocError>
     ensures { OnOk result (rows.new ≡ rows.old ++ spec.final_rows c.now.program.now c.now.class.0 (setting_of at) field.0 through_this span) }
 {
-    push_if(
-        rows,
-        is_closed(c, at, field, through_this),
-        Code::J4,
-        span,
-    )
+    push_if(rows, is_closed(c, at, field, through_this), Code::J4, span)
 }
 
 fn assigned_field_rows(

@@ -146,10 +146,7 @@ pub fn called_type(c: &Context, before: Before, name: NameNo, arity: usize) -> B
     if before.prints {
         BaseType::Void
     } else {
-        callee_type(
-            c,
-            callee_by(c, before.meaning, before.base, name, arity),
-        )
+        callee_type(c, callee_by(c, before.meaning, before.base, name, arity))
     }
 }
 

@@ -13,12 +13,7 @@ pub fn push(rows: &mut Seq<Row>, code: Code, span: Span) -> Result<(), AllocErro
 }
 
 /// Adds a row where it is wanted.
-pub fn push_if(
-    rows: &mut Seq<Row>,
-    wanted: bool,
-    code: Code,
-    span: Span,
-) -> Result<(), AllocError>
+pub fn push_if(rows: &mut Seq<Row>, wanted: bool, code: Code, span: Span) -> Result<(), AllocError>
     ensures { OnOk result (rows.new ≡ rows.old ++ spec.when wanted (spec.row code span)) }
 {
     if wanted {

@@ -1,4 +1,4 @@
-use Rattle.std.proofs.Common.{◌≡◌, ◌++◌, length}
+use Rattle.std.proofs.Common.{◌≡◌, length}
 use Rattle.jn_lowering.specs.Annotations as spec
 use Rattle.jn_lower_rows.specs.Views.{kind_of}
 use Rattle.jn_lower_rows.proofs.annotations.doubled.Given as goal

@@ -1,6 +1,6 @@
-use Rattle.std.proofs.Common.{◌≡◌, ◌++◌, drop, map}
+use Rattle.std.proofs.Common.{◌≡◌, drop}
 use Rattle.jn_lowering.specs.FileRows as spec
-use Rattle.jn_places.specs.PlacedView.{placed_declarators, placed_members, placed_parameters, placed_type, placed_import, placed_file}
+use Rattle.jn_places.specs.PlacedView.{placed_declarators}
 use Rattle.jn_lower_rows.proofs.files.all_start.Given as goal
 
 abbrev pub invariant-loop-declarator : goal.invariant-loop-declarator

@@ -1,6 +1,6 @@
 use Rattle.std.proofs.Common.{◌≡◌, ◌++◌, drop, map}
 use Rattle.jn_lowering.specs.FileRows as spec
-use Rattle.jn_places.specs.PlacedView.{placed_declarators, placed_members, placed_parameters, placed_type, placed_import, placed_file}
+use Rattle.jn_places.specs.PlacedView.{placed_import}
 use Rattle.jn_lower_rows.proofs.files.import_rows.Given as goal
 
 abbrev pub invariant-loop-import : goal.invariant-loop-import

@@ -1,4 +1,4 @@
-use Rattle.std.proofs.Common.{◌≡◌, ◌++◌, drop, map}
+use Rattle.std.proofs.Common.{◌≡◌, drop}
 use Rattle.jn_lowering.specs.Locals.{has_final}
 use Rattle.jn_lower_rows.proofs.notes.has_final.Given as goal
 

@@ -1,4 +1,4 @@
-use Rattle.std.proofs.Common.{◌≡◌, ◌++◌, drop, map}
+use Rattle.std.proofs.Common.{◌≡◌, ◌++◌, drop}
 use Rattle.jn_lowering.specs.Locals.{annotations_of}
 use Rattle.jn_lower_rows.proofs.notes.local_notes.Given as goal
 

@@ -1,5 +1,5 @@
-use Rattle.std.proofs.Common.{◌≡◌, ◌++◌, drop, map}
-use Rattle.jn_lowering.specs.FileRows.{notes_of, without_override}
+use Rattle.std.proofs.Common.{◌≡◌, ◌++◌, drop}
+use Rattle.jn_lowering.specs.FileRows.{notes_of}
 use Rattle.jn_lower_rows.proofs.notes.notes.Given as goal
 
 abbrev pub invariant-loop-modifier : goal.invariant-loop-modifier

@@ -1,4 +1,4 @@
-use Rattle.std.proofs.Common.{◌≡◌, ◌++◌, drop, map}
+use Rattle.std.proofs.Common.{◌≡◌, ◌++◌, drop}
 use Rattle.jn_lowering.specs.FileRows.{notes_of, without_override}
 use Rattle.jn_lower_rows.proofs.notes.notes_but_override.Given as goal
 
