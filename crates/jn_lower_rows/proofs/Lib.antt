@@ -1,0 +1,4 @@
+pub mod Parts
+pub mod Adding
+pub mod Behind
+pub mod Looking
