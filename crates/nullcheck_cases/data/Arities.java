@@ -1,0 +1,1 @@
+class A { A() { } A(int x) { } void f() { } void f(int x) { } }

@@ -1,0 +1,1 @@
+class A { void f(int a) { } int f(int b) { return b; } }

@@ -1,0 +1,1 @@
+class A { void f(@Nullable String[] x) { } } class B extends A { void f(String[] x) { } }

@@ -1,0 +1,1 @@
+class A implements B { } interface B extends A { }

@@ -1,0 +1,1 @@
+class A extends String { } final class F { } class G extends F { }

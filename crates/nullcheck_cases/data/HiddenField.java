@@ -1,0 +1,1 @@
+class A { private int x; } class B extends A { } class C extends B { boolean x; }

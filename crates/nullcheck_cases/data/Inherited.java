@@ -1,0 +1,1 @@
+interface I { String m(); } class A { Object m() { return ""; } } class B extends A implements I { }

@@ -1,0 +1,1 @@
+class A { int x; void x(int x) { } } class B { int x; void x(int x) { } }

@@ -1,0 +1,1 @@
+class A extends B { C f; D g(E x) { return null; } }

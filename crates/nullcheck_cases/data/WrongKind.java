@@ -1,0 +1,1 @@
+interface I { } class A extends I { } class B implements A { }
