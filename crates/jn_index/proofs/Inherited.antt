@@ -1,19 +1,18 @@
 -- A class that declares no method of the name and arity has the one that its parent has.
-use Rattle.std.proofs.Common.{◌≡◌, ◌<◌, ◌+◌, ℕ, zero, suc, Bool, true, false, not, cond, ◌||◌, ◌&&◌, ◌⊎◌, inl, inr, List, [], ◌∷◌, ◌++◌, length, get_or, set, Option, Some, None, refl, sym, ap, ◌∙◌, subst, eqb, ltb, arith}
+use Rattle.std.proofs.Common.{◌≡◌, ◌<◌, ◌+◌, ℕ, zero, suc, Bool, true, false, not, cond, ◌||◌, ◌&&◌, ◌⊎◌, inl, inr, List, [], ◌∷◌, ◌++◌, length, get_or, set, Option, Some, None, refl, sym, ap, ◌∙◌, subst, eqb, arith}
 use Rattle.std.specs.Prelude.{slice_get, flat_map}
-use Rattle.std.proofs.lemmas.Bool.{eqb-true, eq-eqb, lt-ltb}
+use Rattle.std.proofs.lemmas.Bool.{eqb-true, eq-eqb}
 use Rattle.std.proofs.lemmas.List.{get_or-set_same, get_or-set_other}
 use Rattle.jn_base.specs.declared.number.ClassNo.{ClassNo}
 use Rattle.jn_points.specs.declared.program.Class.{Class}
 use Rattle.jn_points.specs.declared.program.Method.{Method}
 use Rattle.jn_points.specs.declared.program.Program.{Program}
-use Rattle.jn_points.specs.Lookup.{class_info, interface_of, parent_of, method_at}
-use Rattle.jn_points.specs.Members.{first_at, first_or, first_some, is_named, is_number, walk_by, walk_parent, interfaces, declared_method, method_of}
+use Rattle.jn_points.specs.Lookup.{class_info, parent_of, method_at}
+use Rattle.jn_points.specs.Members.{first_at, first_or, first_some, is_named, walk_by, walk_parent, interfaces, declared_method, method_of}
 use Rattle.jn_index.specs.Index.{declares, Lists, IsIndex}
-use Rattle.jn_index.specs.Users.{has_method, has_inside, AreKnown}
-use Rattle.jn_index.proofs.Found.{true_or_not, or_true, first_some_append}
-use Rattle.jn_index.proofs.Ready.{and_true}
-use Rattle.jn_index.proofs.Having.{and_both, first_at_passes, is_the_number}
+use Rattle.jn_index.specs.Users.{AreKnown}
+use Rattle.jn_index.proofs.Found.{true_or_not, first_some_append}
+use Rattle.jn_index.proofs.Having.{first_at_passes}
 use Rattle.jn_index.proofs.Gathered.{get_below}
 
 none_at : {A : Type 0} (test : A → Bool) (i : ℕ) (xs : List A) → first_at test i xs ≡ None → (k : ℕ) (x : A) → slice_get xs k ≡ Some x → test x ≡ false
