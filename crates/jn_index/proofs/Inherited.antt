@@ -1,18 +1,18 @@
 -- A class that declares no method of the name and arity has the one that its parent has.
-use Rattle.std.proofs.Common.{◌≡◌, ◌<◌, ◌+◌, ℕ, zero, suc, Bool, true, false, not, cond, ◌||◌, ◌&&◌, ◌⊎◌, inl, inr, List, [], ◌∷◌, ◌++◌, length, get_or, Option, Some, None, refl, sym, ap, ◌∙◌, subst, eqb, ltb, arith}
+use Rattle.std.proofs.Common.{◌≡◌, ◌<◌, ◌+◌, ℕ, zero, suc, Bool, true, false, not, cond, ◌||◌, ◌&&◌, ◌⊎◌, inl, inr, List, [], ◌∷◌, ◌++◌, length, get_or, set, Option, Some, None, refl, sym, ap, ◌∙◌, subst, eqb, arith}
 use Rattle.std.specs.Prelude.{slice_get, flat_map}
-use Rattle.std.proofs.lemmas.Bool.{eqb-true, eq-eqb, lt-ltb}
+use Rattle.std.proofs.lemmas.Bool.{eqb-true, eq-eqb}
+use Rattle.std.proofs.lemmas.List.{get_or-set_same, get_or-set_other}
 use Rattle.jn_base.specs.declared.number.ClassNo.{ClassNo}
 use Rattle.jn_points.specs.declared.program.Class.{Class}
 use Rattle.jn_points.specs.declared.program.Method.{Method}
 use Rattle.jn_points.specs.declared.program.Program.{Program}
-use Rattle.jn_points.specs.Lookup.{class_info, interface_of, parent_of, method_at}
-use Rattle.jn_points.specs.Members.{first_at, first_or, first_some, is_named, is_number, walk_by, walk_parent, interfaces, declared_method, method_of}
+use Rattle.jn_points.specs.Lookup.{class_info, parent_of, method_at}
+use Rattle.jn_points.specs.Members.{first_at, first_or, first_some, is_named, walk_by, walk_parent, interfaces, declared_method, method_of}
 use Rattle.jn_index.specs.Index.{declares, Lists, IsIndex}
-use Rattle.jn_index.specs.Users.{has_method, has_inside, AreKnown}
-use Rattle.jn_index.proofs.Found.{true_or_not, or_true, first_some_append}
-use Rattle.jn_index.proofs.Ready.{and_true}
-use Rattle.jn_index.proofs.Having.{and_both, first_at_passes, is_the_number}
+use Rattle.jn_index.specs.Users.{AreKnown}
+use Rattle.jn_index.proofs.Found.{true_or_not, first_some_append}
+use Rattle.jn_index.proofs.Having.{first_at_passes}
 use Rattle.jn_index.proofs.Gathered.{get_below}
 
 none_at : {A : Type 0} (test : A → Bool) (i : ℕ) (xs : List A) → first_at test i xs ≡ None → (k : ℕ) (x : A) → slice_get xs k ≡ Some x → test x ≡ false
@@ -54,10 +54,10 @@ along_same f g m none some (x ∷ xs) h = by (f x) refl h (along_same f g m none
 or_is : (a b : Option ℕ) (m : ℕ) → a ≡ Some m → first_or a b ≡ Some m
 or_is a b m e = ap (λ o. first_or o b) e
 
-module _ (P : Program) (m : ℕ) (over : Method) (there : method_at P m ≡ Some over) (open_to_all : over.is_private ≡ false) (c p : ℕ) (none : declared_method P c over.name.0 (length over.params) c ≡ None) where
+module _ (P : Program) (m : ℕ) (over : Method) (there : method_at P m ≡ Some over) (open_to_all : over.is_private ≡ false) (name arity c p : ℕ) (none : declared_method P c name arity c ≡ None) where
   -- what class c sees of class d that isn't private, class p sees too
-  seen : (d : ℕ) (x : Method) → eqb d c ≡ false → declares c over.name.0 (length over.params) d x ≡ true → declares p over.name.0 (length over.params) d x ≡ true
-  seen d x apart t = by (is_named x over.name.0 (length over.params)) (eqb x.owner.0 d) (not x.is_private) (eqb d p) (subst (λ b. (is_named x over.name.0 (length over.params) && eqb x.owner.0 d && (not x.is_private || b)) ≡ true) apart t)
+  seen : (d : ℕ) (x : Method) → eqb d c ≡ false → declares c name arity d x ≡ true → declares p name arity d x ≡ true
+  seen d x apart t = by (is_named x name arity) (eqb x.owner.0 d) (not x.is_private) (eqb d p) (subst (λ b. (is_named x name arity && eqb x.owner.0 d && (not x.is_private || b)) ≡ true) apart t)
     where
       by : (a b q r : Bool) → (a && b && (q || false)) ≡ true → (a && b && (q || r)) ≡ true
       by true true true r h = refl
@@ -65,28 +65,28 @@ module _ (P : Program) (m : ℕ) (over : Method) (there : method_at P m ≡ Some
       by true false q r h = cc
       by false b q r h = cc
 
-  missed : (d : ℕ) → declared_method P p over.name.0 (length over.params) d ≡ None → declared_method P c over.name.0 (length over.params) d ≡ None
+  missed : (d : ℕ) → declared_method P p name arity d ≡ None → declared_method P c name arity d ≡ None
   missed d h = by (true_or_not (eqb d c))
     where
-      on : (o : Option ℕ) → declared_method P c over.name.0 (length over.params) d ≡ o → eqb d c ≡ false → declared_method P c over.name.0 (length over.params) d ≡ None
+      on : (o : Option ℕ) → declared_method P c name arity d ≡ o → eqb d c ≡ false → declared_method P c name arity d ≡ None
       on None e apart = e
       on (Some j) e apart =
-          let f = first_at_passes (declares c over.name.0 (length over.params) d) 0 P.methods j e in
-          let t : declares p over.name.0 (length over.params) d f.1 ≡ true = seen d f.1 apart f.3 in
-          let off : declares p over.name.0 (length over.params) d f.1 ≡ false = none_at (declares p over.name.0 (length over.params) d) 0 P.methods h f.0 f.1 f.2 in
+          let f = first_at_passes (declares c name arity d) 0 P.methods j e in
+          let t : declares p name arity d f.1 ≡ true = seen d f.1 apart f.3 in
+          let off : declares p name arity d f.1 ≡ false = none_at (declares p name arity d) 0 P.methods h f.0 f.1 f.2 in
           cc
 
-      by : (eqb d c ≡ true) ⊎ (eqb d c ≡ false) → declared_method P c over.name.0 (length over.params) d ≡ None
-      by (inl e) = subst (λ z. declared_method P c over.name.0 (length over.params) z ≡ None) (sym (eqb-true d c e)) none
-      by (inr e) = on (declared_method P c over.name.0 (length over.params) d) refl e
+      by : (eqb d c ≡ true) ⊎ (eqb d c ≡ false) → declared_method P c name arity d ≡ None
+      by (inl e) = subst (λ z. declared_method P c name arity z ≡ None) (sym (eqb-true d c e)) none
+      by (inr e) = on (declared_method P c name arity d) refl e
 
-  at_method : (d : ℕ) → declared_method P p over.name.0 (length over.params) d ≡ Some m → declares c over.name.0 (length over.params) d over ≡ true
+  at_method : (d : ℕ) → declared_method P p name arity d ≡ Some m → declares c name arity d over ≡ true
   at_method d h =
-      let f = first_at_passes (declares p over.name.0 (length over.params) d) 0 P.methods m h in
+      let f = first_at_passes (declares p name arity d) 0 P.methods m h in
       let number : m ≡ f.0 = (let e : m ≡ 0 + f.0 = f.4 in omega arith) in
       let same : f.1 ≡ over = (let a : slice_get P.methods m ≡ Some f.1 = subst (λ n. slice_get P.methods n ≡ Some f.1) (sym number) f.2 in cc) in
-      let t : declares p over.name.0 (length over.params) d over ≡ true = subst (λ y. declares p over.name.0 (length over.params) d y ≡ true) same f.3 in
-      by (is_named over over.name.0 (length over.params)) (eqb over.owner.0 d) (not over.is_private) (eqb d p) (eqb d c) (ap not open_to_all) t
+      let t : declares p name arity d over ≡ true = subst (λ y. declares p name arity d y ≡ true) same f.3 in
+      by (is_named over name arity) (eqb over.owner.0 d) (not over.is_private) (eqb d p) (eqb d c) (ap not open_to_all) t
     where
       by : (a b q r s : Bool) → q ≡ true → (a && b && (q || r)) ≡ true → (a && b && (q || s)) ≡ true
       by true true true r s e h = refl
@@ -94,60 +94,54 @@ module _ (P : Program) (m : ℕ) (over : Method) (there : method_at P m ≡ Some
       by true false q r s e h = cc
       by false b q r s e h = cc
 
-  kept_found : (d : ℕ) → declared_method P p over.name.0 (length over.params) d ≡ Some m → declared_method P c over.name.0 (length over.params) d ≡ Some m
+  kept_found : (d : ℕ) → declared_method P p name arity d ≡ Some m → declared_method P c name arity d ≡ Some m
   kept_found d h = by (true_or_not (eqb d c))
     where
-      passes : declares c over.name.0 (length over.params) d over ≡ true
+      passes : declares c name arity d over ≡ true
       passes = at_method d h
 
-      by : (eqb d c ≡ true) ⊎ (eqb d c ≡ false) → declared_method P c over.name.0 (length over.params) d ≡ Some m
+      by : (eqb d c ≡ true) ⊎ (eqb d c ≡ false) → declared_method P c name arity d ≡ Some m
       by (inl e) =
-          let off : declares c over.name.0 (length over.params) d over ≡ false = none_at (declares c over.name.0 (length over.params) d) 0 P.methods (subst (λ z. declared_method P c over.name.0 (length over.params) z ≡ None) (sym (eqb-true d c e)) none) m over there in
-          absurd (let t : declares c over.name.0 (length over.params) d over ≡ true = passes in cc)
-      by (inr e) = narrower (declares p over.name.0 (length over.params) d) (declares c over.name.0 (length over.params) d) 0 m P.methods h (λ k x at t. seen d x e t) (λ k x at n. (let number : k ≡ m = omega (arith, n) in let same : over ≡ x = (let a : slice_get P.methods m ≡ Some x = subst (λ z. slice_get P.methods z ≡ Some x) number at in cc) in subst (λ y. declares c over.name.0 (length over.params) d y ≡ true) same passes))
+          let off : declares c name arity d over ≡ false = none_at (declares c name arity d) 0 P.methods (subst (λ z. declared_method P c name arity z ≡ None) (sym (eqb-true d c e)) none) m over there in
+          absurd (let t : declares c name arity d over ≡ true = passes in cc)
+      by (inr e) = narrower (declares p name arity d) (declares c name arity d) 0 m P.methods h (λ k x at t. seen d x e t) (λ k x at n. (let number : k ≡ m = omega (arith, n) in let same : over ≡ x = (let a : slice_get P.methods m ≡ Some x = subst (λ z. slice_get P.methods z ≡ Some x) number at in cc) in subst (λ y. declares c name arity d y ≡ true) same passes))
 
-  module _ (x : Lists) (is : IsIndex P x) (lt : c < length P.classes) (info : Class) (at : class_info P c ≡ Some info) (q : ClassNo) (parent : info.parent ≡ Some q) (number : q.0 ≡ p) (found : method_of P p over.name.0 (length over.params) ≡ Some m) where
-    one_more : method_of P c over.name.0 (length over.params) ≡ first_some (declared_method P c over.name.0 (length over.params)) (walk_by P (suc (length P.classes)) c)
+  module _ (x : Lists) (is : IsIndex P x) (lt : c < length P.classes) (info : Class) (at : class_info P c ≡ Some info) (q : ClassNo) (parent : info.parent ≡ Some q) (number : q.0 ≡ p) (found : method_of P p name arity ≡ Some m) where
+    one_more : method_of P c name arity ≡ first_some (declared_method P c name arity) (walk_by P (suc (length P.classes)) c)
     one_more =
         let w = is.walks_are c lt in
-        let f = declared_method P c over.name.0 (length over.params) in
+        let f = declared_method P c name arity in
         w.first f (length P.classes) (omega arith) ∙ sym (w.first f (suc (length P.classes)) (omega arith))
 
-    from_parent : first_some (declared_method P c over.name.0 (length over.params)) (walk_parent P (walk_by P (length P.classes)) (parent_of (class_info P c))) ≡ Some m
+    from_parent : first_some (declared_method P c name arity) (walk_parent P (walk_by P (length P.classes)) (parent_of (class_info P c))) ≡ Some m
     from_parent =
         let parent_is : parent_of (class_info P c) ≡ Some q = ap parent_of at ∙ parent in
-        let there_too : first_some (declared_method P p over.name.0 (length over.params)) (walk_by P (length P.classes) q.0) ≡ Some m = subst (λ z. first_some (declared_method P p over.name.0 (length over.params)) (walk_by P (length P.classes) z) ≡ Some m) (sym number) found in
-        ap (λ o. first_some (declared_method P c over.name.0 (length over.params)) (walk_parent P (walk_by P (length P.classes)) o)) parent_is ∙ along_same (declared_method P p over.name.0 (length over.params)) (declared_method P c over.name.0 (length over.params)) m missed kept_found (walk_by P (length P.classes) q.0) there_too
+        let there_too : first_some (declared_method P p name arity) (walk_by P (length P.classes) q.0) ≡ Some m = subst (λ z. first_some (declared_method P p name arity) (walk_by P (length P.classes) z) ≡ Some m) (sym number) found in
+        ap (λ o. first_some (declared_method P c name arity) (walk_parent P (walk_by P (length P.classes)) o)) parent_is ∙ along_same (declared_method P p name arity) (declared_method P c name arity) m missed kept_found (walk_by P (length P.classes) q.0) there_too
 
-    pub parent_method : method_of P c over.name.0 (length over.params) ≡ Some m
+    pub parent_method : method_of P c name arity ≡ Some m
     parent_method =
-        let f = declared_method P c over.name.0 (length over.params) in
+        let f = declared_method P c name arity in
         let n = length P.classes in
         one_more
         ∙ (ap (λ o. first_or o (first_some f (walk_parent P (walk_by P n) (parent_of (class_info P c)) ++ flat_map (λ (s : ClassNo). walk_by P n s.0) (interfaces P c)))) none
         ∙ (first_some_append f (walk_parent P (walk_by P n) (parent_of (class_info P c))) (flat_map (λ (s : ClassNo). walk_by P n s.0) (interfaces P c))
         ∙ or_is (first_some f (walk_parent P (walk_by P n) (parent_of (class_info P c)))) (first_some f (flat_map (λ (s : ClassNo). walk_by P n s.0) (interfaces P c))) m from_parent))
 
-pub inherits_parent : (P : Program) (x : Lists) → IsIndex P x → (m : ℕ) (over : Method) → method_at P m ≡ Some over → (known : List Bool) → AreKnown P m over known → (c : ℕ) → over.is_private ≡ false → interface_of (class_info P c) ≡ false → (info : Class) × (q : ClassNo) × (class_info P c ≡ Some info) × (info.parent ≡ Some q) × (get_or known q.0 false ≡ true) → declared_method P c over.name.0 (length over.params) c ≡ None → has_inside P m over c ≡ true
-inherits_parent P x is m over there known are c open_to_all class parent none =
+pub inherits_parent : (P : Program) (x : Lists) → IsIndex P x → (over : Method) (known : List (Option ℕ)) → AreKnown P over known → (c k : ℕ) → (info : Class) × (q : ClassNo) × (class_info P c ≡ Some info) × (info.parent ≡ Some q) × (get_or known q.0 None ≡ Some k) → (y : Method) × (method_at P k ≡ Some y) × (y.is_private ≡ false) → declared_method P c over.name.0 (length over.params) c ≡ None → method_of P c over.name.0 (length over.params) ≡ Some k
+inherits_parent P x is over known are c k parent shown none =
     let lt : c < length P.classes = get_below P.classes c parent.0 parent.2 in
-    let found = parent_method P m over there open_to_all c parent.1.0 none x is lt parent.0 parent.2 parent.1 parent.3 refl (are parent.1.0 parent.4) in
-    and_both (ltb c (length P.classes)) (has_method P m over c) (lt-ltb c (length P.classes) lt) (and_both (not (interface_of (class_info P c))) (is_number (method_of P c over.name.0 (length over.params)) m) (ap not class) (ap (λ o. is_number o m) found ∙ eq-eqb m m refl))
+    parent_method P k shown.0 shown.1 shown.2 over.name.0 (length over.params) c parent.1.0 none x is lt parent.0 parent.2 parent.1 parent.3 refl (are parent.1.0 k parent.4)
 
-flag_there : (flags : List Bool) (d : ℕ) → get_or flags d false ≡ true → d < length flags
-flag_there [] d h = cc
-flag_there (f ∷ flags) zero h = omega arith
-flag_there (f ∷ flags) (suc d) h = let l : d < length flags = flag_there flags d h in omega (arith, l)
-
--- one flag more
-pub known_more : (P : Program) (m : ℕ) (over : Method) (old new : List Bool) (c : ℕ) → AreKnown P m over old → has_inside P m over c ≡ true → length new ≡ length old → ((d : ℕ) → d < length old → get_or new d false ≡ (get_or old d false || eqb c d)) → AreKnown P m over new
-known_more P m over old new c are has long set d h =
-    let lt : d < length old = subst (λ n. d < n) long (flag_there new d h) in
-    by (or_true (get_or old d false) (eqb c d) (sym (set d lt) ∙ h))
+-- one class more is known
+pub known_more : (P : Program) (over : Method) (old new : List (Option ℕ)) (c : ℕ) (found : Option ℕ) → AreKnown P over old → found ≡ method_of P c over.name.0 (length over.params) → c < length old → new ≡ set old c found → AreKnown P over new
+known_more P over old new c found are is lt e d k h = by (true_or_not (eqb c d)) (subst (λ ks. get_or ks d None ≡ Some k) e h)
   where
-    by : (get_or old d false ≡ true) ⊎ (eqb c d ≡ true) → method_of P d over.name.0 (length over.params) ≡ Some m
-    by (inl e) = are d e
-    by (inr e) =
-        let inside = and_true (ltb c (length P.classes)) (has_method P m over c) has in
-        let two = and_true (not (interface_of (class_info P c))) (is_number (method_of P c over.name.0 (length over.params)) m) inside.1 in
-        subst (λ z. method_of P z over.name.0 (length over.params) ≡ Some m) (eqb-true c d e) (is_the_number (method_of P c over.name.0 (length over.params)) m two.1)
+    by : (eqb c d ≡ true) ⊎ (eqb c d ≡ false) → get_or (set old c found) d None ≡ Some k → method_of P d over.name.0 (length over.params) ≡ Some k
+    by (inl t) h =
+        let same : c ≡ d = eqb-true c d t in
+        let here : found ≡ Some k = sym (get_or-set_same old c found None lt) ∙ subst (λ z. get_or (set old c found) z None ≡ Some k) (sym same) h in
+        subst (λ z. method_of P z over.name.0 (length over.params) ≡ Some k) same (sym is ∙ here)
+    by (inr f) h =
+        let other : d ≡ c → ⊥ = λ s. (let t : eqb c d ≡ true = eq-eqb c d (sym s) in cc) in
+        are d k (sym (get_or-set_other old c d found None other) ∙ h)
