@@ -225,24 +225,3 @@ impl Code {
         }
     }
 }
-
-#[cfg(test)]
-mod tests {
-    use super::*;
-
-    #[test]
-    fn prints_names_and_texts(rt: HostRuntime) {
-        for (code, name, text) in [
-            (Code::B1, "B1", "too many files"),
-            (Code::T10, "T10", "too many members"),
-            (Code::J10, "J10", "element nullity"),
-            (Code::Deref, "DEREF", "deref"),
-            (Code::ReturnInit, "RETURN-INIT", "return-init"),
-            (Code::OvrResult, "OVR-RESULT", "ovr-result"),
-            (Code::Unbuilt, "UNBUILT", "not built yet"),
-        ] {
-            assert_eq!(rt; code.name(), name);
-            assert_eq!(rt; code.text(), text);
-        }
-    }
-}

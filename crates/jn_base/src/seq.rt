@@ -86,24 +86,3 @@ impl<T: Copy> Seq<T> {
         })
     }
 }
-
-#[cfg(test)]
-mod tests {
-    use super::*;
-
-    #[test]
-    fn keeps_items(rt: HostRuntime) -> Result<(), AllocError> {
-        let mut seq = Seq::new(rt.alloc());
-        seq.push(3)?;
-        seq.push(5)?;
-        assert_eq!(rt; seq.as_slice(), [3u8, 5].as_slice());
-        assert!(rt; seq.len() == 2);
-        seq.set(1, 7);
-        assert_eq!(rt; seq.at(1), 7);
-        let copy = seq.copy(rt.alloc())?;
-        assert_eq!(rt; copy.as_slice(), [3u8, 7].as_slice());
-        let again = Seq::of_vec(copy.into_vec());
-        assert_eq!(rt; again.len(), 2);
-        Ok(())
-    }
-}

@@ -7,6 +7,3 @@ mod options;
 mod parse;
 
 pub use command::{Command, Usage, read_words};
-
-#[cfg(test)]
-mod tests;

@@ -52,27 +52,3 @@ pub fn row_text(alloc: Global, row: &Row, name: &str, text: &[u8]) -> Result<Row
         code: row.code,
     })
 }
-
-#[cfg(test)]
-mod tests {
-    use super::*;
-    use jn_base::{FileNo, Span};
-
-    #[test]
-    fn shows_a_row(rt: HostRuntime) -> Result<(), OutOfMemory> {
-        let row = Row {
-            span: Span {
-                file: FileNo(0),
-                from: 6,
-                to: 7,
-            },
-            code: Code::Deref,
-        };
-        let shown = row_text(rt.alloc(), &row, "A.java", b"ab\ncd\re")?;
-        let copy = shown.copy(rt.alloc())?;
-        assert_eq!(rt; copy.name.as_str(), "A.java");
-        assert_eq!(rt; (copy.line, copy.col), (3, 1));
-        assert!(rt; copy.code == Code::Deref);
-        Ok(())
-    }
-}

@@ -13,8 +13,6 @@ pub mod names;
 pub mod parsing;
 pub mod reads;
 pub mod source;
-#[cfg(test)]
-mod tests;
 
 pub use lexing::{LexedFiles, lex_all};
 pub use limits::{limit_rows, row_at};

@@ -28,21 +28,3 @@ fn class(alloc: Global, k: u32) -> Result<String, AllocError>
         "class G{k} {{\n  private @Nullable G{k} next;\n  private String tag;\n  G{k}(String t) {{ this.tag = t; }}\n  private String pick(G{k} o) {{\n    if (o == null) return this.tag;\n    return o.tag;\n  }}\n  String run() {{ return pick(next) + pick(this); }}\n}}\n"
     )
 }
-
-#[cfg(test)]
-mod tests {
-    use super::*;
-
-    #[test]
-    fn has_the_wanted_lengths(rt: HostRuntime) -> Result<(), OutOfMemory> {
-        let one = generate(rt.alloc(), 1)?;
-        assert!(rt;
-            one.as_slice()
-                .starts_with("class G0 {\n  private @Nullable G0 next;\n".as_bytes())
-        );
-        for (n, length) in [(1, 236), (10, 2_360), (11, 2_600), (500, 121_560)] {
-            assert_eq!(rt; generate(rt.alloc(), n)?.len(), length, "at {n}");
-        }
-        Ok(())
-    }
-}

@@ -7,8 +7,6 @@ pub mod host;
 pub mod mem_files;
 pub mod mem_sink;
 pub mod sink;
-#[cfg(test)]
-mod tests;
 
 pub use files::{Failed, Files, ReadFail, read_whole};
 pub use host::{HostFiles, HostSink};

@@ -12,6 +12,3 @@ pub use plain::Plain;
 pub use reporter::Reporter;
 pub use summary::Summary;
 pub use tabbed::Tabbed;
-
-#[cfg(test)]
-mod tests;

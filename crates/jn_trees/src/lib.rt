@@ -24,6 +24,3 @@ pub use expression::{
 pub use names::Names;
 pub use statement::{Declarator, ForInit, LocalDeclaration, LocalModifier, Stmt, TypeUse};
 pub use token::{Token, TokenKind};
-
-#[cfg(test)]
-mod tests;
