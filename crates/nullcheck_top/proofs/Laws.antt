@@ -20,7 +20,7 @@ use Rattle.jn_first_form.specs.Facts.{FormFacts}
 use Rattle.jn_first_form.specs.Form.{IsForm}
 use Rattle.jn_front.specs.declared.source.SourceFile.{SourceFile}
 use Rattle.jn_front.specs.Phases.{AreParsed, FrontRows}
-use Rattle.nullcheck_top.specs.Report.{AreDeclared, IsFormOf, PhaseRows, ProgramOf, Report, Refused, Checked, RulesGive, IsPhase, IsUnbuilt, IsCheckedBy, IsReport, table_rows}
+use Rattle.nullcheck_top.specs.Report.{AreDeclared, IsFormOf, PhaseRows, ProgramOf, Report, Refused, Checked, RulesGive, IsPhase, IsCheckedBy, IsReport, table_rows}
 use Rattle.nullcheck_top.proofs.Inside.{stays}
 use Rattle.nullcheck_top.proofs.RuleRows.{breaks_once}
 

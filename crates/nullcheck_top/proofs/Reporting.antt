@@ -1,5 +1,5 @@
 -- The report of files that were read.
-use Rattle.std.proofs.Common.{◌≡◌, ℕ, ◌+◌, ◌<◌, ◌≤◌, suc, zero, Bool, true, false, List, [], ◌∷◌, ◌++◌, length, map, get_or, Option, Some, None, inl, inr, ⊎_elim, refl, sym, ap, ◌∙◌, subst, arith}
+use Rattle.std.proofs.Common.{◌≡◌, ℕ, ◌+◌, ◌<◌, suc, zero, Bool, true, false, List, [], ◌∷◌, ◌++◌, length, map, get_or, Option, Some, None, inl, inr, ⊎_elim, refl, sym, ap, ◌∙◌, subst, arith}
 use Rattle.std.proofs.lemmas.Bool.{lt-ltb}
 use Rattle.std.specs.declared.string.String.{String}
 use Rattle.std.specs.declared.alloc.Global.{Global}
@@ -22,7 +22,7 @@ use Rattle.jn_front.specs.Files.{names_of, files_of_reads, AreReads, IsReadOf, m
 use Rattle.jn_front.specs.Limits.{row_at, large_row, passing_row, size_rows, limit_rows, counted, all_limit}
 use Rattle.nullcheck_top.specs.declared.status.Status.{Status}
 use Rattle.nullcheck_top.specs.declared.status.Status.TheVariants.{Refused as RefusedStatus}
-use Rattle.nullcheck_top.specs.Report.{AreDeclared, PhaseRows, ProgramOf, IsFormOf, RulesGive, IsPhase, Refused, Checked, status_of_rows, unbuilt_row}
+use Rattle.nullcheck_top.specs.Report.{AreDeclared, PhaseRows, ProgramOf, IsFormOf, RulesGive, Refused, Checked, status_of_rows, unbuilt_row}
 use Rattle.nullcheck_top.specs.Shown.{shown, row_of, row_of_file, verdict_of_rows}
 use Rattle.nullcheck_top.specs.Answer.{IsReportOfFiles}
 

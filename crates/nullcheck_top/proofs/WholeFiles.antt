@@ -1,6 +1,6 @@
 -- Where no limit is passed, what was read are the files.
-use Rattle.std.proofs.Common.{◌≡◌, ℕ, zero, suc, ◌+◌, ◌<◌, ◌≤◌, Bool, true, false, List, [], ◌∷◌, ◌++◌, length, map, get_or, Option, Some, None, Result, Ok, Err, inl, inr, refl, sym, ap, ◌∙◌, subst, arith}
-use Rattle.std.specs.Prelude.{cond, nat_lt, nat_le, ◌⊎◌, ◌&&◌, min, IfOk, slice_get}
+use Rattle.std.proofs.Common.{◌≡◌, ℕ, zero, suc, ◌+◌, ◌<◌, ◌≤◌, Bool, true, false, List, [], ◌∷◌, ◌++◌, length, map, get_or, Some, None, Result, Ok, Err, inl, inr, refl, sym, ap, ◌∙◌, subst, arith}
+use Rattle.std.specs.Prelude.{cond, nat_lt, IfOk, slice_get}
 use Rattle.jn_base.specs.declared.refusal.OutOfMemory.{OutOfMemory}
 use Rattle.jn_points.specs.declared.program.Program.{Program}
 use Rattle.jn_diag.specs.declared.shown.RowText.{RowText}

@@ -1,4 +1,4 @@
-use Rattle.std.proofs.Common.{◌≡◌, List, map, sym, subst}
+use Rattle.std.proofs.Common.{List, map, sym, subst}
 use Rattle.jn_trees.specs.declared.declaration.FileTree.{FileTree}
 use Rattle.jn_trees.specs.declared.token.Token.{Token}
 use Rattle.jn_known.specs.Known.{known_names}

@@ -1,5 +1,7 @@
-use Rattle.std.proofs.Common.{◌≡◌, map, ◌∙◌}
+use Rattle.std.proofs.Common.{map, ◌∙◌, subst}
 use Rattle.jn_places.specs.PlacedView.{placed_file}
+use Rattle.jn_classtable.specs.Extract.{heads}
+use Rattle.jn_classtable.specs.Built.{IsRefusedFor}
 use Rattle.nullcheck_top.proofs.WholeFiles.{table_made}
 use Rattle.nullcheck_top.proofs.check.report_trees.Goals as goal
 
@@ -9,5 +11,5 @@ report_program-requires-clause-declared c = (c.requires.parsed.0, map placed_fil
 pub returns-in-Err-Refused : goal.returns-in-Err-Refused
 returns-in-Err-Refused c =
     let trees = map placed_file c.args.trees.now in
-    let refused = c.in-Err-Refused.ensures.refused in
-    table_made c.args.reads.now c.requires.parsed.0 c.args.tokens.now trees c.into_vec.result.items c.refused.result c.requires.parsed.1 (c.into_vec.ensures ∙ refused.0) refused.1 c.refused.ensures.status c.refused.ensures.shows
+    let are = subst (λ fail. IsRefusedFor (heads trees) fail) c.in-Err-Refused.field-0-is c.in-Err-Refused.ensures.refused in
+    table_made c.args.reads.now c.requires.parsed.0 c.args.tokens.now trees c.into_vec.result.items c.refused.result c.requires.parsed.1 (c.into_vec.ensures ∙ are.0) are.1 c.refused.ensures.status c.refused.ensures.shows
