@@ -1,4 +1,0 @@
-pub mod Parts
-pub mod Adding
-pub mod Behind
-pub mod Looking

@@ -1,4 +1,0 @@
-pub mod Scoping
-pub mod Seen
-pub mod Arities
-pub mod Typing
