@@ -16,7 +16,7 @@ use Rattle.jn_points.specs.Regular.{IsConcrete}
 use Rattle.jn_places.specs.Placed.{PlacedTree, PlacedTrees, NoPlacedTrees, MorePlacedTrees, PlacedLiteral, PlacedName, PlacedThis, PlacedParen, PlacedField, PlacedCall, PlacedOwnCall, PlacedSuperCall, PlacedIndex, PlacedNew, PlacedNewArray, PlacedArrayOf, PlacedPostfix, PlacedPrefix, PlacedUnary, PlacedCast, PlacedBinary, PlacedInstanceOf, PlacedConditional, PlacedAssign}
 use Rattle.jn_lowering.specs.Fragments.{Fragment, goes, nothing}
 use Rattle.jn_known.specs.Known.{is_object_member}
-use Rattle.jn_lowering.specs.Temporaries.{Temporaries, take_one}
+use Rattle.jn_lowering.specs.Temporaries.{Temporaries, Taken, take_one}
 use Rattle.jn_lowering.specs.Scopes.{Local, Scope, Callee, Println, access, before_dot, callee, callee_by, class_named, count, is_output, local_in, meaning, or_zero, super_method}
 use Rattle.jn_lowering.specs.Bases.{array_type, compound_of, is_local, is_simple, literal_type, operator_of, ref, result_type, type_of, wider}
 use Rattle.jn_lowering.specs.Forms.{Condition, Located, Lowered, Value, as_place, constant, gives, kept, none_later, read_of, register}
@@ -26,7 +26,7 @@ use Rattle.jn_lowering.specs.Annotations.{known_class, row, unless, when}
 use Rattle.jn_lowering.specs.ExpressionRows.{Setting, abstract_method, access_rows, array_rows, assigned_access_rows, assigned_rows, equality_rows, inner_span, new_rows, own_method_rows, rows_of, rows_of_all, super_method_rows, dotted_call_rows}
 use Rattle.jn_lowering.proofs.Found.{IsMethod}
 use Rattle.jn_lowering.proofs.GoodCalls.{GoodOperands, chosen_good, created_good, dotted_call_good, no_operands_good, old_good, own_called_good, stepped_good, super_called_good, with_operand_good}
-use Rattle.jn_lowering.proofs.GoodForms.{GoodValue, Rt, Valued, Within, branch_good, gives_good, going, goto_good, kept_good, literal_good, one_good, read_good, value_below, within_back}
+use Rattle.jn_lowering.proofs.GoodForms.{GoodValue, Rt, Valued, Within, branch_good, gives_good, going, goto_good, kept_good, literal_good, one_good, read_good, taken_open, value_below, within_back}
 use Rattle.jn_lowering.proofs.GoodOperators.{Uses, assignment_good, back_gives, back_kept, back_read, binary_uses, condition_uses, instance_tested_good, unary_uses, value_uses}
 use Rattle.jn_lowering.proofs.GoodPlaces.{GoodPlace, accessed_place, assigned_name, element_place, index_none, origin_there, read_name, stands, this_below}
 use Rattle.jn_lowering.proofs.GoodPoints.{Held, Open, OriginIn, good_array_of, good_cast, good_new_array}
@@ -319,21 +319,22 @@ module _ (P : Program) (H : Heads P) (R : List BaseType) (first low : ℕ) (up :
         }
     all_good t (PlacedConditional q a b span) =
         let x : Condition = (L t q).condition in
-        let y : Value = (L x.behind a).value in
-        let z : Value = (L y.behind b).value in
         let d : BaseType = wider P (T a) (T b) in
+        let dst : Taken = take_one x.behind d in
+        let y : Value = (L dst.behind a).value in
+        let z : Value = (L y.behind b).value in
         let g = all_good t q in
-        let g_a = all_good x.behind a in
+        let g_a = all_good dst.behind a in
         let g_b = all_good y.behind b in
         record {
           uses = λ h.
               let p = none_of (rows_of P c at s q) (rows_of P c at s a ++ rows_of P c at s b) h in
               let r = none_of (rows_of P c at s a) (rows_of P c at s b) p.1 in
-              value_uses P H R first low up t (chosen P first span d x y z) d (λ w.
-              let w_z : W z.behind = within_back P R first low z.behind (take_one z.behind d).behind (take_grows P z.behind d (choice_in P (fits P (T a) (T b)) (T b) (T a) (ty b) (ty a))) w in
-              let w_y : W y.behind = within_back P R first low y.behind z.behind (grow y.behind b).value w_z in
-              let w_x : W x.behind = within_back P R first low x.behind y.behind (grow x.behind a).value w_y in
-              chosen_good P R first low H up span d x y z (T a) (T b) w ((g.uses p.0).condition w_x) ((g_a.uses r.0).value w_y) ((g_b.uses r.1).value w_z));
+              value_uses P H R first low up t (chosen P first span dst.number x y z) d (λ w.
+              let w_y : W y.behind = within_back P R first low y.behind z.behind (grow y.behind b).value w in
+              let w_d : W dst.behind = within_back P R first low dst.behind y.behind (grow dst.behind a).value w_y in
+              let w_x : W x.behind = within_back P R first low x.behind dst.behind (take_grows P x.behind d (choice_in P (fits P (T a) (T b)) (T b) (T a) (ty b) (ty a))) w_d in
+              chosen_good P R first low H up span d dst.number x y z (T a) (T b) (taken_open P R first low up x.behind d w_d) ((g.uses p.0).condition w_x) ((g_a.uses r.0).value w_y) ((g_b.uses r.1).value w));
           assigned = λ later h w. cc;
         }
     all_good t (PlacedAssign target o e span) =

@@ -1,17 +1,19 @@
 -- What look-ups give where no row stands.
-use Rattle.std.proofs.Common.{◌≡◌, ◌<◌, ℕ, Bool, true, false, cond, not, ◌&&◌, ◌||◌, ◌⊎◌, inl, inr, List, [], ◌∷◌, ◌++◌, length, Option, Some, None, refl, sym, ap, ◌∙◌, subst, eqb}
+use Rattle.std.proofs.Common.{◌≡◌, ◌<◌, ℕ, suc, zero, Bool, true, false, cond, not, ◌&&◌, ◌||◌, ◌⊎◌, inl, inr, List, [], ◌∷◌, ◌++◌, length, Option, Some, None, refl, sym, ap, ◌∙◌, subst, eqb}
 use Rattle.std.proofs.lemmas.Option.{slice_get_within}
 use Rattle.jn_base.specs.declared.code.Code.TheVariants.{J1, J2, J5}
 use Rattle.jn_base.specs.declared.place.Row.{Row}
 use Rattle.jn_base.specs.declared.place.Span.{Span}
 use Rattle.jn_points.specs.declared.point.BaseType.{BaseType}
 use Rattle.jn_points.specs.declared.point.BaseType.TheVariants.{Int, Bool as BoolBase, Void, Null, Ref, Array}
+use Rattle.jn_points.specs.declared.point.StrOperation.{StrOperation}
+use Rattle.jn_points.specs.declared.point.StrOperation.TheVariants.{Length, IsEmpty, Equals}
 use Rattle.jn_points.specs.declared.program.Class.{Class}
 use Rattle.jn_points.specs.declared.program.Program.{Program}
 use Rattle.jn_points.specs.Lookup.{class_info, interface_of, method_at, static_of}
 use Rattle.jn_points.specs.Members.{constructor_of, field_of, method_of}
 use Rattle.jn_points.specs.Regular.{IsConcrete}
-use Rattle.jn_known.specs.Known.{equals_name, is_object_member, length_name}
+use Rattle.jn_known.specs.Known.{equals_name, is_empty_name, is_object_member, length_name}
 use Rattle.jn_lowering.specs.Scopes.{Meaning, LocalMeant, FieldMeant, ClassMeant, SystemMeant, NothingMeant, Access, ClassField, ObjectField, ArrayLength, NoField, Callee, Println, OfText, ClassMethod, ObjectMethod, NoMethod, access_by, access_of, callee_by, callee_of, class_access, class_callee, class_named, object_access, object_callee, or_zero, text_callee}
 use Rattle.jn_lowering.specs.Calls.{is_static}
 use Rattle.jn_lowering.specs.Annotations.{row, unless, when}
@@ -48,6 +50,11 @@ at span = record { span = span; code = J2 }
 
 abbrev one_row : Row → List Row
 one_row r = r ∷ []
+
+-- `equals` of a String has an argument
+abbrev pub TextArity : StrOperation → ℕ → Type 0
+TextArity Equals zero = ⊥
+TextArity op arity = Unit {0}
 
 module _ (P : Program) (c : ℕ) where
   abbrev pub FieldGood : ℕ → Bool → Type 0
@@ -109,7 +116,7 @@ module _ (P : Program) (c : ℕ) where
 
   abbrev pub CalleeGood : List Row → List Row → ℕ → Callee → Type 0
   CalleeGood rows args arity Println = args ≡ []
-  CalleeGood rows args arity (OfText op) = (rows ≡ []) × (args ≡ [])
+  CalleeGood rows args arity (OfText op) = (rows ≡ []) × (args ≡ []) × TextArity op arity
   CalleeGood rows args arity (ClassMethod m) = (args ≡ []) × MethodGood m arity true
   CalleeGood rows args arity (ObjectMethod m) = (rows ≡ []) × ((args ≡ []) × MethodGood m arity false)
   CalleeGood rows args arity NoMethod = ⊥
@@ -128,18 +135,37 @@ module _ (P : Program) (c : ℕ) where
       by None e h = cc
       by (Some m) e h = (none, (none', (method_found P k n arity m e, when_none (static_of (method_at P m)) (at span) [] (append_none (method_private P c m span) (when (static_of (method_at P m)) (row J2 span)) h).1)))
 
-  text_good : (k : Callee) (span : Span) (rows args : List Row) (arity : ℕ) → rows ≡ [] → args ≡ [] → when (not (is_text k)) (row J5 span) ≡ [] → CalleeGood rows args arity k
-  text_good (OfText op) span rows args arity none none' h = (none, none')
-  text_good Println span rows args arity none none' h = cc
-  text_good (ClassMethod m) span rows args arity none none' h = cc
-  text_good (ObjectMethod m) span rows args arity none none' h = cc
-  text_good NoMethod span rows args arity none none' h = cc
+  -- the operation that a name and a number of arguments mean has that many
+  abbrev ArityFits : Callee → ℕ → Type 0
+  ArityFits (OfText op) arity = TextArity op arity
+  ArityFits k arity = Unit {0}
+
+  arity_fits : (n arity : ℕ) → ArityFits (text_callee n arity) arity
+  arity_fits n zero = by (eqb n length_name) (eqb n is_empty_name)
+    where
+      by : (a b : Bool) → ArityFits (cond a (OfText Length) (cond b (OfText IsEmpty) NoMethod)) zero
+      by true b = tt
+      by false true = tt
+      by false false = tt
+  arity_fits n (suc zero) = by (eqb n equals_name)
+    where
+      by : (a : Bool) → ArityFits (cond a (OfText Equals) NoMethod) (suc zero)
+      by true = tt
+      by false = tt
+  arity_fits n (suc (suc more)) = tt
+
+  text_good : (k : Callee) (span : Span) (rows args : List Row) (arity : ℕ) → ArityFits k arity → rows ≡ [] → args ≡ [] → when (not (is_text k)) (row J5 span) ≡ [] → CalleeGood rows args arity k
+  text_good (OfText op) span rows args arity fits none none' h = (none, none', fits)
+  text_good Println span rows args arity fits none none' h = cc
+  text_good (ClassMethod m) span rows args arity fits none none' h = cc
+  text_good (ObjectMethod m) span rows args arity fits none none' h = cc
+  text_good NoMethod span rows args arity fits none none' h = cc
 
   value_method_good : (base : BaseType) (n arity : ℕ) (span : Span) (rows args : List Row) → rows ≡ [] → args ≡ [] → value_method_rows P c base n arity span ≡ [] → CalleeGood rows args arity (callee_of P base n arity)
   value_method_good (Ref k) n arity span rows args none none' h = by (eqb k.0 1) h
     where
       by : (b : Bool) → cond b (when (not (is_text (text_callee n arity))) (row J5 span)) (cond (eqb n equals_name) (row J5 span) (object_method_rows P c (method_of P k.0 n arity) span)) ≡ [] → CalleeGood rows args arity (cond b (text_callee n arity) (object_callee (method_of P k.0 n arity)))
-      by true h = text_good (text_callee n arity) span rows args arity none none' h
+      by true h = text_good (text_callee n arity) span rows args arity (arity_fits n arity) none none' h
       by false h = object_method_good k.0 n arity span rows args none none' (other_side (eqb n equals_name) (record { span = span; code = J5 }) [] (object_method_rows P c (method_of P k.0 n arity) span) h).1
   value_method_good Int n arity span rows args none none' h = absurd (no_method (eqb n equals_name) span h)
     where

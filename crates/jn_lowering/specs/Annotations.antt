@@ -13,9 +13,11 @@ use Rattle.jn_known.specs.Known.{non_null_name, nullable_name, initialized_name,
 use Rattle.jn_lowering.specs.Scopes.{class_named}
 use Rattle.jn_lowering.specs.Bases.{is_class_use}
 
+-- one row
 abbrev pub row : Code → Span → List Row
 row code span = record { span = span; code = code } ∷ []
 
+-- rows, where a condition holds
 abbrev pub when : Bool → List Row → List Row
 when true rows = rows
 when false rows = []
@@ -25,9 +27,11 @@ abbrev pub unless : List Row → List Row → List Row
 unless [] rows = rows
 unless (r ∷ rs) rows = []
 
+-- `@NonNull` and `@Nullable` (Checker Framework manual, 3)
 abbrev pub is_nullity : ℕ → Bool
 is_nullity n = eqb n non_null_name || eqb n nullable_name
 
+-- `@Initialized`, `@UnderInitialization` and `@UnknownInitialization` (Checker Framework manual, 3.8)
 abbrev pub is_initialization : ℕ → Bool
 is_initialization n = eqb n initialized_name || (eqb n under_name || eqb n unknown_name)
 
@@ -36,15 +40,19 @@ pub record Allowed : Type 0 where
   pub nullity : Bool
   pub initialization : Bool
 
+-- at a parameter, a result and a local
 abbrev pub both_kinds : Allowed
 both_kinds = record { nullity = true; initialization = true }
 
+-- at a field and an array's elements, which are always initialized
 abbrev pub nullity_alone : Allowed
 nullity_alone = record { nullity = true; initialization = false }
 
+-- an annotation that has a meaning there, on a reference type
 abbrev pub is_allowed : Allowed → Bool → ℕ → Bool
 is_allowed allowed reference n = reference && ((is_nullity n && allowed.nullity) || (is_initialization n && allowed.initialization))
 
+-- one of the annotations is of the kind
 abbrev pub some_named : (ℕ → Bool) → List Annotation → Bool
 some_named kind [] = false
 some_named kind (a ∷ as') = kind a.name.0 || some_named kind as'
@@ -54,13 +62,16 @@ abbrev pub doubled : (ℕ → Bool) → List Annotation → List Row
 doubled kind [] = []
 doubled kind (a ∷ as') = cond (kind a.name.0) (when (some_named kind as') (row J5 a.span)) (doubled kind as')
 
+-- at each annotation that has no meaning where it stands (JLS 8, 9.7.4)
 abbrev pub not_allowed : Allowed → Bool → List Annotation → List Row
 not_allowed allowed reference [] = []
 not_allowed allowed reference (a ∷ as') = when (not (is_allowed allowed reference a.name.0)) (row J5 a.span) ++ not_allowed allowed reference as'
 
+-- the rows of a place's annotations
 abbrev pub annotation_rows : Allowed → Bool → List Annotation → List Row
 annotation_rows allowed reference annotations = not_allowed allowed reference annotations ++ (doubled is_nullity annotations ++ doubled is_initialization annotations)
 
+-- those before an array's type are its elements', those before its brackets are its own (JLS 8, 9.7.4)
 abbrev pub typed_rows : Base → Option (List Annotation) → Allowed → List Annotation → List Row
 typed_rows base None allowed leading = annotation_rows allowed (is_class_use base) leading
 typed_rows base (Some brackets) allowed leading = annotation_rows nullity_alone (is_class_use base) leading ++ annotation_rows allowed true brackets
@@ -74,10 +85,12 @@ abbrev pub name_row : ℕ → Span → List Row
 name_row n span = when (is_object_member n) (row J5 span)
 
 module _ (P : Program) where
+  -- a name that must be a class's (JLS 8, 6.5.5)
   abbrev pub known_class : Option ℕ → Span → List Row
   known_class None span = row J1 span
   known_class (Some k) span = []
 
+  -- J1: a type's name that no class has
   abbrev pub base_rows : Base → List Row
   base_rows (ClassUse n) = known_class (class_named P n.name.0) n.span
   base_rows base = []

@@ -26,9 +26,11 @@ use Rattle.jn_places.specs.Placed.{PlacedTree, PlacedLiteral, PlacedName, Placed
 use Rattle.jn_known.specs.Known.{nullable_name}
 use Rattle.jn_lowering.specs.Scopes.{Scope, Meaning, LocalMeant, FieldMeant, Access, ClassField, ObjectField, ArrayLength, NoField, Callee, OfText, ClassMethod, ObjectMethod, count, or_zero, class_named, meaning, access, callee, super_method}
 
+-- the type of a class's objects
 abbrev pub ref : ℕ → BaseType
 ref c = Ref (record { 0 = c })
 
+-- JLS 8, 15.8.1
 abbrev pub literal_type : Literal → BaseType
 literal_type (Number n) = Int
 literal_type (Text n) = string_base
@@ -57,10 +59,12 @@ compound_of DivideBy = Quotient
 compound_of RemainderBy = Rest
 compound_of o = Sum
 
+-- `=` (JLS 8, 15.26.1)
 abbrev pub is_simple : AssignOperator → Bool
 is_simple Assign = true
 is_simple o = false
 
+-- the operator of text joining
 abbrev pub is_join : Operator → Bool
 is_join Sum = true
 is_join o = false
@@ -69,13 +73,16 @@ is_join o = false
 abbrev pub joins : Operator → BaseType → BaseType → Bool
 joins o a b = is_join o && (is_string a || is_string b)
 
+-- a binary form's type (JLS 8, 15.17 to 15.21)
 abbrev pub binary_type : Operator → BaseType → BaseType → BaseType
 binary_type o a b = cond (joins o a b) string_base (cond (is_sum o) Int BoolBase)
 
+-- a unary form's type (JLS 8, 15.15)
 abbrev pub unary_type : UnaryOperator → BaseType
 unary_type Not = BoolBase
 unary_type o = Int
 
+-- an annotation of the name is among them
 abbrev pub has_annotation : ℕ → List Annotation → Bool
 has_annotation n [] = false
 has_annotation n (a ∷ as') = eqb a.name.0 n || has_annotation n as'
@@ -85,11 +92,13 @@ abbrev pub is_local_meaning : Meaning → Bool
 is_local_meaning (LocalMeant l) = true
 is_local_meaning m = false
 
+-- the name of a class, and no primitive type
 abbrev pub is_class_use : Base → Bool
 is_class_use (ClassUse n) = true
 is_class_use base = false
 
 module _ (P : Program) where
+  -- an array's elements (JLS 8, 10.1)
   abbrev pub elem_type : Base → List Annotation → Elem
   elem_type (ClassUse n) annotations = RefElem (record { 0 = or_zero (class_named P n.name.0) })
   elem_type (IntUse s) annotations = IntElem
@@ -99,11 +108,13 @@ module _ (P : Program) where
   abbrev pub array_type : Base → List Annotation → BaseType
   array_type base annotations = Array (elem_type base annotations) (is_class_use base && has_annotation nullable_name annotations)
 
+  -- a type that is no array's (JLS 8, 4.2 and 4.3)
   abbrev pub simple_type : Base → BaseType
   simple_type (ClassUse n) = ref (or_zero (class_named P n.name.0))
   simple_type (IntUse s) = Int
   simple_type (BooleanUse s) = BoolBase
 
+  -- a written type, with the annotations in its brackets and those before it
   abbrev pub type_by : Base → Option (List Annotation) → List Annotation → BaseType
   type_by base None annotations = simple_type base
   type_by base (Some brackets) annotations = array_type base annotations
@@ -112,22 +123,26 @@ module _ (P : Program) where
   abbrev pub type_of_use : PlacedTypeUse → List Annotation → BaseType
   type_of_use u annotations = type_by u.base u.array annotations
 
+  -- JLS 8, 15.11 and 10.7
   abbrev pub access_type : Access → BaseType
   access_type (ClassField f) = field_base P f
   access_type (ObjectField f) = field_base P f
   access_type ArrayLength = Int
   access_type NoField = Void
 
+  -- a method's result (JLS 8, 15.12.3)
   abbrev pub result_type : Option ℕ → BaseType
   result_type None = Void
   result_type (Some m) = result_base_of (method_at P m)
 
+  -- the result of what a call with a dot names
   abbrev pub callee_type : Callee → BaseType
   callee_type (OfText op) = operation_base op
   callee_type (ClassMethod m) = result_base_of (method_at P m)
   callee_type (ObjectMethod m) = result_base_of (method_at P m)
   callee_type k = Void
 
+  -- what an identifier means has this type
   abbrev pub meaning_type : Meaning → BaseType
   meaning_type (LocalMeant l) = l.base
   meaning_type (FieldMeant f) = field_base P f
@@ -138,13 +153,16 @@ module _ (P : Program) where
   wider a b = cond (fits P a b) b a
 
   module _ (c : ℕ) where
+    -- an expression that is a local's name
     abbrev pub is_local : Scope → PlacedTree → Bool
     is_local s (PlacedName n) = is_local_meaning (meaning P c s n.name.0)
     is_local s e = false
 
+    -- an assignment's type: the local's, else the value's; a compound one's is that of its operator (JLS 8, 15.26)
     abbrev pub assign_type : AssignOperator → Bool → BaseType → BaseType → BaseType
     assign_type o local target value = cond (is_simple o) (cond local target value) (binary_type (compound_of o) target value)
 
+    -- the type of each form
     abbrev pub type_of : Scope → PlacedTree → BaseType
     type_of s (PlacedLiteral l span) = literal_type l
     type_of s (PlacedName n) = meaning_type (meaning P c s n.name.0)

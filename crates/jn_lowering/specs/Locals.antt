@@ -17,11 +17,13 @@ pub record State : Type 0 where
   pub locals : List BaseType
   pub temporaries : Temporaries
 
+-- the annotations among the modifiers
 abbrev pub annotations_of : List LocalModifier → List Annotation
 annotations_of [] = []
 annotations_of (NoteOf a ∷ ms) = a ∷ annotations_of ms
 annotations_of (Final span ∷ ms) = annotations_of ms
 
+-- `final` is among the modifiers (JLS 8, 4.12.4)
 abbrev pub has_final : List LocalModifier → Bool
 has_final [] = false
 has_final (NoteOf a ∷ ms) = has_final ms
@@ -40,6 +42,7 @@ bound_named n =
     (cond (eqb n initialized_name) (Some (record { null = true; committed = true; free = false }))
     (cond (eqb n under_name) (Some (record { null = true; committed = false; free = true })) None)))
 
+-- the bits that both have
 abbrev pub common : Option Qualifier → Option Qualifier → Option Qualifier
 common None b = b
 common (Some a) None = Some a
@@ -50,10 +53,12 @@ abbrev pub bound_of : List Annotation → Option Qualifier
 bound_of [] = None
 bound_of (a ∷ as') = common (bound_named a.name.0) (bound_of as')
 
+-- a local was found
 abbrev pub is_some : Option Local → Bool
 is_some None = false
 is_some (Some l) = true
 
+-- a declarator with an initializer
 abbrev pub has_value : PlacedDeclarator → Bool
 has_value d = is_value d.value
   where
@@ -77,6 +82,7 @@ declares st name base bound fixed faults = record {
 abbrev pub reserves : State → BaseType → State
 reserves st base = record { scope = st.scope; locals = st.locals ++ base ∷ []; temporaries = st.temporaries }
 
+-- the same with other temporaries
 abbrev pub with_temporaries : State → Temporaries → State
 with_temporaries st t = record { scope = st.scope; locals = st.locals; temporaries = t }
 
@@ -88,14 +94,17 @@ parameters_from r (p ∷ ps) (b ∷ bases) = record { name = p.name.name.0; reg 
 
 -- how many registers the locals of a statement take
 
+-- a declaration's
 abbrev pub declared_by : PlacedLocal → ℕ
 declared_by l = 1 + length l.more
 
+-- those that a `for` declares
 abbrev pub declared_first : PlacedInit → ℕ
 declared_first (PlacedExpressions es) = 0
 declared_first (PlacedDeclaration l) = declared_by l
 
 abbrev mutual
+  -- a statement's
   pub declared : PlacedStatement → ℕ
   declared (PlacedBlock body span) = all_declared body
   declared (PlacedEmpty span) = 0
@@ -113,6 +122,7 @@ abbrev mutual
   declared (PlacedThisCall es span) = 0
   declared (PlacedSuperCallStatement es span) = 0
 
+  -- those of several
   pub all_declared : PlacedStatements → ℕ
   all_declared NoPlacedStatements = 0
   all_declared (MorePlacedStatements x xs) = declared x + all_declared xs

@@ -26,14 +26,17 @@ pub record Local : Type 0 where
 abbrev pub Scope : Type 0
 Scope = List Local
 
+-- the last declared one of the name (JLS 8, 6.4.1)
 abbrev pub local_in : Scope → ℕ → Option Local
 local_in [] n = None
 local_in (l ∷ ls) n = cond (eqb l.name n) (Some l) (local_in ls n)
 
+-- the number, or Object's
 abbrev pub or_zero : Option ℕ → ℕ
 or_zero None = 0
 or_zero (Some n) = n
 
+-- how many arguments
 abbrev pub count : PlacedTrees → ℕ
 count NoPlacedTrees = 0
 count (MorePlacedTrees t ts) = suc (count ts)
@@ -46,6 +49,7 @@ pub data Meaning : Type 0 where
   SystemMeant : Meaning
   NothingMeant : Meaning
 
+-- the class System
 abbrev pub is_system : Meaning → Bool
 is_system SystemMeant = true
 is_system m = false
@@ -57,10 +61,12 @@ pub data Access : Type 0 where
   ArrayLength : Access
   NoField : Access
 
+-- `C.f`
 abbrev pub class_access : Option ℕ → Access
 class_access None = NoField
 class_access (Some f) = ClassField f
 
+-- `e.f`
 abbrev pub object_access : Option ℕ → Access
 object_access None = NoField
 object_access (Some f) = ObjectField f
@@ -73,10 +79,12 @@ pub data Callee : Type 0 where
   ObjectMethod : (method : ℕ) → Callee
   NoMethod : Callee
 
+-- `C.m(..)`
 abbrev pub class_callee : Option ℕ → Callee
 class_callee None = NoMethod
 class_callee (Some m) = ClassMethod m
 
+-- `e.m(..)`
 abbrev pub object_callee : Option ℕ → Callee
 object_callee None = NoMethod
 object_callee (Some m) = ObjectMethod m
@@ -92,39 +100,47 @@ module _ (P : Program) where
   abbrev pub class_named : ℕ → Option ℕ
   class_named n = first_at (λ k. eqb k.name.0 n) 0 P.classes
 
+  -- a class of the name, else System
   abbrev pub class_or_system : Option ℕ → ℕ → Meaning
   class_or_system (Some k) n = ClassMeant k
   class_or_system None n = cond (eqb n system_name) SystemMeant NothingMeant
 
+  -- a field of the name, else a class
   abbrev pub field_or_class : Option ℕ → ℕ → Meaning
   field_or_class (Some f) n = FieldMeant f
   field_or_class None n = class_or_system (class_named n) n
 
+  -- a member of a value (JLS 8, 15.11.1 and 10.7)
   abbrev pub access_of : BaseType → ℕ → Access
   access_of (Ref k) n = object_access (field_of P k.0 n)
   access_of (Array e nullable) n = cond (eqb n length_name) ArrayLength NoField
   access_of base n = NoField
 
+  -- a member of what stands before the dot
   abbrev pub access_by : Meaning → BaseType → ℕ → Access
   access_by (ClassMeant k) base n = class_access (field_of P k n)
   access_by SystemMeant base n = NoField
   access_by m base n = access_of base n
 
+  -- a method of a value (JLS 8, 15.12.1)
   abbrev pub callee_of : BaseType → ℕ → ℕ → Callee
   callee_of (Ref k) n arity = cond (eqb k.0 1) (text_callee n arity) (object_callee (method_of P k.0 n arity))
   callee_of base n arity = NoMethod
 
+  -- a method of what stands before the dot
   abbrev pub callee_by : Meaning → BaseType → ℕ → ℕ → Callee
   callee_by (ClassMeant k) base n arity = class_callee (method_of P k n arity)
   callee_by SystemMeant base n arity = NoMethod
   callee_by m base n arity = callee_of base n arity
 
+  -- the superclass
   abbrev pub parent_class : Option ClassNo → ℕ
   parent_class None = 0
   parent_class (Some k) = k.0
 
   -- in a body of class c
   module _ (c : ℕ) where
+    -- a local of the name, else a field
     abbrev pub local_or_field : Option Local → ℕ → Meaning
     local_or_field (Some l) n = LocalMeant l
     local_or_field None n = field_or_class (field_of P c n) n
@@ -138,6 +154,7 @@ module _ (P : Program) where
     before_dot s (PlacedName n) = meaning s n.name.0
     before_dot s e = NothingMeant
 
+    -- what a field access names (JLS 8, 15.11)
     abbrev pub access : Scope → PlacedTree → BaseType → ℕ → Access
     access s e base n = access_by (before_dot s e) base n
 
@@ -146,6 +163,7 @@ module _ (P : Program) where
     is_output s (PlacedField (PlacedName n) field span) = is_system (meaning s n.name.0) && eqb field.name.0 out_name
     is_output s e = false
 
+    -- what a call with a dot names (JLS 8, 15.12.1)
     abbrev pub callee : Scope → PlacedTree → BaseType → ℕ → ℕ → Callee
     callee s e base n arity = cond (is_output s e && eqb n println_name && eqb arity 1) Println (callee_by (before_dot s e) base n arity)
 

@@ -8,7 +8,7 @@ use Rattle.jn_points.specs.declared.point.Operand.{Operand}
 use Rattle.jn_points.specs.declared.point.Operator.{Operator}
 use Rattle.jn_points.specs.declared.point.Operator.TheVariants.{Add, Sub, Mul, Div, Rem}
 use Rattle.jn_points.specs.declared.point.StrOperation.{StrOperation}
-use Rattle.jn_points.specs.declared.point.StrOperation.TheVariants.{Length}
+use Rattle.jn_points.specs.declared.point.StrOperation.TheVariants.{Length, Equals}
 use Rattle.jn_points.specs.declared.point.Literal.{Literal}
 use Rattle.jn_points.specs.declared.point.Literal.TheVariants.{Int as IntOf, Truth, Str, Null}
 use Rattle.jn_points.specs.declared.point.BaseType.{BaseType}
@@ -74,6 +74,11 @@ is_sum op = false
 abbrev pub operation_base : StrOperation → BaseType
 operation_base Length = Int
 operation_base op = BoolBase
+
+-- `equals` is given what it compares with (JLS 8, 15.12.2)
+abbrev pub HasArgument : StrOperation → Option Operand → Type 0
+HasArgument Equals None = ⊥
+HasArgument op other = Unit {0}
 
 -- a static field is an int or a boolean; a boolean one starts with 0 or 1
 abbrev pub StaticField : Field → Type 0
@@ -240,6 +245,7 @@ module _ (P : Program) where
   NamesMethods (New dst ctor args) = (ctor_of (method_at P ctor.0) ≡ true) × IsConcrete (class_of (method_at P ctor.0)) × ArgumentsMatch ctor.0 args
   NamesMethods (CtorCall ctor args own) = (ctor_of (method_at P ctor.0) ≡ true) × ArgumentsMatch ctor.0 args
   NamesMethods (Call dst method receiver direct args) = (ctor_of (method_at P method.0) ≡ false) × ArgumentsMatch method.0 args × ReceiverMatches P method.0 receiver × Selects method.0 receiver direct
+  NamesMethods (StrOp dst op of other) = HasArgument op other
   NamesMethods kind = Unit {0}
 
   -- numbers that a point of a body names are in range

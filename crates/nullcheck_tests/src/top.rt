@@ -18,6 +18,8 @@ const USAGE: &str =
 
 const UNBUILT: &str = "A.java:1:1: UNBUILT\nrefused 1\n";
 
+const TAKEN: &str = "A.java:1:7: T1\nrefused 1\n";
+
 /// The status and the output of the words over one file `A.java`, where the call of this number fails.
 fn outcome(
     alloc: Global,
@@ -186,7 +188,7 @@ fn answers_words_and_faults(rt: HostRuntime) -> Result<(), OutOfMemory> {
     for (first, second, failing, room, status, want) in [
         ("A.java", "", 0, 1000, Status::Rejected, report),
         ("", "", 0, 1000, Status::Usage, USAGE),
-        ("A.java", "A.java", 0, 1000, Status::Refused, UNBUILT),
+        ("A.java", "A.java", 0, 1000, Status::Refused, TAKEN),
         ("A.java", "--run", 0, 1000, Status::Usage, USAGE),
         ("A.java", "B.java", 0, 1000, Status::ReadFault, ""),
         ("A.java", "A.java", 4, 1000, Status::ReadFault, ""),
@@ -223,7 +225,7 @@ fn reports_the_first_phase_that_has_rows(rt: HostRuntime) -> Result<(), OutOfMem
         (&spaces, UNBUILT),
         (
             b"class String { public static void main(String[] a) { } }",
-            UNBUILT,
+            TAKEN,
         ),
         (b"\xff\x00", "A.java:1:1: L1\nrefused 1\n"),
         (b"class A { } // \\u0041\n", "A.java:1:16: L2\nrefused 1\n"),

@@ -19,7 +19,7 @@ use Rattle.nullcheck_top.specs.declared.status.Status.{Status}
 use Rattle.nullcheck_top.specs.declared.status.Status.TheVariants.{Ok, Rejected, Refused as RefusedStatus, RunFault, Stopped, ReadFault, WriteFault, OutOfMemory, Usage}
 use Rattle.nullcheck_top.specs.Words.{usage_line}
 use Rattle.nullcheck_top.specs.Report.{Report, Refused, Checked, IsReport, RulesGive, ProgramOf, IsSafe, status_of}
-use Rattle.nullcheck_top.specs.Answer.{AreFiles, IsReportOfFiles, IsReportOf, Defines, Answers, Completes, Safe, Finished}
+use Rattle.nullcheck_top.specs.Answer.{IsReportOfFiles, IsReportOf, Defines, Answers, Completes, Safe, Finished}
 use Rattle.nullcheck_top.specs.Made.{IfMade}
 
 -- statuses behind which something was written whole

@@ -20,7 +20,7 @@ use Rattle.jn_first_form.specs.Facts.{FormFacts}
 use Rattle.jn_first_form.specs.Form.{IsForm}
 use Rattle.jn_front.specs.declared.source.SourceFile.{SourceFile}
 use Rattle.jn_front.specs.Phases.{AreParsed, FrontRows}
-use Rattle.nullcheck_top.specs.Report.{IsFormOf, ProgramOf, Report, Refused, Checked, RulesGive, IsFront, IsUnbuilt, IsCheckedBy, IsReport}
+use Rattle.nullcheck_top.specs.Report.{AreDeclared, IsFormOf, PhaseRows, ProgramOf, Report, Refused, Checked, RulesGive, IsPhase, IsCheckedBy, IsReport, table_rows}
 use Rattle.nullcheck_top.proofs.Inside.{stays}
 use Rattle.nullcheck_top.proofs.RuleRows.{breaks_once}
 
@@ -69,7 +69,7 @@ module _ (fronted : (files : List SourceFile) (rows others : List Row) → Front
 
   one_program : (files : List SourceFile) (P Q : Program) → ProgramOf files P → ProgramOf files Q → P ≡ Q
   one_program files P Q x y =
-      let same = (parsed files x.names y.names x.tokens y.tokens x.trees y.trees x.parsed y.parsed).1 in
+      let same = (parsed files x.names y.names x.tokens y.tokens x.trees y.trees x.declared.parsed y.declared.parsed).1 in
       one_form y.tokens P Q (subst (λ tss. IsFormOf tss P) same x.form) y.form
 
   one_rules : (P : Program) (rows others : List Row) → RulesGive P rows → RulesGive P others → rows ≡ others
@@ -77,21 +77,37 @@ module _ (fronted : (files : List SourceFile) (rows others : List Row) → Front
       let same = breaks_once P (start_signature P) (table P (start_signature P)) x.broken y.broken x.breaks y.breaks in
       ordered y.broken rows others (subst (λ broken. IsOrderOf broken rows) same x.order) y.order
 
-  one_front : (files : List SourceFile) (rows others : List Row) → IsFront files rows → IsFront files others → rows ≡ others
-  one_front files rows others x y =
-      let same = fronted files x.broken y.broken x.phase y.phase in
+  -- files have the rows of one phase
+  one_rows : (files : List SourceFile) (rows others : List Row) → PhaseRows files rows → PhaseRows files others → rows ≡ others
+  one_rows files rows others (inl x) (inl y) = fronted files rows others x y
+  one_rows files rows others (inl x) (inr y) = absurd (apart files y.names y.tokens y.trees rows y.parsed x)
+  one_rows files rows others (inr x) (inl y) = absurd (apart files x.names x.tokens x.trees others x.parsed y)
+  one_rows files rows others (inr x) (inr y) =
+      let same = (parsed files x.names y.names x.tokens y.tokens x.trees y.trees x.parsed y.parsed).2 in
+      x.are ∙ ap table_rows same ∙ sym y.are
+
+  -- or none
+  declared_apart : (files : List SourceFile) (names : List (List ℕ)) (tokens : List (List Token)) (trees : List PlacedFile) (rows : List Row) → AreDeclared files names tokens trees → PhaseRows files rows → ⊥
+  declared_apart files names tokens trees rows x (inl y) = apart files names tokens trees rows x.parsed y
+  declared_apart files names tokens trees rows x (inr y) =
+      let same = (parsed files y.names names y.tokens tokens y.trees trees y.parsed x.parsed).2 in
+      y.some (y.are ∙ ap table_rows same ∙ x.rowless)
+
+  one_phase : (files : List SourceFile) (rows others : List Row) → IsPhase files rows → IsPhase files others → rows ≡ others
+  one_phase files rows others x y =
+      let same = one_rows files x.broken y.broken x.phase y.phase in
       ordered y.broken rows others (subst (λ broken. IsOrderOf broken rows) same x.order) y.order
 
   one_refused : (files : List SourceFile) (rows others : List Row) → IsReport files (Refused rows) → IsReport files (Refused others) → rows ≡ others
-  one_refused files rows others (inl x) (inl y) = one_front files rows others x y
-  one_refused files rows others (inl x) (inr y) = absurd (apart files y.names y.tokens y.trees x.broken y.parsed x.phase)
-  one_refused files rows others (inr x) (inl y) = absurd (apart files x.names x.tokens x.trees y.broken x.parsed y.phase)
+  one_refused files rows others (inl x) (inl y) = one_phase files rows others x y
+  one_refused files rows others (inl x) (inr y) = absurd (declared_apart files y.names y.tokens y.trees x.broken y.declared x.phase)
+  one_refused files rows others (inr x) (inl y) = absurd (declared_apart files x.names x.tokens x.trees y.broken x.declared y.phase)
   one_refused files rows others (inr x) (inr y) = x.row ∙ sym y.row
 
   never_both : (files : List SourceFile) (rows others : List Row) → IsReport files (Refused rows) → IsCheckedBy files others → ⊥
-  never_both files rows others (inl x) y = apart files y.of_files.names y.of_files.tokens y.of_files.trees x.broken y.of_files.parsed x.phase
+  never_both files rows others (inl x) y = declared_apart files y.of_files.names y.of_files.tokens y.of_files.trees x.broken y.of_files.declared x.phase
   never_both files rows others (inr x) y =
-      let same = (parsed files y.of_files.names x.names y.of_files.tokens x.tokens y.of_files.trees x.trees y.of_files.parsed x.parsed).1 in
+      let same = (parsed files y.of_files.names x.names y.of_files.tokens x.tokens y.of_files.trees x.trees y.of_files.declared.parsed x.declared.parsed).1 in
       x.no_form y.P (subst (λ tss. IsFormOf tss y.P) same y.of_files.form)
 
   pub one_report : (files : List SourceFile) (one other : Report) → IsReport files one → IsReport files other → one ≡ other

@@ -1,5 +1,5 @@
 -- The report of files that were read.
-use Rattle.std.proofs.Common.{◌≡◌, ℕ, ◌+◌, ◌<◌, ◌≤◌, suc, zero, Bool, true, false, List, [], ◌∷◌, ◌++◌, length, map, get_or, Option, Some, None, inl, inr, ⊎_elim, refl, sym, ap, ◌∙◌, subst, arith}
+use Rattle.std.proofs.Common.{◌≡◌, ℕ, ◌+◌, ◌<◌, suc, zero, Bool, true, false, List, [], ◌∷◌, ◌++◌, length, map, get_or, Option, Some, None, inl, inr, ⊎_elim, refl, sym, ap, ◌∙◌, subst, arith}
 use Rattle.std.proofs.lemmas.Bool.{lt-ltb}
 use Rattle.std.specs.declared.string.String.{String}
 use Rattle.std.specs.declared.alloc.Global.{Global}
@@ -20,10 +20,9 @@ use Rattle.jn_front.specs.declared.source.SourceFile.{SourceFile}
 use Rattle.jn_front.specs.declared.source.SourceRead.{SourceRead}
 use Rattle.jn_front.specs.Files.{names_of, files_of_reads, AreReads, IsReadOf, most_files, file_limit}
 use Rattle.jn_front.specs.Limits.{row_at, large_row, passing_row, size_rows, limit_rows, counted, all_limit}
-use Rattle.jn_front.specs.Phases.{FrontRows, AreParsed}
 use Rattle.nullcheck_top.specs.declared.status.Status.{Status}
 use Rattle.nullcheck_top.specs.declared.status.Status.TheVariants.{Refused as RefusedStatus}
-use Rattle.nullcheck_top.specs.Report.{ProgramOf, IsFormOf, RulesGive, IsFront, Refused, Checked, status_of_rows, unbuilt_row}
+use Rattle.nullcheck_top.specs.Report.{AreDeclared, PhaseRows, ProgramOf, IsFormOf, RulesGive, Refused, Checked, status_of_rows, unbuilt_row}
 use Rattle.nullcheck_top.specs.Shown.{shown, row_of, row_of_file, verdict_of_rows}
 use Rattle.nullcheck_top.specs.Answer.{IsReportOfFiles}
 
@@ -36,7 +35,7 @@ checked_report files P rows status shown_rows verdict of_files rules ends lines 
 }
 
 -- files that a phase refuses
-pub refused_report : (files shown_files : List SourceFile) (broken sorted : List Row) (status : Status) (bytes : List ℕ) → FrontRows files broken → IsOrderOf broken sorted → status ≡ RefusedStatus → bytes ≡ shown shown_files (Refused sorted) → shown shown_files (Refused sorted) ≡ shown files (Refused sorted) → IsReportOfFiles files status bytes
+pub refused_report : (files shown_files : List SourceFile) (broken sorted : List Row) (status : Status) (bytes : List ℕ) → PhaseRows files broken → IsOrderOf broken sorted → status ≡ RefusedStatus → bytes ≡ shown shown_files (Refused sorted) → shown shown_files (Refused sorted) ≡ shown files (Refused sorted) → IsReportOfFiles files status bytes
 refused_report files shown_files broken sorted status bytes phase order ends is same = record {
   report = Refused sorted;
   is = inl (record { broken = broken; phase = phase; order = order });
@@ -141,7 +140,7 @@ one_sorted row = (tt, tt)
 pub too_many_report : (files : List SourceFile) (names : List (List ℕ)) (name : List ℕ) (status : Status) (rows : List RowText) (verdict : Option Verdict) → names_of files ≡ names → most_files < length names → slice_get names most_files ≡ Some name → status ≡ RefusedStatus → rows ≡ record { name = name; line = 1; col = 1; code = B1 } ∷ [] → verdict ≡ Some (RefusedVerdict 1) → IsReportOfFiles files status (plain_shown rows verdict)
 too_many_report files names name status rows verdict named many is ends lines end = record {
   report = Refused (row_at most_files B1 ∷ []);
-  is = inl (record { broken = row_at most_files B1 ∷ []; phase = inl (record { are = limit_is; some = λ e. cc }); order = record { sorted = one_sorted (row_at most_files B1); same = λ row. (λ h. h, λ h. h) } });
+  is = inl (record { broken = row_at most_files B1 ∷ []; phase = inl (inl (record { are = limit_is; some = λ e. cc })); order = record { sorted = one_sorted (row_at most_files B1); same = λ row. (λ h. h, λ h. h) } });
   ends = ends;
   shows = ap (λ rs. plain_shown rs verdict) (lines ∙ ap (λ r. r ∷ []) row_is) ∙ ap (λ v. plain_shown (row_of files (row_at most_files B1) ∷ []) v) end;
 }
@@ -164,10 +163,10 @@ too_many_report files names name status rows verdict named many is ends lines en
 pub refused_shown : (files : List SourceFile) (sorted : List Row) (rows : List RowText) (verdict : Option Verdict) → rows ≡ map (row_of files) sorted → verdict ≡ Some (RefusedVerdict (length sorted)) → plain_shown rows verdict ≡ shown files (Refused sorted)
 refused_shown files sorted rows verdict lines end = ap (λ rs. plain_shown rs verdict) lines ∙ ap (λ v. plain_shown (map (row_of files) sorted) v) end
 
-pub unbuilt_report : (files : List SourceFile) (names : List (List ℕ)) (tokens : List (List Token)) (trees : List PlacedFile) (status : Status) (bytes : List ℕ) → AreParsed files names tokens trees → ((P : Program) → IsFormOf tokens P → ⊥) → status ≡ RefusedStatus → bytes ≡ shown files (Refused (unbuilt_row ∷ [])) → IsReportOfFiles files status bytes
-unbuilt_report files names tokens trees status bytes parsed none ends is = record {
+pub unbuilt_report : (files : List SourceFile) (names : List (List ℕ)) (tokens : List (List Token)) (trees : List PlacedFile) (status : Status) (bytes : List ℕ) → AreDeclared files names tokens trees → ((P : Program) → IsFormOf tokens P → ⊥) → status ≡ RefusedStatus → bytes ≡ shown files (Refused (unbuilt_row ∷ [])) → IsReportOfFiles files status bytes
+unbuilt_report files names tokens trees status bytes declared none ends is = record {
   report = Refused (unbuilt_row ∷ []);
-  is = inr (record { names = names; tokens = tokens; trees = trees; parsed = parsed; no_form = none; row = refl });
+  is = inr (record { names = names; tokens = tokens; trees = trees; declared = declared; no_form = none; row = refl });
   ends = ends;
   shows = is;
 }

@@ -1,6 +1,6 @@
 -- Where no limit is passed, what was read are the files.
-use Rattle.std.proofs.Common.{◌≡◌, ℕ, zero, suc, ◌+◌, ◌<◌, ◌≤◌, Bool, true, false, List, [], ◌∷◌, ◌++◌, length, map, get_or, Option, Some, None, Result, Ok, Err, inl, inr, refl, sym, ap, ◌∙◌, subst, arith}
-use Rattle.std.specs.Prelude.{cond, nat_lt, nat_le, ◌⊎◌, ◌&&◌, min, IfOk, slice_get}
+use Rattle.std.proofs.Common.{◌≡◌, ℕ, zero, suc, ◌+◌, ◌<◌, ◌≤◌, Bool, true, false, List, [], ◌∷◌, ◌++◌, length, map, get_or, Some, None, Result, Ok, Err, inl, inr, refl, sym, ap, ◌∙◌, subst, arith}
+use Rattle.std.specs.Prelude.{cond, nat_lt, IfOk, slice_get}
 use Rattle.jn_base.specs.declared.refusal.OutOfMemory.{OutOfMemory}
 use Rattle.jn_points.specs.declared.program.Program.{Program}
 use Rattle.jn_diag.specs.declared.shown.RowText.{RowText}
@@ -23,7 +23,7 @@ use Rattle.jn_front.specs.Limits.{row_at, counted, large_row, passing_row, size_
 use Rattle.jn_front.specs.Phases.{AreParsed, ArePlaced, FaultRows, SyntaxRows, LexedFrom}
 use Rattle.nullcheck_top.specs.declared.status.Status.{Status}
 use Rattle.nullcheck_top.specs.declared.status.Status.TheVariants.{Refused as RefusedStatus}
-use Rattle.nullcheck_top.specs.Report.{Refused, IsFormOf, unbuilt_row}
+use Rattle.nullcheck_top.specs.Report.{AreDeclared, Refused, IsFormOf, table_rows, unbuilt_row}
 use Rattle.nullcheck_top.specs.Shown.{shown, row_of, row_of_file}
 use Rattle.nullcheck_top.specs.Answer.{IsReportOfFiles}
 use Rattle.nullcheck_top.proofs.Reporting.{refused_report, unbuilt_report, same_shown, read_names, sorted_at_start}
@@ -74,7 +74,7 @@ Limited reads rows = (files : List SourceFile) → AreReads reads files → rows
 pub limited_report : (reads : List SourceRead) (limits sorted : List Row) (status : Status) (bytes : List ℕ) → Limited reads limits → (limits ≡ [] → ⊥) → status ≡ RefusedStatus → IsOrderOf limits sorted → bytes ≡ shown (files_of_reads reads) (Refused sorted) → (files : List SourceFile) → AreReads reads files → IsReportOfFiles files status bytes
 limited_report reads limits sorted status bytes limited some ends order is files are =
     let same = limited files are in
-    refused_report files (files_of_reads reads) limits sorted status bytes (inl (record { are = same; some = some })) order ends is
+    refused_report files (files_of_reads reads) limits sorted status bytes (inl (inl (record { are = same; some = some }))) order ends is
     (same_shown (files_of_reads reads) files sorted (read_names reads files are) (sorted_at_start files limits sorted same order))
 
 -- no limit is passed
@@ -88,13 +88,13 @@ module _ (reads : List SourceRead) (limits : List Row) (limited : Limited reads 
   lexical_report faults sorted status bytes faulty some ends order is files are =
       let w = within_limits reads limits limited none files are in
       refused_report files (files_of_reads reads) faults sorted status bytes
-      (inr (inl (record { within = w.1; are = subst (λ fs. FaultRows 0 fs faults) w.0 faulty; some = some }))) order ends is (ap (λ fs. shown fs (Refused sorted)) w.0)
+      (inl (inr (inl (record { within = w.1; are = subst (λ fs. FaultRows 0 fs faults) w.0 faulty; some = some })))) order ends is (ap (λ fs. shown fs (Refused sorted)) w.0)
 
   pub grammar_report : (names : List (List ℕ)) (tokens : List (List Token)) (rows sorted : List Row) (status : Status) (bytes : List ℕ) → LexedFrom 0 known_names (files_of_reads reads) tokens names → SyntaxRows 0 (files_of_reads reads) tokens rows → (rows ≡ [] → ⊥) → status ≡ RefusedStatus → IsOrderOf rows sorted → bytes ≡ shown (files_of_reads reads) (Refused sorted) → (files : List SourceFile) → AreReads reads files → IsReportOfFiles files status bytes
   grammar_report names tokens rows sorted status bytes lexed syntax some ends order is files are =
       let w = within_limits reads limits limited none files are in
       refused_report files (files_of_reads reads) rows sorted status bytes
-      (inr (inr (record { within = w.1; names = names; tokens = tokens; lexed = subst (λ fs. LexedFrom 0 known_names fs tokens names) w.0 lexed; are = subst (λ fs. SyntaxRows 0 fs tokens rows) w.0 syntax; some = some }))) order ends is (ap (λ fs. shown fs (Refused sorted)) w.0)
+      (inl (inr (inr (record { within = w.1; names = names; tokens = tokens; lexed = subst (λ fs. LexedFrom 0 known_names fs tokens names) w.0 lexed; are = subst (λ fs. SyntaxRows 0 fs tokens rows) w.0 syntax; some = some })))) order ends is (ap (λ fs. shown fs (Refused sorted)) w.0)
 
   pub are_parsed : (names : List (List ℕ)) (tokens : List (List Token)) (trees : List PlacedFile) → ((files : List SourceFile) × AreReads reads files) → LexedFrom 0 known_names (files_of_reads reads) tokens names → ArePlaced tokens trees → AreParsed (files_of_reads reads) names tokens trees
   are_parsed names tokens trees some lexed placed =
@@ -152,9 +152,17 @@ pub checked_made : (reads : List SourceRead) (limits : List Row) (made : Made) �
 checked_made reads limits (Ok r) limited none report = checked_files reads limits limited none r.0 (plain_shown r.1.rows r.1.verdict) report
 checked_made reads limits (Err e) limited none report = tt
 
-pub unbuilt_made : (files : List SourceFile) (names : List (List ℕ)) (tokens : List (List Token)) (trees : List PlacedFile) (made : Made) → AreParsed files names tokens trees → ((P : Program) → IsFormOf tokens P → ⊥) → EndsRefused made → IfOk made (λ r. plain_shown r.1.rows r.1.verdict ≡ shown files (Refused (unbuilt_row ∷ []))) → IfOk made (λ r. IsReportOfFiles files r.0 (plain_shown r.1.rows r.1.verdict))
-unbuilt_made files names tokens trees (Ok r) parsed none ends shows = unbuilt_report files names tokens trees r.0 (plain_shown r.1.rows r.1.verdict) parsed none ends shows
-unbuilt_made files names tokens trees (Err e) parsed none ends shows = tt
+-- rows of classes and members
+pub table_made : (reads : List SourceRead) (names : List (List ℕ)) (tokens : List (List Token)) (trees : List PlacedFile) (rows : List Row) (made : Made) → AreParsed (files_of_reads reads) names tokens trees → rows ≡ table_rows trees → (table_rows trees ≡ [] → ⊥) → EndsRefused made → ShowsSorted reads rows made → IfOk made (λ r. IsReportOfFiles (files_of_reads reads) r.0 (plain_shown r.1.rows r.1.verdict))
+table_made reads names tokens trees rows (Ok r) parsed are some ends shows =
+    let files = files_of_reads reads in
+    refused_report files files rows shows.0 r.0 (plain_shown r.1.rows r.1.verdict)
+    (inr (record { names = names; tokens = tokens; trees = trees; parsed = parsed; are = are; some = λ none. some (sym are ∙ none) })) shows.1 ends shows.2 refl
+table_made reads names tokens trees rows (Err e) parsed are some ends shows = tt
+
+pub unbuilt_made : (files : List SourceFile) (names : List (List ℕ)) (tokens : List (List Token)) (trees : List PlacedFile) (made : Made) → AreDeclared files names tokens trees → ((P : Program) → IsFormOf tokens P → ⊥) → EndsRefused made → IfOk made (λ r. plain_shown r.1.rows r.1.verdict ≡ shown files (Refused (unbuilt_row ∷ []))) → IfOk made (λ r. IsReportOfFiles files r.0 (plain_shown r.1.rows r.1.verdict))
+unbuilt_made files names tokens trees (Ok r) declared none ends shows = unbuilt_report files names tokens trees r.0 (plain_shown r.1.rows r.1.verdict) declared none ends shows
+unbuilt_made files names tokens trees (Err e) declared none ends shows = tt
 
 -- ---- a row of what was read
 

@@ -1,6 +1,6 @@
 -- What an answer says of the words, the files and the output.
-use Rattle.std.specs.Prelude.{ℕ, ◌≤◌, ◌<◌, ◌≡◌, ◌⊎◌, List, [], ◌∷◌, length, Option, Some, None}
-use Rattle.jn_outside.specs.Files.{Holding, Holds}
+use Rattle.std.specs.Prelude.{ℕ, ◌≤◌, ◌<◌, ◌≡◌, ◌⊎◌, List, length, Option, Some, None}
+use Rattle.jn_outside.specs.Files.{Holding}
 use Rattle.jn_outside.specs.Causes.{Rose}
 use Rattle.jn_outside.specs.Sink.{Appends, AppendsPrefix}
 use Rattle.nullcheck_top.specs.declared.status.Status.{Status}

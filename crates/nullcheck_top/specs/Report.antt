@@ -1,9 +1,11 @@
 -- The report of files: what they are found to be, and how it is shown.
-use Rattle.std.specs.Prelude.{ℕ, ◌≤◌, ◌≡◌, ◌⊎◌, List, [], ◌∷◌, length}
+use Rattle.std.specs.Prelude.{ℕ, ◌≡◌, ◌⊎◌, List, [], ◌∷◌}
 use Rattle.jn_base.specs.declared.place.Row.{Row}
 use Rattle.jn_base.specs.declared.code.Code.TheVariants.{Unbuilt}
 use Rattle.jn_trees.specs.declared.token.Token.{Token}
 use Rattle.jn_places.specs.Placed.{PlacedFile}
+use Rattle.jn_classtable.specs.Extract.{heads}
+use Rattle.jn_classtable.specs.Rows.{t_rows}
 use Rattle.jn_points.specs.declared.program.Program.{Program}
 use Rattle.jn_first_form.specs.Form.{IsForm}
 use Rattle.nullcheck_top.specs.declared.status.Status.{Status}
@@ -16,18 +18,27 @@ use Rattle.jn_front.specs.declared.source.SourceFile.{SourceFile}
 use Rattle.jn_front.specs.Limits.{row_at}
 use Rattle.jn_front.specs.Phases.{AreParsed, FrontRows}
 
+-- the rows T1 to T10 of files with these trees: what their classes and members declare (JLS 8, 9) doesn't fit together
+abbrev pub table_rows : List PlacedFile → List Row
+table_rows trees = t_rows (heads trees)
+
+-- files with trees, whose classes and members have no row
+pub record AreDeclared (files : List SourceFile) (names : List (List ℕ)) (tokens : List (List Token)) (trees : List PlacedFile) : Type 0 where
+  pub parsed : AreParsed files names tokens trees
+  pub rowless : table_rows trees ≡ []
+
 -- the tokens are those of one file, whose tree is spelled as one of the first form, and this is its program
 abbrev pub IsFormOf : List (List Token) → Program → Type 0
 IsFormOf [] P = ⊥
 IsFormOf (tokens ∷ []) P = IsForm tokens P
 IsFormOf (tokens ∷ others ∷ more) P = ⊥
 
--- the program of files that have tokens and trees; so far it is that of one file of the first form
+-- the program of files whose classes and members have no row; so far it is that of one file of the first form
 pub record ProgramOf (files : List SourceFile) (P : Program) : Type 0 where
   pub names : List (List ℕ)
   pub tokens : List (List Token)
   pub trees : List PlacedFile
-  pub parsed : AreParsed files names tokens trees
+  pub declared : AreDeclared files names tokens trees
   pub form : IsFormOf tokens P
 
 -- files are refused by the rows of the first phase that has any, or checked by the rules, whose rows are in order
@@ -48,23 +59,36 @@ pub record IsCheckedBy (files : List SourceFile) (rows : List Row) : Type 0 wher
   pub of_files : ProgramOf files P
   pub rules : RulesGive P rows
 
--- the rows of the limits, the lexical faults or the syntax rows
-pub record IsFront (files : List SourceFile) (rows : List Row) : Type 0 where
-  pub broken : List Row
-  pub phase : FrontRows files broken
-  pub order : IsOrderOf broken rows
-
--- files that have trees, but no program yet
-pub record IsUnbuilt (files : List SourceFile) (rows : List Row) : Type 0 where
+-- the rows of classes and members, of files that have trees
+pub record TableRows (files : List SourceFile) (rows : List Row) : Type 0 where
   pub names : List (List ℕ)
   pub tokens : List (List Token)
   pub trees : List PlacedFile
   pub parsed : AreParsed files names tokens trees
+  pub are : rows ≡ table_rows trees
+  pub some : rows ≡ [] → ⊥
+
+-- the rows of the first phase that has any: limits, tokens, syntax, classes and members
+abbrev pub PhaseRows : List SourceFile → List Row → Type 0
+PhaseRows files rows = FrontRows files rows ⊎ TableRows files rows
+
+-- they are in order
+pub record IsPhase (files : List SourceFile) (rows : List Row) : Type 0 where
+  pub broken : List Row
+  pub phase : PhaseRows files broken
+  pub order : IsOrderOf broken rows
+
+-- files without a row of these phases, but without a program yet
+pub record IsUnbuilt (files : List SourceFile) (rows : List Row) : Type 0 where
+  pub names : List (List ℕ)
+  pub tokens : List (List Token)
+  pub trees : List PlacedFile
+  pub declared : AreDeclared files names tokens trees
   pub no_form : (P : Program) → IsFormOf tokens P → ⊥
   pub row : rows ≡ unbuilt_row ∷ []
 
 abbrev pub IsReport : List SourceFile → Report → Type 0
-IsReport files (Refused rows) = IsFront files rows ⊎ IsUnbuilt files rows
+IsReport files (Refused rows) = IsPhase files rows ⊎ IsUnbuilt files rows
 IsReport files (Checked rows) = IsCheckedBy files rows
 
 abbrev pub status_of_rows : List Row → Status

@@ -3,6 +3,7 @@ ghost use Rattle.std.specs.Prelude.{◌≡◌, ◌<◌, ◌≤◌, ◌∷◌, []
 ghost use Rattle.jn_base.specs.declared.place.Row.{Row as SpecRow};
 ghost use Rattle.jn_points.specs.declared.program.Program.{Program as SpecProgram};
 ghost use Rattle.jn_places.specs.Placed.{PlacedFile};
+ghost use Rattle.jn_places.specs.PlacedView.{placed_file};
 ghost use Rattle.jn_diag.specs.Order.{IsOrderOf};
 ghost use Rattle.jn_diag.specs.Shown.{row_shown};
 ghost use Rattle.jn_front.specs.Limits.{row_at};
@@ -12,19 +13,20 @@ ghost use Rattle.jn_front.specs.Files.{files_of_reads, names_of, AreReads};
 ghost use Rattle.jn_reporters.specs.Reports.{plain_shown};
 ghost use Rattle.nullcheck_top.specs.Answer.{IsReportOfFiles};
 ghost use Rattle.jn_front.specs.Phases.{AreParsed};
-ghost use Rattle.nullcheck_top.specs.Report.{IsFormOf, ProgramOf, Refused, status_of_rows, unbuilt_row};
+ghost use Rattle.nullcheck_top.specs.Report.{AreDeclared, IsFormOf, ProgramOf, Refused, status_of_rows, unbuilt_row};
 ghost use Rattle.nullcheck_top.specs.Shown.{shown, verdict_of_rows};
 
 use crate::rules::broken_rules;
 use crate::show::show;
 use crate::status::Status;
-use jn_base::{Code, OutOfMemory, Row, Seq};
+use jn_base::{Code, Fail, OutOfMemory, Row, Seq};
+use jn_classtable::{ClassTable, build};
 use jn_diag::{Verdict, order, row_text};
 use jn_first_form::form::recognize;
 use jn_front::{SourceRead, lex_all, limit_rows, parse_all, row_at};
 use jn_points::Program;
 use jn_reporters::{Plain, Reporter};
-use jn_trees::Token;
+use jn_trees::{FileTree, Token};
 use std::alloc::Global;
 
 fn verdict_of(rows: &[Row]) -> Verdict
@@ -72,19 +74,42 @@ fn program_of(alloc: Global, tokens: &[Seq<Token>]) -> Result<Option<Program>, O
     }
 }
 
-/// The status and the report of files with these tokens and trees.
-fn report_trees(
+/// The status and the report of files with these tokens, whose classes and members have no row.
+fn report_program(
     alloc: Global,
     reads: &[SourceRead],
     tokens: &[Seq<Token>],
 ) -> Result<(Status, Plain), OutOfMemory>
     requires fit { ReadsFit reads.now }
-    requires parsed { (names : List (List ℕ)) × (trees : List PlacedFile) × AreParsed (files_of_reads reads.now) names tokens.now trees }
+    requires declared { (names : List (List ℕ)) × (trees : List PlacedFile) × AreDeclared (files_of_reads reads.now) names tokens.now trees }
     ensures { IfOk result (λ r. IsReportOfFiles (files_of_reads reads.now) r.0 (plain_shown r.1.rows r.1.verdict)) }
 {
     match program_of(alloc, tokens)? {
         None => unbuilt(alloc, reads),
         Some(program) => checked(alloc, reads, &program),
+    }
+}
+
+fn forget(_table: ClassTable) {}
+
+/// The status and the report of files with these tokens and trees.
+fn report_trees(
+    alloc: Global,
+    reads: &[SourceRead],
+    tokens: &[Seq<Token>],
+    trees: &[FileTree],
+) -> Result<(Status, Plain), OutOfMemory>
+    requires fit { ReadsFit reads.now }
+    requires parsed { (names : List (List ℕ)) × AreParsed (files_of_reads reads.now) names tokens.now (map placed_file trees.now) }
+    ensures { IfOk result (λ r. IsReportOfFiles (files_of_reads reads.now) r.0 (plain_shown r.1.rows r.1.verdict)) }
+{
+    match build(alloc, trees) {
+        Ok(table) => {
+            forget(table);
+            return report_program(alloc, reads, tokens);
+        }
+        Err(Fail::Refused(rows)) => return refused(alloc, reads, rows.into_vec()),
+        Err(Fail::OutOfMemory) => return Err(OutOfMemory),
     }
 }
 
@@ -144,7 +169,7 @@ pub fn report(alloc: Global, reads: &[SourceRead]) -> Result<(Status, Plain), Ou
     if !no_rows(&parsed.rows) {
         return refused(alloc, reads, parsed.rows);
     }
-    report_trees(alloc, reads, &lexed.tokens)
+    report_trees(alloc, reads, &lexed.tokens, &parsed.trees)
 }
 
 /// The report of more files than there may be; this is the name of the first that is too many.

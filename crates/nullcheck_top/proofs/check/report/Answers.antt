@@ -1,4 +1,5 @@
-use Rattle.std.proofs.Common.{◌≡◌, List, map, sym, subst}
+use Rattle.std.proofs.Common.{List, map, sym, subst}
+use Rattle.jn_trees.specs.declared.declaration.FileTree.{FileTree}
 use Rattle.jn_trees.specs.declared.token.Token.{Token}
 use Rattle.jn_known.specs.Known.{known_names}
 use Rattle.jn_places.specs.PlacedView.{placed_file}
@@ -33,12 +34,10 @@ report_trees-requires-clause-parsed c =
     let names = c.in_ok-lexed.lexed.names in
     let trees = map placed_file c.in_ok-parsed.parsed.trees.items in
     let lexed = c.in_ok-lexed.ensures.tokens (c.no_rows-2.ensures.none c.if-not-no_rows-2.false) in
-    let placed = subst (λ (tss : List (List Token)). ArePlaced tss trees) c.deref.ensures.value (c.in_ok-parsed.ensures.trees (c.no_rows-3.ensures.none c.if-not-no_rows-3.false)) in (
-      names,
-      trees,
-      subst (λ (tss : List (List Token)). AreParsed (files_of_reads reads) names tss trees) (sym c.deref-2.ensures.value)
-          (are_parsed reads c.in_ok-limits.limits.items c.in_ok-limits.ensures (c.no_rows.ensures.none c.if-not-no_rows.false) names c.in_ok-lexed.lexed.tokens.items trees c.requires.read lexed placed),
-    )
+    let placed = subst (λ (tss : List (List Token)). ArePlaced tss trees) c.deref.ensures.value (c.in_ok-parsed.ensures.trees (c.no_rows-3.ensures.none c.if-not-no_rows-3.false)) in
+    let parsed = are_parsed reads c.in_ok-limits.limits.items c.in_ok-limits.ensures (c.no_rows.ensures.none c.if-not-no_rows.false) names c.in_ok-lexed.lexed.tokens.items trees c.requires.read lexed placed in
+    let of_tokens = subst (λ (tss : List (List Token)). AreParsed (files_of_reads reads) names tss trees) (sym c.deref-2.ensures.value) parsed in
+    (names, subst (λ (ts : List FileTree). AreParsed (files_of_reads reads) names c.deref-2.result.now (map placed_file ts)) (sym c.deref-3.ensures.value) of_tokens)
 
 pub returns : goal.returns
 returns c = checked_made c.args.reads.now c.in_ok-limits.limits.items c.report_trees.result c.in_ok-limits.ensures (c.no_rows.ensures.none c.if-not-no_rows.false) c.report_trees.ensures

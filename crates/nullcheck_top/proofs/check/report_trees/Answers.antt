@@ -1,8 +1,15 @@
-use Rattle.jn_front.specs.Files.{files_of_reads}
-use Rattle.nullcheck_top.proofs.WholeFiles.{unbuilt_made}
+use Rattle.std.proofs.Common.{map, ◌∙◌, subst}
+use Rattle.jn_places.specs.PlacedView.{placed_file}
+use Rattle.jn_classtable.specs.Extract.{heads}
+use Rattle.jn_classtable.specs.Built.{IsRefusedFor}
+use Rattle.nullcheck_top.proofs.WholeFiles.{table_made}
 use Rattle.nullcheck_top.proofs.check.report_trees.Goals as goal
 
-pub returns-in-None : goal.returns-in-None
-returns-in-None c =
-    let parsed = c.requires.parsed in
-    unbuilt_made (files_of_reads c.args.reads.now) parsed.0 c.args.tokens.now parsed.1 c.unbuilt.result parsed.2 (rw c.in-None.is at c.in_ok-program_of.ensures.none) c.unbuilt.ensures.status c.unbuilt.ensures.shows
+pub report_program-requires-clause-declared : goal.report_program-requires-clause-declared
+report_program-requires-clause-declared c = (c.requires.parsed.0, map placed_file c.args.trees.now, record { parsed = c.requires.parsed.1; rowless = c.in-Ok.ensures.built.1 })
+
+pub returns-in-Err-Refused : goal.returns-in-Err-Refused
+returns-in-Err-Refused c =
+    let trees = map placed_file c.args.trees.now in
+    let are = subst (λ fail. IsRefusedFor (heads trees) fail) c.in-Err-Refused.field-0-is c.in-Err-Refused.ensures.refused in
+    table_made c.args.reads.now c.requires.parsed.0 c.args.tokens.now trees c.into_vec.result.items c.refused.result c.requires.parsed.1 (c.into_vec.ensures ∙ are.0) are.1 c.refused.ensures.status c.refused.ensures.shows

@@ -1,4 +1,4 @@
-use Rattle.std.proofs.Common.{◌≡◌, map, refl}
+use Rattle.std.proofs.Common.{map, refl}
 use Rattle.std.specs.Prelude.{string_bytes}
 use Rattle.nullcheck_top.proofs.Reporting.{too_many_report, name_there}
 use Rattle.nullcheck_top.proofs.Answering.{many_names}

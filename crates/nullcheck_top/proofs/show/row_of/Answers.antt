@@ -1,4 +1,4 @@
-use Rattle.std.proofs.Common.{◌≡◌, length, ap, sym, ◌∙◌, refl, arith}
+use Rattle.std.proofs.Common.{length, ap, refl, arith}
 use Rattle.jn_front.specs.declared.source.SourceRead.{SourceRead}
 use Rattle.jn_front.proofs.Loops.{fits_at}
 use Rattle.nullcheck_top.proofs.WholeFiles.{row_there, row_nowhere}

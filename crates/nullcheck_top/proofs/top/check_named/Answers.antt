@@ -1,6 +1,5 @@
-use Rattle.std.proofs.Common.{◌≡◌, map, length, sym, subst, arith}
+use Rattle.std.proofs.Common.{map, sym, subst}
 use Rattle.std.specs.Prelude.{string_bytes}
-use Rattle.jn_front.specs.Counted.{ReadsFit}
 use Rattle.jn_front.specs.Files.{ReadFrom}
 use Rattle.nullcheck_top.proofs.WholeFiles.{reads_fit}
 use Rattle.nullcheck_top.proofs.Answering.{answers, completes, safe, made_of_many, made_all, made_written, no_fault, no_read_fault, few_reads, many_names}

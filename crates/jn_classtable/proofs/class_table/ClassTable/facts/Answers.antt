@@ -1,0 +1,15 @@
+use Rattle.std.proofs.Common.{◌≡◌, List, length, subst}
+use Rattle.jn_points.specs.declared.program.Body.{Body}
+use Rattle.jn_classtable.specs.declared.head.ClassHead.{ClassHead}
+use Rattle.jn_classtable.specs.Heads.{all_heads}
+use Rattle.jn_classtable.specs.Table.{bodies_of_all, program_with}
+use Rattle.jn_classtable.specs.Rows.{called}
+use Rattle.jn_classtable.specs.RegularTable.{RegularTable}
+use Rattle.jn_classtable.proofs.Whole.{table_regular}
+use Rattle.jn_classtable.proofs.class_table.ClassTable.facts.Goals as goal
+
+pub returns-clause-regular : goal.returns-clause-regular
+returns-clause-regular c =
+    let i = c.self.invariant in
+    subst (λ (hs : List ClassHead). (bodies : List Body) → length bodies ≡ bodies_of_all (all_heads hs) → RegularTable (program_with hs bodies) (called hs)) c.self.view_is
+    (λ bodies many. table_regular c.self.inside.declared bodies i.fit i.rows many i.small.fields i.small.methods)

@@ -1,0 +1,66 @@
+//! A class table: the program of files before its bodies are lowered, with what holds of it.
+ghost use Rattle.std.specs.Prelude.{ℕ, ◌≡◌, ◌<◌, ◌^◌, List, [], length};
+ghost use Rattle.jn_points.specs.declared.program.Body.{Body as BodyOf};
+ghost use Rattle.jn_classtable.specs.Heads.{all_heads};
+ghost use Rattle.jn_classtable.specs.Table.{bodies_of_all, program_with, table};
+ghost use Rattle.jn_classtable.specs.Rows.{called, t_rows};
+ghost use Rattle.jn_classtable.specs.RegularTable.{RegularTable};
+ghost use Rattle.jn_classtable.specs.Built.{IsTable};
+
+use crate::declarations::Declarations;
+use crate::head::ClassHead;
+use jn_points::Program;
+use std::marker::Model;
+
+/// The class table of files without rows T1 to T10. Contracts see the list of its heads; its program is their `table`.
+#[derive(Drop)]
+pub struct ClassTable {
+    declared: Declarations,
+    program: Program,
+}
+
+impl Model for ClassTable {
+    ghost use Rattle.std.specs.Prelude.{List};
+    ghost use Rattle.jn_classtable.specs.declared.head.ClassHead.{ClassHead};
+    ghost use Rattle.jn_classtable.specs.Built.{IsTable};
+
+    ghost Value = { List ClassHead };
+
+    ghost view = { λ t. t.declared };
+
+    ghost invariant = { λ t. IsTable t.declared t.program };
+}
+
+impl ClassTable {
+    pub(crate) fn new(declared: Declarations, program: Program) -> ClassTable
+        requires { IsTable declared program }
+        ensures { result ≡ declared }
+    {
+        ClassTable { declared, program }
+    }
+
+    /// The program without bodies.
+    pub fn program(&self) -> &Program
+        ensures { result.now ≡ table self.now }
+    {
+        &self.program
+    }
+
+    /// What the types declare, in the order of files and text.
+    pub fn heads(&self) -> &[ClassHead]
+        ensures { result.now ≡ self.now }
+    {
+        self.declared.heads()
+    }
+
+    /// What holds of every class table: it has no row, its fields and methods have numbers of 32 bits, and whatever bodies are
+    /// added, as many as methods have one, the parts of a regular program that don't speak of bodies hold.
+    pub fn facts(&self)
+        ensures rows { t_rows self.now ≡ [] }
+        ensures fields { length (table self.now).fields < 2 ^ 32 }
+        ensures methods { length (table self.now).methods < 2 ^ 32 }
+        ensures regular { (bodies : List BodyOf) → length bodies ≡ bodies_of_all (all_heads self.now) → RegularTable (program_with self.now bodies) (called self.now) }
+    {
+        let _program = &self.program;
+    }
+}

@@ -1,0 +1,107 @@
+// Fields by the index.
+ghost use Rattle.std.specs.Prelude.{◌≡◌, ◌<◌, ◌≤◌, length, MatchOption, None, Some};
+ghost use Rattle.jn_points.specs.Members as spec;
+ghost use Rattle.jn_points.specs.Lookup.{field_info};
+ghost use Rattle.jn_index.specs.Index as index;
+ghost use Rattle.jn_index.specs.Index.{IsIndex};
+
+use crate::index::Index;
+use crate::lookup::is_subclass;
+use jn_base::{ClassNo, FieldNo, NameNo};
+use jn_points::{Field, Program};
+
+fn field_at(program: &Program, field: usize) -> Option<&Field>
+    ensures { MatchOption result (field_info program.now field ≡ None) (λ f. field_info program.now field ≡ Some f.now) }
+{
+    program.fields.as_slice().get(field)
+}
+
+fn declares(field: &Field, c: ClassNo, name: NameNo, d: u32) -> bool
+    ensures { result ≡ index.declares_field c.0 name.0 d field.now }
+{
+    field.name.0 == name.0 && field.owner.0 == d && (!field.is_private || d == c.0)
+}
+
+fn declares_at(program: &Program, c: ClassNo, name: NameNo, d: u32, k: u32) -> bool
+    ensures { result ≡ index.declares_field_at program.now c.0 name.0 d k }
+{
+    match field_at(program, k as usize) {
+        None => false,
+        Some(field) => declares(field, c, name, d),
+    }
+}
+
+/// The number of the field that class `d` declares for class `c`, where a private one counts at its
+/// own class alone (JLS 8, 8.2).
+#[tactic(auto, using(crate::proofs::Declared::own_field))]
+pub fn declared_field(
+    program: &Program,
+    index: &Index,
+    c: ClassNo,
+    name: NameNo,
+    d: u32,
+) -> Option<u32>
+    requires { IsIndex program.now index.now }
+    ensures { result ≡ spec.declared_field program.now c.0 name.0 d }
+{
+    let own = index.own_fields(d);
+    for number in own {
+        if declares_at(program, c, name, d, *number) {
+            return Some(*number);
+        }
+    }
+    None
+}
+
+/// What a class that isn't there has: what it declares.
+#[tactic(auto, using(crate::proofs::Declared::walk_outside, crate::proofs::Declared::walk_nowhere))]
+fn outside_field(program: &Program, index: &Index, class: ClassNo, name: NameNo) -> Option<u32>
+    requires is { IsIndex program.now index.now }
+    requires outside { length program.now.classes ≤ class.0 }
+    ensures { result ≡ spec.field_of program.now class.0 name.0 }
+{
+    if program.classes.len() == 0 {
+        return None;
+    }
+    declared_field(program, index, class, name, class.0)
+}
+
+#[tactic(auto, using(crate::proofs::Declared::walk_finds_field))]
+fn field_number(program: &Program, index: &Index, class: ClassNo, name: NameNo) -> Option<u32>
+    requires { IsIndex program.now index.now }
+    ensures { result ≡ spec.field_of program.now class.0 name.0 }
+{
+    if class.0 as usize >= program.classes.len() {
+        return outside_field(program, index, class, name);
+    }
+    let walk = index.walk(class.0);
+    for above in walk {
+        if let Some(found) = declared_field(program, index, class, name, *above) {
+            return Some(found);
+        }
+    }
+    None
+}
+
+/// The field that a class has for a name (JLS 8, 8.2 and 8.3): its own, else the one that its parent
+/// or an interface has, where a private one counts at its own class alone.
+pub fn field_of(program: &Program, index: &Index, class: ClassNo, name: NameNo) -> Option<FieldNo>
+    requires { IsIndex program.now index.now }
+    ensures { MatchOption result (spec.field_of program.now class.0 name.0 ≡ None) (λ f. spec.field_of program.now class.0 name.0 ≡ Some f.0) }
+{
+    match field_number(program, index, class, name) {
+        None => None,
+        Some(number) => Some(FieldNo(number)),
+    }
+}
+
+/// Whether objects of the class have the field.
+pub fn has_field(program: &Program, index: &Index, class: ClassNo, field: FieldNo) -> bool
+    requires { IsIndex program.now index.now }
+    ensures { result ≡ spec.has_field program.now class.0 field.0 }
+{
+    match field_at(program, field.0 as usize) {
+        None => false,
+        Some(info) => !info.is_static && is_subclass(program, index, class, info.owner),
+    }
+}

@@ -1,0 +1,7 @@
+pub mod Aligned
+pub mod Trees
+pub mod Methods
+pub mod Sourced
+pub mod Allowed
+pub mod Program
+mod Examples
