@@ -17,6 +17,9 @@ use std::alloc::Global;
 
 /// The one well-formed tree that spells the tokens of a file, or its syntax row: S2 at the first token with more than 200 open brackets, else S1 at the place where well-formed pieces end. `end` is the text's length in bytes, the place of a fault behind the last token.
 ///
+/// Places in the tree are set as well, but nothing is said of them here: `jn_parse_placed::parse_placed` claims them, and it
+/// alone.
+///
 /// Takes time in proportion to the tokens.
 ///
 /// # Errors
