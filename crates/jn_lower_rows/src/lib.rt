@@ -1,0 +1,18 @@
+//! Rows J1 to J5: why a file has no points (JLS 8, 6 to 15).
+//!
+//! `files::file_rows` looks at what stands outside bodies, `expressions::expression` and `statements::statements` at what stands in one.
+//! Each adds exactly the rows that `jn_lowering` defines, in their order.
+#![tactic(auto)]
+
+pub mod annotations;
+pub mod calls;
+pub mod expressions;
+pub mod files;
+pub mod members;
+pub mod names;
+pub mod notes;
+pub mod receivers;
+pub mod row;
+pub mod setting;
+pub mod standing;
+pub mod statements;

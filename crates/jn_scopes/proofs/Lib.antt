@@ -1,0 +1,4 @@
+pub mod Scoping
+pub mod Seen
+pub mod Arities
+pub mod Typing
