@@ -26,7 +26,7 @@ use Rattle.jn_lower_rows.proofs.Plain.{plain_in, plain_option}
 
 -- lists that grow
 
-all_append : (n : ℕ) (vs : List Variable) (v : Variable) → AllWithin n vs → v.faults.to ≤ n → AllWithin n (vs ++ v ∷ [])
+pub all_append : (n : ℕ) (vs : List Variable) (v : Variable) → AllWithin n vs → v.faults.to ≤ n → AllWithin n (vs ++ v ∷ [])
 all_append n [] v h l = (l, tt)
 all_append n (w ∷ vs) v h l = (h.0, all_append n vs v h.1 l)
 
@@ -34,7 +34,7 @@ all_more : (n m : ℕ) (vs : List Variable) → n ≤ m → AllWithin n vs → A
 all_more n m [] l h = tt
 all_more n m (v ∷ vs) l h = (omega (l, h.0, arith), all_more n m vs l h.1)
 
-scope_last : (rows : List Row) (vs : List Variable) (v : Variable) → scope_of rows (vs ++ v ∷ []) ≡ local_of rows v ∷ scope_of rows vs
+pub scope_last : (rows : List Row) (vs : List Variable) (v : Variable) → scope_of rows (vs ++ v ∷ []) ≡ local_of rows v ∷ scope_of rows vs
 scope_last rows [] v = refl
 scope_last rows (w ∷ vs) v = ap (λ ls. ls ++ local_of rows w ∷ []) (scope_last rows vs v)
 

@@ -6,3 +6,5 @@ pub mod Plain
 pub mod Walking
 pub mod Declaring
 pub mod Stepping
+pub mod Wholes
+pub mod Facts

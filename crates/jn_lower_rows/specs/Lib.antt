@@ -1,3 +1,4 @@
 pub mod Views
 pub mod Before
 pub mod Standing
+pub mod Large

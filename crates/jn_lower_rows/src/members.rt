@@ -27,13 +27,15 @@ fn field_at(program: &Program, field: FieldNo) -> Option<&Field>
     program.fields.as_slice().get(field.0 as usize)
 }
 
-fn method_at(program: &Program, method: MethodNo) -> Option<&Method>
+/// The method of a number.
+pub fn method_at(program: &Program, method: MethodNo) -> Option<&Method>
     ensures { MatchOption result (method_at program.now method.0 ≡ None) (λ m. method_at program.now method.0 ≡ Some m.now) }
 {
     program.methods.as_slice().get(method.0 as usize)
 }
 
-fn class_at(program: &Program, class: ClassNo) -> Option<&Class>
+/// The class of a number.
+pub fn class_at(program: &Program, class: ClassNo) -> Option<&Class>
     ensures { MatchOption result (class_info program.now class.0 ≡ None) (λ c. class_info program.now class.0 ≡ Some c.now) }
 {
     program.classes.as_slice().get(class.0 as usize)

@@ -23,7 +23,7 @@ use jn_trees::{Declarator, Expr, ForInit, LocalDeclaration, Stmt};
 use std::alloc::AllocError;
 
 /// An expression of a statement, and its type.
-fn look(
+pub fn look(
     tree: &Expr,
     place: &Place,
     names: &Names,
@@ -37,7 +37,7 @@ fn look(
 }
 
 /// Expressions of a statement, one after the other.
-fn look_all(
+pub fn look_all(
     trees: &[Expr],
     place: &Place,
     names: &Names,

@@ -19,6 +19,9 @@ fn source(alloc: Global, failing: u32) -> Result<MemFiles, AllocError> {
     Ok(MemFiles::new(alloc, held, failing))
 }
 
+/// The greatest limit that a file may be read with.
+const MOST: u32 = 4_294_967_294;
+
 /// How many bytes are read of the file, where the call of this number fails.
 fn read_count(
     alloc: Global,
@@ -27,7 +30,7 @@ fn read_count(
     limit: u32,
 ) -> Result<usize, Fail<ReadFail>> {
     let mut files = source(alloc, failing)?;
-    read_whole(alloc, &mut files, name, limit).map(|bytes| bytes.len())
+    read_whole(alloc, &mut files, name, limit.min(MOST)).map(|bytes| bytes.len())
 }
 
 #[test]
@@ -40,7 +43,7 @@ fn reads_files_whole(rt: HostRuntime) {
         ("three", 0, 2, too_large),
         ("long", 0, 5000, Ok(5000)),
         ("long", 0, 4999, too_large),
-        ("long", 0, 4294967294, Ok(5000)),
+        ("long", 0, MOST, Ok(5000)),
         ("absent", 0, 9, failed),
         ("long", 1, 9000, failed),
         ("long", 2, 9000, failed),
@@ -114,7 +117,7 @@ fn expect_one_start(rt: &impl Abort, alloc: Global, left: usize, limit: u32, giv
         given: 0,
         faults: 0,
     };
-    let is_whole = read_whole(alloc, &mut files, "A.java", limit).is_ok();
+    let is_whole = read_whole(alloc, &mut files, "A.java", limit.min(MOST)).is_ok();
     assert_eq!(rt; is_whole, left <= limit as usize);
     assert_eq!(rt; files.started.as_slice(), b"A.java\n".as_slice());
     assert_eq!(rt; files.given, given);
@@ -127,10 +130,10 @@ fn starts_its_name_once(rt: HostRuntime) {
     }
 }
 
-/// A sink that fails at the call of this number, takes so many bytes at once, and has this room.
+/// A sink that fails at the call of this number, takes so many bytes at once (at least one), and has this room.
 fn sink_of(alloc: Global, failing: u32, most: u32, room: u32) -> Result<MemSink, OutOfMemory> {
     let failing = Vec::from_slice(alloc, &[failing])?;
-    MemSink::new(alloc, failing, most, room)
+    MemSink::new(alloc, failing, most.max(1), room)
 }
 
 fn expect_written(

@@ -48,7 +48,14 @@ fn orders_by_file_byte_code_and_end(rt: HostRuntime) {
 
 #[test]
 fn shows_a_row(rt: HostRuntime) {
-    let deref = row(0, 6, 7, Code::Deref);
+    let deref = Row {
+        span: Span {
+            file: FileNo(0),
+            from: 6,
+            to: 7,
+        },
+        code: Code::Deref,
+    };
     let Ok(shown) = row_text(rt.alloc(), &deref, "A.java", b"ab\ncd\re") else {
         panic!(rt; "no memory")
     };
