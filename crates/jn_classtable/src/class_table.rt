@@ -5,7 +5,7 @@ ghost use Rattle.jn_index.specs.Index.{IsIndex};
 ghost use Rattle.jn_classtable.specs.Heads.{all_heads};
 ghost use Rattle.jn_classtable.specs.Table.{bodies_of_all, program_with, table};
 ghost use Rattle.jn_classtable.specs.Rows.{called, t_rows};
-ghost use Rattle.jn_classtable.specs.RegularTable.{RegularTable};
+ghost use Rattle.jn_classtable.specs.RegularTable.{ParamsFit, RegularTable};
 ghost use Rattle.jn_classtable.specs.Built.{IsTable};
 
 use crate::declarations::Declarations;
@@ -57,6 +57,13 @@ impl ClassTable {
         &self.program
     }
 
+    /// The program without bodies, taken out.
+    pub fn into_program(self) -> Program
+        ensures { result ≡ table self }
+    {
+        self.program
+    }
+
     /// What the types declare, in the order of files and text.
     pub fn heads(&self) -> &[ClassHead]
         ensures { result.now ≡ self.now }
@@ -72,12 +79,14 @@ impl ClassTable {
         self.index.as_ref()
     }
 
-    /// What holds of every class table: it has no row, its fields and methods have numbers of 32 bits, and whatever bodies are
-    /// added, as many as methods have one, the parts of a regular program that don't speak of bodies hold.
+    /// What holds of every class table: it has no row, its classes, fields, methods and parameters have numbers of 32 bits, and
+    /// whatever bodies are added, as many as methods have one, the parts of a regular program that don't speak of bodies hold.
     pub fn facts(&self)
         ensures rows { t_rows self.now ≡ [] }
+        ensures classes { length (table self.now).classes < 2 ^ 32 }
         ensures fields { length (table self.now).fields < 2 ^ 32 }
         ensures methods { length (table self.now).methods < 2 ^ 32 }
+        ensures parameters { ParamsFit (table self.now) }
         ensures regular { (bodies : List BodyOf) → length bodies ≡ bodies_of_all (all_heads self.now) → RegularTable (program_with self.now bodies) (called self.now) }
     {
         let _program = &self.program;

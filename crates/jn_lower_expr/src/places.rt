@@ -158,7 +158,8 @@ pub fn read(
     }
 }
 
-fn qualifier(bound: Option<Bound>) -> Option<Qual>
+/// The qualifier of a written bound.
+pub fn qualifier(bound: Option<Bound>) -> Option<Qual>
     ensures { result ≡ bound_of bound }
 {
     match bound {

@@ -1,10 +1,11 @@
-use Rattle.std.proofs.Common.{◌≡◌, List, length, subst}
+use Rattle.std.proofs.Common.{◌≡◌, ◌<◌, ◌^◌, List, length, subst, arith}
 use Rattle.jn_points.specs.declared.program.Body.{Body}
 use Rattle.jn_classtable.specs.declared.head.ClassHead.{ClassHead}
 use Rattle.jn_classtable.specs.Heads.{all_heads}
-use Rattle.jn_classtable.specs.Table.{bodies_of_all, program_with}
+use Rattle.jn_classtable.specs.Table.{bodies_of_all, program_with, table}
 use Rattle.jn_classtable.specs.Rows.{called}
-use Rattle.jn_classtable.specs.RegularTable.{RegularTable}
+use Rattle.jn_classtable.specs.RegularTable.{ParamsFit, RegularTable}
+use Rattle.jn_classtable.proofs.Classes.{size_is}
 use Rattle.jn_classtable.proofs.Whole.{table_regular}
 use Rattle.jn_classtable.proofs.class_table.ClassTable.facts.Goals as goal
 
@@ -13,3 +14,13 @@ returns-clause-regular c =
     let i = c.self.invariant.0 in
     subst (λ (hs : List ClassHead). (bodies : List Body) → length bodies ≡ bodies_of_all (all_heads hs) → RegularTable (program_with hs bodies) (called hs)) c.self.view_is
     (λ bodies many. table_regular c.self.inside.declared bodies i.fit i.rows many i.small.fields i.small.methods)
+
+pub returns-clause-classes : goal.returns-clause-classes
+returns-clause-classes c =
+    let few = c.self.invariant.0.small.heads in
+    let size = size_is c.self.inside.declared in
+    subst (λ (hs : List ClassHead). length (table hs).classes < 2 ^ 32) c.self.view_is (omega (few, size, arith))
+
+pub returns-clause-parameters : goal.returns-clause-parameters
+returns-clause-parameters c =
+    subst (λ (hs : List ClassHead). ParamsFit (table hs)) c.self.view_is c.self.invariant.0.small.params

@@ -1,0 +1,9 @@
+pub mod Scoping
+pub mod Within
+pub mod Labelling
+pub mod Piecing
+pub mod Stepping
+pub mod Looping
+pub mod Constructing
+pub mod Making
+pub mod Entering

@@ -1,0 +1,17 @@
+use Rattle.std.proofs.Common.{◌+◌, subst}
+use Rattle.jn_base.specs.declared.number.RegNo.{RegNo}
+use Rattle.jn_points.specs.declared.point.BaseType.TheVariants.{Bool as BoolBase}
+use Rattle.jn_points.specs.declared.point.Operator.TheVariants.{Less}
+use Rattle.jn_points.specs.declared.point.PointKind.TheVariants.{Binary}
+use Rattle.jn_lowering.specs.Forms.{operand}
+use Rattle.jn_lowering.specs.Fragments.{does}
+use Rattle.jn_lowering.specs.Statements.{each_length}
+use Rattle.jn_lower_expr.specs.Lowering.{Runs}
+use Rattle.jn_lower_stmt.proofs.Looping.{gave_at}
+use Rattle.jn_lower_stmt.proofs.each.is_below.Goals as goal
+
+pub returns : goal.returns
+returns c =
+    gave_at c.args.c.now.program.now c.args.c.now.first (each_length c.args.c.now.program.now c.args.c.now.class.0 c.args.c.now.first c.args.at c.args.array.0 c.args.s.now.temporaries) c.in_ok-right.right c.args.s.now c.length.new.s c.temporary.new.self BoolBase c.args.at (λ n d. Binary d Less (operand (c.args.array.0 + 1) c.args.at) n) c.in_ok-dst.dst c.args.e.now c.length.new.e c.step.new.e
+    c.in_ok-right.ensures c.in_ok-dst.ensures.register c.in_ok-dst.ensures.behind
+    (subst (λ (r : RegNo). Runs (does c.args.at (Binary c.in_ok-dst.dst Less (record { reg = r; span = c.args.at }) c.in_ok-right.right)) c.length.new.e c.step.new.e) c.in_ok-index.ensures c.in_ok-step.ensures)

@@ -1,0 +1,4 @@
+pub mod Ranges
+pub mod Views
+pub mod Stating
+pub mod Sources
