@@ -57,7 +57,7 @@ impl ClassTable {
         &self.program
     }
 
-    /// The program without bodies, taken out.
+    /// Gives up the table for its program, which has no bodies yet.
     pub fn into_program(self) -> Program
         ensures { result ≡ table self }
     {
