@@ -1,7 +1,8 @@
-// Checks the file that the words name, and ends with the status's number.
+// Checks the files that the words name, and ends with the status's number.
 #![tactic(auto)]
 
 use jn_outside::{HostFiles, HostSink};
+use jn_workers::Straight;
 use nullcheck_top::{Status, nullcheck};
 use std::env;
 use std::io::{self, ErrorKind};
@@ -29,6 +30,13 @@ fn main(rt: HostRuntime) -> ExitCode {
     };
     let mut files = HostFiles::new(&rt);
     let mut out = HostSink::new(&rt);
-    let status = nullcheck(rt.alloc(), &words, &mut files, &mut out);
+    let status = nullcheck(
+        &rt,
+        rt.alloc(),
+        &words,
+        &mut files,
+        &mut out,
+        &Straight,
+    );
     ExitCode::from(status.number())
 }

@@ -18,7 +18,7 @@ use Rattle.jn_front.specs.Files.{names_of, most_files, ReadFrom, AreReads}
 use Rattle.nullcheck_top.specs.declared.status.Status.{Status}
 use Rattle.nullcheck_top.specs.declared.status.Status.TheVariants.{Ok, Rejected, Refused as RefusedStatus, RunFault, Stopped, ReadFault, WriteFault, OutOfMemory, Usage}
 use Rattle.nullcheck_top.specs.Words.{usage_line}
-use Rattle.nullcheck_top.specs.Report.{Report, Refused, Checked, IsReport, RulesGive, ProgramOf, IsSafe, status_of}
+use Rattle.nullcheck_top.specs.Report.{Report, Refused, Checked, IsReport, RulesGive, TypedProgramOf, IsSafe, status_of}
 use Rattle.nullcheck_top.specs.Answer.{IsReportOfFiles, IsReportOf, Defines, Answers, Completes, Safe, Finished}
 use Rattle.nullcheck_top.specs.Made.{IfMade}
 
@@ -123,7 +123,7 @@ made_written held names (Made r) m = files_written m.files r.0 (plain_shown r.1.
 made_written held names (Err e) m = tt
 
 -- accepted files are safe
-module _ (law : (files : List SourceFile) (P : Program) → ProgramOf files P → RulesGive P [] → NeverNull P) where
+module _ (law : (files : List SourceFile) (P : Program) → TypedProgramOf files P → RulesGive P [] → NeverNull P) where
   safe_report : (files : List SourceFile) (r : Report) → IsReport files r → status_of r ≡ Ok → IsSafe files
   safe_report files (Refused rows) is e = cc
   safe_report files (Checked []) is e = record { P = is.P; of_files = is.of_files; never = law files is.P is.of_files is.rules }

@@ -1,7 +1,6 @@
 pub mod Reporting
 pub mod WholeFiles
 pub mod Answering
-pub mod Inside
 pub mod RuleRows
-pub mod MainRows
+pub mod Programs
 pub mod Laws

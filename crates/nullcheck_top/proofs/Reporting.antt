@@ -7,8 +7,6 @@ use Rattle.std.specs.Prelude.{string_bytes, ◌⊎◌, Contains, cond, nat_lt, n
 use Rattle.jn_base.specs.declared.place.Row.{Row}
 use Rattle.jn_base.specs.declared.code.Code.{Code}
 use Rattle.jn_base.specs.declared.code.Code.TheVariants.{B1, B2, B3}
-use Rattle.jn_trees.specs.declared.token.Token.{Token}
-use Rattle.jn_places.specs.Placed.{PlacedFile}
 use Rattle.jn_points.specs.declared.program.Program.{Program}
 use Rattle.std.specs.List.Sorted.{IsStrictlySortedBy}
 use Rattle.jn_diag.specs.Order.{IsOrderOf, row_cmp}
@@ -22,11 +20,11 @@ use Rattle.jn_front.specs.Files.{names_of, files_of_reads, AreReads, IsReadOf, m
 use Rattle.jn_front.specs.Limits.{row_at, large_row, passing_row, size_rows, limit_rows, counted, all_limit}
 use Rattle.nullcheck_top.specs.declared.status.Status.{Status}
 use Rattle.nullcheck_top.specs.declared.status.Status.TheVariants.{Refused as RefusedStatus}
-use Rattle.nullcheck_top.specs.Report.{AreLowered, PhaseRows, ProgramOf, IsFormOf, RulesGive, Refused, Checked, status_of_rows, unbuilt_row}
+use Rattle.nullcheck_top.specs.Report.{PhaseRows, TypedProgramOf, RulesGive, Refused, Checked, status_of_rows}
 use Rattle.nullcheck_top.specs.Shown.{shown, row_of, row_of_file, verdict_of_rows}
 use Rattle.nullcheck_top.specs.Answer.{IsReportOfFiles}
 
-pub checked_report : (files : List SourceFile) (P : Program) (rows : List Row) (status : Status) (shown_rows : List RowText) (verdict : Option Verdict) → ProgramOf files P → RulesGive P rows → status ≡ status_of_rows rows → shown_rows ≡ map (row_of files) rows → verdict ≡ Some (verdict_of_rows rows) → IsReportOfFiles files status (plain_shown shown_rows verdict)
+pub checked_report : (files : List SourceFile) (P : Program) (rows : List Row) (status : Status) (shown_rows : List RowText) (verdict : Option Verdict) → TypedProgramOf files P → RulesGive P rows → status ≡ status_of_rows rows → shown_rows ≡ map (row_of files) rows → verdict ≡ Some (verdict_of_rows rows) → IsReportOfFiles files status (plain_shown shown_rows verdict)
 checked_report files P rows status shown_rows verdict of_files rules ends lines end = record {
   report = Checked rows;
   is = record { P = P; of_files = of_files; rules = rules };
@@ -38,7 +36,7 @@ checked_report files P rows status shown_rows verdict of_files rules ends lines 
 pub refused_report : (files shown_files : List SourceFile) (broken sorted : List Row) (status : Status) (bytes : List ℕ) → PhaseRows files broken → IsOrderOf broken sorted → status ≡ RefusedStatus → bytes ≡ shown shown_files (Refused sorted) → shown shown_files (Refused sorted) ≡ shown files (Refused sorted) → IsReportOfFiles files status bytes
 refused_report files shown_files broken sorted status bytes phase order ends is same = record {
   report = Refused sorted;
-  is = inl (record { broken = broken; phase = phase; order = order });
+  is = record { broken = broken; phase = phase; order = order };
   ends = ends;
   shows = is ∙ same;
 }
@@ -140,7 +138,7 @@ one_sorted row = (tt, tt)
 pub too_many_report : (files : List SourceFile) (names : List (List ℕ)) (name : List ℕ) (status : Status) (rows : List RowText) (verdict : Option Verdict) → names_of files ≡ names → most_files < length names → slice_get names most_files ≡ Some name → status ≡ RefusedStatus → rows ≡ record { name = name; line = 1; col = 1; code = B1 } ∷ [] → verdict ≡ Some (RefusedVerdict 1) → IsReportOfFiles files status (plain_shown rows verdict)
 too_many_report files names name status rows verdict named many is ends lines end = record {
   report = Refused (row_at most_files B1 ∷ []);
-  is = inl (record { broken = row_at most_files B1 ∷ []; phase = inl (inl (record { are = limit_is; some = λ e. cc })); order = record { sorted = one_sorted (row_at most_files B1); same = λ row. (λ h. h, λ h. h) } });
+  is = record { broken = row_at most_files B1 ∷ []; phase = inl (inl (record { are = limit_is; some = λ e. cc })); order = record { sorted = one_sorted (row_at most_files B1); same = λ row. (λ h. h, λ h. h) } };
   ends = ends;
   shows = ap (λ rs. plain_shown rs verdict) (lines ∙ ap (λ r. r ∷ []) row_is) ∙ ap (λ v. plain_shown (row_of files (row_at most_files B1) ∷ []) v) end;
 }
@@ -162,14 +160,6 @@ too_many_report files names name status rows verdict named many is ends lines en
 
 pub refused_shown : (files : List SourceFile) (sorted : List Row) (rows : List RowText) (verdict : Option Verdict) → rows ≡ map (row_of files) sorted → verdict ≡ Some (RefusedVerdict (length sorted)) → plain_shown rows verdict ≡ shown files (Refused sorted)
 refused_shown files sorted rows verdict lines end = ap (λ rs. plain_shown rs verdict) lines ∙ ap (λ v. plain_shown (map (row_of files) sorted) v) end
-
-pub unbuilt_report : (files : List SourceFile) (names : List (List ℕ)) (tokens : List (List Token)) (trees : List PlacedFile) (status : Status) (bytes : List ℕ) → AreLowered files names tokens trees → ((P : Program) → IsFormOf tokens P → ⊥) → status ≡ RefusedStatus → bytes ≡ shown files (Refused (unbuilt_row ∷ [])) → IsReportOfFiles files status bytes
-unbuilt_report files names tokens trees status bytes lowered none ends is = record {
-  report = Refused (unbuilt_row ∷ []);
-  is = inr (record { names = names; tokens = tokens; trees = trees; lowered = lowered; no_form = none; row = refl });
-  ends = ends;
-  shows = is;
-}
 
 -- the name at a place
 pub name_there : (words : List (String Global)) (i : ℕ) (d : String Global) (text : List ℕ) → i < length words → d ≡ get_or words i d → text ≡ string_bytes d → slice_get (map string_bytes words) i ≡ Some text

@@ -1,8 +1,9 @@
 -- Where no limit is passed, what was read are the files.
-use Rattle.std.proofs.Common.{◌≡◌, ℕ, zero, suc, ◌+◌, ◌<◌, ◌≤◌, Bool, true, false, List, [], ◌∷◌, ◌++◌, length, map, get_or, Some, None, Result, Ok, Err, inl, inr, refl, sym, ap, ◌∙◌, subst, arith}
-use Rattle.std.specs.Prelude.{cond, nat_lt, IfOk, slice_get}
+use Rattle.std.proofs.Common.{◌≡◌, ◌↔◌, ℕ, zero, suc, ◌+◌, ◌<◌, ◌≤◌, Bool, true, false, List, [], ◌∷◌, ◌++◌, length, map, get_or, Some, None, Result, Ok, Err, inl, inr, refl, sym, ap, ◌∙◌, subst, arith}
+use Rattle.std.specs.Prelude.{cond, nat_lt, Contains, IfOk, slice_get}
 use Rattle.jn_base.specs.declared.refusal.OutOfMemory.{OutOfMemory}
 use Rattle.jn_points.specs.declared.program.Program.{Program}
+use Rattle.jn_points.specs.BaseRows.{IsBaseRow}
 use Rattle.jn_diag.specs.declared.shown.RowText.{RowText}
 use Rattle.jn_diag.specs.Shown.{row_shown}
 use Rattle.jn_reporters.specs.Sheet.{Taken}
@@ -23,10 +24,10 @@ use Rattle.jn_front.specs.Limits.{row_at, counted, large_row, passing_row, size_
 use Rattle.jn_front.specs.Phases.{AreParsed, ArePlaced, FaultRows, SyntaxRows, LexedFrom}
 use Rattle.nullcheck_top.specs.declared.status.Status.{Status}
 use Rattle.nullcheck_top.specs.declared.status.Status.TheVariants.{Refused as RefusedStatus}
-use Rattle.nullcheck_top.specs.Report.{AreDeclared, AreLowered, Refused, IsFormOf, lowering_rows, table_rows, unbuilt_row}
+use Rattle.nullcheck_top.specs.Report.{AreDeclared, ProgramOf, Refused, lowering_rows, table_rows}
 use Rattle.nullcheck_top.specs.Shown.{shown, row_of, row_of_file}
 use Rattle.nullcheck_top.specs.Answer.{IsReportOfFiles}
-use Rattle.nullcheck_top.proofs.Reporting.{refused_report, unbuilt_report, same_shown, read_names, sorted_at_start}
+use Rattle.nullcheck_top.proofs.Reporting.{refused_report, same_shown, read_names, sorted_at_start}
 
 front_none : (xs ys : List Row) → xs ++ ys ≡ [] → xs ≡ []
 front_none [] ys e = refl
@@ -165,12 +166,16 @@ pub lowering_made : (reads : List SourceRead) (names : List (List ℕ)) (tokens 
 lowering_made reads names tokens trees rows (Ok r) declared are some ends shows =
     let files = files_of_reads reads in
     refused_report files files rows shows.0 r.0 (plain_shown r.1.rows r.1.verdict)
-    (inr (inr (record { names = names; tokens = tokens; trees = trees; declared = declared; are = are; some = λ none. some (sym are ∙ none) }))) shows.1 ends shows.2 refl
+    (inr (inr (inl (record { names = names; tokens = tokens; trees = trees; declared = declared; are = are; some = λ none. some (sym are ∙ none) })))) shows.1 ends shows.2 refl
 lowering_made reads names tokens trees rows (Err e) declared are some ends shows = tt
 
-pub unbuilt_made : (files : List SourceFile) (names : List (List ℕ)) (tokens : List (List Token)) (trees : List PlacedFile) (made : Made) → AreLowered files names tokens trees → ((P : Program) → IsFormOf tokens P → ⊥) → EndsRefused made → IfOk made (λ r. plain_shown r.1.rows r.1.verdict ≡ shown files (Refused (unbuilt_row ∷ []))) → IfOk made (λ r. IsReportOfFiles files r.0 (plain_shown r.1.rows r.1.verdict))
-unbuilt_made files names tokens trees (Ok r) lowered none ends shows = unbuilt_report files names tokens trees r.0 (plain_shown r.1.rows r.1.verdict) lowered none ends shows
-unbuilt_made files names tokens trees (Err e) lowered none ends shows = tt
+-- rows of types
+pub types_made : (reads : List SourceRead) (P : Program) (rows : List Row) (made : Made) → ProgramOf (files_of_reads reads) P → ((row : Row) → Contains rows row ↔ IsBaseRow P row) → (rows ≡ [] → ⊥) → EndsRefused made → ShowsSorted reads rows made → IfOk made (λ r. IsReportOfFiles (files_of_reads reads) r.0 (plain_shown r.1.rows r.1.verdict))
+types_made reads P rows (Ok r) of_files are some ends shows =
+    let files = files_of_reads reads in
+    refused_report files files rows shows.0 r.0 (plain_shown r.1.rows r.1.verdict)
+    (inr (inr (inr (record { P = P; of_files = of_files; are = are; some = some })))) shows.1 ends shows.2 refl
+types_made reads P rows (Err e) of_files are some ends shows = tt
 
 -- ---- a row of what was read
 

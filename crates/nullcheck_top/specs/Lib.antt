@@ -1,7 +1,6 @@
 pub mod Words
 pub mod Status
 pub mod Report
-pub mod FormProgram
 pub mod Shown
 pub mod Answer
 pub mod Made

@@ -1,22 +1,22 @@
 -- The report of files: what they are found to be, and how it is shown.
-use Rattle.std.specs.Prelude.{ℕ, ◌≡◌, ◌⊎◌, List, [], ◌∷◌}
+use Rattle.std.specs.Prelude.{ℕ, ◌≡◌, ◌⊎◌, ◌↔◌, List, [], ◌∷◌, Contains}
 use Rattle.jn_base.specs.declared.place.Row.{Row}
-use Rattle.jn_base.specs.declared.code.Code.TheVariants.{Unbuilt}
 use Rattle.jn_trees.specs.declared.token.Token.{Token}
 use Rattle.jn_places.specs.Placed.{PlacedFile}
 use Rattle.jn_classtable.specs.Extract.{heads}
 use Rattle.jn_classtable.specs.Rows.{t_rows}
 use Rattle.jn_points.specs.declared.program.Program.{Program}
-use Rattle.jn_program_law.specs.FileProgram.{j_rows}
-use Rattle.jn_first_form.specs.Form.{IsForm}
+use Rattle.jn_points.specs.BaseRows.{IsBaseRow, NoBaseRows}
+use Rattle.jn_points.specs.Regular.{Regular}
+use Rattle.jn_program_law.specs.FileProgram.{j_rows, program_of_files}
+use Rattle.jn_quals.specs.Qualifier.{Qualifier}
 use Rattle.nullcheck_top.specs.declared.status.Status.{Status}
 use Rattle.nullcheck_top.specs.declared.status.Status.TheVariants.{Ok as Accepted, Rejected as RejectedStatus, Refused as RefusedStatus}
-use Rattle.jn_sigs.specs.Signature.{start_signature}
+use Rattle.jn_system.specs.Solution.{IsLeastSignature}
 use Rattle.jn_transfer.specs.Rules.{Breaks}
 use Rattle.jn_heap.specs.Machine.{NeverNull}
 use Rattle.jn_diag.specs.Order.{IsOrderOf}
 use Rattle.jn_front.specs.declared.source.SourceFile.{SourceFile}
-use Rattle.jn_front.specs.Limits.{row_at}
 use Rattle.jn_front.specs.Phases.{AreParsed, FrontRows}
 
 -- the rows T1 to T10 of files with these trees: what their classes and members declare (JLS 8, 9) doesn't fit together
@@ -37,36 +37,36 @@ pub record AreLowered (files : List SourceFile) (names : List (List ℕ)) (token
   pub declared : AreDeclared files names tokens trees
   pub rowless : lowering_rows trees ≡ []
 
--- the tokens are those of one file, whose tree is spelled as one of the first form, and this is its program
-abbrev pub IsFormOf : List (List Token) → Program → Type 0
-IsFormOf [] P = ⊥
-IsFormOf (tokens ∷ []) P = IsForm tokens P
-IsFormOf (tokens ∷ others ∷ more) P = ⊥
-
--- the program of files that have no row so far; as yet it is that of one file of the first form
+-- the program of files that have no row so far
 pub record ProgramOf (files : List SourceFile) (P : Program) : Type 0 where
   pub names : List (List ℕ)
   pub tokens : List (List Token)
   pub trees : List PlacedFile
   pub lowered : AreLowered files names tokens trees
-  pub form : IsFormOf tokens P
+  pub is : P ≡ program_of_files trees
+  pub regular : Regular P
 
--- files are refused by the rows of the first phase that has any, or checked by the rules, whose rows are in order
+-- each value has a type that fits where it is used, each register that is read is written before, each method returns what it declares
+pub record TypedProgramOf (files : List SourceFile) (P : Program) : Type 0 where
+  pub of_files : ProgramOf files P
+  pub typed : NoBaseRows P
+
+-- files are refused by the rows of the first phase that has any, or checked by the rules; the rows are in order
 pub data Report : Type 0 where
   Refused : (rows : List Row) → Report
   Checked : (rows : List Row) → Report
 
-abbrev pub unbuilt_row : Row
-unbuilt_row = row_at 0 Unbuilt
-
+-- the rules are those under the least signature
 pub record RulesGive (P : Program) (rows : List Row) : Type 0 where
+  pub signature : List Qualifier
+  pub least : IsLeastSignature P signature
   pub broken : List Row
-  pub breaks : Breaks P (start_signature P) broken
+  pub breaks : Breaks P signature broken
   pub order : IsOrderOf broken rows
 
 pub record IsCheckedBy (files : List SourceFile) (rows : List Row) : Type 0 where
   pub P : Program
-  pub of_files : ProgramOf files P
+  pub of_files : TypedProgramOf files P
   pub rules : RulesGive P rows
 
 -- the rows of classes and members, of files that have trees
@@ -87,9 +87,22 @@ pub record LoweringRows (files : List SourceFile) (rows : List Row) : Type 0 whe
   pub are : rows ≡ lowering_rows trees
   pub some : rows ≡ [] → ⊥
 
--- the rows of the first phase that has any: limits, tokens, syntax, classes and members, bodies
+-- the rows J7 to J10 of types, of files that have a program; in no order
+pub record TypeRows (files : List SourceFile) (rows : List Row) : Type 0 where
+  pub P : Program
+  pub of_files : ProgramOf files P
+  pub are : (row : Row) → Contains rows row ↔ IsBaseRow P row
+  pub some : rows ≡ [] → ⊥
+
+-- the rows of the first phase that has any: limits, tokens and syntax, then classes and members, then bodies, then types
+abbrev pub ProgramRows : List SourceFile → List Row → Type 0
+ProgramRows files rows = LoweringRows files rows ⊎ TypeRows files rows
+
+abbrev pub TreeRows : List SourceFile → List Row → Type 0
+TreeRows files rows = TableRows files rows ⊎ ProgramRows files rows
+
 abbrev pub PhaseRows : List SourceFile → List Row → Type 0
-PhaseRows files rows = FrontRows files rows ⊎ (TableRows files rows ⊎ LoweringRows files rows)
+PhaseRows files rows = FrontRows files rows ⊎ TreeRows files rows
 
 -- they are in order
 pub record IsPhase (files : List SourceFile) (rows : List Row) : Type 0 where
@@ -97,17 +110,8 @@ pub record IsPhase (files : List SourceFile) (rows : List Row) : Type 0 where
   pub phase : PhaseRows files broken
   pub order : IsOrderOf broken rows
 
--- files without a row of these phases, but without a program yet
-pub record IsUnbuilt (files : List SourceFile) (rows : List Row) : Type 0 where
-  pub names : List (List ℕ)
-  pub tokens : List (List Token)
-  pub trees : List PlacedFile
-  pub lowered : AreLowered files names tokens trees
-  pub no_form : (P : Program) → IsFormOf tokens P → ⊥
-  pub row : rows ≡ unbuilt_row ∷ []
-
 abbrev pub IsReport : List SourceFile → Report → Type 0
-IsReport files (Refused rows) = IsPhase files rows ⊎ IsUnbuilt files rows
+IsReport files (Refused rows) = IsPhase files rows
 IsReport files (Checked rows) = IsCheckedBy files rows
 
 abbrev pub status_of_rows : List Row → Status
@@ -121,5 +125,5 @@ status_of (Checked rows) = status_of_rows rows
 -- the files' own program has no null fault in any run
 pub record IsSafe (files : List SourceFile) : Type 0 where
   pub P : Program
-  pub of_files : ProgramOf files P
+  pub of_files : TypedProgramOf files P
   pub never : NeverNull P

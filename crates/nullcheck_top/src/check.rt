@@ -1,7 +1,6 @@
 //! The report of files that were read.
-ghost use Rattle.std.specs.Prelude.{◌≡◌, ◌<◌, ◌≤◌, ◌∷◌, [], List, ℕ, true, false, length, map, Some, IfOk, IfSome, IfNone, string_bytes};
+ghost use Rattle.std.specs.Prelude.{◌≡◌, ◌<◌, ◌≤◌, ◌∷◌, [], List, ℕ, true, false, length, map, Some, IfOk, string_bytes};
 ghost use Rattle.jn_base.specs.declared.place.Row.{Row as SpecRow};
-ghost use Rattle.jn_points.specs.declared.program.Program.{Program as SpecProgram};
 ghost use Rattle.jn_classtable.specs.Extract.{heads};
 ghost use Rattle.jn_places.specs.Placed.{PlacedFile};
 ghost use Rattle.jn_places.specs.PlacedView.{placed_file};
@@ -14,22 +13,26 @@ ghost use Rattle.jn_front.specs.Files.{files_of_reads, names_of, AreReads};
 ghost use Rattle.jn_reporters.specs.Reports.{plain_shown};
 ghost use Rattle.nullcheck_top.specs.Answer.{IsReportOfFiles};
 ghost use Rattle.jn_front.specs.Phases.{AreParsed};
-ghost use Rattle.nullcheck_top.specs.Report.{AreDeclared, AreLowered, IsFormOf, ProgramOf, Refused, status_of_rows, unbuilt_row};
+ghost use Rattle.jn_trees.specs.declared.token.Token.{Token as SpecToken};
+ghost use Rattle.nullcheck_top.specs.Report.{AreDeclared, ProgramOf, Refused, TypedProgramOf, status_of_rows};
 ghost use Rattle.nullcheck_top.specs.Shown.{shown, verdict_of_rows};
 
 use crate::rules::broken_rules;
 use crate::show::show;
 use crate::status::Status;
-use jn_base::{Code, Fail, OutOfMemory, Row, Seq};
+use jn_base::{Code, Fail, OutOfMemory, Row};
+use jn_basecheck::{BaseTyped, base_check};
 use jn_classtable::{ClassTable, build};
 use jn_diag::{Verdict, order, row_text};
-use jn_first_form::form::recognize;
 use jn_front::{SourceRead, lex_all, limit_rows, parse_all, row_at};
 use jn_points::Program;
 use jn_program::lowering::lower;
 use jn_reporters::{Plain, Reporter};
-use jn_trees::{FileTree, Token};
+use jn_system::law::regular_programs_are_inferable;
+use jn_trees::FileTree;
+use jn_workers::Gate;
 use std::alloc::Global;
+use std::thread::Threads;
 
 fn verdict_of(rows: &[Row]) -> Verdict
     ensures { result ≡ verdict_of_rows rows.now }
@@ -65,104 +68,83 @@ pub fn refused(
     Ok((Status::Refused, plain))
 }
 
-/// The program of the files with these tokens, or None where there is none yet.
-fn program_of(alloc: Global, tokens: &[Seq<Token>]) -> Result<Option<Program>, OutOfMemory>
-    ensures found { IfOk result (λ o. IfSome o (λ p. IsFormOf tokens.now p)) }
-    ensures none { IfOk result (λ o. IfNone o ((p : SpecProgram) → IsFormOf tokens.now p → ⊥)) }
-{
-    match tokens {
-        [tokens] => recognize(alloc, tokens.as_slice()),
-        _ => Ok(None),
-    }
-}
-
-/// The status and the report of files with these tokens, which have no row so far.
-fn report_program(
+/// The status and the report of files with this program, which has no row of types.
+fn checked<R: Threads + Sync, G: Gate + Sync>(
+    rt: &R,
     alloc: Global,
     reads: &[SourceRead],
-    tokens: &[Seq<Token>],
+    base: &BaseTyped,
+    gate: &G,
 ) -> Result<(Status, Plain), OutOfMemory>
     requires fit { ReadsFit reads.now }
-    requires lowered { (names : List (List ℕ)) × (trees : List PlacedFile) × AreLowered (files_of_reads reads.now) names tokens.now trees }
+    requires any { 0 < length base.now.bodies }
+    requires program { TypedProgramOf (files_of_reads reads.now) base.now }
     ensures { IfOk result (λ r. IsReportOfFiles (files_of_reads reads.now) r.0 (plain_shown r.1.rows r.1.verdict)) }
 {
-    match program_of(alloc, tokens)? {
-        None => unbuilt(alloc, reads),
-        Some(program) => checked(alloc, reads, &program),
+    regular_programs_are_inferable();
+    let rows = broken_rules(rt, alloc, base.program(), gate)?;
+    let plain = show(alloc, reads, &rows, verdict_of(&rows))?;
+    Ok((status_of(&rows), plain))
+}
+
+/// The status and the report of files with this program.
+fn report_program<R: Threads + Sync, G: Gate + Sync>(
+    rt: &R,
+    alloc: Global,
+    reads: &[SourceRead],
+    program: Program,
+    gate: &G,
+) -> Result<(Status, Plain), OutOfMemory>
+    requires fit { ReadsFit reads.now }
+    requires any { 0 < length program.bodies }
+    requires program { ProgramOf (files_of_reads reads.now) program }
+    ensures { IfOk result (λ r. IsReportOfFiles (files_of_reads reads.now) r.0 (plain_shown r.1.rows r.1.verdict)) }
+{
+    match base_check(alloc, program) {
+        Ok(base) => return checked(rt, alloc, reads, &base, gate),
+        Err(Fail::Refused(rows)) => return refused(alloc, reads, rows),
+        Err(Fail::OutOfMemory) => return Err(OutOfMemory),
     }
 }
 
-fn forget(_program: Program) {}
-
-/// The status and the report of files with these tokens and trees, whose classes and members have no row.
-fn report_table(
+/// The status and the report of files with these trees, whose classes and members have no row.
+fn report_table<R: Threads + Sync, G: Gate + Sync>(
+    rt: &R,
     alloc: Global,
     reads: &[SourceRead],
-    tokens: &[Seq<Token>],
     trees: &[FileTree],
     table: ClassTable,
+    gate: &G,
 ) -> Result<(Status, Plain), OutOfMemory>
     requires fit { ReadsFit reads.now }
-    requires declared { (names : List (List ℕ)) × AreDeclared (files_of_reads reads.now) names tokens.now (map placed_file trees.now) }
+    requires declared { (names : List (List ℕ)) × (tokens : List (List SpecToken)) × AreDeclared (files_of_reads reads.now) names tokens (map placed_file trees.now) }
     requires table { table ≡ heads (map placed_file trees.now) }
     ensures { IfOk result (λ r. IsReportOfFiles (files_of_reads reads.now) r.0 (plain_shown r.1.rows r.1.verdict)) }
 {
     match lower(alloc, table, trees) {
-        Ok(program) => {
-            forget(program);
-            return report_program(alloc, reads, tokens);
-        }
+        Ok(program) => return report_program(rt, alloc, reads, program, gate),
         Err(Fail::Refused(rows)) => return refused(alloc, reads, rows.into_vec()),
         Err(Fail::OutOfMemory) => return Err(OutOfMemory),
     }
 }
 
-/// The status and the report of files with these tokens and trees.
-fn report_trees(
+/// The status and the report of files with these trees.
+fn report_trees<R: Threads + Sync, G: Gate + Sync>(
+    rt: &R,
     alloc: Global,
     reads: &[SourceRead],
-    tokens: &[Seq<Token>],
     trees: &[FileTree],
+    gate: &G,
 ) -> Result<(Status, Plain), OutOfMemory>
     requires fit { ReadsFit reads.now }
-    requires parsed { (names : List (List ℕ)) × AreParsed (files_of_reads reads.now) names tokens.now (map placed_file trees.now) }
+    requires parsed { (names : List (List ℕ)) × (tokens : List (List SpecToken)) × AreParsed (files_of_reads reads.now) names tokens (map placed_file trees.now) }
     ensures { IfOk result (λ r. IsReportOfFiles (files_of_reads reads.now) r.0 (plain_shown r.1.rows r.1.verdict)) }
 {
     match build(alloc, trees) {
-        Ok(table) => return report_table(alloc, reads, tokens, trees, table),
+        Ok(table) => return report_table(rt, alloc, reads, trees, table, gate),
         Err(Fail::Refused(rows)) => return refused(alloc, reads, rows.into_vec()),
         Err(Fail::OutOfMemory) => return Err(OutOfMemory),
     }
-}
-
-/// The report of files that have no program yet.
-fn unbuilt(alloc: Global, reads: &[SourceRead]) -> Result<(Status, Plain), OutOfMemory>
-    requires { ReadsFit reads.now }
-    ensures status { IfOk result (λ r. r.0 ≡ Status.Refused) }
-    ensures shows { IfOk result (λ r. plain_shown r.1.rows r.1.verdict ≡ shown (files_of_reads reads.now) (Refused (unbuilt_row ∷ []))) }
-{
-    let plain = show(
-        alloc,
-        reads,
-        &[row_at(0, Code::Unbuilt)],
-        Verdict::Refused(1),
-    )?;
-    Ok((Status::Refused, plain))
-}
-
-/// The status and the report of files with this program.
-fn checked(
-    alloc: Global,
-    reads: &[SourceRead],
-    program: &Program,
-) -> Result<(Status, Plain), OutOfMemory>
-    requires fit { ReadsFit reads.now }
-    requires program { ProgramOf (files_of_reads reads.now) program.now }
-    ensures { IfOk result (λ r. IsReportOfFiles (files_of_reads reads.now) r.0 (plain_shown r.1.rows r.1.verdict)) }
-{
-    let rows = broken_rules(alloc, program)?;
-    let plain = show(alloc, reads, &rows, verdict_of(&rows))?;
-    Ok((status_of(&rows), plain))
 }
 
 fn no_rows(rows: &Vec<Row>) -> bool
@@ -173,7 +155,12 @@ fn no_rows(rows: &Vec<Row>) -> bool
 }
 
 /// The status and the report of files that were read, at most 64.
-pub fn report(alloc: Global, reads: &[SourceRead]) -> Result<(Status, Plain), OutOfMemory>
+pub fn report<R: Threads + Sync, G: Gate + Sync>(
+    rt: &R,
+    alloc: Global,
+    reads: &[SourceRead],
+    gate: &G,
+) -> Result<(Status, Plain), OutOfMemory>
     requires few { length reads.now ≤ 64 }
     requires fit { ReadsFit reads.now }
     requires read { (files : List SpecFile) × AreReads reads.now files }
@@ -191,7 +178,7 @@ pub fn report(alloc: Global, reads: &[SourceRead]) -> Result<(Status, Plain), Ou
     if !no_rows(&parsed.rows) {
         return refused(alloc, reads, parsed.rows);
     }
-    report_trees(alloc, reads, &lexed.tokens, &parsed.trees)
+    report_trees(rt, alloc, reads, &parsed.trees, gate)
 }
 
 /// The report of more files than there may be; this is the name of the first that is too many.

@@ -1,34 +1,30 @@
 //! The rules' rows of a program.
-ghost use Rattle.std.specs.Prelude.{◌≡◌, IfOk};
-ghost use Rattle.nullcheck_top.specs.FormProgram.{IsFormProgram, AreMainRows};
+ghost use Rattle.std.specs.Prelude.{◌≡◌, ◌<◌, length, IfOk};
+ghost use Rattle.jn_system.specs.Inference.{IsInferable};
 ghost use Rattle.nullcheck_top.specs.Report.{RulesGive};
 
-use jn_base::{BodyNo, OutOfMemory, Row};
-use jn_checks::checks;
-use jn_diag::order;
-use jn_first_form::program_law::programs_stay_inside;
-use jn_flow::flow;
+use jn_base::{OutOfMemory, Row};
 use jn_points::Program;
-use jn_sigs::{Sig, start};
+use jn_system::{check_all, solve_sig};
+use jn_workers::Gate;
 use std::alloc::Global;
+use std::thread::Threads;
 
-/// The rows of the body of main.
-fn main_rows(alloc: Global, program: &Program, sig: &Sig) -> Result<Vec<Row>, OutOfMemory>
-    requires { IsFormProgram program.now }
-    ensures { IfOk result (λ rows. AreMainRows program.now sig.now rows.items) }
-{
-    programs_stay_inside();
-    let table = flow(alloc, program, sig, BodyNo(0))?;
-    checks(alloc, program, sig, BodyNo(0), &table)
-}
+/// How many workers infer and check.
+const WORKERS: u32 = 4;
 
-/// The rows of the rules that the program breaks, in order.
-pub fn broken_rules(alloc: Global, program: &Program) -> Result<Vec<Row>, OutOfMemory>
-    requires { IsFormProgram program.now }
+/// The rows of the rules that the program breaks under its least signature, in order.
+pub fn broken_rules<R: Threads + Sync, G: Gate + Sync>(
+    rt: &R,
+    alloc: Global,
+    program: &Program,
+    gate: &G,
+) -> Result<Vec<Row>, OutOfMemory>
+    requires inferable { IsInferable program.now }
+    requires any { 0 < length program.now.bodies }
     ensures { IfOk result (λ rows. RulesGive program.now rows.items) }
 {
-    let sig = start(alloc, program)?;
-    let mut rows = main_rows(alloc, program, &sig)?;
-    order(&mut rows)?;
+    let sig = solve_sig(rt, alloc, program, WORKERS, gate)?;
+    let rows = check_all(rt, alloc, program, &sig, WORKERS, gate)?;
     Ok(rows)
 }

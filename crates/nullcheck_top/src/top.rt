@@ -16,7 +16,9 @@ use jn_base::{Fail, OutOfMemory};
 use jn_front::read_all;
 use jn_outside::{Files, Sink, write_whole};
 use jn_reporters::{Plain, Reporter};
+use jn_workers::Gate;
 use std::alloc::Global;
+use std::thread::Threads;
 
 /// The greatest number of files.
 const MOST_FILES: usize = 64;
@@ -73,11 +75,13 @@ fn write<K: Sink>(made: Result<(Status, Plain), OutOfMemory>, out: &mut K) -> St
 }
 
 /// Checks the files of these names, and writes their report.
-fn check_named<F: Files, K: Sink>(
+fn check_named<R: Threads + Sync, F: Files, K: Sink, G: Gate + Sync>(
+    rt: &R,
     alloc: Global,
     names: &[String],
     files: &mut F,
     out: &mut K,
+    gate: &G,
 ) -> Status
     ensures answer { Answers (F.held files.old) (Some (map string_bytes names.now)) (K.written out.old) (K.written out.new) result }
     ensures safe { result ≡ Status.Ok → Safe (F.held files.old) (Some (map string_bytes names.now)) }
@@ -99,15 +103,19 @@ fn check_named<F: Files, K: Sink>(
         Err(Fail::Refused(_)) => return Status::ReadFault,
         Err(Fail::OutOfMemory) => return Status::OutOfMemory,
     };
-    write(report(alloc, &reads), out)
+    write(report(rt, alloc, &reads, gate), out)
 }
 
 /// Checks the files that the words name, and writes their report.
-pub fn nullcheck<F: Files, K: Sink>(
+///
+/// `rt` gives the threads of four workers, which infer qualifiers and check bodies; each calls `gate` when it takes a body.
+pub fn nullcheck<R: Threads + Sync, F: Files, K: Sink, G: Gate + Sync>(
+    rt: &R,
     alloc: Global,
     words: &[String],
     files: &mut F,
     out: &mut K,
+    gate: &G,
 ) -> Status
     // Status and bytes are those that the words and the files define; behind a write fault a prefix of the bytes,
     // behind a read fault and want of memory nothing.
@@ -126,7 +134,7 @@ pub fn nullcheck<F: Files, K: Sink>(
     ensures write_always { K.faults out.old < K.faults out.new → result ≡ Status.WriteFault }
 {
     if name_files(words) {
-        check_named(alloc, words, files, out)
+        check_named(rt, alloc, words, files, out, gate)
     } else {
         finish(out, USAGE.as_bytes(), Status::Usage)
     }

@@ -1,8 +1,9 @@
-use Rattle.jn_front.specs.Files.{files_of_reads}
-use Rattle.nullcheck_top.proofs.WholeFiles.{unbuilt_made}
+use Rattle.std.proofs.Common.{subst}
+use Rattle.jn_basecheck.specs.Refusal.{IsRefusedFor}
+use Rattle.nullcheck_top.proofs.WholeFiles.{types_made}
 use Rattle.nullcheck_top.proofs.check.report_program.Goals as goal
 
-pub returns-in-None : goal.returns-in-None
-returns-in-None c =
-    let lowered = c.requires.lowered in
-    unbuilt_made (files_of_reads c.args.reads.now) lowered.0 c.args.tokens.now lowered.1 c.unbuilt.result lowered.2 (rw c.in-None.is at c.in_ok-program_of.ensures.none) c.unbuilt.ensures.status c.unbuilt.ensures.shows
+pub returns-in-Err-Refused : goal.returns-in-Err-Refused
+returns-in-Err-Refused g c =
+    let are = subst (λ fail. IsRefusedFor c.args.program fail) c.in-Err-Refused.field-0-is c.in-Err-Refused.ensures.refused in
+    types_made c.args.reads.now c.args.program c.in-Err-Refused.rows.items c.refused.result c.requires.program are.1 are.0 c.refused.ensures.status c.refused.ensures.shows

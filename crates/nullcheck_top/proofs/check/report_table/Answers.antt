@@ -1,14 +1,30 @@
-use Rattle.std.proofs.Common.{map, ◌∙◌, subst}
+use Rattle.std.proofs.Common.{map, ◌∙◌, ◌<◌, length, subst, sym}
+use Rattle.jn_points.specs.declared.program.Program.{Program}
 use Rattle.jn_places.specs.PlacedView.{placed_file}
 use Rattle.jn_program.specs.Lowered.{IsRefusedFor}
+use Rattle.nullcheck_top.proofs.Programs.{some_body}
 use Rattle.nullcheck_top.proofs.WholeFiles.{lowering_made}
 use Rattle.nullcheck_top.proofs.check.report_table.Goals as goal
 
-pub report_program-requires-clause-lowered : goal.report_program-requires-clause-lowered
-report_program-requires-clause-lowered c = (c.requires.declared.0, map placed_file c.args.trees.now, record { declared = c.requires.declared.1; rowless = c.in-Ok.ensures.lowered.rows })
+pub report_program-requires-clause-any : goal.report_program-requires-clause-any
+report_program-requires-clause-any g c = some_body (map placed_file c.args.trees.now) c.in-Ok.field-0 c.in-Ok.ensures.lowered.program
+
+pub report_program-requires-clause-program : goal.report_program-requires-clause-program
+report_program-requires-clause-program g c =
+    let declared = c.requires.declared in
+    let made = c.in-Ok.ensures.lowered in
+    record {
+      names = declared.0;
+      tokens = declared.1;
+      trees = map placed_file c.args.trees.now;
+      lowered = record { declared = declared.2; rowless = made.rows };
+      is = made.program;
+      regular = made.regular;
+    }
 
 pub returns-in-Err-Refused : goal.returns-in-Err-Refused
-returns-in-Err-Refused c =
+returns-in-Err-Refused g c =
     let trees = map placed_file c.args.trees.now in
+    let declared = c.requires.declared in
     let are = subst (λ fail. IsRefusedFor trees fail) c.in-Err-Refused.field-0-is c.in-Err-Refused.ensures.refused in
-    lowering_made c.args.reads.now c.requires.declared.0 c.args.tokens.now trees c.into_vec.result.items c.refused.result c.requires.declared.1 (c.into_vec.ensures ∙ are.0) are.1 c.refused.ensures.status c.refused.ensures.shows
+    lowering_made c.args.reads.now declared.0 declared.1 trees c.into_vec.result.items c.refused.result declared.2 (c.into_vec.ensures ∙ are.0) are.1 c.refused.ensures.status c.refused.ensures.shows

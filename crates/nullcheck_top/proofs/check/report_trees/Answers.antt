@@ -6,10 +6,13 @@ use Rattle.nullcheck_top.proofs.WholeFiles.{table_made}
 use Rattle.nullcheck_top.proofs.check.report_trees.Goals as goal
 
 pub report_table-requires-clause-declared : goal.report_table-requires-clause-declared
-report_table-requires-clause-declared c = (c.requires.parsed.0, record { parsed = c.requires.parsed.1; rowless = c.in-Ok.ensures.built.1 })
+report_table-requires-clause-declared g c =
+    let parsed = c.requires.parsed in
+    (parsed.0, parsed.1, record { parsed = parsed.2; rowless = c.in-Ok.ensures.built.1 })
 
 pub returns-in-Err-Refused : goal.returns-in-Err-Refused
-returns-in-Err-Refused c =
+returns-in-Err-Refused g c =
     let trees = map placed_file c.args.trees.now in
+    let parsed = c.requires.parsed in
     let are = subst (λ fail. IsRefusedFor (heads trees) fail) c.in-Err-Refused.field-0-is c.in-Err-Refused.ensures.refused in
-    table_made c.args.reads.now c.requires.parsed.0 c.args.tokens.now trees c.into_vec.result.items c.refused.result c.requires.parsed.1 (c.into_vec.ensures ∙ are.0) are.1 c.refused.ensures.status c.refused.ensures.shows
+    table_made c.args.reads.now parsed.0 parsed.1 trees c.into_vec.result.items c.refused.result parsed.2 (c.into_vec.ensures ∙ are.0) are.1 c.refused.ensures.status c.refused.ensures.shows
