@@ -1,2 +1,2 @@
 mod OneMain
-mod Solved
+pub mod Solved

@@ -4,11 +4,17 @@ use Rattle.jn_places.specs.Placed.{PlacedMember}
 use Rattle.jn_classtable.specs.Extract.{has_constructor, method_heads}
 use Rattle.jn_lowering.specs.Bodies.{Source}
 use Rattle.jn_program_law.specs.FileSources.{BodyTree, members_trees, unwritten_tree}
+use Rattle.jn_lower_stmt.specs.Sources.{sources_of}
+use Rattle.jn_program.specs.declared.sources.Gathered.{Gathered}
 
 -- the sources so far, and the number of the next method
 pub record Numbered : Type 0 where
   pub sources : List Source
   pub next : ℕ
+
+-- what was gathered
+abbrev pub numbered_of : Gathered → Numbered
+numbered_of g = record { sources = sources_of g.sources.items; next = g.next }
 
 -- behind a method with this body, or with none
 abbrev pub behind : Numbered → Option BodyTree → Numbered

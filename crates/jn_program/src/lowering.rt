@@ -11,6 +11,7 @@ ghost use Rattle.jn_program_law.specs.FileSources.{sources};
 ghost use Rattle.jn_program_law.specs.FileProgram.{j_rows};
 ghost use Rattle.jn_scopes.specs.Views.{Few};
 
+use crate::rows::{is_empty, push_all};
 use crate::sources::sources_of_files;
 use jn_base::{Fail, OutOfMemory, Row, Seq};
 use jn_classtable::ClassTable;
@@ -26,7 +27,7 @@ use std::alloc::Global;
 
 /// The bodies so far, and the rows of files.
 #[derive(Drop)]
-struct Lowered {
+struct LoweredFiles {
     bodies: Seq<Body>,
     rows: Seq<Row>,
 }
@@ -52,19 +53,10 @@ fn rows_of(
         source.members,
         &mut rows,
     )?;
-    if rows.len() == 0 {
+    if is_empty(&rows) {
         limit_rows(alloc, program, body, &mut rows)?;
     }
     Ok(rows)
-}
-
-fn push_all(rows: &mut Seq<Row>, more: &[Row]) -> Result<(), OutOfMemory>
-    ensures { OnOk result (rows.new ≡ rows.old ++ more.now) }
-{
-    for row in more {
-        rows.push(*row)?;
-    }
-    Ok(())
 }
 
 /// Adds a body, and its rows.
@@ -72,7 +64,7 @@ fn add(
     alloc: Global,
     program: &Program,
     source: &Source,
-    lowered: &mut Lowered,
+    lowered: &mut LoweredFiles,
 ) -> Result<(), OutOfMemory>
     requires few { Few program.now }
     ensures bodies { OnOk result (lowered.new.bodies ≡ lowered.old.bodies ++ body_of_source program.now (source_of source.now) ∷ []) }
@@ -90,7 +82,7 @@ fn add_all(
     alloc: Global,
     program: &Program,
     sources: &[Source],
-    lowered: &mut Lowered,
+    lowered: &mut LoweredFiles,
 ) -> Result<(), OutOfMemory>
     requires few { Few program.now }
     ensures bodies { OnOk result (lowered.new.bodies ≡ lowered.old.bodies ++ bodies_of program.now (sources_of sources.now)) }
@@ -103,18 +95,18 @@ fn add_all(
 }
 
 /// The bodies and the rows of files with this class table.
-fn lowered(
+fn lower_files(
     alloc: Global,
     table: &ClassTable,
     files: &[FileTree],
-) -> Result<Lowered, OutOfMemory>
+) -> Result<LoweredFiles, OutOfMemory>
     requires { table.now ≡ heads (map placed_file files.now) }
     ensures bodies { IfOk result (λ l. l.bodies ≡ bodies_of (tables.table (heads (map placed_file files.now))) (sources (map placed_file files.now))) }
     ensures rows { IfOk result (λ l. l.rows ≡ j_rows (map placed_file files.now)) }
 {
     table.facts();
     let sources = sources_of_files(alloc, files)?;
-    let mut lowered = Lowered {
+    let mut lowered = LoweredFiles {
         bodies: Seq::new(alloc),
         rows: Seq::new(alloc),
     };
@@ -157,10 +149,10 @@ pub fn lower(
     ensures refused { IfErr result (λ fail. IsRefusedFor (map placed_file files.now) fail) }
 {
     programs_of_tables_are_regular(&table);
-    match lowered(alloc, &table, files) {
+    match lower_files(alloc, &table, files) {
         Err(_) => Err(Fail::OutOfMemory),
-        Ok(Lowered { bodies, rows }) => {
-            if rows.len() == 0 {
+        Ok(LoweredFiles { bodies, rows }) => {
+            if is_empty(&rows) {
                 Ok(with_bodies(table.into_program(), bodies))
             } else {
                 Err(Fail::Refused(rows))

@@ -1,16 +1,15 @@
 //! What the bodies of files are made of, in the order of their numbers (JLS 8.4, 8.8 and 8.8.9).
-ghost use Rattle.std.specs.Prelude.{◌≡◌, ◌++◌, ◌∷◌, [], flat_map, map, Some, None, IfOk, OnOk};
+ghost use Rattle.std.specs.Prelude.{◌≡◌, ◌++◌, ◌∷◌, [], false, flat_map, map, Some, None, IfOk, OnOk};
 ghost use Rattle.jn_classtable.specs.Extract.{has_constructor, method_heads};
 ghost use Rattle.jn_places.specs.PlacedView.{placed_file, placed_member, placed_members, placed_parameters, placed_statements, placed_type};
 ghost use Rattle.jn_program_law.specs.FileSources as spec;
-ghost use Rattle.jn_program.specs.Gathering.{class_trees, gathered};
+ghost use Rattle.jn_program.specs.Gathering.{class_trees, gathered, numbered_of};
 ghost use Rattle.jn_lower_stmt.specs.Sources.{source_of, sources_of};
 
 use jn_base::{MethodNo, OutOfMemory};
 use jn_lower_stmt::body::Source;
 use jn_trees::{FileTree, Member, Parameter, Stmt, TypeTree};
 use std::alloc::Global;
-use std::marker::Model;
 
 /// The sources so far, and the number of the next method.
 #[derive(Drop)]
@@ -19,17 +18,8 @@ struct Gathered<'a> {
     next: u32,
 }
 
-impl<'a> Model for Gathered<'a> {
-    ghost use Rattle.jn_program.specs.Gathering.{Numbered};
-    ghost use Rattle.jn_lower_stmt.specs.Sources.{sources_of};
-
-    ghost Value = { Numbered };
-
-    ghost view = { λ g. record { sources = sources_of g.sources.items; next = g.next } };
-}
-
 fn push<'a>(sources: &mut Vec<Source<'a>>, source: Source<'a>) -> Result<(), OutOfMemory>
-    ensures { OnOk result (sources_of sources.new.items ≡ sources_of sources.old.items ++ source_of source ∷ []) }
+    ensures { OnOk result (sources_of sources.new.items ≡ sources_of sources.old.items ++ source_of source.entry ∷ []) }
 {
     match sources.push(source) {
         Ok(()) => Ok(()),
@@ -41,7 +31,7 @@ impl<'a> Gathered<'a> {
 
     /// Goes on to the next method. More than 2^32 - 1 count as want of memory.
     fn pass(&mut self) -> Result<(), OutOfMemory>
-        ensures { OnOk result (self.new ≡ gathered self.old (None ∷ [])) }
+        ensures { OnOk result (numbered_of self.new ≡ gathered (numbered_of self.old) (None ∷ [])) }
     {
         match self.next.checked_add(1) {
             Some(next) => {
@@ -59,7 +49,7 @@ impl<'a> Gathered<'a> {
         body: &'a [Stmt],
         members: &'a [Member],
     ) -> Result<(), OutOfMemory>
-        ensures { OnOk result (self.new ≡ gathered self.old (Some (record { parameters = placed_parameters parameters.now; body = placed_statements body.now; members = placed_members members.now }) ∷ [])) }
+        ensures { OnOk result (numbered_of self.new ≡ gathered (numbered_of self.old) (Some (record { parameters = placed_parameters parameters.now; body = placed_statements body.now; members = placed_members members.now }) ∷ [])) }
     {
         let source = Source {
             method: MethodNo(self.next),
@@ -79,7 +69,7 @@ fn member<'a>(
     all: &'a [Member],
     member: &'a Member,
 ) -> Result<(), OutOfMemory>
-    ensures { OnOk result (made.new ≡ gathered made.old (spec.member_trees interface (placed_members all.now) (placed_member member.now))) }
+    ensures { OnOk result (numbered_of made.new ≡ gathered (numbered_of made.old) (spec.member_trees interface (placed_members all.now) (placed_member member.now))) }
 {
     match member {
         Member::Field { .. } => Ok(()),
@@ -106,7 +96,7 @@ fn members<'a>(
     interface: bool,
     all: &'a [Member],
 ) -> Result<(), OutOfMemory>
-    ensures { OnOk result (made.new ≡ gathered made.old (spec.members_trees interface (placed_members all.now) (placed_members all.now))) }
+    ensures { OnOk result (numbered_of made.new ≡ gathered (numbered_of made.old) (spec.members_trees interface (placed_members all.now) (placed_members all.now))) }
 {
     for declared in all {
         member(made, interface, all, declared)?;
@@ -136,17 +126,18 @@ fn writes_constructor(members: &[Member]) -> bool
 
 /// Adds the bodies of a class, that of a constructor that isn't written behind the others.
 fn class<'a>(made: &mut Gathered<'a>, all: &'a [Member]) -> Result<(), OutOfMemory>
-    ensures { OnOk result (made.new ≡ gathered made.old (class_trees (placed_members all.now))) }
+    ensures { OnOk result (numbered_of made.new ≡ gathered (numbered_of made.old) (class_trees (placed_members all.now))) }
 {
     members(made, false, all)?;
     if writes_constructor(all) {
         return Ok(());
     }
-    made.add(&[], &[], all)
+    made.add(&[], &[], all)?;
+    Ok(())
 }
 
 fn declared<'a>(made: &mut Gathered<'a>, tree: &'a TypeTree) -> Result<(), OutOfMemory>
-    ensures { OnOk result (made.new ≡ gathered made.old (spec.type_trees (placed_type tree.now))) }
+    ensures { OnOk result (numbered_of made.new ≡ gathered (numbered_of made.old) (spec.type_trees (placed_type tree.now))) }
 {
     match tree {
         TypeTree::Class { members: all, .. } => class(made, all),
@@ -155,7 +146,7 @@ fn declared<'a>(made: &mut Gathered<'a>, tree: &'a TypeTree) -> Result<(), OutOf
 }
 
 fn types<'a>(made: &mut Gathered<'a>, trees: &'a [TypeTree]) -> Result<(), OutOfMemory>
-    ensures { OnOk result (made.new ≡ gathered made.old (flat_map (spec.type_trees) (map placed_type trees.now))) }
+    ensures { OnOk result (numbered_of made.new ≡ gathered (numbered_of made.old) (flat_map (spec.type_trees) (map placed_type trees.now))) }
 {
     for tree in trees {
         declared(made, tree)?;
@@ -164,7 +155,7 @@ fn types<'a>(made: &mut Gathered<'a>, trees: &'a [TypeTree]) -> Result<(), OutOf
 }
 
 fn all_types<'a>(made: &mut Gathered<'a>, files: &'a [FileTree]) -> Result<(), OutOfMemory>
-    ensures { OnOk result (made.new ≡ gathered made.old (flat_map (spec.type_trees) (spec.types_of (map placed_file files.now)))) }
+    ensures { OnOk result (numbered_of made.new ≡ gathered (numbered_of made.old) (flat_map (spec.type_trees) (spec.types_of (map placed_file files.now)))) }
 {
     for file in files {
         types(made, &file.types)?;
