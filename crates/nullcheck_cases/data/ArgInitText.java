@@ -1,0 +1,1 @@
+class A { void f(@UnderInitialization String s) { f(""); f(s); } }

@@ -1,0 +1,6 @@
+class A {
+  String a = "x";
+  String b = a;
+  A self = this;
+  A(int n) { }
+}

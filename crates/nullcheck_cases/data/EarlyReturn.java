@@ -1,0 +1,7 @@
+class E {
+  String s;
+  E(boolean b) {
+    if (b) return;
+    this.s = "x";
+  }
+}

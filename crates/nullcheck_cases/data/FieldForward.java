@@ -1,0 +1,5 @@
+class A {
+  String b = this.a;
+  String a = "x";
+  String c = this.a + a.length();
+}

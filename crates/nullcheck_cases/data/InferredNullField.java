@@ -1,0 +1,4 @@
+class A {
+  private A never;
+  void f() { if (never != null) { String s = null; s.length(); } never.f(); }
+}

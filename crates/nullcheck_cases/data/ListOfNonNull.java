@@ -1,0 +1,5 @@
+class A {
+  static void f() {
+    @Nullable String[] a = new String[] { "a" };
+  }
+}

@@ -1,0 +1,6 @@
+class A {
+  static void f() {
+    String s = null;
+    s.length();
+  }
+}

@@ -1,0 +1,3 @@
+class A {
+  String f(@Nullable String s) { return s; }
+}

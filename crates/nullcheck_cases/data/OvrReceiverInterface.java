@@ -1,0 +1,5 @@
+interface I { void f(@UnderInitialization I this); }
+class A implements I {
+  A() { f(); }
+  public void f(@UnderInitialization A this) { }
+}

@@ -1,0 +1,3 @@
+interface I { @Nullable String f(); }
+class A implements I { public String f() { return "a"; } }
+class B extends A { public String f() { return super.f(); } }

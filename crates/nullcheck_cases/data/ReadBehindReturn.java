@@ -1,0 +1,3 @@
+class A {
+  int f(int n) { int k; return n; return k; }
+}

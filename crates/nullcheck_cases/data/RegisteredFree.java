@@ -1,0 +1,6 @@
+class Reg {
+  @Nullable Item last;
+}
+class Item {
+  Item(@UnderInitialization Reg r) { r.last = this; }
+}

@@ -1,0 +1,4 @@
+class A {
+  void f() { }
+  void g() { return f(); }
+}

@@ -1,0 +1,3 @@
+class B {
+  static void f(@Nullable String s) { s.length(); }
+}

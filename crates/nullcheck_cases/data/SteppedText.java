@@ -1,0 +1,4 @@
+class A {
+  void g(String s) { s++; }
+  void h(String s) { --s; }
+}

@@ -1,0 +1,3 @@
+class A {
+  static void f(@Nullable String s) { int n = s; }
+}
