@@ -35,7 +35,8 @@ impl Accepted {
     ghost use Rattle.std.specs.Prelude.{[], ◌<◌, ◌^◌, length, ℕ, MatchOption};
     ghost use Rattle.jn_heap.specs.Machine.{NeverNull};
     ghost use Rattle.jn_transfer.specs.Rules.{Breaks};
-    ghost use Rattle.jn_accept.specs.Accepting.{IsAccepted, IsClosed, IsNotBelowStart, IsOnlyMain};
+    ghost use Rattle.jn_transfer.specs.Closing.{IsClosed, IsNotBelowStart};
+    ghost use Rattle.jn_accept.specs.Accepting.{IsAccepted, IsOnlyMain};
 
     /// Takes a program of which no rule is broken.
     pub(crate) fn of(base: BaseTyped, sig: Sig) -> Accepted

@@ -1,7 +1,7 @@
 // Accepting a program.
 ghost use Rattle.std.specs.Prelude.{◌≡◌, ◌<◌, ◌^◌, [], length, ℕ, IfOk, IfErr, MatchOption};
 ghost use Rattle.jn_transfer.specs.Rules.{Breaks};
-ghost use Rattle.jn_accept.specs.Accepting.{IsClosed, IsNotBelowStart, IsOnlyMain};
+ghost use Rattle.jn_transfer.specs.Closing.{IsClosed, IsNotBelowStart};
 
 use crate::accepted::Accepted;
 use jn_base::Row;

@@ -12,7 +12,7 @@ use Rattle.jn_points.specs.Regular.{Regular, RegularClass, RegularClasses}
 use Rattle.jn_sigs.specs.Signature.{start_signature}
 use Rattle.jn_env.specs.Order.{QualsWithin}
 use Rattle.jn_transfer.specs.Rules.{Breaks}
-use Rattle.jn_accept.specs.Accepting.{IsClosed, IsNotBelowStart}
+use Rattle.jn_transfer.specs.Closing.{IsClosed, IsNotBelowStart}
 use Rattle.jn_soundness.proofs.Finite.{each_at}
 use Rattle.jn_accept_tests.specs.Smallest.{object_class, string_class, smallest_program}
 

@@ -6,7 +6,7 @@ ghost use Rattle.jn_points.specs.BaseRows.{NoBaseRows};
 ghost use Rattle.jn_points.specs.Regular.{Regular};
 ghost use Rattle.jn_sigs.specs.Signature.{start_signature};
 ghost use Rattle.jn_transfer.specs.Rules.{Breaks};
-ghost use Rattle.jn_accept.specs.Accepting.{IsClosed, IsNotBelowStart};
+ghost use Rattle.jn_transfer.specs.Closing.{IsClosed, IsNotBelowStart};
 ghost use Rattle.jn_accept_tests.specs.Smallest.{smallest_program};
 
 /// The smallest program is regular and base-typed, and its start signature is closed and breaks no rule.

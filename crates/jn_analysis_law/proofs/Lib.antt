@@ -1,4 +1,4 @@
 mod Kept
-mod Sends
+pub mod Sends
 mod Signatures
-mod Tables
+pub mod Tables

@@ -54,6 +54,14 @@ impl Constraints for Net {
         source_of(self, body.0) == word.0
     }
 
+    fn words_read(&self, alloc: Global, body: BodyNo) -> Result<Vec<WordNo>, OutOfMemory> {
+        let mut words = Vec::new(alloc);
+        if words.push(WordNo(source_of(self, body.0))).is_err() {
+            return Err(OutOfMemory);
+        }
+        Ok(words)
+    }
+
     fn output(
         &self,
         alloc: Global,

@@ -25,6 +25,14 @@ impl Constraints for Pair {
         body.0 == 1
     }
 
+    fn words_read(&self, alloc: Global, body: BodyNo) -> Result<Vec<WordNo>, OutOfMemory> {
+        let mut words = Vec::new(alloc);
+        if body.0 == 1 && words.push(WordNo(0)).is_err() {
+            return Err(OutOfMemory);
+        }
+        Ok(words)
+    }
+
     fn output(
         &self,
         alloc: Global,

@@ -1,5 +1,5 @@
 -- A system of bodies over words of bits, and the least words that all its outputs leave as they are.
-use Rattle.std.specs.Prelude.{◌≡◌, ℕ, zero, suc, ◌+◌, ◌-◌, ◌*◌, ◌<◌, ◌≤◌, ◌^◌, ◌==◌, Bool, true, if◌then◌else◌, List, [], ◌∷◌, length, map, slice_index, bit_or}
+use Rattle.std.specs.Prelude.{◌≡◌, ℕ, zero, suc, ◌+◌, ◌-◌, ◌*◌, ◌<◌, ◌≤◌, ◌^◌, ◌==◌, ◌||◌, Bool, true, false, if◌then◌else◌, List, [], ◌∷◌, length, map, slice_index, bit_or}
 use Rattle.std.specs.List.{range_with_len}
 use Rattle.std.specs.Int.{bit_at}
 use lib.ListN.{get_elem?}
@@ -74,6 +74,22 @@ pub record IsLeast (sys : System) (start words : List ℕ) : Type 0 where
   pub closed : IsClosed sys words
   pub above : Covers sys.words start words
   pub below : (others : List ℕ) → IsClosed sys others → Covers sys.words start others → Covers sys.words words others
+
+-- the word is in the list
+abbrev pub lists_word : List WordNo → ℕ → Bool
+lists_word [] w = false
+lists_word (x ∷ xs) w = x.0 == w || lists_word xs w
+
+-- no word stands twice
+abbrev pub WordsOnce : List WordNo → Type 0
+WordsOnce [] = Unit {0}
+WordsOnce (x ∷ xs) = (lists_word xs x.0 ≡ false) × WordsOnce xs
+
+-- the words that body b reads, each once
+pub record IsReadList (sys : System) (b : ℕ) (words : List WordNo) : Type 0 where
+  pub only : (w : ℕ) → lists_word words w ≡ true → (w < sys.words) × (sys.reads b w ≡ true)
+  pub all : (w : ℕ) → w < sys.words → sys.reads b w ≡ true → lists_word words w ≡ true
+  pub once : WordsOnce words
 
 -- how many of the first n bits are set
 unfoldable pub ones_below : ℕ → ℕ → ℕ

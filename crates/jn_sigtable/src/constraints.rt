@@ -1,6 +1,6 @@
 // The system that is solved.
 ghost use Rattle.std.specs.Prelude.{◌≡◌, ℕ, ◌<◌, IfOk, length};
-ghost use Rattle.jn_sigtable.specs.System.{System, IsLawful};
+ghost use Rattle.jn_sigtable.specs.System.{System, IsLawful, IsReadList};
 
 use jn_base::{BodyNo, OutOfMemory, WordNo};
 use std::alloc::Global;
@@ -25,6 +25,14 @@ pub trait Constraints: Drop {
         requires body { body.0 < (describe self.now).bodies }
         requires word { word.0 < (describe self.now).words }
         ensures { result ≡ (describe self.now).reads body.0 word.0 };
+
+    /// The words that the body reads, each once, in any order.
+    ///
+    /// # Errors
+    /// No memory was found.
+    fn words_read(&self, alloc: Global, body: BodyNo) -> Result<Vec<WordNo>, OutOfMemory>
+        requires { body.0 < (describe self.now).bodies }
+        ensures { IfOk result (λ words. IsReadList (describe self.now) body.0 words.items) };
 
     /// The bits that the body outputs on these words.
     fn output(

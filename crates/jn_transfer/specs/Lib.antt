@@ -4,3 +4,4 @@ pub mod Rules
 pub mod Contributions
 pub mod Sized
 pub mod Covered
+pub mod Closing

@@ -3,3 +3,4 @@ pub mod RunSteps
 pub mod RaiseSteps
 pub mod RunEnds
 pub mod DrainSteps
+pub mod PlanSteps

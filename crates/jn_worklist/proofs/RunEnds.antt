@@ -9,7 +9,7 @@ use Rattle.std.proofs.lemmas.List.{length-replicate}
 use Rattle.std.proofs.lemmas.Nat.Bits.{bit_at-zero}
 use Rattle.jn_sigtable.specs.declared.view.View.{View}
 use Rattle.jn_base.specs.declared.number.WordNo.{WordNo}
-use Rattle.jn_sigtable.specs.System.{System, Within, bits_for}
+use Rattle.jn_sigtable.specs.System.{System, Within, bits_for, IsReadList}
 use Rattle.jn_sigtable.specs.Machine.{IsAtRest, MayMark, is_marked, own_marked, own_owed, has, after_mark, one_at, dirty_words, described}
 use Rattle.jn_sigtable.proofs.Bits.{one_same, one_other, same_number, zero_within}
 use Rattle.jn_sigtable.proofs.TakeKept.{at_replicate}
@@ -22,7 +22,7 @@ none_some : (b : ℕ) → None ≡ Some b → ⊥
 none_some b e = cc
 
 module _ {C : Type 0} where
-  pub begins_reading : (sys : System) (b : ℕ) (v : View C) (values : List ℕ) → IsFresh sys b v → values ≡ replicate sys.words 0 → IsReading sys b v v values 0
+  pub begins_reading : (sys : System) (b : ℕ) (v : View C) (values : List ℕ) → IsFresh sys b v → values ≡ replicate sys.words 0 → IsReading sys b v v values []
   begins_reading sys b v values h e = record {
     body = h.body;
     owed = h.owed;
@@ -31,16 +31,16 @@ module _ {C : Type 0} where
     same_taken = refl;
     are = h.are ∙ sym e;
     count = ap (λ (l : List ℕ). length l) h.are ∙ length-replicate {A = ℕ} sys.words 0;
-    read = λ u below. absurd (omega arith);
+    read = λ u m. absurd cc;
   }
 
-  pub begins_raising : (sys : System) (b : ℕ) (from v : View C) (values : List ℕ) (os : List (WordNo × ℕ)) (due : List ℕ) → IsReading sys b from v values sys.words → due ≡ replicate (dirty_words sys) 0 → IsRaising sys b v values v os 0 due
-  begins_raising sys b from v values os due h e = record {
+  pub begins_raising : (sys : System) (b : ℕ) (from v : View C) (values : List ℕ) (os : List (WordNo × ℕ)) (due : List ℕ) (reads : List WordNo) → IsReadList sys b reads → IsReading sys b from v values reads → due ≡ replicate (dirty_words sys) 0 → IsRaising sys b v values v os 0 due
+  begins_raising sys b from v values os due reads list h e = record {
     body = h.body;
     same_share = refl;
     same_taken = refl;
     are = h.are;
-    read = h.read;
+    read = λ w lt r. h.read w (list.all w lt r);
     raised = λ w. zero_within (bits_for v.raised w);
     count = ap (λ (l : List ℕ). length l) e ∙ length-replicate {A = ℕ} (dirty_words sys) 0;
     owes = λ x. ((λ has. absurd (none_has v.owed x h.owed has)), (λ is. absurd (none_due x is)));

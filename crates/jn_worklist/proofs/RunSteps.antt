@@ -1,5 +1,5 @@
 -- How one step of a body changes what is known.
-use Rattle.std.proofs.Common.{◌≡◌, ◌⊎◌, ℕ, zero, suc, ◌+◌, ◌-◌, ◌/◌, ◌%◌, ◌<◌, ◌≤◌, ◌==◌, ◌&&◌, ◌||◌, not, Bool, true, false, if◌then◌else◌, Option, Some, None, List, [], ◌∷◌, length, set, filter, sym, refl, ap, ◌∙◌, subst, inl, inr, ⊎_elim, arith, true≢false, length-set, eq-eqb, ne_eqb}
+use Rattle.std.proofs.Common.{◌≡◌, ◌⊎◌, ℕ, zero, suc, ◌+◌, ◌-◌, ◌/◌, ◌%◌, ◌<◌, ◌≤◌, ◌==◌, ◌&&◌, ◌||◌, not, Bool, true, false, if◌then◌else◌, Option, Some, None, List, [], ◌∷◌, length, set, take, get_or, add-one, filter, sym, refl, ap, ◌∙◌, subst, inl, inr, ⊎_elim, arith, true≢false, length-set, eq-eqb, ne_eqb}
 use mathlib.Core.Logic.{dite}
 use native.Mathlib.Decide.{ℕ_discrete}
 use Rattle.std.specs.Prelude.{slice_index}
@@ -7,7 +7,8 @@ use Rattle.std.specs.Int.{bit_at}
 use Rattle.std.proofs.lemmas.Bool.{eqb-true}
 use Rattle.std.proofs.lemmas.Nat.Bits.{bit_at-zero}
 use Rattle.jn_sigtable.specs.declared.view.View.{View}
-use Rattle.jn_sigtable.specs.System.{System}
+use Rattle.jn_base.specs.declared.number.WordNo.{WordNo}
+use Rattle.jn_sigtable.specs.System.{System, IsReadList, lists_word}
 use Rattle.jn_sigtable.specs.Machine.{Has, has, HasReadAll, HasRaisedAll, IsAtRest, MayMark, is_marked, own_marked, own_owed, after_read, after_mark, described}
 use Rattle.jn_sigtable.proofs.Keeping.{both_true, has_filter, filter_has, none_from}
 use Rattle.jn_worklist.specs.Plans.{IsDue}
@@ -32,9 +33,39 @@ module _ (d ones : ℕ) (owed : List ℕ) (all : (b : ℕ) → is_marked d ones 
       go true false h = sym (h refl)
       go false u h = refl
 
+-- the first words of a list, and one more
+words_step : (ws : List WordNo) (i : ℕ) (x : WordNo) (u : ℕ) → i < length ws → x ≡ get_or ws i x → lists_word (take (suc i) ws) u ≡ true → (x.0 ≡ u) ⊎ (lists_word (take i ws) u ≡ true)
+words_step [] i x u lt e h = absurd (omega arith)
+words_step (y ∷ ws) zero x u lt e h = inl (ap (λ (z : WordNo). z.0) e ∙ eqb-true y.0 u (only (y.0 == u) h))
+  where
+    only : (t : Bool) → (t || false) ≡ true → t ≡ true
+    only true h = refl
+    only false h = h
+words_step (y ∷ ws) (suc i) x u lt e h = go (y.0 == u) (words_step ws i x u (omega arith) e) h
+  where
+    go : (t : Bool) → (lists_word (take (suc i) ws) u ≡ true → (x.0 ≡ u) ⊎ (lists_word (take i ws) u ≡ true)) → (t || lists_word (take (suc i) ws) u) ≡ true → (x.0 ≡ u) ⊎ ((t || lists_word (take i ws) u) ≡ true)
+    go true rest h = inr refl
+    go false rest h = rest h
+
+words_more : (ws : List WordNo) (i : ℕ) (x : WordNo) → i < length ws → x ≡ get_or ws i x → (u : ℕ) → lists_word (take (i + 1) ws) u ≡ true → (x.0 ≡ u) ⊎ (lists_word (take i ws) u ≡ true)
+words_more ws i x lt e u h = words_step ws i x u lt e (subst (λ (k : ℕ). lists_word (take k ws) u ≡ true) (add-one i) h)
+
+-- a word of the list is one that the body reads
+word_there : (ws : List WordNo) (i : ℕ) (x : WordNo) → i < length ws → x ≡ get_or ws i x → lists_word ws x.0 ≡ true
+word_there [] i x lt e = absurd (omega arith)
+word_there (y ∷ ws) zero x lt e = ap (λ (t : Bool). t || lists_word ws x.0) (eq-eqb y.0 x.0 (ap (λ (z : WordNo). z.0) (sym e)))
+word_there (y ∷ ws) (suc i) x lt e = go (y.0 == x.0) (word_there ws i x (omega arith) e)
+  where
+    go : (t : Bool) → lists_word ws x.0 ≡ true → (t || lists_word ws x.0) ≡ true
+    go true h = refl
+    go false h = h
+
+pub word_read : (sys : System) (b : ℕ) (ws : List WordNo) (i : ℕ) (x : WordNo) → i < length ws → x ≡ get_or ws i x → IsReadList sys b ws → (x.0 < sys.words) × (sys.reads b x.0 ≡ true)
+word_read sys b ws i x lt e list = list.only x.0 (word_there ws i x lt e)
+
 module _ {C : Type 0} (describe : C → System) where
-  pub reads_on : (sys : System) (b : ℕ) (from v w : View (Option C)) (values : List ℕ) (u n : ℕ) → IsReading sys b from v values u → w ≡ after_read (described describe) v u n → IsReading sys b from w (set values u n) (u + 1)
-  reads_on sys b from v w values u n h e = record {
+  reads_on : (sys : System) (b : ℕ) (from v w : View (Option C)) (values : List ℕ) (done more : List WordNo) (u n : ℕ) → IsReading sys b from v values done → w ≡ after_read (described describe) v u n → ((x : ℕ) → lists_word more x ≡ true → (u ≡ x) ⊎ (lists_word done x ≡ true)) → IsReading sys b from w (set values u n) more
+  reads_on sys b from v w values done more u n h e f = record {
     body = ap (λ (x : View (Option C)). x.body) e ∙ h.body;
     owed = ap (λ (x : View (Option C)). x.owed) e ∙ h.owed;
     raised = ap (λ (x : View (Option C)). x.raised) e ∙ h.raised;
@@ -42,20 +73,12 @@ module _ {C : Type 0} (describe : C → System) where
     same_taken = ap (λ (x : View (Option C)). x.taken) e ∙ h.same_taken;
     are = ap (λ (x : View (Option C)). x.values) e ∙ ap (λ (l : List ℕ). set l u n) h.are;
     count = ap (λ (x : View (Option C)). length x.values) e ∙ (length-set v.values u n ∙ h.count);
-    read = λ x below reads. subst (λ (l : List ℕ). Has l x) (sym (ap (λ (y : View (Option C)). y.read) e)) (dite (ℕ_discrete u x) (λ s. inl s) (λ ne. inr (h.read x (omega arith) reads)));
+    read = λ x m. subst (λ (l : List ℕ). Has l x) (sym (ap (λ (y : View (Option C)). y.read) e)) (⊎_elim (λ s. inl s) (λ r. inr (h.read x r)) (f x m));
   }
 
-  pub reads_over : (sys : System) (b : ℕ) (from v : View (Option C)) (values : List ℕ) (u : ℕ) → IsReading sys b from v values u → sys.reads b u ≡ false → IsReading sys b from v values (u + 1)
-  reads_over sys b from v values u h no_read = record {
-    body = h.body;
-    owed = h.owed;
-    raised = h.raised;
-    same_share = h.same_share;
-    same_taken = h.same_taken;
-    are = h.are;
-    count = h.count;
-    read = λ x below reads. dite (ℕ_discrete x u) (λ s. absurd (true≢false (sym (subst (λ y. sys.reads b y ≡ true) s reads) ∙ no_read))) (λ ne. h.read x (omega arith) reads);
-  }
+  -- one word more of the list
+  pub reads_more : (sys : System) (b : ℕ) (from v w : View (Option C)) (values : List ℕ) (ws : List WordNo) (i : ℕ) (x : WordNo) (n : ℕ) → i < length ws → x ≡ get_or ws i x → IsReading sys b from v values (take i ws) → w ≡ after_read (described describe) v x.0 n → IsReading sys b from w (set values x.0 n) (take (i + 1) ws)
+  reads_more sys b from v w values ws i x n lt at h e = reads_on sys b from v w values (take i ws) (take (i + 1) ws) x.0 n h e (words_more ws i x lt at)
 
   is_due : (due : List ℕ) (d x : ℕ) → is_marked d (slice_index due d) x ≡ true → (x / 64 ≡ d) × IsDue due x
   is_due due d x e =

@@ -1,9 +1,10 @@
 -- Who reads which word, and bits of bodies.
-use Rattle.std.specs.Prelude.{◌≡◌, ◌⊎◌, ℕ, ◌/◌, ◌%◌, List, [], ◌∷◌, map, filter, slice_index}
+use Rattle.std.specs.Prelude.{◌≡◌, ◌⊎◌, ℕ, ◌/◌, ◌%◌, ◌<◌, cond, List, [], ◌∷◌, ◌++◌, length, get_or, map, filter, slice_index}
 use Rattle.std.specs.List.{range_with_len}
 use Rattle.std.specs.Int.{bit_at}
 use Rattle.jn_base.specs.declared.number.BodyNo.{BodyNo}
-use Rattle.jn_sigtable.specs.System.{System}
+use Rattle.jn_base.specs.declared.number.WordNo.{WordNo}
+use Rattle.jn_sigtable.specs.System.{System, lists_word}
 
 abbrev pub body_no : ℕ → BodyNo
 body_no n = record { 0 = n }
@@ -24,3 +25,8 @@ Lists (b ∷ bs) x = (b.0 ≡ x) ⊎ Lists bs x
 -- the body's bit is set in these words: bit p of word d is body 64 * d + p
 abbrev pub IsDue : List ℕ → ℕ → Type 0
 IsDue due x = bit_at (slice_index due (x / 64)) (x % 64) ≡ 1
+
+-- for each word its readers among the bodies below n, and body n where the word is among those that were added
+pub record ArePlanned (sys : System) (n : ℕ) (added : List WordNo) (readers : List (List BodyNo)) : Type 0 where
+  pub count : length readers ≡ sys.words
+  pub each : (w : ℕ) → w < sys.words → get_or readers w [] ≡ filter (λ b. sys.reads b.0 w) (map body_no (range_with_len 0 n)) ++ cond (lists_word added w) (body_no n ∷ []) []

@@ -2,7 +2,7 @@
 use Rattle.std.specs.Prelude.{◌≡◌, ◌⊎◌, ◌↔◌, ℕ, ◌-◌, ◌/◌, ◌<◌, ◌≤◌, true, Some, None, List, [], ◌∷◌, take, length, replicate}
 use Rattle.jn_base.specs.declared.number.WordNo.{WordNo}
 use Rattle.jn_sigtable.specs.declared.view.View.{View}
-use Rattle.jn_sigtable.specs.System.{System, Within, bits_for}
+use Rattle.jn_sigtable.specs.System.{System, Within, bits_for, lists_word}
 use Rattle.jn_sigtable.specs.Machine.{Has, HasReadAll, HasRaisedAll, dirty_words}
 use Rattle.jn_worklist.specs.Plans.{IsDue}
 
@@ -33,8 +33,8 @@ module _ {C : Type 0} where
     pub taken : w.taken ≡ v.taken - 1
     pub body : w.body ≡ None
 
-  -- the body has read the words below `upto`, and these are the values
-  pub record IsReading (sys : System) (b : ℕ) (from v : View C) (values : List ℕ) (upto : ℕ) : Type 0 where
+  -- the body has read the words in `done`, and these are the values
+  pub record IsReading (sys : System) (b : ℕ) (from v : View C) (values : List ℕ) (done : List WordNo) : Type 0 where
     pub body : v.body ≡ Some b
     pub owed : v.owed ≡ []
     pub raised : v.raised ≡ []
@@ -42,7 +42,7 @@ module _ {C : Type 0} where
     pub same_taken : v.taken ≡ from.taken
     pub are : v.values ≡ values
     pub count : length v.values ≡ sys.words
-    pub read : (u : ℕ) → u < upto → sys.reads b u ≡ true → Has v.read u
+    pub read : (u : ℕ) → lists_word done u ≡ true → Has v.read u
 
   -- the body has raised the first outputs, and the marks that it owes are those in `due`
   pub record IsRaising (sys : System) (b : ℕ) (from : View C) (values : List ℕ) (v : View C) (os : List (WordNo × ℕ)) (done : ℕ) (due : List ℕ) : Type 0 where

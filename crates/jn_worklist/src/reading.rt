@@ -1,5 +1,6 @@
 // A body's reads.
-ghost use Rattle.std.specs.Prelude.{◌≡◌, ◌<◌};
+ghost use Rattle.std.specs.Prelude.{◌≡◌, ◌<◌, []};
+ghost use Rattle.jn_sigtable.specs.System.{IsReadList};
 ghost use Rattle.jn_sigtable.specs.Words.{system_of, view_of, IsPassOf};
 ghost use Rattle.jn_worklist.specs.Runs.{IsReading};
 
@@ -11,19 +12,18 @@ pub fn read_all<C: Constraints>(
     table: &SigTable<C>,
     pass: &mut Pass<C>,
     body: BodyNo,
+    reads: &[WordNo],
     mut values: Vec<u64>,
 ) -> Vec<u64>
     requires own { IsPassOf table.now pass.old }
     requires inside { body.0 < (C.describe (system_of table.now)).bodies }
-    requires begun { IsReading (C.describe (system_of table.now)) body.0 (view_of pass.old) (view_of pass.old) values.items 0 }
+    requires list { IsReadList (C.describe (system_of table.now)) body.0 reads.now }
+    requires begun { IsReading (C.describe (system_of table.now)) body.0 (view_of pass.old) (view_of pass.old) values.items [] }
     ensures own { IsPassOf table.now pass.new }
-    ensures read { IsReading (C.describe (system_of table.now)) body.0 (view_of pass.old) (view_of pass.new) result.items (C.describe (system_of table.now)).words }
+    ensures read { IsReading (C.describe (system_of table.now)) body.0 (view_of pass.old) (view_of pass.new) result.items reads.now }
 {
-    let system = table.system();
-    for word in 0..system.words() {
-        if system.reads(body, WordNo(word)) {
-            values[word as usize] = table.read_word(pass, WordNo(word));
-        }
+    for word in reads {
+        values[word.0 as usize] = table.read_word(pass, *word);
     }
     values
 }

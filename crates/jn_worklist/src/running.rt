@@ -35,6 +35,10 @@ pub fn run_body<C: Constraints>(
 {
     let words = table.system().words() as usize;
     let dirty = (table.system().bodies() as usize + 63) / 64;
+    let Ok(reads) = table.system().words_read(alloc, body) else {
+        mark_again(table, pass, body);
+        return Err(OutOfMemory);
+    };
     let Ok(values) = vec![in alloc; 0; words] else {
         mark_again(table, pass, body);
         return Err(OutOfMemory);
@@ -43,7 +47,7 @@ pub fn run_body<C: Constraints>(
         mark_again(table, pass, body);
         return Err(OutOfMemory);
     };
-    let values = read_all(table, pass, body, values);
+    let values = read_all(table, pass, body, &reads, values);
     let Ok(output) = table.system().output(alloc, body, values.as_slice()) else {
         mark_again(table, pass, body);
         return Err(OutOfMemory);

@@ -1,0 +1,7 @@
+pub mod PackingLaws
+pub mod ReadingLaws
+pub mod InferenceLaws
+pub mod WordsOf
+pub mod LeastSignature
+pub mod Inferring
+pub mod OneFact

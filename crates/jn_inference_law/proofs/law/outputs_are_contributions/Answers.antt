@@ -1,0 +1,5 @@
+use Rattle.jn_inference_law.proofs.InferenceLaws.{inferred_sent, sends_are}
+use Rattle.jn_inference_law.proofs.law.outputs_are_contributions.Goals as goal
+
+pub returns : goal.returns
+returns c = record { sends = sends_are; inferred = inferred_sent }

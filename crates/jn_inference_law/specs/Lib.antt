@@ -1,0 +1,4 @@
+pub mod Packing
+pub mod Reading
+pub mod Inference
+pub mod Solution

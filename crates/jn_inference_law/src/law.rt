@@ -1,0 +1,29 @@
+// Laws of inference.
+ghost use Rattle.std.specs.Prelude.{◌≡◌, ℕ, true, List, slice_get};
+ghost use Rattle.jn_quals.specs.Qualifier.{Qualifier};
+ghost use Rattle.jn_points.specs.declared.program.Program.{Program};
+ghost use Rattle.jn_points.specs.Regular.{Regular};
+ghost use Rattle.jn_contrib.specs.Sends.{body_sends};
+ghost use Rattle.jn_env.specs.Order.{Table};
+ghost use Rattle.jn_sigtable.specs.System.{IsLawful};
+ghost use Rattle.jn_transfer.specs.Contributions.{IsSent, is_inferred};
+ghost use Rattle.jn_transfer.specs.Least.{IsLeastTable};
+ghost use Rattle.jn_inference_law.specs.Inference.{IsInferable, inference, least_sends};
+ghost use Rattle.jn_inference_law.specs.Solution.{IsLeastSignature};
+
+/// Each regular program can be inferred, and its system keeps the laws of a system.
+pub fn regular_programs_are_inferable()
+    ensures inferable { (P : Program) → Regular P → IsInferable P }
+    ensures lawful { (P : Program) → IsInferable P → IsLawful (inference P) }
+{}
+
+/// What the system's bodies output is what they send under their least tables, and it goes to inferred slots alone.
+pub fn outputs_are_contributions()
+    ensures sends { (P : Program) (s : List Qualifier) (b : ℕ) (t : Table) → IsInferable P → IsLeastTable P s b t → least_sends P s b ≡ body_sends P b t }
+    ensures inferred { (P : Program) (s : List Qualifier) (b : ℕ) (x : ℕ × Qualifier) → IsSent x (least_sends P s b) → is_inferred (slice_get P.slots x.0) ≡ true }
+{}
+
+/// A program has at most one least signature, so what is found of it doesn't depend on who found it.
+pub fn least_signatures_are_unique()
+    ensures { (P : Program) (s t : List Qualifier) → IsLeastSignature P s → IsLeastSignature P t → s ≡ t }
+{}

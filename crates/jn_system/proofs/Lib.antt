@@ -1,0 +1,5 @@
+pub mod CleaningFacts
+pub mod Outputs
+pub mod ReadSteps
+pub mod Gathering
+pub mod ListSteps

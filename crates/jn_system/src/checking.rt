@@ -1,0 +1,153 @@
+// The rows of all bodies and overriding pairs, by any number of workers.
+ghost use Rattle.std.specs.Prelude.{◌≡◌, ℕ, ◌++◌, ◌<◌, ◌≤◌, length, flat_map, slice_get, IfOk, OnOk, Some, Vec};
+ghost use Rattle.std.proofs.Common.{Global};
+ghost use Rattle.jn_base.specs.declared.place.Row.{Row};
+ghost use Rattle.jn_points.specs.Members.{below};
+ghost use Rattle.jn_inference_law.specs.Inference.{IsInferable};
+ghost use Rattle.jn_system.specs.Rows.{least_rows, AreFound, AreBroken};
+
+use crate::found::Found;
+use crate::stealing::{rows_of, steal_by};
+use crossbeam_deque::Worker;
+use jn_base::{OutOfMemory, Row};
+use jn_checks::override_rows;
+use jn_diag::order;
+use jn_points::Program;
+use jn_sigs::Sig;
+use jn_workers::Gate;
+use std::alloc::{AllocError, Global};
+use std::thread::Threads;
+
+/// The rows that were found, by body. A second result for a body takes the place of the first.
+fn laid_out(
+    alloc: Global,
+    program: &Program,
+    sig: &Sig,
+    mut found: Vec<Found>,
+) -> Result<Vec<Option<Vec<Row>>>, OutOfMemory>
+    requires { AreFound program.now sig.now found.items }
+    ensures count { IfOk result (λ laid. length laid.items ≡ length program.now.bodies) }
+    ensures rows { IfOk result (λ laid. (b : ℕ) (rows : Vec Row Global) → slice_get laid.items b ≡ Some (Some rows) → rows.items ≡ least_rows program.now sig.now b) }
+{
+    let _sig = sig;
+    let mut laid: Vec<Option<Vec<Row>>> = Vec::new(alloc);
+    for _ in 0..program.bodies.len() {
+        if laid.push(None).is_err() {
+            return Err(OutOfMemory);
+        }
+    }
+    while let Some(one) = found.pop() {
+        let Found { body, rows } = one;
+        if (body as usize) < laid.len() {
+            laid[body as usize] = Some(rows);
+        }
+    }
+    Ok(laid)
+}
+
+/// One body's rows: those that were found, or else made now.
+fn rows_at<G: Gate>(
+    alloc: Global,
+    program: &Program,
+    sig: &Sig,
+    slot: Option<Vec<Row>>,
+    body: u32,
+    gate: &G,
+) -> Result<Vec<Row>, OutOfMemory>
+    requires inferable { IsInferable program.now }
+    requires inside { body < length program.now.bodies }
+    requires slot { (rows : Vec Row Global) → slot ≡ Some rows → rows.items ≡ least_rows program.now sig.now body }
+    ensures { IfOk result (λ rows. rows.items ≡ least_rows program.now sig.now body) }
+{
+    match slot {
+        Some(rows) => Ok(rows),
+        None => {
+            let found = rows_of(alloc, program, sig, body, 0, gate)?;
+            Ok(found.rows)
+        }
+    }
+}
+
+fn append(all: &mut Vec<Row>, rows: &[Row]) -> Result<(), AllocError>
+    ensures { OnOk result (all.new.items ≡ all.old.items ++ rows.now) }
+{
+    all.extend_from_slice(rows)?;
+    Ok(())
+}
+
+/// The rows of all bodies, in their order.
+fn in_order<G: Gate>(
+    alloc: Global,
+    program: &Program,
+    sig: &Sig,
+    found: Vec<Found>,
+    gate: &G,
+) -> Result<Vec<Row>, OutOfMemory>
+    requires inferable { IsInferable program.now }
+    requires found { AreFound program.now sig.now found.items }
+    ensures { IfOk result (λ all. all.items ≡ flat_map (least_rows program.now sig.now) (below (length program.now.bodies))) }
+{
+    let mut laid = laid_out(alloc, program, sig, found)?;
+    let mut all = Vec::new(alloc);
+    for body in 0..program.bodies.len() {
+        let slot = laid[body].take();
+        let rows = rows_at(alloc, program, sig, slot, body as u32, gate)?;
+        append(&mut all, rows.as_slice())?;
+    }
+    Ok(all)
+}
+
+/// The rows of all bodies: their numbers are shared out by one deque, from which each worker steals.
+fn bodies_rows<R: Threads + Sync, G: Gate + Sync>(
+    rt: &R,
+    alloc: Global,
+    program: &Program,
+    sig: &Sig,
+    workers: u32,
+    gate: &G,
+) -> Result<Vec<Row>, OutOfMemory>
+    requires inferable { IsInferable program.now }
+    requires workers { 0 < workers }
+    ensures { IfOk result (λ all. all.items ≡ flat_map (least_rows program.now sig.now) (below (length program.now.bodies))) }
+{
+    let count = program.bodies.len() as u32;
+    let Ok(mut deque) = Worker::new_fifo(alloc, count as usize) else {
+        return Err(OutOfMemory);
+    };
+    for body in 0..count {
+        if deque.push(body).is_err() {
+            return Err(OutOfMemory);
+        }
+    }
+    let Ok(stealer) = deque.stealer() else {
+        return Err(OutOfMemory);
+    };
+    let limit = 2 * count as u64 + 64;
+    let found = steal_by(rt, alloc, program, sig, &stealer, workers - 1, limit, gate)?;
+    in_order(alloc, program, sig, found, gate)
+}
+
+/// Exactly the rows of the broken rules of a program under the least tables of the signature, in order, found
+/// by the given number of workers, 1 to 16.
+///
+/// # Errors
+/// No memory was found.
+#[tactic(auto, using(crate::proofs::Gathering::all_broken))]
+pub fn check_all<R: Threads + Sync, G: Gate + Sync>(
+    rt: &R,
+    alloc: Global,
+    program: &Program,
+    sig: &Sig,
+    workers: u32,
+    gate: &G,
+) -> Result<Vec<Row>, OutOfMemory>
+    requires inferable { IsInferable program.now }
+    requires workers { (0 < workers) × (workers ≤ 16) }
+    ensures { IfOk result (λ rows. AreBroken program.now sig.now rows.items) }
+{
+    let mut all = bodies_rows(rt, alloc, program, sig, workers, gate)?;
+    let pairs = override_rows(alloc, program, sig)?;
+    append(&mut all, pairs.as_slice())?;
+    order(&mut all)?;
+    Ok(all)
+}

@@ -1,0 +1,44 @@
+// Whether inference takes a program.
+ghost use Rattle.std.specs.Prelude.{◌≡◌, ℕ, ◌-◌, ◌<◌, ◌^◌, length, true};
+ghost use Rattle.jn_points.specs.Lookup.{body_at, points_of};
+ghost use Rattle.jn_transfer.specs.Sized.{StaysInside};
+ghost use Rattle.jn_inference_law.specs.Inference.{IsInferable};
+
+use jn_base::BodyNo;
+use jn_flow::stays_inside;
+use jn_points::Program;
+
+fn is_few(count: usize) -> bool
+    ensures { result ≡ true → count < 2 ^ 32 }
+{
+    count <= u32::MAX as usize
+}
+
+fn all_inside(program: &Program) -> bool
+    requires { length program.now.bodies < 2 ^ 32 }
+    ensures { result ≡ true → (b : ℕ) → b < length program.now.bodies → StaysInside program.now b × (length (points_of (body_at program.now b)) < 2 ^ 32 - 1) }
+{
+    for body in 0..program.bodies.len() {
+        if !stays_inside(program, BodyNo(body as u32)) {
+            return false;
+        }
+    }
+    true
+}
+
+/// Whether inference takes the program: its lists have fewer than 2^32 items, and the edges of each body stay in it. So
+/// it is of each regular program; a caller that knows this needs no test.
+#[tactic(auto, using(jn_inference_law::proofs::Inferring::tested_inferable))]
+pub fn is_inferable(program: &Program) -> bool
+    ensures { result ≡ true → IsInferable program.now }
+{
+    let few = is_few(program.classes.len())
+        && is_few(program.fields.len())
+        && is_few(program.methods.len())
+        && is_few(program.bodies.len())
+        && is_few(program.slots.len());
+    if !few {
+        return false;
+    }
+    all_inside(program)
+}

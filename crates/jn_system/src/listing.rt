@@ -1,0 +1,134 @@
+// The words that a body reads, each once.
+ghost use Rattle.std.specs.Prelude.{◌≡◌, ◌<◌, ◌||◌, ◌==◌, [], ◌∷◌, length, IfOk, OnOk, Some};
+ghost use Rattle.jn_points.specs.Lookup.{method_in};
+ghost use Rattle.jn_sigtable.specs.System.{IsReadList, lists_word};
+ghost use Rattle.jn_inference_law.specs.Inference.{inference, words_for};
+ghost use Rattle.jn_inference_law.specs.Reading.{slot_list, slot_lists, given_reads, kind_reads, points_reads, body_reads};
+ghost use Rattle.jn_system.specs.ReadLists.{Adds};
+
+use crate::reading::{either, field_slot, result_slot};
+use jn_base::{BodyNo, SlotNo, WordNo};
+use jn_points::{Method, Point, PointKind, Program};
+use std::alloc::{AllocError, Global};
+
+#[tactic(auto, using(crate::proofs::ListSteps::listed_more))]
+fn lists(words: &[WordNo], word: u32) -> bool
+    ensures { result ≡ lists_word words.now word }
+{
+    let mut found = false;
+    for one in words {
+        found = either(found, one.0 == word);
+    }
+    found
+}
+
+/// Adds the slot's word, where it is below the count and isn't listed yet.
+#[tactic(auto, using(crate::proofs::ListSteps::adds_past, crate::proofs::ListSteps::adds_listed, crate::proofs::ListSteps::adds_pushed))]
+fn add_word(list: &mut Vec<WordNo>, count: u32, slot: u32) -> Result<(), AllocError>
+    ensures { OnOk result (Adds count (slot ∷ []) list.old.items list.new.items) }
+{
+    let word = slot / 21;
+    if word >= count {
+        return Ok(());
+    }
+    if lists(list.as_slice(), word) {
+        return Ok(());
+    }
+    list.push(WordNo(word))?;
+    Ok(())
+}
+
+#[tactic(auto, using(crate::proofs::ListSteps::adds_none))]
+fn add_slot(list: &mut Vec<WordNo>, count: u32, slot: Option<SlotNo>) -> Result<(), AllocError>
+    ensures { OnOk result (Adds count (slot_list slot) list.old.items list.new.items) }
+{
+    match slot {
+        None => Ok(()),
+        Some(slot) => add_word(list, count, slot.0),
+    }
+}
+
+#[tactic(auto, using(crate::proofs::ListSteps::adds_slots, crate::proofs::ListSteps::adds_none))]
+fn add_slots(list: &mut Vec<WordNo>, count: u32, slots: &[Option<SlotNo>]) -> Result<(), AllocError>
+    ensures { OnOk result (Adds count (slot_lists slots.now) list.old.items list.new.items) }
+{
+    for slot in slots {
+        add_slot(list, count, *slot)?;
+    }
+    Ok(())
+}
+
+#[tactic(auto, using(crate::proofs::ListSteps::adds_none))]
+fn add_kind(
+    list: &mut Vec<WordNo>,
+    count: u32,
+    program: &Program,
+    kind: &PointKind,
+) -> Result<(), AllocError>
+    ensures { OnOk result (Adds count (kind_reads program.now kind.now) list.old.items list.new.items) }
+{
+    match kind {
+        PointKind::FieldRead { field, .. } => add_slot(list, count, field_slot(program, *field)),
+        PointKind::Call { method, .. } => add_slot(list, count, result_slot(program, *method)),
+        _ => Ok(()),
+    }
+}
+
+#[tactic(auto, using(crate::proofs::ListSteps::adds_points, crate::proofs::ListSteps::adds_none))]
+fn add_points(
+    list: &mut Vec<WordNo>,
+    count: u32,
+    program: &Program,
+    points: &[Point],
+) -> Result<(), AllocError>
+    ensures { OnOk result (Adds count (points_reads program.now points.now) list.old.items list.new.items) }
+{
+    for point in points {
+        add_kind(list, count, program, &point.kind)?;
+    }
+    Ok(())
+}
+
+#[tactic(auto, using(crate::proofs::ListSteps::adds_both))]
+fn add_given(list: &mut Vec<WordNo>, count: u32, method: &Method) -> Result<(), AllocError>
+    ensures { OnOk result (Adds count (given_reads (Some method.now)) list.old.items list.new.items) }
+{
+    add_slot(list, count, method.receiver)?;
+    add_slots(list, count, method.param_slots.as_slice())
+}
+
+#[tactic(auto, using(crate::proofs::ListSteps::adds_none))]
+fn add_method(
+    list: &mut Vec<WordNo>,
+    count: u32,
+    program: &Program,
+    body: BodyNo,
+) -> Result<(), AllocError>
+    ensures { OnOk result (Adds count (given_reads (method_in program.now body.0)) list.old.items list.new.items) }
+{
+    match program.bodies.as_slice().get(body.0 as usize) {
+        None => Ok(()),
+        Some(info) => match program.methods.as_slice().get(info.method.0 as usize) {
+            None => Ok(()),
+            Some(method) => add_given(list, count, method),
+        },
+    }
+}
+
+/// The words that the body reads, each once.
+pub fn words_read(
+    alloc: Global,
+    program: &Program,
+    count: u32,
+    body: BodyNo,
+) -> Result<Vec<WordNo>, AllocError>
+    requires inside { body.0 < length program.now.bodies }
+    requires count { count ≡ words_for (length program.now.slots) }
+    ensures { IfOk result (λ words. IsReadList (inference program.now) body.0 words.items) }
+{
+    let mut list = Vec::new(alloc);
+    let info = &program.bodies.as_slice()[body.0 as usize];
+    add_method(&mut list, count, program, body)?;
+    add_points(&mut list, count, program, info.points.as_slice())?;
+    Ok(list)
+}
