@@ -13,7 +13,7 @@ use Rattle.jn_transfer.specs.Least.{IsLeastTable}
 use Rattle.jn_transfer.specs.Rules.{Breaks}
 use Rattle.jn_heap.specs.Machine.{NeverNull}
 use Rattle.jn_accept.specs.Accepting.{IsAccepted}
-use Rattle.jn_system.specs.Solution.{IsLeastSignature}
+use Rattle.jn_inference_law.specs.Solution.{IsLeastSignature}
 use Rattle.jn_diag.specs.Order.{IsOrderOf}
 use Rattle.jn_front.specs.declared.source.SourceFile.{SourceFile}
 use Rattle.jn_front.specs.Phases.{AreParsed, FrontRows}

@@ -1,16 +1,10 @@
--- Programs of files, and their rows.
-use Rattle.std.proofs.Common.{◌≡◌, ◌<◌, ◌⊎◌, ◌↔◌, ℕ, List, [], ◌∷◌, length, refl, subst, sym, arith}
+-- Rows of types, and their order.
+use Rattle.std.proofs.Common.{◌≡◌, ◌↔◌, List, [], ◌∷◌, refl, arith}
 use Rattle.std.specs.Prelude.{Contains}
 use Rattle.jn_base.specs.declared.place.Row.{Row}
 use Rattle.jn_points.specs.declared.program.Program.{Program}
 use Rattle.jn_points.specs.BaseRows.{IsBaseRow, NoBaseRows}
-use Rattle.jn_places.specs.Placed.{PlacedFile}
 use Rattle.jn_diag.specs.Order.{IsOrderOf}
-use Rattle.jn_program_law.specs.FileProgram.{program_of_files}
-
--- Object's constructor has a body
-pub some_body : (trees : List PlacedFile) (P : Program) → P ≡ program_of_files trees → 0 < length P.bodies
-some_body trees P is = subst (λ (Q : Program). 0 < length Q.bodies) (sym is) (omega arith)
 
 -- some row
 pub first_row : (rows : List Row) → (rows ≡ [] → ⊥) → (row : Row) × Contains rows row

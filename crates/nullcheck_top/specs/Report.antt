@@ -12,7 +12,7 @@ use Rattle.jn_program_law.specs.FileProgram.{j_rows, program_of_files}
 use Rattle.jn_quals.specs.Qualifier.{Qualifier}
 use Rattle.nullcheck_top.specs.declared.status.Status.{Status}
 use Rattle.nullcheck_top.specs.declared.status.Status.TheVariants.{Ok as Accepted, Rejected as RejectedStatus, Refused as RefusedStatus}
-use Rattle.jn_system.specs.Solution.{IsLeastSignature}
+use Rattle.jn_inference_law.specs.Solution.{IsLeastSignature}
 use Rattle.jn_transfer.specs.Rules.{Breaks}
 use Rattle.jn_heap.specs.Machine.{NeverNull}
 use Rattle.jn_diag.specs.Order.{IsOrderOf}

@@ -28,7 +28,7 @@ use jn_front::{SourceRead, lex_all, limit_rows, parse_all, row_at};
 use jn_points::Program;
 use jn_program::lowering::lower;
 use jn_reporters::{Plain, Reporter};
-use jn_system::law::regular_programs_are_inferable;
+use jn_inference_law::law::regular_programs_are_inferable;
 use jn_trees::FileTree;
 use jn_workers::Gate;
 use std::alloc::Global;
@@ -77,7 +77,6 @@ fn checked<R: Threads + Sync, G: Gate + Sync>(
     gate: &G,
 ) -> Result<(Status, Plain), OutOfMemory>
     requires fit { ReadsFit reads.now }
-    requires any { 0 < length base.now.bodies }
     requires program { TypedProgramOf (files_of_reads reads.now) base.now }
     ensures { IfOk result (λ r. IsReportOfFiles (files_of_reads reads.now) r.0 (plain_shown r.1.rows r.1.verdict)) }
 {
@@ -96,7 +95,6 @@ fn report_program<R: Threads + Sync, G: Gate + Sync>(
     gate: &G,
 ) -> Result<(Status, Plain), OutOfMemory>
     requires fit { ReadsFit reads.now }
-    requires any { 0 < length program.bodies }
     requires program { ProgramOf (files_of_reads reads.now) program }
     ensures { IfOk result (λ r. IsReportOfFiles (files_of_reads reads.now) r.0 (plain_shown r.1.rows r.1.verdict)) }
 {

@@ -9,7 +9,7 @@ use jn_accept::law::accepted_programs_never_fault as accepted_programs_are_safe;
 use jn_diag::rows_have_one_order;
 use jn_flow::law::rounds_give_the_least_table;
 use jn_front::law::files_have_one_front;
-use jn_system::law::least_signatures_are_unique;
+use jn_inference_law::law::least_signatures_are_unique;
 
 /// Files whose program breaks no rule have no null fault in any run.
 pub fn accepted_programs_never_fault()

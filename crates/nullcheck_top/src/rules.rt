@@ -1,6 +1,6 @@
 //! The rules' rows of a program.
-ghost use Rattle.std.specs.Prelude.{◌≡◌, ◌<◌, length, IfOk};
-ghost use Rattle.jn_system.specs.Inference.{IsInferable};
+ghost use Rattle.std.specs.Prelude.{IfOk};
+ghost use Rattle.jn_inference_law.specs.Inference.{IsInferable};
 ghost use Rattle.nullcheck_top.specs.Report.{RulesGive};
 
 use jn_base::{OutOfMemory, Row};
@@ -20,8 +20,7 @@ pub fn broken_rules<R: Threads + Sync, G: Gate + Sync>(
     program: &Program,
     gate: &G,
 ) -> Result<Vec<Row>, OutOfMemory>
-    requires inferable { IsInferable program.now }
-    requires any { 0 < length program.now.bodies }
+    requires { IsInferable program.now }
     ensures { IfOk result (λ rows. RulesGive program.now rows.items) }
 {
     let sig = solve_sig(rt, alloc, program, WORKERS, gate)?;

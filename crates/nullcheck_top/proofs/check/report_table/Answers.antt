@@ -1,13 +1,8 @@
-use Rattle.std.proofs.Common.{map, ◌∙◌, ◌<◌, length, subst, sym}
-use Rattle.jn_points.specs.declared.program.Program.{Program}
+use Rattle.std.proofs.Common.{map, ◌∙◌, subst}
 use Rattle.jn_places.specs.PlacedView.{placed_file}
 use Rattle.jn_program.specs.Lowered.{IsRefusedFor}
-use Rattle.nullcheck_top.proofs.Programs.{some_body}
 use Rattle.nullcheck_top.proofs.WholeFiles.{lowering_made}
 use Rattle.nullcheck_top.proofs.check.report_table.Goals as goal
-
-pub report_program-requires-clause-any : goal.report_program-requires-clause-any
-report_program-requires-clause-any g c = some_body (map placed_file c.args.trees.now) c.in-Ok.field-0 c.in-Ok.ensures.lowered.program
 
 pub report_program-requires-clause-program : goal.report_program-requires-clause-program
 report_program-requires-clause-program g c =
