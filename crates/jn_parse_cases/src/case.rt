@@ -1,13 +1,11 @@
 // A case is one line: what is shown, if not shapes; its kind, with a number if not the greatest depth; and its text.
 use crate::expressions::expression_text;
-use crate::forms::{brackets_text, form_text, points_text};
 use crate::outcome::{FILE, LIMIT, fail_text, tree_text};
 use crate::page::Shown;
 use crate::shape::statement_text;
 use crate::source::source_of;
 use crate::tokens::{names_text, tokens_text};
 use jn_base::OutOfMemory;
-use jn_known::KNOWN_NAMES;
 use jn_lexer::lex;
 use jn_trees::{Context, Names, Token};
 use std::alloc::Global;
@@ -51,37 +49,15 @@ fn reading_text(
         "block" | "loop" | "leading" => {
             statement_text(alloc, names, tokens, depth, context_of(reading.kind), shown)
         }
-        "brackets" => brackets_text(alloc, tokens),
-        "form" => form_text(alloc, names, tokens),
-        "points" => points_text(alloc, tokens, shown),
         "field" | "method" | "file" => tree_text(alloc, names, text, tokens, shown),
         _ => Ok(String::from_str(alloc, "no kind")?),
     }
 }
 
-/// Numbers the names that are known before any file is read.
-fn know_all(names: &mut Names) -> Result<(), OutOfMemory> {
-    for text in KNOWN_NAMES {
-        if names.len() < LIMIT {
-            names.intern(text)?;
-        }
-    }
-    Ok(())
-}
-
-/// The names that have a number before a text of this kind is read.
-fn names_before(alloc: Global, kind: &str) -> Result<Names, OutOfMemory> {
-    let mut names = Names::new(alloc);
-    if kind == "form" || kind == "points" {
-        know_all(&mut names)?;
-    }
-    Ok(names)
-}
-
 /// What becomes of a text.
 fn source_text(alloc: Global, reading: Reading, text: &[u8]) -> Result<String, OutOfMemory> {
-    let mut names = names_before(alloc, reading.kind)?;
-    if text.len() > LIMIT || names.len() > LIMIT {
+    let mut names = Names::new(alloc);
+    if text.len() > LIMIT {
         return Ok(String::from_str(alloc, "too long")?);
     }
     match lex(alloc, text, FILE, &mut names) {

@@ -3,7 +3,6 @@
 
 mod case;
 mod expressions;
-mod forms;
 mod outcome;
 mod page;
 mod places;

@@ -76,7 +76,6 @@ pub fn source_of(alloc: Global, kind: &str, text: &str) -> Result<Vec<u8>, OutOf
     let (before, behind) = match kind {
         "field" => ("class A {\n\n  int x = ", ";\n}\n"),
         "method" => ("class A {\n  void f() {\n    ", "\n  }\n}\n"),
-        "form" | "points" => ("class C { public static void main(String[] a) { ", " } }"),
         _ => ("", ""),
     };
     bytes_of(alloc, before, &text, behind)

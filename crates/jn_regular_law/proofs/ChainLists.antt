@@ -14,7 +14,7 @@ use Rattle.jn_points.specs.Lookup.{interface_of, class_info, field_info, method_
 use Rattle.jn_points.specs.Members.{is_named}
 use Rattle.jn_points.specs.Shaped.{SlotsMatch}
 use Rattle.jn_points.specs.Regular.{AllBases, Implements, RegularClass, RegularClasses, RegularField, RegularMethod, SlotsBelow}
-use Rattle.jn_soundness.specs.PlainExample.{object_class, class_under, main_method}
+use Rattle.jn_soundness.specs.ExampleParts.{object_class, class_under, main_method}
 use Rattle.jn_soundness.specs.ChainExample.{chain_program, ctor_in, ref}
 use Rattle.jn_soundness.proofs.Finite.{each_at}
 

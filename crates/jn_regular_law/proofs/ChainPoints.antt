@@ -11,7 +11,7 @@ use Rattle.jn_points.specs.Operands.{operands}
 use Rattle.jn_points.specs.Shaped.{LeadsTo}
 use Rattle.jn_points.specs.BaseRows.{NoBaseRows, result_rows, type_rows}
 use Rattle.jn_points.specs.Regular.{CtorCallAt, IsConcrete, Regular, RegularBody, RegularCtorCall, RegularPoint}
-use Rattle.jn_soundness.specs.PlainExample.{class_under}
+use Rattle.jn_soundness.specs.ExampleParts.{class_under}
 use Rattle.jn_soundness.specs.ChainExample.{chain_program, third_points}
 use Rattle.jn_soundness.proofs.Finite.{each_at, points_each}
 use Rattle.jn_soundness.proofs.ChainInhabitant.{no_pairs}

@@ -13,7 +13,7 @@ use Rattle.jn_points.specs.Lookup.{interface_of, class_info, class_of, field_inf
 use Rattle.jn_points.specs.Members.{some_of, is_class, is_named, is_pair, dispatch, sub}
 use Rattle.jn_points.specs.Shaped.{SlotsMatch}
 use Rattle.jn_points.specs.Regular.{AllBases, AllClasses, BodyBelow, Implements, RegularClass, RegularClasses, RegularField, RegularMethod, RegularPair, SlotsBelow, has_body}
-use Rattle.jn_soundness.specs.PlainExample.{object_class, class_under, main_method}
+use Rattle.jn_soundness.specs.ExampleParts.{object_class, class_under, main_method}
 use Rattle.jn_soundness.specs.ChainExample.{ctor_in, ref}
 use Rattle.jn_soundness.proofs.Finite.{each_at}
 use Rattle.jn_regular_law.specs.DispatchExample.{dispatch_program, link_class, name_method, named_interface, next_field, seen_field}

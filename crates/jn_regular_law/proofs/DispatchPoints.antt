@@ -13,7 +13,7 @@ use Rattle.jn_points.specs.Paths.{Reached}
 use Rattle.jn_points.specs.Shaped.{LeadsTo}
 use Rattle.jn_points.specs.BaseRows.{NoBaseRows, result_rows, type_rows}
 use Rattle.jn_points.specs.Regular.{CtorCallAt, IsConcrete, Regular, RegularBody, RegularCtorCall, RegularPoint}
-use Rattle.jn_soundness.specs.PlainExample.{class_under, reg}
+use Rattle.jn_soundness.specs.ExampleParts.{class_under, reg}
 use Rattle.jn_soundness.specs.ChainExample.{body_of_method, ref}
 use Rattle.jn_soundness.proofs.Finite.{each_at, points_each, some_is}
 use Rattle.jn_regular_law.specs.DispatchExample.{dispatch_program, leaf_points, own_points}

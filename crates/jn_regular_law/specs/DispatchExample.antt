@@ -15,7 +15,7 @@ use Rattle.jn_points.specs.declared.program.Field.{Field}
 use Rattle.jn_points.specs.declared.program.Method.{Method}
 use Rattle.jn_points.specs.declared.program.SlotInfo.{SlotInfo}
 use Rattle.jn_points.specs.declared.program.Program.{Program}
-use Rattle.jn_soundness.specs.PlainExample.{no_span, point_of, reg, strings, object_class, class_under, main_method}
+use Rattle.jn_soundness.specs.ExampleParts.{no_span, point_of, reg, strings, object_class, class_under, main_method}
 use Rattle.jn_soundness.specs.ChainExample.{ref, ctor_in, body_of_method}
 
 abbrev pub named_interface : Class

@@ -28,7 +28,7 @@ use Rattle.jn_transfer.specs.Transfer.{transfer, IsAmong}
 use Rattle.jn_transfer.specs.Least.{Respects}
 use Rattle.jn_heap.specs.Machine.{MainForm}
 use Rattle.jn_soundness.specs.Accepted.{FieldSettles, Accepted}
-use Rattle.jn_soundness.specs.PlainExample.{point_of, class_under, main_method, strings}
+use Rattle.jn_soundness.specs.ExampleParts.{point_of, class_under, main_method, strings}
 use Rattle.jn_soundness.specs.ChainExample.{chain_program, chain_world, first_points, second_points, third_points, main_points, first_table, second_table, third_table, main_table, ref, body_of_method}
 use Rattle.jn_soundness.proofs.Fits.{sub_self, or_left}
 use Rattle.jn_soundness.proofs.Finite.{Each, each_at, points_each, some_is, AllOf, all_of}

@@ -16,9 +16,6 @@ pub mod Typing
 pub mod Whole
 pub mod Overriding
 pub mod Accepts
-pub mod PlainAccepts
 pub mod Finite
-pub mod PlainInhabitant
 pub mod ChainInhabitant
 pub mod Solves
-pub mod OneMethods

@@ -3,7 +3,6 @@ pub mod Checked
 pub mod Good
 pub mod Types
 pub mod Accepted
-pub mod PlainPrograms
-pub mod PlainExample
+pub mod ExampleParts
 pub mod ChainExample
 pub mod Solved

@@ -1,7 +1,6 @@
 // Laws over the definitions.
-ghost use Rattle.std.specs.Prelude.{List, [], ◌∷◌, Option};
+ghost use Rattle.std.specs.Prelude.{List};
 ghost use Rattle.jn_points.specs.declared.program.Program.{Program as ProgramOf};
-ghost use Rattle.jn_env.specs.declared.env.Env.{Env};
 ghost use Rattle.jn_heap.specs.Machine.{NeverNull, MainForm};
 ghost use Rattle.jn_soundness.specs.Solved.{Solved};
 ghost use Rattle.jn_soundness.specs.World.{World};
@@ -9,9 +8,7 @@ ghost use Rattle.jn_soundness.specs.Checked.{Checked};
 ghost use Rattle.jn_soundness.specs.Good.{MainsOk, RunsTyped};
 ghost use Rattle.jn_points.specs.BaseTyping.{BaseTyped};
 ghost use Rattle.jn_soundness.specs.Accepted.{Accepted};
-ghost use Rattle.jn_soundness.specs.PlainPrograms.{PlainAccepted, OneAccepted};
 ghost use Rattle.jn_soundness.specs.ChainExample.{chain_program, chain_world};
-ghost use Rattle.jn_soundness.specs.PlainExample.{plain_program, plain_table};
 
 /// Where tables respect all edges and no rule is broken, no run of a main dereferences null, if the
 /// registers of its points hold what soundness asks of base typing.
@@ -31,25 +28,6 @@ pub fn accepted_programs_never_fault()
 /// respect the edges, and no rule has a row.
 pub fn solved_programs_never_fault()
     ensures { (W : World) → Solved W → BaseTyped W.program → NeverNull W.program }
-{}
-
-/// A program without fields, calls and elements that has no row under the start signature never
-/// dereferences null, whatever its base types.
-pub fn plain_programs_never_fault()
-    ensures { (P : ProgramOf) (tables : List (List (Option Env))) → PlainAccepted P tables → NeverNull P }
-{}
-
-/// A program of one static method with plain points never dereferences null where its table respects
-/// the edges under the start signature and no point has a row.
-pub fn one_method_never_faults()
-    ensures { (P : ProgramOf) (table : List (Option Env)) → OneAccepted P table → NeverNull P }
-{}
-
-/// The law on plain programs is of use: one with a main, texts and a null test is accepted.
-pub fn plain_programs_are_accepted()
-    ensures accepted { PlainAccepted plain_program (plain_table ∷ []) }
-    ensures one { OneAccepted plain_program plain_table }
-    ensures main { MainForm plain_program 0 0 }
 {}
 
 /// The law on accepted programs is of use: one with a chain of constructors, a cycle of objects

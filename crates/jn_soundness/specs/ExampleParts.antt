@@ -1,20 +1,15 @@
--- A program of one body, so that no law on plain programs is empty: `String s = "x"; println(s.length()); if (s == null) ; return`.
+-- What programs are made of that show that no law is empty.
 use Rattle.std.specs.Prelude.{ℕ, Bool, true, false, List, [], ◌∷◌, Option, Some, None}
 use Rattle.jn_base.specs.declared.place.Span.{Span}
 use Rattle.jn_quals.specs.Qualifier.{Qualifier}
-use Rattle.jn_quals.specs.Order.{no_qual, committed_only}
 use Rattle.jn_points.specs.declared.point.Operand.{Operand}
 use Rattle.jn_points.specs.declared.point.BaseType.{BaseType}
-use Rattle.jn_points.specs.declared.point.BaseType.TheVariants.{Int, Void, Ref, Array}
+use Rattle.jn_points.specs.declared.point.BaseType.TheVariants.{Void, Array}
 use Rattle.jn_points.specs.declared.point.Elem.TheVariants.{Ref as RefElem}
-use Rattle.jn_points.specs.declared.point.Literal.TheVariants.{Str}
-use Rattle.jn_points.specs.declared.point.StrOperation.TheVariants.{Length}
 use Rattle.jn_points.specs.declared.point.Point.{Point}
 use Rattle.jn_points.specs.declared.point.PointKind.{PointKind}
-use Rattle.jn_points.specs.declared.point.PointKind.TheVariants.{Const, StrOp, Print, TestNull, Return}
 use Rattle.jn_points.specs.declared.program.Class.{Class}
 use Rattle.jn_points.specs.declared.program.Method.{Method}
-use Rattle.jn_points.specs.declared.program.Program.{Program}
 use Rattle.jn_env.specs.declared.env.Env.{Env}
 
 abbrev pub no_span : Span
@@ -56,32 +51,5 @@ main_method class body slot = record {
   result_slot = None;
 }
 
-abbrev pub plain_points : List Point
-plain_points =
-    point_of (Const (record { 0 = 1 }) (Str (record { 0 = 0 })))
-    ∷ point_of (StrOp (record { 0 = 2 }) Length (reg 1) None)
-    ∷ point_of (Print (reg 2))
-    ∷ point_of (TestNull (reg 1) None (record { 0 = 4 }) (record { 0 = 4 }))
-    ∷ point_of (Return None)
-    ∷ []
-
-abbrev pub plain_program : Program
-plain_program = record {
-  classes = object_class ∷ class_under 1 0 true ∷ class_under 2 0 false ∷ [];
-  fields = [];
-  methods = main_method 2 0 0 ∷ [];
-  bodies = record { method = record { 0 = 0 }; regs = strings ∷ Ref (record { 0 = 1 }) ∷ Int ∷ []; locals = 2; points = plain_points } ∷ [];
-  slots = record { start = committed_only; inferred = false } ∷ [];
-}
-
 abbrev pub quals_env : List Qualifier → Env
 quals_env qs = record { quals = qs; facts = []; assigned = [] }
-
-abbrev pub plain_table : List (Option Env)
-plain_table =
-    Some (quals_env (committed_only ∷ no_qual ∷ no_qual ∷ []))
-    ∷ Some (quals_env (committed_only ∷ committed_only ∷ no_qual ∷ []))
-    ∷ Some (quals_env (committed_only ∷ committed_only ∷ no_qual ∷ []))
-    ∷ Some (quals_env (committed_only ∷ committed_only ∷ no_qual ∷ []))
-    ∷ Some (quals_env (committed_only ∷ committed_only ∷ no_qual ∷ []))
-    ∷ []
