@@ -11,6 +11,7 @@ ghost use Rattle.jn_classtable.specs.Built.{IsTable};
 use crate::declarations::Declarations;
 use crate::head::ClassHead;
 use jn_index::index::Index;
+use jn_index::indexed::IndexedProgram;
 use jn_points::Program;
 use std::marker::Model;
 
@@ -18,23 +19,19 @@ use std::marker::Model;
 #[derive(Drop)]
 pub struct ClassTable {
     declared: Declarations,
-    program: Program,
-    index: Option<Index>,
+    program: IndexedProgram,
 }
 
 impl Model for ClassTable {
     ghost use Rattle.std.specs.Prelude.{List};
     ghost use Rattle.jn_classtable.specs.declared.head.ClassHead.{ClassHead};
-    ghost use Rattle.std.specs.Prelude.{IfSome};
-    ghost use Rattle.jn_index.specs.Index.{IsIndex};
-    ghost use Rattle.jn_classtable.specs.Table.{table};
     ghost use Rattle.jn_classtable.specs.Built.{IsTable};
 
     ghost Value = { List ClassHead };
 
     ghost view = { λ t. t.declared };
 
-    ghost invariant = { λ t. IsTable t.declared t.program × IfSome t.index (λ i. IsIndex (table t.declared) i) };
+    ghost invariant = { λ t. IsTable t.declared t.program };
 }
 
 impl ClassTable {
@@ -45,13 +42,19 @@ impl ClassTable {
     {
         ClassTable {
             declared,
-            program,
-            index,
+            program: IndexedProgram::of(program, index),
         }
     }
 
     /// The program without bodies.
     pub fn program(&self) -> &Program
+        ensures { result.now ≡ table self.now }
+    {
+        self.program.program()
+    }
+
+    /// The program without bodies, with its index.
+    pub fn indexed(&self) -> &IndexedProgram
         ensures { result.now ≡ table self.now }
     {
         &self.program
@@ -61,7 +64,7 @@ impl ClassTable {
     pub fn into_program(self) -> Program
         ensures { result ≡ table self }
     {
-        self.program
+        self.program.into_program()
     }
 
     /// What the types declare, in the order of files and text.
@@ -76,7 +79,7 @@ impl ClassTable {
     pub fn index(&self) -> Option<&Index>
         ensures { IfSome result (λ i. IsIndex (table self.now) i.now) }
     {
-        self.index.as_ref()
+        self.program.index()
     }
 
     /// What holds of every class table: it has no row, its classes, fields, methods and parameters have numbers of 32 bits, and

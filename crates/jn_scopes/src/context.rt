@@ -1,6 +1,7 @@
 // Where an expression stands, and what its names mean there.
 use jn_base::{ClassNo, FieldNo, MethodNo, NameNo, RegNo, Row};
-use jn_points::{BaseType, Program, StrOperation};
+use jn_index::indexed::IndexedProgram;
+use jn_points::{BaseType, StrOperation};
 use std::alloc::Global;
 
 /// The qualifier that is written at a local: whether it may be null, committed, free.
@@ -34,7 +35,7 @@ pub struct Variable {
 /// types, the class, and the register of the first temporary.
 #[derive(Clone, Copy)]
 pub struct Context<'a> {
-    pub program: &'a Program,
+    pub program: &'a IndexedProgram,
     pub scope: &'a [Variable],
     pub faults: &'a [Row],
     pub class: ClassNo,

@@ -15,7 +15,9 @@ use crate::lookup::{access, callee, meaning};
 use crate::members::{class_or_object, field_base, method_of, result_base, super_method};
 use jn_base::{ClassNo, NameNo};
 use jn_known::NULLABLE;
-use jn_points::{BaseType, Elem, Operator, Program, StrOperation, is_sub};
+use jn_index::fits;
+use jn_index::indexed::IndexedProgram;
+use jn_points::{BaseType, Elem, Operator, StrOperation};
 use jn_trees::{
     Annotation, AssignOperator, Base, BinaryOperator, Expr, Literal, TypeUse, UnaryOperator,
 };
@@ -124,6 +126,17 @@ pub fn elem_base(base: BaseType) -> BaseType
         BaseType::Array(Elem::Bool, _) => BaseType::Bool,
         BaseType::Array(Elem::Ref(class), _) => BaseType::Ref(class),
         _ => BaseType::Int,
+    }
+}
+
+/// Whether one type is within another (JLS 4.10).
+fn is_sub(program: &IndexedProgram, low: BaseType, high: BaseType) -> bool
+    ensures { result ≡ members.fits program.now low high }
+{
+    let lists = program.program();
+    match program.index() {
+        Some(index) => fits::is_sub(lists, index, low, high),
+        None => jn_points::is_sub(lists, low, high),
     }
 }
 
@@ -245,7 +258,7 @@ fn is_class_use(base: Base) -> bool
     }
 }
 
-fn elem_type(program: &Program, base: Base, annotations: &[Annotation]) -> Elem
+fn elem_type(program: &IndexedProgram, base: Base, annotations: &[Annotation]) -> Elem
     requires few { Few program.now }
     ensures { result ≡ spec.elem_type program.now base annotations.now }
 {
@@ -257,7 +270,7 @@ fn elem_type(program: &Program, base: Base, annotations: &[Annotation]) -> Elem
 }
 
 /// The type of an array whose elements have the annotations (JLS 9.7.4).
-pub fn array_type(program: &Program, base: Base, annotations: &[Annotation]) -> BaseType
+pub fn array_type(program: &IndexedProgram, base: Base, annotations: &[Annotation]) -> BaseType
     requires few { Few program.now }
     ensures { result ≡ spec.array_type program.now base annotations.now }
 {
@@ -268,7 +281,7 @@ pub fn array_type(program: &Program, base: Base, annotations: &[Annotation]) -> 
 }
 
 /// The type without brackets that is written (JLS 4).
-pub fn simple_type(program: &Program, base: Base) -> BaseType
+pub fn simple_type(program: &IndexedProgram, base: Base) -> BaseType
     requires few { Few program.now }
     ensures { result ≡ spec.simple_type program.now base }
 {
@@ -280,7 +293,7 @@ pub fn simple_type(program: &Program, base: Base) -> BaseType
 }
 
 /// The type that is written by a use with the annotations before it.
-pub fn type_of_use(program: &Program, type_use: &TypeUse, annotations: &[Annotation]) -> BaseType
+pub fn type_of_use(program: &IndexedProgram, type_use: &TypeUse, annotations: &[Annotation]) -> BaseType
     requires few { Few program.now }
     ensures { result ≡ spec.type_of_use program.now (placed_type_use type_use.now) annotations.now }
 {

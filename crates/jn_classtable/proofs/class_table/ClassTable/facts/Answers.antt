@@ -11,16 +11,16 @@ use Rattle.jn_classtable.proofs.class_table.ClassTable.facts.Goals as goal
 
 pub returns-clause-regular : goal.returns-clause-regular
 returns-clause-regular c =
-    let i = c.self.invariant.0 in
+    let i = c.self.invariant in
     subst (λ (hs : List ClassHead). (bodies : List Body) → length bodies ≡ bodies_of_all (all_heads hs) → RegularTable (program_with hs bodies) (called hs)) c.self.view_is
     (λ bodies many. table_regular c.self.inside.declared bodies i.fit i.rows many i.small.fields i.small.methods)
 
 pub returns-clause-classes : goal.returns-clause-classes
 returns-clause-classes c =
-    let few = c.self.invariant.0.small.heads in
+    let few = c.self.invariant.small.heads in
     let size = size_is c.self.inside.declared in
     subst (λ (hs : List ClassHead). length (table hs).classes < 2 ^ 32) c.self.view_is (omega (few, size, arith))
 
 pub returns-clause-parameters : goal.returns-clause-parameters
 returns-clause-parameters c =
-    subst (λ (hs : List ClassHead). ParamsFit (table hs)) c.self.view_is c.self.invariant.0.small.params
+    subst (λ (hs : List ClassHead). ParamsFit (table hs)) c.self.view_is c.self.invariant.small.params

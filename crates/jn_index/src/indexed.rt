@@ -1,0 +1,69 @@
+// A program with an index of it.
+ghost use Rattle.std.specs.Prelude.{◌≡◌, IfOk, IfSome};
+ghost use Rattle.jn_index.specs.Index.{IsIndex};
+
+use crate::index::Index;
+use jn_points::Program;
+use std::alloc::{AllocError, Global};
+use std::marker::Model;
+
+/// A program, with an index of it where there is one. Contracts see the program.
+#[derive(Drop)]
+pub struct IndexedProgram {
+    program: Program,
+    index: Option<Index>,
+}
+
+impl Model for IndexedProgram {
+    ghost use Rattle.std.specs.Prelude.{IfSome};
+    ghost use Rattle.jn_points.specs.declared.program.Program.{Program as ProgramOf};
+    ghost use Rattle.jn_index.specs.Index.{IsIndex};
+
+    ghost Value = { ProgramOf };
+
+    ghost view = { λ p. p.program };
+
+    ghost invariant = { λ p. IfSome p.index (λ i. IsIndex p.program i) };
+}
+
+impl IndexedProgram {
+    /// Makes the index of a program. Where the program has none (see `Index::new`), its lists are all there is to search.
+    ///
+    /// # Errors
+    /// No memory was found.
+    pub fn new(alloc: Global, program: Program) -> Result<IndexedProgram, AllocError>
+        ensures { IfOk result (λ p. p ≡ program) }
+    {
+        let index = Index::new(alloc, &program)?;
+        Ok(IndexedProgram { program, index })
+    }
+
+    /// A program with an index that was made before.
+    pub fn of(program: Program, index: Option<Index>) -> IndexedProgram
+        requires { IfSome index (λ i. IsIndex program i) }
+        ensures { result ≡ program }
+    {
+        IndexedProgram { program, index }
+    }
+
+    /// The program.
+    pub fn program(&self) -> &Program
+        ensures { result.now ≡ self.now }
+    {
+        &self.program
+    }
+
+    /// The index of the program, where it has one.
+    pub fn index(&self) -> Option<&Index>
+        ensures { IfSome result (λ i. IsIndex self.now i.now) }
+    {
+        self.index.as_ref()
+    }
+
+    /// Gives up the index.
+    pub fn into_program(self) -> Program
+        ensures { result ≡ self }
+    {
+        self.program
+    }
+}
