@@ -15,6 +15,7 @@ use crate::rows::{is_empty, push_all};
 use crate::sources::sources_of_files;
 use jn_base::{Fail, OutOfMemory, Row, Seq};
 use jn_classtable::ClassTable;
+use jn_index::indexed::IndexedProgram;
 use jn_lower_rows::bodies::body_rows;
 use jn_lower_rows::files::file_rows;
 use jn_lower_rows::limits::limit_rows;
@@ -35,7 +36,7 @@ struct LoweredFiles {
 /// The rows of a body, where this is what it is lowered to.
 fn rows_of(
     alloc: Global,
-    program: &Program,
+    program: &IndexedProgram,
     source: &Source,
     body: &Body,
 ) -> Result<Seq<Row>, OutOfMemory>
@@ -62,7 +63,7 @@ fn rows_of(
 /// Adds a body, and its rows.
 fn add(
     alloc: Global,
-    program: &Program,
+    program: &IndexedProgram,
     source: &Source,
     lowered: &mut LoweredFiles,
 ) -> Result<(), OutOfMemory>
@@ -80,7 +81,7 @@ fn add(
 /// Adds all bodies, and their rows.
 fn add_all(
     alloc: Global,
-    program: &Program,
+    program: &IndexedProgram,
     sources: &[Source],
     lowered: &mut LoweredFiles,
 ) -> Result<(), OutOfMemory>
@@ -111,7 +112,7 @@ fn lower_files(
         rows: Seq::new(alloc),
     };
     file_rows(alloc, &mut lowered.rows, files)?;
-    add_all(alloc, table.program(), &sources, &mut lowered)?;
+    add_all(alloc, table.indexed(), &sources, &mut lowered)?;
     Ok(lowered)
 }
 

@@ -11,6 +11,6 @@ pub returns-clause-rows : goal.returns-clause-rows
 returns-clause-rows c =
     let files = map placed_file c.args.files.now in
     c.in_ok-add_all.ensures.rows
-    ∙ ap (λ r. r ++ rows_of_bodies c.program.result.now (sources_of c.deref.result.now)) (c.in_ok-file_rows.ensures ∙ ap (λ r. r ++ outside_rows files) c.new-2.ensures)
-    ∙ ap (λ p. outside_rows files ++ rows_of_bodies p (sources_of c.deref.result.now)) (c.program.ensures ∙ ap tables.table c.requires)
+    ∙ ap (λ r. r ++ rows_of_bodies c.indexed.result.now (sources_of c.deref.result.now)) (c.in_ok-file_rows.ensures ∙ ap (λ r. r ++ outside_rows files) c.new-2.ensures)
+    ∙ ap (λ p. outside_rows files ++ rows_of_bodies p (sources_of c.deref.result.now)) (c.indexed.ensures ∙ ap tables.table c.requires)
     ∙ ap (λ ss. outside_rows files ++ rows_of_bodies (tables.table (heads files)) ss) (ap sources_of c.deref.ensures.value ∙ c.in_ok-sources.ensures)
