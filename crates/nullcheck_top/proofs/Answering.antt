@@ -7,6 +7,7 @@ use Rattle.nullcheck_top.proofs.WholeFiles.{as_many_reads}
 use Rattle.jn_base.specs.declared.refusal.OutOfMemory.{OutOfMemory as NoMemory}
 use Rattle.jn_points.specs.declared.program.Program.{Program}
 use Rattle.jn_heap.specs.Machine.{NeverNull}
+use Rattle.jn_progress_law.specs.Progress.{NeverStuck}
 use Rattle.jn_outside.specs.Causes.{Rose}
 use Rattle.jn_outside.specs.Files.{Holding}
 use Rattle.jn_outside.specs.Sink.{Appends}
@@ -123,10 +124,10 @@ made_written held names (Made r) m = files_written m.files r.0 (plain_shown r.1.
 made_written held names (Err e) m = tt
 
 -- accepted files are safe
-module _ (law : (files : List SourceFile) (P : Program) → TypedProgramOf files P → RulesGive P [] → NeverNull P) where
+module _ (null : (files : List SourceFile) (P : Program) → TypedProgramOf files P → RulesGive P [] → NeverNull P) (stuck : (files : List SourceFile) (P : Program) → TypedProgramOf files P → RulesGive P [] → NeverStuck P) where
   safe_report : (files : List SourceFile) (r : Report) → IsReport files r → status_of r ≡ Ok → IsSafe files
   safe_report files (Refused rows) is e = cc
-  safe_report files (Checked []) is e = record { P = is.P; of_files = is.of_files; never = law files is.P is.of_files is.rules }
+  safe_report files (Checked []) is e = record { P = is.P; of_files = is.of_files; never_null = null files is.P is.of_files is.rules; never_stuck = stuck files is.P is.of_files is.rules }
   safe_report files (Checked (row ∷ rows)) is e = cc
 
   pub safe : (held : Option Holding) (names : List (List ℕ)) (old new : Option (List ℕ)) (before now : ℕ) (result : Status) (made : Result (Status × Taken) NoMemory) → MadeOf held names made → Ends old new before now result made → result ≡ Ok → Safe held (Some names)

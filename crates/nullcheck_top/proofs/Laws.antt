@@ -11,7 +11,6 @@ use Rattle.jn_env.specs.declared.env.Env.{Env}
 use Rattle.jn_program_law.specs.FileProgram.{program_of_files}
 use Rattle.jn_transfer.specs.Least.{IsLeastTable}
 use Rattle.jn_transfer.specs.Rules.{Breaks}
-use Rattle.jn_heap.specs.Machine.{NeverNull}
 use Rattle.jn_accept.specs.Accepting.{IsAccepted}
 use Rattle.jn_inference_law.specs.Solution.{IsLeastSignature}
 use Rattle.jn_diag.specs.Order.{IsOrderOf}
@@ -29,15 +28,15 @@ none_in_order (row ∷ rows) order =
     let below : there.0 < 0 = there.1 in
     absurd (omega arith)
 
-module _ (law : (P : Program) (s : List Qualifier) → IsAccepted P s → NeverNull P) where
-  pub accepted_safe : (files : List SourceFile) (P : Program) → TypedProgramOf files P → RulesGive P [] → NeverNull P
-  accepted_safe files P of_files rules = law P rules.signature (record {
-    regular = of_files.of_files.regular;
-    typed = of_files.typed;
-    closed = rules.least.closed;
-    starts = rules.least.starts;
-    unbroken = subst (λ rows. Breaks P rules.signature rows) (none_in_order rules.broken rules.order) rules.breaks;
-  })
+-- it is accepted under its least signature
+pub accepted : (files : List SourceFile) (P : Program) → TypedProgramOf files P → (rules : RulesGive P []) → IsAccepted P rules.signature
+accepted files P of_files rules = record {
+  regular = of_files.of_files.regular;
+  typed = of_files.typed;
+  closed = rules.least.closed;
+  starts = rules.least.starts;
+  unbroken = subst (λ rows. Breaks P rules.signature rows) (none_in_order rules.broken rules.order) rules.breaks;
+}
 
 module _ (fronted : (files : List SourceFile) (rows others : List Row) → FrontRows files rows → FrontRows files others → rows ≡ others) (parsed : (files : List SourceFile) (names others : List (List ℕ)) (tokens us : List (List Token)) (trees vs : List PlacedFile) → AreParsed files names tokens trees → AreParsed files others us vs → (names ≡ others) × (tokens ≡ us) × (trees ≡ vs)) (apart : (files : List SourceFile) (names : List (List ℕ)) (tokens : List (List Token)) (trees : List PlacedFile) (rows : List Row) → AreParsed files names tokens trees → FrontRows files rows → ⊥) (least : (P : Program) (s t : List Qualifier) → IsLeastSignature P s → IsLeastSignature P t → s ≡ t) (table : (P : Program) (s : List Qualifier) (b : ℕ) (t u : List (Option Env)) → IsLeastTable P s b t → IsLeastTable P s b u → t ≡ u) (ordered : (old one other : List Row) → IsOrderOf old one → IsOrderOf old other → one ≡ other) where
   -- files have one program

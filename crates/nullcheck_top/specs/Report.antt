@@ -15,6 +15,7 @@ use Rattle.nullcheck_top.specs.declared.status.Status.TheVariants.{Ok as Accepte
 use Rattle.jn_inference_law.specs.Solution.{IsLeastSignature}
 use Rattle.jn_transfer.specs.Rules.{Breaks}
 use Rattle.jn_heap.specs.Machine.{NeverNull}
+use Rattle.jn_progress_law.specs.Progress.{NeverStuck}
 use Rattle.jn_diag.specs.Order.{IsOrderOf}
 use Rattle.jn_front.specs.declared.source.SourceFile.{SourceFile}
 use Rattle.jn_front.specs.Phases.{AreParsed, FrontRows}
@@ -122,8 +123,9 @@ abbrev pub status_of : Report → Status
 status_of (Refused rows) = RefusedStatus
 status_of (Checked rows) = status_of_rows rows
 
--- the files' own program has no null fault in any run
+-- the files' own program has no null fault in any run, and no run gets stuck
 pub record IsSafe (files : List SourceFile) : Type 0 where
   pub P : Program
   pub of_files : TypedProgramOf files P
-  pub never : NeverNull P
+  pub never_null : NeverNull P
+  pub never_stuck : NeverStuck P

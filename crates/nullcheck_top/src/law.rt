@@ -2,20 +2,24 @@
 ghost use Rattle.std.specs.Prelude.{◌≡◌, List, []};
 ghost use Rattle.jn_points.specs.declared.program.Program.{Program};
 ghost use Rattle.jn_heap.specs.Machine.{NeverNull};
+ghost use Rattle.jn_progress_law.specs.Progress.{NeverStuck};
 ghost use Rattle.jn_front.specs.declared.source.SourceFile.{SourceFile};
 ghost use Rattle.nullcheck_top.specs.Report.{Report, RulesGive, TypedProgramOf, IsReport};
 
-use jn_accept::law::accepted_programs_never_fault as accepted_programs_are_safe;
+use jn_accept::law::accepted_programs_never_fault;
 use jn_diag::rows_have_one_order;
 use jn_flow::law::rounds_give_the_least_table;
 use jn_front::law::files_have_one_front;
 use jn_inference_law::law::least_signatures_are_unique;
+use jn_progress_law::law::accepted_programs_never_stick;
 
-/// Files whose program breaks no rule have no null fault in any run.
-pub fn accepted_programs_never_fault()
-    ensures { (files : List SourceFile) (P : Program) → TypedProgramOf files P → RulesGive P [] → NeverNull P }
+/// No run of files whose program breaks no rule dereferences null, and none gets stuck.
+pub fn accepted_files_are_safe()
+    ensures null { (files : List SourceFile) (P : Program) → TypedProgramOf files P → RulesGive P [] → NeverNull P }
+    ensures stuck { (files : List SourceFile) (P : Program) → TypedProgramOf files P → RulesGive P [] → NeverStuck P }
 {
-    accepted_programs_are_safe();
+    accepted_programs_never_fault();
+    accepted_programs_never_stick();
 }
 
 /// Files have at most one report: the signatures are the least ones, whatever workers found them and in which order.

@@ -10,7 +10,7 @@ ghost use Rattle.nullcheck_top.specs.Made.{IfMade};
 ghost use Rattle.jn_front.specs.Files.{AllHeld, most_files};
 
 use crate::check::{report, too_many};
-use crate::law::accepted_programs_never_fault;
+use crate::law::accepted_files_are_safe;
 use crate::status::Status;
 use jn_base::{Fail, OutOfMemory};
 use jn_front::read_all;
@@ -94,7 +94,7 @@ fn check_named<R: Threads + Sync, F: Files, K: Sink, G: Gate + Sync>(
     ensures write { result ≡ Status.WriteFault → Rose (K.faults out.old) (K.faults out.new) }
     ensures write_always { K.faults out.old < K.faults out.new → result ≡ Status.WriteFault }
 {
-    accepted_programs_never_fault();
+    accepted_files_are_safe();
     if names.len() > MOST_FILES {
         return write(too_many(alloc, names), out);
     }
@@ -120,7 +120,7 @@ pub fn nullcheck<R: Threads + Sync, F: Files, K: Sink, G: Gate + Sync>(
     // Status and bytes are those that the words and the files define; behind a write fault a prefix of the bytes,
     // behind a read fault and want of memory nothing.
     ensures answer { Answers (F.held files.old) (files_of (map string_bytes words.now)) (K.written out.old) (K.written out.new) result }
-    // No run of accepted files dereferences null, with any words and any number of steps.
+    // No run of accepted files dereferences null or gets stuck, with any words and any number of steps.
     ensures safe { result ≡ Status.Ok → Safe (F.held files.old) (files_of (map string_bytes words.now)) }
     // Where words name files and no fault is counted, the report is written, or no memory was found.
     ensures complete { (Rose (F.faults files.old) (F.faults files.new) → ⊥) → (Rose (K.faults out.old) (K.faults out.new) → ⊥) → Completes (F.held files.old) (files_of (map string_bytes words.now)) (K.written out.old) (K.written out.new) result }

@@ -15,7 +15,7 @@ pub returns-then-names-gt-MOST_FILES-clause-safe : goal.returns-then-names-gt-MO
 returns-then-names-gt-MOST_FILES-clause-safe g c ok =
     let held = g.F.Files.held c.args.files.now in
     let names = map string_bytes c.args.names.now in
-    safe c.accepted_programs_never_fault.ensures held names (g.K.Sink.written c.args.out.now) (g.K.Sink.written c.write.new.out) (g.K.Sink.faults c.args.out.now) (g.K.Sink.faults c.write.new.out) c.write.result c.too_many.result (made_of_many held names c.too_many.result (many_names c.args.names.now c.if-names-gt-MOST_FILES.true) c.too_many.ensures) c.write.ensures ok
+    safe c.accepted_files_are_safe.ensures.null c.accepted_files_are_safe.ensures.stuck held names (g.K.Sink.written c.args.out.now) (g.K.Sink.written c.write.new.out) (g.K.Sink.faults c.args.out.now) (g.K.Sink.faults c.write.new.out) c.write.result c.too_many.result (made_of_many held names c.too_many.result (many_names c.args.names.now c.if-names-gt-MOST_FILES.true) c.too_many.ensures) c.write.ensures ok
 
 pub returns-then-names-gt-MOST_FILES-clause-complete : goal.returns-then-names-gt-MOST_FILES-clause-complete
 returns-then-names-gt-MOST_FILES-clause-complete g c quiet silent =
@@ -66,7 +66,7 @@ returns-clause-safe g c ok =
     let held = g.F.Files.held c.args.files.now in
     let names = map string_bytes c.args.names.now in
     let from = subst (λ rs. ReadFrom held names rs) (sym c.deref.ensures.value) c.in-Ok.ensures.ok in
-    safe c.accepted_programs_never_fault.ensures held names (g.K.Sink.written c.args.out.now) (g.K.Sink.written c.write-2.new.out) (g.K.Sink.faults c.args.out.now) (g.K.Sink.faults c.write-2.new.out) c.write-2.result c.report.result (made_all held names c.deref.result.now c.report.result from c.report.ensures) c.write-2.ensures ok
+    safe c.accepted_files_are_safe.ensures.null c.accepted_files_are_safe.ensures.stuck held names (g.K.Sink.written c.args.out.now) (g.K.Sink.written c.write-2.new.out) (g.K.Sink.faults c.args.out.now) (g.K.Sink.faults c.write-2.new.out) c.write-2.result c.report.result (made_all held names c.deref.result.now c.report.result from c.report.ensures) c.write-2.ensures ok
 
 pub returns-clause-complete : goal.returns-clause-complete
 returns-clause-complete g c quiet silent =
