@@ -153,3 +153,9 @@ each_loop-returns t c = λ span.
     (subst (λ (s : State). StepsOn (moved_to c.in_ok-at.at (c.in_ok-reg.reg.0 + 1) None s (each_start c.args.c.now.program.now c.args.c.now.class.0 c.args.c.now.first c.in_ok-at.at c.in_ok-reg.reg.0 (valued c.args.c.now s (placed_view c.args.array.now)))) c.label-4.new.e c.start_with.new.e c.start_with.new.s) begun c.in_ok-at.ensures.1)
     c.in_ok-place.ensures c.in_ok-goes_on.ensures c.in_ok-place-2.ensures c.in_ok-item.ensures c.in_ok-declare_each.ensures c.in_ok-statement.ensures c.in_ok-place-3.ensures c.in_ok-moves_on.ensures c.in_ok-jump.ensures c.in_ok-place-4.ensures
     (λ u. statement_extends c.args.c.now.program.now c.args.c.now.class.0 c.args.c.now.first u (placed_statement c.args.body.now)) (put_back c.args.s.now c.moves_on.new.s c.end.new.self c.begin-outer.result.names c.begin-outer.result.held c.begin-outer.ensures.names c.begin-outer.ensures.held c.end.ensures))
+
+pub statement-returns-in_ok-each_loop-in-ForEach : goal.statement-returns-in_ok-each_loop-in-ForEach
+statement-returns-in_ok-each_loop-in-ForEach t c =
+    subst (λ (x : Stmt). Steps (stated c.args.c.now c.args.s.now (placed_statement x)) c.args.ways.out.0 c.args.ways.again.0 c.args.e.now c.each_loop.new.e c.each_loop.new.s) (sym c.in-ForEach.is)
+    (subst (λ (b : Stmt). Steps (stated c.args.c.now c.args.s.now (PlacedForEach c.in-ForEach.modifiers.items (placed_type_use c.in-ForEach.type_use) c.in-ForEach.name (placed_view c.in-ForEach.array) (placed_statement b) c.in-ForEach.span)) c.args.ways.out.0 c.args.ways.again.0 c.args.e.now c.each_loop.new.e c.each_loop.new.s) c.deref-in-ForEach.ensures
+    (subst (λ (ms : List LocalModifier). Steps (stated c.args.c.now c.args.s.now (PlacedForEach ms (placed_type_use c.in-ForEach.type_use) c.in-ForEach.name (placed_view c.in-ForEach.array) (placed_statement c.deref-in-ForEach.result.now) c.in-ForEach.span)) c.args.ways.out.0 c.args.ways.again.0 c.args.e.now c.each_loop.new.e c.each_loop.new.s) c.deref-in-ForEach-2.ensures.value (c.in_ok-each_loop-in-ForEach.ensures c.in-ForEach.span)))
