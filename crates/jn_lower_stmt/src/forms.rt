@@ -200,7 +200,7 @@ fn each_loop(
     let outer = s.begin(c.alloc);
     let test = label(e)?;
     let inside = label(e)?;
-    let next = label(e)?;
+    let again = label(e)?;
     let end = label(e)?;
     let reg = s.next()?;
     let base = type_in(array, c, s);
@@ -214,10 +214,10 @@ fn each_loop(
     s.declare_each(c, base, name.name, kind, fixed)?;
     let inner = Ways {
         out: end,
-        again: next,
+        again,
     };
     statement(body, c, e, s, inner)?;
-    place(e, next)?;
+    place(e, again)?;
     each::moves_on(reg, at, c, e, s)?;
     jump(e, test, at)?;
     place(e, end)?;
