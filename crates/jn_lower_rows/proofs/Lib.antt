@@ -8,3 +8,4 @@ pub mod Declaring
 pub mod Stepping
 pub mod Wholes
 pub mod Facts
+pub mod OwnFields

@@ -18,7 +18,7 @@ use crate::setting::{NO_THIS, Setting};
 use crate::standing::{Names, context};
 use crate::statements::{look_all, statements};
 use jn_base::{ClassNo, MethodNo, Row, Seq, Span};
-use jn_points::Program;
+use jn_index::indexed::IndexedProgram;
 use jn_scopes::forms::count;
 use jn_scopes::members::{is_static, parent_or_object};
 use jn_trees::{Expr, Member, Parameter, Stmt};
@@ -43,7 +43,7 @@ fn ctor_call(
 }
 
 /// Object's constructor calls none, nor does one that stands right under Object.
-fn is_under_object(program: &Program, class: ClassNo) -> bool
+fn is_under_object(program: &IndexedProgram, class: ClassNo) -> bool
     ensures { result ≡ bodies.is_under_object (parent_of (class_info program.now class.0)) }
 {
     match class_at(program, class) {
@@ -165,7 +165,7 @@ fn constructed(
     }
 }
 
-fn in_body(program: &Program, method: MethodNo) -> Setting
+fn in_body(program: &IndexedProgram, method: MethodNo) -> Setting
     ensures { setting_of result ≡ spec.in_body program.now method.0 }
 {
     Setting {
@@ -182,7 +182,7 @@ fn in_body(program: &Program, method: MethodNo) -> Setting
 /// No memory was found.
 pub fn body_rows(
     alloc: Global,
-    program: &Program,
+    program: &IndexedProgram,
     method: MethodNo,
     parameters: &[Parameter],
     body: &[Stmt],

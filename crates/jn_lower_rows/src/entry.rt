@@ -11,7 +11,8 @@ use crate::members::method_at;
 use crate::notes::has_final;
 use crate::standing::Names;
 use jn_base::{ClassNo, FileNo, MethodNo, RegNo, Span};
-use jn_points::{BaseType, Program};
+use jn_index::indexed::IndexedProgram;
+use jn_points::BaseType;
 use jn_scopes::{Faults, Variable};
 use jn_trees::Parameter;
 use std::alloc::{AllocError, Global};
@@ -19,13 +20,13 @@ use std::alloc::{AllocError, Global};
 /// A body: its method in the program.
 #[derive(Clone, Copy)]
 pub struct Whole<'a> {
-    pub program: &'a Program,
+    pub program: &'a IndexedProgram,
     pub method: MethodNo,
     pub alloc: Global,
 }
 
 /// The class of a method.
-pub fn class_of(program: &Program, method: MethodNo) -> ClassNo
+pub fn class_of(program: &IndexedProgram, method: MethodNo) -> ClassNo
     ensures { result.0 ≡ bodies.class program.now method.0 }
 {
     match method_at(program, method) {
@@ -35,7 +36,7 @@ pub fn class_of(program: &Program, method: MethodNo) -> ClassNo
 }
 
 /// Whether a method is a constructor.
-pub fn is_ctor(program: &Program, method: MethodNo) -> bool
+pub fn is_ctor(program: &IndexedProgram, method: MethodNo) -> bool
     ensures { result ≡ ctor_of (method_at program.now method.0) }
 {
     match method_at(program, method) {
@@ -45,7 +46,7 @@ pub fn is_ctor(program: &Program, method: MethodNo) -> bool
 }
 
 /// Where a method's name stands.
-pub fn name_span(program: &Program, method: MethodNo) -> Span
+pub fn name_span(program: &IndexedProgram, method: MethodNo) -> Span
     ensures { result ≡ bodies.name_span program.now method.0 }
 {
     match method_at(program, method) {

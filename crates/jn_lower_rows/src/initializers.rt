@@ -14,6 +14,8 @@ use crate::setting::{INITIALIZER, Setting};
 use crate::standing::{Names, Place};
 use crate::statements::look;
 use jn_base::{ClassNo, FieldNo, NameNo, Row, Seq};
+use jn_index::fields;
+use jn_index::indexed::IndexedProgram;
 use jn_points::{Field, Program};
 use jn_scopes::members::is_static_field;
 use jn_trees::{Declarator, Expr, Member};
@@ -37,8 +39,8 @@ fn declares(field: &Field, name: NameNo, class: ClassNo) -> bool
     field.name.0 == name.0 && field.owner.0 == class.0
 }
 
-/// The field of the name that the class itself declares.
-fn declared_field(program: &Program, name: NameNo, class: ClassNo) -> Option<FieldNo>
+/// The field of the name that the class itself declares, by the program's lists.
+fn listed_field(program: &Program, name: NameNo, class: ClassNo) -> Option<FieldNo>
     requires few { Few program.now }
     ensures { MatchOption result (members.declared_field program.now class.0 name.0 class.0 ≡ None) (λ f. members.declared_field program.now class.0 name.0 class.0 ≡ Some f.0) }
 {
@@ -49,6 +51,21 @@ fn declared_field(program: &Program, name: NameNo, class: ClassNo) -> Option<Fie
         }
     }
     None
+}
+
+/// The field of the name that the class itself declares.
+fn declared_field(program: &IndexedProgram, name: NameNo, class: ClassNo) -> Option<FieldNo>
+    requires few { Few program.now }
+    ensures { MatchOption result (members.declared_field program.now class.0 name.0 class.0 ≡ None) (λ f. members.declared_field program.now class.0 name.0 class.0 ≡ Some f.0) }
+{
+    let lists = program.program();
+    match program.index() {
+        Some(index) => match fields::declared_field(lists, index, class, name, class.0) {
+            None => None,
+            Some(number) => Some(FieldNo(number)),
+        },
+        None => listed_field(lists, name, class),
+    }
 }
 
 /// The initializer of a field that isn't static; one of a static field is not lowered.

@@ -1,5 +1,5 @@
 // Row J6: a body that is too large.
-ghost use Rattle.std.specs.Prelude.{◌≡◌, ◌+◌, ◌++◌, ◌∷◌, ◌&&◌, [], ltb, length, map, IfOk, OnOk, MatchOption, nat_eq};
+ghost use Rattle.std.specs.Prelude.{◌≡◌, ◌+◌, ◌++◌, ◌∷◌, ◌&&◌, [], filter, ltb, length, map, IfOk, OnOk, MatchOption, nat_eq};
 ghost use Rattle.std.specs.HashSet as bag;
 ghost use Rattle.std.specs.Set.{distinct_count};
 ghost use Rattle.jn_base.specs.declared.code.Code.TheVariants.{J6};
@@ -15,7 +15,8 @@ use crate::entry::{class_of, is_ctor, name_span};
 use crate::row::push_if;
 use jn_base::{Code, FieldNo, MethodNo, RegNo, Row, Seq};
 use jn_env::keys::{is_ref_field, owner};
-use jn_points::{Body, Origin, PointKind, Program};
+use jn_index::indexed::IndexedProgram;
+use jn_points::{Body, Origin, PointKind};
 use std::alloc::{AllocError, Global};
 use std::collections::HashSet;
 
@@ -57,10 +58,10 @@ fn fact_of(kind: &PointKind) -> Option<Fact>
     }
 }
 
-fn is_fact(program: &Program, locals: u32, fact: Fact) -> bool
+fn is_fact(program: &IndexedProgram, locals: u32, fact: Fact) -> bool
     ensures { result ≡ (ltb fact.reg.0 locals && ref_field program.now fact.field.0) }
 {
-    fact.reg.0 < locals && is_ref_field(program, fact.field.0)
+    fact.reg.0 < locals && is_ref_field(program.program(), fact.field.0)
 }
 
 fn code_of(fact: Fact) -> u64
@@ -72,7 +73,7 @@ fn code_of(fact: Fact) -> u64
 
 fn add_fact(
     codes: &mut Vec<u64>,
-    program: &Program,
+    program: &IndexedProgram,
     locals: u32,
     kind: &PointKind,
 ) -> Result<(), AllocError>
@@ -86,7 +87,7 @@ fn add_fact(
     Ok(())
 }
 
-fn fact_codes(alloc: Global, program: &Program, body: &Body) -> Result<Vec<u64>, AllocError>
+fn fact_codes(alloc: Global, program: &IndexedProgram, body: &Body) -> Result<Vec<u64>, AllocError>
     ensures { IfOk result (λ codes. (codes.items ≡ map code (facts_of program.now body.now.locals body.now.points)) × AllNarrow (facts_of program.now body.now.locals body.now.points)) }
 {
     let mut codes = Vec::new(alloc);
@@ -112,33 +113,61 @@ fn distinct(alloc: Global, codes: &[u64]) -> Result<usize, AllocError>
 }
 
 /// How many reference fields are read, tested or written through `this`, a parameter or a local.
-fn fact_count(alloc: Global, program: &Program, body: &Body) -> Result<usize, AllocError>
+fn fact_count(alloc: Global, program: &IndexedProgram, body: &Body) -> Result<usize, AllocError>
     ensures { IfOk result (λ n. n ≡ length (spec.facts program.now body.now)) }
 {
     let codes = fact_codes(alloc, program, body)?;
     distinct(alloc, &codes)
 }
 
-fn is_own_field(program: &Program, method: MethodNo, field: u32) -> bool
+fn is_own_field(program: &IndexedProgram, method: MethodNo, field: u32) -> bool
     ensures { result ≡ is_own program.now (method_at program.now method.0) field }
 {
     is_ctor(program, method)
-        && owner(program, field) == class_of(program, method).0
-        && is_ref_field(program, field)
+        && owner(program.program(), field) == class_of(program, method).0
+        && is_ref_field(program.program(), field)
 }
 
-/// How many reference fields a constructor's class has.
-fn own_count(program: &Program, method: MethodNo) -> usize
+/// How many of the fields are reference fields of a constructor's class.
+fn count_own(program: &IndexedProgram, method: MethodNo, fields: &[u32]) -> usize
+    ensures { result ≡ length (filter (is_own program.now (method_at program.now method.0)) fields.now) }
+{
+    let mut count = 0;
+    for field in fields {
+        if is_own_field(program, method, *field) {
+            count += 1;
+        }
+    }
+    count
+}
+
+/// How many reference fields a constructor's class has, by the program's lists.
+fn listed_count(program: &IndexedProgram, method: MethodNo) -> usize
     requires few { Few program.now }
     ensures { result ≡ length (spec.own_fields program.now method.0) }
 {
     let mut count = 0;
-    for field in 0..program.fields.len() {
+    for field in 0..program.program().fields.len() {
         if is_own_field(program, method, field as u32) {
             count += 1;
         }
     }
     count
+}
+
+/// How many reference fields a constructor's class has.
+#[tactic(auto, using(crate::proofs::OwnFields::own_listed))]
+fn own_count(program: &IndexedProgram, method: MethodNo) -> usize
+    requires few { Few program.now }
+    ensures { result ≡ length (spec.own_fields program.now method.0) }
+{
+    match program.index() {
+        Some(index) => {
+            let class = class_of(program, method);
+            count_own(program, method, index.own_fields(class.0))
+        }
+        None => listed_count(program, method),
+    }
 }
 
 fn are_many(facts: usize, own: usize) -> bool
@@ -147,7 +176,7 @@ fn are_many(facts: usize, own: usize) -> bool
     facts > 4_096 || own > 4_096 - facts
 }
 
-fn is_too_large(alloc: Global, program: &Program, body: &Body) -> Result<bool, AllocError>
+fn is_too_large(alloc: Global, program: &IndexedProgram, body: &Body) -> Result<bool, AllocError>
     requires few { Few program.now }
     ensures { IfOk result (λ b. b ≡ spec.is_too_large program.now body.now) }
 {
@@ -163,7 +192,7 @@ fn is_too_large(alloc: Global, program: &Program, body: &Body) -> Result<bool, A
 /// No memory was found.
 pub fn limit_rows(
     alloc: Global,
-    program: &Program,
+    program: &IndexedProgram,
     body: &Body,
     rows: &mut Seq<Row>,
 ) -> Result<(), AllocError>

@@ -12,7 +12,8 @@ use crate::row::{push, push_if};
 use crate::setting::Setting;
 use jn_base::{ClassNo, Code, FieldNo, MethodNo, NameNo, Row, Seq, Span};
 use jn_known::{EQUALS, IS_EMPTY, LENGTH};
-use jn_points::{BaseType, Class, Field, Method, Program};
+use jn_index::indexed::IndexedProgram;
+use jn_points::{BaseType, Class, Field, Method};
 use jn_scopes::Context;
 use jn_scopes::members::{
     class_named, constructor_of, field_of, is_static, is_static_field, method_of, super_method,
@@ -21,28 +22,28 @@ use jn_scopes::types::is_string;
 use jn_trees::Identifier;
 use std::alloc::AllocError;
 
-fn field_at(program: &Program, field: FieldNo) -> Option<&Field>
+fn field_at(program: &IndexedProgram, field: FieldNo) -> Option<&Field>
     ensures { MatchOption result (field_info program.now field.0 ≡ None) (λ f. field_info program.now field.0 ≡ Some f.now) }
 {
-    program.fields.as_slice().get(field.0 as usize)
+    program.program().fields.as_slice().get(field.0 as usize)
 }
 
 /// The method of a number.
-pub fn method_at(program: &Program, method: MethodNo) -> Option<&Method>
+pub fn method_at(program: &IndexedProgram, method: MethodNo) -> Option<&Method>
     ensures { MatchOption result (method_at program.now method.0 ≡ None) (λ m. method_at program.now method.0 ≡ Some m.now) }
 {
-    program.methods.as_slice().get(method.0 as usize)
+    program.program().methods.as_slice().get(method.0 as usize)
 }
 
 /// The class of a number.
-pub fn class_at(program: &Program, class: ClassNo) -> Option<&Class>
+pub fn class_at(program: &IndexedProgram, class: ClassNo) -> Option<&Class>
     ensures { MatchOption result (class_info program.now class.0 ≡ None) (λ c. class_info program.now class.0 ≡ Some c.now) }
 {
-    program.classes.as_slice().get(class.0 as usize)
+    program.program().classes.as_slice().get(class.0 as usize)
 }
 
 /// Whether a field is final (JLS 8.3.1.2).
-pub fn is_final(program: &Program, field: FieldNo) -> bool
+pub fn is_final(program: &IndexedProgram, field: FieldNo) -> bool
     ensures { result ≡ spec.final_field (field_info program.now field.0) }
 {
     match field_at(program, field) {

@@ -14,7 +14,8 @@ use crate::names::base_rows;
 use crate::row::push_if;
 use crate::setting::Setting;
 use jn_base::{ClassNo, Code, RegNo, Row, Seq};
-use jn_points::{BaseType, Program};
+use jn_index::indexed::IndexedProgram;
+use jn_points::BaseType;
 use jn_scopes::lookup::local_in;
 use jn_scopes::members::class_named;
 use jn_scopes::{Context, Faults, Variable};
@@ -24,7 +25,7 @@ use std::alloc::{AllocError, Global};
 /// What is the same in a whole body.
 #[derive(Clone, Copy)]
 pub struct Place<'a> {
-    pub program: &'a Program,
+    pub program: &'a IndexedProgram,
     pub class: ClassNo,
     pub at: Setting,
     pub alloc: Global,
@@ -76,7 +77,7 @@ pub fn back_to(names: &mut Names, mark: Mark)
     names.faults.truncate(mark.faults);
 }
 
-fn add_faults(faults: &mut Vec<Row>, program: &Program, base: Base) -> Result<Faults, AllocError>
+fn add_faults(faults: &mut Vec<Row>, program: &IndexedProgram, base: Base) -> Result<Faults, AllocError>
     requires few { Few program.now }
     ensures { IfOk result (λ f. (faults.new.items ≡ faults.old.items ++ annotated.base_rows program.now base) × (f.from ≡ length faults.old.items) × (f.to ≡ length faults.new.items)) }
 {
