@@ -1,10 +1,9 @@
 -- The laws of inference as a system.
-use Rattle.std.proofs.Common.{◌≡◌, ℕ, zero, suc, ◌+◌, ◌/◌, ◌%◌, ◌<◌, ◌≤◌, ◌^◌, Bool, true, false, cond, List, [], ◌∷◌, ◌++◌, length, Option, Some, None, inl, inr, ⊎_elim, refl, sym, ap, ◌∙◌, subst, arith}
-use Rattle.std.specs.Prelude.{IsTrue, eqb, slice_get, slice_index, slice_index_or}
+use Rattle.std.proofs.Common.{◌≡◌, ℕ, zero, suc, ◌+◌, ◌/◌, ◌%◌, ◌<◌, ◌≤◌, Bool, true, false, cond, List, [], ◌∷◌, ◌++◌, length, Option, Some, None, inl, inr, ⊎_elim, refl, sym, ap, ◌∙◌, subst, arith}
+use Rattle.std.specs.Prelude.{IsTrue, eqb, slice_get, slice_index}
 use Rattle.jn_base.specs.declared.number.SlotNo.{SlotNo}
-use Rattle.jn_base.specs.declared.number.WordNo.{WordNo}
 use Rattle.jn_quals.specs.Qualifier.{Qualifier}
-use Rattle.jn_quals.specs.Order.{within, no_qual, null_only, settle, without_null}
+use Rattle.jn_quals.specs.Order.{within, null_only, settle, without_null}
 use Rattle.jn_quals.specs.Word.{unpack, pack}
 use Rattle.jn_quals.proofs.Order.{within_trans}
 use Rattle.jn_points.specs.declared.point.Operand.{Operand}
@@ -31,10 +30,10 @@ use Rattle.jn_contrib.specs.Sends.{body_sends, point_sends, sends_from}
 use Rattle.jn_analysis_law.specs.CoveredSend.{CoveredSend}
 use Rattle.jn_analysis_law.proofs.Sends.{sent_above}
 use Rattle.jn_analysis_law.proofs.Tables.{tables_above}
-use Rattle.jn_sigtable.specs.System.{IsLawful, Within, Covers, AgreesFor, bits_for}
+use Rattle.jn_sigtable.specs.System.{IsLawful, Within, Covers, bits_for}
 use Rattle.jn_inference_law.specs.Packing.{packed}
-use Rattle.jn_inference_law.proofs.PackingLaws.{SendsWithin, HasAll, SentBelow, packed_has, packed_sends, within_packed, packed_within, words_within, packed_small, packed_once, packed_named}
-use Rattle.jn_inference_law.specs.Reading.{has_word, body_reads}
+use Rattle.jn_inference_law.proofs.PackingLaws.{SendsWithin, SentBelow, packed_has, packed_sends, within_packed, packed_within, words_within, packed_small, packed_once, packed_named}
+use Rattle.jn_inference_law.specs.Reading.{body_reads}
 use Rattle.jn_inference_law.proofs.ReadingLaws.{sends_same, words_agree}
 use Rattle.jn_inference_law.specs.Inference.{least_table, least_sends, words_for, inference, IsInferable}
 

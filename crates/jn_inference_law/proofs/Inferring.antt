@@ -1,10 +1,10 @@
 -- Regular programs can be inferred.
-use Rattle.std.proofs.Common.{◌≡◌, ℕ, zero, suc, ◌-◌, ◌<◌, ◌≤◌, ◌^◌, List, [], ◌∷◌, length, Option, Some, None, refl, subst, sym, ap, arith}
+use Rattle.std.proofs.Common.{◌≡◌, ℕ, zero, suc, ◌-◌, ◌<◌, ◌^◌, List, [], ◌∷◌, length, Some, refl, subst, sym, ap, arith}
 use Rattle.std.specs.Prelude.{slice_get}
 use Rattle.jn_points.specs.declared.program.Body.{Body}
 use Rattle.jn_points.specs.declared.program.Program.{Program}
 use Rattle.jn_points.specs.Lookup.{body_at, points_of}
-use Rattle.jn_points.specs.Regular.{Regular, RegularBody}
+use Rattle.jn_points.specs.Regular.{Regular}
 use Rattle.jn_transfer.specs.Sized.{StaysInside}
 use Rattle.jn_inference_law.specs.Inference.{IsInferable}
 

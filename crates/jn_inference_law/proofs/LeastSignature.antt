@@ -1,9 +1,8 @@
 -- The least words hold the least signature.
-use Rattle.std.proofs.Common.{◌≡◌, ◌⊎◌, inl, inr, ⊎_elim, ℕ, zero, suc, ◌+◌, ◌-◌, ◌*◌, ◌/◌, ◌%◌, ◌^◌, ◌<◌, ◌≤◌, Bool, true, false, cond, List, [], ◌∷◌, length, map, get_or, Option, Some, None, refl, sym, ap, ◌∙◌, subst, arith}
+use Rattle.std.proofs.Common.{◌≡◌, ◌⊎◌, inl, inr, ⊎_elim, ℕ, zero, suc, ◌+◌, ◌*◌, ◌/◌, ◌%◌, ◌<◌, ◌≤◌, List, [], ◌∷◌, length, map, get_or, Some, None, refl, sym, ap, ◌∙◌, subst, arith}
 use Rattle.std.specs.Prelude.{IsTrue, replicate, slice_get, slice_index, slice_index_or, slice_set}
 use Rattle.std.specs.List.{range_with_len}
 use Rattle.std.proofs.lemmas.Bool.{cases_lt}
-use Rattle.std.proofs.lemmas.Nat.{mod_below}
 use Rattle.std.proofs.lemmas.List.{get_or_past}
 use Rattle.std.proofs.lemmas.List.FromFn.{get_or-map-range_with_len, length-map-range_with_len}
 use Rattle.jn_quals.specs.Qualifier.{Qualifier}
@@ -14,26 +13,23 @@ use Rattle.jn_points.specs.declared.point.Point.{Point}
 use Rattle.jn_points.specs.declared.program.Body.{Body}
 use Rattle.jn_points.specs.declared.program.SlotInfo.{SlotInfo}
 use Rattle.jn_points.specs.declared.program.Program.{Program}
-use Rattle.jn_points.specs.Lookup.{body_at, point_at, points_of}
+use Rattle.jn_points.specs.Lookup.{body_at, points_of}
 use Rattle.jn_sigs.specs.Packed.{ArePacked, at_slot, unpacked}
 use Rattle.jn_sigs.specs.Signature.{start_signature, starts_from}
 use Rattle.jn_sigs.proofs.Slots.{length-unpacked, unpacked-at}
-use Rattle.jn_env.specs.declared.env.Env.{Env}
 use Rattle.jn_env.specs.Order.{QualsWithin, Table, env_in}
 use Rattle.jn_env.proofs.Order.{quals_at, quals_refl}
-use Rattle.jn_transfer.specs.Contributions.{Closed, IsSent, kind_sends}
+use Rattle.jn_transfer.specs.Contributions.{IsSent}
 use Rattle.jn_transfer.specs.Least.{IsLeastTable, all_edges, flow_all}
 use Rattle.jn_transfer.specs.Transfer.{entry_env}
-use Rattle.jn_contrib.specs.Sends.{body_sends}
-use Rattle.jn_contrib.specs.SentBy.{IsSentBy}
 use Rattle.jn_contrib.proofs.Sent.{of_a_point, of_the_body}
-use Rattle.jn_sigtable.specs.System.{IsClosed as IsClosedWords, IsLeast, Within, Covers, bits_for, least}
+use Rattle.jn_sigtable.specs.System.{IsClosed as IsClosedWords, Within, Covers, bits_for, least}
 use Rattle.jn_sigtable.proofs.LeastWords.{least_is_least}
 use Rattle.jn_inference_law.specs.Packing.{packed}
-use Rattle.jn_inference_law.proofs.PackingLaws.{HasAll, SendsWithin, SentBelow, packed_has, packed_sends, packed_within, within_packed}
+use Rattle.jn_inference_law.proofs.PackingLaws.{SendsWithin, SentBelow, packed_has, packed_sends, packed_within, within_packed}
 use Rattle.jn_inference_law.specs.Inference.{inference, least_sends, least_table, words_for, IsInferable}
 use Rattle.jn_inference_law.proofs.InferenceLaws.{inference_lawful, least_is, least_sends_is, quals_within, sent_below, sent_inside}
-use Rattle.jn_transfer.specs.Closing.{IsClosed, IsNotBelowStart}
+use Rattle.jn_transfer.specs.Closing.{IsClosed}
 use Rattle.jn_inference_law.specs.Solution.{IsLeastSignature}
 use Rattle.jn_inference_law.proofs.WordsOf.{words_of, length-words_of, words_of-at, words_of-unpacked, word_within}
 

@@ -1,6 +1,6 @@
 -- That a program can be inferred is one fact.
-use Rattle.std.specs.Prelude.{ℕ, Option, Some, None, ◌<◌}
-use Rattle.std.specs.Coded.{×_prop, Unit-prop, le_prop}
+use Rattle.std.specs.Prelude.{ℕ, Option, Some, None}
+use Rattle.std.specs.Coded.{Unit-prop, le_prop}
 use Rattle.jn_base.specs.declared.number.PointNo.{PointNo}
 use Rattle.jn_points.specs.declared.program.Program.{Program}
 use Rattle.jn_transfer.specs.Sized.{Below}

@@ -1,21 +1,21 @@
 -- What packed words have: each send is within words exactly where its bits are.
-use Rattle.std.proofs.Common.{◌≡◌, ◌≢◌, ◌⊎◌, inl, inr, ⊎_elim, ℕ, zero, suc, ◌+◌, ◌-◌, ◌*◌, ◌/◌, ◌%◌, ◌^◌, ◌<◌, ◌≤◌, ◌==◌, Bool, true, false, not, ◌&&◌, ◌||◌, cond, nat_eq, if◌then◌else◌, List, [], ◌∷◌, length, sym, refl, ap, ◌∙◌, subst, arith, bit_or, eq-eqb, lit<, max}
+use Rattle.std.proofs.Common.{◌≡◌, ⊎_elim, ℕ, zero, suc, ◌+◌, ◌-◌, ◌*◌, ◌/◌, ◌%◌, ◌^◌, ◌<◌, ◌≤◌, ◌==◌, Bool, true, false, cond, nat_eq, if◌then◌else◌, List, [], ◌∷◌, sym, refl, ap, ◌∙◌, subst, arith, bit_or, eq-eqb, lit<, max}
 use mathlib.Core.Option.{some, some-injective, some-ne-none}
 use lib.ListN.{get_elem?}
-use Rattle.std.specs.Prelude.{IsTrue, slice_index}
+use Rattle.std.specs.Prelude.{IsTrue}
 use Rattle.std.specs.Int.{bit_at}
 use Rattle.std.proofs.lemmas.Nat.{or_lt, mod_below, shr-shr, pow_pos}
 use Rattle.std.proofs.lemmas.Nat.Bits.{bit_at_or, bit_at-lt, bit_at-zero, bit_at_above, bit_at_cat_low, bit_at_cat_high, same_from_bits}
 use Rattle.std.proofs.lemmas.Bool.{cases_lt, eqb-true}
 use Rattle.jn_base.specs.declared.number.WordNo.{WordNo}
-use Rattle.jn_quals.specs.Qualifier.{Qualifier, of_bits, to_bits}
+use Rattle.jn_quals.specs.Qualifier.{Qualifier, to_bits}
 use Rattle.jn_quals.specs.Order.{within}
 use Rattle.jn_quals.specs.Word.{unpack, pack}
 use Rattle.jn_quals.proofs.Order.{Included, included, within_of, within_refl}
-use Rattle.jn_quals.proofs.Words.{of-to_bits, to_bits_small, pack_small}
+use Rattle.jn_quals.proofs.Words.{to_bits_small, pack_small}
 use Rattle.jn_sigtable.specs.System.{Within, NamesOnce, bits_for}
-use Rattle.jn_sigtable.proofs.Bits.{within_trans, zero_within, or_within, within_or_l, within_or_r}
-use Rattle.jn_inference_law.specs.Packing.{word_no, add_bits, pack_onto, packed}
+use Rattle.jn_sigtable.proofs.Bits.{within_trans, zero_within}
+use Rattle.jn_inference_law.specs.Packing.{add_bits, pack_onto, packed}
 
 same_test : (a b : ℕ) → (a == b) ≡ true → a ≡ b
 same_test a b e = eqb-true a b e

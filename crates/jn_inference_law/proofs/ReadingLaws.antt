@@ -1,5 +1,5 @@
 -- A body's least table, and so what it sends, depends on the slots that it reads alone.
-use Rattle.std.proofs.Common.{◌≡◌, ℕ, zero, suc, ◌+◌, ◌/◌, ◌%◌, ◌<◌, ◌≤◌, Bool, true, false, cond, ◌||◌, eqb, List, [], ◌∷◌, ◌++◌, length, get_or, Option, Some, None, ⊎_elim, refl, sym, ap, ◌∙◌, arith, eq-eqb}
+use Rattle.std.proofs.Common.{◌≡◌, ℕ, zero, suc, ◌+◌, ◌/◌, ◌%◌, ◌<◌, ◌≤◌, true, cond, eqb, List, [], ◌∷◌, ◌++◌, length, Option, Some, None, ⊎_elim, refl, sym, ap, ◌∙◌, arith, eq-eqb}
 use Rattle.std.specs.Prelude.{slice_index, slice_index_or, slice_set, replicate}
 use Rattle.std.proofs.lemmas.Bool.{cases_lt, or_left, or_right}
 use Rattle.std.proofs.lemmas.List.{get_or_past}
@@ -14,7 +14,7 @@ use Rattle.jn_points.specs.declared.program.Field.{Field}
 use Rattle.jn_points.specs.declared.program.Method.{Method}
 use Rattle.jn_points.specs.declared.program.Program.{Program}
 use Rattle.jn_points.specs.Lookup.{ctor_of, field_info, flat_field, method_at, method_in, ref_field, regs_of, body_at, points_of, slots_of, static_of}
-use Rattle.jn_sigs.specs.Packed.{at_slot, unpacked}
+use Rattle.jn_sigs.specs.Packed.{unpacked}
 use Rattle.jn_sigs.specs.Signature.{slot_qual, slot_quals, field_qual_of, result_of, receiver_of}
 use Rattle.jn_sigs.proofs.Slots.{length-unpacked, unpacked-at}
 use Rattle.jn_env.specs.declared.env.Env.{Env}
@@ -22,13 +22,12 @@ use Rattle.jn_env.specs.Keys.{is_key, is_on, fact_keys, own_keys, no_bits}
 use Rattle.jn_env.specs.Order.{Table, env_in, qual_at}
 use Rattle.jn_transfer.specs.Contributions.{field_slot_of, receiver_slot_of, result_slot_of}
 use Rattle.jn_transfer.specs.Least.{all_edges, edges_from, flow_all, round, start_table}
-use Rattle.jn_transfer.specs.Transfer.{drop_all, entry_env, given_quals, less_null, pad_quals, put, put_to, this_qual, transfer}
+use Rattle.jn_transfer.specs.Transfer.{drop_all, given_quals, less_null, pad_quals, put, put_to, transfer}
 use Rattle.jn_fixpoint.specs.Climb.{rounds}
 use Rattle.jn_flow.specs.Size.{height}
 use Rattle.jn_contrib.specs.Sends.{body_sends}
 use Rattle.jn_inference_law.specs.Reading.{slot_list, slot_lists, given_reads, has_word, kind_reads, points_reads, body_reads}
-use Rattle.jn_inference_law.specs.Inference.{least_table, least_sends, words_for, inference}
-use Rattle.jn_sigtable.specs.System.{AgreesFor}
+use Rattle.jn_inference_law.specs.Inference.{least_table, least_sends, words_for}
 
 -- two signatures agree on these slots
 abbrev pub Agree : List Qualifier → List Qualifier → List ℕ → Type 0

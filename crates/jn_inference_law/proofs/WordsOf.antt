@@ -1,21 +1,21 @@
 -- The words of a list of qualifiers.
-use Rattle.std.proofs.Common.{◌≡◌, ◌⊎◌, inl, inr, ⊎_elim, ℕ, zero, suc, ◌+◌, ◌-◌, ◌*◌, ◌/◌, ◌%◌, ◌^◌, ◌<◌, ◌≤◌, List, length, map, get_or, refl, sym, ap, ◌∙◌, subst, lit<, arith}
-use Rattle.std.specs.Prelude.{IsTrue, slice_index}
+use Rattle.std.proofs.Common.{◌≡◌, ◌⊎◌, inl, inr, ⊎_elim, ℕ, zero, suc, ◌+◌, ◌*◌, ◌/◌, ◌%◌, ◌^◌, ◌<◌, ◌≤◌, List, length, map, get_or, refl, sym, ap, ◌∙◌, subst, lit<, arith}
+use Rattle.std.specs.Prelude.{IsTrue}
 use Rattle.std.specs.Int.{bit_at}
 use Rattle.std.specs.List.{range_with_len}
-use Rattle.std.proofs.lemmas.Bool.{cases_lt, cases_order}
-use Rattle.std.proofs.lemmas.Nat.{mod_below, shr-shr}
-use Rattle.std.proofs.lemmas.Nat.Bits.{bit_at_above, bit_at-lt}
-use Rattle.std.proofs.lemmas.List.{ext_get_or, get_or_past}
+use Rattle.std.proofs.lemmas.Bool.{cases_lt}
+use Rattle.std.proofs.lemmas.Nat.{mod_below}
+use Rattle.std.proofs.lemmas.Nat.Bits.{bit_at_above}
+use Rattle.std.proofs.lemmas.List.{ext_get_or}
 use Rattle.std.proofs.lemmas.List.FromFn.{get_or-map-range_with_len, length-map-range_with_len}
 use Rattle.jn_quals.specs.Qualifier.{Qualifier, of_bits, to_bits}
 use Rattle.jn_quals.specs.Order.{no_qual, within, join}
 use Rattle.jn_quals.specs.Word.{unpack, pack}
 use Rattle.jn_quals.proofs.Bits.{to-of_bits}
 use Rattle.jn_quals.proofs.Words.{pack_same, pack_other}
-use Rattle.jn_sigs.specs.Packed.{ArePacked, at_slot, unpacked}
+use Rattle.jn_sigs.specs.Packed.{at_slot, unpacked}
 use Rattle.jn_sigs.proofs.Slots.{length-unpacked, unpacked-at}
-use Rattle.jn_sigtable.specs.System.{Within, Covers}
+use Rattle.jn_sigtable.specs.System.{Within}
 use Rattle.jn_inference_law.specs.Inference.{words_for}
 use Rattle.jn_inference_law.proofs.PackingLaws.{packed_within, packed_high, word_bit}
 

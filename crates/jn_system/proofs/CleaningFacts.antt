@@ -1,5 +1,5 @@
 -- Clean words hold the same signature, with zero in each bit of no slot.
-use Rattle.std.proofs.Common.{◌≡◌, ℕ, zero, suc, ◌+◌, ◌-◌, ◌*◌, ◌/◌, ◌%◌, ◌^◌, ◌<◌, ◌≤◌, min, List, length, get_or, ⊎_elim, refl, sym, ap, ◌∙◌, subst, lit<, arith}
+use Rattle.std.proofs.Common.{◌≡◌, ℕ, ◌+◌, ◌-◌, ◌*◌, ◌/◌, ◌%◌, ◌^◌, ◌<◌, ◌≤◌, min, List, length, get_or, ⊎_elim, sym, ap, ◌∙◌, subst, lit<, arith}
 use Rattle.std.specs.Prelude.{slice_index}
 use Rattle.std.proofs.Math.Nat.{pow-le-pow_right}
 use Rattle.std.proofs.Math.Pow.{mod-mod-pow}
@@ -7,7 +7,7 @@ use Rattle.std.proofs.lemmas.Bool.{cases_lt}
 use Rattle.std.proofs.lemmas.Nat.{field_of, mod_below, pow_pos, shr_below}
 use Rattle.std.proofs.lemmas.List.{ext_get_or, get_or_past}
 use Rattle.std.proofs.lemmas.List.FromFn.{get_or-map-range_with_len, length-map-range_with_len}
-use Rattle.jn_quals.specs.Qualifier.{Qualifier, of_bits}
+use Rattle.jn_quals.specs.Qualifier.{of_bits}
 use Rattle.jn_quals.specs.Order.{no_qual}
 use Rattle.jn_quals.specs.Word.{unpack}
 use Rattle.jn_sigs.specs.Packed.{ArePacked, at_slot, unpacked}

@@ -1,5 +1,5 @@
 -- Rows of bodies, laid out and put together.
-use Rattle.std.proofs.Common.{◌≡◌, ◌≢◌, ⊎_elim, ℕ, zero, suc, ◌+◌, ◌<◌, ◌≤◌, List, [], ◌∷◌, ◌++◌, length, set, flat_map, Option, Some, None, refl, sym, ap, ◌∙◌, subst, arith, append_assoc, append-nil}
+use Rattle.std.proofs.Common.{◌≡◌, ◌≢◌, ℕ, zero, suc, ◌+◌, ◌<◌, List, [], ◌∷◌, ◌++◌, length, set, flat_map, Option, Some, None, refl, sym, ap, ◌∙◌, subst, arith, append_assoc, append-nil}
 use Rattle.std.specs.Prelude.{slice_get, slice_index_or}
 use mathlib.Core.Logic.{dite}
 use native.Mathlib.Decide.{ℕ_discrete}
@@ -11,7 +11,7 @@ use Rattle.jn_points.specs.Members.{below}
 use Rattle.jn_diag.specs.Order.{IsOrderOf}
 use Rattle.jn_env.specs.Order.{Table}
 use Rattle.jn_transfer.specs.Least.{IsLeastTable}
-use Rattle.jn_transfer.specs.Rules.{Breaks, body_rows, bodies_rows, pairs_rows}
+use Rattle.jn_transfer.specs.Rules.{body_rows, bodies_rows, pairs_rows}
 use Rattle.jn_flow.proofs.Climbing.{least_is_table, least_unique}
 use Rattle.jn_inference_law.specs.Inference.{IsInferable, least_table}
 use Rattle.jn_inference_law.proofs.InferenceLaws.{least_is}

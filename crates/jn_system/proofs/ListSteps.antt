@@ -1,5 +1,5 @@
 -- Steps of the code that lists the words that a body reads.
-use Rattle.std.proofs.Common.{◌≡◌, ℕ, zero, suc, ◌+◌, ◌/◌, ◌<◌, ◌≤◌, ◌==◌, Bool, true, false, ◌||◌, ◌&&◌, eqb, ltb, List, [], ◌∷◌, ◌++◌, length, drop, Option, Some, None, refl, sym, ap, ◌∙◌, subst, arith, eqb-true, eq-eqb}
+use Rattle.std.proofs.Common.{◌≡◌, ℕ, zero, suc, ◌+◌, ◌/◌, ◌<◌, ◌≤◌, ◌==◌, Bool, true, false, ◌||◌, ◌&&◌, ltb, List, [], ◌∷◌, ◌++◌, length, drop, Option, refl, sym, ap, ◌∙◌, subst, arith, eqb-true, eq-eqb}
 use Rattle.std.specs.Prelude.{slice_get, slice_index_or}
 use Rattle.std.proofs.lemmas.List.{at_drop_more}
 use Rattle.std.proofs.lemmas.Bool.{and_parts, and_from, ltb-true, lt-ltb}
@@ -10,7 +10,6 @@ use Rattle.jn_points.specs.declared.program.Body.{Body}
 use Rattle.jn_points.specs.declared.program.Program.{Program}
 use Rattle.jn_points.specs.Lookup.{body_at, method_in, points_of}
 use Rattle.jn_sigtable.specs.System.{IsReadList, WordsOnce, lists_word}
-use Rattle.jn_inference_law.specs.Packing.{word_no}
 use Rattle.jn_inference_law.specs.Inference.{inference, words_for}
 use Rattle.jn_inference_law.specs.Reading.{slot_list, slot_lists, given_reads, has_word, kind_reads, points_reads, body_reads}
 use Rattle.jn_system.specs.ReadLists.{Adds}

@@ -30,7 +30,7 @@ pub fn solve_sig<R: Threads + Sync, G: Gate + Sync>(
     ensures { IfOk result (λ sig. IsLeastSignature program.now sig) }
 {
     let first = start(alloc, program)?;
-    if program.bodies.is_empty() {
+    if program.bodies.len() == 0 {
         return Ok(first);
     }
     let system = Nullness::new(program);
