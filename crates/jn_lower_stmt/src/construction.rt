@@ -22,7 +22,8 @@ use crate::state::{BodyContext, State, evaluate_all, evaluate_outside};
 use jn_base::{ClassNo, FieldNo, MethodNo, NameNo, OutOfMemory, RegNo, Seq, Span};
 use jn_lower_expr::emitter::Emitter;
 use jn_lower_expr::values::step;
-use jn_points::{Field, Operand, PointKind, Program};
+use jn_index::indexed::IndexedProgram;
+use jn_points::{Field, Operand, PointKind};
 use jn_scopes::forms::span_of;
 use jn_scopes::members::{constructor_of, is_static_field, parent_or_object};
 use jn_trees::{Declarator, Expr, Member, Stmt};
@@ -134,11 +135,11 @@ fn declares(field: &Field, name: NameNo, class: ClassNo) -> bool
 }
 
 /// The field of the name that the class declares itself.
-fn declared_field(program: &Program, class: ClassNo, name: NameNo) -> Option<FieldNo>
+fn declared_field(program: &IndexedProgram, class: ClassNo, name: NameNo) -> Option<FieldNo>
     requires few { Few program.now }
     ensures { MatchOption result (members.declared_field program.now class.0 name.0 class.0 ≡ None) (λ f. members.declared_field program.now class.0 name.0 class.0 ≡ Some f.0) }
 {
-    let fields = program.fields.as_slice();
+    let fields = program.program().fields.as_slice();
     for (number, field) in fields.iter().enumerate() {
         if declares(field, name, class) {
             return Some(FieldNo(number as u32));
