@@ -4,7 +4,6 @@ use Rattle.jn_places.specs.Placed.{PlacedStatements, PlacedBlock, PlacedExpressi
 use Rattle.jn_places.specs.PlacedView.{placed_init, placed_local, placed_optional, placed_statement, placed_statements, placed_type_use, placed_view, placed_views}
 use Rattle.jn_places.proofs.Rows.{statements_placed}
 use Rattle.jn_lowering.specs.Locals.{State}
-use Rattle.jn_base.specs.declared.place.Span.{Span}
 use Rattle.jn_trees.specs.declared.statement.LocalModifier.{LocalModifier}
 use Rattle.jn_lowering.specs.Bases.{type_of}
 use Rattle.jn_lowering.specs.Annotations.{base_rows}
