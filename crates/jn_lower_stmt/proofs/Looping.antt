@@ -26,6 +26,10 @@ use Rattle.jn_lower_stmt.specs.Stating.{GivesIn, Made, Steps, StepsOn, TestsIn, 
 use Rattle.jn_lower_stmt.proofs.Labelling.{Reached, each_adds}
 use Rattle.jn_lower_stmt.proofs.Stepping.{Extends, PutBack, extends_on, local_extends}
 
+-- what is worked out of a state, of one that is the same
+pub in_state : {A : Type 0} (f : State → A) (x : A) (s u : State) → x ≡ f s → s ≡ u → x ≡ f u
+in_state f x s u is same = is ∙ ap f same
+
 -- a point behind that gives a value to a temporary
 pub given_at : (P : Program) (first : ℕ) (st s1 s2 : State) (t : Temporaries) (before : Fragment) (base : BaseType) (span : Span) (kind : RegNo → PointKind) (dst : RegNo) (e0 e1 e2 : Emitter) →
     s1 ≡ with_temporaries st t → dst.0 ≡ first + (take_one s1.temporaries base).number → s2 ≡ with_temporaries s1 (take_one s1.temporaries base).behind → Runs before e0 e1 → Runs (does span (kind dst)) e1 e2 →
