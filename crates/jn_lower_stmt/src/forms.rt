@@ -212,10 +212,7 @@ fn each_loop(
     let fixed = has_final(modifiers);
     each::item(reg, at, base, kind.bound, c, e, s)?;
     s.declare_each(c, base, name.name, kind, fixed)?;
-    let inner = Ways {
-        out: end,
-        again,
-    };
+    let inner = Ways { out: end, again };
     statement(body, c, e, s, inner)?;
     place(e, again)?;
     each::moves_on(reg, at, c, e, s)?;

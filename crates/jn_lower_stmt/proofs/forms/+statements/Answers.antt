@@ -1,10 +1,9 @@
-use Rattle.std.proofs.Common.{◌≡◌, ◌∙◌, ap, sym, subst, drop, length, ◌+◌, List, [], None, arith}
+use Rattle.std.proofs.Common.{◌≡◌, sym, subst, drop, length, ◌+◌, List, [], None, arith}
 use Rattle.jn_trees.specs.declared.statement.Stmt.{Stmt}
 use Rattle.jn_places.specs.Placed.{PlacedStatements, PlacedBlock, PlacedExpression, PlacedForEach, PlacedReturn, PlacedLocalStatement}
 use Rattle.jn_places.specs.PlacedView.{placed_init, placed_local, placed_optional, placed_statement, placed_statements, placed_type_use, placed_view, placed_views}
 use Rattle.jn_places.proofs.Rows.{statements_placed}
 use Rattle.jn_lowering.specs.Locals.{State}
-use Rattle.jn_base.specs.declared.place.Span.{Span}
 use Rattle.jn_trees.specs.declared.statement.LocalModifier.{LocalModifier}
 use Rattle.jn_lowering.specs.Bases.{type_of}
 use Rattle.jn_lowering.specs.Annotations.{base_rows}
@@ -13,7 +12,7 @@ use Rattle.jn_lowering.specs.Locals.{has_final}
 use Rattle.jn_lowering.specs.Statements.{Step, each_start, effects, fresh, init, local_bound, local_type, optional_test}
 use Rattle.jn_scopes.specs.Views.{bound_of}
 use Rattle.jn_lower_stmt.specs.Views.{rows_of}
-use Rattle.jn_lower_stmt.proofs.Looping.{each_done, each_same}
+use Rattle.jn_lower_stmt.proofs.Looping.{each_done, each_same, in_state}
 use Rattle.jn_lower_stmt.specs.Stating.{Steps, StepsOn, TestsIn, all_stated, moved_to, stated, tested, valued}
 use Rattle.jn_lower_stmt.proofs.Piecing.{both_stepped}
 use Rattle.jn_lower_stmt.proofs.Stepping.{any_way, block_done, do_done, effects_extends, for_done, if_done, if_else_done, init_extends, nothing_stepped, put_back, statement_extends, statements_extends, statements_hold, statements_left, no_statements_left, while_done}
@@ -142,9 +141,9 @@ each_loop-returns t c = λ span.
     subst (λ (x : Step). Steps x c.args.ways.out.0 c.args.ways.again.0 c.args.e.now c.place-4.new.e c.end.new.self)
     (each_same c.args.c.now.program.now c.args.c.now.class.0 c.args.c.now.first f c.args.s.now v c.args.name.name.0 c.in_ok-at.at v.operand.span c.in_ok-reg.reg.0 (length c.args.s.now.locals) c.type_in-base.result (type_of c.args.c.now.program.now c.args.c.now.class.0 c.args.s.now.scope (placed_view c.args.array.now))
     c.kind_of-kind.result.base (local_type c.args.c.now.program.now c.args.c.now.class.0 c.args.c.now.first c.args.modifiers.now (placed_type_use c.args.type_use.now)) (bound_of c.kind_of-kind.result.bound) (local_bound c.args.c.now.program.now c.args.c.now.class.0 c.args.c.now.first c.args.modifiers.now (placed_type_use c.args.type_use.now)) c.has_final-fixed.result (has_final c.args.modifiers.now) (rows_of c.kind_of-kind.result.fault) (base_rows c.args.c.now.program.now c.args.type_use.now.base)
-    (c.in_ok-at.ensures.0 ∙ ap (λ (s : State). (valued c.args.c.now s (placed_view c.args.array.now)).operand.span) begun)
-    (c.in_ok-reg.ensures ∙ ap (λ (s : State). length s.locals) begun)
-    (c.type_in-base.ensures ∙ ap (λ (s : State). type_of c.args.c.now.program.now c.args.c.now.class.0 s.scope (placed_view c.args.array.now)) begun)
+    (in_state (λ (s : State). (valued c.args.c.now s (placed_view c.args.array.now)).operand.span) c.in_ok-at.at _ (fresh c.args.s.now) c.in_ok-at.ensures.0 begun)
+    (in_state (λ (s : State). length s.locals) c.in_ok-reg.reg.0 _ (fresh c.args.s.now) c.in_ok-reg.ensures begun)
+    (in_state (λ (s : State). type_of c.args.c.now.program.now c.args.c.now.class.0 s.scope (placed_view c.args.array.now)) c.type_in-base.result _ (fresh c.args.s.now) c.type_in-base.ensures begun)
     c.kind_of-kind.ensures.base c.kind_of-kind.ensures.bound c.has_final-fixed.ensures c.kind_of-kind.ensures.fault)
     (each_done c.args.c.now.program.now c.args.c.now.class.0 c.args.c.now.first f c.args.s.now v c.args.name.name.0 c.in_ok-at.at c.in_ok-reg.reg.0 c.type_in-base.result c.kind_of-kind.result.base (bound_of c.kind_of-kind.result.bound) c.has_final-fixed.result (rows_of c.kind_of-kind.result.fault)
     c.start_with.new.s c.goes_on.new.s c.item.new.s c.declare_each.new.self c.statement.new.s c.moves_on.new.s c.end.new.self c.args.ways.out.0 c.args.ways.again.0 c.in_ok-test.test.0 c.in_ok-inside.inside.0 c.in_ok-again.again.0 c.in_ok-end.end.0
