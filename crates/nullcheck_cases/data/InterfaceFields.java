@@ -1,0 +1,6 @@
+interface I {
+  int x = 1;
+  public static final boolean y = true, z = false;
+  int f();
+}
+class A { boolean g() { return I.x == 1 && I.y; } }
