@@ -20,7 +20,7 @@ use Rattle.jn_first_form.specs.Facts.{FormFacts}
 use Rattle.jn_first_form.specs.Form.{IsForm}
 use Rattle.jn_front.specs.declared.source.SourceFile.{SourceFile}
 use Rattle.jn_front.specs.Phases.{AreParsed, FrontRows}
-use Rattle.nullcheck_top.specs.Report.{AreDeclared, IsFormOf, PhaseRows, ProgramOf, Report, Refused, Checked, RulesGive, IsPhase, IsCheckedBy, IsReport, table_rows}
+use Rattle.nullcheck_top.specs.Report.{AreDeclared, AreLowered, IsFormOf, LoweringRows, PhaseRows, ProgramOf, Report, Refused, Checked, RulesGive, TableRows, IsPhase, IsCheckedBy, IsReport, lowering_rows, table_rows}
 use Rattle.nullcheck_top.proofs.Inside.{stays}
 use Rattle.nullcheck_top.proofs.RuleRows.{breaks_once}
 
@@ -69,7 +69,7 @@ module _ (fronted : (files : List SourceFile) (rows others : List Row) → Front
 
   one_program : (files : List SourceFile) (P Q : Program) → ProgramOf files P → ProgramOf files Q → P ≡ Q
   one_program files P Q x y =
-      let same = (parsed files x.names y.names x.tokens y.tokens x.trees y.trees x.declared.parsed y.declared.parsed).1 in
+      let same = (parsed files x.names y.names x.tokens y.tokens x.trees y.trees x.lowered.declared.parsed y.lowered.declared.parsed).1 in
       one_form y.tokens P Q (subst (λ tss. IsFormOf tss P) same x.form) y.form
 
   one_rules : (P : Program) (rows others : List Row) → RulesGive P rows → RulesGive P others → rows ≡ others
@@ -77,21 +77,45 @@ module _ (fronted : (files : List SourceFile) (rows others : List Row) → Front
       let same = breaks_once P (start_signature P) (table P (start_signature P)) x.broken y.broken x.breaks y.breaks in
       ordered y.broken rows others (subst (λ broken. IsOrderOf broken rows) same x.order) y.order
 
-  -- files have the rows of one phase
-  one_rows : (files : List SourceFile) (rows others : List Row) → PhaseRows files rows → PhaseRows files others → rows ≡ others
-  one_rows files rows others (inl x) (inl y) = fronted files rows others x y
-  one_rows files rows others (inl x) (inr y) = absurd (apart files y.names y.tokens y.trees rows y.parsed x)
-  one_rows files rows others (inr x) (inl y) = absurd (apart files x.names x.tokens x.trees others x.parsed y)
-  one_rows files rows others (inr x) (inr y) =
+  -- rows of classes and members, and of bodies
+  table_twice : (files : List SourceFile) (rows others : List Row) → TableRows files rows → TableRows files others → rows ≡ others
+  table_twice files rows others x y =
       let same = (parsed files x.names y.names x.tokens y.tokens x.trees y.trees x.parsed y.parsed).2 in
       x.are ∙ ap table_rows same ∙ sym y.are
 
-  -- or none
-  declared_apart : (files : List SourceFile) (names : List (List ℕ)) (tokens : List (List Token)) (trees : List PlacedFile) (rows : List Row) → AreDeclared files names tokens trees → PhaseRows files rows → ⊥
-  declared_apart files names tokens trees rows x (inl y) = apart files names tokens trees rows x.parsed y
-  declared_apart files names tokens trees rows x (inr y) =
+  lowering_twice : (files : List SourceFile) (rows others : List Row) → LoweringRows files rows → LoweringRows files others → rows ≡ others
+  lowering_twice files rows others x y =
+      let same = (parsed files x.names y.names x.tokens y.tokens x.trees y.trees x.declared.parsed y.declared.parsed).2 in
+      x.are ∙ ap lowering_rows same ∙ sym y.are
+
+  -- where classes and members have a row, bodies aren't looked at
+  table_apart : (files : List SourceFile) (names : List (List ℕ)) (tokens : List (List Token)) (trees : List PlacedFile) (rows : List Row) → AreDeclared files names tokens trees → TableRows files rows → ⊥
+  table_apart files names tokens trees rows x y =
       let same = (parsed files y.names names y.tokens tokens y.trees trees y.parsed x.parsed).2 in
       y.some (y.are ∙ ap table_rows same ∙ x.rowless)
+
+  lowering_apart : (files : List SourceFile) (names : List (List ℕ)) (tokens : List (List Token)) (trees : List PlacedFile) (rows : List Row) → AreLowered files names tokens trees → LoweringRows files rows → ⊥
+  lowering_apart files names tokens trees rows x y =
+      let same = (parsed files y.names names y.tokens tokens y.trees trees y.declared.parsed x.declared.parsed).2 in
+      y.some (y.are ∙ ap lowering_rows same ∙ x.rowless)
+
+  -- files have the rows of one phase
+  one_rows : (files : List SourceFile) (rows others : List Row) → PhaseRows files rows → PhaseRows files others → rows ≡ others
+  one_rows files rows others (inl x) (inl y) = fronted files rows others x y
+  one_rows files rows others (inl x) (inr (inl y)) = absurd (apart files y.names y.tokens y.trees rows y.parsed x)
+  one_rows files rows others (inl x) (inr (inr y)) = absurd (apart files y.names y.tokens y.trees rows y.declared.parsed x)
+  one_rows files rows others (inr (inl x)) (inl y) = absurd (apart files x.names x.tokens x.trees others x.parsed y)
+  one_rows files rows others (inr (inl x)) (inr (inl y)) = table_twice files rows others x y
+  one_rows files rows others (inr (inl x)) (inr (inr y)) = absurd (table_apart files y.names y.tokens y.trees rows y.declared x)
+  one_rows files rows others (inr (inr x)) (inl y) = absurd (apart files x.names x.tokens x.trees others x.declared.parsed y)
+  one_rows files rows others (inr (inr x)) (inr (inl y)) = absurd (table_apart files x.names x.tokens x.trees others x.declared y)
+  one_rows files rows others (inr (inr x)) (inr (inr y)) = lowering_twice files rows others x y
+
+  -- or none
+  lowered_apart : (files : List SourceFile) (names : List (List ℕ)) (tokens : List (List Token)) (trees : List PlacedFile) (rows : List Row) → AreLowered files names tokens trees → PhaseRows files rows → ⊥
+  lowered_apart files names tokens trees rows x (inl y) = apart files names tokens trees rows x.declared.parsed y
+  lowered_apart files names tokens trees rows x (inr (inl y)) = table_apart files names tokens trees rows x.declared y
+  lowered_apart files names tokens trees rows x (inr (inr y)) = lowering_apart files names tokens trees rows x y
 
   one_phase : (files : List SourceFile) (rows others : List Row) → IsPhase files rows → IsPhase files others → rows ≡ others
   one_phase files rows others x y =
@@ -100,14 +124,14 @@ module _ (fronted : (files : List SourceFile) (rows others : List Row) → Front
 
   one_refused : (files : List SourceFile) (rows others : List Row) → IsReport files (Refused rows) → IsReport files (Refused others) → rows ≡ others
   one_refused files rows others (inl x) (inl y) = one_phase files rows others x y
-  one_refused files rows others (inl x) (inr y) = absurd (declared_apart files y.names y.tokens y.trees x.broken y.declared x.phase)
-  one_refused files rows others (inr x) (inl y) = absurd (declared_apart files x.names x.tokens x.trees y.broken x.declared y.phase)
+  one_refused files rows others (inl x) (inr y) = absurd (lowered_apart files y.names y.tokens y.trees x.broken y.lowered x.phase)
+  one_refused files rows others (inr x) (inl y) = absurd (lowered_apart files x.names x.tokens x.trees y.broken x.lowered y.phase)
   one_refused files rows others (inr x) (inr y) = x.row ∙ sym y.row
 
   never_both : (files : List SourceFile) (rows others : List Row) → IsReport files (Refused rows) → IsCheckedBy files others → ⊥
-  never_both files rows others (inl x) y = declared_apart files y.of_files.names y.of_files.tokens y.of_files.trees x.broken y.of_files.declared x.phase
+  never_both files rows others (inl x) y = lowered_apart files y.of_files.names y.of_files.tokens y.of_files.trees x.broken y.of_files.lowered x.phase
   never_both files rows others (inr x) y =
-      let same = (parsed files y.of_files.names x.names y.of_files.tokens x.tokens y.of_files.trees x.trees y.of_files.declared.parsed x.declared.parsed).1 in
+      let same = (parsed files y.of_files.names x.names y.of_files.tokens x.tokens y.of_files.trees x.trees y.of_files.lowered.declared.parsed x.lowered.declared.parsed).1 in
       x.no_form y.P (subst (λ tss. IsFormOf tss y.P) same y.of_files.form)
 
   pub one_report : (files : List SourceFile) (one other : Report) → IsReport files one → IsReport files other → one ≡ other

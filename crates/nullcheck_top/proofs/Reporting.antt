@@ -22,7 +22,7 @@ use Rattle.jn_front.specs.Files.{names_of, files_of_reads, AreReads, IsReadOf, m
 use Rattle.jn_front.specs.Limits.{row_at, large_row, passing_row, size_rows, limit_rows, counted, all_limit}
 use Rattle.nullcheck_top.specs.declared.status.Status.{Status}
 use Rattle.nullcheck_top.specs.declared.status.Status.TheVariants.{Refused as RefusedStatus}
-use Rattle.nullcheck_top.specs.Report.{AreDeclared, PhaseRows, ProgramOf, IsFormOf, RulesGive, Refused, Checked, status_of_rows, unbuilt_row}
+use Rattle.nullcheck_top.specs.Report.{AreLowered, PhaseRows, ProgramOf, IsFormOf, RulesGive, Refused, Checked, status_of_rows, unbuilt_row}
 use Rattle.nullcheck_top.specs.Shown.{shown, row_of, row_of_file, verdict_of_rows}
 use Rattle.nullcheck_top.specs.Answer.{IsReportOfFiles}
 
@@ -163,10 +163,10 @@ too_many_report files names name status rows verdict named many is ends lines en
 pub refused_shown : (files : List SourceFile) (sorted : List Row) (rows : List RowText) (verdict : Option Verdict) → rows ≡ map (row_of files) sorted → verdict ≡ Some (RefusedVerdict (length sorted)) → plain_shown rows verdict ≡ shown files (Refused sorted)
 refused_shown files sorted rows verdict lines end = ap (λ rs. plain_shown rs verdict) lines ∙ ap (λ v. plain_shown (map (row_of files) sorted) v) end
 
-pub unbuilt_report : (files : List SourceFile) (names : List (List ℕ)) (tokens : List (List Token)) (trees : List PlacedFile) (status : Status) (bytes : List ℕ) → AreDeclared files names tokens trees → ((P : Program) → IsFormOf tokens P → ⊥) → status ≡ RefusedStatus → bytes ≡ shown files (Refused (unbuilt_row ∷ [])) → IsReportOfFiles files status bytes
-unbuilt_report files names tokens trees status bytes declared none ends is = record {
+pub unbuilt_report : (files : List SourceFile) (names : List (List ℕ)) (tokens : List (List Token)) (trees : List PlacedFile) (status : Status) (bytes : List ℕ) → AreLowered files names tokens trees → ((P : Program) → IsFormOf tokens P → ⊥) → status ≡ RefusedStatus → bytes ≡ shown files (Refused (unbuilt_row ∷ [])) → IsReportOfFiles files status bytes
+unbuilt_report files names tokens trees status bytes lowered none ends is = record {
   report = Refused (unbuilt_row ∷ []);
-  is = inr (record { names = names; tokens = tokens; trees = trees; declared = declared; no_form = none; row = refl });
+  is = inr (record { names = names; tokens = tokens; trees = trees; lowered = lowered; no_form = none; row = refl });
   ends = ends;
   shows = is;
 }

@@ -23,7 +23,7 @@ use Rattle.jn_front.specs.Limits.{row_at, counted, large_row, passing_row, size_
 use Rattle.jn_front.specs.Phases.{AreParsed, ArePlaced, FaultRows, SyntaxRows, LexedFrom}
 use Rattle.nullcheck_top.specs.declared.status.Status.{Status}
 use Rattle.nullcheck_top.specs.declared.status.Status.TheVariants.{Refused as RefusedStatus}
-use Rattle.nullcheck_top.specs.Report.{AreDeclared, Refused, IsFormOf, table_rows, unbuilt_row}
+use Rattle.nullcheck_top.specs.Report.{AreDeclared, AreLowered, Refused, IsFormOf, lowering_rows, table_rows, unbuilt_row}
 use Rattle.nullcheck_top.specs.Shown.{shown, row_of, row_of_file}
 use Rattle.nullcheck_top.specs.Answer.{IsReportOfFiles}
 use Rattle.nullcheck_top.proofs.Reporting.{refused_report, unbuilt_report, same_shown, read_names, sorted_at_start}
@@ -157,12 +157,20 @@ pub table_made : (reads : List SourceRead) (names : List (List ℕ)) (tokens : L
 table_made reads names tokens trees rows (Ok r) parsed are some ends shows =
     let files = files_of_reads reads in
     refused_report files files rows shows.0 r.0 (plain_shown r.1.rows r.1.verdict)
-    (inr (record { names = names; tokens = tokens; trees = trees; parsed = parsed; are = are; some = λ none. some (sym are ∙ none) })) shows.1 ends shows.2 refl
+    (inr (inl (record { names = names; tokens = tokens; trees = trees; parsed = parsed; are = are; some = λ none. some (sym are ∙ none) }))) shows.1 ends shows.2 refl
 table_made reads names tokens trees rows (Err e) parsed are some ends shows = tt
 
-pub unbuilt_made : (files : List SourceFile) (names : List (List ℕ)) (tokens : List (List Token)) (trees : List PlacedFile) (made : Made) → AreDeclared files names tokens trees → ((P : Program) → IsFormOf tokens P → ⊥) → EndsRefused made → IfOk made (λ r. plain_shown r.1.rows r.1.verdict ≡ shown files (Refused (unbuilt_row ∷ []))) → IfOk made (λ r. IsReportOfFiles files r.0 (plain_shown r.1.rows r.1.verdict))
-unbuilt_made files names tokens trees (Ok r) declared none ends shows = unbuilt_report files names tokens trees r.0 (plain_shown r.1.rows r.1.verdict) declared none ends shows
-unbuilt_made files names tokens trees (Err e) declared none ends shows = tt
+-- rows of bodies and of what stands around them
+pub lowering_made : (reads : List SourceRead) (names : List (List ℕ)) (tokens : List (List Token)) (trees : List PlacedFile) (rows : List Row) (made : Made) → AreDeclared (files_of_reads reads) names tokens trees → rows ≡ lowering_rows trees → (lowering_rows trees ≡ [] → ⊥) → EndsRefused made → ShowsSorted reads rows made → IfOk made (λ r. IsReportOfFiles (files_of_reads reads) r.0 (plain_shown r.1.rows r.1.verdict))
+lowering_made reads names tokens trees rows (Ok r) declared are some ends shows =
+    let files = files_of_reads reads in
+    refused_report files files rows shows.0 r.0 (plain_shown r.1.rows r.1.verdict)
+    (inr (inr (record { names = names; tokens = tokens; trees = trees; declared = declared; are = are; some = λ none. some (sym are ∙ none) }))) shows.1 ends shows.2 refl
+lowering_made reads names tokens trees rows (Err e) declared are some ends shows = tt
+
+pub unbuilt_made : (files : List SourceFile) (names : List (List ℕ)) (tokens : List (List Token)) (trees : List PlacedFile) (made : Made) → AreLowered files names tokens trees → ((P : Program) → IsFormOf tokens P → ⊥) → EndsRefused made → IfOk made (λ r. plain_shown r.1.rows r.1.verdict ≡ shown files (Refused (unbuilt_row ∷ []))) → IfOk made (λ r. IsReportOfFiles files r.0 (plain_shown r.1.rows r.1.verdict))
+unbuilt_made files names tokens trees (Ok r) lowered none ends shows = unbuilt_report files names tokens trees r.0 (plain_shown r.1.rows r.1.verdict) lowered none ends shows
+unbuilt_made files names tokens trees (Err e) lowered none ends shows = tt
 
 -- ---- a row of what was read
 

@@ -7,6 +7,7 @@ use Rattle.jn_places.specs.Placed.{PlacedFile}
 use Rattle.jn_classtable.specs.Extract.{heads}
 use Rattle.jn_classtable.specs.Rows.{t_rows}
 use Rattle.jn_points.specs.declared.program.Program.{Program}
+use Rattle.jn_program_law.specs.FileProgram.{j_rows}
 use Rattle.jn_first_form.specs.Form.{IsForm}
 use Rattle.nullcheck_top.specs.declared.status.Status.{Status}
 use Rattle.nullcheck_top.specs.declared.status.Status.TheVariants.{Ok as Accepted, Rejected as RejectedStatus, Refused as RefusedStatus}
@@ -22,10 +23,19 @@ use Rattle.jn_front.specs.Phases.{AreParsed, FrontRows}
 abbrev pub table_rows : List PlacedFile → List Row
 table_rows trees = t_rows (heads trees)
 
+-- the rows J1 to J6 of files with these trees: a name, a type or a form has no meaning in the subset, or a body passes a limit (JLS 8, 6 to 15)
+abbrev pub lowering_rows : List PlacedFile → List Row
+lowering_rows trees = j_rows trees
+
 -- files with trees, whose classes and members have no row
 pub record AreDeclared (files : List SourceFile) (names : List (List ℕ)) (tokens : List (List Token)) (trees : List PlacedFile) : Type 0 where
   pub parsed : AreParsed files names tokens trees
   pub rowless : table_rows trees ≡ []
+
+-- all that they say has a meaning, so that each body has points
+pub record AreLowered (files : List SourceFile) (names : List (List ℕ)) (tokens : List (List Token)) (trees : List PlacedFile) : Type 0 where
+  pub declared : AreDeclared files names tokens trees
+  pub rowless : lowering_rows trees ≡ []
 
 -- the tokens are those of one file, whose tree is spelled as one of the first form, and this is its program
 abbrev pub IsFormOf : List (List Token) → Program → Type 0
@@ -33,12 +43,12 @@ IsFormOf [] P = ⊥
 IsFormOf (tokens ∷ []) P = IsForm tokens P
 IsFormOf (tokens ∷ others ∷ more) P = ⊥
 
--- the program of files whose classes and members have no row; so far it is that of one file of the first form
+-- the program of files that have no row so far; as yet it is that of one file of the first form
 pub record ProgramOf (files : List SourceFile) (P : Program) : Type 0 where
   pub names : List (List ℕ)
   pub tokens : List (List Token)
   pub trees : List PlacedFile
-  pub declared : AreDeclared files names tokens trees
+  pub lowered : AreLowered files names tokens trees
   pub form : IsFormOf tokens P
 
 -- files are refused by the rows of the first phase that has any, or checked by the rules, whose rows are in order
@@ -68,9 +78,18 @@ pub record TableRows (files : List SourceFile) (rows : List Row) : Type 0 where
   pub are : rows ≡ table_rows trees
   pub some : rows ≡ [] → ⊥
 
--- the rows of the first phase that has any: limits, tokens, syntax, classes and members
+-- the rows of bodies and of what stands around them, of files whose classes and members have none
+pub record LoweringRows (files : List SourceFile) (rows : List Row) : Type 0 where
+  pub names : List (List ℕ)
+  pub tokens : List (List Token)
+  pub trees : List PlacedFile
+  pub declared : AreDeclared files names tokens trees
+  pub are : rows ≡ lowering_rows trees
+  pub some : rows ≡ [] → ⊥
+
+-- the rows of the first phase that has any: limits, tokens, syntax, classes and members, bodies
 abbrev pub PhaseRows : List SourceFile → List Row → Type 0
-PhaseRows files rows = FrontRows files rows ⊎ TableRows files rows
+PhaseRows files rows = FrontRows files rows ⊎ (TableRows files rows ⊎ LoweringRows files rows)
 
 -- they are in order
 pub record IsPhase (files : List SourceFile) (rows : List Row) : Type 0 where
@@ -83,7 +102,7 @@ pub record IsUnbuilt (files : List SourceFile) (rows : List Row) : Type 0 where
   pub names : List (List ℕ)
   pub tokens : List (List Token)
   pub trees : List PlacedFile
-  pub declared : AreDeclared files names tokens trees
+  pub lowered : AreLowered files names tokens trees
   pub no_form : (P : Program) → IsFormOf tokens P → ⊥
   pub row : rows ≡ unbuilt_row ∷ []
 

@@ -2,6 +2,7 @@
 ghost use Rattle.std.specs.Prelude.{◌≡◌, ◌<◌, ◌≤◌, ◌∷◌, [], List, ℕ, true, false, length, map, Some, IfOk, IfSome, IfNone, string_bytes};
 ghost use Rattle.jn_base.specs.declared.place.Row.{Row as SpecRow};
 ghost use Rattle.jn_points.specs.declared.program.Program.{Program as SpecProgram};
+ghost use Rattle.jn_classtable.specs.Extract.{heads};
 ghost use Rattle.jn_places.specs.Placed.{PlacedFile};
 ghost use Rattle.jn_places.specs.PlacedView.{placed_file};
 ghost use Rattle.jn_diag.specs.Order.{IsOrderOf};
@@ -13,7 +14,7 @@ ghost use Rattle.jn_front.specs.Files.{files_of_reads, names_of, AreReads};
 ghost use Rattle.jn_reporters.specs.Reports.{plain_shown};
 ghost use Rattle.nullcheck_top.specs.Answer.{IsReportOfFiles};
 ghost use Rattle.jn_front.specs.Phases.{AreParsed};
-ghost use Rattle.nullcheck_top.specs.Report.{AreDeclared, IsFormOf, ProgramOf, Refused, status_of_rows, unbuilt_row};
+ghost use Rattle.nullcheck_top.specs.Report.{AreDeclared, AreLowered, IsFormOf, ProgramOf, Refused, status_of_rows, unbuilt_row};
 ghost use Rattle.nullcheck_top.specs.Shown.{shown, verdict_of_rows};
 
 use crate::rules::broken_rules;
@@ -25,6 +26,7 @@ use jn_diag::{Verdict, order, row_text};
 use jn_first_form::form::recognize;
 use jn_front::{SourceRead, lex_all, limit_rows, parse_all, row_at};
 use jn_points::Program;
+use jn_program::lowering::lower;
 use jn_reporters::{Plain, Reporter};
 use jn_trees::{FileTree, Token};
 use std::alloc::Global;
@@ -74,14 +76,14 @@ fn program_of(alloc: Global, tokens: &[Seq<Token>]) -> Result<Option<Program>, O
     }
 }
 
-/// The status and the report of files with these tokens, whose classes and members have no row.
+/// The status and the report of files with these tokens, which have no row so far.
 fn report_program(
     alloc: Global,
     reads: &[SourceRead],
     tokens: &[Seq<Token>],
 ) -> Result<(Status, Plain), OutOfMemory>
     requires fit { ReadsFit reads.now }
-    requires declared { (names : List (List ℕ)) × (trees : List PlacedFile) × AreDeclared (files_of_reads reads.now) names tokens.now trees }
+    requires lowered { (names : List (List ℕ)) × (trees : List PlacedFile) × AreLowered (files_of_reads reads.now) names tokens.now trees }
     ensures { IfOk result (λ r. IsReportOfFiles (files_of_reads reads.now) r.0 (plain_shown r.1.rows r.1.verdict)) }
 {
     match program_of(alloc, tokens)? {
@@ -90,7 +92,30 @@ fn report_program(
     }
 }
 
-fn forget(_table: ClassTable) {}
+fn forget(_program: Program) {}
+
+/// The status and the report of files with these tokens and trees, whose classes and members have no row.
+fn report_table(
+    alloc: Global,
+    reads: &[SourceRead],
+    tokens: &[Seq<Token>],
+    trees: &[FileTree],
+    table: ClassTable,
+) -> Result<(Status, Plain), OutOfMemory>
+    requires fit { ReadsFit reads.now }
+    requires declared { (names : List (List ℕ)) × AreDeclared (files_of_reads reads.now) names tokens.now (map placed_file trees.now) }
+    requires table { table ≡ heads (map placed_file trees.now) }
+    ensures { IfOk result (λ r. IsReportOfFiles (files_of_reads reads.now) r.0 (plain_shown r.1.rows r.1.verdict)) }
+{
+    match lower(alloc, table, trees) {
+        Ok(program) => {
+            forget(program);
+            return report_program(alloc, reads, tokens);
+        }
+        Err(Fail::Refused(rows)) => return refused(alloc, reads, rows.into_vec()),
+        Err(Fail::OutOfMemory) => return Err(OutOfMemory),
+    }
+}
 
 /// The status and the report of files with these tokens and trees.
 fn report_trees(
@@ -104,10 +129,7 @@ fn report_trees(
     ensures { IfOk result (λ r. IsReportOfFiles (files_of_reads reads.now) r.0 (plain_shown r.1.rows r.1.verdict)) }
 {
     match build(alloc, trees) {
-        Ok(table) => {
-            forget(table);
-            return report_program(alloc, reads, tokens);
-        }
+        Ok(table) => return report_table(alloc, reads, tokens, trees, table),
         Err(Fail::Refused(rows)) => return refused(alloc, reads, rows.into_vec()),
         Err(Fail::OutOfMemory) => return Err(OutOfMemory),
     }

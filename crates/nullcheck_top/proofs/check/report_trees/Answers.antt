@@ -5,8 +5,8 @@ use Rattle.jn_classtable.specs.Built.{IsRefusedFor}
 use Rattle.nullcheck_top.proofs.WholeFiles.{table_made}
 use Rattle.nullcheck_top.proofs.check.report_trees.Goals as goal
 
-pub report_program-requires-clause-declared : goal.report_program-requires-clause-declared
-report_program-requires-clause-declared c = (c.requires.parsed.0, map placed_file c.args.trees.now, record { parsed = c.requires.parsed.1; rowless = c.in-Ok.ensures.built.1 })
+pub report_table-requires-clause-declared : goal.report_table-requires-clause-declared
+report_table-requires-clause-declared c = (c.requires.parsed.0, record { parsed = c.requires.parsed.1; rowless = c.in-Ok.ensures.built.1 })
 
 pub returns-in-Err-Refused : goal.returns-in-Err-Refused
 returns-in-Err-Refused c =
