@@ -13,6 +13,7 @@ class A {
     new A(y, x.m).foo();
     k = new A[y].size;
     (b ? x : y).foo();
+    k = y ? 1 : 2;
     (y instanceof A).foo();
     (y == x).foo();
     (-y).foo();

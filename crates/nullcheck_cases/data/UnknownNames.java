@@ -4,6 +4,9 @@ class A {
     y = k;
     int i = z + A + k;
     y++;
+    A = null;
+    System = null;
+    if (c) ; else k = d;
     y += i;
     Object o = System;
     (A).a = null;

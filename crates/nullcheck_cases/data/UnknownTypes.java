@@ -11,5 +11,7 @@ class A {
     System s;
     s = null;
     o = new System();
+    final H h = null;
+    h = null;
   }
 }
