@@ -1,5 +1,8 @@
 -- Numbers of bodies.
-use Rattle.std.proofs.Common.{◌≡◌, ◌∙◌, suc, List, [], ◌∷◌, ◌++◌, Option, Some, None, refl, sym, ap, append_assoc, append-nil}
+use Rattle.std.proofs.Common.{◌≡◌, ◌∙◌, suc, false, ◌||◌, List, [], ◌∷◌, ◌++◌, Option, Some, None, refl, sym, ap, append_assoc, append-nil}
+use Rattle.jn_places.specs.Placed.{PlacedMember, PlacedFieldMember, PlacedMethod, PlacedConstructor}
+use Rattle.jn_classtable.specs.declared.head.MethodHead.{MethodHead}
+use Rattle.jn_classtable.specs.Extract.{has_constructor, method_heads}
 use Rattle.jn_lowering.specs.Bodies as spec
 use Rattle.jn_program_law.specs.FileSources.{BodyTree, numbered}
 use Rattle.jn_lower_stmt.specs.declared.body.Source.{Source}
@@ -23,3 +26,9 @@ gathered_sources n (Some t ∷ ts) =
 pub sources_more : (ss : List Source) (s : Source) → sources_of (ss ++ s ∷ []) ≡ sources_of ss ++ source_of s ∷ []
 sources_more [] s = refl
 sources_more (x ∷ ss) s = ap (λ us. source_of x ∷ us) (sources_more ss s)
+
+-- one more member
+pub constructor_more : (x : PlacedMember) (ms : List MethodHead) → has_constructor (method_heads false x ++ ms) ≡ (has_constructor (method_heads false x) || has_constructor ms)
+constructor_more (PlacedFieldMember marks u d ds span) ms = refl
+constructor_more (PlacedMethod marks result n receiver ps body span) ms = refl
+constructor_more (PlacedConstructor marks n ps body span) ms = refl

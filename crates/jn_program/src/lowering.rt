@@ -11,6 +11,7 @@ ghost use Rattle.jn_program_law.specs.FileSources.{sources};
 ghost use Rattle.jn_program_law.specs.FileProgram.{j_rows};
 ghost use Rattle.jn_scopes.specs.Views.{Few};
 
+use crate::rows::{is_empty, push_all};
 use crate::sources::sources_of_files;
 use jn_base::{Fail, OutOfMemory, Row, Seq};
 use jn_classtable::ClassTable;
@@ -52,19 +53,10 @@ fn rows_of(
         source.members,
         &mut rows,
     )?;
-    if rows.len() == 0 {
+    if is_empty(&rows) {
         limit_rows(alloc, program, body, &mut rows)?;
     }
     Ok(rows)
-}
-
-fn push_all(rows: &mut Seq<Row>, more: &[Row]) -> Result<(), OutOfMemory>
-    ensures { OnOk result (rows.new ≡ rows.old ++ more.now) }
-{
-    for row in more {
-        rows.push(*row)?;
-    }
-    Ok(())
 }
 
 /// Adds a body, and its rows.
@@ -160,7 +152,7 @@ pub fn lower(
     match lowered(alloc, &table, files) {
         Err(_) => Err(Fail::OutOfMemory),
         Ok(Lowered { bodies, rows }) => {
-            if rows.len() == 0 {
+            if is_empty(&rows) {
                 Ok(with_bodies(table.into_program(), bodies))
             } else {
                 Err(Fail::Refused(rows))
