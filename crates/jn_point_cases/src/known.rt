@@ -1,91 +1,98 @@
-// What numbers stand for: the names, classes, fields and methods of a program, and the places of its bytes.
+// What numbers stand for: names of classes, fields and methods, and types.
 use crate::page::Page;
-use jn_base::{ClassNo, FieldNo, MethodNo, NameNo, Span, place_of};
-use jn_points::{BaseType, Elem, Program};
+use jn_base::{ClassNo, FieldNo, MethodNo, NameNo};
+use jn_points::{BaseType, Class, Elem, Field, Method, Program};
 use jn_trees::Names;
 
-/// The most bytes of a text here.
+/// The most that is counted here.
 pub const LIMIT: usize = 1000000;
 
-/// The program that is shown, and the text and names that it comes from.
+pub fn write_name(page: &mut Page, names: &Names, name: NameNo) {
+    if (name.0 as usize) < names.len() {
+        page.push(names.text(name));
+    }
+}
+
+/// The name of a class, or Object's.
+fn class_name(classes: &[Class], class: ClassNo) -> NameNo {
+    match classes.get(class.0 as usize) {
+        Some(class) => class.name,
+        None => NameNo(0),
+    }
+}
+
+fn field_name(fields: &[Field], field: FieldNo) -> NameNo {
+    match fields.get(field.0 as usize) {
+        Some(field) => field.name,
+        None => NameNo(0),
+    }
+}
+
+/// What is shown of a method: its class, its name, and how many parameters it has.
 #[derive(Clone, Copy)]
-pub struct Known<'k> {
-    pub names: &'k Names,
-    pub program: &'k Program,
-    pub text: &'k [u8],
+struct Head {
+    owner: ClassNo,
+    name: NameNo,
+    arity: u32,
 }
 
-pub fn write_name(page: &mut Page, known: Known, name: NameNo) {
-    if (name.0 as usize) < known.names.len() {
-        page.push(known.names.text(name));
+fn head_of(methods: &[Method], method: MethodNo) -> Head {
+    match methods.get(method.0 as usize) {
+        Some(method) => Head {
+            owner: method.owner,
+            name: method.name,
+            arity: method.params.len().min(LIMIT) as u32,
+        },
+        None => Head {
+            owner: ClassNo(0),
+            name: NameNo(0),
+            arity: 0,
+        },
     }
 }
 
-pub fn write_class(page: &mut Page, known: Known, class: ClassNo) {
-    if let Some(class) = known.program.classes.as_slice().get(class.0 as usize) {
-        write_name(page, known, class.name);
-    }
+pub fn write_class(page: &mut Page, names: &Names, program: &Program, class: ClassNo) {
+    write_name(page, names, class_name(program.classes.as_slice(), class))
 }
 
-pub fn write_field(page: &mut Page, known: Known, field: FieldNo) {
-    if let Some(field) = known.program.fields.as_slice().get(field.0 as usize) {
-        write_name(page, known, field.name);
-    }
+pub fn write_field(page: &mut Page, names: &Names, program: &Program, field: FieldNo) {
+    write_name(page, names, field_name(program.fields.as_slice(), field))
 }
 
 /// Its class, its name and how many parameters it has, as in `A.f/2`.
-pub fn write_method(page: &mut Page, known: Known, method: MethodNo) {
-    if let Some(method) = known.program.methods.as_slice().get(method.0 as usize) {
-        write_class(page, known, method.owner);
-        page.push(".");
-        write_name(page, known, method.name);
-        page.push("/");
-        page.number(method.params.len().min(LIMIT) as u32);
-    }
+pub fn write_method(page: &mut Page, names: &Names, program: &Program, method: MethodNo) {
+    let head = head_of(program.methods.as_slice(), method);
+    write_class(page, names, program, head.owner);
+    page.push(".");
+    write_name(page, names, head.name);
+    page.push("/");
+    page.number(head.arity)
 }
 
-fn write_element(page: &mut Page, known: Known, element: Elem) {
+fn write_element(page: &mut Page, names: &Names, program: &Program, element: Elem) {
     match element {
         Elem::Int => page.push("int"),
         Elem::Bool => page.push("boolean"),
-        Elem::Ref(class) => write_class(page, known, class),
+        Elem::Ref(class) => write_class(page, names, program, class),
     }
 }
 
+fn nullness_word(nullable: bool) -> &'static str {
+    if nullable { "@Nullable " } else { "" }
+}
+
 /// A type as it is written in Java.
-pub fn write_base(page: &mut Page, known: Known, base: BaseType) {
+pub fn write_base(page: &mut Page, names: &Names, program: &Program, base: BaseType) {
     match base {
         BaseType::Int => page.push("int"),
         BaseType::Bool => page.push("boolean"),
         BaseType::Void => page.push("void"),
         BaseType::Null => page.push("null"),
-        BaseType::Ref(class) => write_class(page, known, class),
+        BaseType::Ref(class) => write_class(page, names, program, class),
         BaseType::Array(element, nullable) => {
-            page.push(if nullable { "@Nullable " } else { "" });
-            write_element(page, known, element);
+            page.push(nullness_word(nullable));
+            write_element(page, names, program, element);
             page.push("[]")
         }
     }
-}
-
-/// The line and the column of a byte.
-fn line_and_column(text: &[u8], span: Span, byte: u32) -> (u32, u32) {
-    let from = byte.min(text.len().min(LIMIT) as u32);
-    let place = place_of(text, &Span { from, ..span });
-    (place.line, place.col)
-}
-
-/// Where it stands, from its first character to the one behind its last.
-pub fn write_span(page: &mut Page, known: Known, span: Span) {
-    let (line, column) = line_and_column(known.text, span, span.from);
-    let (last_line, last_column) = line_and_column(known.text, span, span.to);
-    page.number(line);
-    page.push(":");
-    page.number(column);
-    page.push("-");
-    if last_line != line {
-        page.number(last_line);
-        page.push(":");
-    }
-    page.number(last_column)
 }

@@ -1,6 +1,6 @@
 // What becomes of a file: the bodies of its program, or its rows.
 use crate::body::program_text;
-use crate::known::{Known, LIMIT};
+use crate::known::LIMIT;
 use crate::page::Page;
 use jn_base::{Fail, FileNo, OutOfMemory, Row, Seq};
 use jn_classtable::build;
@@ -55,14 +55,7 @@ fn files_text(
     files: &[FileTree],
 ) -> Result<String, OutOfMemory> {
     match lowered(alloc, files) {
-        Ok(program) => program_text(
-            alloc,
-            Known {
-                names,
-                program: &program,
-                text,
-            },
-        ),
+        Ok(program) => program_text(alloc, names, &program, text),
         Err(fail) => fail_text(alloc, fail),
     }
 }

@@ -25,6 +25,15 @@ impl Page {
         }
     }
 
+    pub fn alloc(&self) -> Global {
+        self.alloc
+    }
+
+    /// No memory was found for something that is to be shown.
+    pub fn fail(&mut self) {
+        self.is_short = true;
+    }
+
     pub fn number(&mut self, value: u32) {
         match format!(in self.alloc; "{value}") {
             Ok(text) => self.push(text.as_str()),

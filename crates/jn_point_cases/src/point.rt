@@ -1,8 +1,6 @@
-// A point as text.
-use crate::known::{Known, write_span};
-use crate::page::Page;
-use crate::parts::{Part, bound_word, write_parts};
-use jn_points::{Operator, Point, PointKind, StrOperation};
+// A point part by part.
+use crate::line::{Line, Part};
+use jn_points::{Operator, PointKind, StrOperation};
 
 fn operator_word(operator: Operator) -> &'static str {
     match operator {
@@ -28,191 +26,154 @@ fn operation_word(operation: StrOperation) -> &'static str {
     }
 }
 
-fn word_of(flag: bool, yes: &'static str, no: &'static str) -> &'static str {
-    if flag { yes } else { no }
+fn word_of(flag: bool, yes: &'static str, no: &'static str) -> Part {
+    Part::Word(if flag { yes } else { no })
 }
 
 /// What calculates with values, or moves one.
-fn write_value_kind(page: &mut Page, known: Known, kind: &PointKind) {
+fn put_calculation(line: &mut Line, kind: &PointKind) {
     match kind {
-        PointKind::Const { dst, value } => write_parts(
-            page,
-            known,
-            "Const",
-            &[Part::To(*dst), Part::Constant(*value)],
-        ),
-        PointKind::Move { dst, from, bound } => write_parts(
-            page,
-            known,
-            "Move",
-            &[
-                Part::To(*dst),
-                Part::Value(*from),
-                Part::Word(bound_word(*bound)),
-            ],
-        ),
-        PointKind::Unary { dst, negate, of } => write_parts(
-            page,
-            known,
-            "Unary",
-            &[
-                Part::To(*dst),
-                Part::Word(word_of(*negate, "minus", "plus")),
-                Part::Value(*of),
-            ],
-        ),
+        PointKind::Const { dst, value } => line.put(&[
+            Part::Word("Const"),
+            Part::To(*dst),
+            Part::Constant(*value),
+        ]),
+        PointKind::Move { dst, from, bound } => {
+            line.put(&[Part::Word("Move"), Part::To(*dst), Part::Value(*from)]);
+            line.bound(*bound)
+        }
+        PointKind::Unary { dst, negate, of } => line.put(&[
+            Part::Word("Unary"),
+            Part::To(*dst),
+            word_of(*negate, "minus", "plus"),
+            Part::Value(*of),
+        ]),
         PointKind::Binary {
             dst,
             operator,
             left,
             right,
-        } => write_parts(
-            page,
-            known,
-            "Binary",
-            &[
-                Part::To(*dst),
-                Part::Word(operator_word(*operator)),
-                Part::Value(*left),
-                Part::Value(*right),
-            ],
-        ),
-        PointKind::Concat { dst, left, right } => write_parts(
-            page,
-            known,
-            "Concat",
-            &[Part::To(*dst), Part::Value(*left), Part::Value(*right)],
-        ),
+        } => line.put(&[
+            Part::Word("Binary"),
+            Part::To(*dst),
+            Part::Word(operator_word(*operator)),
+            Part::Value(*left),
+            Part::Value(*right),
+        ]),
+        PointKind::Concat { dst, left, right } => line.put(&[
+            Part::Word("Concat"),
+            Part::To(*dst),
+            Part::Value(*left),
+            Part::Value(*right),
+        ]),
         PointKind::SameRef {
             dst,
             equal,
             left,
             right,
-        } => write_parts(
-            page,
-            known,
-            "SameRef",
-            &[
-                Part::To(*dst),
-                Part::Word(word_of(*equal, "equal", "other")),
-                Part::Value(*left),
-                Part::Value(*right),
-            ],
-        ),
-        PointKind::Cast { dst, of, class } => write_parts(
-            page,
-            known,
-            "Cast",
-            &[Part::To(*dst), Part::Value(*of), Part::Class(*class)],
-        ),
+        } => line.put(&[
+            Part::Word("SameRef"),
+            Part::To(*dst),
+            word_of(*equal, "equal", "other"),
+            Part::Value(*left),
+            Part::Value(*right),
+        ]),
+        PointKind::Cast { dst, of, class } => line.put(&[
+            Part::Word("Cast"),
+            Part::To(*dst),
+            Part::Value(*of),
+            Part::Class(*class),
+        ]),
         _ => {}
     }
 }
 
-/// What reads and writes fields and elements, and makes arrays.
-fn write_heap_kind(page: &mut Page, known: Known, kind: &PointKind) {
+/// What reads and writes fields.
+fn put_field(line: &mut Line, kind: &PointKind) {
     match kind {
-        PointKind::FieldRead { dst, object, field } => write_parts(
-            page,
-            known,
-            "FieldRead",
-            &[Part::To(*dst), Part::Value(*object), Part::Field(*field)],
-        ),
+        PointKind::FieldRead { dst, object, field } => line.put(&[
+            Part::Word("FieldRead"),
+            Part::To(*dst),
+            Part::Value(*object),
+            Part::Field(*field),
+        ]),
         PointKind::FieldWrite {
             object,
             field,
             value,
-        } => write_parts(
-            page,
-            known,
-            "FieldWrite",
-            &[
-                Part::Value(*object),
-                Part::Field(*field),
-                Part::Value(*value),
-            ],
-        ),
-        PointKind::StaticRead { dst, field } => write_parts(
-            page,
-            known,
-            "StaticRead",
-            &[Part::To(*dst), Part::Field(*field)],
-        ),
-        PointKind::StaticWrite { field, value } => write_parts(
-            page,
-            known,
-            "StaticWrite",
-            &[Part::Field(*field), Part::Value(*value)],
-        ),
-        PointKind::ElemRead { dst, array, index } => write_parts(
-            page,
-            known,
-            "ElemRead",
-            &[Part::To(*dst), Part::Value(*array), Part::Value(*index)],
-        ),
+        } => line.put(&[
+            Part::Word("FieldWrite"),
+            Part::Value(*object),
+            Part::Field(*field),
+            Part::Value(*value),
+        ]),
+        PointKind::StaticRead { dst, field } => line.put(&[
+            Part::Word("StaticRead"),
+            Part::To(*dst),
+            Part::Field(*field),
+        ]),
+        PointKind::StaticWrite { field, value } => line.put(&[
+            Part::Word("StaticWrite"),
+            Part::Field(*field),
+            Part::Value(*value),
+        ]),
+        _ => put_calculation(line, kind),
+    }
+}
+
+/// What makes arrays, and reads and writes elements.
+fn put_array(line: &mut Line, kind: &PointKind) {
+    match kind {
+        PointKind::ElemRead { dst, array, index } => line.put(&[
+            Part::Word("ElemRead"),
+            Part::To(*dst),
+            Part::Value(*array),
+            Part::Value(*index),
+        ]),
         PointKind::ElemWrite {
             array,
             index,
             value,
-        } => write_parts(
-            page,
-            known,
-            "ElemWrite",
-            &[
-                Part::Value(*array),
-                Part::Value(*index),
-                Part::Value(*value),
-            ],
-        ),
-        PointKind::ArrayLen { dst, array } => write_parts(
-            page,
-            known,
-            "ArrayLen",
-            &[Part::To(*dst), Part::Value(*array)],
-        ),
-        PointKind::NewArray { dst, base, length } => write_parts(
-            page,
-            known,
-            "NewArray",
-            &[Part::To(*dst), Part::Base(*base), Part::Value(*length)],
-        ),
-        PointKind::ArrayOf { dst, base, values } => write_parts(
-            page,
-            known,
-            "ArrayOf",
-            &[
-                Part::To(*dst),
-                Part::Base(*base),
-                Part::Values(values.as_slice()),
-            ],
-        ),
-        _ => write_value_kind(page, known, kind),
+        } => line.put(&[
+            Part::Word("ElemWrite"),
+            Part::Value(*array),
+            Part::Value(*index),
+            Part::Value(*value),
+        ]),
+        PointKind::ArrayLen { dst, array } => line.put(&[
+            Part::Word("ArrayLen"),
+            Part::To(*dst),
+            Part::Value(*array),
+        ]),
+        PointKind::NewArray { dst, base, length } => line.put(&[
+            Part::Word("NewArray"),
+            Part::To(*dst),
+            Part::Base(*base),
+            Part::Value(*length),
+        ]),
+        PointKind::ArrayOf { dst, base, values } => {
+            line.put(&[Part::Word("ArrayOf"), Part::To(*dst), Part::Base(*base)]);
+            line.values(values.as_slice())
+        }
+        _ => put_field(line, kind),
     }
 }
 
 /// What calls and prints.
-fn write_call_kind(page: &mut Page, known: Known, kind: &PointKind) {
+fn put_call(line: &mut Line, kind: &PointKind) {
     match kind {
-        PointKind::New { dst, ctor, args } => write_parts(
-            page,
-            known,
-            "New",
-            &[
-                Part::To(*dst),
+        PointKind::New { dst, ctor, args } => {
+            line.put(&[Part::Word("New"), Part::To(*dst), Part::Method(*ctor)]);
+            line.values(args.as_slice())
+        }
+        PointKind::CtorCall { ctor, args, own } => {
+            line.put(&[
+                Part::Word("CtorCall"),
+                word_of(*own, "this", "super"),
                 Part::Method(*ctor),
-                Part::Values(args.as_slice()),
-            ],
-        ),
-        PointKind::CtorCall { ctor, args, own } => write_parts(
-            page,
-            known,
-            "CtorCall",
-            &[
-                Part::Method(*ctor),
-                Part::Values(args.as_slice()),
-                Part::Word(word_of(*own, "this", "super")),
-            ],
-        ),
+            ]);
+            line.values(args.as_slice())
+        }
         PointKind::Call {
             dst,
             method,
@@ -220,40 +181,31 @@ fn write_call_kind(page: &mut Page, known: Known, kind: &PointKind) {
             direct,
             args,
         } => {
-            page.push("Call");
-            match dst {
-                Some(dst) => write_parts(page, known, "", &[Part::To(*dst)]),
-                None => page.push(" -"),
-            }
-            write_parts(
-                page,
-                known,
-                "",
-                &[
-                    Part::Method(*method),
-                    Part::Optional(*receiver),
-                    Part::Word(word_of(*direct, "direct", "selected")),
-                    Part::Values(args.as_slice()),
-                ],
-            )
+            line.put(&[Part::Word("Call")]);
+            line.to(*dst);
+            line.put(&[
+                word_of(*direct, "direct", "selected"),
+                Part::Method(*method),
+            ]);
+            line.value(*receiver);
+            line.values(args.as_slice())
         }
-        PointKind::StrOp { dst, op, of, other } => write_parts(
-            page,
-            known,
-            "StrOp",
-            &[
+        PointKind::StrOp { dst, op, of, other } => {
+            line.put(&[
+                Part::Word("StrOp"),
                 Part::To(*dst),
                 Part::Word(operation_word(*op)),
                 Part::Value(*of),
-                Part::Optional(*other),
-            ],
-        ),
-        PointKind::Print { of } => write_parts(page, known, "Print", &[Part::Value(*of)]),
-        _ => write_heap_kind(page, known, kind),
+            ]);
+            line.value(*other)
+        }
+        PointKind::Print { of } => line.put(&[Part::Word("Print"), Part::Value(*of)]),
+        _ => put_array(line, kind),
     }
 }
 
-fn write_kind(page: &mut Page, known: Known, kind: &PointKind) {
+/// The kind's name, and what it has.
+pub fn put_kind(line: &mut Line, kind: &PointKind) {
     match kind {
         PointKind::TestInst {
             of,
@@ -261,51 +213,36 @@ fn write_kind(page: &mut Page, known: Known, kind: &PointKind) {
             origin,
             yes,
             no,
-        } => write_parts(
-            page,
-            known,
-            "TestInst",
-            &[
+        } => {
+            line.put(&[
+                Part::Word("TestInst"),
                 Part::Value(*of),
                 Part::Class(*class),
-                Part::Origin(*origin),
-                Part::Target(*yes),
-                Part::Target(*no),
-            ],
-        ),
+            ]);
+            line.origin(*origin);
+            line.put(&[Part::Target(*yes), Part::Target(*no)])
+        }
         PointKind::TestNull {
             of,
             origin,
             null,
             non_null,
-        } => write_parts(
-            page,
-            known,
-            "TestNull",
-            &[
-                Part::Value(*of),
-                Part::Origin(*origin),
-                Part::Target(*null),
-                Part::Target(*non_null),
-            ],
-        ),
-        PointKind::Branch { of, yes, no } => write_parts(
-            page,
-            known,
-            "Branch",
-            &[Part::Value(*of), Part::Target(*yes), Part::Target(*no)],
-        ),
-        PointKind::Goto { to } => write_parts(page, known, "Goto", &[Part::Target(*to)]),
-        PointKind::Return { value } => {
-            write_parts(page, known, "Return", &[Part::Optional(*value)])
+        } => {
+            line.put(&[Part::Word("TestNull"), Part::Value(*of)]);
+            line.origin(*origin);
+            line.put(&[Part::Target(*null), Part::Target(*non_null)])
         }
-        _ => write_call_kind(page, known, kind),
+        PointKind::Branch { of, yes, no } => line.put(&[
+            Part::Word("Branch"),
+            Part::Value(*of),
+            Part::Target(*yes),
+            Part::Target(*no),
+        ]),
+        PointKind::Goto { to } => line.put(&[Part::Word("Goto"), Part::Target(*to)]),
+        PointKind::Return { value } => {
+            line.put(&[Part::Word("Return")]);
+            line.value(*value)
+        }
+        _ => put_call(line, kind),
     }
-}
-
-/// The point's kind, what it has, and its place.
-pub fn write_point(page: &mut Page, known: Known, point: &Point) {
-    write_kind(page, known, &point.kind);
-    page.push(" @ ");
-    write_span(page, known, point.span)
 }
