@@ -91,7 +91,11 @@ impl Line {
     /// The parts, if memory was found for all of them.
     pub fn finish(self) -> Result<Vec<Part>, OutOfMemory> {
         let Line { parts, is_short } = self;
-        if is_short { Err(OutOfMemory) } else { Ok(parts) }
+        if is_short {
+            Err(OutOfMemory)
+        } else {
+            Ok(parts)
+        }
     }
 }
 
