@@ -1,0 +1,106 @@
+// What becomes of a file: the bodies of its program, or its rows.
+use crate::body::program_text;
+use crate::known::LIMIT;
+use crate::page::Page;
+use jn_base::{Fail, FileNo, OutOfMemory, Row, Seq};
+use jn_classtable::build;
+use jn_front::names::known_names;
+use jn_lexer::lex;
+use jn_parse_placed::parse_placed;
+use jn_points::Program;
+use jn_program::lowering::lower;
+use jn_trees::{FileTree, Names, Token};
+use std::alloc::{AllocError, Global};
+
+/// The one file.
+const FILE: FileNo = FileNo(0);
+
+/// The codes of rows, each with the byte at which it stands.
+fn rows_text(alloc: Global, rows: &[Row]) -> Result<String, OutOfMemory> {
+    let mut page = Page::new(alloc);
+    for row in rows {
+        page.push("\n");
+        page.push(row.code.name());
+        page.push(" ");
+        page.number(row.span.from);
+    }
+    page.finish()
+}
+
+fn one_row_text(alloc: Global, fail: Fail<Row>) -> Result<String, OutOfMemory> {
+    match fail {
+        Fail::Refused(row) => rows_text(alloc, &[row]),
+        Fail::OutOfMemory => Err(OutOfMemory),
+    }
+}
+
+fn fail_text(alloc: Global, fail: Fail<Seq<Row>>) -> Result<String, OutOfMemory> {
+    match fail {
+        Fail::Refused(rows) => rows_text(alloc, rows.as_slice()),
+        Fail::OutOfMemory => Err(OutOfMemory),
+    }
+}
+
+fn lowered(alloc: Global, files: &[FileTree]) -> Result<Program, Fail<Seq<Row>>> {
+    match build(alloc, files) {
+        Ok(table) => lower(alloc, table, files),
+        Err(fail) => Err(fail),
+    }
+}
+
+fn files_text(
+    alloc: Global,
+    names: &Names,
+    text: &[u8],
+    files: &[FileTree],
+) -> Result<String, OutOfMemory> {
+    match lowered(alloc, files) {
+        Ok(program) => program_text(alloc, names, &program, text),
+        Err(fail) => fail_text(alloc, fail),
+    }
+}
+
+fn list_of(alloc: Global, tree: FileTree) -> Result<Vec<FileTree>, AllocError> {
+    let mut files = Vec::new(alloc);
+    files.push(tree)?;
+    Ok(files)
+}
+
+fn tree_text(
+    alloc: Global,
+    names: &Names,
+    text: &[u8],
+    tree: FileTree,
+) -> Result<String, OutOfMemory> {
+    match list_of(alloc, tree) {
+        Ok(files) => files_text(alloc, names, text, &files),
+        Err(_) => Err(OutOfMemory),
+    }
+}
+
+fn tokens_text(
+    alloc: Global,
+    names: &Names,
+    text: &[u8],
+    tokens: &[Token],
+) -> Result<String, OutOfMemory> {
+    if text.len() > LIMIT || tokens.len() > LIMIT {
+        return Ok(String::from_str(alloc, " is too long")?);
+    }
+    match parse_placed(alloc, tokens, FILE, text.len() as u32) {
+        Ok(tree) => tree_text(alloc, names, text, tree),
+        Err(fail) => one_row_text(alloc, fail),
+    }
+}
+
+/// The bodies of the program of the file, or the rows for which it has none.
+pub fn file_text(alloc: Global, text: &[u8]) -> Result<String, OutOfMemory> {
+    let mut names = known_names(alloc)?;
+    if text.len() > LIMIT || names.len() > LIMIT {
+        return Ok(String::from_str(alloc, " is too long")?);
+    }
+    match lex(alloc, text, FILE, &mut names) {
+        Ok(tokens) => tokens_text(alloc, &names, text, &tokens),
+        Err(fail) => one_row_text(alloc, fail),
+    }
+}

@@ -1,0 +1,5 @@
+class A {
+  void f() {
+    int x; x = x + y;
+  }
+}

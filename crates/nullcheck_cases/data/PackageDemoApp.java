@@ -1,0 +1,2 @@
+package demo.app;
+class Q { }

@@ -1,0 +1,1 @@
+class A { int x; int x; void f() { y = 1; } }
