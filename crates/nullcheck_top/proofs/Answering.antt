@@ -123,17 +123,29 @@ pub made_written : (held : Option Holding) (names : List (List ℕ)) (made : Res
 made_written held names (Made r) m = files_written m.files r.0 (plain_shown r.1.rows r.1.verdict) m.report
 made_written held names (Err e) m = tt
 
+never_fault : WriteFault ≡ Ok → ⊥
+never_fault e = cc
+
+never_refused : RefusedStatus ≡ Ok → ⊥
+never_refused e = cc
+
+never_rejected : Rejected ≡ Ok → ⊥
+never_rejected e = cc
+
+never_short : OutOfMemory ≡ Ok → ⊥
+never_short e = cc
+
 -- accepted files are safe
 module _ (null : (files : List SourceFile) (P : Program) → TypedProgramOf files P → RulesGive P [] → NeverNull P) (stuck : (files : List SourceFile) (P : Program) → TypedProgramOf files P → RulesGive P [] → NeverStuck P) where
   safe_report : (files : List SourceFile) (r : Report) → IsReport files r → status_of r ≡ Ok → IsSafe files
-  safe_report files (Refused rows) is e = cc
+  safe_report files (Refused rows) is e = absurd (never_refused e)
   safe_report files (Checked []) is e = record { P = is.P; of_files = is.of_files; never_null = null files is.P is.of_files is.rules; never_stuck = stuck files is.P is.of_files is.rules }
-  safe_report files (Checked (row ∷ rows)) is e = cc
+  safe_report files (Checked (row ∷ rows)) is e = absurd (never_rejected e)
 
   pub safe : (held : Option Holding) (names : List (List ℕ)) (old new : Option (List ℕ)) (before now : ℕ) (result : Status) (made : Result (Status × Taken) NoMemory) → MadeOf held names made → Ends old new before now result made → result ≡ Ok → Safe held (Some names)
   safe held names old new before now result (Made r) m (inl p) a = record { files = m.files; read = m.read; safe = safe_report m.files m.report.report m.report.is (sym m.report.ends ∙ sym p.0 ∙ a) }
-  safe held names old new before now result (Made r) m (inr p) a = let w : WriteFault ≡ Ok = sym p.0 ∙ a in cc
-  safe held names old new before now result (Err e) m f a = let w : OutOfMemory ≡ Ok = sym f.0 ∙ a in cc
+  safe held names old new before now result (Made r) m (inr p) a = absurd (never_fault (sym p.0 ∙ a))
+  safe held names old new before now result (Err e) m f a = absurd (never_short (sym f.0 ∙ a))
 
 pub map_length : (xs : List (String Global)) → length (map string_bytes xs) ≡ length xs
 map_length [] = refl

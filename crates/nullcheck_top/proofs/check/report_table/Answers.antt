@@ -5,7 +5,7 @@ use Rattle.nullcheck_top.proofs.WholeFiles.{lowering_made}
 use Rattle.nullcheck_top.proofs.check.report_table.Goals as goal
 
 pub report_program-requires-clause-program : goal.report_program-requires-clause-program
-report_program-requires-clause-program g c =
+report_program-requires-clause-program g c κs lives =
     let declared = c.requires.declared in
     let made = c.in-Ok.ensures.lowered in
     record {

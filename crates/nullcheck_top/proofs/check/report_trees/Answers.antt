@@ -6,7 +6,7 @@ use Rattle.nullcheck_top.proofs.WholeFiles.{table_made}
 use Rattle.nullcheck_top.proofs.check.report_trees.Goals as goal
 
 pub report_table-requires-clause-declared : goal.report_table-requires-clause-declared
-report_table-requires-clause-declared g c =
+report_table-requires-clause-declared g c κs lives =
     let parsed = c.requires.parsed in
     (parsed.0, parsed.1, record { parsed = parsed.2; rowless = c.in-Ok.ensures.built.1 })
 

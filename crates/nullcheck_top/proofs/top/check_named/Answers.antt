@@ -45,12 +45,12 @@ returns-then-names-gt-MOST_FILES-clause-write g c e =
     no_fault (g.K.Sink.written c.args.out.now) (g.K.Sink.written c.write.new.out) (g.K.Sink.faults c.args.out.now) (g.K.Sink.faults c.write.new.out) c.write.result c.too_many.result (made_written held names c.too_many.result made) c.write.ensures e
 
 pub report-requires-clause-few : goal.report-requires-clause-few
-report-requires-clause-few g c =
+report-requires-clause-few g c κs lives =
     let from = subst (λ rs. ReadFrom (g.F.Files.held c.args.files.now) (map string_bytes c.args.names.now) rs) (sym c.deref.ensures.value) c.in-Ok.ensures.ok in
     few_reads (g.F.Files.held c.args.files.now) c.args.names.now c.deref.result.now c.if-names-gt-MOST_FILES.false from
 
 pub report-requires-clause-fit : goal.report-requires-clause-fit
-report-requires-clause-fit g c =
+report-requires-clause-fit g c κs lives =
     let from = subst (λ rs. ReadFrom (g.F.Files.held c.args.files.now) (map string_bytes c.args.names.now) rs) (sym c.deref.ensures.value) c.in-Ok.ensures.ok in
     reads_fit c.deref.result.now from.files from.are
 
