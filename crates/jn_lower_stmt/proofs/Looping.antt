@@ -1,5 +1,5 @@
 -- A `for` over an array, of what its parts do.
-use Rattle.std.proofs.Common.{◌≡◌, ◌+◌, ℕ, List, refl, sym, ap, ◌∙◌, subst}
+use Rattle.std.proofs.Common.{◌≡◌, ◌+◌, ℕ, List, refl, ap, ◌∙◌, subst}
 use Rattle.std.specs.Prelude.{Bool, Option, None, pos}
 use Rattle.jn_base.specs.declared.place.Row.{Row}
 use Rattle.jn_base.specs.declared.place.Span.{Span}
@@ -17,7 +17,7 @@ use Rattle.jn_lowering.specs.Fragments.{Fragment, asks, does, goes, then}
 use Rattle.jn_lowering.specs.Temporaries.{Temporaries, take_one}
 use Rattle.jn_lowering.specs.Forms.{Value, branch, gives}
 use Rattle.jn_lowering.specs.Locals.{State, declares, is_some, reserves, with_temporaries}
-use Rattle.jn_lowering.specs.Scopes.{Scope, local_in}
+use Rattle.jn_lowering.specs.Scopes.{local_in}
 use Rattle.jn_lowering.specs.Statements.{Step, back, each_element, each_form, each_next, each_one, each_start, each_tested, fresh}
 use Rattle.jn_lower_expr.specs.declared.emitter.Emitter.{Emitter}
 use Rattle.jn_lower_expr.specs.Lowering.{Adds, Gives, Runs}
@@ -25,6 +25,10 @@ use Rattle.jn_lower_expr.proofs.Giving.{given, then_adds, then_runs}
 use Rattle.jn_lower_stmt.specs.Stating.{GivesIn, Made, Steps, StepsOn, TestsIn, moved_to}
 use Rattle.jn_lower_stmt.proofs.Labelling.{Reached, each_adds}
 use Rattle.jn_lower_stmt.proofs.Stepping.{Extends, PutBack, extends_on, local_extends}
+
+-- what is worked out of a state, of one that is the same
+pub in_state : {A : Type 0} (f : State → A) (x : A) (s u : State) → x ≡ f s → s ≡ u → x ≡ f u
+in_state f x s u is same = is ∙ ap f same
 
 -- a point behind that gives a value to a temporary
 pub given_at : (P : Program) (first : ℕ) (st s1 s2 : State) (t : Temporaries) (before : Fragment) (base : BaseType) (span : Span) (kind : RegNo → PointKind) (dst : RegNo) (e0 e1 e2 : Emitter) →

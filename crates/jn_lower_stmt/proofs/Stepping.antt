@@ -31,7 +31,7 @@ Extends a b = (more : Scope) × (b ≡ more ++ a)
 pub extends_same : (a : Scope) → Extends a a
 extends_same a = ([], refl)
 
-extends_on : (a b c : Scope) → Extends a b → Extends b c → Extends a c
+pub extends_on : (a b c : Scope) → Extends a b → Extends b c → Extends a c
 extends_on a b c f g = (g.0 ++ f.0, g.1 ∙ ap (λ x. g.0 ++ x) f.1 ∙ sym (append_assoc g.0 f.0 a))
 
 pub local_extends : (b : Bool) (s : Scope) (l : Local) → Extends s (cond b s (l ∷ s))

@@ -46,7 +46,12 @@ fn is_own_call(tree: &Stmt) -> bool
 }
 
 /// A constructor's call of another one.
-fn call_of(source: &Source, c: &BodyContext, e: &mut Emitter, s: &mut State) -> Result<(), OutOfMemory>
+fn call_of(
+    source: &Source,
+    c: &BodyContext,
+    e: &mut Emitter,
+    s: &mut State,
+) -> Result<(), OutOfMemory>
     requires few { Few c.now.program.now }
     requires class { c.now.class.0 ≡ spec.class c.now.program.now source.now.method.0 }
     ensures { OnOk result (StepsOn (spec.call_of c.now.program.now source.now.method.0 c.now.first (ctor_of (method_at c.now.program.now source.now.method.0)) s.old (placed_statements source.now.body.now)) e.old e.new s.new) }
@@ -75,7 +80,12 @@ fn own_initializers(
     Ok(())
 }
 
-fn fields_of(source: &Source, c: &BodyContext, e: &mut Emitter, s: &mut State) -> Result<(), OutOfMemory>
+fn fields_of(
+    source: &Source,
+    c: &BodyContext,
+    e: &mut Emitter,
+    s: &mut State,
+) -> Result<(), OutOfMemory>
     requires few { Few c.now.program.now }
     requires class { c.now.class.0 ≡ spec.class c.now.program.now source.now.method.0 }
     ensures { OnOk result (StepsOn (spec.fields_of c.now.program.now source.now.method.0 c.now.first (ctor_of (method_at c.now.program.now source.now.method.0)) s.old (placed_statements source.now.body.now) (placed_members source.now.members.now)) e.old e.new s.new) }
@@ -87,7 +97,12 @@ fn fields_of(source: &Source, c: &BodyContext, e: &mut Emitter, s: &mut State) -
 }
 
 /// A constructor's call and initializers, then the statements, then a return.
-pub fn whole(source: &Source, c: &BodyContext, e: &mut Emitter, s: &mut State) -> Result<(), OutOfMemory>
+pub fn whole(
+    source: &Source,
+    c: &BodyContext,
+    e: &mut Emitter,
+    s: &mut State,
+) -> Result<(), OutOfMemory>
     requires few { Few c.now.program.now }
     requires class { c.now.class.0 ≡ spec.class c.now.program.now source.now.method.0 }
     ensures { OnOk result (StepsOn (spec.whole c.now.program.now source.now.method.0 c.now.first s.old (placed_statements source.now.body.now) (placed_members source.now.members.now)) e.old e.new s.new) }

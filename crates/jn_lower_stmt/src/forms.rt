@@ -200,7 +200,7 @@ fn each_loop(
     let outer = s.begin(c.alloc);
     let test = label(e)?;
     let inside = label(e)?;
-    let next = label(e)?;
+    let again = label(e)?;
     let end = label(e)?;
     let reg = s.next()?;
     let base = type_in(array, c, s);
@@ -212,12 +212,9 @@ fn each_loop(
     let fixed = has_final(modifiers);
     each::item(reg, at, base, kind.bound, c, e, s)?;
     s.declare_each(c, base, name.name, kind, fixed)?;
-    let inner = Ways {
-        out: end,
-        again: next,
-    };
+    let inner = Ways { out: end, again };
     statement(body, c, e, s, inner)?;
-    place(e, next)?;
+    place(e, again)?;
     each::moves_on(reg, at, c, e, s)?;
     jump(e, test, at)?;
     place(e, end)?;

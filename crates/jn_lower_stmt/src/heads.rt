@@ -77,7 +77,11 @@ fn push(bases: &mut Vec<BaseType>, base: BaseType) -> Result<(), OutOfMemory>
     }
 }
 
-fn this_bases(alloc: Global, program: &Program, method: MethodNo) -> Result<Vec<BaseType>, OutOfMemory>
+fn this_bases(
+    alloc: Global,
+    program: &Program,
+    method: MethodNo,
+) -> Result<Vec<BaseType>, OutOfMemory>
     ensures { IfOk result (λ bases. bases.items ≡ cond (static_of (method_at program.now method.0)) [] (Ref (record { 0 = spec.class program.now method.0 }) ∷ [])) }
 {
     let mut bases = Vec::new(alloc);

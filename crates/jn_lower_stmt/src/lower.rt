@@ -1,10 +1,10 @@
-//! All bodies of a program.
-ghost use Rattle.std.specs.Prelude.{◌≡◌, ◌+◌, ◌++◌, ◌∷◌, [], IfOk, OnOk};
+//! A body of a program, from its trees.
+ghost use Rattle.std.specs.Prelude.{◌≡◌, ◌+◌, IfOk};
 ghost use Rattle.jn_lowering.specs.Bodies as spec;
 ghost use Rattle.jn_lowering.specs.Locals.{all_declared};
 ghost use Rattle.jn_places.specs.PlacedView.{placed_statements};
 ghost use Rattle.jn_scopes.specs.Views.{Few};
-ghost use Rattle.jn_lower_stmt.specs.Sources.{source_of, sources_of};
+ghost use Rattle.jn_lower_stmt.specs.Sources.{source_of};
 
 use crate::body::{Source, whole};
 use crate::entry::at_entry;
@@ -35,8 +35,11 @@ fn local_count(given: u32, body: &[Stmt]) -> Result<u32, OutOfMemory>
     }
 }
 
-/// A body from its trees.
-fn lower_body(alloc: Global, program: &Program, source: &Source) -> Result<Body, OutOfMemory>
+/// The body of a method or constructor of the program, from its trees: its points, and the types of its registers, those of
+/// `this`, parameters and locals first (JLS 8.4.7, 8.8.7, 12.5 and 14).
+///
+/// The only error is want of memory; more than 2^32 - 2 points, labels or registers in one body count as that.
+pub fn lower_body(alloc: Global, program: &Program, source: &Source) -> Result<Body, OutOfMemory>
     requires few { Few program.now }
     ensures { IfOk result (λ body. body ≡ spec.body_of_source program.now (source_of source.now)) }
 {
@@ -62,59 +65,5 @@ fn lower_body(alloc: Global, program: &Program, source: &Source) -> Result<Body,
         regs: Seq::of_vec(regs),
         locals: first,
         points: Seq::of_vec(points),
-    })
-}
-
-fn add(bodies: &mut Vec<Body>, body: Body) -> Result<(), OutOfMemory>
-    ensures { OnOk result (bodies.new.items ≡ bodies.old.items ++ body ∷ []) }
-{
-    match bodies.push(body) {
-        Ok(()) => Ok(()),
-        Err(_) => Err(OutOfMemory),
-    }
-}
-
-/// The bodies of a program, each from its trees, in their order (JLS 8.4.7, 8.8.7, 12.5 and 14).
-///
-/// The only error is want of memory; more than 2^32 - 2 points, labels or registers in one body count as that.
-pub fn lower_bodies(
-    alloc: Global,
-    program: &Program,
-    sources: &[Source],
-) -> Result<Seq<Body>, OutOfMemory>
-    requires few { Few program.now }
-    ensures { IfOk result (λ bodies. bodies ≡ spec.bodies_of program.now (sources_of sources.now)) }
-{
-    let mut bodies = Vec::new(alloc);
-    for source in sources {
-        let body = lower_body(alloc, program, source)?;
-        add(&mut bodies, body)?;
-    }
-    Ok(Seq::of_vec(bodies))
-}
-
-/// The program with its bodies.
-pub fn with_bodies(
-    alloc: Global,
-    program: Program,
-    sources: &[Source],
-) -> Result<Program, OutOfMemory>
-    requires few { Few program }
-    ensures { IfOk result (λ all. all ≡ spec.with_bodies program (sources_of sources.now)) }
-{
-    let bodies = lower_bodies(alloc, &program, sources)?;
-    let Program {
-        classes,
-        fields,
-        methods,
-        slots,
-        ..
-    } = program;
-    Ok(Program {
-        classes,
-        fields,
-        methods,
-        bodies,
-        slots,
     })
 }

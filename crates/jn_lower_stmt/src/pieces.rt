@@ -39,7 +39,12 @@ pub fn through(first: Span, last: Span) -> Span
 }
 
 /// Expressions for their effects, one after the other (JLS 14.8 and 14.14.1).
-pub fn effects(trees: &[Expr], c: &BodyContext, e: &mut Emitter, s: &mut State) -> Result<(), OutOfMemory>
+pub fn effects(
+    trees: &[Expr],
+    c: &BodyContext,
+    e: &mut Emitter,
+    s: &mut State,
+) -> Result<(), OutOfMemory>
     requires few { Few c.now.program.now }
     ensures { OnOk result (StepsOn (spec.effects c.now.program.now c.now.class.0 c.now.first s.old (placed_views trees.now)) e.old e.new s.new) }
 {
@@ -160,7 +165,12 @@ pub fn declaration(
 }
 
 /// What a `for` begins with (JLS 14.14.1).
-pub fn init(tree: &ForInit, c: &BodyContext, e: &mut Emitter, s: &mut State) -> Result<(), OutOfMemory>
+pub fn init(
+    tree: &ForInit,
+    c: &BodyContext,
+    e: &mut Emitter,
+    s: &mut State,
+) -> Result<(), OutOfMemory>
     requires few { Few c.now.program.now }
     ensures { OnOk result (StepsOn (spec.init c.now.program.now c.now.class.0 c.now.first s.old (placed_init tree.now)) e.old e.new s.new) }
 {

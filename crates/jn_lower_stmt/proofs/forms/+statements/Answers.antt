@@ -1,10 +1,9 @@
-use Rattle.std.proofs.Common.{◌≡◌, ◌∙◌, ap, sym, subst, drop, length, ◌+◌, List, [], None, arith}
+use Rattle.std.proofs.Common.{◌≡◌, sym, subst, drop, length, ◌+◌, List, [], None, arith}
 use Rattle.jn_trees.specs.declared.statement.Stmt.{Stmt}
 use Rattle.jn_places.specs.Placed.{PlacedStatements, PlacedBlock, PlacedExpression, PlacedForEach, PlacedReturn, PlacedLocalStatement}
 use Rattle.jn_places.specs.PlacedView.{placed_init, placed_local, placed_optional, placed_statement, placed_statements, placed_type_use, placed_view, placed_views}
 use Rattle.jn_places.proofs.Rows.{statements_placed}
 use Rattle.jn_lowering.specs.Locals.{State}
-use Rattle.jn_base.specs.declared.place.Span.{Span}
 use Rattle.jn_trees.specs.declared.statement.LocalModifier.{LocalModifier}
 use Rattle.jn_lowering.specs.Bases.{type_of}
 use Rattle.jn_lowering.specs.Annotations.{base_rows}
@@ -13,7 +12,7 @@ use Rattle.jn_lowering.specs.Locals.{has_final}
 use Rattle.jn_lowering.specs.Statements.{Step, each_start, effects, fresh, init, local_bound, local_type, optional_test}
 use Rattle.jn_scopes.specs.Views.{bound_of}
 use Rattle.jn_lower_stmt.specs.Views.{rows_of}
-use Rattle.jn_lower_stmt.proofs.Looping.{each_done, each_same}
+use Rattle.jn_lower_stmt.proofs.Looping.{each_done, each_same, in_state}
 use Rattle.jn_lower_stmt.specs.Stating.{Steps, StepsOn, TestsIn, all_stated, moved_to, stated, tested, valued}
 use Rattle.jn_lower_stmt.proofs.Piecing.{both_stepped}
 use Rattle.jn_lower_stmt.proofs.Stepping.{any_way, block_done, do_done, effects_extends, for_done, if_done, if_else_done, init_extends, nothing_stepped, put_back, statement_extends, statements_extends, statements_hold, statements_left, no_statements_left, while_done}
@@ -123,16 +122,16 @@ statement-returns-in_ok-place-in-IfElse-3 t c =
     c.in_ok-place-in-IfElse-3.ensures (λ u. statement_extends c.args.c.now.program.now c.args.c.now.class.0 c.args.c.now.first u (placed_statement c.in-IfElse.then.value)) (λ u. statement_extends c.args.c.now.program.now c.args.c.now.class.0 c.args.c.now.first u (placed_statement c.in-IfElse.otherwise.value)) (put_back c.args.s.now c.statement-in-IfElse.new.s c.end.new.self c.begin-outer.result.names c.begin-outer.result.held c.begin-outer.ensures.names c.begin-outer.ensures.held c.end.ensures))
 
 pub each_loop-place-requires : goal.each_loop-place-requires
-each_loop-place-requires t c = record { there = (c.in_ok-at.ensures.1.runs 0 0).kept _ _ (c.in_ok-end.ensures.kept _ _ (c.in_ok-next.ensures.kept _ _ (c.in_ok-inside.ensures.kept _ _ (c.in_ok-test.ensures.free)))) }
+each_loop-place-requires t c = record { there = (c.in_ok-at.ensures.1.runs 0 0).kept _ _ (c.in_ok-end.ensures.kept _ _ (c.in_ok-again.ensures.kept _ _ (c.in_ok-inside.ensures.kept _ _ (c.in_ok-test.ensures.free)))) }
 
 pub each_loop-place-requires-2 : goal.each_loop-place-requires-2
-each_loop-place-requires-2 t c = record { there = c.in_ok-goes_on.ensures.adds.kept _ _ (c.in_ok-place.ensures.kept _ _ (λ same. let s : c.in_ok-inside.inside.0 ≡ c.in_ok-test.test.0 = same in absurd (omega (arith, s, c.in_ok-inside.ensures.is, c.in_ok-test.ensures.is, c.in_ok-test.ensures.more))) ((c.in_ok-at.ensures.1.runs 0 0).kept _ _ (c.in_ok-end.ensures.kept _ _ (c.in_ok-next.ensures.kept _ _ (c.in_ok-inside.ensures.free))))) }
+each_loop-place-requires-2 t c = record { there = c.in_ok-goes_on.ensures.adds.kept _ _ (c.in_ok-place.ensures.kept _ _ (λ same. let s : c.in_ok-inside.inside.0 ≡ c.in_ok-test.test.0 = same in absurd (omega (arith, s, c.in_ok-inside.ensures.is, c.in_ok-test.ensures.is, c.in_ok-test.ensures.more))) ((c.in_ok-at.ensures.1.runs 0 0).kept _ _ (c.in_ok-end.ensures.kept _ _ (c.in_ok-again.ensures.kept _ _ (c.in_ok-inside.ensures.free))))) }
 
 pub each_loop-place-requires-3 : goal.each_loop-place-requires-3
-each_loop-place-requires-3 t c = record { there = c.in_ok-statement.ensures.adds.kept _ _ ((c.in_ok-item.ensures.runs 0 0).kept _ _ (c.in_ok-place-2.ensures.kept _ _ (λ same. let s : c.in_ok-next.next.0 ≡ c.in_ok-inside.inside.0 = same in absurd (omega (arith, s, c.in_ok-next.ensures.is, c.in_ok-inside.ensures.is, c.in_ok-inside.ensures.more))) (c.in_ok-goes_on.ensures.adds.kept _ _ (c.in_ok-place.ensures.kept _ _ (λ same. let s : c.in_ok-next.next.0 ≡ c.in_ok-test.test.0 = same in absurd (omega (arith, s, c.in_ok-next.ensures.is, c.in_ok-test.ensures.is, c.in_ok-test.ensures.more, c.in_ok-inside.ensures.more))) ((c.in_ok-at.ensures.1.runs 0 0).kept _ _ (c.in_ok-end.ensures.kept _ _ (c.in_ok-next.ensures.free))))))) }
+each_loop-place-requires-3 t c = record { there = c.in_ok-statement.ensures.adds.kept _ _ ((c.in_ok-item.ensures.runs 0 0).kept _ _ (c.in_ok-place-2.ensures.kept _ _ (λ same. let s : c.in_ok-again.again.0 ≡ c.in_ok-inside.inside.0 = same in absurd (omega (arith, s, c.in_ok-again.ensures.is, c.in_ok-inside.ensures.is, c.in_ok-inside.ensures.more))) (c.in_ok-goes_on.ensures.adds.kept _ _ (c.in_ok-place.ensures.kept _ _ (λ same. let s : c.in_ok-again.again.0 ≡ c.in_ok-test.test.0 = same in absurd (omega (arith, s, c.in_ok-again.ensures.is, c.in_ok-test.ensures.is, c.in_ok-test.ensures.more, c.in_ok-inside.ensures.more))) ((c.in_ok-at.ensures.1.runs 0 0).kept _ _ (c.in_ok-end.ensures.kept _ _ (c.in_ok-again.ensures.free))))))) }
 
 pub each_loop-place-requires-4 : goal.each_loop-place-requires-4
-each_loop-place-requires-4 t c = record { there = (c.in_ok-jump.ensures 0).kept _ _ ((c.in_ok-moves_on.ensures.runs 0 0).kept _ _ (c.in_ok-place-3.ensures.kept _ _ (λ same. let s : c.in_ok-end.end.0 ≡ c.in_ok-next.next.0 = same in absurd (omega (arith, s, c.in_ok-end.ensures.is, c.in_ok-next.ensures.is, c.in_ok-next.ensures.more))) (c.in_ok-statement.ensures.adds.kept _ _ ((c.in_ok-item.ensures.runs 0 0).kept _ _ (c.in_ok-place-2.ensures.kept _ _ (λ same. let s : c.in_ok-end.end.0 ≡ c.in_ok-inside.inside.0 = same in absurd (omega (arith, s, c.in_ok-end.ensures.is, c.in_ok-inside.ensures.is, c.in_ok-inside.ensures.more, c.in_ok-next.ensures.more))) (c.in_ok-goes_on.ensures.adds.kept _ _ (c.in_ok-place.ensures.kept _ _ (λ same. let s : c.in_ok-end.end.0 ≡ c.in_ok-test.test.0 = same in absurd (omega (arith, s, c.in_ok-end.ensures.is, c.in_ok-test.ensures.is, c.in_ok-test.ensures.more, c.in_ok-inside.ensures.more, c.in_ok-next.ensures.more))) ((c.in_ok-at.ensures.1.runs 0 0).kept _ _ (c.in_ok-end.ensures.free))))))))) }
+each_loop-place-requires-4 t c = record { there = (c.in_ok-jump.ensures 0).kept _ _ ((c.in_ok-moves_on.ensures.runs 0 0).kept _ _ (c.in_ok-place-3.ensures.kept _ _ (λ same. let s : c.in_ok-end.end.0 ≡ c.in_ok-again.again.0 = same in absurd (omega (arith, s, c.in_ok-end.ensures.is, c.in_ok-again.ensures.is, c.in_ok-again.ensures.more))) (c.in_ok-statement.ensures.adds.kept _ _ ((c.in_ok-item.ensures.runs 0 0).kept _ _ (c.in_ok-place-2.ensures.kept _ _ (λ same. let s : c.in_ok-end.end.0 ≡ c.in_ok-inside.inside.0 = same in absurd (omega (arith, s, c.in_ok-end.ensures.is, c.in_ok-inside.ensures.is, c.in_ok-inside.ensures.more, c.in_ok-again.ensures.more))) (c.in_ok-goes_on.ensures.adds.kept _ _ (c.in_ok-place.ensures.kept _ _ (λ same. let s : c.in_ok-end.end.0 ≡ c.in_ok-test.test.0 = same in absurd (omega (arith, s, c.in_ok-end.ensures.is, c.in_ok-test.ensures.is, c.in_ok-test.ensures.more, c.in_ok-inside.ensures.more, c.in_ok-again.ensures.more))) ((c.in_ok-at.ensures.1.runs 0 0).kept _ _ (c.in_ok-end.ensures.free))))))))) }
 
 pub each_loop-returns : goal.each_loop-returns
 each_loop-returns t c = λ span.
@@ -142,14 +141,20 @@ each_loop-returns t c = λ span.
     subst (λ (x : Step). Steps x c.args.ways.out.0 c.args.ways.again.0 c.args.e.now c.place-4.new.e c.end.new.self)
     (each_same c.args.c.now.program.now c.args.c.now.class.0 c.args.c.now.first f c.args.s.now v c.args.name.name.0 c.in_ok-at.at v.operand.span c.in_ok-reg.reg.0 (length c.args.s.now.locals) c.type_in-base.result (type_of c.args.c.now.program.now c.args.c.now.class.0 c.args.s.now.scope (placed_view c.args.array.now))
     c.kind_of-kind.result.base (local_type c.args.c.now.program.now c.args.c.now.class.0 c.args.c.now.first c.args.modifiers.now (placed_type_use c.args.type_use.now)) (bound_of c.kind_of-kind.result.bound) (local_bound c.args.c.now.program.now c.args.c.now.class.0 c.args.c.now.first c.args.modifiers.now (placed_type_use c.args.type_use.now)) c.has_final-fixed.result (has_final c.args.modifiers.now) (rows_of c.kind_of-kind.result.fault) (base_rows c.args.c.now.program.now c.args.type_use.now.base)
-    (c.in_ok-at.ensures.0 ∙ ap (λ (s : State). (valued c.args.c.now s (placed_view c.args.array.now)).operand.span) begun)
-    (c.in_ok-reg.ensures ∙ ap (λ (s : State). length s.locals) begun)
-    (c.type_in-base.ensures ∙ ap (λ (s : State). type_of c.args.c.now.program.now c.args.c.now.class.0 s.scope (placed_view c.args.array.now)) begun)
+    (in_state (λ (s : State). (valued c.args.c.now s (placed_view c.args.array.now)).operand.span) c.in_ok-at.at _ (fresh c.args.s.now) c.in_ok-at.ensures.0 begun)
+    (in_state (λ (s : State). length s.locals) c.in_ok-reg.reg.0 _ (fresh c.args.s.now) c.in_ok-reg.ensures begun)
+    (in_state (λ (s : State). type_of c.args.c.now.program.now c.args.c.now.class.0 s.scope (placed_view c.args.array.now)) c.type_in-base.result _ (fresh c.args.s.now) c.type_in-base.ensures begun)
     c.kind_of-kind.ensures.base c.kind_of-kind.ensures.bound c.has_final-fixed.ensures c.kind_of-kind.ensures.fault)
     (each_done c.args.c.now.program.now c.args.c.now.class.0 c.args.c.now.first f c.args.s.now v c.args.name.name.0 c.in_ok-at.at c.in_ok-reg.reg.0 c.type_in-base.result c.kind_of-kind.result.base (bound_of c.kind_of-kind.result.bound) c.has_final-fixed.result (rows_of c.kind_of-kind.result.fault)
-    c.start_with.new.s c.goes_on.new.s c.item.new.s c.declare_each.new.self c.statement.new.s c.moves_on.new.s c.end.new.self c.args.ways.out.0 c.args.ways.again.0 c.in_ok-test.test.0 c.in_ok-inside.inside.0 c.in_ok-next.next.0 c.in_ok-end.end.0
+    c.start_with.new.s c.goes_on.new.s c.item.new.s c.declare_each.new.self c.statement.new.s c.moves_on.new.s c.end.new.self c.args.ways.out.0 c.args.ways.again.0 c.in_ok-test.test.0 c.in_ok-inside.inside.0 c.in_ok-again.again.0 c.in_ok-end.end.0
     c.args.e.now c.label.new.e c.label-2.new.e c.label-3.new.e c.label-4.new.e c.start_with.new.e c.place.new.e c.goes_on.new.e c.place-2.new.e c.item.new.e c.statement.new.e c.place-3.new.e c.moves_on.new.e c.jump.new.e c.place-4.new.e
-    c.in_ok-test.ensures c.in_ok-inside.ensures c.in_ok-next.ensures c.in_ok-end.ensures
+    c.in_ok-test.ensures c.in_ok-inside.ensures c.in_ok-again.ensures c.in_ok-end.ensures
     (subst (λ (s : State). StepsOn (moved_to c.in_ok-at.at (c.in_ok-reg.reg.0 + 1) None s (each_start c.args.c.now.program.now c.args.c.now.class.0 c.args.c.now.first c.in_ok-at.at c.in_ok-reg.reg.0 (valued c.args.c.now s (placed_view c.args.array.now)))) c.label-4.new.e c.start_with.new.e c.start_with.new.s) begun c.in_ok-at.ensures.1)
     c.in_ok-place.ensures c.in_ok-goes_on.ensures c.in_ok-place-2.ensures c.in_ok-item.ensures c.in_ok-declare_each.ensures c.in_ok-statement.ensures c.in_ok-place-3.ensures c.in_ok-moves_on.ensures c.in_ok-jump.ensures c.in_ok-place-4.ensures
     (λ u. statement_extends c.args.c.now.program.now c.args.c.now.class.0 c.args.c.now.first u (placed_statement c.args.body.now)) (put_back c.args.s.now c.moves_on.new.s c.end.new.self c.begin-outer.result.names c.begin-outer.result.held c.begin-outer.ensures.names c.begin-outer.ensures.held c.end.ensures))
+
+pub statement-returns-in_ok-each_loop-in-ForEach : goal.statement-returns-in_ok-each_loop-in-ForEach
+statement-returns-in_ok-each_loop-in-ForEach t c =
+    subst (λ (x : Stmt). Steps (stated c.args.c.now c.args.s.now (placed_statement x)) c.args.ways.out.0 c.args.ways.again.0 c.args.e.now c.each_loop.new.e c.each_loop.new.s) (sym c.in-ForEach.is)
+    (subst (λ (b : Stmt). Steps (stated c.args.c.now c.args.s.now (PlacedForEach c.in-ForEach.modifiers.items (placed_type_use c.in-ForEach.type_use) c.in-ForEach.name (placed_view c.in-ForEach.array) (placed_statement b) c.in-ForEach.span)) c.args.ways.out.0 c.args.ways.again.0 c.args.e.now c.each_loop.new.e c.each_loop.new.s) c.deref-in-ForEach.ensures
+    (subst (λ (ms : List LocalModifier). Steps (stated c.args.c.now c.args.s.now (PlacedForEach ms (placed_type_use c.in-ForEach.type_use) c.in-ForEach.name (placed_view c.in-ForEach.array) (placed_statement c.deref-in-ForEach.result.now) c.in-ForEach.span)) c.args.ways.out.0 c.args.ways.again.0 c.args.e.now c.each_loop.new.e c.each_loop.new.s) c.deref-in-ForEach-2.ensures.value (c.in_ok-each_loop-in-ForEach.ensures c.in-ForEach.span)))

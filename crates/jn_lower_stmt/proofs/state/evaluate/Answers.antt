@@ -1,4 +1,4 @@
-use Rattle.std.proofs.Common.{ap, ◌∙◌, subst}
+use Rattle.std.proofs.Common.{subst}
 use Rattle.jn_lowering.specs.Locals.{State}
 use Rattle.jn_places.specs.PlacedView.{placed_view}
 use Rattle.jn_lower_stmt.specs.Stating.{GivesIn, valued}
