@@ -10,7 +10,8 @@ use crate::names::{Declared, Names};
 use crate::state::State;
 use crate::types::has_final;
 use jn_base::{MethodNo, OutOfMemory, RegNo};
-use jn_points::{BaseType, Program};
+use jn_index::indexed::IndexedProgram;
+use jn_points::BaseType;
 use jn_scopes::members::is_static;
 use jn_trees::Parameter;
 use std::alloc::Global;
@@ -62,7 +63,7 @@ fn parameters(
     Ok(names)
 }
 
-fn first_parameter(program: &Program, method: MethodNo) -> usize
+fn first_parameter(program: &IndexedProgram, method: MethodNo) -> usize
     ensures { result ≡ spec.first_parameter program.now method.0 }
 {
     if is_static(program, method) { 0 } else { 1 }
@@ -71,7 +72,7 @@ fn first_parameter(program: &Program, method: MethodNo) -> usize
 /// The state in which the method's body begins.
 pub fn at_entry(
     alloc: Global,
-    program: &Program,
+    program: &IndexedProgram,
     method: MethodNo,
     trees: &[Parameter],
 ) -> Result<State, OutOfMemory>

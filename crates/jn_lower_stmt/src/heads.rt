@@ -6,26 +6,27 @@ ghost use Rattle.jn_points.specs.Lookup.{class_info, ctor_of, method_at, params_
 ghost use Rattle.jn_lowering.specs.Bodies as spec;
 
 use jn_base::{ClassNo, FileNo, MethodNo, OutOfMemory, Span};
+use jn_index::indexed::IndexedProgram;
+use jn_points::BaseType;
 use jn_points::members::method_at;
-use jn_points::{BaseType, Program};
 use jn_scopes::members::is_static;
 use std::alloc::Global;
 
 /// The class that declares the method.
-pub fn class_of(program: &Program, method: MethodNo) -> ClassNo
+pub fn class_of(program: &IndexedProgram, method: MethodNo) -> ClassNo
     ensures { result.0 ≡ spec.class program.now method.0 }
 {
-    match method_at(program, method.0 as usize) {
+    match method_at(program.program(), method.0 as usize) {
         None => ClassNo(0),
         Some(head) => head.owner,
     }
 }
 
 /// Where the method's name stands.
-pub fn name_of(program: &Program, method: MethodNo) -> Span
+pub fn name_of(program: &IndexedProgram, method: MethodNo) -> Span
     ensures { result ≡ spec.name_span program.now method.0 }
 {
-    match method_at(program, method.0 as usize) {
+    match method_at(program.program(), method.0 as usize) {
         None => Span {
             file: FileNo(0),
             from: 0,
@@ -36,30 +37,30 @@ pub fn name_of(program: &Program, method: MethodNo) -> Span
 }
 
 /// Whether it is a constructor.
-pub fn is_ctor(program: &Program, method: MethodNo) -> bool
+pub fn is_ctor(program: &IndexedProgram, method: MethodNo) -> bool
     ensures { result ≡ ctor_of (method_at program.now method.0) }
 {
-    match method_at(program, method.0 as usize) {
+    match method_at(program.program(), method.0 as usize) {
         None => false,
         Some(head) => head.ctor,
     }
 }
 
 /// The types of its parameters.
-pub fn params_of(program: &Program, method: MethodNo) -> &[BaseType]
+pub fn params_of(program: &IndexedProgram, method: MethodNo) -> &[BaseType]
     ensures { result.now ≡ params_of (method_at program.now method.0) }
 {
-    match method_at(program, method.0 as usize) {
+    match method_at(program.program(), method.0 as usize) {
         None => &[],
         Some(head) => head.params.as_slice(),
     }
 }
 
 /// Whether the class stands right under Object, or is Object.
-pub fn is_under_object(program: &Program, class: ClassNo) -> bool
+pub fn is_under_object(program: &IndexedProgram, class: ClassNo) -> bool
     ensures { result ≡ spec.is_under_object (parent_of (class_info program.now class.0)) }
 {
-    match program.classes.as_slice().get(class.0 as usize) {
+    match program.program().classes.as_slice().get(class.0 as usize) {
         None => true,
         Some(info) => match info.parent {
             None => true,
@@ -79,7 +80,7 @@ fn push(bases: &mut Vec<BaseType>, base: BaseType) -> Result<(), OutOfMemory>
 
 fn this_bases(
     alloc: Global,
-    program: &Program,
+    program: &IndexedProgram,
     method: MethodNo,
 ) -> Result<Vec<BaseType>, OutOfMemory>
     ensures { IfOk result (λ bases. bases.items ≡ cond (static_of (method_at program.now method.0)) [] (Ref (record { 0 = spec.class program.now method.0 }) ∷ [])) }
@@ -95,7 +96,7 @@ fn this_bases(
 /// The types of the registers of `this`, if there is one, and the parameters.
 pub fn given_bases(
     alloc: Global,
-    program: &Program,
+    program: &IndexedProgram,
     method: MethodNo,
 ) -> Result<Vec<BaseType>, OutOfMemory>
     ensures { IfOk result (λ bases. bases.items ≡ typing.given_bases program.now method.0) }

@@ -14,11 +14,12 @@ ghost use Rattle.jn_lower_stmt.specs.Stating.{GivesIn, GivesAllIn, TestsIn, all_
 
 use crate::names::{Declared, Names};
 use jn_base::{ClassNo, NameNo, OutOfMemory, PointNo, RegNo, Row, Seq};
+use jn_index::indexed::IndexedProgram;
 use jn_lower_expr::emitter::Emitter;
 use jn_lower_expr::lower::{condition, operands, value};
 use jn_lower_expr::temporaries::{Held, Temporaries};
 use jn_lower_expr::values::temporary;
-use jn_points::{BaseType, Operand, Program};
+use jn_points::{BaseType, Operand};
 use jn_scopes::lookup::local_in;
 use jn_scopes::types::type_of;
 use jn_scopes::{Bound, Context};
@@ -30,7 +31,7 @@ use std::marker::Model;
 /// temporary.
 #[derive(Clone, Copy)]
 pub struct BodyContext<'a> {
-    pub program: &'a Program,
+    pub program: &'a IndexedProgram,
     pub class: ClassNo,
     pub first: u32,
     pub alloc: Global,

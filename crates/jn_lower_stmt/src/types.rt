@@ -10,8 +10,9 @@ ghost use Rattle.jn_lower_stmt.specs.Views.{rows_of};
 
 use crate::state::LocalKind;
 use jn_base::{Code, NameNo, Row};
+use jn_index::indexed::IndexedProgram;
 use jn_known::{INITIALIZED, NON_NULL, NULLABLE, UNDER_INITIALIZATION, UNKNOWN_INITIALIZATION};
-use jn_points::{BaseType, Elem, Program};
+use jn_points::{BaseType, Elem};
 use jn_scopes::Bound;
 use jn_scopes::members::{class_named, class_or_object};
 use jn_scopes::types::simple_type;
@@ -51,7 +52,7 @@ fn is_class_use(base: &Base) -> bool
     }
 }
 
-fn elem_type(program: &Program, base: &Base, modifiers: &[LocalModifier]) -> Elem
+fn elem_type(program: &IndexedProgram, base: &Base, modifiers: &[LocalModifier]) -> Elem
     requires few { Few program.now }
     ensures { result ≡ spec.elem_type program.now base.now (local.annotations_of modifiers.now) }
 {
@@ -63,7 +64,7 @@ fn elem_type(program: &Program, base: &Base, modifiers: &[LocalModifier]) -> Ele
 }
 
 /// The type of an array whose elements have the annotations (JLS 9.7.4).
-fn array_type(program: &Program, base: &Base, modifiers: &[LocalModifier]) -> BaseType
+fn array_type(program: &IndexedProgram, base: &Base, modifiers: &[LocalModifier]) -> BaseType
     requires few { Few program.now }
     ensures { result ≡ spec.array_type program.now base.now (local.annotations_of modifiers.now) }
 {
@@ -73,7 +74,11 @@ fn array_type(program: &Program, base: &Base, modifiers: &[LocalModifier]) -> Ba
     )
 }
 
-fn type_of_use(program: &Program, type_use: &TypeUse, modifiers: &[LocalModifier]) -> BaseType
+fn type_of_use(
+    program: &IndexedProgram,
+    type_use: &TypeUse,
+    modifiers: &[LocalModifier],
+) -> BaseType
     requires few { Few program.now }
     ensures { result ≡ spec.type_of_use program.now (placed_type_use type_use.now) (local.annotations_of modifiers.now) }
 {
@@ -84,7 +89,7 @@ fn type_of_use(program: &Program, type_use: &TypeUse, modifiers: &[LocalModifier
 }
 
 /// The row of an unknown class.
-fn fault_of(program: &Program, base: &Base) -> Option<Row>
+fn fault_of(program: &IndexedProgram, base: &Base) -> Option<Row>
     requires few { Few program.now }
     ensures { rows_of result ≡ base_rows program.now base.now }
 {
@@ -180,7 +185,11 @@ fn bound_of_use(type_use: &TypeUse, modifiers: &[LocalModifier]) -> Option<Bound
 }
 
 /// The type and the bound that a declaration writes for its locals.
-pub fn kind_of(program: &Program, type_use: &TypeUse, modifiers: &[LocalModifier]) -> LocalKind
+pub fn kind_of(
+    program: &IndexedProgram,
+    type_use: &TypeUse,
+    modifiers: &[LocalModifier],
+) -> LocalKind
     requires few { Few program.now }
     ensures base { result.base ≡ spec.type_of_use program.now (placed_type_use type_use.now) (local.annotations_of modifiers.now) }
     ensures bound { view.bound_of result.bound ≡ local.bound_of (local.own_annotations (placed_type_use type_use.now).array (local.annotations_of modifiers.now)) }
