@@ -1,7 +1,6 @@
 -- A class's reference fields are among the fields that it declares.
-use Rattle.std.proofs.Common.{◌≡◌, ℕ, Bool, true, false, List, length, Option, Some, None, refl, sym, ap, ◌∙◌}
+use Rattle.std.proofs.Common.{◌≡◌, ℕ, Bool, true, false, List, length, Option, refl, ap, ◌∙◌}
 use Rattle.std.specs.Prelude.{◌&&◌, eqb, filter}
-use Rattle.jn_points.specs.declared.program.Field.{Field}
 use Rattle.jn_points.specs.declared.program.Method.{Method}
 use Rattle.jn_points.specs.declared.program.Program.{Program}
 use Rattle.jn_points.specs.Lookup.{class_of, ctor_of, field_info, owner_of, ref_field}

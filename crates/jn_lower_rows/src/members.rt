@@ -11,8 +11,8 @@ ghost use Rattle.jn_lower_rows.specs.Views.{setting_of};
 use crate::row::{push, push_if};
 use crate::setting::Setting;
 use jn_base::{ClassNo, Code, FieldNo, MethodNo, NameNo, Row, Seq, Span};
-use jn_known::{EQUALS, IS_EMPTY, LENGTH};
 use jn_index::indexed::IndexedProgram;
+use jn_known::{EQUALS, IS_EMPTY, LENGTH};
 use jn_points::{BaseType, Class, Field, Method};
 use jn_scopes::Context;
 use jn_scopes::members::{

@@ -77,7 +77,11 @@ pub fn back_to(names: &mut Names, mark: Mark)
     names.faults.truncate(mark.faults);
 }
 
-fn add_faults(faults: &mut Vec<Row>, program: &IndexedProgram, base: Base) -> Result<Faults, AllocError>
+fn add_faults(
+    faults: &mut Vec<Row>,
+    program: &IndexedProgram,
+    base: Base,
+) -> Result<Faults, AllocError>
     requires few { Few program.now }
     ensures { IfOk result (λ f. (faults.new.items ≡ faults.old.items ++ annotated.base_rows program.now base) × (f.from ≡ length faults.old.items) × (f.to ≡ length faults.new.items)) }
 {

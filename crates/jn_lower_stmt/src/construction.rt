@@ -20,10 +20,11 @@ use crate::heads::{is_under_object, name_of};
 use crate::pieces::through;
 use crate::state::{BodyContext, State, evaluate_all, evaluate_outside};
 use jn_base::{ClassNo, FieldNo, MethodNo, NameNo, OutOfMemory, RegNo, Seq, Span};
+use jn_index::fields;
+use jn_index::indexed::IndexedProgram;
 use jn_lower_expr::emitter::Emitter;
 use jn_lower_expr::values::step;
-use jn_index::indexed::IndexedProgram;
-use jn_points::{Field, Operand, PointKind};
+use jn_points::{Field, Operand, PointKind, Program};
 use jn_scopes::forms::span_of;
 use jn_scopes::members::{constructor_of, is_static_field, parent_or_object};
 use jn_trees::{Declarator, Expr, Member, Stmt};
@@ -134,18 +135,33 @@ fn declares(field: &Field, name: NameNo, class: ClassNo) -> bool
     field.name.0 == name.0 && field.owner.0 == class.0 && (!field.is_private || class.0 == class.0)
 }
 
-/// The field of the name that the class declares itself.
-fn declared_field(program: &IndexedProgram, class: ClassNo, name: NameNo) -> Option<FieldNo>
+/// The field of the name that the class declares itself, by the program's lists.
+fn listed_field(program: &Program, class: ClassNo, name: NameNo) -> Option<FieldNo>
     requires few { Few program.now }
     ensures { MatchOption result (members.declared_field program.now class.0 name.0 class.0 ≡ None) (λ f. members.declared_field program.now class.0 name.0 class.0 ≡ Some f.0) }
 {
-    let fields = program.program().fields.as_slice();
+    let fields = program.fields.as_slice();
     for (number, field) in fields.iter().enumerate() {
         if declares(field, name, class) {
             return Some(FieldNo(number as u32));
         }
     }
     None
+}
+
+/// The field of the name that the class declares itself.
+fn declared_field(program: &IndexedProgram, class: ClassNo, name: NameNo) -> Option<FieldNo>
+    requires few { Few program.now }
+    ensures { MatchOption result (members.declared_field program.now class.0 name.0 class.0 ≡ None) (λ f. members.declared_field program.now class.0 name.0 class.0 ≡ Some f.0) }
+{
+    let lists = program.program();
+    match program.index() {
+        Some(index) => match fields::declared_field(lists, index, class, name, class.0) {
+            None => None,
+            Some(number) => Some(FieldNo(number)),
+        },
+        None => listed_field(lists, class, name),
+    }
 }
 
 /// Writes a field's first value to the new object (JLS 12.5).

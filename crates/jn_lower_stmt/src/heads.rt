@@ -6,9 +6,9 @@ ghost use Rattle.jn_points.specs.Lookup.{class_info, ctor_of, method_at, params_
 ghost use Rattle.jn_lowering.specs.Bodies as spec;
 
 use jn_base::{ClassNo, FileNo, MethodNo, OutOfMemory, Span};
-use jn_points::members::method_at;
 use jn_index::indexed::IndexedProgram;
 use jn_points::BaseType;
+use jn_points::members::method_at;
 use jn_scopes::members::is_static;
 use std::alloc::Global;
 

@@ -13,8 +13,8 @@ use crate::registers::all_declared;
 use crate::resolve::resolve;
 use crate::state::BodyContext;
 use jn_base::{OutOfMemory, Seq};
-use jn_lower_expr::emitter::Emitter;
 use jn_index::indexed::IndexedProgram;
+use jn_lower_expr::emitter::Emitter;
 use jn_points::Body;
 use jn_trees::Stmt;
 use std::alloc::Global;
@@ -40,7 +40,11 @@ fn local_count(given: u32, body: &[Stmt]) -> Result<u32, OutOfMemory>
 /// `this`, parameters and locals first (JLS 8.4.7, 8.8.7, 12.5 and 14).
 ///
 /// The only error is want of memory; more than 2^32 - 2 points, labels or registers in one body count as that.
-pub fn lower_body(alloc: Global, program: &IndexedProgram, source: &Source) -> Result<Body, OutOfMemory>
+pub fn lower_body(
+    alloc: Global,
+    program: &IndexedProgram,
+    source: &Source,
+) -> Result<Body, OutOfMemory>
     requires few { Few program.now }
     ensures { IfOk result (λ body. body ≡ spec.body_of_source program.now (source_of source.now)) }
 {

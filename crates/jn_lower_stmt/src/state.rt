@@ -14,11 +14,11 @@ ghost use Rattle.jn_lower_stmt.specs.Stating.{GivesIn, GivesAllIn, TestsIn, all_
 
 use crate::names::{Declared, Names};
 use jn_base::{ClassNo, NameNo, OutOfMemory, PointNo, RegNo, Row, Seq};
+use jn_index::indexed::IndexedProgram;
 use jn_lower_expr::emitter::Emitter;
 use jn_lower_expr::lower::{condition, operands, value};
 use jn_lower_expr::temporaries::{Held, Temporaries};
 use jn_lower_expr::values::temporary;
-use jn_index::indexed::IndexedProgram;
 use jn_points::{BaseType, Operand};
 use jn_scopes::lookup::local_in;
 use jn_scopes::types::type_of;

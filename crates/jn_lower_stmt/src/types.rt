@@ -10,8 +10,8 @@ ghost use Rattle.jn_lower_stmt.specs.Views.{rows_of};
 
 use crate::state::LocalKind;
 use jn_base::{Code, NameNo, Row};
-use jn_known::{INITIALIZED, NON_NULL, NULLABLE, UNDER_INITIALIZATION, UNKNOWN_INITIALIZATION};
 use jn_index::indexed::IndexedProgram;
+use jn_known::{INITIALIZED, NON_NULL, NULLABLE, UNDER_INITIALIZATION, UNKNOWN_INITIALIZATION};
 use jn_points::{BaseType, Elem};
 use jn_scopes::Bound;
 use jn_scopes::members::{class_named, class_or_object};
@@ -74,7 +74,11 @@ fn array_type(program: &IndexedProgram, base: &Base, modifiers: &[LocalModifier]
     )
 }
 
-fn type_of_use(program: &IndexedProgram, type_use: &TypeUse, modifiers: &[LocalModifier]) -> BaseType
+fn type_of_use(
+    program: &IndexedProgram,
+    type_use: &TypeUse,
+    modifiers: &[LocalModifier],
+) -> BaseType
     requires few { Few program.now }
     ensures { result ≡ spec.type_of_use program.now (placed_type_use type_use.now) (local.annotations_of modifiers.now) }
 {
@@ -181,7 +185,11 @@ fn bound_of_use(type_use: &TypeUse, modifiers: &[LocalModifier]) -> Option<Bound
 }
 
 /// The type and the bound that a declaration writes for its locals.
-pub fn kind_of(program: &IndexedProgram, type_use: &TypeUse, modifiers: &[LocalModifier]) -> LocalKind
+pub fn kind_of(
+    program: &IndexedProgram,
+    type_use: &TypeUse,
+    modifiers: &[LocalModifier],
+) -> LocalKind
     requires few { Few program.now }
     ensures base { result.base ≡ spec.type_of_use program.now (placed_type_use type_use.now) (local.annotations_of modifiers.now) }
     ensures bound { view.bound_of result.bound ≡ local.bound_of (local.own_annotations (placed_type_use type_use.now).array (local.annotations_of modifiers.now)) }

@@ -14,9 +14,9 @@ use crate::context::{Access, Callee, Context, Meaning};
 use crate::lookup::{access, callee, meaning};
 use crate::members::{class_or_object, field_base, method_of, result_base, super_method};
 use jn_base::{ClassNo, NameNo};
-use jn_known::NULLABLE;
 use jn_index::fits;
 use jn_index::indexed::IndexedProgram;
+use jn_known::NULLABLE;
 use jn_points::{BaseType, Elem, Operator, StrOperation};
 use jn_trees::{
     Annotation, AssignOperator, Base, BinaryOperator, Expr, Literal, TypeUse, UnaryOperator,
@@ -293,7 +293,11 @@ pub fn simple_type(program: &IndexedProgram, base: Base) -> BaseType
 }
 
 /// The type that is written by a use with the annotations before it.
-pub fn type_of_use(program: &IndexedProgram, type_use: &TypeUse, annotations: &[Annotation]) -> BaseType
+pub fn type_of_use(
+    program: &IndexedProgram,
+    type_use: &TypeUse,
+    annotations: &[Annotation],
+) -> BaseType
     requires few { Few program.now }
     ensures { result ≡ spec.type_of_use program.now (placed_type_use type_use.now) annotations.now }
 {
