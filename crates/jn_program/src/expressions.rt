@@ -17,12 +17,7 @@ use jn_scopes::Context;
 use jn_trees::Expr;
 
 /// Adds the rows J1 to J5 of an expression, and answers whether it has none.
-fn is_clean(
-    tree: &Expr,
-    c: &Context,
-    at: Setting,
-    rows: &mut Seq<Row>,
-) -> Result<bool, OutOfMemory>
+fn is_clean(tree: &Expr, c: &Context, at: Setting, rows: &mut Seq<Row>) -> Result<bool, OutOfMemory>
     requires few { Few c.now.program.now }
     ensures rows { OnOk result (rows.new ≡ rows.old ++ rows_in c.now at (placed_view tree.now)) }
     ensures clean { IfOk result (λ clean. clean ≡ true → rows_in c.now at (placed_view tree.now) ≡ []) }

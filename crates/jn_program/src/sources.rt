@@ -28,7 +28,6 @@ fn push<'a>(sources: &mut Vec<Source<'a>>, source: Source<'a>) -> Result<(), Out
 }
 
 impl<'a> Gathered<'a> {
-
     /// Goes on to the next method. More than 2^32 - 1 count as want of memory.
     fn pass(&mut self) -> Result<(), OutOfMemory>
         ensures { OnOk result (numbered_of self.new ≡ gathered (numbered_of self.old) (None ∷ [])) }
@@ -74,13 +73,17 @@ fn member<'a>(
     match member {
         Member::Field { .. } => Ok(()),
         Member::Method {
-            parameters, body, ..
+            parameters,
+            body,
+            ..
         } => match body {
             None => made.pass(),
             Some(body) => made.add(parameters, body, all),
         },
         Member::Constructor {
-            parameters, body, ..
+            parameters,
+            body,
+            ..
         } => {
             if interface {
                 Ok(())

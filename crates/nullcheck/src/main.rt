@@ -30,13 +30,6 @@ fn main(rt: HostRuntime) -> ExitCode {
     };
     let mut files = HostFiles::new(&rt);
     let mut out = HostSink::new(&rt);
-    let status = nullcheck(
-        &rt,
-        rt.alloc(),
-        &words,
-        &mut files,
-        &mut out,
-        &Straight,
-    );
+    let status = nullcheck(&rt, rt.alloc(), &words, &mut files, &mut out, &Straight);
     ExitCode::from(status.number())
 }

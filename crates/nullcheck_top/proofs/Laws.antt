@@ -1,5 +1,5 @@
 -- Accepted programs are safe, and files have one report.
-use Rattle.std.proofs.Common.{◌≡◌, ◌↔◌, ℕ, zero, suc, ◌<◌, arith, List, [], ◌∷◌, length, Option, inl, inr, refl, sym, ap, ◌∙◌, subst}
+use Rattle.std.proofs.Common.{◌≡◌, ◌↔◌, ℕ, ◌<◌, arith, List, [], ◌∷◌, length, Option, inl, inr, refl, sym, ap, ◌∙◌, subst}
 use Rattle.std.specs.Prelude.{Contains}
 use Rattle.jn_base.specs.declared.place.Row.{Row}
 use Rattle.jn_quals.specs.Qualifier.{Qualifier}
@@ -16,7 +16,7 @@ use Rattle.jn_inference_law.specs.Solution.{IsLeastSignature}
 use Rattle.jn_diag.specs.Order.{IsOrderOf}
 use Rattle.jn_front.specs.declared.source.SourceFile.{SourceFile}
 use Rattle.jn_front.specs.Phases.{AreParsed, FrontRows}
-use Rattle.nullcheck_top.specs.Report.{AreDeclared, AreLowered, LoweringRows, PhaseRows, ProgramOf, ProgramRows, TypedProgramOf, TypeRows, Report, Refused, Checked, RulesGive, TableRows, TreeRows, IsPhase, IsCheckedBy, IsReport, lowering_rows, table_rows}
+use Rattle.nullcheck_top.specs.Report.{AreDeclared, AreLowered, LoweringRows, PhaseRows, ProgramOf, ProgramRows, TypedProgramOf, TypeRows, Report, Refused, Checked, RulesGive, TableRows, TreeRows, IsPhase, IsReport, lowering_rows, table_rows}
 use Rattle.nullcheck_top.proofs.Programs.{never_typed, same_order}
 use Rattle.nullcheck_top.proofs.RuleRows.{breaks_once}
 

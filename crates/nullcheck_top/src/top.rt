@@ -1,7 +1,6 @@
 //! Words in, the report out.
-ghost use Rattle.std.specs.Prelude.{◌≡◌, ◌≢◌, ◌<◌, ◌≤◌, ◌⊎◌, ℕ, List, map, Option, None, Some, ◌∷◌, [], IfOk, IfErr, length, Err, Ok, OnOk, true, false};
+ghost use Rattle.std.specs.Prelude.{◌≡◌, ◌≢◌, ◌<◌, map, None, Some, length, true, false};
 ghost use Rattle.std.specs.String.{string_bytes};
-ghost use Rattle.std.specs.Option.{option_copied};
 ghost use Rattle.jn_outside.specs.Causes.{Rose};
 ghost use Rattle.jn_outside.specs.Files.{Holds};
 ghost use Rattle.nullcheck_top.specs.Words.{files_of, begins_with_dash, any_dash};
