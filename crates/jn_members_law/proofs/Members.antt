@@ -34,12 +34,12 @@ named_parts m name arity h = by m.ctor refl h
 pub parts_named : (m : Method) (name arity : ℕ) → m.ctor ≡ false → m.name.0 ≡ name → length m.params ≡ arity → is_named m name arity ≡ true
 parts_named m name arity c n a = rw c (and_both (eqb m.name.0 name) (eqb (length m.params) arity) (eq-eqb m.name.0 name n) (eq-eqb (length m.params) arity a))
 
-three : (a b c : Bool) → (a && b && c) ≡ true → (a ≡ true) × (b ≡ true) × (c ≡ true)
+pub three : (a b c : Bool) → (a && b && c) ≡ true → (a ≡ true) × (b ≡ true) × (c ≡ true)
 three true true c h = (refl, refl, h)
 three true false c h = cc
 three false b c h = cc
 
-three_both : (a b c : Bool) → a ≡ true → b ≡ true → c ≡ true → (a && b && c) ≡ true
+pub three_both : (a b c : Bool) → a ≡ true → b ≡ true → c ≡ true → (a && b && c) ≡ true
 three_both true true c e f h = h
 three_both true false c e f h = cc
 three_both false b c e f h = cc

@@ -78,7 +78,7 @@ module _ (P : Program) where
   pub parent_or_interface : (c d : ℕ) → IsDirectSuper P c d → ((p : ClassNo) × (parent_of (class_info P c) ≡ Some p) × (p.0 ≡ d)) ⊎ ((some_of (λ t. eqb t.0 d) (interfaces P c) ≡ true) × (is_class (parent_of (class_info P c)) (record { 0 = d }) ≡ false))
   parent_or_interface c d h = parent_or_other (parent_of (class_info P c)) (supers_of (class_info P c)) d h
 
-  reaches_self : (k c : ℕ) → reaches P k c c ≡ true
+  pub reaches_self : (k c : ℕ) → reaches P k c c ≡ true
   reaches_self zero c = eq-eqb c c refl
   reaches_self (suc k) c = or_left (eqb c c) (some_of (λ s. reaches P k s.0 c) (supers_of (class_info P c))) (eq-eqb c c refl)
 
@@ -135,7 +135,7 @@ module _ (P : Program) where
         let l : C.rank c < length P.classes = C.few c in
         or_right (eqb d 0) (reaches P (length P.classes) c d) (supers_reached a.between c d (length P.classes) a.by (omega arith))
 
-    supers_lower : (ss : List ℕ) (c d : ℕ) → SuperBy P ss c d → C.rank d < C.rank c
+    pub supers_lower : (ss : List ℕ) (c d : ℕ) → SuperBy P ss c d → C.rank d < C.rank c
     supers_lower [] c d h = lower c d h
     supers_lower (s ∷ ss) c d h = let a : C.rank s < C.rank c = lower c s h.0 in let b : C.rank d < C.rank s = supers_lower ss s d h.1 in omega arith
 

@@ -23,7 +23,7 @@ module _ (P : Program) where
       ∙ or_first (first_some f (walk_parent P (walk_by P k) (parent_of (class_info P c)))) (first_some f (flat_map (λ (s : ClassNo). walk_by P k s.0) (interfaces P c))) m there)
 
   -- what a direct supertype finds, the class finds, or something before it
-  by_super : (f : ℕ → Option ℕ) (k c d m : ℕ) → IsDirectSuper P c d → first_some f (walk_by P k d) ≡ Some m → (j : ℕ) × (first_some f (walk_by P (suc k) c) ≡ Some j)
+  pub by_super : (f : ℕ → Option ℕ) (k c d m : ℕ) → IsDirectSuper P c d → first_some f (walk_by P k d) ≡ Some m → (j : ℕ) × (first_some f (walk_by P (suc k) c) ≡ Some j)
   by_super f k c d m u found = by (found_or_none (f c)) (parent_or_interface P c d u)
     where
       by : (f c ≡ None) ⊎ ((j : ℕ) × (f c ≡ Some j)) → ((p : ClassNo) × (parent_of (class_info P c) ≡ Some p) × (p.0 ≡ d)) ⊎ ((some_of (λ t. eqb t.0 d) (interfaces P c) ≡ true) × (is_class (parent_of (class_info P c)) (record { 0 = d }) ≡ false)) → (j : ℕ) × (first_some f (walk_by P (suc k) c) ≡ Some j)
@@ -35,7 +35,7 @@ module _ (P : Program) where
           (o.0, or_none (f c) (first_some f (walk_parent P (walk_by P k) (parent_of (class_info P c)) ++ flat_map (λ (s : ClassNo). walk_by P k s.0) (interfaces P c))) e ∙ (first_some_append f (walk_parent P (walk_by P k) (parent_of (class_info P c))) (flat_map (λ (s : ClassNo). walk_by P k s.0) (interfaces P c)) ∙ o.1))
 
   -- what the class itself finds comes first
-  in_class : (f : ℕ → Option ℕ) (k c j : ℕ) → 0 < k → f c ≡ Some j → first_some f (walk_by P k c) ≡ Some j
+  pub in_class : (f : ℕ → Option ℕ) (k c j : ℕ) → 0 < k → f c ≡ Some j → first_some f (walk_by P k c) ≡ Some j
   in_class f zero c j l e = absurd (omega arith)
   in_class f (suc k) c j l e = or_first (f c) (first_some f (walk_parent P (walk_by P k) (parent_of (class_info P c)) ++ flat_map (λ (s : ClassNo). walk_by P k s.0) (interfaces P c))) j e
 

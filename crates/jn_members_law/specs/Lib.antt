@@ -1,4 +1,5 @@
 pub mod Inherited
+pub mod InheritedFields
 pub mod Overrides
 pub mod Invoked
 pub mod Example

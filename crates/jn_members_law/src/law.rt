@@ -1,12 +1,14 @@
 // Laws over the definitions.
 ghost use Rattle.std.specs.Prelude.{ℕ, ◌≡◌, ◌⊎◌, length, true, false, Some};
+ghost use Rattle.jn_points.specs.declared.program.Field.{Field as FieldOf};
 ghost use Rattle.jn_points.specs.declared.program.Method.{Method as MethodOf};
 ghost use Rattle.jn_points.specs.declared.program.Program.{Program as ProgramOf};
 ghost use Rattle.jn_points.specs.Lookup.{method_at};
-ghost use Rattle.jn_points.specs.Members.{method_of, dispatch, is_pair, sub};
+ghost use Rattle.jn_points.specs.Members.{method_of, field_of, dispatch, is_pair, sub};
 ghost use Rattle.jn_points.specs.Regular.{RegularClasses, Implements, IsConcrete};
 ghost use Rattle.jn_points.specs.Shaped.{IsVirtual};
 ghost use Rattle.jn_members_law.specs.Inherited.{IsInterface, IsMember, KeepsAccess, AbstractInterfaces, RegularMethods};
+ghost use Rattle.jn_members_law.specs.InheritedFields.{IsFieldMember, RegularFields};
 ghost use Rattle.jn_members_law.specs.Overrides.{OverridesFrom, OverridesThere};
 ghost use Rattle.jn_members_law.specs.Invoked.{IsInvoked};
 
@@ -18,6 +20,14 @@ pub fn methods_are_members()
     ensures member { (P : ProgramOf) → RegularClasses P → KeepsAccess P → (c name arity m : ℕ) → method_of P c name arity ≡ Some m → (x : MethodOf) × IsMember P c m x × (x.name.0 ≡ name) × (length x.params ≡ arity) }
     ensures found { (P : ProgramOf) → RegularClasses P → (c m : ℕ) (x : MethodOf) → IsMember P c m x → (j : ℕ) × (method_of P c x.name.0 (length x.params) ≡ Some j) }
     ensures unique { (P : ProgramOf) → RegularClasses P → RegularMethods P → (c m : ℕ) (x : MethodOf) → IsMember P c m x → IsInterface P x.owner.0 false → method_of P c x.name.0 (length x.params) ≡ Some m }
+{}
+
+/// The field that a class has for a name is its member of the name (JLS 8, 8.2 and 8.3): what it has
+/// is a member, it has each member, and of one name there is one.
+pub fn fields_are_members()
+    ensures member { (P : ProgramOf) → RegularClasses P → RegularFields P → (c name f : ℕ) → field_of P c name ≡ Some f → (x : FieldOf) × IsFieldMember P c f x × (x.name.0 ≡ name) }
+    ensures found { (P : ProgramOf) → RegularClasses P → RegularFields P → (c f : ℕ) (x : FieldOf) → IsFieldMember P c f x → field_of P c x.name.0 ≡ Some f }
+    ensures one { (P : ProgramOf) → RegularClasses P → RegularFields P → (c f g : ℕ) (x y : FieldOf) → IsFieldMember P c f x → IsFieldMember P c g y → x.name.0 ≡ y.name.0 → f ≡ g }
 {}
 
 /// An instance method that is in an overriding pair overrides the other one (JLS 8, 8.4.8.1 and
