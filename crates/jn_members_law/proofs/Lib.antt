@@ -5,4 +5,5 @@ pub mod Unique
 pub mod Fields
 pub mod Pairs
 pub mod Dispatch
+pub mod ExampleLists
 pub mod Examples

@@ -11,6 +11,7 @@ ghost use Rattle.jn_members_law.specs.Inherited.{IsInterface, IsMember, KeepsAcc
 ghost use Rattle.jn_members_law.specs.InheritedFields.{IsFieldMember, RegularFields};
 ghost use Rattle.jn_members_law.specs.Overrides.{OverridesFrom, OverridesThere};
 ghost use Rattle.jn_members_law.specs.Invoked.{IsInvoked};
+ghost use Rattle.jn_members_law.specs.Example.{example, x_of_a, f_of_i, f_of_j, f_of_a, f_of_c};
 
 /// The method that a class has is one of its members (JLS 8, 8.2 and 8.4.8), it has one for each
 /// member, and where a class declares a member, this is the one.
@@ -49,4 +50,20 @@ pub fn dispatch_invokes()
     ensures invoked { (P : ProgramOf) → RegularClasses P → RegularMethods P → AbstractInterfaces P → (s m k : ℕ) (named : MethodOf) → method_at P m ≡ Some named → dispatch P s m ≡ Some k → (x : MethodOf) × IsInvoked P s named k x }
     ensures one { (P : ProgramOf) → RegularClasses P → RegularMethods P → (s k j : ℕ) (named x y : MethodOf) → IsInvoked P s named k x → IsInvoked P s named j y → k ≡ j }
     ensures selected { (P : ProgramOf) → RegularClasses P → RegularMethods P → AbstractInterfaces P → Implements P → (s m k : ℕ) (named x : MethodOf) → method_at P m ≡ Some named → IsConcrete P s → IsVirtual P m → sub P s named.owner.0 ≡ true → IsInvoked P s named k x → dispatch P s m ≡ Some k }
+{}
+
+/// A program meets all premises of these laws at once, and in it a class inherits a method and a
+/// field, methods override from a class and from an interface, and a method is dispatched to.
+pub fn example_meets_premises()
+    ensures classes { RegularClasses example }
+    ensures methods { RegularMethods example }
+    ensures fields { RegularFields example }
+    ensures access { KeepsAccess example }
+    ensures abstract_interfaces { AbstractInterfaces example }
+    ensures implements { Implements example }
+    ensures inherits { IsMember example 5 2 f_of_a × IsInterface example 4 false × (method_of example 5 10 0 ≡ Some 2) }
+    ensures inherits_field { IsFieldMember example 5 0 x_of_a × (field_of example 5 12 ≡ Some 0) }
+    ensures overrides { OverridesFrom example 6 4 2 f_of_c f_of_a × IsInterface example 6 false × (is_pair example 4 2 ≡ true) }
+    ensures overrides_there { OverridesThere example 1 0 f_of_j f_of_i × (is_pair example 1 0 ≡ true) }
+    ensures invokes { IsInvoked example 5 f_of_i 2 f_of_a × IsConcrete example 5 × IsVirtual example 0 × (sub example 5 2 ≡ true) × (dispatch example 5 0 ≡ Some 2) }
 {}
