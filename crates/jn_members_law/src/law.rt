@@ -65,5 +65,5 @@ pub fn example_meets_premises()
     ensures inherits_field { IsFieldMember example 5 0 x_of_a × (field_of example 5 12 ≡ Some 0) }
     ensures overrides { OverridesFrom example 6 4 2 f_of_c f_of_a × IsInterface example 6 false × (is_pair example 4 2 ≡ true) }
     ensures overrides_there { OverridesThere example 1 0 f_of_j f_of_i × (is_pair example 1 0 ≡ true) }
-    ensures invokes { IsInvoked example 5 f_of_i 2 f_of_a × IsConcrete example 5 × IsVirtual example 0 × (sub example 5 2 ≡ true) × (dispatch example 5 0 ≡ Some 2) }
+    ensures invokes { IsInvoked example 5 f_of_i 2 f_of_a × (method_at example 0 ≡ Some f_of_i) × IsConcrete example 5 × IsVirtual example 0 × (sub example 5 2 ≡ true) × (dispatch example 5 0 ≡ Some 2) }
 {}

@@ -15,5 +15,5 @@ returns c = record {
   inherits_field = (b_has_x, refl);
   overrides = (c_overrides_a, refl, refl);
   overrides_there = (j_overrides_i, refl);
-  invokes = (b_runs_f, b_concrete, i_virtual, refl, refl);
+  invokes = (b_runs_f, refl, b_concrete, i_virtual, refl, refl);
 }
