@@ -1,7 +1,7 @@
 -- The name and the text of each code.
 use Rattle.std.specs.Prelude.{ℕ, List, codes}
 use Rattle.jn_base.specs.declared.code.Code.{Code}
-use Rattle.jn_base.specs.declared.code.Code.TheVariants.{B1, B2, B3, L1, L2, L3, L4, L5, L6, L7, S1, S2, T1, T2, T3, T4, T5, T6, T7, T8, T9, T10, J1, J2, J3, J4, J5, J6, J7, J8, J9, J10, Deref, Field, FieldInit, Arg, ArgInit, RecvInit, Return, ReturnInit, Local, LocalInit, Elem, ElemInit, NewArray, CtorFields, OvrParam, OvrReceiver, OvrResult, Unbuilt}
+use Rattle.jn_base.specs.declared.code.Code.TheVariants.{B1, B2, B3, L1, L2, L3, L4, L5, L6, L7, S1, S2, T1, T2, T3, T4, T5, T6, T7, T8, T9, T10, J1, J2, J3, J4, J5, J6, J7, J8, J9, J10, Deref, Field, FieldInit, Arg, ArgInit, RecvInit, Return, ReturnInit, Local, LocalInit, Elem, ElemInit, NewArray, CtorFields, OvrParam, OvrReceiver, OvrResult}
 
 abbrev pub code_name : Code → List ℕ
 code_name B1 = codes "B1"
@@ -53,7 +53,6 @@ code_name CtorFields = codes "CTOR-FIELDS"
 code_name OvrParam = codes "OVR-PARAM"
 code_name OvrReceiver = codes "OVR-RECEIVER"
 code_name OvrResult = codes "OVR-RESULT"
-code_name Unbuilt = codes "UNBUILT"
 
 abbrev pub code_text : Code → List ℕ
 code_text B1 = codes "too many files"
@@ -105,4 +104,3 @@ code_text CtorFields = codes "ctor-fields"
 code_text OvrParam = codes "ovr-param"
 code_text OvrReceiver = codes "ovr-receiver"
 code_text OvrResult = codes "ovr-result"
-code_text Unbuilt = codes "not built yet"

@@ -104,8 +104,6 @@ pub enum Code {
     OvrReceiver,
     /// `OVR-RESULT`: ovr-result.
     OvrResult,
-    /// `UNBUILT`: not built yet.
-    Unbuilt,
 }
 
 impl Code {
@@ -163,7 +161,6 @@ impl Code {
             Code::OvrParam => "OVR-PARAM",
             Code::OvrReceiver => "OVR-RECEIVER",
             Code::OvrResult => "OVR-RESULT",
-            Code::Unbuilt => "UNBUILT",
         }
     }
 
@@ -221,7 +218,6 @@ impl Code {
             Code::OvrParam => "ovr-param",
             Code::OvrReceiver => "ovr-receiver",
             Code::OvrResult => "ovr-result",
-            Code::Unbuilt => "not built yet",
         }
     }
 }

@@ -62,5 +62,5 @@ one_more rows row counts within h code =
     ∙ sym (count_more (λ other. code_place other.code == code_place code) rows row)
 
 pub fresh : (sheet : Lined) → sheet ≡ nothing_lined
-    → (sheet.lines ≡ summary_lines sheet.rows) × Counts sheet.rows (zeros 50) × (length sheet.rows < 2 ^ 63)
-fresh sheet is = subst (λ (s : Lined). (s.lines ≡ summary_lines s.rows) × Counts s.rows (zeros 50) × (length s.rows < 2 ^ 63)) (sym is) (no_lines, (λ code. zero_at 50 (code_place code)), lit< tt)
+    → (sheet.lines ≡ summary_lines sheet.rows) × Counts sheet.rows (zeros 49) × (length sheet.rows < 2 ^ 63)
+fresh sheet is = subst (λ (s : Lined). (s.lines ≡ summary_lines s.rows) × Counts s.rows (zeros 49) × (length s.rows < 2 ^ 63)) (sym is) (no_lines, (λ code. zero_at 49 (code_place code)), lit< tt)

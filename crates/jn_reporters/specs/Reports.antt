@@ -3,7 +3,7 @@ use Rattle.std.specs.Prelude.{ℕ, ◌==◌, ◌++◌, List, [], ◌∷◌, Opti
 use Rattle.std.specs.List.{flat_map}
 use Rattle.jn_base.specs.Codes.{code_name, code_text}
 use Rattle.jn_base.specs.declared.code.Code.{Code}
-use Rattle.jn_base.specs.declared.code.Code.TheVariants.{B1, B2, B3, L1, L2, L3, L4, L5, L6, L7, S1, S2, T1, T2, T3, T4, T5, T6, T7, T8, T9, T10, J1, J2, J3, J4, J5, J6, J7, J8, J9, J10, Deref, Field, FieldInit, Arg, ArgInit, RecvInit, Return, ReturnInit, Local, LocalInit, Elem, ElemInit, NewArray, CtorFields, OvrParam, OvrReceiver, OvrResult, Unbuilt}
+use Rattle.jn_base.specs.declared.code.Code.TheVariants.{B1, B2, B3, L1, L2, L3, L4, L5, L6, L7, S1, S2, T1, T2, T3, T4, T5, T6, T7, T8, T9, T10, J1, J2, J3, J4, J5, J6, J7, J8, J9, J10, Deref, Field, FieldInit, Arg, ArgInit, RecvInit, Return, ReturnInit, Local, LocalInit, Elem, ElemInit, NewArray, CtorFields, OvrParam, OvrReceiver, OvrResult}
 use Rattle.jn_diag.specs.Order.{code_place}
 use Rattle.jn_diag.specs.declared.shown.RowText.{RowText}
 use Rattle.jn_diag.specs.declared.shown.Verdict.{Verdict}
@@ -46,7 +46,7 @@ all_codes =
     ∷ T1 ∷ T2 ∷ T3 ∷ T4 ∷ T5 ∷ T6 ∷ T7 ∷ T8 ∷ T9 ∷ T10
     ∷ J1 ∷ J2 ∷ J3 ∷ J4 ∷ J5 ∷ J6 ∷ J7 ∷ J8 ∷ J9 ∷ J10
     ∷ Deref ∷ Field ∷ FieldInit ∷ Arg ∷ ArgInit ∷ RecvInit ∷ Return ∷ ReturnInit ∷ Local ∷ LocalInit
-    ∷ Elem ∷ ElemInit ∷ NewArray ∷ CtorFields ∷ OvrParam ∷ OvrReceiver ∷ OvrResult ∷ Unbuilt ∷ []
+    ∷ Elem ∷ ElemInit ∷ NewArray ∷ CtorFields ∷ OvrParam ∷ OvrReceiver ∷ OvrResult ∷ []
 
 -- how many rows have the code
 abbrev pub count_of : List RowText → Code → ℕ

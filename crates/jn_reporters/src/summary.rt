@@ -13,7 +13,7 @@ use jn_diag::{RowText, Verdict};
 use std::alloc::{AllocError, Global};
 use std::marker::Model;
 
-const CODES: [Code; 50] = [
+const CODES: [Code; 49] = [
     Code::B1,
     Code::B2,
     Code::B3,
@@ -63,7 +63,6 @@ const CODES: [Code; 50] = [
     Code::OvrParam,
     Code::OvrReceiver,
     Code::OvrResult,
-    Code::Unbuilt,
 ];
 
 /// Shows a line `CODE COUNT` for each code that occurs, in the order of the codes, and then the verdict.
@@ -71,7 +70,7 @@ const CODES: [Code; 50] = [
 pub struct Summary {
     sheet: Sheet,
     /// How many rows have each code, by its place in the order of the codes.
-    counts: [u64; 50],
+    counts: [u64; 49],
 }
 
 impl Model for Summary {
@@ -93,7 +92,7 @@ impl Summary {
     {
         Summary {
             sheet: Sheet::new(alloc),
-            counts: [0; 50],
+            counts: [0; 49],
         }
     }
 }
@@ -135,12 +134,12 @@ impl Reporter for Summary {
 #[tactic(auto, unfolding(jn_diag::specs::Order::code_place))]
 fn place(code: Code) -> usize
     ensures place { result ≡ code_place code }
-    ensures bound { result < 50 }
+    ensures bound { result < 49 }
 {
     code as usize
 }
 
-fn one_more(counts: &[u64; 50], code: Code) -> [u64; 50]
+fn one_more(counts: &[u64; 49], code: Code) -> [u64; 49]
     requires { slice_index counts.now (code_place code) < 2 ^ 64 - 1 }
     ensures more { result ≡ slice_set counts.now (code_place code) (slice_index counts.now (code_place code) + 1) }
     ensures within { code_place code < length counts.now }
@@ -150,7 +149,7 @@ fn one_more(counts: &[u64; 50], code: Code) -> [u64; 50]
     more
 }
 
-fn count_lines(alloc: Global, codes: &[Code], counts: &[u64; 50]) -> Result<Vec<u8>, AllocError>
+fn count_lines(alloc: Global, codes: &[Code], counts: &[u64; 49]) -> Result<Vec<u8>, AllocError>
     ensures { IfOk result (λ lines. lines.items ≡ lines_of codes.now counts.now) }
 {
     let mut lines = Vec::new(alloc);
