@@ -1,5 +1,5 @@
 -- The form of a main as a test, and the one method that has it.
-use Rattle.std.proofs.Common.{◌≡◌, ℕ, zero, suc, ◌<◌, ◌+◌, ◌≤◌, ◌⊎◌, inl, inr, ⊎_elim, arith, Bool, true, false, not, ◌&&◌, IsTrue, List, [], ◌∷◌, Option, Some, None, length, refl, sym, ap, ◌∙◌, subst}
+use Rattle.std.proofs.Common.{◌≡◌, ℕ, zero, suc, ◌<◌, ◌+◌, ◌≤◌, ◌⊎◌, inl, inr, ⊎_elim, arith, Bool, true, false, not, ◌&&◌, List, [], ◌∷◌, Option, Some, None, length, refl, sym, ap, ◌∙◌, subst}
 use Rattle.std.specs.Prelude.{slice_get}
 use Rattle.std.proofs.lemmas.Bool.{and_from, and_parts, both_ways}
 use Rattle.std.proofs.lemmas.Option.{slice_get_within}
@@ -11,9 +11,8 @@ use Rattle.jn_quals.specs.Order.{committed_only, within}
 use Rattle.jn_points.specs.declared.program.Method.{Method}
 use Rattle.jn_points.specs.declared.program.SlotInfo.{SlotInfo}
 use Rattle.jn_points.specs.declared.program.Program.{Program}
-use Rattle.jn_points.specs.Lookup.{body_of, body_no, method_at}
+use Rattle.jn_points.specs.Lookup.{body_no, method_at}
 use Rattle.jn_points.specs.Regular.{has_body}
-use Rattle.jn_heap.specs.Machine.{MainForm}
 use Rattle.jn_accept.specs.Accepting.{IsMain, IsOnlyMain}
 use Rattle.jn_accept.specs.Mains.{has_form, is_committed, takes_committed}
 

@@ -1,6 +1,5 @@
 -- The form of a main, as a test.
-use Rattle.std.specs.Prelude.{ℕ, ◌<◌, ◌≤◌, Bool, true, false, not, ◌&&◌, List, [], ◌∷◌, Option, Some, None, slice_get}
-use Rattle.jn_base.specs.declared.number.BodyNo.{BodyNo}
+use Rattle.std.specs.Prelude.{ℕ, ◌<◌, ◌≤◌, Bool, false, not, ◌&&◌, List, [], ◌∷◌, Option, Some, None, slice_get}
 use Rattle.jn_base.specs.declared.number.SlotNo.{SlotNo}
 use Rattle.jn_quals.specs.Order.{committed_only, within}
 use Rattle.jn_points.specs.declared.program.Method.{Method}

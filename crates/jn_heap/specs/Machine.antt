@@ -19,7 +19,7 @@ use Rattle.jn_points.specs.declared.program.SlotInfo.{SlotInfo}
 use Rattle.jn_points.specs.declared.program.Program.{Program}
 use Rattle.jn_points.specs.Lookup.{regs_of, class_of, body_of, dereferences, body_at, point_at, method_at, elem_base}
 use Rattle.jn_points.specs.Members.{sub, dispatch, has_field}
-use Rattle.jn_heap.specs.Values.{Prim, Number, Truth, Value, NullRef, Text, Plain, At, Thing, Object, Elems, End, Done, Index, ClassCast, ArrayStore, Deep, Long, Got, Gives, Fails, Lacks, longest, deepest, number_of, unary, binary, units, text_of, same, text_op, index, count, default_of, defaults, statics_of}
+use Rattle.jn_heap.specs.Values.{Prim, Number, Truth, Value, NullRef, Text, Plain, At, Thing, Object, Elems, End, Done, Index, ClassCast, ArrayStore, Deep, Long, Got, Gives, Fails, Lacks, Limits, number_of, unary, binary, units, text_of, same, text_op, index, count, default_of, defaults, statics_of}
 
 abbrev pub Regs : Type 0
 Regs = List (Option Value)
@@ -29,17 +29,19 @@ pub record Frame : Type 0 where
   pub at : ℕ
   pub regs : List (Option Value)
 
+-- no step changes the limits
 pub record State : Type 0 where
+  pub limits : Limits
   pub heap : List Thing
   pub statics : List Prim
   pub out : List ℕ
   pub top : Frame
   pub waiting : List Frame
 
--- a state, an end, or what no base-typed program without a null fault does
+-- a state, an end with the state whose point ended the run, or what no base-typed program without a null fault does
 pub data Next : Type 0 where
   Goes : (state : State) → Next
-  Ends : (end : End) → Next
+  Ends : (end : End) (state : State) → Next
   Stuck : Next
 
 abbrev pub value_at : Regs → ℕ → Option Value
@@ -100,7 +102,7 @@ sets st dst v = Goes (record st { top = holds_at st.top dst v })
 
 abbrev pub got_sets : State → ℕ → Got Value → Next
 got_sets st dst (Gives v) = sets st dst v
-got_sets st dst (Fails e) = Ends e
+got_sets st dst (Fails e) = Ends e st
 got_sets st dst Lacks = Stuck
 
 abbrev pub gather_more : Option Value → Option (List Value) → Option (List Value)
@@ -132,7 +134,7 @@ allocates st dst x = Goes (record st { heap = st.heap ++ x ∷ []; top = holds_a
 
 abbrev pub put_thing : State → ℕ → Got Thing → Next
 put_thing st o (Gives x) = Goes (record st { heap = slice_set st.heap o x; top = moves_to st.top (st.top.at + 1) })
-put_thing st o (Fails e) = Ends e
+put_thing st o (Fails e) = Ends e st
 put_thing st o Lacks = Stuck
 
 -- the frame waits no more
@@ -197,10 +199,10 @@ text_or_long t true = Fails Long
 text_or_long t false = Gives (Text t)
 
 -- JLS 8, 15.18.1
-abbrev pub concat_of : Option (List ℕ) → Option (List ℕ) → Got Value
-concat_of None u = Lacks
-concat_of (Some t) None = Lacks
-concat_of (Some t) (Some u) = text_or_long (t ++ u) (ltb longest (units (t ++ u)))
+abbrev pub concat_of : ℕ → Option (List ℕ) → Option (List ℕ) → Got Value
+concat_of longest None u = Lacks
+concat_of longest (Some t) None = Lacks
+concat_of longest (Some t) (Some u) = text_or_long (t ++ u) (ltb longest (units (t ++ u)))
 
 abbrev pub same_of : Bool → Option Value → Option Value → Got Value
 same_of equal None w = Lacks
@@ -246,12 +248,12 @@ array_len heap (Some o) = length_in (slice_get heap o)
 
 abbrev pub new_array : State → ℕ → BaseType → Got ℕ → Next
 new_array st dst b (Gives n) = allocates st dst (Elems b (replicate n (default_of (elem_base b))))
-new_array st dst b (Fails e) = Ends e
+new_array st dst b (Fails e) = Ends e st
 new_array st dst b Lacks = Stuck
 
-abbrev pub count_of : Option ℤ → Got ℕ
-count_of None = Lacks
-count_of (Some n) = count n
+abbrev pub count_of : ℕ → Option ℤ → Got ℕ
+count_of longest None = Lacks
+count_of longest (Some n) = count longest n
 
 abbrev pub array_of : State → ℕ → BaseType → Option (List Value) → Next
 array_of st dst b None = Stuck
@@ -351,13 +353,13 @@ module _ (P : Program) where
   entered b vs = record { body = b; at = 0; regs = pad vs (regs_of (body_at P b)) }
 
   abbrev pub enter : Bool → State → List Thing → Option ℕ → List Value → Next
-  enter true st heap b vs = Ends Deep
+  enter true st heap b vs = Ends Deep st
   enter false st heap None vs = Stuck
-  enter false st heap (Some b) vs = Goes (record { heap = heap; statics = st.statics; out = st.out; top = entered b vs; waiting = st.top ∷ st.waiting })
+  enter false st heap (Some b) vs = Goes (record st { heap = heap; top = entered b vs; waiting = st.top ∷ st.waiting })
 
   -- a frame for the method's body, where that makes at most so many
   abbrev pub enters : State → List Thing → ℕ → List Value → Next
-  enters st heap m vs = enter (ltb deepest (length st.waiting + 2)) st heap (body_of (method_at P m)) vs
+  enters st heap m vs = enter (ltb st.limits.deepest (length st.waiting + 2)) st heap (body_of (method_at P m)) vs
 
   -- JLS 8, 15.9.4: the object with default fields, then its constructor
   abbrev pub news : State → ℕ → Option (List Value) → Next
@@ -394,7 +396,7 @@ module _ (P : Program) where
 
   -- main's frame is the last
   abbrev pub returns : State → List Frame → Option Value → Option Value → Next
-  returns st [] this v = Ends Done
+  returns st [] this v = Ends Done st
   returns st (w ∷ ws) this v = takes_at st w ws this v (point_at P w.body w.at)
 
 module _ (P : Program) (names : List (List ℕ)) where
@@ -403,7 +405,7 @@ module _ (P : Program) (names : List (List ℕ)) where
   act st (Move dst from bound) = got_sets st dst.0 (got_of (value_at st.top.regs from.reg.0))
   act st (Unary dst negate of) = got_sets st dst.0 (unary_of negate (prim_of (value_at st.top.regs of.reg.0)))
   act st (Binary dst op l r) = got_sets st dst.0 (binary_of op (prim_of (value_at st.top.regs l.reg.0)) (prim_of (value_at st.top.regs r.reg.0)))
-  act st (Concat dst l r) = got_sets st dst.0 (concat_of (text_in (value_at st.top.regs l.reg.0)) (text_in (value_at st.top.regs r.reg.0)))
+  act st (Concat dst l r) = got_sets st dst.0 (concat_of st.limits.longest (text_in (value_at st.top.regs l.reg.0)) (text_in (value_at st.top.regs r.reg.0)))
   act st (SameRef dst equal l r) = got_sets st dst.0 (same_of equal (value_at st.top.regs l.reg.0) (value_at st.top.regs r.reg.0))
   act st (FieldRead dst r f) = got_sets st dst.0 (read_field P st.heap (object_of (value_at st.top.regs r.reg.0)) f.0)
   act st (FieldWrite r f v) = write_field P st (object_of (value_at st.top.regs r.reg.0)) f.0 (value_at st.top.regs v.reg.0)
@@ -412,7 +414,7 @@ module _ (P : Program) (names : List (List ℕ)) where
   act st (ElemRead dst r i) = got_sets st dst.0 (read_elem st.heap (object_of (value_at st.top.regs r.reg.0)) (int_of (prim_of (value_at st.top.regs i.reg.0))))
   act st (ElemWrite r i v) = write_elem P st (object_of (value_at st.top.regs r.reg.0)) (int_of (prim_of (value_at st.top.regs i.reg.0))) (value_at st.top.regs v.reg.0)
   act st (ArrayLen dst r) = got_sets st dst.0 (array_len st.heap (object_of (value_at st.top.regs r.reg.0)))
-  act st (NewArray dst b n) = new_array st dst.0 b (count_of (int_of (prim_of (value_at st.top.regs n.reg.0))))
+  act st (NewArray dst b n) = new_array st dst.0 b (count_of st.limits.longest (int_of (prim_of (value_at st.top.regs n.reg.0))))
   act st (ArrayOf dst b xs) = array_of st dst.0 b (gather st.top.regs xs)
   act st (New dst m args) = news P st m.0 (gather st.top.regs args)
   act st (CtorCall m args own) = ctor_calls P st m.0 (value_at st.top.regs 0) (gather st.top.regs args)
@@ -436,7 +438,7 @@ module _ (P : Program) (names : List (List ℕ)) where
 
   abbrev pub then_step : Next → Next
   then_step (Goes st) = step st
-  then_step (Ends e) = Ends e
+  then_step (Ends e st) = Ends e st
   then_step Stuck = Stuck
 
   -- so many steps, or the end that came first
@@ -466,8 +468,9 @@ module _ (P : Program) where
   NullFault st = fault_at st.top.regs (point_at P st.top.body st.top.at)
 
   -- one frame of body b, the words as an array, static fields at their initializers, and nothing printed
-  abbrev pub start_state : ℕ → List (List ℕ) → State
-  start_state b words = record {
+  abbrev pub start_state : Limits → ℕ → List (List ℕ) → State
+  start_state limits b words = record {
+    limits = limits;
     heap = Elems words_base (texts words) ∷ [];
     statics = statics_of P.fields;
     out = [];
@@ -488,6 +491,6 @@ module _ (P : Program) where
     pub written : info.inferred ≡ false
     pub committed : info.start ≡ committed_only
 
-  -- no run of a main reaches a null dereference, with any texts of strings, any words and any number of steps
+  -- no run of a main reaches a null dereference, within any limits, with any texts of strings, any words and any number of steps
   abbrev pub NeverNull : Type 0
-  NeverNull = (m b : ℕ) → MainForm m b → (names words : List (List ℕ)) (n : ℕ) (st : State) → run P names (Goes (start_state b words)) n ≡ Goes st → NullFault st → ⊥
+  NeverNull = (m b : ℕ) → MainForm m b → (limits : Limits) (names words : List (List ℕ)) (n : ℕ) (st : State) → run P names (Goes (start_state limits b words)) n ≡ Goes st → NullFault st → ⊥

@@ -45,13 +45,14 @@ pub data Got (A : Type 0) : Type 0 where
   Fails : (end : End) → Got A
   Lacks : Got A
 
--- greatest number of elements of an array or of units of a text
-abbrev pub longest : ℕ
-longest = 16777216
+-- the greatest number of frames, and that of elements of an array or of units of a text
+pub record Limits : Type 0 where
+  pub deepest : ℕ
+  pub longest : ℕ
 
--- greatest number of frames
-abbrev pub deepest : ℕ
-deepest = 4096
+-- those of the interpreter
+abbrev pub usual_limits : Limits
+usual_limits = record { deepest = 4096; longest = 16777216 }
 
 abbrev pub is_zero : ℤ → Bool
 is_zero (pos n) = eqb n 0
@@ -149,9 +150,9 @@ index (pos n) = Some n
 index (negsuc n) = None
 
 -- the length of a new array (JLS 8, 15.10.1)
-abbrev pub count : ℤ → Got ℕ
-count (pos n) = cond (ltb longest n) (Fails Long) (Gives n)
-count (negsuc n) = Fails NegativeSize
+abbrev pub count : ℕ → ℤ → Got ℕ
+count longest (pos n) = cond (ltb longest n) (Fails Long) (Gives n)
+count longest (negsuc n) = Fails NegativeSize
 
 -- JLS 8, 4.12.5
 abbrev pub default_of : BaseType → Value

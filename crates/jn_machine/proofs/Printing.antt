@@ -13,7 +13,7 @@ use Rattle.jn_machine.specs.StateView.{state_of, next_of}
 use Rattle.jn_machine.specs.Printed.{PrintsTo, PrintsSome}
 use Rattle.jn_machine.proofs.Ending.{run_more, stays_ended, stays_stuck}
 
-appends_none : (w : Option (List ℕ)) → Appends w w []
+pub appends_none : (w : Option (List ℕ)) → Appends w w []
 appends_none None = refl
 appends_none (Some bytes) = ap Some (sym (append-nil bytes))
 
@@ -63,7 +63,7 @@ module _ (P : Program) (names : List (List ℕ)) (first : MachineState) where
       let is : all ≡ (n + 1) + (all - (n + 1)) = omega arith in
       record {
         text = m.text;
-        gives = λ out. rw is (stays_ended P names (Goes (state_of first out)) (end_of e) (n + 1) (all - (n + 1)) (m.gives out));
+        gives = λ out. rw is (stays_ended P names (Goes (state_of first out)) (end_of e) (state_of next (out ++ m.text)) (n + 1) (all - (n + 1)) (m.gives out));
         taken = m.taken;
       }
 

@@ -1,5 +1,5 @@
 -- Parts of the definition's steps, as the code does them.
-use Rattle.std.specs.Prelude.{ℕ, ◌+◌, ◌++◌, Bool, true, false, ltb, length, List, Option, Some, None}
+use Rattle.std.specs.Prelude.{ℕ, ◌≡◌, ◌+◌, ◌++◌, Bool, true, false, ltb, length, List, Option, Some, None}
 use Rattle.jn_base.specs.declared.number.PointNo.{PointNo}
 use Rattle.jn_points.specs.declared.program.Program.{Program}
 use Rattle.jn_points.specs.Lookup.{elem_base}
@@ -25,10 +25,16 @@ put_answer (IsGiven done) x = Gives x
 put_answer (HasFailed e) x = Fails (end_of e)
 put_answer HasNone x = Lacks
 
+-- a thing into which a write failed is as it was
+abbrev pub IsKept : {A : Type 0} → Answer A → Thing → Thing → Type 0
+IsKept (IsGiven done) old new = Unit {0}
+IsKept (HasFailed e) old new = new ≡ old
+IsKept HasNone old new = Unit {0}
+
 -- what a write into a thing of the heap did that left the heap so
 abbrev pub put_next : {A : Type 0} → Answer A → State → List Thing → Next
 put_next (IsGiven done) st heap = Goes (record st { heap = heap; top = moves_to st.top (st.top.at + 1) })
-put_next (HasFailed e) st heap = Ends (end_of e)
+put_next (HasFailed e) st heap = Ends (end_of e) (record st { heap = heap })
 put_next HasNone st heap = Stuck
 
 -- whether a thing may hold the value as an element

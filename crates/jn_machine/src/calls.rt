@@ -1,7 +1,7 @@
 // Calls, new objects and returns.
 ghost use Rattle.std.specs.Prelude.{◌≡◌, ◌<◌, ◌+◌, ◌-◌, ◌^◌, ◌++◌, Bool, ◌∷◌, [], ℕ, List, Some, None, IfOk, MatchOption, length, ltb};
 ghost use Rattle.jn_points.specs.Lookup.{point_at, body_at, regs_of, body_of, class_of, method_at};
-ghost use Rattle.jn_heap.specs.Values.{deepest, defaults, Object, At};
+ghost use Rattle.jn_heap.specs.Values.{defaults, Object, At, usual_limits};
 ghost use Rattle.jn_heap.specs.Machine as spec;
 ghost use Rattle.jn_machine.specs.Ends.{answer_of};
 ghost use Rattle.jn_machine.specs.Parts.{prepended, entry_of};
@@ -25,7 +25,7 @@ use std::mem;
 const DEEPEST: usize = 4_096;
 
 /// The point of a body at a place.
-pub(crate) fn point_at(program: &Program, body: usize, at: usize) -> Option<&Point>
+pub fn point_at(program: &Program, body: usize, at: usize) -> Option<&Point>
     ensures { MatchOption result (point_at program.now body at ≡ None) (λ p. (point_at program.now body at ≡ Some p.now) × (at < 2 ^ 64 - 1)) }
 {
     let bodies = program.bodies.as_slice();
@@ -117,8 +117,8 @@ pub(crate) fn entered(
     Ok(Frame::new(body, regs))
 }
 
-/// The body of a method.
-fn body_of(program: &Program, method: usize) -> Option<u32>
+/// The number of a method's body.
+pub fn body_of(program: &Program, method: usize) -> Option<u32>
     ensures { result ≡ body_of (method_at program.now method) }
 {
     match method_at(program, method) {
@@ -132,7 +132,7 @@ fn body_of(program: &Program, method: usize) -> Option<u32>
 
 /// The body that a call of the method enters, where that makes few enough frames.
 fn entry(program: &Program, state: &MachineState, method: usize) -> Got<u32>
-    ensures { answer_of result ≡ entry_of (ltb deepest (length state.now.waiting.items + 2)) (body_of (method_at program.now method)) }
+    ensures { answer_of result ≡ entry_of (ltb usual_limits.deepest (length state.now.waiting.items + 2)) (body_of (method_at program.now method)) }
 {
     if state.waiting.len() >= DEEPEST - 1 {
         return Got::Fails(End::Deep);
@@ -351,7 +351,7 @@ pub(crate) fn call(
 
 /// The waiting frame runs again.
 fn resume(state: &mut MachineState, waiting: Frame) -> Acted
-    ensures { (st : spec.State) → st.heap ≡ state.old.heap.items → st.statics ≡ state.old.statics.items → spec.resumes st waiting state.old.waiting.items ≡ acted_next result state.new st.out }
+    ensures { (st : spec.State) → st.limits ≡ usual_limits → st.heap ≡ state.old.heap.items → st.statics ≡ state.old.statics.items → spec.resumes st waiting state.old.waiting.items ≡ acted_next result state.new st.out }
 {
     state.top = waiting;
     Acted::Goes
@@ -360,7 +360,7 @@ fn resume(state: &mut MachineState, waiting: Frame) -> Acted
 /// The waiting frame runs again, with the value in a register.
 fn give(state: &mut MachineState, mut waiting: Frame, dst: RegNo, value: Option<Value>) -> Acted
     requires { waiting.at < 2 ^ 64 - 1 }
-    ensures { (st : spec.State) → st.heap ≡ state.old.heap.items → st.statics ≡ state.old.statics.items → spec.gives st waiting state.old.waiting.items dst.0 value ≡ acted_next result state.new st.out }
+    ensures { (st : spec.State) → st.limits ≡ usual_limits → st.heap ≡ state.old.heap.items → st.statics ≡ state.old.statics.items → spec.gives st waiting state.old.waiting.items dst.0 value ≡ acted_next result state.new st.out }
 {
     match value {
         None => Acted::Stuck,
@@ -379,7 +379,7 @@ fn take(
     this: Option<Value>,
     value: Option<Value>,
 ) -> Acted
-    ensures { (st : spec.State) → st.heap ≡ state.old.heap.items → st.statics ≡ state.old.statics.items → spec.takes_at st waiting state.old.waiting.items this value (point_at program.now waiting.body waiting.at) ≡ acted_next result state.new st.out }
+    ensures { (st : spec.State) → st.limits ≡ usual_limits → st.heap ≡ state.old.heap.items → st.statics ≡ state.old.statics.items → spec.takes_at st waiting state.old.waiting.items this value (point_at program.now waiting.body waiting.at) ≡ acted_next result state.new st.out }
 {
     let Some(point) = point_at(program, waiting.body(), waiting.at()) else {
         return Acted::Stuck;

@@ -2,7 +2,7 @@
 ghost use Rattle.std.specs.Prelude.{◌≡◌, ◌<◌, ◌+◌, ◌-◌, ◌^◌, Some, None, MatchOption, slice_set};
 ghost use Rattle.jn_heap.specs.Machine as spec;
 
-use crate::prim::{Plain, Prim};
+use crate::prim::{Plain, Primitive};
 use crate::value::Value;
 use jn_base::RegNo;
 use std::marker::Model;
@@ -83,7 +83,7 @@ impl Frame {
     }
 
     /// The int or boolean in a register.
-    pub fn prim(&self, reg: RegNo) -> Option<Prim>
+    pub fn prim(&self, reg: RegNo) -> Option<Primitive>
         ensures { result ≡ spec.prim_of (spec.value_at self.now.regs reg.0) }
     {
         match self.value(reg) {

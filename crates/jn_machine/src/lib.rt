@@ -14,8 +14,9 @@ pub mod text;
 pub mod thing;
 pub mod value;
 
+pub use calls::{body_of, point_at};
 pub use frame::Frame;
-pub use prim::{End, Got, Plain, Prim};
+pub use prim::{End, Got, Plain, Primitive};
 pub use printed::{StepFail, run_to, step_to};
 pub use runs::{run, start};
 pub use state::{MachineState, Stepped};

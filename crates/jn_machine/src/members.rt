@@ -1,13 +1,13 @@
 // The points of fields, static fields, arrays, casts and tests of classes.
 ghost use Rattle.std.specs.Prelude.{◌≡◌, ◌<◌, ◌-◌, ◌^◌, ℕ, List, IfOk, replicate, slice_get, slice_set};
 ghost use Rattle.jn_points.specs.Lookup.{elem_base};
-ghost use Rattle.jn_heap.specs.Values.{count, default_of};
+ghost use Rattle.jn_heap.specs.Values.{count, default_of, usual_limits};
 ghost use Rattle.jn_heap.specs.Machine as spec;
 ghost use Rattle.jn_machine.specs.Ends.{answer_of};
 ghost use Rattle.jn_machine.specs.Parts.{goes_to, may_hold_in, put_next, store_as};
 ghost use Rattle.jn_machine.specs.StateView.{state_of, acted_next};
 
-use crate::prim::{End, Got, Prim};
+use crate::prim::{End, Got, Primitive};
 use crate::state::{Acted, MachineState};
 use crate::straight::{LONGEST, copied};
 use crate::thing::{Thing, elem_base, index};
@@ -97,7 +97,7 @@ pub(crate) fn read_static(state: &MachineState, field: FieldNo) -> Got<Value>
 }
 
 /// Puts a number at a place of a list, where that is there.
-fn put(statics: &mut [Prim], at: usize, prim: Prim)
+fn put(statics: &mut [Primitive], at: usize, prim: Primitive)
     ensures { statics.new ≡ slice_set statics.old at prim }
 {
     if at < statics.len() {
@@ -222,7 +222,7 @@ pub(crate) fn array_len(state: &MachineState, array: RegNo) -> Got<Value>
 
 /// The length of a new array.
 fn count(length: i32) -> Got<usize>
-    ensures { answer_of result ≡ count length }
+    ensures { answer_of result ≡ count usual_limits.longest length }
 {
     if length < 0 {
         return Got::Fails(End::NegativeSize);
@@ -269,7 +269,7 @@ pub(crate) fn new_array(
     length: RegNo,
 ) -> Result<Acted, AllocError>
     requires { state.old.top.at < 2 ^ 64 - 1 }
-    ensures { IfOk result (λ acted. (out : List ℕ) → spec.new_array (state_of state.old out) dst.0 base (spec.count_of (spec.int_of (spec.prim_of (spec.value_at state.old.top.regs length.0)))) ≡ acted_next acted state.new out) }
+    ensures { IfOk result (λ acted. (out : List ℕ) → spec.new_array (state_of state.old out) dst.0 base (spec.count_of usual_limits.longest (spec.int_of (spec.prim_of (spec.value_at state.old.top.regs length.0)))) ≡ acted_next acted state.new out) }
 {
     let Some(number) = state.top.int(length) else {
         return Ok(Acted::Stuck);

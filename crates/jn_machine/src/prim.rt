@@ -45,11 +45,11 @@ pub enum Plain {
 
 /// An int or a boolean; contracts see the definition's.
 #[derive(Debug, Drop)]
-pub struct Prim {
+pub struct Primitive {
     plain: Plain,
 }
 
-impl Model for Prim {
+impl Model for Primitive {
     ghost use Rattle.jn_machine.specs.PrimView.{plain_view};
     ghost use Rattle.jn_heap.specs.Values.{Prim as Defined};
 
@@ -58,21 +58,21 @@ impl Model for Prim {
     ghost view = { λ p. plain_view p.plain };
 }
 
-impl Prim {
+impl Primitive {
     ghost use Rattle.jn_machine.specs.PrimView.{plain_view};
 
-    pub fn int(number: i32) -> Prim
+    pub fn int(number: i32) -> Primitive
         ensures { result ≡ spec.Number number }
     {
-        Prim {
+        Primitive {
             plain: Plain::Int(number),
         }
     }
 
-    pub fn bool(truth: bool) -> Prim
+    pub fn bool(truth: bool) -> Primitive
         ensures { result ≡ spec.Truth truth }
     {
-        Prim {
+        Primitive {
             plain: Plain::Bool(truth),
         }
     }
@@ -83,77 +83,77 @@ impl Prim {
         self.plain
     }
 
-    pub fn copy(&self) -> Prim
+    pub fn copy(&self) -> Primitive
         ensures { result ≡ self.now }
     {
-        Prim { plain: self.plain }
+        Primitive { plain: self.plain }
     }
 }
 
 /// The value negated, or as it is; a boolean lacks.
-pub fn unary(negate: bool, of: &Prim) -> Got<Prim>
+pub fn unary(negate: bool, of: &Primitive) -> Got<Primitive>
     ensures { answer_of result ≡ spec.unary negate of.now }
 {
     match of.plain() {
-        Plain::Int(n) if negate => Got::Gives(Prim::int(n.wrapping_neg())),
-        Plain::Int(n) => Got::Gives(Prim::int(n)),
+        Plain::Int(n) if negate => Got::Gives(Primitive::int(n.wrapping_neg())),
+        Plain::Int(n) => Got::Gives(Primitive::int(n)),
         Plain::Bool(_) => Got::Lacks,
     }
 }
 
 /// The quotient, truncated toward zero; the least int by -1 is the least int.
-fn quotient(a: i32, b: i32) -> Got<Prim>
+fn quotient(a: i32, b: i32) -> Got<Primitive>
     ensures { answer_of result ≡ spec.of_numbers Operator.Div a b }
 {
     if b == 0 {
         Got::Fails(End::Arithmetic)
     } else {
-        Got::Gives(Prim::int(a.wrapping_div(b)))
+        Got::Gives(Primitive::int(a.wrapping_div(b)))
     }
 }
 
 /// The remainder, with the sign of `a`.
-fn remainder(a: i32, b: i32) -> Got<Prim>
+fn remainder(a: i32, b: i32) -> Got<Primitive>
     ensures { answer_of result ≡ spec.of_numbers Operator.Rem a b }
 {
     if b == 0 {
         Got::Fails(End::Arithmetic)
     } else {
-        Got::Gives(Prim::int(a.wrapping_rem(b)))
+        Got::Gives(Primitive::int(a.wrapping_rem(b)))
     }
 }
 
-fn of_ints(operator: Operator, a: i32, b: i32) -> Got<Prim>
+fn of_ints(operator: Operator, a: i32, b: i32) -> Got<Primitive>
     ensures { answer_of result ≡ spec.of_numbers operator a b }
 {
     let prim = match operator {
         Operator::Div => return quotient(a, b),
         Operator::Rem => return remainder(a, b),
-        Operator::Add => Prim::int(a.wrapping_add(b)),
-        Operator::Sub => Prim::int(a.wrapping_sub(b)),
-        Operator::Mul => Prim::int(a.wrapping_mul(b)),
-        Operator::Less => Prim::bool(a < b),
-        Operator::LessEqual => Prim::bool(a <= b),
-        Operator::Greater => Prim::bool(a > b),
-        Operator::GreaterEqual => Prim::bool(a >= b),
-        Operator::Equal => Prim::bool(a <= b && b <= a),
-        Operator::NotEqual => Prim::bool(!(a <= b && b <= a)),
+        Operator::Add => Primitive::int(a.wrapping_add(b)),
+        Operator::Sub => Primitive::int(a.wrapping_sub(b)),
+        Operator::Mul => Primitive::int(a.wrapping_mul(b)),
+        Operator::Less => Primitive::bool(a < b),
+        Operator::LessEqual => Primitive::bool(a <= b),
+        Operator::Greater => Primitive::bool(a > b),
+        Operator::GreaterEqual => Primitive::bool(a >= b),
+        Operator::Equal => Primitive::bool(a <= b && b <= a),
+        Operator::NotEqual => Primitive::bool(!(a <= b && b <= a)),
     };
     Got::Gives(prim)
 }
 
-fn of_bools(operator: Operator, a: bool, b: bool) -> Got<Prim>
+fn of_bools(operator: Operator, a: bool, b: bool) -> Got<Primitive>
     ensures { answer_of result ≡ spec.of_truths operator a b }
 {
     match operator {
-        Operator::Equal => Got::Gives(Prim::bool(if a { b } else { !b })),
-        Operator::NotEqual => Got::Gives(Prim::bool(if a { !b } else { b })),
+        Operator::Equal => Got::Gives(Primitive::bool(if a { b } else { !b })),
+        Operator::NotEqual => Got::Gives(Primitive::bool(if a { !b } else { b })),
         _ => Got::Lacks,
     }
 }
 
 /// The operator on two ints, or `==` and `!=` on two booleans.
-pub fn binary(operator: Operator, left: &Prim, right: &Prim) -> Got<Prim>
+pub fn binary(operator: Operator, left: &Primitive, right: &Primitive) -> Got<Primitive>
     ensures { answer_of result ≡ spec.binary operator left.now right.now }
 {
     match (left.plain(), right.plain()) {
@@ -164,8 +164,8 @@ pub fn binary(operator: Operator, left: &Prim, right: &Prim) -> Got<Prim>
 }
 
 /// A count as an int, which wraps.
-pub fn number_of(count: usize) -> Prim
+pub fn number_of(count: usize) -> Primitive
     ensures { result ≡ spec.number_of count }
 {
-    Prim::int(((count % 4_294_967_296) as u32).cast_signed())
+    Primitive::int(((count % 4_294_967_296) as u32).cast_signed())
 }

@@ -1,33 +1,34 @@
 // Start states and runs.
 ghost use Rattle.std.specs.Prelude.{◌≡◌, ◌∷◌, [], IfOk};
-ghost use Rattle.jn_heap.specs.Values.{At, Elems, first_of, statics_of};
+ghost use Rattle.jn_heap.specs.Values.{At, Elems, first_of, statics_of, usual_limits};
 ghost use Rattle.jn_heap.specs.Machine as spec;
 ghost use Rattle.jn_machine.specs.StateView.{state_of, next_of};
 
 use crate::calls::entered;
 use crate::frame::Frame;
-use crate::prim::Prim;
+use crate::prim::Primitive;
 use crate::state::{MachineState, Stepped};
 use crate::steps::step;
 use crate::thing::Thing;
 use crate::value::Value;
 use jn_base::{BodyNo, ClassNo, OutOfMemory, Seq, Text};
 use jn_points::{BaseType, Elem, Field, Program};
+use jn_trees::Names;
 use std::alloc::{AllocError, Global};
 use std::collections::VecDeque;
 
 /// A static field's first number.
-fn first_of(base: BaseType, first: i32) -> Prim
+fn first_of(base: BaseType, first: i32) -> Primitive
     ensures { result ≡ first_of base first }
 {
     match base {
-        BaseType::Bool => Prim::bool(first != 0),
-        _ => Prim::int(first),
+        BaseType::Bool => Primitive::bool(first != 0),
+        _ => Primitive::int(first),
     }
 }
 
 /// The number of each field as a static one, from its initializer.
-fn statics_of(alloc: Global, fields: &[Field]) -> Result<Vec<Prim>, AllocError>
+fn statics_of(alloc: Global, fields: &[Field]) -> Result<Vec<Primitive>, AllocError>
     ensures { IfOk result (λ v. v.items ≡ statics_of fields.now) }
 {
     let mut statics = Vec::new(alloc);
@@ -78,7 +79,7 @@ pub fn start(
     body: BodyNo,
     words: &[Text],
 ) -> Result<MachineState, OutOfMemory>
-    ensures { IfOk result (λ state. state_of state [] ≡ spec.start_state program.now body.0 words.now) }
+    ensures { IfOk result (λ state. state_of state [] ≡ spec.start_state program.now usual_limits body.0 words.now) }
 {
     let heap = first_heap(alloc, words)?;
     let statics = statics_of(alloc, program.fields.as_slice())?;
@@ -100,7 +101,7 @@ pub fn start(
 pub fn run(
     alloc: Global,
     program: &Program,
-    names: &[Text],
+    names: &Names,
     state: &mut MachineState,
     steps: u64,
     out: &mut Vec<u8>,

@@ -6,7 +6,7 @@ ghost use Rattle.jn_machine.specs.Parts.{goes_to};
 ghost use Rattle.jn_machine.specs.StateView.{state_of, acted_next};
 
 use crate::frame::Frame;
-use crate::prim::{End, Got, Prim};
+use crate::prim::{End, Got, Primitive};
 use crate::thing::Thing;
 use crate::value::Value;
 use jn_base::{PointNo, RegNo, Text};
@@ -17,7 +17,7 @@ use std::collections::VecDeque;
 #[derive(Drop)]
 pub struct MachineState {
     pub heap: Vec<Thing>,
-    pub statics: Vec<Prim>,
+    pub statics: Vec<Primitive>,
     pub top: Frame,
     pub waiting: VecDeque<Frame>,
 }

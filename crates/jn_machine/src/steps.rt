@@ -6,15 +6,16 @@ ghost use Rattle.jn_machine.specs.StateView.{state_of, acted_next, next_of};
 use crate::prim::Got;
 use crate::state::{Acted, MachineState, Stepped, jump, jump_to, settle};
 use crate::{calls, members, straight};
-use jn_base::{OutOfMemory, Text};
+use jn_base::OutOfMemory;
 use jn_points::{PointKind, Program};
+use jn_trees::Names;
 use std::alloc::{AllocError, Global};
 
 /// What a point does.
 fn act(
     alloc: Global,
     program: &Program,
-    names: &[Text],
+    names: &Names,
     state: &mut MachineState,
     kind: &PointKind,
 ) -> Result<Acted, AllocError>
@@ -157,7 +158,7 @@ fn act(
 pub(crate) fn step_once(
     alloc: Global,
     program: &Program,
-    names: &[Text],
+    names: &Names,
     state: &mut MachineState,
 ) -> Result<Acted, AllocError>
     ensures { IfOk result (λ acted. (out : List ℕ) → spec.step program.now names.now (state_of state.old out) ≡ acted_next acted state.new out) }
@@ -176,7 +177,7 @@ pub(crate) fn step_once(
 pub fn step(
     alloc: Global,
     program: &Program,
-    names: &[Text],
+    names: &Names,
     state: &mut MachineState,
     out: &mut Vec<u8>,
 ) -> Result<Stepped, OutOfMemory>

@@ -1,41 +1,43 @@
 // The points of straight code: constants, moves, operators, texts, tests of null, branches.
 ghost use Rattle.std.specs.Prelude.{◌≡◌, ◌<◌, ◌-◌, ◌^◌, [], ℕ, List, IfOk, ltb, slice_index_or};
-ghost use Rattle.jn_heap.specs.Values.{longest, units, text_equals};
+ghost use Rattle.jn_heap.specs.Values.{units, text_equals, usual_limits};
 ghost use Rattle.jn_heap.specs.Machine as spec;
 ghost use Rattle.jn_machine.specs.Ends.{answer_of};
 ghost use Rattle.jn_machine.specs.Parts.{goes_to};
 ghost use Rattle.jn_machine.specs.StateView.{state_of, acted_next};
 
 use crate::frame::Frame;
-use crate::prim::{self, End, Got, Plain, Prim};
+use crate::prim::{self, End, Got, Plain, Primitive};
 use crate::state::{Acted, MachineState};
 use crate::text;
 use crate::value::Value;
-use jn_base::{PointNo, RegNo, Text};
+use jn_base::{NameNo, PointNo, RegNo, Text};
 use jn_points::{Literal, Operand, Operator, StrOperation};
+use jn_trees::Names;
 use std::alloc::{AllocError, Global};
 
 /// The greatest number of elements of an array, or of UTF-16 units of a text.
 pub(crate) const LONGEST: usize = 16_777_216;
 
 /// The text of a name; an empty one where there is none.
-fn name_at(alloc: Global, names: &[Text], name: usize) -> Result<Text, AllocError>
-    ensures { IfOk result (λ t. t ≡ slice_index_or names.now name []) }
+fn name_at(alloc: Global, names: &Names, name: NameNo) -> Result<Text, AllocError>
+    ensures { IfOk result (λ t. t ≡ slice_index_or names.now name.0 []) }
 {
-    match names.get(name) {
-        None => Text::of_str(alloc, ""),
-        Some(text) => text.copy(alloc),
+    if (name.0 as usize) < names.len() {
+        Text::of_str(alloc, names.text(name))
+    } else {
+        Text::of_str(alloc, "")
     }
 }
 
-pub(crate) fn literal(alloc: Global, names: &[Text], value: Literal) -> Result<Value, AllocError>
+pub(crate) fn literal(alloc: Global, names: &Names, value: Literal) -> Result<Value, AllocError>
     ensures { IfOk result (λ v. v ≡ spec.literal_value names.now value) }
 {
     match value {
-        Literal::Int(number) => Ok(Value::plain(Prim::int(number))),
-        Literal::Truth(truth) => Ok(Value::plain(Prim::bool(truth))),
+        Literal::Int(number) => Ok(Value::plain(Primitive::int(number))),
+        Literal::Truth(truth) => Ok(Value::plain(Primitive::bool(truth))),
         Literal::Str(name) => {
-            let text = name_at(alloc, names, name.0 as usize)?;
+            let text = name_at(alloc, names, name)?;
             Ok(Value::text(text))
         }
         Literal::Null => Ok(Value::null()),
@@ -65,7 +67,7 @@ pub(crate) fn moved(alloc: Global, frame: &Frame, from: RegNo) -> Result<Got<Val
 }
 
 /// An int or boolean as a value.
-fn plain(got: Got<Prim>) -> Got<Value>
+fn plain(got: Got<Primitive>) -> Got<Value>
     ensures { answer_of result ≡ spec.got_plain (answer_of got) }
 {
     match got {
@@ -107,7 +109,7 @@ fn shown(alloc: Global, frame: &Frame, of: RegNo) -> Result<Option<Text>, AllocE
 }
 
 fn within_length(text: Text) -> Got<Value>
-    ensures { answer_of result ≡ spec.text_or_long text (ltb longest (units text)) }
+    ensures { answer_of result ≡ spec.text_or_long text (ltb usual_limits.longest (units text)) }
 {
     if text::units(text.as_str()) > LONGEST {
         Got::Fails(End::Long)
@@ -122,7 +124,7 @@ pub(crate) fn concat(
     left: RegNo,
     right: RegNo,
 ) -> Result<Got<Value>, AllocError>
-    ensures { IfOk result (λ g. answer_of g ≡ spec.concat_of (spec.text_in (spec.value_at frame.now.regs left.0)) (spec.text_in (spec.value_at frame.now.regs right.0))) }
+    ensures { IfOk result (λ g. answer_of g ≡ spec.concat_of usual_limits.longest (spec.text_in (spec.value_at frame.now.regs left.0)) (spec.text_in (spec.value_at frame.now.regs right.0))) }
 {
     let Some(front) = shown(alloc, frame, left)? else {
         return Ok(Got::Lacks);
@@ -143,7 +145,7 @@ pub(crate) fn same_ref(frame: &Frame, equal: bool, left: RegNo, right: RegNo) ->
             None => Got::Lacks,
             Some(b) => {
                 let same = a.same(b);
-                Got::Gives(Value::plain(Prim::bool(if equal { same } else { !same })))
+                Got::Gives(Value::plain(Primitive::bool(if equal { same } else { !same })))
             }
         },
     }
@@ -157,7 +159,7 @@ fn text_equals(frame: &Frame, text: &str, other: Option<Operand>) -> Got<Value>
         None => Got::Lacks,
         Some(operand) => match frame.value(operand.reg) {
             None => Got::Lacks,
-            Some(value) => Got::Gives(Value::plain(Prim::bool(value.is_text(text)))),
+            Some(value) => Got::Gives(Value::plain(Primitive::bool(value.is_text(text)))),
         },
     }
 }
@@ -178,7 +180,7 @@ pub(crate) fn str_op(
                 StrOperation::Length => {
                     Got::Gives(Value::plain(prim::number_of(text::units(text))))
                 }
-                StrOperation::IsEmpty => Got::Gives(Value::plain(Prim::bool(text.is_empty()))),
+                StrOperation::IsEmpty => Got::Gives(Value::plain(Primitive::bool(text.is_empty()))),
                 StrOperation::Equals => text_equals(frame, text, other),
             },
         },

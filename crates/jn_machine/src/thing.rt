@@ -4,7 +4,7 @@ ghost use Rattle.jn_points.specs.Lookup.{elem_base};
 ghost use Rattle.jn_heap.specs.Values as spec;
 ghost use Rattle.jn_heap.specs.Machine.{class_in, field_in, write_in, thing_within, item_or_index, item_at, elem_in, length_in};
 ghost use Rattle.jn_machine.specs.Ends.{answer_of};
-ghost use Rattle.jn_machine.specs.Parts.{put_answer, may_hold_in, store_as};
+ghost use Rattle.jn_machine.specs.Parts.{IsKept, put_answer, may_hold_in, store_as};
 
 use crate::prim::{self, End, Got};
 use crate::value::Value;
@@ -82,7 +82,8 @@ impl Thing {
     /// Puts a value into an object's field. An array, or an object whose class has no such field,
     /// lacks it.
     pub fn set_field(&mut self, program: &Program, field: FieldNo, value: Value) -> Got<()>
-        ensures { write_in program.now (Some self.old) field.0 value ≡ put_answer result self.new }
+        ensures put { write_in program.now (Some self.old) field.0 value ≡ put_answer result self.new }
+        ensures kept { IsKept result self.old self.new }
     {
         match &mut self.node {
             Node::Object(class, fields) => {
@@ -140,7 +141,8 @@ impl Thing {
     /// Makes a value the element at a place, where the array may hold it. Out of bounds, and
     /// then where it may not, the run ends.
     pub fn set_element(&mut self, at: Option<usize>, value: Value, may: bool) -> Got<()>
-        ensures { store_as (Some self.old) at value may ≡ put_answer result self.new }
+        ensures put { store_as (Some self.old) at value may ≡ put_answer result self.new }
+        ensures kept { IsKept result self.old self.new }
     {
         match &mut self.node {
             Node::Object(..) => Got::Lacks,

@@ -5,7 +5,7 @@ ghost use Rattle.jn_heap.specs.Machine.{State, object_of, prim_of, str_op, test_
 ghost use Rattle.jn_machine.specs.Ends.{answer_of};
 ghost use Rattle.jn_machine.specs.Parts.{goes_to};
 
-use crate::prim::{End, Got, Plain, Prim};
+use crate::prim::{End, Got, Plain, Primitive};
 use crate::text;
 use crate::thing::Thing;
 use jn_base::{ClassNo, PointNo, Text};
@@ -18,7 +18,7 @@ use std::marker::Model;
 pub(crate) enum Node {
     Null,
     Text(Text),
-    Plain(Prim),
+    Plain(Primitive),
     At(usize),
 }
 
@@ -53,7 +53,7 @@ impl Value {
         }
     }
 
-    pub fn plain(prim: Prim) -> Value
+    pub fn plain(prim: Primitive) -> Value
         ensures { result ≡ spec.Plain prim }
     {
         Value {
@@ -75,8 +75,8 @@ impl Value {
         ensures { result ≡ spec.default_of base }
     {
         match base {
-            BaseType::Int | BaseType::Void => Value::plain(Prim::int(0)),
-            BaseType::Bool => Value::plain(Prim::bool(false)),
+            BaseType::Int | BaseType::Void => Value::plain(Primitive::int(0)),
+            BaseType::Bool => Value::plain(Primitive::bool(false)),
             BaseType::Null | BaseType::Ref(_) | BaseType::Array(..) => Value::null(),
         }
     }
@@ -106,7 +106,7 @@ impl Value {
     }
 
     /// The int or boolean, of such a value.
-    pub fn prim(&self) -> Option<Prim>
+    pub fn prim(&self) -> Option<Primitive>
         ensures { result ≡ prim_of (Some self.now) }
     {
         match &self.node {

@@ -16,7 +16,7 @@ use Rattle.jn_points.specs.declared.program.Method.{Method}
 use Rattle.jn_points.specs.declared.program.Body.{Body}
 use Rattle.jn_soundness.specs.Checked.{ArgsPass, Checked, PointOk, ReceiverPasses}
 use Rattle.jn_soundness.specs.Good.{ArgsRef, AssignedOk, Building, Committed, Ctor, CtorOk, Described, Describes, EraStep, FactOk, FieldOk, FieldSet, FrameMark, Free, FreeField, Good, GoodNext, GoodTop, HeapOk, HoldsRef, IsMember, MarkFits, Marking, Marks, ObjMark, Overrides, SupersEnded, Typed, Unborn, Waiting, Waits}
-use Rattle.jn_heap.specs.Values.{At, NullRef, Object, Plain, Prim, Text, Thing, Value, deepest, default_of, defaults}
+use Rattle.jn_heap.specs.Values.{At, NullRef, Object, Plain, Prim, Text, Thing, Value, default_of, defaults}
 use Rattle.jn_env.specs.declared.env.Env.{Env}
 use Rattle.jn_heap.specs.Machine.{Regs, State, calls, calls_on, calls_this, class_in, ctor_calls, enter, entered, field_in, gather, gather_more, news, object_of, pad, selected, value_at}
 use Rattle.jn_soundness.specs.World.{World, param_quals}
@@ -218,7 +218,7 @@ module _ (W : World) (checked : Checked W) where
     static_call dst m direct args is p s c None iv = tt
     static_call dst m direct args is p s c (Some vs) iv =
         let q = result_of W.sig (method_at W.program m.0) in
-        call_good dst m None direct args is m.0 vs c (within_refl q.null q.committed q.free) (subst (λ y. AllDescribed mk.marks mk.top.era y vs) (sym (given_static (method_at W.program m.0) s)) (args_of (param_quals W m.0) args vs p iv)) (ltb deepest (length st.waiting + 2)) (body_of (method_at W.program m.0)) refl
+        call_good dst m None direct args is m.0 vs c (within_refl q.null q.committed q.free) (subst (λ y. AllDescribed mk.marks mk.top.era y vs) (sym (given_static (method_at W.program m.0) s)) (args_of (param_quals W m.0) args vs p iv)) (ltb st.limits.deepest (length st.waiting + 2)) (body_of (method_at W.program m.0)) refl
 
     this_call : (dst : Option RegNo) (m : MethodNo) (r : Operand) (direct : Bool) (args : List Operand) → pt.kind ≡ Call dst m (Some r) direct args → ArgsPass good.top.env (param_quals W m.0) args → ReceiverPasses W good.top.env (method_at W.program m.0) (Some r) → ((o k : ℕ) → value_at st.top.regs r.reg.0 ≡ Some (At o) → selected W.program st.heap o m.0 direct ≡ Some k → Overrides W k m.0) → (vs : List Value) → gather st.top.regs args ≡ Some vs → (o : ℕ) → value_at st.top.regs r.reg.0 ≡ Some (At o) → (k : Option ℕ) → selected W.program st.heap o m.0 direct ≡ k → GoodNext W (calls_on W.program st k (At o ∷ vs))
     this_call dst m r direct args is p rp ty vs iv o io None ik = tt
@@ -228,7 +228,7 @@ module _ (W : World) (checked : Checked W) where
         let this : Describes mk.marks mk.top.era (receiver_of W.sig (method_at W.program k)) (Some (At o)) = describes_within mk.marks mk.top.era (receiver_of W.sig (method_at W.program m.0)) (receiver_of W.sig (method_at W.program k)) (Some (At o)) u.receiver (describes_within mk.marks mk.top.era (qual_at good.top.env r.reg.0) (receiver_of W.sig (method_at W.program m.0)) (Some (At o)) rp.1 d) in
         let is_this : this_qual W.sig (method_at W.program k) ≡ receiver_of W.sig (method_at W.program k) = ap (λ b. cond b free_only (receiver_of W.sig (method_at W.program k))) u.method in
         let all : AllDescribed mk.marks mk.top.era (this_qual W.sig (method_at W.program k) ∷ param_quals W k) (At o ∷ vs) = (subst (λ q. Describes mk.marks mk.top.era q (Some (At o))) (sym is_this) this, all_within mk.marks mk.top.era (param_quals W m.0) (param_quals W k) vs u.params (args_of (param_quals W m.0) args vs p iv)) in
-        call_good dst m (Some r) direct args is k (At o ∷ vs) u.method u.result (subst (λ y. AllDescribed mk.marks mk.top.era y (At o ∷ vs)) (sym (given_this (method_at W.program k) u.instance)) all) (ltb deepest (length st.waiting + 2)) (body_of (method_at W.program k)) refl
+        call_good dst m (Some r) direct args is k (At o ∷ vs) u.method u.result (subst (λ y. AllDescribed mk.marks mk.top.era y (At o ∷ vs)) (sym (given_this (method_at W.program k) u.instance)) all) (ltb st.limits.deepest (length st.waiting + 2)) (body_of (method_at W.program k)) refl
 
     on_call : (dst : Option RegNo) (m : MethodNo) (r : Operand) (direct : Bool) (args : List Operand) → pt.kind ≡ Call dst m (Some r) direct args → ArgsPass good.top.env (param_quals W m.0) args → ReceiverPasses W good.top.env (method_at W.program m.0) (Some r) → ((o k : ℕ) → value_at st.top.regs r.reg.0 ≡ Some (At o) → selected W.program st.heap o m.0 direct ≡ Some k → Overrides W k m.0) → (vs : Option (List Value)) → gather st.top.regs args ≡ vs → (o : Option ℕ) → object_of (value_at st.top.regs r.reg.0) ≡ o → GoodNext W (calls W.program st m.0 (Some r) direct vs)
     on_call dst m r direct args is p rp ty None iv o io = tt
@@ -268,7 +268,7 @@ module _ (W : World) (checked : Checked W) where
     ctor_value : (m : MethodNo) (args : List Operand) (own : Bool) → pt.kind ≡ CtorCall m args own → Chains W.program st.top.body m.0 own → ArgsPass good.top.env (param_quals W m.0) args → (vs : Option (List Value)) → gather st.top.regs args ≡ vs → (x : Option ℕ) → mk.top.built ≡ x → CtorOk W mk.marks st.heap st.top mk.top x → GoodNext W (ctor_calls W.program st m.0 (value_at st.top.regs 0) vs)
     ctor_value m args own is ch p None iv x ib c = tt
     ctor_value m args own is ch p (Some vs) iv None ib c = true_false (ctor_of (method_in W.program st.top.body)) ch.inside c
-    ctor_value m args own is ch p (Some vs) iv (Some o) ib c = subst (λ v. GoodNext W (ctor_calls W.program st m.0 v (Some vs))) (sym c.this) (ctor_entry m args own is ch o ib c vs (args_of (param_quals W m.0) args vs p iv) (ltb deepest (length st.waiting + 2)) (body_of (method_at W.program m.0)) refl)
+    ctor_value m args own is ch p (Some vs) iv (Some o) ib c = subst (λ v. GoodNext W (ctor_calls W.program st m.0 v (Some vs))) (sym c.this) (ctor_entry m args own is ch o ib c vs (args_of (param_quals W m.0) args vs p iv) (ltb st.limits.deepest (length st.waiting + 2)) (body_of (method_at W.program m.0)) refl)
 
     pub ctor_kind : (m : MethodNo) (args : List Operand) (own : Bool) → pt.kind ≡ CtorCall m args own → PointOk W st.top.body st.top.at good.top.env (CtorCall m args own) → GoodNext W (ctor_calls W.program st m.0 (value_at st.top.regs 0) (gather st.top.regs args))
     ctor_kind m args own is ok = ctor_value m args own is ok.names ok.rules (gather st.top.regs args) refl mk.top.built refl good.top.stands.ctor
@@ -394,7 +394,7 @@ module _ (W : World) (checked : Checked W) where
 
     new_value : (dst : RegNo) (m : MethodNo) (args : List Operand) → pt.kind ≡ New dst m args → ctor_of (method_at W.program m.0) ≡ true → ArgsPass good.top.env (param_quals W m.0) args → (vs : Option (List Value)) → gather st.top.regs args ≡ vs → ArgsRef st.top.regs (slots_of (method_at W.program m.0)) args → GoodNext W (news W.program st m.0 vs)
     new_value dst m args is c p None iv ty = tt
-    new_value dst m args is c p (Some vs) iv ty = new_by dst m args is c p vs iv ty (any_free (ref_quals good.top.env (slots_of (method_at W.program m.0)) args)) refl (ltb deepest (length st.waiting + 2)) (body_of (method_at W.program m.0)) refl
+    new_value dst m args is c p (Some vs) iv ty = new_by dst m args is c p vs iv ty (any_free (ref_quals good.top.env (slots_of (method_at W.program m.0)) args)) refl (ltb st.limits.deepest (length st.waiting + 2)) (body_of (method_at W.program m.0)) refl
 
     pub new_kind : (dst : RegNo) (m : MethodNo) (args : List Operand) → pt.kind ≡ New dst m args → PointOk W st.top.body st.top.at good.top.env (New dst m args) → Typed W st (New dst m args) → GoodNext W (news W.program st m.0 (gather st.top.regs args))
     new_kind dst m args is ok ty = new_value dst m args is ok.names.0 ok.rules (gather st.top.regs args) refl ty

@@ -41,7 +41,7 @@ plain_settled m q (At o) h = absurd h
 
 module _ (W : World) (st : State) (mk : Marking) (good : Good W st mk) where
   -- heap and marks are as they were
-  keep : (s : List Prim) (out : List ℕ) (to : ℕ) (regs : Regs) → GoodTop W mk.marks st.heap (record { body = st.top.body; at = to; regs = regs }) mk.top → Marked W (record { heap = st.heap; statics = s; out = out; top = record { body = st.top.body; at = to; regs = regs }; waiting = st.waiting })
+  keep : (s : List Prim) (out : List ℕ) (to : ℕ) (regs : Regs) → GoodTop W mk.marks st.heap (record { body = st.top.body; at = to; regs = regs }) mk.top → Marked W (record { limits = st.limits; heap = st.heap; statics = s; out = out; top = record { body = st.top.body; at = to; regs = regs }; waiting = st.waiting })
   keep s out to regs t = record { mark = mk; good = record { heap = good.heap; top = t; waiting = good.waiting; below = good.below } }
 
   sets_good : (dst : ℕ) (q : Qualifier) (v : Value) → Step W st.top.body st.top.at (st.top.at + 1, put W.program st.top.body good.top.env dst q) → (ctor_of (method_in W.program st.top.body) ≡ true → Some dst ≡ Some 0 → ⊥) → Describes mk.marks mk.top.era q (Some v) → GoodNext W (sets st dst v)
@@ -52,7 +52,7 @@ module _ (W : World) (st : State) (mk : Marking) (good : Good W st mk) where
   got_good dst q (Fails e) s k d = tt
   got_good dst q Lacks s k d = tt
 
-  moves_good : (s : List Prim) (out : List ℕ) (to : ℕ) → Step W st.top.body st.top.at (to, good.top.env) → Marked W (record { heap = st.heap; statics = s; out = out; top = moves_to st.top to; waiting = st.waiting })
+  moves_good : (s : List Prim) (out : List ℕ) (to : ℕ) → Step W st.top.body st.top.at (to, good.top.env) → Marked W (record { limits = st.limits; heap = st.heap; statics = s; out = out; top = moves_to st.top to; waiting = st.waiting })
   moves_good s out to h = keep s out to st.top.regs (move_top W mk.marks st.heap st.top mk.top good.top to h)
 
   described : (r : ℕ) → Describes mk.marks mk.top.era (qual_at good.top.env r) (value_at st.top.regs r)
@@ -350,7 +350,7 @@ module _ (W : World) (st : State) (mk : Marking) (good : Good W st mk) where
   plain_good names (Move dst from bound) x ok pl t ty = got_good dst.0 (qual_at good.top.env from.reg.0) (got_of (value_at st.top.regs from.reg.0)) (plain_step W _ _ _ _ tt tt (ok.edges _ (inl refl))) ok.this_kept (got_fits W mk.marks mk.top.era _ _ (described from.reg.0))
   plain_good names (Unary dst neg of) x ok pl t ty = got_good dst.0 no_qual _ (plain_step W _ _ _ _ tt tt (ok.edges _ (inl refl))) ok.this_kept (unary_fits W mk.marks mk.top.era neg (prim_of (value_at st.top.regs of.reg.0)))
   plain_good names (Binary dst op l r) x ok pl t ty = got_good dst.0 no_qual _ (plain_step W _ _ _ _ tt tt (ok.edges _ (inl refl))) ok.this_kept (binary_fits W mk.marks mk.top.era op (prim_of (value_at st.top.regs l.reg.0)) (prim_of (value_at st.top.regs r.reg.0)))
-  plain_good names (Concat dst l r) x ok pl t ty = got_good dst.0 committed_only _ (plain_step W _ _ _ _ tt tt (ok.edges _ (inl refl))) ok.this_kept (concat_fits W mk.marks mk.top.era (text_in (value_at st.top.regs l.reg.0)) (text_in (value_at st.top.regs r.reg.0)))
+  plain_good names (Concat dst l r) x ok pl t ty = got_good dst.0 committed_only _ (plain_step W _ _ _ _ tt tt (ok.edges _ (inl refl))) ok.this_kept (concat_fits W mk.marks mk.top.era st.limits.longest (text_in (value_at st.top.regs l.reg.0)) (text_in (value_at st.top.regs r.reg.0)))
   plain_good names (SameRef dst eq l r) x ok pl t ty = got_good dst.0 no_qual _ (plain_step W _ _ _ _ tt tt (ok.edges _ (inl refl))) ok.this_kept (same_fits W mk.marks mk.top.era eq (value_at st.top.regs l.reg.0) (value_at st.top.regs r.reg.0))
   plain_good names (FieldRead dst r f) x ok pl t ty =
       let edge = ok.edges (st.top.at + 1, put W.program st.top.body good.top.env dst.0 (read_qual W.program W.sig st.top.body good.top.env r.reg.0 f.0)) (inl refl) in
@@ -365,7 +365,7 @@ module _ (W : World) (st : State) (mk : Marking) (good : Good W st mk) where
       (elem_fits W mk.marks mk.top.era st.top.body good.top.env st.heap st.top.regs (mk.top ∷ mk.waiting) good.heap good.top.stands.quals r.reg.0 (object_of (value_at st.top.regs r.reg.0)) (int_of (prim_of (value_at st.top.regs i.reg.0))) refl ty)
   plain_good names (ElemWrite r i s) x ok pl t ty = elem_write_good r.reg.0 s.reg.0 ok.rules.1 ty pl (plain_step W _ _ _ _ tt tt (ok.edges _ (inl refl))) (object_of (value_at st.top.regs r.reg.0)) (int_of (prim_of (value_at st.top.regs i.reg.0))) (value_at st.top.regs s.reg.0) refl refl
   plain_good names (ArrayLen dst r) x ok pl t ty = got_good dst.0 no_qual _ (plain_step W _ _ _ _ tt tt (ok.edges _ (inl refl))) ok.this_kept (len_fits W mk.marks mk.top.era st.heap (object_of (value_at st.top.regs r.reg.0)))
-  plain_good names (NewArray dst b n) x ok pl t ty = new_array_good dst.0 pl (plain_step W _ _ _ _ tt tt (ok.edges _ (inl refl))) ok.this_kept b (count_of (int_of (prim_of (value_at st.top.regs n.reg.0)))) ok.rules
+  plain_good names (NewArray dst b n) x ok pl t ty = new_array_good dst.0 pl (plain_step W _ _ _ _ tt tt (ok.edges _ (inl refl))) ok.this_kept b (count_of st.limits.longest (int_of (prim_of (value_at st.top.regs n.reg.0)))) ok.rules
   plain_good names (ArrayOf dst b xs) x ok pl t ty = array_of_good dst.0 pl (plain_step W _ _ _ _ tt tt (ok.edges _ (inl refl))) ok.this_kept b xs ok.rules ty (gather st.top.regs xs) refl
   plain_good names (New dst m args) x ok pl t ty = absurd x
   plain_good names (CtorCall m args own) x ok pl t ty = absurd x

@@ -9,7 +9,7 @@ use Rattle.jn_points.specs.declared.point.Point.{Point}
 use Rattle.jn_points.specs.declared.point.PointKind.{PointKind}
 use Rattle.jn_points.specs.declared.point.PointKind.TheVariants.{FieldRead, FieldWrite, ElemRead, ElemWrite, ArrayLen, StrOp, New, CtorCall, Call, Return}
 use Rattle.jn_soundness.specs.Good.{AlwaysTyped, Committed, Describes, FrameMark, Good, GoodNext, IsMain, Marked, Marking, Marks, Settled, TestOk, ThingOk, Typed, TypedAt, Unborn, NoFault}
-use Rattle.jn_heap.specs.Values.{At, Elems, NullRef, Prim, Text, Value}
+use Rattle.jn_heap.specs.Values.{At, Elems, Limits, NullRef, Prim, Text, Value}
 use Rattle.jn_soundness.specs.Checked.{Checked, PointOk, Unbroken}
 use Rattle.jn_heap.specs.Machine.{Ends, Goes, Next, NullFault, State, Stuck, act, derefs_null, fault_at, run, start_state, step_at, texts, then_step, value_at}
 use Rattle.jn_soundness.specs.World.{World}
@@ -36,7 +36,7 @@ module _ (W : World) (checked : Checked W) (names : List (List ℕ)) where
 
   next_good : (x : Next) → GoodNext W x → ((st : State) → x ≡ Goes st → TypedAt W st (point_at W.program st.top.body st.top.at)) → GoodNext W (then_step W.program names x)
   next_good (Goes st) g ty = step_good st g.mark g.good (point_at W.program st.top.body st.top.at) refl (ty st refl)
-  next_good (Ends e) g ty = tt
+  next_good (Ends e st) g ty = tt
   next_good Stuck g ty = tt
 
   run_good : (start : Next) → GoodNext W start → AlwaysTyped W names start → (n : ℕ) → GoodNext W (run W.program names start n)
@@ -74,8 +74,8 @@ module _ (W : World) (checked : Checked W) (names : List (List ℕ)) where
   text_items m (w ∷ ws) zero v h = let same : Text w ≡ v = cc in subst (λ v. Settled m (record { null = false; committed = true; free = false }) v) same refl
   text_items m (w ∷ ws) (suc i) v h = text_items m ws i v h
 
-  start_good : (b : ℕ) → IsMain W b → (words : List (List ℕ)) → Marked W (start_state W.program b words)
-  start_good b main words =
+  start_good : (b : ℕ) → IsMain W b → (limits : Limits) (words : List (List ℕ)) → Marked W (start_state W.program limits b words)
+  start_good b main limits words =
       let g : FrameMark = record { era = 0; opened = false; made = false; built = None } in
       let m : Marks = λ o. cond (eqb o 0) Committed Unborn in
       let heap = Elems (Array (RefElem (record { 0 = 1 })) false) (texts words) ∷ [] in
@@ -93,7 +93,7 @@ module _ (W : World) (checked : Checked W) (names : List (List ℕ)) where
       things m g words zero = (refl, text_items m words)
       things m g words (suc o) = ap (λ t. cond t Committed Unborn) (eqb-suc-zero o)
 
-  pub never_null : (b : ℕ) → IsMain W b → (words : List (List ℕ)) → AlwaysTyped W names (Goes (start_state W.program b words)) → NoFault W names (Goes (start_state W.program b words))
-  never_null b main words ty n st is fault =
-      let g = subst (λ x. GoodNext W x) is (run_good (Goes (start_state W.program b words)) (start_good b main words) ty n) in
+  pub never_null : (b : ℕ) → IsMain W b → (limits : Limits) (words : List (List ℕ)) → AlwaysTyped W names (Goes (start_state W.program limits b words)) → NoFault W names (Goes (start_state W.program limits b words))
+  never_null b main limits words ty n st is fault =
+      let g = subst (λ x. GoodNext W x) is (run_good (Goes (start_state W.program limits b words)) (start_good b main limits words) ty n) in
       no_fault st g.mark g.good fault

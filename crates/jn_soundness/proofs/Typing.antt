@@ -22,7 +22,7 @@ use Rattle.jn_points.specs.declared.point.PointKind.TheVariants.{Const, Move, Un
 use Rattle.jn_points.specs.declared.program.Field.{Field}
 use Rattle.jn_soundness.specs.Types.{GivesTo, HasType, HeapTyped, ProgramTyped, RegsTyped, ReturnFits, ReturnFitsAt, Selects, SlotsRef, StateTyped, ThingFits, ThingTyped, WaitTyped, base_of_thing}
 use Rattle.jn_soundness.specs.Good.{ArgsRef, Typed, HoldsPlain, AllPlain}
-use Rattle.jn_heap.specs.Values.{At, Elems, Fails, Gives, Got, Lacks, NullRef, Object, Plain, Prim, Text, Thing, Value, binary, deepest, default_of, defaults, index, same, unary, longest, units, text_op}
+use Rattle.jn_heap.specs.Values.{At, Elems, Fails, Gives, Got, Lacks, NullRef, Object, Plain, Prim, Text, Thing, Value, binary, default_of, defaults, index, same, unary, units, text_op}
 use Rattle.jn_heap.specs.Machine.{Ends, Frame, Goes, Next, Regs, State, Stuck, act, allocates, array_len, array_of, binary_of, branch, calls, calls_on, calls_this, cast_as, cast_of, class_in, concat_of, count_of, ctor_calls, dispatched, elem_in, enter, field_at, field_in, gather, gather_more, gives, gives_to, goes_by, got_of, got_plain, got_sets, holds_at, is_within, item_or_index, length_in, literal_value, may_hold, moves, new_array, news, object_of, pad, prim_of, print, put_thing, read_elem, read_field, resumes, returns, run, same_of, selected, sets, step_at, store_in, stored, str_op, takes, takes_at, test_inst, test_null, text_or_long, then_step, unary_of, value_at, value_of, write_elem, write_field, write_in, write_static, int_of, truth_of, text_in, got_prim, thing_within}
 use Rattle.jn_soundness.specs.World.{World}
 use Rattle.jn_points.specs.Lookup.{body_at, body_of, class_of, field_base, field_base_of, flat_of, is_flat, is_ref_base, method_at, method_in, params_of, point_at, reg_base, regs_of, result_base_of, slots_of, static_of, is_array, elem_base}
@@ -173,7 +173,7 @@ module _ (W : World) (T : Ordered W.program) (P : ProgramTyped W) where
 
     abbrev NextTyped : Next → Type 0
     NextTyped (Goes x) = StateTyped W x
-    NextTyped (Ends e) = Unit {0}
+    NextTyped (Ends e x) = Unit {0}
     NextTyped Stuck = Unit {0}
 
     set_typed : (dst : ℕ) (v : Value) → HasType W st.heap (reg_base W.program b dst) v → NextTyped (sets st dst v)
@@ -203,10 +203,10 @@ module _ (W : World) (T : Ordered W.program) (P : ProgramTyped W) where
     text_typed u t true f = tt
     text_typed u t false f = f
 
-    concat_typed : (u : BaseType) (v w : Option (List ℕ)) → fits W.program (Ref (record { 0 = 1 })) u ≡ true → GotOk (HasType W st.heap u) (concat_of v w)
-    concat_typed u None w f = tt
-    concat_typed u (Some v) None f = tt
-    concat_typed u (Some v) (Some w) f = text_typed u (v ++ w) (ltb longest (units (v ++ w))) f
+    concat_typed : (longest : ℕ) (u : BaseType) (v w : Option (List ℕ)) → fits W.program (Ref (record { 0 = 1 })) u ≡ true → GotOk (HasType W st.heap u) (concat_of longest v w)
+    concat_typed longest u None w f = tt
+    concat_typed longest u (Some v) None f = tt
+    concat_typed longest u (Some v) (Some w) f = text_typed u (v ++ w) (ltb longest (units (v ++ w))) f
 
     prim_typed : (u : BaseType) (g : Got Prim) → is_ref_base u ≡ false → GotOk (HasType W st.heap u) (got_plain g)
     prim_typed u (Gives p) h = h
@@ -357,7 +357,7 @@ module _ (W : World) (T : Ordered W.program) (P : ProgramTyped W) where
 
   abbrev pub NextOk : Next → Type 0
   NextOk (Goes x) = StateTyped W x
-  NextOk (Ends e) = Unit {0}
+  NextOk (Ends e x) = Unit {0}
   NextOk Stuck = Unit {0}
 
   -- values for a list of types
@@ -529,7 +529,7 @@ module _ (W : World) (T : Ordered W.program) (P : ProgramTyped W) where
       static_typed_call dst m direct args e p None iv = tt
       static_typed_call dst m direct args e p (Some vs) iv =
           enter_typed st.heap same_more ty.heap m.0 vs (subst (λ ts. AllHave st.heap ts vs) (sym (given_static m.0 (P.receivers st.top.body st.top.at pt dst m direct args is e))) (args_have (params_of (method_at W.program m.0)) args vs p.2 iv))
-          (λ b ib. return_fits pt is (Call dst m None direct args) e b (own_result m.0 b dst ib p.1)) (ltb deepest (length st.waiting + 2)) (body_of (method_at W.program m.0)) refl
+          (λ b ib. return_fits pt is (Call dst m None direct args) e b (own_result m.0 b dst ib p.1)) (ltb st.limits.deepest (length st.waiting + 2)) (body_of (method_at W.program m.0)) refl
 
       on_typed : (dst : Option RegNo) (m : MethodNo) (r : Operand) (direct : Bool) (args : List Operand) → pt.kind ≡ Call dst m (Some r) direct args → PointTyped W.program st.top.body (Call dst m (Some r) direct args) → (vs : List Value) → gather st.top.regs args ≡ Some vs → (o : ℕ) → value_at st.top.regs r.reg.0 ≡ Some (At o) → (k : Option ℕ) → selected W.program st.heap o m.0 direct ≡ k → NextOk (calls_on W.program st k (At o ∷ vs))
       on_typed dst m r direct args e p vs iv o io None ik = tt
@@ -537,7 +537,7 @@ module _ (W : World) (T : Ordered W.program) (P : ProgramTyped W) where
           let u = selects_on st ty pt dst m r direct args is e p o k io ik in
           let rest : AllHave st.heap (params_of (method_at W.program k)) vs = subst (λ ts. AllHave st.heap ts vs) (sym u.0.params) (args_have (params_of (method_at W.program m.0)) args vs p.2 iv) in
           enter_typed st.heap same_more ty.heap k (At o ∷ vs) (subst (λ ts. AllHave st.heap ts (At o ∷ vs)) (sym (given_this k u.0.over.instance)) (u.1, rest))
-          (λ b ib. return_fits pt is (Call dst m (Some r) direct args) e b (gives_by k m.0 b dst ib u.0.result p.1)) (ltb deepest (length st.waiting + 2)) (body_of (method_at W.program k)) refl
+          (λ b ib. return_fits pt is (Call dst m (Some r) direct args) e b (gives_by k m.0 b dst ib u.0.result p.1)) (ltb st.limits.deepest (length st.waiting + 2)) (body_of (method_at W.program k)) refl
 
       this_typed : (dst : Option RegNo) (m : MethodNo) (r : Operand) (direct : Bool) (args : List Operand) → pt.kind ≡ Call dst m (Some r) direct args → PointTyped W.program st.top.body (Call dst m (Some r) direct args) → (vs : Option (List Value)) → gather st.top.regs args ≡ vs → (o : Option ℕ) → object_of (value_at st.top.regs r.reg.0) ≡ o → NextOk (calls W.program st m.0 (Some r) direct vs)
       this_typed dst m r direct args e p None iv o io = tt
@@ -554,8 +554,8 @@ module _ (W : World) (T : Ordered W.program) (P : ProgramTyped W) where
           let this : HasType W st.heap (Ref (record { 0 = class_of (method_at W.program m.0) })) v = fits_type st.heap (reg_base W.program st.top.body 0) (Ref (record { 0 = class_of (method_at W.program m.0) })) v p.0 (ty.top 0 v io) in
           by (body_of (method_at W.program m.0)) refl this
         where
-          by : (x : Option ℕ) → body_of (method_at W.program m.0) ≡ x → HasType W st.heap (Ref (record { 0 = class_of (method_at W.program m.0) })) v → NextOk (enter W.program (ltb deepest (length st.waiting + 2)) st st.heap (body_of (method_at W.program m.0)) (v ∷ vs))
-          by None ib this = subst (λ x. NextOk (enter W.program (ltb deepest (length st.waiting + 2)) st st.heap x (v ∷ vs))) (sym ib) (stuck (ltb deepest (length st.waiting + 2)))
+          by : (x : Option ℕ) → body_of (method_at W.program m.0) ≡ x → HasType W st.heap (Ref (record { 0 = class_of (method_at W.program m.0) })) v → NextOk (enter W.program (ltb st.limits.deepest (length st.waiting + 2)) st st.heap (body_of (method_at W.program m.0)) (v ∷ vs))
+          by None ib this = subst (λ x. NextOk (enter W.program (ltb st.limits.deepest (length st.waiting + 2)) st st.heap x (v ∷ vs))) (sym ib) (stuck (ltb st.limits.deepest (length st.waiting + 2)))
             where
               stuck : (t : Bool) → NextOk (enter W.program t st st.heap None (v ∷ vs))
               stuck true = tt
@@ -563,7 +563,7 @@ module _ (W : World) (T : Ordered W.program) (P : ProgramTyped W) where
           by (Some b) ib this =
               let s = P.ctor_reg m.0 b ib (P.ctors st.top.body st.top.at pt m args own is e) in
               enter_typed st.heap same_more ty.heap m.0 (v ∷ vs) (subst (λ ts. AllHave st.heap ts (v ∷ vs)) (sym (given_this m.0 s.1)) (this, args_have (params_of (method_at W.program m.0)) args vs p.1 iv))
-              (λ b ib. return_fits pt is (CtorCall m args own) e b tt) (ltb deepest (length st.waiting + 2)) (body_of (method_at W.program m.0)) refl
+              (λ b ib. return_fits pt is (CtorCall m args own) e b tt) (ltb st.limits.deepest (length st.waiting + 2)) (body_of (method_at W.program m.0)) refl
 
       field_default : (heap : List Thing) (fs : List Field) (f : ℕ) (v : Value) → slice_get (defaults fs) f ≡ Some v → HasType W heap (field_base_of (slice_get fs f)) v
       field_default heap [] f v h = cc
@@ -577,8 +577,8 @@ module _ (W : World) (T : Ordered W.program) (P : ProgramTyped W) where
           c : ℕ
           c = class_of (method_at W.program m.0)
 
-          by : (x : Option ℕ) → body_of (method_at W.program m.0) ≡ x → NextOk (enter W.program (ltb deepest (length st.waiting + 2)) st (st.heap ++ Object (class_of (method_at W.program m.0)) (defaults W.program.fields) ∷ []) (body_of (method_at W.program m.0)) (At (length st.heap) ∷ vs))
-          by None ib = subst (λ x. NextOk (enter W.program (ltb deepest (length st.waiting + 2)) st (st.heap ++ Object (class_of (method_at W.program m.0)) (defaults W.program.fields) ∷ []) x (At (length st.heap) ∷ vs))) (sym ib) (stuck (ltb deepest (length st.waiting + 2)))
+          by : (x : Option ℕ) → body_of (method_at W.program m.0) ≡ x → NextOk (enter W.program (ltb st.limits.deepest (length st.waiting + 2)) st (st.heap ++ Object (class_of (method_at W.program m.0)) (defaults W.program.fields) ∷ []) (body_of (method_at W.program m.0)) (At (length st.heap) ∷ vs))
+          by None ib = subst (λ x. NextOk (enter W.program (ltb st.limits.deepest (length st.waiting + 2)) st (st.heap ++ Object (class_of (method_at W.program m.0)) (defaults W.program.fields) ∷ []) x (At (length st.heap) ∷ vs))) (sym ib) (stuck (ltb st.limits.deepest (length st.waiting + 2)))
             where
               stuck : (t : Bool) → NextOk (enter W.program t st (st.heap ++ Object (class_of (method_at W.program m.0)) (defaults W.program.fields) ∷ []) None (At (length st.heap) ∷ vs))
               stuck true = tt
@@ -592,7 +592,7 @@ module _ (W : World) (T : Ordered W.program) (P : ProgramTyped W) where
               let heap_ok : HeapTyped W heap' = push_heap st.heap made ty.heap ((P.news st.top.body st.top.at pt dst m args is e).1, λ f v x. field_default heap' W.program.fields f v (cond_is (has_field W.program (class_of (method_at W.program m.0)) f) (slice_get (defaults W.program.fields) f) v x)) in
               let this : HasType W heap' owner_t (At (length st.heap)) = subst (λ z. ThingFits W z owner_t) (sym (append_last st.heap made)) (fits_self W.program owner_t) in
               enter_typed heap' more heap_ok m.0 (At (length st.heap) ∷ vs) (subst (λ ts. AllHave heap' ts (At (length st.heap) ∷ vs)) (sym (given_this m.0 s.1)) (this, all_more st.heap heap' more (params_of (method_at W.program m.0)) vs (args_have (params_of (method_at W.program m.0)) args vs p.1 iv)))
-              (λ b' ib'. return_fits pt is (New dst m args) e b' (subst (λ t. fits W.program t (reg_base W.program st.top.body dst.0) ≡ true) (sym (P.ctor_reg m.0 b' ib' (P.news st.top.body st.top.at pt dst m args is e).0).0) p.0)) (ltb deepest (length st.waiting + 2)) (body_of (method_at W.program m.0)) refl
+              (λ b' ib'. return_fits pt is (New dst m args) e b' (subst (λ t. fits W.program t (reg_base W.program st.top.body dst.0) ≡ true) (sym (P.ctor_reg m.0 b' ib' (P.news st.top.body st.top.at pt dst m args is e).0).0) p.0)) (ltb st.limits.deepest (length st.waiting + 2)) (body_of (method_at W.program m.0)) refl
 
     -- Return
     resume_set : (w : Frame) (ws : List Frame) (dst : ℕ) (v : Value) → RegsTyped W st.heap w.body w.regs → WaitTyped W st.heap w.body ws → HasType W st.heap (reg_base W.program w.body dst) v → NextOk (resumes st (holds_at w dst v) ws)
@@ -635,7 +635,7 @@ module _ (W : World) (T : Ordered W.program) (P : ProgramTyped W) where
     kind_typed names pt is (Move dst from bound) e p = got_typed st ty dst.0 (got_of (value_at st.top.regs from.reg.0)) (value_typed st ty from.reg.0 (reg_base W.program st.top.body dst.0) p (value_at st.top.regs from.reg.0) refl)
     kind_typed names pt is (Unary dst neg of) e p = got_typed st ty dst.0 (unary_of neg (prim_of (value_at st.top.regs of.reg.0))) (unary_typed st ty (reg_base W.program st.top.body dst.0) neg (prim_of (value_at st.top.regs of.reg.0)) p)
     kind_typed names pt is (Binary dst op l r) e p = got_typed st ty dst.0 (binary_of op (prim_of (value_at st.top.regs l.reg.0)) (prim_of (value_at st.top.regs r.reg.0))) (binary_typed st ty (reg_base W.program st.top.body dst.0) op (prim_of (value_at st.top.regs l.reg.0)) (prim_of (value_at st.top.regs r.reg.0)) p)
-    kind_typed names pt is (Concat dst l r) e p = got_typed st ty dst.0 (concat_of (text_in (value_at st.top.regs l.reg.0)) (text_in (value_at st.top.regs r.reg.0))) (concat_typed st ty (reg_base W.program st.top.body dst.0) (text_in (value_at st.top.regs l.reg.0)) (text_in (value_at st.top.regs r.reg.0)) p)
+    kind_typed names pt is (Concat dst l r) e p = got_typed st ty dst.0 (concat_of st.limits.longest (text_in (value_at st.top.regs l.reg.0)) (text_in (value_at st.top.regs r.reg.0))) (concat_typed st ty st.limits.longest (reg_base W.program st.top.body dst.0) (text_in (value_at st.top.regs l.reg.0)) (text_in (value_at st.top.regs r.reg.0)) p)
     kind_typed names pt is (SameRef dst eq l r) e p = got_typed st ty dst.0 (same_of eq (value_at st.top.regs l.reg.0) (value_at st.top.regs r.reg.0)) (same_typed st ty (reg_base W.program st.top.body dst.0) eq (value_at st.top.regs l.reg.0) (value_at st.top.regs r.reg.0) p)
     kind_typed names pt is (FieldRead dst r f) e p = got_typed st ty dst.0 (read_field W.program st.heap (object_of (value_at st.top.regs r.reg.0)) f.0) (read_typed st ty (object_of (value_at st.top.regs r.reg.0)) f.0 (reg_base W.program st.top.body dst.0) p)
     kind_typed names pt is (FieldWrite r f s) e p = write_typed s.reg.0 f.0 p (object_of (value_at st.top.regs r.reg.0)) (value_at st.top.regs s.reg.0) refl
@@ -644,7 +644,7 @@ module _ (W : World) (T : Ordered W.program) (P : ProgramTyped W) where
     kind_typed names pt is (ElemRead dst r i) e p = got_typed st ty dst.0 (read_elem st.heap (object_of (value_at st.top.regs r.reg.0)) (int_of (prim_of (value_at st.top.regs i.reg.0)))) (read_elem_typed st ty r.reg.0 (reg_base W.program st.top.body dst.0) (object_of (value_at st.top.regs r.reg.0)) (int_of (prim_of (value_at st.top.regs i.reg.0))) refl p.0 p.1)
     kind_typed names pt is (ElemWrite r i s) e p = write_elem_typed (object_of (value_at st.top.regs r.reg.0)) (int_of (prim_of (value_at st.top.regs i.reg.0))) (value_at st.top.regs s.reg.0)
     kind_typed names pt is (ArrayLen dst r) e p = got_typed st ty dst.0 (array_len st.heap (object_of (value_at st.top.regs r.reg.0))) (len_typed st ty (reg_base W.program st.top.body dst.0) (object_of (value_at st.top.regs r.reg.0)) p)
-    kind_typed names pt is (NewArray dst c n) e p = new_array_typed dst.0 c p.0 p.1 (count_of (int_of (prim_of (value_at st.top.regs n.reg.0))))
+    kind_typed names pt is (NewArray dst c n) e p = new_array_typed dst.0 c p.0 p.1 (count_of st.limits.longest (int_of (prim_of (value_at st.top.regs n.reg.0))))
     kind_typed names pt is (ArrayOf dst c xs) e p = array_of_typed dst.0 c xs p.0 p.1 p.2 (gather st.top.regs xs) refl
     kind_typed names pt is (New dst m args) e p = new_typed pt is dst m args e p (gather st.top.regs args) refl
     kind_typed names pt is (CtorCall m args own) e p = ctor_typed pt is m args own e p (value_at st.top.regs 0) refl (gather st.top.regs args) refl
@@ -665,7 +665,7 @@ module _ (W : World) (T : Ordered W.program) (P : ProgramTyped W) where
 
   next_typed : (names : List (List ℕ)) (x : Next) → NextOk x → NextOk (then_step W.program names x)
   next_typed names (Goes st) h = step_typed st h names (point_at W.program st.top.body st.top.at) refl
-  next_typed names (Ends e) h = tt
+  next_typed names (Ends e st) h = tt
   next_typed names Stuck h = tt
 
   pub run_typed : (names : List (List ℕ)) (start : Next) → NextOk start → (n : ℕ) → NextOk (run W.program names start n)

@@ -11,7 +11,7 @@ use Rattle.jn_points.specs.declared.point.Literal.{Literal}
 use Rattle.jn_points.specs.declared.point.Literal.TheVariants.{Int, Truth as TruthOf, Str, Null}
 use Rattle.jn_points.specs.declared.program.Field.{Field}
 use Rattle.jn_soundness.specs.Good.{AllOn, Committed, Described, Describes, FactOk, FieldOk, FrameMark, Free, FreeField, HeapOk, MarkFits, Marks, ObjMark, Settled, ThingOk, Unborn}
-use Rattle.jn_heap.specs.Values.{At, Elems, Fails, Gives, Got, Lacks, NullRef, Object, Plain, Prim, Text, Thing, Value, binary, index, unary, longest, units, text_op}
+use Rattle.jn_heap.specs.Values.{At, Elems, Fails, Gives, Got, Lacks, NullRef, Object, Plain, Prim, Text, Thing, Value, binary, index, unary, units, text_op}
 use Rattle.jn_env.specs.declared.env.Env.{Env}
 use Rattle.jn_heap.specs.Machine.{Regs, array_len, binary_of, cast_as, cast_of, class_at, class_in, concat_of, elem_in, field_at, field_in, got_of, got_plain, is_within, item_at, item_or_index, length_in, literal_value, object_of, read_elem, read_field, same_of, str_op, text_or_long, unary_of, value_at}
 use Rattle.jn_soundness.specs.World.{World}
@@ -56,10 +56,10 @@ module _ (W : World) (m : Marks) (a : ℕ) where
   text_fits t true = tt
   text_fits t false = refl
 
-  pub concat_fits : (t u : Option (List ℕ)) → GotOk (Fits committed_only) (concat_of t u)
-  concat_fits None u = tt
-  concat_fits (Some t) None = tt
-  concat_fits (Some t) (Some u) = text_fits (t ++ u) (ltb longest (units (t ++ u)))
+  pub concat_fits : (longest : ℕ) (t u : Option (List ℕ)) → GotOk (Fits committed_only) (concat_of longest t u)
+  concat_fits longest None u = tt
+  concat_fits longest (Some t) None = tt
+  concat_fits longest (Some t) (Some u) = text_fits (t ++ u) (ltb longest (units (t ++ u)))
 
   pub same_fits : (eq : Bool) (v w : Option Value) → GotOk (Fits no_qual) (same_of eq v w)
   same_fits eq None w = tt

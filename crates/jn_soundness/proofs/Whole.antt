@@ -10,7 +10,7 @@ use Rattle.jn_points.specs.declared.point.BaseType.TheVariants.{Ref, Array}
 use Rattle.jn_points.specs.declared.point.Elem.TheVariants.{Ref as RefElem}
 use Rattle.jn_points.specs.declared.point.Point.{Point}
 use Rattle.jn_soundness.specs.Good.{AlwaysTyped, IsMain, TypedAt, NoFault, MainsOk, RunsTyped}
-use Rattle.jn_heap.specs.Values.{At, Elems, Text, Thing, Value}
+use Rattle.jn_heap.specs.Values.{At, Elems, Limits, Text, Thing, Value}
 use Rattle.jn_soundness.specs.Checked.{Checked}
 use Rattle.jn_soundness.specs.Types.{HasType, MainTyped, ProgramTyped, StateTyped, ThingTyped, MainsTyped}
 use Rattle.jn_heap.specs.Machine.{Goes, Next, State, start_state, texts, MainForm, NeverNull}
@@ -25,8 +25,8 @@ module _ (W : World) (T : Ordered W.program) (P : ProgramTyped W) where
   words_typed heap (w ∷ words) zero v h = let same : Text w ≡ v = cc in subst (λ v. HasType W heap (Ref (record { 0 = 1 })) v) same (fits_self W.program (Ref (record { 0 = 1 })))
   words_typed heap (w ∷ words) (suc i) v h = words_typed heap words i v h
 
-  start_typed : (b : ℕ) → MainTyped W b → (words : List (List ℕ)) → StateTyped W (start_state W.program b words)
-  start_typed b main words =
+  start_typed : (b : ℕ) → MainTyped W b → (limits : Limits) (words : List (List ℕ)) → StateTyped W (start_state W.program limits b words)
+  start_typed b main limits words =
       let t : BaseType = Array (RefElem (record { 0 = 1 })) false in
       let heap : List Thing = Elems (Array (RefElem (record { 0 = 1 })) false) (texts words) ∷ [] in
       record {
@@ -46,8 +46,8 @@ module _ (W : World) (T : Ordered W.program) (P : ProgramTyped W) where
   always : (names : List (List ℕ)) (start : Next) → NextOk W T P start → AlwaysTyped W names start
   always names start h n st is = typed_at st (subst (λ x. NextOk W T P x) is (run_typed W T P names start h n)) (point_at W.program st.top.body st.top.at) refl
 
-  pub accepted : Checked W → (b : ℕ) → IsMain W b → MainTyped W b → (names words : List (List ℕ)) → NoFault W names (Goes (start_state W.program b words))
-  accepted checked b main typed names words = never_null W checked names b main words (always names (Goes (start_state W.program b words)) (start_typed b typed words))
+  pub accepted : Checked W → (b : ℕ) → IsMain W b → MainTyped W b → (limits : Limits) (names words : List (List ℕ)) → NoFault W names (Goes (start_state W.program limits b words))
+  accepted checked b main typed limits names words = never_null W checked names b main limits words (always names (Goes (start_state W.program limits b words)) (start_typed b typed limits words))
 
 module _ (W : World) (checked : Checked W) (mains : MainsOk W) where
   is_main : (m b : ℕ) → MainForm W.program m b → IsMain W b
@@ -68,7 +68,7 @@ module _ (W : World) (checked : Checked W) (mains : MainsOk W) where
       given s = subst (λ t. cond t (slot_quals W.sig main.method.param_slots) (this_qual W.sig (Some main.method) ∷ slot_quals W.sig main.method.param_slots) ≡ slot_qual W.sig (Some main.slot) ∷ []) (sym s) (ap (slot_quals W.sig) main.param)
 
   pub untyped_never_null : RunsTyped W → NeverNull W.program
-  untyped_never_null typed m b main names words n st goes fault = never_null W checked names b (is_main m b main) words (typed m b main names words) n st goes fault
+  untyped_never_null typed m b main limits names words n st goes fault = never_null W checked names b (is_main m b main) limits words (typed m b main limits names words) n st goes fault
 
   pub typed_never_null : Ordered W.program → ProgramTyped W → MainsTyped W → NeverNull W.program
-  typed_never_null T P typed m b main names words n st goes fault = accepted W T P checked b (is_main m b main) (typed m b main) names words n st goes fault
+  typed_never_null T P typed m b main limits names words n st goes fault = accepted W T P checked b (is_main m b main) (typed m b main) limits names words n st goes fault

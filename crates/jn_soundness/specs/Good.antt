@@ -10,7 +10,7 @@ use Rattle.jn_points.specs.declared.program.Body.{Body}
 use Rattle.jn_points.specs.declared.point.BaseType.{BaseType}
 use Rattle.jn_points.specs.declared.point.PointKind.{PointKind}
 use Rattle.jn_points.specs.declared.point.PointKind.TheVariants.{FieldRead, ElemRead, ElemWrite, New, CtorCall, Call, FieldWrite, ArrayOf}
-use Rattle.jn_heap.specs.Values.{At, Elems, NullRef, Object, Plain, Prim, Text, Thing, Value}
+use Rattle.jn_heap.specs.Values.{At, Elems, Limits, NullRef, Object, Plain, Prim, Text, Thing, Value}
 use Rattle.jn_soundness.specs.Checked.{ref_elems}
 use Rattle.jn_heap.specs.Machine.{Ends, Frame, Goes, Next, NullFault, Regs, State, Stuck, class_at, field_at, field_in, run, selected, value_at, MainForm, start_state}
 use Rattle.jn_env.specs.declared.env.Env.{Env}
@@ -243,7 +243,7 @@ module _ (W : World) where
 
   abbrev pub GoodNext : Next → Type 0
   GoodNext (Goes st) = Marked st
-  GoodNext (Ends e) = Unit {0}
+  GoodNext (Ends e st) = Unit {0}
   GoodNext Stuck = Unit {0}
 
   -- what soundness asks of base typing
@@ -298,4 +298,4 @@ module _ (W : World) where
 
   -- in the runs of mains, the registers of each point hold what soundness asks of base typing
   abbrev pub RunsTyped : Type 0
-  RunsTyped = (m b : ℕ) → MainForm W.program m b → (names words : List (List ℕ)) → AlwaysTyped names (Goes (start_state W.program b words))
+  RunsTyped = (m b : ℕ) → MainForm W.program m b → (limits : Limits) (names words : List (List ℕ)) → AlwaysTyped names (Goes (start_state W.program limits b words))
