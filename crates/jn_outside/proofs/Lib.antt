@@ -1,3 +1,4 @@
 pub mod Appending
+pub mod Giving
 pub mod Memories
 pub mod Reading

@@ -1,6 +1,8 @@
 // A source of files, and a whole read by counts of faults.
-ghost use Rattle.std.specs.Prelude.{◌≡◌, ◌<◌, ◌≤◌, ◌^◌, ◌+◌, ℕ, List, length, Option, IfOk, OnOk, OnErr, IsOk, IsSome, ◌≢◌, Err, ◌-◌};
+ghost use Rattle.std.specs.Prelude.{◌≡◌, ◌<◌, ◌≤◌, ◌^◌, ◌+◌, ℕ, List, [], ◌∷◌, ◌++◌, length, take, Option, IfOk, OnOk, OnErr, IsOk, IsSome, ◌≢◌, Err, ◌-◌};
 ghost use Rattle.jn_outside.specs.Causes.{Rose, HasCause};
+ghost use Rattle.jn_outside.specs.Gave.{given, with_start, with_read, GivesBehind, GivesTooMany, GivesLittle};
+ghost use Rattle.jn_outside.specs.declared.given.Given.{Given as SpecGiven};
 ghost use Rattle.jn_outside.specs.Files.{Holding, Holds, Starts, Reads, HasRead, HasReadAtMost, Gives, HoldsMore, IsKnownToHoldMore};
 
 use jn_base::Fail;
@@ -27,6 +29,9 @@ pub trait Files {
     /// What is left of the file that was started last.
     ghost left: { Self → Option (List ℕ) };
 
+    /// What its calls gave since it was made: the names that were started, in order, with the bytes read of each.
+    ghost gave: { Self → List SpecGiven };
+
     /// While it is steady, each start of a name that it holds and each read succeeds.
     ghost steady: { Self → Type 0 };
 
@@ -37,6 +42,8 @@ pub trait Files {
     fn start(&mut self, name: &str) -> Result<(), Failed>
         ensures held { held self.new ≡ held self.old }
         ensures started { OnOk result (Starts (held self.old) name.now (left self.new)) }
+        ensures gave { OnOk result (gave self.new ≡ with_start (gave self.old) name.now) }
+        ensures spared { OnErr result (gave self.new ≡ gave self.old) }
         ensures steady { steady self.old → Holds (held self.old) name.now → IsOk result × steady self.new }
         ensures cause { HasCause (faults self.old) (faults self.new) result };
 
@@ -46,6 +53,8 @@ pub trait Files {
         ensures held { held self.new ≡ held self.old }
         ensures bound { IfOk result (λ n. n ≤ length buf.new) }
         ensures bytes { IfOk result (λ n. Reads (left self.old) (left self.new) n buf.new) }
+        ensures gave { IfOk result (λ n. gave self.new ≡ with_read (gave self.old) (take n buf.new)) }
+        ensures spared { OnErr result (gave self.new ≡ gave self.old) }
         ensures steady { steady self.old → IsOk result × steady self.new }
         ensures cause { HasCause (faults self.old) (faults self.new) result };
 
@@ -66,6 +75,7 @@ fn read_piece<F: Files>(
     ensures always { result ≢ Err (Fail.Refused ReadFail.Failed) → F.faults files.new ≡ F.faults files.old }
     ensures small { result ≢ Err (Fail.Refused ReadFail.TooLarge) }
     ensures steady { F.steady files.old → (result ≢ Err (Fail.Refused ReadFail.Failed)) × F.steady files.new }
+    ensures gave { (added : List ℕ) × GivesBehind (F.gave files.old) (F.gave files.new) room added × OnOk result (bytes.new.items ≡ bytes.old.items ++ added) }
     ensures more { IfOk result (λ n. (length bytes.new.items ≡ length bytes.old.items + n) × (n ≤ room)) }
     ensures bytes { IfOk result (λ n. (held : Option Holding) (name : List ℕ) → HasRead held name bytes.old.items (F.left files.old) → HasRead held name bytes.new.items (F.left files.new)) }
     ensures end { IfOk result (λ n. n ≡ 0 → (held : Option Holding) (name : List ℕ) → HasRead held name bytes.old.items (F.left files.old) → Gives held name bytes.new.items) }
@@ -98,6 +108,9 @@ pub fn read_whole<F: Files>(
     ensures too_large { result ≡ Err (Fail.Refused ReadFail.TooLarge) → HoldsMore (F.held files.old) name.now limit }
     ensures larger { IsKnownToHoldMore (F.held files.old) name.now limit → result ≢ Err (Fail.Refused ReadFail.Failed) → result ≢ Err Fail.OutOfMemory → result ≡ Err (Fail.Refused ReadFail.TooLarge) }
     ensures few { result ≢ Err (Fail.Refused ReadFail.Failed) → HasReadAtMost (F.held files.old) name.now (limit + 1) (F.left files.new) }
+    ensures gave { IfOk result (λ bytes. F.gave files.new ≡ F.gave files.old ++ given name.now bytes.items ∷ []) }
+    ensures gave_many { result ≡ Err (Fail.Refused ReadFail.TooLarge) → GivesTooMany (F.held files.old) name.now limit (F.gave files.old) (F.gave files.new) }
+    ensures gave_little { GivesLittle name.now (limit + 1) (F.gave files.old) (F.gave files.new) }
     ensures later { F.faults files.old ≤ F.faults files.new }
     ensures failed { result ≡ Err (Fail.Refused ReadFail.Failed) → Rose (F.faults files.old) (F.faults files.new) }
     ensures always { F.faults files.old < F.faults files.new → result ≡ Err (Fail.Refused ReadFail.Failed) }

@@ -1,12 +1,16 @@
-// The files and the standard output of the host, which tell nothing of what they hold.
-ghost use Rattle.std.specs.Prelude.{◌≡◌, ◌<◌, ◌≤◌, ◌+◌, ◌-◌, ◌^◌, ℕ, List, length, take, min, Option, None, Ok, IfOk, OnOk, OnErr, IsOk, IsSome};
+// The files and the standard output of the host. Files tell what their calls gave, and the output what its writes took;
+// what a file holds, and what was written before, no call can tell.
+ghost use Rattle.std.specs.Prelude.{◌≡◌, ◌<◌, ◌≤◌, ◌+◌, ◌-◌, ◌^◌, [], length, take, min, None, Some, Ok, IfOk, OnOk, OnErr, IsOk, IsSome};
 ghost use Rattle.jn_outside.specs.Causes.{HasCause};
 ghost use Rattle.jn_outside.specs.Files.{Holds, Starts, Reads};
+ghost use Rattle.jn_outside.specs.Gave as spec;
 ghost use Rattle.jn_outside.specs.Sink.{Appends};
 
 use crate::count;
 use crate::files::{Failed, Files};
+use crate::given::{Given, with_read, with_start};
 use crate::sink::Sink;
+use crate::told::{Told, with_bytes};
 use std::io::{Read, Write};
 use std::{fs, rt};
 
@@ -16,6 +20,7 @@ pub struct HostFiles<'a, R: rt::Files> {
     rt: &'a R,
     file: Option<R::File>,
     faults: u64,
+    gave: Told<Given>,
 }
 
 impl<'a, R: rt::Files> HostFiles<'a, R> {
@@ -23,11 +28,13 @@ impl<'a, R: rt::Files> HostFiles<'a, R> {
     pub fn new(rt: &'a R) -> HostFiles<'a, R>
         ensures unstarted { result.file ≡ None }
         ensures faults { result.faults ≡ 0 }
+        ensures gave { result.gave.items ≡ [] }
     {
         HostFiles {
             rt,
             file: None,
             faults: 0,
+            gave: Told::none(),
         }
     }
 }
@@ -36,6 +43,8 @@ impl<'a, R: rt::Files> Files for HostFiles<'a, R> {
     ghost held = { λ s. None };
 
     ghost left = { λ s. None };
+
+    ghost gave = { λ s. s.gave.items };
 
     ghost steady = { λ s. ⊥ };
 
@@ -47,6 +56,8 @@ impl<'a, R: rt::Files> Files for HostFiles<'a, R> {
     fn start(&mut self, name: &str) -> Result<(), Failed>
         ensures started { OnOk result (Starts None name.now None) }
         ensures steady { ⊥ → Holds None name.now → IsOk result × ⊥ }
+        ensures gave { OnOk result (self.new.gave.items ≡ spec.with_start self.old.gave.items name.now) }
+        ensures spared { OnErr result (self.new.gave.items ≡ self.old.gave.items) }
         ensures opened { OnOk result (IsSome self.new.file) }
         ensures stays { OnErr result (self.new.file ≡ self.old.file) }
         ensures cause { HasCause self.old.faults self.new.faults result }
@@ -55,6 +66,7 @@ impl<'a, R: rt::Files> Files for HostFiles<'a, R> {
         match fs::open(self.rt, name) {
             Ok(file) => {
                 self.file = Some(file);
+                self.gave = with_start(&self.gave, name);
                 Ok(())
             }
             Err(_) => {
@@ -68,6 +80,8 @@ impl<'a, R: rt::Files> Files for HostFiles<'a, R> {
     fn read(&mut self, buf: &mut [u8]) -> Result<usize, Failed>
         ensures bound { IfOk result (λ n. n ≤ length buf.new) }
         ensures bytes { IfOk result (λ n. Reads None None n buf.new) }
+        ensures gave { IfOk result (λ n. self.new.gave.items ≡ spec.with_read self.old.gave.items (take n buf.new)) }
+        ensures spared { OnErr result (self.new.gave.items ≡ self.old.gave.items) }
         ensures steady { ⊥ → IsOk result × ⊥ }
         ensures cause { HasCause self.old.faults self.new.faults result }
         ensures counted { OnErr result (self.new.faults ≡ min (self.old.faults + 1) (2 ^ 64 - 1)) }
@@ -78,7 +92,10 @@ impl<'a, R: rt::Files> Files for HostFiles<'a, R> {
             Some(file) => file.read(buf),
         };
         match result {
-            Ok(count) => Ok(count),
+            Ok(count) => {
+                self.gave = with_read(&self.gave, &buf[..count]);
+                Ok(count)
+            }
             Err(_) => {
                 self.faults = count::next(self.faults);
                 Err(Failed)
@@ -93,28 +110,34 @@ impl<'a, R: rt::Files> Files for HostFiles<'a, R> {
 pub struct HostSink<'a, R: Print> {
     rt: &'a R,
     faults: u64,
+    taken: Told<u8>,
 }
 
 impl<'a, R: Print> HostSink<'a, R> {
-    /// A sink with no fault counted.
+    /// A sink with no fault counted, which took nothing yet.
     pub fn new(rt: &'a R) -> HostSink<'a, R>
-        ensures { result.faults ≡ 0 }
+        ensures faults { result.faults ≡ 0 }
+        ensures taken { result.taken.items ≡ [] }
     {
-        HostSink { rt, faults: 0 }
+        HostSink {
+            rt,
+            faults: 0,
+            taken: Told::none(),
+        }
     }
 }
 
 impl<'a, R: Print> Sink for HostSink<'a, R> {
-    ghost written = { λ s. None };
+    ghost written = { λ s. Some s.taken.items };
 
     ghost faults = { λ s. s.faults };
 
     fn write(&mut self, bytes: &[u8]) -> Result<usize, Failed>
         ensures bound { IfOk result (λ n. n ≤ length bytes.now) }
         ensures some { 0 < length bytes.now → IfOk result (λ n. 0 < n) }
-        ensures taken { IfOk result (λ n. Appends None None (take n bytes.now)) }
-        ensures err { OnErr result (◌≡◌ {A = Option (List ℕ)} None None) }
-        ensures empty { length bytes.now ≡ 0 → (result ≡ Ok 0) × (◌≡◌ {A = Option (List ℕ)} None None) }
+        ensures taken { IfOk result (λ n. Appends (Some self.old.taken.items) (Some self.new.taken.items) (take n bytes.now)) }
+        ensures err { OnErr result (Some self.new.taken.items ≡ Some self.old.taken.items) }
+        ensures empty { length bytes.now ≡ 0 → (result ≡ Ok 0) × (Some self.new.taken.items ≡ Some self.old.taken.items) }
         ensures nothing { length bytes.now ≡ 0 → self.new ≡ self.old }
         ensures cause { HasCause self.old.faults self.new.faults result }
         ensures counted { OnErr result (self.new.faults ≡ min (self.old.faults + 1) (2 ^ 64 - 1)) }
@@ -123,7 +146,10 @@ impl<'a, R: Print> Sink for HostSink<'a, R> {
             return Ok(0);
         }
         match std::io::writer(self.rt).write(bytes) {
-            Ok(count) if count > 0 => Ok(count),
+            Ok(count) if count > 0 => {
+                self.taken = with_bytes(&self.taken, &bytes[..count]);
+                Ok(count)
+            }
             _ => {
                 self.faults = count::next(self.faults);
                 Err(Failed)

@@ -1,13 +1,16 @@
 // Files in memory, which tell all and fail where they are told to.
-ghost use Rattle.std.specs.Prelude.{◌≡◌, ◌≤◌, ◌+◌, ◌-◌, ◌^◌, ◌||◌, length, None, take, min, IfOk, OnOk, OnErr, IsOk, is_err, is_none};
+ghost use Rattle.std.specs.Prelude.{◌≡◌, ◌≤◌, ◌+◌, ◌-◌, ◌^◌, ◌||◌, [], length, None, take, min, IfOk, OnOk, OnErr, IsOk, is_err, is_none};
 ghost use Rattle.std.specs.List.{position};
 ghost use Rattle.jn_outside.specs.Causes.{HasCause};
 ghost use Rattle.jn_outside.specs.Files.{Holds, Starts, Reads};
 ghost use Rattle.jn_outside.specs.Calls.{fails_at};
+ghost use Rattle.jn_outside.specs.Gave as gave;
 ghost use Rattle.jn_outside.specs.Memory as spec;
 
 use crate::count;
 use crate::files::{Failed, Files};
+use crate::given::{Given, with_read, with_start};
+use crate::told::Told;
 use std::alloc::Global;
 
 /// A name and the bytes that it holds.
@@ -28,6 +31,7 @@ pub struct MemFiles {
     /// How many of its bytes were read.
     place: usize,
     faults: u64,
+    gave: Told<Given>,
 }
 
 impl MemFiles {
@@ -39,6 +43,7 @@ impl MemFiles {
         ensures calls { result.calls ≡ 0 }
         ensures unstarted { result.file ≡ None }
         ensures faults { result.faults ≡ 0 }
+        ensures gave { result.gave.items ≡ [] }
     {
         MemFiles {
             files: held,
@@ -47,6 +52,7 @@ impl MemFiles {
             file: None,
             place: 0,
             faults: 0,
+            gave: Told::none(),
         }
     }
 
@@ -89,6 +95,8 @@ impl Files for MemFiles {
 
     ghost left = { left_by };
 
+    ghost gave = { λ s. s.gave.items };
+
     ghost steady = { IsSteadyBy };
 
     ghost faults = { λ s. s.faults };
@@ -101,6 +109,8 @@ impl Files for MemFiles {
     fn start(&mut self, name: &str) -> Result<(), Failed>
         ensures held { spec.held_by self.new ≡ spec.held_by self.old }
         ensures started { OnOk result (Starts (spec.held_by self.old) name.now (spec.left_by self.new)) }
+        ensures gave { OnOk result (self.new.gave.items ≡ gave.with_start self.old.gave.items name.now) }
+        ensures spared { OnErr result (self.new.gave.items ≡ self.old.gave.items) }
         ensures steady { spec.IsSteadyBy self.old → Holds (spec.held_by self.old) name.now → IsOk result × spec.IsSteadyBy self.new }
         ensures cause { HasCause self.old.faults self.new.faults result }
         ensures files { self.new.files ≡ self.old.files }
@@ -118,6 +128,7 @@ impl Files for MemFiles {
         }
         self.file = found;
         self.place = 0;
+        self.gave = with_start(&self.gave, name);
         Ok(())
     }
 
@@ -127,6 +138,8 @@ impl Files for MemFiles {
         ensures held { spec.held_by self.new ≡ spec.held_by self.old }
         ensures bound { IfOk result (λ n. n ≤ length buf.new) }
         ensures bytes { IfOk result (λ n. Reads (spec.left_by self.old) (spec.left_by self.new) n buf.new) }
+        ensures gave { IfOk result (λ n. self.new.gave.items ≡ gave.with_read self.old.gave.items (take n buf.new)) }
+        ensures spared { OnErr result (self.new.gave.items ≡ self.old.gave.items) }
         ensures steady { spec.IsSteadyBy self.old → IsOk result × spec.IsSteadyBy self.new }
         ensures cause { HasCause self.old.faults self.new.faults result }
         ensures files { self.new.files ≡ self.old.files }
@@ -146,6 +159,7 @@ impl Files for MemFiles {
         }
         let count = copy_front(self.left(), buf);
         self.place += count;
+        self.gave = with_read(&self.gave, &buf[..count]);
         Ok(count)
     }
 }
