@@ -22,7 +22,7 @@ use Rattle.nullcheck_top.specs.declared.status.Status.{Status}
 use Rattle.nullcheck_top.specs.declared.status.Status.TheVariants.{Refused as RefusedStatus}
 use Rattle.nullcheck_top.specs.Report.{PhaseRows, TypedProgramOf, RulesGive, Refused, Checked, status_of_rows}
 use Rattle.nullcheck_top.specs.Shown.{shown, row_of, row_of_file, verdict_of_rows}
-use Rattle.nullcheck_top.specs.Answer.{IsReportOfFiles}
+use Rattle.nullcheck_top.specs.Made.{IsReportOfFiles}
 
 pub checked_report : (files : List SourceFile) (P : Program) (rows : List Row) (status : Status) (shown_rows : List RowText) (verdict : Option Verdict) → TypedProgramOf files P → RulesGive P rows → status ≡ status_of_rows rows → shown_rows ≡ map (row_of files) rows → verdict ≡ Some (verdict_of_rows rows) → IsReportOfFiles files status (plain_shown shown_rows verdict)
 checked_report files P rows status shown_rows verdict of_files rules ends lines end = record {

@@ -26,7 +26,7 @@ use Rattle.nullcheck_top.specs.declared.status.Status.{Status}
 use Rattle.nullcheck_top.specs.declared.status.Status.TheVariants.{Refused as RefusedStatus}
 use Rattle.nullcheck_top.specs.Report.{AreDeclared, ProgramOf, Refused, lowering_rows, table_rows}
 use Rattle.nullcheck_top.specs.Shown.{shown, row_of, row_of_file}
-use Rattle.nullcheck_top.specs.Answer.{IsReportOfFiles}
+use Rattle.nullcheck_top.specs.Made.{IsReportOfFiles}
 use Rattle.nullcheck_top.proofs.Reporting.{refused_report, same_shown, read_names, sorted_at_start}
 
 front_none : (xs ys : List Row) → xs ++ ys ≡ [] → xs ≡ []

@@ -10,7 +10,7 @@ ghost use Rattle.jn_front.specs.Counted.{ReadsFit};
 ghost use Rattle.jn_front.specs.declared.source.SourceFile.{SourceFile as SpecFile};
 ghost use Rattle.jn_front.specs.Files.{files_of_reads, names_of, AreReads};
 ghost use Rattle.jn_reporters.specs.Reports.{plain_shown};
-ghost use Rattle.nullcheck_top.specs.Answer.{IsReportOfFiles};
+ghost use Rattle.nullcheck_top.specs.Made.{IsReportOfFiles};
 ghost use Rattle.jn_front.specs.Phases.{AreParsed};
 ghost use Rattle.jn_trees.specs.declared.token.Token.{Token as SpecToken};
 ghost use Rattle.nullcheck_top.specs.Report.{AreDeclared, ProgramOf, Refused, TypedProgramOf, status_of_rows};
