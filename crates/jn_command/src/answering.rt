@@ -4,7 +4,7 @@ ghost use Rattle.std.specs.String.{string_bytes};
 ghost use Rattle.jn_outside.specs.Causes.{Rose};
 ghost use Rattle.jn_outside.specs.Files.{Holds};
 ghost use Rattle.jn_command.specs.Words.{files_of, begins_with_dash, any_dash};
-ghost use Rattle.jn_command.specs.Answer.{IsReportOfFiles, Answers, Completes, Finished, HoldsFiles, ReadsNothing, Safe};
+ghost use Rattle.jn_command.specs.Answer.{reading, IsReportOfFiles, Answers, Completes, Finished, HoldsFiles, ReadsNothing, Safe, Starts};
 ghost use Rattle.jn_command.specs.Made.{IfMade};
 ghost use Rattle.jn_front.specs.declared.source.SourceFile.{SourceFile as FileOf};
 ghost use Rattle.jn_front.specs.Counted.{ReadsFit};
@@ -112,14 +112,15 @@ fn answer_named<C: Checker, F: Files, K: Sink>(
     files: &mut F,
     out: &mut K,
 ) -> Status
-    ensures answer { Answers (C.is_report checker.now) (C.is_safe checker.now) (F.held files.old) (Some (map string_bytes names.now)) (K.written out.old) (K.written out.new) result }
-    ensures safe { result ≡ Status.Ok → Safe (C.is_report checker.now) (C.is_safe checker.now) (F.held files.old) (Some (map string_bytes names.now)) }
-    ensures complete { (Rose (F.faults files.old) (F.faults files.new) → ⊥) → (Rose (K.faults out.old) (K.faults out.new) → ⊥) → Completes (C.is_report checker.now) (C.is_safe checker.now) (F.held files.old) (Some (map string_bytes names.now)) (K.written out.old) (K.written out.new) result }
+    ensures answer { Answers (C.is_report checker.now) (C.is_safe checker.now) (reading (F.held files.old) (F.gave files.old) (F.gave files.new)) (Some (map string_bytes names.now)) (K.written out.old) (K.written out.new) result }
+    ensures safe { result ≡ Status.Ok → Safe (C.is_report checker.now) (C.is_safe checker.now) (reading (F.held files.old) (F.gave files.old) (F.gave files.new)) (Some (map string_bytes names.now)) }
+    ensures complete { (Rose (F.faults files.old) (F.faults files.new) → ⊥) → (Rose (K.faults out.old) (K.faults out.new) → ⊥) → Completes (C.is_report checker.now) (C.is_safe checker.now) (reading (F.held files.old) (F.gave files.old) (F.gave files.new)) (Some (map string_bytes names.now)) (K.written out.old) (K.written out.new) result }
     ensures read { result ≡ Status.ReadFault → Rose (F.faults files.old) (F.faults files.new) }
     ensures read_always { F.faults files.old < F.faults files.new → result ≡ Status.ReadFault }
     ensures read_steady { F.steady files.old → AllHeld (F.held files.old) (map string_bytes names.now) → result ≢ Status.ReadFault }
     ensures read_count { F.steady files.old → AllHeld (F.held files.old) (map string_bytes names.now) → F.faults files.new ≡ F.faults files.old }
-    ensures unread { most_files < length names.now → F.faults files.new ≡ F.faults files.old }
+    ensures starts { Starts (Some (map string_bytes names.now)) (F.gave files.old) (F.gave files.new) }
+    ensures unread { most_files < length names.now → (F.faults files.new ≡ F.faults files.old) × (F.gave files.new ≡ F.gave files.old) }
     ensures write { result ≡ Status.WriteFault → Rose (K.faults out.old) (K.faults out.new) }
     ensures write_always { K.faults out.old < K.faults out.new → result ≡ Status.WriteFault }
 {
@@ -142,19 +143,21 @@ pub fn answer<C: Checker, F: Files, K: Sink>(
     files: &mut F,
     out: &mut K,
 ) -> Status
-    // Status and bytes are those that the words and the files define; behind a write fault a prefix of the bytes,
-    // behind a read fault and want of memory nothing.
-    ensures answer { Answers (C.is_report checker.now) (C.is_safe checker.now) (F.held files.old) (files_of (map string_bytes words.now)) (K.written out.old) (K.written out.new) result }
-    // No run of accepted files dereferences null or gets stuck, with any words and any number of steps.
-    ensures safe { result ≡ Status.Ok → Safe (C.is_report checker.now) (C.is_safe checker.now) (F.held files.old) (files_of (map string_bytes words.now)) }
+    // Status and bytes are those that the words and the files define, which are those whose bytes the reads of this call gave;
+    // behind a write fault a prefix of the bytes, behind a read fault and want of memory nothing. Accepted files are safe.
+    ensures answer { Answers (C.is_report checker.now) (C.is_safe checker.now) (reading (F.held files.old) (F.gave files.old) (F.gave files.new)) (files_of (map string_bytes words.now)) (K.written out.old) (K.written out.new) result }
+    // So no run of accepted files dereferences null or gets stuck, with any words and any number of steps.
+    ensures safe { result ≡ Status.Ok → Safe (C.is_report checker.now) (C.is_safe checker.now) (reading (F.held files.old) (F.gave files.old) (F.gave files.new)) (files_of (map string_bytes words.now)) }
     // Where words name files and no fault is counted, the report is written, or no memory was found.
-    ensures complete { (Rose (F.faults files.old) (F.faults files.new) → ⊥) → (Rose (K.faults out.old) (K.faults out.new) → ⊥) → Completes (C.is_report checker.now) (C.is_safe checker.now) (F.held files.old) (files_of (map string_bytes words.now)) (K.written out.old) (K.written out.new) result }
+    ensures complete { (Rose (F.faults files.old) (F.faults files.new) → ⊥) → (Rose (K.faults out.old) (K.faults out.new) → ⊥) → Completes (C.is_report checker.now) (C.is_safe checker.now) (reading (F.held files.old) (F.gave files.old) (F.gave files.new)) (files_of (map string_bytes words.now)) (K.written out.old) (K.written out.new) result }
     ensures read { result ≡ Status.ReadFault → Rose (F.faults files.old) (F.faults files.new) }
     ensures read_always { F.faults files.old < F.faults files.new → result ≡ Status.ReadFault }
     ensures read_steady { F.steady files.old → HoldsFiles (F.held files.old) (files_of (map string_bytes words.now)) → result ≢ Status.ReadFault }
     ensures read_count { F.steady files.old → HoldsFiles (F.held files.old) (files_of (map string_bytes words.now)) → F.faults files.new ≡ F.faults files.old }
+    // No file is started but those that the words name, in their order, whatever comes of it.
+    ensures starts { Starts (files_of (map string_bytes words.now)) (F.gave files.old) (F.gave files.new) }
     // Nothing is read where the words name no file, or too many.
-    ensures unread { ReadsNothing (files_of (map string_bytes words.now)) → F.faults files.new ≡ F.faults files.old }
+    ensures unread { ReadsNothing (files_of (map string_bytes words.now)) → (F.faults files.new ≡ F.faults files.old) × (F.gave files.new ≡ F.gave files.old) }
     ensures write { result ≡ Status.WriteFault → Rose (K.faults out.old) (K.faults out.new) }
     ensures write_always { K.faults out.old < K.faults out.new → result ≡ Status.WriteFault }
 {

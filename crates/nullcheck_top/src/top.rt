@@ -3,7 +3,7 @@ ghost use Rattle.std.specs.Prelude.{◌≡◌, ◌≢◌, ◌<◌, map};
 ghost use Rattle.std.specs.String.{string_bytes};
 ghost use Rattle.jn_outside.specs.Causes.{Rose};
 ghost use Rattle.jn_command.specs.Words.{files_of};
-ghost use Rattle.jn_command.specs.Answer.{Answers, Completes, HoldsFiles, ReadsNothing, Safe};
+ghost use Rattle.jn_command.specs.Answer.{reading, Answers, Completes, HoldsFiles, ReadsNothing, Safe, Starts};
 ghost use Rattle.nullcheck_top.specs.Report.{IsReport, IsSafe};
 
 use crate::check::SubsetChecker;
@@ -24,19 +24,21 @@ pub fn nullcheck<R: Threads + Sync, F: Files, K: Sink, G: Gate + Sync>(
     out: &mut K,
     gate: &G,
 ) -> Status
-    // Status and bytes are those that the words and the files define; behind a write fault a prefix of the bytes,
-    // behind a read fault and want of memory nothing.
-    ensures answer { Answers IsReport IsSafe (F.held files.old) (files_of (map string_bytes words.now)) (K.written out.old) (K.written out.new) result }
-    // No run of accepted files dereferences null or gets stuck, with any words and any number of steps.
-    ensures safe { result ≡ Status.Ok → Safe IsReport IsSafe (F.held files.old) (files_of (map string_bytes words.now)) }
+    // Status and bytes are those that the words and the files define, which are those whose bytes the reads of this call gave;
+    // behind a write fault a prefix of the bytes, behind a read fault and want of memory nothing. Accepted files are safe.
+    ensures answer { Answers IsReport IsSafe (reading (F.held files.old) (F.gave files.old) (F.gave files.new)) (files_of (map string_bytes words.now)) (K.written out.old) (K.written out.new) result }
+    // So no run of accepted files dereferences null or gets stuck, with any words and any number of steps.
+    ensures safe { result ≡ Status.Ok → Safe IsReport IsSafe (reading (F.held files.old) (F.gave files.old) (F.gave files.new)) (files_of (map string_bytes words.now)) }
     // Where words name files and no fault is counted, the report is written, or no memory was found.
-    ensures complete { (Rose (F.faults files.old) (F.faults files.new) → ⊥) → (Rose (K.faults out.old) (K.faults out.new) → ⊥) → Completes IsReport IsSafe (F.held files.old) (files_of (map string_bytes words.now)) (K.written out.old) (K.written out.new) result }
+    ensures complete { (Rose (F.faults files.old) (F.faults files.new) → ⊥) → (Rose (K.faults out.old) (K.faults out.new) → ⊥) → Completes IsReport IsSafe (reading (F.held files.old) (F.gave files.old) (F.gave files.new)) (files_of (map string_bytes words.now)) (K.written out.old) (K.written out.new) result }
     ensures read { result ≡ Status.ReadFault → Rose (F.faults files.old) (F.faults files.new) }
     ensures read_always { F.faults files.old < F.faults files.new → result ≡ Status.ReadFault }
     ensures read_steady { F.steady files.old → HoldsFiles (F.held files.old) (files_of (map string_bytes words.now)) → result ≢ Status.ReadFault }
     ensures read_count { F.steady files.old → HoldsFiles (F.held files.old) (files_of (map string_bytes words.now)) → F.faults files.new ≡ F.faults files.old }
+    // No file is started but those that the words name, in their order, whatever comes of it.
+    ensures starts { Starts (files_of (map string_bytes words.now)) (F.gave files.old) (F.gave files.new) }
     // Nothing is read where the words name no file, or too many.
-    ensures unread { ReadsNothing (files_of (map string_bytes words.now)) → F.faults files.new ≡ F.faults files.old }
+    ensures unread { ReadsNothing (files_of (map string_bytes words.now)) → (F.faults files.new ≡ F.faults files.old) × (F.gave files.new ≡ F.gave files.old) }
     ensures write { result ≡ Status.WriteFault → Rose (K.faults out.old) (K.faults out.new) }
     ensures write_always { K.faults out.old < K.faults out.new → result ≡ Status.WriteFault }
 {
