@@ -1,2 +1,3 @@
 pub mod OneOrder
 pub mod Rows
+pub mod Sweeping

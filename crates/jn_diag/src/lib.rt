@@ -3,6 +3,8 @@
 
 pub mod ordered;
 pub mod shown;
+pub mod sweep;
 
 pub use ordered::{order, rows_have_one_order};
 pub use shown::{RowText, Verdict, row_text};
+pub use sweep::{Position, place_behind};

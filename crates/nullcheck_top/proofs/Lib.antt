@@ -1,6 +1,4 @@
 pub mod Reporting
-pub mod WholeFiles
-pub mod Answering
 pub mod RuleRows
 pub mod Programs
 pub mod Laws

@@ -4,9 +4,7 @@
 mod check;
 pub mod law;
 mod rules;
-mod show;
-pub mod status;
 pub mod top;
 
-pub use status::Status;
+pub use jn_command::Status;
 pub use top::nullcheck;

@@ -1,0 +1,145 @@
+-- Rows of files that were read, as a reader sees them.
+use Rattle.std.proofs.Common.{◌≡◌, ℕ, zero, suc, ◌<◌, ◌≤◌, true, false, List, [], ◌∷◌, length, map, take, get_or, Option, Some, None, Result, Ok, Err, inl, inr, refl, sym, ap, ◌∙◌, subst, arith}
+use Rattle.std.specs.Prelude.{◌⊎◌, IfOk, slice_get, string_bytes}
+use Rattle.std.specs.declared.string.String.{String}
+use Rattle.std.specs.declared.alloc.Global.{Global}
+use Rattle.jn_base.specs.declared.place.Row.{Row}
+use Rattle.jn_base.specs.declared.code.Code.{Code}
+use Rattle.jn_base.specs.declared.code.Code.TheVariants.{B1}
+use Rattle.jn_base.specs.Place.{place_behind}
+use Rattle.jn_diag.specs.declared.shown.RowText.{RowText}
+use Rattle.jn_diag.specs.declared.shown.Verdict.{Verdict}
+use Rattle.jn_diag.specs.declared.shown.Verdict.TheVariants.{Refused as RefusedVerdict}
+use Rattle.jn_diag.specs.declared.sweep.Position.{Position}
+use Rattle.jn_diag.specs.Shown.{row_shown}
+use Rattle.jn_diag.specs.Sweep.{IsPosition}
+use Rattle.jn_reporters.specs.Reports.{plain_shown}
+use Rattle.jn_front.specs.declared.source.SourceFile.{SourceFile}
+use Rattle.jn_front.specs.declared.source.SourceRead.{SourceRead}
+use Rattle.jn_front.specs.Files.{names_of, files_of_reads, AreReads, IsReadOf, most_files}
+use Rattle.jn_front.specs.Limits.{row_at}
+use Rattle.jn_command.specs.declared.report.Report.{Report}
+use Rattle.jn_command.specs.declared.report.Report.TheVariants.{Refused, Checked}
+use Rattle.jn_command.specs.declared.show.Place.{Place}
+use Rattle.jn_command.specs.Reports.{rows_of, verdict_of}
+use Rattle.jn_command.specs.Shown.{row_of, row_of_file, shown}
+use Rattle.jn_command.specs.Stands.{StandsIn, StandIn, IsPlace, bytes_of}
+
+read_at : (reads : List SourceRead) (i : ℕ) (d : SourceRead) → i < length reads → slice_get reads i ≡ Some (get_or reads i d)
+read_at [] i d lt = absurd (omega (arith, lt))
+read_at (read ∷ reads) zero d lt = refl
+read_at (read ∷ reads) (suc i) d lt = read_at reads i d (omega (arith, lt))
+
+file_at : (reads : List SourceRead) (i : ℕ) (d : SourceRead) → i < length reads → slice_get (files_of_reads reads) i ≡ Some (get_or reads i d).file
+file_at [] i d lt = absurd (omega (arith, lt))
+file_at (read ∷ reads) zero d lt = refl
+file_at (read ∷ reads) (suc i) d lt = file_at reads i d (omega (arith, lt))
+
+no_file_at : (reads : List SourceRead) (i : ℕ) → length reads ≤ i → slice_get (files_of_reads reads) i ≡ None
+no_file_at [] i le = refl
+no_file_at (read ∷ reads) zero le = absurd (omega (arith, le))
+no_file_at (read ∷ reads) (suc i) le = no_file_at reads i (omega (arith, le))
+
+pub row_there : {E : Type 0} (reads : List SourceRead) (i : ℕ) (read : SourceRead) (row : Row) (r : Result RowText E) → i ≡ row.span.file.0 → i < length reads → read ≡ get_or reads i read → IfOk r (λ t. t ≡ row_shown read.file.name read.file.bytes row) → IfOk r (λ t. t ≡ row_of (files_of_reads reads) row)
+row_there reads i read row (Ok t) number lt is h =
+    let here : slice_get (files_of_reads reads) row.span.file.0 ≡ Some read.file = ap (λ n. slice_get (files_of_reads reads) n) (sym number) ∙ file_at reads i read lt ∙ ap (λ (x : SourceRead). Some x.file) (sym is) in
+    h ∙ ap (λ f. row_of_file f row) (sym here)
+row_there reads i read row (Err e) number lt is h = tt
+
+pub row_nowhere : (reads : List SourceRead) (row : Row) (name : List ℕ) → length reads ≤ row.span.file.0 → name ≡ [] → record { name = name; line = 1; col = 1; code = row.code } ≡ row_of (files_of_reads reads) row
+row_nowhere reads row name le empty = ap (λ n. record { name = n; line = 1; col = 1; code = row.code }) empty ∙ ap (λ f. row_of_file f row) (sym (no_file_at reads row.span.file.0 le))
+
+-- the text of a file that was read
+pub bytes_there : (reads : List SourceRead) (i : ℕ) (read : SourceRead) → i < length reads → read ≡ get_or reads i read → bytes_of (slice_get reads i) ≡ read.file.bytes
+bytes_there reads i read lt is = ap bytes_of (read_at reads i read lt) ∙ ap (λ (x : SourceRead). x.file.bytes) (sym is)
+
+none_taken : (n : ℕ) (text : List ℕ) → n ≡ 0 → take n text ≡ []
+none_taken n text e = ap (λ m. take m text) e ∙ none text
+  where
+    none : (text : List ℕ) → take 0 text ≡ []
+    none [] = refl
+    none (byte ∷ rest) = refl
+
+abbrev pub start : Position
+start = record { before = 0; line = 1; column = 1 }
+
+-- each text is swept from its beginning
+pub start_is : (text : List ℕ) → IsPosition text start
+start_is [] = record { within = omega arith; line = refl; column = refl }
+start_is (byte ∷ rest) = record { within = omega arith; line = refl; column = refl }
+
+-- the place stays, or is the beginning of another file
+pub turned : (reads : List SourceRead) (old new : Place) (i : ℕ) (read : SourceRead) → IsPlace reads old → ((new ≡ old) × (old.file ≡ i)) ⊎ (new ≡ record { file = i; position = start }) → i < length reads → read ≡ get_or reads i read → IsPosition read.file.bytes new.position
+turned reads old new i read is (inl (same, file)) lt at =
+    subst (λ (p : Place). IsPosition read.file.bytes p.position) (sym same) (subst (λ text. IsPosition text old.position) (ap (λ n. bytes_of (slice_get reads n)) file ∙ bytes_there reads i read lt at) is)
+turned reads old new i read is (inr other) lt at = subst (λ (p : Place). IsPosition read.file.bytes p.position) (sym other) (start_is read.file.bytes)
+
+pub turned_file : (old new : Place) (i : ℕ) → ((new ≡ old) × (old.file ≡ i)) ⊎ (new ≡ record { file = i; position = start }) → new.file ≡ i
+turned_file old new i (inl (same, file)) = ap (λ (p : Place). p.file) same ∙ file
+turned_file old new i (inr other) = ap (λ (p : Place). p.file) other
+
+-- ---- what was read shows what the files are
+
+-- a row at the first byte shows no byte
+pub at_start : (name one other : List ℕ) (row : Row) → row.span.from ≡ 0 → row_shown name one row ≡ row_shown name other row
+at_start name one other row e =
+    ap (λ before. record { name = name; line = (place_behind before row.span).line; col = (place_behind before row.span).col; code = row.code }) (none_taken row.span.from one e ∙ sym (none_taken row.span.from other e))
+
+never_both : (read : SourceRead) → read.whole ≡ true → read.whole ≡ false → ⊥
+never_both read all part = no_flag (sym all ∙ part)
+  where
+    no_flag : true ≡ false → ⊥
+    no_flag e = cc
+
+same_file : (read : SourceRead) (file : SourceFile) (row : Row) → IsReadOf read file → StandsIn (Some read) row → row_shown read.file.name read.file.bytes row ≡ row_shown file.name file.bytes row
+same_file read file row (inl w) stands = ap (λ (f : SourceFile). row_shown f.name f.bytes row) w.1
+same_file read file row (inr l) (inl whole) = absurd (never_both read whole l.0)
+same_file read file row (inr l) (inr from) = ap (λ (f : SourceFile). row_shown f.name f.bytes row) l.1 ∙ at_start file.name [] file.bytes row from
+
+same_at : (reads : List SourceRead) (files : List SourceFile) (k : ℕ) (row : Row) → AreReads reads files → StandsIn (slice_get reads k) row → row_of_file (slice_get (files_of_reads reads) k) row ≡ row_of_file (slice_get files k) row
+same_at [] [] k row are stands = refl
+same_at [] (file ∷ files) k row are stands = absurd are
+same_at (read ∷ reads) [] k row are stands = absurd are
+same_at (read ∷ reads) (file ∷ files) zero row are stands = same_file read file row are.0 stands
+same_at (read ∷ reads) (file ∷ files) (suc k) row are stands = same_at reads files k row are.1 stands
+
+same_rows : (reads : List SourceRead) (files : List SourceFile) (rows : List Row) → AreReads reads files → StandIn reads rows → map (row_of (files_of_reads reads)) rows ≡ map (row_of files) rows
+same_rows reads files [] are stand = refl
+same_rows reads files (row ∷ rows) are stand =
+    ap (λ r. r ∷ map (row_of (files_of_reads reads)) rows) (same_at reads files row.span.file.0 row are stand.0) ∙ ap (λ rs. row_of files row ∷ rs) (same_rows reads files rows are stand.1)
+
+pub same_text : (reads : List SourceRead) (files : List SourceFile) (report : Report) (rows : List RowText) (verdict : Option Verdict) → AreReads reads files → StandIn reads (rows_of report) → rows ≡ map (row_of (files_of_reads reads)) (rows_of report) → verdict ≡ Some (verdict_of report) → plain_shown rows verdict ≡ shown files report
+same_text reads files report rows verdict are stand lines end =
+    ap (λ rs. plain_shown rs verdict) (lines ∙ same_rows reads files (rows_of report) are stand) ∙ ap (λ v. plain_shown (map (row_of files) (rows_of report)) v) end
+
+-- ---- more files than there may be
+
+pub length_is : (files : List SourceFile) → length (names_of files) ≡ length files
+length_is [] = refl
+length_is (file ∷ files) = ap suc (length_is files)
+
+name_of_file : (files : List SourceFile) (k : ℕ) (name : List ℕ) (row : Row) → slice_get (names_of files) k ≡ Some name → row.span.from ≡ 0 → row_shown name [] row ≡ row_of_file (slice_get files k) row
+name_of_file [] k name row is from = absurd (no_name is)
+  where
+    no_name : None ≡ Some name → ⊥
+    no_name e = cc
+name_of_file (file ∷ files) zero name row is from = ap (λ n. row_shown n [] row) (sym (same_name is)) ∙ at_start file.name [] file.bytes row from
+  where
+    same_name : Some file.name ≡ Some name → file.name ≡ name
+    same_name e = cc
+name_of_file (file ∷ files) (suc k) name row is from = name_of_file files k name row is from
+
+pub number_text : (files : List SourceFile) (names : List (List ℕ)) (name : List ℕ) (report : Report) (rows : List RowText) (verdict : Option Verdict) → names_of files ≡ names → slice_get names most_files ≡ Some name → report ≡ Refused (row_at most_files B1 ∷ []) → rows ≡ row_shown name [] (row_at 64 B1) ∷ [] → verdict ≡ Some (RefusedVerdict 1) → plain_shown rows verdict ≡ shown files report
+number_text files names name report rows verdict named is refused lines end =
+    ap (λ rs. plain_shown rs verdict) (lines ∙ ap (λ r. r ∷ []) (name_of_file files most_files name (row_at most_files B1) (ap (λ ns. slice_get ns most_files) named ∙ is) refl))
+    ∙ ap (λ v. plain_shown (row_of files (row_at most_files B1) ∷ []) v) end
+    ∙ ap (shown files) (sym refused)
+
+-- the name at a place
+pub name_there : (words : List (String Global)) (i : ℕ) (d : String Global) (text : List ℕ) → i < length words → d ≡ get_or words i d → text ≡ string_bytes d → slice_get (map string_bytes words) i ≡ Some text
+name_there words i d text lt is value = there words i d lt ∙ ap (λ w. Some (string_bytes w)) (sym is) ∙ ap Some (sym value)
+  where
+    there : (words : List (String Global)) (i : ℕ) (d : String Global) → i < length words → slice_get (map string_bytes words) i ≡ Some (string_bytes (get_or words i d))
+    there [] i d lt = absurd (omega (arith, lt))
+    there (word ∷ words) zero d lt = refl
+    there (word ∷ words) (suc i) d lt = there words i d (omega (arith, lt))

@@ -1,0 +1,30 @@
+-- What a check of files comes to.
+use Rattle.std.specs.Prelude.{ℕ, List, [], ◌∷◌, length}
+use Rattle.jn_base.specs.declared.place.Row.{Row}
+use Rattle.jn_diag.specs.declared.shown.Verdict.{Verdict}
+use Rattle.jn_diag.specs.declared.shown.Verdict.TheVariants.{Accepted as AcceptedVerdict, Rejected as RejectedVerdict, Refused as RefusedVerdict}
+use Rattle.jn_command.specs.declared.report.Report.{Report}
+use Rattle.jn_command.specs.declared.report.Report.TheVariants.{Refused, Checked}
+use Rattle.jn_command.specs.declared.status.Status.{Status}
+use Rattle.jn_command.specs.declared.status.Status.TheVariants.{Ok, Rejected as RejectedStatus, Refused as RefusedStatus}
+
+abbrev pub rows_of : Report → List Row
+rows_of (Refused rows) = rows
+rows_of (Checked rows) = rows
+
+-- files that are checked are accepted where no rule has a row
+abbrev pub status_of_rows : List Row → Status
+status_of_rows [] = Ok
+status_of_rows (row ∷ rows) = RejectedStatus
+
+abbrev pub status_of : Report → Status
+status_of (Refused rows) = RefusedStatus
+status_of (Checked rows) = status_of_rows rows
+
+abbrev pub verdict_of_rows : List Row → Verdict
+verdict_of_rows [] = AcceptedVerdict
+verdict_of_rows (row ∷ rows) = RejectedVerdict (length (row ∷ rows))
+
+abbrev pub verdict_of : Report → Verdict
+verdict_of (Refused rows) = RefusedVerdict (length rows)
+verdict_of (Checked rows) = verdict_of_rows rows

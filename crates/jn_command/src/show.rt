@@ -1,0 +1,129 @@
+//! The text of a report.
+ghost use Rattle.std.specs.Prelude.{◌≡◌, ◌⊎◌, ◌≤◌, ◌<◌, ◌∷◌, [], length, map, Some, IfOk, slice_get, string_bytes};
+ghost use Rattle.jn_base.specs.declared.code.Code.TheVariants.{B1};
+ghost use Rattle.jn_diag.specs.Shown.{row_shown};
+ghost use Rattle.jn_diag.specs.Sweep.{IsPosition};
+ghost use Rattle.jn_front.specs.Counted.{ReadsFit};
+ghost use Rattle.jn_front.specs.Files.{files_of_reads};
+ghost use Rattle.jn_front.specs.Limits.{row_at};
+ghost use Rattle.jn_command.specs.Reports.{rows_of, verdict_of};
+ghost use Rattle.jn_command.specs.Shown.{row_of};
+ghost use Rattle.jn_command.specs.Stands.{IsPlace};
+
+use crate::report::Report;
+use jn_base::{Code, OutOfMemory, Row, Span, Text};
+use jn_diag::{Position, RowText, Verdict, place_behind};
+use jn_front::{SourceRead, row_at};
+use jn_reporters::{Plain, Reporter};
+use std::alloc::Global;
+
+/// A place in one of the files that were read: rows come in order, so that each file is swept once.
+#[derive(Clone, Copy, Debug, PartialEq, Eq)]
+pub struct Place {
+    /// The file's number.
+    pub file: usize,
+    pub position: Position,
+}
+
+/// The place, or the beginning of the file where it is of another one.
+fn place_in(place: Place, file: usize) -> Place
+    ensures { ((result ≡ place) × (place.file ≡ file)) ⊎ (result ≡ record { file = file; position = record { before = 0; line = 1; column = 1 } }) }
+{
+    if place.file == file {
+        place
+    } else {
+        Place {
+            file,
+            position: Position::start(),
+        }
+    }
+}
+
+/// The row as a reader sees it, of a file that was read; the position goes there.
+fn row_in(
+    alloc: Global,
+    read: &SourceRead,
+    row: &Row,
+    position: &mut Position,
+) -> Result<RowText, OutOfMemory>
+    requires fits { length read.now.file.bytes ≤ 1048576 }
+    requires is { IsPosition read.now.file.bytes position.old }
+    ensures shown { IfOk result (λ t. t ≡ row_shown read.now.file.name read.now.file.bytes row.now) }
+    ensures is { IsPosition read.now.file.bytes position.new }
+{
+    let text = read.file.bytes.as_slice();
+    let at = Span {
+        file: row.span.file,
+        from: row.span.from.min(text.len() as u32),
+        to: row.span.to,
+    };
+    let place = place_behind(text, position, &at);
+    Ok(RowText {
+        name: Text::of_str(alloc, read.file.name.as_str())?,
+        line: place.line,
+        col: place.col,
+        code: row.code,
+    })
+}
+
+/// The row as a reader sees it; one of no file has no name, and one behind its file's end stands at the end.
+fn row_of(
+    alloc: Global,
+    reads: &[SourceRead],
+    row: &Row,
+    place: &mut Place,
+) -> Result<RowText, OutOfMemory>
+    requires fit { ReadsFit reads.now }
+    requires is { IsPlace reads.now place.old }
+    ensures shown { IfOk result (λ t. t ≡ row_of (files_of_reads reads.now) row.now) }
+    ensures is { IsPlace reads.now place.new }
+{
+    let file = row.span.file.0 as usize;
+    if file < reads.len() {
+        *place = place_in(*place, file);
+        row_in(alloc, &reads[file], row, &mut place.position)
+    } else {
+        Ok(RowText {
+            name: Text::of_str(alloc, "")?,
+            line: 1,
+            col: 1,
+            code: row.code,
+        })
+    }
+}
+
+/// The text of a report of files that were read, as the plain reporter shows it.
+pub fn show(alloc: Global, reads: &[SourceRead], report: &Report) -> Result<Plain, OutOfMemory>
+    requires { ReadsFit reads.now }
+    ensures rows { IfOk result (λ plain. plain.rows ≡ map (row_of (files_of_reads reads.now)) (rows_of report.now)) }
+    ensures verdict { IfOk result (λ plain. plain.verdict ≡ Some (verdict_of report.now)) }
+{
+    let mut plain = Plain::new(alloc);
+    let mut place = Place {
+        file: 0,
+        position: Position::start(),
+    };
+    for row in report.rows() {
+        let shown = row_of(alloc, reads, row, &mut place)?;
+        plain.take(&shown)?;
+    }
+    plain.finish(report.verdict())?;
+    Ok(plain)
+}
+
+/// The text of the report of more files than there may be, of which this is the name of the first that is too many.
+pub fn show_number(alloc: Global, name: &str) -> Result<Plain, OutOfMemory>
+    ensures rows { IfOk result (λ plain. plain.rows ≡ row_shown name.now [] (row_at 64 B1) ∷ []) }
+    ensures verdict { IfOk result (λ plain. plain.verdict ≡ Some (Verdict.Refused 1)) }
+{
+    let shown = RowText {
+        name: Text::of_str(alloc, name)?,
+        line: 1,
+        col: 1,
+        code: Code::B1,
+    };
+    let mut plain = Plain::new(alloc);
+    plain.take(&shown)?;
+    plain.finish(Verdict::Refused(1))?;
+    Ok(plain)
+}
