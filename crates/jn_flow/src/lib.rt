@@ -1,11 +1,11 @@
-// The least table of a body, by whole rounds.
+// The least table of a body, as the solution of a dataflow problem.
 #![tactic(auto)]
 
 pub mod initial;
 pub mod inside;
 pub mod law;
 pub mod least;
-pub mod rounds;
+mod qualifiers;
 
 pub use initial::entry;
 pub use inside::stays_inside;
