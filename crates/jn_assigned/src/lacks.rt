@@ -64,7 +64,6 @@ fn lacks(slot: &Option<Seq<bool>>, reg: usize) -> bool
 ///
 /// # Errors
 /// No memory was found.
-#[tactic(auto, using(crate::proofs::Paths::solution_tells))]
 pub fn unassigned(alloc: Global, program: &Program, body: usize) -> Result<Unwritten, OutOfMemory>
     requires inside { body < length program.now.bodies }
     requires some { 0 < length (points_of (body_at program.now body)) }
