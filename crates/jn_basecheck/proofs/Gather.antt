@@ -1,9 +1,13 @@
 -- Rows are gathered one after the other.
-use Rattle.std.proofs.Common.{ℕ, zero, suc, ◌+◌, ◌≡◌, ◌<◌, ◌⊎◌, ◌||◌, ◌∙◌, inl, inr, Bool, true, false, cond, eqb, List, [], ◌∷◌, ◌++◌, refl, sym, ap, subst, arith, Contains}
+use Rattle.std.proofs.Common.{ℕ, zero, suc, ◌+◌, ◌≡◌, ◌<◌, ◌⊎◌, inl, inr, Bool, true, false, cond, Option, List, [], ◌∷◌, ◌++◌, refl, sym, ap, ◌∙◌, subst, arith, append_assoc, Contains}
 use Rattle.std.proofs.lemmas.List.Elements.{Contains-append_left, Contains-append_right, Contains-append_cases}
 use Rattle.jn_base.specs.declared.place.Row.{Row}
 use Rattle.jn_points.specs.declared.point.Operand.{Operand}
-use Rattle.jn_basecheck.specs.Rows.{Adds, Among, readings, reads}
+use Rattle.jn_points.specs.declared.program.Program.{Program}
+use Rattle.jn_points.specs.Operands.{operand_if}
+use Rattle.jn_basecheck.specs.declared.operands.Operands.{Operands}
+use Rattle.jn_basecheck.specs.Listed.{listed}
+use Rattle.jn_basecheck.specs.Rows.{Adds, Among, is_unassigned, readings}
 
 pub adds_none : (Q : Row → Type 0) (xs : List Row) → ((row : Row) → Q row → ⊥) → Adds Q xs xs
 adds_none Q xs none row = (λ h. inl h, λ h. elim h [ inl old ↦ old | inr q ↦ absurd (none row q) ])
@@ -52,24 +56,27 @@ adds_more F old mid new n first second row =
       λ h. both.1 (elim h [ inl o ↦ inl o | inr q ↦ inr (among_fewer F n row q) ]),
     )
 
-pub adds_as : (Q R : Row → Type 0) (old new : List Row) → ((row : Row) → Q row → R row) → ((row : Row) → R row → Q row) → Adds Q old new → Adds R old new
-adds_as Q R old new to from adds row = (
-  λ h. elim ((adds row).0 h) [ inl o ↦ inl o | inr q ↦ inr (to row q) ],
-  λ h. (adds row).1 (elim h [ inl o ↦ inl o | inr r ↦ inr (from row r) ]),
-)
-
-some_assoc : (a b c : Bool) → ((a || b) || c) ≡ (a || (b || c))
-some_assoc true b c = refl
-some_assoc false b c = refl
-
-pub reads_append : (r : ℕ) (xs ys : List Operand) → reads r (xs ++ ys) ≡ (reads r xs || reads r ys)
-reads_append r [] ys = refl
-reads_append r (x ∷ xs) ys = ap (λ b. eqb x.reg.0 r || b) (reads_append r xs ys) ∙ sym (some_assoc (eqb x.reg.0 r) (reads r xs) (reads r ys))
-
 with_first : (a : Bool) (row : Row) (xs ys : List Row) → cond a (row ∷ (xs ++ ys)) (xs ++ ys) ≡ cond a (row ∷ xs) xs ++ ys
 with_first true row xs ys = refl
 with_first false row xs ys = refl
 
-pub readings_append : (r : ℕ) (xs ys : List Operand) → readings r (xs ++ ys) ≡ readings r xs ++ readings r ys
-readings_append r [] ys = refl
-readings_append r (x ∷ xs) ys = rw (readings_append r xs ys) (with_first (eqb x.reg.0 r) _ (readings r xs) (readings r ys))
+pub readings_append : (P : Program) (b : ℕ) (lacks : Option (List Bool)) (xs ys : List Operand) → readings P b lacks (xs ++ ys) ≡ readings P b lacks xs ++ readings P b lacks ys
+readings_append P b lacks [] ys = refl
+readings_append P b lacks (x ∷ xs) ys = rw (readings_append P b lacks xs ys) (with_first (is_unassigned P b lacks x.reg.0) _ (readings P b lacks xs) (readings P b lacks ys))
+
+-- the operands of a point one after the other
+pub readings_listed : (P : Program) (b : ℕ) (lacks : Option (List Bool)) (o : Operands) (old one two three new : List Row) → one ≡ old ++ readings P b lacks (operand_if o.first) → two ≡ one ++ readings P b lacks (operand_if o.second) → three ≡ two ++ readings P b lacks (operand_if o.third) → new ≡ three ++ readings P b lacks o.rest.now → new ≡ old ++ readings P b lacks (listed o)
+readings_listed P b lacks o old one two three new first second third rest =
+    let R : List Operand → List Row = λ xs. readings P b lacks xs in
+    let a = R (operand_if o.first) in
+    let e = R (operand_if o.second) in
+    let f = R (operand_if o.third) in
+    let g = R o.rest.now in
+    rest
+    ∙ ap (λ z. z ++ g) (third ∙ ap (λ z. z ++ f) (second ∙ ap (λ z. z ++ e) first))
+    ∙ append_assoc ((old ++ a) ++ e) f g
+    ∙ append_assoc (old ++ a) e (f ++ g)
+    ∙ append_assoc old a (e ++ (f ++ g))
+    ∙ ap (λ z. old ++ (a ++ (e ++ z))) (sym (readings_append P b lacks (operand_if o.third) o.rest.now))
+    ∙ ap (λ z. old ++ (a ++ z)) (sym (readings_append P b lacks (operand_if o.second) (operand_if o.third ++ o.rest.now)))
+    ∙ ap (λ z. old ++ z) (sym (readings_append P b lacks (operand_if o.first) (operand_if o.second ++ (operand_if o.third ++ o.rest.now))))

@@ -1,4 +1,3 @@
-pub mod Marking
 pub mod Gather
 pub mod Meant
 pub mod Few

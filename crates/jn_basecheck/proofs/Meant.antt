@@ -1,5 +1,6 @@
 -- What the rows of points, registers and bodies mean.
-use Rattle.std.proofs.Common.{ℕ, zero, suc, ◌≡◌, ◌<◌, ◌≤◌, ◌⊎◌, ◌↔◌, ◌||◌, ◌∙◌, inl, inr, Bool, true, false, cond, eqb, eqb-true, eq-eqb, List, [], ◌∷◌, ◌++◌, length, get_or, Option, Some, None, refl, sym, ap, subst, arith, Contains, slice_get}
+use Rattle.std.proofs.Common.{ℕ, zero, suc, ◌≡◌, ◌<◌, ◌≤◌, ◌⊎◌, ◌↔◌, ◌&&◌, ◌∙◌, not, inl, inr, Bool, true, false, cond, ltb, List, [], ◌∷◌, ◌++◌, length, get_or, Option, Some, None, refl, sym, ap, subst, arith, Contains, slice_get}
+use Rattle.std.proofs.lemmas.Bool.{ltb-true, lt-ltb}
 use Rattle.std.proofs.lemmas.List.{get_or_past}
 use Rattle.std.proofs.lemmas.Option.{slice_get_within, same_Some}
 use Rattle.jn_base.specs.declared.place.Row.{Row}
@@ -11,9 +12,11 @@ use Rattle.jn_points.specs.declared.program.Body.{Body}
 use Rattle.jn_points.specs.declared.program.Program.{Program}
 use Rattle.jn_points.specs.Lookup.{points_of, regs_of, base_in, body_at, point_at, reg_base}
 use Rattle.jn_points.specs.Operands.{operands}
-use Rattle.jn_points.specs.Paths.{Reached, Lacks}
+use Rattle.jn_points.specs.Paths.{Reached}
 use Rattle.jn_points.specs.BaseRows.{is_void, given, type_rows, result_rows, IsBaseRow, IsUnassigned}
-use Rattle.jn_basecheck.specs.Rows.{Adds, Among, readings, reads, reads_in, TypeRowAt, ResultRowAt, ReadingAt, RegisterRow, BodyRow}
+use Rattle.jn_dataflow.specs.Problem.{slot_at}
+use Rattle.jn_assigned.specs.Lacking.{is_lacking, TellsLacking}
+use Rattle.jn_basecheck.specs.Rows.{Adds, Among, needs_write, is_unassigned, readings, TypeRowAt, ResultRowAt, UnassignedAt, BodyRow}
 use Rattle.jn_basecheck.proofs.Gather.{adds_list}
 
 module _ (P : Program) (b p : ℕ) (pt : Point) (there : point_at P b p ≡ Some pt) (old new : List Row) where
@@ -27,36 +30,8 @@ module _ (P : Program) (b p : ℕ) (pt : Point) (there : point_at P b p ≡ Some
       (λ row m. record { pt = pt; there = there; reached = come; broken = m })
       (λ row q. subst (λ x. Contains (result_rows P b x.kind) row) (same_Some q.pt pt (sym q.there ∙ there)) q.broken)
 
-  pub readings_here : (r : ℕ) → Lacks P b r p → new ≡ old ++ readings r (operands pt.kind) → Adds (ReadingAt P b r p) old new
-  readings_here r come is = adds_list (ReadingAt P b r p) old new (readings r (operands pt.kind)) is
-      (λ row m. record { pt = pt; there = there; lacks = come; read = m })
-      (λ row q. subst (λ x. Contains (readings r (operands x.kind)) row) (same_Some q.pt pt (sym q.there ∙ there)) q.read)
-
 none_in : (row : Row) → Contains [] row → ⊥
 none_in row h = let lt : h.0 < 0 = h.1 in omega arith
-
-left_false : (c d : Bool) → (c || d) ≡ false → (c ≡ false) × (d ≡ false)
-left_false true d e = absurd cc
-left_false false d e = (refl, e)
-
-no_readings : (r : ℕ) (xs : List Operand) → reads r xs ≡ false → readings r xs ≡ []
-no_readings r [] none = refl
-no_readings r (x ∷ xs) none =
-    let both = left_false (eqb x.reg.0 r) (reads r xs) none in
-    rw both.0 (no_readings r xs both.1)
-
-pub unread : (P : Program) (b r : ℕ) → ((k : ℕ) → k < length (points_of (body_at P b)) → reads_in r (point_at P b k) ≡ false) → (row : Row) → RegisterRow P b r row → ⊥
-unread P b r none row q =
-    let at' = q.read.2 in
-    let no : reads r (operands at'.pt.kind) ≡ false = subst (λ o. reads_in r o ≡ false) at'.there (none q.read.0 q.read.1) in
-    none_in row (subst (λ xs. Contains xs row) (no_readings r (operands at'.pt.kind) no) at'.read)
-
--- an operand is read by a row
-record Read (r : ℕ) (xs : List Operand) (row : Row) : Type 0 where
-  operand : Operand
-  among : Contains xs operand
-  register : operand.reg.0 ≡ r
-  is : row ≡ record { span = operand.span; code = J8 }
 
 in_first : {X : Type 0} (x : X) (xs : List X) → Contains (x ∷ xs) x
 in_first x xs = (0, omega arith, refl)
@@ -70,36 +45,6 @@ in_cases_at x y xs (suc k) lt is = inr (k, omega arith, is)
 
 in_cases : {X : Type 0} (x y : X) (xs : List X) → Contains (x ∷ xs) y → (x ≡ y) ⊎ Contains xs y
 in_cases x y xs h = in_cases_at x y xs h.0 h.1 h.2
-
-read_later : (r : ℕ) (x : Operand) (xs : List Operand) (row : Row) → Read r xs row → Read r (x ∷ xs) row
-read_later r x xs row h = record { operand = h.operand; among = in_rest x h.operand xs h.among; register = h.register; is = h.is }
-
-read_first : (r : ℕ) (x : Operand) (xs : List Operand) (row : Row) (here : Bool) → eqb x.reg.0 r ≡ here → (Contains (readings r xs) row → Read r xs row) → Contains (cond here (record { span = x.span; code = J8 } ∷ readings r xs) (readings r xs)) row → Read r (x ∷ xs) row
-read_first r x xs row true here rest h = elim (in_cases (record { span = x.span; code = J8 }) row (readings r xs) h) [
-  | inl is ↦ record { operand = x; among = in_first x xs; register = eqb-true x.reg.0 r here; is = sym is }
-  | inr later ↦ read_later r x xs row (rest later)
-]
-read_first r x xs row false here rest h = read_later r x xs row (rest h)
-
-read_by : (r : ℕ) (xs : List Operand) (row : Row) → Contains (readings r xs) row → Read r xs row
-read_by r [] row h = absurd (none_in row h)
-read_by r (x ∷ xs) row h = read_first r x xs row (eqb x.reg.0 r) refl (read_by r xs row) h
-
-keep_later : (r : ℕ) (x : Operand) (xs : List Operand) (row : Row) (here : Bool) → Contains (readings r xs) row → Contains (cond here (record { span = x.span; code = J8 } ∷ readings r xs) (readings r xs)) row
-keep_later r x xs row true h = in_rest (record { span = x.span; code = J8 }) row (readings r xs) h
-keep_later r x xs row false h = h
-
-reading_first : (r : ℕ) (x a : Operand) (xs : List Operand) → x ≡ a → a.reg.0 ≡ r → Contains (readings r (x ∷ xs)) (record { span = a.span; code = J8 })
-reading_first r x a xs same register =
-    let here : eqb x.reg.0 r ≡ true = eq-eqb x.reg.0 r (ap (λ (o : Operand). o.reg.0) same ∙ register) in
-    subst (λ (o : Operand). Contains (readings r (x ∷ xs)) (record { span = o.span; code = J8 })) same (rw here (in_first (record { span = x.span; code = J8 }) (readings r xs)))
-
-read_in : (r : ℕ) (xs : List Operand) (a : Operand) → Contains xs a → a.reg.0 ≡ r → Contains (readings r xs) (record { span = a.span; code = J8 })
-read_in r [] a h register = let lt : h.0 < 0 = h.1 in absurd (omega arith)
-read_in r (x ∷ xs) a h register = elim (in_cases x a xs h) [
-  | inl same ↦ reading_first r x a xs same register
-  | inr later ↦ keep_later r x xs (record { span = a.span; code = J8 }) (eqb x.reg.0 r) (read_in r xs a later register)
-]
 
 body_there : (P : Program) (b p : ℕ) (pt : Point) (o : Option Body) → body_at P b ≡ o → point_at P b p ≡ Some pt → b < length P.bodies
 body_there P b p pt None at' there =
@@ -119,21 +64,95 @@ below_or (suc n) (suc r) = elim (below_or n r) [ inl lt ↦ inl (omega arith) | 
 split_at : (n r : ℕ) → (n ≤ r → ⊥) → r < n
 split_at n r inside = elim (below_or n r) [ inl lt ↦ lt | inr le ↦ absurd (inside le) ]
 
+split_and : (c d : Bool) → (c && d) ≡ true → (c ≡ true) × (d ≡ true)
+split_and true d e = (refl, e)
+split_and false d e = absurd cc
+
+not_true : (c : Bool) → not c ≡ true → c ≡ false
+not_true true e = absurd cc
+not_true false e = refl
+
+-- what the test of a reading means
+module _ (P : Program) (b p : ℕ) (t : List (Option (List Bool))) (tells : TellsLacking P b t) (there : p < length (points_of (body_at P b))) where
+  given_below : (r : ℕ) → ltb r (given P b) ≡ false → given P b ≤ r
+  given_below r e = elim (below_or (given P b) r) [ inl lt ↦ let yes : ltb r (given P b) ≡ true = lt-ltb r (given P b) lt in absurd cc | inr le ↦ le ]
+
+  not_below : (r : ℕ) (c : Bool) → ltb r (given P b) ≡ c → given P b ≤ r → not c ≡ true
+  not_below r true e le = let lt = ltb-true r (given P b) e in absurd (omega (arith, lt, le))
+  not_below r false e le = refl
+
+  unassigned_by : (a : Operand) → is_unassigned P b (slot_at t p) a.reg.0 ≡ true → IsUnassigned P b p a
+  unassigned_by a e =
+      let r = a.reg.0 in
+      let lacks = split_and (is_lacking (slot_at t p) r) (needs_write P b r) e in
+      let needs = split_and (not (ltb r (given P b))) (not (is_void (reg_base P b r))) lacks.1 in
+      let valued = not_true (is_void (reg_base P b r)) needs.1 in
+      record {
+        valued = valued;
+        local = given_below r (not_true (ltb r (given P b)) needs.0);
+        lacks = (tells.lacking r p (split_at (regs_of (body_at P b)) r (register_there (body_at P b) r valued)) there).0 lacks.0;
+      }
+
+  by_unassigned : (a : Operand) → IsUnassigned P b p a → is_unassigned P b (slot_at t p) a.reg.0 ≡ true
+  by_unassigned a u =
+      let r = a.reg.0 in
+      let lacks : is_lacking (slot_at t p) r ≡ true = (tells.lacking r p (split_at (regs_of (body_at P b)) r (register_there (body_at P b) r u.valued)) there).1 u.lacks in
+      let local : not (ltb r (given P b)) ≡ true = not_below r (ltb r (given P b)) refl u.local in
+      let valued : not (is_void (reg_base P b r)) ≡ true = ap not u.valued in
+      rw lacks (rw local (rw valued refl))
+
+  -- one of the operands is unassigned, and the row is its
+  record Read (xs : List Operand) (row : Row) : Type 0 where
+    operand : Operand
+    among : Contains xs operand
+    unassigned : is_unassigned P b (slot_at t p) operand.reg.0 ≡ true
+    is : row ≡ record { span = operand.span; code = J8 }
+
+  read_later : (x : Operand) (xs : List Operand) (row : Row) → Read xs row → Read (x ∷ xs) row
+  read_later x xs row h = record { operand = h.operand; among = in_rest x h.operand xs h.among; unassigned = h.unassigned; is = h.is }
+
+  read_first : (x : Operand) (xs : List Operand) (row : Row) (here : Bool) → is_unassigned P b (slot_at t p) x.reg.0 ≡ here → (Contains (readings P b (slot_at t p) xs) row → Read xs row) → Contains (cond here (record { span = x.span; code = J8 } ∷ readings P b (slot_at t p) xs) (readings P b (slot_at t p) xs)) row → Read (x ∷ xs) row
+  read_first x xs row true here rest h = elim (in_cases (record { span = x.span; code = J8 }) row (readings P b (slot_at t p) xs) h) [
+    | inl is ↦ record { operand = x; among = in_first x xs; unassigned = here; is = sym is }
+    | inr later ↦ read_later x xs row (rest later)
+  ]
+  read_first x xs row false here rest h = read_later x xs row (rest h)
+
+  read_by : (xs : List Operand) (row : Row) → Contains (readings P b (slot_at t p) xs) row → Read xs row
+  read_by [] row h = absurd (none_in row h)
+  read_by (x ∷ xs) row h = read_first x xs row (is_unassigned P b (slot_at t p) x.reg.0) refl (read_by xs row) h
+
+  keep_later : (x : Operand) (xs : List Operand) (row : Row) (here : Bool) → Contains (readings P b (slot_at t p) xs) row → Contains (cond here (record { span = x.span; code = J8 } ∷ readings P b (slot_at t p) xs) (readings P b (slot_at t p) xs)) row
+  keep_later x xs row true h = in_rest (record { span = x.span; code = J8 }) row (readings P b (slot_at t p) xs) h
+  keep_later x xs row false h = h
+
+  reading_first : (x a : Operand) (xs : List Operand) → x ≡ a → is_unassigned P b (slot_at t p) a.reg.0 ≡ true → Contains (readings P b (slot_at t p) (x ∷ xs)) (record { span = a.span; code = J8 })
+  reading_first x a xs same found =
+      let here : is_unassigned P b (slot_at t p) x.reg.0 ≡ true = ap (λ (o : Operand). is_unassigned P b (slot_at t p) o.reg.0) same ∙ found in
+      subst (λ (o : Operand). Contains (readings P b (slot_at t p) (x ∷ xs)) (record { span = o.span; code = J8 })) same (rw here (in_first (record { span = x.span; code = J8 }) (readings P b (slot_at t p) xs)))
+
+  read_in : (xs : List Operand) (a : Operand) → Contains xs a → is_unassigned P b (slot_at t p) a.reg.0 ≡ true → Contains (readings P b (slot_at t p) xs) (record { span = a.span; code = J8 })
+  read_in [] a h found = let lt : h.0 < 0 = h.1 in absurd (omega arith)
+  read_in (x ∷ xs) a h found = elim (in_cases x a xs h) [
+    | inl same ↦ reading_first x a xs same found
+    | inr later ↦ keep_later x xs (record { span = a.span; code = J8 }) (is_unassigned P b (slot_at t p) x.reg.0) (read_in xs a later found)
+  ]
+
+  pub readings_here : (pt : Point) → point_at P b p ≡ Some pt → (old new : List Row) → new ≡ old ++ readings P b (slot_at t p) (operands pt.kind) → Adds (UnassignedAt P b p) old new
+  readings_here pt point old new is = adds_list (UnassignedAt P b p) old new (readings P b (slot_at t p) (operands pt.kind)) is
+      (λ row m. let q = read_by (operands pt.kind) row m in record { pt = pt; operand = q.operand; there = point; read = q.among; unassigned = unassigned_by q.operand q.unassigned; is = q.is })
+      (λ row q.
+      let same = same_Some q.pt pt (sym q.there ∙ point) in
+      subst (λ x. Contains (readings P b (slot_at t p) (operands pt.kind)) x) (sym q.is)
+      (read_in (operands pt.kind) q.operand (subst (λ x. Contains (operands x.kind) q.operand) same q.read) (by_unassigned q.operand q.unassigned)))
+
 module _ (P : Program) where
   point_within : (b p : ℕ) (pt : Point) → point_at P b p ≡ Some pt → p < length (points_of (body_at P b))
   point_within b p pt there = slice_get_within (points_of (body_at P b)) p pt there
 
   of_body : (b : ℕ) (row : Row) → BodyRow P b row → IsBaseRow P row
   of_body b row (inl q) = inl (record { b = b; p = q.0; pt = q.2.pt; there = q.2.there; broken = q.2.broken })
-  of_body b row (inr (inl q)) =
-      let at' = q.2.read.2 in
-      let read = read_by q.0 (operands at'.pt.kind) row at'.read in
-      let unassigned : IsUnassigned P b q.2.read.0 read.operand = record {
-        valued = subst (λ r. is_void (reg_base P b r) ≡ false) (sym read.register) q.2.valued;
-        local = subst (λ r. given P b ≤ r) (sym read.register) q.2.local;
-        lacks = subst (λ r. Lacks P b r q.2.read.0) (sym read.register) at'.lacks;
-      } in
-      inr (inl (record { b = b; p = q.2.read.0; pt = at'.pt; operand = read.operand; there = at'.there; read = read.among; unassigned = unassigned; is = read.is }))
+  of_body b row (inr (inl q)) = inr (inl (record { b = b; p = q.0; pt = q.2.pt; operand = q.2.operand; there = q.2.there; read = q.2.read; unassigned = q.2.unassigned; is = q.2.is }))
   of_body b row (inr (inr q)) = inr (inr (record { b = b; p = q.0; pt = q.2.pt; there = q.2.there; reached = q.2.reached; broken = q.2.broken }))
 
   in_body : (row : Row) → IsBaseRow P row → Among (BodyRow P) (length P.bodies) row
@@ -142,30 +161,11 @@ module _ (P : Program) where
     body_there P q.b q.p q.pt (body_at P q.b) refl q.there,
     inl (q.p, point_within q.b q.p q.pt q.there, record { pt = q.pt; there = q.there; broken = q.broken }),
   )
-  in_body row (inr (inl q)) =
-      let r = q.operand.reg.0 in
-      let u = q.unassigned in (
-        q.b,
-        body_there P q.b q.p q.pt (body_at P q.b) refl q.there,
-        inr (inl (
-          r,
-          split_at (regs_of (body_at P q.b)) r (register_there (body_at P q.b) r u.valued),
-          record {
-            valued = u.valued;
-            local = u.local;
-            read = (
-              q.p,
-              point_within q.b q.p q.pt q.there,
-              record {
-                pt = q.pt;
-                there = q.there;
-                lacks = u.lacks;
-                read = subst (λ x. Contains (readings r (operands q.pt.kind)) x) (sym q.is) (read_in r (operands q.pt.kind) q.operand q.read refl);
-              },
-            );
-          },
-        )),
-      )
+  in_body row (inr (inl q)) = (
+    q.b,
+    body_there P q.b q.p q.pt (body_at P q.b) refl q.there,
+    inr (inl (q.p, point_within q.b q.p q.pt q.there, record { pt = q.pt; operand = q.operand; there = q.there; read = q.read; unassigned = q.unassigned; is = q.is })),
+  )
   in_body row (inr (inr q)) = (
     q.b,
     body_there P q.b q.p q.pt (body_at P q.b) refl q.there,

@@ -1,108 +1,68 @@
 // The rows J8 of a body: a register read where some path comes without a write of it (JLS 8, 16).
-ghost use Rattle.std.specs.Prelude.{◌≡◌, ◌<◌, ◌≤◌, ◌^◌, ◌++◌, ◌||◌, ◌∷◌, [], eqb, ℕ, true, false, length, OnOk};
-ghost use Rattle.jn_points.specs.Lookup.{body_at, point_at, points_of, regs_of};
+ghost use Rattle.std.specs.Prelude.{◌≡◌, ◌<◌, ◌++◌, ◌∷◌, ◌&&◌, [], ltb, length, not, OnOk};
+ghost use Rattle.jn_assigned.specs.Lacking.{TellsLacking};
+ghost use Rattle.jn_dataflow.specs.Problem.{slot_at};
+ghost use Rattle.jn_points.specs.Lookup.{body_at, points_of};
 ghost use Rattle.jn_points.specs.BaseRows as rules;
 ghost use Rattle.jn_points.specs.Operands.{operand_if};
-ghost use Rattle.jn_points.specs.Paths.{Lacks};
 ghost use Rattle.jn_basecheck.specs.Listed.{listed};
 ghost use Rattle.jn_basecheck.specs.Rows as rows_of;
 
-use crate::lookup::{base_at, body_of, method_in, point_of};
+use crate::lookup::{body_of, method_in, point_of, reg_base};
 use crate::operands::{Operands, operands_of};
-use crate::paths::{is_marked, reached};
 use crate::types::is_void;
-use jn_base::{Code, Row};
+use jn_assigned::Unwritten;
+use jn_base::{Code, RegNo, Row};
 use jn_points::{Operand, Program};
-use std::alloc::{AllocError, Global};
-
-fn is_reading(operand: Operand, reg: usize) -> bool
-    ensures { result ≡ eqb operand.reg.0 reg }
-{
-    operand.reg.0 as usize == reg
-}
-
-fn reads_optional(operand: Option<Operand>, reg: usize) -> bool
-    ensures { result ≡ rows_of.reads reg (operand_if operand) }
-{
-    match operand {
-        None => false,
-        Some(operand) => is_reading(operand, reg),
-    }
-}
-
-fn reads_some(operands: &[Operand], reg: usize) -> bool
-    ensures { result ≡ rows_of.reads reg operands.now }
-{
-    for operand in operands {
-        if is_reading(*operand, reg) {
-            return true;
-        }
-    }
-    false
-}
-
-fn any(first: bool, second: bool, third: bool, rest: bool) -> bool
-    ensures { result ≡ (first || (second || (third || rest))) }
-{
-    first || second || third || rest
-}
-
-/// Whether one of a point's operands is the register.
-#[tactic(auto, using(crate::proofs::Gather::reads_append))]
-fn reads(operands: &Operands, reg: usize) -> bool
-    ensures { result ≡ rows_of.reads reg (listed operands.now) }
-{
-    any(
-        reads_optional(operands.first, reg),
-        reads_optional(operands.second, reg),
-        reads_optional(operands.third, reg),
-        reads_some(operands.rest, reg),
-    )
-}
-
-fn reads_at(program: &Program, body: usize, reg: usize, at: usize) -> bool
-    ensures { result ≡ rows_of.reads_in reg (point_at program.now body at) }
-{
-    match point_of(program, body, at) {
-        None => false,
-        Some(point) => reads(&operands_of(&point.kind), reg),
-    }
-}
-
-/// Whether a point of the body at a place reads the register.
-fn is_read(program: &Program, body: usize, reg: usize) -> bool
-    requires { body < length program.now.bodies }
-    ensures { result ≡ false → (k : ℕ) → k < length (points_of (body_at program.now body)) → rows_of.reads_in reg (point_at program.now body k) ≡ false }
-{
-    for at in 0..body_of(program, body).points.len() {
-        if reads_at(program, body, reg, at) {
-            return true;
-        }
-    }
-    false
-}
+use std::alloc::AllocError;
 
 /// Whether the entry writes the register: `this`, or a parameter.
-fn is_given(program: &Program, body: usize, reg: usize) -> bool
-    ensures given { result ≡ true → reg < rules.given program.now body }
-    ensures local { result ≡ false → rules.given program.now body ≤ reg }
+fn is_given(program: &Program, body: usize, reg: RegNo) -> bool
+    ensures { result ≡ ltb reg.0 (rules.given program.now body) }
 {
     match method_in(program, body) {
         None => false,
         Some(method) => {
             if method.is_static {
-                reg < method.params.len()
+                (reg.0 as usize) < method.params.len()
             } else {
-                reg <= method.params.len()
+                (reg.0 as usize) <= method.params.len()
             }
         }
     }
 }
 
-fn push_reading(rows: &mut Vec<Row>, operand: Operand, reg: usize) -> Result<(), AllocError>
-    ensures { OnOk result (rows.new.items ≡ rows.old.items ++ rows_of.readings reg (operand ∷ [])) }
+/// Whether a register has a value that only a write gives it.
+fn needs_write(program: &Program, body: usize, reg: RegNo) -> bool
+    ensures { result ≡ rows_of.needs_write program.now body reg.0 }
 {
-    if is_reading(operand, reg) {
+    !is_given(program, body, reg) && !is_void(reg_base(program, body, reg))
+}
+
+/// Whether some path comes to the point at a place without a write of a register that needs one.
+fn is_unassigned(
+    program: &Program,
+    body: usize,
+    unwritten: &Unwritten,
+    at: usize,
+    reg: RegNo,
+) -> bool
+    ensures { result ≡ rows_of.is_unassigned program.now body (slot_at unwritten.now at) reg.0 }
+{
+    unwritten.may_lack(at, reg.0 as usize) && needs_write(program, body, reg)
+}
+
+fn push_reading(
+    rows: &mut Vec<Row>,
+    program: &Program,
+    body: usize,
+    unwritten: &Unwritten,
+    at: usize,
+    operand: Operand,
+) -> Result<(), AllocError>
+    ensures { OnOk result (rows.new.items ≡ rows.old.items ++ rows_of.readings program.now body (slot_at unwritten.now at) (operand ∷ [])) }
+{
+    if is_unassigned(program, body, unwritten, at, operand.reg) {
         rows.push(Row {
             span: operand.span,
             code: Code::J8,
@@ -113,125 +73,90 @@ fn push_reading(rows: &mut Vec<Row>, operand: Operand, reg: usize) -> Result<(),
 
 fn push_optional_reading(
     rows: &mut Vec<Row>,
+    program: &Program,
+    body: usize,
+    unwritten: &Unwritten,
+    at: usize,
     operand: Option<Operand>,
-    reg: usize,
 ) -> Result<(), AllocError>
-    ensures { OnOk result (rows.new.items ≡ rows.old.items ++ rows_of.readings reg (operand_if operand)) }
+    ensures { OnOk result (rows.new.items ≡ rows.old.items ++ rows_of.readings program.now body (slot_at unwritten.now at) (operand_if operand)) }
 {
     match operand {
         None => Ok(()),
-        Some(operand) => push_reading(rows, operand, reg),
+        Some(operand) => push_reading(rows, program, body, unwritten, at, operand),
     }
 }
 
 fn push_list_readings(
     rows: &mut Vec<Row>,
+    program: &Program,
+    body: usize,
+    unwritten: &Unwritten,
+    at: usize,
     operands: &[Operand],
-    reg: usize,
 ) -> Result<(), AllocError>
-    ensures { OnOk result (rows.new.items ≡ rows.old.items ++ rows_of.readings reg operands.now) }
+    ensures { OnOk result (rows.new.items ≡ rows.old.items ++ rows_of.readings program.now body (slot_at unwritten.now at) operands.now) }
 {
     for operand in operands {
-        push_reading(rows, *operand, reg)?;
+        push_reading(rows, program, body, unwritten, at, *operand)?;
     }
     Ok(())
 }
 
-/// A row for each operand that is the register.
-#[tactic(auto, using(crate::proofs::Gather::readings_append))]
-fn push_readings(rows: &mut Vec<Row>, operands: &Operands, reg: usize) -> Result<(), AllocError>
-    ensures { OnOk result (rows.new.items ≡ rows.old.items ++ rows_of.readings reg (listed operands.now)) }
+/// A row for each operand whose register is unassigned at the point at a place.
+fn push_readings(
+    rows: &mut Vec<Row>,
+    program: &Program,
+    body: usize,
+    unwritten: &Unwritten,
+    at: usize,
+    operands: &Operands,
+) -> Result<(), AllocError>
+    ensures { OnOk result (rows.new.items ≡ rows.old.items ++ rows_of.readings program.now body (slot_at unwritten.now at) (listed operands.now)) }
 {
-    push_optional_reading(rows, operands.first, reg)?;
-    push_optional_reading(rows, operands.second, reg)?;
-    push_optional_reading(rows, operands.third, reg)?;
-    push_list_readings(rows, operands.rest, reg)
+    push_optional_reading(rows, program, body, unwritten, at, operands.first)?;
+    push_optional_reading(rows, program, body, unwritten, at, operands.second)?;
+    push_optional_reading(rows, program, body, unwritten, at, operands.third)?;
+    push_list_readings(rows, program, body, unwritten, at, operands.rest)
 }
 
-/// The rows of a register at the point at a place, where a path comes to it without a write of the
-/// register.
+/// The rows J8 of the point at a place.
 fn push_readings_at(
     rows: &mut Vec<Row>,
     program: &Program,
     body: usize,
-    reg: usize,
+    unwritten: &Unwritten,
     at: usize,
-    is_lacking: bool,
 ) -> Result<(), AllocError>
-    requires lacking { is_lacking ≡ true → Lacks program.now body reg at }
-    requires written { Lacks program.now body reg at → at < length (points_of (body_at program.now body)) → is_lacking ≡ true }
-    ensures { OnOk result (rows_of.Adds (rows_of.ReadingAt program.now body reg at) rows.old.items rows.new.items) }
+    requires { TellsLacking program.now body unwritten.now }
+    ensures { OnOk result (rows_of.Adds (rows_of.UnassignedAt program.now body at) rows.old.items rows.new.items) }
 {
-    if !is_lacking {
-        return Ok(());
-    }
     match point_of(program, body, at) {
         None => Ok(()),
-        Some(point) => push_readings(rows, &operands_of(&point.kind), reg),
+        Some(point) => {
+            let operands = operands_of(&point.kind);
+            push_readings(rows, program, body, unwritten, at, &operands)
+        }
     }
 }
 
-/// The rows of a register at all points of the body at a place.
-fn push_unassigned(
-    alloc: Global,
-    rows: &mut Vec<Row>,
-    program: &Program,
-    body: usize,
-    reg: usize,
-) -> Result<(), AllocError>
-    requires inside { body < length program.now.bodies }
-    requires few { length (points_of (body_at program.now body)) < 2 ^ 32 }
-    ensures { OnOk result (rows_of.Adds (rows_of.Among (rows_of.ReadingAt program.now body reg) (length (points_of (body_at program.now body)))) rows.old.items rows.new.items) }
-{
-    let marks = reached(alloc, program, body, Some(reg))?;
-    for at in 0..body_of(program, body).points.len() {
-        push_readings_at(rows, program, body, reg, at, is_marked(&marks, at))?;
-    }
-    Ok(())
-}
-
-/// The rows of a register of the body at a place: of one that the entry does not write, that can
-/// have a value, and that is read.
-fn push_register(
-    alloc: Global,
-    rows: &mut Vec<Row>,
-    program: &Program,
-    body: usize,
-    reg: usize,
-) -> Result<(), AllocError>
-    requires inside { body < length program.now.bodies }
-    requires few { length (points_of (body_at program.now body)) < 2 ^ 32 }
-    ensures { OnOk result (rows_of.Adds (rows_of.RegisterRow program.now body reg) rows.old.items rows.new.items) }
-{
-    if is_given(program, body, reg) {
-        return Ok(());
-    }
-    if is_void(base_at(program, body, reg)) {
-        return Ok(());
-    }
-    if !is_read(program, body, reg) {
-        return Ok(());
-    }
-    push_unassigned(alloc, rows, program, body, reg)
-}
-
-/// The rows J8 of the body at a place: a register, and neither `this` nor a parameter, read where
-/// some path from the entry comes without a write of it.
+/// The rows J8 of the body at a place: a register, and neither `this` nor a parameter, read where some path from the entry
+/// comes without a write of it.
 ///
 /// # Errors
 /// No memory was found.
-pub fn push_registers(
-    alloc: Global,
+pub fn push_unassigned(
     rows: &mut Vec<Row>,
     program: &Program,
     body: usize,
+    unwritten: &Unwritten,
 ) -> Result<(), AllocError>
     requires inside { body < length program.now.bodies }
-    requires few { length (points_of (body_at program.now body)) < 2 ^ 32 }
-    ensures { OnOk result (rows_of.Adds (rows_of.RegisterRows program.now body) rows.old.items rows.new.items) }
+    requires tells { TellsLacking program.now body unwritten.now }
+    ensures { OnOk result (rows_of.Adds (rows_of.UnassignedRows program.now body) rows.old.items rows.new.items) }
 {
-    for reg in 0..body_of(program, body).regs.len() {
-        push_register(alloc, rows, program, body, reg)?;
+    for at in 0..body_of(program, body).points.len() {
+        push_readings_at(rows, program, body, unwritten, at)?;
     }
     Ok(())
 }

@@ -4,38 +4,55 @@ ghost use Rattle.jn_base.specs.declared.place.Row.{Row as RowOf};
 ghost use Rattle.jn_points.specs.BaseRows.{IsBaseRow, NoBaseRows};
 ghost use Rattle.jn_points.specs.Regular.{Regular};
 ghost use Rattle.jn_points.specs.Lookup.{body_at, points_of};
+ghost use Rattle.jn_assigned.specs.Lacking.{TellsLacking};
 ghost use Rattle.jn_basecheck.specs.Refusal.{IsRefusedFor};
 ghost use Rattle.jn_basecheck.specs.Rows as rows_of;
 
-use crate::assigned::push_registers;
+use crate::assigned::push_unassigned;
 use crate::points::push_body_types;
 use crate::results::push_results;
 use crate::typed::BaseTyped;
-use jn_base::{Fail, Row};
+use jn_assigned::{Unwritten, unassigned};
+use jn_base::{Fail, OutOfMemory, Row};
 use jn_points::Program;
 use std::alloc::{AllocError, Global};
 
+/// Puts the rows J8 and J9 of the body at a place behind others.
+fn push_on_paths(
+    rows: &mut Vec<Row>,
+    program: &Program,
+    body: usize,
+    unwritten: &Unwritten,
+) -> Result<(), AllocError>
+    requires inside { body < length program.now.bodies }
+    requires tells { TellsLacking program.now body unwritten.now }
+    ensures { OnOk result (rows_of.Adds (rows_of.PathRow program.now body) rows.old.items rows.new.items) }
+{
+    push_unassigned(rows, program, body, unwritten)?;
+    push_results(rows, program, body, unwritten)
+}
+
 /// Puts the rows J7 to J10 of the body at a place behind others: each row of the body is there, and no other is new.
-///
-/// # Errors
-/// No memory was found.
-pub fn push_body(
+fn push_body(
     alloc: Global,
     rows: &mut Vec<Row>,
     program: &Program,
     body: usize,
-) -> Result<(), AllocError>
+) -> Result<(), OutOfMemory>
     requires inside { body < length program.now.bodies }
+    requires some { 0 < length (points_of (body_at program.now body)) }
     requires few { length (points_of (body_at program.now body)) < 2 ^ 32 }
     ensures { OnOk result (rows_of.Adds (rows_of.BodyRow program.now body) rows.old.items rows.new.items) }
 {
     push_body_types(rows, program, body)?;
-    push_registers(alloc, rows, program, body)?;
-    push_results(alloc, rows, program, body)
+    let unwritten = unassigned(alloc, program, body)?;
+    push_on_paths(rows, program, body, &unwritten)?;
+    Ok(())
 }
 
 /// All rows of base typing.
-fn all_rows(alloc: Global, program: &Program) -> Result<Vec<Row>, AllocError>
+fn all_rows(alloc: Global, program: &Program) -> Result<Vec<Row>, OutOfMemory>
+    requires some { (b : ℕ) → b < length program.now.bodies → 0 < length (points_of (body_at program.now b)) }
     requires few { (b : ℕ) → length (points_of (body_at program.now b)) < 2 ^ 32 }
     ensures { IfOk result (λ rows. (row : RowOf) → Contains rows.items row ↔ IsBaseRow program.now row) }
 {
@@ -71,7 +88,7 @@ fn judged(program: Program, rows: Vec<Row>) -> Result<BaseTyped, Fail<Vec<Row>>>
 /// # Errors
 /// `Refused` with all of the program's rows J7 to J10, each at its place once or more, in no order;
 /// `OutOfMemory` where no memory was found.
-#[tactic(auto, using(crate::proofs::Few::few_points))]
+#[tactic(auto, using(crate::proofs::Few::few_points, crate::proofs::Few::some_points))]
 pub fn base_check(alloc: Global, program: Program) -> Result<BaseTyped, Fail<Vec<Row>>>
     requires { Regular program }
     ensures program { IfOk result (λ typed. typed ≡ program) }

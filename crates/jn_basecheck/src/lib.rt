@@ -5,11 +5,10 @@ mod assigned;
 mod check;
 mod lookup;
 mod operands;
-mod paths;
 mod points;
 mod results;
 mod typed;
 mod types;
 
-pub use check::{base_check, push_body};
+pub use check::base_check;
 pub use typed::BaseTyped;

@@ -28,16 +28,9 @@ pub fn point_of(program: &Program, body: usize, point: usize) -> Option<&Point>
 pub fn reg_base(program: &Program, body: usize, reg: RegNo) -> BaseType
     ensures { result ≡ spec.reg_base program.now body reg.0 }
 {
-    base_at(program, body, reg.0 as usize)
-}
-
-/// The base type of the register at a place of the body at a place; Void for one that is not there.
-pub fn base_at(program: &Program, body: usize, reg: usize) -> BaseType
-    ensures { result ≡ spec.reg_base program.now body reg }
-{
     match program.bodies.as_slice().get(body) {
         None => BaseType::Void,
-        Some(info) => base_in(info, reg),
+        Some(info) => base_in(info, reg.0 as usize),
     }
 }
 

@@ -5,14 +5,15 @@ ghost use Rattle.jn_base.specs.declared.code.Code.TheVariants.{J9};
 ghost use Rattle.jn_points.specs.Lookup as spec;
 ghost use Rattle.jn_points.specs.BaseRows as rules;
 ghost use Rattle.jn_points.specs.Paths.{Reached};
+ghost use Rattle.jn_assigned.specs.Lacking.{TellsLacking};
 ghost use Rattle.jn_basecheck.specs.Rows as rows_of;
 
 use crate::lookup::{body_of, method_in, point_of, result_base};
-use crate::paths::{is_marked, reached};
 use crate::types::is_void;
+use jn_assigned::Unwritten;
 use jn_base::{Code, Row, Span};
 use jn_points::{Operand, PointKind, Program};
-use std::alloc::{AllocError, Global};
+use std::alloc::AllocError;
 
 fn push_missing(rows: &mut Vec<Row>, span: Span) -> Result<(), AllocError>
     ensures { OnOk result (rows.new.items ≡ rows.old.items ++ (record { span = span; code = J9 } ∷ [])) }
@@ -75,7 +76,7 @@ fn push_result(
     }
 }
 
-/// The row of the point at a place, where a path comes to it.
+/// The row J9 of the point at a place, where a path comes to it.
 fn push_result_at(
     rows: &mut Vec<Row>,
     program: &Program,
@@ -96,24 +97,23 @@ fn push_result_at(
     }
 }
 
-/// The rows J9 of the body at a place: a reached Return without value in a method with result, at
-/// the method's name, and one with value in a void method, at the value.
+/// The rows J9 of the body at a place: a reached Return without value in a method with result, at the method's name, and
+/// one with value in a void method, at the value.
 ///
 /// # Errors
 /// No memory was found.
 pub fn push_results(
-    alloc: Global,
     rows: &mut Vec<Row>,
     program: &Program,
     body: usize,
+    unwritten: &Unwritten,
 ) -> Result<(), AllocError>
     requires inside { body < length program.now.bodies }
-    requires few { length (spec.points_of (spec.body_at program.now body)) < 2 ^ 32 }
+    requires tells { TellsLacking program.now body unwritten.now }
     ensures { OnOk result (rows_of.Adds (rows_of.ResultRows program.now body) rows.old.items rows.new.items) }
 {
-    let marks = reached(alloc, program, body, None)?;
     for at in 0..body_of(program, body).points.len() {
-        push_result_at(rows, program, body, at, is_marked(&marks, at))?;
+        push_result_at(rows, program, body, at, unwritten.is_reached(at))?;
     }
     Ok(())
 }

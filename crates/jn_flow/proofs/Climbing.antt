@@ -1,11 +1,10 @@
 -- Whole rounds climb, so they end, and in the least table that respects all edges.
-use Rattle.std.proofs.Common.{◌≡◌, ℕ, zero, suc, ◌+◌, ◌-◌, ◌*◌, ◌<◌, ◌≤◌, Bool, true, false, inl, inr, ⊎_elim, List, [], ◌∷◌, ◌++◌, ◌||◌, length, take, drop, replicate, Option, Some, None, refl, sym, ap, ◌∙◌, subst, append_assoc, arith, length-set}
-use Rattle.std.specs.Prelude.{slice_get, slice_set, slice_index_or}
-use Rattle.std.proofs.lemmas.List.{get_or-set_same, at_drop_more}
-use Rattle.std.proofs.lemmas.Bool.{cases_lt}
+use Rattle.std.proofs.Common.{◌≡◌, ℕ, zero, suc, ◌+◌, ◌*◌, ◌≤◌, inl, inr, ⊎_elim, List, [], ◌∷◌, ◌++◌, length, take, drop, replicate, Option, Some, None, refl, sym, ap, ◌∙◌, subst, arith, length-set}
+use Rattle.std.specs.Prelude.{slice_get, slice_set}
+use Rattle.std.proofs.lemmas.List.{get_or-set_same}
 use Rattle.jn_fixpoint.specs.Climb.{IsLeastFixpoint, Climb, Bounds}
 use Rattle.jn_fixpoint.specs.Climb.{rounds as rounds_of}
-use Rattle.jn_fixpoint.proofs.Fixpoint.{unique, settled, valid, above, below}
+use Rattle.jn_fixpoint.proofs.Fixpoint.{unique, exists, valid, above, below}
 use Rattle.jn_points.specs.declared.point.Point.{Point}
 use Rattle.jn_points.specs.declared.program.Body.{Body}
 use Rattle.jn_points.specs.declared.program.Program.{Program}
@@ -14,10 +13,9 @@ use Rattle.jn_points.specs.Lookup.{points_of, regs_of, body_at, method_at, metho
 use Rattle.jn_quals.specs.Qualifier.{Qualifier}
 use Rattle.jn_env.specs.declared.env.Env.{Env}
 use Rattle.jn_env.specs.Order.{Table, env_in, SlotWithin, TableWithin, join_env, join_slot}
-use Rattle.jn_env.specs.Size.{SameSize}
 use Rattle.jn_env.specs.Weight.{weight, quals_weight, bits_weight}
 use Rattle.jn_env.proofs.Along.{over, over_is}
-use Rattle.jn_env.proofs.Order.{env_refl, env_join_left, env_join_right, length-join_quals, length-meet_bits, slot_trans, slot_join_least, table_refl, table_trans, table_at, table_set_within, table_set_above}
+use Rattle.jn_env.proofs.Order.{env_refl, env_join_left, env_join_right, slot_trans, slot_join_least, table_refl, table_trans, table_at, table_set_within, table_set_above}
 use Rattle.jn_env.proofs.Weight.{same_env, table_grows, quals_bounded, bits_bounded}
 use Rattle.jn_env.specs.Keys.{no_bits, fact_keys, own_keys}
 use Rattle.jn_quals.specs.Order.{no_qual}
@@ -28,17 +26,10 @@ use Rattle.jn_transfer.specs.Sized.{Below, StaysInside}
 use Rattle.jn_transfer.proofs.Monotone.{among_left, among_right, among_cases, edge_above}
 use Rattle.jn_transfer.proofs.Sized.{edge_fine, entry_sized}
 use Rattle.jn_flow.specs.Size.{IsTableOf, height}
-use Rattle.jn_flow.specs.Fits.{EdgeFits, AllFit, JoinFits, SlotSized}
+use Rattle.jn_flow.specs.Fits.{EdgeFits, AllFit}
+use Rattle.jn_flow.specs.QualsLaws.{same_size, join_sized}
 
 -- sizes
-pub same_size : (P : Program) (b : ℕ) (e f : Env) → EnvSized P b e → EnvSized P b f → SameSize e f
-same_size P b e f l m = record { quals = l.quals ∙ sym m.quals; facts = l.facts ∙ sym m.facts; assigned = l.assigned ∙ sym m.assigned }
-
-join_sized : (P : Program) (b : ℕ) (e f : Env) → EnvSized P b e → EnvSized P b f → EnvSized P b (join_env e f)
-join_sized P b e f l m =
-    let s = same_size P b e f l m in
-    record { quals = length-join_quals e.quals f.quals s.quals ∙ m.quals; facts = length-meet_bits e.facts f.facts s.facts ∙ m.facts; assigned = length-meet_bits e.assigned f.assigned s.assigned ∙ m.assigned }
-
 pub sized_at : (P : Program) (b : ℕ) (t : Table) (p : ℕ) (e : Env) → Sized P b t → env_in t p ≡ Some e → EnvSized P b e
 sized_at P b [] p e s is = cc
 sized_at P b (None ∷ t) zero e s is = cc
@@ -166,7 +157,7 @@ module _ (P : Program) (s : List Qualifier) (b : ℕ) where
   pub fixpoint_is : (t : Table) → IsLeastFixpoint (round P s b) (start_table P s b) t → IsLeastTable P s b t
   fixpoint_is t is = record { turns = is.turns; made = is.made ∙ sym (rounds_same is.turns (start_table P s b)); stable = is.stable }
 
-  -- there is one
+  -- it is the only one
   pub least_unique : (t u : Table) → IsLeastTable P s b t → IsLeastTable P s b u → t ≡ u
   least_unique t u is iu = unique (round P s b) (start_table P s b) t u (is_fixpoint t is) (is_fixpoint u iu)
 
@@ -244,6 +235,10 @@ module _ (P : Program) (s : List Qualifier) (b : ℕ) where
             let at : env_in t c.k ≡ Some c.env = subst (λ n. env_in t n ≡ Some c.env) here c.reached in
             under x c (env_in u c.k) refl (subst (λ o. SlotWithin o (env_in u c.k)) at (table_at t u c.k w))
 
+    -- there is one
+    pub least_exists : IsLeastTable P s b (rounds_of (round P s b) (height P b) (start_table P s b))
+    least_exists = fixpoint_is (rounds_of (round P s b) (height P b) (start_table P s b)) (exists (IsTableOf P b) TableWithin weight (height P b) (round P s b) climb (start_table P s b) start_is_table)
+
     pub least_is_table : (t : Table) → IsLeastTable P s b t → IsTableOf P b t
     least_is_table t is = valid (IsTableOf P b) TableWithin weight (height P b) (round P s b) climb (start_table P s b) t start_is_table (is_fixpoint t is)
 
@@ -265,74 +260,6 @@ module _ (P : Program) (s : List Qualifier) (b : ℕ) where
               subst (λ u. SlotWithin (Some x.1) (env_in u x.0)) is.stable (f.has x (is_edge points 0 p pt e t x point (subst (λ n. env_in t n ≡ Some e) here reached) (subst (λ n. IsAmong x (transfer P s b pt.kind n e)) here m)));
         }
 
--- steps of the code's loops
-pub slot_sized : (P : Program) (b : ℕ) (t : Table) (p : ℕ) (o : Option Env) → Sized P b t → env_in t p ≡ o → SlotSized P b o
-slot_sized P b t p None s is = tt
-slot_sized P b t p (Some e) s is = sized_at P b t p e s is
-
-joins_fit_at : (P : Program) (b : ℕ) (t : Table) (p : ℕ) (e : Env) (o : Option Env) → Sized P b t → EnvSized P b e → env_in t p ≡ o → JoinFits o e
-joins_fit_at P b t p e None s l is = tt
-joins_fit_at P b t p e (Some a) s l is = same_size P b a e (sized_at P b t p a s is) l
-
-pub joins_fit : (P : Program) (b : ℕ) (t : Table) (p : ℕ) (e : Env) → Sized P b t → EnvSized P b e → JoinFits (env_in t p) e
-joins_fit P b t p e s l = joins_fit_at P b t p e (env_in t p) s l refl
-
-pub among_here : (xs : List (ℕ × Env)) (i : ℕ) (x : ℕ × Env) → i < length xs → x ≡ slice_index_or xs i x → IsAmong x (drop i xs)
-among_here [] i x lt is = absurd (omega (arith, lt))
-among_here (y ∷ xs) zero x lt is = inl is
-among_here (y ∷ xs) (suc i) x lt is = among_here xs i x (omega (arith, lt)) is
-
-pub among_later : (xs : List (ℕ × Env)) (i : ℕ) (x : ℕ × Env) → IsAmong x (drop (suc i) xs) → IsAmong x (drop i xs)
-among_later [] zero x m = m
-among_later [] (suc i) x m = m
-among_later (y ∷ xs) zero x m = inr m
-among_later (y ∷ xs) (suc i) x m = among_later xs i x m
-
-pub flow_step : (xs : List (ℕ × Env)) (i : ℕ) (x : ℕ × Env) (t new all : Table) → i < length xs → x ≡ slice_index_or xs i x → new ≡ flow_in x t → flow_all (drop i xs) t ≡ all → flow_all (drop (i + 1) xs) new ≡ all
-flow_step xs i x t new all lt is e h =
-    ap (λ u. flow_all (drop (i + 1) xs) u) (e ∙ ap (λ y. flow_in y t) is) ∙ sym (at_drop_more (λ ys. flow_all ys t) xs i x lt) ∙ h
-
-pub set_same_slot : (t : Table) (p : ℕ) → slice_set t p (env_in t p) ≡ t
-set_same_slot [] p = refl
-set_same_slot (a ∷ t) zero = refl
-set_same_slot (a ∷ t) (suc p) = ap (λ u. a ∷ u) (set_same_slot t p)
-
--- how far the edges so far got
-pub record Progress (start t : Table) (changed : Bool) : Type 0 where
-  pub same : changed ≡ false → t ≡ start
-  pub heavier : changed ≡ true → weight start < weight t
-  pub above : TableWithin start t
-
-pub progress_step : (start t u : Table) (c d : Bool) → Progress start t c → TableWithin t u → (d ≡ false → u ≡ t) → (d ≡ true → u ≡ t → ⊥) → Progress start u (c || d)
-progress_step start t u true d p w same other = record {
-  same = λ h. absurd cc;
-  heavier = λ h. let a = p.heavier refl in let g = (table_grows t u w).0 in omega (arith, a, g);
-  above = table_trans start t u p.above w;
-}
-progress_step start t u false true p w same other = record {
-  same = λ h. absurd cc;
-  heavier = λ h. let a = (table_grows start t p.above).0 in ⊎_elim (λ lt. omega (arith, a, lt)) (λ le. absurd (other refl (sym ((table_grows t u w).1 le)))) (cases_lt (weight t) (weight u));
-  above = table_trans start t u p.above w;
-}
-progress_step start t u false false p w same other = record {
-  same = λ h. same refl ∙ p.same refl;
-  heavier = λ h. absurd cc;
-  above = table_trans start t u p.above w;
-}
-
-pub unlike : (start t : Table) → weight start < weight t → t ≡ start → ⊥
-unlike start t lt e = let h = ap weight e in omega (arith, lt, h)
-
--- the edges of one point more
-pub edges_step : (P : Program) (s : List Qualifier) (b : ℕ) (points : List Point) (t : Table) (at : ℕ) (d : Point) (edges more next : List (ℕ × Env)) (all : List (ℕ × Env)) → at < length points → more ≡ edges_from P s b (slice_index_or points at d) at (env_in t at) → next ≡ edges ++ more → edges ++ all_edges P s b (drop at points) at t ≡ all → next ++ all_edges P s b (drop (at + 1) points) (at + 1) t ≡ all
-edges_step P s b points t at d edges more next all lt is e h =
-    let p = slice_index_or points at d in
-    let rest = all_edges P s b (drop (at + 1) points) (at + 1) t in
-    ap (λ r. r ++ rest) (e ∙ ap (λ m. edges ++ m) is)
-    ∙ append_assoc edges (edges_from P s b p at (env_in t at)) rest
-    ∙ ap (λ r. edges ++ r) (sym (at_drop_more (λ pts. all_edges P s b pts at t) points at d lt))
-    ∙ h
-
 -- empty qualifiers, with what is given laid over the first of them
 none_padded : (n : ℕ) → replicate n no_qual ≡ pad_quals [] n
 none_padded zero = refl
@@ -345,21 +272,6 @@ over_padded (q ∷ qs) (suc n) = ap (λ zs. q ∷ zs) (over_padded qs n)
 
 pub given_padded : (qs old new : List Qualifier) (n : ℕ) → old ≡ replicate n no_qual → new ≡ take (length old) qs ++ drop (length qs) old → new ≡ pad_quals qs n
 given_padded qs old new n e h = h ∙ sym (over_is qs old) ∙ ap (λ base. over qs base) e ∙ over_padded qs n
-
-pub round_heavier : (P : Program) (s : List Qualifier) (b : ℕ) → StaysInside P b → (t new : Table) → IsTableOf P b t → new ≡ round P s b t → (new ≡ t → ⊥) → height P b - weight new < height P b - weight t
-round_heavier P s b inside t new v e other =
-    let c = climb P s b inside in
-    let bound : weight new ≤ height P b = subst (λ u. weight u ≤ height P b) (sym e) (c.bounded (round P s b t) (c.kept t v)) in
-    ⊎_elim
-    (λ (lt : weight t < weight new). omega (arith, lt, bound))
-    (λ (le : weight new ≤ weight t). absurd (other (e ∙ settled (IsTableOf P b) TableWithin weight (height P b) (round P s b) c t v (subst (λ u. weight u ≤ weight t) e le))))
-    (cases_lt (weight t) (weight new))
-
-pub flow_ended : (xs : List (ℕ × Env)) (i : ℕ) (t all : Table) → length xs ≤ i → flow_all (drop i xs) t ≡ all → t ≡ all
-flow_ended [] zero t all le h = h
-flow_ended [] (suc i) t all le h = h
-flow_ended (y ∷ xs) zero t all le h = absurd (omega (arith, le))
-flow_ended (y ∷ xs) (suc i) t all le h = flow_ended xs i t all (omega (arith, le)) h
 
 pub entry_is : (P : Program) (s : List Qualifier) (b : ℕ) (info : Body) (e : Env) → body_at P b ≡ Some info → e.quals ≡ pad_quals (given_quals s (method_at P info.method.0)) (regs_of (body_at P b)) → e.facts ≡ no_bits (fact_keys P b) → e.assigned ≡ no_bits (own_keys P b) → e ≡ entry_env P s b
 entry_is P s b info e at q f g =

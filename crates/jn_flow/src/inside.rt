@@ -1,5 +1,5 @@
 // Whether the edges of a body stay in it.
-ghost use Rattle.std.specs.Prelude.{◌≡◌, ◌<◌, ◌-◌, ◌^◌, length, true};
+ghost use Rattle.std.specs.Prelude.{◌≡◌, ◌<◌, ◌-◌, ◌^◌, length, true, false};
 ghost use Rattle.jn_points.specs.Lookup.{body_at, points_of};
 ghost use Rattle.jn_transfer.specs.Sized.{Below, StaysInside};
 ghost use Rattle.jn_flow.specs.Inside.{AllInside};
@@ -12,6 +12,7 @@ pub fn stays_inside(program: &Program, body: BodyNo) -> bool
     requires { body.0 < length program.now.bodies }
     ensures stays { result ≡ true → StaysInside program.now body.0 }
     ensures short { result ≡ true → length (points_of (body_at program.now body.0)) < 2 ^ 32 - 1 }
+    ensures left { result ≡ false → StaysInside program.now body.0 → length (points_of (body_at program.now body.0)) < 2 ^ 32 - 1 → ⊥ }
 {
     let info = &program.bodies.as_slice()[body.0 as usize];
     let count = info.points.len();
@@ -23,7 +24,8 @@ pub fn stays_inside(program: &Program, body: BodyNo) -> bool
 
 fn all_inside(body: &Body) -> bool
     requires { length body.now.points < 2 ^ 32 - 1 }
-    ensures { result ≡ true → AllInside body.now.points (length body.now.points) }
+    ensures stays { result ≡ true → AllInside body.now.points (length body.now.points) }
+    ensures left { result ≡ false → AllInside body.now.points (length body.now.points) → ⊥ }
 {
     let count = body.points.len();
     for at in 0..count {
@@ -35,13 +37,15 @@ fn all_inside(body: &Body) -> bool
 }
 
 fn are_below(edges: Edges, count: usize) -> bool
-    ensures { result ≡ true → Below count edges.first × Below count edges.second }
+    ensures below { result ≡ true → Below count edges.first × Below count edges.second }
+    ensures left { result ≡ false → Below count edges.first × Below count edges.second → ⊥ }
 {
     is_below(edges.first, count) && is_below(edges.second, count)
 }
 
 fn is_below(to: Option<PointNo>, count: usize) -> bool
-    ensures { result ≡ true → Below count to }
+    ensures below { result ≡ true → Below count to }
+    ensures left { result ≡ false → Below count to → ⊥ }
 {
     match to {
         None => true,

@@ -1,20 +1,20 @@
 // The least table of a body.
 ghost use Rattle.std.specs.Prelude.{◌≡◌, ◌<◌, ◌^◌, IfOk, length};
 ghost use Rattle.jn_points.specs.Lookup.{body_at, points_of};
-ghost use Rattle.jn_env.specs.Code.{AreKeys};
-ghost use Rattle.jn_transfer.specs.Least.{start_table, IsLeastTable};
+ghost use Rattle.jn_transfer.specs.Least.{IsLeastTable};
 ghost use Rattle.jn_transfer.specs.Sized.{StaysInside};
 
-use crate::initial::entry;
-use crate::rounds::round;
-use jn_base::{BodyNo, OutOfMemory, PointNo};
+use crate::qualifiers::Qualifiers;
+use jn_base::{BodyNo, OutOfMemory};
+use jn_dataflow::solve;
 use jn_env::{FlowTable, find_keys};
 use jn_points::Program;
 use jn_sigs::Sig;
 use jn_transfer::Analysis;
 use std::alloc::Global;
 
-/// The least table of a body: whole rounds until nothing changes.
+/// The least table of a body: the one that whole rounds over all points end in. The edges of a point are joined again
+/// only where its environment rose.
 ///
 /// # Errors
 /// No memory was found.
@@ -37,24 +37,7 @@ pub fn flow(
         body,
         keys: &keys,
     };
-    let mut table = start(alloc, &analysis)?;
-    loop {
-        if !round(alloc, &analysis, &mut table)? {
-            return Ok(table);
-        }
-    }
-}
-
-/// The table of which only the entry is reached.
-fn start(alloc: Global, analysis: &Analysis) -> Result<FlowTable, OutOfMemory>
-    requires inside { analysis.now.body.0 < length analysis.now.program.now.bodies }
-    requires stays { StaysInside analysis.now.program.now analysis.now.body.0 }
-    requires keys { AreKeys analysis.now.program.now analysis.now.body.0 analysis.now.keys.now }
-    requires short { length (points_of (body_at analysis.now.program.now analysis.now.body.0)) < 2 ^ 32 }
-    ensures { IfOk result (λ table. table ≡ start_table analysis.now.program.now analysis.now.sig.now analysis.now.body.0) }
-{
-    let info = &analysis.program.bodies.as_slice()[analysis.body.0 as usize];
-    let mut table = FlowTable::unreached(alloc, info.points.len() as u32)?;
-    table.put(PointNo(0), entry(alloc, analysis)?);
-    Ok(table)
+    let qualifiers = Qualifiers::new(analysis);
+    let table = solve(alloc, &qualifiers)?;
+    Ok(FlowTable::of_slots(table.into_vec()))
 }

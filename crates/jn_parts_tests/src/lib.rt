@@ -1,23 +1,7 @@
-// Tests of what the rules stand on, a crate at a time: qualifiers, signatures, environments, members, flow, ends of constructors, contributions, checks and base typing.
+// Tests of what no Java file can show: sets of qualifiers by their bits, and how they are packed into words.
 #![tactic(auto)]
 
-#[cfg(test)]
-mod checks;
-#[cfg(test)]
-mod common;
-#[cfg(test)]
-mod contrib;
-#[cfg(test)]
-mod ctor;
-#[cfg(test)]
-mod env;
-#[cfg(test)]
-mod flow;
-#[cfg(test)]
-mod members;
 #[cfg(test)]
 mod quals;
 #[cfg(test)]
 mod sigs;
-#[cfg(test)]
-mod typing;

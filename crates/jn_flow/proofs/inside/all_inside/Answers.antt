@@ -13,7 +13,7 @@ loop-at-preserved c = λ p pt lt is.
     let points = c.args.body.now.points in
     let at = c.loop-at.at in
     let le : p ≤ at = omega (arith, lt) in
-    let below = c.if-not-are_below.ensures refl in
+    let below = c.if-not-are_below.ensures.below refl in
     ⊎_elim
     (λ (e : p ≡ at).
     let edges : c.edges.result ≡ edges_of pt.kind at = c.edges.ensures ∙ ap (λ o. edges_at o at) (subst (λ q. slice_get points q ≡ Some pt) e is) in

@@ -16,7 +16,8 @@ returns c =
     let pos : 0 < c.len-count.result = pos_of_ne-zero c.if-count-eq0.false in
     record {
       stays = λ h.
-          let all = subst (λ ps. AllInside ps (length ps)) points (c.all_inside.ensures h) in
+          let all = subst (λ ps. AllInside ps (length ps)) points (c.all_inside.ensures.stays h) in
           record { some = omega (arith, pos, c.len-count.ensures, long); edges = λ p pt is. all p pt (slice_get_within (points_of (body_at P b)) p pt is) is };
       short = λ h. omega (arith, c.if-count.false, c.len-count.ensures, long);
+      left = λ h stays short. c.all_inside.ensures.left h (subst (λ ps. AllInside ps (length ps)) (sym points) (λ p pt lt is. stays.edges p pt is));
     }

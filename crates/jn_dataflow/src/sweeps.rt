@@ -1,0 +1,202 @@
+// Sweeps over the points that wait for their edges to be joined, until none does.
+ghost use Rattle.std.specs.Prelude.{◌≡◌, ◌<◌, ◌^◌, ◌||◌, [], IfOk, IsTrue, None, Some, length, cond, replicate, slice_set, true, false};
+ghost use Rattle.jn_dataflow.specs.Problem.{Problem, slot_at};
+ghost use Rattle.jn_dataflow.specs.Solution.{Solves};
+ghost use Rattle.jn_dataflow.specs.Settled.{SlotValid, Settled, Stepped, Swept, Visited, NobodyWaits, join_slot, flow_in, edges_from};
+
+use crate::analysis::Dataflow;
+use crate::slots::Slots;
+use jn_base::{OutOfMemory, Seq};
+use std::alloc::{AllocError, Global};
+
+/// A joined environment, and whether it is new.
+#[derive(Drop)]
+struct Joined<E> {
+    env: E,
+    changed: bool,
+}
+
+/// Joins an environment to what stands at its point.
+fn join_slot<D: Dataflow>(
+    alloc: Global,
+    analysis: &D,
+    slot: Option<D::Env>,
+    env: &D::Env,
+) -> Result<Joined<D::Env>, OutOfMemory>
+    requires old { SlotValid (D.describe analysis.now) slot }
+    requires new { IsTrue ((D.describe analysis.now).valid env.now) }
+    ensures joined { IfOk result (λ j. Some j.env ≡ join_slot (D.describe analysis.now) slot env.now) }
+    ensures same { IfOk result (λ j. j.changed ≡ false → Some j.env ≡ slot) }
+    ensures other { IfOk result (λ j. j.changed ≡ true → Some j.env ≡ slot → ⊥) }
+{
+    match slot {
+        None => Ok(Joined {
+            env: analysis.copy(alloc, env)?,
+            changed: true,
+        }),
+        Some(mut old) => {
+            let changed = analysis.join(&mut old, env);
+            Ok(Joined { env: old, changed })
+        }
+    }
+}
+
+/// Joins the environment of an edge into the table. Gives whether that changed it.
+fn flow_in<D: Dataflow>(
+    alloc: Global,
+    analysis: &D,
+    table: &mut Slots<D::Env>,
+    edge: &(u32, D::Env),
+) -> Result<bool, OutOfMemory>
+    requires target { edge.now.0 < length table.old }
+    requires old { SlotValid (D.describe analysis.now) (slot_at table.old edge.now.0) }
+    requires new { IsTrue ((D.describe analysis.now).valid edge.now.1) }
+    ensures { IfOk result (λ changed. Stepped (flow_in (D.describe analysis.now) edge.now table.old) table.old table.new changed) }
+{
+    let joined = join_slot(alloc, analysis, table.take(edge.0 as usize), &edge.1)?;
+    table.put(edge.0 as usize, joined.env);
+    Ok(joined.changed)
+}
+
+/// Joins an edge, and lets its target wait where its environment rose. Gives whether it did.
+fn raise<D: Dataflow>(
+    alloc: Global,
+    analysis: &D,
+    table: &mut Slots<D::Env>,
+    waiting: &mut Seq<bool>,
+    edge: &(u32, D::Env),
+) -> Result<bool, OutOfMemory>
+    requires target { edge.now.0 < length table.old }
+    requires place { edge.now.0 < length waiting.old }
+    requires old { SlotValid (D.describe analysis.now) (slot_at table.old edge.now.0) }
+    requires new { IsTrue ((D.describe analysis.now).valid edge.now.1) }
+    ensures joined { IfOk result (λ rose. Stepped (flow_in (D.describe analysis.now) edge.now table.old) table.old table.new rose) }
+    ensures marked { IfOk result (λ rose. waiting.new ≡ cond rose (slice_set waiting.old edge.now.0 true) waiting.old) }
+{
+    let rose = flow_in(alloc, analysis, table, edge)?;
+    if rose {
+        waiting.set(edge.0 as usize, true);
+    }
+    Ok(rose)
+}
+
+/// Whether one of the two is set.
+fn either(bit: bool, set: bool) -> bool
+    ensures { result ≡ (bit || set) }
+{
+    bit || set
+}
+
+/// Joins the edges that are left of a point. Gives whether any environment rose.
+fn raise_all<D: Dataflow>(
+    alloc: Global,
+    analysis: &D,
+    table: &mut Slots<D::Env>,
+    waiting: &mut Seq<bool>,
+    edges: &[(u32, D::Env)],
+) -> Result<bool, OutOfMemory>
+    requires { Settled (D.describe analysis.now) edges.now table.old waiting.old }
+    ensures { IfOk result (λ rose. Swept (D.describe analysis.now) table.old table.new waiting.old waiting.new rose) }
+{
+    let mut rose = false;
+    for edge in edges {
+        rose = either(rose, raise(alloc, analysis, table, waiting, edge)?);
+    }
+    Ok(rose)
+}
+
+/// The edges of the point at a place; none where it is unreached.
+fn edges_from<D: Dataflow>(
+    alloc: Global,
+    analysis: &D,
+    at: usize,
+    slot: &Option<D::Env>,
+) -> Result<Vec<(u32, D::Env)>, OutOfMemory>
+    requires there { at < (D.describe analysis.now).count }
+    requires valid { SlotValid (D.describe analysis.now) slot.now }
+    ensures { IfOk result (λ edges. edges.items ≡ edges_from (D.describe analysis.now) at slot.now) }
+{
+    match slot {
+        None => Ok(Vec::new(alloc)),
+        Some(env) => analysis.edges(alloc, at, env),
+    }
+}
+
+/// Joins the edges of a point if it waits, which it does no more. Gives whether any environment rose.
+fn visit<D: Dataflow>(
+    alloc: Global,
+    analysis: &D,
+    at: usize,
+    table: &mut Slots<D::Env>,
+    waiting: &mut Seq<bool>,
+) -> Result<bool, OutOfMemory>
+    requires there { at < (D.describe analysis.now).count }
+    requires settled { Settled (D.describe analysis.now) [] table.old waiting.old }
+    ensures { IfOk result (λ rose. Visited (D.describe analysis.now) at table.old table.new waiting.old waiting.new rose) }
+{
+    if !waiting.at(at) {
+        return Ok(false);
+    }
+    waiting.set(at, false);
+    let edges = edges_from(alloc, analysis, at, &table.as_slice()[at])?;
+    raise_all(alloc, analysis, table, waiting, &edges)
+}
+
+/// Visits each point that waits, in their order. Gives whether any environment rose; where none did, nobody waits.
+fn sweep<D: Dataflow>(
+    alloc: Global,
+    analysis: &D,
+    table: &mut Slots<D::Env>,
+    waiting: &mut Seq<bool>,
+) -> Result<bool, OutOfMemory>
+    requires settled { Settled (D.describe analysis.now) [] table.old waiting.old }
+    ensures swept { IfOk result (λ rose. Swept (D.describe analysis.now) table.old table.new waiting.old waiting.new rose) }
+    ensures still { IfOk result (λ rose. rose ≡ false → NobodyWaits waiting.new) }
+{
+    let mut rose = false;
+    for at in 0..analysis.points() {
+        rose = either(rose, visit(alloc, analysis, at, table, waiting)?);
+    }
+    Ok(rose)
+}
+
+/// So many marks, none of them set.
+fn unset(alloc: Global, count: usize) -> Result<Vec<bool>, AllocError>
+    ensures { IfOk result (λ marks. marks.items ≡ replicate count false) }
+{
+    let mut marks = Vec::new(alloc);
+    for _i in 0..count {
+        marks.push(false)?;
+    }
+    Ok(marks)
+}
+
+/// The table in which only the entry is reached.
+fn start<D: Dataflow>(alloc: Global, analysis: &D) -> Result<Slots<D::Env>, OutOfMemory>
+    requires { 0 < (D.describe analysis.now).count }
+    ensures { IfOk result (λ t. t ≡ slice_set (replicate (D.describe analysis.now).count None) 0 (Some (D.describe analysis.now).entry)) }
+{
+    let mut table = Slots::unreached(alloc, analysis.points())?;
+    table.put(0, analysis.entry(alloc)?);
+    Ok(table)
+}
+
+/// Solves the analysis: the edges of a point are joined again where its environment rose, in sweeps over the points that
+/// wait for that, until none does. A sweep goes over the points in their order, so what only edges forward carry is joined
+/// by the first one.
+///
+/// # Errors
+/// No memory was found.
+pub fn solve<D: Dataflow>(alloc: Global, analysis: &D) -> Result<Slots<D::Env>, OutOfMemory>
+    requires { 0 < (D.describe analysis.now).count }
+    ensures { IfOk result (λ t. Solves (D.describe analysis.now) t) }
+{
+    let mut table = start(alloc, analysis)?;
+    let mut waiting = Seq::of_vec(unset(alloc, analysis.points())?);
+    waiting.set(0, true);
+    loop {
+        if !sweep(alloc, analysis, &mut table, &mut waiting)? {
+            return Ok(table);
+        }
+    }
+}
