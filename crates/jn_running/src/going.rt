@@ -39,6 +39,7 @@ pub(crate) fn step_on<K: Sink>(
     requires going { IsGoing (running accepted.now.0 names.now state.old) }
     ensures did { MatchOption result (Comes (running accepted.now.0 names.now state.old) 1 spec.Goes (state_of state.new []) (K.written out.old) (K.written out.new)) (λ e. Answers (running accepted.now.0 names.now state.old) 1 (K.written out.old) (K.written out.new) e) }
     ensures going { MatchOption result (IsGoing (running accepted.now.0 names.now state.new)) (λ e. e ≢ Ended.Steps) }
+    ensures memory { result ≡ Some Ended.OutOfMemory → K.written out.new ≡ K.written out.old }
     ensures failed { result ≡ Some Ended.WriteFault → Rose (K.faults out.old) (K.faults out.new) }
     ensures later { K.faults out.old ≤ K.faults out.new }
     ensures kept { result ≢ Some Ended.WriteFault → K.faults out.new ≡ K.faults out.old }

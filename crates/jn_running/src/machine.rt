@@ -75,6 +75,7 @@ impl<'p> Machine<'p> {
         ensures going { MatchOption result (IsGoing self.new) (λ e. e ≢ Ended.Steps) }
         ensures program { self.new.program ≡ self.old.program }
         ensures names { self.new.names ≡ self.old.names }
+        ensures memory { result ≡ Some Ended.OutOfMemory → K.written out.new ≡ K.written out.old }
         ensures failed { result ≡ Some Ended.WriteFault → Rose (K.faults out.old) (K.faults out.new) }
         ensures later { K.faults out.old ≤ K.faults out.new }
         ensures kept { result ≢ Some Ended.WriteFault → K.faults out.new ≡ K.faults out.old }
