@@ -8,6 +8,7 @@ use jn_hand_programs::lines::{
 use jn_machine::{End, StepFail, Stepped, run, run_to, start};
 use jn_outside::MemSink;
 use jn_points::{BaseType, Elem, Operand, Operator, Program};
+use jn_trees::Names;
 use std::alloc::{AllocError, Global};
 use std::process::Abort;
 
@@ -78,18 +79,44 @@ fn one_text(rt: &impl Abort, alloc: Global, text: &str) -> Vec<Text> {
     texts
 }
 
-/// A run of `main` with one word goes so far within so many steps, and prints this. The one name is
-/// `a\u{e9}\u{1d11e}`, of four UTF-16 units.
+/// The one name `a\u{e9}\u{1d11e}`, of four UTF-16 units.
+fn one_name(rt: &impl Abort, alloc: Global) -> Names {
+    let mut names = Names::new(alloc);
+    let Ok(_) = names.intern("a\u{e9}\u{1d11e}") else {
+        panic!(rt; "no memory")
+    };
+    names
+}
+
+/// What the last step did, and the body and the point at which the machine then stands: after an end, those
+/// that ended the run.
+#[derive(Clone, Copy, Debug, PartialEq, Eq)]
+struct Outcome {
+    stepped: Stepped,
+    body: usize,
+    at: usize,
+}
+
+/// An outcome in `main`.
+fn in_main(stepped: Stepped, at: usize) -> Outcome {
+    Outcome {
+        stepped,
+        body: 1,
+        at,
+    }
+}
+
+/// A run of `main` with one word comes to this within so many steps, and prints this.
 fn expect_run(
     rt: &impl Abort,
     alloc: Global,
     hand: Hand,
     steps: u64,
-    want: Stepped,
+    want: Outcome,
     printed: &str,
 ) {
     let program = made(rt, hand);
-    let names = one_text(rt, alloc, "a\u{e9}\u{1d11e}");
+    let names = one_name(rt, alloc);
     let words = one_text(rt, alloc, "word");
     let Ok(mut state) = start(alloc, &program, MAIN, &words) else {
         panic!(rt; "no memory")
@@ -98,7 +125,12 @@ fn expect_run(
     let Ok(stepped) = run(alloc, &program, &names, &mut state, steps, &mut out) else {
         panic!(rt; "no memory")
     };
-    assert_eq!(rt; stepped, want);
+    let got = Outcome {
+        stepped,
+        body: state.top.body(),
+        at: state.top.at(),
+    };
+    assert_eq!(rt; got, want);
     assert_eq!(rt; out.as_slice(), printed.as_bytes());
 }
 
@@ -122,7 +154,7 @@ fn straight(alloc: Global) -> Hand {
 #[test]
 fn straight_code(rt: HostRuntime) {
     let printed = "a\u{e9}\u{1d11e}4\n-2147483648\n0\n";
-    let done = Stepped::Ends(End::Done);
+    let done = in_main(Stepped::Ends(End::Done), 10);
     expect_run(&rt, rt.alloc(), straight(rt.alloc()), 100, done, printed);
 }
 
@@ -136,7 +168,7 @@ fn divides(alloc: Global) -> Hand {
 
 #[test]
 fn division_by_zero(rt: HostRuntime) {
-    let ends = Stepped::Ends(End::Arithmetic);
+    let ends = in_main(Stepped::Ends(End::Arithmetic), 2);
     expect_run(&rt, rt.alloc(), divides(rt.alloc()), 100, ends, "");
 }
 
@@ -149,14 +181,8 @@ fn on_null(alloc: Global) -> Hand {
 
 #[test]
 fn length_of_null(rt: HostRuntime) {
-    expect_run(
-        &rt,
-        rt.alloc(),
-        on_null(rt.alloc()),
-        100,
-        Stepped::Stuck,
-        "",
-    );
+    let stuck = in_main(Stepped::Stuck, 1);
+    expect_run(&rt, rt.alloc(), on_null(rt.alloc()), 100, stuck, "");
 }
 
 fn calls_itself(alloc: Global) -> Hand {
@@ -167,15 +193,17 @@ fn calls_itself(alloc: Global) -> Hand {
 
 #[test]
 fn deepest_call(rt: HostRuntime) {
-    let deep = Stepped::Ends(End::Deep);
-    expect_run(
-        &rt,
-        rt.alloc(),
-        calls_itself(rt.alloc()),
-        4095,
-        Stepped::Goes,
-        "",
-    );
+    let goes = Outcome {
+        stepped: Stepped::Goes,
+        body: 4,
+        at: 0,
+    };
+    let deep = Outcome {
+        stepped: Stepped::Ends(End::Deep),
+        body: 4,
+        at: 0,
+    };
+    expect_run(&rt, rt.alloc(), calls_itself(rt.alloc()), 4095, goes, "");
     expect_run(&rt, rt.alloc(), calls_itself(rt.alloc()), 4096, deep, "");
 }
 
@@ -191,7 +219,7 @@ fn makes_an_object(alloc: Global) -> Hand {
 
 #[test]
 fn objects(rt: HostRuntime) {
-    let ends = Stepped::Ends(End::ClassCast);
+    let ends = in_main(Stepped::Ends(End::ClassCast), 4);
     expect_run(
         &rt,
         rt.alloc(),
@@ -218,7 +246,7 @@ fn reads_elements(alloc: Global) -> Hand {
 
 #[test]
 fn arrays(rt: HostRuntime) {
-    let ends = Stepped::Ends(End::Index);
+    let ends = in_main(Stepped::Ends(End::Index), 8);
     expect_run(
         &rt,
         rt.alloc(),
@@ -243,7 +271,7 @@ fn sink_of(alloc: Global, failing: u32) -> Result<MemSink, OutOfMemory> {
     MemSink::new(alloc, failing, 10, 10)
 }
 
-/// What a run prints to a sink whose write of this number fails.
+/// What a run prints to a sink whose write of this number fails. In both runs the second print is done.
 fn expect_printed(
     rt: &impl Abort,
     alloc: Global,
@@ -259,8 +287,16 @@ fn expect_printed(
     let Ok(mut state) = start(alloc, &program, MAIN, &none) else {
         panic!(rt; "no memory")
     };
-    let ended = run_to(alloc, &program, &none, &mut state, 100, &mut sink);
+    let ended = run_to(
+        alloc,
+        &program,
+        &Names::new(alloc),
+        &mut state,
+        100,
+        &mut sink,
+    );
     assert_eq!(rt; ended, want);
+    assert_eq!(rt; state.top.at(), 3);
     assert_eq!(rt; sink.bytes(), printed.as_bytes());
 }
 
