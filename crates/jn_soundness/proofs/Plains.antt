@@ -44,6 +44,14 @@ plain_settled m q (Text t) h = absurd h
 plain_settled m q (Plain p) h = tt
 plain_settled m q (At o) h = absurd h
 
+-- a point that enters no frame and leaves none
+abbrev pub IsPlainKind : PointKind → Type 0
+IsPlainKind (New dst m args) = ⊥
+IsPlainKind (CtorCall m args own) = ⊥
+IsPlainKind (Call dst m r direct args) = ⊥
+IsPlainKind (Return v) = ⊥
+IsPlainKind k = Unit {0}
+
 module _ (W : World) (st : State) (mk : Marking) (good : Marked W st mk) where
   -- heap and marks are as they were
   keep : (s : List Prim) (out : List ℕ) (to : ℕ) (regs : Regs) → GoodTop W mk.marks st.heap (record { body = st.top.body; at = to; regs = regs }) mk.top → Marked W (record { limits = st.limits; heap = st.heap; statics = s; out = out; top = record { body = st.top.body; at = to; regs = regs }; waiting = st.waiting }) mk
@@ -331,13 +339,6 @@ module _ (W : World) (st : State) (mk : Marking) (good : Marked W st mk) where
       array_of_good (Some vs) is = array_good b vs (λ i v x.
           settled_later W mk.marks (grown_marks W mk.marks (mk.top ∷ mk.waiting) st.heap good.heap (Elems b vs) Committed) (committed_grown W mk.marks (mk.top ∷ mk.waiting) st.heap good.heap (Elems b vs) Committed) (elem_qual b) v
           (item_settled vs is i v x (ref_elems b) refl))
-
-  abbrev pub IsPlainKind : PointKind → Type 0
-  IsPlainKind (New dst m args) = ⊥
-  IsPlainKind (CtorCall m args own) = ⊥
-  IsPlainKind (Call dst m r direct args) = ⊥
-  IsPlainKind (Return v) = ⊥
-  IsPlainKind k = Unit {0}
 
   pub plain_good : (names : List (List ℕ)) (k : PointKind) → IsPlainKind k → PointOk W st.top.body st.top.at good.top.env k → test_at W.program st.top.body st.top.at ≡ test_of k → TestOk W st.heap st.top.regs (test_of k) → Typed W st k → MarkedNext W (mark_by W st mk k) (act W.program names st k)
   plain_good names (Const dst value) x ok pl t ty = sets_good dst.0 (literal_qual value) (literal_value names value) (plain_step W _ _ _ _ tt tt (ok.edges _ (inl refl))) ok.this_kept (literal_fits W mk.marks mk.top.era names value)
