@@ -24,7 +24,7 @@ use Rattle.jn_soundness.specs.Types.{GivesTo, HasType, HeapTyped, ProgramTyped, 
 use Rattle.jn_heap.specs.Values.{At, Elems, Fails, Gives, Got, Lacks, NullRef, Object, Plain, Prim, Text, Thing, Value, binary, default_of, defaults, index, same, unary, units, text_op}
 use Rattle.jn_heap.specs.Machine.{Ends, Frame, Goes, Next, Regs, State, Stuck, act, allocates, array_len, array_of, binary_of, branch, calls, calls_on, calls_this, cast_as, cast_of, class_in, concat_of, count_of, ctor_calls, dispatched, elem_in, enter, field_at, field_in, gather, gather_more, gives, gives_to, goes_by, got_of, got_plain, got_sets, holds_at, is_within, item_or_index, length_in, literal_value, may_hold, moves, new_array, news, object_of, pad, prim_of, print, put_thing, read_elem, read_field, resumes, returns, run, same_of, selected, sets, step_at, store_in, stored, str_op, takes, takes_at, test_inst, test_null, text_or_long, then_step, unary_of, value_at, value_of, write_elem, write_field, write_in, write_static, int_of, truth_of, text_in, got_prim, thing_within}
 use Rattle.jn_soundness.specs.World.{World}
-use Rattle.jn_points.specs.Lookup.{body_at, body_of, class_of, field_base, field_base_of, flat_of, is_flat, is_ref_base, method_at, method_in, params_of, point_at, reg_base, regs_of, result_base_of, slots_of, static_of, is_array, elem_base}
+use Rattle.jn_points.specs.Lookup.{body_at, body_of, class_of, field_base, field_base_of, flat_of, is_flat, is_ref_base, method_at, method_in, params_of, point_at, reg_base, regs_of, result_base_of, slots_of, is_array, elem_base}
 use Rattle.jn_points.specs.Members.{fits, has_field}
 use Rattle.jn_soundness.specs.Checked.{ref_elems}
 use Rattle.jn_soundness.proofs.Fits.{fits_self, fits_trans, valued_within, fits_refs, fits_flat, fits_elems, fits_items}
