@@ -1,2 +1,3 @@
 mod OneMain
 pub mod Solved
+mod Rows

@@ -1,5 +1,5 @@
 -- Bodies, methods and fields of a regular program.
-use Rattle.std.proofs.Common.{◌≡◌, ◌<◌, ℕ, zero, suc, true, false, not, ◌⊎◌, inl, inr, List, [], ◌∷◌, length, Option, Some, None, refl, sym, ap, ◌∙◌, subst, cond, arith}
+use Rattle.std.proofs.Common.{◌≡◌, ◌<◌, ℕ, zero, suc, true, false, not, ◌⊎◌, inl, inr, List, [], ◌∷◌, length, Option, Some, None, refl, sym, ap, ◌∙◌, subst, arith}
 use Rattle.std.specs.Prelude.{slice_get, slice_index_or}
 use Rattle.jn_base.specs.declared.number.BodyNo.{BodyNo}
 use Rattle.jn_base.specs.declared.number.ClassNo.{ClassNo}
@@ -14,7 +14,7 @@ use Rattle.jn_points.specs.Lookup.{base_in, points_of, parent_of, body_no, body_
 use Rattle.jn_points.specs.Members.{has_field, object_has, sub, fits, is_pair, pairs_of}
 use Rattle.jn_points.specs.BaseTyping.{PairTyped, StartsWith, given_bases}
 use Rattle.jn_points.specs.Regular.{BodyBelow, FrontOf, Regular, RegularPair}
-use Rattle.jn_soundness.proofs.Basics.{and_true, not_true}
+use Rattle.jn_soundness.proofs.Basics.{and_true, not_true, given_this}
 use Rattle.jn_soundness.proofs.Fits.{fits_self, both_true}
 use Rattle.jn_regular_law.proofs.Subtypes.{own_or_above, regular_order}
 
@@ -38,9 +38,6 @@ module _ (P : Program) where
   front_starts [] regs h = tt
   front_starts (t ∷ ts) [] h = absurd h
   front_starts (t ∷ ts) (r ∷ regs) h = (subst (λ z. fits P t z ≡ true) (sym h.0) (fits_self P t), front_starts ts regs h.1)
-
-  given_this : (m : ℕ) → static_of (method_at P m) ≡ false → given_bases P m ≡ Ref (record { 0 = class_of (method_at P m) }) ∷ params_of (method_at P m)
-  given_this m s = ap (λ t. cond t (params_of (method_at P m)) (Ref (record { 0 = class_of (method_at P m) }) ∷ params_of (method_at P m))) s
 
   pub body_there : (b p : ℕ) (pt : Point) → point_at P b p ≡ Some pt → (x : Body) × (body_at P b ≡ Some x)
   body_there b p pt is = by (body_at P b) refl is
@@ -108,7 +105,7 @@ module _ (P : Program) where
         let m : ℕ = x.method.0 in
         let its : method_in P b ≡ method_at P m = ap (method_of_body P) e in
         let s : static_of (method_at P m) ≡ false = ctor_static m (ap ctor_of (sym its) ∙ c) in
-        let front : FrontOf (Ref (record { 0 = class_of (method_at P m) }) ∷ params_of (method_at P m)) x.regs = subst (λ ts. FrontOf ts x.regs) (given_this m s) (R.bodies b x e).front in
+        let front : FrontOf (Ref (record { 0 = class_of (method_at P m) }) ∷ params_of (method_at P m)) x.regs = subst (λ ts. FrontOf ts x.regs) (given_this P m s) (R.bodies b x e).front in
         let first : reg_base P b 0 ≡ Ref (record { 0 = class_of (method_at P m) }) = ap (λ o. base_in o 0) e ∙ front_first (Ref (record { 0 = class_of (method_at P m) })) (params_of (method_at P m)) x.regs front in
         let some = front_some (Ref (record { 0 = class_of (method_at P m) })) (params_of (method_at P m)) x.regs front in
         (first ∙ ap (λ y. Ref (record { 0 = class_of y })) (sym its), (some.0, ap regs_of e ∙ some.1))

@@ -26,10 +26,10 @@ use Rattle.jn_soundness.proofs.Basics.{and_true}
 abbrev pub NoRows : List Row → Type 0
 NoRows xs = (row : Row) → Contains xs row → ⊥
 
-none_left : (xs ys : List Row) → NoRows (xs ++ ys) → NoRows xs
+pub none_left : (xs ys : List Row) → NoRows (xs ++ ys) → NoRows xs
 none_left xs ys n row h = n row (Contains-append_left xs ys row h)
 
-none_right : (xs ys : List Row) → NoRows (xs ++ ys) → NoRows ys
+pub none_right : (xs ys : List Row) → NoRows (xs ++ ys) → NoRows ys
 none_right xs ys n row h = n row (Contains-append_right xs ys row h)
 
 sum_plain : (t : Bool) → is_ref_base (cond t Int BoolBase) ≡ false
@@ -40,7 +40,7 @@ operation_plain : (op : StrOperation) → is_ref_base (operation_base op) ≡ fa
 operation_plain Length = refl
 operation_plain op = refl
 
-primitive_plain : (t : BaseType) → is_primitive t ≡ true → is_ref_base t ≡ false
+pub primitive_plain : (t : BaseType) → is_primitive t ≡ true → is_ref_base t ≡ false
 primitive_plain Int h = refl
 primitive_plain BoolBase h = refl
 primitive_plain Void h = refl
@@ -53,7 +53,7 @@ module _ (P : Program) where
   fits_to a b e = subst (λ z. fits P a z ≡ true) (sym e) (fits_self P a)
 
   -- operands without a row are of the type that is wanted
-  suited : (b : ℕ) (w : Want) (a : Operand) → NoRows (operand_rows P b w a) → suits P w (reg_base P b a.reg.0) ≡ true
+  pub suited : (b : ℕ) (w : Want) (a : Operand) → NoRows (operand_rows P b w a) → suits P w (reg_base P b a.reg.0) ≡ true
   suited b w a n = by (suits P w (reg_base P b a.reg.0)) n
     where
       row : Row

@@ -28,7 +28,7 @@ below_is n None h = tt
 below_is n (Some to) h = h
 
 module _ (P : Program) (R : Regular P) where
-  point_regular : (b p : ℕ) (pt : Point) → point_at P b p ≡ Some pt → RegularPoint P b p pt.kind
+  pub point_regular : (b p : ℕ) (pt : Point) → point_at P b p ≡ Some pt → RegularPoint P b p pt.kind
   point_regular b p pt is = let x = body_there P b p pt is in (R.bodies b x.0 x.1).points p pt is
 
   pub regular_slots : (f : ℕ) (x : Field) (n : SlotNo) → field_info P f ≡ Some x → x.slot ≡ Some n → (info : SlotInfo) × (slice_get P.slots n.0 ≡ Some info) × (info.inferred ≡ false → info.start.committed ≡ true)

@@ -15,10 +15,10 @@ use Rattle.jn_env.specs.Order.{qual_at}
 use Rattle.jn_transfer.specs.Transfer.{transfer, side, learn, refine, IsAmong}
 use Rattle.jn_soundness.specs.World.{World, env_at}
 use Rattle.jn_soundness.specs.Checked.{PointOk, Checked}
-use Rattle.jn_soundness.specs.Good.{MainsOk}
 use Rattle.jn_soundness.specs.Accepted.{Accepted}
 use Rattle.jn_soundness.proofs.Basics.{within_committed}
 use Rattle.jn_soundness.proofs.Rows.{none_broken, point_body}
+use Rattle.jn_soundness.specs.Asked.{MainsOk}
 
 -- targets of edges
 

@@ -1,10 +1,9 @@
 -- Bits along keys, and registers that qualifiers describe.
-use Rattle.std.proofs.Common.{◌≡◌, ℕ, zero, suc, Bool, true, false, not, ◌&&◌, ◌||◌, ◌⊎◌, inl, inr, List, [], ◌∷◌, ◌++◌, length, Option, Some, None, refl, sym, ap, subst}
+use Rattle.std.proofs.Common.{◌≡◌, ℕ, zero, suc, Bool, true, false, not, ◌&&◌, ◌||◌, ◌⊎◌, inl, inr, List, [], ◌∷◌, ◌++◌, length, Option, Some, None, refl, sym, ap, subst, replicate, cond}
 use Rattle.std.specs.Prelude.{slice_get, slice_set, slice_index_or, IsTrue, eqb}
 use Rattle.std.proofs.lemmas.Bool.{eqb-true, eqb-false}
 use Rattle.jn_quals.specs.Qualifier.{Qualifier}
 use Rattle.jn_points.specs.declared.point.Operand.{Operand}
-use Rattle.jn_soundness.specs.Good.{AllOn, Committed, Described, Describes, Free, MarkFits, Marks, ObjMark, Settled, Unborn}
 use Rattle.jn_soundness.specs.Checked.{ArgsPass}
 use Rattle.jn_heap.specs.Values.{At, NullRef, Plain, Text, Value}
 use Rattle.jn_env.specs.Order.{BitsAbove, QualsWithin, qual_at}
@@ -14,6 +13,13 @@ use Rattle.jn_soundness.specs.World.{World}
 use Rattle.jn_env.specs.Keys.{also, is_on, mask, no_bits}
 use Rattle.jn_quals.specs.Order.{no_qual, within}
 use Rattle.jn_transfer.specs.Transfer.{pad_quals}
+use Rattle.jn_soundness.specs.Frames.{AllOn, Described}
+use Rattle.jn_soundness.specs.Marks.{Committed, Free, Marks, ObjMark, Unborn}
+use Rattle.jn_soundness.specs.Heaps.{Describes, MarkFits, Settled}
+use Rattle.jn_points.specs.declared.program.Program.{Program}
+use Rattle.jn_points.specs.declared.point.BaseType.TheVariants.{Ref}
+use Rattle.jn_points.specs.BaseTyping.{given_bases}
+use Rattle.jn_points.specs.Lookup.{class_of, static_of, method_at, params_of}
 
 pub and_true : (a b : Bool) → (a && b) ≡ true → (a ≡ true) × (b ≡ true)
 and_true true b h = (refl, h)
@@ -267,3 +273,15 @@ eqb_cases a b = go (eqb a b) refl
     go : (t : Bool) → eqb a b ≡ t → (a ≡ b) ⊎ (a ≡ b → ⊥)
     go true h = inl (eqb-true a b h)
     go false h = inr (λ e. eqb-false a b h e)
+
+pub replicated : {X : Type 0} → (n : ℕ) (x : X) (i : ℕ) (v : X) → slice_get (replicate n x) i ≡ Some v → x ≡ v
+replicated zero x i v h = cc
+replicated (suc n) x zero v h = cc
+replicated (suc n) x (suc i) v h = replicated n x i v h
+
+-- what a method's body is given: its parameters, behind `this` where the method isn't static
+pub given_static : (P : Program) (m : ℕ) → static_of (method_at P m) ≡ true → given_bases P m ≡ params_of (method_at P m)
+given_static P m h = ap (λ t. cond t (params_of (method_at P m)) (Ref (record { 0 = class_of (method_at P m) }) ∷ params_of (method_at P m))) h
+
+pub given_this : (P : Program) (m : ℕ) → static_of (method_at P m) ≡ false → given_bases P m ≡ Ref (record { 0 = class_of (method_at P m) }) ∷ params_of (method_at P m)
+given_this P m h = ap (λ t. cond t (params_of (method_at P m)) (Ref (record { 0 = class_of (method_at P m) }) ∷ params_of (method_at P m))) h

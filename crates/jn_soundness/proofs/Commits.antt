@@ -4,7 +4,6 @@ use Rattle.std.specs.Prelude.{slice_get, eqb}
 use Rattle.std.proofs.lemmas.Bool.{eqb-true, eq-eqb}
 use Rattle.jn_quals.specs.Qualifier.{Qualifier}
 use Rattle.jn_soundness.specs.Checked.{AllAssigned}
-use Rattle.jn_soundness.specs.Good.{AllEnded, AllOn, Building, BuiltOk, Committed, Describes, EraStep, FieldSet, FrameMark, Free, FreeField, HeapOk, IsMember, MarkFits, Marks, ObjMark, Settled, SupersEnded, ThingOk, Unborn, Waiting, free_qual}
 use Rattle.jn_heap.specs.Values.{At, Elems, NullRef, Object, Plain, Text, Thing, Value}
 use Rattle.jn_env.specs.declared.env.Env.{Env}
 use Rattle.jn_heap.specs.Machine.{Frame, class_at, class_in, field_at, field_in}
@@ -15,7 +14,11 @@ use Rattle.jn_sigs.specs.Signature.{field_qual}
 use Rattle.jn_env.specs.Keys.{own_keys}
 use Rattle.jn_soundness.proofs.Basics.{on_is_on, eqb_cases}
 use Rattle.jn_soundness.proofs.Laters.{Freed, Later}
-use Rattle.jn_soundness.proofs.Grows.{FitsMark, thing_later, with_mark, mark_other, mark_same}
+use Rattle.jn_soundness.proofs.Grows.{FitsMark, thing_later, mark_other, mark_same}
+use Rattle.jn_soundness.specs.Heaps.{AllEnded, Building, BuiltOk, Describes, FreeField, HeapOk, IsMember, MarkFits, Settled, ThingOk, free_qual}
+use Rattle.jn_soundness.specs.Frames.{AllOn, FieldSet, SupersEnded}
+use Rattle.jn_soundness.specs.Marks.{Committed, FrameMark, Free, Marks, ObjMark, Unborn, with_mark, commit_mark}
+use Rattle.jn_soundness.specs.Calls.{EraStep, Waiting}
 
 cond_true : {X : Type 0} → (b : Bool) (x : Option X) (w : X) → cond b x None ≡ Some w → b ≡ true
 cond_true true x w h = refl
@@ -121,11 +124,6 @@ module _ (W : World) (m : Marks) (heap : List Thing) (o e d : ℕ) (ended : List
     ended_heap h p = heap_by h p (eqb_cases p o)
 
 -- an era ends
-abbrev pub commit_mark : ℕ → ObjMark → ObjMark
-commit_mark e Unborn = Unborn
-commit_mark e Committed = Committed
-commit_mark e (Free a ended) = cond (eqb a e) Committed (Free a ended)
-
 module _ (W : World) (m : Marks) (heap : List Thing) (e : ℕ) where
   abbrev pub committed_marks : Marks
   committed_marks = λ o. commit_mark e (m o)

@@ -15,7 +15,6 @@ use Rattle.jn_points.specs.declared.program.Field.{Field}
 use Rattle.jn_points.specs.declared.program.Method.{Method}
 use Rattle.jn_points.specs.declared.program.Body.{Body}
 use Rattle.jn_soundness.specs.Checked.{ArgsPass, Checked, PointOk, ReceiverPasses}
-use Rattle.jn_soundness.specs.Good.{ArgsRef, AssignedOk, Building, Committed, Ctor, CtorOk, Described, Describes, EraStep, FactOk, FieldOk, FieldSet, FrameMark, Free, FreeField, Good, GoodNext, GoodTop, HeapOk, HoldsRef, IsMember, MarkFits, Marking, Marks, ObjMark, Overrides, SupersEnded, Typed, Unborn, Waiting, Waits}
 use Rattle.jn_heap.specs.Values.{At, NullRef, Object, Plain, Prim, Text, Thing, Value, default_of, defaults}
 use Rattle.jn_env.specs.declared.env.Env.{Env}
 use Rattle.jn_heap.specs.Machine.{Regs, State, calls, calls_on, calls_this, class_in, ctor_calls, enter, entered, field_in, gather, gather_more, news, object_of, pad, selected, value_at}
@@ -32,6 +31,13 @@ use Rattle.jn_soundness.proofs.Tops.{object_is, arrives, no_test}
 use Rattle.jn_soundness.proofs.Laters.{Later, describes_later, stands_later, all_later, waiting_later}
 use Rattle.jn_soundness.proofs.Writes.{or_free, cond_is}
 use Rattle.jn_soundness.proofs.Grows.{FitsMark, thing_later, grown_marks, grown_later, grown_heap, mark_same, append_last}
+use Rattle.jn_soundness.specs.Asked.{ArgsRef, Overrides, Typed}
+use Rattle.jn_soundness.specs.Frames.{AssignedOk, Ctor, CtorOk, Described, FactOk, FieldSet, GoodTop, SupersEnded}
+use Rattle.jn_soundness.specs.Heaps.{Building, Describes, FieldOk, FreeField, HeapOk, HoldsRef, IsMember, MarkFits}
+use Rattle.jn_soundness.specs.Marks.{Committed, FrameMark, Free, Marking, Marks, ObjMark, Unborn, enters_shared, enters_new, shares_era, mark_by}
+use Rattle.jn_soundness.specs.Calls.{EraStep, Waiting, Waits}
+use Rattle.jn_soundness.specs.Marked.{Marked, MarkedNext}
+use Rattle.jn_soundness.proofs.Eras.{grown_eras}
 
 same_fits : (m : Marks) (k : ObjMark) → FitsMark m m k
 same_fits m Unborn = tt
@@ -183,7 +189,7 @@ module _ (W : World) (checked : Checked W) where
       by (inl e) = inl e
       by (inr e) = absurd e
 
-  module _ (st : State) (mk : Marking) (good : Good W st mk) (pt : Point) (point : point_at W.program st.top.body st.top.at ≡ Some pt) where
+  module _ (st : State) (mk : Marking) (good : Marked W st mk) (pt : Point) (point : point_at W.program st.top.body st.top.at ≡ Some pt) where
     waits_same : (b : ℕ) (g : FrameMark) → Waits W b g mk.top good.top.env pt.kind → EraStep g mk.top → Waiting W mk.marks st.heap b g (st.top ∷ st.waiting) (mk.top ∷ mk.waiting)
     waits_same b g w e = (record { frame = record { env = good.top.env; reached = good.top.reached; stands = good.top.stands }; pt = pt; point = point; waits = w; era = e }, good.waiting)
 
@@ -191,36 +197,35 @@ module _ (W : World) (checked : Checked W) where
     same_step g o e = record { opened = λ h. true_false g.opened h o; same = λ h. e }
 
     -- a call of a method that is no constructor
-    call_good : (dst : Option RegNo) (m : MethodNo) (r : Option Operand) (direct : Bool) (args : List Operand) → pt.kind ≡ Call dst m r direct args → (k : ℕ) (vs : List Value) → ctor_of (method_at W.program k) ≡ false → IsTrue (within (result_of W.sig (method_at W.program k)) (result_of W.sig (method_at W.program m.0))) → AllDescribed mk.marks mk.top.era (given_quals W.sig (method_at W.program k)) vs → (t : Bool) (x : Option ℕ) → body_of (method_at W.program k) ≡ x → GoodNext W (enter W.program t st st.heap x vs)
+    call_good : (dst : Option RegNo) (m : MethodNo) (r : Option Operand) (direct : Bool) (args : List Operand) → pt.kind ≡ Call dst m r direct args → (k : ℕ) (vs : List Value) → ctor_of (method_at W.program k) ≡ false → IsTrue (within (result_of W.sig (method_at W.program k)) (result_of W.sig (method_at W.program m.0))) → AllDescribed mk.marks mk.top.era (given_quals W.sig (method_at W.program k)) vs → (t : Bool) (x : Option ℕ) → body_of (method_at W.program k) ≡ x → MarkedNext W (enters_shared mk None) (enter W.program t st st.heap x vs)
     call_good dst m r direct args is k vs c w d true x ib = tt
     call_good dst m r direct args is k vs c w d false None ib = tt
     call_good dst m r direct args is k vs c w d false (Some b) ib =
         let g : FrameMark = record { era = mk.top.era; opened = false; made = false; built = None } in
         let same : method_in W.program b ≡ method_at W.program k = checked.bodies k b ib in
         record {
-          mark = record { marks = mk.marks; top = g; waiting = mk.top ∷ mk.waiting; next = mk.next };
-          good = record {
-            heap = heap_frames W mk.marks (mk.top ∷ mk.waiting) (g ∷ mk.top ∷ mk.waiting) st.heap (λ o a h. inr h) good.heap;
-            top = enter_top mk.marks st.heap b (checked.there k b ib).0 (checked.there k b ib).1 vs g (subst (λ y. AllDescribed mk.marks mk.top.era (given_quals W.sig y) vs) (sym same) d) (ap (λ y. ctor_of y) same ∙ c);
-            waiting = waits_same b g (subst (λ y. Waits W b g mk.top good.top.env y) (sym is) (record {
-              method = ap (λ y. ctor_of y) same ∙ c;
-              result = subst (λ y. IsTrue (within (result_of W.sig y) (result_of W.sig (method_at W.program m.0)))) (sym same) w;
-              shared = refl;
-            })) (same_step g refl refl);
-            below = good.below;
-          };
+          heap = heap_frames W mk.marks (mk.top ∷ mk.waiting) (g ∷ mk.top ∷ mk.waiting) st.heap (λ o a h. inr h) good.heap;
+          top = enter_top mk.marks st.heap b (checked.there k b ib).0 (checked.there k b ib).1 vs g (subst (λ y. AllDescribed mk.marks mk.top.era (given_quals W.sig y) vs) (sym same) d) (ap (λ y. ctor_of y) same ∙ c);
+          waiting = waits_same b g (subst (λ y. Waits W b g mk.top good.top.env y) (sym is) (record {
+            method = ap (λ y. ctor_of y) same ∙ c;
+            made = refl;
+            result = subst (λ y. IsTrue (within (result_of W.sig y) (result_of W.sig (method_at W.program m.0)))) (sym same) w;
+            shared = refl;
+          })) (same_step g refl refl);
+          below = good.below;
+          eras = λ o a l h. inr (good.eras o a l h);
         }
 
     args_of : (qs : List Qualifier) (args : List Operand) (vs : List Value) → ArgsPass good.top.env qs args → gather st.top.regs args ≡ Some vs → AllDescribed mk.marks mk.top.era qs vs
     args_of qs args vs p is = args_described mk.marks mk.top.era good.top.env st.top.regs qs args vs (args_fit mk.marks mk.top.era good.top.env st.top.regs args good.top.stands.quals) p is
 
-    static_call : (dst : Option RegNo) (m : MethodNo) (direct : Bool) (args : List Operand) → pt.kind ≡ Call dst m None direct args → ArgsPass good.top.env (param_quals W m.0) args → static_of (method_at W.program m.0) ≡ true → ctor_of (method_at W.program m.0) ≡ false → (vs : Option (List Value)) → gather st.top.regs args ≡ vs → GoodNext W (calls W.program st m.0 None direct vs)
+    static_call : (dst : Option RegNo) (m : MethodNo) (direct : Bool) (args : List Operand) → pt.kind ≡ Call dst m None direct args → ArgsPass good.top.env (param_quals W m.0) args → static_of (method_at W.program m.0) ≡ true → ctor_of (method_at W.program m.0) ≡ false → (vs : Option (List Value)) → gather st.top.regs args ≡ vs → MarkedNext W (enters_shared mk None) (calls W.program st m.0 None direct vs)
     static_call dst m direct args is p s c None iv = tt
     static_call dst m direct args is p s c (Some vs) iv =
         let q = result_of W.sig (method_at W.program m.0) in
         call_good dst m None direct args is m.0 vs c (within_refl q.null q.committed q.free) (subst (λ y. AllDescribed mk.marks mk.top.era y vs) (sym (given_static (method_at W.program m.0) s)) (args_of (param_quals W m.0) args vs p iv)) (ltb st.limits.deepest (length st.waiting + 2)) (body_of (method_at W.program m.0)) refl
 
-    this_call : (dst : Option RegNo) (m : MethodNo) (r : Operand) (direct : Bool) (args : List Operand) → pt.kind ≡ Call dst m (Some r) direct args → ArgsPass good.top.env (param_quals W m.0) args → ReceiverPasses W good.top.env (method_at W.program m.0) (Some r) → ((o k : ℕ) → value_at st.top.regs r.reg.0 ≡ Some (At o) → selected W.program st.heap o m.0 direct ≡ Some k → Overrides W k m.0) → (vs : List Value) → gather st.top.regs args ≡ Some vs → (o : ℕ) → value_at st.top.regs r.reg.0 ≡ Some (At o) → (k : Option ℕ) → selected W.program st.heap o m.0 direct ≡ k → GoodNext W (calls_on W.program st k (At o ∷ vs))
+    this_call : (dst : Option RegNo) (m : MethodNo) (r : Operand) (direct : Bool) (args : List Operand) → pt.kind ≡ Call dst m (Some r) direct args → ArgsPass good.top.env (param_quals W m.0) args → ReceiverPasses W good.top.env (method_at W.program m.0) (Some r) → ((o k : ℕ) → value_at st.top.regs r.reg.0 ≡ Some (At o) → selected W.program st.heap o m.0 direct ≡ Some k → Overrides W k m.0) → (vs : List Value) → gather st.top.regs args ≡ Some vs → (o : ℕ) → value_at st.top.regs r.reg.0 ≡ Some (At o) → (k : Option ℕ) → selected W.program st.heap o m.0 direct ≡ k → MarkedNext W (enters_shared mk None) (calls_on W.program st k (At o ∷ vs))
     this_call dst m r direct args is p rp ty vs iv o io None ik = tt
     this_call dst m r direct args is p rp ty vs iv o io (Some k) ik =
         let u = ty o k io ik in
@@ -230,20 +235,20 @@ module _ (W : World) (checked : Checked W) where
         let all : AllDescribed mk.marks mk.top.era (this_qual W.sig (method_at W.program k) ∷ param_quals W k) (At o ∷ vs) = (subst (λ q. Describes mk.marks mk.top.era q (Some (At o))) (sym is_this) this, all_within mk.marks mk.top.era (param_quals W m.0) (param_quals W k) vs u.params (args_of (param_quals W m.0) args vs p iv)) in
         call_good dst m (Some r) direct args is k (At o ∷ vs) u.method u.result (subst (λ y. AllDescribed mk.marks mk.top.era y (At o ∷ vs)) (sym (given_this (method_at W.program k) u.instance)) all) (ltb st.limits.deepest (length st.waiting + 2)) (body_of (method_at W.program k)) refl
 
-    on_call : (dst : Option RegNo) (m : MethodNo) (r : Operand) (direct : Bool) (args : List Operand) → pt.kind ≡ Call dst m (Some r) direct args → ArgsPass good.top.env (param_quals W m.0) args → ReceiverPasses W good.top.env (method_at W.program m.0) (Some r) → ((o k : ℕ) → value_at st.top.regs r.reg.0 ≡ Some (At o) → selected W.program st.heap o m.0 direct ≡ Some k → Overrides W k m.0) → (vs : Option (List Value)) → gather st.top.regs args ≡ vs → (o : Option ℕ) → object_of (value_at st.top.regs r.reg.0) ≡ o → GoodNext W (calls W.program st m.0 (Some r) direct vs)
+    on_call : (dst : Option RegNo) (m : MethodNo) (r : Operand) (direct : Bool) (args : List Operand) → pt.kind ≡ Call dst m (Some r) direct args → ArgsPass good.top.env (param_quals W m.0) args → ReceiverPasses W good.top.env (method_at W.program m.0) (Some r) → ((o k : ℕ) → value_at st.top.regs r.reg.0 ≡ Some (At o) → selected W.program st.heap o m.0 direct ≡ Some k → Overrides W k m.0) → (vs : Option (List Value)) → gather st.top.regs args ≡ vs → (o : Option ℕ) → object_of (value_at st.top.regs r.reg.0) ≡ o → MarkedNext W (enters_shared mk None) (calls W.program st m.0 (Some r) direct vs)
     on_call dst m r direct args is p rp ty None iv o io = tt
-    on_call dst m r direct args is p rp ty (Some vs) iv o io = subst (λ x. GoodNext W (calls_this W.program st x m.0 direct vs)) (sym io) (by o io)
+    on_call dst m r direct args is p rp ty (Some vs) iv o io = subst (λ x. MarkedNext W (enters_shared mk None) (calls_this W.program st x m.0 direct vs)) (sym io) (by o io)
       where
-        by : (o : Option ℕ) → object_of (value_at st.top.regs r.reg.0) ≡ o → GoodNext W (calls_this W.program st o m.0 direct vs)
+        by : (o : Option ℕ) → object_of (value_at st.top.regs r.reg.0) ≡ o → MarkedNext W (enters_shared mk None) (calls_this W.program st o m.0 direct vs)
         by None io = tt
         by (Some o) io = this_call dst m r direct args is p rp ty vs iv o (object_is (value_at st.top.regs r.reg.0) o io) (selected W.program st.heap o m.0 direct) refl
 
-    pub call_kind : (dst : Option RegNo) (m : MethodNo) (r : Option Operand) (direct : Bool) (args : List Operand) → pt.kind ≡ Call dst m r direct args → PointOk W st.top.body st.top.at good.top.env (Call dst m r direct args) → Typed W st (Call dst m r direct args) → GoodNext W (calls W.program st m.0 r direct (gather st.top.regs args))
+    pub call_kind : (dst : Option RegNo) (m : MethodNo) (r : Option Operand) (direct : Bool) (args : List Operand) → pt.kind ≡ Call dst m r direct args → PointOk W st.top.body st.top.at good.top.env (Call dst m r direct args) → Typed W st (Call dst m r direct args) → MarkedNext W (enters_shared mk None) (calls W.program st m.0 r direct (gather st.top.regs args))
     call_kind dst m None direct args is ok ty = static_call dst m direct args is ok.rules.0 ok.rules.1 ok.names.0 (gather st.top.regs args) refl
     call_kind dst m (Some r) direct args is ok ty = on_call dst m r direct args is ok.rules.0 ok.rules.1 ty (gather st.top.regs args) refl (object_of (value_at st.top.regs r.reg.0)) refl
 
     -- this(..) and super(..)
-    ctor_entry : (m : MethodNo) (args : List Operand) (own : Bool) → pt.kind ≡ CtorCall m args own → Chains W.program st.top.body m.0 own → (o : ℕ) → mk.top.built ≡ Some o → Ctor W mk.marks st.heap st.top mk.top o → (vs : List Value) → AllDescribed mk.marks mk.top.era (param_quals W m.0) vs → (t : Bool) (x : Option ℕ) → body_of (method_at W.program m.0) ≡ x → GoodNext W (enter W.program t st st.heap x (At o ∷ vs))
+    ctor_entry : (m : MethodNo) (args : List Operand) (own : Bool) → pt.kind ≡ CtorCall m args own → Chains W.program st.top.body m.0 own → (o : ℕ) → mk.top.built ≡ Some o → Ctor W mk.marks st.heap st.top mk.top o → (vs : List Value) → AllDescribed mk.marks mk.top.era (param_quals W m.0) vs → (t : Bool) (x : Option ℕ) → body_of (method_at W.program m.0) ≡ x → MarkedNext W (enters_shared mk (Some o)) (enter W.program t st st.heap x (At o ∷ vs))
     ctor_entry m args own is ch o ob c vs d true x ib = tt
     ctor_entry m args own is ch o ob c vs d false None ib = tt
     ctor_entry m args own is ch o ob c vs d false (Some b) ib =
@@ -255,22 +260,21 @@ module _ (W : World) (checked : Checked W) where
         let all : AllDescribed mk.marks mk.top.era (this_qual W.sig (method_at W.program m.0) ∷ param_quals W m.0) (At o ∷ vs) = (subst (λ q. Describes mk.marks mk.top.era q (Some (At o))) (sym is_this) this, d) in
         let given : AllDescribed mk.marks mk.top.era (given_quals W.sig (method_at W.program m.0)) (At o ∷ vs) = subst (λ y. AllDescribed mk.marks mk.top.era y (At o ∷ vs)) (sym (given_this (method_at W.program m.0) (checked.ctor_this m.0 ch.ctor))) all in
         record {
-          mark = record { marks = mk.marks; top = g; waiting = mk.top ∷ mk.waiting; next = mk.next };
-          good = record {
-            heap = heap_frames W mk.marks (mk.top ∷ mk.waiting) (g ∷ mk.top ∷ mk.waiting) st.heap (λ o a h. inr h) good.heap;
-            top = enter_top mk.marks st.heap b (checked.there m.0 b ib).0 (checked.there m.0 b ib).1 (At o ∷ vs) g (subst (λ y. AllDescribed mk.marks mk.top.era (given_quals W.sig y) (At o ∷ vs)) (sym same) given)
-                (record { inside = inside; this = first_value b (At o) vs inside; ended = c.ended; free = c.free; supers = more_ended (class_of (method_in W.program b)) c.ended (entry_supers b inside); class = λ h. true_false false h refl });
-            waiting = waits_same b g (subst (λ y. Waits W b g mk.top good.top.env y) (sym is) (record { ctor = inside; class = ap (λ y. class_of y) same; built = sym ob; shared = refl })) (same_step g refl refl);
-            below = good.below;
-          };
+          heap = heap_frames W mk.marks (mk.top ∷ mk.waiting) (g ∷ mk.top ∷ mk.waiting) st.heap (λ o a h. inr h) good.heap;
+          top = enter_top mk.marks st.heap b (checked.there m.0 b ib).0 (checked.there m.0 b ib).1 (At o ∷ vs) g (subst (λ y. AllDescribed mk.marks mk.top.era (given_quals W.sig y) (At o ∷ vs)) (sym same) given)
+              (record { inside = inside; this = first_value b (At o) vs inside; ended = c.ended; free = c.free; supers = more_ended (class_of (method_in W.program b)) c.ended (entry_supers b inside); class = λ h. true_false false h refl });
+          waiting = waits_same b g (subst (λ y. Waits W b g mk.top good.top.env y) (sym is) (record { ctor = inside; class = ap (λ y. class_of y) same; made = refl; built = sym ob; shared = refl })) (same_step g refl refl);
+          below = good.below;
+          eras = λ o a l h. inr (good.eras o a l h);
         }
 
-    ctor_value : (m : MethodNo) (args : List Operand) (own : Bool) → pt.kind ≡ CtorCall m args own → Chains W.program st.top.body m.0 own → ArgsPass good.top.env (param_quals W m.0) args → (vs : Option (List Value)) → gather st.top.regs args ≡ vs → (x : Option ℕ) → mk.top.built ≡ x → CtorOk W mk.marks st.heap st.top mk.top x → GoodNext W (ctor_calls W.program st m.0 (value_at st.top.regs 0) vs)
+    ctor_value : (m : MethodNo) (args : List Operand) (own : Bool) → pt.kind ≡ CtorCall m args own → Chains W.program st.top.body m.0 own → ArgsPass good.top.env (param_quals W m.0) args → (vs : Option (List Value)) → gather st.top.regs args ≡ vs → (x : Option ℕ) → mk.top.built ≡ x → CtorOk W mk.marks st.heap st.top mk.top x → MarkedNext W (enters_shared mk mk.top.built) (ctor_calls W.program st m.0 (value_at st.top.regs 0) vs)
     ctor_value m args own is ch p None iv x ib c = tt
     ctor_value m args own is ch p (Some vs) iv None ib c = true_false (ctor_of (method_in W.program st.top.body)) ch.inside c
-    ctor_value m args own is ch p (Some vs) iv (Some o) ib c = subst (λ v. GoodNext W (ctor_calls W.program st m.0 v (Some vs))) (sym c.this) (ctor_entry m args own is ch o ib c vs (args_of (param_quals W m.0) args vs p iv) (ltb st.limits.deepest (length st.waiting + 2)) (body_of (method_at W.program m.0)) refl)
+    ctor_value m args own is ch p (Some vs) iv (Some o) ib c = subst (λ v. MarkedNext W (enters_shared mk mk.top.built) (ctor_calls W.program st m.0 v (Some vs))) (sym c.this)
+        (subst (λ z. MarkedNext W (enters_shared mk z) (ctor_calls W.program st m.0 (Some (At o)) (Some vs))) (sym ib) (ctor_entry m args own is ch o ib c vs (args_of (param_quals W m.0) args vs p iv) (ltb st.limits.deepest (length st.waiting + 2)) (body_of (method_at W.program m.0)) refl))
 
-    pub ctor_kind : (m : MethodNo) (args : List Operand) (own : Bool) → pt.kind ≡ CtorCall m args own → PointOk W st.top.body st.top.at good.top.env (CtorCall m args own) → GoodNext W (ctor_calls W.program st m.0 (value_at st.top.regs 0) (gather st.top.regs args))
+    pub ctor_kind : (m : MethodNo) (args : List Operand) (own : Bool) → pt.kind ≡ CtorCall m args own → PointOk W st.top.body st.top.at good.top.env (CtorCall m args own) → MarkedNext W (enters_shared mk mk.top.built) (ctor_calls W.program st m.0 (value_at st.top.regs 0) (gather st.top.regs args))
     ctor_kind m args own is ok = ctor_value m args own is ok.names ok.rules (gather st.top.regs args) refl mk.top.built refl good.top.stands.ctor
 
     -- new
@@ -323,6 +327,7 @@ module _ (W : World) (checked : Checked W) where
 
       module _ (a next : ℕ) (opened : Bool) (b : ℕ) (ib : body_of (method_at W.program m.0) ≡ Some b)
           (era_fits : ArgsFit (grown_marks W mk.marks (mk.top ∷ mk.waiting) st.heap good.heap made (Free a [])) a good.top.env st.top.regs args)
+          (q_opens : opened ≡ not (any_free (ref_quals good.top.env slots args)))
           (q_opened : opened ≡ true → (new_qual (ref_quals good.top.env slots args)).committed ≡ true)
           (q_shared : opened ≡ false → (new_qual (ref_quals good.top.env slots args)).free ≡ true)
           (era : EraStep (record { era = a; opened = opened; made = true; built = Some (length st.heap) }) mk.top) (below : a < next) where
@@ -337,7 +342,7 @@ module _ (W : World) (checked : Checked W) where
             let x = default_field W.program.fields f v (cond_is (has_field W.program (class_of (method_at W.program m.0)) f) (slice_get (defaults W.program.fields) f) v h) in
             subst (λ v. FreeField marks' a [] (owner W.program f) (ref_field W.program f) (field_qual W.program W.sig f) v) x.2 (default_ok x.0.base marks' a (owner W.program f) (ref_field W.program f) (field_qual W.program W.sig f) (λ z. checked.fields f x.0 x.1 z))
 
-        new_entry : GoodNext W (enter W.program false st heap' (Some b) (At (length st.heap) ∷ vs))
+        new_entry : MarkedNext W (record { marks = marks'; top = g'; waiting = mk.top ∷ mk.waiting; next = next }) (enter W.program false st heap' (Some b) (At (length st.heap) ∷ vs))
         new_entry =
             let gs = mk.top ∷ mk.waiting in
             let same : method_in W.program b ≡ method_at W.program m.0 = checked.bodies m.0 b ib in
@@ -348,40 +353,38 @@ module _ (W : World) (checked : Checked W) where
             let given : AllDescribed marks' a (given_quals W.sig (method_at W.program m.0)) (At (length st.heap) ∷ vs) = subst (λ y. AllDescribed marks' a y (At (length st.heap) ∷ vs)) (sym (given_this (method_at W.program m.0) (checked.ctor_this m.0 ctor))) all in
             let later : (c : ℕ) → Later W c mk.marks st.heap marks' heap' = grown_later W mk.marks gs st.heap good.heap made (Free a []) in
             record {
-              mark = record { marks = marks'; top = g'; waiting = gs; next = next };
-              good = record {
-                heap = grown_heap W mk.marks gs st.heap good.heap made (Free a []) (g' ∷ gs) (λ o c h. inr h) (record { fields = fields_ok; built = inr (inl (refl, refl, refl)) });
-                top = enter_top marks' heap' b (checked.there m.0 b ib).0 (checked.there m.0 b ib).1 (At (length st.heap) ∷ vs) g' (subst (λ y. AllDescribed marks' a (given_quals W.sig y) (At (length st.heap) ∷ vs)) (sym same) given)
-                    (record {
-                      inside = inside;
-                      this = first_value b (At (length st.heap)) vs inside;
-                      ended = [];
-                      free = mark_same mk.marks (length st.heap) (Free a []);
-                      supers = entry_supers b inside;
-                      class = λ h. ap class_in (append_last st.heap made) ∙ ap (λ y. Some (class_of y)) (sym same);
-                    });
-                waiting = (
-                  record {
-                    frame = record { env = good.top.env; reached = good.top.reached; stands = stands_later W mk.marks st.heap marks' heap' st.top mk.top good.top.env (later mk.top.era) good.top.stands };
-                    pt = pt;
-                    point = point;
-                    waits = subst (λ y. Waits W b g' mk.top good.top.env y) (sym is) (record { ctor = inside; opened = q_opened; shared = q_shared });
-                    era = era;
-                  },
-                  waiting_later W mk.marks st.heap marks' heap' st.top.body mk.top st.waiting mk.waiting (all_later W mk.marks st.heap marks' heap' later mk.waiting) good.waiting,
-                );
-                below = below;
-              };
+              heap = grown_heap W mk.marks gs st.heap good.heap made (Free a []) (g' ∷ gs) (λ o c h. inr h) (record { fields = fields_ok; built = inr (inl (refl, refl, refl)) });
+              top = enter_top marks' heap' b (checked.there m.0 b ib).0 (checked.there m.0 b ib).1 (At (length st.heap) ∷ vs) g' (subst (λ y. AllDescribed marks' a (given_quals W.sig y) (At (length st.heap) ∷ vs)) (sym same) given)
+                  (record {
+                    inside = inside;
+                    this = first_value b (At (length st.heap)) vs inside;
+                    ended = [];
+                    free = mark_same mk.marks (length st.heap) (Free a []);
+                    supers = entry_supers b inside;
+                    class = λ h. ap class_in (append_last st.heap made) ∙ ap (λ y. Some (class_of y)) (sym same);
+                  });
+              waiting = (
+                record {
+                  frame = record { env = good.top.env; reached = good.top.reached; stands = stands_later W mk.marks st.heap marks' heap' st.top mk.top good.top.env (later mk.top.era) good.top.stands };
+                  pt = pt;
+                  point = point;
+                  waits = subst (λ y. Waits W b g' mk.top good.top.env y) (sym is) (record { ctor = inside; made = refl; opens = q_opens; opened = q_opened; shared = q_shared });
+                  era = era;
+                },
+                waiting_later W mk.marks st.heap marks' heap' st.top.body mk.top st.waiting mk.waiting (all_later W mk.marks st.heap marks' heap' later mk.waiting) good.waiting,
+              );
+              below = below;
+              eras = grown_eras mk.marks (length st.heap) a [] gs (g' ∷ gs) (λ b x. inr x) (inl refl) good.eras;
             }
 
-      new_by : (t : Bool) → free_args ≡ t → (deep : Bool) (x : Option ℕ) → body_of (method_at W.program m.0) ≡ x → GoodNext W (enter W.program deep st heap' x (At (length st.heap) ∷ vs))
+      new_by : (t : Bool) → free_args ≡ t → (deep : Bool) (x : Option ℕ) → body_of (method_at W.program m.0) ≡ x → MarkedNext W (enters_new mk (length st.heap) t) (enter W.program deep st heap' x (At (length st.heap) ∷ vs))
       new_by t it true x ib = tt
       new_by t it false None ib = tt
       new_by true it false (Some b) ib =
           let a = mk.top.era in
           new_entry a mk.next false b ib
           (args_later W mk.marks st.heap (grown_marks W mk.marks (mk.top ∷ mk.waiting) st.heap good.heap made (Free a [])) heap' a (grown_later W mk.marks (mk.top ∷ mk.waiting) st.heap good.heap made (Free a []) a) good.top.env st.top.regs args fits)
-          (λ h. true_false false h refl) (λ h. new_free (ref_quals good.top.env slots args) not_empty it)
+          (sym (ap not it)) (λ h. true_false false h refl) (λ h. new_free (ref_quals good.top.env slots args) not_empty it)
           (record { opened = λ h. true_false false h refl; same = λ h. refl }) good.below
       new_by false it false (Some b) ib =
           let a = mk.next in
@@ -389,12 +392,14 @@ module _ (W : World) (checked : Checked W) where
           let n = grown_marks W mk.marks (mk.top ∷ mk.waiting) st.heap good.heap made (Free a []) in
           new_entry a (mk.next + 1) true b ib
           (args_era W n e a good.top.env st.top.regs slots args p it (args_later W mk.marks st.heap n heap' e (grown_later W mk.marks (mk.top ∷ mk.waiting) st.heap good.heap made (Free a []) e) good.top.env st.top.regs args fits))
-          (λ h. new_committed (ref_quals good.top.env slots args) not_empty it) (λ h. true_false true refl h)
+          (sym (ap not it)) (λ h. new_committed (ref_quals good.top.env slots args) not_empty it) (λ h. true_false true refl h)
           (record { opened = λ h. good.below; same = λ h. true_false true refl h }) (omega arith)
 
-    new_value : (dst : RegNo) (m : MethodNo) (args : List Operand) → pt.kind ≡ New dst m args → ctor_of (method_at W.program m.0) ≡ true → ArgsPass good.top.env (param_quals W m.0) args → (vs : Option (List Value)) → gather st.top.regs args ≡ vs → ArgsRef st.top.regs (slots_of (method_at W.program m.0)) args → GoodNext W (news W.program st m.0 vs)
+    new_value : (dst : RegNo) (m : MethodNo) (args : List Operand) → pt.kind ≡ New dst m args → ctor_of (method_at W.program m.0) ≡ true → ArgsPass good.top.env (param_quals W m.0) args → (vs : Option (List Value)) → gather st.top.regs args ≡ vs → ArgsRef st.top.regs (slots_of (method_at W.program m.0)) args → MarkedNext W (enters_new mk (length st.heap) (any_free (ref_quals good.top.env (slots_of (method_at W.program m.0)) args))) (news W.program st m.0 vs)
     new_value dst m args is c p None iv ty = tt
     new_value dst m args is c p (Some vs) iv ty = new_by dst m args is c p vs iv ty (any_free (ref_quals good.top.env (slots_of (method_at W.program m.0)) args)) refl (ltb st.limits.deepest (length st.waiting + 2)) (body_of (method_at W.program m.0)) refl
 
-    pub new_kind : (dst : RegNo) (m : MethodNo) (args : List Operand) → pt.kind ≡ New dst m args → PointOk W st.top.body st.top.at good.top.env (New dst m args) → Typed W st (New dst m args) → GoodNext W (news W.program st m.0 (gather st.top.regs args))
-    new_kind dst m args is ok ty = new_value dst m args is ok.names.0 ok.rules (gather st.top.regs args) refl ty
+    pub new_kind : (dst : RegNo) (m : MethodNo) (args : List Operand) → pt.kind ≡ New dst m args → PointOk W st.top.body st.top.at good.top.env (New dst m args) → Typed W st (New dst m args) → MarkedNext W (mark_by W st mk (New dst m args)) (news W.program st m.0 (gather st.top.regs args))
+    new_kind dst m args is ok ty =
+        subst (λ o. MarkedNext W (enters_new mk (length st.heap) (shares_era o (slots_of (method_at W.program m.0)) args)) (news W.program st m.0 (gather st.top.regs args))) (sym good.top.reached)
+        (new_value dst m args is ok.names.0 ok.rules (gather st.top.regs args) refl ty)

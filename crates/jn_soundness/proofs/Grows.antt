@@ -6,7 +6,6 @@ use Rattle.jn_points.specs.Shaped.{test_at}
 use Rattle.jn_quals.specs.Qualifier.{Qualifier}
 use Rattle.jn_points.specs.declared.point.BaseType.{BaseType}
 use Rattle.jn_heap.specs.Values.{At, Elems, NullRef, Object, Plain, Text, Thing, Value, same}
-use Rattle.jn_soundness.specs.Good.{Building, BuiltOk, Committed, Describes, FactOk, FieldOk, FrameMark, Free, GoodTop, HeapOk, MarkFits, Marks, ObjMark, Settled, ThingOk, Unborn, free_qual}
 use Rattle.jn_heap.specs.Machine.{Frame, class_at, class_in, field_at, field_in, value_at}
 use Rattle.jn_env.specs.Keys.{Key, fact_keys}
 use Rattle.jn_soundness.specs.World.{World}
@@ -18,6 +17,9 @@ use Rattle.jn_soundness.proofs.Basics.{described_at, on_map, eqb_cases}
 use Rattle.jn_soundness.proofs.Laters.{Later, stands_later}
 use Rattle.jn_soundness.proofs.Writes.{set_same, set_there, set_other}
 use Rattle.jn_soundness.proofs.Tops.{no_test}
+use Rattle.jn_soundness.specs.Heaps.{Building, BuiltOk, Describes, FieldOk, HeapOk, MarkFits, Settled, ThingOk, free_qual}
+use Rattle.jn_soundness.specs.Marks.{Committed, FrameMark, Free, Marks, ObjMark, Unborn, with_mark}
+use Rattle.jn_soundness.specs.Frames.{FactOk, GoodTop}
 
 -- things stay good under later marks
 
@@ -103,9 +105,6 @@ fits_born : (a : ℕ) (q : Qualifier) (t : ObjMark) → MarkFits a q t → t ≡
 fits_born a q t h e = subst (λ t. MarkFits a q t) e h
 
 -- one more thing
-abbrev pub with_mark : Marks → ℕ → ObjMark → Marks
-with_mark m i k = λ j. cond (eqb j i) k (m j)
-
 mark_by : (m : Marks) (i j : ℕ) (k : ObjMark) (t : Bool) → eqb j i ≡ t → (j ≡ i → ⊥) → cond t k (m j) ≡ m j
 mark_by m i j k true e n = absurd (n (eqb-true j i e))
 mark_by m i j k false e n = refl

@@ -1,7 +1,6 @@
 -- Frames stay good under a later heap and marking.
 use Rattle.std.proofs.Common.{◌≡◌, ℕ, Bool, ◌⊎◌, inl, inr, List, [], ◌∷◌, Option, Some, None}
 use Rattle.jn_quals.specs.Qualifier.{Qualifier}
-use Rattle.jn_soundness.specs.Good.{AssignedOk, CtorOk, Described, Describes, FieldSet, FrameMark, Free, IsMember, MarkFits, Marks, ObjMark, Stands, SupersEnded, Waiting}
 use Rattle.jn_heap.specs.Values.{At, NullRef, Plain, Text, Thing, Value}
 use Rattle.jn_env.specs.declared.env.Env.{Env}
 use Rattle.jn_heap.specs.Machine.{Frame, Regs, class_at}
@@ -9,6 +8,10 @@ use Rattle.jn_soundness.specs.World.{World}
 use Rattle.jn_points.specs.Lookup.{class_of, method_in}
 use Rattle.jn_env.specs.Keys.{own_keys}
 use Rattle.jn_soundness.proofs.Basics.{on_map}
+use Rattle.jn_soundness.specs.Frames.{AssignedOk, CtorOk, Described, FieldSet, Stands, SupersEnded}
+use Rattle.jn_soundness.specs.Heaps.{Describes, IsMember, MarkFits}
+use Rattle.jn_soundness.specs.Marks.{FrameMark, Free, Marks, ObjMark}
+use Rattle.jn_soundness.specs.Calls.{Waiting}
 
 pub record Freed (m : ℕ → ObjMark) (a o : ℕ) (ended : List ℕ) : Type 0 where
   pub now : List ℕ
@@ -70,7 +73,7 @@ module _ (W : World) (m : Marks) (heap : List Thing) (n : Marks) (heap' : List T
   all_later l (h ∷ hs) = (l h.era, all_later l hs)
 
   pub waiting_later : (b : ℕ) (g : FrameMark) (ws : List Frame) (hs : List FrameMark) → AllLater hs → Waiting W m heap b g ws hs → Waiting W n heap' b g ws hs
-  waiting_later b g [] [] l w = tt
+  waiting_later b g [] [] l w = w
   waiting_later b g [] (h ∷ hs) l w = absurd w
   waiting_later b g (f ∷ ws) [] l w = absurd w
   waiting_later b g (f ∷ ws) (h ∷ hs) l w =

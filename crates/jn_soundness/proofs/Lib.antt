@@ -5,6 +5,7 @@ pub mod Basics
 pub mod Tops
 pub mod Values
 pub mod Laters
+pub mod Eras
 pub mod Writes
 pub mod Grows
 pub mod Plains

@@ -26,11 +26,11 @@ use Rattle.jn_sigs.specs.Signature.{slot_quals, result_of, receiver_of}
 use Rattle.jn_env.specs.Order.{QualsWithin}
 use Rattle.jn_transfer.specs.Rules.{row_if, some_outside, override_rows, pair_rows, pairs_rows, bodies_rows, rows}
 use Rattle.jn_soundness.specs.World.{World}
-use Rattle.jn_soundness.specs.Good.{IsMember}
 use Rattle.jn_soundness.specs.Types.{Selects, ProgramTyped, MainsTyped, SlotsRef}
 use Rattle.jn_soundness.proofs.Basics.{eqb_cases, within_refl}
 use Rattle.jn_soundness.proofs.Fits.{or_right, or_left, both_true, fits_self}
 use Rattle.jn_soundness.proofs.Rows.{no_left, no_right, row_none, or_none, below_member, flat_none, quals_length}
+use Rattle.jn_soundness.specs.Heaps.{IsMember}
 
 -- searches
 

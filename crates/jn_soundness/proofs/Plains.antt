@@ -12,7 +12,6 @@ use Rattle.jn_points.specs.declared.point.PointKind.{PointKind}
 use Rattle.jn_points.specs.declared.point.PointKind.TheVariants.{Const, Move, Unary, Binary, Concat, SameRef, FieldRead, FieldWrite, StaticRead, StaticWrite, ElemRead, ElemWrite, ArrayLen, NewArray, ArrayOf, New, CtorCall, Call, StrOp, Print, Cast, TestInst, TestNull, Branch, Goto, Return}
 use Rattle.jn_soundness.specs.Checked.{AllWithin, NewArrayPasses, PointOk, WritePasses, ref_elems}
 use Rattle.jn_heap.specs.Values.{At, Elems, Fails, Gives, Got, Lacks, NullRef, Object, Plain, Prim, Text, Thing, Value, default_of, index}
-use Rattle.jn_soundness.specs.Good.{Committed, Describes, ElemsFit, Good, GoodNext, GoodTop, HoldsRef, MarkFits, Marked, Marking, Marks, Settled, TestOk, Typed, HoldsPlain, AllPlain, FieldOk}
 use Rattle.jn_env.specs.declared.env.Env.{Env}
 use Rattle.jn_transfer.specs.Transfer.{IsAmong, elem_qual, elem_read, learn, literal_qual, put, read_qual, refine, side, written}
 use Rattle.jn_heap.specs.Machine.{Regs, State, act, allocates, array_of, branch, count_of, field_at, gather, gather_more, goes_by, got_of, got_sets, holds_at, is_within, literal_value, may_hold, moves, moves_to, new_array, object_of, prim_of, print, put_thing, read_field, sets, step, store_in, stored, test_inst, test_null, value_at, value_of, write_elem, write_field, write_in, write_static, int_of, truth_of, text_in, got_plain, got_prim}
@@ -22,12 +21,18 @@ use Rattle.jn_points.specs.Members.{has_field}
 use Rattle.jn_quals.specs.Order.{committed_only, is_none, no_qual, null_part, settle, within, without_null}
 use Rattle.jn_points.specs.Lookup.{ctor_of, method_in, ref_field, reg_base, owner, elem_base}
 use Rattle.jn_sigs.specs.Signature.{field_qual}
-use Rattle.jn_soundness.proofs.Basics.{true_false, within_null, describes_within, described_at, described_set, settled_of, value_zero, value_same, value_other}
+use Rattle.jn_soundness.proofs.Basics.{true_false, within_null, describes_within, described_at, described_set, settled_of, value_zero, value_same, value_other, replicated}
 use Rattle.jn_soundness.proofs.Tops.{GotOk, object_is, alive, null_alive, without_null_describes, among_right, side_among, side_alone, Step, plain_step, arrives, ctor_moves, goes_top, facts_set, set_top, move_top, refine_top, learn_top, some_zero}
 use Rattle.jn_soundness.proofs.Values.{literal_fits, got_fits, plain_fits, unary_fits, binary_fits, concat_fits, same_fits, len_fits, str_fits, cast_fits, read_fits, elem_fits}
 use Rattle.jn_soundness.proofs.Laters.{Later, ctor_later, all_later, waiting_later}
 use Rattle.jn_soundness.proofs.Writes.{fits_field, later_after, heap_ok_after, facts_after, facts_same, assigned_after, assigned_kept, null_is_ref, plain_field}
 use Rattle.jn_soundness.proofs.Grows.{elems_later, elems_heap, elems_field, grown_marks, grown_later, grown_heap, field_grown, top_later, mark_same, committed_grown, settled_later}
+use Rattle.jn_soundness.specs.Marks.{Committed, Marking, Marks, births, mark_by}
+use Rattle.jn_soundness.specs.Heaps.{Describes, HoldsRef, MarkFits, Settled, FieldOk}
+use Rattle.jn_soundness.specs.Asked.{ElemsFit, Typed, HoldsPlain, AllPlain}
+use Rattle.jn_soundness.specs.Marked.{Marked, MarkedNext}
+use Rattle.jn_soundness.specs.Frames.{GoodTop, TestOk}
+use Rattle.jn_soundness.proofs.Eras.{committed_eras}
 
 elem_settled : (b : BaseType) → (elem_qual b).free ≡ false
 elem_settled (Array (RefElem c) nullable) = refl
@@ -39,20 +44,28 @@ plain_settled m q (Text t) h = absurd h
 plain_settled m q (Plain p) h = tt
 plain_settled m q (At o) h = absurd h
 
-module _ (W : World) (st : State) (mk : Marking) (good : Good W st mk) where
-  -- heap and marks are as they were
-  keep : (s : List Prim) (out : List ℕ) (to : ℕ) (regs : Regs) → GoodTop W mk.marks st.heap (record { body = st.top.body; at = to; regs = regs }) mk.top → Marked W (record { limits = st.limits; heap = st.heap; statics = s; out = out; top = record { body = st.top.body; at = to; regs = regs }; waiting = st.waiting })
-  keep s out to regs t = record { mark = mk; good = record { heap = good.heap; top = t; waiting = good.waiting; below = good.below } }
+-- a point that enters no frame and leaves none
+abbrev pub IsPlainKind : PointKind → Type 0
+IsPlainKind (New dst m args) = ⊥
+IsPlainKind (CtorCall m args own) = ⊥
+IsPlainKind (Call dst m r direct args) = ⊥
+IsPlainKind (Return v) = ⊥
+IsPlainKind k = Unit {0}
 
-  sets_good : (dst : ℕ) (q : Qualifier) (v : Value) → Step W st.top.body st.top.at (st.top.at + 1, put W.program st.top.body good.top.env dst q) → (ctor_of (method_in W.program st.top.body) ≡ true → Some dst ≡ Some 0 → ⊥) → Describes mk.marks mk.top.era q (Some v) → GoodNext W (sets st dst v)
+module _ (W : World) (st : State) (mk : Marking) (good : Marked W st mk) where
+  -- heap and marks are as they were
+  keep : (s : List Prim) (out : List ℕ) (to : ℕ) (regs : Regs) → GoodTop W mk.marks st.heap (record { body = st.top.body; at = to; regs = regs }) mk.top → Marked W (record { limits = st.limits; heap = st.heap; statics = s; out = out; top = record { body = st.top.body; at = to; regs = regs }; waiting = st.waiting }) mk
+  keep s out to regs t = record { heap = good.heap; top = t; waiting = good.waiting; below = good.below; eras = good.eras }
+
+  sets_good : (dst : ℕ) (q : Qualifier) (v : Value) → Step W st.top.body st.top.at (st.top.at + 1, put W.program st.top.body good.top.env dst q) → (ctor_of (method_in W.program st.top.body) ≡ true → Some dst ≡ Some 0 → ⊥) → Describes mk.marks mk.top.era q (Some v) → MarkedNext W mk (sets st dst v)
   sets_good dst q v s k d = keep st.statics st.out (st.top.at + 1) (slice_set st.top.regs dst (Some v)) (set_top W mk.marks st.heap st.top mk.top good.top dst q v s k d)
 
-  got_good : (dst : ℕ) (q : Qualifier) (x : Got Value) → Step W st.top.body st.top.at (st.top.at + 1, put W.program st.top.body good.top.env dst q) → (ctor_of (method_in W.program st.top.body) ≡ true → Some dst ≡ Some 0 → ⊥) → GotOk (λ v. Describes mk.marks mk.top.era q (Some v)) x → GoodNext W (got_sets st dst x)
+  got_good : (dst : ℕ) (q : Qualifier) (x : Got Value) → Step W st.top.body st.top.at (st.top.at + 1, put W.program st.top.body good.top.env dst q) → (ctor_of (method_in W.program st.top.body) ≡ true → Some dst ≡ Some 0 → ⊥) → GotOk (λ v. Describes mk.marks mk.top.era q (Some v)) x → MarkedNext W mk (got_sets st dst x)
   got_good dst q (Gives v) s k d = sets_good dst q v s k d
   got_good dst q (Fails e) s k d = tt
   got_good dst q Lacks s k d = tt
 
-  moves_good : (s : List Prim) (out : List ℕ) (to : ℕ) → Step W st.top.body st.top.at (to, good.top.env) → Marked W (record { limits = st.limits; heap = st.heap; statics = s; out = out; top = moves_to st.top to; waiting = st.waiting })
+  moves_good : (s : List Prim) (out : List ℕ) (to : ℕ) → Step W st.top.body st.top.at (to, good.top.env) → Marked W (record { limits = st.limits; heap = st.heap; statics = s; out = out; top = moves_to st.top to; waiting = st.waiting }) mk
   moves_good s out to h = keep s out to st.top.regs (move_top W mk.marks st.heap st.top mk.top good.top to h)
 
   described : (r : ℕ) → Describes mk.marks mk.top.era (qual_at good.top.env r) (value_at st.top.regs r)
@@ -66,7 +79,7 @@ module _ (W : World) (st : State) (mk : Marking) (good : Good W st mk) where
   abbrev Goes' : ℕ → Env → Type 0
   Goes' to e = Step W st.top.body st.top.at (to, e)
 
-  value_side : (og : Option Origin) (r to : ℕ) (v : Value) → value_at st.top.regs r ≡ Some v → HoldsRef v → Goes' to (learn W.program st.top.body og (refine good.top.env r (without_null (qual_at good.top.env r)))) → TestOk W st.heap st.top.regs (test_by og r) → GoodNext W (moves st to)
+  value_side : (og : Option Origin) (r to : ℕ) (v : Value) → value_at st.top.regs r ≡ Some v → HoldsRef v → Goes' to (learn W.program st.top.body og (refine good.top.env r (without_null (qual_at good.top.env r)))) → TestOk W st.heap st.top.regs (test_by og r) → MarkedNext W mk (moves st to)
   value_side og r to v is h s t =
       let q = qual_at good.top.env r in
       keep st.statics st.out to st.top.regs (learn_top W mk.marks st.heap st.top mk.top good.top og to r (without_null q) v s t is h
@@ -74,7 +87,7 @@ module _ (W : World) (st : State) (mk : Marking) (good : Good W st mk) where
 
   test_null_good : (of : Operand) (og : Option Origin) (a b : ℕ) (o : Option Value) → value_at st.top.regs of.reg.0 ≡ o → TestOk W st.heap st.top.regs (test_by og of.reg.0) →
       ((x : ℕ × Env) → IsAmong x (side (is_none (null_part (qual_at good.top.env of.reg.0))) a (refine good.top.env of.reg.0 (null_part (qual_at good.top.env of.reg.0))) ++ side (is_none (without_null (qual_at good.top.env of.reg.0))) b (learn W.program st.top.body og (refine good.top.env of.reg.0 (without_null (qual_at good.top.env of.reg.0))))) → Step W st.top.body st.top.at x) →
-      GoodNext W (test_null st a b o)
+      MarkedNext W mk (test_null st a b o)
   test_null_good of og a b None is t c = tt
   test_null_good of og a b (Some NullRef) is t c =
       let q = qual_at good.top.env of.reg.0 in
@@ -89,52 +102,52 @@ module _ (W : World) (st : State) (mk : Marking) (good : Good W st mk) where
       let q = qual_at good.top.env of.reg.0 in
       value_side og of.reg.0 b (At x) is tt (c _ (among_right _ (side (is_none (null_part q)) a (refine good.top.env of.reg.0 (null_part q))) _ (side_alone (is_none (without_null q)) b _ (alive mk.marks mk.top.era q (At x) (described_is of.reg.0 (Some (At x)) is) tt)))) t
 
-  goes_by_good : (t : Bool) (a b : ℕ) → GoodNext W (moves st a) → GoodNext W (moves st b) → GoodNext W (goes_by st t a b)
+  goes_by_good : (t : Bool) (a b : ℕ) → MarkedNext W mk (moves st a) → MarkedNext W mk (moves st b) → MarkedNext W mk (goes_by st t a b)
   goes_by_good true a b x y = x
   goes_by_good false a b x y = y
 
   module _ (of : Operand) (og : Option Origin) (k a b : ℕ) (t : TestOk W st.heap st.top.regs (test_by og of.reg.0)) (c : (x : ℕ × Env) → IsAmong x (side (is_none (without_null (qual_at good.top.env of.reg.0))) a (learn W.program st.top.body og (refine good.top.env of.reg.0 (without_null (qual_at good.top.env of.reg.0)))) ++ (b, good.top.env) ∷ []) → Step W st.top.body st.top.at x) where
-    inst_yes : (v : Value) → value_at st.top.regs of.reg.0 ≡ Some v → HoldsRef v → GoodNext W (moves st a)
+    inst_yes : (v : Value) → value_at st.top.regs of.reg.0 ≡ Some v → HoldsRef v → MarkedNext W mk (moves st a)
     inst_yes v is h =
         let q = qual_at good.top.env of.reg.0 in
         value_side og of.reg.0 a v is h (c _ (side_among (is_none (without_null q)) a (learn W.program st.top.body og (refine good.top.env of.reg.0 (without_null q))) _ (alive mk.marks mk.top.era q v (described_is of.reg.0 (Some v) is) h))) t
 
-    inst_no : GoodNext W (moves st b)
+    inst_no : MarkedNext W mk (moves st b)
     inst_no =
         let q = qual_at good.top.env of.reg.0 in
         moves_good st.statics st.out b (c (b, good.top.env) (among_right (b, good.top.env) (side (is_none (without_null q)) a (learn W.program st.top.body og (refine good.top.env of.reg.0 (without_null q)))) _ (inl refl)))
 
-    test_inst_good : (o : Option Value) → value_at st.top.regs of.reg.0 ≡ o → GoodNext W (test_inst W.program st k a b o)
+    test_inst_good : (o : Option Value) → value_at st.top.regs of.reg.0 ≡ o → MarkedNext W mk (test_inst W.program st k a b o)
     test_inst_good None is = tt
     test_inst_good (Some NullRef) is = inst_no
     test_inst_good (Some (Text x)) is = goes_by_good (is_within W.program st.heap (Text x) k) a b (inst_yes (Text x) is tt) inst_no
     test_inst_good (Some (Plain p)) is = tt
     test_inst_good (Some (At x)) is = goes_by_good (is_within W.program st.heap (At x) k) a b (inst_yes (At x) is tt) inst_no
 
-  branch_good : (a b : ℕ) (p : Option Bool) → GoodNext W (moves st a) → GoodNext W (moves st b) → GoodNext W (branch st a b p)
+  branch_good : (a b : ℕ) (p : Option Bool) → MarkedNext W mk (moves st a) → MarkedNext W mk (moves st b) → MarkedNext W mk (branch st a b p)
   branch_good a b None x y = tt
   branch_good a b (Some p) x y = goes_by_good p a b x y
 
-  print_good : (t : Option (List ℕ)) → Goes' (st.top.at + 1) good.top.env → GoodNext W (print st t)
+  print_good : (t : Option (List ℕ)) → Goes' (st.top.at + 1) good.top.env → MarkedNext W mk (print st t)
   print_good None s = tt
   print_good (Some t) s = moves_good st.statics (st.out ++ (t ++ 10 ∷ [])) (st.top.at + 1) s
 
-  static_good : (f : ℕ) (p : Option Prim) → Goes' (st.top.at + 1) good.top.env → GoodNext W (write_static st f p)
+  static_good : (f : ℕ) (p : Option Prim) → Goes' (st.top.at + 1) good.top.env → MarkedNext W mk (write_static st f p)
   static_good f None s = tt
   static_good f (Some p) s = moves_good (slice_set st.statics f p) st.out (st.top.at + 1) s
 
   -- a read of a field, behind which a test may stand
   read_test : (r f o dst : ℕ) (v : Value) (k : Option Test) → value_at st.top.regs r ≡ Some (At o) → field_at W.program st.heap o f ≡ Some v → (h : (t : Test) → k ≡ Some t → (dst ≡ t.tested) × (r ≡ t.reg) × (f ≡ t.field) × (t.reg ≡ t.tested → ⊥)) → TestOk W st.heap (slice_set st.top.regs dst (Some v)) k
   read_test r f o dst v None is at' h = tt
-  read_test r f o dst v (Some t) is at' h = λ p w u held read seen.
+  read_test r f o dst v (Some t) is at' h =
       let x = h t refl in
-      let same : value_at (slice_set st.top.regs dst (Some v)) t.reg ≡ value_at st.top.regs t.reg = value_other st.top.regs dst t.reg (Some v) (λ e. x.3 (e ∙ x.0)) in
-      let old : value_at st.top.regs r ≡ Some (At p) = subst (λ y. value_at st.top.regs y ≡ Some (At p)) (sym x.1) (sym same ∙ held) in
-      let place : o ≡ p = cc in
-      let here : field_at W.program st.heap o f ≡ Some w = subst (λ y. field_at W.program st.heap y f ≡ Some w) (sym place) (subst (λ y. field_at W.program st.heap p y ≡ Some w) (sym x.2) read) in
-      let value : w ≡ v = cc in
-      let now : v ≡ u = value_same st.top.regs dst v u (subst (λ y. value_at (slice_set st.top.regs dst (Some v)) y ≡ Some u) (sym x.0) seen) in
-      value ∙ now
+      record {
+        object = o;
+        there = value_other st.top.regs dst t.reg (Some v) (λ e. x.3 (e ∙ x.0)) ∙ subst (λ y. value_at st.top.regs y ≡ Some (At o)) x.1 is;
+        value = v;
+        read = subst (λ y. field_at W.program st.heap o y ≡ Some v) x.2 at';
+        same = λ u seen. value_same st.top.regs dst v u (subst (λ y. value_at (slice_set st.top.regs dst (Some v)) y ≡ Some u) (sym x.0) seen);
+      }
 
   module _ (dst : ℕ) (r f : ℕ) (e' : Env) (same : e' ≡ put W.program st.top.body good.top.env dst (read_qual W.program W.sig st.top.body good.top.env r f))
       (s : SlotWithin (Some e') (env_at W st.top.body (st.top.at + 1))) (early : Early W.program st.top.body st.top.at → Early W.program st.top.body (st.top.at + 1))
@@ -154,11 +167,11 @@ module _ (W : World) (st : State) (mk : Marking) (good : Good W st mk) where
         (facts_set W mk.marks st.heap st.top.body st.top.regs dst (Some v) e.facts good.top.facts)
         (read_test r f o dst v (test_at W.program st.top.body (st.top.at + 1)) is at' h)
 
-    read_value : (o : ℕ) (v : Option Value) → value_at st.top.regs r ≡ Some (At o) → field_at W.program st.heap o f ≡ v → GotOk (λ v. Describes mk.marks mk.top.era (read_qual W.program W.sig st.top.body good.top.env r f) (Some v)) (got_of v) → GoodNext W (got_sets st dst (got_of v))
+    read_value : (o : ℕ) (v : Option Value) → value_at st.top.regs r ≡ Some (At o) → field_at W.program st.heap o f ≡ v → GotOk (λ v. Describes mk.marks mk.top.era (read_qual W.program W.sig st.top.body good.top.env r f) (Some v)) (got_of v) → MarkedNext W mk (got_sets st dst (got_of v))
     read_value o None is at' d = tt
     read_value o (Some v) is at' d = keep st.statics st.out (st.top.at + 1) (slice_set st.top.regs dst (Some v)) (read_top o v is at' d)
 
-    read_good : (o : Option ℕ) → object_of (value_at st.top.regs r) ≡ o → GotOk (λ v. Describes mk.marks mk.top.era (read_qual W.program W.sig st.top.body good.top.env r f) (Some v)) (read_field W.program st.heap o f) → GoodNext W (got_sets st dst (read_field W.program st.heap o f))
+    read_good : (o : Option ℕ) → object_of (value_at st.top.regs r) ≡ o → GotOk (λ v. Describes mk.marks mk.top.era (read_qual W.program W.sig st.top.body good.top.env r f) (Some v)) (read_field W.program st.heap o f) → MarkedNext W mk (got_sets st dst (read_field W.program st.heap o f))
     read_good None is d = tt
     read_good (Some o) is d = read_value o (field_at W.program st.heap o f) (object_is (value_at st.top.regs r) o is) refl d
 
@@ -195,30 +208,28 @@ module _ (W : World) (st : State) (mk : Marking) (good : Good W st mk) where
       written_fits true ir = fits_field W mk.marks mk.top.era good.top.env r f s v (mk.marks o) ir u (described_is r (Some (At o)) at') (described_is s (Some v) is)
       written_fits false ir = plain_field W mk.marks mk.top.era (mk.marks o) (owner W.program f) (ref_field W.program f) (field_qual W.program W.sig f) v (subst HoldsPlain is (ty ir))
 
-      write_object : GoodNext W (put_thing st o (Gives (Object c (slice_set fs f v))))
+      write_object : MarkedNext W mk (put_thing st o (Gives (Object c (slice_set fs f v))))
       write_object = record {
-        mark = mk;
-        good = record {
-          heap = heap_ok_after W st.heap o c fs f v thing mk.marks (mk.top ∷ mk.waiting) good.heap
-              (written_fits (ref_field W.program f) refl);
-          top = write_top (ref_field W.program f) refl step;
-          waiting = waiting_later W mk.marks st.heap mk.marks (slice_set st.heap o (Object c (slice_set fs f v))) st.top.body mk.top st.waiting mk.waiting
-              (all_later W mk.marks st.heap mk.marks (slice_set st.heap o (Object c (slice_set fs f v))) (λ a. later_after W st.heap o c fs f v thing mk.marks a (null_slot v is)) mk.waiting)
-              good.waiting;
-          below = good.below;
-        };
+        heap = heap_ok_after W st.heap o c fs f v thing mk.marks (mk.top ∷ mk.waiting) good.heap
+            (written_fits (ref_field W.program f) refl);
+        top = write_top (ref_field W.program f) refl step;
+        waiting = waiting_later W mk.marks st.heap mk.marks (slice_set st.heap o (Object c (slice_set fs f v))) st.top.body mk.top st.waiting mk.waiting
+            (all_later W mk.marks st.heap mk.marks (slice_set st.heap o (Object c (slice_set fs f v))) (λ a. later_after W st.heap o c fs f v thing mk.marks a (null_slot v is)) mk.waiting)
+            good.waiting;
+        below = good.below;
+        eras = good.eras;
       }
 
-    write_bit : (o c : ℕ) (fs : List Value) (v : Value) → value_at st.top.regs r ≡ Some (At o) → value_at st.top.regs s ≡ Some v → slice_get st.heap o ≡ Some (Object c fs) → (t : Bool) → GoodNext W (put_thing st o (cond t (Gives (Object c (slice_set fs f v))) Lacks))
+    write_bit : (o c : ℕ) (fs : List Value) (v : Value) → value_at st.top.regs r ≡ Some (At o) → value_at st.top.regs s ≡ Some v → slice_get st.heap o ≡ Some (Object c fs) → (t : Bool) → MarkedNext W mk (put_thing st o (cond t (Gives (Object c (slice_set fs f v))) Lacks))
     write_bit o c fs v at' is thing true = write_object o c fs v at' is thing
     write_bit o c fs v at' is thing false = tt
 
-    write_thing : (o : ℕ) (v : Value) → value_at st.top.regs r ≡ Some (At o) → value_at st.top.regs s ≡ Some v → (x : Option Thing) → slice_get st.heap o ≡ x → GoodNext W (put_thing st o (write_in W.program x f v))
+    write_thing : (o : ℕ) (v : Value) → value_at st.top.regs r ≡ Some (At o) → value_at st.top.regs s ≡ Some v → (x : Option Thing) → slice_get st.heap o ≡ x → MarkedNext W mk (put_thing st o (write_in W.program x f v))
     write_thing o v at' is None thing = tt
     write_thing o v at' is (Some (Object c fs)) thing = write_bit o c fs v at' is thing (has_field W.program c f)
     write_thing o v at' is (Some (Elems b xs)) thing = tt
 
-    write_good : (o : Option ℕ) (v : Option Value) → object_of (value_at st.top.regs r) ≡ o → value_at st.top.regs s ≡ v → GoodNext W (write_field W.program st o f v)
+    write_good : (o : Option ℕ) (v : Option Value) → object_of (value_at st.top.regs r) ≡ o → value_at st.top.regs s ≡ v → MarkedNext W mk (write_field W.program st o f v)
     write_good None v at' is = tt
     write_good (Some o) None at' is = tt
     write_good (Some o) (Some v) at' is = write_thing o v (object_is (value_at st.top.regs r) o at') is (slice_get st.heap o) refl
@@ -229,35 +240,33 @@ module _ (W : World) (st : State) (mk : Marking) (good : Good W st mk) where
     elem_fits_in o b xs v at' is thing true ir = settled_of mk.marks mk.top.era (elem_qual b) v (elem_settled b) (describes_within mk.marks mk.top.era (qual_at good.top.env s) (elem_qual b) (Some v) (subst (λ q. IsTrue (within (qual_at good.top.env s) q)) (sym (ty.0 o b xs at' thing)) (w ir)) (described_is s (Some v) is))
     elem_fits_in o b xs v at' is thing false ir = plain_settled mk.marks (elem_qual b) v (subst HoldsPlain is (ty.1 ir))
 
-    store_elems : (o : ℕ) (b : BaseType) (xs : List Value) (i : ℕ) (v : Value) → value_at st.top.regs r ≡ Some (At o) → value_at st.top.regs s ≡ Some v → slice_get st.heap o ≡ Some (Elems b xs) → GoodNext W (put_thing st o (Gives (Elems b (slice_set xs i v))))
+    store_elems : (o : ℕ) (b : BaseType) (xs : List Value) (i : ℕ) (v : Value) → value_at st.top.regs r ≡ Some (At o) → value_at st.top.regs s ≡ Some v → slice_get st.heap o ≡ Some (Elems b xs) → MarkedNext W mk (put_thing st o (Gives (Elems b (slice_set xs i v))))
     store_elems o b xs i v at' is thing =
         let heap' = slice_set st.heap o (Elems b (slice_set xs i v)) in
         let l : Later W mk.top.era mk.marks st.heap mk.marks heap' = elems_later W st.heap o b xs i v thing mk.marks mk.top.era in
         let t : GoodTop W mk.marks heap' st.top mk.top = top_later W mk.marks st.heap mk.marks heap' st.top mk.top l (λ p g n. elems_field W st.heap o b xs i v thing p g) plain good.top in
         record {
-          mark = mk;
-          good = record {
-            heap = elems_heap W st.heap o b xs i v thing mk.marks (mk.top ∷ mk.waiting) good.heap
-                (elem_fits_in o b xs v at' is thing (ref_elems (reg_base W.program st.top.body r)) refl);
-            top = move_top W mk.marks heap' st.top mk.top t (st.top.at + 1) step;
-            waiting = waiting_later W mk.marks st.heap mk.marks heap' st.top.body mk.top st.waiting mk.waiting
-                (all_later W mk.marks st.heap mk.marks heap' (λ a. elems_later W st.heap o b xs i v thing mk.marks a) mk.waiting) good.waiting;
-            below = good.below;
-          };
+          heap = elems_heap W st.heap o b xs i v thing mk.marks (mk.top ∷ mk.waiting) good.heap
+              (elem_fits_in o b xs v at' is thing (ref_elems (reg_base W.program st.top.body r)) refl);
+          top = move_top W mk.marks heap' st.top mk.top t (st.top.at + 1) step;
+          waiting = waiting_later W mk.marks st.heap mk.marks heap' st.top.body mk.top st.waiting mk.waiting
+              (all_later W mk.marks st.heap mk.marks heap' (λ a. elems_later W st.heap o b xs i v thing mk.marks a) mk.waiting) good.waiting;
+          below = good.below;
+          eras = good.eras;
         }
 
-    stored_good : (o : ℕ) (b : BaseType) (xs : List Value) (i : ℕ) (v : Value) → value_at st.top.regs r ≡ Some (At o) → value_at st.top.regs s ≡ Some v → slice_get st.heap o ≡ Some (Elems b xs) → (x y : Bool) → GoodNext W (put_thing st o (stored b xs i v x y))
+    stored_good : (o : ℕ) (b : BaseType) (xs : List Value) (i : ℕ) (v : Value) → value_at st.top.regs r ≡ Some (At o) → value_at st.top.regs s ≡ Some v → slice_get st.heap o ≡ Some (Elems b xs) → (x y : Bool) → MarkedNext W mk (put_thing st o (stored b xs i v x y))
     stored_good o b xs i v at' is thing false y = tt
     stored_good o b xs i v at' is thing true false = tt
     stored_good o b xs i v at' is thing true true = store_elems o b xs i v at' is thing
 
-    store_good : (o : ℕ) (i : Option ℕ) (v : Value) → value_at st.top.regs r ≡ Some (At o) → value_at st.top.regs s ≡ Some v → (x : Option Thing) → slice_get st.heap o ≡ x → GoodNext W (put_thing st o (store_in W.program st.heap x i v))
+    store_good : (o : ℕ) (i : Option ℕ) (v : Value) → value_at st.top.regs r ≡ Some (At o) → value_at st.top.regs s ≡ Some v → (x : Option Thing) → slice_get st.heap o ≡ x → MarkedNext W mk (put_thing st o (store_in W.program st.heap x i v))
     store_good o i v at' is None thing = tt
     store_good o i v at' is (Some (Object c fs)) thing = tt
     store_good o None v at' is (Some (Elems b xs)) thing = tt
     store_good o (Some i) v at' is (Some (Elems b xs)) thing = stored_good o b xs i v at' is thing (ltb i (length xs)) (may_hold W.program st.heap (elem_base b) v)
 
-    elem_write_good : (o : Option ℕ) (i : Option ℤ) (v : Option Value) → object_of (value_at st.top.regs r) ≡ o → value_at st.top.regs s ≡ v → GoodNext W (write_elem W.program st o i v)
+    elem_write_good : (o : Option ℕ) (i : Option ℤ) (v : Option Value) → object_of (value_at st.top.regs r) ≡ o → value_at st.top.regs s ≡ v → MarkedNext W mk (write_elem W.program st o i v)
     elem_write_good None i v at' is = tt
     elem_write_good (Some o) None v at' is = tt
     elem_write_good (Some o) (Some i) None at' is = tt
@@ -265,36 +274,29 @@ module _ (W : World) (st : State) (mk : Marking) (good : Good W st mk) where
 
   -- a new array
   module _ (dst : ℕ) (plain : test_at W.program st.top.body st.top.at ≡ None) (step : Step W st.top.body st.top.at (st.top.at + 1, put W.program st.top.body good.top.env dst committed_only)) (kept : ctor_of (method_in W.program st.top.body) ≡ true → Some dst ≡ Some 0 → ⊥) where
-    array_good : (b : BaseType) (xs : List Value) → ((i : ℕ) (v : Value) → slice_get xs i ≡ Some v → Settled (grown_marks W mk.marks (mk.top ∷ mk.waiting) st.heap good.heap (Elems b xs) Committed) (elem_qual b) v) → GoodNext W (allocates st dst (Elems b xs))
+    array_good : (b : BaseType) (xs : List Value) → ((i : ℕ) (v : Value) → slice_get xs i ≡ Some v → Settled (grown_marks W mk.marks (mk.top ∷ mk.waiting) st.heap good.heap (Elems b xs) Committed) (elem_qual b) v) → MarkedNext W (births mk (length st.heap) Committed) (allocates st dst (Elems b xs))
     array_good b xs h =
         let gs = mk.top ∷ mk.waiting in
         let n = grown_marks W mk.marks gs st.heap good.heap (Elems b xs) Committed in
         let heap' = st.heap ++ Elems b xs ∷ [] in
         let t : GoodTop W n heap' st.top mk.top = top_later W mk.marks st.heap n heap' st.top mk.top (grown_later W mk.marks gs st.heap good.heap (Elems b xs) Committed mk.top.era) (field_grown W mk.marks gs st.heap good.heap (Elems b xs) Committed) plain good.top in
         record {
-          mark = record { marks = n; top = mk.top; waiting = mk.waiting; next = mk.next };
-          good = record {
-            heap = grown_heap W mk.marks gs st.heap good.heap (Elems b xs) Committed gs (λ o a x. x) (refl, h);
-            top = set_top W n heap' st.top mk.top t dst committed_only (At (length st.heap)) step kept (subst (λ k. MarkFits mk.top.era committed_only k) (sym (mark_same mk.marks (length st.heap) Committed)) refl);
-            waiting = waiting_later W mk.marks st.heap n heap' st.top.body mk.top st.waiting mk.waiting
-                (all_later W mk.marks st.heap n heap' (λ a. grown_later W mk.marks gs st.heap good.heap (Elems b xs) Committed a) mk.waiting) good.waiting;
-            below = good.below;
-          };
+          heap = grown_heap W mk.marks gs st.heap good.heap (Elems b xs) Committed gs (λ o a x. x) (refl, h);
+          top = set_top W n heap' st.top mk.top t dst committed_only (At (length st.heap)) step kept (subst (λ k. MarkFits mk.top.era committed_only k) (sym (mark_same mk.marks (length st.heap) Committed)) refl);
+          waiting = waiting_later W mk.marks st.heap n heap' st.top.body mk.top st.waiting mk.waiting
+              (all_later W mk.marks st.heap n heap' (λ a. grown_later W mk.marks gs st.heap good.heap (Elems b xs) Committed a) mk.waiting) good.waiting;
+          below = good.below;
+          eras = committed_eras mk.marks (length st.heap) gs good.eras;
         }
 
-    defaults_good : (b : BaseType) (n : ℕ) → NewArrayPasses b → GoodNext W (allocates st dst (Elems b (replicate n (default_of (elem_base b)))))
+    defaults_good : (b : BaseType) (n : ℕ) → NewArrayPasses b → MarkedNext W (births mk (length st.heap) Committed) (allocates st dst (Elems b (replicate n (default_of (elem_base b)))))
     defaults_good b n h = array_good b (replicate n (default_of (elem_base b))) (λ i v x. subst (λ v. Settled (grown_marks W mk.marks (mk.top ∷ mk.waiting) st.heap good.heap (Elems b (replicate n (default_of (elem_base b)))) Committed) (elem_qual b) v) (replicated n (default_of (elem_base b)) i v x) (default_settled (grown_marks W mk.marks (mk.top ∷ mk.waiting) st.heap good.heap (Elems b (replicate n (default_of (elem_base b)))) Committed) b h))
       where
-        replicated : (n : ℕ) (x : Value) (i : ℕ) (v : Value) → slice_get (replicate n x) i ≡ Some v → x ≡ v
-        replicated zero x i v h = cc
-        replicated (suc n) x zero v h = cc
-        replicated (suc n) x (suc i) v h = replicated n x i v h
-
         default_settled : (m : Marks) (b : BaseType) → NewArrayPasses b → Settled m (elem_qual b) (default_of (elem_base b))
         default_settled m (Array (RefElem c) nullable) h = h
         default_settled m b h = tt
 
-    new_array_good : (b : BaseType) (n : Got ℕ) → NewArrayPasses b → GoodNext W (new_array st dst b n)
+    new_array_good : (b : BaseType) (n : Got ℕ) → NewArrayPasses b → MarkedNext W (births mk (length st.heap) Committed) (new_array st dst b n)
     new_array_good b (Gives n) h = defaults_good b n h
     new_array_good b (Fails e) h = tt
     new_array_good b Lacks h = tt
@@ -332,20 +334,13 @@ module _ (W : World) (st : State) (mk : Marking) (good : Good W st mk) where
       item_settled vs is i v x true ir = settled_of mk.marks mk.top.era (elem_qual b) v (elem_settled b) (gathered_at (Describes mk.marks mk.top.era (elem_qual b)) args vs (all_described (elem_qual b) args (w ir)) is i v x)
       item_settled vs is i v x false ir = plain_settled mk.marks (elem_qual b) v (gathered_at HoldsPlain args vs (all_plain args (ty ir)) is i v x)
 
-      array_of_good : (vs : Option (List Value)) → gather st.top.regs args ≡ vs → GoodNext W (array_of st dst b vs)
+      array_of_good : (vs : Option (List Value)) → gather st.top.regs args ≡ vs → MarkedNext W (births mk (length st.heap) Committed) (array_of st dst b vs)
       array_of_good None is = tt
       array_of_good (Some vs) is = array_good b vs (λ i v x.
           settled_later W mk.marks (grown_marks W mk.marks (mk.top ∷ mk.waiting) st.heap good.heap (Elems b vs) Committed) (committed_grown W mk.marks (mk.top ∷ mk.waiting) st.heap good.heap (Elems b vs) Committed) (elem_qual b) v
           (item_settled vs is i v x (ref_elems b) refl))
 
-  abbrev pub IsPlainKind : PointKind → Type 0
-  IsPlainKind (New dst m args) = ⊥
-  IsPlainKind (CtorCall m args own) = ⊥
-  IsPlainKind (Call dst m r direct args) = ⊥
-  IsPlainKind (Return v) = ⊥
-  IsPlainKind k = Unit {0}
-
-  pub plain_good : (names : List (List ℕ)) (k : PointKind) → IsPlainKind k → PointOk W st.top.body st.top.at good.top.env k → test_at W.program st.top.body st.top.at ≡ test_of k → TestOk W st.heap st.top.regs (test_of k) → Typed W st k → GoodNext W (act W.program names st k)
+  pub plain_good : (names : List (List ℕ)) (k : PointKind) → IsPlainKind k → PointOk W st.top.body st.top.at good.top.env k → test_at W.program st.top.body st.top.at ≡ test_of k → TestOk W st.heap st.top.regs (test_of k) → Typed W st k → MarkedNext W (mark_by W st mk k) (act W.program names st k)
   plain_good names (Const dst value) x ok pl t ty = sets_good dst.0 (literal_qual value) (literal_value names value) (plain_step W _ _ _ _ tt tt (ok.edges _ (inl refl))) ok.this_kept (literal_fits W mk.marks mk.top.era names value)
   plain_good names (Move dst from bound) x ok pl t ty = got_good dst.0 (qual_at good.top.env from.reg.0) (got_of (value_at st.top.regs from.reg.0)) (plain_step W _ _ _ _ tt tt (ok.edges _ (inl refl))) ok.this_kept (got_fits W mk.marks mk.top.era _ _ (described from.reg.0))
   plain_good names (Unary dst neg of) x ok pl t ty = got_good dst.0 no_qual _ (plain_step W _ _ _ _ tt tt (ok.edges _ (inl refl))) ok.this_kept (unary_fits W mk.marks mk.top.era neg (prim_of (value_at st.top.regs of.reg.0)))

@@ -30,8 +30,8 @@ use Rattle.jn_transfer.specs.Transfer.{elem_qual}
 use Rattle.jn_transfer.specs.Rules.{row_if, lacks_null, lacks_init, pass_rows, arg_rows, return_rows, receiver_rows, elem_rows, elems_rows, new_array_rows, deref_rows, write_rows, kind_rows, rows_at, rows_from, is_unset, unset_at, unset_from, ctor_rows, body_rows, bodies_rows, pairs_rows, rows}
 use Rattle.jn_soundness.specs.World.{World, env_at, table_at, param_quals}
 use Rattle.jn_soundness.specs.Checked.{ArgsPass, AllWithin, NotNull, ref_elems, NewArrayPasses, ReceiverPasses, ResultPasses, AllAssigned, Unbroken}
-use Rattle.jn_soundness.specs.Good.{IsMember}
 use Rattle.jn_soundness.specs.Accepted.{FieldSettles}
+use Rattle.jn_soundness.specs.Heaps.{IsMember}
 
 pub no_left : {A : Type 0} (xs ys : List A) → xs ++ ys ≡ [] → xs ≡ []
 no_left [] ys h = refl

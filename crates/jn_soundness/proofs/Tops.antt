@@ -7,7 +7,6 @@ use Rattle.jn_quals.specs.Qualifier.{Qualifier}
 use Rattle.jn_points.specs.declared.point.Origin.{Origin}
 use Rattle.jn_points.specs.declared.point.PointKind.{PointKind}
 use Rattle.jn_points.specs.declared.point.PointKind.TheVariants.{FieldRead}
-use Rattle.jn_soundness.specs.Good.{AllOn, AssignedOk, Committed, CtorOk, Described, Describes, FactOk, FieldSet, FrameMark, Free, GoodTop, HoldsRef, MarkFits, Marks, ObjMark, Stands, TestOk, Unborn}
 use Rattle.jn_heap.specs.Values.{At, Fails, Gives, Got, Lacks, NullRef, Plain, Text, Thing, Value}
 use Rattle.jn_env.specs.Order.{BitsAbove, EnvWithin, SlotWithin}
 use Rattle.jn_soundness.specs.Checked.{Edge}
@@ -19,6 +18,9 @@ use Rattle.jn_soundness.specs.World.{World, env_at}
 use Rattle.jn_points.specs.Lookup.{ctor_of, method_in}
 use Rattle.jn_quals.specs.Order.{is_none, null_part, without_null}
 use Rattle.jn_soundness.proofs.Basics.{and_true, not_true, true_false, described_within, described_set, described_refined, on_above, on_mask, on_also, value_other, value_zero}
+use Rattle.jn_soundness.specs.Frames.{AllOn, AssignedOk, CtorOk, Described, FactOk, FieldSet, GoodTop, Stands, TestOk}
+use Rattle.jn_soundness.specs.Marks.{Committed, FrameMark, Free, Marks, ObjMark, Unborn}
+use Rattle.jn_soundness.specs.Heaps.{Describes, HoldsRef, MarkFits}
 
 -- the value of a result, where it has one
 abbrev pub GotOk : (Value → Type 0) → Got Value → Type 0
@@ -168,7 +170,11 @@ module _ (W : World) where
           let both = and_true (eqb k.reg og.reg.0) (eqb k.field og.field.0) e in
           let same_reg : k.reg ≡ og.reg.0 = eqb-true k.reg og.reg.0 both.0 in
           let same_field : k.field ≡ og.field.0 = eqb-true k.field og.field.0 both.1 in
-          let null : NullRef ≡ v = h o NullRef v (subst (λ x. value_at f.regs x ≡ Some (At o)) same_reg at') (subst (λ x. field_at W.program heap o x ≡ Some NullRef) same_field z) is in
+          let place : Some (At h.object) ≡ Some (At o) = sym h.there ∙ subst (λ x. value_at f.regs x ≡ Some (At o)) same_reg at' in
+          let object : h.object ≡ o = cc in
+          let held : Some h.value ≡ Some NullRef = sym h.read ∙ subst (λ x. field_at W.program heap x og.field.0 ≡ Some NullRef) (sym object) (subst (λ x. field_at W.program heap o x ≡ Some NullRef) same_field z) in
+          let value : h.value ≡ NullRef = cc in
+          let null : NullRef ≡ v = sym value ∙ h.same v is in
           subst (λ x. HoldsRef x) (sym null) n
 
       pub learn_top : (og : Option Origin) (to r : ℕ) (q : Qualifier) (v : Value) → Step f.body f.at (to, learn W.program f.body og (refine t.env r q)) → TestOk W heap f.regs (test_by og r) → value_at f.regs r ≡ Some v → HoldsRef v → Describes m g.era q (value_at f.regs r) → GoodTop W m heap (moves_to f to) g

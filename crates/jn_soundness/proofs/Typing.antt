@@ -21,18 +21,18 @@ use Rattle.jn_points.specs.declared.point.PointKind.{PointKind}
 use Rattle.jn_points.specs.declared.point.PointKind.TheVariants.{Const, Move, Unary, Binary, Concat, SameRef, FieldRead, FieldWrite, StaticRead, StaticWrite, ElemRead, ElemWrite, ArrayLen, NewArray, ArrayOf, New, CtorCall, Call, StrOp, Print, Cast, TestInst, TestNull, Branch, Goto, Return}
 use Rattle.jn_points.specs.declared.program.Field.{Field}
 use Rattle.jn_soundness.specs.Types.{GivesTo, HasType, HeapTyped, ProgramTyped, RegsTyped, ReturnFits, ReturnFitsAt, Selects, SlotsRef, StateTyped, ThingFits, ThingTyped, WaitTyped, base_of_thing}
-use Rattle.jn_soundness.specs.Good.{ArgsRef, Typed, HoldsPlain, AllPlain}
 use Rattle.jn_heap.specs.Values.{At, Elems, Fails, Gives, Got, Lacks, NullRef, Object, Plain, Prim, Text, Thing, Value, binary, default_of, defaults, index, same, unary, units, text_op}
 use Rattle.jn_heap.specs.Machine.{Ends, Frame, Goes, Next, Regs, State, Stuck, act, allocates, array_len, array_of, binary_of, branch, calls, calls_on, calls_this, cast_as, cast_of, class_in, concat_of, count_of, ctor_calls, dispatched, elem_in, enter, field_at, field_in, gather, gather_more, gives, gives_to, goes_by, got_of, got_plain, got_sets, holds_at, is_within, item_or_index, length_in, literal_value, may_hold, moves, new_array, news, object_of, pad, prim_of, print, put_thing, read_elem, read_field, resumes, returns, run, same_of, selected, sets, step_at, store_in, stored, str_op, takes, takes_at, test_inst, test_null, text_or_long, then_step, unary_of, value_at, value_of, write_elem, write_field, write_in, write_static, int_of, truth_of, text_in, got_prim, thing_within}
 use Rattle.jn_soundness.specs.World.{World}
-use Rattle.jn_points.specs.Lookup.{body_at, body_of, class_of, field_base, field_base_of, flat_of, is_flat, is_ref_base, method_at, method_in, params_of, point_at, reg_base, regs_of, result_base_of, slots_of, static_of, is_array, elem_base}
+use Rattle.jn_points.specs.Lookup.{body_at, body_of, class_of, field_base, field_base_of, flat_of, is_flat, is_ref_base, method_at, method_in, params_of, point_at, reg_base, regs_of, result_base_of, slots_of, is_array, elem_base}
 use Rattle.jn_points.specs.Members.{fits, has_field}
 use Rattle.jn_soundness.specs.Checked.{ref_elems}
 use Rattle.jn_soundness.proofs.Fits.{fits_self, fits_trans, valued_within, fits_refs, fits_flat, fits_elems, fits_items}
-use Rattle.jn_soundness.proofs.Basics.{true_false, eqb_cases, value_other, value_same}
+use Rattle.jn_soundness.proofs.Basics.{true_false, eqb_cases, value_other, value_same, replicated, given_static, given_this}
 use Rattle.jn_soundness.proofs.Tops.{GotOk, object_is}
 use Rattle.jn_soundness.proofs.Writes.{set_same, set_there, set_other, cond_is}
 use Rattle.jn_soundness.proofs.Grows.{append_other, append_last, past_end}
+use Rattle.jn_soundness.specs.Asked.{ArgsRef, Typed, HoldsPlain, AllPlain}
 
 module _ (W : World) (T : Ordered W.program) (P : ProgramTyped W) where
   fits_thing : (x : Option Thing) (t u : BaseType) → fits W.program t u ≡ true → ThingFits W x t → ThingFits W x u
@@ -77,7 +77,7 @@ module _ (W : World) (T : Ordered W.program) (P : ProgramTyped W) where
   default_has heap (Array e nullable) = refl
 
   -- a register whose type is no reference type holds an int or boolean
-  no_thing : (heap : List Thing) (t : BaseType) (x : Option Thing) → is_ref_base t ≡ false → ThingTyped W heap x → ThingFits W x t → ⊥
+  pub no_thing : (heap : List Thing) (t : BaseType) (x : Option Thing) → is_ref_base t ≡ false → ThingTyped W heap x → ThingFits W x t → ⊥
   no_thing heap t None n h f = f
   no_thing heap t (Some (Object c fs)) n h f = true_false (is_ref_base t) (sym (fits_refs W.program T (Ref (record { 0 = c })) t f)) n
   no_thing heap t (Some (Elems b xs)) n h f = true_false (is_ref_base t) (sym (fits_refs W.program T b t f) ∙ array_ref b h.0) n
@@ -478,11 +478,6 @@ module _ (W : World) (T : Ordered W.program) (P : ProgramTyped W) where
             subst (λ w. HasType W (st.heap ++ x ∷ []) (reg_base W.program st.top.body r) w) now (subst (λ z. ThingFits W z (reg_base W.program st.top.body r)) (sym (append_last st.heap x)) (subst (λ y. fits W.program (base_of_thing x) (reg_base W.program st.top.body y) ≡ true) (sym e) f))
         by r w is (inr n) = has_more st.heap (st.heap ++ x ∷ []) (push_more st.heap x) (reg_base W.program st.top.body r) w (ty.top r w (sym (value_other st.top.regs dst r (Some (At (length st.heap))) n) ∙ is))
 
-    replicated : (n : ℕ) (x : Value) (i : ℕ) (v : Value) → slice_get (replicate n x) i ≡ Some v → x ≡ v
-    replicated zero x i v h = cc
-    replicated (suc n) x zero v h = cc
-    replicated (suc n) x (suc i) v h = replicated n x i v h
-
     new_array_typed : (dst : ℕ) (c : BaseType) → is_array c ≡ true → fits W.program c (reg_base W.program st.top.body dst) ≡ true → (n : Got ℕ) → NextOk (new_array st dst c n)
     new_array_typed dst c a f (Gives n) = allocate_typed dst (Elems c (replicate n (default_of (elem_base c)))) f (a, λ i v x. subst (λ v. HasType W (st.heap ++ Elems c (replicate n (default_of (elem_base c))) ∷ []) (elem_base c) v) (replicated n (default_of (elem_base c)) i v x) (default_has (st.heap ++ Elems c (replicate n (default_of (elem_base c))) ∷ []) (elem_base c)))
     new_array_typed dst c a f (Fails e) = tt
@@ -511,12 +506,6 @@ module _ (W : World) (T : Ordered W.program) (P : ProgramTyped W) where
         let g : fits W.program (result_base_of (method_in W.program b)) (result_base_of (method_at W.program m)) ≡ true = subst (λ y. fits W.program (result_base_of y) (result_base_of (method_at W.program m)) ≡ true) (sym (P.bodies k b ib)) f in
         (valued_within W.program (result_base_of (method_in W.program b)) (result_base_of (method_at W.program m)) g r.0, fits_trans W.program T (result_base_of (method_in W.program b)) (result_base_of (method_at W.program m)) (reg_base W.program st.top.body dst.0) g r.1)
 
-    given_static : (k : ℕ) → static_of (method_at W.program k) ≡ true → given_bases W.program k ≡ params_of (method_at W.program k)
-    given_static k h = ap (λ b. cond b (params_of (method_at W.program k)) (Ref (record { 0 = class_of (method_at W.program k) }) ∷ params_of (method_at W.program k))) h
-
-    given_this : (k : ℕ) → static_of (method_at W.program k) ≡ false → given_bases W.program k ≡ Ref (record { 0 = class_of (method_at W.program k) }) ∷ params_of (method_at W.program k)
-    given_this k h = ap (λ b. cond b (params_of (method_at W.program k)) (Ref (record { 0 = class_of (method_at W.program k) }) ∷ params_of (method_at W.program k))) h
-
     same_more : HeapMore st.heap st.heap
     same_more o t h = h
 
@@ -528,7 +517,7 @@ module _ (W : World) (T : Ordered W.program) (P : ProgramTyped W) where
       static_typed_call : (dst : Option RegNo) (m : MethodNo) (direct : Bool) (args : List Operand) → pt.kind ≡ Call dst m None direct args → PointTyped W.program st.top.body (Call dst m None direct args) → (vs : Option (List Value)) → gather st.top.regs args ≡ vs → NextOk (calls W.program st m.0 None direct vs)
       static_typed_call dst m direct args e p None iv = tt
       static_typed_call dst m direct args e p (Some vs) iv =
-          enter_typed st.heap same_more ty.heap m.0 vs (subst (λ ts. AllHave st.heap ts vs) (sym (given_static m.0 (P.receivers st.top.body st.top.at pt dst m direct args is e))) (args_have (params_of (method_at W.program m.0)) args vs p.2 iv))
+          enter_typed st.heap same_more ty.heap m.0 vs (subst (λ ts. AllHave st.heap ts vs) (sym (given_static W.program m.0 (P.receivers st.top.body st.top.at pt dst m direct args is e))) (args_have (params_of (method_at W.program m.0)) args vs p.2 iv))
           (λ b ib. return_fits pt is (Call dst m None direct args) e b (own_result m.0 b dst ib p.1)) (ltb st.limits.deepest (length st.waiting + 2)) (body_of (method_at W.program m.0)) refl
 
       on_typed : (dst : Option RegNo) (m : MethodNo) (r : Operand) (direct : Bool) (args : List Operand) → pt.kind ≡ Call dst m (Some r) direct args → PointTyped W.program st.top.body (Call dst m (Some r) direct args) → (vs : List Value) → gather st.top.regs args ≡ Some vs → (o : ℕ) → value_at st.top.regs r.reg.0 ≡ Some (At o) → (k : Option ℕ) → selected W.program st.heap o m.0 direct ≡ k → NextOk (calls_on W.program st k (At o ∷ vs))
@@ -536,7 +525,7 @@ module _ (W : World) (T : Ordered W.program) (P : ProgramTyped W) where
       on_typed dst m r direct args e p vs iv o io (Some k) ik =
           let u = selects_on st ty pt dst m r direct args is e p o k io ik in
           let rest : AllHave st.heap (params_of (method_at W.program k)) vs = subst (λ ts. AllHave st.heap ts vs) (sym u.0.params) (args_have (params_of (method_at W.program m.0)) args vs p.2 iv) in
-          enter_typed st.heap same_more ty.heap k (At o ∷ vs) (subst (λ ts. AllHave st.heap ts (At o ∷ vs)) (sym (given_this k u.0.over.instance)) (u.1, rest))
+          enter_typed st.heap same_more ty.heap k (At o ∷ vs) (subst (λ ts. AllHave st.heap ts (At o ∷ vs)) (sym (given_this W.program k u.0.over.instance)) (u.1, rest))
           (λ b ib. return_fits pt is (Call dst m (Some r) direct args) e b (gives_by k m.0 b dst ib u.0.result p.1)) (ltb st.limits.deepest (length st.waiting + 2)) (body_of (method_at W.program k)) refl
 
       this_typed : (dst : Option RegNo) (m : MethodNo) (r : Operand) (direct : Bool) (args : List Operand) → pt.kind ≡ Call dst m (Some r) direct args → PointTyped W.program st.top.body (Call dst m (Some r) direct args) → (vs : Option (List Value)) → gather st.top.regs args ≡ vs → (o : Option ℕ) → object_of (value_at st.top.regs r.reg.0) ≡ o → NextOk (calls W.program st m.0 (Some r) direct vs)
@@ -562,7 +551,7 @@ module _ (W : World) (T : Ordered W.program) (P : ProgramTyped W) where
               stuck false = tt
           by (Some b) ib this =
               let s = P.ctor_reg m.0 b ib (P.ctors st.top.body st.top.at pt m args own is e) in
-              enter_typed st.heap same_more ty.heap m.0 (v ∷ vs) (subst (λ ts. AllHave st.heap ts (v ∷ vs)) (sym (given_this m.0 s.1)) (this, args_have (params_of (method_at W.program m.0)) args vs p.1 iv))
+              enter_typed st.heap same_more ty.heap m.0 (v ∷ vs) (subst (λ ts. AllHave st.heap ts (v ∷ vs)) (sym (given_this W.program m.0 s.1)) (this, args_have (params_of (method_at W.program m.0)) args vs p.1 iv))
               (λ b ib. return_fits pt is (CtorCall m args own) e b tt) (ltb st.limits.deepest (length st.waiting + 2)) (body_of (method_at W.program m.0)) refl
 
       field_default : (heap : List Thing) (fs : List Field) (f : ℕ) (v : Value) → slice_get (defaults fs) f ≡ Some v → HasType W heap (field_base_of (slice_get fs f)) v
@@ -591,7 +580,7 @@ module _ (W : World) (T : Ordered W.program) (P : ProgramTyped W) where
               let owner_t : BaseType = Ref (record { 0 = class_of (method_at W.program m.0) }) in
               let heap_ok : HeapTyped W heap' = push_heap st.heap made ty.heap ((P.news st.top.body st.top.at pt dst m args is e).1, λ f v x. field_default heap' W.program.fields f v (cond_is (has_field W.program (class_of (method_at W.program m.0)) f) (slice_get (defaults W.program.fields) f) v x)) in
               let this : HasType W heap' owner_t (At (length st.heap)) = subst (λ z. ThingFits W z owner_t) (sym (append_last st.heap made)) (fits_self W.program owner_t) in
-              enter_typed heap' more heap_ok m.0 (At (length st.heap) ∷ vs) (subst (λ ts. AllHave heap' ts (At (length st.heap) ∷ vs)) (sym (given_this m.0 s.1)) (this, all_more st.heap heap' more (params_of (method_at W.program m.0)) vs (args_have (params_of (method_at W.program m.0)) args vs p.1 iv)))
+              enter_typed heap' more heap_ok m.0 (At (length st.heap) ∷ vs) (subst (λ ts. AllHave heap' ts (At (length st.heap) ∷ vs)) (sym (given_this W.program m.0 s.1)) (this, all_more st.heap heap' more (params_of (method_at W.program m.0)) vs (args_have (params_of (method_at W.program m.0)) args vs p.1 iv)))
               (λ b' ib'. return_fits pt is (New dst m args) e b' (subst (λ t. fits W.program t (reg_base W.program st.top.body dst.0) ≡ true) (sym (P.ctor_reg m.0 b' ib' (P.news st.top.body st.top.at pt dst m args is e).0).0) p.0)) (ltb st.limits.deepest (length st.waiting + 2)) (body_of (method_at W.program m.0)) refl
 
     -- Return
@@ -659,7 +648,7 @@ module _ (W : World) (T : Ordered W.program) (P : ProgramTyped W) where
     kind_typed names pt is (Goto to) e p = move_typed st ty to.0
     kind_typed names pt is (Return v) e p = return_typed v p st.waiting ty.waiting
 
-    step_typed : (names : List (List ℕ)) (o : Option Point) → point_at W.program st.top.body st.top.at ≡ o → NextOk (step_at W.program names st o)
+    pub step_typed : (names : List (List ℕ)) (o : Option Point) → point_at W.program st.top.body st.top.at ≡ o → NextOk (step_at W.program names st o)
     step_typed names None is = tt
     step_typed names (Some pt) is = kind_typed names pt is pt.kind refl (P.points st.top.body st.top.at pt is)
 

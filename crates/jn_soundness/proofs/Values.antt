@@ -10,7 +10,6 @@ use Rattle.jn_points.specs.declared.point.BaseType.{BaseType}
 use Rattle.jn_points.specs.declared.point.Literal.{Literal}
 use Rattle.jn_points.specs.declared.point.Literal.TheVariants.{Int, Truth as TruthOf, Str, Null}
 use Rattle.jn_points.specs.declared.program.Field.{Field}
-use Rattle.jn_soundness.specs.Good.{AllOn, Committed, Described, Describes, FactOk, FieldOk, FrameMark, Free, FreeField, HeapOk, MarkFits, Marks, ObjMark, Settled, ThingOk, Unborn}
 use Rattle.jn_heap.specs.Values.{At, Elems, Fails, Gives, Got, Lacks, NullRef, Object, Plain, Prim, Text, Thing, Value, binary, index, unary, units, text_op}
 use Rattle.jn_env.specs.declared.env.Env.{Env}
 use Rattle.jn_heap.specs.Machine.{Regs, array_len, binary_of, cast_as, cast_of, class_at, class_in, concat_of, elem_in, field_at, field_in, got_of, got_plain, is_within, item_at, item_or_index, length_in, literal_value, object_of, read_elem, read_field, same_of, str_op, text_or_long, unary_of, value_at}
@@ -23,6 +22,9 @@ use Rattle.jn_points.specs.Lookup.{flat_field, owner, ref_field, ref_of, reg_bas
 use Rattle.jn_env.specs.Order.{qual_at}
 use Rattle.jn_soundness.proofs.Basics.{and_true, true_false, described_at, settled_describes, settled_within, on_is_on}
 use Rattle.jn_soundness.proofs.Tops.{GotOk, object_is, alive, without_null_describes}
+use Rattle.jn_soundness.specs.Frames.{AllOn, Described, FactOk}
+use Rattle.jn_soundness.specs.Marks.{Committed, FrameMark, Free, Marks, ObjMark, Unborn}
+use Rattle.jn_soundness.specs.Heaps.{Describes, FieldOk, FreeField, HeapOk, MarkFits, Settled, ThingOk}
 
 module _ (W : World) (m : Marks) (a : ℕ) where
   abbrev pub Fits : Qualifier → Value → Type 0

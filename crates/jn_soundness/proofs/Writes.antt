@@ -5,7 +5,6 @@ use Rattle.std.proofs.lemmas.Bool.{eqb-true, eq-eqb}
 use Rattle.jn_quals.specs.Qualifier.{Qualifier}
 use Rattle.jn_base.specs.declared.number.SlotNo.{SlotNo}
 use Rattle.jn_points.specs.declared.program.Field.{Field}
-use Rattle.jn_soundness.specs.Good.{AllOn, AssignedOk, Committed, CtorOk, Describes, FactOk, FieldOk, FieldSet, FrameMark, Free, HeapOk, HoldsRef, MarkFits, Marks, ObjMark, ObjectOk, ThingOk, Unborn, free_qual, HoldsPlain}
 use Rattle.jn_heap.specs.Values.{At, NullRef, Object, Plain, Text, Thing, Value, same}
 use Rattle.jn_env.specs.declared.env.Env.{Env}
 use Rattle.jn_heap.specs.Machine.{Frame, Regs, class_at, class_in, field_at, field_in, value_at}
@@ -20,6 +19,10 @@ use Rattle.jn_quals.specs.Order.{settle}
 use Rattle.jn_transfer.specs.Transfer.{write_assigned, write_facts}
 use Rattle.jn_soundness.proofs.Basics.{and_true, not_true, true_false, within_null, within_committed, settled_of, settled_within, on_mask, on_also, on_map, eqb_cases}
 use Rattle.jn_soundness.proofs.Laters.{Later}
+use Rattle.jn_soundness.specs.Frames.{AllOn, AssignedOk, CtorOk, FactOk, FieldSet}
+use Rattle.jn_soundness.specs.Marks.{Committed, FrameMark, Free, Marks, ObjMark, Unborn}
+use Rattle.jn_soundness.specs.Heaps.{Describes, FieldOk, HeapOk, HoldsRef, MarkFits, ObjectOk, ThingOk, free_qual}
+use Rattle.jn_soundness.specs.Asked.{HoldsPlain}
 
 pub set_same : {X : Type 0} → (xs : List X) (i : ℕ) (y w : X) → slice_get (slice_set xs i y) i ≡ Some w → y ≡ w
 set_same [] i y w h = cc

@@ -1,6 +1,11 @@
 pub mod World
 pub mod Checked
-pub mod Good
+pub mod Marks
+pub mod Heaps
+pub mod Frames
+pub mod Calls
+pub mod Marked
+pub mod Asked
 pub mod Types
 pub mod Accepted
 pub mod ExampleParts

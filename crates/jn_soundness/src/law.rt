@@ -1,27 +1,27 @@
 // Laws over the definitions.
-ghost use Rattle.std.specs.Prelude.{List};
+ghost use Rattle.std.specs.Prelude.{List, ℕ, ◌≡◌};
 ghost use Rattle.jn_points.specs.declared.program.Program.{Program as ProgramOf};
-ghost use Rattle.jn_heap.specs.Machine.{NeverNull, MainForm};
+ghost use Rattle.jn_heap.specs.Values.{Limits};
+ghost use Rattle.jn_heap.specs.Machine.{Goes, MainForm, NeverNull, NullFault, State, start_state, step};
 ghost use Rattle.jn_soundness.specs.Solved.{Solved};
 ghost use Rattle.jn_soundness.specs.World.{World};
-ghost use Rattle.jn_soundness.specs.Checked.{Checked};
-ghost use Rattle.jn_soundness.specs.Good.{MainsOk, RunsTyped};
+ghost use Rattle.jn_soundness.specs.Marks.{Marking, mark_after, start_marking};
+ghost use Rattle.jn_soundness.specs.Marked.{Marked};
+ghost use Rattle.jn_soundness.specs.Types.{StateTyped};
 ghost use Rattle.jn_points.specs.BaseTyping.{BaseTyped};
 ghost use Rattle.jn_soundness.specs.Accepted.{Accepted};
 ghost use Rattle.jn_soundness.specs.ChainExample.{chain_program, chain_world};
 
-/// Where tables respect all edges and no rule is broken, no run of a main dereferences null, if the
-/// registers of its points hold what soundness asks of base typing.
-pub fn checked_programs_never_fault()
-    ensures { (W : World) → Checked W → MainsOk W → RunsTyped W → NeverNull W.program }
-{}
-
-/// A regular program without a row of the rules, under tables that respect its edges, never
-/// dereferences null: where its runs hold what soundness asks of base typing, and so where it is
-/// base-typed.
-pub fn accepted_programs_never_fault()
-    ensures untyped { (W : World) → Accepted W → RunsTyped W → NeverNull W.program }
-    ensures typed { (W : World) → Accepted W → BaseTyped W.program → NeverNull W.program }
+/// In a regular, base-typed program whose signature is closed, whose tables respect the edges, and of which no rule has a
+/// row: the start of a main is as the start marking says, and its values are of their base types; a step that gives a
+/// state keeps both, with the marking that comes after it; and where a state is as some marking says, its point
+/// dereferences no null.
+pub fn steps_keep_marks()
+    ensures start { (W : World) → Solved W → (m b : ℕ) → MainForm W.program m b → (limits : Limits) (words : List (List ℕ)) → Marked W (start_state W.program limits b words) start_marking }
+    ensures start_types { (W : World) → Solved W → BaseTyped W.program → (m b : ℕ) → MainForm W.program m b → (limits : Limits) (words : List (List ℕ)) → StateTyped W (start_state W.program limits b words) }
+    ensures step { (W : World) → Solved W → BaseTyped W.program → (names : List (List ℕ)) (st next : State) (mk : Marking) → Marked W st mk → StateTyped W st → step W.program names st ≡ Goes next → Marked W next (mark_after W st mk) }
+    ensures step_types { (W : World) → Solved W → BaseTyped W.program → (names : List (List ℕ)) (st next : State) → StateTyped W st → step W.program names st ≡ Goes next → StateTyped W next }
+    ensures null { (W : World) → Solved W → (st : State) (mk : Marking) → Marked W st mk → NullFault W.program st → ⊥ }
 {}
 
 /// A regular, base-typed program never dereferences null where its signature is closed, its tables

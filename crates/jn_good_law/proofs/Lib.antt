@@ -1,0 +1,3 @@
+mod Straight
+mod Calling
+mod Kept
