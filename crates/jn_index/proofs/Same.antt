@@ -2,12 +2,13 @@
 use Rattle.std.proofs.Common.{◌≡◌, ◌<◌, ℕ, zero, suc, not, ◌||◌, List, ◌∷◌, ◌++◌, length, Option, Some, None, Bool, refl, sym, ap, ◌∙◌, subst, eqb}
 use Rattle.std.specs.Prelude.{flat_map, filter, slice_get}
 use Rattle.jn_base.specs.declared.number.ClassNo.{ClassNo}
+use Rattle.jn_points.specs.declared.program.Method.{Method}
 use Rattle.jn_points.specs.declared.program.Program.{Program}
 use Rattle.jn_points.specs.Lookup.{parent_of, supers_of, class_info}
 use Rattle.jn_points.specs.Members.{some_of, first_some, is_class, reaches, interfaces, walk_parent, walk_by}
 use Rattle.jn_index.specs.Numbers.{list_at, places_of}
 use Rattle.jn_index.specs.Along.{IsWalk}
-use Rattle.jn_index.specs.Index.{owners, field_owners, names, class_names, Lists, IsIndex}
+use Rattle.jn_index.specs.Index.{owners, field_owners, names, field_names, class_names, passes, Lists, IsIndex}
 
 each : {A : Type 0} (f g : ℕ → A) → ((c : ℕ) → f c ≡ g c) → ◌≡◌ {A = ClassNo → A} (λ s. f s.0) (λ s. g s.0)
 each f g h = λ i s. h s.0 i
@@ -47,7 +48,9 @@ module _ (P Q : Program) (classes : P.classes ≡ Q.classes) where
     same_index = record {
       own_is = λ d. is.own_is d ∙ ap (λ ms. places_of d 0 (owners ms)) methods;
       fields_are = λ d. is.fields_are d ∙ ap (λ fs. places_of d 0 (field_owners fs)) fields;
+      constructors_are = λ d. is.constructors_are d ∙ ap (λ ms. filter (λ k. passes (λ (m : Method). m.ctor) (slice_get ms k)) (list_at x.own d)) methods;
       named_is = λ n. is.named_is n ∙ ap (λ ms. places_of n 0 (names ms)) methods;
+      named_fields_are = λ n. is.named_fields_are n ∙ ap (λ fs. places_of n 0 (field_names fs)) fields;
       named_classes_are = λ n. is.named_classes_are n ∙ ap (λ cs. places_of n 0 (class_names cs)) classes;
       walks_are = λ c lt. subst (λ n. IsWalk Q n c (list_at x.walks c)) (ap length classes) (same_walk (length P.classes) c (list_at x.walks c) (is.walks_are c (inside c lt)));
       under_has = λ c d lt. is.under_has c d (inside c lt);

@@ -2,6 +2,7 @@
 ghost use Rattle.std.specs.Prelude.{◌≡◌, ◌<◌, ◌≤◌, length, MatchOption, None, Some};
 ghost use Rattle.jn_points.specs.Members as spec;
 ghost use Rattle.jn_points.specs.Lookup.{field_info};
+ghost use Rattle.jn_index.specs.Numbers.{first_in};
 ghost use Rattle.jn_index.specs.Index as index;
 ghost use Rattle.jn_index.specs.Index.{IsIndex};
 
@@ -31,9 +32,28 @@ fn declares_at(program: &Program, c: ClassNo, name: NameNo, d: u32, k: u32) -> b
     }
 }
 
+/// The first of some fields that class `d` declares for class `c`.
+fn first_declared(
+    program: &Program,
+    c: ClassNo,
+    name: NameNo,
+    d: u32,
+    numbers: &[u32],
+) -> Option<u32>
+    ensures { result ≡ first_in (index.declares_field_at program.now c.0 name.0 d) numbers.now }
+{
+    for number in numbers {
+        if declares_at(program, c, name, d, *number) {
+            return Some(*number);
+        }
+    }
+    None
+}
+
 /// The number of the field that class `d` declares for class `c`, where a private one counts at its
-/// own class alone (JLS 8, 8.2).
-#[tactic(auto, using(crate::proofs::Declared::own_field))]
+/// own class alone (JLS 8, 8.2). Looks at the fields of the class or at those of the name, whichever
+/// are fewer.
+#[tactic(auto, using(crate::proofs::Declared::own_field, crate::proofs::Declared::named_field))]
 pub fn declared_field(
     program: &Program,
     index: &Index,
@@ -45,12 +65,12 @@ pub fn declared_field(
     ensures { result ≡ spec.declared_field program.now c.0 name.0 d }
 {
     let own = index.own_fields(d);
-    for number in own {
-        if declares_at(program, c, name, d, *number) {
-            return Some(*number);
-        }
+    let named = index.named_fields(name.0);
+    if named.len() < own.len() {
+        first_declared(program, c, name, d, named)
+    } else {
+        first_declared(program, c, name, d, own)
     }
-    None
 }
 
 /// What a class that isn't there has: what it declares.

@@ -1,0 +1,7 @@
+use Rattle.std.proofs.Common.{◌≡◌, drop}
+use Rattle.jn_index.specs.Numbers.{first_in}
+use Rattle.jn_index.specs.Index as index
+use Rattle.jn_index.proofs.fields.first_declared.Given as goal
+
+abbrev pub invariant-loop-number : goal.invariant-loop-number
+invariant-loop-number l = first_in (index.declares_field_at l.program l.c.0 l.name.0 l.d) (drop l.number-index l.numbers) ≡ first_in (index.declares_field_at l.program l.c.0 l.name.0 l.d) l.numbers
