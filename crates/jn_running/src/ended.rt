@@ -5,7 +5,8 @@ ghost use Rattle.jn_running.specs.Ending.{ended_at};
 use jn_base::Span;
 use jn_machine::End;
 
-/// An exception of Java that ends a run. That of a null dereference isn't among them: no run of an accepted program has one.
+/// An exception of Java that ends a run. That of a null dereference isn't among them: no run of an accepted program
+/// has one.
 #[derive(Clone, Copy, Debug, PartialEq, Eq)]
 pub enum FaultKind {
     /// ArithmeticException: a division or a remainder by zero.
