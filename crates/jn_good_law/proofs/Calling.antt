@@ -14,7 +14,7 @@ use Rattle.jn_heap.specs.Values.{At, Object, Thing, Value, defaults}
 use Rattle.jn_heap.specs.Machine as spec
 use Rattle.jn_heap.specs.Machine.{Ends, Frame, Goes, Next, State, Stuck, act, calls_this, class_in, ctor_calls, enter, gather, gives, holds_at, news, object_of, pad, resumes, returns, selected, takes, takes_at, value_at, value_of, moves_to, entered, class_at, enters}
 use Rattle.jn_soundness.specs.World.{World}
-use Rattle.jn_points.specs.Lookup.{body_at, body_of, class_of, method_at, params_of, point_at, regs_of, static_of, ctor_of}
+use Rattle.jn_points.specs.Lookup.{body_at, body_of, class_of, method_at, params_of, point_at, regs_of, ctor_of, static_of}
 use Rattle.jn_soundness.proofs.Basics.{given_this, value_zero}
 use Rattle.jn_soundness.proofs.Tops.{object_is}
 use Rattle.jn_soundness.proofs.Grows.{append_last}
@@ -141,13 +141,13 @@ module _ (W : World) (T : Ordered W.program) (Y : ProgramTyped W) (R : Regular W
         by None at = tt
         by (Some q) at = takes_calls w ws q at c.1 this v q.kind refl
 
-    stays_calls : (x : Next) → StaysNext W.program st x → CallsNext x
-    stays_calls (Goes next) s = subst (λ ws. Calls W.program next.heap next.top ws) (sym s.waiting) (calls_on W.program st.heap next.heap st.top next.top s.on st.waiting calls)
-    stays_calls (Ends e end) s = tt
-    stays_calls Stuck s = tt
+    stays_calls : (k : PointKind) (x : Next) → StaysNext W.program st k x → CallsNext x
+    stays_calls k (Goes next) s = subst (λ ws. Calls W.program next.heap next.top ws) (sym s.waiting) (calls_on W.program st.heap next.heap st.top next.top s.on st.waiting calls)
+    stays_calls k (Ends e end) s = tt
+    stays_calls k Stuck s = tt
 
     plain_calls : (names : List (List ℕ)) (k : PointKind) → IsPlainKind k → RegularPoint W.program st.top.body st.top.at k → CallsNext (act W.program names st k)
-    plain_calls names k p g = stays_calls (act W.program names st k) (kind_stays W.program st names k p g.this_kept)
+    plain_calls names k p g = stays_calls k (act W.program names st k) (kind_stays W.program st names k p g.this_kept)
 
     pub kind_calls : (names : List (List ℕ)) (k : PointKind) → pt.kind ≡ k → RegularPoint W.program st.top.body st.top.at k → CallsNext (act W.program names st k)
     kind_calls names (New dst m args) e g = new_calls dst m args e g.methods.0 (gather st.top.regs args)

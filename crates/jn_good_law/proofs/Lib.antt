@@ -1,3 +1,6 @@
 mod Straight
 mod Calling
+mod Marks
+mod Chains
+mod Constructing
 mod Kept

@@ -11,7 +11,7 @@ module _ (m : Marks) (i : ℕ) (k : ObjMark) where
   by_mark false o a l h = inr h
 
   -- a free object is the one whose mark was set, or was free
-  marked_free : (o a : ℕ) (l : List ℕ) → with_mark m i k o ≡ Free a l → (k ≡ Free a l) ⊎ (m o ≡ Free a l)
+  pub marked_free : (o a : ℕ) (l : List ℕ) → with_mark m i k o ≡ Free a l → (k ≡ Free a l) ⊎ (m o ≡ Free a l)
   marked_free o a l h = by_mark (eqb o i) o a l h
 
 -- a committed thing is made
@@ -30,7 +30,7 @@ grown_eras m i b ended gs hs more now e o a l h = by (marked_free m i (Free b en
     by (inl x) = let same : b ≡ a = cc in subst (λ y. IsEra y hs) same now
     by (inr x) = more a (e o a l x)
 
-free_still : (e a : ℕ) (l : List ℕ) (k : ObjMark) → commit_mark e k ≡ Free a l → (k ≡ Free a l) × (a ≡ e → ⊥)
+pub free_still : (e a : ℕ) (l : List ℕ) (k : ObjMark) → commit_mark e k ≡ Free a l → (k ≡ Free a l) × (a ≡ e → ⊥)
 free_still e a l Unborn h = cc
 free_still e a l Committed h = cc
 free_still e a l (Free b ended) h = by (eqb b e) refl h

@@ -53,6 +53,7 @@ module _ (W : World) where
     pub supers : Early W.program f.body f.at ⊎ SupersEnded (class_of (method_in W.program f.body)) ended
     pub class : g.made ≡ true → class_at heap o ≡ Some (class_of (method_in W.program f.body))
 
+  -- exactly constructors build an object
   abbrev pub CtorOk : Marks → List Thing → Frame → FrameMark → Option ℕ → Type 0
   CtorOk m heap f g None = ctor_of (method_in W.program f.body) ≡ false
   CtorOk m heap f g (Some o) = Ctor m heap f g o
@@ -77,6 +78,7 @@ module _ (W : World) where
     pub read : field_at W.program heap object t.field ≡ Some value
     pub same : (u : Value) → value_at regs t.tested ≡ Some u → value ≡ u
 
+  -- at a test with an origin
   abbrev pub TestOk : List Thing → Regs → Option Test → Type 0
   TestOk heap regs None = Unit {0}
   TestOk heap regs (Some t) = Tested heap regs t

@@ -31,6 +31,7 @@ Settled m q (Text t) = q.committed ≡ true
 Settled m q (Plain p) = Unit {0}
 Settled m q (At o) = (m o ≡ Committed) × (q.committed ≡ true)
 
+-- c is in the list
 abbrev pub IsMember : ℕ → List ℕ → Type 0
 IsMember c [] = ⊥
 IsMember c (d ∷ ds) = (c ≡ d) ⊎ IsMember c ds
@@ -46,12 +47,14 @@ HoldsRef (At o) = Unit {0}
 abbrev pub free_qual : Bool → Qualifier
 free_qual b = record { null = b; committed = true; free = true }
 
--- a field of a free object of era a: null, or committed, or free in the same era; and null only where the slot has it, once its class has ended
+-- a field of a free object of era a: null, or committed, or free in the same era; and null only where the slot has it,
+-- once its class has ended
 pub record FreeField (m : ℕ → ObjMark) (a : ℕ) (ended : List ℕ) (own : ℕ) (is_ref : Bool) (q : Qualifier) (v : Value) : Type 0 where
   pub value : Describes m a (free_qual is_ref) (Some v)
   pub slot : HoldsRef v → q.committed ≡ true
   pub ends : IsMember own ended → v ≡ NullRef → q.null ≡ true
 
+-- a field of an object with that mark
 abbrev pub FieldOk : Marks → ObjMark → ℕ → Bool → Qualifier → Value → Type 0
 FieldOk m Unborn own is_ref q v = Unit {0}
 FieldOk m Committed own is_ref q v = Settled m q v
@@ -78,10 +81,12 @@ module _ (W : World) where
   BuiltOk gs o c Committed = Unit {0}
   BuiltOk gs o c (Free a ended) = AllEnded c ended ⊎ Building gs o a
 
+  -- an object of class c: its fields, and that it is built or being built
   pub record ObjectOk (m : ℕ → ObjMark) (gs : List FrameMark) (o : ℕ) (mark : ObjMark) (c : ℕ) (fs : List Value) : Type 0 where
     pub fields : (f : ℕ) (v : Value) → field_in W.program (Some (Object c fs)) f ≡ Some v → FieldOk m mark (owner W.program f) (ref_field W.program f) (field_qual W.program W.sig f) v
     pub built : BuiltOk gs o c mark
 
+  -- what stands at a place, with its mark; arrays are committed
   abbrev pub ThingOk : Marks → List FrameMark → ℕ → ObjMark → Option Thing → Type 0
   ThingOk m gs o mark None = mark ≡ Unborn
   ThingOk m gs o mark (Some (Object c fs)) = ObjectOk m gs o mark c fs

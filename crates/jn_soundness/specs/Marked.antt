@@ -17,6 +17,7 @@ module _ (W : World) where
     -- a free object's era is that of a frame
     pub eras : (o a : ℕ) (ended : List ℕ) → mk.marks o ≡ Free a ended → IsEra a (mk.top ∷ mk.waiting)
 
+  -- where a step gives a state
   abbrev pub MarkedNext : Marking → Next → Type 0
   MarkedNext mk (Goes st) = Marked st mk
   MarkedNext mk (Ends e st) = Unit {0}

@@ -1,4 +1,5 @@
--- A marking: an era for each frame, and for each object whether it is committed or free (Summers and Müller, Freedom Before Commitment). Proofs carry it beside a state; no program has it.
+-- A marking: an era for each frame, and for each object whether it is committed or free (Summers and Müller, Freedom
+-- Before Commitment). Proofs carry it beside a state; no program has it.
 use Rattle.std.specs.Prelude.{ℕ, true, false, [], Some, List, ◌∷◌, Option, None, Bool, eqb, ◌+◌, cond, length}
 use Rattle.jn_points.specs.declared.point.Point.{Point}
 use Rattle.jn_points.specs.declared.point.PointKind.{PointKind}
@@ -17,6 +18,7 @@ pub data ObjMark : Type 0 where
   Committed : ObjMark
   Free : (era : ℕ) (ended : List ℕ) → ObjMark
 
+-- what a frame was entered by
 pub record FrameMark : Type 0 where
   pub era : ℕ
   -- entered by a new without a free argument, which opened the era
@@ -30,6 +32,7 @@ pub record FrameMark : Type 0 where
 abbrev pub Marks : Type 0
 Marks = ℕ → ObjMark
 
+-- all marks of a state
 pub record Marking : Type 0 where
   pub marks : ℕ → ObjMark
   pub top : FrameMark
@@ -67,14 +70,22 @@ close_era m e false = m
 abbrev pub births : Marking → ℕ → ObjMark → Marking
 births mk o k = record { marks = with_mark mk.marks o k; top = mk.top; waiting = mk.waiting; next = mk.next }
 
+-- a frame is entered, over the running one
+abbrev pub enters_with : Marking → Marks → FrameMark → ℕ → Marking
+enters_with mk m g next = record { marks = m; top = g; waiting = mk.top ∷ mk.waiting; next = next }
+
 -- a frame is entered in the era of the one below, by no new
 abbrev pub enters_shared : Marking → Option ℕ → Marking
-enters_shared mk built = record { marks = mk.marks; top = record { era = mk.top.era; opened = false; made = false; built = built }; waiting = mk.top ∷ mk.waiting; next = mk.next }
+enters_shared mk built = enters_with mk mk.marks (record { era = mk.top.era; opened = false; made = false; built = built }) mk.next
+
+-- the frame of a new that makes object o
+abbrev pub new_frame : ℕ → Bool → ℕ → FrameMark
+new_frame era opened o = record { era = era; opened = opened; made = true; built = Some o }
 
 -- a new makes object o and enters its constructor: with a free argument in the era of the frame below, else in the next era
 abbrev pub enters_new : Marking → ℕ → Bool → Marking
-enters_new mk o true = record { marks = with_mark mk.marks o (Free mk.top.era []); top = record { era = mk.top.era; opened = false; made = true; built = Some o }; waiting = mk.top ∷ mk.waiting; next = mk.next }
-enters_new mk o false = record { marks = with_mark mk.marks o (Free mk.next []); top = record { era = mk.next; opened = true; made = true; built = Some o }; waiting = mk.top ∷ mk.waiting; next = mk.next + 1 }
+enters_new mk o true = enters_with mk (with_mark mk.marks o (Free mk.top.era [])) (new_frame mk.top.era false o) mk.next
+enters_new mk o false = enters_with mk (with_mark mk.marks o (Free mk.next [])) (new_frame mk.next true o) (mk.next + 1)
 
 -- the frame below goes on, where there is one
 abbrev pub resumes_with : Marking → Marks → List FrameMark → Marking
@@ -91,6 +102,7 @@ shares_era None slots args = false
 shares_era (Some e) slots args = any_free (ref_quals e slots args)
 
 module _ (W : World) where
+  -- the marking after a point of that kind
   abbrev pub mark_by : State → Marking → PointKind → Marking
   mark_by st mk (NewArray dst b n) = births mk (length st.heap) Committed
   mark_by st mk (ArrayOf dst b xs) = births mk (length st.heap) Committed
@@ -100,6 +112,7 @@ module _ (W : World) where
   mark_by st mk (Return v) = leaves mk (class_of (method_in W.program st.top.body))
   mark_by st mk k = mk
 
+  -- where no point stands, no step gives a state
   abbrev pub mark_at : State → Marking → Option Point → Marking
   mark_at st mk None = mk
   mark_at st mk (Some pt) = mark_by st mk pt.kind
@@ -110,4 +123,9 @@ module _ (W : World) where
 
 -- main's frame in era 0, which it didn't open, and the words' array committed
 abbrev pub start_marking : Marking
-start_marking = record { marks = with_mark (λ o. Unborn) 0 Committed; top = record { era = 0; opened = false; made = false; built = None }; waiting = []; next = 1 }
+start_marking = record {
+  marks = with_mark (λ o. Unborn) 0 Committed;
+  top = record { era = 0; opened = false; made = false; built = None };
+  waiting = [];
+  next = 1;
+}
