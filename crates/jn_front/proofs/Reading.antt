@@ -1,17 +1,19 @@
 -- Files that were read one after another.
-use Rattle.std.proofs.Common.{◌≡◌, ℕ, zero, suc, ◌+◌, ◌<◌, ◌≤◌, true, false, List, [], ◌∷◌, ◌++◌, length, map, take, get_or, Option, Some, None, Result, Ok, Err, inl, inr, refl, sym, ap, ◌∙◌, subst, arith}
+use Rattle.std.proofs.Common.{◌≡◌, ℕ, zero, suc, ◌+◌, ◌<◌, ◌≤◌, true, false, List, [], ◌∷◌, ◌++◌, length, map, take, get_or, Option, Some, None, Result, Ok, Err, inl, inr, refl, sym, ap, ◌∙◌, subst, arith, append-nil, append_assoc}
 use Rattle.std.specs.Result.{IsErrAnd}
 use Rattle.std.specs.Prelude.{IfOk, string_bytes}
 use Rattle.std.specs.declared.string.String.{String}
 use Rattle.std.specs.declared.alloc.Global.{Global}
-use Rattle.std.proofs.lemmas.List.{take_more}
-use Rattle.jn_outside.specs.Files.{Holding, Holds, Gives, HoldsMore, IsLonger}
+use Rattle.std.proofs.lemmas.List.{take_more, take_all, length-take}
+use Rattle.jn_outside.specs.declared.given.Given.{Given}
+use Rattle.jn_outside.specs.Files.{Holding, Holds, Gives}
+use Rattle.jn_outside.specs.Gave.{given, BeginsWith, Begins, GivesTooMany, GivesLittle}
 use Rattle.jn_base.specs.declared.refusal.Fail.{Fail}
 use Rattle.jn_base.specs.declared.refusal.Fail.TheVariants.{Refused, OutOfMemory}
 use Rattle.jn_outside.specs.declared.files.Failed.{Failed}
 use Rattle.jn_front.specs.declared.source.SourceFile.{SourceFile}
 use Rattle.jn_front.specs.declared.source.SourceRead.{SourceRead}
-use Rattle.jn_front.specs.Files.{ReadFrom, AreHeld, AllHeld, AreReads, CannotRead, read_as, names_of, file_limit}
+use Rattle.jn_front.specs.Files.{ReadFrom, AreHeld, AreGiven, given_of, StartsOnly, AllHeld, AreReads, CannotRead, read_as, names_of, file_limit}
 
 -- ---- one file
 
@@ -19,51 +21,52 @@ one_held : (held : Option Holding) (name bytes : List ℕ) → Gives held name b
 one_held None name bytes g = tt
 one_held (Some h) name bytes g = (g, tt)
 
-whole_from : (held : Option Holding) (name bytes : List ℕ) → Gives held name bytes → length bytes ≤ file_limit → ReadFrom held (name ∷ []) (read_as name bytes true ∷ [])
-whole_from held name bytes g le = record {
+-- no more than the limit was given
+one_given : (old new : List Given) (name bytes : List ℕ) → length bytes ≤ file_limit + 1 → new ≡ old ++ given name bytes ∷ [] → AreGiven old new (record { name = name; bytes = bytes } ∷ [])
+one_given old new name bytes le gave = gave ∙ ap (λ front. old ++ given name front ∷ []) (sym (take_all (file_limit + 1) bytes le))
+
+whole_from : (held : Option Holding) (old new : List Given) (name bytes : List ℕ) → Gives held name bytes → length bytes ≤ file_limit → new ≡ old ++ given name bytes ∷ [] → ReadFrom held (name ∷ []) old new (read_as name bytes true ∷ [])
+whole_from held old new name bytes g le gave = record {
   files = record { name = name; bytes = bytes } ∷ [];
   named = refl;
   told = one_held held name bytes g;
+  given = one_given old new name bytes (omega (arith, le)) gave;
   are = (inl (refl, refl, le), tt);
 }
 
-pub read_whole_from : {E : Type 0} (held : Option Holding) (name bytes : List ℕ) (r : Result SourceRead E) → IfOk r (λ read. read ≡ read_as name bytes true) → Gives held name bytes → length bytes ≤ file_limit → IfOk r (λ read. ReadFrom held (name ∷ []) (read ∷ []))
-read_whole_from held name bytes (Ok read) is g le = subst (λ read. ReadFrom held (name ∷ []) (read ∷ [])) (sym is) (whole_from held name bytes g le)
-read_whole_from held name bytes (Err e) is g le = tt
+pub read_whole_from : {E : Type 0} (held : Option Holding) (old new : List Given) (name bytes : List ℕ) (r : Result SourceRead E) → IfOk r (λ read. read ≡ read_as name bytes true) → Gives held name bytes → length bytes ≤ file_limit → new ≡ old ++ given name bytes ∷ [] → IfOk r (λ read. ReadFrom held (name ∷ []) old new (read ∷ []))
+read_whole_from held old new name bytes (Ok read) is g le gave = subst (λ read. ReadFrom held (name ∷ []) old new (read ∷ [])) (sym is) (whole_from held old new name bytes g le gave)
+read_whole_from held old new name bytes (Err e) is g le gave = tt
 
-zeros : ℕ → List ℕ
-zeros zero = []
-zeros (suc n) = 0 ∷ zeros n
-
-length-zeros : (n : ℕ) → length (zeros n) ≡ n
-unfolding zeros
-length-zeros zero = refl
-length-zeros (suc n) = ap suc (length-zeros n)
-
-longer_from : (held : Option Holding) (name bytes : List ℕ) → Gives held name bytes → file_limit < length bytes → ReadFrom held (name ∷ []) (read_as name [] false ∷ [])
-longer_from held name bytes g lt = record {
+-- of a file that is too large the first bytes were given
+longer_from : (held : Option Holding) (old new : List Given) (name bytes front : List ℕ) → Gives held name bytes → file_limit < length bytes → front ≡ take (file_limit + 1) bytes → new ≡ old ++ given name front ∷ [] → ReadFrom held (name ∷ []) old new (read_as name [] false ∷ [])
+longer_from held old new name bytes front g lt first gave = record {
   files = record { name = name; bytes = bytes } ∷ [];
   named = refl;
   told = one_held held name bytes g;
+  given = gave ∙ ap (λ bytes. old ++ given name bytes ∷ []) first;
   are = (inr (refl, refl, lt), tt);
 }
 
-longer_held : (h : Holding) (name : List ℕ) (o : Option (List ℕ)) → h name ≡ o → IsLonger o file_limit → ReadFrom (Some h) (name ∷ []) (read_as name [] false ∷ [])
-longer_held h name None e l = absurd l
-longer_held h name (Some bytes) e l = longer_from (Some h) name bytes e l
+longer_held : (h : Holding) (old new : List Given) (name front : List ℕ) (o : Option (List ℕ)) → h name ≡ o → length front ≡ file_limit + 1 → BeginsWith o front → new ≡ old ++ given name front ∷ [] → ReadFrom (Some h) (name ∷ []) old new (read_as name [] false ∷ [])
+longer_held h old new name front None e many first gave = absurd first
+longer_held h old new name front (Some bytes) e many first gave =
+    let same : front ≡ take (file_limit + 1) bytes = sym first ∙ ap (λ n. take n bytes) many in
+    let long : length front ≡ length (take (file_limit + 1) bytes) = ap length same in
+    longer_from (Some h) old new name bytes front e (omega (arith, long, many, length-take (file_limit + 1) bytes)) same gave
 
-large_from : (held : Option Holding) (name : List ℕ) → HoldsMore held name file_limit → ReadFrom held (name ∷ []) (read_as name [] false ∷ [])
-large_from None name m = let long = length-zeros (file_limit + 1) in longer_from None name (zeros (file_limit + 1)) tt (omega (arith, long))
-large_from (Some h) name m = longer_held h name (h name) refl m
+large_from : (held : Option Holding) (old new : List Given) (name front : List ℕ) → length front ≡ file_limit + 1 → Begins held name front → new ≡ old ++ given name front ∷ [] → ReadFrom held (name ∷ []) old new (read_as name [] false ∷ [])
+large_from None old new name front many first gave = longer_from None old new name front front tt (omega (arith, many)) (sym (take_all (file_limit + 1) front (omega (arith, many)))) gave
+large_from (Some h) old new name front many first gave = longer_held h old new name front (h name) refl many first gave
 
-pub read_large_from : {E : Type 0} (held : Option Holding) (name none : List ℕ) (r : Result SourceRead E) → none ≡ [] → IfOk r (λ read. read ≡ read_as name none false) → HoldsMore held name file_limit → IfOk r (λ read. ReadFrom held (name ∷ []) (read ∷ []))
-read_large_from held name none (Ok read) empty is m = subst (λ read. ReadFrom held (name ∷ []) (read ∷ [])) (sym (is ∙ ap (λ bytes. read_as name bytes false) empty)) (large_from held name m)
-read_large_from held name none (Err e) empty is m = tt
+pub read_large_from : {E : Type 0} (held : Option Holding) (old new : List Given) (name none : List ℕ) (r : Result SourceRead E) → none ≡ [] → IfOk r (λ read. read ≡ read_as name none false) → GivesTooMany held name file_limit old new → IfOk r (λ read. ReadFrom held (name ∷ []) old new (read ∷ []))
+read_large_from held old new name none (Ok read) empty is m = subst (λ read. ReadFrom held (name ∷ []) old new (read ∷ [])) (sym (is ∙ ap (λ bytes. read_as name bytes false) empty)) (large_from held old new name m.front m.many m.first m.gave)
+read_large_from held old new name none (Err e) empty is m = tt
 
 -- ---- one file more
 
-pub none_read : (held : Option Holding) (names : List (List ℕ)) (reads : List SourceRead) → names ≡ [] → reads ≡ [] → ReadFrom held names reads
-none_read held names reads no_names no_reads = subst (λ ns. ReadFrom held ns reads) (sym no_names) (subst (λ rs. ReadFrom held [] rs) (sym no_reads) (record { files = []; named = refl; told = all held; are = tt }))
+pub none_read : (held : Option Holding) (gave : List Given) (names : List (List ℕ)) (reads : List SourceRead) → names ≡ [] → reads ≡ [] → ReadFrom held names gave gave reads
+none_read held gave names reads no_names no_reads = subst (λ ns. ReadFrom held ns gave gave reads) (sym no_names) (subst (λ rs. ReadFrom held [] gave gave rs) (sym no_reads) (record { files = []; named = refl; told = all held; given = sym (append-nil gave); are = tt }))
   where
     all : (held : Option Holding) → AreHeld held []
     all None = tt
@@ -84,11 +87,16 @@ names_both : (fs gs : List SourceFile) → names_of (fs ++ gs) ≡ names_of fs +
 names_both [] gs = refl
 names_both (f ∷ fs) gs = ap (λ ns. f.name ∷ ns) (names_both fs gs)
 
-both : (held : Option Holding) (names more : List (List ℕ)) (xs ys : List SourceRead) → ReadFrom held names xs → ReadFrom held more ys → ReadFrom held (names ++ more) (xs ++ ys)
-both held names more xs ys a b = record {
+given_both : (fs gs : List SourceFile) → map given_of (fs ++ gs) ≡ map given_of fs ++ map given_of gs
+given_both [] gs = refl
+given_both (f ∷ fs) gs = ap (λ given. given_of f ∷ given) (given_both fs gs)
+
+both : (held : Option Holding) (old now new : List Given) (names more : List (List ℕ)) (xs ys : List SourceRead) → ReadFrom held names old now xs → ReadFrom held more now new ys → ReadFrom held (names ++ more) old new (xs ++ ys)
+both held old now new names more xs ys a b = record {
   files = a.files ++ b.files;
   named = names_both a.files b.files ∙ ap (λ ns. ns ++ names_of b.files) a.named ∙ ap (λ ns. names ++ ns) b.named;
   told = held_both held a.files b.files a.told b.told;
+  given = b.given ∙ ap (λ gs. gs ++ map given_of b.files) a.given ∙ append_assoc old (map given_of a.files) (map given_of b.files) ∙ ap (λ gs. old ++ gs) (sym (given_both a.files b.files));
   are = reads_both xs ys a.files b.files a.are b.are;
 }
 
@@ -96,12 +104,65 @@ map_both : (xs ys : List (String Global)) → map string_bytes (xs ++ ys) ≡ ma
 map_both [] ys = refl
 map_both (x ∷ xs) ys = ap (λ ns. string_bytes x ∷ ns) (map_both xs ys)
 
-pub one_more : (held now : Option Holding) (names : List (String Global)) (i : ℕ) (d : String Global) (text : List ℕ) (reads more : List SourceRead) (read : SourceRead) → now ≡ held → i < length names → text ≡ string_bytes (get_or names i d) → ReadFrom held (map string_bytes (take i names)) reads → ReadFrom now (text ∷ []) (read ∷ []) → more ≡ reads ++ read ∷ [] → ReadFrom held (map string_bytes (take (i + 1) names)) more
-one_more held now names i d text reads more read same lt is before next more_is =
-    let here : map string_bytes (take (i + 1) names) ≡ map string_bytes (take i names) ++ text ∷ [] =
-    ap (map string_bytes) (take_more names i d lt) ∙ map_both (take i names) (get_or names i d ∷ []) ∙ ap (λ t. map string_bytes (take i names) ++ t ∷ []) (sym is) in
-    subst (λ ns. ReadFrom held ns more) (sym here) (subst (λ rs. ReadFrom held (map string_bytes (take i names) ++ text ∷ []) rs) (sym more_is)
-    (both held (map string_bytes (take i names)) (text ∷ []) reads (read ∷ []) before (subst (λ h. ReadFrom h (text ∷ []) (read ∷ [])) same next)))
+names_more : (names : List (String Global)) (i : ℕ) (d : String Global) (text : List ℕ) → i < length names → text ≡ string_bytes (get_or names i d) → map string_bytes (take (i + 1) names) ≡ map string_bytes (take i names) ++ text ∷ []
+names_more names i d text lt is = ap (map string_bytes) (take_more names i d lt) ∙ map_both (take i names) (get_or names i d ∷ []) ∙ ap (λ t. map string_bytes (take i names) ++ t ∷ []) (sym is)
+
+pub one_more : (held now : Option Holding) (old gave new : List Given) (names : List (String Global)) (i : ℕ) (d : String Global) (text : List ℕ) (reads more : List SourceRead) (read : SourceRead) → now ≡ held → i < length names → text ≡ string_bytes (get_or names i d) → ReadFrom held (map string_bytes (take i names)) old gave reads → ReadFrom now (text ∷ []) gave new (read ∷ []) → more ≡ reads ++ read ∷ [] → ReadFrom held (map string_bytes (take (i + 1) names)) old new more
+one_more held now old gave new names i d text reads more read same lt is before next more_is =
+    subst (λ ns. ReadFrom held ns old new more) (sym (names_more names i d text lt is)) (subst (λ rs. ReadFrom held (map string_bytes (take i names) ++ text ∷ []) old new rs) (sym more_is)
+    (both held old gave new (map string_bytes (take i names)) (text ∷ []) reads (read ∷ []) before (subst (λ h. ReadFrom h (text ∷ []) gave new (read ∷ [])) same next)))
+
+-- ---- what was started
+
+-- a front is the front of its own length
+front_is : (k : ℕ) (names : List (List ℕ)) → take k names ≡ take (length (take k names)) names
+front_is zero names = refl
+front_is (suc k) [] = refl
+front_is (suc k) (name ∷ names) = ap (λ ns. name ∷ ns) (front_is k names)
+
+abbrev names_given : List Given → List (List ℕ)
+names_given gave = map (λ (g : Given). g.name) gave
+
+many_given : (gave : List Given) → length (names_given gave) ≡ length gave
+many_given [] = refl
+many_given (g ∷ gs) = ap suc (many_given gs)
+
+starts : (names : List (List ℕ)) (old new added : List Given) (k : ℕ) → new ≡ old ++ added → names_given added ≡ take k names → StartsOnly names old new
+starts names old new added k gave named = record {
+  added = added;
+  gave = gave;
+  named = named ∙ front_is k names ∙ ap (λ n. take n names) (ap length (sym named) ∙ many_given added);
+}
+
+files_given : (files : List SourceFile) → names_given (map given_of files) ≡ names_of files
+files_given [] = refl
+files_given (f ∷ fs) = ap (λ ns. f.name ∷ ns) (files_given fs)
+
+names_given_both : (fs gs : List Given) → names_given (fs ++ gs) ≡ names_given fs ++ names_given gs
+names_given_both [] gs = refl
+names_given_both (f ∷ fs) gs = ap (λ ns. f.name ∷ ns) (names_given_both fs gs)
+
+map_take : (k : ℕ) (names : List (String Global)) → map string_bytes (take k names) ≡ take k (map string_bytes names)
+map_take zero names = refl
+map_take (suc k) [] = refl
+map_take (suc k) (name ∷ names) = ap (λ ns. string_bytes name ∷ ns) (map_take k names)
+
+-- behind files that were read
+pub starts_so_far : (held : Option Holding) (old new : List Given) (names : List (String Global)) (i : ℕ) (reads : List SourceRead) → ReadFrom held (map string_bytes (take i names)) old new reads → StartsOnly (map string_bytes names) old new
+starts_so_far held old new names i reads from =
+    starts (map string_bytes names) old new (map given_of from.files) i from.given (files_given from.files ∙ from.named ∙ map_take i names)
+
+one_name : (text bytes : List ℕ) (ns : List (List ℕ)) → ns ++ names_given (given text bytes ∷ []) ≡ ns ++ text ∷ []
+one_name text bytes ns = refl
+
+-- behind files that were read, and one that wasn't
+pub starts_more : (held : Option Holding) (old gave new : List Given) (names : List (String Global)) (i most : ℕ) (d : String Global) (text : List ℕ) (reads : List SourceRead) → i < length names → text ≡ string_bytes (get_or names i d) → ReadFrom held (map string_bytes (take i names)) old gave reads → GivesLittle text most gave new → StartsOnly (map string_bytes names) old new
+starts_more held old gave new names i most d text reads lt is from (inl same) = starts_so_far held old new names i reads (subst (λ g. ReadFrom held (map string_bytes (take i names)) old g reads) (sym same) from)
+starts_more held old gave new names i most d text reads lt is from (inr one) =
+    let last : List Given = given text one.bytes ∷ [] in
+    starts (map string_bytes names) old new (map given_of from.files ++ last) (i + 1)
+    (one.gave ∙ ap (λ gs. gs ++ last) from.given ∙ append_assoc old (map given_of from.files) last)
+    (names_given_both (map given_of from.files) last ∙ ap (λ ns. ns ++ names_given last) (files_given from.files ∙ from.named) ∙ one_name text one.bytes (map string_bytes (take i names)) ∙ sym (names_more names i d text lt is) ∙ map_take (i + 1) names)
 
 pub held_at : (held : Option Holding) (names : List (String Global)) (i : ℕ) (d : String Global) → i < length names → AllHeld held (map string_bytes names) → Holds held (string_bytes (get_or names i d))
 held_at held [] i d lt all = absurd (omega (arith, lt))

@@ -1,9 +1,11 @@
 -- Source files, and what is read of them.
-use Rattle.std.specs.Prelude.{◌≡◌, ◌⊎◌, ℕ, ◌≤◌, ◌<◌, Bool, true, false, List, [], ◌∷◌, length, map, Option, Some, None, Result, Ok, Err}
+use Rattle.std.specs.Prelude.{◌≡◌, ◌⊎◌, ℕ, ◌+◌, ◌≤◌, ◌<◌, Bool, true, false, List, [], ◌∷◌, ◌++◌, length, map, take, Option, Some, None, Result, Ok, Err}
 use Rattle.jn_base.specs.declared.refusal.Fail.{Fail}
 use Rattle.jn_base.specs.declared.refusal.Fail.TheVariants.{Refused, OutOfMemory}
 use Rattle.jn_outside.specs.declared.files.Failed.{Failed}
 use Rattle.jn_outside.specs.Files.{Holding, Holds}
+use Rattle.jn_outside.specs.declared.given.Given.{Given}
+use Rattle.jn_outside.specs.Gave.{given}
 use Rattle.jn_front.specs.declared.source.SourceFile.{SourceFile}
 use Rattle.jn_front.specs.declared.source.SourceRead.{SourceRead}
 
@@ -24,6 +26,20 @@ AreHeld None files = Unit {0}
 AreHeld (Some held) [] = Unit {0}
 AreHeld (Some held) (file ∷ files) = (held file.name ≡ Some file.bytes) × AreHeld (Some held) files
 
+-- what the reads of a file gave: its bytes, of one that is too large one byte more than the limit
+abbrev pub given_of : SourceFile → Given
+given_of file = given file.name (take (file_limit + 1) file.bytes)
+
+-- what was given more is these files, one for one
+abbrev pub AreGiven : List Given → List Given → List SourceFile → Type 0
+AreGiven old new files = new ≡ old ++ map given_of files
+
+-- of these names only the first ones were started, in their order
+pub record StartsOnly (names : List (List ℕ)) (old new : List Given) : Type 0 where
+  pub added : List Given
+  pub gave : new ≡ old ++ added
+  pub named : map (λ (g : Given). g.name) added ≡ take (length added) names
+
 -- every file is held
 abbrev pub AllHeld : Option Holding → List (List ℕ) → Type 0
 AllHeld held [] = Unit {0}
@@ -42,11 +58,12 @@ AreReads [] (file ∷ files) = ⊥
 AreReads (read ∷ reads) [] = ⊥
 AreReads (read ∷ reads) (file ∷ files) = IsReadOf read file × AreReads reads files
 
--- what was read are files of these names, with the bytes that the source tells
-pub record ReadFrom (held : Option Holding) (names : List (List ℕ)) (reads : List SourceRead) : Type 0 where
+-- what was read are files of these names, with the bytes that the source tells, and that its reads gave
+pub record ReadFrom (held : Option Holding) (names : List (List ℕ)) (old new : List Given) (reads : List SourceRead) : Type 0 where
   pub files : List SourceFile
   pub named : names_of files ≡ names
   pub told : AreHeld held files
+  pub given : AreGiven old new files
   pub are : AreReads reads files
 
 abbrev pub files_of_reads : List SourceRead → List SourceFile

@@ -2,7 +2,8 @@
 ghost use Rattle.std.specs.Prelude.{◌≡◌, ◌≤◌, ◌<◌, ◌∷◌, [], ◌++◌, map, IfOk, OnOk, string_bytes};
 ghost use Rattle.jn_outside.specs.Causes.{Rose};
 ghost use Rattle.jn_outside.specs.Files.{Holds};
-ghost use Rattle.jn_front.specs.Files.{ReadFrom, AllHeld, CannotRead, read_as};
+ghost use Rattle.jn_outside.specs.Gave.{GivesLittle};
+ghost use Rattle.jn_front.specs.Files.{ReadFrom, StartsOnly, AllHeld, CannotRead, read_as};
 
 use crate::source::{SourceFile, SourceRead};
 use jn_base::{Fail, Seq, Text};
@@ -32,7 +33,8 @@ fn named(alloc: Global, name: &str, bytes: Vec<u8>, whole: bool) -> Result<Sourc
 /// The file of this name.
 fn read_one<F: Files>(alloc: Global, files: &mut F, name: &str) -> Result<SourceRead, Fail<Failed>>
     ensures held { F.held files.new ≡ F.held files.old }
-    ensures ok { IfOk result (λ read. ReadFrom (F.held files.old) (name.now ∷ []) (read ∷ [])) }
+    ensures ok { IfOk result (λ read. ReadFrom (F.held files.old) (name.now ∷ []) (F.gave files.old) (F.gave files.new) (read ∷ [])) }
+    ensures little { GivesLittle name.now 1048577 (F.gave files.old) (F.gave files.new) }
     ensures later { F.faults files.old ≤ F.faults files.new }
     ensures failed { CannotRead result → Rose (F.faults files.old) (F.faults files.new) }
     ensures always { F.faults files.old < F.faults files.new → CannotRead result }
@@ -67,7 +69,8 @@ pub fn read_all<F: Files>(
     names: &[String],
 ) -> Result<Vec<SourceRead>, Fail<Failed>>
     ensures held { F.held files.new ≡ F.held files.old }
-    ensures ok { IfOk result (λ reads. ReadFrom (F.held files.old) (map string_bytes names.now) reads.items) }
+    ensures ok { IfOk result (λ reads. ReadFrom (F.held files.old) (map string_bytes names.now) (F.gave files.old) (F.gave files.new) reads.items) }
+    ensures started { StartsOnly (map string_bytes names.now) (F.gave files.old) (F.gave files.new) }
     ensures failed { CannotRead result → Rose (F.faults files.old) (F.faults files.new) }
     ensures always { F.faults files.old < F.faults files.new → CannotRead result }
     ensures kept { (CannotRead result → ⊥) → F.faults files.new ≡ F.faults files.old }

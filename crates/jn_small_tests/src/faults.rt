@@ -1,8 +1,9 @@
 // Reads and writes over fakes that fail at each call in turn, and over the host.
 use jn_base::{Fail, OutOfMemory};
+use jn_outside::given::{with_read, with_start};
 use jn_outside::{
-    Failed, Files, HostFiles, HostSink, MemFile, MemFiles, MemSink, ReadFail, Sink, read_whole,
-    write_whole,
+    Failed, Files, Given, HostFiles, HostSink, MemFile, MemFiles, MemSink, ReadFail, Sink, Told,
+    read_whole, write_whole,
 };
 use std::alloc::{AllocError, Global};
 use std::process::Abort;
@@ -75,6 +76,7 @@ struct Watched {
     left: usize,
     given: usize,
     faults: u64,
+    gave: Told<Given>,
 }
 
 impl Files for Watched {
@@ -83,6 +85,8 @@ impl Files for Watched {
     ghost held = { λ s. None };
 
     ghost left = { λ s. None };
+
+    ghost gave = { λ s. s.gave.items };
 
     ghost steady = { λ s. ⊥ };
 
@@ -97,6 +101,7 @@ impl Files for Watched {
             self.faults = self.faults.saturating_add(1);
             return Err(Failed);
         }
+        self.gave = with_start(&self.gave, name);
         Ok(())
     }
 
@@ -105,6 +110,7 @@ impl Files for Watched {
         buf[..count].fill(b'x');
         self.left -= count;
         self.given = self.given.saturating_add(count);
+        self.gave = with_read(&self.gave, &buf[..count]);
         Ok(count)
     }
 }
@@ -116,6 +122,7 @@ fn expect_one_start(rt: &impl Abort, alloc: Global, left: usize, limit: u32, giv
         left,
         given: 0,
         faults: 0,
+        gave: Told::none(),
     };
     let is_whole = read_whole(alloc, &mut files, "A.java", limit.min(MOST)).is_ok();
     assert_eq!(rt; is_whole, left <= limit as usize);
