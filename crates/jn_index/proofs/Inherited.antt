@@ -128,6 +128,16 @@ module _ (P : Program) (m : ℕ) (over : Method) (there : method_at P m ≡ Some
         ∙ (first_some_append f (walk_parent P (walk_by P n) (parent_of (class_info P c))) (flat_map (λ (s : ClassNo). walk_by P n s.0) (interfaces P c))
         ∙ or_is (first_some f (walk_parent P (walk_by P n) (parent_of (class_info P c)))) (first_some f (flat_map (λ (s : ClassNo). walk_by P n s.0) (interfaces P c))) m from_parent))
 
+-- a class has what it declares itself
+pub own_first : (P : Program) (x : Lists) → IsIndex P x → (c name arity k : ℕ) → c < length P.classes → declared_method P c name arity c ≡ Some k → method_of P c name arity ≡ Some k
+own_first P x is c name arity k lt own =
+    let w = is.walks_are c lt in
+    let f = declared_method P c name arity in
+    let n = length P.classes in
+    w.first f n (omega arith)
+    ∙ (sym (w.first f (suc n) (omega arith))
+    ∙ or_is (f c) (first_some f (walk_parent P (walk_by P n) (parent_of (class_info P c)) ++ flat_map (λ (s : ClassNo). walk_by P n s.0) (interfaces P c))) k own)
+
 pub inherits_parent : (P : Program) (x : Lists) → IsIndex P x → (over : Method) (known : List (Option ℕ)) → AreKnown P over known → (c k : ℕ) → (info : Class) × (q : ClassNo) × (class_info P c ≡ Some info) × (info.parent ≡ Some q) × (get_or known q.0 None ≡ Some k) → (y : Method) × (method_at P k ≡ Some y) × (y.is_private ≡ false) → declared_method P c over.name.0 (length over.params) c ≡ None → method_of P c over.name.0 (length over.params) ≡ Some k
 inherits_parent P x is over known are c k parent shown none =
     let lt : c < length P.classes = get_below P.classes c parent.0 parent.2 in
