@@ -32,12 +32,14 @@ public final class AgainstJava {
       Arrays.asList("Nullable", "NonNull", "Initialized", "UnderInitialization", "UnknownInitialization");
 
   private static final Pattern PACKAGE = Pattern.compile("(?m)^\\s*package\\s+([\\w.]+)\\s*;");
-  private static final Pattern IMPORT = Pattern.compile("(?m)^\\s*import\\s+(org\\.checkerframework[\\w.]*)\\.(\\w+|\\*)\\s*;");
+  private static final Pattern IMPORT =
+      Pattern.compile("(?m)^\\s*import\\s+(org\\.checkerframework[\\w.]*)\\.(\\w+|\\*)\\s*;");
 
   /** A case's last line: its status, behind what was written of an unfinished line. */
   private static final Pattern STATUS = Pattern.compile("-- \\d+$");
 
-  private static final Pattern PUBLIC = Pattern.compile("\\bpublic\\s+(?:(?:final|abstract)\\s+)*(?:class|interface)\\s+(\\w+)");
+  private static final Pattern PUBLIC =
+      Pattern.compile("\\bpublic\\s+(?:(?:final|abstract)\\s+)*(?:class|interface)\\s+(\\w+)");
 
   /** A command line of a table, and the status that the checker answers. */
   private static final class Case {
@@ -116,7 +118,8 @@ public final class AgainstJava {
   }
 
   private boolean namesFilesOnly(Case one) {
-    return !one.words().isEmpty() && one.words().stream().allMatch(word -> Files.isRegularFile(data.resolve(word)));
+    List<String> words = one.words();
+    return !words.isEmpty() && words.stream().allMatch(word -> Files.isRegularFile(data.resolve(word)));
   }
 
   /** Makes the annotations in the package without a name, in those of the files, and in those that they import. */
@@ -180,7 +183,10 @@ public final class AgainstJava {
   }
 
   private static String shown(Diagnostic<? extends JavaFileObject> error) {
-    String place = error.getSource() == null ? "" : Paths.get(error.getSource().getName()).getFileName() + ":" + error.getLineNumber() + ": ";
+    String place = "";
+    if (error.getSource() != null) {
+      place = Paths.get(error.getSource().getName()).getFileName() + ":" + error.getLineNumber() + ": ";
+    }
     return place + error.getMessage(null).replaceAll("\\s+", " ");
   }
 
@@ -209,7 +215,8 @@ public final class AgainstJava {
     for (String word : one.words().stream().distinct().collect(Collectors.toList())) {
       byte[] bytes = Files.readAllBytes(data.resolve(word));
       Matcher named = PUBLIC.matcher(new String(bytes, StandardCharsets.UTF_8));
-      Path copy = folder.resolve("sources" + files.size()).resolve(named.find() ? named.group(1) + ".java" : word);
+      String name = named.find() ? named.group(1) + ".java" : word;
+      Path copy = folder.resolve("sources" + files.size()).resolve(name);
       Files.createDirectories(copy.getParent());
       Files.write(copy, bytes);
       files.add(copy.toFile());
@@ -235,8 +242,10 @@ public final class AgainstJava {
   }
 
   private static boolean isMain(Method method) {
-    return method.getName().equals("main") && Arrays.equals(method.getParameterTypes(), new Class<?>[] {String[].class})
-        && method.getReturnType() == void.class && Modifier.isPublic(method.getModifiers()) && Modifier.isStatic(method.getModifiers());
+    int modifiers = method.getModifiers();
+    return method.getName().equals("main") && Modifier.isPublic(modifiers) && Modifier.isStatic(modifiers)
+        && Arrays.equals(method.getParameterTypes(), new Class<?>[] {String[].class})
+        && method.getReturnType() == void.class;
   }
 
   /** Runs a main without words and with two, and counts the worse outcome. */
@@ -260,8 +269,9 @@ public final class AgainstJava {
   }
 
   private Outcome run(Path folder, String main, String... words) throws Exception {
-    List<String> command = new ArrayList<>(Arrays.asList(Paths.get(System.getProperty("java.home"), "bin", "java").toString(),
-        "-Xmx256m", "-XX:TieredStopAtLevel=1", "-cp", folder + File.pathSeparator + stubs, main));
+    String java = Paths.get(System.getProperty("java.home"), "bin", "java").toString();
+    List<String> command = new ArrayList<>(Arrays.asList(java, "-Xmx256m", "-XX:TieredStopAtLevel=1", "-cp",
+        folder + File.pathSeparator + stubs, main));
     command.addAll(Arrays.asList(words));
     File said = folder.resolve("said").toFile();
     Process process = new ProcessBuilder(command).redirectErrorStream(true).redirectOutput(said).start();
@@ -273,7 +283,8 @@ public final class AgainstJava {
       return Outcome.ENDED;
     }
     String text = new String(Files.readAllBytes(said.toPath()), StandardCharsets.UTF_8);
-    return text.contains("Exception in thread \"main\" java.lang.NullPointerException") ? Outcome.NULL_FAULT : Outcome.OTHER_FAULT;
+    boolean nullFault = text.contains("Exception in thread \"main\" java.lang.NullPointerException");
+    return nullFault ? Outcome.NULL_FAULT : Outcome.OTHER_FAULT;
   }
 
   private static String named(int status) {
@@ -287,9 +298,10 @@ public final class AgainstJava {
 
   private void report(int lines, int plain) {
     System.out.println(lines + " cases, of which " + plain + " name files alone");
-    System.out.printf("%-10s %6s %9s %6s %6s %12s %12s %8s%n", "answer", "cases", "compiled", "mains", "ended", "null faults", "other faults", "stopped");
-    counts.forEach((status, count) -> System.out.printf("%-10s %6d %9d %6d %6d %12d %12d %8d%n", named(status), count.cases,
-        count.compiled, count.mains, count.ended, count.nullFaults, count.otherFaults, count.stopped));
+    System.out.printf("%-10s %6s %9s %6s %6s %12s %12s %8s%n", "answer", "cases", "compiled", "mains", "ended",
+        "null faults", "other faults", "stopped");
+    counts.forEach((status, count) -> System.out.printf("%-10s %6d %9d %6d %6d %12d %12d %8d%n", named(status),
+        count.cases, count.compiled, count.mains, count.ended, count.nullFaults, count.otherFaults, count.stopped));
     System.out.println(differences.size() + " differences");
     differences.forEach(difference -> System.out.println("  " + difference));
   }

@@ -1,5 +1,6 @@
 #!/usr/bin/env bash
-# Times the whole check on generated programs, each at a size and at half of it, with javac beside it where it is on the PATH.
+# Times the whole check on generated programs, each at a size and at half of it, with javac beside it where it is on
+# the PATH.
 # Usage: bench/whole.sh PROGRAM [RUNS [SECONDS [DIVISOR]]]
 #        bench/whole.sh --files FOLDER
 #   PROGRAM  a built nullcheck: crates/nullcheck/out/nullcheck, as `rt ci` or bin/nullcheck leaves it; `none` times javac alone
@@ -7,8 +8,9 @@
 #   SECONDS  how long one run may take before it is stopped, which is shown as `over` (120)
 #   DIVISOR  divides all sizes, for a first try (1)
 #   --files  writes the programs into a folder, and times nothing
-# Prints for each program its size, and for both tools the seconds and the peak MiB at half and at whole size, and the ratio of the
-# times (2 is linear, 4 a square; of short runs it says nothing); then how nullcheck ended, with its last line. The shapes:
+# Prints for each program its size, and for both tools the seconds and the peak MiB at half and at whole size, and the
+# ratio of the times (2 is linear, 4 a square; of short runs it says nothing); then how nullcheck ended, with its last
+# line. The shapes:
 #   classes     N unrelated classes with seven methods each
 #   chain       N classes, each extending the one before
 #   methods     one class with N methods
@@ -20,7 +22,7 @@
 set -eu
 
 usage() {
-  sed -n '3,4p' "${BASH_SOURCE[0]}" | sed 's/^# //' >&2
+  sed -n '/^# Usage/,/--files FOLDER/s/^# //p' "${BASH_SOURCE[0]}" >&2
   exit 64
 }
 
@@ -38,8 +40,9 @@ members() {
   }'
 }
 
-# So many classes of seven methods in so many files of a folder; where they are linked, each but the first also calls the one before it,
-# which stands in another file where the class is the first of its file. A class has at most 13 positions with a qualifier, a linked one 15.
+# So many classes of seven methods in so many files of a folder; where they are linked, each but the first also calls
+# the one before it, which stands in another file where the class is the first of its file. A class has at most 13
+# positions with a qualifier, a linked one 15.
 write_classes() {
   local folder=$1 count=$2 files=$3 linked=$4
   local template
@@ -116,7 +119,8 @@ write_annotation() {
   echo '@java.lang.annotation.Target(java.lang.annotation.ElementType.TYPE_USE) @interface Nullable { }' >"$1/Nullable.java"
 }
 
-# Runs a command in a folder; sets `micros` to its best time (empty where it was stopped), `kib` to its peak, `code` and `said`.
+# Runs a command in a folder; sets `micros` to its best time (empty where it was stopped), `kib` to its peak, `code`
+# and `said`.
 measure() {
   local folder=$1
   shift
@@ -149,7 +153,8 @@ ratio() {
   if [ -z "$1" ] || [ -z "$2" ]; then echo -; else awk -v a="$1" -v b="$2" 'BEGIN { printf "%.1f", b / a }'; fi
 }
 
-# A line for one tool: shape, size, tool, then seconds and MiB at half and whole size, the ratio, and how the whole ended.
+# A line for one tool: shape, size, tool, then seconds and MiB at half and whole size, the ratio, and how the whole
+# ended.
 line() {
   printf '%-11s %7d  %-9s %8s %6s %8s %6s %6s  %s\n' "$@"
 }
@@ -171,7 +176,8 @@ compare() {
   measure "$scratch/program" "$@" "${large[@]}"
   ended="status $code"
   if [ "$tool" != javac ] || [ "$code" -ne 0 ]; then ended+=": $said"; fi
-  line "$shape" "$size" "$tool" "$(shown "$half")" $((half_kib / 1024)) "$(shown "$micros")" $((kib / 1024)) "$(ratio "$half" "$micros")" "$ended"
+  line "$shape" "$size" "$tool" "$(shown "$half")" $((half_kib / 1024)) "$(shown "$micros")" $((kib / 1024)) \
+    "$(ratio "$half" "$micros")" "$ended"
 }
 
 # Shapes and sizes: each within the limits of docs/LANGUAGE.md.
@@ -209,6 +215,8 @@ for entry in "${sizes[@]}"; do
   write_program "$shape" $((size / 2)) "$scratch/half"
   write_program "$shape" "$size" "$scratch/program"
   if [ "$program" != none ]; then compare "$shape" "$size" nullcheck "$program"; fi
-  if command -v javac >/dev/null; then compare "$shape" "$size" javac javac --release 8 -nowarn -Xlint:none -proc:none -d "$scratch/out"; fi
+  if command -v javac >/dev/null; then
+    compare "$shape" "$size" javac javac --release 8 -nowarn -Xlint:none -proc:none -d "$scratch/out"
+  fi
   rm -rf "$scratch/half" "$scratch/program" "$scratch/out"
 done

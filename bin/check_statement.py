@@ -1,10 +1,10 @@
 #!/usr/bin/env python3
 """Compares docs/STATEMENT.md with the definitions on which the clauses of the top call rest.
 
-Follows the imports of the contracts of crates/nullcheck_top/src/top.rt and src/law.rt through the specs/ folders of all
-crates, but for the standard library and the ported crates, which stand elsewhere. Types that the code declares
-(specs.declared) are counted apart: they are read where src/ declares them. Prints for each crate its files with their lines,
-and what the page names but isn't reached, or leaves out. Ends with 1 where there is such a difference.
+Follows the imports of the contracts of crates/nullcheck_top/src/top.rt and src/law.rt through the specs/ folders of
+all crates, but for the standard library and the ported crates, which stand elsewhere. Types that the code declares
+(specs.declared) are counted apart: they are read where src/ declares them. Prints for each crate its files with their
+lines, and what the page names but isn't reached, or leaves out. Ends with 1 where there is such a difference.
 """
 import re
 import sys
@@ -34,7 +34,8 @@ def closure():
     while left:
         for crate, path in IMPORT.findall(left.pop().read_text(encoding="utf-8")):
             if path.startswith("declared."):
-                types.add((crate, path.split(".")[1]))
+                if (CRATES / crate).is_dir():
+                    types.add((crate, path.split(".")[1]))
                 continue
             file = spec_of(crate, path)
             if file is not None and file not in files:
@@ -59,7 +60,8 @@ def main():
     reached, types = closure()
     for crate in sorted({file.parent.parent.name for file in reached}):
         files = sorted(file for file in reached if file.parent.parent.name == crate)
-        print(f"{crate}: {sum(map(lines_of, files))} = " + ", ".join(f"{file.stem} {lines_of(file)}" for file in files))
+        parts = ", ".join(f"{file.stem} {lines_of(file)}" for file in files)
+        print(f"{crate}: {sum(map(lines_of, files))} = {parts}")
     print(f"{len(reached)} files, {sum(map(lines_of, reached))} lines; {len(types)} files of src/ declare types that they use:")
     print("  " + ", ".join(f"{crate}/src/{module}.rt" for crate, module in sorted(types)))
     differences = 0
