@@ -2,9 +2,10 @@
 # Compares the stored answers of the Java cases (crates/nullcheck_cases) with a Java compiler and machine, where they
 # are on the PATH: each case that names files alone is compiled as Java 8, with the five annotations made as stubs,
 # and each main of an accepted or rejected case is run, without words and with two. It isn't part of the gate.
+# A file is compiled under the name of its public type, which needn't be its own.
 # Usage: bench/against-java.sh [SECONDS [PROGRAM]]
 #   SECONDS  how long one run may take before it is stopped (10)
-#   PROGRAM  a built nullcheck, which then answers for the files of examples/, so that these are compared in the same way
+#   PROGRAM  a built nullcheck, which then answers for the files of examples/, to compare these likewise
 # Prints for each answer how many cases there are, how many compiled, and how their mains ended; then what differs:
 # cases that are accepted or rejected and don't compile, and accepted ones whose main ended in a NullPointerException.
 # Ends with 1 where there is one of the latter, and with 0 where no Java is found. Refused files aren't of the subset,
