@@ -1,0 +1,76 @@
+#!/usr/bin/env python3
+"""Compares docs/STATEMENT.md with the definitions on which the clauses of the top call rest.
+
+Follows the imports of the contracts of crates/nullcheck_top/src/top.rt and src/law.rt through the specs/ folders of
+all crates, but for the standard library and the ported crates, which stand elsewhere. Types that the code declares
+(specs.declared) are counted apart: they are read where src/ declares them. Prints for each crate its files with their
+lines, and what the page names but isn't reached, or leaves out. Ends with 1 where there is such a difference.
+"""
+import re
+import sys
+from pathlib import Path
+
+ROOT = Path(__file__).resolve().parent.parent
+CRATES = ROOT / "crates"
+PAGE = ROOT / "docs" / "STATEMENT.md"
+STARTS = [CRATES / "nullcheck_top/src/top.rt", CRATES / "nullcheck_top/src/law.rt"]
+IMPORT = re.compile(r"^\s*(?:pub )?(?:ghost )?use Rattle\.(\w+)\.specs\.([\w.]+)", re.MULTILINE)
+NAMED = re.compile(r"`(\w+)/specs/(\{[\w,]+\}|\w+)\.antt`")
+
+
+def spec_of(crate, path):
+    """The file of specs/ that an import names, where it names one: its last parts may be names inside the file."""
+    parts = path.strip(".").split(".")
+    for count in range(len(parts), 0, -1):
+        file = CRATES / crate / "specs" / ("/".join(parts[:count]) + ".antt")
+        if file.is_file():
+            return file
+    return None
+
+
+def closure():
+    """The files that the contracts reach, and the types of the code among what they import."""
+    files, types, left = set(), set(), list(STARTS)
+    while left:
+        for crate, path in IMPORT.findall(left.pop().read_text(encoding="utf-8")):
+            if path.startswith("declared."):
+                if (CRATES / crate).is_dir():
+                    types.add((crate, path.split(".")[1]))
+                continue
+            file = spec_of(crate, path)
+            if file is not None and file not in files:
+                files.add(file)
+                left.append(file)
+    return files, types
+
+
+def named():
+    """The files that the page names."""
+    found = set()
+    for crate, names in NAMED.findall(PAGE.read_text(encoding="utf-8")):
+        found.update(CRATES / crate / "specs" / f"{name}.antt" for name in names.strip("{}").split(","))
+    return found
+
+
+def lines_of(file):
+    return len(file.read_text(encoding="utf-8").splitlines())
+
+
+def main():
+    reached, types = closure()
+    for crate in sorted({file.parent.parent.name for file in reached}):
+        files = sorted(file for file in reached if file.parent.parent.name == crate)
+        parts = ", ".join(f"{file.stem} {lines_of(file)}" for file in files)
+        print(f"{crate}: {sum(map(lines_of, files))} = {parts}")
+    print(f"{len(reached)} files, {sum(map(lines_of, reached))} lines; {len(types)} files of src/ declare types that they use:")
+    print("  " + ", ".join(f"{crate}/src/{module}.rt" for crate, module in sorted(types)))
+    differences = 0
+    for text, files in (("reached, not named", reached - named()), ("named, not reached", named() - reached)):
+        for file in sorted(files):
+            print(f"{text}: {file.relative_to(CRATES)}")
+            differences += 1
+    return 1 if differences else 0
+
+
+if __name__ == "__main__":
+    sys.exit(main())
