@@ -58,7 +58,7 @@ result_object row = result_meaning row ++ result_file row ++ result_region row
 unfoldable pub before_rules : List ℕ
 before_rules = codes "{\n  \"$schema\": \"https://json.schemastore.org/sarif-2.1.0.json\",\n  \"version\": \"2.1.0\",\n  \"runs\": [\n    {\n      \"tool\": {\n        \"driver\": {\n          \"name\": \"nullcheck\",\n          \"rules\": [\n"
 
--- what stands between the rules and the results; a column counts characters, and not bytes (3.14.17)
+-- what stands between the rules and the results; a column counts characters, and not bytes
 unfoldable pub before_results : List ℕ
 before_results = codes "\n          ]\n        }\n      },\n      \"columnKind\": \"unicodeCodePoints\",\n      \"results\": [\n"
 
