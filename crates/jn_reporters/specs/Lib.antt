@@ -1,3 +1,7 @@
+pub mod Checkstyle
 pub mod Counts
+pub mod Escapes
+pub mod Github
 pub mod Reports
+pub mod Sarif
 pub mod Sheet

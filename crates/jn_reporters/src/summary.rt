@@ -5,6 +5,7 @@ ghost use Rattle.jn_reporters.specs.Counts.{lines_of};
 ghost use Rattle.jn_reporters.specs.Reports.{count_line, summary_shown};
 ghost use Rattle.jn_reporters.specs.Sheet.{nothing_taken};
 
+use crate::codes::{CODES, place};
 use crate::lines::counted;
 use crate::reporter::Reporter;
 use crate::sheet::Sheet;
@@ -12,58 +13,6 @@ use jn_base::{Code, OutOfMemory};
 use jn_diag::{RowText, Verdict};
 use std::alloc::{AllocError, Global};
 use std::marker::Model;
-
-const CODES: [Code; 49] = [
-    Code::B1,
-    Code::B2,
-    Code::B3,
-    Code::L1,
-    Code::L2,
-    Code::L3,
-    Code::L4,
-    Code::L5,
-    Code::L6,
-    Code::L7,
-    Code::S1,
-    Code::S2,
-    Code::T1,
-    Code::T2,
-    Code::T3,
-    Code::T4,
-    Code::T5,
-    Code::T6,
-    Code::T7,
-    Code::T8,
-    Code::T9,
-    Code::T10,
-    Code::J1,
-    Code::J2,
-    Code::J3,
-    Code::J4,
-    Code::J5,
-    Code::J6,
-    Code::J7,
-    Code::J8,
-    Code::J9,
-    Code::J10,
-    Code::Deref,
-    Code::Field,
-    Code::FieldInit,
-    Code::Arg,
-    Code::ArgInit,
-    Code::RecvInit,
-    Code::Return,
-    Code::ReturnInit,
-    Code::Local,
-    Code::LocalInit,
-    Code::Elem,
-    Code::ElemInit,
-    Code::NewArray,
-    Code::CtorFields,
-    Code::OvrParam,
-    Code::OvrReceiver,
-    Code::OvrResult,
-];
 
 /// Shows a line `CODE COUNT` for each code that occurs, in the order of the codes, and then the verdict.
 #[derive(Drop)]
@@ -128,15 +77,6 @@ impl Reporter for Summary {
     fn bytes(&self) -> &[u8] {
         self.sheet.text()
     }
-}
-
-/// How many codes stand before this one.
-#[tactic(auto, unfolding(jn_diag::specs::Order::code_place))]
-fn place(code: Code) -> usize
-    ensures place { result ≡ code_place code }
-    ensures bound { result < 49 }
-{
-    code as usize
 }
 
 fn one_more(counts: &[u64; 49], code: Code) -> [u64; 49]

@@ -1,7 +1,7 @@
-// What each reporter writes: a row and a verdict, and then one row more.
+// What each reporter writes: a row and a verdict, and then one row more; and names of files with bytes that are escaped.
 use jn_base::{Code, OutOfMemory, Text};
 use jn_diag::{RowText, Verdict};
-use jn_reporters::{Plain, Reporter, Summary, Tabbed};
+use jn_reporters::{Checkstyle, Github, Plain, Reporter, Sarif, Summary, Tabbed};
 use std::alloc::Global;
 use std::process::Abort;
 
@@ -64,4 +64,85 @@ fn summary_counts_by_code(rt: HostRuntime) -> Result<(), OutOfMemory> {
     take(rt.alloc(), &mut summary, 6, 5, Code::Deref)?;
     expect_bytes(&rt, &summary, "DEREF 2\nNEW-ARRAY 1\nrejected 2\n");
     Ok(())
+}
+
+/// The rows, and the verdict that rejects them.
+fn take_rows(
+    alloc: Global,
+    reporter: &mut dyn Reporter,
+    rows: &[(&str, u32, u32, Code)],
+) -> Result<(), OutOfMemory> {
+    for row in rows {
+        let name = Text::of_str(alloc, row.0)?;
+        reporter.take(&RowText {
+            name,
+            line: row.1,
+            col: row.2,
+            code: row.3,
+        })?;
+    }
+    reporter.finish(Verdict::Rejected(rows.len() as u64))
+}
+
+fn expect_report(
+    rt: &impl Abort,
+    alloc: Global,
+    reporter: &mut dyn Reporter,
+    rows: &[(&str, u32, u32, Code)],
+    want: &str,
+) {
+    let Ok(()) = take_rows(alloc, reporter, rows) else {
+        panic!(rt; "no memory");
+    };
+    assert_eq!(rt; reporter.bytes(), want.as_bytes());
+}
+
+#[test]
+fn github_marks_lines(rt: HostRuntime) {
+    let mut github = Github::new(rt.alloc());
+    assert_eq!(rt; github.name(), "github");
+    expect_report(
+        &rt,
+        rt.alloc(),
+        &mut github,
+        &[
+            ("a%b:c,d\r\n.java", 3, 18, Code::NewArray),
+            ("V.java", 5, 5, Code::S1),
+        ],
+        "::error file=a%25b%3Ac%2Cd%0D%0A.java,line=3,col=18::NEW-ARRAY new-array\n::error file=V.java,line=5,col=5::S1 syntax\nrejected 2\n",
+    );
+}
+
+#[test]
+fn checkstyle_has_an_element_for_each_run_of_a_file(rt: HostRuntime) {
+    let mut checkstyle = Checkstyle::new(rt.alloc());
+    assert_eq!(rt; checkstyle.name(), "checkstyle");
+    expect_report(
+        &rt,
+        rt.alloc(),
+        &mut checkstyle,
+        &[
+            ("&<>\"'\t\u{1}\u{e9}.java", 3, 18, Code::NewArray),
+            ("&<>\"'\t\u{1}\u{e9}.java", 5, 5, Code::Deref),
+            ("V.java", 1, 1, Code::L1),
+        ],
+        "<?xml version=\"1.0\" encoding=\"UTF-8\"?>\n<checkstyle version=\"4.3\">\n  <file name=\"&amp;&lt;&gt;&quot;&apos;&#9;\u{fffd}\u{e9}.java\">\n    <error line=\"3\" column=\"18\" severity=\"error\" message=\"NEW-ARRAY: new-array\" source=\"nullcheck.NEW-ARRAY\"/>\n    <error line=\"5\" column=\"5\" severity=\"error\" message=\"DEREF: deref\" source=\"nullcheck.DEREF\"/>\n  </file>\n  <file name=\"V.java\">\n    <error line=\"1\" column=\"1\" severity=\"error\" message=\"L1: not UTF-8\" source=\"nullcheck.L1\"/>\n  </file>\n</checkstyle>\n",
+    );
+}
+
+#[test]
+fn sarif_has_a_rule_for_each_code_and_a_result_for_each_row(rt: HostRuntime) {
+    let mut sarif = Sarif::new(rt.alloc());
+    assert_eq!(rt; sarif.name(), "sarif");
+    expect_report(
+        &rt,
+        rt.alloc(),
+        &mut sarif,
+        &[
+            ("src/a b%\u{e9}\"~.java", 3, 18, Code::NewArray),
+            ("V.java", 5, 5, Code::Deref),
+            ("V.java", 7, 5, Code::NewArray),
+        ],
+        "{\n  \"$schema\": \"https://json.schemastore.org/sarif-2.1.0.json\",\n  \"version\": \"2.1.0\",\n  \"runs\": [\n    {\n      \"tool\": {\n        \"driver\": {\n          \"name\": \"nullcheck\",\n          \"rules\": [\n            {\"id\": \"DEREF\", \"shortDescription\": {\"text\": \"deref\"}},\n            {\"id\": \"NEW-ARRAY\", \"shortDescription\": {\"text\": \"new-array\"}}\n          ]\n        }\n      },\n      \"columnKind\": \"unicodeCodePoints\",\n      \"results\": [\n        {\"ruleId\": \"NEW-ARRAY\", \"level\": \"error\", \"message\": {\"text\": \"new-array\"}, \"locations\": [{\"physicalLocation\": {\"artifactLocation\": {\"uri\": \"src/a%20b%25%C3%A9%22~.java\"}, \"region\": {\"startLine\": 3, \"startColumn\": 18}}}]},\n        {\"ruleId\": \"DEREF\", \"level\": \"error\", \"message\": {\"text\": \"deref\"}, \"locations\": [{\"physicalLocation\": {\"artifactLocation\": {\"uri\": \"V.java\"}, \"region\": {\"startLine\": 5, \"startColumn\": 5}}}]},\n        {\"ruleId\": \"NEW-ARRAY\", \"level\": \"error\", \"message\": {\"text\": \"new-array\"}, \"locations\": [{\"physicalLocation\": {\"artifactLocation\": {\"uri\": \"V.java\"}, \"region\": {\"startLine\": 7, \"startColumn\": 5}}}]}\n      ]\n    }\n  ]\n}\n",
+    );
 }

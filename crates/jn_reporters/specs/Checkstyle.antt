@@ -1,0 +1,49 @@
+-- The report as the XML of Checkstyle (its XMLLogger).
+use Rattle.std.specs.Prelude.{ℕ, ◌++◌, List, [], ◌∷◌, Option, Some, None, codes, decimal, bytes_eq, if◌then◌else◌}
+use Rattle.jn_base.specs.Codes.{code_name, code_text}
+use Rattle.jn_diag.specs.declared.shown.RowText.{RowText}
+use Rattle.jn_diag.specs.declared.shown.Verdict.{Verdict}
+use Rattle.jn_reporters.specs.Escapes.{escaped}
+use Rattle.jn_reporters.specs.declared.escapes.Escape.TheVariants.{Xml}
+
+-- the element of a row: where it stands, and what it says
+abbrev pub error_place : RowText → List ℕ
+error_place row = codes "    <error line=\"" ++ decimal row.line ++ codes "\" column=\"" ++ decimal row.col ++ codes "\""
+
+abbrev pub error_meaning : RowText → List ℕ
+error_meaning row =
+    codes " severity=\"error\" message=\"" ++ code_name row.code ++ codes ": " ++ escaped Xml (code_text row.code)
+    ++ codes "\" source=\"nullcheck." ++ code_name row.code ++ codes "\"/>\n"
+
+abbrev pub error_element : RowText → List ℕ
+error_element row = error_place row ++ error_meaning row
+
+-- the begin and the end of the element of a file
+abbrev pub file_begin : List ℕ → List ℕ
+file_begin name = codes "  <file name=\"" ++ escaped Xml name ++ codes "\">\n"
+
+abbrev pub file_end : List ℕ
+file_end = codes "  </file>\n"
+
+-- between a row of a file and one of another file its element ends, and the other's begins
+abbrev pub file_change : List ℕ → List ℕ → List ℕ
+file_change name next = if bytes_eq name next then [] else file_end ++ file_begin next
+
+-- the rows that follow a row of the file of this name, and the end of the last file's element
+abbrev pub rows_behind : List ℕ → List RowText → List ℕ
+rows_behind name [] = file_end
+rows_behind name (row ∷ rows) = file_change name row.name ++ error_element row ++ rows_behind row.name rows
+
+-- an element for each run of rows of one file
+abbrev pub file_elements : List RowText → List ℕ
+file_elements [] = []
+file_elements (row ∷ rows) = file_begin row.name ++ error_element row ++ rows_behind row.name rows
+
+abbrev pub checkstyle_document : List RowText → List ℕ
+checkstyle_document rows =
+    codes "<?xml version=\"1.0\" encoding=\"UTF-8\"?>\n<checkstyle version=\"4.3\">\n" ++ file_elements rows ++ codes "</checkstyle>\n"
+
+-- the document comes with the verdict, and before it nothing
+abbrev pub checkstyle_shown : List RowText → Option Verdict → List ℕ
+checkstyle_shown rows None = []
+checkstyle_shown rows (Some verdict) = checkstyle_document rows

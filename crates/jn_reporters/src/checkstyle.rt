@@ -1,0 +1,221 @@
+// The report as the XML of Checkstyle.
+ghost use Rattle.std.specs.Prelude.{◌≡◌, ◌++◌, IfOk, OnOk};
+ghost use Rattle.jn_reporters.specs.Checkstyle as spec;
+ghost use Rattle.jn_reporters.specs.Sheet.{nothing_taken};
+
+use crate::escapes::{Escape, put};
+use crate::gathered::push_copy;
+use crate::reporter::Reporter;
+use itoa::{Buffer, Integer};
+use jn_base::{Code, OutOfMemory};
+use jn_diag::{RowText, Verdict};
+use std::alloc::{AllocError, Global};
+use std::marker::Model;
+
+/// Shows the XML of Checkstyle: an element for each run of rows of one file, and in it one for each row.
+/// Nothing is shown before a verdict is given. The document is made when it is given, in time linear in its size, and
+/// made anew for each row behind it.
+#[derive(Drop)]
+pub struct Checkstyle {
+    alloc: Global,
+    rows: Vec<RowText>,
+    verdict: Option<Verdict>,
+    /// The document of the rows, or nothing where no verdict was given.
+    text: Vec<u8>,
+}
+
+impl Model for Checkstyle {
+    ghost use Rattle.std.specs.Prelude.{◌≡◌};
+    ghost use Rattle.jn_reporters.specs.Checkstyle.{checkstyle_shown};
+    ghost use Rattle.jn_reporters.specs.Sheet.{Taken};
+
+    ghost Value = { Taken };
+
+    ghost view = { λ a. record { rows = a.rows.items; verdict = a.verdict } };
+
+    ghost invariant = { λ a. a.text.items ≡ checkstyle_shown a.rows.items a.verdict };
+}
+
+impl Checkstyle {
+    pub fn new(alloc: Global) -> Self
+        ensures { result ≡ nothing_taken }
+    {
+        Checkstyle {
+            alloc,
+            rows: Vec::new(alloc),
+            verdict: None,
+            text: Vec::new(alloc),
+        }
+    }
+}
+
+impl Reporter for Checkstyle {
+    ghost use Rattle.std.specs.Prelude.{codes};
+    ghost use Rattle.jn_reporters.specs.Checkstyle.{checkstyle_shown};
+
+    ghost rows = { λ a. a.rows };
+
+    ghost given = { λ a. a.verdict };
+
+    ghost title = { λ a. codes "checkstyle" };
+
+    ghost shown = { λ a. checkstyle_shown };
+
+    fn name(&self) -> &str {
+        "checkstyle"
+    }
+
+    fn take(&mut self, row: &RowText) -> Result<(), OutOfMemory> {
+        push_copy(self.alloc, &mut self.rows, row)?;
+        match shown(self.alloc, &self.rows, self.verdict) {
+            Ok(text) => {
+                self.text = text;
+                Ok(())
+            }
+            Err(_) => {
+                self.rows.pop();
+                Err(OutOfMemory)
+            }
+        }
+    }
+
+    fn finish(&mut self, verdict: Verdict) -> Result<(), OutOfMemory> {
+        let text = shown(self.alloc, &self.rows, Some(verdict))?;
+        self.text = text;
+        self.verdict = Some(verdict);
+        Ok(())
+    }
+
+    fn bytes(&self) -> &[u8] {
+        &self.text
+    }
+}
+
+/// The document of the rows, or nothing where no verdict was given.
+fn shown(alloc: Global, rows: &[RowText], verdict: Option<Verdict>) -> Result<Vec<u8>, AllocError>
+    ensures { IfOk result (λ text. text.items ≡ spec.checkstyle_shown rows.now verdict) }
+{
+    match verdict {
+        None => Ok(Vec::new(alloc)),
+        Some(_) => document(alloc, rows),
+    }
+}
+
+fn document(alloc: Global, rows: &[RowText]) -> Result<Vec<u8>, AllocError>
+    ensures { IfOk result (λ text. text.items ≡ spec.checkstyle_document rows.now) }
+{
+    let mut text = Vec::from_slice(
+        alloc,
+        b"<?xml version=\"1.0\" encoding=\"UTF-8\"?>\n<checkstyle version=\"4.3\">\n",
+    )?;
+    put_files(&mut text, alloc, rows)?;
+    text.extend_from_slice(b"</checkstyle>\n")?;
+    Ok(text)
+}
+
+/// Puts an element for each run of rows of one file.
+fn put_files(out: &mut Vec<u8>, alloc: Global, rows: &[RowText]) -> Result<(), AllocError>
+    ensures { OnOk result (out.new.items ≡ out.old.items ++ spec.file_elements rows.now) }
+{
+    let Some((first, rest)) = rows.split_first() else {
+        return Ok(());
+    };
+    put_first(out, alloc, first)?;
+    put_rows_behind(out, alloc, first, rest)
+}
+
+/// Puts the rows that follow this one, and the end of the last file's element.
+fn put_rows_behind(
+    out: &mut Vec<u8>,
+    alloc: Global,
+    first: &RowText,
+    rest: &[RowText],
+) -> Result<(), AllocError>
+    ensures { OnOk result (out.new.items ≡ out.old.items ++ spec.rows_behind first.now.name rest.now) }
+{
+    let mut last = first;
+    for row in rest {
+        put_next(out, alloc, last, row)?;
+        last = row;
+    }
+    out.extend_from_slice(b"  </file>\n")
+}
+
+/// Puts the first row, with the begin of its file's element.
+fn put_first(out: &mut Vec<u8>, alloc: Global, row: &RowText) -> Result<(), AllocError>
+    ensures { OnOk result (out.new.items ≡ out.old.items ++ (spec.file_begin row.now.name ++ spec.error_element row.now)) }
+{
+    let mut text = file_begin(alloc, row.name.as_str())?;
+    let element = error_element(alloc, row)?;
+    text.extend_from_slice(&element)?;
+    out.extend_from_slice(&text)
+}
+
+/// Puts a row that follows this last one.
+fn put_next(
+    out: &mut Vec<u8>,
+    alloc: Global,
+    last: &RowText,
+    row: &RowText,
+) -> Result<(), AllocError>
+    ensures { OnOk result (out.new.items ≡ out.old.items ++ (spec.file_change last.now.name row.now.name ++ spec.error_element row.now)) }
+{
+    let mut text = file_change(alloc, last.name.as_str(), row.name.as_str())?;
+    let element = error_element(alloc, row)?;
+    text.extend_from_slice(&element)?;
+    out.extend_from_slice(&text)
+}
+
+fn file_change(alloc: Global, name: &str, next: &str) -> Result<Vec<u8>, AllocError>
+    ensures { IfOk result (λ text. text.items ≡ spec.file_change name.now next.now) }
+{
+    if name == next {
+        return Ok(Vec::new(alloc));
+    }
+    let mut text = Vec::from_slice(alloc, b"  </file>\n")?;
+    let begin = file_begin(alloc, next)?;
+    text.extend_from_slice(&begin)?;
+    Ok(text)
+}
+
+fn file_begin(alloc: Global, name: &str) -> Result<Vec<u8>, AllocError>
+    ensures { IfOk result (λ text. text.items ≡ spec.file_begin name.now) }
+{
+    let mut text = Vec::from_slice(alloc, b"  <file name=\"")?;
+    put(&mut text, Escape::Xml, name.as_bytes())?;
+    text.extend_from_slice(b"\">\n")?;
+    Ok(text)
+}
+
+fn error_element(alloc: Global, row: &RowText) -> Result<Vec<u8>, AllocError>
+    ensures { IfOk result (λ text. text.items ≡ spec.error_element row.now) }
+{
+    let mut text = error_place(alloc, row)?;
+    let meaning = error_meaning(alloc, row)?;
+    text.extend_from_slice(&meaning)?;
+    Ok(text)
+}
+
+fn error_place(alloc: Global, row: &RowText) -> Result<Vec<u8>, AllocError>
+    ensures { IfOk result (λ text. text.items ≡ spec.error_place row.now) }
+{
+    let mut text = Vec::from_slice(alloc, b"    <error line=\"")?;
+    text.extend_from_slice(Buffer::new().format(row.line).as_bytes())?;
+    text.extend_from_slice(b"\" column=\"")?;
+    text.extend_from_slice(Buffer::new().format(row.col).as_bytes())?;
+    text.extend_from_slice(b"\"")?;
+    Ok(text)
+}
+
+fn error_meaning(alloc: Global, row: &RowText) -> Result<Vec<u8>, AllocError>
+    ensures { IfOk result (λ text. text.items ≡ spec.error_meaning row.now) }
+{
+    let mut text = Vec::from_slice(alloc, b" severity=\"error\" message=\"")?;
+    text.extend_from_slice(row.code.name().as_bytes())?;
+    text.extend_from_slice(b": ")?;
+    put(&mut text, Escape::Xml, row.code.text().as_bytes())?;
+    text.extend_from_slice(b"\" source=\"nullcheck.")?;
+    text.extend_from_slice(row.code.name().as_bytes())?;
+    text.extend_from_slice(b"\"/>\n")?;
+    Ok(text)
+}

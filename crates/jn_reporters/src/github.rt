@@ -1,0 +1,91 @@
+// The report as workflow commands of GitHub.
+ghost use Rattle.std.specs.Prelude.{◌≡◌, IfOk};
+ghost use Rattle.jn_reporters.specs.Github.{github_shown};
+ghost use Rattle.jn_reporters.specs.Github as spec;
+ghost use Rattle.jn_reporters.specs.Sheet.{nothing_taken};
+
+use crate::escapes::{Escape, put};
+use crate::reporter::Reporter;
+use crate::sheet::Sheet;
+use itoa::{Buffer, Integer};
+use jn_base::{Code, OutOfMemory};
+use jn_diag::{RowText, Verdict};
+use std::alloc::{AllocError, Global};
+use std::marker::Model;
+
+/// Shows a workflow command of GitHub Actions for each row, which marks the row's line as an error, and then the verdict.
+#[derive(Drop)]
+pub struct Github {
+    sheet: Sheet,
+}
+
+impl Model for Github {
+    ghost use Rattle.std.specs.Prelude.{◌≡◌};
+    ghost use Rattle.std.specs.List.{flat_map};
+    ghost use Rattle.jn_reporters.specs.Github.{github_line};
+    ghost use Rattle.jn_reporters.specs.Sheet.{Taken, taken_of};
+
+    ghost Value = { Taken };
+
+    ghost view = { λ a. taken_of a.sheet };
+
+    ghost invariant = { λ a. a.sheet.lines ≡ flat_map github_line a.sheet.rows };
+}
+
+impl Github {
+    pub fn new(alloc: Global) -> Self
+        ensures { result ≡ nothing_taken }
+    {
+        Github {
+            sheet: Sheet::new(alloc),
+        }
+    }
+}
+
+impl Reporter for Github {
+    ghost use Rattle.std.specs.Prelude.{codes};
+    ghost use Rattle.jn_reporters.specs.Github.{github_shown};
+
+    ghost rows = { λ a. a.rows };
+
+    ghost given = { λ a. a.verdict };
+
+    ghost title = { λ a. codes "github" };
+
+    ghost shown = { λ a. github_shown };
+
+    fn name(&self) -> &str {
+        "github"
+    }
+
+    fn take(&mut self, row: &RowText) -> Result<(), OutOfMemory> {
+        let line = github_line(self.sheet.alloc(), row)?;
+        self.sheet.take(row, &line)
+    }
+
+    fn finish(&mut self, verdict: Verdict) -> Result<(), OutOfMemory> {
+        self.sheet.finish(verdict)
+    }
+
+    fn bytes(&self) -> &[u8] {
+        self.sheet.text()
+    }
+}
+
+/// `::error file=FILE,line=LINE,col=COL::CODE TEXT` and a line feed.
+fn github_line(alloc: Global, row: &RowText) -> Result<Vec<u8>, AllocError>
+    ensures { IfOk result (λ line. line.items ≡ spec.github_line row.now) }
+{
+    let mut line = Vec::from_slice(alloc, b"::error file=")?;
+    put(&mut line, Escape::Property, row.name.as_str().as_bytes())?;
+    line.extend_from_slice(b",line=")?;
+    line.extend_from_slice(Buffer::new().format(row.line).as_bytes())?;
+    line.extend_from_slice(b",col=")?;
+    line.extend_from_slice(Buffer::new().format(row.col).as_bytes())?;
+    line.extend_from_slice(b"::")?;
+    line.extend_from_slice(row.code.name().as_bytes())?;
+    line.extend_from_slice(b" ")?;
+    put(&mut line, Escape::Message, row.code.text().as_bytes())?;
+    line.extend_from_slice(b"\n")?;
+    Ok(line)
+}

@@ -1,0 +1,295 @@
+// The report in SARIF.
+ghost use Rattle.std.specs.Prelude.{◌≡◌, ◌++◌, ◌∷◌, [], IfOk, OnOk};
+ghost use Rattle.jn_reporters.specs.Sarif as spec;
+ghost use Rattle.jn_reporters.specs.Sheet.{nothing_taken};
+
+use crate::codes::{all, place};
+use crate::escapes::{Escape, put};
+use crate::gathered::push_copy;
+use crate::reporter::Reporter;
+use itoa::{Buffer, Integer};
+use jn_base::{Code, OutOfMemory};
+use jn_diag::{RowText, Verdict};
+use std::alloc::{AllocError, Global};
+use std::marker::Model;
+
+/// Shows a log of one run in SARIF 2.1.0: a rule for each code that occurs, and a result for each row.
+/// Nothing is shown before a verdict is given. The document is made when it is given, in time linear in its size, and
+/// made anew for each row behind it.
+#[derive(Drop)]
+pub struct Sarif {
+    alloc: Global,
+    rows: Vec<RowText>,
+    verdict: Option<Verdict>,
+    /// The document of the rows, or nothing where no verdict was given.
+    text: Vec<u8>,
+}
+
+impl Model for Sarif {
+    ghost use Rattle.std.specs.Prelude.{◌≡◌};
+    ghost use Rattle.jn_reporters.specs.Sarif.{sarif_shown};
+    ghost use Rattle.jn_reporters.specs.Sheet.{Taken};
+
+    ghost Value = { Taken };
+
+    ghost view = { λ a. record { rows = a.rows.items; verdict = a.verdict } };
+
+    ghost invariant = { λ a. a.text.items ≡ sarif_shown a.rows.items a.verdict };
+}
+
+impl Sarif {
+    pub fn new(alloc: Global) -> Self
+        ensures { result ≡ nothing_taken }
+    {
+        Sarif {
+            alloc,
+            rows: Vec::new(alloc),
+            verdict: None,
+            text: Vec::new(alloc),
+        }
+    }
+}
+
+impl Reporter for Sarif {
+    ghost use Rattle.std.specs.Prelude.{codes};
+    ghost use Rattle.jn_reporters.specs.Sarif.{sarif_shown};
+
+    ghost rows = { λ a. a.rows };
+
+    ghost given = { λ a. a.verdict };
+
+    ghost title = { λ a. codes "sarif" };
+
+    ghost shown = { λ a. sarif_shown };
+
+    fn name(&self) -> &str {
+        "sarif"
+    }
+
+    fn take(&mut self, row: &RowText) -> Result<(), OutOfMemory> {
+        push_copy(self.alloc, &mut self.rows, row)?;
+        match shown(self.alloc, &self.rows, self.verdict) {
+            Ok(text) => {
+                self.text = text;
+                Ok(())
+            }
+            Err(_) => {
+                self.rows.pop();
+                Err(OutOfMemory)
+            }
+        }
+    }
+
+    fn finish(&mut self, verdict: Verdict) -> Result<(), OutOfMemory> {
+        let text = shown(self.alloc, &self.rows, Some(verdict))?;
+        self.text = text;
+        self.verdict = Some(verdict);
+        Ok(())
+    }
+
+    fn bytes(&self) -> &[u8] {
+        &self.text
+    }
+}
+
+/// The document of the rows, or nothing where no verdict was given.
+fn shown(alloc: Global, rows: &[RowText], verdict: Option<Verdict>) -> Result<Vec<u8>, AllocError>
+    ensures { IfOk result (λ text. text.items ≡ spec.sarif_shown rows.now verdict) }
+{
+    match verdict {
+        None => Ok(Vec::new(alloc)),
+        Some(_) => document(alloc, rows),
+    }
+}
+
+fn document(alloc: Global, rows: &[RowText]) -> Result<Vec<u8>, AllocError>
+    ensures { IfOk result (λ text. text.items ≡ spec.sarif_document rows.now) }
+{
+    let codes = occurring(alloc, rows, &all())?;
+    let mut text = Vec::new(alloc);
+    put_before_rules(&mut text)?;
+    put_rules(&mut text, alloc, &codes)?;
+    put_before_results(&mut text)?;
+    put_results(&mut text, alloc, rows)?;
+    put_behind_results(&mut text)?;
+    Ok(text)
+}
+
+/// Those of the codes that some row has.
+fn occurring(alloc: Global, rows: &[RowText], codes: &[Code]) -> Result<Vec<Code>, AllocError>
+    ensures { IfOk result (λ found. found.items ≡ spec.occurring rows.now codes.now) }
+{
+    let mut found = Vec::new(alloc);
+    for code in codes {
+        put_where_it_occurs(&mut found, rows, *code)?;
+    }
+    Ok(found)
+}
+
+fn put_where_it_occurs(
+    found: &mut Vec<Code>,
+    rows: &[RowText],
+    code: Code,
+) -> Result<(), AllocError>
+    ensures { OnOk result (found.new.items ≡ found.old.items ++ spec.occurring rows.now (code ∷ [])) }
+{
+    if occurs(rows, code) {
+        return found.extend_from_slice(&[code]);
+    }
+    Ok(())
+}
+
+/// Whether some row has the code.
+fn occurs(rows: &[RowText], code: Code) -> bool
+    ensures { result ≡ spec.occurs rows.now code }
+{
+    rows.iter().any(|row| place(row.code) == place(code))
+}
+
+#[tactic(auto, unfolding(crate::specs::Sarif::before_rules))]
+fn put_before_rules(out: &mut Vec<u8>) -> Result<(), AllocError>
+    ensures { OnOk result (out.new.items ≡ out.old.items ++ spec.before_rules) }
+{
+    out.extend_from_slice(
+        b"{\n  \"$schema\": \"https://json.schemastore.org/sarif-2.1.0.json\",\n  \"version\": \"2.1.0\",\n  \"runs\": [\n    {\n      \"tool\": {\n        \"driver\": {\n          \"name\": \"nullcheck\",\n          \"rules\": [\n",
+    )
+}
+
+#[tactic(auto, unfolding(crate::specs::Sarif::before_results))]
+fn put_before_results(out: &mut Vec<u8>) -> Result<(), AllocError>
+    ensures { OnOk result (out.new.items ≡ out.old.items ++ spec.before_results) }
+{
+    out.extend_from_slice(
+        b"\n          ]\n        }\n      },\n      \"columnKind\": \"unicodeCodePoints\",\n      \"results\": [\n",
+    )
+}
+
+#[tactic(auto, unfolding(crate::specs::Sarif::behind_results))]
+fn put_behind_results(out: &mut Vec<u8>) -> Result<(), AllocError>
+    ensures { OnOk result (out.new.items ≡ out.old.items ++ spec.behind_results) }
+{
+    out.extend_from_slice(b"\n      ]\n    }\n  ]\n}\n")
+}
+
+fn put_rules(out: &mut Vec<u8>, alloc: Global, codes: &[Code]) -> Result<(), AllocError>
+    ensures { OnOk result (out.new.items ≡ out.old.items ++ spec.listed spec.rule_object codes.now) }
+{
+    let Some((first, rest)) = codes.split_first() else {
+        return Ok(());
+    };
+    let object = rule_object(alloc, *first)?;
+    out.extend_from_slice(&object)?;
+    put_further_rules(out, alloc, rest)
+}
+
+fn put_further_rules(out: &mut Vec<u8>, alloc: Global, codes: &[Code]) -> Result<(), AllocError>
+    ensures { OnOk result (out.new.items ≡ out.old.items ++ spec.further spec.rule_object codes.now) }
+{
+    for code in codes {
+        put_next_rule(out, alloc, *code)?;
+    }
+    Ok(())
+}
+
+#[tactic(auto, unfolding(crate::specs::Sarif::next))]
+fn put_next_rule(out: &mut Vec<u8>, alloc: Global, code: Code) -> Result<(), AllocError>
+    ensures { OnOk result (out.new.items ≡ out.old.items ++ spec.next spec.rule_object code) }
+{
+    let mut text = Vec::from_slice(alloc, b",\n")?;
+    let object = rule_object(alloc, code)?;
+    text.extend_from_slice(&object)?;
+    out.extend_from_slice(&text)
+}
+
+fn rule_object(alloc: Global, code: Code) -> Result<Vec<u8>, AllocError>
+    ensures { IfOk result (λ text. text.items ≡ spec.rule_object code) }
+{
+    let mut text = Vec::from_slice(alloc, b"            {\"id\": \"")?;
+    text.extend_from_slice(code.name().as_bytes())?;
+    text.extend_from_slice(b"\", \"shortDescription\": {\"text\": \"")?;
+    put(&mut text, Escape::Json, code.text().as_bytes())?;
+    text.extend_from_slice(b"\"}}")?;
+    Ok(text)
+}
+
+fn put_results(out: &mut Vec<u8>, alloc: Global, rows: &[RowText]) -> Result<(), AllocError>
+    ensures { OnOk result (out.new.items ≡ out.old.items ++ spec.listed spec.result_object rows.now) }
+{
+    let Some((first, rest)) = rows.split_first() else {
+        return Ok(());
+    };
+    let object = result_object(alloc, first)?;
+    out.extend_from_slice(&object)?;
+    put_further_results(out, alloc, rest)
+}
+
+fn put_further_results(out: &mut Vec<u8>, alloc: Global, rows: &[RowText]) -> Result<(), AllocError>
+    ensures { OnOk result (out.new.items ≡ out.old.items ++ spec.further spec.result_object rows.now) }
+{
+    for row in rows {
+        put_next_result(out, alloc, row)?;
+    }
+    Ok(())
+}
+
+#[tactic(auto, unfolding(crate::specs::Sarif::next))]
+fn put_next_result(out: &mut Vec<u8>, alloc: Global, row: &RowText) -> Result<(), AllocError>
+    ensures { OnOk result (out.new.items ≡ out.old.items ++ spec.next spec.result_object row.now) }
+{
+    let mut text = Vec::from_slice(alloc, b",\n")?;
+    let object = result_object(alloc, row)?;
+    text.extend_from_slice(&object)?;
+    out.extend_from_slice(&text)
+}
+
+fn result_object(alloc: Global, row: &RowText) -> Result<Vec<u8>, AllocError>
+    ensures { IfOk result (λ text. text.items ≡ spec.result_object row.now) }
+{
+    let mut text = result_meaning(alloc, row)?;
+    let file = result_file(alloc, row)?;
+    text.extend_from_slice(&file)?;
+    let region = result_region(alloc, row)?;
+    text.extend_from_slice(&region)?;
+    Ok(text)
+}
+
+fn result_meaning(alloc: Global, row: &RowText) -> Result<Vec<u8>, AllocError>
+    ensures { IfOk result (λ text. text.items ≡ spec.result_meaning row.now) }
+{
+    let mut text = Vec::from_slice(alloc, b"        {\"ruleId\": \"")?;
+    text.extend_from_slice(row.code.name().as_bytes())?;
+    text.extend_from_slice(b"\", \"level\": \"error\", \"message\": {\"text\": \"")?;
+    put(&mut text, Escape::Json, row.code.text().as_bytes())?;
+    text.extend_from_slice(b"\"}, ")?;
+    Ok(text)
+}
+
+fn result_file(alloc: Global, row: &RowText) -> Result<Vec<u8>, AllocError>
+    ensures { IfOk result (λ text. text.items ≡ spec.result_file row.now) }
+{
+    let mut text = Vec::from_slice(
+        alloc,
+        b"\"locations\": [{\"physicalLocation\": {\"artifactLocation\": {\"uri\": \"",
+    )?;
+    put(&mut text, Escape::Uri, row.name.as_str().as_bytes())?;
+    text.extend_from_slice(b"\"}, ")?;
+    Ok(text)
+}
+
+fn result_region(alloc: Global, row: &RowText) -> Result<Vec<u8>, AllocError>
+    ensures { IfOk result (λ text. text.items ≡ spec.result_region row.now) }
+{
+    let mut text = numbered(alloc, b"\"region\": {\"startLine\": ", row.line)?;
+    let column = numbered(alloc, b", \"startColumn\": ", row.col)?;
+    text.extend_from_slice(&column)?;
+    text.extend_from_slice(b"}}}]}")?;
+    Ok(text)
+}
+
+fn numbered(alloc: Global, front: &[u8], number: u32) -> Result<Vec<u8>, AllocError>
+    ensures { IfOk result (λ text. text.items ≡ spec.numbered front.now number) }
+{
+    let mut text = Vec::from_slice(alloc, front)?;
+    text.extend_from_slice(Buffer::new().format(number).as_bytes())?;
+    Ok(text)
+}
