@@ -122,7 +122,6 @@ module _ (IsReport : List SourceFile → Report → Type 0) (IsSafe : List Sourc
   pub report_made : (files : List SourceFile) (report : Report) (status : Status) (bytes : List ℕ) → IsReport files report → status ≡ status_of report → bytes ≡ shown files report → (report ≡ Checked [] → IsSafe files) → IsReportOfFiles IsReport IsSafe files status bytes
   report_made files report status bytes is ends shows kept = record { report = report; is = is; ends = ends; shows = shows; safe = λ ok. kept (accepted_rows report (sym ends ∙ ok)) }
 
-
   -- of too many files
   pub made_of_many : (read : Reading) (names : List (List ℕ)) (made : Result (Status × Taken) NoMemory) → most_files < length names → IfOk made (λ r. (files : List SourceFile) → names_of files ≡ names → IsReportOfFiles IsReport IsSafe files r.0 (plain_shown r.1.rows r.1.verdict)) → MadeOf read names made
   made_of_many read names (Made r) many report = record {

@@ -52,7 +52,6 @@ abbrev pub Finished : Option (List ℕ) → Option (List ℕ) → List ℕ → S
 Finished old new bytes status before now result =
     ((result ≡ status) × Appends old new bytes × (now ≡ before)) ⊎ ((result ≡ WriteFault) × AppendsPrefix old new bytes × Rose before now × (before ≤ now))
 
-
 -- by what a report of files is, and what is promised of files that are accepted
 module _ (IsReport : List SourceFile → Report → Type 0) (IsSafe : List SourceFile → Type 0) where
   -- status and bytes are those of the report of the files, which are safe where the status is that of acceptance

@@ -16,6 +16,7 @@ stepped-position-requires-clause-column c =
 pub loop-position-preserved : goal.loop-position-preserved
 loop-position-preserved c =
     let is = c.loop-position.invariant.0 in
-    let lt : c.loop-position.position.before < length c.args.text.now = omega (arith, c.loop-position-test.true, c.requires.within) in
-    (subst (IsPosition c.args.text.now) (sym c.stepped-position.ensures) (step_is c.args.text.now c.loop-position.position c.byte_before-previous.result _ is lt c.byte_before-previous.ensures refl),
-     subst (λ p. p.before ≤ c.args.to) (sym c.stepped-position.ensures) (omega (arith, c.loop-position-test.true)))
+    let lt : c.loop-position.position.before < length c.args.text.now = omega (arith, c.loop-position-test.true, c.requires.within) in (
+      subst (IsPosition c.args.text.now) (sym c.stepped-position.ensures) (step_is c.args.text.now c.loop-position.position c.byte_before-previous.result _ is lt c.byte_before-previous.ensures refl),
+      subst (λ p. p.before ≤ c.args.to) (sym c.stepped-position.ensures) (omega (arith, c.loop-position-test.true)),
+    )
