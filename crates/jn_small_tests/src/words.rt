@@ -73,6 +73,10 @@ fn takes_words(rt: HostRuntime) {
             "--report=tabbed|A.java",
             "4 tabbed false 1000000  0 [A.java]",
         ),
+        (
+            "--report|other|A.java",
+            "4 other false 1000000  0 [A.java]",
+        ),
         ("--|-x|--run", "4 plain false 1000000  0 [-x][--run]"),
         ("-", "4 plain false 1000000  0 [-]"),
         ("", "4 plain false 1000000  0 []"),
@@ -117,7 +121,6 @@ fn refuses_words(rt: HostRuntime) {
         "--workers|00000000004|A.java",
         "A.java|--workers",
         "--workers|1|--workers|1|A.java",
-        "--report|none|A.java",
         "--report=|A.java",
         "--run",
         "--run|--run|A.java",
