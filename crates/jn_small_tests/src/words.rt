@@ -73,10 +73,7 @@ fn takes_words(rt: HostRuntime) {
             "--report=tabbed|A.java",
             "4 tabbed false 1000000  0 [A.java]",
         ),
-        (
-            "--report|other|A.java",
-            "4 other false 1000000  0 [A.java]",
-        ),
+        ("--report|other|A.java", "4 other false 1000000  0 [A.java]"),
         ("--|-x|--run", "4 plain false 1000000  0 [-x][--run]"),
         ("-", "4 plain false 1000000  0 [-]"),
         ("", "4 plain false 1000000  0 []"),
