@@ -82,11 +82,12 @@ number_or default text = unwrap_or (option_and_then number_of text) default
 
 -- ---- usage
 
-abbrev pub is_report : List ℕ → Bool
-is_report name = bytes_eq name (codes "plain") || bytes_eq name (codes "tabbed") || bytes_eq name (codes "summary")
-
 abbrev pub is_empty : {X : Type 0} → List X → Bool
 is_empty xs = length xs == 0
+
+-- a name that a reporter may have: any but the empty one
+abbrev pub is_report : List ℕ → Bool
+is_report name = not (is_empty name)
 
 -- a value is not one that its option takes
 abbrev pub has_bad_value : Options → Bool

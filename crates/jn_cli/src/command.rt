@@ -1,5 +1,5 @@
 // The command that the words give.
-ghost use Rattle.std.specs.Prelude.{◌≡◌, ◌<◌, ◌^◌, ◌==◌, IfOk, false, true, map, not, string_bytes, unwrap_or};
+ghost use Rattle.std.specs.Prelude.{◌≡◌, ◌≤◌, ◌<◌, ◌^◌, ◌==◌, IfOk, false, true, map, not, string_bytes, unwrap_or};
 ghost use Rattle.std.specs.List.{filter, slice_split};
 ghost use Rattle.jn_cli.specs.Refused.{IfRefused};
 ghost use Rattle.jn_cli.specs.Words as spec;
@@ -15,7 +15,7 @@ use std::alloc::{AllocError, Global};
 pub struct Command {
     /// 1 to 16.
     pub workers: u32,
-    /// `plain`, `tabbed` or `summary`.
+    /// The name of the reporter that shows the report, not empty; `plain` where none is given.
     pub report: Text,
     pub run: bool,
     /// 1 to 1,000,000,000.
@@ -36,6 +36,10 @@ pub fn read_words(alloc: Global, words: &[String]) -> Result<Command, Fail<Usage
     ensures taken { IfOk result (λ c. spec.is_usage (map string_bytes words.now) ≡ false) }
     ensures ok { IfOk result (λ c. c ≡ spec.command_of (spec.options_of (map string_bytes words.now))) }
     ensures usage { IfRefused result (spec.is_usage (map string_bytes words.now) ≡ true) }
+    // The numbers are those that their options take, or the defaults.
+    ensures workers { IfOk result (λ c. (1 ≤ c.workers) × (c.workers ≤ 16)) }
+    ensures steps { IfOk result (λ c. (1 ≤ c.steps) × (c.steps ≤ 1000000000)) }
+    ensures classes { IfOk result (λ c. c.classes ≤ 500) }
 {
     let options = match read_options(alloc, words) {
         Err(fail) => return Err(fail),

@@ -17,10 +17,11 @@ pub struct Options {
     pub files: Seq<Text>,
 }
 
+/// Whether a reporter may have the name; the command's reporters tell whether one has it.
 fn is_report(name: &str) -> bool
     ensures { result ≡ spec.is_report name.now }
 {
-    name == "plain" || name == "tabbed" || name == "summary"
+    name.len() != 0
 }
 
 fn has_bad_value(options: &Options) -> bool

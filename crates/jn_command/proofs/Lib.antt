@@ -1,2 +1,5 @@
+pub mod Asking
+pub mod Boxing
+pub mod Choosing
 pub mod Showing
 pub mod Written

@@ -13,7 +13,6 @@ use Rattle.jn_diag.specs.declared.shown.Verdict.TheVariants.{Refused as RefusedV
 use Rattle.jn_diag.specs.declared.sweep.Position.{Position}
 use Rattle.jn_diag.specs.Shown.{row_shown}
 use Rattle.jn_diag.specs.Sweep.{IsPosition}
-use Rattle.jn_reporters.specs.Reports.{plain_shown}
 use Rattle.jn_front.specs.declared.source.SourceFile.{SourceFile}
 use Rattle.jn_front.specs.declared.source.SourceRead.{SourceRead}
 use Rattle.jn_front.specs.Files.{names_of, files_of_reads, AreReads, IsReadOf, most_files}
@@ -108,9 +107,14 @@ same_rows reads files [] are stand = refl
 same_rows reads files (row ∷ rows) are stand =
     ap (λ r. r ∷ map (row_of (files_of_reads reads)) rows) (same_at reads files row.span.file.0 row are stand.0) ∙ ap (λ rs. row_of files row ∷ rs) (same_rows reads files rows are stand.1)
 
-pub same_text : (reads : List SourceRead) (files : List SourceFile) (report : Report) (rows : List RowText) (verdict : Option Verdict) → AreReads reads files → StandIn reads (rows_of report) → rows ≡ map (row_of (files_of_reads reads)) (rows_of report) → verdict ≡ Some (verdict_of report) → plain_shown rows verdict ≡ shown files report
-same_text reads files report rows verdict are stand lines end =
-    ap (λ rs. plain_shown rs verdict) (lines ∙ same_rows reads files (rows_of report) are stand) ∙ ap (λ v. plain_shown (map (row_of files) (rows_of report)) v) end
+-- what is shown of a report: the function of the rows and the verdict
+abbrev Shows : Type 0
+Shows = List RowText → Option Verdict → List ℕ
+
+pub same_text : (show kept : Shows) (reads : List SourceRead) (files : List SourceFile) (report : Report) (rows : List RowText) (verdict : Option Verdict) → kept ≡ show → AreReads reads files → StandIn reads (rows_of report) → rows ≡ map (row_of (files_of_reads reads)) (rows_of report) → verdict ≡ Some (verdict_of report) → kept rows verdict ≡ shown show files report
+same_text show kept reads files report rows verdict same are stand lines end =
+    ap (λ (f : Shows). f rows verdict) same
+    ∙ ap (λ rs. show rs verdict) (lines ∙ same_rows reads files (rows_of report) are stand) ∙ ap (λ v. show (map (row_of files) (rows_of report)) v) end
 
 -- ---- more files than there may be
 
@@ -129,11 +133,12 @@ name_of_file (file ∷ files) zero name row is from = ap (λ n. row_shown n [] r
     same_name e = cc
 name_of_file (file ∷ files) (suc k) name row is from = name_of_file files k name row is from
 
-pub number_text : (files : List SourceFile) (names : List (List ℕ)) (name : List ℕ) (report : Report) (rows : List RowText) (verdict : Option Verdict) → names_of files ≡ names → slice_get names most_files ≡ Some name → report ≡ Refused (row_at most_files B1 ∷ []) → rows ≡ row_shown name [] (row_at 64 B1) ∷ [] → verdict ≡ Some (RefusedVerdict 1) → plain_shown rows verdict ≡ shown files report
-number_text files names name report rows verdict named is refused lines end =
-    ap (λ rs. plain_shown rs verdict) (lines ∙ ap (λ r. r ∷ []) (name_of_file files most_files name (row_at most_files B1) (ap (λ ns. slice_get ns most_files) named ∙ is) refl))
-    ∙ ap (λ v. plain_shown (row_of files (row_at most_files B1) ∷ []) v) end
-    ∙ ap (shown files) (sym refused)
+pub number_text : (show kept : Shows) (files : List SourceFile) (names : List (List ℕ)) (name : List ℕ) (report : Report) (rows : List RowText) (verdict : Option Verdict) → kept ≡ show → names_of files ≡ names → slice_get names most_files ≡ Some name → report ≡ Refused (row_at most_files B1 ∷ []) → rows ≡ row_shown name [] (row_at 64 B1) ∷ [] → verdict ≡ Some (RefusedVerdict 1) → kept rows verdict ≡ shown show files report
+number_text show kept files names name report rows verdict same named is refused lines end =
+    ap (λ (f : Shows). f rows verdict) same
+    ∙ ap (λ rs. show rs verdict) (lines ∙ ap (λ r. r ∷ []) (name_of_file files most_files name (row_at most_files B1) (ap (λ ns. slice_get ns most_files) named ∙ is) refl))
+    ∙ ap (λ v. show (row_of files (row_at most_files B1) ∷ []) v) end
+    ∙ ap (shown show files) (sym refused)
 
 -- the name at a place
 pub name_there : (words : List (String Global)) (i : ℕ) (d : String Global) (text : List ℕ) → i < length words → d ≡ get_or words i d → text ≡ string_bytes d → slice_get (map string_bytes words) i ≡ Some text

@@ -1,7 +1,9 @@
-pub mod Words
 pub mod Status
 pub mod Reports
 pub mod Shown
 pub mod Stands
-pub mod Answer
+pub mod Reporters
+pub mod Asked
 pub mod Made
+pub mod Outputs
+pub mod Answer

@@ -1,11 +1,18 @@
--- A report's status and text that were made, or no memory for them.
-use Rattle.std.specs.Prelude.{ℕ, List, Result, Ok, Err}
-use Rattle.jn_base.specs.declared.refusal.OutOfMemory.{OutOfMemory}
-use Rattle.jn_reporters.specs.Sheet.{Taken}
-use Rattle.jn_reporters.specs.Reports.{plain_shown}
-use Rattle.jn_command.specs.declared.status.Status.{Status}
+-- The program that a command makes in place of files.
+use Rattle.std.specs.Prelude.{◌≡◌, ℕ, zero, suc, ◌++◌, List, [], ◌∷◌, length, codes, decimal}
+use Rattle.jn_gen.specs.Generated.{program_lines, text_of}
+use Rattle.jn_front.specs.declared.source.SourceFile.{SourceFile}
 
--- what holds of a report's status and bytes, and what holds where there is none
-abbrev pub IfMade : Result (Status × Taken) OutOfMemory → (Status → List ℕ → Type 0) → Type 0 → Type 0
-IfMade (Ok r) made none = made r.0 (plain_shown r.1.rows r.1.verdict)
-IfMade (Err e) made none = none
+abbrev pub made_text : ℕ → List ℕ
+made_text classes = text_of (program_lines classes)
+
+abbrev pub made_file : List ℕ → SourceFile
+made_file text = record { name = codes "Gen.java"; bytes = text }
+
+abbrev pub made_line : ℕ → ℕ → List ℕ
+made_line classes size = codes "generated " ++ decimal classes ++ codes " classes, " ++ decimal size ++ codes " bytes\n"
+
+-- what stands before a report: nothing, or how large the program is that was made
+abbrev pub front_of : ℕ → List ℕ
+front_of zero = []
+front_of (suc n) = made_line (suc n) (length (made_text (suc n)))

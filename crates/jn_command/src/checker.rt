@@ -24,12 +24,18 @@ pub trait Checker {
     /// What is promised of files whose report has no row.
     ghost is_safe: { Self → List FileOf → Type 0 };
 
-    /// The report of files of which these were read, at most 64.
+    /// The report of files of which these were read, at most 64, found by so many workers.
     ///
     /// # Errors
     ///
     /// No memory was found.
-    fn check(&self, alloc: Global, reads: &[SourceRead]) -> Result<Report, OutOfMemory>
+    fn check(
+        &self,
+        alloc: Global,
+        workers: u32,
+        reads: &[SourceRead],
+    ) -> Result<Report, OutOfMemory>
+        requires workers { (1 ≤ workers) × (workers ≤ 16) }
         requires few { length reads.now ≤ most_files }
         requires fit { ReadsFit reads.now }
         requires read { (files : List FileOf) × AreReads reads.now files }

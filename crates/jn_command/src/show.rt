@@ -1,4 +1,4 @@
-//! The text of a report.
+//! A report, as a reporter takes it.
 ghost use Rattle.std.specs.Prelude.{◌≡◌, ◌⊎◌, ◌≤◌, ◌<◌, ◌∷◌, [], length, map, Some, IfOk, slice_get, string_bytes};
 ghost use Rattle.jn_base.specs.declared.code.Code.TheVariants.{B1};
 ghost use Rattle.jn_diag.specs.Shown.{row_shown};
@@ -14,7 +14,7 @@ use crate::report::Report;
 use jn_base::{Code, OutOfMemory, Row, Span, Text};
 use jn_diag::{Position, RowText, Verdict, place_behind};
 use jn_front::{SourceRead, row_at};
-use jn_reporters::{Plain, Reporter};
+use jn_reporters::Reporter;
 use std::alloc::Global;
 
 /// A place in one of the files that were read: rows come in order, so that each file is swept once.
@@ -92,29 +92,38 @@ fn row_of(
     }
 }
 
-/// The text of a report of files that were read, as the plain reporter shows it.
-pub fn show(alloc: Global, reads: &[SourceRead], report: &Report) -> Result<Plain, OutOfMemory>
-    requires { ReadsFit reads.now }
-    ensures rows { IfOk result (λ plain. plain.rows ≡ map (row_of (files_of_reads reads.now)) (rows_of report.now)) }
-    ensures verdict { IfOk result (λ plain. plain.verdict ≡ Some (verdict_of report.now)) }
+/// Hands the rows and the verdict of a report of files that were read to a reporter.
+pub fn show<P: Reporter>(
+    alloc: Global,
+    reads: &[SourceRead],
+    report: &Report,
+    reporter: P,
+) -> Result<P, OutOfMemory>
+    requires fit { ReadsFit reads.now }
+    requires fresh { P.rows reporter ≡ [] }
+    ensures rows { IfOk result (λ shower. P.rows shower ≡ map (row_of (files_of_reads reads.now)) (rows_of report.now)) }
+    ensures verdict { IfOk result (λ shower. P.given shower ≡ Some (verdict_of report.now)) }
+    ensures shown { IfOk result (λ shower. P.shown shower ≡ P.shown reporter) }
 {
-    let mut plain = Plain::new(alloc);
+    let mut shower = reporter;
     let mut place = Place {
         file: 0,
         position: Position::start(),
     };
     for row in report.rows() {
         let shown = row_of(alloc, reads, row, &mut place)?;
-        plain.take(&shown)?;
+        shower.take(&shown)?;
     }
-    plain.finish(report.verdict())?;
-    Ok(plain)
+    shower.finish(report.verdict())?;
+    Ok(shower)
 }
 
-/// The text of the report of more files than there may be, of which this is the name of the first that is too many.
-pub fn show_number(alloc: Global, name: &str) -> Result<Plain, OutOfMemory>
-    ensures rows { IfOk result (λ plain. plain.rows ≡ row_shown name.now [] (row_at 64 B1) ∷ []) }
-    ensures verdict { IfOk result (λ plain. plain.verdict ≡ Some (Verdict.Refused 1)) }
+/// Hands the report of more files than there may be to a reporter; this is the name of the first that is too many.
+pub fn show_number<P: Reporter>(alloc: Global, name: &str, reporter: P) -> Result<P, OutOfMemory>
+    requires fresh { P.rows reporter ≡ [] }
+    ensures rows { IfOk result (λ shower. P.rows shower ≡ row_shown name.now [] (row_at 64 B1) ∷ []) }
+    ensures verdict { IfOk result (λ shower. P.given shower ≡ Some (Verdict.Refused 1)) }
+    ensures shown { IfOk result (λ shower. P.shown shower ≡ P.shown reporter) }
 {
     let shown = RowText {
         name: Text::of_str(alloc, name)?,
@@ -122,8 +131,8 @@ pub fn show_number(alloc: Global, name: &str) -> Result<Plain, OutOfMemory>
         col: 1,
         code: Code::B1,
     };
-    let mut plain = Plain::new(alloc);
-    plain.take(&shown)?;
-    plain.finish(Verdict::Refused(1))?;
-    Ok(plain)
+    let mut shower = reporter;
+    shower.take(&shown)?;
+    shower.finish(Verdict::Refused(1))?;
+    Ok(shower)
 }

@@ -45,15 +45,17 @@ fn refused(rows: Vec<Row>) -> Result<Report, OutOfMemory>
 fn checked<R: Threads + Sync, G: Gate + Sync>(
     rt: &R,
     alloc: Global,
+    workers: u32,
     reads: &[SourceRead],
     base: &BaseTyped,
     gate: &G,
 ) -> Result<Report, OutOfMemory>
     requires program { TypedProgramOf (files_of_reads reads.now) base.now }
+    requires workers { (1 ≤ workers) × (workers ≤ 16) }
     ensures { IfOk result (λ r. IsReport (files_of_reads reads.now) r) }
 {
     regular_programs_are_inferable();
-    let rows = broken_rules(rt, alloc, base.program(), gate)?;
+    let rows = broken_rules(rt, alloc, base.program(), workers, gate)?;
     Ok(Report::Checked(Seq::of_vec(rows)))
 }
 
@@ -61,15 +63,17 @@ fn checked<R: Threads + Sync, G: Gate + Sync>(
 fn report_program<R: Threads + Sync, G: Gate + Sync>(
     rt: &R,
     alloc: Global,
+    workers: u32,
     reads: &[SourceRead],
     program: Program,
     gate: &G,
 ) -> Result<Report, OutOfMemory>
     requires program { ProgramOf (files_of_reads reads.now) program }
+    requires workers { (1 ≤ workers) × (workers ≤ 16) }
     ensures { IfOk result (λ r. IsReport (files_of_reads reads.now) r) }
 {
     match base_check(alloc, program) {
-        Ok(base) => return checked(rt, alloc, reads, &base, gate),
+        Ok(base) => return checked(rt, alloc, workers, reads, &base, gate),
         Err(Fail::Refused(rows)) => return refused(rows),
         Err(Fail::OutOfMemory) => return Err(OutOfMemory),
     }
@@ -79,6 +83,7 @@ fn report_program<R: Threads + Sync, G: Gate + Sync>(
 fn report_table<R: Threads + Sync, G: Gate + Sync>(
     rt: &R,
     alloc: Global,
+    workers: u32,
     reads: &[SourceRead],
     trees: &[FileTree],
     table: ClassTable,
@@ -86,10 +91,11 @@ fn report_table<R: Threads + Sync, G: Gate + Sync>(
 ) -> Result<Report, OutOfMemory>
     requires declared { (names : List (List ℕ)) × (tokens : List (List SpecToken)) × AreDeclared (files_of_reads reads.now) names tokens (map placed_file trees.now) }
     requires table { table ≡ heads (map placed_file trees.now) }
+    requires workers { (1 ≤ workers) × (workers ≤ 16) }
     ensures { IfOk result (λ r. IsReport (files_of_reads reads.now) r) }
 {
     match lower(alloc, table, trees) {
-        Ok(program) => return report_program(rt, alloc, reads, program, gate),
+        Ok(program) => return report_program(rt, alloc, workers, reads, program, gate),
         Err(Fail::Refused(rows)) => return refused(rows.into_vec()),
         Err(Fail::OutOfMemory) => return Err(OutOfMemory),
     }
@@ -99,15 +105,17 @@ fn report_table<R: Threads + Sync, G: Gate + Sync>(
 fn report_trees<R: Threads + Sync, G: Gate + Sync>(
     rt: &R,
     alloc: Global,
+    workers: u32,
     reads: &[SourceRead],
     trees: &[FileTree],
     gate: &G,
 ) -> Result<Report, OutOfMemory>
     requires parsed { (names : List (List ℕ)) × (tokens : List (List SpecToken)) × AreParsed (files_of_reads reads.now) names tokens (map placed_file trees.now) }
+    requires workers { (1 ≤ workers) × (workers ≤ 16) }
     ensures { IfOk result (λ r. IsReport (files_of_reads reads.now) r) }
 {
     match build(alloc, trees) {
-        Ok(table) => return report_table(rt, alloc, reads, trees, table, gate),
+        Ok(table) => return report_table(rt, alloc, workers, reads, trees, table, gate),
         Err(Fail::Refused(rows)) => return refused(rows.into_vec()),
         Err(Fail::OutOfMemory) => return Err(OutOfMemory),
     }
@@ -124,12 +132,14 @@ fn no_rows(rows: &Vec<Row>) -> bool
 fn report<R: Threads + Sync, G: Gate + Sync>(
     rt: &R,
     alloc: Global,
+    workers: u32,
     reads: &[SourceRead],
     gate: &G,
 ) -> Result<Report, OutOfMemory>
     requires few { length reads.now ≤ 64 }
     requires fit { ReadsFit reads.now }
     requires read { (files : List SpecFile) × AreReads reads.now files }
+    requires workers { (1 ≤ workers) × (workers ≤ 16) }
     ensures report { IfOk result (λ r. (files : List SpecFile) → AreReads reads.now files → IsReport files r) }
     ensures stand { IfOk result (λ r. StandIn reads.now (rows_of r)) }
 {
@@ -145,7 +155,7 @@ fn report<R: Threads + Sync, G: Gate + Sync>(
     if !no_rows(&parsed.rows) {
         return refused(parsed.rows);
     }
-    report_trees(rt, alloc, reads, &parsed.trees, gate)
+    report_trees(rt, alloc, workers, reads, &parsed.trees, gate)
 }
 
 /// The checker of the subset, over a runtime that gives threads and a gate that workers enter.
@@ -159,9 +169,14 @@ impl<'a, R: Threads + Sync, G: Gate + Sync> Checker for SubsetChecker<'a, R, G> 
 
     ghost is_safe = { λ checker. IsSafe };
 
-    fn check(&self, alloc: Global, reads: &[SourceRead]) -> Result<Report, OutOfMemory> {
+    fn check(
+        &self,
+        alloc: Global,
+        workers: u32,
+        reads: &[SourceRead],
+    ) -> Result<Report, OutOfMemory> {
         accepted_files_are_safe();
-        report(self.rt, alloc, reads, self.gate)
+        report(self.rt, alloc, workers, reads, self.gate)
     }
 
     fn refuse_number(&self, alloc: Global) -> Result<Report, OutOfMemory> {

@@ -1,12 +1,13 @@
 use Rattle.std.proofs.Common.{sym, subst}
 use Rattle.jn_command.specs.Answer.{reading, Answers}
+use Rattle.jn_command.proofs.Asking.{by_refused}
 use Rattle.jn_command.proofs.Written.{usage}
 use Rattle.jn_command.proofs.answering.answer.Goals as goal
 
-pub returns-then-name_files-clause-answer : goal.returns-then-name_files-clause-answer
-returns-then-name_files-clause-answer g c =
-    subst (λ names. Answers (g.C.Checker.is_report c.args.checker.now) (g.C.Checker.is_safe c.args.checker.now) (reading (g.F.Files.held c.args.files.now) (g.F.Files.gave c.args.files.now) (g.F.Files.gave c.answer_named.new.files)) names (g.K.Sink.written c.args.out.now) (g.K.Sink.written c.answer_named.new.out) c.answer_named.result) (sym (c.name_files.ensures.yes c.if-name_files.true)) c.answer_named.ensures.answer
+pub returns-in-Ok-clause-answer : goal.returns-in-Ok-clause-answer
+returns-in-Ok-clause-answer g c =
+    subst (λ asked. Answers (g.C.Checker.is_report c.args.checker.now) (g.C.Checker.is_safe c.args.checker.now) (reading (g.F.Files.held c.args.files.now) (g.F.Files.gave c.args.files.now) (g.F.Files.gave c.answer_command.new.files)) asked (g.K.Sink.written c.args.out.now) (g.K.Sink.written c.answer_command.new.out) c.answer_command.result) (sym c.in-Ok.ensures.asked) c.answer_command.ensures.answer
 
-pub returns-else-name_files-clause-answer : goal.returns-else-name_files-clause-answer
-returns-else-name_files-clause-answer g c =
-    usage (g.C.Checker.is_report c.args.checker.now) (g.C.Checker.is_safe c.args.checker.now) (reading (g.F.Files.held c.args.files.now) (g.F.Files.gave c.args.files.now) (g.F.Files.gave c.args.files.now)) _ (g.K.Sink.written c.args.out.now) (g.K.Sink.written c.finish.new.out) c.as_bytes.result.now _ _ c.finish.result (c.name_files.ensures.no c.if-name_files.false) c.as_bytes.ensures.value c.finish.ensures
+pub returns-in-Err-Refused-clause-answer : goal.returns-in-Err-Refused-clause-answer
+returns-in-Err-Refused-clause-answer g c =
+    usage (g.C.Checker.is_report c.args.checker.now) (g.C.Checker.is_safe c.args.checker.now) (reading (g.F.Files.held c.args.files.now) (g.F.Files.gave c.args.files.now) (g.F.Files.gave c.args.files.now)) _ (g.K.Sink.written c.args.out.now) (g.K.Sink.written c.finish.new.out) c.as_bytes.result.now _ _ c.finish.result (by_refused c.in-Err-Refused.field-0 _ c.in-Err-Refused.field-0-is c.in-Err-Refused.ensures.usage) c.as_bytes.ensures.value c.finish.ensures

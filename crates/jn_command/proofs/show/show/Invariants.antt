@@ -5,4 +5,4 @@ use Rattle.jn_command.specs.Stands.{IsPlace}
 use Rattle.jn_command.proofs.show.show.Given as goal
 
 abbrev pub invariant-loop-row : goal.invariant-loop-row
-invariant-loop-row l = IsPlace l.reads l.place × (l.plain.rows ≡ map (row_of (files_of_reads l.reads)) (take l.row-index l.row-items))
+invariant-loop-row g l = IsPlace l.reads l.place × (g.P.Reporter.rows l.shower ≡ map (row_of (files_of_reads l.reads)) (take l.row-index l.row-items)) × (g.P.Reporter.shown l.shower ≡ g.P.Reporter.shown l.fn.reporter)

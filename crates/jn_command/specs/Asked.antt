@@ -1,0 +1,30 @@
+-- What the words of the command line ask for.
+use Rattle.std.specs.Prelude.{ℕ, List, Option, Some, None, if◌then◌else◌, codes}
+use Rattle.jn_diag.specs.declared.shown.RowText.{RowText}
+use Rattle.jn_diag.specs.declared.shown.Verdict.{Verdict}
+use Rattle.jn_cli.specs.declared.command.Command.{Command}
+use Rattle.jn_cli.specs.Words.{command_of, is_usage, options_of}
+use Rattle.jn_command.specs.Reporters.{Form, first_named}
+
+-- a command, and how the report of its files is shown
+pub record Asked : Type 0 where
+  pub command : Command
+  pub show : List RowText → Option Verdict → List ℕ
+
+abbrev pub asked : Command → (List RowText → Option Verdict → List ℕ) → Asked
+asked command show = record { command = command; show = show }
+
+abbrev pub shown_by : Command → Option Form → Option Asked
+shown_by command None = None
+shown_by command (Some form) = Some (asked command form.shown)
+
+-- a command with the first reporter of its name; none where no reporter has it, or where a run is asked for
+abbrev pub asked_by : List Form → Command → Option Asked
+asked_by forms command = if command.run then None else shown_by command (first_named command.report forms)
+
+-- what the words ask for; none where they are not those of a command
+unfoldable pub asked_of : List Form → List (List ℕ) → Option Asked
+asked_of forms words = if is_usage words then None else asked_by forms (command_of (options_of words))
+
+abbrev pub usage_line : List ℕ
+usage_line = codes "usage: nullcheck [--workers N] [--report NAME] [--run] [--steps N] [--words TEXT] [--gen N] FILE..\n"

@@ -1,0 +1,21 @@
+-- Reporters as a command sees them, and which of them it takes.
+use Rattle.std.specs.Prelude.{◌≡◌, ℕ, List, [], ◌∷◌, Option, Some, None, if◌then◌else◌}
+use Rattle.std.specs.Str.{bytes_eq}
+use Rattle.jn_diag.specs.declared.shown.RowText.{RowText}
+use Rattle.jn_diag.specs.declared.shown.Verdict.{Verdict}
+
+-- a reporter: its name, the rows that it took so far, and the bytes that it makes of rows and a verdict
+pub record Form : Type 0 where
+  pub title : List ℕ
+  pub rows : List RowText
+  pub shown : List RowText → Option Verdict → List ℕ
+
+-- no reporter has taken a row
+abbrev pub AllFresh : List Form → Type 0
+AllFresh [] = Unit {0}
+AllFresh (form ∷ forms) = (form.rows ≡ []) × AllFresh forms
+
+-- the first reporter with the name
+abbrev pub first_named : List ℕ → List Form → Option Form
+first_named name [] = None
+first_named name (form ∷ forms) = if bytes_eq form.title name then Some form else first_named name forms

@@ -1,0 +1,52 @@
+//! The reporter that a command takes.
+ghost use Rattle.std.specs.Prelude.{◌≡◌, map, MatchOption, None, Some};
+ghost use Rattle.std.specs.Option.{option_map};
+ghost use Rattle.jn_command.specs.Reporters.{Form, first_named};
+
+use jn_base::OutOfMemory;
+use jn_diag::{RowText, Verdict};
+use jn_reporters::Reporter;
+
+/// A reporter out of its list.
+#[derive(Drop)]
+pub struct Chosen {
+    reporter: Box<dyn Reporter>,
+}
+
+impl Reporter for Chosen {
+    ghost rows = { λ a. (Reporter-box a.reporter).rows a.reporter.value };
+
+    ghost given = { λ a. (Reporter-box a.reporter).given a.reporter.value };
+
+    ghost title = { λ a. (Reporter-box a.reporter).title a.reporter.value };
+
+    ghost shown = { λ a. (Reporter-box a.reporter).shown a.reporter.value };
+
+    fn name(&self) -> &str {
+        self.reporter.name()
+    }
+
+    fn take(&mut self, row: &RowText) -> Result<(), OutOfMemory> {
+        self.reporter.take(row)
+    }
+
+    fn finish(&mut self, verdict: Verdict) -> Result<(), OutOfMemory> {
+        self.reporter.finish(verdict)
+    }
+
+    fn bytes(&self) -> &[u8] {
+        self.reporter.bytes()
+    }
+}
+
+/// The first reporter of the list that has the name.
+pub fn choose(reporters: Vec<Box<dyn Reporter>>, name: &str) -> Option<Chosen>
+    ensures { first_named name.now (map (λ b. record { title = title b; rows = rows b; shown = shown b }) reporters.items) ≡ option_map (λ a. record { title = title a.reporter; rows = rows a.reporter; shown = shown a.reporter }) result }
+{
+    for reporter in reporters {
+        if reporter.name() == name {
+            return Some(Chosen { reporter });
+        }
+    }
+    None
+}
