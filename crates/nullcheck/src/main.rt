@@ -2,7 +2,7 @@
 #![tactic(auto)]
 
 use jn_outside::{HostFiles, HostSink};
-use jn_reporters::{Plain, Reporter, Summary, Tabbed};
+use jn_reporters::{Checkstyle, Github, Plain, Reporter, Sarif, Summary, Tabbed};
 use jn_workers::Straight;
 use nullcheck_top::{Status, nullcheck};
 use std::alloc::AllocError;
@@ -29,6 +29,9 @@ fn checked(rt: &HostRuntime, words: &[String]) -> Result<Status, AllocError> {
     reporters.push(Box::new(alloc, Plain::new(alloc))?)?;
     reporters.push(Box::new(alloc, Tabbed::new(alloc))?)?;
     reporters.push(Box::new(alloc, Summary::new(alloc))?)?;
+    reporters.push(Box::new(alloc, Github::new(alloc))?)?;
+    reporters.push(Box::new(alloc, Checkstyle::new(alloc))?)?;
+    reporters.push(Box::new(alloc, Sarif::new(alloc))?)?;
     let mut files = HostFiles::new(rt);
     let mut out = HostSink::new(rt);
     Ok(nullcheck(rt, alloc, words, reporters, &mut files, &mut out, &Straight))
