@@ -11,15 +11,16 @@ ghost use Rattle.jn_scopes.specs.Views.{Few};
 ghost use Rattle.jn_lower_rows.specs.Views.{setting_of};
 ghost use Rattle.jn_lower_rows.specs.Standing.{Stands};
 
-use crate::entry::{Whole, class_of, entry, is_ctor, name_span, no_names};
+use crate::entry::{Whole, entry, no_names};
 use crate::initializers::{all_initializers, place_of};
-use crate::members::{class_at, ctor_rows};
+use crate::members::ctor_rows;
 use crate::setting::{NO_THIS, Setting};
 use crate::standing::{Names, context};
 use crate::statements::{look_all, statements};
 use jn_base::{ClassNo, MethodNo, Row, Seq, Span};
 use jn_index::indexed::IndexedProgram;
 use jn_scopes::forms::count;
+use jn_scopes::heads::{class_of, is_ctor, is_under_object, name_span};
 use jn_scopes::members::{is_static, parent_or_object};
 use jn_trees::{Expr, Member, Parameter, Stmt};
 use std::alloc::{AllocError, Global};
@@ -40,19 +41,6 @@ fn ctor_call(
     look_all(arguments, &place, names, rows)?;
     ctor_rows(rows, &context(&place, names), class, count(arguments), span)?;
     Ok(())
-}
-
-/// Object's constructor calls none, nor does one that stands right under Object.
-fn is_under_object(program: &IndexedProgram, class: ClassNo) -> bool
-    ensures { result ≡ bodies.is_under_object (parent_of (class_info program.now class.0)) }
-{
-    match class_at(program, class) {
-        None => true,
-        Some(info) => match info.parent {
-            None => true,
-            Some(parent) => parent.0 == 0,
-        },
-    }
 }
 
 /// `super()` where neither is written (JLS 8.8.7).

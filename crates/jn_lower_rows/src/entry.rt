@@ -1,18 +1,18 @@
-// What a body begins with: its class, and its parameters in scope (JLS 8.4.1).
+// What a body begins with: its parameters in scope (JLS 8.4.1).
 ghost use Rattle.std.specs.Prelude.{◌≡◌, ◌≤◌, [], drop, length, IfOk};
-ghost use Rattle.jn_points.specs.Lookup.{ctor_of, method_at, params_of};
+ghost use Rattle.jn_points.specs.Lookup.{method_at, params_of};
 ghost use Rattle.jn_places.specs.PlacedView.{placed_parameters};
 ghost use Rattle.jn_lowering.specs.Bodies as bodies;
 ghost use Rattle.jn_lowering.specs.Locals.{has_final, parameters_from};
 ghost use Rattle.jn_scopes.specs.Views.{local_of, scope_of};
 ghost use Rattle.jn_lower_rows.specs.Standing.{AllWithin, Stands, WellKept, plain};
 
-use crate::members::method_at;
 use crate::notes::has_final;
 use crate::standing::Names;
-use jn_base::{ClassNo, FileNo, MethodNo, RegNo, Span};
+use jn_base::{MethodNo, RegNo};
 use jn_index::indexed::IndexedProgram;
 use jn_points::BaseType;
+use jn_scopes::heads::params_of;
 use jn_scopes::{Faults, Variable};
 use jn_trees::Parameter;
 use std::alloc::{AllocError, Global};
@@ -23,40 +23,6 @@ pub struct Whole<'a> {
     pub program: &'a IndexedProgram,
     pub method: MethodNo,
     pub alloc: Global,
-}
-
-/// The class of a method.
-pub fn class_of(program: &IndexedProgram, method: MethodNo) -> ClassNo
-    ensures { result.0 ≡ bodies.class program.now method.0 }
-{
-    match method_at(program, method) {
-        None => ClassNo(0),
-        Some(info) => info.owner,
-    }
-}
-
-/// Whether a method is a constructor.
-pub fn is_ctor(program: &IndexedProgram, method: MethodNo) -> bool
-    ensures { result ≡ ctor_of (method_at program.now method.0) }
-{
-    match method_at(program, method) {
-        None => false,
-        Some(info) => info.ctor,
-    }
-}
-
-/// Where a method's name stands.
-pub fn name_span(program: &IndexedProgram, method: MethodNo) -> Span
-    ensures { result ≡ bodies.name_span program.now method.0 }
-{
-    match method_at(program, method) {
-        None => Span {
-            file: FileNo(0),
-            from: 0,
-            to: 0,
-        },
-        Some(info) => info.span,
-    }
 }
 
 /// No names.
@@ -116,10 +82,8 @@ fn parameter_scope(
 fn entry_scope(whole: &Whole, parameters: &[Parameter]) -> Result<Vec<Variable>, AllocError>
     ensures { IfOk result (λ vs. (scope_of [] vs.items ≡ plain (parameters_from 0 (placed_parameters parameters.now) (params_of (method_at whole.now.program.now whole.now.method.0)))) × AllWithin 0 vs.items) }
 {
-    match method_at(whole.program, whole.method) {
-        None => parameter_scope(whole.alloc, parameters, &[]),
-        Some(info) => parameter_scope(whole.alloc, parameters, info.params.as_slice()),
-    }
+    let bases = params_of(whole.program, whole.method);
+    parameter_scope(whole.alloc, parameters, bases)
 }
 
 /// The names in scope where a body begins.

@@ -1,6 +1,5 @@
 // Rows of the initializers of a class's fields (JLS 8.3.2 and 12.5).
-ghost use Rattle.std.specs.Prelude.{◌≡◌, ◌++◌, ◌&&◌, ◌||◌, [], eqb, not, OnOk, MatchOption, None, Some};
-ghost use Rattle.jn_points.specs.Members as members;
+ghost use Rattle.std.specs.Prelude.{◌≡◌, ◌++◌, [], not, OnOk, Some};
 ghost use Rattle.jn_places.specs.PlacedView.{placed_declarators, placed_member, placed_members, placed_optional, placed_view};
 ghost use Rattle.jn_lowering.specs.Annotations as annotated;
 ghost use Rattle.jn_lowering.specs.Bodies as bodies;
@@ -9,15 +8,13 @@ ghost use Rattle.jn_lowering.specs.Calls.{is_static};
 ghost use Rattle.jn_lowering.specs.ExpressionRows.{rows_of};
 ghost use Rattle.jn_scopes.specs.Views.{Few};
 
-use crate::entry::{Whole, class_of};
+use crate::entry::Whole;
 use crate::setting::{INITIALIZER, Setting};
 use crate::standing::{Names, Place};
 use crate::statements::look;
-use jn_base::{ClassNo, FieldNo, NameNo, Row, Seq};
-use jn_index::fields;
-use jn_index::indexed::IndexedProgram;
-use jn_points::{Field, Program};
-use jn_scopes::members::is_static_field;
+use jn_base::{FieldNo, NameNo, Row, Seq};
+use jn_scopes::heads::class_of;
+use jn_scopes::members::{declared_field, is_static_field};
 use jn_trees::{Declarator, Expr, Member};
 use std::alloc::AllocError;
 
@@ -30,41 +27,6 @@ pub fn place_of<'a>(whole: &Whole<'a>, at: Setting) -> Place<'a>
         class: class_of(whole.program, whole.method),
         at,
         alloc: whole.alloc,
-    }
-}
-
-fn declares(field: &Field, name: NameNo, class: ClassNo) -> bool
-    ensures { result ≡ (eqb field.now.name.0 name.0 && eqb field.now.owner.0 class.0 && (not field.now.is_private || eqb class.0 class.0)) }
-{
-    field.name.0 == name.0 && field.owner.0 == class.0
-}
-
-/// The field of the name that the class itself declares, by the program's lists.
-fn listed_field(program: &Program, name: NameNo, class: ClassNo) -> Option<FieldNo>
-    requires few { Few program.now }
-    ensures { MatchOption result (members.declared_field program.now class.0 name.0 class.0 ≡ None) (λ f. members.declared_field program.now class.0 name.0 class.0 ≡ Some f.0) }
-{
-    let fields = program.fields.as_slice();
-    for (number, field) in fields.iter().enumerate() {
-        if declares(field, name, class) {
-            return Some(FieldNo(number as u32));
-        }
-    }
-    None
-}
-
-/// The field of the name that the class itself declares.
-fn declared_field(program: &IndexedProgram, name: NameNo, class: ClassNo) -> Option<FieldNo>
-    requires few { Few program.now }
-    ensures { MatchOption result (members.declared_field program.now class.0 name.0 class.0 ≡ None) (λ f. members.declared_field program.now class.0 name.0 class.0 ≡ Some f.0) }
-{
-    let lists = program.program();
-    match program.index() {
-        Some(index) => match fields::declared_field(lists, index, class, name, class.0) {
-            None => None,
-            Some(number) => Some(FieldNo(number)),
-        },
-        None => listed_field(lists, name, class),
     }
 }
 
@@ -99,7 +61,7 @@ fn value_rows(
     ensures { OnOk result (rows.new ≡ rows.old ++ spec.initializer_rows whole.now.program.now whole.now.method.0 name.0 (Some (placed_view value.now))) }
 {
     let class = class_of(whole.program, whole.method);
-    match declared_field(whole.program, name, class) {
+    match declared_field(whole.program, class, name) {
         None => Ok(()),
         Some(field) => field_rows(whole, none, field, value, rows),
     }

@@ -11,12 +11,12 @@ ghost use Rattle.jn_lowering.specs.BodyRows as spec;
 ghost use Rattle.jn_scopes.specs.Views.{Few};
 ghost use Rattle.jn_lower_rows.specs.Large.{AllNarrow, IsNarrow, code, facts_at, facts_of};
 
-use crate::entry::{class_of, is_ctor, name_span};
 use crate::row::push_if;
 use jn_base::{Code, FieldNo, MethodNo, RegNo, Row, Seq};
 use jn_env::keys::{is_ref_field, owner};
 use jn_index::indexed::IndexedProgram;
 use jn_points::{Body, Origin, PointKind};
+use jn_scopes::heads::{class_of, is_ctor, name_span};
 use std::alloc::{AllocError, Global};
 use std::collections::HashSet;
 

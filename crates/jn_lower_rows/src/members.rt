@@ -13,8 +13,9 @@ use crate::setting::Setting;
 use jn_base::{ClassNo, Code, FieldNo, MethodNo, NameNo, Row, Seq, Span};
 use jn_index::indexed::IndexedProgram;
 use jn_known::{EQUALS, IS_EMPTY, LENGTH};
-use jn_points::{BaseType, Class, Field, Method};
+use jn_points::{BaseType, Field};
 use jn_scopes::Context;
+use jn_scopes::heads::{class_at, method_at};
 use jn_scopes::members::{
     class_named, constructor_of, field_of, is_static, is_static_field, method_of, super_method,
 };
@@ -26,20 +27,6 @@ fn field_at(program: &IndexedProgram, field: FieldNo) -> Option<&Field>
     ensures { MatchOption result (field_info program.now field.0 ≡ None) (λ f. field_info program.now field.0 ≡ Some f.now) }
 {
     program.program().fields.as_slice().get(field.0 as usize)
-}
-
-/// The method of a number.
-pub fn method_at(program: &IndexedProgram, method: MethodNo) -> Option<&Method>
-    ensures { MatchOption result (method_at program.now method.0 ≡ None) (λ m. method_at program.now method.0 ≡ Some m.now) }
-{
-    program.program().methods.as_slice().get(method.0 as usize)
-}
-
-/// The class of a number.
-pub fn class_at(program: &IndexedProgram, class: ClassNo) -> Option<&Class>
-    ensures { MatchOption result (class_info program.now class.0 ≡ None) (λ c. class_info program.now class.0 ≡ Some c.now) }
-{
-    program.program().classes.as_slice().get(class.0 as usize)
 }
 
 /// Whether a field is final (JLS 8.3.1.2).

@@ -8,13 +8,13 @@ ghost use Rattle.jn_lower_stmt.specs.Stating.{StepsOn};
 
 use crate::construction::{construct, initializers};
 use crate::forms::statements;
-use crate::heads::{is_ctor, name_of};
 use crate::pieces::label;
 use crate::state::{BodyContext, State, Ways};
 use jn_base::{MethodNo, OutOfMemory};
 use jn_lower_expr::emitter::{Emitter, place};
 use jn_lower_expr::values::step;
 use jn_points::PointKind;
+use jn_scopes::heads::{is_ctor, name_span};
 use jn_trees::{Member, Parameter, Stmt};
 
 /// What the body of a method is made of: the trees of the method, and of its class's members.
@@ -123,7 +123,7 @@ pub fn whole(
     step(
         e,
         PointKind::Return { value: None },
-        name_of(c.program, source.method),
+        name_span(c.program, source.method),
     )?;
     Ok(())
 }

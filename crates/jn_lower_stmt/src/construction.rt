@@ -1,6 +1,5 @@
 //! The call of another constructor with which a constructor begins, and the initializers of fields (JLS 8.8.7 and 12.5).
-ghost use Rattle.std.specs.Prelude.{◌≡◌, ◌&&◌, ◌||◌, ℕ, eqb, not, option_map, MatchOption, None, OnOk, Some};
-ghost use Rattle.jn_points.specs.Members as members;
+ghost use Rattle.std.specs.Prelude.{◌≡◌, ℕ, option_map, OnOk, Some};
 ghost use Rattle.jn_points.specs.declared.point.PointKind.TheVariants.{FieldWrite};
 ghost use Rattle.jn_lowering.specs.Expressions as expressions;
 ghost use Rattle.jn_lowering.specs.Fragments.{does, then};
@@ -16,17 +15,15 @@ ghost use Rattle.jn_scopes.specs.Views.{Few};
 ghost use Rattle.jn_lowering.specs.Calls.{this_operand};
 ghost use Rattle.jn_lower_stmt.specs.Stating.{StepsOn};
 
-use crate::heads::{is_under_object, name_of};
 use crate::pieces::through;
 use crate::state::{BodyContext, State, evaluate_all, evaluate_outside};
-use jn_base::{ClassNo, FieldNo, MethodNo, NameNo, OutOfMemory, RegNo, Seq, Span};
-use jn_index::fields;
-use jn_index::indexed::IndexedProgram;
+use jn_base::{ClassNo, FieldNo, MethodNo, OutOfMemory, RegNo, Seq, Span};
 use jn_lower_expr::emitter::Emitter;
 use jn_lower_expr::values::step;
-use jn_points::{Field, Operand, PointKind, Program};
+use jn_points::{Operand, PointKind};
 use jn_scopes::forms::span_of;
-use jn_scopes::members::{constructor_of, is_static_field, parent_or_object};
+use jn_scopes::heads::{is_under_object, name_span};
+use jn_scopes::members::{constructor_of, declared_field, is_static_field, parent_or_object};
 use jn_trees::{Declarator, Expr, Member, Stmt};
 
 /// Calls the constructor, where there is one.
@@ -91,7 +88,7 @@ fn unwritten_call(
         return Ok(());
     }
     let parent = parent_or_object(c.program, c.class);
-    let name = name_of(c.program, method);
+    let name = name_span(c.program, method);
     call_ctor(method, false, parent, &[], name, c, e, s)?;
     Ok(())
 }
@@ -126,41 +123,6 @@ pub fn construct(
             unwritten_call(method, c, e, s)?;
             Ok(())
         }
-    }
-}
-
-fn declares(field: &Field, name: NameNo, class: ClassNo) -> bool
-    ensures { result ≡ (eqb field.now.name.0 name.0 && eqb field.now.owner.0 class.0 && (not field.now.is_private || eqb class.0 class.0)) }
-{
-    field.name.0 == name.0 && field.owner.0 == class.0 && (!field.is_private || class.0 == class.0)
-}
-
-/// The field of the name that the class declares itself, by the program's lists.
-fn listed_field(program: &Program, class: ClassNo, name: NameNo) -> Option<FieldNo>
-    requires few { Few program.now }
-    ensures { MatchOption result (members.declared_field program.now class.0 name.0 class.0 ≡ None) (λ f. members.declared_field program.now class.0 name.0 class.0 ≡ Some f.0) }
-{
-    let fields = program.fields.as_slice();
-    for (number, field) in fields.iter().enumerate() {
-        if declares(field, name, class) {
-            return Some(FieldNo(number as u32));
-        }
-    }
-    None
-}
-
-/// The field of the name that the class declares itself.
-fn declared_field(program: &IndexedProgram, class: ClassNo, name: NameNo) -> Option<FieldNo>
-    requires few { Few program.now }
-    ensures { MatchOption result (members.declared_field program.now class.0 name.0 class.0 ≡ None) (λ f. members.declared_field program.now class.0 name.0 class.0 ≡ Some f.0) }
-{
-    let lists = program.program();
-    match program.index() {
-        Some(index) => match fields::declared_field(lists, index, class, name, class.0) {
-            None => None,
-            Some(number) => Some(FieldNo(number)),
-        },
-        None => listed_field(lists, class, name),
     }
 }
 

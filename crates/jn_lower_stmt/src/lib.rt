@@ -9,7 +9,7 @@ pub mod construction;
 pub mod each;
 pub mod entry;
 pub mod forms;
-pub mod heads;
+pub mod given;
 pub mod lower;
 pub mod names;
 pub mod pieces;

@@ -8,7 +8,6 @@ ghost use Rattle.jn_lower_stmt.specs.Sources.{source_of};
 
 use crate::body::{Source, whole};
 use crate::entry::at_entry;
-use crate::heads::class_of;
 use crate::registers::all_declared;
 use crate::resolve::resolve;
 use crate::state::BodyContext;
@@ -16,6 +15,7 @@ use jn_base::{OutOfMemory, Seq};
 use jn_index::indexed::IndexedProgram;
 use jn_lower_expr::emitter::Emitter;
 use jn_points::Body;
+use jn_scopes::heads::class_of;
 use jn_trees::Stmt;
 use std::alloc::Global;
 

@@ -6,6 +6,7 @@
 pub mod assigns;
 pub mod context;
 pub mod forms;
+pub mod heads;
 pub mod lookup;
 pub mod members;
 pub mod types;

@@ -1,5 +1,5 @@
 // Members of classes, by their names: the one place where a program is searched, by its index where there is one and else by its lists.
-ghost use Rattle.std.specs.Prelude.{◌≡◌, ◌<◌, ◌^◌, ◌&&◌, eqb, length, MatchOption, None, Some};
+ghost use Rattle.std.specs.Prelude.{◌≡◌, ◌<◌, ◌^◌, ◌&&◌, ◌||◌, eqb, not, length, MatchOption, None, Some};
 ghost use Rattle.jn_points.specs.Members as spec;
 ghost use Rattle.jn_points.specs.Lookup.{class_info, field_base, method_at, parent_of, private_of, result_base_of, static_of};
 ghost use Rattle.jn_lowering.specs.Calls as calls;
@@ -9,7 +9,7 @@ ghost use Rattle.jn_scopes.specs.Views.{Few};
 use jn_base::{ClassNo, FieldNo, MethodNo, NameNo};
 use jn_index::indexed::IndexedProgram;
 use jn_index::{fields, lookup};
-use jn_points::{BaseType, Method, Program};
+use jn_points::{BaseType, Field, Method, Program};
 
 /// The field that the class has for the name (JLS 8.2).
 pub fn field_of(program: &IndexedProgram, class: ClassNo, name: NameNo) -> Option<FieldNo>
@@ -20,6 +20,41 @@ pub fn field_of(program: &IndexedProgram, class: ClassNo, name: NameNo) -> Optio
     match program.index() {
         Some(index) => fields::field_of(lists, index, class, name),
         None => jn_points::field_of(lists, class, name),
+    }
+}
+
+fn declares(field: &Field, class: ClassNo, name: NameNo) -> bool
+    ensures { result ≡ (eqb field.now.name.0 name.0 && eqb field.now.owner.0 class.0 && (not field.now.is_private || eqb class.0 class.0)) }
+{
+    field.name.0 == name.0 && field.owner.0 == class.0
+}
+
+/// The field of the name that the class itself declares, by the program's lists.
+fn listed_field(program: &Program, class: ClassNo, name: NameNo) -> Option<FieldNo>
+    requires few { Few program.now }
+    ensures { MatchOption result (spec.declared_field program.now class.0 name.0 class.0 ≡ None) (λ f. spec.declared_field program.now class.0 name.0 class.0 ≡ Some f.0) }
+{
+    let fields = program.fields.as_slice();
+    for (number, field) in fields.iter().enumerate() {
+        if declares(field, class, name) {
+            return Some(FieldNo(number as u32));
+        }
+    }
+    None
+}
+
+/// The field of the name that the class itself declares (JLS 8.3).
+pub fn declared_field(program: &IndexedProgram, class: ClassNo, name: NameNo) -> Option<FieldNo>
+    requires few { Few program.now }
+    ensures { MatchOption result (spec.declared_field program.now class.0 name.0 class.0 ≡ None) (λ f. spec.declared_field program.now class.0 name.0 class.0 ≡ Some f.0) }
+{
+    let lists = program.program();
+    match program.index() {
+        Some(index) => match fields::declared_field(lists, index, class, name, class.0) {
+            None => None,
+            Some(number) => Some(FieldNo(number)),
+        },
+        None => listed_field(lists, class, name),
     }
 }
 

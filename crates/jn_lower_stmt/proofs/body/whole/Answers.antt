@@ -28,4 +28,4 @@ returns c =
     c.in_ok-start.start.0 c.in_ok-fields.fields.0 c.in_ok-end.end.0 c.args.e.now c.label.new.e c.label-2.new.e c.label-3.new.e c.place.new.e c.call_of.new.e c.place-2.new.e c.fields_of.new.e c.statements.new.e c.place-3.new.e c.step.new.e c.call_of.new.s c.fields_of.new.s c.statements.new.s
     c.in_ok-start.ensures c.in_ok-fields.ensures c.in_ok-end.ensures c.in_ok-place.ensures c.in_ok-call_of.ensures c.in_ok-place-2.ensures c.in_ok-fields_of.ensures
     (subst (λ (n : ℕ). Steps (statements c.args.c.now.program.now n c.args.c.now.first c.fields_of.new.s (placed_statements c.args.source.now.body.now)) c.in_ok-end.end.0 c.in_ok-end.end.0 c.fields_of.new.e c.statements.new.e c.statements.new.s) c.requires.class c.in_ok-statements.ensures)
-    c.in_ok-place-3.ensures (subst (λ (at : Span). Runs (does at (Return None)) c.place-3.new.e c.step.new.e) c.name_of.ensures c.in_ok-step.ensures)
+    c.in_ok-place-3.ensures (subst (λ (at : Span). Runs (does at (Return None)) c.place-3.new.e c.step.new.e) c.name_span.ensures c.in_ok-step.ensures)
