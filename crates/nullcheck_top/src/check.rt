@@ -159,6 +159,7 @@ fn report<R: Threads + Sync, G: Gate + Sync>(
 }
 
 /// The checker of the subset, over a runtime that gives threads and a gate that workers enter.
+#[derive(Drop)]
 pub struct SubsetChecker<'a, R, G> {
     pub rt: &'a R,
     pub gate: &'a G,
