@@ -1,22 +1,17 @@
-//! A command: words in, the report of the files that they name out, for any checker of files.
+//! What a command is, apart from what a report of files says: what its words ask for, how a report is shown, and what status and
+//! which bytes stand behind each answer (`specs/Answer.antt`), by whatever a report of files is.
 //!
-//! [`answer`] reads what the words ask for and the files by their names, hands them to a [`Checker`] and writes the report by one
-//! of the reporters that it is given; it says what status and which bytes stand behind each answer. [`Report`] is what a checker
-//! finds, [`Status`] how the program ends.
+//! [`asked::read_asked`] reads the words and chooses a reporter, [`show::show`] shows a [`Report`] by it, and [`output::write`]
+//! writes what was made and gives the [`Status`].
 #![tactic(auto)]
 
-pub mod answering;
 pub mod asked;
-pub mod checker;
 pub mod choose;
 pub mod made;
 pub mod output;
 pub mod report;
-pub mod reporting;
 pub mod show;
 pub mod status;
 
-pub use answering::answer;
-pub use checker::Checker;
 pub use report::Report;
 pub use status::Status;

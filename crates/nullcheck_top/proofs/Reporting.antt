@@ -181,7 +181,7 @@ abbrev pub Stand : List SourceRead → Made → Type 0
 Stand reads made = IfOk made (λ r. StandIn reads (rows_of r))
 
 pub limited_made : (reads : List SourceRead) (limits : List Row) (made : Made) → Limited reads limits → (limits ≡ [] → ⊥) → RefusesBy limits made → ReportsAll reads made
-limited_made reads limits (Ok r) limited some by files are = refused_report files limits by.0 r (inl (inl (record { are = limited files are; some = some }))) by.1 by.2
+limited_made reads limits (Ok r) limited some by = λ files are. refused_report files limits by.0 r (inl (inl (record { are = limited files are; some = some }))) by.1 by.2
 limited_made reads limits (Err e) limited some by = tt
 
 pub limited_stand : (reads : List SourceRead) (limits : List Row) (made : Made) → Limited reads limits → ((files : List SourceFile) × AreReads reads files) → RefusesBy limits made → Stand reads made
@@ -195,13 +195,13 @@ whole_stand reads limits (Ok r) limited none some = stand_whole reads (rows_of r
 whole_stand reads limits (Err e) limited none some = tt
 
 pub lexical_made : (reads : List SourceRead) (limits faults : List Row) (made : Made) → Limited reads limits → limits ≡ [] → FaultRows 0 (files_of_reads reads) faults → (faults ≡ [] → ⊥) → RefusesBy faults made → ReportsAll reads made
-lexical_made reads limits faults (Ok r) limited none faulty some by files are =
+lexical_made reads limits faults (Ok r) limited none faulty some by = λ files are.
     let w = within_limits reads limits limited none files are in
     refused_report files faults by.0 r (inl (inr (inl (record { within = w.1; are = subst (λ fs. FaultRows 0 fs faults) w.0 faulty; some = some })))) by.1 by.2
 lexical_made reads limits faults (Err e) limited none faulty some by = tt
 
 pub grammar_made : (reads : List SourceRead) (limits rows : List Row) (names : List (List ℕ)) (tokens : List (List Token)) (made : Made) → Limited reads limits → limits ≡ [] → LexedFrom 0 known_names (files_of_reads reads) tokens names → SyntaxRows 0 (files_of_reads reads) tokens rows → (rows ≡ [] → ⊥) → RefusesBy rows made → ReportsAll reads made
-grammar_made reads limits rows names tokens (Ok r) limited none lexed syntax some by files are =
+grammar_made reads limits rows names tokens (Ok r) limited none lexed syntax some by = λ files are.
     let w = within_limits reads limits limited none files are in
     refused_report files rows by.0 r (inl (inr (inr (record { within = w.1; names = names; tokens = tokens; lexed = subst (λ fs. LexedFrom 0 known_names fs tokens names) w.0 lexed; are = subst (λ fs. SyntaxRows 0 fs tokens rows) w.0 syntax; some = some })))) by.1 by.2
 grammar_made reads limits rows names tokens (Err e) limited none lexed syntax some by = tt
@@ -212,7 +212,7 @@ are_parsed reads limits limited none names tokens trees some lexed placed =
     record { within = ap limit_rows w.0 ∙ w.1; lexed = lexed; parsed = placed }
 
 pub checked_made : (reads : List SourceRead) (limits : List Row) (made : Made) → Limited reads limits → limits ≡ [] → IfOk made (λ r. IsReport (files_of_reads reads) r) → ReportsAll reads made
-checked_made reads limits (Ok r) limited none report files are = subst (λ fs. IsReport fs r) (within_limits reads limits limited none files are).0 report
+checked_made reads limits (Ok r) limited none report = λ files are. subst (λ fs. IsReport fs r) (within_limits reads limits limited none files are).0 report
 checked_made reads limits (Err e) limited none report = tt
 
 -- rows of classes and members
@@ -256,3 +256,7 @@ safe_report null stuck files report none is = accepted (subst (IsReport files) n
   where
     accepted : IsReport files (Checked []) → IsSafe files
     accepted by = record { P = by.P; of_files = by.of_files; never_null = null files by.P by.of_files by.rules; never_stuck = stuck files by.P by.of_files by.rules }
+
+pub safe_made : ((files : List SourceFile) (P : Program) → TypedProgramOf files P → RulesGive P [] → NeverNull P) → ((files : List SourceFile) (P : Program) → TypedProgramOf files P → RulesGive P [] → NeverStuck P) → (reads : List SourceRead) (made : Made) → ReportsAll reads made → IfOk made (λ report. report ≡ Checked [] → (files : List SourceFile) → AreReads reads files → IsSafe files)
+safe_made null stuck reads (Ok r) all = λ none files are. safe_report null stuck files r none (all files are)
+safe_made null stuck reads (Err e) all = tt

@@ -11,7 +11,7 @@ ghost use Rattle.jn_front.specs.declared.source.SourceFile.{SourceFile as SpecFi
 ghost use Rattle.jn_front.specs.Files.{files_of_reads, AreReads, most_files};
 ghost use Rattle.jn_front.specs.Limits.{row_at};
 ghost use Rattle.jn_front.specs.Phases.{AreParsed};
-ghost use Rattle.jn_command.specs.declared.report.Report.TheVariants.{Refused};
+ghost use Rattle.jn_command.specs.declared.report.Report.TheVariants.{Refused, Checked};
 ghost use Rattle.jn_command.specs.Reports.{rows_of};
 ghost use Rattle.jn_command.specs.Stands.{StandIn};
 ghost use Rattle.nullcheck_top.specs.Report.{AreDeclared, IsReport, IsSafe, ProgramOf, TypedProgramOf};
@@ -21,7 +21,7 @@ use crate::rules::broken_rules;
 use jn_base::{Code, Fail, OutOfMemory, Row, Seq};
 use jn_basecheck::{BaseTyped, base_check};
 use jn_classtable::{ClassTable, build};
-use jn_command::{Checker, Report};
+use jn_command::Report;
 use jn_diag::order;
 use jn_front::{SourceRead, lex_all, limit_rows, parse_all, row_at};
 use jn_inference_law::law::regular_programs_are_inferable;
@@ -158,31 +158,48 @@ fn report<R: Threads + Sync, G: Gate + Sync>(
     report_trees(rt, alloc, workers, reads, &parsed.trees, gate)
 }
 
-/// The checker of the subset, over a runtime that gives threads and a gate that workers enter.
-#[derive(Drop)]
-pub struct SubsetChecker<'a, R, G> {
-    pub rt: &'a R,
-    pub gate: &'a G,
+/// The report of files that were read, at most 64, found by so many workers; it is safe to accept them where it has no row.
+///
+/// # Errors
+///
+/// No memory was found.
+pub fn check<R: Threads + Sync, G: Gate + Sync>(
+    rt: &R,
+    gate: &G,
+    alloc: Global,
+    workers: u32,
+    reads: &[SourceRead],
+) -> Result<Report, OutOfMemory>
+    requires workers { (1 ≤ workers) × (workers ≤ 16) }
+    requires few { length reads.now ≤ most_files }
+    requires fit { ReadsFit reads.now }
+    requires read { (files : List SpecFile) × AreReads reads.now files }
+    ensures report { IfOk result (λ report. (files : List SpecFile) → AreReads reads.now files → IsReport files report) }
+    ensures safe { IfOk result (λ report. report ≡ Checked [] → (files : List SpecFile) → AreReads reads.now files → IsSafe files) }
+    ensures stand { IfOk result (λ report. StandIn reads.now (rows_of report)) }
+{
+    accepted_files_are_safe();
+    report(rt, alloc, workers, reads, gate)
 }
 
-impl<'a, R: Threads + Sync, G: Gate + Sync> Checker for SubsetChecker<'a, R, G> {
-    ghost is_report = { λ checker. IsReport };
+/// The one row of more files than there may be.
+fn number_rows(alloc: Global) -> Result<Seq<Row>, OutOfMemory>
+    ensures { IfOk result (λ rows. rows ≡ row_at most_files B1 ∷ []) }
+{
+    let mut rows = Seq::new(alloc);
+    rows.push(row_at(64, Code::B1))?;
+    Ok(rows)
+}
 
-    ghost is_safe = { λ checker. IsSafe };
-
-    fn check(
-        &self,
-        alloc: Global,
-        workers: u32,
-        reads: &[SourceRead],
-    ) -> Result<Report, OutOfMemory> {
-        accepted_files_are_safe();
-        report(self.rt, alloc, workers, reads, self.gate)
-    }
-
-    fn refuse_number(&self, alloc: Global) -> Result<Report, OutOfMemory> {
-        let mut rows = Seq::new(alloc);
-        rows.push(row_at(64, Code::B1))?;
-        Ok(Report::Refused(rows))
-    }
+/// The report of more files than there may be: one row at the first that is too many.
+///
+/// # Errors
+///
+/// No memory was found.
+pub fn refuse_number(alloc: Global) -> Result<Report, OutOfMemory>
+    ensures report { IfOk result (λ report. (files : List SpecFile) → most_files < length files → IsReport files report) }
+    ensures row { IfOk result (λ report. report ≡ Refused (row_at most_files B1 ∷ [])) }
+{
+    let rows = number_rows(alloc)?;
+    Ok(Report::Refused(rows))
 }

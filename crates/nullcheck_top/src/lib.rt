@@ -1,8 +1,10 @@
 //! The top call: words in, the report out.
 #![tactic(auto)]
 
+mod answers;
 mod check;
 pub mod law;
+mod outputs;
 mod rules;
 pub mod top;
 

@@ -7,13 +7,19 @@ ghost use Rattle.jn_command.specs.Answer.{reading, Answers, Completes, HoldsFile
 ghost use Rattle.jn_command.specs.Reporters.{AllFresh};
 ghost use Rattle.nullcheck_top.specs.Report.{IsReport, IsSafe};
 
-use crate::check::SubsetChecker;
-use jn_command::{Status, answer};
+use crate::answers::answer_command;
+use jn_base::Fail;
+use jn_command::Status;
+use jn_command::asked::{Asked, read_asked};
+use jn_command::output::finish;
 use jn_outside::{Files, Sink};
 use jn_reporters::Reporter;
 use jn_workers::Gate;
 use std::alloc::Global;
 use std::thread::Threads;
+
+const USAGE: &str =
+    "usage: nullcheck [--workers N] [--report NAME] [--run] [--steps N] [--words TEXT] [--gen N] FILE..\n";
 
 /// Checks what the words ask for, and writes the report by the first of these reporters that has the name.
 ///
@@ -49,12 +55,11 @@ pub fn nullcheck<R: Threads + Sync, F: Files, K: Sink, G: Gate + Sync>(
     ensures write { result ≡ Status.WriteFault → Rose (K.faults out.old) (K.faults out.new) }
     ensures write_always { K.faults out.old < K.faults out.new → result ≡ Status.WriteFault }
 {
-    answer(
-        &SubsetChecker { rt, gate },
-        alloc,
-        words,
-        reporters,
-        files,
-        out,
-    )
+    match read_asked(alloc, words, reporters) {
+        Ok(Asked { command, reporter }) => {
+            answer_command(rt, gate, alloc, &command, reporter, files, out)
+        }
+        Err(Fail::Refused(_)) => finish(out, USAGE.as_bytes(), Status::Usage),
+        Err(Fail::OutOfMemory) => Status::OutOfMemory,
+    }
 }

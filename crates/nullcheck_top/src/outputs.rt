@@ -6,16 +6,19 @@ ghost use Rattle.jn_command.specs.Made.{front_of, made_file, made_text};
 ghost use Rattle.jn_front.specs.declared.source.SourceFile.{SourceFile as FileOf};
 ghost use Rattle.jn_front.specs.Counted.{ReadsFit};
 ghost use Rattle.jn_front.specs.Files.{AreReads, most_files, names_of};
+ghost use Rattle.nullcheck_top.specs.Report.{IsReport, IsSafe};
 
-use crate::checker::Checker;
-use crate::made::{made_line, made_read};
-use crate::output::Output;
-use crate::show::{show, show_number};
+use crate::check::{check, refuse_number};
 use jn_base::{OutOfMemory, Seq};
+use jn_command::made::{made_line, made_read};
+use jn_command::output::Output;
+use jn_command::show::{show, show_number};
 use jn_front::SourceRead;
 use jn_gen::generate;
 use jn_reporters::Reporter;
+use jn_workers::Gate;
 use std::alloc::{AllocError, Global};
+use std::thread::Threads;
 
 /// The greatest number of files.
 pub(crate) const MOST_FILES: usize = 64;
@@ -29,8 +32,9 @@ fn joined(alloc: Global, front: &[u8], back: &[u8]) -> Result<Seq<u8>, AllocErro
 }
 
 /// The output of files that were read, at most 64: these bytes, and then the report.
-pub(crate) fn report_reads<C: Checker, P: Reporter>(
-    checker: &C,
+pub(crate) fn report_reads<R: Threads + Sync, G: Gate + Sync, P: Reporter>(
+    rt: &R,
+    gate: &G,
     alloc: Global,
     workers: u32,
     reads: &[SourceRead],
@@ -42,9 +46,9 @@ pub(crate) fn report_reads<C: Checker, P: Reporter>(
     requires read { (files : List FileOf) × AreReads reads.now files }
     requires workers { (1 ≤ workers) × (workers ≤ 16) }
     requires fresh { P.rows reporter ≡ [] }
-    ensures { IfOk result (λ o. (files : List FileOf) → AreReads reads.now files → IsReportOfFiles (C.is_report checker.now) (C.is_safe checker.now) front.now (P.shown reporter) files o.status o.bytes) }
+    ensures { IfOk result (λ o. (files : List FileOf) → AreReads reads.now files → IsReportOfFiles IsReport IsSafe front.now (P.shown reporter) files o.status o.bytes) }
 {
-    let report = checker.check(alloc, workers, reads)?;
+    let report = check(rt, gate, alloc, workers, reads)?;
     let shower = show(alloc, reads, &report, reporter)?;
     Ok(Output {
         status: report.status(),
@@ -53,17 +57,16 @@ pub(crate) fn report_reads<C: Checker, P: Reporter>(
 }
 
 /// The output of more files than there may be.
-pub(crate) fn report_number<C: Checker, P: Reporter>(
-    checker: &C,
+pub(crate) fn report_number<P: Reporter>(
     alloc: Global,
     names: &[String],
     reporter: P,
 ) -> Result<Output, OutOfMemory>
     requires many { most_files < length names.now }
     requires fresh { P.rows reporter ≡ [] }
-    ensures { IfOk result (λ o. (files : List FileOf) → names_of files ≡ map string_bytes names.now → IsReportOfFiles (C.is_report checker.now) (C.is_safe checker.now) [] (P.shown reporter) files o.status o.bytes) }
+    ensures { IfOk result (λ o. (files : List FileOf) → names_of files ≡ map string_bytes names.now → IsReportOfFiles IsReport IsSafe [] (P.shown reporter) files o.status o.bytes) }
 {
-    let report = checker.refuse_number(alloc)?;
+    let report = refuse_number(alloc)?;
     let shower = show_number(alloc, names[MOST_FILES].as_str(), reporter)?;
     Ok(Output {
         status: report.status(),
@@ -72,8 +75,9 @@ pub(crate) fn report_number<C: Checker, P: Reporter>(
 }
 
 /// The output of the program of so many classes.
-pub(crate) fn report_made<C: Checker, P: Reporter>(
-    checker: &C,
+pub(crate) fn report_made<R: Threads + Sync, G: Gate + Sync, P: Reporter>(
+    rt: &R,
+    gate: &G,
     alloc: Global,
     workers: u32,
     classes: u32,
@@ -83,10 +87,10 @@ pub(crate) fn report_made<C: Checker, P: Reporter>(
     requires most { classes ≤ 500 }
     requires workers { (1 ≤ workers) × (workers ≤ 16) }
     requires fresh { P.rows reporter ≡ [] }
-    ensures { IfOk result (λ o. IsReportOfFiles (C.is_report checker.now) (C.is_safe checker.now) (front_of classes) (P.shown reporter) (made_file (made_text classes) ∷ []) o.status o.bytes) }
+    ensures { IfOk result (λ o. IsReportOfFiles IsReport IsSafe (front_of classes) (P.shown reporter) (made_file (made_text classes) ∷ []) o.status o.bytes) }
 {
     let text = generate(alloc, classes)?;
     let front = made_line(alloc, classes, text.len())?;
     let read = made_read(alloc, text)?;
-    report_reads(checker, alloc, workers, &[read], &front, reporter)
+    report_reads(rt, gate, alloc, workers, &[read], &front, reporter)
 }

@@ -2,7 +2,8 @@ use Rattle.std.proofs.Common.{[], map, length, ap, sym, ◌∙◌, ◌++◌, ari
 use Rattle.std.specs.Prelude.{string_bytes}
 use Rattle.jn_command.proofs.Showing.{number_text, name_there, length_is}
 use Rattle.jn_command.proofs.Written.{report_made, map_length, not_accepted}
-use Rattle.jn_command.proofs.reporting.report_number.Goals as goal
+use Rattle.nullcheck_top.specs.Report.{IsReport, IsSafe}
+use Rattle.nullcheck_top.proofs.outputs.report_number.Goals as goal
 
 pub returns : goal.returns
 returns g c files named =
@@ -15,5 +16,5 @@ returns g c files named =
     let long_names = ap length named in
     let long_words = map_length c.args.names.now in
     let text = number_text (g.P.Reporter.shown c.args.reporter) (g.P.Reporter.shown shower) files names c.as_str.result.now report (g.P.Reporter.rows shower) (g.P.Reporter.given shower) c.in_ok-shower.ensures.shown named there found.row c.in_ok-shower.ensures.rows c.in_ok-shower.ensures.verdict in
-    report_made (g.C.Checker.is_report c.args.checker.now) (g.C.Checker.is_safe c.args.checker.now) [] (g.P.Reporter.shown c.args.reporter) files report c.status.result _ (found.report files (omega (arith, c.requires.many, long, long_names, long_words))) c.status.ensures
+    report_made IsReport IsSafe [] (g.P.Reporter.shown c.args.reporter) files report c.status.result _ (found.report files (omega (arith, c.requires.many, long, long_names, long_words))) c.status.ensures
     (c.in_ok-joined.ensures ∙ (c.bytes.ensures ∙ text)) (λ none. absurd (not_accepted report _ found.row none))
