@@ -2,4 +2,3 @@ pub mod Asking
 pub mod Boxing
 pub mod Choosing
 pub mod Showing
-pub mod Written

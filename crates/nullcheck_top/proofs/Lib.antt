@@ -2,3 +2,4 @@ pub mod Reporting
 pub mod RuleRows
 pub mod Programs
 pub mod Laws
+pub mod Written

@@ -32,13 +32,14 @@ use jn_workers::Gate;
 use std::alloc::Global;
 use std::thread::Threads;
 
-/// The report of files that are refused by these rows.
-fn refused(rows: Vec<Row>) -> Result<Report, OutOfMemory>
+/// The report of files that are refused by these rows, of which the list may have more room than it needs.
+fn refused(alloc: Global, rows: Vec<Row>) -> Result<Report, OutOfMemory>
     ensures { IfOk result (λ r. (sorted : List SpecRow) × IsOrderOf rows.items sorted × (r ≡ Refused sorted)) }
 {
     let mut rows = rows;
     order(&mut rows)?;
-    Ok(Report::Refused(Seq::of_vec(rows)))
+    let kept = Vec::from_slice(alloc, &rows)?;
+    Ok(Report::Refused(Seq::of_vec(kept)))
 }
 
 /// The report of files with this program, which has no row of types.
@@ -74,7 +75,7 @@ fn report_program<R: Threads + Sync, G: Gate + Sync>(
 {
     match base_check(alloc, program) {
         Ok(base) => return checked(rt, alloc, workers, reads, &base, gate),
-        Err(Fail::Refused(rows)) => return refused(rows),
+        Err(Fail::Refused(rows)) => return refused(alloc, rows),
         Err(Fail::OutOfMemory) => return Err(OutOfMemory),
     }
 }
@@ -96,7 +97,7 @@ fn report_table<R: Threads + Sync, G: Gate + Sync>(
 {
     match lower(alloc, table, trees) {
         Ok(program) => return report_program(rt, alloc, workers, reads, program, gate),
-        Err(Fail::Refused(rows)) => return refused(rows.into_vec()),
+        Err(Fail::Refused(rows)) => return refused(alloc, rows.into_vec()),
         Err(Fail::OutOfMemory) => return Err(OutOfMemory),
     }
 }
@@ -116,7 +117,7 @@ fn report_trees<R: Threads + Sync, G: Gate + Sync>(
 {
     match build(alloc, trees) {
         Ok(table) => return report_table(rt, alloc, workers, reads, trees, table, gate),
-        Err(Fail::Refused(rows)) => return refused(rows.into_vec()),
+        Err(Fail::Refused(rows)) => return refused(alloc, rows.into_vec()),
         Err(Fail::OutOfMemory) => return Err(OutOfMemory),
     }
 }
@@ -145,15 +146,15 @@ fn report<R: Threads + Sync, G: Gate + Sync>(
 {
     let limits = limit_rows(alloc, reads)?;
     if !no_rows(&limits) {
-        return refused(limits);
+        return refused(alloc, limits);
     }
     let lexed = lex_all(alloc, reads)?;
     if !no_rows(&lexed.faults) {
-        return refused(lexed.faults);
+        return refused(alloc, lexed.faults);
     }
     let parsed = parse_all(alloc, reads, &lexed.tokens)?;
     if !no_rows(&parsed.rows) {
-        return refused(parsed.rows);
+        return refused(alloc, parsed.rows);
     }
     report_trees(rt, alloc, workers, reads, &parsed.trees, gate)
 }

@@ -3,7 +3,7 @@ use Rattle.std.specs.Prelude.{string_bytes}
 use Rattle.jn_front.specs.Files.{ReadFrom}
 use Rattle.jn_command.specs.Asked.{asked}
 use Rattle.jn_command.specs.Answer.{reading}
-use Rattle.jn_command.proofs.Written.{reads_fit, answers, completes, safe, starts_none, made_of_many, made_all, made_written, no_fault, no_read_fault, few_reads, many_names}
+use Rattle.nullcheck_top.proofs.Written.{reads_fit, answers, completes, safe, starts_none, made_of_many, made_all, made_written, no_fault, no_read_fault, few_reads, many_names}
 use Rattle.nullcheck_top.specs.Report.{IsReport, IsSafe}
 use Rattle.nullcheck_top.proofs.answers.answer_named.Goals as goal
 
@@ -56,7 +56,7 @@ returns-then-names-gt-MOST_FILES-clause-write g c e =
     no_fault (g.K.Sink.written c.args.out.now) (g.K.Sink.written c.write.new.out) (g.K.Sink.faults c.args.out.now) (g.K.Sink.faults c.write.new.out) c.write.result c.report_number.result (made_written IsReport IsSafe read a c.report_number.result made) c.write.ensures e
 
 pub report_reads-requires-clause-few : goal.report_reads-requires-clause-few
-report_reads-requires-clause-few g c =
+report_reads-requires-clause-few g c κs lives =
     let held = g.F.Files.held c.args.files.now in
     let before = g.F.Files.gave c.args.files.now in
     let now = g.F.Files.gave c.read_all.new.files in
@@ -64,7 +64,7 @@ report_reads-requires-clause-few g c =
     few_reads held before now c.args.names.now c.deref.result.now c.if-names-gt-MOST_FILES.false from
 
 pub report_reads-requires-clause-fit : goal.report_reads-requires-clause-fit
-report_reads-requires-clause-fit g c =
+report_reads-requires-clause-fit g c κs lives =
     let from = subst (λ rs. ReadFrom (g.F.Files.held c.args.files.now) (map string_bytes c.args.names.now) (g.F.Files.gave c.args.files.now) (g.F.Files.gave c.read_all.new.files) rs) (sym c.deref.ensures.value) c.in-Ok.ensures.ok in
     reads_fit c.deref.result.now from.files from.are
 

@@ -2,15 +2,15 @@ use Rattle.std.proofs.Common.{[], ◌∷◌, ◌∙◌, subst, arith}
 use Rattle.std.proofs.lemmas.Result.{IfOk-weaker}
 use Rattle.jn_command.specs.Answer.{IsReportOfFiles}
 use Rattle.jn_command.specs.Made.{made_file, made_text}
-use Rattle.jn_command.proofs.Written.{made_front, reads_fit}
+use Rattle.nullcheck_top.proofs.Written.{made_front, reads_fit}
 use Rattle.nullcheck_top.specs.Report.{IsReport, IsSafe}
 use Rattle.nullcheck_top.proofs.outputs.report_made.Goals as goal
 
 pub report_reads-requires-clause-read : goal.report_reads-requires-clause-read
-report_reads-requires-clause-read g c = (made_file c.in_ok-text.text.items ∷ [], (c.in_ok-read.ensures, tt))
+report_reads-requires-clause-read g c κs lives = (made_file c.in_ok-text.text.items ∷ [], (c.in_ok-read.ensures, tt))
 
 pub report_reads-requires-clause-fit : goal.report_reads-requires-clause-fit
-report_reads-requires-clause-fit g c = reads_fit (c.in_ok-read.read ∷ []) (made_file c.in_ok-text.text.items ∷ []) (c.in_ok-read.ensures, tt)
+report_reads-requires-clause-fit g c κs lives = reads_fit (c.in_ok-read.read ∷ []) (made_file c.in_ok-text.text.items ∷ []) (c.in_ok-read.ensures, tt)
 
 pub returns : goal.returns
 returns g c =

@@ -1,7 +1,7 @@
 use Rattle.std.proofs.Common.{[], map, length, ap, sym, ◌∙◌, ◌++◌, arith}
 use Rattle.std.specs.Prelude.{string_bytes}
 use Rattle.jn_command.proofs.Showing.{number_text, name_there, length_is}
-use Rattle.jn_command.proofs.Written.{report_made, map_length, not_accepted}
+use Rattle.nullcheck_top.proofs.Written.{report_made, map_length, not_accepted}
 use Rattle.nullcheck_top.specs.Report.{IsReport, IsSafe}
 use Rattle.nullcheck_top.proofs.outputs.report_number.Goals as goal
 

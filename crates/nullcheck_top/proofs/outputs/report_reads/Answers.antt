@@ -1,6 +1,6 @@
 use Rattle.std.proofs.Common.{ap, ◌∙◌, ◌++◌}
 use Rattle.jn_command.proofs.Showing.{same_text}
-use Rattle.jn_command.proofs.Written.{report_made}
+use Rattle.nullcheck_top.proofs.Written.{report_made}
 use Rattle.nullcheck_top.specs.Report.{IsReport, IsSafe}
 use Rattle.nullcheck_top.proofs.outputs.report_reads.Goals as goal
 

@@ -1,7 +1,7 @@
 use Rattle.std.proofs.Common.{sym, subst}
 use Rattle.jn_command.specs.Answer.{reading, Answers}
 use Rattle.jn_command.proofs.Asking.{by_refused}
-use Rattle.jn_command.proofs.Written.{usage}
+use Rattle.nullcheck_top.proofs.Written.{usage}
 use Rattle.nullcheck_top.specs.Report.{IsReport, IsSafe}
 use Rattle.nullcheck_top.proofs.top.nullcheck.Goals as goal
 
