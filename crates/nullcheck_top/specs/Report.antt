@@ -10,8 +10,8 @@ use Rattle.jn_points.specs.BaseRows.{IsBaseRow, NoBaseRows}
 use Rattle.jn_points.specs.Regular.{Regular}
 use Rattle.jn_program_law.specs.FileProgram.{j_rows, program_of_files}
 use Rattle.jn_quals.specs.Qualifier.{Qualifier}
-use Rattle.jn_command.specs.declared.report.Report.{Report}
-use Rattle.jn_command.specs.declared.report.Report.TheVariants.{Refused, Checked}
+use Rattle.nullcheck_top.specs.declared.status.Status.{Status}
+use Rattle.nullcheck_top.specs.declared.status.Status.TheVariants.{Ok as Accepted, Rejected as RejectedStatus, Refused as RefusedStatus}
 use Rattle.jn_inference_law.specs.Solution.{IsLeastSignature}
 use Rattle.jn_transfer.specs.Rules.{Breaks}
 use Rattle.jn_heap.specs.Machine.{NeverNull}
@@ -51,6 +51,11 @@ pub record ProgramOf (files : List SourceFile) (P : Program) : Type 0 where
 pub record TypedProgramOf (files : List SourceFile) (P : Program) : Type 0 where
   pub of_files : ProgramOf files P
   pub typed : NoBaseRows P
+
+-- files are refused by the rows of the first phase that has any, or checked by the rules; the rows are in order
+pub data Report : Type 0 where
+  Refused : (rows : List Row) → Report
+  Checked : (rows : List Row) → Report
 
 -- the rules are those under the least signature
 pub record RulesGive (P : Program) (rows : List Row) : Type 0 where
@@ -106,10 +111,17 @@ pub record IsPhase (files : List SourceFile) (rows : List Row) : Type 0 where
   pub phase : PhaseRows files broken
   pub order : IsOrderOf broken rows
 
--- files are refused by the rows of the first phase that has any, or checked by the rules; the rows are in order
 abbrev pub IsReport : List SourceFile → Report → Type 0
 IsReport files (Refused rows) = IsPhase files rows
 IsReport files (Checked rows) = IsCheckedBy files rows
+
+abbrev pub status_of_rows : List Row → Status
+status_of_rows [] = Accepted
+status_of_rows (row ∷ rows) = RejectedStatus
+
+abbrev pub status_of : Report → Status
+status_of (Refused rows) = RefusedStatus
+status_of (Checked rows) = status_of_rows rows
 
 -- the files' own program has no null fault in any run, and no run gets stuck
 pub record IsSafe (files : List SourceFile) : Type 0 where

@@ -4,8 +4,7 @@ ghost use Rattle.jn_points.specs.declared.program.Program.{Program};
 ghost use Rattle.jn_heap.specs.Machine.{NeverNull};
 ghost use Rattle.jn_progress_law.specs.Progress.{NeverStuck};
 ghost use Rattle.jn_front.specs.declared.source.SourceFile.{SourceFile};
-ghost use Rattle.jn_command.specs.declared.report.Report.{Report};
-ghost use Rattle.nullcheck_top.specs.Report.{RulesGive, TypedProgramOf, IsReport};
+ghost use Rattle.nullcheck_top.specs.Report.{Report, RulesGive, TypedProgramOf, IsReport};
 
 use jn_accept::law::accepted_programs_never_fault;
 use jn_diag::rows_have_one_order;

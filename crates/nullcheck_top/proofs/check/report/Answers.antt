@@ -5,23 +5,23 @@ use Rattle.jn_known.specs.Known.{known_names}
 use Rattle.jn_places.specs.PlacedView.{placed_file}
 use Rattle.jn_front.specs.Files.{files_of_reads}
 use Rattle.jn_front.specs.Phases.{ArePlaced, AreParsed, LexedFrom, SyntaxRows}
-use Rattle.nullcheck_top.proofs.Reporting.{limited_made, lexical_made, grammar_made, checked_made, are_parsed, limited_stand, whole_stand}
+use Rattle.nullcheck_top.proofs.WholeFiles.{limited_made, lexical_made, grammar_made, checked_made, are_parsed}
 use Rattle.nullcheck_top.proofs.check.report.Goals as goal
 
-pub returns-then-not-no_rows-clause-report : goal.returns-then-not-no_rows-clause-report
-returns-then-not-no_rows-clause-report g c = limited_made c.args.reads.now c.in_ok-limits.limits.items c.refused.result c.in_ok-limits.ensures (c.no_rows.ensures.some c.if-not-no_rows.true) c.refused.ensures
+pub returns-then-not-no_rows : goal.returns-then-not-no_rows
+returns-then-not-no_rows g c = limited_made c.args.reads.now c.in_ok-limits.limits.items c.refused.result c.in_ok-limits.ensures (c.no_rows.ensures.some c.if-not-no_rows.true) c.refused.ensures.status c.refused.ensures.shows
 
-pub returns-then-not-no_rows-2-clause-report : goal.returns-then-not-no_rows-2-clause-report
-returns-then-not-no_rows-2-clause-report g c =
+pub returns-then-not-no_rows-2 : goal.returns-then-not-no_rows-2
+returns-then-not-no_rows-2 g c =
     let r = c.refused-then-not-no_rows-2 in
-    lexical_made c.args.reads.now c.in_ok-limits.limits.items c.in_ok-lexed.lexed.faults.items r.result c.in_ok-limits.ensures (c.no_rows.ensures.none c.if-not-no_rows.false) c.in_ok-lexed.ensures.faults (c.no_rows-2.ensures.some c.if-not-no_rows-2.true) r.ensures
+    lexical_made c.args.reads.now c.in_ok-limits.limits.items c.in_ok-lexed.lexed.faults.items r.result c.in_ok-limits.ensures (c.no_rows.ensures.none c.if-not-no_rows.false) c.in_ok-lexed.ensures.faults (c.no_rows-2.ensures.some c.if-not-no_rows-2.true) r.ensures.status r.ensures.shows
 
-pub returns-then-not-no_rows-3-clause-report : goal.returns-then-not-no_rows-3-clause-report
-returns-then-not-no_rows-3-clause-report g c =
+pub returns-then-not-no_rows-3 : goal.returns-then-not-no_rows-3
+returns-then-not-no_rows-3 g c =
     let r = c.refused-then-not-no_rows-3 in
     let lexed = c.in_ok-lexed.ensures.tokens (c.no_rows-2.ensures.none c.if-not-no_rows-2.false) in
     let syntax = subst (λ tss. SyntaxRows 0 (files_of_reads c.args.reads.now) tss c.in_ok-parsed.parsed.rows.items) c.deref.ensures.value c.in_ok-parsed.ensures.rows in
-    grammar_made c.args.reads.now c.in_ok-limits.limits.items c.in_ok-parsed.parsed.rows.items c.in_ok-lexed.lexed.names c.in_ok-lexed.lexed.tokens.items r.result c.in_ok-limits.ensures (c.no_rows.ensures.none c.if-not-no_rows.false) lexed syntax (c.no_rows-3.ensures.some c.if-not-no_rows-3.true) r.ensures
+    grammar_made c.args.reads.now c.in_ok-limits.limits.items c.in_ok-parsed.parsed.rows.items c.in_ok-lexed.lexed.names c.in_ok-lexed.lexed.tokens.items r.result c.in_ok-limits.ensures (c.no_rows.ensures.none c.if-not-no_rows.false) lexed syntax (c.no_rows-3.ensures.some c.if-not-no_rows-3.true) r.ensures.status r.ensures.shows
 
 pub parse_all-requires-clause-lexed : goal.parse_all-requires-clause-lexed
 parse_all-requires-clause-lexed g c =
@@ -38,17 +38,5 @@ report_trees-requires-clause-parsed g c κs lives =
     let parsed = are_parsed reads c.in_ok-limits.limits.items c.in_ok-limits.ensures (c.no_rows.ensures.none c.if-not-no_rows.false) names c.in_ok-lexed.lexed.tokens.items trees c.requires.read lexed placed in
     (names, c.in_ok-lexed.lexed.tokens.items, subst (λ (ts : List FileTree). AreParsed (files_of_reads reads) names c.in_ok-lexed.lexed.tokens.items (map placed_file ts)) (sym c.deref-2.ensures.value) parsed)
 
-pub returns-clause-report : goal.returns-clause-report
-returns-clause-report g c = checked_made c.args.reads.now c.in_ok-limits.limits.items c.report_trees.result c.in_ok-limits.ensures (c.no_rows.ensures.none c.if-not-no_rows.false) c.report_trees.ensures
-
-pub returns-then-not-no_rows-clause-stand : goal.returns-then-not-no_rows-clause-stand
-returns-then-not-no_rows-clause-stand g c = limited_stand c.args.reads.now c.in_ok-limits.limits.items c.refused.result c.in_ok-limits.ensures c.requires.read c.refused.ensures
-
-pub returns-then-not-no_rows-2-clause-stand : goal.returns-then-not-no_rows-2-clause-stand
-returns-then-not-no_rows-2-clause-stand g c = whole_stand c.args.reads.now c.in_ok-limits.limits.items c.refused-then-not-no_rows-2.result c.in_ok-limits.ensures (c.no_rows.ensures.none c.if-not-no_rows.false) c.requires.read
-
-pub returns-then-not-no_rows-3-clause-stand : goal.returns-then-not-no_rows-3-clause-stand
-returns-then-not-no_rows-3-clause-stand g c = whole_stand c.args.reads.now c.in_ok-limits.limits.items c.refused-then-not-no_rows-3.result c.in_ok-limits.ensures (c.no_rows.ensures.none c.if-not-no_rows.false) c.requires.read
-
-pub returns-clause-stand : goal.returns-clause-stand
-returns-clause-stand g c = whole_stand c.args.reads.now c.in_ok-limits.limits.items c.report_trees.result c.in_ok-limits.ensures (c.no_rows.ensures.none c.if-not-no_rows.false) c.requires.read
+pub returns : goal.returns
+returns g c = checked_made c.args.reads.now c.in_ok-limits.limits.items c.report_trees.result c.in_ok-limits.ensures (c.no_rows.ensures.none c.if-not-no_rows.false) c.report_trees.ensures

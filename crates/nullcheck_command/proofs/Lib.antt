@@ -1,0 +1,5 @@
+pub mod Reporting
+pub mod RuleRows
+pub mod Programs
+pub mod Laws
+pub mod Written

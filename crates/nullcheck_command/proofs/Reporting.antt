@@ -1,0 +1,262 @@
+-- Reports of files that were read.
+use Rattle.std.proofs.Common.{◌≡◌, ◌↔◌, ℕ, zero, suc, ◌+◌, ◌<◌, ◌≤◌, Bool, true, false, List, [], ◌∷◌, ◌++◌, length, map, get_or, Option, Some, None, Result, Ok, Err, inl, inr, ⊎_elim, refl, sym, ap, ◌∙◌, subst, arith}
+use Rattle.std.specs.Prelude.{◌⊎◌, ◌&&◌, cond, nat_lt, nat_le, Contains, IfOk, slice_get}
+use Rattle.std.specs.List.Sorted.{IsStrictlySortedBy}
+use Rattle.std.proofs.Math.Nat.{min-eq_right}
+use Rattle.std.proofs.lemmas.Bool.{lt-ltb}
+use Rattle.jn_base.specs.declared.refusal.OutOfMemory.{OutOfMemory}
+use Rattle.jn_base.specs.declared.place.Row.{Row}
+use Rattle.jn_base.specs.declared.code.Code.{Code}
+use Rattle.jn_base.specs.declared.code.Code.TheVariants.{B1, B2, B3}
+use Rattle.jn_trees.specs.declared.token.Token.{Token}
+use Rattle.jn_places.specs.Placed.{PlacedFile}
+use Rattle.jn_points.specs.declared.program.Program.{Program}
+use Rattle.jn_points.specs.BaseRows.{IsBaseRow}
+use Rattle.jn_heap.specs.Machine.{NeverNull}
+use Rattle.jn_progress_law.specs.Progress.{NeverStuck}
+use Rattle.jn_known.specs.Known.{known_names}
+use Rattle.jn_diag.specs.Order.{IsOrderOf, row_cmp}
+use Rattle.jn_front.specs.declared.source.SourceFile.{SourceFile}
+use Rattle.jn_front.specs.declared.source.SourceRead.{SourceRead}
+use Rattle.jn_front.specs.Files.{files_of_reads, AllWhole, AreReads, most_files, file_limit}
+use Rattle.jn_front.specs.Limits.{row_at, counted, large_row, passing_row, size_rows, limit_rows, all_limit}
+use Rattle.jn_front.specs.Phases.{AreParsed, ArePlaced, FaultRows, SyntaxRows, LexedFrom}
+use Rattle.jn_command.specs.declared.report.Report.{Report}
+use Rattle.jn_command.specs.declared.report.Report.TheVariants.{Refused, Checked}
+use Rattle.jn_command.specs.Reports.{rows_of}
+use Rattle.jn_command.specs.Stands.{StandsIn, StandIn}
+use Rattle.nullcheck_command.specs.Report.{AreDeclared, IsReport, IsSafe, PhaseRows, ProgramOf, RulesGive, TypedProgramOf, lowering_rows, table_rows}
+
+-- files that a phase refuses
+refused_report : (files : List SourceFile) (broken sorted : List Row) (report : Report) → PhaseRows files broken → IsOrderOf broken sorted → report ≡ Refused sorted → IsReport files report
+refused_report files broken sorted report phase order is = subst (IsReport files) (sym is) (record { broken = broken; phase = phase; order = order })
+
+pub checked_report : (files : List SourceFile) (P : Program) (rows : List Row) → TypedProgramOf files P → RulesGive P rows → IsReport files (Checked rows)
+checked_report files P rows of_files rules = record { P = P; of_files = of_files; rules = rules }
+
+-- ---- where no limit is passed, what was read are the files
+
+front_none : (xs ys : List Row) → xs ++ ys ≡ [] → xs ≡ []
+front_none [] ys e = refl
+front_none (x ∷ xs) ys e = cc
+
+back_none : (xs ys : List Row) → xs ++ ys ≡ [] → ys ≡ []
+back_none [] ys e = e
+back_none (x ∷ xs) ys e = cc
+
+small_if : (b : Bool) (row : Row) → cond b (row ∷ []) [] ≡ [] → b ≡ false
+small_if true row e = cc
+small_if false row e = refl
+
+never_both : (b : Bool) → b ≡ true → b ≡ false → ⊥
+never_both true e f = cc
+never_both false e f = cc
+
+not_large : (k : ℕ) (file : SourceFile) → large_row k (counted file) ≡ [] → file_limit < length file.bytes → ⊥
+not_large k file none long =
+    let most : counted file ≡ file_limit + 1 = min-eq_right (omega (arith, long)) in
+    never_both (nat_lt file_limit (counted file)) (lt-ltb file_limit (counted file) (omega (arith, most))) (small_if (nat_lt file_limit (counted file)) (row_at k B2) none)
+
+whole_by_size : (k before : ℕ) (reads : List SourceRead) (files : List SourceFile) → AreReads reads files → size_rows k before (map counted files) ≡ [] → files_of_reads reads ≡ files
+whole_by_size k before [] [] are none = refl
+whole_by_size k before [] (file ∷ files) are none = absurd are
+whole_by_size k before (read ∷ reads) [] are none = absurd are
+whole_by_size k before (read ∷ reads) (file ∷ files) (inl w, are) none =
+    let rest = back_none (passing_row k before (counted file)) (size_rows (k + 1) (before + counted file) (map counted files)) (back_none (large_row k (counted file)) _ none) in
+    ap (λ f. f ∷ files_of_reads reads) w.1 ∙ ap (λ fs. file ∷ fs) (whole_by_size (k + 1) (before + counted file) reads files are rest)
+whole_by_size k before (read ∷ reads) (file ∷ files) (inr l, are) none =
+    absurd (not_large k file (front_none (large_row k (counted file)) _ none) l.2)
+
+none_of_sizes : (b : Bool) (row : Row) (rows : List Row) → cond b (row ∷ []) rows ≡ [] → rows ≡ []
+none_of_sizes true row rows e = cc
+none_of_sizes false row rows e = e
+
+pub whole_files : (reads : List SourceRead) (files : List SourceFile) → AreReads reads files → limit_rows files ≡ [] → files_of_reads reads ≡ files
+whole_files reads files are none =
+    whole_by_size 0 0 reads files are (none_of_sizes (nat_lt most_files (length files)) (row_at most_files B1) (size_rows 0 0 (map counted files)) none)
+
+all_whole_by_size : (k before : ℕ) (reads : List SourceRead) (files : List SourceFile) → AreReads reads files → size_rows k before (map counted files) ≡ [] → AllWhole reads
+all_whole_by_size k before [] [] are none = tt
+all_whole_by_size k before [] (file ∷ files) are none = absurd are
+all_whole_by_size k before (read ∷ reads) [] are none = absurd are
+all_whole_by_size k before (read ∷ reads) (file ∷ files) (inl w, are) none =
+    let rest = back_none (passing_row k before (counted file)) (size_rows (k + 1) (before + counted file) (map counted files)) (back_none (large_row k (counted file)) _ none) in
+    let same = ap (λ (f : SourceFile). length f.bytes) w.1 in
+    (w.0, omega (arith, same, w.2), all_whole_by_size (k + 1) (before + counted file) reads files are rest)
+all_whole_by_size k before (read ∷ reads) (file ∷ files) (inr l, are) none =
+    absurd (not_large k file (front_none (large_row k (counted file)) _ none) l.2)
+
+all_whole : (reads : List SourceRead) (files : List SourceFile) → AreReads reads files → limit_rows files ≡ [] → AllWhole reads
+all_whole reads files are none = all_whole_by_size 0 0 reads files are (none_of_sizes (nat_lt most_files (length files)) (row_at most_files B1) (size_rows 0 0 (map counted files)) none)
+
+stands_whole : (reads : List SourceRead) (k : ℕ) (row : Row) → AllWhole reads → StandsIn (slice_get reads k) row
+stands_whole [] k row whole = tt
+stands_whole (read ∷ reads) zero row whole = inl whole.0
+stands_whole (read ∷ reads) (suc k) row whole = stands_whole reads k row whole.2
+
+stand_whole : (reads : List SourceRead) (rows : List Row) → AllWhole reads → StandIn reads rows
+stand_whole reads [] whole = tt
+stand_whole reads (row ∷ rows) whole = (stands_whole reads row.span.file.0 row whole, stand_whole reads rows whole)
+
+-- ---- rows of the limits stand at the first byte of their files
+
+abbrev pub IsAtStart : Row → Type 0
+IsAtStart row = (k : ℕ) × (code : Code) × (row ≡ row_at k code)
+
+abbrev pub AllAtStart : List Row → Type 0
+AllAtStart [] = Unit {0}
+AllAtStart (row ∷ rows) = IsAtStart row × AllAtStart rows
+
+at_start_both : (xs ys : List Row) → AllAtStart xs → AllAtStart ys → AllAtStart (xs ++ ys)
+at_start_both [] ys a b = b
+at_start_both (x ∷ xs) ys a b = (a.0, at_start_both xs ys a.1 b)
+
+some_at_start : (k : ℕ) (code : Code) (b : Bool) → AllAtStart (cond b (row_at k code ∷ []) [])
+some_at_start k code true = ((k, code, refl), tt)
+some_at_start k code false = tt
+
+sizes_at_start : (k before : ℕ) (sizes : List ℕ) → AllAtStart (size_rows k before sizes)
+sizes_at_start k before [] = tt
+sizes_at_start k before (size ∷ sizes) =
+    at_start_both (large_row k size) (passing_row k before size ++ size_rows (k + 1) (before + size) sizes) (some_at_start k B2 (nat_lt file_limit size))
+    (at_start_both (passing_row k before size) (size_rows (k + 1) (before + size) sizes) (some_at_start k B3 (nat_le before all_limit && nat_lt all_limit (before + size))) (sizes_at_start (k + 1) (before + size) sizes))
+
+one_or : (b : Bool) (xs ys : List Row) → AllAtStart xs → AllAtStart ys → AllAtStart (cond b xs ys)
+one_or true xs ys a b = a
+one_or false xs ys a b = b
+
+limits_at_start : (files : List SourceFile) → AllAtStart (limit_rows files)
+limits_at_start files = one_or (nat_lt most_files (length files)) (row_at most_files B1 ∷ []) (size_rows 0 0 (map counted files)) ((most_files, B1, refl), tt) (sizes_at_start 0 0 (map counted files))
+
+in_cases : (x y : Row) (xs : List Row) (k : ℕ) → k < length (x ∷ xs) → get_or (x ∷ xs) k y ≡ y → (x ≡ y) ⊎ Contains xs y
+in_cases x y xs zero below at = inl at
+in_cases x y xs (suc k) below at = inr (k, omega arith, at)
+
+at_start_in : (rows : List Row) (row : Row) → AllAtStart rows → Contains rows row → IsAtStart row
+at_start_in [] row all h = let below = h.1 in absurd (omega arith)
+at_start_in (x ∷ xs) row all h = ⊎_elim (λ e. subst IsAtStart e all.0) (λ c. at_start_in xs row all.1 c) (in_cases x row xs h.0 h.1 h.2)
+
+in_more : (x y : Row) (xs : List Row) → Contains xs y → Contains (x ∷ xs) y
+in_more x y xs h = (suc h.0, (let below = h.1 in omega arith), h.2)
+
+each_at_start : (rows : List Row) → ((row : Row) → Contains rows row → IsAtStart row) → AllAtStart rows
+each_at_start [] each = tt
+each_at_start (x ∷ xs) each = (each x (0, omega arith, refl), each_at_start xs (λ row h. each row (in_more x row xs h)))
+
+pub sorted_at_start : (files : List SourceFile) (broken sorted : List Row) → broken ≡ limit_rows files → IsOrderOf broken sorted → AllAtStart sorted
+sorted_at_start files broken sorted are order =
+    each_at_start sorted (λ row h. at_start_in broken row (subst AllAtStart (sym are) (limits_at_start files)) ((order.same row).0 h))
+
+stands_at_start : (read : Option SourceRead) (row : Row) → IsAtStart row → StandsIn read row
+stands_at_start None row start = tt
+stands_at_start (Some read) row (k, code, is) = inr (ap (λ (r : Row). r.span.from) is)
+
+stand_at_start : (reads : List SourceRead) (rows : List Row) → AllAtStart rows → StandIn reads rows
+stand_at_start reads [] all = tt
+stand_at_start reads (row ∷ rows) all = (stands_at_start (slice_get reads row.span.file.0) row all.0, stand_at_start reads rows all.1)
+
+-- ---- the phases
+
+-- the rows of the limits are there, whatever files were read so
+abbrev pub Limited : List SourceRead → List Row → Type 0
+Limited reads rows = (files : List SourceFile) → AreReads reads files → rows ≡ limit_rows files
+
+-- no limit is passed
+within_limits : (reads : List SourceRead) (limits : List Row) → Limited reads limits → limits ≡ [] → (files : List SourceFile) → AreReads reads files → (files_of_reads reads ≡ files) × (limit_rows files ≡ [])
+within_limits reads limits limited none files are =
+    let no_rows : limit_rows files ≡ [] = sym (limited files are) ∙ none in
+    (whole_files reads files are no_rows, no_rows)
+
+abbrev pub Made : Type 0
+Made = Result Report OutOfMemory
+
+-- it refuses by these rows, in order
+abbrev pub RefusesBy : List Row → Made → Type 0
+RefusesBy rows made = IfOk made (λ r. (sorted : List Row) × IsOrderOf rows sorted × (r ≡ Refused sorted))
+
+abbrev pub ReportsAll : List SourceRead → Made → Type 0
+ReportsAll reads made = IfOk made (λ r. (files : List SourceFile) → AreReads reads files → IsReport files r)
+
+abbrev pub Stand : List SourceRead → Made → Type 0
+Stand reads made = IfOk made (λ r. StandIn reads (rows_of r))
+
+pub limited_made : (reads : List SourceRead) (limits : List Row) (made : Made) → Limited reads limits → (limits ≡ [] → ⊥) → RefusesBy limits made → ReportsAll reads made
+limited_made reads limits (Ok r) limited some by = λ files are. refused_report files limits by.0 r (inl (inl (record { are = limited files are; some = some }))) by.1 by.2
+limited_made reads limits (Err e) limited some by = tt
+
+pub limited_stand : (reads : List SourceRead) (limits : List Row) (made : Made) → Limited reads limits → ((files : List SourceFile) × AreReads reads files) → RefusesBy limits made → Stand reads made
+limited_stand reads limits (Ok r) limited some by =
+    subst (λ (report : Report). StandIn reads (rows_of report)) (sym by.2) (stand_at_start reads by.0 (sorted_at_start some.0 limits by.0 (limited some.0 some.1) by.1))
+limited_stand reads limits (Err e) limited some by = tt
+
+-- where no limit is passed, rows stand anywhere
+pub whole_stand : (reads : List SourceRead) (limits : List Row) (made : Made) → Limited reads limits → limits ≡ [] → ((files : List SourceFile) × AreReads reads files) → Stand reads made
+whole_stand reads limits (Ok r) limited none some = stand_whole reads (rows_of r) (all_whole reads some.0 some.1 (within_limits reads limits limited none some.0 some.1).1)
+whole_stand reads limits (Err e) limited none some = tt
+
+pub lexical_made : (reads : List SourceRead) (limits faults : List Row) (made : Made) → Limited reads limits → limits ≡ [] → FaultRows 0 (files_of_reads reads) faults → (faults ≡ [] → ⊥) → RefusesBy faults made → ReportsAll reads made
+lexical_made reads limits faults (Ok r) limited none faulty some by = λ files are.
+    let w = within_limits reads limits limited none files are in
+    refused_report files faults by.0 r (inl (inr (inl (record { within = w.1; are = subst (λ fs. FaultRows 0 fs faults) w.0 faulty; some = some })))) by.1 by.2
+lexical_made reads limits faults (Err e) limited none faulty some by = tt
+
+pub grammar_made : (reads : List SourceRead) (limits rows : List Row) (names : List (List ℕ)) (tokens : List (List Token)) (made : Made) → Limited reads limits → limits ≡ [] → LexedFrom 0 known_names (files_of_reads reads) tokens names → SyntaxRows 0 (files_of_reads reads) tokens rows → (rows ≡ [] → ⊥) → RefusesBy rows made → ReportsAll reads made
+grammar_made reads limits rows names tokens (Ok r) limited none lexed syntax some by = λ files are.
+    let w = within_limits reads limits limited none files are in
+    refused_report files rows by.0 r (inl (inr (inr (record { within = w.1; names = names; tokens = tokens; lexed = subst (λ fs. LexedFrom 0 known_names fs tokens names) w.0 lexed; are = subst (λ fs. SyntaxRows 0 fs tokens rows) w.0 syntax; some = some })))) by.1 by.2
+grammar_made reads limits rows names tokens (Err e) limited none lexed syntax some by = tt
+
+pub are_parsed : (reads : List SourceRead) (limits : List Row) → Limited reads limits → limits ≡ [] → (names : List (List ℕ)) (tokens : List (List Token)) (trees : List PlacedFile) → ((files : List SourceFile) × AreReads reads files) → LexedFrom 0 known_names (files_of_reads reads) tokens names → ArePlaced tokens trees → AreParsed (files_of_reads reads) names tokens trees
+are_parsed reads limits limited none names tokens trees some lexed placed =
+    let w = within_limits reads limits limited none some.0 some.1 in
+    record { within = ap limit_rows w.0 ∙ w.1; lexed = lexed; parsed = placed }
+
+pub checked_made : (reads : List SourceRead) (limits : List Row) (made : Made) → Limited reads limits → limits ≡ [] → IfOk made (λ r. IsReport (files_of_reads reads) r) → ReportsAll reads made
+checked_made reads limits (Ok r) limited none report = λ files are. subst (λ fs. IsReport fs r) (within_limits reads limits limited none files are).0 report
+checked_made reads limits (Err e) limited none report = tt
+
+-- rows of classes and members
+pub table_made : (files : List SourceFile) (names : List (List ℕ)) (tokens : List (List Token)) (trees : List PlacedFile) (rows : List Row) (made : Made) → AreParsed files names tokens trees → rows ≡ table_rows trees → (table_rows trees ≡ [] → ⊥) → RefusesBy rows made → IfOk made (λ r. IsReport files r)
+table_made files names tokens trees rows (Ok r) parsed are some by =
+    refused_report files rows by.0 r (inr (inl (record { names = names; tokens = tokens; trees = trees; parsed = parsed; are = are; some = λ none. some (sym are ∙ none) }))) by.1 by.2
+table_made files names tokens trees rows (Err e) parsed are some by = tt
+
+-- rows of bodies and of what stands around them
+pub lowering_made : (files : List SourceFile) (names : List (List ℕ)) (tokens : List (List Token)) (trees : List PlacedFile) (rows : List Row) (made : Made) → AreDeclared files names tokens trees → rows ≡ lowering_rows trees → (lowering_rows trees ≡ [] → ⊥) → RefusesBy rows made → IfOk made (λ r. IsReport files r)
+lowering_made files names tokens trees rows (Ok r) declared are some by =
+    refused_report files rows by.0 r (inr (inr (inl (record { names = names; tokens = tokens; trees = trees; declared = declared; are = are; some = λ none. some (sym are ∙ none) })))) by.1 by.2
+lowering_made files names tokens trees rows (Err e) declared are some by = tt
+
+-- rows of types
+pub types_made : (files : List SourceFile) (P : Program) (rows : List Row) (made : Made) → ProgramOf files P → ((row : Row) → Contains rows row ↔ IsBaseRow P row) → (rows ≡ [] → ⊥) → RefusesBy rows made → IfOk made (λ r. IsReport files r)
+types_made files P rows (Ok r) of_files are some by =
+    refused_report files rows by.0 r (inr (inr (inr (record { P = P; of_files = of_files; are = are; some = some })))) by.1 by.2
+types_made files P rows (Err e) of_files are some by = tt
+
+-- ---- more files than there may be
+
+one_sorted : (row : Row) → IsStrictlySortedBy row_cmp (row ∷ [])
+unfolding IsStrictlySortedBy
+one_sorted row = (tt, tt)
+
+pub too_many_report : (files : List SourceFile) (report : Report) → most_files < length files → report ≡ Refused (row_at most_files B1 ∷ []) → IsReport files report
+too_many_report files report many is =
+    refused_report files (row_at most_files B1 ∷ []) (row_at most_files B1 ∷ []) report (inl (inl (record { are = limit_is; some = no_rows }))) (record { sorted = one_sorted (row_at most_files B1); same = λ row. (λ h. h, λ h. h) }) is
+  where
+    limit_is : row_at most_files B1 ∷ [] ≡ limit_rows files
+    limit_is = ap (λ b. cond b (row_at most_files B1 ∷ []) (size_rows 0 0 (map counted files))) (sym (lt-ltb most_files (length files) many))
+
+    no_rows : row_at most_files B1 ∷ [] ≡ [] → ⊥
+    no_rows e = cc
+
+-- ---- accepted files are safe
+
+pub safe_report : ((files : List SourceFile) (P : Program) → TypedProgramOf files P → RulesGive P [] → NeverNull P) → ((files : List SourceFile) (P : Program) → TypedProgramOf files P → RulesGive P [] → NeverStuck P) → (files : List SourceFile) (report : Report) → report ≡ Checked [] → IsReport files report → IsSafe files
+safe_report null stuck files report none is = accepted (subst (IsReport files) none is)
+  where
+    accepted : IsReport files (Checked []) → IsSafe files
+    accepted by = record { P = by.P; of_files = by.of_files; never_null = null files by.P by.of_files by.rules; never_stuck = stuck files by.P by.of_files by.rules }
+
+pub safe_made : ((files : List SourceFile) (P : Program) → TypedProgramOf files P → RulesGive P [] → NeverNull P) → ((files : List SourceFile) (P : Program) → TypedProgramOf files P → RulesGive P [] → NeverStuck P) → (reads : List SourceRead) (made : Made) → ReportsAll reads made → IfOk made (λ report. report ≡ Checked [] → (files : List SourceFile) → AreReads reads files → IsSafe files)
+safe_made null stuck reads (Ok r) all = λ none files are. safe_report null stuck files r none (all files are)
+safe_made null stuck reads (Err e) all = tt

@@ -1,0 +1,119 @@
+-- The report of files: what they are found to be, and how it is shown.
+use Rattle.std.specs.Prelude.{ℕ, ◌≡◌, ◌⊎◌, ◌↔◌, List, [], ◌∷◌, Contains}
+use Rattle.jn_base.specs.declared.place.Row.{Row}
+use Rattle.jn_trees.specs.declared.token.Token.{Token}
+use Rattle.jn_places.specs.Placed.{PlacedFile}
+use Rattle.jn_classtable.specs.Extract.{heads}
+use Rattle.jn_classtable.specs.Rows.{t_rows}
+use Rattle.jn_points.specs.declared.program.Program.{Program}
+use Rattle.jn_points.specs.BaseRows.{IsBaseRow, NoBaseRows}
+use Rattle.jn_points.specs.Regular.{Regular}
+use Rattle.jn_program_law.specs.FileProgram.{j_rows, program_of_files}
+use Rattle.jn_quals.specs.Qualifier.{Qualifier}
+use Rattle.jn_command.specs.declared.report.Report.{Report}
+use Rattle.jn_command.specs.declared.report.Report.TheVariants.{Refused, Checked}
+use Rattle.jn_inference_law.specs.Solution.{IsLeastSignature}
+use Rattle.jn_transfer.specs.Rules.{Breaks}
+use Rattle.jn_heap.specs.Machine.{NeverNull}
+use Rattle.jn_progress_law.specs.Progress.{NeverStuck}
+use Rattle.jn_diag.specs.Order.{IsOrderOf}
+use Rattle.jn_front.specs.declared.source.SourceFile.{SourceFile}
+use Rattle.jn_front.specs.Phases.{AreParsed, FrontRows}
+
+-- the rows T1 to T10 of files with these trees: what their classes and members declare (JLS 8, 9) doesn't fit together
+abbrev pub table_rows : List PlacedFile → List Row
+table_rows trees = t_rows (heads trees)
+
+-- the rows J1 to J6 of files with these trees: a name, a type or a form has no meaning in the subset, or a body passes a limit (JLS 8, 6 to 15)
+abbrev pub lowering_rows : List PlacedFile → List Row
+lowering_rows trees = j_rows trees
+
+-- files with trees, whose classes and members have no row
+pub record AreDeclared (files : List SourceFile) (names : List (List ℕ)) (tokens : List (List Token)) (trees : List PlacedFile) : Type 0 where
+  pub parsed : AreParsed files names tokens trees
+  pub rowless : table_rows trees ≡ []
+
+-- all that they say has a meaning, so that each body has points
+pub record AreLowered (files : List SourceFile) (names : List (List ℕ)) (tokens : List (List Token)) (trees : List PlacedFile) : Type 0 where
+  pub declared : AreDeclared files names tokens trees
+  pub rowless : lowering_rows trees ≡ []
+
+-- the program of files that have no row so far
+pub record ProgramOf (files : List SourceFile) (P : Program) : Type 0 where
+  pub names : List (List ℕ)
+  pub tokens : List (List Token)
+  pub trees : List PlacedFile
+  pub lowered : AreLowered files names tokens trees
+  pub is : P ≡ program_of_files trees
+  pub regular : Regular P
+
+-- each value has a type that fits where it is used, each register that is read is written before, each method returns what it declares
+pub record TypedProgramOf (files : List SourceFile) (P : Program) : Type 0 where
+  pub of_files : ProgramOf files P
+  pub typed : NoBaseRows P
+
+-- the rules are those under the least signature
+pub record RulesGive (P : Program) (rows : List Row) : Type 0 where
+  pub signature : List Qualifier
+  pub least : IsLeastSignature P signature
+  pub broken : List Row
+  pub breaks : Breaks P signature broken
+  pub order : IsOrderOf broken rows
+
+pub record IsCheckedBy (files : List SourceFile) (rows : List Row) : Type 0 where
+  pub P : Program
+  pub of_files : TypedProgramOf files P
+  pub rules : RulesGive P rows
+
+-- the rows of classes and members, of files that have trees
+pub record TableRows (files : List SourceFile) (rows : List Row) : Type 0 where
+  pub names : List (List ℕ)
+  pub tokens : List (List Token)
+  pub trees : List PlacedFile
+  pub parsed : AreParsed files names tokens trees
+  pub are : rows ≡ table_rows trees
+  pub some : rows ≡ [] → ⊥
+
+-- the rows of bodies and of what stands around them, of files whose classes and members have none
+pub record LoweringRows (files : List SourceFile) (rows : List Row) : Type 0 where
+  pub names : List (List ℕ)
+  pub tokens : List (List Token)
+  pub trees : List PlacedFile
+  pub declared : AreDeclared files names tokens trees
+  pub are : rows ≡ lowering_rows trees
+  pub some : rows ≡ [] → ⊥
+
+-- the rows J7 to J10 of types, of files that have a program; in no order
+pub record TypeRows (files : List SourceFile) (rows : List Row) : Type 0 where
+  pub P : Program
+  pub of_files : ProgramOf files P
+  pub are : (row : Row) → Contains rows row ↔ IsBaseRow P row
+  pub some : rows ≡ [] → ⊥
+
+-- the rows of the first phase that has any: limits, tokens and syntax, then classes and members, then bodies, then types
+abbrev pub ProgramRows : List SourceFile → List Row → Type 0
+ProgramRows files rows = LoweringRows files rows ⊎ TypeRows files rows
+
+abbrev pub TreeRows : List SourceFile → List Row → Type 0
+TreeRows files rows = TableRows files rows ⊎ ProgramRows files rows
+
+abbrev pub PhaseRows : List SourceFile → List Row → Type 0
+PhaseRows files rows = FrontRows files rows ⊎ TreeRows files rows
+
+-- they are in order
+pub record IsPhase (files : List SourceFile) (rows : List Row) : Type 0 where
+  pub broken : List Row
+  pub phase : PhaseRows files broken
+  pub order : IsOrderOf broken rows
+
+-- files are refused by the rows of the first phase that has any, or checked by the rules; the rows are in order
+abbrev pub IsReport : List SourceFile → Report → Type 0
+IsReport files (Refused rows) = IsPhase files rows
+IsReport files (Checked rows) = IsCheckedBy files rows
+
+-- the files' own program has no null fault in any run, and no run gets stuck
+pub record IsSafe (files : List SourceFile) : Type 0 where
+  pub P : Program
+  pub of_files : TypedProgramOf files P
+  pub never_null : NeverNull P
+  pub never_stuck : NeverStuck P

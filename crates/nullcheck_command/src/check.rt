@@ -1,0 +1,206 @@
+//! The checker of the subset: from files that were read to the rows of the first phase that has any, or to the rules.
+ghost use Rattle.std.specs.Prelude.{◌≡◌, ◌≤◌, ◌<◌, ◌∷◌, [], List, ℕ, true, false, length, map, IfOk};
+ghost use Rattle.jn_base.specs.declared.place.Row.{Row as SpecRow};
+ghost use Rattle.jn_base.specs.declared.code.Code.TheVariants.{B1};
+ghost use Rattle.jn_trees.specs.declared.token.Token.{Token as SpecToken};
+ghost use Rattle.jn_places.specs.PlacedView.{placed_file};
+ghost use Rattle.jn_classtable.specs.Extract.{heads};
+ghost use Rattle.jn_diag.specs.Order.{IsOrderOf};
+ghost use Rattle.jn_front.specs.Counted.{ReadsFit};
+ghost use Rattle.jn_front.specs.declared.source.SourceFile.{SourceFile as SpecFile};
+ghost use Rattle.jn_front.specs.Files.{files_of_reads, AreReads, most_files};
+ghost use Rattle.jn_front.specs.Limits.{row_at};
+ghost use Rattle.jn_front.specs.Phases.{AreParsed};
+ghost use Rattle.jn_command.specs.declared.report.Report.TheVariants.{Refused, Checked};
+ghost use Rattle.jn_command.specs.Reports.{rows_of};
+ghost use Rattle.jn_command.specs.Stands.{StandIn};
+ghost use Rattle.nullcheck_command.specs.Report.{AreDeclared, IsReport, IsSafe, ProgramOf, TypedProgramOf};
+
+use crate::law::accepted_files_are_safe;
+use crate::rules::broken_rules;
+use jn_base::{Code, Fail, OutOfMemory, Row, Seq};
+use jn_basecheck::{BaseTyped, base_check};
+use jn_classtable::{ClassTable, build};
+use jn_command::Report;
+use jn_diag::order;
+use jn_front::{SourceRead, lex_all, limit_rows, parse_all, row_at};
+use jn_inference_law::law::regular_programs_are_inferable;
+use jn_points::Program;
+use jn_program::lowering::lower;
+use jn_trees::FileTree;
+use jn_workers::Gate;
+use std::alloc::Global;
+use std::thread::Threads;
+
+/// The report of files that are refused by these rows, of which the list may have more room than it needs.
+fn refused(alloc: Global, rows: Vec<Row>) -> Result<Report, OutOfMemory>
+    ensures { IfOk result (λ r. (sorted : List SpecRow) × IsOrderOf rows.items sorted × (r ≡ Refused sorted)) }
+{
+    let mut rows = rows;
+    order(&mut rows)?;
+    let kept = Vec::from_slice(alloc, &rows)?;
+    Ok(Report::Refused(Seq::of_vec(kept)))
+}
+
+/// The report of files with this program, which has no row of types.
+fn checked<R: Threads + Sync, G: Gate + Sync>(
+    rt: &R,
+    alloc: Global,
+    workers: u32,
+    reads: &[SourceRead],
+    base: &BaseTyped,
+    gate: &G,
+) -> Result<Report, OutOfMemory>
+    requires program { TypedProgramOf (files_of_reads reads.now) base.now }
+    requires workers { (1 ≤ workers) × (workers ≤ 16) }
+    ensures { IfOk result (λ r. IsReport (files_of_reads reads.now) r) }
+{
+    regular_programs_are_inferable();
+    let rows = broken_rules(rt, alloc, base.program(), workers, gate)?;
+    Ok(Report::Checked(Seq::of_vec(rows)))
+}
+
+/// The report of files with this program.
+fn report_program<R: Threads + Sync, G: Gate + Sync>(
+    rt: &R,
+    alloc: Global,
+    workers: u32,
+    reads: &[SourceRead],
+    program: Program,
+    gate: &G,
+) -> Result<Report, OutOfMemory>
+    requires program { ProgramOf (files_of_reads reads.now) program }
+    requires workers { (1 ≤ workers) × (workers ≤ 16) }
+    ensures { IfOk result (λ r. IsReport (files_of_reads reads.now) r) }
+{
+    match base_check(alloc, program) {
+        Ok(base) => return checked(rt, alloc, workers, reads, &base, gate),
+        Err(Fail::Refused(rows)) => return refused(alloc, rows),
+        Err(Fail::OutOfMemory) => return Err(OutOfMemory),
+    }
+}
+
+/// The report of files with these trees, whose classes and members have no row.
+fn report_table<R: Threads + Sync, G: Gate + Sync>(
+    rt: &R,
+    alloc: Global,
+    workers: u32,
+    reads: &[SourceRead],
+    trees: &[FileTree],
+    table: ClassTable,
+    gate: &G,
+) -> Result<Report, OutOfMemory>
+    requires declared { (names : List (List ℕ)) × (tokens : List (List SpecToken)) × AreDeclared (files_of_reads reads.now) names tokens (map placed_file trees.now) }
+    requires table { table ≡ heads (map placed_file trees.now) }
+    requires workers { (1 ≤ workers) × (workers ≤ 16) }
+    ensures { IfOk result (λ r. IsReport (files_of_reads reads.now) r) }
+{
+    match lower(alloc, table, trees) {
+        Ok(program) => return report_program(rt, alloc, workers, reads, program, gate),
+        Err(Fail::Refused(rows)) => return refused(alloc, rows.into_vec()),
+        Err(Fail::OutOfMemory) => return Err(OutOfMemory),
+    }
+}
+
+/// The report of files with these trees.
+fn report_trees<R: Threads + Sync, G: Gate + Sync>(
+    rt: &R,
+    alloc: Global,
+    workers: u32,
+    reads: &[SourceRead],
+    trees: &[FileTree],
+    gate: &G,
+) -> Result<Report, OutOfMemory>
+    requires parsed { (names : List (List ℕ)) × (tokens : List (List SpecToken)) × AreParsed (files_of_reads reads.now) names tokens (map placed_file trees.now) }
+    requires workers { (1 ≤ workers) × (workers ≤ 16) }
+    ensures { IfOk result (λ r. IsReport (files_of_reads reads.now) r) }
+{
+    match build(alloc, trees) {
+        Ok(table) => return report_table(rt, alloc, workers, reads, trees, table, gate),
+        Err(Fail::Refused(rows)) => return refused(alloc, rows.into_vec()),
+        Err(Fail::OutOfMemory) => return Err(OutOfMemory),
+    }
+}
+
+fn no_rows(rows: &Vec<Row>) -> bool
+    ensures some { result ≡ false → rows.now.items ≡ [] → ⊥ }
+    ensures none { result ≡ true → rows.now.items ≡ [] }
+{
+    rows.is_empty()
+}
+
+/// The report of files that were read, at most 64.
+fn report<R: Threads + Sync, G: Gate + Sync>(
+    rt: &R,
+    alloc: Global,
+    workers: u32,
+    reads: &[SourceRead],
+    gate: &G,
+) -> Result<Report, OutOfMemory>
+    requires few { length reads.now ≤ 64 }
+    requires fit { ReadsFit reads.now }
+    requires read { (files : List SpecFile) × AreReads reads.now files }
+    requires workers { (1 ≤ workers) × (workers ≤ 16) }
+    ensures report { IfOk result (λ r. (files : List SpecFile) → AreReads reads.now files → IsReport files r) }
+    ensures stand { IfOk result (λ r. StandIn reads.now (rows_of r)) }
+{
+    let limits = limit_rows(alloc, reads)?;
+    if !no_rows(&limits) {
+        return refused(alloc, limits);
+    }
+    let lexed = lex_all(alloc, reads)?;
+    if !no_rows(&lexed.faults) {
+        return refused(alloc, lexed.faults);
+    }
+    let parsed = parse_all(alloc, reads, &lexed.tokens)?;
+    if !no_rows(&parsed.rows) {
+        return refused(alloc, parsed.rows);
+    }
+    report_trees(rt, alloc, workers, reads, &parsed.trees, gate)
+}
+
+/// The report of files that were read, at most 64, found by so many workers; it is safe to accept them where it has no row.
+///
+/// # Errors
+///
+/// No memory was found.
+pub fn check<R: Threads + Sync, G: Gate + Sync>(
+    rt: &R,
+    gate: &G,
+    alloc: Global,
+    workers: u32,
+    reads: &[SourceRead],
+) -> Result<Report, OutOfMemory>
+    requires workers { (1 ≤ workers) × (workers ≤ 16) }
+    requires few { length reads.now ≤ most_files }
+    requires fit { ReadsFit reads.now }
+    requires read { (files : List SpecFile) × AreReads reads.now files }
+    ensures report { IfOk result (λ report. (files : List SpecFile) → AreReads reads.now files → IsReport files report) }
+    ensures safe { IfOk result (λ report. report ≡ Checked [] → (files : List SpecFile) → AreReads reads.now files → IsSafe files) }
+    ensures stand { IfOk result (λ report. StandIn reads.now (rows_of report)) }
+{
+    accepted_files_are_safe();
+    report(rt, alloc, workers, reads, gate)
+}
+
+/// The one row of more files than there may be.
+fn number_rows(alloc: Global) -> Result<Seq<Row>, OutOfMemory>
+    ensures { IfOk result (λ rows. rows ≡ row_at most_files B1 ∷ []) }
+{
+    let mut rows = Seq::new(alloc);
+    rows.push(row_at(64, Code::B1))?;
+    Ok(rows)
+}
+
+/// The report of more files than there may be: one row at the first that is too many.
+///
+/// # Errors
+///
+/// No memory was found.
+pub fn refuse_number(alloc: Global) -> Result<Report, OutOfMemory>
+    ensures report { IfOk result (λ report. (files : List SpecFile) → most_files < length files → IsReport files report) }
+    ensures row { IfOk result (λ report. report ≡ Refused (row_at most_files B1 ∷ [])) }
+{
+    let rows = number_rows(alloc)?;
+    Ok(Report::Refused(rows))
+}
