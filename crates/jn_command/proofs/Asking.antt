@@ -7,7 +7,7 @@ use Rattle.jn_cli.specs.Refused.{IfRefused}
 use Rattle.jn_cli.specs.declared.command.Command.{Command}
 use Rattle.jn_cli.specs.Words.{command_of, is_usage, options_of}
 use Rattle.jn_command.specs.Asked.{Asked, asked, asked_by, asked_of, shown_by}
-use Rattle.jn_command.specs.Reporters.{Form, first_named}
+use Rattle.jn_command.specs.Reporters.{Form, first_named, shown_behind}
 
 -- what a refusal tells
 pub by_refused : {E P : Type 0} (fail : Fail E) (cause : E) → fail ≡ Refused cause → IfRefused {T = Unit {0}} (Err fail) P → P
@@ -23,16 +23,12 @@ module _ (forms : List Form) (words : List (List ℕ)) (command : Command) (take
   unfolding asked_of
   by_command = ap (λ b. if b then None else asked_by forms (command_of (options_of words))) taken ∙ ap (asked_by forms) (sym is)
 
-  -- a run is asked for
-  pub run_refused : command.run ≡ true → asked_of forms words ≡ None
-  run_refused run = by_command ∙ ap (λ b. if b then None else shown_by command (first_named command.report forms)) run
-
-  by_name : (form : Option Form) (name : List ℕ) → name ≡ command.report → command.run ≡ false → first_named name forms ≡ form → asked_of forms words ≡ shown_by command form
-  by_name form name same run e = by_command ∙ ap (λ b. if b then None else shown_by command (first_named command.report forms)) run ∙ ap (shown_by command) (ap (λ n. first_named n forms) (sym same) ∙ e)
+  by_name : (form : Option Form) (name : List ℕ) → name ≡ command.report → first_named name forms ≡ form → asked_of forms words ≡ shown_by command form
+  by_name form name same e = by_command ∙ ap (shown_by command) (ap (λ n. first_named n forms) (sym same) ∙ e)
 
   -- no reporter has the name
-  pub name_refused : (name : List ℕ) → name ≡ command.report → command.run ≡ false → first_named name forms ≡ None → asked_of forms words ≡ None
-  name_refused name same run e = by_name None name same run e
+  pub name_refused : (name : List ℕ) → name ≡ command.report → first_named name forms ≡ None → asked_of forms words ≡ None
+  name_refused name same e = by_name None name same e
 
-  pub words_taken : (form : Form) (name : List ℕ) → name ≡ command.report → command.run ≡ false → first_named name forms ≡ Some form → asked_of forms words ≡ Some (asked command form.shown)
-  words_taken form name same run e = by_name (Some form) name same run e
+  pub words_taken : (form : Form) (name : List ℕ) → name ≡ command.report → first_named name forms ≡ Some form → asked_of forms words ≡ Some (asked command (shown_behind form.rows form.shown))
+  words_taken form name same e = by_name (Some form) name same e

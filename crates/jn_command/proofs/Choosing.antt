@@ -2,7 +2,7 @@
 use Rattle.std.proofs.Common.{◌≡◌, ℕ, Bool, true, false, List, [], ◌∷◌, ◌++◌, map, Option, Some, None, refl, sym, ap, ◌∙◌, append_assoc}
 use Rattle.std.specs.Prelude.{if◌then◌else◌}
 use Rattle.std.specs.Str.{bytes_eq}
-use Rattle.jn_command.specs.Reporters.{Form, AllFresh, first_named}
+use Rattle.jn_command.specs.Reporters.{Form, first_named}
 
 none_picked : (b : Bool) (form : Form) (rest : Option Form) → (if b then Some form else rest) ≡ None → (b ≡ false) × (rest ≡ None)
 none_picked true form rest e = absurd (no_some e)
@@ -10,21 +10,6 @@ none_picked true form rest e = absurd (no_some e)
     no_some : Some form ≡ None → ⊥
     no_some e = cc
 none_picked false form rest e = (refl, e)
-
--- the one that has the name is fresh as all are
-pub first_fresh : (name : List ℕ) (forms : List Form) (form : Form) → AllFresh forms → first_named name forms ≡ Some form → form.rows ≡ []
-first_fresh name [] form fresh e = absurd (no_some e)
-  where
-    no_some : None ≡ Some form → ⊥
-    no_some e = cc
-first_fresh name (f ∷ fs) form fresh e = by_cases (bytes_eq f.title name) e (λ later. first_fresh name fs form fresh.1 later)
-  where
-    same : Some f ≡ Some form → f ≡ form
-    same e = cc
-
-    by_cases : (b : Bool) → (if b then Some f else first_named name fs) ≡ Some form → (first_named name fs ≡ Some form → form.rows ≡ []) → form.rows ≡ []
-    by_cases true e later = ap (λ (x : Form). x.rows) (sym (same e)) ∙ fresh.0
-    by_cases false e later = later e
 
 module _ {X : Type 0} (form : X → Form) (name : List ℕ) where
   named_next : (before : List X) (x : X) (behind : List X) → first_named name (map form before) ≡ None → bytes_eq (form x).title name ≡ true → first_named name (map form (before ++ x ∷ behind)) ≡ Some (form x)

@@ -1,5 +1,5 @@
 -- Rows of files that were read, as a reader sees them.
-use Rattle.std.proofs.Common.{◌≡◌, ℕ, zero, suc, ◌<◌, ◌≤◌, true, false, List, [], ◌∷◌, length, map, take, get_or, Option, Some, None, Result, Ok, Err, inl, inr, refl, sym, ap, ◌∙◌, subst, arith}
+use Rattle.std.proofs.Common.{◌≡◌, ℕ, zero, suc, ◌<◌, ◌≤◌, true, false, List, [], ◌∷◌, ◌++◌, length, map, take, get_or, Option, Some, None, Result, Ok, Err, inl, inr, refl, sym, ap, ◌∙◌, subst, arith}
 use Rattle.std.specs.Prelude.{◌⊎◌, IfOk, slice_get, string_bytes}
 use Rattle.std.specs.declared.string.String.{String}
 use Rattle.std.specs.declared.alloc.Global.{Global}
@@ -20,6 +20,7 @@ use Rattle.jn_front.specs.Limits.{row_at}
 use Rattle.jn_command.specs.declared.report.Report.{Report}
 use Rattle.jn_command.specs.declared.report.Report.TheVariants.{Refused, Checked}
 use Rattle.jn_command.specs.declared.show.Place.{Place}
+use Rattle.jn_command.specs.Reporters.{shown_behind}
 use Rattle.jn_command.specs.Reports.{rows_of, verdict_of}
 use Rattle.jn_command.specs.Shown.{row_of, row_of_file, shown}
 use Rattle.jn_command.specs.Stands.{StandsIn, StandIn, IsPlace, bytes_of}
@@ -111,10 +112,10 @@ same_rows reads files (row ∷ rows) are stand =
 abbrev Shows : Type 0
 Shows = List RowText → Option Verdict → List ℕ
 
-pub same_text : (show kept : Shows) (reads : List SourceRead) (files : List SourceFile) (report : Report) (rows : List RowText) (verdict : Option Verdict) → kept ≡ show → AreReads reads files → StandIn reads (rows_of report) → rows ≡ map (row_of (files_of_reads reads)) (rows_of report) → verdict ≡ Some (verdict_of report) → kept rows verdict ≡ shown show files report
-same_text show kept reads files report rows verdict same are stand lines end =
+pub same_text : (show kept : Shows) (taken : List RowText) (reads : List SourceRead) (files : List SourceFile) (report : Report) (rows : List RowText) (verdict : Option Verdict) → kept ≡ show → AreReads reads files → StandIn reads (rows_of report) → rows ≡ taken ++ map (row_of (files_of_reads reads)) (rows_of report) → verdict ≡ Some (verdict_of report) → kept rows verdict ≡ shown (shown_behind taken show) files report
+same_text show kept taken reads files report rows verdict same are stand lines end =
     ap (λ (f : Shows). f rows verdict) same
-    ∙ ap (λ rs. show rs verdict) (lines ∙ same_rows reads files (rows_of report) are stand) ∙ ap (λ v. show (map (row_of files) (rows_of report)) v) end
+    ∙ ap (λ rs. show rs verdict) (lines ∙ ap (λ rs. taken ++ rs) (same_rows reads files (rows_of report) are stand)) ∙ ap (λ v. show (taken ++ map (row_of files) (rows_of report)) v) end
 
 -- ---- more files than there may be
 
@@ -133,12 +134,12 @@ name_of_file (file ∷ files) zero name row is from = ap (λ n. row_shown n [] r
     same_name e = cc
 name_of_file (file ∷ files) (suc k) name row is from = name_of_file files k name row is from
 
-pub number_text : (show kept : Shows) (files : List SourceFile) (names : List (List ℕ)) (name : List ℕ) (report : Report) (rows : List RowText) (verdict : Option Verdict) → kept ≡ show → names_of files ≡ names → slice_get names most_files ≡ Some name → report ≡ Refused (row_at most_files B1 ∷ []) → rows ≡ row_shown name [] (row_at 64 B1) ∷ [] → verdict ≡ Some (RefusedVerdict 1) → kept rows verdict ≡ shown show files report
-number_text show kept files names name report rows verdict same named is refused lines end =
+pub number_text : (show kept : Shows) (taken : List RowText) (files : List SourceFile) (names : List (List ℕ)) (name : List ℕ) (report : Report) (rows : List RowText) (verdict : Option Verdict) → kept ≡ show → names_of files ≡ names → slice_get names most_files ≡ Some name → report ≡ Refused (row_at most_files B1 ∷ []) → rows ≡ taken ++ row_shown name [] (row_at 64 B1) ∷ [] → verdict ≡ Some (RefusedVerdict 1) → kept rows verdict ≡ shown (shown_behind taken show) files report
+number_text show kept taken files names name report rows verdict same named is refused lines end =
     ap (λ (f : Shows). f rows verdict) same
-    ∙ ap (λ rs. show rs verdict) (lines ∙ ap (λ r. r ∷ []) (name_of_file files most_files name (row_at most_files B1) (ap (λ ns. slice_get ns most_files) named ∙ is) refl))
-    ∙ ap (λ v. show (row_of files (row_at most_files B1) ∷ []) v) end
-    ∙ ap (shown show files) (sym refused)
+    ∙ ap (λ rs. show rs verdict) (lines ∙ ap (λ r. taken ++ r ∷ []) (name_of_file files most_files name (row_at most_files B1) (ap (λ ns. slice_get ns most_files) named ∙ is) refl))
+    ∙ ap (λ v. show (taken ++ row_of files (row_at most_files B1) ∷ []) v) end
+    ∙ ap (shown (shown_behind taken show) files) (sym refused)
 
 -- the name at a place
 pub name_there : (words : List (String Global)) (i : ℕ) (d : String Global) (text : List ℕ) → i < length words → d ≡ get_or words i d → text ≡ string_bytes d → slice_get (map string_bytes words) i ≡ Some text

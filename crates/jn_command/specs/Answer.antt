@@ -1,5 +1,5 @@
 -- What an answer says of what is asked for, the files and the output.
-use Rattle.std.specs.Prelude.{ℕ, zero, suc, ◌≤◌, ◌<◌, ◌≡◌, ◌⊎◌, ◌++◌, List, [], ◌∷◌, length, Option, Some, None}
+use Rattle.std.specs.Prelude.{ℕ, zero, suc, ◌≤◌, ◌<◌, ◌≡◌, ◌⊎◌, ◌++◌, Bool, true, false, List, [], ◌∷◌, length, Option, Some, None}
 use Rattle.jn_outside.specs.declared.given.Given.{Given}
 use Rattle.jn_outside.specs.Files.{Holding}
 use Rattle.jn_outside.specs.Causes.{Rose}
@@ -14,6 +14,7 @@ use Rattle.jn_command.specs.Made.{front_of, made_file, made_text}
 use Rattle.jn_front.specs.declared.source.SourceFile.{SourceFile}
 use Rattle.jn_front.specs.Files.{names_of, most_files, AreHeld, AreGiven, StartsOnly, AllHeld}
 use Rattle.jn_command.specs.declared.report.Report.{Report}
+use Rattle.jn_command.specs.declared.report.Report.TheVariants.{Checked}
 use Rattle.jn_command.specs.Reports.{status_of}
 use Rattle.jn_command.specs.Shown.{shown}
 
@@ -74,51 +75,95 @@ abbrev pub Finished : Option (List ℕ) → Option (List ℕ) → List ℕ → S
 Finished old new bytes status before now result =
     ((result ≡ status) × Appends old new bytes × (now ≡ before)) ⊎ ((result ≡ WriteFault) × AppendsPrefix old new bytes × Rose before now × (before ≤ now))
 
--- by what a report of files is, and what is promised of files that are accepted
-module _ (IsReport : List SourceFile → Report → Type 0) (IsSafe : List SourceFile → Type 0) where
-  -- status and bytes are those of the report of the files, shown so behind these bytes; the files are safe where the status is that of acceptance
-  pub record IsReportOfFiles (front : List ℕ) (show : List RowText → Option Verdict → List ℕ) (files : List SourceFile) (status : Status) (bytes : List ℕ) : Type 0 where
-    pub report : Report
-    pub is : IsReport files report
-    pub ends : status ≡ status_of report
-    pub shows : bytes ≡ front ++ shown show files report
-    pub safe : status ≡ Ok → IsSafe files
+-- what stands behind each status, by the status and the bytes that are defined, what holds where memory ended the call amid its output, and what holds behind a read fault
+module _ (Defined : Status → List ℕ → Type 0) (Part Unread : Type 0) (old new : Option (List ℕ)) where
+  -- what is defined was written whole
+  abbrev pub Writes : Status → Type 0
+  Writes status = (bytes : List ℕ) × Defined status bytes × Appends old new bytes
 
-  -- they are those of the report of the files that are checked
-  pub record IsReportOf (read : Reading) (a : Asked) (status : Status) (bytes : List ℕ) : Type 0 where
+  -- of what is defined a prefix was written
+  abbrev pub WritesPrefix : Type 0
+  WritesPrefix = (status : Status) × (bytes : List ℕ) × Defined status bytes × AppendsPrefix old new bytes
+
+  abbrev pub AnswersBy : Status → Type 0
+  AnswersBy Ok = Writes Ok
+  AnswersBy Rejected = Writes Rejected
+  AnswersBy Refused = Writes Refused
+  AnswersBy RunFault = Writes RunFault
+  AnswersBy Stopped = Writes Stopped
+  AnswersBy ReadFault = Unread
+  AnswersBy WriteFault = WritesPrefix
+  AnswersBy OutOfMemory = (new ≡ old) ⊎ Part
+  AnswersBy Usage = Writes Usage
+
+-- by what a report of files is, what is promised of files that are accepted, what a run of so many steps of their main with these words comes to, and what it prints
+module _ (IsReport : List SourceFile → Report → Type 0) (IsSafe : List SourceFile → Type 0) (RunsTo : List SourceFile → List (List ℕ) → ℕ → Status → List ℕ → Type 0) (Prints : List SourceFile → List (List ℕ) → ℕ → List ℕ → Type 0) where
+  module _ (a : Asked) (files : List SourceFile) where
+    -- status and bytes are those of the report of the files, behind the line of a program that is made; the files are safe where the status is that of acceptance
+    pub record IsReportOfFiles (status : Status) (bytes : List ℕ) : Type 0 where
+      pub report : Report
+      pub is : IsReport files report
+      pub ends : status ≡ status_of report
+      pub shows : bytes ≡ front_of a.command.classes ++ shown a.show files report
+      pub safe : status ≡ Ok → IsSafe files
+
+    -- they are those of the run of accepted files, which are safe
+    pub record IsRunOfFiles (status : Status) (bytes : List ℕ) : Type 0 where
+      pub accepted : IsReport files (Checked [])
+      pub safe : IsSafe files
+      pub runs : RunsTo files a.command.args a.command.steps status bytes
+
+    -- where a run is asked for, accepted files are run, and of others the report is shown
+    abbrev pub IsOutputBy : Bool → Status → List ℕ → Type 0
+    IsOutputBy false status bytes = IsReportOfFiles status bytes
+    IsOutputBy true status bytes = (IsReportOfFiles status bytes × (status ≡ Ok → ⊥)) ⊎ IsRunOfFiles status bytes
+
+    abbrev pub IsOutputOfFiles : Status → List ℕ → Type 0
+    IsOutputOfFiles status bytes = IsOutputBy a.command.run status bytes
+
+    -- of the run that is asked for, the text of some of the steps was written
+    pub record WritesSteps (old new : Option (List ℕ)) : Type 0 where
+      pub run : a.command.run ≡ true
+      pub accepted : IsReport files (Checked [])
+      pub safe : IsSafe files
+      pub steps : ℕ
+      pub most : steps ≤ a.command.steps
+      pub text : List ℕ
+      pub prints : Prints files a.command.args steps text
+      pub taken : Appends old new text
+
+    -- what stands behind each status, of files that were read
+    abbrev pub AnswersFiles : Option (List ℕ) → Option (List ℕ) → Status → Type 0
+    AnswersFiles old new status = AnswersBy IsOutputOfFiles (WritesSteps old new) ⊥ old new status
+
+  -- they are those of the files that are checked
+  pub record IsOutputOf (read : Reading) (a : Asked) (status : Status) (bytes : List ℕ) : Type 0 where
     pub files : List SourceFile
     pub are : AreChecked read a.command.classes a.command.files files
-    pub report : IsReportOfFiles (front_of a.command.classes) a.show files status bytes
+    pub output : IsOutputOfFiles a files status bytes
 
   -- the status and the bytes that the files and what is asked for define
   abbrev pub Defines : Reading → Option Asked → Status → List ℕ → Type 0
   Defines read None status bytes = (status ≡ Usage) × (bytes ≡ usage_line)
-  Defines read (Some a) status bytes = IsReportOf read a status bytes
+  Defines read (Some a) status bytes = IsOutputOf read a status bytes
 
-  -- what is defined was written whole
-  abbrev pub Writes : Reading → Option Asked → Option (List ℕ) → Option (List ℕ) → Status → Type 0
-  Writes read asked old new status = (bytes : List ℕ) × Defines read asked status bytes × Appends old new bytes
+  pub record WritesSome (read : Reading) (a : Asked) (old new : Option (List ℕ)) : Type 0 where
+    pub files : List SourceFile
+    pub are : AreChecked read a.command.classes a.command.files files
+    pub steps : WritesSteps a files old new
 
-  -- of what is defined a prefix was written
-  abbrev pub WritesPrefix : Reading → Option Asked → Option (List ℕ) → Option (List ℕ) → Type 0
-  WritesPrefix read asked old new = (status : Status) × (bytes : List ℕ) × Defines read asked status bytes × AppendsPrefix old new bytes
+  abbrev pub WritesPart : Reading → Option Asked → Option (List ℕ) → Option (List ℕ) → Type 0
+  WritesPart read None old new = ⊥
+  WritesPart read (Some a) old new = WritesSome read a old new
 
   -- what stands behind each status
   abbrev pub Answers : Reading → Option Asked → Option (List ℕ) → Option (List ℕ) → Status → Type 0
-  Answers read asked old new Ok = Writes read asked old new Ok
-  Answers read asked old new Rejected = Writes read asked old new Rejected
-  Answers read asked old new Refused = Writes read asked old new Refused
-  Answers read asked old new RunFault = ⊥
-  Answers read asked old new Stopped = ⊥
-  Answers read asked old new ReadFault = ReadsFiles asked × (new ≡ old)
-  Answers read asked old new WriteFault = WritesPrefix read asked old new
-  Answers read asked old new OutOfMemory = new ≡ old
-  Answers read asked old new Usage = Writes read asked old new Usage
+  Answers read asked old new status = AnswersBy (Defines read asked) (WritesPart read asked old new) (ReadsFiles asked × (new ≡ old)) old new status
 
-  -- a command, and no fault: the report was written whole, or no memory was found
+  -- a command, and no fault: all was written, or no memory was found
   abbrev pub Completes : Reading → Option Asked → Option (List ℕ) → Option (List ℕ) → Status → Type 0
   Completes read None old new status = Unit {0}
-  Completes read (Some a) old new status = (status ≡ OutOfMemory) ⊎ ((bytes : List ℕ) × IsReportOf read a status bytes × Appends old new bytes)
+  Completes read (Some a) old new status = (status ≡ OutOfMemory) ⊎ ((bytes : List ℕ) × IsOutputOf read a status bytes × Appends old new bytes)
 
   -- the files that are checked are safe
   pub record IsSafeOf (read : Reading) (a : Asked) : Type 0 where

@@ -4,7 +4,7 @@ use Rattle.jn_diag.specs.declared.shown.RowText.{RowText}
 use Rattle.jn_diag.specs.declared.shown.Verdict.{Verdict}
 use Rattle.jn_cli.specs.declared.command.Command.{Command}
 use Rattle.jn_cli.specs.Words.{command_of, is_usage, options_of}
-use Rattle.jn_command.specs.Reporters.{Form, first_named}
+use Rattle.jn_command.specs.Reporters.{Form, first_named, shown_behind}
 
 -- a command, and how the report of its files is shown
 pub record Asked : Type 0 where
@@ -16,11 +16,11 @@ asked command show = record { command = command; show = show }
 
 abbrev pub shown_by : Command → Option Form → Option Asked
 shown_by command None = None
-shown_by command (Some form) = Some (asked command form.shown)
+shown_by command (Some form) = Some (asked command (shown_behind form.rows form.shown))
 
--- a command with the first reporter of its name; none where no reporter has it, or where a run is asked for
+-- a command with the first reporter of its name; none where no reporter has it
 abbrev pub asked_by : List Form → Command → Option Asked
-asked_by forms command = if command.run then None else shown_by command (first_named command.report forms)
+asked_by forms command = shown_by command (first_named command.report forms)
 
 -- what the words ask for; none where they are not those of a command
 unfoldable pub asked_of : List Form → List (List ℕ) → Option Asked

@@ -1,5 +1,5 @@
 -- Reporters as a command sees them, and which of them it takes.
-use Rattle.std.specs.Prelude.{◌≡◌, ℕ, List, [], ◌∷◌, Option, Some, None, if◌then◌else◌}
+use Rattle.std.specs.Prelude.{ℕ, List, [], ◌∷◌, ◌++◌, Option, Some, None, if◌then◌else◌}
 use Rattle.std.specs.Str.{bytes_eq}
 use Rattle.jn_diag.specs.declared.shown.RowText.{RowText}
 use Rattle.jn_diag.specs.declared.shown.Verdict.{Verdict}
@@ -10,10 +10,9 @@ pub record Form : Type 0 where
   pub rows : List RowText
   pub shown : List RowText → Option Verdict → List ℕ
 
--- no reporter has taken a row
-abbrev pub AllFresh : List Form → Type 0
-AllFresh [] = Unit {0}
-AllFresh (form ∷ forms) = (form.rows ≡ []) × AllFresh forms
+-- what a reporter that took these rows before makes of further ones
+abbrev pub shown_behind : List RowText → (List RowText → Option Verdict → List ℕ) → List RowText → Option Verdict → List ℕ
+shown_behind taken show = λ rows verdict. show (taken ++ rows) verdict
 
 -- the first reporter with the name
 abbrev pub first_named : List ℕ → List Form → Option Form

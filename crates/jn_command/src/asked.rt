@@ -1,9 +1,9 @@
 //! What the words of the command line ask for.
-ghost use Rattle.std.specs.Prelude.{◌≡◌, ◌≤◌, [], map, None, Some, IfOk};
+ghost use Rattle.std.specs.Prelude.{◌≡◌, ◌≤◌, map, None, Some, IfOk};
 ghost use Rattle.std.specs.String.{string_bytes};
 ghost use Rattle.jn_cli.specs.Refused.{IfRefused};
 ghost use Rattle.jn_command.specs.Asked.{asked, asked_of};
-ghost use Rattle.jn_command.specs.Reporters.{AllFresh};
+ghost use Rattle.jn_command.specs.Reporters.{shown_behind};
 
 use crate::choose::{Chosen, choose};
 use jn_base::Fail;
@@ -22,16 +22,14 @@ pub struct Asked {
 ///
 /// # Errors
 ///
-/// `Usage` where they are not the words of a command, no reporter has the name, or a run is asked for; or no memory was found.
+/// `Usage` where they are not the words of a command, or no reporter has the name; or no memory was found.
 pub fn read_asked(
     alloc: Global,
     words: &[String],
     reporters: Vec<Box<dyn Reporter>>,
 ) -> Result<Asked, Fail<Usage>>
-    requires fresh { AllFresh (map (λ b. record { title = title b; rows = rows b; shown = shown b }) reporters.items) }
-    ensures asked { IfOk result (λ a. asked_of (map (λ b. record { title = title b; rows = rows b; shown = shown b }) reporters.items) (map string_bytes words.now) ≡ Some (asked a.command (shown a.reporter.reporter))) }
+    ensures asked { IfOk result (λ a. asked_of (map (λ b. record { title = title b; rows = rows b; shown = shown b }) reporters.items) (map string_bytes words.now) ≡ Some (asked a.command (shown_behind (rows a.reporter.reporter) (shown a.reporter.reporter)))) }
     ensures usage { IfRefused result (asked_of (map (λ b. record { title = title b; rows = rows b; shown = shown b }) reporters.items) (map string_bytes words.now) ≡ None) }
-    ensures fresh { IfOk result (λ a. rows a.reporter.reporter ≡ []) }
     ensures workers { IfOk result (λ a. (1 ≤ a.command.workers) × (a.command.workers ≤ 16)) }
     ensures classes { IfOk result (λ a. a.command.classes ≤ 500) }
 {
@@ -40,9 +38,6 @@ pub fn read_asked(
         Err(Fail::Refused(usage)) => return Err(Fail::Refused(usage)),
         Err(Fail::OutOfMemory) => return Err(Fail::OutOfMemory),
     };
-    if command.run {
-        return Err(Fail::Refused(Usage));
-    }
     match choose(reporters, command.report.as_str()) {
         None => Err(Fail::Refused(Usage)),
         Some(reporter) => Ok(Asked { command, reporter }),

@@ -1,5 +1,5 @@
 //! A report, as a reporter takes it.
-ghost use Rattle.std.specs.Prelude.{◌≡◌, ◌⊎◌, ◌≤◌, ◌<◌, ◌∷◌, [], length, map, Some, IfOk, slice_get, string_bytes};
+ghost use Rattle.std.specs.Prelude.{◌≡◌, ◌⊎◌, ◌≤◌, ◌<◌, ◌∷◌, ◌++◌, [], length, map, Some, IfOk, slice_get, string_bytes};
 ghost use Rattle.jn_base.specs.declared.code.Code.TheVariants.{B1};
 ghost use Rattle.jn_diag.specs.Shown.{row_shown};
 ghost use Rattle.jn_diag.specs.Sweep.{IsPosition};
@@ -100,8 +100,7 @@ pub fn show<P: Reporter>(
     reporter: P,
 ) -> Result<P, OutOfMemory>
     requires fit { ReadsFit reads.now }
-    requires fresh { P.rows reporter ≡ [] }
-    ensures rows { IfOk result (λ shower. P.rows shower ≡ map (row_of (files_of_reads reads.now)) (rows_of report.now)) }
+    ensures rows { IfOk result (λ shower. P.rows shower ≡ P.rows reporter ++ map (row_of (files_of_reads reads.now)) (rows_of report.now)) }
     ensures verdict { IfOk result (λ shower. P.given shower ≡ Some (verdict_of report.now)) }
     ensures shown { IfOk result (λ shower. P.shown shower ≡ P.shown reporter) }
 {
@@ -120,8 +119,7 @@ pub fn show<P: Reporter>(
 
 /// Hands the report of more files than there may be to a reporter; this is the name of the first that is too many.
 pub fn show_number<P: Reporter>(alloc: Global, name: &str, reporter: P) -> Result<P, OutOfMemory>
-    requires fresh { P.rows reporter ≡ [] }
-    ensures rows { IfOk result (λ shower. P.rows shower ≡ row_shown name.now [] (row_at 64 B1) ∷ []) }
+    ensures rows { IfOk result (λ shower. P.rows shower ≡ P.rows reporter ++ row_shown name.now [] (row_at 64 B1) ∷ []) }
     ensures verdict { IfOk result (λ shower. P.given shower ≡ Some (Verdict.Refused 1)) }
     ensures shown { IfOk result (λ shower. P.shown shower ≡ P.shown reporter) }
 {

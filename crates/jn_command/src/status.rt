@@ -5,15 +5,15 @@ ghost use Rattle.jn_command.specs.Status.{number_of};
 /// What a run of the program came to.
 #[derive(Clone, Copy, Debug, PartialEq, Eq)]
 pub enum Status {
-    /// The files are accepted.
+    /// The files are accepted; where their run was asked for, their main returned.
     Ok,
     /// A rule is broken.
     Rejected,
-    /// The files are not of the subset.
+    /// The files are not of the subset; or they are accepted, and have no single main to run.
     Refused,
-    /// A run reached a fault. No command runs a program yet.
+    /// The files are accepted, and the run of their main ended by an exception of Java (JLS 8, 11.1.1).
     RunFault,
-    /// A run was stopped. No command runs a program yet.
+    /// The files are accepted, and the run of their main was stopped: behind the steps that were asked for, or at a limit.
     Stopped,
     /// A file could not be read.
     ReadFault,

@@ -16,7 +16,9 @@ use Rattle.jn_inference_law.specs.Solution.{IsLeastSignature}
 use Rattle.jn_diag.specs.Order.{IsOrderOf}
 use Rattle.jn_front.specs.declared.source.SourceFile.{SourceFile}
 use Rattle.jn_front.specs.Phases.{AreParsed, FrontRows}
-use Rattle.nullcheck_top.specs.Report.{AreDeclared, AreLowered, LoweringRows, PhaseRows, ProgramOf, ProgramRows, TypedProgramOf, TypeRows, Report, Refused, Checked, RulesGive, TableRows, TreeRows, IsPhase, IsReport, lowering_rows, table_rows}
+use Rattle.jn_command.specs.declared.report.Report.{Report}
+use Rattle.jn_command.specs.declared.report.Report.TheVariants.{Refused, Checked}
+use Rattle.nullcheck_top.specs.Report.{AreDeclared, AreLowered, LoweringRows, PhaseRows, ProgramOf, ProgramRows, TypedProgramOf, TypeRows, RulesGive, TableRows, TreeRows, IsPhase, IsReport, lowering_rows, table_rows}
 use Rattle.nullcheck_top.proofs.Programs.{never_typed, same_order}
 use Rattle.nullcheck_top.proofs.RuleRows.{breaks_once}
 
@@ -29,8 +31,8 @@ none_in_order (row ∷ rows) order =
     absurd (omega arith)
 
 -- it is accepted under its least signature
-pub accepted : (files : List SourceFile) (P : Program) → TypedProgramOf files P → (rules : RulesGive P []) → IsAccepted P rules.signature
-accepted files P of_files rules = record {
+pub accepted : (files : List SourceFile) (names : List (List ℕ)) (P : Program) → TypedProgramOf files names P → (rules : RulesGive P []) → IsAccepted P rules.signature
+accepted files names P of_files rules = record {
   regular = of_files.of_files.regular;
   typed = of_files.typed;
   closed = rules.least.closed;
@@ -38,13 +40,17 @@ accepted files P of_files rules = record {
   unbroken = subst (λ rows. Breaks P rules.signature rows) (none_in_order rules.broken rules.order) rules.breaks;
 }
 
-module _ (fronted : (files : List SourceFile) (rows others : List Row) → FrontRows files rows → FrontRows files others → rows ≡ others) (parsed : (files : List SourceFile) (names others : List (List ℕ)) (tokens us : List (List Token)) (trees vs : List PlacedFile) → AreParsed files names tokens trees → AreParsed files others us vs → (names ≡ others) × (tokens ≡ us) × (trees ≡ vs)) (apart : (files : List SourceFile) (names : List (List ℕ)) (tokens : List (List Token)) (trees : List PlacedFile) (rows : List Row) → AreParsed files names tokens trees → FrontRows files rows → ⊥) (least : (P : Program) (s t : List Qualifier) → IsLeastSignature P s → IsLeastSignature P t → s ≡ t) (table : (P : Program) (s : List Qualifier) (b : ℕ) (t u : List (Option Env)) → IsLeastTable P s b t → IsLeastTable P s b u → t ≡ u) (ordered : (old one other : List Row) → IsOrderOf old one → IsOrderOf old other → one ≡ other) where
-  -- files have one program
-  one_program : (files : List SourceFile) (P Q : Program) → ProgramOf files P → ProgramOf files Q → P ≡ Q
-  one_program files P Q x y =
-      let same = (parsed files x.names y.names x.tokens y.tokens x.trees y.trees x.lowered.declared.parsed y.lowered.declared.parsed).2 in
-      x.is ∙ ap program_of_files same ∙ sym y.is
+-- files have at most one list of names, one of tokens and one of trees
+abbrev OneReading : Type 0
+OneReading = (files : List SourceFile) (names others : List (List ℕ)) (tokens us : List (List Token)) (trees vs : List PlacedFile) → AreParsed files names tokens trees → AreParsed files others us vs → (names ≡ others) × (tokens ≡ us) × (trees ≡ vs)
 
+-- files have one program, and its names have one list of texts
+pub one_program : OneReading → (files : List SourceFile) (names others : List (List ℕ)) (P Q : Program) → ProgramOf files names P → ProgramOf files others Q → (names ≡ others) × (P ≡ Q)
+one_program parsed files names others P Q x y =
+    let same = parsed files names others x.tokens y.tokens x.trees y.trees x.lowered.declared.parsed y.lowered.declared.parsed in
+    (same.0, x.is ∙ ap program_of_files same.2 ∙ sym y.is)
+
+module _ (fronted : (files : List SourceFile) (rows others : List Row) → FrontRows files rows → FrontRows files others → rows ≡ others) (parsed : OneReading) (apart : (files : List SourceFile) (names : List (List ℕ)) (tokens : List (List Token)) (trees : List PlacedFile) (rows : List Row) → AreParsed files names tokens trees → FrontRows files rows → ⊥) (least : (P : Program) (s t : List Qualifier) → IsLeastSignature P s → IsLeastSignature P t → s ≡ t) (table : (P : Program) (s : List Qualifier) (b : ℕ) (t u : List (Option Env)) → IsLeastTable P s b t → IsLeastTable P s b u → t ≡ u) (ordered : (old one other : List Row) → IsOrderOf old one → IsOrderOf old other → one ≡ other) where
   one_rules : (P : Program) (rows others : List Row) → RulesGive P rows → RulesGive P others → rows ≡ others
   one_rules P rows others x y =
       let signature = least P x.signature y.signature x.least y.least in
@@ -74,16 +80,16 @@ module _ (fronted : (files : List SourceFile) (rows others : List Row) → Front
       let same = (parsed files y.names names y.tokens tokens y.trees trees y.declared.parsed x.declared.parsed).2 in
       y.some (y.are ∙ ap lowering_rows same ∙ x.rowless)
 
-  types_apart : (files : List SourceFile) (P : Program) (rows : List Row) → TypedProgramOf files P → TypeRows files rows → ⊥
-  types_apart files P rows x y =
-      let same = one_program files P y.P x.of_files y.of_files in
+  types_apart : (files : List SourceFile) (names : List (List ℕ)) (P : Program) (rows : List Row) → TypedProgramOf files names P → TypeRows files rows → ⊥
+  types_apart files names P rows x y =
+      let same = (one_program parsed files names y.names P y.P x.of_files y.of_files).1 in
       never_typed P rows y.some (subst (λ Q. (row : Row) → Contains rows row ↔ IsBaseRow Q row) (sym same) y.are) x.typed
 
   -- in order
 
   types_once : (files : List SourceFile) (broken more rows others : List Row) → TypeRows files broken → TypeRows files more → IsOrderOf broken rows → IsOrderOf more others → rows ≡ others
   types_once files broken more rows others x y =
-      let same = one_program files x.P y.P x.of_files y.of_files in
+      let same = (one_program parsed files x.names y.names x.P y.P x.of_files y.of_files).1 in
       same_order ordered (IsBaseRow y.P) broken more rows others (subst (λ P. (row : Row) → Contains broken row ↔ IsBaseRow P row) same x.are) y.are
 
   in_order : (broken more rows others : List Row) → broken ≡ more → IsOrderOf broken rows → IsOrderOf more others → rows ≡ others
@@ -91,8 +97,8 @@ module _ (fronted : (files : List SourceFile) (rows others : List Row) → Front
 
   program_once : (files : List SourceFile) (broken more rows others : List Row) → ProgramRows files broken → ProgramRows files more → IsOrderOf broken rows → IsOrderOf more others → rows ≡ others
   program_once files broken more rows others (inl x) (inl y) a b = in_order broken more rows others (lowering_twice files broken more x y) a b
-  program_once files broken more rows others (inl x) (inr y) a b = absurd (lowering_apart files y.of_files.names y.of_files.tokens y.of_files.trees broken y.of_files.lowered x)
-  program_once files broken more rows others (inr x) (inl y) a b = absurd (lowering_apart files x.of_files.names x.of_files.tokens x.of_files.trees more x.of_files.lowered y)
+  program_once files broken more rows others (inl x) (inr y) a b = absurd (lowering_apart files y.names y.of_files.tokens y.of_files.trees broken y.of_files.lowered x)
+  program_once files broken more rows others (inr x) (inl y) a b = absurd (lowering_apart files x.names x.of_files.tokens x.of_files.trees more x.of_files.lowered y)
   program_once files broken more rows others (inr x) (inr y) a b = types_once files broken more rows others x y a b
 
   -- files whose classes and members have no row
@@ -102,7 +108,7 @@ module _ (fronted : (files : List SourceFile) (rows others : List Row) → Front
 
   heads_of : (files : List SourceFile) (rows : List Row) → ProgramRows files rows → HasHeads files
   heads_of files rows (inl x) = (x.names, x.tokens, x.trees, x.declared)
-  heads_of files rows (inr x) = (x.of_files.names, x.of_files.tokens, x.of_files.trees, x.of_files.lowered.declared)
+  heads_of files rows (inr x) = (x.names, x.of_files.tokens, x.of_files.trees, x.of_files.lowered.declared)
 
   table_before : (files : List SourceFile) (rows : List Row) → HasHeads files → TableRows files rows → ⊥
   table_before files rows h t = table_apart files h.0 h.1 h.2 rows h.3 t
@@ -136,22 +142,22 @@ module _ (fronted : (files : List SourceFile) (rows others : List Row) → Front
 
   -- a typed program, or a phase with rows
 
-  program_apart : (files : List SourceFile) (P : Program) (rows : List Row) → TypedProgramOf files P → ProgramRows files rows → ⊥
-  program_apart files P rows x (inl y) = lowering_apart files x.of_files.names x.of_files.tokens x.of_files.trees rows x.of_files.lowered y
-  program_apart files P rows x (inr y) = types_apart files P rows x y
+  program_apart : (files : List SourceFile) (names : List (List ℕ)) (P : Program) (rows : List Row) → TypedProgramOf files names P → ProgramRows files rows → ⊥
+  program_apart files names P rows x (inl y) = lowering_apart files names x.of_files.tokens x.of_files.trees rows x.of_files.lowered y
+  program_apart files names P rows x (inr y) = types_apart files names P rows x y
 
-  tree_apart : (files : List SourceFile) (P : Program) (rows : List Row) → TypedProgramOf files P → TreeRows files rows → ⊥
-  tree_apart files P rows x (inl y) = table_apart files x.of_files.names x.of_files.tokens x.of_files.trees rows x.of_files.lowered.declared y
-  tree_apart files P rows x (inr y) = program_apart files P rows x y
+  tree_apart : (files : List SourceFile) (names : List (List ℕ)) (P : Program) (rows : List Row) → TypedProgramOf files names P → TreeRows files rows → ⊥
+  tree_apart files names P rows x (inl y) = table_apart files names x.of_files.tokens x.of_files.trees rows x.of_files.lowered.declared y
+  tree_apart files names P rows x (inr y) = program_apart files names P rows x y
 
-  phase_apart : (files : List SourceFile) (P : Program) (rows : List Row) → TypedProgramOf files P → PhaseRows files rows → ⊥
-  phase_apart files P rows x (inl y) = apart files x.of_files.names x.of_files.tokens x.of_files.trees rows x.of_files.lowered.declared.parsed y
-  phase_apart files P rows x (inr y) = tree_apart files P rows x y
+  phase_apart : (files : List SourceFile) (names : List (List ℕ)) (P : Program) (rows : List Row) → TypedProgramOf files names P → PhaseRows files rows → ⊥
+  phase_apart files names P rows x (inl y) = apart files names x.of_files.tokens x.of_files.trees rows x.of_files.lowered.declared.parsed y
+  phase_apart files names P rows x (inr y) = tree_apart files names P rows x y
 
   pub one_report : (files : List SourceFile) (one other : Report) → IsReport files one → IsReport files other → one ≡ other
   one_report files (Refused rows) (Refused others) x y = ap Refused (one_refused files rows others x y)
-  one_report files (Refused rows) (Checked others) x y = absurd (phase_apart files y.P x.broken y.of_files x.phase)
-  one_report files (Checked rows) (Refused others) x y = absurd (phase_apart files x.P y.broken x.of_files y.phase)
+  one_report files (Refused rows) (Checked others) x y = absurd (phase_apart files y.names y.P x.broken y.of_files x.phase)
+  one_report files (Checked rows) (Refused others) x y = absurd (phase_apart files x.names x.P y.broken x.of_files y.phase)
   one_report files (Checked rows) (Checked others) x y =
-      let same = one_program files x.P y.P x.of_files.of_files y.of_files.of_files in
+      let same = (one_program parsed files x.names y.names x.P y.P x.of_files.of_files y.of_files.of_files).1 in
       ap Checked (one_rules y.P rows others (subst (λ P. RulesGive P rows) same x.rules) y.rules)

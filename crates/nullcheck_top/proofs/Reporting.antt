@@ -1,47 +1,112 @@
--- The report of files that were read.
-use Rattle.std.proofs.Common.{◌≡◌, ℕ, ◌+◌, ◌<◌, suc, zero, Bool, true, false, List, [], ◌∷◌, ◌++◌, length, map, get_or, Option, Some, None, inl, inr, ⊎_elim, refl, sym, ap, ◌∙◌, subst, arith}
+-- Reports of files that were read.
+use Rattle.std.proofs.Common.{◌≡◌, ◌↔◌, ℕ, zero, suc, ◌+◌, ◌<◌, ◌≤◌, Bool, true, false, List, [], ◌∷◌, ◌++◌, length, map, get_or, Option, Some, None, Result, Ok, Err, inl, inr, ⊎_elim, refl, sym, ap, ◌∙◌, subst, arith}
+use Rattle.std.specs.Prelude.{◌⊎◌, ◌&&◌, cond, nat_lt, nat_le, Contains, IfOk, slice_get}
+use Rattle.std.specs.List.Sorted.{IsStrictlySortedBy}
+use Rattle.std.proofs.Math.Nat.{min-eq_right}
 use Rattle.std.proofs.lemmas.Bool.{lt-ltb}
-use Rattle.std.specs.declared.string.String.{String}
-use Rattle.std.specs.declared.alloc.Global.{Global}
-use Rattle.std.specs.Prelude.{string_bytes, ◌⊎◌, Contains, cond, nat_lt, nat_le, slice_get, ◌&&◌}
+use Rattle.jn_base.specs.declared.refusal.OutOfMemory.{OutOfMemory}
 use Rattle.jn_base.specs.declared.place.Row.{Row}
 use Rattle.jn_base.specs.declared.code.Code.{Code}
 use Rattle.jn_base.specs.declared.code.Code.TheVariants.{B1, B2, B3}
+use Rattle.jn_trees.specs.declared.token.Token.{Token}
+use Rattle.jn_places.specs.Placed.{PlacedFile}
 use Rattle.jn_points.specs.declared.program.Program.{Program}
-use Rattle.std.specs.List.Sorted.{IsStrictlySortedBy}
+use Rattle.jn_points.specs.BaseRows.{IsBaseRow}
+use Rattle.jn_heap.specs.Machine.{NeverNull}
+use Rattle.jn_progress_law.specs.Progress.{NeverStuck}
+use Rattle.jn_known.specs.Known.{known_names}
 use Rattle.jn_diag.specs.Order.{IsOrderOf, row_cmp}
-use Rattle.jn_diag.specs.declared.shown.RowText.{RowText}
-use Rattle.jn_diag.specs.declared.shown.Verdict.{Verdict}
-use Rattle.jn_diag.specs.declared.shown.Verdict.TheVariants.{Refused as RefusedVerdict}
-use Rattle.jn_reporters.specs.Reports.{plain_shown}
 use Rattle.jn_front.specs.declared.source.SourceFile.{SourceFile}
 use Rattle.jn_front.specs.declared.source.SourceRead.{SourceRead}
-use Rattle.jn_front.specs.Files.{names_of, files_of_reads, AreReads, IsReadOf, most_files, file_limit}
-use Rattle.jn_front.specs.Limits.{row_at, large_row, passing_row, size_rows, limit_rows, counted, all_limit}
-use Rattle.nullcheck_top.specs.declared.status.Status.{Status}
-use Rattle.nullcheck_top.specs.declared.status.Status.TheVariants.{Refused as RefusedStatus}
-use Rattle.nullcheck_top.specs.Report.{PhaseRows, TypedProgramOf, RulesGive, Refused, Checked, status_of_rows}
-use Rattle.nullcheck_top.specs.Shown.{shown, row_of, row_of_file, verdict_of_rows}
-use Rattle.nullcheck_top.specs.Made.{IsReportOfFiles}
-
-pub checked_report : (files : List SourceFile) (P : Program) (rows : List Row) (status : Status) (shown_rows : List RowText) (verdict : Option Verdict) → TypedProgramOf files P → RulesGive P rows → status ≡ status_of_rows rows → shown_rows ≡ map (row_of files) rows → verdict ≡ Some (verdict_of_rows rows) → IsReportOfFiles files status (plain_shown shown_rows verdict)
-checked_report files P rows status shown_rows verdict of_files rules ends lines end = record {
-  report = Checked rows;
-  is = record { P = P; of_files = of_files; rules = rules };
-  ends = ends;
-  shows = ap (λ rs. plain_shown rs verdict) lines ∙ ap (λ v. plain_shown (map (row_of files) rows) v) end;
-}
+use Rattle.jn_front.specs.Files.{files_of_reads, AllWhole, AreReads, most_files, file_limit}
+use Rattle.jn_front.specs.Limits.{row_at, counted, large_row, passing_row, size_rows, limit_rows, all_limit}
+use Rattle.jn_front.specs.Phases.{AreParsed, ArePlaced, FaultRows, SyntaxRows, LexedFrom}
+use Rattle.jn_command.specs.declared.report.Report.{Report}
+use Rattle.jn_command.specs.declared.report.Report.TheVariants.{Refused, Checked}
+use Rattle.jn_command.specs.Reports.{rows_of}
+use Rattle.jn_command.specs.Stands.{StandsIn, StandIn}
+use Rattle.nullcheck_top.specs.declared.found.Found.{Found}
+use Rattle.nullcheck_top.specs.Found.{IsFinding}
+use Rattle.nullcheck_top.specs.Report.{AreDeclared, IsReport, IsSafe, PhaseRows, ProgramOf, RulesGive, TypedProgramOf, lowering_rows, table_rows}
 
 -- files that a phase refuses
-pub refused_report : (files shown_files : List SourceFile) (broken sorted : List Row) (status : Status) (bytes : List ℕ) → PhaseRows files broken → IsOrderOf broken sorted → status ≡ RefusedStatus → bytes ≡ shown shown_files (Refused sorted) → shown shown_files (Refused sorted) ≡ shown files (Refused sorted) → IsReportOfFiles files status bytes
-refused_report files shown_files broken sorted status bytes phase order ends is same = record {
-  report = Refused sorted;
-  is = record { broken = broken; phase = phase; order = order };
-  ends = ends;
-  shows = is ∙ same;
-}
+refused_report : (files : List SourceFile) (broken sorted : List Row) (report : Report) → PhaseRows files broken → IsOrderOf broken sorted → report ≡ Refused sorted → IsReport files report
+refused_report files broken sorted report phase order is = subst (IsReport files) (sym is) (record { broken = broken; phase = phase; order = order })
 
--- ---- rows at the first byte of a file show no byte
+never_checked : (rows others : List Row) → Refused rows ≡ Checked others → ⊥
+never_checked rows others e = cc
+
+abbrev refused_found : List Row → Found
+refused_found rows = record { report = Refused rows; runnable = None }
+
+refused_finding : (files : List SourceFile) (broken sorted : List Row) (found : Found) → PhaseRows files broken → IsOrderOf broken sorted → found ≡ refused_found sorted → IsFinding files found
+refused_finding files broken sorted found phase order is = subst (IsFinding files) (sym is) (record { report = refused_report files broken sorted (Refused sorted) phase order refl; runnable = never_checked sorted [] })
+
+-- ---- where no limit is passed, what was read are the files
+
+front_none : (xs ys : List Row) → xs ++ ys ≡ [] → xs ≡ []
+front_none [] ys e = refl
+front_none (x ∷ xs) ys e = cc
+
+back_none : (xs ys : List Row) → xs ++ ys ≡ [] → ys ≡ []
+back_none [] ys e = e
+back_none (x ∷ xs) ys e = cc
+
+small_if : (b : Bool) (row : Row) → cond b (row ∷ []) [] ≡ [] → b ≡ false
+small_if true row e = cc
+small_if false row e = refl
+
+never_both : (b : Bool) → b ≡ true → b ≡ false → ⊥
+never_both true e f = cc
+never_both false e f = cc
+
+not_large : (k : ℕ) (file : SourceFile) → large_row k (counted file) ≡ [] → file_limit < length file.bytes → ⊥
+not_large k file none long =
+    let most : counted file ≡ file_limit + 1 = min-eq_right (omega (arith, long)) in
+    never_both (nat_lt file_limit (counted file)) (lt-ltb file_limit (counted file) (omega (arith, most))) (small_if (nat_lt file_limit (counted file)) (row_at k B2) none)
+
+whole_by_size : (k before : ℕ) (reads : List SourceRead) (files : List SourceFile) → AreReads reads files → size_rows k before (map counted files) ≡ [] → files_of_reads reads ≡ files
+whole_by_size k before [] [] are none = refl
+whole_by_size k before [] (file ∷ files) are none = absurd are
+whole_by_size k before (read ∷ reads) [] are none = absurd are
+whole_by_size k before (read ∷ reads) (file ∷ files) (inl w, are) none =
+    let rest = back_none (passing_row k before (counted file)) (size_rows (k + 1) (before + counted file) (map counted files)) (back_none (large_row k (counted file)) _ none) in
+    ap (λ f. f ∷ files_of_reads reads) w.1 ∙ ap (λ fs. file ∷ fs) (whole_by_size (k + 1) (before + counted file) reads files are rest)
+whole_by_size k before (read ∷ reads) (file ∷ files) (inr l, are) none =
+    absurd (not_large k file (front_none (large_row k (counted file)) _ none) l.2)
+
+none_of_sizes : (b : Bool) (row : Row) (rows : List Row) → cond b (row ∷ []) rows ≡ [] → rows ≡ []
+none_of_sizes true row rows e = cc
+none_of_sizes false row rows e = e
+
+pub whole_files : (reads : List SourceRead) (files : List SourceFile) → AreReads reads files → limit_rows files ≡ [] → files_of_reads reads ≡ files
+whole_files reads files are none =
+    whole_by_size 0 0 reads files are (none_of_sizes (nat_lt most_files (length files)) (row_at most_files B1) (size_rows 0 0 (map counted files)) none)
+
+all_whole_by_size : (k before : ℕ) (reads : List SourceRead) (files : List SourceFile) → AreReads reads files → size_rows k before (map counted files) ≡ [] → AllWhole reads
+all_whole_by_size k before [] [] are none = tt
+all_whole_by_size k before [] (file ∷ files) are none = absurd are
+all_whole_by_size k before (read ∷ reads) [] are none = absurd are
+all_whole_by_size k before (read ∷ reads) (file ∷ files) (inl w, are) none =
+    let rest = back_none (passing_row k before (counted file)) (size_rows (k + 1) (before + counted file) (map counted files)) (back_none (large_row k (counted file)) _ none) in
+    let same = ap (λ (f : SourceFile). length f.bytes) w.1 in
+    (w.0, omega (arith, same, w.2), all_whole_by_size (k + 1) (before + counted file) reads files are rest)
+all_whole_by_size k before (read ∷ reads) (file ∷ files) (inr l, are) none =
+    absurd (not_large k file (front_none (large_row k (counted file)) _ none) l.2)
+
+all_whole : (reads : List SourceRead) (files : List SourceFile) → AreReads reads files → limit_rows files ≡ [] → AllWhole reads
+all_whole reads files are none = all_whole_by_size 0 0 reads files are (none_of_sizes (nat_lt most_files (length files)) (row_at most_files B1) (size_rows 0 0 (map counted files)) none)
+
+stands_whole : (reads : List SourceRead) (k : ℕ) (row : Row) → AllWhole reads → StandsIn (slice_get reads k) row
+stands_whole [] k row whole = tt
+stands_whole (read ∷ reads) zero row whole = inl whole.0
+stands_whole (read ∷ reads) (suc k) row whole = stands_whole reads k row whole.2
+
+stand_whole : (reads : List SourceRead) (rows : List Row) → AllWhole reads → StandIn reads rows
+stand_whole reads [] whole = tt
+stand_whole reads (row ∷ rows) whole = (stands_whole reads row.span.file.0 row whole, stand_whole reads rows whole)
+
+-- ---- rows of the limits stand at the first byte of their files
 
 abbrev pub IsAtStart : Row → Type 0
 IsAtStart row = (k : ℕ) × (code : Code) × (row ≡ row_at k code)
@@ -90,82 +155,132 @@ pub sorted_at_start : (files : List SourceFile) (broken sorted : List Row) → b
 sorted_at_start files broken sorted are order =
     each_at_start sorted (λ row h. at_start_in broken row (subst AllAtStart (sym are) (limits_at_start files)) ((order.same row).0 h))
 
-abbrev name_in : Option SourceFile → Option (List ℕ)
-name_in None = None
-name_in (Some file) = Some file.name
+stands_at_start : (read : Option SourceRead) (row : Row) → IsAtStart row → StandsIn read row
+stands_at_start None row start = tt
+stands_at_start (Some read) row (k, code, is) = inr (ap (λ (r : Row). r.span.from) is)
 
-same_file : (one other : Option SourceFile) (k : ℕ) (code : Code) → name_in one ≡ name_in other → row_of_file one (row_at k code) ≡ row_of_file other (row_at k code)
-same_file None None k code e = refl
-same_file None (Some b) k code e = cc
-same_file (Some a) None k code e = cc
-same_file (Some a) (Some b) k code e =
-    let same : a.name ≡ b.name = cc in
-    ap (λ name. record { name = name; line = 1; col = 1; code = code }) same
+stand_at_start : (reads : List SourceRead) (rows : List Row) → AllAtStart rows → StandIn reads rows
+stand_at_start reads [] all = tt
+stand_at_start reads (row ∷ rows) all = (stands_at_start (slice_get reads row.span.file.0) row all.0, stand_at_start reads rows all.1)
 
-name_at : (files : List SourceFile) (k : ℕ) → name_in (slice_get files k) ≡ slice_get (names_of files) k
-name_at [] k = refl
-name_at (file ∷ files) zero = refl
-name_at (file ∷ files) (suc k) = name_at files k
+-- ---- the phases
 
-same_row : (files others : List SourceFile) (row : Row) → names_of files ≡ names_of others → IsAtStart row → row_of files row ≡ row_of others row
-same_row files others row e (k, code, is) =
-    let here = name_at files k ∙ ap (λ ns. slice_get ns k) e ∙ sym (name_at others k) in
-    ap (row_of files) is ∙ same_file (slice_get files k) (slice_get others k) k code here ∙ ap (row_of others) (sym is)
+-- the rows of the limits are there, whatever files were read so
+abbrev pub Limited : List SourceRead → List Row → Type 0
+Limited reads rows = (files : List SourceFile) → AreReads reads files → rows ≡ limit_rows files
 
-same_rows : (files others : List SourceFile) (rows : List Row) → names_of files ≡ names_of others → AllAtStart rows → map (row_of files) rows ≡ map (row_of others) rows
-same_rows files others [] e all = refl
-same_rows files others (row ∷ rows) e all = ap (λ r. r ∷ map (row_of files) rows) (same_row files others row e all.0) ∙ ap (λ rs. row_of others row ∷ rs) (same_rows files others rows e all.1)
+-- no limit is passed
+within_limits : (reads : List SourceRead) (limits : List Row) → Limited reads limits → limits ≡ [] → (files : List SourceFile) → AreReads reads files → (files_of_reads reads ≡ files) × (limit_rows files ≡ [])
+within_limits reads limits limited none files are =
+    let no_rows : limit_rows files ≡ [] = sym (limited files are) ∙ none in
+    (whole_files reads files are no_rows, no_rows)
 
-pub same_shown : (files others : List SourceFile) (rows : List Row) → names_of files ≡ names_of others → AllAtStart rows → shown files (Refused rows) ≡ shown others (Refused rows)
-same_shown files others rows e all = ap (λ rs. plain_shown rs (Some (RefusedVerdict (length rows)))) (same_rows files others rows e all)
+abbrev pub Made : Type 0
+Made = Result Found OutOfMemory
 
--- what is read has the files' names
-pub read_names : (reads : List SourceRead) (files : List SourceFile) → AreReads reads files → names_of (files_of_reads reads) ≡ names_of files
-read_names [] [] are = refl
-read_names [] (file ∷ files) are = absurd are
-read_names (read ∷ reads) [] are = absurd are
-read_names (read ∷ reads) (file ∷ files) are = ap (λ n. n ∷ names_of (files_of_reads reads)) (one are.0) ∙ ap (λ ns. file.name ∷ ns) (read_names reads files are.1)
-  where
-    one : IsReadOf read file → read.file.name ≡ file.name
-    one (inl w) = ap (λ (f : SourceFile). f.name) w.1
-    one (inr l) = ap (λ (f : SourceFile). f.name) l.1
+-- it refuses by these rows, in order
+abbrev pub RefusesBy : List Row → Made → Type 0
+RefusesBy rows made = IfOk made (λ found. (sorted : List Row) × IsOrderOf rows sorted × (found ≡ record { report = Refused sorted; runnable = None }))
+
+abbrev pub ReportsAll : List SourceRead → Made → Type 0
+ReportsAll reads made = IfOk made (λ found. (files : List SourceFile) → AreReads reads files → IsFinding files found)
+
+abbrev pub Stand : List SourceRead → Made → Type 0
+Stand reads made = IfOk made (λ found. StandIn reads (rows_of found.report))
+
+pub limited_made : (reads : List SourceRead) (limits : List Row) (made : Made) → Limited reads limits → (limits ≡ [] → ⊥) → RefusesBy limits made → ReportsAll reads made
+limited_made reads limits (Ok r) limited some by = λ files are. refused_finding files limits by.0 r (inl (inl (record { are = limited files are; some = some }))) by.1 by.2
+limited_made reads limits (Err e) limited some by = tt
+
+pub limited_stand : (reads : List SourceRead) (limits : List Row) (made : Made) → Limited reads limits → ((files : List SourceFile) × AreReads reads files) → RefusesBy limits made → Stand reads made
+limited_stand reads limits (Ok r) limited some by =
+    subst (λ (found : Found). StandIn reads (rows_of found.report)) (sym by.2) (stand_at_start reads by.0 (sorted_at_start some.0 limits by.0 (limited some.0 some.1) by.1))
+limited_stand reads limits (Err e) limited some by = tt
+
+-- where no limit is passed, rows stand anywhere
+pub whole_stand : (reads : List SourceRead) (limits : List Row) (made : Made) → Limited reads limits → limits ≡ [] → ((files : List SourceFile) × AreReads reads files) → Stand reads made
+whole_stand reads limits (Ok r) limited none some = stand_whole reads (rows_of r.report) (all_whole reads some.0 some.1 (within_limits reads limits limited none some.0 some.1).1)
+whole_stand reads limits (Err e) limited none some = tt
+
+pub lexical_made : (reads : List SourceRead) (limits faults : List Row) (made : Made) → Limited reads limits → limits ≡ [] → FaultRows 0 (files_of_reads reads) faults → (faults ≡ [] → ⊥) → RefusesBy faults made → ReportsAll reads made
+lexical_made reads limits faults (Ok r) limited none faulty some by = λ files are.
+    let w = within_limits reads limits limited none files are in
+    refused_finding files faults by.0 r (inl (inr (inl (record { within = w.1; are = subst (λ fs. FaultRows 0 fs faults) w.0 faulty; some = some })))) by.1 by.2
+lexical_made reads limits faults (Err e) limited none faulty some by = tt
+
+pub grammar_made : (reads : List SourceRead) (limits rows : List Row) (names : List (List ℕ)) (tokens : List (List Token)) (made : Made) → Limited reads limits → limits ≡ [] → LexedFrom 0 known_names (files_of_reads reads) tokens names → SyntaxRows 0 (files_of_reads reads) tokens rows → (rows ≡ [] → ⊥) → RefusesBy rows made → ReportsAll reads made
+grammar_made reads limits rows names tokens (Ok r) limited none lexed syntax some by = λ files are.
+    let w = within_limits reads limits limited none files are in
+    refused_finding files rows by.0 r (inl (inr (inr (record { within = w.1; names = names; tokens = tokens; lexed = subst (λ fs. LexedFrom 0 known_names fs tokens names) w.0 lexed; are = subst (λ fs. SyntaxRows 0 fs tokens rows) w.0 syntax; some = some })))) by.1 by.2
+grammar_made reads limits rows names tokens (Err e) limited none lexed syntax some by = tt
+
+pub are_parsed : (reads : List SourceRead) (limits : List Row) → Limited reads limits → limits ≡ [] → (names : List (List ℕ)) (tokens : List (List Token)) (trees : List PlacedFile) → ((files : List SourceFile) × AreReads reads files) → LexedFrom 0 known_names (files_of_reads reads) tokens names → ArePlaced tokens trees → AreParsed (files_of_reads reads) names tokens trees
+are_parsed reads limits limited none names tokens trees some lexed placed =
+    let w = within_limits reads limits limited none some.0 some.1 in
+    record { within = ap limit_rows w.0 ∙ w.1; lexed = lexed; parsed = placed }
+
+pub checked_made : (reads : List SourceRead) (limits : List Row) (made : Made) → Limited reads limits → limits ≡ [] → IfOk made (λ found. IsFinding (files_of_reads reads) found) → ReportsAll reads made
+checked_made reads limits (Ok r) limited none report = λ files are. subst (λ fs. IsFinding fs r) (within_limits reads limits limited none files are).0 report
+checked_made reads limits (Err e) limited none report = tt
+
+-- rows of classes and members
+pub table_made : (files : List SourceFile) (names : List (List ℕ)) (tokens : List (List Token)) (trees : List PlacedFile) (rows : List Row) (made : Made) → AreParsed files names tokens trees → rows ≡ table_rows trees → (table_rows trees ≡ [] → ⊥) → RefusesBy rows made → IfOk made (λ found. IsFinding files found)
+table_made files names tokens trees rows (Ok r) parsed are some by =
+    refused_finding files rows by.0 r (inr (inl (record { names = names; tokens = tokens; trees = trees; parsed = parsed; are = are; some = λ none. some (sym are ∙ none) }))) by.1 by.2
+table_made files names tokens trees rows (Err e) parsed are some by = tt
+
+-- rows of bodies and of what stands around them
+pub lowering_made : (files : List SourceFile) (names : List (List ℕ)) (tokens : List (List Token)) (trees : List PlacedFile) (rows : List Row) (made : Made) → AreDeclared files names tokens trees → rows ≡ lowering_rows trees → (lowering_rows trees ≡ [] → ⊥) → RefusesBy rows made → IfOk made (λ found. IsFinding files found)
+lowering_made files names tokens trees rows (Ok r) declared are some by =
+    refused_finding files rows by.0 r (inr (inr (inl (record { names = names; tokens = tokens; trees = trees; declared = declared; are = are; some = λ none. some (sym are ∙ none) })))) by.1 by.2
+lowering_made files names tokens trees rows (Err e) declared are some by = tt
+
+-- rows of types
+pub types_made : (files : List SourceFile) (names : List (List ℕ)) (P : Program) (rows : List Row) (made : Made) → ProgramOf files names P → ((row : Row) → Contains rows row ↔ IsBaseRow P row) → (rows ≡ [] → ⊥) → RefusesBy rows made → IfOk made (λ found. IsFinding files found)
+types_made files names P rows (Ok r) of_files are some by =
+    refused_finding files rows by.0 r (inr (inr (inr (record { names = names; P = P; of_files = of_files; are = are; some = some })))) by.1 by.2
+types_made files names P rows (Err e) of_files are some by = tt
+
+-- ---- more files than there may be
 
 one_sorted : (row : Row) → IsStrictlySortedBy row_cmp (row ∷ [])
 unfolding IsStrictlySortedBy
 one_sorted row = (tt, tt)
 
--- too many files: the row of the first that is too many, which shows no byte
-pub too_many_report : (files : List SourceFile) (names : List (List ℕ)) (name : List ℕ) (status : Status) (rows : List RowText) (verdict : Option Verdict) → names_of files ≡ names → most_files < length names → slice_get names most_files ≡ Some name → status ≡ RefusedStatus → rows ≡ record { name = name; line = 1; col = 1; code = B1 } ∷ [] → verdict ≡ Some (RefusedVerdict 1) → IsReportOfFiles files status (plain_shown rows verdict)
-too_many_report files names name status rows verdict named many is ends lines end = record {
-  report = Refused (row_at most_files B1 ∷ []);
-  is = record { broken = row_at most_files B1 ∷ []; phase = inl (inl (record { are = limit_is; some = λ e. cc })); order = record { sorted = one_sorted (row_at most_files B1); same = λ row. (λ h. h, λ h. h) } };
-  ends = ends;
-  shows = ap (λ rs. plain_shown rs verdict) (lines ∙ ap (λ r. r ∷ []) row_is) ∙ ap (λ v. plain_shown (row_of files (row_at most_files B1) ∷ []) v) end;
-}
+pub too_many_report : (files : List SourceFile) (report : Report) → most_files < length files → report ≡ Refused (row_at most_files B1 ∷ []) → IsReport files report
+too_many_report files report many is =
+    refused_report files (row_at most_files B1 ∷ []) (row_at most_files B1 ∷ []) report (inl (inl (record { are = limit_is; some = no_rows }))) (record { sorted = one_sorted (row_at most_files B1); same = λ row. (λ h. h, λ h. h) }) is
   where
-    length_is : (fs : List SourceFile) → length (names_of fs) ≡ length fs
-    length_is [] = refl
-    length_is (f ∷ fs) = ap suc (length_is fs)
-
     limit_is : row_at most_files B1 ∷ [] ≡ limit_rows files
-    limit_is =
-        let long : most_files < length files = omega (arith, many, ap length named, length_is files) in
-        ap (λ b. cond b (row_at most_files B1 ∷ []) (size_rows 0 0 (map counted files))) (sym (lt-ltb most_files (length files) long))
+    limit_is = ap (λ b. cond b (row_at most_files B1 ∷ []) (size_rows 0 0 (map counted files))) (sym (lt-ltb most_files (length files) many))
 
-    here : name_in (slice_get files most_files) ≡ name_in (Some (record { name = name; bytes = [] }))
-    here = name_at files most_files ∙ ap (λ ns. slice_get ns most_files) named ∙ is
+    no_rows : row_at most_files B1 ∷ [] ≡ [] → ⊥
+    no_rows e = cc
 
-    row_is : record { name = name; line = 1; col = 1; code = B1 } ≡ row_of files (row_at most_files B1)
-    row_is = same_file (Some (record { name = name; bytes = [] })) (slice_get files most_files) most_files B1 (sym here)
+-- ---- where files are accepted, what was read are the files
 
-pub refused_shown : (files : List SourceFile) (sorted : List Row) (rows : List RowText) (verdict : Option Verdict) → rows ≡ map (row_of files) sorted → verdict ≡ Some (RefusedVerdict (length sorted)) → plain_shown rows verdict ≡ shown files (Refused sorted)
-refused_shown files sorted rows verdict lines end = ap (λ rs. plain_shown rs verdict) lines ∙ ap (λ v. plain_shown (map (row_of files) sorted) v) end
+abbrev pub Whole : List SourceRead → Made → Type 0
+Whole reads made = IfOk made (λ found. found.report ≡ Checked [] → (files : List SourceFile) → AreReads reads files → files_of_reads reads ≡ files)
 
--- the name at a place
-pub name_there : (words : List (String Global)) (i : ℕ) (d : String Global) (text : List ℕ) → i < length words → d ≡ get_or words i d → text ≡ string_bytes d → slice_get (map string_bytes words) i ≡ Some text
-name_there words i d text lt is value = there words i d lt ∙ ap (λ w. Some (string_bytes w)) (sym is) ∙ ap Some (sym value)
+pub refused_whole : (reads : List SourceRead) (rows : List Row) (made : Made) → RefusesBy rows made → Whole reads made
+refused_whole reads rows (Ok r) by = λ none files are. absurd (never_checked by.0 [] (sym (ap (λ (found : Found). found.report) by.2) ∙ none))
+refused_whole reads rows (Err e) by = tt
+
+pub found_whole : (reads : List SourceRead) (limits : List Row) (made : Made) → Limited reads limits → limits ≡ [] → Whole reads made
+found_whole reads limits (Ok r) limited none = λ accepted files are. (within_limits reads limits limited none files are).0
+found_whole reads limits (Err e) limited none = tt
+
+-- ---- accepted files are safe
+
+abbrev Keeps : (Program → Type 0) → Type 0
+Keeps Kept = (files : List SourceFile) (names : List (List ℕ)) (P : Program) → TypedProgramOf files names P → RulesGive P [] → Kept P
+
+safe_report : Keeps NeverNull → Keeps NeverStuck → (files : List SourceFile) (report : Report) → report ≡ Checked [] → IsReport files report → IsSafe files
+safe_report null stuck files report none is = accepted (subst (IsReport files) none is)
   where
-    there : (words : List (String Global)) (i : ℕ) (d : String Global) → i < length words → slice_get (map string_bytes words) i ≡ Some (string_bytes (get_or words i d))
-    there [] i d lt = absurd (omega (arith, lt))
-    there (word ∷ words) zero d lt = refl
-    there (word ∷ words) (suc i) d lt = there words i d (omega (arith, lt))
+    accepted : IsReport files (Checked []) → IsSafe files
+    accepted by = record { names = by.names; P = by.P; of_files = by.of_files; never_null = null files by.names by.P by.of_files by.rules; never_stuck = stuck files by.names by.P by.of_files by.rules }
+
+pub safe_made : Keeps NeverNull → Keeps NeverStuck → (reads : List SourceRead) (made : Made) → ReportsAll reads made → IfOk made (λ found. found.report ≡ Checked [] → (files : List SourceFile) → AreReads reads files → IsSafe files)
+safe_made null stuck reads (Ok r) all = λ none files are. safe_report null stuck files r.report none (all files are).report
+safe_made null stuck reads (Err e) all = tt

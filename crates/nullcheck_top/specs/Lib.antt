@@ -1,6 +1,3 @@
-pub mod Words
-pub mod Status
 pub mod Report
-pub mod Shown
-pub mod Answer
-pub mod Made
+pub mod Found
+pub mod Answers

@@ -1,4 +1,4 @@
--- The report of files: what they are found to be, and how it is shown.
+-- What files are found to be: the rows of the first phase that has any, those of the rules, or safe; and what their main does.
 use Rattle.std.specs.Prelude.{ℕ, ◌≡◌, ◌⊎◌, ◌↔◌, List, [], ◌∷◌, Contains}
 use Rattle.jn_base.specs.declared.place.Row.{Row}
 use Rattle.jn_trees.specs.declared.token.Token.{Token}
@@ -10,12 +10,14 @@ use Rattle.jn_points.specs.BaseRows.{IsBaseRow, NoBaseRows}
 use Rattle.jn_points.specs.Regular.{Regular}
 use Rattle.jn_program_law.specs.FileProgram.{j_rows, program_of_files}
 use Rattle.jn_quals.specs.Qualifier.{Qualifier}
-use Rattle.nullcheck_top.specs.declared.status.Status.{Status}
-use Rattle.nullcheck_top.specs.declared.status.Status.TheVariants.{Ok as Accepted, Rejected as RejectedStatus, Refused as RefusedStatus}
+use Rattle.jn_command.specs.declared.report.Report.{Report}
+use Rattle.jn_command.specs.declared.status.Status.{Status}
+use Rattle.jn_command.specs.declared.report.Report.TheVariants.{Refused, Checked}
 use Rattle.jn_inference_law.specs.Solution.{IsLeastSignature}
 use Rattle.jn_transfer.specs.Rules.{Breaks}
 use Rattle.jn_heap.specs.Machine.{NeverNull}
 use Rattle.jn_progress_law.specs.Progress.{NeverStuck}
+use Rattle.jn_run.specs.Main.{RunsTo as ProgramRunsTo, Prints as ProgramPrints}
 use Rattle.jn_diag.specs.Order.{IsOrderOf}
 use Rattle.jn_front.specs.declared.source.SourceFile.{SourceFile}
 use Rattle.jn_front.specs.Phases.{AreParsed, FrontRows}
@@ -38,9 +40,8 @@ pub record AreLowered (files : List SourceFile) (names : List (List ℕ)) (token
   pub declared : AreDeclared files names tokens trees
   pub rowless : lowering_rows trees ≡ []
 
--- the program of files that have no row so far
-pub record ProgramOf (files : List SourceFile) (P : Program) : Type 0 where
-  pub names : List (List ℕ)
+-- the program of files that have no row so far, and the texts of its names and strings
+pub record ProgramOf (files : List SourceFile) (names : List (List ℕ)) (P : Program) : Type 0 where
   pub tokens : List (List Token)
   pub trees : List PlacedFile
   pub lowered : AreLowered files names tokens trees
@@ -48,14 +49,9 @@ pub record ProgramOf (files : List SourceFile) (P : Program) : Type 0 where
   pub regular : Regular P
 
 -- each value has a type that fits where it is used, each register that is read is written before, each method returns what it declares
-pub record TypedProgramOf (files : List SourceFile) (P : Program) : Type 0 where
-  pub of_files : ProgramOf files P
+pub record TypedProgramOf (files : List SourceFile) (names : List (List ℕ)) (P : Program) : Type 0 where
+  pub of_files : ProgramOf files names P
   pub typed : NoBaseRows P
-
--- files are refused by the rows of the first phase that has any, or checked by the rules; the rows are in order
-pub data Report : Type 0 where
-  Refused : (rows : List Row) → Report
-  Checked : (rows : List Row) → Report
 
 -- the rules are those under the least signature
 pub record RulesGive (P : Program) (rows : List Row) : Type 0 where
@@ -66,8 +62,9 @@ pub record RulesGive (P : Program) (rows : List Row) : Type 0 where
   pub order : IsOrderOf broken rows
 
 pub record IsCheckedBy (files : List SourceFile) (rows : List Row) : Type 0 where
+  pub names : List (List ℕ)
   pub P : Program
-  pub of_files : TypedProgramOf files P
+  pub of_files : TypedProgramOf files names P
   pub rules : RulesGive P rows
 
 -- the rows of classes and members, of files that have trees
@@ -90,8 +87,9 @@ pub record LoweringRows (files : List SourceFile) (rows : List Row) : Type 0 whe
 
 -- the rows J7 to J10 of types, of files that have a program; in no order
 pub record TypeRows (files : List SourceFile) (rows : List Row) : Type 0 where
+  pub names : List (List ℕ)
   pub P : Program
-  pub of_files : ProgramOf files P
+  pub of_files : ProgramOf files names P
   pub are : (row : Row) → Contains rows row ↔ IsBaseRow P row
   pub some : rows ≡ [] → ⊥
 
@@ -111,21 +109,29 @@ pub record IsPhase (files : List SourceFile) (rows : List Row) : Type 0 where
   pub phase : PhaseRows files broken
   pub order : IsOrderOf broken rows
 
+-- files are refused by the rows of the first phase that has any, or checked by the rules; the rows are in order
 abbrev pub IsReport : List SourceFile → Report → Type 0
 IsReport files (Refused rows) = IsPhase files rows
 IsReport files (Checked rows) = IsCheckedBy files rows
 
-abbrev pub status_of_rows : List Row → Status
-status_of_rows [] = Accepted
-status_of_rows (row ∷ rows) = RejectedStatus
-
-abbrev pub status_of : Report → Status
-status_of (Refused rows) = RefusedStatus
-status_of (Checked rows) = status_of_rows rows
-
 -- the files' own program has no null fault in any run, and no run gets stuck
 pub record IsSafe (files : List SourceFile) : Type 0 where
+  pub names : List (List ℕ)
   pub P : Program
-  pub of_files : TypedProgramOf files P
+  pub of_files : TypedProgramOf files names P
   pub never_null : NeverNull P
   pub never_stuck : NeverStuck P
+
+-- so many steps of the files' one main with these words come to the status, and write the bytes
+pub record RunsTo (files : List SourceFile) (words : List (List ℕ)) (steps : ℕ) (status : Status) (bytes : List ℕ) : Type 0 where
+  pub names : List (List ℕ)
+  pub P : Program
+  pub of_files : TypedProgramOf files names P
+  pub runs : ProgramRunsTo files P names words steps status bytes
+
+-- so many steps of it print the text
+pub record Prints (files : List SourceFile) (words : List (List ℕ)) (steps : ℕ) (text : List ℕ) : Type 0 where
+  pub names : List (List ℕ)
+  pub P : Program
+  pub of_files : TypedProgramOf files names P
+  pub prints : ProgramPrints P names words steps text

@@ -1,10 +1,12 @@
 //! Laws of reports.
-ghost use Rattle.std.specs.Prelude.{◌≡◌, List, []};
+ghost use Rattle.std.specs.Prelude.{◌≡◌, List, [], ℕ};
 ghost use Rattle.jn_points.specs.declared.program.Program.{Program};
 ghost use Rattle.jn_heap.specs.Machine.{NeverNull};
 ghost use Rattle.jn_progress_law.specs.Progress.{NeverStuck};
 ghost use Rattle.jn_front.specs.declared.source.SourceFile.{SourceFile};
-ghost use Rattle.nullcheck_top.specs.Report.{Report, RulesGive, TypedProgramOf, IsReport};
+ghost use Rattle.jn_command.specs.declared.report.Report.{Report};
+ghost use Rattle.jn_command.specs.declared.status.Status.{Status};
+ghost use Rattle.nullcheck_top.specs.Report.{RulesGive, TypedProgramOf, IsReport, RunsTo};
 
 use jn_accept::law::accepted_programs_never_fault;
 use jn_diag::rows_have_one_order;
@@ -15,8 +17,8 @@ use jn_progress_law::law::accepted_programs_never_stick;
 
 /// No run of files whose program breaks no rule dereferences null, and none gets stuck.
 pub fn accepted_files_are_safe()
-    ensures null { (files : List SourceFile) (P : Program) → TypedProgramOf files P → RulesGive P [] → NeverNull P }
-    ensures stuck { (files : List SourceFile) (P : Program) → TypedProgramOf files P → RulesGive P [] → NeverStuck P }
+    ensures null { (files : List SourceFile) (names : List (List ℕ)) (P : Program) → TypedProgramOf files names P → RulesGive P [] → NeverNull P }
+    ensures stuck { (files : List SourceFile) (names : List (List ℕ)) (P : Program) → TypedProgramOf files names P → RulesGive P [] → NeverStuck P }
 {
     accepted_programs_never_fault();
     accepted_programs_never_stick();
@@ -30,4 +32,12 @@ pub fn files_have_one_report()
     least_signatures_are_unique();
     rounds_give_the_least_table();
     rows_have_one_order();
+}
+
+/// The run of files' main with these words, of at most so many steps, has one status and one text.
+pub fn files_have_one_run()
+    ensures status { (files : List SourceFile) (words : List (List ℕ)) (steps : ℕ) (one other : Status) (text more : List ℕ) → RunsTo files words steps one text → RunsTo files words steps other more → one ≡ other }
+    ensures text { (files : List SourceFile) (words : List (List ℕ)) (steps : ℕ) (one other : Status) (text more : List ℕ) → RunsTo files words steps one text → RunsTo files words steps other more → text ≡ more }
+{
+    files_have_one_front();
 }

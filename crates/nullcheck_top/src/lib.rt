@@ -1,12 +1,12 @@
-//! The top call: words in, the report out.
+//! The top call: words in, the report or the run of the files out.
 #![tactic(auto)]
 
+mod answers;
 mod check;
+pub mod found;
 pub mod law;
-mod rules;
-mod show;
-pub mod status;
+mod outputs;
 pub mod top;
 
-pub use status::Status;
+pub use jn_command::Status;
 pub use top::nullcheck;

@@ -1,20 +1,13 @@
 use Rattle.std.proofs.Common.{map}
 use Rattle.std.specs.Prelude.{string_bytes}
-use Rattle.jn_command.proofs.Asking.{by_refused, words_refused, run_refused, name_refused, words_taken}
-use Rattle.jn_command.proofs.Choosing.{first_fresh}
+use Rattle.jn_command.proofs.Asking.{by_refused, words_refused, name_refused, words_taken}
 use Rattle.jn_command.proofs.asked.read_asked.Goals as goal
 
 pub returns-in-Err-Refused-clause-usage : goal.returns-in-Err-Refused-clause-usage
 returns-in-Err-Refused-clause-usage g c = words_refused _ (map string_bytes c.args.words.now) (by_refused c.in-Err-Refused.field-0 _ c.in-Err-Refused.field-0-is c.in-Err-Refused.ensures.usage)
 
-pub returns-then-command-clause-usage : goal.returns-then-command-clause-usage
-returns-then-command-clause-usage g c = run_refused _ (map string_bytes c.args.words.now) c.in-Ok.command c.in-Ok.ensures.taken c.in-Ok.ensures.ok c.if-command.true
-
 pub returns-in-None-clause-usage : goal.returns-in-None-clause-usage
-returns-in-None-clause-usage g c = name_refused _ (map string_bytes c.args.words.now) c.in-Ok.command c.in-Ok.ensures.taken c.in-Ok.ensures.ok c.as_str.result.now c.as_str.ensures c.if-command.false c.in-None.ensures
+returns-in-None-clause-usage g c = name_refused _ (map string_bytes c.args.words.now) c.in-Ok.command c.in-Ok.ensures.taken c.in-Ok.ensures.ok c.as_str.result.now c.as_str.ensures c.in-None.ensures
 
 pub returns-in-Some-clause-asked : goal.returns-in-Some-clause-asked
-returns-in-Some-clause-asked g c = words_taken _ (map string_bytes c.args.words.now) c.in-Ok.command c.in-Ok.ensures.taken c.in-Ok.ensures.ok _ c.as_str.result.now c.as_str.ensures c.if-command.false c.in-Some.ensures
-
-pub returns-in-Some-clause-fresh : goal.returns-in-Some-clause-fresh
-returns-in-Some-clause-fresh g c = first_fresh _ _ _ c.requires.fresh c.in-Some.ensures
+returns-in-Some-clause-asked g c = words_taken _ (map string_bytes c.args.words.now) c.in-Ok.command c.in-Ok.ensures.taken c.in-Ok.ensures.ok _ c.as_str.result.now c.as_str.ensures c.in-Some.ensures

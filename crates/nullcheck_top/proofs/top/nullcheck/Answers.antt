@@ -1,12 +1,14 @@
 use Rattle.std.proofs.Common.{sym, subst}
-use Rattle.nullcheck_top.specs.Answer.{reading, Answers}
-use Rattle.nullcheck_top.proofs.Answering.{usage}
+use Rattle.jn_command.specs.Answer.{reading, Answers}
+use Rattle.jn_command.proofs.Asking.{by_refused}
+use Rattle.nullcheck_top.proofs.Written.{usage}
+use Rattle.nullcheck_top.specs.Report.{IsReport, IsSafe}
 use Rattle.nullcheck_top.proofs.top.nullcheck.Goals as goal
 
-pub returns-then-name_files-clause-answer : goal.returns-then-name_files-clause-answer
-returns-then-name_files-clause-answer g c =
-    subst (λ names. Answers (reading (g.F.Files.held c.args.files.now) (g.F.Files.gave c.args.files.now) (g.F.Files.gave c.check_named.new.files)) names (g.K.Sink.written c.args.out.now) (g.K.Sink.written c.check_named.new.out) c.check_named.result) (sym (c.name_files.ensures.yes c.if-name_files.true)) c.check_named.ensures.answer
+pub returns-in-Ok-clause-answer : goal.returns-in-Ok-clause-answer
+returns-in-Ok-clause-answer g c =
+    subst (λ asked. Answers IsReport IsSafe (reading (g.F.Files.held c.args.files.now) (g.F.Files.gave c.args.files.now) (g.F.Files.gave c.answer_command.new.files)) asked (g.K.Sink.written c.args.out.now) (g.K.Sink.written c.answer_command.new.out) c.answer_command.result) (sym c.in-Ok.ensures.asked) c.answer_command.ensures.answer
 
-pub returns-else-name_files-clause-answer : goal.returns-else-name_files-clause-answer
-returns-else-name_files-clause-answer g c =
-    usage (reading (g.F.Files.held c.args.files.now) (g.F.Files.gave c.args.files.now) (g.F.Files.gave c.args.files.now)) _ (g.K.Sink.written c.args.out.now) (g.K.Sink.written c.finish.new.out) c.as_bytes.result.now _ _ c.finish.result (c.name_files.ensures.no c.if-name_files.false) c.as_bytes.ensures.value c.finish.ensures
+pub returns-in-Err-Refused-clause-answer : goal.returns-in-Err-Refused-clause-answer
+returns-in-Err-Refused-clause-answer g c =
+    usage IsReport IsSafe (reading (g.F.Files.held c.args.files.now) (g.F.Files.gave c.args.files.now) (g.F.Files.gave c.args.files.now)) _ (g.K.Sink.written c.args.out.now) (g.K.Sink.written c.finish.new.out) c.as_bytes.result.now _ _ c.finish.result (by_refused c.in-Err-Refused.field-0 _ c.in-Err-Refused.field-0-is c.in-Err-Refused.ensures.usage) c.as_bytes.ensures.value c.finish.ensures

@@ -1,5 +1,0 @@
-pub mod Reporting
-pub mod RuleRows
-pub mod Programs
-pub mod Laws
-pub mod Written

@@ -1,7 +1,0 @@
-use Rattle.std.proofs.Common.{ap}
-use Rattle.jn_command.specs.declared.report.Report.TheVariants.{Refused}
-use Rattle.nullcheck_command.proofs.Reporting.{too_many_report}
-use Rattle.nullcheck_command.proofs.check.refuse_number.Goals as goal
-
-pub returns-clause-report : goal.returns-clause-report
-returns-clause-report c files many = too_many_report files (Refused c.in_ok-rows.rows) many (ap Refused c.in_ok-rows.ensures)

@@ -1,0 +1,5 @@
+use Rattle.nullcheck_top.proofs.Reporting.{safe_made}
+use Rattle.nullcheck_top.proofs.check.check.Goals as goal
+
+pub returns-clause-safe : goal.returns-clause-safe
+returns-clause-safe g c = safe_made c.accepted_files_are_safe.ensures.null c.accepted_files_are_safe.ensures.stuck c.args.reads.now c.find.result c.find.ensures.found

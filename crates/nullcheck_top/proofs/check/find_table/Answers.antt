@@ -1,0 +1,25 @@
+use Rattle.std.proofs.Common.{map, ◌∙◌, subst}
+use Rattle.jn_places.specs.PlacedView.{placed_file}
+use Rattle.jn_front.specs.Files.{files_of_reads}
+use Rattle.jn_program.specs.Lowered.{IsRefusedFor}
+use Rattle.nullcheck_top.proofs.Reporting.{lowering_made}
+use Rattle.nullcheck_top.proofs.check.find_table.Goals as goal
+
+pub find_program-requires-clause-program : goal.find_program-requires-clause-program
+find_program-requires-clause-program g c κs lives =
+    let declared = c.requires.declared in
+    let made = c.in-Ok.ensures.lowered in
+    record {
+      tokens = declared.0;
+      trees = map placed_file c.args.trees.now;
+      lowered = record { declared = declared.1; rowless = made.rows };
+      is = made.program;
+      regular = made.regular;
+    }
+
+pub returns-in-Err-Refused : goal.returns-in-Err-Refused
+returns-in-Err-Refused g c =
+    let trees = map placed_file c.args.trees.now in
+    let declared = c.requires.declared in
+    let are = subst (λ fail. IsRefusedFor trees fail) c.in-Err-Refused.field-0-is c.in-Err-Refused.ensures.refused in
+    lowering_made (files_of_reads c.args.reads.now) c.args.names declared.0 trees c.into_vec.result.items c.refused.result declared.1 (c.into_vec.ensures ∙ are.0) are.1 c.refused.ensures

@@ -1,0 +1,20 @@
+use Rattle.std.proofs.Common.{[], map, length, ap, sym, ◌∙◌, ◌++◌, arith}
+use Rattle.std.specs.Prelude.{string_bytes}
+use Rattle.jn_command.proofs.Showing.{number_text, name_there, length_is}
+use Rattle.nullcheck_top.proofs.Written.{report_made, map_length, not_accepted}
+use Rattle.nullcheck_top.specs.Report.{IsReport, IsSafe}
+use Rattle.nullcheck_top.proofs.outputs.number_output.Goals as goal
+
+pub returns : goal.returns
+returns g c files named =
+    let report = c.in_ok-report.report in
+    let found = c.in_ok-report.ensures in
+    let shower = c.in_ok-shower.shower in
+    let names = map string_bytes c.args.names.now in
+    let there = name_there c.args.names.now 64 c.index-names-64.result c.as_str.result.now c.requires.many c.index-names-64.is c.as_str.ensures.value in
+    let long = length_is files in
+    let long_names = ap length named in
+    let long_words = map_length c.args.names.now in
+    let text = number_text (g.P.Reporter.shown c.args.reporter) (g.P.Reporter.shown shower) files names c.as_str.result.now report (g.P.Reporter.rows shower) (g.P.Reporter.given shower) c.in_ok-shower.ensures.shown named there found.row c.in_ok-shower.ensures.rows c.in_ok-shower.ensures.verdict in
+    report_made IsReport IsSafe [] (g.P.Reporter.shown c.args.reporter) files report c.status.result _ (found.report files (omega (arith, c.requires.many, long, long_names, long_words))) c.status.ensures
+    (c.in_ok-joined.ensures ∙ (c.bytes.ensures ∙ text)) (λ none. absurd (not_accepted report _ found.row none))

@@ -1,0 +1,214 @@
+//! What a command answers.
+ghost use Rattle.std.specs.Prelude.{◌≡◌, ◌≢◌, ◌<◌, ◌≤◌, ◌∷◌, [], List, IfOk, MatchOption, map, None, Some, length, true};
+ghost use Rattle.std.specs.String.{string_bytes};
+ghost use Rattle.jn_outside.specs.Causes.{Rose};
+ghost use Rattle.jn_command.specs.declared.report.Report.TheVariants.{Checked};
+ghost use Rattle.jn_command.specs.Asked.{asked};
+ghost use Rattle.jn_command.specs.Answer.{reading, HoldsFiles, ReadsNothing, Starts};
+ghost use Rattle.jn_command.specs.Made.{front_of, made_file, made_text};
+ghost use Rattle.jn_command.specs.Reporters.{shown_behind};
+ghost use Rattle.jn_command.specs.Reports.{rows_of};
+ghost use Rattle.jn_command.specs.Stands.{StandIn};
+ghost use Rattle.jn_front.specs.Counted.{ReadsFit};
+ghost use Rattle.jn_front.specs.declared.source.SourceFile.{SourceFile as FileOf};
+ghost use Rattle.jn_front.specs.Files.{AllHeld, AreReads, IsReadOf, StartsOnly, files_of_reads, most_files};
+ghost use Rattle.nullcheck_top.specs.Answers.{Answers, AnswersFiles};
+ghost use Rattle.nullcheck_top.specs.Found.{IsFinding};
+ghost use Rattle.nullcheck_top.specs.Report.{IsSafe};
+
+use crate::check::check;
+use crate::found::{Found, Runnable};
+use crate::outputs::{MOST_FILES, number_output, report_output};
+use jn_base::{Fail, OutOfMemory, Text};
+use jn_cli::Command;
+use jn_command::Status;
+use jn_command::made::{made_line, made_read};
+use jn_command::output::write;
+use jn_front::{SourceRead, read_all};
+use jn_gen::generate;
+use jn_outside::{Files, Sink};
+use jn_reporters::Reporter;
+use jn_run::run_files;
+use jn_workers::Gate;
+use std::alloc::{AllocError, Global};
+use std::thread::Threads;
+
+/// The texts as the words of a command.
+fn strings(alloc: Global, texts: &[Text]) -> Result<Vec<String>, AllocError>
+    ensures { IfOk result (λ words. map string_bytes words.items ≡ texts.now) }
+{
+    let mut words = Vec::new(alloc);
+    for text in texts {
+        words.push(text.as_str().to_string(alloc)?)?;
+    }
+    Ok(words)
+}
+
+/// The program that is to be run: that of accepted files, where a run is asked for.
+fn to_run<'a>(run: bool, found: &'a Found) -> Option<&'a Runnable>
+    ensures { MatchOption result (run ≡ true → found.now.runnable ≡ None) (λ r. (run ≡ true) × (found.now.runnable ≡ Some r.now)) }
+{
+    if run { found.runnable.as_ref() } else { None }
+}
+
+/// Writes what files that were read came to: behind these bytes their report, or the run of accepted files where one is asked for.
+fn answer_found<P: Reporter, K: Sink>(
+    alloc: Global,
+    command: &Command,
+    reporter: P,
+    reads: &[SourceRead],
+    front: &[u8],
+    found: &Found,
+    out: &mut K,
+) -> Status
+    requires front { front.now ≡ front_of command.now.classes }
+    requires fit { ReadsFit reads.now }
+    requires stand { StandIn reads.now (rows_of found.now.report) }
+    requires found { (files : List FileOf) → AreReads reads.now files → IsFinding files found.now }
+    requires whole { found.now.report ≡ Checked [] → (files : List FileOf) → AreReads reads.now files → files_of_reads reads.now ≡ files }
+    requires safe { found.now.report ≡ Checked [] → (files : List FileOf) → AreReads reads.now files → IsSafe files }
+    ensures answer { (files : List FileOf) → AreReads reads.now files → AnswersFiles (asked command.now (shown_behind (P.rows reporter) (P.shown reporter))) files (K.written out.old) (K.written out.new) result }
+    ensures write { result ≡ Status.WriteFault → Rose (K.faults out.old) (K.faults out.new) }
+    ensures write_always { K.faults out.old < K.faults out.new → result ≡ Status.WriteFault }
+{
+    match to_run(command.run, found) {
+        Some(runnable) => run_files(
+            alloc,
+            &runnable.accepted,
+            &runnable.names,
+            reads,
+            command.args.as_slice(),
+            command.steps,
+            out,
+        ),
+        None => write(report_output(alloc, reads, &found.report, front, reporter), out),
+    }
+}
+
+/// Checks files that were read, at most 64, and writes what they come to.
+fn answer_reads<R: Threads + Sync, G: Gate + Sync, P: Reporter, K: Sink>(
+    rt: &R,
+    gate: &G,
+    alloc: Global,
+    command: &Command,
+    reporter: P,
+    reads: &[SourceRead],
+    front: &[u8],
+    out: &mut K,
+) -> Status
+    requires workers { (1 ≤ command.now.workers) × (command.now.workers ≤ 16) }
+    requires front { front.now ≡ front_of command.now.classes }
+    requires few { length reads.now ≤ most_files }
+    requires fit { ReadsFit reads.now }
+    requires read { (files : List FileOf) × AreReads reads.now files }
+    ensures answer { (files : List FileOf) → AreReads reads.now files → AnswersFiles (asked command.now (shown_behind (P.rows reporter) (P.shown reporter))) files (K.written out.old) (K.written out.new) result }
+    ensures write { result ≡ Status.WriteFault → Rose (K.faults out.old) (K.faults out.new) }
+    ensures write_always { K.faults out.old < K.faults out.new → result ≡ Status.WriteFault }
+{
+    match check(rt, gate, alloc, command.workers, reads) {
+        Ok(found) => answer_found(alloc, command, reporter, reads, front, &found, out),
+        Err(_) => Status::OutOfMemory,
+    }
+}
+
+/// The line and the text of the program that a command makes, as it is read.
+fn made(alloc: Global, classes: u32) -> Result<(Vec<u8>, SourceRead), OutOfMemory>
+    requires some { 1 ≤ classes }
+    requires most { classes ≤ 500 }
+    ensures front { IfOk result (λ m. m.0.items ≡ front_of classes) }
+    ensures read { IfOk result (λ m. IsReadOf m.1 (made_file (made_text classes))) }
+{
+    let text = generate(alloc, classes)?;
+    let front = made_line(alloc, classes, text.len())?;
+    Ok((front, made_read(alloc, text)?))
+}
+
+/// Checks the program that a command makes, and writes what it comes to.
+fn answer_made<R: Threads + Sync, G: Gate + Sync, P: Reporter, K: Sink>(
+    rt: &R,
+    gate: &G,
+    alloc: Global,
+    command: &Command,
+    reporter: P,
+    out: &mut K,
+) -> Status
+    requires workers { (1 ≤ command.now.workers) × (command.now.workers ≤ 16) }
+    requires some { 1 ≤ command.now.classes }
+    requires most { command.now.classes ≤ 500 }
+    ensures answer { AnswersFiles (asked command.now (shown_behind (P.rows reporter) (P.shown reporter))) (made_file (made_text command.now.classes) ∷ []) (K.written out.old) (K.written out.new) result }
+    ensures write { result ≡ Status.WriteFault → Rose (K.faults out.old) (K.faults out.new) }
+    ensures write_always { K.faults out.old < K.faults out.new → result ≡ Status.WriteFault }
+{
+    match made(alloc, command.classes) {
+        Ok((front, read)) => {
+            answer_reads(rt, gate, alloc, command, reporter, &[read], &front, out)
+        }
+        Err(_) => Status::OutOfMemory,
+    }
+}
+
+/// Checks the files of these names, and writes what they come to.
+fn answer_named<R: Threads + Sync, G: Gate + Sync, P: Reporter, F: Files, K: Sink>(
+    rt: &R,
+    gate: &G,
+    alloc: Global,
+    command: &Command,
+    reporter: P,
+    names: &[String],
+    files: &mut F,
+    out: &mut K,
+) -> Status
+    requires classes { command.now.classes ≡ 0 }
+    requires named { map string_bytes names.now ≡ command.now.files }
+    requires workers { (1 ≤ command.now.workers) × (command.now.workers ≤ 16) }
+    ensures answer { Answers (reading (F.held files.old) (F.gave files.old) (F.gave files.new)) (Some (asked command.now (shown_behind (P.rows reporter) (P.shown reporter)))) (K.written out.old) (K.written out.new) result }
+    ensures read { result ≡ Status.ReadFault → Rose (F.faults files.old) (F.faults files.new) }
+    ensures read_always { F.faults files.old < F.faults files.new → result ≡ Status.ReadFault }
+    ensures read_steady { F.steady files.old → AllHeld (F.held files.old) (map string_bytes names.now) → result ≢ Status.ReadFault }
+    ensures read_count { F.steady files.old → AllHeld (F.held files.old) (map string_bytes names.now) → F.faults files.new ≡ F.faults files.old }
+    ensures starts { StartsOnly (map string_bytes names.now) (F.gave files.old) (F.gave files.new) }
+    ensures unread { most_files < length names.now → (F.faults files.new ≡ F.faults files.old) × (F.gave files.new ≡ F.gave files.old) }
+    ensures write { result ≡ Status.WriteFault → Rose (K.faults out.old) (K.faults out.new) }
+    ensures write_always { K.faults out.old < K.faults out.new → result ≡ Status.WriteFault }
+{
+    if names.len() > MOST_FILES {
+        return write(number_output(alloc, names, reporter), out);
+    }
+    let reads = match read_all(alloc, files, names) {
+        Ok(reads) => reads,
+        Err(Fail::Refused(_)) => return Status::ReadFault,
+        Err(Fail::OutOfMemory) => return Status::OutOfMemory,
+    };
+    answer_reads(rt, gate, alloc, command, reporter, &reads, &[], out)
+}
+
+/// Checks the program that a command makes, or the files that it names, and writes what they come to.
+pub fn answer_command<R: Threads + Sync, G: Gate + Sync, P: Reporter, F: Files, K: Sink>(
+    rt: &R,
+    gate: &G,
+    alloc: Global,
+    command: &Command,
+    reporter: P,
+    files: &mut F,
+    out: &mut K,
+) -> Status
+    requires workers { (1 ≤ command.now.workers) × (command.now.workers ≤ 16) }
+    requires classes { command.now.classes ≤ 500 }
+    ensures answer { Answers (reading (F.held files.old) (F.gave files.old) (F.gave files.new)) (Some (asked command.now (shown_behind (P.rows reporter) (P.shown reporter)))) (K.written out.old) (K.written out.new) result }
+    ensures read { result ≡ Status.ReadFault → Rose (F.faults files.old) (F.faults files.new) }
+    ensures read_always { F.faults files.old < F.faults files.new → result ≡ Status.ReadFault }
+    ensures read_steady { F.steady files.old → HoldsFiles (F.held files.old) (Some (asked command.now (shown_behind (P.rows reporter) (P.shown reporter)))) → result ≢ Status.ReadFault }
+    ensures read_count { F.steady files.old → HoldsFiles (F.held files.old) (Some (asked command.now (shown_behind (P.rows reporter) (P.shown reporter)))) → F.faults files.new ≡ F.faults files.old }
+    ensures starts { Starts (Some (asked command.now (shown_behind (P.rows reporter) (P.shown reporter)))) (F.gave files.old) (F.gave files.new) }
+    ensures unread { ReadsNothing (Some (asked command.now (shown_behind (P.rows reporter) (P.shown reporter)))) → (F.faults files.new ≡ F.faults files.old) × (F.gave files.new ≡ F.gave files.old) }
+    ensures write { result ≡ Status.WriteFault → Rose (K.faults out.old) (K.faults out.new) }
+    ensures write_always { K.faults out.old < K.faults out.new → result ≡ Status.WriteFault }
+{
+    if command.classes != 0 {
+        return answer_made(rt, gate, alloc, command, reporter, out);
+    }
+    match strings(alloc, command.files.as_slice()) {
+        Ok(names) => answer_named(rt, gate, alloc, command, reporter, &names, files, out),
+        Err(_) => Status::OutOfMemory,
+    }
+}
