@@ -4,3 +4,4 @@ pub mod Programs
 pub mod Laws
 pub mod Running
 pub mod Written
+pub mod Answering

@@ -141,6 +141,11 @@ module _ (IsReport : List SourceFile → Report → Type 0) (IsSafe : List Sourc
     pub report_shown : (a.command.run ≡ true → report ≡ Checked [] → ⊥) → Written status × FilesOutput a files status bytes
     report_shown apart = (subst Written (sym ends) (report_written report), shown_by a.command.run apart)
 
+  pub shown_made : (a : Asked) (files : List SourceFile) (reads : List SourceRead) (report : Report) (front : List ℕ) (made : Result Output NoMemory) → AreReads reads files → front ≡ front_of a.command.classes → IsReport files report → (report ≡ Checked [] → IsSafe files) → (a.command.run ≡ true → report ≡ Checked [] → ⊥) → IfOk made (λ o. o.status ≡ status_of report) → IfOk made (λ o. (files : List SourceFile) → AreReads reads files → o.bytes ≡ front ++ shown a.show files report) → MadeFor a files made
+  shown_made a files reads report front (Made o) are same is safe apart status bytes =
+      report_shown a files report o.status o.bytes is status (bytes files are ∙ ap (λ xs. xs ++ shown a.show files report) same) safe apart
+  shown_made a files reads report front (Err e) are same is safe apart status bytes = tt
+
   -- the words are not those of a command
   pub usage : (read : Reading) (asked : Option Asked) (old new : Option (List ℕ)) (bytes : List ℕ) (before now : ℕ) (result : Status) → asked ≡ None → bytes ≡ usage_line → Finished old new bytes Usage before now result → Answer read asked old new result
   usage read asked old new bytes before now result e b f = subst (λ x. Answer read x old new result) (sym e) (finished f)
@@ -186,6 +191,10 @@ module _ (IsReport : List SourceFile → Report → Type 0) (IsSafe : List Sourc
   safe read asked old new ReadFault w accepts = absurd accepts
   safe read asked old new WriteFault w accepts = absurd accepts
   safe read asked old new OutOfMemory w accepts = absurd accepts
+
+pub status_written : (report : Report) (made : Result Output NoMemory) → IfOk made (λ o. o.status ≡ status_of report) → IfMade made (λ status bytes. Written status) (Unit {0})
+status_written report (Made o) status = subst Written (sym status) (report_written report)
+status_written report (Err e) status = tt
 
 -- no write fault unless the count rose
 pub no_fault : (old new : Option (List ℕ)) (before now : ℕ) (result : Status) (made : Result Output NoMemory) → IfMade made (λ status bytes. Written status) (Unit {0}) → Ends old new before now result made → result ≡ WriteFault → Rose before now

@@ -1,8 +1,14 @@
-use Rattle.std.proofs.Common.{[], map, length, ap, sym, ◌∙◌, ◌++◌, arith}
+use Rattle.std.proofs.Common.{[], ◌∷◌, map, length, ap, sym, ◌∙◌, ◌++◌, subst, arith}
 use Rattle.std.specs.Prelude.{string_bytes}
+use Rattle.jn_base.specs.declared.code.Code.TheVariants.{B1}
+use Rattle.jn_front.specs.Files.{most_files}
+use Rattle.jn_front.specs.Limits.{row_at}
+use Rattle.jn_command.specs.Reporters.{shown_behind}
+use Rattle.jn_command.specs.Reports.{status_of}
+use Rattle.jn_command.specs.Shown.{shown}
 use Rattle.jn_command.proofs.Showing.{number_text, name_there, length_is}
-use Rattle.nullcheck_top.proofs.Written.{report_made, map_length, not_accepted}
-use Rattle.nullcheck_top.specs.Report.{IsReport, IsSafe}
+use Rattle.nullcheck_top.proofs.Written.{map_length}
+use Rattle.nullcheck_top.specs.Report.{IsReport}
 use Rattle.nullcheck_top.proofs.outputs.number_output.Goals as goal
 
 pub returns : goal.returns
@@ -15,6 +21,11 @@ returns g c files named =
     let long = length_is files in
     let long_names = ap length named in
     let long_words = map_length c.args.names.now in
-    let text = number_text (g.P.Reporter.shown c.args.reporter) (g.P.Reporter.shown shower) files names c.as_str.result.now report (g.P.Reporter.rows shower) (g.P.Reporter.given shower) c.in_ok-shower.ensures.shown named there found.row c.in_ok-shower.ensures.rows c.in_ok-shower.ensures.verdict in
-    report_made IsReport IsSafe [] (g.P.Reporter.shown c.args.reporter) files report c.status.result _ (found.report files (omega (arith, c.requires.many, long, long_names, long_words))) c.status.ensures
-    (c.in_ok-joined.ensures ∙ (c.bytes.ensures ∙ text)) (λ none. absurd (not_accepted report _ found.row none))
+    let taken = g.P.Reporter.rows c.args.reporter in
+    let text = number_text (g.P.Reporter.shown c.args.reporter) (g.P.Reporter.shown shower) taken files names c.as_str.result.now report (g.P.Reporter.rows shower) (g.P.Reporter.given shower) c.in_ok-shower.ensures.shown named there found.row c.in_ok-shower.ensures.rows c.in_ok-shower.ensures.verdict in
+    record {
+      rows = row_at most_files B1 ∷ [];
+      is = subst (IsReport files) found.row (found.report files (omega (arith, c.requires.many, long, long_names, long_words)));
+      ends = c.status.ensures ∙ ap status_of found.row;
+      shows = c.in_ok-joined.ensures ∙ (c.bytes.ensures ∙ (text ∙ ap (shown (shown_behind taken (g.P.Reporter.shown c.args.reporter)) files) found.row));
+    }
