@@ -1,3 +1,2 @@
 mod OneMain
-pub mod Solved
 mod Rows

@@ -1,10 +1,9 @@
 -- The form of a main as a test, and the one method that has it.
 use Rattle.std.proofs.Common.{◌≡◌, ℕ, zero, suc, ◌<◌, ◌+◌, ◌≤◌, ◌⊎◌, inl, inr, ⊎_elim, arith, Bool, true, false, not, ◌&&◌, List, [], ◌∷◌, Option, Some, None, length, refl, sym, ap, ◌∙◌, subst}
 use Rattle.std.specs.Prelude.{slice_get}
-use Rattle.std.proofs.lemmas.Bool.{and_from, and_parts, both_ways}
+use Rattle.std.proofs.lemmas.Bool.{and_from, and_parts, both_ways, not-true}
 use Rattle.std.proofs.lemmas.Option.{slice_get_within}
 use Rattle.jn_base.specs.declared.number.BodyNo.{BodyNo}
-use Rattle.jn_accept.specs.Mains.{NoneBetween, NoneFrom, IsFirst}
 use Rattle.jn_base.specs.declared.number.SlotNo.{SlotNo}
 use Rattle.jn_quals.specs.Qualifier.{Qualifier}
 use Rattle.jn_quals.specs.Order.{committed_only, within}
@@ -13,8 +12,7 @@ use Rattle.jn_points.specs.declared.program.SlotInfo.{SlotInfo}
 use Rattle.jn_points.specs.declared.program.Program.{Program}
 use Rattle.jn_points.specs.Lookup.{body_no, method_at}
 use Rattle.jn_points.specs.Regular.{has_body}
-use Rattle.jn_accept.specs.Accepting.{IsMain, IsOnlyMain}
-use Rattle.jn_accept.specs.Mains.{has_form, is_committed, takes_committed}
+use Rattle.jn_accept.specs.Mains.{IsFirst, IsMain, IsOnlyMain, NoneBetween, NoneFrom, has_form, is_committed, takes_committed}
 
 quals_are : (n c f : Bool) → (within (record { null = n; committed = c; free = f }) committed_only && within committed_only (record { null = n; committed = c; free = f })) ≡ true → ◌≡◌ {A = Qualifier} (record { null = n; committed = c; free = f }) committed_only
 quals_are false false false h = cc
@@ -28,10 +26,6 @@ quals_are true true true h = cc
 
 only_committed : (q : Qualifier) → (within q committed_only && within committed_only q) ≡ true → q ≡ committed_only
 only_committed q h = quals_are q.null q.committed q.free h
-
-is_not : (a : Bool) → not a ≡ true → a ≡ false
-is_not true h = cc
-is_not false h = refl
 
 lt_or_is : (k n : ℕ) → k < n + 1 → (k < n) ⊎ (k ≡ n)
 lt_or_is k n lt = nat_cases k n (omega (arith, lt))
@@ -48,7 +42,7 @@ module _ (P : Program) (m : ℕ) where
   slot_form (Some info) h =
       let all = and_parts (not info.inferred && within info.start committed_only) (within committed_only info.start) h in
       let front = and_parts (not info.inferred) (within info.start committed_only) all.0 in
-      (info, refl, is_not info.inferred front.0, only_committed info.start (and_from (within info.start committed_only) (within committed_only info.start) front.1 all.1))
+      (info, refl, not-true info.inferred front.0, only_committed info.start (and_from (within info.start committed_only) (within committed_only info.start) front.1 all.1))
 
   form_by : (x : Method) → method_at P m ≡ Some x → x.is_main ≡ true → (o : Option BodyNo) → x.body ≡ o → has_body o ≡ true → (xs : List (Option SlotNo)) → x.param_slots ≡ xs → takes_committed P xs ≡ true → IsMain P m
   form_by x at main None ob h xs e t = cc

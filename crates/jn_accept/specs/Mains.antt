@@ -1,12 +1,21 @@
--- The form of a main, as a test.
-use Rattle.std.specs.Prelude.{ℕ, ◌<◌, ◌≤◌, Bool, false, not, ◌&&◌, List, [], ◌∷◌, Option, Some, None, slice_get}
+-- Mains of a program, the one main, and the form of a main as a test (JLS 8, 12.1.4).
+use Rattle.std.specs.Prelude.{ℕ, ◌≡◌, ◌<◌, ◌≤◌, Bool, false, not, ◌&&◌, List, [], ◌∷◌, Option, Some, None, slice_get}
 use Rattle.jn_base.specs.declared.number.SlotNo.{SlotNo}
 use Rattle.jn_quals.specs.Order.{committed_only, within}
 use Rattle.jn_points.specs.declared.program.Method.{Method}
 use Rattle.jn_points.specs.declared.program.SlotInfo.{SlotInfo}
 use Rattle.jn_points.specs.declared.program.Program.{Program}
 use Rattle.jn_points.specs.Regular.{has_body}
-use Rattle.jn_accept.specs.Accepting.{IsMain}
+use Rattle.jn_heap.specs.Runs.{MainForm}
+
+module _ (P : Program) where
+  -- a method of the form main, with some body
+  abbrev pub IsMain : ℕ → Type 0
+  IsMain m = (b : ℕ) × MainForm P m b
+
+  -- the one method of the form main
+  abbrev pub IsOnlyMain : ℕ → Type 0
+  IsOnlyMain m = IsMain m × ((k : ℕ) → IsMain k → k ≡ m)
 
 abbrev pub is_committed : Option SlotInfo → Bool
 is_committed None = false

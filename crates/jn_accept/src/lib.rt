@@ -1,9 +1,8 @@
-// Accepted programs: what is checked of them, and that they never dereference null.
+// Accepted programs: what is checked of them, and that they never dereference null and never get stuck.
 #![tactic(auto)]
 
 pub mod accepted;
 pub mod accepting;
-pub mod law;
 pub mod mains;
 
 pub use accepted::Accepted;

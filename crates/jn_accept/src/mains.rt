@@ -1,7 +1,6 @@
 // The one main of a program.
 ghost use Rattle.std.specs.Prelude.{◌≡◌, ◌<◌, ◌^◌, length, ℕ, MatchOption, IfSome, slice_get};
-ghost use Rattle.jn_accept.specs.Accepting.{IsOnlyMain};
-ghost use Rattle.jn_accept.specs.Mains.{has_form, is_committed, takes_committed, IsFirst, NoneFrom};
+ghost use Rattle.jn_accept.specs.Mains.{IsOnlyMain, has_form, is_committed, takes_committed, IsFirst, NoneFrom};
 
 use jn_base::{MethodNo, SlotNo};
 use jn_points::{Method, Program};

@@ -1,7 +1,8 @@
 -- Base types are kept by each step.
 use Rattle.std.proofs.Common.{◌≡◌, ℕ, List, subst}
 use Rattle.jn_points.specs.BaseTyping.{BaseTyped}
-use Rattle.jn_heap.specs.Machine.{Goes, State, run}
+use Rattle.jn_heap.specs.State.{Goes, State}
+use Rattle.jn_heap.specs.Runs.{run}
 use Rattle.jn_soundness.specs.Solved.{Solved}
 use Rattle.jn_soundness.specs.Types.{StateTyped}
 use Rattle.jn_soundness.specs.World.{World}

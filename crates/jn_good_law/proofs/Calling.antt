@@ -11,8 +11,10 @@ use Rattle.jn_points.specs.declared.point.PointKind.{PointKind}
 use Rattle.jn_points.specs.declared.point.PointKind.TheVariants.{New, CtorCall, Call, Return}
 use Rattle.jn_soundness.specs.Types.{ProgramTyped, StateTyped}
 use Rattle.jn_heap.specs.Values.{At, Object, Thing, Value, defaults}
-use Rattle.jn_heap.specs.Machine as spec
-use Rattle.jn_heap.specs.Machine.{Ends, Frame, Goes, Next, State, Stuck, act, calls_this, class_in, ctor_calls, enter, gather, gives, holds_at, news, object_of, pad, resumes, returns, selected, takes, takes_at, value_at, value_of, moves_to, entered, class_at, enters}
+use Rattle.jn_heap.specs.Calls as spec
+use Rattle.jn_heap.specs.State.{Ends, Frame, Goes, Next, State, Stuck, gather, holds_at, object_of, value_at, value_of, moves_to}
+use Rattle.jn_heap.specs.Calls.{calls_this, class_in, ctor_calls, enter, gives, news, pad, resumes, returns, selected, takes, takes_at, entered, class_at, enters}
+use Rattle.jn_heap.specs.Runs.{act}
 use Rattle.jn_soundness.specs.World.{World}
 use Rattle.jn_points.specs.Lookup.{body_at, body_of, class_of, method_at, params_of, point_at, regs_of, ctor_of, static_of}
 use Rattle.jn_soundness.proofs.Basics.{given_this, value_zero}
@@ -21,8 +23,8 @@ use Rattle.jn_soundness.proofs.Grows.{append_last}
 use Rattle.jn_points.specs.declared.program.Body.{Body}
 use Rattle.jn_points.specs.Shaped.{writes}
 use Rattle.jn_soundness.proofs.Typing.{selects_on}
-use Rattle.jn_regular_law.proofs.Bodies.{ctor_static, method_body, front_some}
-use Rattle.jn_progress_law.proofs.Moves.{body_method, point_regular}
+use Rattle.jn_regular_law.proofs.Bodies.{body_method, ctor_static, method_body, front_some}
+use Rattle.jn_regular_law.proofs.Whole.{point_regular}
 use Rattle.jn_good_law.specs.Calls.{HasThis, Entered, EnteredAt, Calls}
 use Rattle.jn_good_law.proofs.Straight.{on_itself, moved_on, StaysNext, kind_stays, push_class, calls_on}
 use Rattle.jn_soundness.proofs.Plains.{IsPlainKind}

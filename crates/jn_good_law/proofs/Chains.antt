@@ -6,17 +6,17 @@ use Rattle.jn_base.specs.declared.number.MethodNo.{MethodNo}
 use Rattle.jn_points.specs.declared.point.Operand.{Operand}
 use Rattle.jn_points.specs.declared.point.Point.{Point}
 use Rattle.jn_points.specs.declared.point.PointKind.TheVariants.{CtorCall}
-use Rattle.jn_heap.specs.Machine.{Frame}
+use Rattle.jn_heap.specs.State.{Frame}
 use Rattle.jn_points.specs.Lookup.{body_of, class_of, method_at, method_in, point_at, ctor_of, class_info, parent_of}
 use Rattle.jn_points.specs.Shaped.{Early, LeadsTo, NotCtorCall, Shaped}
 use Rattle.jn_soundness.specs.Marks.{Marks, FrameMark}
 use Rattle.jn_soundness.specs.Heaps.{IsMember}
+use Rattle.jn_soundness.proofs.Basics.{body_there}
 use Rattle.jn_points.specs.Edges.{edges_of}
 use Rattle.jn_points.specs.declared.program.Program.{Program}
 use Rattle.jn_points.specs.Members.{some_of}
 use Rattle.jn_points.specs.Regular.{Regular, CtorCallAt, RegularCtorCall, CallsCtor, UnderObject}
-use Rattle.jn_regular_law.proofs.Bodies.{body_there, method_body}
-use Rattle.jn_progress_law.proofs.Moves.{body_method}
+use Rattle.jn_regular_law.proofs.Bodies.{body_method, method_body}
 use Rattle.std.proofs.lemmas.Bool.{cases_lt}
 use Rattle.jn_good_law.specs.Construction.{HasEnded, Above, SuperclassesEnded, Chained, FrameBuilds, AllBuild}
 use Rattle.jn_good_law.proofs.Marks.{After}

@@ -8,8 +8,10 @@ use Rattle.jn_points.specs.declared.point.Point.{Point}
 use Rattle.jn_points.specs.declared.point.PointKind.{PointKind}
 use Rattle.jn_points.specs.declared.point.PointKind.TheVariants.{NewArray, ArrayOf, New, CtorCall, Call, Return}
 use Rattle.jn_heap.specs.Values.{At, Elems, Object, Thing, Value, defaults}
-use Rattle.jn_heap.specs.Machine as spec
-use Rattle.jn_heap.specs.Machine.{Ends, Frame, Goes, Next, State, Stuck, act, calls_this, class_in, ctor_calls, enter, gather, gives, holds_at, news, object_of, returns, selected, takes, takes_at, value_at, value_of, moves_to, entered, class_at, enters}
+use Rattle.jn_heap.specs.Calls as spec
+use Rattle.jn_heap.specs.State.{Ends, Frame, Goes, Next, State, Stuck, gather, holds_at, object_of, value_at, value_of, moves_to}
+use Rattle.jn_heap.specs.Calls.{calls_this, class_in, ctor_calls, enter, gives, news, returns, selected, takes, takes_at, entered, class_at, enters}
+use Rattle.jn_heap.specs.Runs.{act}
 use Rattle.jn_soundness.specs.World.{World, env_at}
 use Rattle.jn_points.specs.Lookup.{body_of, class_of, method_at, method_in, point_at, slots_of, ctor_of}
 use Rattle.jn_soundness.proofs.Basics.{eqb_cases}

@@ -4,7 +4,8 @@ use Rattle.std.specs.Prelude.{eqb}
 use Rattle.jn_points.specs.BaseTyping.{Ordered}
 use Rattle.jn_points.specs.declared.point.Point.{Point}
 use Rattle.jn_soundness.specs.Types.{ProgramTyped, StateTyped}
-use Rattle.jn_heap.specs.Machine.{Ends, Goes, Next, State, Stuck, run, step_at, then_step, step, MainForm, NullFault, start_state, NeverNull}
+use Rattle.jn_heap.specs.State.{Ends, Goes, Next, State, Stuck}
+use Rattle.jn_heap.specs.Runs.{run, step_at, then_step, step, MainForm, NullFault, start_state, NeverNull}
 use Rattle.jn_soundness.specs.World.{World}
 use Rattle.jn_points.specs.Lookup.{point_at}
 use Rattle.jn_soundness.specs.Marks.{Committed, Marking, Free, Unborn, mark_at, start_marking, mark_after}
@@ -15,7 +16,7 @@ use Rattle.jn_heap.specs.Values.{Limits}
 use Rattle.jn_points.specs.Regular.{Regular}
 use Rattle.jn_progress_law.specs.Live.{NextLive, StateLive}
 use Rattle.jn_points.specs.BaseRows.{NoBaseRows}
-use Rattle.jn_progress_law.proofs.Moves.{point_regular}
+use Rattle.jn_regular_law.proofs.Whole.{point_regular}
 use Rattle.jn_progress_law.proofs.Runs.{step_live}
 use Rattle.jn_good_law.specs.Calls.{Calls}
 use Rattle.jn_good_law.specs.Good.{Good}

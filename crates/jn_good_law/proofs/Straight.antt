@@ -6,7 +6,10 @@ use Rattle.jn_points.specs.declared.point.Point.{Point}
 use Rattle.jn_points.specs.declared.point.PointKind.{PointKind}
 use Rattle.jn_points.specs.declared.point.PointKind.TheVariants.{Const, Move, Unary, Binary, Concat, SameRef, FieldRead, FieldWrite, StaticRead, StaticWrite, ElemRead, ElemWrite, ArrayLen, NewArray, ArrayOf, New, CtorCall, Call, StrOp, Print, Cast, TestInst, TestNull, Branch, Goto, Return}
 use Rattle.jn_heap.specs.Values.{At, Elems, Fails, Gives, Got, Lacks, NullRef, Object, Plain, Prim, Text, Thing, Value, default_of, index}
-use Rattle.jn_heap.specs.Machine.{Ends, Frame, Goes, Next, State, Stuck, act, allocates, array_of, branch, class_in, count_of, dispatched, gather, goes_by, got_sets, is_within, literal_value, may_hold, moves, new_array, object_of, prim_of, print, put_thing, selected, sets, store_in, stored, test_inst, test_null, value_at, write_elem, write_field, write_in, write_static, int_of, truth_of, text_in, moves_to, class_at}
+use Rattle.jn_heap.specs.State.{Ends, Frame, Goes, Next, State, Stuck, gather, got_sets, moves, object_of, prim_of, sets, value_at, int_of, truth_of, text_in, moves_to}
+use Rattle.jn_heap.specs.Steps.{allocates, array_of, branch, count_of, goes_by, is_within, literal_value, may_hold, new_array, print, put_thing, store_in, stored, test_inst, test_null, write_elem, write_field, write_in, write_static}
+use Rattle.jn_heap.specs.Calls.{class_in, dispatched, selected, class_at}
+use Rattle.jn_heap.specs.Runs.{act}
 use Rattle.jn_points.specs.Lookup.{class_of, method_at, method_in, point_at, elem_base, static_of}
 use Rattle.jn_points.specs.Members.{has_field}
 use Rattle.jn_soundness.proofs.Basics.{eqb_cases, value_zero}

@@ -6,7 +6,8 @@ use Rattle.jn_points.specs.declared.point.PointKind.TheVariants.{New, CtorCall, 
 use Rattle.jn_points.specs.declared.program.Program.{Program}
 use Rattle.jn_points.specs.Lookup.{body_of, class_of, method_at, method_in, point_at, static_of}
 use Rattle.jn_heap.specs.Values.{At, Thing, Value}
-use Rattle.jn_heap.specs.Machine.{Frame, class_at, selected, value_at}
+use Rattle.jn_heap.specs.State.{Frame, value_at}
+use Rattle.jn_heap.specs.Calls.{class_at, selected}
 
 module _ (P : Program) where
   -- the frame runs the body of method m

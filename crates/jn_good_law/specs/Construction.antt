@@ -6,7 +6,8 @@ use Rattle.jn_points.specs.Lookup.{class_info, class_of, method_in, parent_of}
 use Rattle.jn_points.specs.Regular.{CtorCallAt}
 use Rattle.jn_points.specs.Shaped.{Early}
 use Rattle.jn_heap.specs.Values.{Thing}
-use Rattle.jn_heap.specs.Machine.{Frame, State, class_at}
+use Rattle.jn_heap.specs.State.{Frame, State}
+use Rattle.jn_heap.specs.Calls.{class_at}
 use Rattle.jn_soundness.specs.Marks.{FrameMark, Free, Marking, Marks, ObjMark, Unborn}
 use Rattle.jn_soundness.specs.Heaps.{Building, IsMember}
 

@@ -1,5 +1,5 @@
 -- Good states: what is kept of each state that a run of an accepted program comes to.
-use Rattle.jn_heap.specs.Machine.{State}
+use Rattle.jn_heap.specs.State.{State}
 use Rattle.jn_soundness.specs.World.{World}
 use Rattle.jn_soundness.specs.Marks.{Marking}
 use Rattle.jn_soundness.specs.Marked.{Marked}

@@ -1,2 +1,5 @@
 pub mod Values
-pub mod Machine
+pub mod State
+pub mod Steps
+pub mod Calls
+pub mod Runs

@@ -163,7 +163,7 @@ module _ (P : Program) where
   inferred_sent s b x m = inferred_among (least_sends P s b) x (sent_inferred s b) m
 
 -- bodies that are not there have no points, so nothing is sent
-past_points : (b : ℕ) (bodies : List Body) → length bodies ≤ b → points_of (slice_get bodies b) ≡ []
+pub past_points : (b : ℕ) (bodies : List Body) → length bodies ≤ b → points_of (slice_get bodies b) ≡ []
 past_points b [] le = refl
 past_points zero (x ∷ bodies) le = absurd (omega (arith, le))
 past_points (suc b) (x ∷ bodies) le = past_points b bodies (omega (arith, le))

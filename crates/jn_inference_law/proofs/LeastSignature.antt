@@ -28,7 +28,7 @@ use Rattle.jn_sigtable.proofs.LeastWords.{least_is_least}
 use Rattle.jn_inference_law.specs.Packing.{packed}
 use Rattle.jn_inference_law.proofs.PackingLaws.{SendsWithin, SentBelow, packed_has, packed_sends, packed_within, within_packed}
 use Rattle.jn_inference_law.specs.Inference.{inference, least_sends, least_table, words_for, IsInferable}
-use Rattle.jn_inference_law.proofs.InferenceLaws.{inference_lawful, least_is, least_sends_is, quals_within, sent_below, sent_inside}
+use Rattle.jn_inference_law.proofs.InferenceLaws.{inference_lawful, least_is, least_sends_is, past_points, quals_within, sent_below, sent_inside}
 use Rattle.jn_transfer.specs.Closing.{IsClosed}
 use Rattle.jn_inference_law.specs.Solution.{IsLeastSignature}
 use Rattle.jn_inference_law.proofs.WordsOf.{words_of, length-words_of, words_of-at, words_of-unpacked, word_within}
@@ -104,11 +104,6 @@ module _ (P : Program) (can : IsInferable P) where
     unfolding tables_of
     table_of-at b lt = get_or-map-range_with_len (least_table P t) 0 (length P.bodies) b b [] lt (omega arith)
 
-    no_points : (b : ℕ) (bodies : List Body) → length bodies ≤ b → points_of (slice_get bodies b) ≡ []
-    no_points b [] le = refl
-    no_points zero (x ∷ bodies) le = absurd (omega (arith, le))
-    no_points (suc b) (x ∷ bodies) le = no_points b bodies (omega (arith, le))
-
     empty_is : (b : ℕ) → points_of (body_at P b) ≡ [] → IsLeastTable P t b []
     empty_is b e = record {
       turns = 0;
@@ -120,7 +115,7 @@ module _ (P : Program) (can : IsInferable P) where
     unfolding tables_of
     tables_least b = ⊎_elim
         (λ lt. subst (IsLeastTable P t b) (sym (table_of-at b lt)) (least_is P t b (can.inside b lt)))
-        (λ le. subst (IsLeastTable P t b) (sym (past le)) (empty_is b (no_points b P.bodies le)))
+        (λ le. subst (IsLeastTable P t b) (sym (past le)) (empty_is b (past_points b P.bodies le)))
         (cases_lt b (length P.bodies))
       where
         past : length P.bodies ≤ b → slice_index_or tables_of b [] ≡ []

@@ -2,7 +2,8 @@
 use Rattle.std.proofs.Common.{◌≡◌, ℕ, zero, suc, ◌+◌, ◌-◌, ◌<◌, List, ap, ◌∙◌, arith, add-one, add-zero, add-suc}
 use Rattle.jn_points.specs.declared.program.Program.{Program}
 use Rattle.jn_heap.specs.Values.{End}
-use Rattle.jn_heap.specs.Machine.{State, Next, Goes, Ends, Stuck, step, then_step, run}
+use Rattle.jn_heap.specs.State.{State, Next, Goes, Ends, Stuck}
+use Rattle.jn_heap.specs.Runs.{step, then_step, run}
 
 pub run_more : (P : Program) (names : List (List ℕ)) (start next : Next) (n : ℕ) (st : State) → run P names start n ≡ Goes st → step P names st ≡ next → run P names start (n + 1) ≡ next
 run_more P names start next n st goes does = rw add-one (ap (then_step P names) goes ∙ does)

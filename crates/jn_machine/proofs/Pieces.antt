@@ -3,7 +3,9 @@ use Rattle.std.proofs.Common.{◌≡◌, ℕ, zero, suc, ◌+◌, ◌-◌, ◌<�
 use Rattle.std.specs.Prelude.{option_to_list, slice_get, slice_set}
 use Rattle.jn_points.specs.declared.program.Program.{Program}
 use Rattle.jn_heap.specs.Values.{Value, Thing, Object, Elems, Got}
-use Rattle.jn_heap.specs.Machine.{State, Goes, Ends, moves_to, pad, gather_more, put_thing, store_in}
+use Rattle.jn_heap.specs.State.{State, Goes, Ends, moves_to, gather_more}
+use Rattle.jn_heap.specs.Steps.{put_thing, store_in}
+use Rattle.jn_heap.specs.Calls.{pad}
 use Rattle.jn_machine.specs.declared.prim.Got.{Got as Answer}
 use Rattle.jn_machine.specs.declared.prim.Got.TheVariants.{Gives as IsGiven, Fails as HasFailed, Lacks as HasNone}
 use Rattle.jn_machine.specs.Ends.{end_of}

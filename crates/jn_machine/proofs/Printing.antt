@@ -3,7 +3,8 @@ use Rattle.std.proofs.Common.{◌≡◌, ℕ, ◌+◌, ◌-◌, ◌<◌, ◌≤�
 use Rattle.std.proofs.Math.Seq.{take-append-add}
 use Rattle.jn_outside.specs.Sink.{Appends, AppendsPrefix}
 use Rattle.jn_points.specs.declared.program.Program.{Program}
-use Rattle.jn_heap.specs.Machine.{Next, Goes, step, run}
+use Rattle.jn_heap.specs.State.{Next, Goes}
+use Rattle.jn_heap.specs.Runs.{step, run}
 use Rattle.jn_machine.specs.declared.prim.End.{End as Ended}
 use Rattle.jn_machine.specs.declared.state.MachineState.{MachineState}
 use Rattle.jn_machine.specs.declared.state.Stepped.{Stepped}

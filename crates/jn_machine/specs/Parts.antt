@@ -4,7 +4,8 @@ use Rattle.jn_base.specs.declared.number.PointNo.{PointNo}
 use Rattle.jn_points.specs.declared.program.Program.{Program}
 use Rattle.jn_points.specs.Lookup.{elem_base}
 use Rattle.jn_heap.specs.Values.{Value, Thing, Object, Elems, Deep, Index, Got, Gives, Fails, Lacks}
-use Rattle.jn_heap.specs.Machine.{State, Next, Goes, Ends, Stuck, moves, moves_to, stored, may_hold}
+use Rattle.jn_heap.specs.State.{State, Next, Goes, Ends, Stuck, moves, moves_to}
+use Rattle.jn_heap.specs.Steps.{stored, may_hold}
 use Rattle.jn_machine.specs.declared.prim.Got.{Got as Answer}
 use Rattle.jn_machine.specs.declared.prim.Got.TheVariants.{Gives as IsGiven, Fails as HasFailed, Lacks as HasNone}
 use Rattle.jn_machine.specs.Ends.{end_of}

@@ -1,7 +1,7 @@
 -- What goes to a sink.
 use Rattle.std.specs.Prelude.{ℕ, ◌≡◌, ◌++◌, List, Option}
 use Rattle.jn_outside.specs.Sink.{Appends, AppendsPrefix}
-use Rattle.jn_heap.specs.Machine.{Next, Goes}
+use Rattle.jn_heap.specs.State.{Next, Goes}
 use Rattle.jn_machine.specs.declared.state.MachineState.{MachineState}
 use Rattle.jn_machine.specs.declared.state.Stepped.{Stepped}
 use Rattle.jn_machine.specs.declared.state.Stepped.TheVariants.{Goes as WillGo}

@@ -5,7 +5,7 @@ use Rattle.jn_machine.specs.declared.state.Acted.{Acted}
 use Rattle.jn_machine.specs.declared.state.Acted.TheVariants.{Goes as HasGone, Prints as HasPrinted, Ends as HasEnded, Stuck as IsStuck}
 use Rattle.jn_machine.specs.declared.state.Stepped.{Stepped}
 use Rattle.jn_machine.specs.declared.state.Stepped.TheVariants.{Goes as WillGo, Ends as WillEnd, Stuck as WillStick}
-use Rattle.jn_heap.specs.Machine.{State, Next, Goes, Ends, Stuck}
+use Rattle.jn_heap.specs.State.{State, Next, Goes, Ends, Stuck}
 use Rattle.jn_heap.specs.Values.{usual_limits}
 use Rattle.jn_machine.specs.Ends.{end_of}
 

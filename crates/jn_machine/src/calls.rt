@@ -2,7 +2,9 @@
 ghost use Rattle.std.specs.Prelude.{◌≡◌, ◌<◌, ◌+◌, ◌-◌, ◌^◌, ◌++◌, Bool, ◌∷◌, [], ℕ, List, Some, None, IfOk, MatchOption, length, ltb};
 ghost use Rattle.jn_points.specs.Lookup.{point_at, body_at, regs_of, body_of, class_of, method_at};
 ghost use Rattle.jn_heap.specs.Values.{defaults, Object, At, usual_limits};
-ghost use Rattle.jn_heap.specs.Machine as spec;
+ghost use Rattle.jn_heap.specs.State.{State, gather, value_at, value_of};
+ghost use Rattle.jn_heap.specs.Steps.{array_of};
+ghost use Rattle.jn_heap.specs.Calls as spec;
 ghost use Rattle.jn_machine.specs.Ends.{answer_of};
 ghost use Rattle.jn_machine.specs.Parts.{prepended, entry_of};
 ghost use Rattle.jn_machine.specs.StateView.{state_of, acted_next};
@@ -45,7 +47,7 @@ pub(crate) fn gather(
     args: &[Operand],
     front: Seq<Value>,
 ) -> Result<Option<Seq<Value>>, AllocError>
-    ensures { IfOk result (λ r. r ≡ prepended front (spec.gather frame.now.regs args.now)) }
+    ensures { IfOk result (λ r. r ≡ prepended front (gather frame.now.regs args.now)) }
 {
     let mut values = front;
     for operand in args {
@@ -74,7 +76,7 @@ pub(crate) fn array_of(
     values: &[Operand],
 ) -> Result<Acted, AllocError>
     requires { state.old.top.at < 2 ^ 64 - 1 }
-    ensures { IfOk result (λ acted. (out : List ℕ) → spec.array_of (state_of state.old out) dst.0 base (spec.gather state.old.top.regs values.now) ≡ acted_next acted state.new out) }
+    ensures { IfOk result (λ acted. (out : List ℕ) → array_of (state_of state.old out) dst.0 base (gather state.old.top.regs values.now) ≡ acted_next acted state.new out) }
 {
     match gather(alloc, &state.top, values, Seq::new(alloc))? {
         None => Ok(Acted::Stuck),
@@ -243,7 +245,7 @@ pub(crate) fn new_object(
     ctor: MethodNo,
     args: &[Operand],
 ) -> Result<Acted, AllocError>
-    ensures { IfOk result (λ acted. (out : List ℕ) → spec.news program.now (state_of state.old out) ctor.0 (spec.gather state.old.top.regs args.now) ≡ acted_next acted state.new out) }
+    ensures { IfOk result (λ acted. (out : List ℕ) → spec.news program.now (state_of state.old out) ctor.0 (gather state.old.top.regs args.now) ≡ acted_next acted state.new out) }
 {
     let this = one(alloc, Value::at(state.heap.len()))?;
     match gather(alloc, &state.top, args, this)? {
@@ -259,7 +261,7 @@ pub(crate) fn ctor_call(
     ctor: MethodNo,
     args: &[Operand],
 ) -> Result<Acted, AllocError>
-    ensures { IfOk result (λ acted. (out : List ℕ) → spec.ctor_calls program.now (state_of state.old out) ctor.0 (spec.value_at state.old.top.regs 0) (spec.gather state.old.top.regs args.now) ≡ acted_next acted state.new out) }
+    ensures { IfOk result (λ acted. (out : List ℕ) → spec.ctor_calls program.now (state_of state.old out) ctor.0 (value_at state.old.top.regs 0) (gather state.old.top.regs args.now) ≡ acted_next acted state.new out) }
 {
     let Some(this) = copied(alloc, &state.top, RegNo(0))? else {
         return Ok(Acted::Stuck);
@@ -300,7 +302,7 @@ fn call_static(
     method: MethodNo,
     args: &[Operand],
 ) -> Result<Acted, AllocError>
-    ensures { IfOk result (λ acted. (direct : Bool) (out : List ℕ) → spec.calls program.now (state_of state.old out) method.0 None direct (spec.gather state.old.top.regs args.now) ≡ acted_next acted state.new out) }
+    ensures { IfOk result (λ acted. (direct : Bool) (out : List ℕ) → spec.calls program.now (state_of state.old out) method.0 None direct (gather state.old.top.regs args.now) ≡ acted_next acted state.new out) }
 {
     match gather(alloc, &state.top, args, Seq::new(alloc))? {
         None => Ok(Acted::Stuck),
@@ -317,7 +319,7 @@ fn call_on(
     direct: bool,
     args: &[Operand],
 ) -> Result<Acted, AllocError>
-    ensures { IfOk result (λ acted. (out : List ℕ) → spec.calls program.now (state_of state.old out) method.0 (Some receiver) direct (spec.gather state.old.top.regs args.now) ≡ acted_next acted state.new out) }
+    ensures { IfOk result (λ acted. (out : List ℕ) → spec.calls program.now (state_of state.old out) method.0 (Some receiver) direct (gather state.old.top.regs args.now) ≡ acted_next acted state.new out) }
 {
     let Some(place) = state.top.object(receiver.reg) else {
         return Ok(Acted::Stuck);
@@ -341,7 +343,7 @@ pub(crate) fn call(
     direct: bool,
     args: &[Operand],
 ) -> Result<Acted, AllocError>
-    ensures { IfOk result (λ acted. (out : List ℕ) → spec.calls program.now (state_of state.old out) method.0 receiver direct (spec.gather state.old.top.regs args.now) ≡ acted_next acted state.new out) }
+    ensures { IfOk result (λ acted. (out : List ℕ) → spec.calls program.now (state_of state.old out) method.0 receiver direct (gather state.old.top.regs args.now) ≡ acted_next acted state.new out) }
 {
     match receiver {
         None => call_static(alloc, program, state, method, args),
@@ -351,7 +353,7 @@ pub(crate) fn call(
 
 /// The waiting frame runs again.
 fn resume(state: &mut MachineState, waiting: Frame) -> Acted
-    ensures { (st : spec.State) → st.limits ≡ usual_limits → st.heap ≡ state.old.heap.items → st.statics ≡ state.old.statics.items → spec.resumes st waiting state.old.waiting.items ≡ acted_next result state.new st.out }
+    ensures { (st : State) → st.limits ≡ usual_limits → st.heap ≡ state.old.heap.items → st.statics ≡ state.old.statics.items → spec.resumes st waiting state.old.waiting.items ≡ acted_next result state.new st.out }
 {
     state.top = waiting;
     Acted::Goes
@@ -360,7 +362,7 @@ fn resume(state: &mut MachineState, waiting: Frame) -> Acted
 /// The waiting frame runs again, with the value in a register.
 fn give(state: &mut MachineState, mut waiting: Frame, dst: RegNo, value: Option<Value>) -> Acted
     requires { waiting.at < 2 ^ 64 - 1 }
-    ensures { (st : spec.State) → st.limits ≡ usual_limits → st.heap ≡ state.old.heap.items → st.statics ≡ state.old.statics.items → spec.gives st waiting state.old.waiting.items dst.0 value ≡ acted_next result state.new st.out }
+    ensures { (st : State) → st.limits ≡ usual_limits → st.heap ≡ state.old.heap.items → st.statics ≡ state.old.statics.items → spec.gives st waiting state.old.waiting.items dst.0 value ≡ acted_next result state.new st.out }
 {
     match value {
         None => Acted::Stuck,
@@ -379,7 +381,7 @@ fn take(
     this: Option<Value>,
     value: Option<Value>,
 ) -> Acted
-    ensures { (st : spec.State) → st.limits ≡ usual_limits → st.heap ≡ state.old.heap.items → st.statics ≡ state.old.statics.items → spec.takes_at st waiting state.old.waiting.items this value (point_at program.now waiting.body waiting.at) ≡ acted_next result state.new st.out }
+    ensures { (st : State) → st.limits ≡ usual_limits → st.heap ≡ state.old.heap.items → st.statics ≡ state.old.statics.items → spec.takes_at st waiting state.old.waiting.items this value (point_at program.now waiting.body waiting.at) ≡ acted_next result state.new st.out }
 {
     let Some(point) = point_at(program, waiting.body(), waiting.at()) else {
         return Acted::Stuck;
@@ -402,7 +404,7 @@ pub(crate) fn returns(
     state: &mut MachineState,
     value: Option<Operand>,
 ) -> Result<Acted, AllocError>
-    ensures { IfOk result (λ acted. (out : List ℕ) → spec.returns program.now (state_of state.old out) state.old.waiting.items (spec.value_at state.old.top.regs 0) (spec.value_of state.old.top.regs value) ≡ acted_next acted state.new out) }
+    ensures { IfOk result (λ acted. (out : List ℕ) → spec.returns program.now (state_of state.old out) state.old.waiting.items (value_at state.old.top.regs 0) (value_of state.old.top.regs value) ≡ acted_next acted state.new out) }
 {
     let this = copied(alloc, &state.top, RegNo(0))?;
     let given = match value {

@@ -1,6 +1,6 @@
 // Frames.
 ghost use Rattle.std.specs.Prelude.{◌≡◌, ◌<◌, ◌+◌, ◌-◌, ◌^◌, Some, None, MatchOption, slice_set};
-ghost use Rattle.jn_heap.specs.Machine as spec;
+ghost use Rattle.jn_heap.specs.State as spec;
 
 use crate::prim::{Plain, Primitive};
 use crate::value::Value;
@@ -17,7 +17,7 @@ pub struct Frame {
 }
 
 impl Model for Frame {
-    ghost use Rattle.jn_heap.specs.Machine.{Frame as Defined};
+    ghost use Rattle.jn_heap.specs.State.{Frame as Defined};
 
     ghost Value = { Defined };
 

@@ -2,7 +2,8 @@
 ghost use Rattle.std.specs.Prelude.{◌≡◌, ◌<◌, ◌-◌, ◌^◌, ℕ, List, IfOk, replicate, slice_get, slice_set};
 ghost use Rattle.jn_points.specs.Lookup.{elem_base};
 ghost use Rattle.jn_heap.specs.Values.{count, default_of, usual_limits};
-ghost use Rattle.jn_heap.specs.Machine as spec;
+ghost use Rattle.jn_heap.specs.State.{State, got_plain, got_prim, int_of, object_of, prim_of, value_at};
+ghost use Rattle.jn_heap.specs.Steps as spec;
 ghost use Rattle.jn_machine.specs.Ends.{answer_of};
 ghost use Rattle.jn_machine.specs.Parts.{goes_to, may_hold_in, put_next, store_as};
 ghost use Rattle.jn_machine.specs.StateView.{state_of, acted_next};
@@ -24,7 +25,7 @@ pub(crate) fn read_field(
     object: RegNo,
     field: FieldNo,
 ) -> Result<Got<Value>, AllocError>
-    ensures { IfOk result (λ g. answer_of g ≡ spec.read_field program.now state.now.heap.items (spec.object_of (spec.value_at state.now.top.regs object.0)) field.0) }
+    ensures { IfOk result (λ g. answer_of g ≡ spec.read_field program.now state.now.heap.items (object_of (value_at state.now.top.regs object.0)) field.0) }
 {
     let Some(place) = state.top.object(object) else {
         return Ok(Got::Lacks);
@@ -75,7 +76,7 @@ pub(crate) fn write_field(
     from: RegNo,
 ) -> Result<Acted, AllocError>
     requires { state.old.top.at < 2 ^ 64 - 1 }
-    ensures { IfOk result (λ acted. (out : List ℕ) → spec.write_field program.now (state_of state.old out) (spec.object_of (spec.value_at state.old.top.regs object.0)) field.0 (spec.value_at state.old.top.regs from.0) ≡ acted_next acted state.new out) }
+    ensures { IfOk result (λ acted. (out : List ℕ) → spec.write_field program.now (state_of state.old out) (object_of (value_at state.old.top.regs object.0)) field.0 (value_at state.old.top.regs from.0) ≡ acted_next acted state.new out) }
 {
     let Some(place) = state.top.object(object) else {
         return Ok(Acted::Stuck);
@@ -88,7 +89,7 @@ pub(crate) fn write_field(
 
 /// The value of a static field.
 pub(crate) fn read_static(state: &MachineState, field: FieldNo) -> Got<Value>
-    ensures { answer_of result ≡ spec.got_plain (spec.got_prim (slice_get state.now.statics.items field.0)) }
+    ensures { answer_of result ≡ got_plain (got_prim (slice_get state.now.statics.items field.0)) }
 {
     match state.statics.get(field.0 as usize) {
         None => Got::Lacks,
@@ -107,7 +108,7 @@ fn put(statics: &mut [Primitive], at: usize, prim: Primitive)
 
 pub(crate) fn write_static(state: &mut MachineState, field: FieldNo, from: RegNo) -> Acted
     requires { state.old.top.at < 2 ^ 64 - 1 }
-    ensures { (out : List ℕ) → spec.write_static (state_of state.old out) field.0 (spec.prim_of (spec.value_at state.old.top.regs from.0)) ≡ acted_next result state.new out }
+    ensures { (out : List ℕ) → spec.write_static (state_of state.old out) field.0 (prim_of (value_at state.old.top.regs from.0)) ≡ acted_next result state.new out }
 {
     match state.top.prim(from) {
         None => Acted::Stuck,
@@ -126,7 +127,7 @@ pub(crate) fn read_elem(
     array: RegNo,
     at: RegNo,
 ) -> Result<Got<Value>, AllocError>
-    ensures { IfOk result (λ g. answer_of g ≡ spec.read_elem state.now.heap.items (spec.object_of (spec.value_at state.now.top.regs array.0)) (spec.int_of (spec.prim_of (spec.value_at state.now.top.regs at.0)))) }
+    ensures { IfOk result (λ g. answer_of g ≡ spec.read_elem state.now.heap.items (object_of (value_at state.now.top.regs array.0)) (int_of (prim_of (value_at state.now.top.regs at.0)))) }
 {
     let Some(place) = state.top.object(array) else {
         return Ok(Got::Lacks);
@@ -152,7 +153,7 @@ fn may_store(program: &Program, heap: &[Thing], place: usize, value: &Value) -> 
 
 /// Makes a value an element of the thing at a place, where it may hold it.
 fn set_at(heap: &mut [Thing], place: usize, at: Option<usize>, value: Value, may: bool) -> Got<()>
-    ensures { (st : spec.State) → st.heap ≡ heap.old → spec.put_thing st place (store_as (slice_get heap.old place) at value may) ≡ put_next result st heap.new }
+    ensures { (st : State) → st.heap ≡ heap.old → spec.put_thing st place (store_as (slice_get heap.old place) at value may) ≡ put_next result st heap.new }
 {
     if place >= heap.len() {
         return Got::Lacks;
@@ -193,7 +194,7 @@ pub(crate) fn write_elem(
     from: RegNo,
 ) -> Result<Acted, AllocError>
     requires { state.old.top.at < 2 ^ 64 - 1 }
-    ensures { IfOk result (λ acted. (out : List ℕ) → spec.write_elem program.now (state_of state.old out) (spec.object_of (spec.value_at state.old.top.regs array.0)) (spec.int_of (spec.prim_of (spec.value_at state.old.top.regs at.0))) (spec.value_at state.old.top.regs from.0) ≡ acted_next acted state.new out) }
+    ensures { IfOk result (λ acted. (out : List ℕ) → spec.write_elem program.now (state_of state.old out) (object_of (value_at state.old.top.regs array.0)) (int_of (prim_of (value_at state.old.top.regs at.0))) (value_at state.old.top.regs from.0) ≡ acted_next acted state.new out) }
 {
     let Some(place) = state.top.object(array) else {
         return Ok(Acted::Stuck);
@@ -209,7 +210,7 @@ pub(crate) fn write_elem(
 
 /// The length of the array that a register refers to.
 pub(crate) fn array_len(state: &MachineState, array: RegNo) -> Got<Value>
-    ensures { answer_of result ≡ spec.array_len state.now.heap.items (spec.object_of (spec.value_at state.now.top.regs array.0)) }
+    ensures { answer_of result ≡ spec.array_len state.now.heap.items (object_of (value_at state.now.top.regs array.0)) }
 {
     match state.top.object(array) {
         None => Got::Lacks,
@@ -269,7 +270,7 @@ pub(crate) fn new_array(
     length: RegNo,
 ) -> Result<Acted, AllocError>
     requires { state.old.top.at < 2 ^ 64 - 1 }
-    ensures { IfOk result (λ acted. (out : List ℕ) → spec.new_array (state_of state.old out) dst.0 base (spec.count_of usual_limits.longest (spec.int_of (spec.prim_of (spec.value_at state.old.top.regs length.0)))) ≡ acted_next acted state.new out) }
+    ensures { IfOk result (λ acted. (out : List ℕ) → spec.new_array (state_of state.old out) dst.0 base (spec.count_of usual_limits.longest (int_of (prim_of (value_at state.old.top.regs length.0)))) ≡ acted_next acted state.new out) }
 {
     let Some(number) = state.top.int(length) else {
         return Ok(Acted::Stuck);
@@ -292,7 +293,7 @@ pub(crate) fn cast(
     of: RegNo,
     class: ClassNo,
 ) -> Result<Got<Value>, AllocError>
-    ensures { IfOk result (λ g. answer_of g ≡ spec.cast_of program.now state.now.heap.items (spec.value_at state.now.top.regs of.0) class.0) }
+    ensures { IfOk result (λ g. answer_of g ≡ spec.cast_of program.now state.now.heap.items (value_at state.now.top.regs of.0) class.0) }
 {
     match state.top.value(of) {
         None => Ok(Got::Lacks),
@@ -309,7 +310,7 @@ pub(crate) fn test_inst(
     yes: PointNo,
     no: PointNo,
 ) -> Option<PointNo>
-    ensures { (out : List ℕ) → spec.test_inst program.now (state_of state.now out) class.0 yes.0 no.0 (spec.value_at state.now.top.regs of.0) ≡ goes_to (state_of state.now out) result }
+    ensures { (out : List ℕ) → spec.test_inst program.now (state_of state.now out) class.0 yes.0 no.0 (value_at state.now.top.regs of.0) ≡ goes_to (state_of state.now out) result }
 {
     match state.top.value(of) {
         None => None,

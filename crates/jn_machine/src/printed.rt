@@ -1,7 +1,8 @@
 // Steps that print to a sink.
 ghost use Rattle.std.specs.Prelude.{◌≡◌, ◌≢◌, ◌≤◌, ◌<◌, ℕ, List, IfOk, Err};
 ghost use Rattle.jn_outside.specs.Causes.{Rose};
-ghost use Rattle.jn_heap.specs.Machine as spec;
+ghost use Rattle.jn_heap.specs.State.{Goes};
+ghost use Rattle.jn_heap.specs.Runs as spec;
 ghost use Rattle.jn_machine.specs.Printed.{PrintsTo, PrintsFront, PrintsSome};
 ghost use Rattle.jn_machine.specs.StateView.{state_of};
 
@@ -67,9 +68,9 @@ pub fn run_to<K: Sink>(
     steps: u64,
     sink: &mut K,
 ) -> Result<Stepped, StepFail>
-    ensures ok { IfOk result (λ stepped. PrintsTo (λ out. spec.run program.now names.now (spec.Goes (state_of state.old out)) steps) stepped state.new (K.written sink.old) (K.written sink.new)) }
-    ensures prefix { result ≡ Err StepFail.WriteFault → (n : ℕ) × (n ≤ steps) × PrintsSome (λ out. spec.run program.now names.now (spec.Goes (state_of state.old out)) n) state.new (K.written sink.old) (K.written sink.new) }
-    ensures memory { result ≡ Err StepFail.OutOfMemory → (n : ℕ) × (n < steps) × PrintsFront (λ out. spec.run program.now names.now (spec.Goes (state_of state.old out)) n) (K.written sink.old) (K.written sink.new) }
+    ensures ok { IfOk result (λ stepped. PrintsTo (λ out. spec.run program.now names.now (Goes (state_of state.old out)) steps) stepped state.new (K.written sink.old) (K.written sink.new)) }
+    ensures prefix { result ≡ Err StepFail.WriteFault → (n : ℕ) × (n ≤ steps) × PrintsSome (λ out. spec.run program.now names.now (Goes (state_of state.old out)) n) state.new (K.written sink.old) (K.written sink.new) }
+    ensures memory { result ≡ Err StepFail.OutOfMemory → (n : ℕ) × (n < steps) × PrintsFront (λ out. spec.run program.now names.now (Goes (state_of state.old out)) n) (K.written sink.old) (K.written sink.new) }
     ensures failed { result ≡ Err StepFail.WriteFault → Rose (K.faults sink.old) (K.faults sink.new) }
     ensures later { K.faults sink.old ≤ K.faults sink.new }
     ensures kept { result ≢ Err StepFail.WriteFault → K.faults sink.new ≡ K.faults sink.old }

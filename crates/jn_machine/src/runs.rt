@@ -1,7 +1,9 @@
 // Start states and runs.
 ghost use Rattle.std.specs.Prelude.{◌≡◌, ◌∷◌, [], IfOk};
 ghost use Rattle.jn_heap.specs.Values.{At, Elems, first_of, statics_of, usual_limits};
-ghost use Rattle.jn_heap.specs.Machine as spec;
+ghost use Rattle.jn_heap.specs.State.{Goes};
+ghost use Rattle.jn_heap.specs.Calls.{entered};
+ghost use Rattle.jn_heap.specs.Runs as spec;
 ghost use Rattle.jn_machine.specs.StateView.{state_of, next_of};
 
 use crate::calls::entered;
@@ -62,7 +64,7 @@ fn first_heap(alloc: Global, words: &[Text]) -> Result<Vec<Thing>, AllocError>
 
 /// The frame of a start, with the array as its parameter.
 fn first_frame(alloc: Global, program: &Program, body: usize) -> Result<Frame, AllocError>
-    ensures { IfOk result (λ f. f ≡ spec.entered program.now body (At 0 ∷ [])) }
+    ensures { IfOk result (λ f. f ≡ entered program.now body (At 0 ∷ [])) }
 {
     let mut values = Seq::new(alloc);
     values.push(Value::at(0))?;
@@ -106,7 +108,7 @@ pub fn run(
     steps: u64,
     out: &mut Vec<u8>,
 ) -> Result<Stepped, OutOfMemory>
-    ensures { IfOk result (λ stepped. spec.run program.now names.now (spec.Goes (state_of state.old out.old.items)) steps ≡ next_of stepped state.new out.new.items) }
+    ensures { IfOk result (λ stepped. spec.run program.now names.now (Goes (state_of state.old out.old.items)) steps ≡ next_of stepped state.new out.new.items) }
 {
     for _ in 0..steps {
         match step(alloc, program, names, state, out)? {

@@ -1,6 +1,6 @@
 // States of the machine.
 ghost use Rattle.std.specs.Prelude.{◌≡◌, ◌<◌, ◌-◌, ◌^◌, ℕ, List, Some};
-ghost use Rattle.jn_heap.specs.Machine as spec;
+ghost use Rattle.jn_heap.specs.State as spec;
 ghost use Rattle.jn_machine.specs.Ends.{answer_of};
 ghost use Rattle.jn_machine.specs.Parts.{goes_to};
 ghost use Rattle.jn_machine.specs.StateView.{state_of, acted_next};

@@ -1,6 +1,6 @@
 // One point is one step.
 ghost use Rattle.std.specs.Prelude.{◌≡◌, ◌<◌, ◌-◌, ◌^◌, ℕ, List, IfOk};
-ghost use Rattle.jn_heap.specs.Machine as spec;
+ghost use Rattle.jn_heap.specs.Runs.{act, step};
 ghost use Rattle.jn_machine.specs.StateView.{state_of, acted_next, next_of};
 
 use crate::prim::Got;
@@ -20,7 +20,7 @@ fn act(
     kind: &PointKind,
 ) -> Result<Acted, AllocError>
     requires { state.old.top.at < 2 ^ 64 - 1 }
-    ensures { IfOk result (λ acted. (out : List ℕ) → spec.act program.now names.now (state_of state.old out) kind.now ≡ acted_next acted state.new out) }
+    ensures { IfOk result (λ acted. (out : List ℕ) → act program.now names.now (state_of state.old out) kind.now ≡ acted_next acted state.new out) }
 {
     match kind {
         PointKind::Const { dst, value } => {
@@ -161,7 +161,7 @@ pub(crate) fn step_once(
     names: &Names,
     state: &mut MachineState,
 ) -> Result<Acted, AllocError>
-    ensures { IfOk result (λ acted. (out : List ℕ) → spec.step program.now names.now (state_of state.old out) ≡ acted_next acted state.new out) }
+    ensures { IfOk result (λ acted. (out : List ℕ) → step program.now names.now (state_of state.old out) ≡ acted_next acted state.new out) }
 {
     match calls::point_at(program, state.top.body(), state.top.at()) {
         None => Ok(Acted::Stuck),
@@ -181,7 +181,7 @@ pub fn step(
     state: &mut MachineState,
     out: &mut Vec<u8>,
 ) -> Result<Stepped, OutOfMemory>
-    ensures { IfOk result (λ stepped. spec.step program.now names.now (state_of state.old out.old.items) ≡ next_of stepped state.new out.new.items) }
+    ensures { IfOk result (λ stepped. step program.now names.now (state_of state.old out.old.items) ≡ next_of stepped state.new out.new.items) }
 {
     match step_once(alloc, program, names, state)? {
         Acted::Goes => Ok(Stepped::Goes),

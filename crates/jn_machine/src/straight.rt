@@ -1,7 +1,8 @@
 // The points of straight code: constants, moves, operators, texts, tests of null, branches.
 ghost use Rattle.std.specs.Prelude.{◌≡◌, ◌<◌, ◌-◌, ◌^◌, [], ℕ, List, IfOk, ltb, slice_index_or};
 ghost use Rattle.jn_heap.specs.Values.{units, text_equals, usual_limits};
-ghost use Rattle.jn_heap.specs.Machine as spec;
+ghost use Rattle.jn_heap.specs.State.{State, got_of, got_plain, prim_of, text_in, truth_of, value_at, value_of};
+ghost use Rattle.jn_heap.specs.Steps as spec;
 ghost use Rattle.jn_machine.specs.Ends.{answer_of};
 ghost use Rattle.jn_machine.specs.Parts.{goes_to};
 ghost use Rattle.jn_machine.specs.StateView.{state_of, acted_next};
@@ -46,7 +47,7 @@ pub(crate) fn literal(alloc: Global, names: &Names, value: Literal) -> Result<Va
 
 /// The value of a register, copied; None where it holds none.
 pub(crate) fn copied(alloc: Global, frame: &Frame, reg: RegNo) -> Result<Option<Value>, AllocError>
-    ensures { IfOk result (λ v. v ≡ spec.value_at frame.now.regs reg.0) }
+    ensures { IfOk result (λ v. v ≡ value_at frame.now.regs reg.0) }
 {
     match frame.value(reg) {
         None => Ok(None),
@@ -58,7 +59,7 @@ pub(crate) fn copied(alloc: Global, frame: &Frame, reg: RegNo) -> Result<Option<
 }
 
 pub(crate) fn moved(alloc: Global, frame: &Frame, from: RegNo) -> Result<Got<Value>, AllocError>
-    ensures { IfOk result (λ g. answer_of g ≡ spec.got_of (spec.value_at frame.now.regs from.0)) }
+    ensures { IfOk result (λ g. answer_of g ≡ got_of (value_at frame.now.regs from.0)) }
 {
     match copied(alloc, frame, from)? {
         None => Ok(Got::Lacks),
@@ -68,7 +69,7 @@ pub(crate) fn moved(alloc: Global, frame: &Frame, from: RegNo) -> Result<Got<Val
 
 /// An int or boolean as a value.
 fn plain(got: Got<Primitive>) -> Got<Value>
-    ensures { answer_of result ≡ spec.got_plain (answer_of got) }
+    ensures { answer_of result ≡ got_plain (answer_of got) }
 {
     match got {
         Got::Gives(prim) => Got::Gives(Value::plain(prim)),
@@ -78,7 +79,7 @@ fn plain(got: Got<Primitive>) -> Got<Value>
 }
 
 pub(crate) fn unary(frame: &Frame, negate: bool, of: RegNo) -> Got<Value>
-    ensures { answer_of result ≡ spec.unary_of negate (spec.prim_of (spec.value_at frame.now.regs of.0)) }
+    ensures { answer_of result ≡ spec.unary_of negate (prim_of (value_at frame.now.regs of.0)) }
 {
     match frame.prim(of) {
         None => Got::Lacks,
@@ -87,7 +88,7 @@ pub(crate) fn unary(frame: &Frame, negate: bool, of: RegNo) -> Got<Value>
 }
 
 pub(crate) fn binary(frame: &Frame, operator: Operator, left: RegNo, right: RegNo) -> Got<Value>
-    ensures { answer_of result ≡ spec.binary_of operator (spec.prim_of (spec.value_at frame.now.regs left.0)) (spec.prim_of (spec.value_at frame.now.regs right.0)) }
+    ensures { answer_of result ≡ spec.binary_of operator (prim_of (value_at frame.now.regs left.0)) (prim_of (value_at frame.now.regs right.0)) }
 {
     match frame.prim(left) {
         None => Got::Lacks,
@@ -100,7 +101,7 @@ pub(crate) fn binary(frame: &Frame, operator: Operator, left: RegNo, right: RegN
 
 /// The text that joins and prints of a register's value.
 fn shown(alloc: Global, frame: &Frame, of: RegNo) -> Result<Option<Text>, AllocError>
-    ensures { IfOk result (λ t. t ≡ spec.text_in (spec.value_at frame.now.regs of.0)) }
+    ensures { IfOk result (λ t. t ≡ text_in (value_at frame.now.regs of.0)) }
 {
     match frame.value(of) {
         None => Ok(None),
@@ -124,7 +125,7 @@ pub(crate) fn concat(
     left: RegNo,
     right: RegNo,
 ) -> Result<Got<Value>, AllocError>
-    ensures { IfOk result (λ g. answer_of g ≡ spec.concat_of usual_limits.longest (spec.text_in (spec.value_at frame.now.regs left.0)) (spec.text_in (spec.value_at frame.now.regs right.0))) }
+    ensures { IfOk result (λ g. answer_of g ≡ spec.concat_of usual_limits.longest (text_in (value_at frame.now.regs left.0)) (text_in (value_at frame.now.regs right.0))) }
 {
     let Some(front) = shown(alloc, frame, left)? else {
         return Ok(Got::Lacks);
@@ -137,7 +138,7 @@ pub(crate) fn concat(
 }
 
 pub(crate) fn same_ref(frame: &Frame, equal: bool, left: RegNo, right: RegNo) -> Got<Value>
-    ensures { answer_of result ≡ spec.same_of equal (spec.value_at frame.now.regs left.0) (spec.value_at frame.now.regs right.0) }
+    ensures { answer_of result ≡ spec.same_of equal (value_at frame.now.regs left.0) (value_at frame.now.regs right.0) }
 {
     match frame.value(left) {
         None => Got::Lacks,
@@ -153,7 +154,7 @@ pub(crate) fn same_ref(frame: &Frame, equal: bool, left: RegNo, right: RegNo) ->
 
 /// Whether the operand's value is the text.
 fn text_equals(frame: &Frame, text: &str, other: Option<Operand>) -> Got<Value>
-    ensures { answer_of result ≡ spec.got_plain (text_equals text.now (spec.value_of frame.now.regs other)) }
+    ensures { answer_of result ≡ got_plain (text_equals text.now (value_of frame.now.regs other)) }
 {
     match other {
         None => Got::Lacks,
@@ -170,7 +171,7 @@ pub(crate) fn str_op(
     of: RegNo,
     other: Option<Operand>,
 ) -> Got<Value>
-    ensures { answer_of result ≡ spec.str_op op (spec.value_at frame.now.regs of.0) (spec.value_of frame.now.regs other) }
+    ensures { answer_of result ≡ spec.str_op op (value_at frame.now.regs of.0) (value_of frame.now.regs other) }
 {
     match frame.value(of) {
         None => Got::Lacks,
@@ -190,7 +191,7 @@ pub(crate) fn str_op(
 /// The text of a register's value and a line feed are printed.
 pub(crate) fn print(alloc: Global, state: &mut MachineState, of: RegNo) -> Result<Acted, AllocError>
     requires { state.old.top.at < 2 ^ 64 - 1 }
-    ensures { IfOk result (λ acted. (out : List ℕ) → spec.print (state_of state.old out) (spec.text_in (spec.value_at state.old.top.regs of.0)) ≡ acted_next acted state.new out) }
+    ensures { IfOk result (λ acted. (out : List ℕ) → spec.print (state_of state.old out) (text_in (value_at state.old.top.regs of.0)) ≡ acted_next acted state.new out) }
 {
     let Some(text) = shown(alloc, &state.top, of)? else {
         return Ok(Acted::Stuck);
@@ -207,7 +208,7 @@ pub(crate) fn test_null(
     null: PointNo,
     non_null: PointNo,
 ) -> Option<PointNo>
-    ensures { (st : spec.State) → spec.test_null st null.0 non_null.0 (spec.value_at frame.now.regs of.0) ≡ goes_to st result }
+    ensures { (st : State) → spec.test_null st null.0 non_null.0 (value_at frame.now.regs of.0) ≡ goes_to st result }
 {
     match frame.value(of) {
         None => None,
@@ -217,7 +218,7 @@ pub(crate) fn test_null(
 
 /// Which point a branch goes to.
 pub(crate) fn branch(frame: &Frame, of: RegNo, yes: PointNo, no: PointNo) -> Option<PointNo>
-    ensures { (st : spec.State) → spec.branch st yes.0 no.0 (spec.truth_of (spec.prim_of (spec.value_at frame.now.regs of.0))) ≡ goes_to st result }
+    ensures { (st : State) → spec.branch st yes.0 no.0 (truth_of (prim_of (value_at frame.now.regs of.0))) ≡ goes_to st result }
 {
     match frame.prim(of) {
         None => None,

@@ -2,7 +2,8 @@
 ghost use Rattle.std.specs.Prelude.{◌≡◌, Some, None, MatchOption, IfOk, slice_set};
 ghost use Rattle.jn_points.specs.Lookup.{elem_base};
 ghost use Rattle.jn_heap.specs.Values as spec;
-ghost use Rattle.jn_heap.specs.Machine.{class_in, field_in, write_in, thing_within, item_or_index, item_at, elem_in, length_in};
+ghost use Rattle.jn_heap.specs.Steps.{field_in, write_in, thing_within, item_or_index, item_at, elem_in, length_in};
+ghost use Rattle.jn_heap.specs.Calls.{class_in};
 ghost use Rattle.jn_machine.specs.Ends.{answer_of};
 ghost use Rattle.jn_machine.specs.Parts.{IsKept, put_answer, may_hold_in, store_as};
 

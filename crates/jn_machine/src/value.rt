@@ -1,7 +1,8 @@
 // Values.
 ghost use Rattle.std.specs.Prelude.{◌≡◌, IfOk, Option, Some, None, MatchOption};
 ghost use Rattle.jn_heap.specs.Values as spec;
-ghost use Rattle.jn_heap.specs.Machine.{State, object_of, prim_of, str_op, test_null, is_within, may_hold, cast_of, test_inst};
+ghost use Rattle.jn_heap.specs.State.{State, object_of, prim_of};
+ghost use Rattle.jn_heap.specs.Steps.{str_op, test_null, is_within, may_hold, cast_of, test_inst};
 ghost use Rattle.jn_machine.specs.Ends.{answer_of};
 ghost use Rattle.jn_machine.specs.Parts.{goes_to};
 

@@ -1,20 +1,20 @@
 -- Bodies, methods and fields of a regular program.
 use Rattle.std.proofs.Common.{◌≡◌, ◌<◌, ℕ, zero, suc, true, false, not, ◌⊎◌, inl, inr, List, [], ◌∷◌, length, Option, Some, None, refl, sym, ap, ◌∙◌, subst, arith}
 use Rattle.std.specs.Prelude.{slice_get, slice_index_or}
+use Rattle.std.proofs.lemmas.Bool.{and_parts, not-true}
 use Rattle.jn_base.specs.declared.number.BodyNo.{BodyNo}
 use Rattle.jn_base.specs.declared.number.ClassNo.{ClassNo}
 use Rattle.jn_points.specs.declared.point.BaseType.{BaseType}
 use Rattle.jn_points.specs.declared.point.BaseType.TheVariants.{Void, Ref}
-use Rattle.jn_points.specs.declared.point.Point.{Point}
 use Rattle.jn_points.specs.declared.program.Body.{Body}
 use Rattle.jn_points.specs.declared.program.Field.{Field}
 use Rattle.jn_points.specs.declared.program.Method.{Method}
 use Rattle.jn_points.specs.declared.program.Program.{Program}
-use Rattle.jn_points.specs.Lookup.{base_in, points_of, parent_of, body_no, body_of, class_of, class_info, ctor_of, static_of, params_of, regs_of, body_at, field_info, method_at, method_in, method_of_body, owner, owner_of, point_at, reg_base}
+use Rattle.jn_points.specs.Lookup.{base_in, parent_of, body_no, body_of, class_of, class_info, ctor_of, static_of, params_of, regs_of, body_at, field_info, method_at, method_in, method_of_body, owner, owner_of, reg_base}
 use Rattle.jn_points.specs.Members.{has_field, object_has, sub, fits, is_pair, pairs_of}
 use Rattle.jn_points.specs.BaseTyping.{PairTyped, StartsWith, given_bases}
 use Rattle.jn_points.specs.Regular.{BodyBelow, FrontOf, Regular, RegularPair}
-use Rattle.jn_soundness.proofs.Basics.{and_true, not_true, given_this}
+use Rattle.jn_soundness.proofs.Basics.{given_this}
 use Rattle.jn_soundness.proofs.Fits.{fits_self, both_true}
 use Rattle.jn_regular_law.proofs.Subtypes.{own_or_above, regular_order}
 
@@ -39,13 +39,6 @@ module _ (P : Program) where
   front_starts (t ∷ ts) [] h = absurd h
   front_starts (t ∷ ts) (r ∷ regs) h = (subst (λ z. fits P t z ≡ true) (sym h.0) (fits_self P t), front_starts ts regs h.1)
 
-  pub body_there : (b p : ℕ) (pt : Point) → point_at P b p ≡ Some pt → (x : Body) × (body_at P b ≡ Some x)
-  body_there b p pt is = by (body_at P b) refl is
-    where
-      by : (o : Option Body) → body_at P b ≡ o → slice_get (points_of o) p ≡ Some pt → (x : Body) × (body_at P b ≡ Some x)
-      by None e is = cc
-      by (Some x) e is = (x, e)
-
   pub ctor_there : (m : ℕ) → ctor_of (method_at P m) ≡ true → (x : Method) × (method_at P m ≡ Some x) × (x.ctor ≡ true)
   ctor_there m c = by (method_at P m) refl c
     where
@@ -58,7 +51,7 @@ module _ (P : Program) where
     where
       by : (o : Option Field) → field_info P f ≡ o → object_has P c o ≡ true → (x : Field) × (field_info P f ≡ Some x) × (x.is_static ≡ false) × (sub P c x.owner.0 ≡ true)
       by None e h = cc
-      by (Some x) e h = let q = and_true (not x.is_static) (sub P c x.owner.0) h in (x, e, not_true x.is_static q.0, q.1)
+      by (Some x) e h = let q = and_parts (not x.is_static) (sub P c x.owner.0) h in (x, e, not-true x.is_static q.0, q.1)
 
   has_by : (c f : ℕ) (x : Field) → field_info P f ≡ Some x → x.is_static ≡ false → sub P c x.owner.0 ≡ true → has_field P c f ≡ true
   has_by c f x e s u = subst (λ o. object_has P c o ≡ true) (sym e) (both_true (not x.is_static) (sub P c x.owner.0) (ap not s) u)
@@ -89,6 +82,10 @@ module _ (P : Program) where
         by None e h = cc
         by (Some y) e h = by_no y.body (R.methods m y e).body h
 
+    -- a method's body runs for it
+    pub body_method : (m b : ℕ) → body_of (method_at P m) ≡ Some b → method_in P b ≡ method_at P m
+    body_method m b is = let t = method_body m b is in ap (method_of_body P) t.1 ∙ ap (method_at P) t.2
+
     pub starts : (m b : ℕ) → body_of (method_at P m) ≡ Some b → StartsWith P (reg_base P b) (given_bases P m)
     starts m b is =
         let t = method_body m b is in
@@ -113,7 +110,7 @@ module _ (P : Program) where
     pub ctor_reg : (m b : ℕ) → body_of (method_at P m) ≡ Some b → ctor_of (method_at P m) ≡ true → reg_base P b 0 ≡ Ref (record { 0 = class_of (method_at P m) })
     ctor_reg m b is c =
         let t = method_body m b is in
-        let its : method_in P b ≡ method_at P m = ap (method_of_body P) t.1 ∙ ap (method_at P) t.2 in
+        let its = body_method m b is in
         subst (λ y. reg_base P b 0 ≡ Ref (record { 0 = class_of y })) its (ctor_this b t.0 t.1 (ap ctor_of its ∙ c)).0
 
     pub pairs : (m k : ℕ) → is_pair P m k ≡ true → PairTyped P m k

@@ -2,7 +2,7 @@
 use Rattle.std.proofs.Common.{◌≡◌, ◌<◌, ◌≤◌, ◌+◌, ℕ, zero, suc, Bool, true, false, not, ◌&&◌, ◌||◌, ◌⊎◌, inl, inr, List, [], ◌∷◌, length, Option, Some, None, refl, sym, ◌∙◌, subst, eqb, ltb, arith}
 use Rattle.std.specs.Prelude.{slice_get, slice_index_or}
 use Rattle.std.specs.List.{All, Contains}
-use Rattle.std.proofs.lemmas.Bool.{eqb-true, ltb-true}
+use Rattle.std.proofs.lemmas.Bool.{eqb-true, ltb-true, and_parts}
 use Rattle.std.proofs.lemmas.List.Elements.{All-contains, All-cons, All-nil}
 use Rattle.jn_base.specs.declared.number.ClassNo.{ClassNo}
 use Rattle.jn_base.specs.declared.number.PointNo.{PointNo}
@@ -22,7 +22,6 @@ use Rattle.jn_points.specs.Shaped.{FromRead, IsAt, LeadsTo, test_at, writes}
 use Rattle.jn_points.specs.BaseRows.{IsBaseRow, IsUnassigned, NoBaseRows, given, result_rows, type_rows}
 use Rattle.jn_points.specs.Paths.{Reached}
 use Rattle.jn_points.specs.Regular.{AllBelow, Below, CtorCallAt, IsParent, NamesFields, NamesMethods, RegularCtorCall, RegularPoint, Typed, register_if}
-use Rattle.jn_soundness.proofs.Basics.{and_true}
 
 -- what holds of each listed class holds of one among them
 abbrev pub EachSuper : (ℕ → Type 0) → List ClassNo → Type 0
@@ -53,7 +52,7 @@ all_under n (x ∷ xs) = ltb x n && all_under n xs
 
 under_all : (n : ℕ) (xs : List ℕ) → all_under n xs ≡ true → AllBelow n xs
 under_all n [] h = tt
-under_all n (x ∷ xs) h = let p = and_true (ltb x n) (all_under n xs) h in (ltb-true x n p.0, under_all n xs p.1)
+under_all n (x ∷ xs) h = let p = and_parts (ltb x n) (all_under n xs) h in (ltb-true x n p.0, under_all n xs p.1)
 
 abbrev pub is_under : ℕ → Option PointNo → Bool
 is_under n None = true
@@ -88,8 +87,8 @@ spreads_there o bits q p n [] x e h is = cc
 spreads_there o bits q zero n (y ∷ xs) x e h is =
     let same : y ≡ x = cc in
     let place : n ≡ q = omega (e, arith) in
-    subst (λ n. spreads_at o bits n x.kind ≡ true) (sym place) (subst (λ y. spreads_at o bits q y.kind ≡ true) same (and_true (spreads_at o bits q y.kind) (spreads o bits (suc q) xs) h).0)
-spreads_there o bits q (suc p) n (y ∷ xs) x e h is = spreads_there o bits (suc q) p n xs x (omega (e, arith)) (and_true (spreads_at o bits q y.kind) (spreads o bits (suc q) xs) h).1 is
+    subst (λ n. spreads_at o bits n x.kind ≡ true) (sym place) (subst (λ y. spreads_at o bits q y.kind ≡ true) same (and_parts (spreads_at o bits q y.kind) (spreads o bits (suc q) xs) h).0)
+spreads_there o bits q (suc p) n (y ∷ xs) x e h is = spreads_there o bits (suc q) p n xs x (omega (e, arith)) (and_parts (spreads_at o bits q y.kind) (spreads o bits (suc q) xs) h).1 is
 
 target_at : (bits : List Bool) (o : Option PointNo) (to : ℕ) → target_open bits o ≡ true → IsAt o to → is_open bits to ≡ true
 target_at bits None to h l = absurd l
@@ -105,7 +104,7 @@ spreads_on o bits q to k h open' w l = by (is_open bits q) (writes_it o k) h ope
     by : (a c : Bool) → (not a || (c || (target_open bits (edges_of k q).first && target_open bits (edges_of k q).second))) ≡ true → a ≡ true → c ≡ false → is_open bits to ≡ true
     by false c h a w = cc
     by true true h a w = cc
-    by true false h a w = leads (and_true (target_open bits (edges_of k q).first) (target_open bits (edges_of k q).second) h) l
+    by true false h a w = leads (and_parts (target_open bits (edges_of k q).first) (target_open bits (edges_of k q).second) h) l
 
 number_apart : (o : Option ℕ) (r : ℕ) → (o ≡ Some r → ⊥) → is_number o r ≡ false
 number_apart None r n = refl

@@ -17,7 +17,8 @@ use Rattle.jn_points.specs.Members.{has_field}
 use Rattle.jn_points.specs.Shaped.{ArgsMatch, Chains, Early, IsObjectClass, IsVirtual, LeadsTo, Names, NotCtorCall, NotEarlyReturn, Passes, RegularPoint, Shaped, StartsRegular, test_at, test_in}
 use Rattle.jn_points.specs.Regular.{ArgumentsMatch, CallsCtor, CtorCallAt, IsConcrete, IsParent, NamesMethods, Regular, RegularCtorCall, UnderObject, RegularPoint as PointRegular}
 use Rattle.jn_soundness.proofs.Overriding.{slots_length}
-use Rattle.jn_regular_law.proofs.Bodies.{body_there, ctor_static, ctor_there, ctor_this, method_body, no_object_field, own_or_parent}
+use Rattle.jn_soundness.proofs.Basics.{body_there}
+use Rattle.jn_regular_law.proofs.Bodies.{ctor_static, ctor_there, ctor_this, method_body, no_object_field, own_or_parent}
 
 same_point : (P : Program) (b p : ℕ) (x y : Point) → point_at P b p ≡ Some x → point_at P b p ≡ Some y → x ≡ y
 same_point P b p x y hx hy = let same : Some x ≡ Some y = sym hx ∙ hy in cc

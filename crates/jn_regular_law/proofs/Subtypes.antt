@@ -1,6 +1,6 @@
 -- Subtypes of a regular program are an order: ranks fall along supertypes, so as many steps as there are classes reach all that more would.
 use Rattle.std.proofs.Common.{◌≡◌, ◌<◌, ◌≤◌, ℕ, zero, suc, Bool, true, false, ◌⊎◌, ◌||◌, inl, inr, List, [], ◌∷◌, length, Option, Some, None, refl, sym, ap, ◌∙◌, subst, eqb, arith}
-use Rattle.std.proofs.lemmas.Bool.{eqb-true, eq-eqb, or_left, or_right}
+use Rattle.std.proofs.lemmas.Bool.{eqb-true, eq-eqb, or_left, or_right, or_cases}
 use Rattle.jn_base.specs.declared.number.ClassNo.{ClassNo}
 use Rattle.jn_points.specs.declared.program.Class.{Class}
 use Rattle.jn_points.specs.declared.program.Program.{Program}
@@ -8,7 +8,6 @@ use Rattle.jn_points.specs.Lookup.{supers_of, parent_of, interface_of, class_inf
 use Rattle.jn_points.specs.Members.{some_of, is_class, reaches, sub}
 use Rattle.jn_points.specs.BaseTyping.{Ordered}
 use Rattle.jn_points.specs.Regular.{RegularClasses}
-use Rattle.jn_soundness.proofs.Basics.{or_true}
 use Rattle.jn_soundness.proofs.Fits.{reaches_self}
 
 abbrev pub IsSuper : Program → ℕ → ClassNo → Type 0
@@ -38,8 +37,8 @@ module _ (P : Program) where
       by None e h = cc
       by (Some x) e h = (x, e, h)
 
-  reaches_split : (n c d : ℕ) → reaches P (suc n) c d ≡ true → (c ≡ d) ⊎ ((s : ClassNo) × IsSuper P c s × (reaches P n s.0 d ≡ true))
-  reaches_split n c d h = by (or_true (eqb c d) (some_of (λ s. reaches P n s.0 d) (supers_of (class_info P c))) h)
+  pub reaches_split : (n c d : ℕ) → reaches P (suc n) c d ≡ true → (c ≡ d) ⊎ ((s : ClassNo) × IsSuper P c s × (reaches P n s.0 d ≡ true))
+  reaches_split n c d h = by (or_cases (eqb c d) (some_of (λ s. reaches P n s.0 d) (supers_of (class_info P c))) h)
     where
       by : (eqb c d ≡ true) ⊎ (some_of (λ s. reaches P n s.0 d) (supers_of (class_info P c)) ≡ true) → (c ≡ d) ⊎ ((s : ClassNo) × IsSuper P c s × (reaches P n s.0 d ≡ true))
       by (inl e) = inl (eqb-true c d e)
@@ -73,7 +72,7 @@ module _ (P : Program) where
     pub sub_by : (n c d : ℕ) → reaches P n c d ≡ true → sub P c d ≡ true
     sub_by n c d h = or_right (eqb d 0) (reaches P (length P.classes) c d) (enough n (length P.classes) c d (below_count c) h)
 
-    reaches_object : (n c : ℕ) → reaches P n 0 c ≡ true → c ≡ 0
+    pub reaches_object : (n c : ℕ) → reaches P n 0 c ≡ true → c ≡ 0
     reaches_object zero c h = sym (eqb-true 0 c h)
     reaches_object (suc n) c h = by (reaches_split n 0 c h)
       where
@@ -93,14 +92,14 @@ module _ (P : Program) where
         by (inr s) rest = let x = super_of c s.0 s.1 in absurd ((C.classes c x.0 x.1).no_string s.0 x.2 (rest s.0.0 s.2))
 
     sub_object : (c : ℕ) → sub P 0 c ≡ true → c ≡ 0
-    sub_object c h = by (or_true (eqb c 0) (reaches P (length P.classes) 0 c) h)
+    sub_object c h = by (or_cases (eqb c 0) (reaches P (length P.classes) 0 c) h)
       where
         by : (eqb c 0 ≡ true) ⊎ (reaches P (length P.classes) 0 c ≡ true) → c ≡ 0
         by (inl e) = eqb-true c 0 e
         by (inr r) = reaches_object (length P.classes) c r
 
     sub_trans : (a b c : ℕ) → sub P a b ≡ true → sub P b c ≡ true → sub P a c ≡ true
-    sub_trans a b c h k = by (or_true (eqb c 0) (reaches P (length P.classes) b c) k) (or_true (eqb b 0) (reaches P (length P.classes) a b) h)
+    sub_trans a b c h k = by (or_cases (eqb c 0) (reaches P (length P.classes) b c) k) (or_cases (eqb b 0) (reaches P (length P.classes) a b) h)
       where
         by : (eqb c 0 ≡ true) ⊎ (reaches P (length P.classes) b c ≡ true) → (eqb b 0 ≡ true) ⊎ (reaches P (length P.classes) a b ≡ true) → sub P a c ≡ true
         by (inl e) h = or_left (eqb c 0) (reaches P (length P.classes) a c) e
@@ -138,7 +137,7 @@ module _ (P : Program) where
 
     -- a class above another one is that class, or stands above its parent
     pub own_or_above : (c d : ℕ) → (d ≡ 0 → ⊥) → interface_of (class_info P d) ≡ false → sub P c d ≡ true → (c ≡ d) ⊎ ((p : ClassNo) × (parent_of (class_info P c) ≡ Some p) × (sub P p.0 d ≡ true))
-    own_or_above c d z i h = first (or_true (eqb d 0) (reaches P (length P.classes) c d) h)
+    own_or_above c d z i h = first (or_cases (eqb d 0) (reaches P (length P.classes) c d) h)
       where
         parent : (t : ClassNo) (x : Class) → class_info P c ≡ Some x → (n : ℕ) → reaches P n t.0 d ≡ true → (p : Option ClassNo) → x.parent ≡ p → is_class p t ≡ true → (p : ClassNo) × (parent_of (class_info P c) ≡ Some p) × (sub P p.0 d ≡ true)
         parent t x there n r None e k = cc

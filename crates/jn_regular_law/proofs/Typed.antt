@@ -2,6 +2,7 @@
 use Rattle.std.proofs.Common.{◌≡◌, ℕ, Bool, true, false, not, List, [], ◌∷◌, ◌++◌, length, Option, Some, None, inl, refl, sym, ap, ◌∙◌, subst, cond, arith}
 use Rattle.std.specs.List.{Contains}
 use Rattle.std.proofs.lemmas.List.Elements.{Contains-append_left, Contains-append_right, Contains-push}
+use Rattle.std.proofs.lemmas.Bool.{and_parts}
 use Rattle.jn_base.specs.declared.place.Row.{Row}
 use Rattle.jn_base.specs.declared.code.Code.TheVariants.{J7, J10}
 use Rattle.jn_points.specs.declared.point.Operand.{Operand}
@@ -21,7 +22,6 @@ use Rattle.jn_points.specs.BaseRows.{Want, Within, Elements, Valued, NoBaseRows,
 use Rattle.jn_points.specs.BaseTyping.{AllTyped, ArgsTyped, PointTyped, ReturnTyped, ThisTyped}
 use Rattle.jn_points.specs.Regular.{NamesFields, NamesMethods, RegularField, Typed, is_sum, operation_base, static_field}
 use Rattle.jn_soundness.proofs.Fits.{fits_self}
-use Rattle.jn_soundness.proofs.Basics.{and_true}
 
 abbrev pub NoRows : List Row → Type 0
 NoRows xs = (row : Row) → Contains xs row → ⊥
@@ -64,7 +64,7 @@ module _ (P : Program) where
       by false n = absurd (n row (Contains-push [] row))
 
   within : (b : ℕ) (t : BaseType) (a : Operand) → NoRows (operand_rows P b (Within t) a) → fits P (reg_base P b a.reg.0) t ≡ true
-  within b t a n = (and_true (not (is_void (reg_base P b a.reg.0))) (fits P (reg_base P b a.reg.0) t) (suited b (Within t) a n)).1
+  within b t a n = (and_parts (not (is_void (reg_base P b a.reg.0))) (fits P (reg_base P b a.reg.0) t) (suited b (Within t) a n)).1
 
   args_typed : (b : ℕ) (ts : List BaseType) (args : List Operand) → length args ≡ length ts → NoRows (argument_rows P b ts args) → ArgsTyped P b ts args
   args_typed b ts [] l n = tt

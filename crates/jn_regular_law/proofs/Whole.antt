@@ -19,9 +19,10 @@ use Rattle.jn_points.specs.BaseTyping.{BaseTyped}
 use Rattle.jn_points.specs.Regular.{Below as InBody, IsParent, Regular, RegularPoint, SlotBelow}
 use Rattle.jn_transfer.specs.Sized.{Below, StaysInside}
 use Rattle.jn_soundness.proofs.Fits.{fits_self}
+use Rattle.jn_soundness.proofs.Basics.{body_there}
 use Rattle.jn_regular_law.proofs.Subtypes.{regular_order, under_parent}
 use Rattle.jn_regular_law.proofs.Typed.{ThisFits, kind_typed, no_type_rows}
-use Rattle.jn_regular_law.proofs.Bodies.{body_there, ctor_reg, ctor_this, pairs, starts, there_at}
+use Rattle.jn_regular_law.proofs.Bodies.{ctor_reg, ctor_this, pairs, starts, there_at}
 
 below_is : (n : ℕ) (o : Option PointNo) → InBody n o → Below n o
 below_is n None h = tt

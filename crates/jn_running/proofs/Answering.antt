@@ -5,7 +5,8 @@ use Rattle.jn_points.specs.declared.point.Point.{Point}
 use Rattle.jn_points.specs.declared.program.Program.{Program}
 use Rattle.jn_points.specs.Lookup.{body_of, method_at, point_at}
 use Rattle.jn_heap.specs.Values.{usual_limits}
-use Rattle.jn_heap.specs.Machine.{Goes, MainForm, Next, State, Stuck, run, start_state}
+use Rattle.jn_heap.specs.State.{Goes, Next, State, Stuck}
+use Rattle.jn_heap.specs.Runs.{MainForm, run, start_state}
 use Rattle.jn_machine.specs.declared.prim.End.{End as LastEnd}
 use Rattle.jn_machine.specs.declared.prim.End.TheVariants.{Done as IsDone, Arithmetic as IsArithmetic, Index as IsIndex, NegativeSize as IsNegativeSize, ClassCast as IsClassCast, ArrayStore as IsArrayStore, Deep as IsDeep, Long as IsLong}
 use Rattle.jn_machine.specs.declared.state.MachineState.{MachineState}
@@ -17,7 +18,7 @@ use Rattle.jn_machine.specs.StateView.{state_of}
 use Rattle.jn_progress_law.specs.Progress.{IsReached}
 use Rattle.jn_running.specs.declared.ended.Ended.{Ended}
 use Rattle.jn_running.specs.declared.ended.Ended.TheVariants.{OutOfMemory}
-use Rattle.jn_accept.specs.Accepting.{IsOnlyMain}
+use Rattle.jn_accept.specs.Mains.{IsOnlyMain}
 use Rattle.jn_running.specs.Ending.{ended_at}
 use Rattle.jn_running.specs.Going.{Answers, Comes, ComesPartly, IsGoing, StopsAtSink, StopsForMemory, running, RunsMain, printed}
 use Rattle.jn_machine.proofs.Printing.{appends_none}

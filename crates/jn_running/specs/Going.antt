@@ -6,10 +6,11 @@ use Rattle.jn_points.specs.declared.point.Point.{Point}
 use Rattle.jn_points.specs.declared.program.Program.{Program}
 use Rattle.jn_points.specs.Lookup.{point_at}
 use Rattle.jn_heap.specs.Values.{End, usual_limits, Done, Arithmetic, Index, NegativeSize, ClassCast, ArrayStore, Deep, Long}
-use Rattle.jn_heap.specs.Machine.{State, Next, Goes, Ends, MainForm, run, start_state}
+use Rattle.jn_heap.specs.State.{State, Next, Goes, Ends}
+use Rattle.jn_heap.specs.Runs.{MainForm, run, start_state}
 use Rattle.jn_machine.specs.declared.state.MachineState.{MachineState}
 use Rattle.jn_machine.specs.StateView.{state_of}
-use Rattle.jn_accept.specs.Accepting.{IsOnlyMain}
+use Rattle.jn_accept.specs.Mains.{IsOnlyMain}
 use Rattle.jn_progress_law.specs.Progress.{IsReached}
 use Rattle.jn_running.specs.declared.ended.Ended.{Ended}
 use Rattle.jn_running.specs.declared.ended.Ended.TheVariants.{Done as IsDone, Fault as HasFault, Steps as HasSteps, Deep as IsDeep, Long as IsLong, WriteFault as HasWriteFault, OutOfMemory as HasNoMemory}

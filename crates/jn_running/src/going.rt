@@ -3,7 +3,7 @@ ghost use Rattle.std.specs.Prelude.{◌≡◌, ◌≢◌, ◌≤◌, [], Some, M
 ghost use Rattle.jn_outside.specs.Causes.{Rose};
 ghost use Rattle.jn_points.specs.declared.point.Point.{Point as PointOf};
 ghost use Rattle.jn_points.specs.Lookup.{point_at};
-ghost use Rattle.jn_heap.specs.Machine as spec;
+ghost use Rattle.jn_heap.specs.State as spec;
 ghost use Rattle.jn_machine.specs.StateView.{state_of};
 ghost use Rattle.jn_running.specs.Going.{Answers, Comes, IsGoing, running};
 

@@ -2,8 +2,9 @@
 ghost use Rattle.std.specs.Prelude.{◌≡◌, ◌≢◌, ◌≤◌, ℕ, Some, None, IfOk, IfSome, MatchOption};
 ghost use Rattle.jn_outside.specs.Causes.{Rose};
 ghost use Rattle.jn_heap.specs.Values.{usual_limits};
-ghost use Rattle.jn_heap.specs.Machine.{Goes, MainForm, start_state};
-ghost use Rattle.jn_accept.specs.Accepting.{IsMain, IsOnlyMain};
+ghost use Rattle.jn_heap.specs.State.{Goes};
+ghost use Rattle.jn_heap.specs.Runs.{MainForm, start_state};
+ghost use Rattle.jn_accept.specs.Mains.{IsMain, IsOnlyMain};
 ghost use Rattle.jn_running.specs.Going.{Answers, Comes, IsGoing, RunsMain};
 
 use crate::ended::Ended;

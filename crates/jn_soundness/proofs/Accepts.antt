@@ -16,8 +16,8 @@ use Rattle.jn_transfer.specs.Transfer.{transfer, side, learn, refine, IsAmong}
 use Rattle.jn_soundness.specs.World.{World, env_at}
 use Rattle.jn_soundness.specs.Checked.{PointOk, Checked}
 use Rattle.jn_soundness.specs.Accepted.{Accepted}
-use Rattle.jn_soundness.proofs.Basics.{within_committed}
-use Rattle.jn_soundness.proofs.Rows.{none_broken, point_body}
+use Rattle.jn_soundness.proofs.Basics.{within_committed, body_there}
+use Rattle.jn_soundness.proofs.Rows.{none_broken}
 use Rattle.jn_soundness.specs.Asked.{MainsOk}
 
 -- targets of edges
@@ -67,7 +67,7 @@ module _ (W : World) (A : Accepted W) where
   point_ok : (b p : ℕ) (pt : Point) (e : Env) → point_at W.program b p ≡ Some pt → env_at W b p ≡ Some e → PointOk W b p e pt.kind
   point_ok b p pt e is reached =
       let r = A.shaped.points b p pt is in
-      let x = point_body W b p pt is in
+      let x = body_there W.program b p pt is in
       record {
         edges = λ y among.
             let edge = r.edges y.0 (leads W b pt.kind p e y among) in

@@ -1,14 +1,15 @@
 -- Bits along keys, and registers that qualifiers describe.
 use Rattle.std.proofs.Common.{◌≡◌, ℕ, zero, suc, Bool, true, false, not, ◌&&◌, ◌||◌, ◌⊎◌, inl, inr, List, [], ◌∷◌, ◌++◌, length, Option, Some, None, refl, sym, ap, subst, replicate, cond}
 use Rattle.std.specs.Prelude.{slice_get, slice_set, slice_index_or, IsTrue, eqb}
-use Rattle.std.proofs.lemmas.Bool.{eqb-true, eqb-false}
+use Rattle.std.proofs.lemmas.Bool.{eqb-true, eqb-false, and_parts}
 use Rattle.jn_quals.specs.Qualifier.{Qualifier}
 use Rattle.jn_points.specs.declared.point.Operand.{Operand}
 use Rattle.jn_soundness.specs.Checked.{ArgsPass}
 use Rattle.jn_heap.specs.Values.{At, NullRef, Plain, Text, Value}
 use Rattle.jn_env.specs.Order.{BitsAbove, QualsWithin, qual_at}
 use Rattle.jn_env.specs.declared.env.Env.{Env}
-use Rattle.jn_heap.specs.Machine.{Regs, gather, gather_more, pad, value_at}
+use Rattle.jn_heap.specs.State.{Regs, gather, gather_more, value_at}
+use Rattle.jn_heap.specs.Calls.{pad}
 use Rattle.jn_soundness.specs.World.{World}
 use Rattle.jn_env.specs.Keys.{also, is_on, mask, no_bits}
 use Rattle.jn_quals.specs.Order.{no_qual, within}
@@ -19,23 +20,9 @@ use Rattle.jn_soundness.specs.Heaps.{Describes, MarkFits, Settled}
 use Rattle.jn_points.specs.declared.program.Program.{Program}
 use Rattle.jn_points.specs.declared.point.BaseType.TheVariants.{Ref}
 use Rattle.jn_points.specs.BaseTyping.{given_bases}
-use Rattle.jn_points.specs.Lookup.{class_of, static_of, method_at, params_of}
-
-pub and_true : (a b : Bool) → (a && b) ≡ true → (a ≡ true) × (b ≡ true)
-and_true true b h = (refl, h)
-and_true false b h = cc
-
-pub or_true : (a b : Bool) → (a || b) ≡ true → (a ≡ true) ⊎ (b ≡ true)
-or_true true b h = inl refl
-or_true false b h = inr h
-
-pub or_false : (a b : Bool) → (a || b) ≡ false → (a ≡ false) × (b ≡ false)
-or_false true b h = cc
-or_false false b h = (refl, h)
-
-pub not_true : (a : Bool) → not a ≡ true → a ≡ false
-not_true true h = cc
-not_true false h = refl
+use Rattle.jn_points.specs.Lookup.{class_of, static_of, method_at, params_of, body_at, point_at, points_of}
+use Rattle.jn_points.specs.declared.point.Point.{Point}
+use Rattle.jn_points.specs.declared.program.Body.{Body}
 
 pub implied : (a b : Bool) → IsTrue (not a || b) → a ≡ true → b ≡ true
 implied true b h e = h
@@ -196,12 +183,12 @@ module _ {K : Type 0} where
   pub on_mask : (P Q : K → Type 0) (keep : K → Bool) (keys : List K) (bits : List Bool) → AllOn P keys bits → ((k : K) → keep k ≡ true → P k → Q k) → AllOn Q keys (mask keep keys bits)
   on_mask P Q keep [] bits h g = tt
   on_mask P Q keep (k ∷ keys) [] h g = tt
-  on_mask P Q keep (k ∷ keys) (b ∷ bits) h g = (λ e. let x = and_true b (keep k) e in g k x.1 (h.0 x.0), on_mask P Q keep keys bits h.1 g)
+  on_mask P Q keep (k ∷ keys) (b ∷ bits) h g = (λ e. let x = and_parts b (keep k) e in g k x.1 (h.0 x.0), on_mask P Q keep keys bits h.1 g)
 
   pub on_cleared : (Q : K → Type 0) (keys : List K) (bits : List Bool) → AllOn Q keys (mask (λ k. false) keys bits)
   on_cleared Q [] bits = tt
   on_cleared Q (k ∷ keys) [] = tt
-  on_cleared Q (k ∷ keys) (b ∷ bits) = (λ e. true_false false (and_true b false e).1 refl, on_cleared Q keys bits)
+  on_cleared Q (k ∷ keys) (b ∷ bits) = (λ e. true_false false (and_parts b false e).1 refl, on_cleared Q keys bits)
 
   pub on_also : (P Q : K → Type 0) (test : K → Bool) (keys : List K) (bits : List Bool) → AllOn P keys bits → ((k : K) → P k → Q k) → ((k : K) → test k ≡ true → Q k) → AllOn Q keys (also test keys bits)
   on_also P Q test [] bits h g t = tt
@@ -213,7 +200,7 @@ module _ {K : Type 0} where
   on_is_on P test (k ∷ keys) [] h e f = cc
   on_is_on P test (k ∷ keys) (b ∷ bits) h e f =
       on_or (b && test k) (is_on test keys bits) e
-      (λ x. let y = and_true b (test k) x in f k y.1 (h.0 y.0))
+      (λ x. let y = and_parts b (test k) x in f k y.1 (h.0 y.0))
       (λ x. on_is_on P test keys bits h.1 x f)
 
   pub on_map : (P Q : K → Type 0) (keys : List K) (bits : List Bool) → ((k : K) → P k → Q k) → AllOn P keys bits → AllOn Q keys bits
@@ -285,3 +272,11 @@ given_static P m h = ap (λ t. cond t (params_of (method_at P m)) (Ref (record {
 
 pub given_this : (P : Program) (m : ℕ) → static_of (method_at P m) ≡ false → given_bases P m ≡ Ref (record { 0 = class_of (method_at P m) }) ∷ params_of (method_at P m)
 given_this P m h = ap (λ t. cond t (params_of (method_at P m)) (Ref (record { 0 = class_of (method_at P m) }) ∷ params_of (method_at P m))) h
+
+-- the body of a point is there
+pub body_there : (P : Program) (b p : ℕ) (pt : Point) → point_at P b p ≡ Some pt → (x : Body) × (body_at P b ≡ Some x)
+body_there P b p pt is = by (body_at P b) refl is
+  where
+    by : (o : Option Body) → body_at P b ≡ o → slice_get (points_of o) p ≡ Some pt → (x : Body) × (body_at P b ≡ Some x)
+    by None e is = cc
+    by (Some x) e is = (x, e)

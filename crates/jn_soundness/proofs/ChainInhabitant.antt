@@ -1,7 +1,7 @@
 -- The example with a chain of constructors, a cycle and an array is accepted and base-typed, and has a main.
 use Rattle.std.proofs.Common.{◌≡◌, ℕ, zero, suc, ◌<◌, Bool, true, false, ◌||◌, ◌⊎◌, inl, inr, List, [], ◌∷◌, length, Option, Some, None, refl, sym, ◌∙◌, subst, arith, eqb, ◌&&◌, not, cond, ◌++◌}
 use Rattle.std.specs.Prelude.{slice_index_or, IsTrue, slice_get}
-use Rattle.std.proofs.lemmas.Bool.{eqb-true, eq-eqb}
+use Rattle.std.proofs.lemmas.Bool.{eqb-true, eq-eqb, or_cases}
 use Rattle.jn_quals.specs.Qualifier.{Qualifier}
 use Rattle.jn_points.specs.declared.program.SlotInfo.{SlotInfo}
 use Rattle.jn_points.specs.declared.program.Field.{Field}
@@ -26,7 +26,7 @@ use Rattle.jn_env.specs.declared.env.Env.{Env}
 use Rattle.jn_env.specs.Order.{SlotWithin, env_in}
 use Rattle.jn_transfer.specs.Transfer.{transfer, IsAmong}
 use Rattle.jn_transfer.specs.Least.{Respects}
-use Rattle.jn_heap.specs.Machine.{MainForm}
+use Rattle.jn_heap.specs.Runs.{MainForm}
 use Rattle.jn_soundness.specs.Accepted.{FieldSettles, Accepted}
 use Rattle.jn_soundness.specs.ExampleParts.{point_of, class_under, main_method, strings}
 use Rattle.jn_soundness.specs.ChainExample.{chain_program, chain_world, first_points, second_points, third_points, main_points, first_table, second_table, third_table, main_table, ref, body_of_method}
@@ -267,10 +267,6 @@ pub chain_main : MainForm chain_program 3 3
 chain_main = record { method = main_method 3 3 3; there = refl; is_main = refl; body = refl; slot = record { 0 = 3 }; info = record { start = committed_only; inferred = false }; param = refl; start = refl; written = refl; committed = refl }
 
 -- base typing
-
-or_cases : (a b : Bool) → (a || b) ≡ true → (a ≡ true) ⊎ (b ≡ true)
-or_cases true b h = inl refl
-or_cases false b h = inr h
 
 or_none : (a : Bool) → (a || false) ≡ true → a ≡ true
 or_none true h = refl

@@ -6,7 +6,9 @@ use Rattle.jn_quals.specs.Qualifier.{Qualifier}
 use Rattle.jn_soundness.specs.Checked.{AllAssigned}
 use Rattle.jn_heap.specs.Values.{At, Elems, NullRef, Object, Plain, Text, Thing, Value}
 use Rattle.jn_env.specs.declared.env.Env.{Env}
-use Rattle.jn_heap.specs.Machine.{Frame, class_at, class_in, field_at, field_in}
+use Rattle.jn_heap.specs.State.{Frame}
+use Rattle.jn_heap.specs.Steps.{field_at, field_in}
+use Rattle.jn_heap.specs.Calls.{class_at, class_in}
 use Rattle.jn_soundness.specs.World.{World}
 use Rattle.jn_points.specs.Members.{has_field}
 use Rattle.jn_points.specs.Lookup.{class_of, ctor_of, method_in, owner, ref_field}

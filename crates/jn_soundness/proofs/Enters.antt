@@ -1,6 +1,7 @@
 -- Calls, constructor calls and new enter good frames.
 use Rattle.std.proofs.Common.{◌≡◌, ℕ, zero, suc, ◌+◌, ◌<◌, Bool, true, false, not, ◌&&◌, ◌||◌, ◌⊎◌, inl, inr, List, [], ◌∷◌, ◌++◌, length, Option, Some, None, refl, sym, ap, ◌∙◌, subst, arith, cond, ltb}
 use Rattle.std.specs.Prelude.{slice_get, IsTrue}
+use Rattle.std.proofs.lemmas.Bool.{or_parts}
 use Rattle.jn_points.specs.Shaped.{Chains, Early, test_at}
 use Rattle.jn_base.specs.declared.number.RegNo.{RegNo}
 use Rattle.jn_base.specs.declared.number.MethodNo.{MethodNo}
@@ -17,7 +18,9 @@ use Rattle.jn_points.specs.declared.program.Body.{Body}
 use Rattle.jn_soundness.specs.Checked.{ArgsPass, Checked, PointOk, ReceiverPasses}
 use Rattle.jn_heap.specs.Values.{At, NullRef, Object, Plain, Prim, Text, Thing, Value, default_of, defaults}
 use Rattle.jn_env.specs.declared.env.Env.{Env}
-use Rattle.jn_heap.specs.Machine.{Regs, State, calls, calls_on, calls_this, class_in, ctor_calls, enter, entered, field_in, gather, gather_more, news, object_of, pad, selected, value_at}
+use Rattle.jn_heap.specs.State.{Regs, State, gather, gather_more, object_of, value_at}
+use Rattle.jn_heap.specs.Steps.{field_in}
+use Rattle.jn_heap.specs.Calls.{calls, calls_on, calls_this, class_in, ctor_calls, enter, entered, news, pad, selected}
 use Rattle.jn_soundness.specs.World.{World, param_quals}
 use Rattle.jn_transfer.specs.Transfer.{all_settled, any_empty, any_free, entry_env, given_quals, new_qual, ref_quals, this_qual}
 use Rattle.jn_points.specs.Members.{has_field}
@@ -26,7 +29,7 @@ use Rattle.jn_env.specs.Keys.{fact_keys, no_bits, own_keys}
 use Rattle.jn_sigs.specs.Signature.{field_qual, receiver_of, result_of, slot_quals}
 use Rattle.jn_quals.specs.Order.{free_only, is_none, no_qual, within}
 use Rattle.jn_env.specs.Order.{qual_at}
-use Rattle.jn_soundness.proofs.Basics.{true_false, or_false, within_free, describes_within, describes_era, described_at, AllDescribed, described_pad, all_within, on_none, within_refl}
+use Rattle.jn_soundness.proofs.Basics.{true_false, within_free, describes_within, describes_era, described_at, AllDescribed, described_pad, all_within, on_none, within_refl}
 use Rattle.jn_soundness.proofs.Tops.{object_is, arrives, no_test}
 use Rattle.jn_soundness.proofs.Laters.{Later, describes_later, stands_later, all_later, waiting_later}
 use Rattle.jn_soundness.proofs.Writes.{or_free, cond_is}
@@ -83,7 +86,7 @@ args_era W m a b e regs (s ∷ slots) [] p n d = absurd p
 args_era W m a b e regs (None ∷ slots) (x ∷ args) p n d =
     (describes_era m a b (qual_at e x.reg.0) (value_at regs x.reg.0) (or_free (qual_at e x.reg.0).free (λ f. true_false false (within_free (qual_at e x.reg.0) no_qual p.0 f) refl)) d.0, args_era W m a b e regs slots args p.1 n d.1)
 args_era W m a b e regs (Some s ∷ slots) (x ∷ args) p n d =
-    let both = or_false (qual_at e x.reg.0).free (any_free (ref_quals e slots args)) n in
+    let both = or_parts (qual_at e x.reg.0).free (any_free (ref_quals e slots args)) n in
     (describes_era m a b (qual_at e x.reg.0) (value_at regs x.reg.0) both.0 d.0, args_era W m a b e regs slots args p.1 both.1 d.1)
 
 -- a reference argument has a qualifier
@@ -139,7 +142,7 @@ and_both false b h k = cc
 all_settled_of : (qs : List Qualifier) → any_empty qs ≡ false → any_free qs ≡ false → all_settled qs ≡ true
 all_settled_of [] h k = refl
 all_settled_of (q ∷ qs) h k =
-    let x = or_false (is_none q) (any_empty qs) h in let y = or_false q.free (any_free qs) k in
+    let x = or_parts (is_none q) (any_empty qs) h in let y = or_parts q.free (any_free qs) k in
     and_both (q.committed || q.null) (all_settled qs) (settled_one q.null q.committed q.free x.0 y.0) (all_settled_of qs x.1 y.1)
 
 new_committed : (qs : List Qualifier) → any_empty qs ≡ false → any_free qs ≡ false → (new_qual qs).committed ≡ true

@@ -6,7 +6,9 @@ use Rattle.jn_points.specs.Shaped.{test_at}
 use Rattle.jn_quals.specs.Qualifier.{Qualifier}
 use Rattle.jn_points.specs.declared.point.BaseType.{BaseType}
 use Rattle.jn_heap.specs.Values.{At, Elems, NullRef, Object, Plain, Text, Thing, Value, same}
-use Rattle.jn_heap.specs.Machine.{Frame, class_at, class_in, field_at, field_in, value_at}
+use Rattle.jn_heap.specs.State.{Frame, value_at}
+use Rattle.jn_heap.specs.Steps.{field_at, field_in}
+use Rattle.jn_heap.specs.Calls.{class_at, class_in}
 use Rattle.jn_env.specs.Keys.{Key, fact_keys}
 use Rattle.jn_soundness.specs.World.{World}
 use Rattle.jn_transfer.specs.Transfer.{elem_qual}

@@ -3,7 +3,8 @@ use Rattle.std.proofs.Common.{◌≡◌, ℕ, Bool, ◌⊎◌, inl, inr, List, [
 use Rattle.jn_quals.specs.Qualifier.{Qualifier}
 use Rattle.jn_heap.specs.Values.{At, NullRef, Plain, Text, Thing, Value}
 use Rattle.jn_env.specs.declared.env.Env.{Env}
-use Rattle.jn_heap.specs.Machine.{Frame, Regs, class_at}
+use Rattle.jn_heap.specs.State.{Frame, Regs}
+use Rattle.jn_heap.specs.Calls.{class_at}
 use Rattle.jn_soundness.specs.World.{World}
 use Rattle.jn_points.specs.Lookup.{class_of, method_in}
 use Rattle.jn_env.specs.Keys.{own_keys}

@@ -12,7 +12,9 @@ use Rattle.jn_points.specs.declared.point.PointKind.TheVariants.{New, CtorCall, 
 use Rattle.jn_soundness.specs.Checked.{AllOwn, Checked, PointOk, ResultPasses}
 use Rattle.jn_heap.specs.Values.{At, Thing, Value, same}
 use Rattle.jn_env.specs.declared.env.Env.{Env}
-use Rattle.jn_heap.specs.Machine.{Frame, State, gives, gives_to, holds_at, moves_to, resumes, returns, step, takes, takes_at, value_at, value_of}
+use Rattle.jn_heap.specs.State.{Frame, State, holds_at, moves_to, value_at, value_of}
+use Rattle.jn_heap.specs.Calls.{gives, gives_to, resumes, returns, takes, takes_at}
+use Rattle.jn_heap.specs.Runs.{step}
 use Rattle.jn_soundness.specs.World.{World}
 use Rattle.jn_points.specs.Lookup.{class_of, ctor_of, method_at, method_in, owner, point_at, slots_of}
 use Rattle.jn_transfer.specs.Transfer.{ctor_called, drop_all, new_qual, put, ref_quals}

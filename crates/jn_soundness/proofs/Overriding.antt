@@ -1,9 +1,9 @@
 -- The method that an object's class has for a method above it overrides that method, so base typing and rules speak of it.
 use Rattle.std.proofs.Common.{◌≡◌, ℕ, zero, suc, ◌+◌, Bool, true, false, not, ◌&&◌, ◌||◌, ◌⊎◌, inl, inr, List, [], ◌∷◌, ◌++◌, length, filter, flat_map, Option, Some, None, refl, sym, ap, ◌∙◌, subst, cond, arith}
 use Rattle.std.specs.Prelude.{slice_get, IsTrue, eqb}
-use Rattle.std.proofs.lemmas.Bool.{eqb-true, eq-eqb}
+use Rattle.std.proofs.lemmas.Bool.{eqb-true, eq-eqb, not-true, or_parts}
 use Rattle.std.proofs.lemmas.Option.{slice_get_within}
-use Rattle.jn_heap.specs.Machine.{words_base}
+use Rattle.jn_heap.specs.Runs.{words_base}
 use Rattle.jn_points.specs.declared.point.PointKind.TheVariants.{New, CtorCall, Call}
 use Rattle.jn_points.specs.declared.point.PointKind.{PointKind}
 use Rattle.jn_points.specs.declared.point.Point.{Point}
@@ -24,12 +24,13 @@ use Rattle.jn_points.specs.Shaped.{SlotsMatch, IsObjectClass, IsVirtual, Shaped,
 use Rattle.jn_points.specs.BaseTyping.{PairTyped, BaseTyped, StartsWith, given_bases}
 use Rattle.jn_sigs.specs.Signature.{slot_quals, result_of, receiver_of}
 use Rattle.jn_env.specs.Order.{QualsWithin}
+use Rattle.jn_env.proofs.Order.{quals_refl}
 use Rattle.jn_transfer.specs.Rules.{row_if, some_outside, override_rows, pair_rows, pairs_rows, bodies_rows, rows}
 use Rattle.jn_soundness.specs.World.{World}
 use Rattle.jn_soundness.specs.Types.{Selects, ProgramTyped, MainsTyped, SlotsRef}
 use Rattle.jn_soundness.proofs.Basics.{eqb_cases, within_refl}
 use Rattle.jn_soundness.proofs.Fits.{or_right, or_left, both_true, fits_self}
-use Rattle.jn_soundness.proofs.Rows.{no_left, no_right, row_none, or_none, below_member, flat_none, quals_length}
+use Rattle.jn_soundness.proofs.Rows.{no_left, no_right, row_none, below_member, flat_none, quals_length}
 use Rattle.jn_soundness.specs.Heaps.{IsMember}
 
 -- searches
@@ -112,10 +113,6 @@ all_parts true false c h = cc
 all_parts false true c h = cc
 all_parts false false c h = cc
 
-not_true : (a : Bool) → not a ≡ true → a ≡ false
-not_true false h = refl
-not_true true h = cc
-
 false_not : (a : Bool) → a ≡ false → not a ≡ true
 false_not false h = refl
 false_not true h = cc
@@ -175,7 +172,7 @@ module _ (P : Program) (B : BaseTyped P) where
         name = name;
         arity = arity;
         there = subst (λ n. slice_get P.methods n ≡ Some x) place f.there;
-        method = not_true x.ctor q.0;
+        method = not-true x.ctor q.0;
         above = or_right (eqb x.owner.0 0) (reaches P (length P.classes) c x.owner.0) (walk_reaches (length P.classes) c x.owner.0 (subst (λ z. IsMember z (walk P c)) (sym (eqb-true x.owner.0 d.0 p.1)) d.1));
         has = subst (λ n. method_of P c n (length x.params) ≡ Some k) (sym name) (subst (λ n. method_of P c v.info.name.0 n ≡ Some k) (sym arity) has);
       }
@@ -220,16 +217,12 @@ module _ (W : World) where
   none_outside [] (b ∷ bs) n h = cc
   none_outside (a ∷ as') [] n h = cc
   none_outside (a ∷ as') (b ∷ bs) n h =
-      let x = or_none (not (within a b)) (some_outside as' bs) h in
+      let x = or_parts (not (within a b)) (some_outside as' bs) h in
       (not_not (within a b) x.0, none_outside as' bs (omega (n, arith)) x.1)
     where
       not_not : (t : Bool) → not t ≡ false → t ≡ true
       not_not true h = refl
       not_not false h = cc
-
-quals_within_refl : (qs : List Qualifier) → QualsWithin qs qs
-quals_within_refl [] = tt
-quals_within_refl (q ∷ qs) = (within_refl q.null q.committed q.free, quals_within_refl qs)
 
 module _ (W : World) (R : Shaped W.program) (B : BaseTyped W.program) where
   param_slots_length : (m : ℕ) (x : Method) → method_at W.program m ≡ Some x → length (slots_of (method_at W.program m)) ≡ length (params_of (method_at W.program m))
@@ -241,7 +234,7 @@ module _ (W : World) (R : Shaped W.program) (B : BaseTyped W.program) where
       let r = result_of W.sig (method_at W.program m) in
       record {
         over = record {
-          params = quals_within_refl (slot_quals W.sig (slots_of (method_at W.program m)));
+          params = quals_refl (slot_quals W.sig (slots_of (method_at W.program m)));
           receiver = within_refl q.null q.committed q.free;
           result = within_refl r.null r.committed r.free;
           method = c;

@@ -14,7 +14,10 @@ use Rattle.jn_soundness.specs.Checked.{AllWithin, NewArrayPasses, PointOk, Write
 use Rattle.jn_heap.specs.Values.{At, Elems, Fails, Gives, Got, Lacks, NullRef, Object, Plain, Prim, Text, Thing, Value, default_of, index}
 use Rattle.jn_env.specs.declared.env.Env.{Env}
 use Rattle.jn_transfer.specs.Transfer.{IsAmong, elem_qual, elem_read, learn, literal_qual, put, read_qual, refine, side, written}
-use Rattle.jn_heap.specs.Machine.{Regs, State, act, allocates, array_of, branch, count_of, field_at, gather, gather_more, goes_by, got_of, got_sets, holds_at, is_within, literal_value, may_hold, moves, moves_to, new_array, object_of, prim_of, print, put_thing, read_field, sets, step, store_in, stored, test_inst, test_null, value_at, value_of, write_elem, write_field, write_in, write_static, int_of, truth_of, text_in, got_plain, got_prim}
+use Rattle.jn_transfer.proofs.Monotone.{among_right}
+use Rattle.jn_heap.specs.State.{Regs, State, gather, gather_more, got_of, got_sets, holds_at, moves, moves_to, object_of, prim_of, sets, value_at, value_of, int_of, truth_of, text_in, got_plain, got_prim}
+use Rattle.jn_heap.specs.Steps.{allocates, array_of, branch, count_of, field_at, goes_by, is_within, literal_value, may_hold, new_array, print, put_thing, read_field, store_in, stored, test_inst, test_null, write_elem, write_field, write_in, write_static}
+use Rattle.jn_heap.specs.Runs.{act, step}
 use Rattle.jn_env.specs.Order.{SlotWithin, qual_at}
 use Rattle.jn_soundness.specs.World.{World, env_at}
 use Rattle.jn_points.specs.Members.{has_field}
@@ -22,7 +25,7 @@ use Rattle.jn_quals.specs.Order.{committed_only, is_none, no_qual, null_part, se
 use Rattle.jn_points.specs.Lookup.{ctor_of, method_in, ref_field, reg_base, owner, elem_base}
 use Rattle.jn_sigs.specs.Signature.{field_qual}
 use Rattle.jn_soundness.proofs.Basics.{true_false, within_null, describes_within, described_at, described_set, settled_of, value_zero, value_same, value_other, replicated}
-use Rattle.jn_soundness.proofs.Tops.{GotOk, object_is, alive, null_alive, without_null_describes, among_right, side_among, side_alone, Step, plain_step, arrives, ctor_moves, goes_top, facts_set, set_top, move_top, refine_top, learn_top, some_zero}
+use Rattle.jn_soundness.proofs.Tops.{GotOk, object_is, alive, null_alive, without_null_describes, side_among, side_alone, Step, plain_step, arrives, ctor_moves, goes_top, facts_set, set_top, move_top, refine_top, learn_top, some_zero}
 use Rattle.jn_soundness.proofs.Values.{literal_fits, got_fits, plain_fits, unary_fits, binary_fits, concat_fits, same_fits, len_fits, str_fits, cast_fits, read_fits, elem_fits}
 use Rattle.jn_soundness.proofs.Laters.{Later, ctor_later, all_later, waiting_later}
 use Rattle.jn_soundness.proofs.Writes.{fits_field, later_after, heap_ok_after, facts_after, facts_same, assigned_after, assigned_kept, null_is_ref, plain_field}

@@ -1,9 +1,9 @@
 -- Where there is no row, no rule is broken.
 use Rattle.std.proofs.Common.{◌≡◌, ℕ, zero, suc, ◌+◌, ◌<◌, Bool, true, false, not, ◌&&◌, ◌||◌, ◌⊎◌, inl, inr, List, [], ◌∷◌, ◌++◌, length, filter, Option, Some, None, refl, sym, ap, ◌∙◌, subst, cond, arith, flat_map}
 use Rattle.std.specs.Prelude.{slice_get, slice_index_or, IsTrue, eqb}
-use Rattle.std.proofs.lemmas.Bool.{eq-eqb}
+use Rattle.std.proofs.lemmas.Bool.{eq-eqb, or_parts}
 use Rattle.std.proofs.lemmas.Option.{slice_get_within}
-use Rattle.jn_soundness.proofs.Basics.{eqb_cases}
+use Rattle.jn_soundness.proofs.Basics.{eqb_cases, body_there}
 use Rattle.jn_base.specs.declared.place.Span.{Span}
 use Rattle.jn_base.specs.declared.code.Code.{Code}
 use Rattle.jn_base.specs.declared.number.SlotNo.{SlotNo}
@@ -18,7 +18,6 @@ use Rattle.jn_points.specs.declared.point.PointKind.{PointKind}
 use Rattle.jn_points.specs.declared.point.PointKind.TheVariants.{FieldRead, FieldWrite, ElemRead, ElemWrite, ArrayLen, NewArray, ArrayOf, New, CtorCall, Call, StrOp, Return}
 use Rattle.jn_points.specs.declared.program.Field.{Field}
 use Rattle.jn_points.specs.declared.program.Method.{Method}
-use Rattle.jn_points.specs.declared.program.Body.{Body}
 use Rattle.jn_points.specs.Lookup.{points_of, ref_of, ctor_of, class_of, slots_of, dereferences, body_at, point_at, owner, ref_field, reg_base, method_at, method_in}
 use Rattle.jn_points.specs.Members.{some_of, below}
 use Rattle.jn_points.specs.Shaped.{Passes, ReceiverMatches}
@@ -52,10 +51,6 @@ implies false x h = refl
 implies true true h = refl
 implies true false h = cc
 
-pub or_none : (a b : Bool) → (a || b) ≡ false → (a ≡ false) × (b ≡ false)
-or_none false b h = (refl, h)
-or_none true b h = cc
-
 pub all_three : (a b c : Bool) → a ≡ true → b ≡ true → c ≡ true → IsTrue (a && b && c)
 all_three true true c x y z = z
 all_three true false c x y z = cc
@@ -71,7 +66,7 @@ not_false true b h = cc
 
 within_of : (q slot : Qualifier) → lacks_null q slot ≡ false → lacks_init q slot ≡ false → IsTrue (within q slot)
 within_of q slot n i =
-    let x = or_none (q.committed && not slot.committed) (q.free && not slot.free) i in
+    let x = or_parts (q.committed && not slot.committed) (q.free && not slot.free) i in
     all_three (not q.null || slot.null) (not q.committed || slot.committed) (not q.free || slot.free) (implies q.null slot.null n) (implies q.committed slot.committed x.0) (implies q.free slot.free x.1)
 
 pass_none : (code init : Code) (e : Env) (a : Operand) (slot : Qualifier) → pass_rows code init e a slot ≡ [] → IsTrue (within (qual_at e a.reg.0) slot)
@@ -116,13 +111,13 @@ new_array_none span base h = tt
 
 pub some_none : {A : Type 0} (test : A → Bool) (xs : List A) (k : ℕ) (x : A) → some_of test xs ≡ false → slice_get xs k ≡ Some x → test x ≡ false
 some_none test [] k x h is = cc
-some_none test (y ∷ xs) zero x h is = let same : y ≡ x = cc in subst (λ z. test z ≡ false) same (or_none (test y) (some_of test xs) h).0
-some_none test (y ∷ xs) (suc k) x h is = some_none test xs k x (or_none (test y) (some_of test xs) h).1 is
+some_none test (y ∷ xs) zero x h is = let same : y ≡ x = cc in subst (λ z. test z ≡ false) same (or_parts (test y) (some_of test xs) h).0
+some_none test (y ∷ xs) (suc k) x h is = some_none test xs k x (or_parts (test y) (some_of test xs) h).1 is
 
 pub member_none : (test : ℕ → Bool) (xs : List ℕ) (x : ℕ) → some_of test xs ≡ false → IsMember x xs → test x ≡ false
 member_none test [] x h is = absurd is
-member_none test (y ∷ xs) x h (inl e) = subst (λ z. test z ≡ false) (sym e) (or_none (test y) (some_of test xs) h).0
-member_none test (y ∷ xs) x h (inr is) = member_none test xs x (or_none (test y) (some_of test xs) h).1 is
+member_none test (y ∷ xs) x h (inl e) = subst (λ z. test z ≡ false) (sym e) (or_parts (test y) (some_of test xs) h).0
+member_none test (y ∷ xs) x h (inr is) = member_none test xs x (or_parts (test y) (some_of test xs) h).1 is
 
 pub member_left : (x : ℕ) (xs ys : List ℕ) → IsMember x xs → IsMember x (xs ++ ys)
 member_left x [] ys h = absurd h
@@ -253,28 +248,20 @@ module _ (W : World) where
   unset_point b t (x ∷ pts) p zero pt h is =
       let same : x ≡ pt = cc in
       let place : p ≡ p + 0 = omega arith in
-      subst (λ n. unset_at W.program W.sig b pt.kind (env_in t n) ≡ false) place (subst (λ y. unset_at W.program W.sig b y.kind (env_in t p) ≡ false) same (or_none (unset_at W.program W.sig b x.kind (env_in t p)) (unset_from W.program W.sig b pts (p + 1) t) h).0)
+      subst (λ n. unset_at W.program W.sig b pt.kind (env_in t n) ≡ false) place (subst (λ y. unset_at W.program W.sig b y.kind (env_in t p) ≡ false) same (or_parts (unset_at W.program W.sig b x.kind (env_in t p)) (unset_from W.program W.sig b pts (p + 1) t) h).0)
   unset_point b t (x ∷ pts) p (suc k) pt h is =
       let place : p + 1 + k ≡ p + suc k = omega arith in
-      subst (λ n. unset_at W.program W.sig b pt.kind (env_in t n) ≡ false) place (unset_point b t pts (p + 1) k pt (or_none (unset_at W.program W.sig b x.kind (env_in t p)) (unset_from W.program W.sig b pts (p + 1) t) h).1 is)
+      subst (λ n. unset_at W.program W.sig b pt.kind (env_in t n) ≡ false) place (unset_point b t pts (p + 1) k pt (or_parts (unset_at W.program W.sig b x.kind (env_in t p)) (unset_from W.program W.sig b pts (p + 1) t) h).1 is)
 
   body_none : (bs : List ℕ) (tables : List (List (Option Env))) (b : ℕ) → bodies_rows W.program W.sig bs tables ≡ [] → IsMember b bs → body_rows W.program W.sig b (slice_index_or tables b []) ≡ []
   body_none [] tables b h is = absurd is
   body_none (c ∷ bs) tables b h (inl e) = subst (λ c. body_rows W.program W.sig c (slice_index_or tables c []) ≡ []) (sym e) (no_left (body_rows W.program W.sig c (slice_index_or tables c [])) (bodies_rows W.program W.sig bs tables) h)
   body_none (c ∷ bs) tables b h (inr is) = body_none bs tables b (no_right (body_rows W.program W.sig c (slice_index_or tables c [])) (bodies_rows W.program W.sig bs tables) h) is
 
-  -- the body of a point is there
-  pub point_body : (b p : ℕ) (pt : Point) → point_at W.program b p ≡ Some pt → (x : Body) × (body_at W.program b ≡ Some x)
-  point_body b p pt is = by (body_at W.program b) refl
-    where
-      by : (o : Option Body) → body_at W.program b ≡ o → (x : Body) × (body_at W.program b ≡ Some x)
-      by (Some x) ib = (x, ib)
-      by None ib = absurd (let bad : slice_get (points_of None) p ≡ Some pt = subst (λ o. slice_get (points_of o) p ≡ Some pt) ib is in let k : None ≡ Some pt = bad in cc)
-
   module _ (none : rows W.program W.sig W.tables ≡ []) (b p : ℕ) (pt : Point) (e : Env) (is : point_at W.program b p ≡ Some pt) (reached : env_at W b p ≡ Some e) where
     here : body_rows W.program W.sig b (table_at W b) ≡ []
     here =
-        let x = point_body b p pt is in
+        let x = body_there W.program b p pt is in
         body_none (below (length W.program.bodies)) W.tables b (no_left (bodies_rows W.program W.sig (below (length W.program.bodies)) W.tables) (pairs_rows W.program W.sig) none) (below_member (length W.program.bodies) b (slice_get_within W.program.bodies b x.0 x.1))
 
     at_point : rows_at W.program W.sig b pt (Some e) ≡ []

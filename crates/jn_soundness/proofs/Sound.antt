@@ -10,7 +10,8 @@ use Rattle.jn_points.specs.declared.point.PointKind.{PointKind}
 use Rattle.jn_points.specs.declared.point.PointKind.TheVariants.{FieldRead, FieldWrite, ElemRead, ElemWrite, ArrayLen, StrOp, New, CtorCall, Call, Return}
 use Rattle.jn_heap.specs.Values.{At, Elems, Limits, NullRef, Prim, Text, Value}
 use Rattle.jn_soundness.specs.Checked.{Checked, PointOk, Unbroken}
-use Rattle.jn_heap.specs.Machine.{NullFault, State, act, derefs_null, fault_at, start_state, step_at, texts, value_at}
+use Rattle.jn_heap.specs.State.{State, value_at}
+use Rattle.jn_heap.specs.Runs.{NullFault, act, derefs_null, fault_at, start_state, step_at, texts}
 use Rattle.jn_soundness.specs.World.{World}
 use Rattle.jn_points.specs.Lookup.{dereferences, point_at}
 use Rattle.jn_env.specs.Order.{qual_at}

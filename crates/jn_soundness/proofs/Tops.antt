@@ -1,7 +1,7 @@
 -- The running frame after a point that changes its registers alone.
-use Rattle.std.proofs.Common.{◌≡◌, ℕ, ◌+◌, Bool, true, false, not, ◌||◌, ◌⊎◌, inl, inr, List, [], ◌∷◌, ◌++◌, Option, Some, None, refl, sym, ap, ◌∙◌, subst}
+use Rattle.std.proofs.Common.{◌≡◌, ℕ, ◌+◌, Bool, true, false, not, ◌||◌, ◌⊎◌, inl, inr, List, ◌++◌, Option, Some, None, refl, sym, ap, ◌∙◌, subst}
 use Rattle.std.specs.Prelude.{slice_set, eqb}
-use Rattle.std.proofs.lemmas.Bool.{eqb-true, eq-eqb}
+use Rattle.std.proofs.lemmas.Bool.{eqb-true, eq-eqb, and_parts, not-true}
 use Rattle.jn_points.specs.Shaped.{Early, FromRead, NotCtorCall, Test, test_at, test_by}
 use Rattle.jn_quals.specs.Qualifier.{Qualifier}
 use Rattle.jn_points.specs.declared.point.Origin.{Origin}
@@ -11,13 +11,14 @@ use Rattle.jn_heap.specs.Values.{At, Fails, Gives, Got, Lacks, NullRef, Plain, T
 use Rattle.jn_env.specs.Order.{BitsAbove, EnvWithin, SlotWithin}
 use Rattle.jn_soundness.specs.Checked.{Edge}
 use Rattle.jn_env.specs.declared.env.Env.{Env}
-use Rattle.jn_heap.specs.Machine.{Frame, Regs, field_at, holds_at, moves_to, object_of, value_at}
+use Rattle.jn_heap.specs.State.{Frame, Regs, holds_at, moves_to, object_of, value_at}
+use Rattle.jn_heap.specs.Steps.{field_at}
 use Rattle.jn_transfer.specs.Transfer.{IsAmong, learn, put, refine, side}
 use Rattle.jn_env.specs.Keys.{Key, fact_keys, has_reg, is_key, mask, own_keys}
 use Rattle.jn_soundness.specs.World.{World, env_at}
 use Rattle.jn_points.specs.Lookup.{ctor_of, method_in}
 use Rattle.jn_quals.specs.Order.{is_none, null_part, without_null}
-use Rattle.jn_soundness.proofs.Basics.{and_true, not_true, true_false, described_within, described_set, described_refined, on_above, on_mask, on_also, value_other, value_zero}
+use Rattle.jn_soundness.proofs.Basics.{true_false, described_within, described_set, described_refined, on_above, on_mask, on_also, value_other, value_zero}
 use Rattle.jn_soundness.specs.Frames.{AllOn, AssignedOk, CtorOk, Described, FactOk, FieldSet, GoodTop, Stands, TestOk}
 use Rattle.jn_soundness.specs.Marks.{Committed, FrameMark, Free, Marks, ObjMark, Unborn}
 use Rattle.jn_soundness.specs.Heaps.{Describes, HoldsRef, MarkFits}
@@ -86,10 +87,6 @@ without_null_describes m a q (At o) n d = by_mark (m o) d
     by_mark Committed h = h
     by_mark (Free e ended) h = h
 
-pub among_right : (x : ℕ × Env) (xs ys : List (ℕ × Env)) → IsAmong x ys → IsAmong x (xs ++ ys)
-among_right x [] ys h = h
-among_right x (y ∷ xs) ys h = inr (among_right x xs ys h)
-
 pub side_among : (b : Bool) (to : ℕ) (e : Env) (rest : List (ℕ × Env)) → b ≡ false → IsAmong (to, e) (side b to e ++ rest)
 side_among true to e rest h = cc
 side_among false to e rest h = inl refl
@@ -144,7 +141,7 @@ module _ (W : World) where
 
     fact_other : (regs : Regs) (dst : ℕ) (v : Option Value) (k : Key) → not (has_reg dst k) ≡ true → FactOk W heap regs k → FactOk W heap (slice_set regs dst v) k
     fact_other regs dst v k n h o is z =
-        h o (sym (value_other regs dst k.reg v (λ e. true_false (eqb k.reg dst) (eq-eqb k.reg dst e) (not_true (eqb k.reg dst) n))) ∙ is) z
+        h o (sym (value_other regs dst k.reg v (λ e. true_false (eqb k.reg dst) (eq-eqb k.reg dst e) (not-true (eqb k.reg dst) n))) ∙ is) z
 
     pub facts_set : (b : ℕ) (regs : Regs) (dst : ℕ) (v : Option Value) (bits : List Bool) → AllOn (FactOk W heap regs) (fact_keys W.program b) bits → AllOn (FactOk W heap (slice_set regs dst v)) (fact_keys W.program b) (mask (λ k. not (has_reg dst k)) (fact_keys W.program b) bits)
     facts_set b regs dst v bits h = on_mask (FactOk W heap regs) (FactOk W heap (slice_set regs dst v)) (λ k. not (has_reg dst k)) (fact_keys W.program b) bits h (λ k n x. fact_other regs dst v k n x)
@@ -167,7 +164,7 @@ module _ (W : World) where
 
       learned : (og : Origin) (r : ℕ) (v : Value) → TestOk W heap f.regs (test_by (Some og) r) → value_at f.regs r ≡ Some v → HoldsRef v → (k : Key) → is_key og.reg.0 og.field.0 k ≡ true → FactOk W heap f.regs k
       learned og r v h is n k e o at' z =
-          let both = and_true (eqb k.reg og.reg.0) (eqb k.field og.field.0) e in
+          let both = and_parts (eqb k.reg og.reg.0) (eqb k.field og.field.0) e in
           let same_reg : k.reg ≡ og.reg.0 = eqb-true k.reg og.reg.0 both.0 in
           let same_field : k.field ≡ og.field.0 = eqb-true k.field og.field.0 both.1 in
           let place : Some (At h.object) ≡ Some (At o) = sym h.there ∙ subst (λ x. value_at f.regs x ≡ Some (At o)) same_reg at' in

@@ -22,7 +22,10 @@ use Rattle.jn_points.specs.declared.point.PointKind.TheVariants.{Const, Move, Un
 use Rattle.jn_points.specs.declared.program.Field.{Field}
 use Rattle.jn_soundness.specs.Types.{GivesTo, HasType, HeapTyped, ProgramTyped, RegsTyped, ReturnFits, ReturnFitsAt, Selects, SlotsRef, StateTyped, ThingFits, ThingTyped, WaitTyped, base_of_thing}
 use Rattle.jn_heap.specs.Values.{At, Elems, Fails, Gives, Got, Lacks, NullRef, Object, Plain, Prim, Text, Thing, Value, binary, default_of, defaults, index, same, unary, units, text_op}
-use Rattle.jn_heap.specs.Machine.{Ends, Frame, Goes, Next, Regs, State, Stuck, act, allocates, array_len, array_of, binary_of, branch, calls, calls_on, calls_this, cast_as, cast_of, class_in, concat_of, count_of, ctor_calls, dispatched, elem_in, enter, field_at, field_in, gather, gather_more, gives, gives_to, goes_by, got_of, got_plain, got_sets, holds_at, is_within, item_or_index, length_in, literal_value, may_hold, moves, new_array, news, object_of, pad, prim_of, print, put_thing, read_elem, read_field, resumes, returns, run, same_of, selected, sets, step_at, store_in, stored, str_op, takes, takes_at, test_inst, test_null, text_or_long, then_step, unary_of, value_at, value_of, write_elem, write_field, write_in, write_static, int_of, truth_of, text_in, got_prim, thing_within}
+use Rattle.jn_heap.specs.State.{Ends, Frame, Goes, Next, Regs, State, Stuck, gather, gather_more, got_of, got_plain, got_sets, holds_at, moves, object_of, prim_of, sets, value_at, value_of, int_of, truth_of, text_in, got_prim}
+use Rattle.jn_heap.specs.Steps.{allocates, array_len, array_of, binary_of, branch, cast_as, cast_of, concat_of, count_of, elem_in, field_at, field_in, goes_by, is_within, item_or_index, length_in, literal_value, may_hold, new_array, print, put_thing, read_elem, read_field, same_of, store_in, stored, str_op, test_inst, test_null, text_or_long, unary_of, write_elem, write_field, write_in, write_static, thing_within}
+use Rattle.jn_heap.specs.Calls.{calls, calls_on, calls_this, class_in, ctor_calls, dispatched, enter, gives, gives_to, news, pad, resumes, returns, selected, takes, takes_at}
+use Rattle.jn_heap.specs.Runs.{act, run, step_at, then_step}
 use Rattle.jn_soundness.specs.World.{World}
 use Rattle.jn_points.specs.Lookup.{body_at, body_of, class_of, field_base, field_base_of, flat_of, is_flat, is_ref_base, method_at, method_in, params_of, point_at, reg_base, regs_of, result_base_of, slots_of, is_array, elem_base}
 use Rattle.jn_points.specs.Members.{fits, has_field}
@@ -33,6 +36,16 @@ use Rattle.jn_soundness.proofs.Tops.{GotOk, object_is}
 use Rattle.jn_soundness.proofs.Writes.{set_same, set_there, set_other, cond_is}
 use Rattle.jn_soundness.proofs.Grows.{append_other, append_last, past_end}
 use Rattle.jn_soundness.specs.Asked.{ArgsRef, Typed, HoldsPlain, AllPlain}
+
+pub array_ref : (b : BaseType) → is_array b ≡ true → is_ref_base b ≡ true
+array_ref (Array e nullable) a = refl
+array_ref b a = cc
+
+-- a thing on the heap is of no type but reference types
+pub no_thing : (W : World) (T : Ordered W.program) (heap : List Thing) (t : BaseType) (x : Option Thing) → is_ref_base t ≡ false → ThingTyped W heap x → ThingFits W x t → ⊥
+no_thing W T heap t None n h f = f
+no_thing W T heap t (Some (Object c fs)) n h f = true_false (is_ref_base t) (sym (fits_refs W.program T (Ref (record { 0 = c })) t f)) n
+no_thing W T heap t (Some (Elems b xs)) n h f = true_false (is_ref_base t) (sym (fits_refs W.program T b t f) ∙ array_ref b h.0) n
 
 module _ (W : World) (T : Ordered W.program) (P : ProgramTyped W) where
   fits_thing : (x : Option Thing) (t u : BaseType) → fits W.program t u ≡ true → ThingFits W x t → ThingFits W x u
@@ -77,21 +90,12 @@ module _ (W : World) (T : Ordered W.program) (P : ProgramTyped W) where
   default_has heap (Array e nullable) = refl
 
   -- a register whose type is no reference type holds an int or boolean
-  pub no_thing : (heap : List Thing) (t : BaseType) (x : Option Thing) → is_ref_base t ≡ false → ThingTyped W heap x → ThingFits W x t → ⊥
-  no_thing heap t None n h f = f
-  no_thing heap t (Some (Object c fs)) n h f = true_false (is_ref_base t) (sym (fits_refs W.program T (Ref (record { 0 = c })) t f)) n
-  no_thing heap t (Some (Elems b xs)) n h f = true_false (is_ref_base t) (sym (fits_refs W.program T b t f) ∙ array_ref b h.0) n
-    where
-      array_ref : (b : BaseType) → is_array b ≡ true → is_ref_base b ≡ true
-      array_ref (Array e nullable) a = refl
-      array_ref b a = cc
-
   holds_plain : (heap : List Thing) → HeapTyped W heap → (t : BaseType) → is_ref_base t ≡ false → (v : Option Value) → ((w : Value) → v ≡ Some w → HasType W heap t w) → HoldsPlain v
   holds_plain heap typed t n None h = tt
   holds_plain heap typed t n (Some NullRef) h = true_false (is_ref_base t) (h NullRef refl) n
   holds_plain heap typed t n (Some (Text x)) h = true_false (is_ref_base t) (sym (fits_refs W.program T (Ref (record { 0 = 1 })) t (h (Text x) refl))) n
   holds_plain heap typed t n (Some (Plain p)) h = tt
-  holds_plain heap typed t n (Some (At o)) h = no_thing heap t (slice_get heap o) n (typed o) (h (At o) refl)
+  holds_plain heap typed t n (Some (At o)) h = no_thing W T heap t (slice_get heap o) n (typed o) (h (At o) refl)
 
   no_ref_elems : (b : BaseType) → ref_elems b ≡ false → is_ref_base (elem_base b) ≡ false
   no_ref_elems (Array IntElem nullable) h = refl
@@ -113,9 +117,6 @@ module _ (W : World) (T : Ordered W.program) (P : ProgramTyped W) where
   field_typed heap None f v h is = cc
   field_typed heap (Some (Object c fs)) f v h is = h.1 f v is
   field_typed heap (Some (Elems b xs)) f v h is = cc
-
-  not_plain : (heap : List Thing) (t : BaseType) (v : Value) (p : Prim) → HasType W heap t v → is_ref_base t ≡ true → v ≡ Plain p → ⊥
-  not_plain heap t v p h r e = true_false (is_ref_base t) r (subst (λ v. HasType W heap t v) e h)
 
   args_ref : (heap : List Thing) (b : ℕ) (regs : Regs) (slots : List (Option SlotNo)) (ts : List BaseType) (args : List Operand) → RegsTyped W heap b regs → SlotsRef W slots ts → ArgsTyped W.program b ts args → ArgsRef regs slots args
   args_ref heap b regs [] ts args r s a = tt

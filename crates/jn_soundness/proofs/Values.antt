@@ -1,7 +1,7 @@
 -- What a point that gives a value gives.
 use Rattle.std.proofs.Common.{◌≡◌, ℕ, Bool, true, false, List, ◌++◌, Option, Some, None, refl, sym, ap, ◌∙◌, subst, cond}
 use Rattle.std.specs.Prelude.{slice_get, eqb, ltb, ℤ}
-use Rattle.std.proofs.lemmas.Bool.{eqb-true}
+use Rattle.std.proofs.lemmas.Bool.{eqb-true, and_parts}
 use Rattle.jn_base.specs.declared.number.SlotNo.{SlotNo}
 use Rattle.jn_quals.specs.Qualifier.{Qualifier}
 use Rattle.jn_points.specs.declared.point.Operator.{Operator}
@@ -12,7 +12,9 @@ use Rattle.jn_points.specs.declared.point.Literal.TheVariants.{Int, Truth as Tru
 use Rattle.jn_points.specs.declared.program.Field.{Field}
 use Rattle.jn_heap.specs.Values.{At, Elems, Fails, Gives, Got, Lacks, NullRef, Object, Plain, Prim, Text, Thing, Value, binary, index, unary, units, text_op}
 use Rattle.jn_env.specs.declared.env.Env.{Env}
-use Rattle.jn_heap.specs.Machine.{Regs, array_len, binary_of, cast_as, cast_of, class_at, class_in, concat_of, elem_in, field_at, field_in, got_of, got_plain, is_within, item_at, item_or_index, length_in, literal_value, object_of, read_elem, read_field, same_of, str_op, text_or_long, unary_of, value_at}
+use Rattle.jn_heap.specs.State.{Regs, got_of, got_plain, object_of, value_at}
+use Rattle.jn_heap.specs.Steps.{array_len, binary_of, cast_as, cast_of, concat_of, elem_in, field_at, field_in, is_within, item_at, item_or_index, length_in, literal_value, read_elem, read_field, same_of, str_op, text_or_long, unary_of}
+use Rattle.jn_heap.specs.Calls.{class_at, class_in}
 use Rattle.jn_soundness.specs.World.{World}
 use Rattle.jn_quals.specs.Order.{all_quals, committed_only, is_none, no_qual, null_or_committed, without_free, without_null}
 use Rattle.jn_transfer.specs.Transfer.{elem_qual, elem_read, less_null, literal_qual, read_part, read_qual}
@@ -20,7 +22,7 @@ use Rattle.jn_env.specs.Keys.{fact_keys, is_key, is_on}
 use Rattle.jn_sigs.specs.Signature.{field_qual, field_qual_of, slot_qual}
 use Rattle.jn_points.specs.Lookup.{flat_field, owner, ref_field, ref_of, reg_base, has_slot}
 use Rattle.jn_env.specs.Order.{qual_at}
-use Rattle.jn_soundness.proofs.Basics.{and_true, true_false, described_at, settled_describes, settled_within, on_is_on}
+use Rattle.jn_soundness.proofs.Basics.{true_false, described_at, settled_describes, settled_within, on_is_on}
 use Rattle.jn_soundness.proofs.Tops.{GotOk, object_is, alive, without_null_describes}
 use Rattle.jn_soundness.specs.Frames.{AllOn, Described, FactOk}
 use Rattle.jn_soundness.specs.Marks.{Committed, FrameMark, Free, Marks, ObjMark, Unborn}
@@ -169,7 +171,7 @@ module _ (W : World) (m : Marks) (a : ℕ) where
   fact_on : (b : ℕ) (e : Env) (heap : List Thing) (regs : Regs) (r f o : ℕ) (v : Value) → AllOn (FactOk W heap regs) (fact_keys W.program b) e.facts → value_at regs r ≡ Some (At o) → field_at W.program heap o f ≡ Some v → is_on (is_key r f) (fact_keys W.program b) e.facts ≡ true → v ≡ NullRef → ⊥
   fact_on b e heap regs r f o v fa is at' on null =
       on_is_on (FactOk W heap regs) (is_key r f) (fact_keys W.program b) e.facts fa on (λ k t h.
-      let both = and_true (eqb k.reg r) (eqb k.field f) t in
+      let both = and_parts (eqb k.reg r) (eqb k.field f) t in
       let same_reg : k.reg ≡ r = eqb-true k.reg r both.0 in
       let same_field : k.field ≡ f = eqb-true k.field f both.1 in
       h o (subst (λ x. value_at regs x ≡ Some (At o)) (sym same_reg) is) (subst (λ x. field_at W.program heap o x ≡ Some NullRef) (sym same_field) (at' ∙ ap (λ x. Some x) null)))

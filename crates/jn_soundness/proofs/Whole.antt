@@ -12,7 +12,8 @@ use Rattle.jn_points.specs.declared.point.Point.{Point}
 use Rattle.jn_heap.specs.Values.{At, Elems, Limits, Text, Thing, Value}
 use Rattle.jn_soundness.specs.Checked.{Checked}
 use Rattle.jn_soundness.specs.Types.{HasType, MainTyped, ProgramTyped, StateTyped, ThingTyped, MainsTyped}
-use Rattle.jn_heap.specs.Machine.{Goes, Next, State, start_state, texts, MainForm, NeverNull, Ends, Stuck, run, step, then_step}
+use Rattle.jn_heap.specs.State.{Goes, Next, State, Ends, Stuck}
+use Rattle.jn_heap.specs.Runs.{start_state, texts, MainForm, NeverNull, run, step, then_step}
 use Rattle.jn_soundness.specs.World.{World}
 use Rattle.jn_points.specs.Lookup.{body_at, point_at, reg_base, regs_of, body_of, method_at, method_in, ctor_of, static_of}
 use Rattle.jn_soundness.proofs.Typing.{typed_kind, padded, NextOk, step_typed}

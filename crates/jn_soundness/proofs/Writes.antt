@@ -1,13 +1,15 @@
 -- A write of a field or an element.
 use Rattle.std.proofs.Common.{◌≡◌, ℕ, zero, suc, Bool, true, false, not, ◌&&◌, ◌||◌, ◌⊎◌, inl, inr, List, [], ◌∷◌, Option, Some, None, refl, sym, ap, ◌∙◌, subst, cond}
 use Rattle.std.specs.Prelude.{slice_get, slice_set, eqb, ltb}
-use Rattle.std.proofs.lemmas.Bool.{eqb-true, eq-eqb}
+use Rattle.std.proofs.lemmas.Bool.{eqb-true, eq-eqb, and_parts, not-true}
 use Rattle.jn_quals.specs.Qualifier.{Qualifier}
 use Rattle.jn_base.specs.declared.number.SlotNo.{SlotNo}
 use Rattle.jn_points.specs.declared.program.Field.{Field}
 use Rattle.jn_heap.specs.Values.{At, NullRef, Object, Plain, Text, Thing, Value, same}
 use Rattle.jn_env.specs.declared.env.Env.{Env}
-use Rattle.jn_heap.specs.Machine.{Frame, Regs, class_at, class_in, field_at, field_in, value_at}
+use Rattle.jn_heap.specs.State.{Frame, Regs, value_at}
+use Rattle.jn_heap.specs.Steps.{field_at, field_in}
+use Rattle.jn_heap.specs.Calls.{class_at, class_in}
 use Rattle.jn_env.specs.Keys.{Key, also, fact_keys, has_key_field, is_key, mask, own_keys}
 use Rattle.jn_soundness.specs.World.{World}
 use Rattle.jn_soundness.specs.Checked.{WritePasses}
@@ -17,7 +19,7 @@ use Rattle.jn_points.specs.Members.{has_field}
 use Rattle.jn_env.specs.Order.{qual_at}
 use Rattle.jn_quals.specs.Order.{settle}
 use Rattle.jn_transfer.specs.Transfer.{write_assigned, write_facts}
-use Rattle.jn_soundness.proofs.Basics.{and_true, not_true, true_false, within_null, within_committed, settled_of, settled_within, on_mask, on_also, on_map, eqb_cases}
+use Rattle.jn_soundness.proofs.Basics.{true_false, within_null, within_committed, settled_of, settled_within, on_mask, on_also, on_map, eqb_cases}
 use Rattle.jn_soundness.proofs.Laters.{Later}
 use Rattle.jn_soundness.specs.Frames.{AllOn, AssignedOk, CtorOk, FactOk, FieldSet}
 use Rattle.jn_soundness.specs.Marks.{Committed, FrameMark, Free, Marks, ObjMark, Unborn}
@@ -174,14 +176,14 @@ module _ (W : World) (heap : List Thing) (o c : ℕ) (fs : List Value) (f : ℕ)
     fact_dropped k n h p is' z = by (written_field p k.field NullRef z)
       where
         by : Written p k.field NullRef → ⊥
-        by (inl x) = true_false (eqb k.field f) (eq-eqb k.field f (sym x.1)) (not_true (eqb k.field f) n)
+        by (inl x) = true_false (eqb k.field f) (eq-eqb k.field f (sym x.1)) (not-true (eqb k.field f) n)
         by (inr x) = h p is' x.1
 
     fact_added : (qual_at e s).null ≡ false → (k : Key) → is_key r f k ≡ true → FactOk W heap_after regs k
     fact_added q k t p is' z = by (written_field p k.field NullRef z)
       where
         both : (eqb k.reg r ≡ true) × (eqb k.field f ≡ true)
-        both = and_true (eqb k.reg r) (eqb k.field f) t
+        both = and_parts (eqb k.reg r) (eqb k.field f) t
 
         by : Written p k.field NullRef → ⊥
         by (inl x) = true_false (qual_at e s).null (null x.2) q
@@ -196,7 +198,7 @@ module _ (W : World) (heap : List Thing) (o c : ℕ) (fs : List Value) (f : ℕ)
     facts_by true t h =
         on_also (FactOk W heap_after regs) (FactOk W heap_after regs) (is_key r f) (fact_keys W.program b) (mask (λ k. not (has_key_field f k)) (fact_keys W.program b) e.facts)
         (on_mask (FactOk W heap regs) (FactOk W heap_after regs) (λ k. not (has_key_field f k)) (fact_keys W.program b) e.facts h fact_dropped)
-        (λ k x. x) (λ k x. fact_added (not_true (qual_at e s).null (and_true (ltb r (locals W.program b)) (not (qual_at e s).null) t).1) k x)
+        (λ k x. x) (λ k x. fact_added (not-true (qual_at e s).null (and_parts (ltb r (locals W.program b)) (not (qual_at e s).null) t).1) k x)
 
     pub facts_after : AllOn (FactOk W heap regs) (fact_keys W.program b) e.facts → AllOn (FactOk W heap_after regs) (fact_keys W.program b) (write_facts W.program b e r f s)
     facts_after h = facts_by (ltb r (locals W.program b) && not (qual_at e s).null) refl h

@@ -15,7 +15,10 @@ use Rattle.jn_transfer.specs.Transfer.{elem_qual, given_quals}
 use Rattle.jn_sigs.specs.Signature.{receiver_of, result_of, slot_quals, slot_qual}
 use Rattle.jn_heap.specs.Values.{At, Elems, NullRef, Plain, Prim, Text, Value}
 use Rattle.jn_soundness.specs.Checked.{ref_elems}
-use Rattle.jn_heap.specs.Machine.{Regs, State, class_at, field_at, selected, value_at, MainForm}
+use Rattle.jn_heap.specs.State.{Regs, State, value_at}
+use Rattle.jn_heap.specs.Steps.{field_at}
+use Rattle.jn_heap.specs.Calls.{class_at, selected}
+use Rattle.jn_heap.specs.Runs.{MainForm}
 use Rattle.jn_env.specs.Order.{QualsWithin}
 
 -- each reference argument holds a reference

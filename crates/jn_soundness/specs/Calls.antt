@@ -11,7 +11,7 @@ use Rattle.jn_quals.specs.Qualifier.{Qualifier}
 use Rattle.jn_sigs.specs.Signature.{result_of}
 use Rattle.jn_points.specs.declared.program.Method.{Method}
 use Rattle.jn_heap.specs.Values.{Thing}
-use Rattle.jn_heap.specs.Machine.{Frame}
+use Rattle.jn_heap.specs.State.{Frame}
 use Rattle.jn_transfer.specs.Transfer.{new_qual, ref_quals, any_free}
 use Rattle.jn_soundness.specs.Marks.{ObjMark, FrameMark, Marks}
 use Rattle.jn_soundness.specs.Frames.{GoodFrame}

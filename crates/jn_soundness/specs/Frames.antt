@@ -6,7 +6,9 @@ use Rattle.jn_soundness.specs.World.{World, env_at}
 use Rattle.jn_points.specs.Lookup.{ctor_of, method_in, class_of, owner}
 use Rattle.jn_quals.specs.Qualifier.{Qualifier}
 use Rattle.jn_heap.specs.Values.{At, NullRef, Value, Thing}
-use Rattle.jn_heap.specs.Machine.{Regs, class_at, field_at, value_at, Frame}
+use Rattle.jn_heap.specs.State.{Regs, value_at, Frame}
+use Rattle.jn_heap.specs.Steps.{field_at}
+use Rattle.jn_heap.specs.Calls.{class_at}
 use Rattle.jn_soundness.specs.Marks.{ObjMark, FrameMark, Marks, Free}
 use Rattle.jn_points.specs.Shaped.{test_at, Early, Test}
 use Rattle.jn_points.specs.Members.{has_field}

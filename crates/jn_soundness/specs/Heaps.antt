@@ -8,7 +8,7 @@ use Rattle.jn_transfer.specs.Transfer.{elem_qual}
 use Rattle.jn_heap.specs.Values.{At, Elems, NullRef, Plain, Text, Value, Thing, Object}
 use Rattle.jn_soundness.specs.Marks.{ObjMark, FrameMark, Marks, Free, Unborn, Committed}
 use Rattle.jn_points.specs.Members.{has_field}
-use Rattle.jn_heap.specs.Machine.{field_in}
+use Rattle.jn_heap.specs.Steps.{field_in}
 
 -- a qualifier allows a mark in a frame of era a
 abbrev pub MarkFits : ℕ → Qualifier → ObjMark → Type 0

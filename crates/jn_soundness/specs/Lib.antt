@@ -11,3 +11,4 @@ pub mod Accepted
 pub mod ExampleParts
 pub mod ChainExample
 pub mod Solved
+pub mod Accepting

@@ -1,7 +1,7 @@
 -- States that the tables and a marking describe.
 use Rattle.std.specs.Prelude.{ℕ, ◌≡◌, List, ◌∷◌, ◌<◌}
 use Rattle.jn_soundness.specs.World.{World}
-use Rattle.jn_heap.specs.Machine.{State, Ends, Goes, Next, Stuck}
+use Rattle.jn_heap.specs.State.{State, Ends, Goes, Next, Stuck}
 use Rattle.jn_soundness.specs.Marks.{Free, Marking}
 use Rattle.jn_soundness.specs.Heaps.{HeapOk, IsEra}
 use Rattle.jn_soundness.specs.Frames.{GoodTop}

@@ -9,7 +9,7 @@ use Rattle.jn_soundness.specs.World.{World, env_at}
 use Rattle.jn_points.specs.declared.point.PointKind.TheVariants.{ArrayOf, New, Call, CtorCall, Return, NewArray}
 use Rattle.jn_base.specs.declared.number.SlotNo.{SlotNo}
 use Rattle.jn_points.specs.declared.point.Operand.{Operand}
-use Rattle.jn_heap.specs.Machine.{State}
+use Rattle.jn_heap.specs.State.{State}
 use Rattle.jn_transfer.specs.Transfer.{ref_quals, any_free}
 
 -- not made yet; part of what is whole; or free in an era, with the classes whose constructor has ended on it

@@ -14,7 +14,9 @@ use Rattle.jn_points.specs.declared.point.Point.{Point}
 use Rattle.jn_points.specs.declared.point.PointKind.{PointKind}
 use Rattle.jn_points.specs.declared.point.PointKind.TheVariants.{New, CtorCall, Call}
 use Rattle.jn_heap.specs.Values.{At, Elems, NullRef, Object, Plain, Text, Thing, Value}
-use Rattle.jn_heap.specs.Machine.{Frame, Regs, State, field_in, value_at, MainForm}
+use Rattle.jn_heap.specs.State.{Frame, Regs, State, value_at}
+use Rattle.jn_heap.specs.Steps.{field_in}
+use Rattle.jn_heap.specs.Runs.{MainForm}
 use Rattle.jn_soundness.specs.World.{World}
 use Rattle.jn_points.specs.Lookup.{body_of, class_of, ctor_of, field_base, is_ref_base, method_at, method_in, params_of, point_at, reg_base, result_base_of, slots_of, static_of, ref_field, is_array, elem_base}
 use Rattle.jn_points.specs.Members.{dispatch, fits}

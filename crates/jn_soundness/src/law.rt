@@ -2,7 +2,8 @@
 ghost use Rattle.std.specs.Prelude.{List, ℕ, ◌≡◌};
 ghost use Rattle.jn_points.specs.declared.program.Program.{Program as ProgramOf};
 ghost use Rattle.jn_heap.specs.Values.{Limits};
-ghost use Rattle.jn_heap.specs.Machine.{Goes, MainForm, NeverNull, NullFault, State, start_state, step};
+ghost use Rattle.jn_heap.specs.State.{Goes, State};
+ghost use Rattle.jn_heap.specs.Runs.{MainForm, NeverNull, NullFault, start_state, step};
 ghost use Rattle.jn_soundness.specs.Solved.{Solved};
 ghost use Rattle.jn_soundness.specs.World.{World};
 ghost use Rattle.jn_soundness.specs.Marks.{Marking, mark_after, start_marking};

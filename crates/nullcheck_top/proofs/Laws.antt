@@ -11,7 +11,7 @@ use Rattle.jn_env.specs.declared.env.Env.{Env}
 use Rattle.jn_program_law.specs.FileProgram.{program_of_files}
 use Rattle.jn_transfer.specs.Least.{IsLeastTable}
 use Rattle.jn_transfer.specs.Rules.{Breaks}
-use Rattle.jn_accept.specs.Accepting.{IsAccepted}
+use Rattle.jn_soundness.specs.Accepting.{IsAccepted}
 use Rattle.jn_inference_law.specs.Solution.{IsLeastSignature}
 use Rattle.jn_diag.specs.Order.{IsOrderOf}
 use Rattle.jn_front.specs.declared.source.SourceFile.{SourceFile}

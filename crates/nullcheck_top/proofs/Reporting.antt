@@ -12,7 +12,7 @@ use Rattle.jn_trees.specs.declared.token.Token.{Token}
 use Rattle.jn_places.specs.Placed.{PlacedFile}
 use Rattle.jn_points.specs.declared.program.Program.{Program}
 use Rattle.jn_points.specs.BaseRows.{IsBaseRow}
-use Rattle.jn_heap.specs.Machine.{NeverNull}
+use Rattle.jn_heap.specs.Runs.{NeverNull}
 use Rattle.jn_progress_law.specs.Progress.{NeverStuck}
 use Rattle.jn_known.specs.Known.{known_names}
 use Rattle.jn_diag.specs.Order.{IsOrderOf, row_cmp}

@@ -3,7 +3,8 @@ use Rattle.std.proofs.Common.{◌≡◌, ℕ, true, List, [], Option, Some, inl,
 use Rattle.jn_points.specs.declared.program.Program.{Program}
 use Rattle.jn_points.specs.Lookup.{body_of}
 use Rattle.jn_heap.specs.Values.{usual_limits}
-use Rattle.jn_heap.specs.Machine.{Next, Goes, Ends, Stuck, MainForm, run, start_state}
+use Rattle.jn_heap.specs.State.{Next, Goes, Ends, Stuck}
+use Rattle.jn_heap.specs.Runs.{MainForm, run, start_state}
 use Rattle.jn_front.specs.declared.source.SourceFile.{SourceFile}
 use Rattle.jn_command.specs.declared.report.Report.TheVariants.{Checked}
 use Rattle.jn_command.specs.declared.status.Status.{Status}

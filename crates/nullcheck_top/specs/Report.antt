@@ -15,7 +15,7 @@ use Rattle.jn_command.specs.declared.status.Status.{Status}
 use Rattle.jn_command.specs.declared.report.Report.TheVariants.{Refused, Checked}
 use Rattle.jn_inference_law.specs.Solution.{IsLeastSignature}
 use Rattle.jn_transfer.specs.Rules.{Breaks}
-use Rattle.jn_heap.specs.Machine.{NeverNull}
+use Rattle.jn_heap.specs.Runs.{NeverNull}
 use Rattle.jn_progress_law.specs.Progress.{NeverStuck}
 use Rattle.jn_run.specs.Main.{RunsTo as ProgramRunsTo, Prints as ProgramPrints}
 use Rattle.jn_diag.specs.Order.{IsOrderOf}

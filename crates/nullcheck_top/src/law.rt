@@ -1,19 +1,18 @@
 //! Laws of reports.
 ghost use Rattle.std.specs.Prelude.{◌≡◌, List, [], ℕ};
 ghost use Rattle.jn_points.specs.declared.program.Program.{Program};
-ghost use Rattle.jn_heap.specs.Machine.{NeverNull};
+ghost use Rattle.jn_heap.specs.Runs.{NeverNull};
 ghost use Rattle.jn_progress_law.specs.Progress.{NeverStuck};
 ghost use Rattle.jn_front.specs.declared.source.SourceFile.{SourceFile};
 ghost use Rattle.jn_command.specs.declared.report.Report.{Report};
 ghost use Rattle.jn_command.specs.declared.status.Status.{Status};
 ghost use Rattle.nullcheck_top.specs.Report.{RulesGive, TypedProgramOf, IsReport, RunsTo};
 
-use jn_accept::law::accepted_programs_never_fault;
 use jn_diag::rows_have_one_order;
 use jn_flow::law::rounds_give_the_least_table;
 use jn_front::law::files_have_one_front;
 use jn_inference_law::law::least_signatures_are_unique;
-use jn_progress_law::law::accepted_programs_never_stick;
+use jn_progress_law::law::{accepted_programs_never_fault, accepted_programs_never_stick};
 
 /// No run of files whose program breaks no rule dereferences null, and none gets stuck.
 pub fn accepted_files_are_safe()

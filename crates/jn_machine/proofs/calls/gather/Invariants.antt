@@ -1,5 +1,5 @@
 use Rattle.std.proofs.Common.{◌≡◌, drop}
-use Rattle.jn_heap.specs.Machine as spec
+use Rattle.jn_heap.specs.State as spec
 use Rattle.jn_machine.specs.Parts.{prepended}
 use Rattle.jn_machine.proofs.calls.gather.Given as goal
 

@@ -1,5 +1,5 @@
 use Rattle.std.proofs.Common.{◌≡◌, ◌++◌, ◌-◌}
-use Rattle.jn_heap.specs.Machine.{pad}
+use Rattle.jn_heap.specs.Calls.{pad}
 use Rattle.jn_machine.proofs.calls.padded.Given as goal
 
 abbrev pub invariant-loop : goal.invariant-loop

@@ -1,7 +1,8 @@
 use Rattle.std.proofs.Common.{◌≡◌, sym, ◌∙◌, ap, length, arith}
 use Rattle.std.proofs.lemmas.List.{with_items_is}
 use Rattle.std.specs.Prelude.{slice_get}
-use Rattle.jn_heap.specs.Machine as spec
+use Rattle.jn_heap.specs.State.{Ends}
+use Rattle.jn_heap.specs.Steps.{put_thing}
 use Rattle.jn_machine.specs.Ends.{end_of}
 use Rattle.jn_machine.specs.StateView.{state_of}
 use Rattle.jn_machine.specs.Parts.{store_as}
@@ -18,5 +19,5 @@ returns-in-Fails c =
     let items = c.args.state.now.heap.items in
     let did = c.in-Fails.ensures (state_of c.args.state.now out) (sym same) in
     let is = store_is c.args.program.now items (slice_get items c.args.place) c.args.at c.args.value in
-    ap (spec.put_thing (state_of c.args.state.now out) c.args.place) (is ∙ ap (store_as (slice_get items c.args.place) c.args.at c.args.value) (sym (rw seen at may))) ∙ (rw same at did)
-    ∙ ap (λ h. spec.Ends (end_of c.in-Fails.end) (record (state_of c.args.state.now out) { heap = h })) (sym (with_items_is c.args.state.now.heap c.set_at.new.heap len))
+    ap (put_thing (state_of c.args.state.now out) c.args.place) (is ∙ ap (store_as (slice_get items c.args.place) c.args.at c.args.value) (sym (rw seen at may))) ∙ (rw same at did)
+    ∙ ap (λ h. Ends (end_of c.in-Fails.end) (record (state_of c.args.state.now out) { heap = h })) (sym (with_items_is c.args.state.now.heap c.set_at.new.heap len))

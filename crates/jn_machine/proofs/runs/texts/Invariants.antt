@@ -1,5 +1,5 @@
 use Rattle.std.proofs.Common.{◌≡◌, ◌++◌, drop}
-use Rattle.jn_heap.specs.Machine.{texts}
+use Rattle.jn_heap.specs.Runs.{texts}
 use Rattle.jn_machine.proofs.runs.texts.Given as goal
 
 abbrev pub invariant-loop-word : goal.invariant-loop-word

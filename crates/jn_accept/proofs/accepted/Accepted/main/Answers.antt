@@ -1,5 +1,5 @@
 use Rattle.std.proofs.Common.{ℕ, subst, MatchOption}
-use Rattle.jn_accept.specs.Accepting.{IsOnlyMain}
+use Rattle.jn_accept.specs.Mains.{IsOnlyMain}
 use Rattle.jn_accept.proofs.accepted.Accepted.main.Goals as goal
 
 pub returns : goal.returns

@@ -16,10 +16,10 @@ use Rattle.jn_env.specs.Order.{QualsWithin}
 use Rattle.jn_transfer.specs.Contributions.{FieldSlots}
 use Rattle.jn_transfer.specs.Least.{IsLeastTable, Respects}
 use Rattle.jn_transfer.specs.Sized.{StaysInside}
-use Rattle.jn_heap.specs.Machine.{NeverNull}
+use Rattle.jn_heap.specs.Runs.{NeverNull}
+use Rattle.jn_soundness.specs.Accepting.{IsAccepted}
 use Rattle.jn_soundness.specs.World.{World}
 use Rattle.jn_soundness.specs.Solved.{Solved}
-use Rattle.jn_accept.specs.Accepting.{IsAccepted}
 
 start_there : (P : Program) (i : ℕ) (info : SlotInfo) (q : Qualifier) → info.inferred ≡ false → IsTrue (within (start_of P i info) q) → IsTrue (within info.start q)
 start_there P i info q h w = subst (λ (t : _). IsTrue (within (cond t (cond (uncalled_from P i 0 P.methods) committed_only no_qual) info.start) q)) h w

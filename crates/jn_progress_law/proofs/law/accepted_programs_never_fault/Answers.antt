@@ -1,5 +1,5 @@
-use Rattle.jn_accept.proofs.Solved.{accepted_never_null}
-use Rattle.jn_accept.proofs.law.accepted_programs_never_fault.Goals as goal
+use Rattle.jn_progress_law.proofs.Solved.{accepted_never_null}
+use Rattle.jn_progress_law.proofs.law.accepted_programs_never_fault.Goals as goal
 
 pub returns : goal.returns
 returns c P s A =
