@@ -1,2 +1,3 @@
 pub mod Line
 pub mod Main
+pub mod Telling
