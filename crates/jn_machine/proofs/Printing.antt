@@ -18,7 +18,7 @@ pub appends_none : (w : Option (List ℕ)) → Appends w w []
 appends_none None = refl
 appends_none (Some bytes) = ap Some (sym (append-nil bytes))
 
-appends_both : (a b c : Option (List ℕ)) (x y : List ℕ) → Appends a b x → Appends b c y → Appends a c (x ++ y)
+pub appends_both : (a b c : Option (List ℕ)) (x y : List ℕ) → Appends a b x → Appends b c y → Appends a c (x ++ y)
 appends_both None None c x y h k = k
 appends_both None (Some v) c x y h k = cc
 appends_both (Some w) None c x y h k = cc
@@ -26,7 +26,7 @@ appends_both (Some w) (Some v) c x y h k =
     let e : v ≡ w ++ x = cc in
     k ∙ ap (λ z. Some (z ++ y)) e ∙ ap Some (append_assoc w x y)
 
-prefix_both : (a b c : Option (List ℕ)) (x y : List ℕ) → Appends a b x → AppendsPrefix b c y → AppendsPrefix a c (x ++ y)
+pub prefix_both : (a b c : Option (List ℕ)) (x y : List ℕ) → Appends a b x → AppendsPrefix b c y → AppendsPrefix a c (x ++ y)
 prefix_both a b c x y h k = record {
   count = length x + k.count;
   within = let w : k.count ≤ length y = k.within in rw length-append (omega arith);

@@ -117,6 +117,7 @@ pub fn run_main<K: Sink>(
     out: &mut K,
 ) -> Option<Ended>
     ensures none { result ≡ None → (m : ℕ) → IsOnlyMain accepted.now.0 m → ⊥ }
+    ensures nothing { result ≡ None → K.written out.new ≡ K.written out.old }
     ensures did { IfSome result (λ e. RunsMain accepted.now.0 names.now words.now steps (K.written out.old) (K.written out.new) e) }
     ensures failed { result ≡ Some Ended.WriteFault → Rose (K.faults out.old) (K.faults out.new) }
     ensures later { K.faults out.old ≤ K.faults out.new }

@@ -1,5 +1,6 @@
 -- Runs of accepted files: what is written of them answers the command, and there is one.
-use Rattle.std.proofs.Common.{◌≡◌, ℕ, true, List, [], Option, Some, inl, inr, sym, ap, ◌∙◌, subst}
+use Rattle.std.proofs.Common.{◌≡◌, ◌++◌, ℕ, true, List, [], Option, Some, inl, inr, sym, ap, ◌∙◌, subst}
+use Rattle.jn_points.specs.declared.point.Point.{Point}
 use Rattle.jn_points.specs.declared.program.Program.{Program}
 use Rattle.jn_points.specs.Lookup.{body_of}
 use Rattle.jn_heap.specs.Values.{usual_limits}
@@ -11,6 +12,7 @@ use Rattle.jn_command.specs.declared.status.Status.{Status}
 use Rattle.jn_command.specs.declared.status.Status.TheVariants.{Ok, Rejected, Refused, RunFault, Stopped, ReadFault, WriteFault, OutOfMemory, Usage}
 use Rattle.jn_command.specs.Asked.{Asked}
 use Rattle.jn_command.specs.Answer.{IsOutputBy, IsOutputOfFiles}
+use Rattle.jn_run.specs.Line.{end_line}
 use Rattle.jn_run.specs.Main.{Answers as RunAnswers, IsToldBy, Runs, RunsTo as ProgramRunsTo}
 use Rattle.nullcheck_top.specs.Answers.{AnswersFiles}
 use Rattle.nullcheck_top.specs.Report.{IsReport, IsSafe, RunsTo, Prints, TypedProgramOf}
@@ -40,12 +42,17 @@ module _ (a : Asked) (files : List SourceFile) (names : List (List ℕ)) (P : Pr
 same_some : (b c : ℕ) → Some b ≡ Some c → b ≡ c
 same_some b c e = cc
 
+same_point : (p q : Point) → Some p ≡ Some q → p ≡ q
+same_point p q e = cc
+
 one_body : (P : Program) (m b c : ℕ) → MainForm P m b → MainForm P m c → b ≡ c
 one_body P m b c x y = same_some b c (sym x.body ∙ ap body_of (sym x.there ∙ y.there) ∙ y.body)
 
 told_once : (files : List SourceFile) (P : Program) (next : Next) (one other : Status) (text more : List ℕ) → IsToldBy files P next one text → IsToldBy files P next other more → (one ≡ other) × (text ≡ more)
 told_once files P (Goes st) one other text more x y = (x.0 ∙ sym y.0, x.1 ∙ sym y.1)
-told_once files P (Ends e st) one other text more x y = (x.0 ∙ sym y.0, x.1 ∙ sym y.1)
+told_once files P (Ends e st) one other text more x y =
+    let point = same_point x.0 y.0 (sym x.1 ∙ y.1) in
+    (x.2 ∙ sym y.2, x.3 ∙ ap (λ (p : Point). st.out ++ end_line files e p.span) point ∙ sym y.3)
 told_once files P Stuck one other text more x y = absurd x
 
 module _ (files : List SourceFile) (P : Program) (names words : List (List ℕ)) (steps : ℕ) (one other : Status) (text more : List ℕ) where
