@@ -81,7 +81,10 @@ fn answer_found<P: Reporter, K: Sink>(
             command.steps,
             out,
         ),
-        None => write(report_output(alloc, reads, &found.report, front, reporter), out),
+        None => write(
+            report_output(alloc, reads, &found.report, front, reporter),
+            out,
+        ),
     }
 }
 

@@ -175,15 +175,7 @@ fn find<R: Threads + Sync, G: Gate + Sync>(
     if !no_rows(&parsed.rows) {
         return refused(alloc, parsed.rows);
     }
-    find_trees(
-        rt,
-        alloc,
-        workers,
-        reads,
-        lexed.names,
-        &parsed.trees,
-        gate,
-    )
+    find_trees(rt, alloc, workers, reads, lexed.names, &parsed.trees, gate)
 }
 
 /// What is found of files that were read, at most 64, by so many workers; it is safe to accept them where no row is.
