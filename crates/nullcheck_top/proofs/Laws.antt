@@ -41,7 +41,7 @@ accepted files names P of_files rules = record {
 }
 
 -- files have at most one list of names, one of tokens and one of trees
-abbrev OneReading : Type 0
+abbrev pub OneReading : Type 0
 OneReading = (files : List SourceFile) (names others : List (List ℕ)) (tokens us : List (List Token)) (trees vs : List PlacedFile) → AreParsed files names tokens trees → AreParsed files others us vs → (names ≡ others) × (tokens ≡ us) × (trees ≡ vs)
 
 -- files have one program, and its names have one list of texts

@@ -1,6 +1,7 @@
 -- Reports of files that were read.
 use Rattle.std.proofs.Common.{◌≡◌, ◌↔◌, ℕ, zero, suc, ◌+◌, ◌<◌, ◌≤◌, Bool, true, false, List, [], ◌∷◌, ◌++◌, length, map, get_or, Option, Some, None, Result, Ok, Err, inl, inr, ⊎_elim, refl, sym, ap, ◌∙◌, subst, arith}
-use Rattle.std.specs.Prelude.{◌⊎◌, ◌&&◌, cond, nat_lt, nat_le, Contains, IfOk, slice_get}
+use Rattle.std.specs.Prelude.{◌⊎◌, ◌&&◌, cond, nat_lt, nat_le, Contains, IfOk, IfErr, slice_get}
+use Rattle.std.specs.Result.{result_ok}
 use Rattle.std.specs.List.Sorted.{IsStrictlySortedBy}
 use Rattle.std.proofs.Math.Nat.{min-eq_right}
 use Rattle.std.proofs.lemmas.Bool.{lt-ltb}
@@ -15,6 +16,10 @@ use Rattle.jn_points.specs.BaseRows.{IsBaseRow}
 use Rattle.jn_heap.specs.Runs.{NeverNull}
 use Rattle.jn_progress_law.specs.Progress.{NeverStuck}
 use Rattle.jn_known.specs.Known.{known_names}
+use Rattle.jn_quals.specs.Qualifier.{Qualifier}
+use Rattle.jn_accept.specs.Accepting.{AreRowsOf}
+use Rattle.jn_inference_law.specs.Solution.{IsLeastSignature}
+use Rattle.jn_system.specs.Rows.{AreBroken}
 use Rattle.jn_diag.specs.Order.{IsOrderOf, row_cmp}
 use Rattle.jn_front.specs.declared.source.SourceFile.{SourceFile}
 use Rattle.jn_front.specs.declared.source.SourceRead.{SourceRead}
@@ -25,6 +30,7 @@ use Rattle.jn_command.specs.declared.report.Report.{Report}
 use Rattle.jn_command.specs.declared.report.Report.TheVariants.{Refused, Checked}
 use Rattle.jn_command.specs.Reports.{rows_of}
 use Rattle.jn_command.specs.Stands.{StandsIn, StandIn}
+use Rattle.nullcheck_top.specs.declared.found.CheckedFiles.{CheckedFiles}
 use Rattle.nullcheck_top.specs.declared.found.Found.{Found}
 use Rattle.nullcheck_top.specs.Found.{IsFinding}
 use Rattle.nullcheck_top.specs.Report.{AreDeclared, IsReport, IsSafe, PhaseRows, ProgramOf, RulesGive, TypedProgramOf, lowering_rows, table_rows}
@@ -37,10 +43,27 @@ never_checked : (rows others : List Row) → Refused rows ≡ Checked others →
 never_checked rows others e = cc
 
 abbrev refused_found : List Row → Found
-refused_found rows = record { report = Refused rows; runnable = None }
+refused_found rows = record { report = Refused rows; accepted = None }
 
-refused_finding : (files : List SourceFile) (broken sorted : List Row) (found : Found) → PhaseRows files broken → IsOrderOf broken sorted → found ≡ refused_found sorted → IsFinding files found
-refused_finding files broken sorted found phase order is = subst (IsFinding files) (sym is) (record { report = refused_report files broken sorted (Refused sorted) phase order refl; runnable = never_checked sorted [] })
+refused_finding : (files : List SourceFile) (names : List (List ℕ)) (broken sorted : List Row) (found : Found) → PhaseRows files broken → IsOrderOf broken sorted → found ≡ refused_found sorted → IsFinding files names found
+refused_finding files names broken sorted found phase order is = subst (IsFinding files names) (sym is) (record { report = refused_report files broken sorted (Refused sorted) phase order refl; accepted = never_checked sorted [] })
+
+-- files that are checked by the rules
+module _ (files : List SourceFile) (names : List (List ℕ)) (P : Program) (s : List Qualifier) (rows : List Row) (of_files : TypedProgramOf files names P) (least : IsLeastSignature P s) (broken : AreBroken P s rows) where
+  checked_report : IsReport files (Checked rows)
+  checked_report = record { names = names; P = P; of_files = of_files; rules = record { signature = s; least = least; broken = broken.all; breaks = broken.broken; order = broken.ordered } }
+
+  -- accepted exactly where there is no row
+  pub checked_finding : (made : Result (Program × List Qualifier) (Program × List Qualifier)) → IfOk made (λ a. (rows ≡ []) × (a ≡ (P, s))) → IfErr made (λ r. (rows ≡ [] → ⊥) × (r.0 ≡ P) × (r.1 ≡ s)) → IsFinding files names (record { report = Checked rows; accepted = result_ok made })
+  checked_finding (Ok a) taken refused = record { report = checked_report; accepted = (ap Checked taken.0, subst (λ (x : Program × List Qualifier). TypedProgramOf files names x.0) (sym taken.1) of_files) }
+  checked_finding (Err e) taken refused = record { report = checked_report; accepted = λ none. refused.0 (no_rows none) }
+    where
+      no_rows : Checked rows ≡ Checked [] → rows ≡ []
+      no_rows e = cc
+
+-- the rows of a program's rules are those that the rules give, in order
+pub rows_of_rules : (P : Program) (s : List Qualifier) (rows : List Row) → AreBroken P s rows → AreRowsOf P s rows
+rows_of_rules P s rows broken = record { broken = broken.all; breaks = broken.broken; each = λ row h. (broken.ordered.same row).0 h; all = λ row h. (broken.ordered.same row).1 h }
 
 -- ---- where no limit is passed, what was read are the files
 
@@ -176,20 +199,20 @@ within_limits reads limits limited none files are =
     (whole_files reads files are no_rows, no_rows)
 
 abbrev pub Made : Type 0
-Made = Result Found OutOfMemory
+Made = Result CheckedFiles OutOfMemory
 
 -- it refuses by these rows, in order
 abbrev pub RefusesBy : List Row → Made → Type 0
-RefusesBy rows made = IfOk made (λ found. (sorted : List Row) × IsOrderOf rows sorted × (found ≡ record { report = Refused sorted; runnable = None }))
+RefusesBy rows made = IfOk made (λ checked. (sorted : List Row) × IsOrderOf rows sorted × (checked.found ≡ record { report = Refused sorted; accepted = None }))
 
 abbrev pub ReportsAll : List SourceRead → Made → Type 0
-ReportsAll reads made = IfOk made (λ found. (files : List SourceFile) → AreReads reads files → IsFinding files found)
+ReportsAll reads made = IfOk made (λ checked. (files : List SourceFile) → AreReads reads files → IsFinding files checked.names checked.found)
 
 abbrev pub Stand : List SourceRead → Made → Type 0
-Stand reads made = IfOk made (λ found. StandIn reads (rows_of found.report))
+Stand reads made = IfOk made (λ checked. StandIn reads (rows_of checked.found.report))
 
 pub limited_made : (reads : List SourceRead) (limits : List Row) (made : Made) → Limited reads limits → (limits ≡ [] → ⊥) → RefusesBy limits made → ReportsAll reads made
-limited_made reads limits (Ok r) limited some by = λ files are. refused_finding files limits by.0 r (inl (inl (record { are = limited files are; some = some }))) by.1 by.2
+limited_made reads limits (Ok r) limited some by = λ files are. refused_finding files r.names limits by.0 r.found (inl (inl (record { are = limited files are; some = some }))) by.1 by.2
 limited_made reads limits (Err e) limited some by = tt
 
 pub limited_stand : (reads : List SourceRead) (limits : List Row) (made : Made) → Limited reads limits → ((files : List SourceFile) × AreReads reads files) → RefusesBy limits made → Stand reads made
@@ -198,20 +221,23 @@ limited_stand reads limits (Ok r) limited some by =
 limited_stand reads limits (Err e) limited some by = tt
 
 -- where no limit is passed, rows stand anywhere
+pub all_stand : (reads : List SourceRead) (limits rows : List Row) → Limited reads limits → limits ≡ [] → ((files : List SourceFile) × AreReads reads files) → StandIn reads rows
+all_stand reads limits rows limited none some = stand_whole reads rows (all_whole reads some.0 some.1 (within_limits reads limits limited none some.0 some.1).1)
+
 pub whole_stand : (reads : List SourceRead) (limits : List Row) (made : Made) → Limited reads limits → limits ≡ [] → ((files : List SourceFile) × AreReads reads files) → Stand reads made
-whole_stand reads limits (Ok r) limited none some = stand_whole reads (rows_of r.report) (all_whole reads some.0 some.1 (within_limits reads limits limited none some.0 some.1).1)
+whole_stand reads limits (Ok r) limited none some = all_stand reads limits (rows_of r.found.report) limited none some
 whole_stand reads limits (Err e) limited none some = tt
 
 pub lexical_made : (reads : List SourceRead) (limits faults : List Row) (made : Made) → Limited reads limits → limits ≡ [] → FaultRows 0 (files_of_reads reads) faults → (faults ≡ [] → ⊥) → RefusesBy faults made → ReportsAll reads made
 lexical_made reads limits faults (Ok r) limited none faulty some by = λ files are.
     let w = within_limits reads limits limited none files are in
-    refused_finding files faults by.0 r (inl (inr (inl (record { within = w.1; are = subst (λ fs. FaultRows 0 fs faults) w.0 faulty; some = some })))) by.1 by.2
+    refused_finding files r.names faults by.0 r.found (inl (inr (inl (record { within = w.1; are = subst (λ fs. FaultRows 0 fs faults) w.0 faulty; some = some })))) by.1 by.2
 lexical_made reads limits faults (Err e) limited none faulty some by = tt
 
 pub grammar_made : (reads : List SourceRead) (limits rows : List Row) (names : List (List ℕ)) (tokens : List (List Token)) (made : Made) → Limited reads limits → limits ≡ [] → LexedFrom 0 known_names (files_of_reads reads) tokens names → SyntaxRows 0 (files_of_reads reads) tokens rows → (rows ≡ [] → ⊥) → RefusesBy rows made → ReportsAll reads made
 grammar_made reads limits rows names tokens (Ok r) limited none lexed syntax some by = λ files are.
     let w = within_limits reads limits limited none files are in
-    refused_finding files rows by.0 r (inl (inr (inr (record { within = w.1; names = names; tokens = tokens; lexed = subst (λ fs. LexedFrom 0 known_names fs tokens names) w.0 lexed; are = subst (λ fs. SyntaxRows 0 fs tokens rows) w.0 syntax; some = some })))) by.1 by.2
+    refused_finding files r.names rows by.0 r.found (inl (inr (inr (record { within = w.1; names = names; tokens = tokens; lexed = subst (λ fs. LexedFrom 0 known_names fs tokens names) w.0 lexed; are = subst (λ fs. SyntaxRows 0 fs tokens rows) w.0 syntax; some = some })))) by.1 by.2
 grammar_made reads limits rows names tokens (Err e) limited none lexed syntax some by = tt
 
 pub are_parsed : (reads : List SourceRead) (limits : List Row) → Limited reads limits → limits ≡ [] → (names : List (List ℕ)) (tokens : List (List Token)) (trees : List PlacedFile) → ((files : List SourceFile) × AreReads reads files) → LexedFrom 0 known_names (files_of_reads reads) tokens names → ArePlaced tokens trees → AreParsed (files_of_reads reads) names tokens trees
@@ -219,26 +245,37 @@ are_parsed reads limits limited none names tokens trees some lexed placed =
     let w = within_limits reads limits limited none some.0 some.1 in
     record { within = ap limit_rows w.0 ∙ w.1; lexed = lexed; parsed = placed }
 
-pub checked_made : (reads : List SourceRead) (limits : List Row) (made : Made) → Limited reads limits → limits ≡ [] → IfOk made (λ found. IsFinding (files_of_reads reads) found) → ReportsAll reads made
-checked_made reads limits (Ok r) limited none report = λ files are. subst (λ fs. IsFinding fs r) (within_limits reads limits limited none files are).0 report
-checked_made reads limits (Err e) limited none report = tt
+-- what is found of what was read is found of the files
+pub found_all : (reads : List SourceRead) (limits : List Row) (names : List (List ℕ)) (found : Found) → Limited reads limits → limits ≡ [] → IsFinding (files_of_reads reads) names found → (files : List SourceFile) → AreReads reads files → IsFinding files names found
+found_all reads limits names found limited none finding files are = subst (λ fs. IsFinding fs names found) (within_limits reads limits limited none files are).0 finding
+
+pub found_whole : (reads : List SourceRead) (limits : List Row) → Limited reads limits → limits ≡ [] → (files : List SourceFile) → AreReads reads files → files_of_reads reads ≡ files
+found_whole reads limits limited none files are = (within_limits reads limits limited none files are).0
+
+-- ---- files with trees
+
+abbrev pub MadeFound : Type 0
+MadeFound = Result Found OutOfMemory
+
+abbrev pub RefusesFound : List Row → MadeFound → Type 0
+RefusesFound rows made = IfOk made (λ found. (sorted : List Row) × IsOrderOf rows sorted × (found ≡ record { report = Refused sorted; accepted = None }))
 
 -- rows of classes and members
-pub table_made : (files : List SourceFile) (names : List (List ℕ)) (tokens : List (List Token)) (trees : List PlacedFile) (rows : List Row) (made : Made) → AreParsed files names tokens trees → rows ≡ table_rows trees → (table_rows trees ≡ [] → ⊥) → RefusesBy rows made → IfOk made (λ found. IsFinding files found)
+pub table_made : (files : List SourceFile) (names : List (List ℕ)) (tokens : List (List Token)) (trees : List PlacedFile) (rows : List Row) (made : MadeFound) → AreParsed files names tokens trees → rows ≡ table_rows trees → (table_rows trees ≡ [] → ⊥) → RefusesFound rows made → IfOk made (λ found. IsFinding files names found)
 table_made files names tokens trees rows (Ok r) parsed are some by =
-    refused_finding files rows by.0 r (inr (inl (record { names = names; tokens = tokens; trees = trees; parsed = parsed; are = are; some = λ none. some (sym are ∙ none) }))) by.1 by.2
+    refused_finding files names rows by.0 r (inr (inl (record { names = names; tokens = tokens; trees = trees; parsed = parsed; are = are; some = λ none. some (sym are ∙ none) }))) by.1 by.2
 table_made files names tokens trees rows (Err e) parsed are some by = tt
 
 -- rows of bodies and of what stands around them
-pub lowering_made : (files : List SourceFile) (names : List (List ℕ)) (tokens : List (List Token)) (trees : List PlacedFile) (rows : List Row) (made : Made) → AreDeclared files names tokens trees → rows ≡ lowering_rows trees → (lowering_rows trees ≡ [] → ⊥) → RefusesBy rows made → IfOk made (λ found. IsFinding files found)
+pub lowering_made : (files : List SourceFile) (names : List (List ℕ)) (tokens : List (List Token)) (trees : List PlacedFile) (rows : List Row) (made : MadeFound) → AreDeclared files names tokens trees → rows ≡ lowering_rows trees → (lowering_rows trees ≡ [] → ⊥) → RefusesFound rows made → IfOk made (λ found. IsFinding files names found)
 lowering_made files names tokens trees rows (Ok r) declared are some by =
-    refused_finding files rows by.0 r (inr (inr (inl (record { names = names; tokens = tokens; trees = trees; declared = declared; are = are; some = λ none. some (sym are ∙ none) })))) by.1 by.2
+    refused_finding files names rows by.0 r (inr (inr (inl (record { names = names; tokens = tokens; trees = trees; declared = declared; are = are; some = λ none. some (sym are ∙ none) })))) by.1 by.2
 lowering_made files names tokens trees rows (Err e) declared are some by = tt
 
 -- rows of types
-pub types_made : (files : List SourceFile) (names : List (List ℕ)) (P : Program) (rows : List Row) (made : Made) → ProgramOf files names P → ((row : Row) → Contains rows row ↔ IsBaseRow P row) → (rows ≡ [] → ⊥) → RefusesBy rows made → IfOk made (λ found. IsFinding files found)
+pub types_made : (files : List SourceFile) (names : List (List ℕ)) (P : Program) (rows : List Row) (made : MadeFound) → ProgramOf files names P → ((row : Row) → Contains rows row ↔ IsBaseRow P row) → (rows ≡ [] → ⊥) → RefusesFound rows made → IfOk made (λ found. IsFinding files names found)
 types_made files names P rows (Ok r) of_files are some by =
-    refused_finding files rows by.0 r (inr (inr (inr (record { names = names; P = P; of_files = of_files; are = are; some = some })))) by.1 by.2
+    refused_finding files names rows by.0 r (inr (inr (inr (record { names = names; P = P; of_files = of_files; are = are; some = some })))) by.1 by.2
 types_made files names P rows (Err e) of_files are some by = tt
 
 -- ---- more files than there may be
@@ -260,15 +297,11 @@ too_many_report files report many is =
 -- ---- where files are accepted, what was read are the files
 
 abbrev pub Whole : List SourceRead → Made → Type 0
-Whole reads made = IfOk made (λ found. found.report ≡ Checked [] → (files : List SourceFile) → AreReads reads files → files_of_reads reads ≡ files)
+Whole reads made = IfOk made (λ checked. checked.found.report ≡ Checked [] → (files : List SourceFile) → AreReads reads files → files_of_reads reads ≡ files)
 
 pub refused_whole : (reads : List SourceRead) (rows : List Row) (made : Made) → RefusesBy rows made → Whole reads made
 refused_whole reads rows (Ok r) by = λ none files are. absurd (never_checked by.0 [] (sym (ap (λ (found : Found). found.report) by.2) ∙ none))
 refused_whole reads rows (Err e) by = tt
-
-pub found_whole : (reads : List SourceRead) (limits : List Row) (made : Made) → Limited reads limits → limits ≡ [] → Whole reads made
-found_whole reads limits (Ok r) limited none = λ accepted files are. (within_limits reads limits limited none files are).0
-found_whole reads limits (Err e) limited none = tt
 
 -- ---- accepted files are safe
 
@@ -281,6 +314,6 @@ safe_report null stuck files report none is = accepted (subst (IsReport files) n
     accepted : IsReport files (Checked []) → IsSafe files
     accepted by = record { names = by.names; P = by.P; of_files = by.of_files; never_null = null files by.names by.P by.of_files by.rules; never_stuck = stuck files by.names by.P by.of_files by.rules }
 
-pub safe_made : Keeps NeverNull → Keeps NeverStuck → (reads : List SourceRead) (made : Made) → ReportsAll reads made → IfOk made (λ found. found.report ≡ Checked [] → (files : List SourceFile) → AreReads reads files → IsSafe files)
-safe_made null stuck reads (Ok r) all = λ none files are. safe_report null stuck files r.report none (all files are).report
+pub safe_made : Keeps NeverNull → Keeps NeverStuck → (reads : List SourceRead) (made : Made) → ReportsAll reads made → IfOk made (λ checked. checked.found.report ≡ Checked [] → (files : List SourceFile) → AreReads reads files → IsSafe files)
+safe_made null stuck reads (Ok r) all = λ none files are. safe_report null stuck files r.found.report none (all files are).report
 safe_made null stuck reads (Err e) all = tt

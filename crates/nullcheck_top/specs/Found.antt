@@ -9,18 +9,19 @@ use Rattle.jn_command.specs.declared.status.Status.{Status}
 use Rattle.jn_command.specs.declared.status.Status.TheVariants.{Refused as RefusedStatus}
 use Rattle.jn_command.specs.Shown.{shown}
 use Rattle.jn_front.specs.declared.source.SourceFile.{SourceFile}
+use Rattle.jn_points.specs.declared.program.Program.{Program}
+use Rattle.jn_quals.specs.Qualifier.{Qualifier}
 use Rattle.nullcheck_top.specs.declared.found.Found.{Found}
-use Rattle.nullcheck_top.specs.declared.found.Runnable.{Runnable}
 use Rattle.nullcheck_top.specs.Report.{IsReport, TypedProgramOf}
 
 -- the program of accepted files is at hand, and none where they aren't accepted
-abbrev pub IsRunnable : List SourceFile → Report → Option Runnable → Type 0
-IsRunnable files report None = report ≡ Checked [] → ⊥
-IsRunnable files report (Some runnable) = (report ≡ Checked []) × TypedProgramOf files runnable.names runnable.accepted.0
+abbrev pub IsAtHand : List SourceFile → List (List ℕ) → Report → Option (Program × List Qualifier) → Type 0
+IsAtHand files names report None = report ≡ Checked [] → ⊥
+IsAtHand files names report (Some accepted) = (report ≡ Checked []) × TypedProgramOf files names accepted.0
 
-pub record IsFinding (files : List SourceFile) (found : Found) : Type 0 where
+pub record IsFinding (files : List SourceFile) (names : List (List ℕ)) (found : Found) : Type 0 where
   pub report : IsReport files found.report
-  pub runnable : IsRunnable files found.report found.runnable
+  pub accepted : IsAtHand files names found.report found.accepted
 
 -- files that are refused, and their report shown so
 pub record IsRefusalOf (show : List RowText → Option Verdict → List ℕ) (files : List SourceFile) (status : Status) (bytes : List ℕ) : Type 0 where

@@ -17,8 +17,9 @@ ghost use Rattle.nullcheck_top.specs.Found.{IsFinding};
 ghost use Rattle.nullcheck_top.specs.Report.{IsSafe};
 
 use crate::check::check;
-use crate::found::{Found, Runnable};
+use crate::found::{CheckedFiles, Found};
 use crate::outputs::{MOST_FILES, number_output, report_output};
+use jn_accept::Accepted;
 use jn_base::{Fail, OutOfMemory, Text};
 use jn_cli::Command;
 use jn_command::Status;
@@ -45,44 +46,44 @@ fn strings(alloc: Global, texts: &[Text]) -> Result<Vec<String>, AllocError>
 }
 
 /// The program that is to be run: that of accepted files, where a run is asked for.
-fn to_run<'a>(run: bool, found: &'a Found) -> Option<&'a Runnable>
-    ensures { MatchOption result (run ≡ true → found.now.runnable ≡ None) (λ r. (run ≡ true) × (found.now.runnable ≡ Some r.now)) }
+fn to_run<'a>(run: bool, found: &'a Found) -> Option<&'a Accepted>
+    ensures { MatchOption result (run ≡ true → found.now.accepted ≡ None) (λ accepted. (run ≡ true) × (found.now.accepted ≡ Some accepted.now)) }
 {
-    if run { found.runnable.as_ref() } else { None }
+    if run { found.accepted.as_ref() } else { None }
 }
 
 /// Writes what files that were read came to: behind these bytes their report, or the run of accepted files where one is asked for.
-fn answer_found<P: Reporter, K: Sink>(
+fn answer_checked<P: Reporter, K: Sink>(
     alloc: Global,
     command: &Command,
     reporter: P,
     reads: &[SourceRead],
     front: &[u8],
-    found: &Found,
+    checked: &CheckedFiles,
     out: &mut K,
 ) -> Status
     requires front { front.now ≡ front_of command.now.classes }
     requires fit { ReadsFit reads.now }
-    requires stand { StandIn reads.now (rows_of found.now.report) }
-    requires found { (files : List FileOf) → AreReads reads.now files → IsFinding files found.now }
-    requires whole { found.now.report ≡ Checked [] → (files : List FileOf) → AreReads reads.now files → files_of_reads reads.now ≡ files }
-    requires safe { found.now.report ≡ Checked [] → (files : List FileOf) → AreReads reads.now files → IsSafe files }
+    requires stand { StandIn reads.now (rows_of checked.now.found.report) }
+    requires found { (files : List FileOf) → AreReads reads.now files → IsFinding files checked.now.names checked.now.found }
+    requires whole { checked.now.found.report ≡ Checked [] → (files : List FileOf) → AreReads reads.now files → files_of_reads reads.now ≡ files }
+    requires safe { checked.now.found.report ≡ Checked [] → (files : List FileOf) → AreReads reads.now files → IsSafe files }
     ensures answer { (files : List FileOf) → AreReads reads.now files → AnswersFiles (asked command.now (shown_behind (P.rows reporter) (P.shown reporter))) files (K.written out.old) (K.written out.new) result }
     ensures write { result ≡ Status.WriteFault → Rose (K.faults out.old) (K.faults out.new) }
     ensures write_always { K.faults out.old < K.faults out.new → result ≡ Status.WriteFault }
 {
-    match to_run(command.run, found) {
-        Some(runnable) => run_files(
+    match to_run(command.run, &checked.found) {
+        Some(accepted) => run_files(
             alloc,
-            &runnable.accepted,
-            &runnable.names,
+            accepted,
+            &checked.names,
             reads,
             command.args.as_slice(),
             command.steps,
             out,
         ),
         None => write(
-            report_output(alloc, reads, &found.report, front, reporter),
+            report_output(alloc, reads, &checked.found.report, front, reporter),
             out,
         ),
     }
@@ -109,7 +110,7 @@ fn answer_reads<R: Threads + Sync, G: Gate + Sync, P: Reporter, K: Sink>(
     ensures write_always { K.faults out.old < K.faults out.new → result ≡ Status.WriteFault }
 {
     match check(rt, gate, alloc, command.workers, reads) {
-        Ok(found) => answer_found(alloc, command, reporter, reads, front, &found, out),
+        Ok(checked) => answer_checked(alloc, command, reporter, reads, front, &checked, out),
         Err(_) => Status::OutOfMemory,
     }
 }

@@ -17,7 +17,7 @@ ghost use Rattle.jn_command.specs.Stands.{StandIn};
 ghost use Rattle.nullcheck_top.specs.Found.{IsFinding};
 ghost use Rattle.nullcheck_top.specs.Report.{AreDeclared, IsReport, IsSafe, ProgramOf, TypedProgramOf};
 
-use crate::found::{Found, Runnable};
+use crate::found::{CheckedFiles, Found};
 use crate::law::accepted_files_are_safe;
 use jn_accept::accept;
 use jn_base::{Code, Fail, OutOfMemory, Row, Seq};
@@ -37,14 +37,24 @@ use std::thread::Threads;
 
 /// What is found of files that are refused by these rows, of which the list may have more room than it needs.
 fn refused(alloc: Global, rows: Vec<Row>) -> Result<Found, OutOfMemory>
-    ensures { IfOk result (λ found. (sorted : List SpecRow) × IsOrderOf rows.items sorted × (found ≡ record { report = Refused sorted; runnable = None })) }
+    ensures { IfOk result (λ found. (sorted : List SpecRow) × IsOrderOf rows.items sorted × (found ≡ record { report = Refused sorted; accepted = None })) }
 {
     let mut rows = rows;
     order(&mut rows)?;
     let kept = Vec::from_slice(alloc, &rows)?;
     Ok(Found {
         report: Report::Refused(Seq::of_vec(kept)),
-        runnable: None,
+        accepted: None,
+    })
+}
+
+/// The same of files without trees, of which no names are known.
+fn refused_texts(alloc: Global, rows: Vec<Row>) -> Result<CheckedFiles, OutOfMemory>
+    ensures { IfOk result (λ checked. (sorted : List SpecRow) × IsOrderOf rows.items sorted × (checked.found ≡ record { report = Refused sorted; accepted = None })) }
+{
+    Ok(CheckedFiles {
+        found: refused(alloc, rows)?,
+        names: Names::new(alloc),
     })
 }
 
@@ -54,24 +64,21 @@ fn checked<R: Threads + Sync, G: Gate + Sync>(
     alloc: Global,
     workers: u32,
     reads: &[SourceRead],
-    names: Names,
+    names: &Names,
     base: BaseTyped,
     gate: &G,
 ) -> Result<Found, OutOfMemory>
-    requires program { TypedProgramOf (files_of_reads reads.now) names base }
+    requires program { TypedProgramOf (files_of_reads reads.now) names.now base }
     requires workers { (1 ≤ workers) × (workers ≤ 16) }
-    ensures { IfOk result (λ found. IsFinding (files_of_reads reads.now) found) }
+    ensures { IfOk result (λ found. IsFinding (files_of_reads reads.now) names.now found) }
 {
     regular_programs_are_inferable();
     let sig = solve_sig(rt, alloc, base.program(), workers, gate)?;
     let rows = check_all(rt, alloc, base.program(), &sig, workers, gate)?;
-    let runnable = match accept(base, sig, &rows) {
-        Ok(accepted) => Some(Runnable { accepted, names }),
-        Err(_) => None,
-    };
+    let accepted = accept(base, sig, &rows).ok();
     Ok(Found {
         report: Report::Checked(Seq::of_vec(rows)),
-        runnable,
+        accepted,
     })
 }
 
@@ -81,13 +88,13 @@ fn find_program<R: Threads + Sync, G: Gate + Sync>(
     alloc: Global,
     workers: u32,
     reads: &[SourceRead],
-    names: Names,
+    names: &Names,
     program: Program,
     gate: &G,
 ) -> Result<Found, OutOfMemory>
-    requires program { ProgramOf (files_of_reads reads.now) names program }
+    requires program { ProgramOf (files_of_reads reads.now) names.now program }
     requires workers { (1 ≤ workers) × (workers ≤ 16) }
-    ensures { IfOk result (λ found. IsFinding (files_of_reads reads.now) found) }
+    ensures { IfOk result (λ found. IsFinding (files_of_reads reads.now) names.now found) }
 {
     match base_check(alloc, program) {
         Ok(base) => return checked(rt, alloc, workers, reads, names, base, gate),
@@ -102,15 +109,15 @@ fn find_table<R: Threads + Sync, G: Gate + Sync>(
     alloc: Global,
     workers: u32,
     reads: &[SourceRead],
-    names: Names,
+    names: &Names,
     trees: &[FileTree],
     table: ClassTable,
     gate: &G,
 ) -> Result<Found, OutOfMemory>
-    requires declared { (tokens : List (List SpecToken)) × AreDeclared (files_of_reads reads.now) names tokens (map placed_file trees.now) }
+    requires declared { (tokens : List (List SpecToken)) × AreDeclared (files_of_reads reads.now) names.now tokens (map placed_file trees.now) }
     requires table { table ≡ heads (map placed_file trees.now) }
     requires workers { (1 ≤ workers) × (workers ≤ 16) }
-    ensures { IfOk result (λ found. IsFinding (files_of_reads reads.now) found) }
+    ensures { IfOk result (λ found. IsFinding (files_of_reads reads.now) names.now found) }
 {
     match lower(alloc, table, trees) {
         Ok(program) => return find_program(rt, alloc, workers, reads, names, program, gate),
@@ -125,13 +132,13 @@ fn find_trees<R: Threads + Sync, G: Gate + Sync>(
     alloc: Global,
     workers: u32,
     reads: &[SourceRead],
-    names: Names,
+    names: &Names,
     trees: &[FileTree],
     gate: &G,
 ) -> Result<Found, OutOfMemory>
-    requires parsed { (tokens : List (List SpecToken)) × AreParsed (files_of_reads reads.now) names tokens (map placed_file trees.now) }
+    requires parsed { (tokens : List (List SpecToken)) × AreParsed (files_of_reads reads.now) names.now tokens (map placed_file trees.now) }
     requires workers { (1 ≤ workers) × (workers ≤ 16) }
-    ensures { IfOk result (λ found. IsFinding (files_of_reads reads.now) found) }
+    ensures { IfOk result (λ found. IsFinding (files_of_reads reads.now) names.now found) }
 {
     match build(alloc, trees) {
         Ok(table) => return find_table(rt, alloc, workers, reads, names, trees, table, gate),
@@ -154,28 +161,32 @@ fn find<R: Threads + Sync, G: Gate + Sync>(
     workers: u32,
     reads: &[SourceRead],
     gate: &G,
-) -> Result<Found, OutOfMemory>
+) -> Result<CheckedFiles, OutOfMemory>
     requires few { length reads.now ≤ 64 }
     requires fit { ReadsFit reads.now }
     requires read { (files : List SpecFile) × AreReads reads.now files }
     requires workers { (1 ≤ workers) × (workers ≤ 16) }
-    ensures found { IfOk result (λ found. (files : List SpecFile) → AreReads reads.now files → IsFinding files found) }
-    ensures whole { IfOk result (λ found. found.report ≡ Checked [] → (files : List SpecFile) → AreReads reads.now files → files_of_reads reads.now ≡ files) }
-    ensures stand { IfOk result (λ found. StandIn reads.now (rows_of found.report)) }
+    ensures found { IfOk result (λ checked. (files : List SpecFile) → AreReads reads.now files → IsFinding files checked.names checked.found) }
+    ensures whole { IfOk result (λ checked. checked.found.report ≡ Checked [] → (files : List SpecFile) → AreReads reads.now files → files_of_reads reads.now ≡ files) }
+    ensures stand { IfOk result (λ checked. StandIn reads.now (rows_of checked.found.report)) }
 {
     let limits = limit_rows(alloc, reads)?;
     if !no_rows(&limits) {
-        return refused(alloc, limits);
+        return refused_texts(alloc, limits);
     }
     let lexed = lex_all(alloc, reads)?;
     if !no_rows(&lexed.faults) {
-        return refused(alloc, lexed.faults);
+        return refused_texts(alloc, lexed.faults);
     }
     let parsed = parse_all(alloc, reads, &lexed.tokens)?;
     if !no_rows(&parsed.rows) {
-        return refused(alloc, parsed.rows);
+        return refused_texts(alloc, parsed.rows);
     }
-    find_trees(rt, alloc, workers, reads, lexed.names, &parsed.trees, gate)
+    let found = find_trees(rt, alloc, workers, reads, &lexed.names, &parsed.trees, gate)?;
+    Ok(CheckedFiles {
+        found,
+        names: lexed.names,
+    })
 }
 
 /// What is found of files that were read, at most 64, by so many workers; it is safe to accept them where no row is.
@@ -189,15 +200,15 @@ pub fn check<R: Threads + Sync, G: Gate + Sync>(
     alloc: Global,
     workers: u32,
     reads: &[SourceRead],
-) -> Result<Found, OutOfMemory>
+) -> Result<CheckedFiles, OutOfMemory>
     requires workers { (1 ≤ workers) × (workers ≤ 16) }
     requires few { length reads.now ≤ most_files }
     requires fit { ReadsFit reads.now }
     requires read { (files : List SpecFile) × AreReads reads.now files }
-    ensures found { IfOk result (λ found. (files : List SpecFile) → AreReads reads.now files → IsFinding files found) }
-    ensures whole { IfOk result (λ found. found.report ≡ Checked [] → (files : List SpecFile) → AreReads reads.now files → files_of_reads reads.now ≡ files) }
-    ensures safe { IfOk result (λ found. found.report ≡ Checked [] → (files : List SpecFile) → AreReads reads.now files → IsSafe files) }
-    ensures stand { IfOk result (λ found. StandIn reads.now (rows_of found.report)) }
+    ensures found { IfOk result (λ checked. (files : List SpecFile) → AreReads reads.now files → IsFinding files checked.names checked.found) }
+    ensures whole { IfOk result (λ checked. checked.found.report ≡ Checked [] → (files : List SpecFile) → AreReads reads.now files → files_of_reads reads.now ≡ files) }
+    ensures safe { IfOk result (λ checked. checked.found.report ≡ Checked [] → (files : List SpecFile) → AreReads reads.now files → IsSafe files) }
+    ensures stand { IfOk result (λ checked. StandIn reads.now (rows_of checked.found.report)) }
 {
     accepted_files_are_safe();
     find(rt, alloc, workers, reads, gate)

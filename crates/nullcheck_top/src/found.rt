@@ -4,16 +4,16 @@ use jn_accept::Accepted;
 use jn_command::Report;
 use jn_trees::Names;
 
-/// The program of accepted files, and the texts of its names and strings.
-#[derive(Drop)]
-pub struct Runnable {
-    pub accepted: Accepted,
-    pub names: Names,
-}
-
 /// The report of files, and their program where they are accepted.
 #[derive(Drop)]
 pub struct Found {
     pub report: Report,
-    pub runnable: Option<Runnable>,
+    pub accepted: Option<Accepted>,
+}
+
+/// What is found of files, and the texts of their names and strings, by number; none where the files have no trees.
+#[derive(Drop)]
+pub struct CheckedFiles {
+    pub found: Found,
+    pub names: Names,
 }

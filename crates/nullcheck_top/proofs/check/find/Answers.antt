@@ -4,21 +4,22 @@ use Rattle.jn_trees.specs.declared.token.Token.{Token}
 use Rattle.jn_known.specs.Known.{known_names}
 use Rattle.jn_places.specs.PlacedView.{placed_file}
 use Rattle.jn_front.specs.Files.{files_of_reads}
+use Rattle.jn_command.specs.Reports.{rows_of}
 use Rattle.jn_front.specs.Phases.{ArePlaced, AreParsed, LexedFrom, SyntaxRows}
-use Rattle.nullcheck_top.proofs.Reporting.{limited_made, lexical_made, grammar_made, checked_made, are_parsed, limited_stand, whole_stand, refused_whole, found_whole}
+use Rattle.nullcheck_top.proofs.Reporting.{limited_made, lexical_made, grammar_made, found_all, are_parsed, limited_stand, all_stand, whole_stand, refused_whole, found_whole}
 use Rattle.nullcheck_top.proofs.check.find.Goals as goal
 
 pub returns-then-not-no_rows-clause-found : goal.returns-then-not-no_rows-clause-found
-returns-then-not-no_rows-clause-found g c = limited_made c.args.reads.now c.in_ok-limits.limits.items c.refused.result c.in_ok-limits.ensures (c.no_rows.ensures.some c.if-not-no_rows.true) c.refused.ensures
+returns-then-not-no_rows-clause-found g c = limited_made c.args.reads.now c.in_ok-limits.limits.items c.refused_texts.result c.in_ok-limits.ensures (c.no_rows.ensures.some c.if-not-no_rows.true) c.refused_texts.ensures
 
 pub returns-then-not-no_rows-2-clause-found : goal.returns-then-not-no_rows-2-clause-found
 returns-then-not-no_rows-2-clause-found g c =
-    let r = c.refused-then-not-no_rows-2 in
+    let r = c.refused_texts-then-not-no_rows-2 in
     lexical_made c.args.reads.now c.in_ok-limits.limits.items c.in_ok-lexed.lexed.faults.items r.result c.in_ok-limits.ensures (c.no_rows.ensures.none c.if-not-no_rows.false) c.in_ok-lexed.ensures.faults (c.no_rows-2.ensures.some c.if-not-no_rows-2.true) r.ensures
 
 pub returns-then-not-no_rows-3-clause-found : goal.returns-then-not-no_rows-3-clause-found
 returns-then-not-no_rows-3-clause-found g c =
-    let r = c.refused-then-not-no_rows-3 in
+    let r = c.refused_texts-then-not-no_rows-3 in
     let lexed = c.in_ok-lexed.ensures.tokens (c.no_rows-2.ensures.none c.if-not-no_rows-2.false) in
     let syntax = subst (λ tss. SyntaxRows 0 (files_of_reads c.args.reads.now) tss c.in_ok-parsed.parsed.rows.items) c.deref.ensures.value c.in_ok-parsed.ensures.rows in
     grammar_made c.args.reads.now c.in_ok-limits.limits.items c.in_ok-parsed.parsed.rows.items c.in_ok-lexed.lexed.names c.in_ok-lexed.lexed.tokens.items r.result c.in_ok-limits.ensures (c.no_rows.ensures.none c.if-not-no_rows.false) lexed syntax (c.no_rows-3.ensures.some c.if-not-no_rows-3.true) r.ensures
@@ -39,28 +40,28 @@ find_trees-requires-clause-parsed g c κs lives =
     (c.in_ok-lexed.lexed.tokens.items, subst (λ (ts : List FileTree). AreParsed (files_of_reads reads) names c.in_ok-lexed.lexed.tokens.items (map placed_file ts)) (sym c.deref-2.ensures.value) parsed)
 
 pub returns-clause-found : goal.returns-clause-found
-returns-clause-found g c = checked_made c.args.reads.now c.in_ok-limits.limits.items c.find_trees.result c.in_ok-limits.ensures (c.no_rows.ensures.none c.if-not-no_rows.false) c.find_trees.ensures
+returns-clause-found g c = found_all c.args.reads.now c.in_ok-limits.limits.items c.in_ok-lexed.lexed.names c.in_ok-found.found c.in_ok-limits.ensures (c.no_rows.ensures.none c.if-not-no_rows.false) c.in_ok-found.ensures
 
 pub returns-then-not-no_rows-clause-stand : goal.returns-then-not-no_rows-clause-stand
-returns-then-not-no_rows-clause-stand g c = limited_stand c.args.reads.now c.in_ok-limits.limits.items c.refused.result c.in_ok-limits.ensures c.requires.read c.refused.ensures
+returns-then-not-no_rows-clause-stand g c = limited_stand c.args.reads.now c.in_ok-limits.limits.items c.refused_texts.result c.in_ok-limits.ensures c.requires.read c.refused_texts.ensures
 
 pub returns-then-not-no_rows-2-clause-stand : goal.returns-then-not-no_rows-2-clause-stand
-returns-then-not-no_rows-2-clause-stand g c = whole_stand c.args.reads.now c.in_ok-limits.limits.items c.refused-then-not-no_rows-2.result c.in_ok-limits.ensures (c.no_rows.ensures.none c.if-not-no_rows.false) c.requires.read
+returns-then-not-no_rows-2-clause-stand g c = whole_stand c.args.reads.now c.in_ok-limits.limits.items c.refused_texts-then-not-no_rows-2.result c.in_ok-limits.ensures (c.no_rows.ensures.none c.if-not-no_rows.false) c.requires.read
 
 pub returns-then-not-no_rows-3-clause-stand : goal.returns-then-not-no_rows-3-clause-stand
-returns-then-not-no_rows-3-clause-stand g c = whole_stand c.args.reads.now c.in_ok-limits.limits.items c.refused-then-not-no_rows-3.result c.in_ok-limits.ensures (c.no_rows.ensures.none c.if-not-no_rows.false) c.requires.read
+returns-then-not-no_rows-3-clause-stand g c = whole_stand c.args.reads.now c.in_ok-limits.limits.items c.refused_texts-then-not-no_rows-3.result c.in_ok-limits.ensures (c.no_rows.ensures.none c.if-not-no_rows.false) c.requires.read
 
 pub returns-clause-stand : goal.returns-clause-stand
-returns-clause-stand g c = whole_stand c.args.reads.now c.in_ok-limits.limits.items c.find_trees.result c.in_ok-limits.ensures (c.no_rows.ensures.none c.if-not-no_rows.false) c.requires.read
+returns-clause-stand g c = all_stand c.args.reads.now c.in_ok-limits.limits.items (rows_of c.in_ok-found.found.report) c.in_ok-limits.ensures (c.no_rows.ensures.none c.if-not-no_rows.false) c.requires.read
 
 pub returns-then-not-no_rows-clause-whole : goal.returns-then-not-no_rows-clause-whole
-returns-then-not-no_rows-clause-whole g c = refused_whole c.args.reads.now c.in_ok-limits.limits.items c.refused.result c.refused.ensures
+returns-then-not-no_rows-clause-whole g c = refused_whole c.args.reads.now c.in_ok-limits.limits.items c.refused_texts.result c.refused_texts.ensures
 
 pub returns-then-not-no_rows-2-clause-whole : goal.returns-then-not-no_rows-2-clause-whole
-returns-then-not-no_rows-2-clause-whole g c = refused_whole c.args.reads.now c.in_ok-lexed.lexed.faults.items c.refused-then-not-no_rows-2.result c.refused-then-not-no_rows-2.ensures
+returns-then-not-no_rows-2-clause-whole g c = refused_whole c.args.reads.now c.in_ok-lexed.lexed.faults.items c.refused_texts-then-not-no_rows-2.result c.refused_texts-then-not-no_rows-2.ensures
 
 pub returns-then-not-no_rows-3-clause-whole : goal.returns-then-not-no_rows-3-clause-whole
-returns-then-not-no_rows-3-clause-whole g c = refused_whole c.args.reads.now c.in_ok-parsed.parsed.rows.items c.refused-then-not-no_rows-3.result c.refused-then-not-no_rows-3.ensures
+returns-then-not-no_rows-3-clause-whole g c = refused_whole c.args.reads.now c.in_ok-parsed.parsed.rows.items c.refused_texts-then-not-no_rows-3.result c.refused_texts-then-not-no_rows-3.ensures
 
 pub returns-clause-whole : goal.returns-clause-whole
-returns-clause-whole g c = found_whole c.args.reads.now c.in_ok-limits.limits.items c.find_trees.result c.in_ok-limits.ensures (c.no_rows.ensures.none c.if-not-no_rows.false)
+returns-clause-whole g c accepted = found_whole c.args.reads.now c.in_ok-limits.limits.items c.in_ok-limits.ensures (c.no_rows.ensures.none c.if-not-no_rows.false)
