@@ -23,9 +23,9 @@ class Derived extends Base {
   String tail = "tail";
   int third = second++, fourth = second;
 
-  Derived(int n) {
-    this("derived" + n);
-    System.out.println("Derived of " + n + " " + third + fourth);
+  Derived(int n, int k) {
+    this("derived" + n + k);
+    System.out.println("Derived of " + n + k + " " + third + fourth);
   }
 
   Derived(String s) {
@@ -44,7 +44,7 @@ class Derived extends Base {
 
 class Construction {
   public static void main(String[] args) {
-    Derived d = new Derived(7);
+    Derived d = new Derived(7, 8);
     d.show();
     new Base("base");
     System.out.println(d.label + " " + Base.made);
