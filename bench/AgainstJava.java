@@ -1,62 +1,22 @@
-import java.io.File;
 import java.io.IOException;
-import java.lang.reflect.Method;
-import java.lang.reflect.Modifier;
-import java.net.URL;
-import java.net.URLClassLoader;
 import java.nio.charset.StandardCharsets;
 import java.nio.file.Files;
 import java.nio.file.Path;
 import java.nio.file.Paths;
 import java.util.ArrayList;
 import java.util.Arrays;
+import java.util.Collections;
 import java.util.List;
 import java.util.Map;
+import java.util.Optional;
 import java.util.TreeMap;
-import java.util.TreeSet;
-import java.util.concurrent.TimeUnit;
-import java.util.regex.Matcher;
-import java.util.regex.Pattern;
 import java.util.stream.Collectors;
-import java.util.stream.Stream;
-import javax.tools.Diagnostic;
-import javax.tools.DiagnosticCollector;
-import javax.tools.JavaCompiler;
-import javax.tools.JavaFileObject;
-import javax.tools.StandardJavaFileManager;
-import javax.tools.ToolProvider;
 
 /** Compiles cases with the Java compiler and runs their mains; bench/against-java.sh says what is printed. */
 public final class AgainstJava {
-  private static final List<String> ANNOTATIONS =
-      Arrays.asList("Nullable", "NonNull", "Initialized", "UnderInitialization", "UnknownInitialization");
+  private static final List<String> FEW = Arrays.asList("one", "two");
 
-  private static final Pattern PACKAGE = Pattern.compile("(?m)^\\s*package\\s+([\\w.]+)\\s*;");
-  private static final Pattern IMPORT =
-      Pattern.compile("(?m)^\\s*import\\s+(org\\.checkerframework[\\w.]*)\\.(\\w+|\\*)\\s*;");
-
-  /** A case's last line: its status, behind what was written of an unfinished line. */
-  private static final Pattern STATUS = Pattern.compile("-- \\d+$");
-
-  private static final Pattern PUBLIC =
-      Pattern.compile("\\bpublic\\s+(?:(?:final|abstract)\\s+)*(?:class|interface)\\s+(\\w+)");
-
-  /** A command line of a table, and the status that the checker answers. */
-  private static final class Case {
-    final String line;
-    final int status;
-
-    Case(String line, int status) {
-      this.line = line;
-      this.status = status;
-    }
-
-    List<String> words() {
-      return line.isEmpty() ? new ArrayList<>() : Arrays.asList(line.trim().split("\\s+"));
-    }
-  }
-
-  /** What came of the cases with one status. */
+  /** What came of the files with one status. */
   private static final class Counts {
     int cases;
     int compiled;
@@ -67,224 +27,147 @@ public final class AgainstJava {
     int stopped;
   }
 
-  private enum Outcome { ENDED, NULL_FAULT, OTHER_FAULT, STOPPED }
-
   private final Path data;
   private final Path scratch;
-  private final Path stubs;
   private final int seconds;
-  private final JavaCompiler compiler = ToolProvider.getSystemJavaCompiler();
+  private final Optional<Path> program;
+  private final JavaFiles files;
   private final Map<Integer, Counts> counts = new TreeMap<>();
+  private final Map<String, Integer> runs = new TreeMap<>();
   private final List<String> differences = new ArrayList<>();
   private int failures;
 
-  private AgainstJava(Path data, Path scratch, int seconds) {
+  private AgainstJava(Path data, Path scratch, int seconds, Optional<Path> program) throws IOException {
     this.data = data;
     this.scratch = scratch;
-    this.stubs = scratch.resolve("stubs");
     this.seconds = seconds;
+    this.program = program;
+    this.files = new JavaFiles(data, scratch);
   }
 
-  /** Words: the folder of the cases, their stored outputs, a scratch folder, and the seconds that a run may take. */
+  /**
+   * Words: the folder of the cases, their stored outputs, a scratch folder, the seconds that a run may take, and the
+   * program that answers for runs, if the stored outputs aren't to.
+   */
   public static void main(String[] args) throws Exception {
-    AgainstJava against = new AgainstJava(Paths.get(args[0]), Paths.get(args[2]), Integer.parseInt(args[3]));
-    against.check(stored(Paths.get(args[1])));
+    Optional<Path> program = args.length > 4 ? Optional.of(Paths.get(args[4])) : Optional.empty();
+    AgainstJava against = new AgainstJava(Paths.get(args[0]), Paths.get(args[2]), Integer.parseInt(args[3]), program);
+    against.check(StoredCase.read(Paths.get(args[1])));
     System.exit(against.failures == 0 ? 0 : 1);
   }
 
-  /** The cases of a stored output: `== LINE`, what is written, and `-- STATUS`. */
-  private static List<Case> stored(Path output) throws IOException {
-    List<Case> cases = new ArrayList<>();
-    String line = null;
-    for (String text : Files.readAllLines(output, StandardCharsets.UTF_8)) {
-      if (text.startsWith("== ")) {
-        line = text.substring(3);
-      } else if (line != null && STATUS.matcher(text).find()) {
-        cases.add(new Case(line, Integer.parseInt(text.substring(text.lastIndexOf(' ') + 1))));
-        line = null;
+  private void check(List<StoredCase> cases) throws Exception {
+    List<StoredCase> plain = cases.stream().filter(one -> files.areFiles(one.words())).collect(Collectors.toList());
+    List<StoredCase> checked = new ArrayList<>(plain);
+    for (StoredCase one : cases) {
+      if (one.isRun() && one.isPlain() && RunAnswer.of(one.text, one.status).isPresent()) {
+        checkRun(one);
+        if (checked.stream().noneMatch(other -> other.files().equals(one.files()))) {
+          checked.add(new StoredCase(String.join(" ", one.files()), "", 0));
+        }
       }
     }
-    return cases;
+    for (StoredCase one : checked) {
+      checkFiles(one);
+    }
+    report(cases.size(), plain.size(), checked.size() - plain.size());
   }
 
-  private void check(List<Case> cases) throws Exception {
-    List<Case> plain = cases.stream().filter(this::namesFilesOnly).collect(Collectors.toList());
-    makeStubs();
-    int number = 0;
-    for (Case one : plain) {
-      checkCase(one, scratch.resolve("case" + number++));
-    }
-    report(cases.size(), plain.size());
-  }
-
-  private boolean namesFilesOnly(Case one) {
-    List<String> words = one.words();
-    return !words.isEmpty() && words.stream().allMatch(word -> Files.isRegularFile(data.resolve(word)));
-  }
-
-  /** Makes the annotations in the package without a name, in those of the files, and in those that they import. */
-  private void makeStubs() throws IOException {
-    TreeSet<String> names = new TreeSet<>(ANNOTATIONS);
-    try (Stream<Path> files = Files.list(data)) {
-      for (Path file : files.filter(path -> path.toString().endsWith(".java")).collect(Collectors.toList())) {
-        names.addAll(annotationsOf(new String(Files.readAllBytes(file), StandardCharsets.UTF_8)));
-      }
-    }
-    List<File> sources = new ArrayList<>();
-    for (String name : names) {
-      sources.add(makeStub(name).toFile());
-    }
-    if (!compile(sources, stubs).isEmpty()) {
-      throw new IOException("the annotations don't compile");
-    }
-  }
-
-  private static List<String> annotationsOf(String text) {
-    List<String> names = new ArrayList<>();
-    Matcher owns = PACKAGE.matcher(text);
-    while (owns.find()) {
-      ANNOTATIONS.forEach(name -> names.add(owns.group(1) + "." + name));
-    }
-    Matcher imports = IMPORT.matcher(text);
-    while (imports.find()) {
-      if (imports.group(2).equals("*")) {
-        ANNOTATIONS.forEach(name -> names.add(imports.group(1) + "." + name));
-      } else if (ANNOTATIONS.contains(imports.group(2))) {
-        names.add(imports.group(1) + "." + imports.group(2));
-      }
-    }
-    return names;
-  }
-
-  private Path makeStub(String name) throws IOException {
-    int dot = name.lastIndexOf('.');
-    Path source = scratch.resolve("annotations").resolve(name.replace('.', '/') + ".java");
-    Files.createDirectories(source.getParent());
-    String header = dot < 0 ? "" : "package " + name.substring(0, dot) + ";\n";
-    String targets = Stream.of("TYPE_USE", "TYPE", "CONSTRUCTOR", "METHOD", "FIELD", "PARAMETER", "LOCAL_VARIABLE")
-        .map(target -> "java.lang.annotation.ElementType." + target).collect(Collectors.joining(", "));
-    String text = header + "@java.lang.annotation.Target({" + targets + "})\npublic @interface "
-        + name.substring(dot + 1) + " { }\n";
-    Files.write(source, text.getBytes(StandardCharsets.UTF_8));
-    return source;
-  }
-
-  /** Compiles files into a folder, and gives the errors. */
-  private List<String> compile(List<File> files, Path folder) throws IOException {
-    Files.createDirectories(folder);
-    DiagnosticCollector<JavaFileObject> found = new DiagnosticCollector<>();
-    List<String> options = Arrays.asList("--release", "8", "-proc:none", "-nowarn", "-Xlint:none", "-encoding", "UTF-8",
-        "-cp", stubs.toString(), "-sourcepath", scratch.resolve("none").toString(), "-d", folder.toString());
-    try (StandardJavaFileManager manager = compiler.getStandardFileManager(found, null, StandardCharsets.UTF_8)) {
-      compiler.getTask(null, manager, found, options, null, manager.getJavaFileObjectsFromFiles(files)).call();
-    }
-    return found.getDiagnostics().stream().filter(one -> one.getKind() == Diagnostic.Kind.ERROR)
-        .map(AgainstJava::shown).collect(Collectors.toList());
-  }
-
-  private static String shown(Diagnostic<? extends JavaFileObject> error) {
-    String place = "";
-    if (error.getSource() != null) {
-      place = Paths.get(error.getSource().getName()).getFileName() + ":" + error.getLineNumber() + ": ";
-    }
-    return place + error.getMessage(null).replaceAll("\\s+", " ");
-  }
-
-  private void checkCase(Case one, Path folder) throws Exception {
+  /** Compiles the files of a case, and runs each of their mains without words and with a few. */
+  private void checkFiles(StoredCase one) throws Exception {
     Counts count = counts.computeIfAbsent(one.status, status -> new Counts());
     count.cases++;
-    List<String> errors = compile(sourcesOf(one, folder), folder);
-    if (!errors.isEmpty()) {
+    JavaFiles.Compiled compiled = files.compiled(one.files());
+    if (!compiled.errors.isEmpty()) {
       if (one.status != 2) {
-        differences.add(one.line + " is " + named(one.status) + ", and javac says: " + errors.get(0));
+        differences.add(one.line + " is " + named(one.status) + ", and javac says: " + compiled.errors.get(0));
       }
       return;
     }
     count.compiled++;
     if (one.status != 2) {
-      for (String main : mainsOf(folder)) {
+      for (String main : compiled.mains) {
         count.mains++;
-        runMain(one, count, folder, main);
+        runMain(one, count, compiled, main);
       }
     }
-  }
-
-  /** The case's files, each copied under the name of its public type, where it has one. */
-  private List<File> sourcesOf(Case one, Path folder) throws IOException {
-    List<File> files = new ArrayList<>();
-    for (String word : one.words().stream().distinct().collect(Collectors.toList())) {
-      byte[] bytes = Files.readAllBytes(data.resolve(word));
-      Matcher named = PUBLIC.matcher(new String(bytes, StandardCharsets.UTF_8));
-      String name = named.find() ? named.group(1) + ".java" : word;
-      Path copy = folder.resolve("sources" + files.size()).resolve(name);
-      Files.createDirectories(copy.getParent());
-      Files.write(copy, bytes);
-      files.add(copy.toFile());
-    }
-    return files;
-  }
-
-  /** The classes of a folder that declare a main. */
-  private List<String> mainsOf(Path folder) throws Exception {
-    List<String> mains = new ArrayList<>();
-    URL[] path = {folder.toUri().toURL(), stubs.toUri().toURL()};
-    try (URLClassLoader loader = new URLClassLoader(path); Stream<Path> files = Files.walk(folder)) {
-      for (Path file : files.filter(one -> one.toString().endsWith(".class")).sorted().collect(Collectors.toList())) {
-        String name = folder.relativize(file).toString().replaceAll("\\.class$", "").replace(File.separatorChar, '.');
-        for (Method method : Class.forName(name, false, loader).getDeclaredMethods()) {
-          if (isMain(method)) {
-            mains.add(name);
-          }
-        }
-      }
-    }
-    return mains;
-  }
-
-  private static boolean isMain(Method method) {
-    int modifiers = method.getModifiers();
-    return method.getName().equals("main") && Modifier.isPublic(modifiers) && Modifier.isStatic(modifiers)
-        && Arrays.equals(method.getParameterTypes(), new Class<?>[] {String[].class})
-        && method.getReturnType() == void.class;
   }
 
   /** Runs a main without words and with two, and counts the worse outcome. */
-  private void runMain(Case one, Counts count, Path folder, String main) throws Exception {
-    Outcome outcome = run(folder, main);
-    Outcome other = run(folder, main, "one", "two");
-    // Here the outputs and ends of both are to be compared with those of `nullcheck --run`, once the command takes it.
-    if (outcome == Outcome.ENDED || other == Outcome.NULL_FAULT) {
-      outcome = other;
+  private void runMain(StoredCase one, Counts count, JavaFiles.Compiled compiled, String main) throws Exception {
+    JavaRun bare = compiled.run(main, Collections.emptyList(), seconds);
+    JavaRun other = compiled.run(main, FEW, seconds);
+    if (one.status == 0 && program.isPresent() && compiled.startable.equals(Collections.singletonList(main))) {
+      compareAnswer(one, compiled, Collections.emptyList(), bare);
+      compareAnswer(one, compiled, FEW, other);
     }
-    switch (outcome) {
-      case ENDED: count.ended++; break;
-      case NULL_FAULT: count.nullFaults++; break;
-      case OTHER_FAULT: count.otherFaults++; break;
-      case STOPPED: count.stopped++; break;
+    JavaRun worse = bare.hasEnded() || other.isNullFault() ? other : bare;
+    if (worse.hasEnded()) {
+      count.ended++;
+    } else if (worse.isStopped) {
+      count.stopped++;
+    } else if (worse.isNullFault()) {
+      count.nullFaults++;
+    } else {
+      count.otherFaults++;
     }
-    if (one.status == 0 && outcome == Outcome.NULL_FAULT) {
-      failures++;
-      differences.add(one.line + " is accepted, and its main ends in a NullPointerException");
+    if (one.status == 0 && worse.isNullFault()) {
+      fails(one.line + " is accepted, and its main ends in a NullPointerException");
     }
   }
 
-  private Outcome run(Path folder, String main, String... words) throws Exception {
-    String java = Paths.get(System.getProperty("java.home"), "bin", "java").toString();
-    List<String> command = new ArrayList<>(Arrays.asList(java, "-Xmx256m", "-XX:TieredStopAtLevel=1", "-cp",
-        folder + File.pathSeparator + stubs, main));
-    command.addAll(Arrays.asList(words));
-    File said = folder.resolve("said").toFile();
-    Process process = new ProcessBuilder(command).redirectErrorStream(true).redirectOutput(said).start();
-    if (!process.waitFor(seconds, TimeUnit.SECONDS)) {
-      process.destroyForcibly().waitFor();
-      return Outcome.STOPPED;
+  /** Compares the program's run of files with Java's. */
+  private void compareAnswer(StoredCase one, JavaFiles.Compiled compiled, List<String> words, JavaRun java)
+      throws Exception {
+    List<String> command = new ArrayList<>(Arrays.asList("--run", "--words=" + String.join(" ", words)));
+    command.addAll(one.words());
+    String shown = "--run --words=" + String.join("~", words) + " " + one.line;
+    Optional<RunAnswer> answer = answered(command);
+    if (answer.isPresent()) {
+      compare(shown, answer.get(), compiled, java);
+    } else {
+      fails(shown + " isn't run, though the files have one main");
     }
-    if (process.exitValue() == 0) {
-      return Outcome.ENDED;
+  }
+
+  /** Compares a case that is a run with Java's run of its one main with its words. */
+  private void checkRun(StoredCase one) throws Exception {
+    Optional<RunAnswer> answer = program.isPresent() ? answered(one.words()) : RunAnswer.of(one.text, one.status);
+    JavaFiles.Compiled compiled = files.compiled(one.files());
+    if (!answer.isPresent()) {
+      fails(one.line + " isn't run");
+    } else if (!compiled.errors.isEmpty()) {
+      fails(one.line + " is run, and javac says: " + compiled.errors.get(0));
+    } else if (answer.get().hasMain() != (compiled.startable.size() == 1)) {
+      fails(one.line + " ends by " + answer.get().end + ", and its mains are " + compiled.startable);
+    } else if (answer.get().hasMain()) {
+      compare(one.line, answer.get(), compiled, compiled.run(compiled.startable.get(0), one.arguments(), seconds));
+    } else {
+      runs.merge(answer.get().kind(), 1, Integer::sum);
     }
-    String text = new String(Files.readAllBytes(said.toPath()), StandardCharsets.UTF_8);
-    boolean nullFault = text.contains("Exception in thread \"main\" java.lang.NullPointerException");
-    return nullFault ? Outcome.NULL_FAULT : Outcome.OTHER_FAULT;
+  }
+
+  private void compare(String line, RunAnswer answer, JavaFiles.Compiled compiled, JavaRun java) {
+    runs.merge(answer.kind(), 1, Integer::sum);
+    answer.difference(java, compiled.names).ifPresent(difference -> fails(line + " " + difference));
+  }
+
+  /** What the program answers to the words; none where it isn't what a run of accepted files answers. */
+  private Optional<RunAnswer> answered(List<String> words) throws Exception {
+    List<String> command = new ArrayList<>();
+    command.add(program.get().toString());
+    command.addAll(words);
+    Path written = scratch.resolve("written");
+    ProcessBuilder builder = new ProcessBuilder(command).directory(data.toFile()).redirectErrorStream(true)
+        .redirectOutput(written.toFile());
+    builder.environment().put("LC_ALL", "C.UTF-8");
+    int status = builder.start().waitFor();
+    return RunAnswer.of(new String(Files.readAllBytes(written), StandardCharsets.UTF_8), status);
+  }
+
+  private void fails(String difference) {
+    failures++;
+    differences.add(difference);
   }
 
   private static String named(int status) {
@@ -296,13 +179,16 @@ public final class AgainstJava {
     }
   }
 
-  private void report(int lines, int plain) {
-    System.out.println(lines + " cases, of which " + plain + " name files alone");
+  private void report(int lines, int plain, int further) {
+    System.out.println(lines + " cases, of which " + plain + " name files alone; runs name " + further
+        + " further sets of files");
     System.out.printf("%-10s %6s %9s %6s %6s %12s %12s %8s%n", "answer", "cases", "compiled", "mains", "ended",
         "null faults", "other faults", "stopped");
     counts.forEach((status, count) -> System.out.printf("%-10s %6d %9d %6d %6d %12d %12d %8d%n", named(status),
         count.cases, count.compiled, count.mains, count.ended, count.nullFaults, count.otherFaults, count.stopped));
-    System.out.println(differences.size() + " differences");
+    int compared = runs.values().stream().mapToInt(Integer::intValue).sum();
+    System.out.println(compared + " runs compared: " + runs);
+    System.out.println(differences.size() + " differences, of which " + failures + " count");
     differences.forEach(difference -> System.out.println("  " + difference));
   }
 }

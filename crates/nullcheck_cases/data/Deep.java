@@ -1,0 +1,5 @@
+class Deep {
+  public static void main(String[] args) {
+    main(args);
+  }
+}

@@ -1,0 +1,5 @@
+class Divider {
+  static int divided(int a, int b) {
+    return a / b;
+  }
+}

@@ -1,0 +1,3 @@
+class EmptyMain {
+  public static void main(String[] args) { }
+}

@@ -1,0 +1,5 @@
+class Endless {
+  public static void main(String[] args) {
+    while (true) { }
+  }
+}

@@ -1,0 +1,5 @@
+class FreeArgs {
+  public static void main(String @UnknownInitialization [] args) {
+    System.out.println("started");
+  }
+}

@@ -1,0 +1,5 @@
+class NegativeSize {
+  public static void main(String[] args) {
+    int[] a = new int[-1];
+  }
+}

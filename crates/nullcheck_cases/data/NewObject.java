@@ -1,0 +1,5 @@
+class NewObject {
+  public static void main(String[] args) {
+    new Object();
+  }
+}

@@ -1,0 +1,5 @@
+class NoMain {
+  public static void main() {
+    System.out.println("no words");
+  }
+}

@@ -1,0 +1,5 @@
+class NullableWords {
+  public static void main(@Nullable String[] args) {
+    System.out.println("started");
+  }
+}

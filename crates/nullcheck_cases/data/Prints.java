@@ -1,0 +1,6 @@
+class Prints {
+  public static void main(String[] args) {
+    System.out.println("a");
+    System.out.println("b");
+  }
+}
