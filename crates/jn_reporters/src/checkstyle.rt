@@ -4,13 +4,19 @@ ghost use Rattle.jn_reporters.specs.Checkstyle as spec;
 
 use crate::document::{Document, Format};
 use crate::escapes::{Escape, put};
+use crate::reporter::Reporter;
 use itoa::{Buffer, Integer};
 use jn_base::Code;
 use jn_diag::RowText;
 use std::alloc::{AllocError, Global};
 
-/// Shows the document in this format.
+/// Shows the XML of Checkstyle.
 pub type Checkstyle = Document<CheckstyleXml>;
+
+/// What it shows of rows and a verdict is `checkstyle_shown`.
+pub fn checkstyle_shows(reporter: &Checkstyle)
+    ensures { ⟦<Checkstyle as Reporter>⟧.shown reporter.now ≡ spec.checkstyle_shown }
+{}
 
 /// The XML of Checkstyle: an element for each run of rows of one file, and in it one for each row.
 #[derive(Drop)]

@@ -5,13 +5,19 @@ ghost use Rattle.jn_reporters.specs.Sarif as spec;
 use crate::codes::{all, place};
 use crate::document::{Document, Format};
 use crate::escapes::{Escape, put};
+use crate::reporter::Reporter;
 use itoa::{Buffer, Integer};
 use jn_base::Code;
 use jn_diag::RowText;
 use std::alloc::{AllocError, Global};
 
-/// Shows the document in this format.
+/// Shows a log of one run in SARIF 2.1.0.
 pub type Sarif = Document<SarifLog>;
+
+/// What it shows of rows and a verdict is `sarif_shown`.
+pub fn sarif_shows(reporter: &Sarif)
+    ensures { ⟦<Sarif as Reporter>⟧.shown reporter.now ≡ spec.sarif_shown }
+{}
 
 /// A log of one run in SARIF 2.1.0: a rule for each code that occurs, and a result for each row.
 #[derive(Drop)]
