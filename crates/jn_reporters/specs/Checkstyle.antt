@@ -1,9 +1,10 @@
 -- The report as the XML of Checkstyle (its XMLLogger).
-use Rattle.std.specs.Prelude.{ℕ, ◌++◌, List, [], ◌∷◌, Option, Some, None, codes, decimal, bytes_eq, if◌then◌else◌}
+use Rattle.std.specs.Prelude.{ℕ, ◌++◌, List, [], ◌∷◌, Option, codes, decimal, bytes_eq, if◌then◌else◌}
 use Rattle.jn_base.specs.Codes.{code_name, code_text}
 use Rattle.jn_diag.specs.declared.shown.RowText.{RowText}
 use Rattle.jn_diag.specs.declared.shown.Verdict.{Verdict}
 use Rattle.jn_reporters.specs.Escapes.{escaped}
+use Rattle.jn_reporters.specs.Sheet.{document_shown}
 use Rattle.jn_reporters.specs.declared.escapes.Escape.TheVariants.{Xml}
 
 -- the element of a row: where it stands, and what it says
@@ -43,7 +44,5 @@ abbrev pub checkstyle_document : List RowText → List ℕ
 checkstyle_document rows =
     codes "<?xml version=\"1.0\" encoding=\"UTF-8\"?>\n<checkstyle version=\"4.3\">\n" ++ file_elements rows ++ codes "</checkstyle>\n"
 
--- the document comes with the verdict, and before it nothing
 abbrev pub checkstyle_shown : List RowText → Option Verdict → List ℕ
-checkstyle_shown rows None = []
-checkstyle_shown rows (Some verdict) = checkstyle_document rows
+checkstyle_shown = document_shown checkstyle_document

@@ -1,5 +1,5 @@
 -- The report as a log of one run in SARIF (Static Analysis Results Interchange Format, version 2.1.0, OASIS).
-use Rattle.std.specs.Prelude.{ℕ, ◌==◌, ◌++◌, Bool, List, [], ◌∷◌, Option, Some, None, codes, decimal, filter}
+use Rattle.std.specs.Prelude.{ℕ, ◌==◌, ◌++◌, Bool, List, [], ◌∷◌, Option, codes, decimal, filter}
 use Rattle.std.specs.List.{flat_map, list_any}
 use Rattle.jn_base.specs.Codes.{code_name, code_text}
 use Rattle.jn_base.specs.declared.code.Code.{Code}
@@ -9,6 +9,7 @@ use Rattle.jn_diag.specs.declared.shown.Verdict.{Verdict}
 use Rattle.jn_reporters.specs.Escapes.{escaped}
 use Rattle.jn_reporters.specs.Reports.{all_codes}
 use Rattle.jn_reporters.specs.declared.escapes.Escape.TheVariants.{Json, Uri}
+use Rattle.jn_reporters.specs.Sheet.{document_shown}
 
 -- an item of an array behind another, and all items behind the first
 unfoldable pub next : {A : Type 0} → (A → List ℕ) → A → List ℕ
@@ -68,7 +69,5 @@ behind_results = codes "\n      ]\n    }\n  ]\n}\n"
 abbrev pub sarif_document : List RowText → List ℕ
 sarif_document rows = before_rules ++ listed rule_object (occurring rows all_codes) ++ before_results ++ listed result_object rows ++ behind_results
 
--- the document comes with the verdict, and before it nothing
 abbrev pub sarif_shown : List RowText → Option Verdict → List ℕ
-sarif_shown rows None = []
-sarif_shown rows (Some verdict) = sarif_document rows
+sarif_shown = document_shown sarif_document

@@ -31,3 +31,8 @@ with_lines sheet row lines = record sheet { rows = sheet.rows ++ row ∷ []; lin
 
 abbrev pub with_verdict : Lined → Verdict → Lined
 with_verdict sheet verdict = record sheet { verdict = Some verdict }
+
+-- the document comes with the verdict, and before it nothing
+abbrev pub document_shown : (List RowText → List ℕ) → List RowText → Option Verdict → List ℕ
+document_shown document rows None = []
+document_shown document rows (Some verdict) = document rows

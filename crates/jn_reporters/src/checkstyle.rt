@@ -1,116 +1,48 @@
 // The report as the XML of Checkstyle.
 ghost use Rattle.std.specs.Prelude.{◌≡◌, ◌++◌, IfOk, OnOk};
 ghost use Rattle.jn_reporters.specs.Checkstyle as spec;
-ghost use Rattle.jn_reporters.specs.Sheet.{nothing_taken};
 
+use crate::document::{Document, Format};
 use crate::escapes::{Escape, put};
-use crate::gathered::push_copy;
 use crate::reporter::Reporter;
 use itoa::{Buffer, Integer};
-use jn_base::{Code, OutOfMemory};
-use jn_diag::{RowText, Verdict};
+use jn_base::Code;
+use jn_diag::RowText;
 use std::alloc::{AllocError, Global};
-use std::marker::Model;
 
-/// Shows the XML of Checkstyle: an element for each run of rows of one file, and in it one for each row.
-/// Nothing is shown before a verdict is given. The document is made when it is given, in time linear in its size, and
-/// made anew for each row behind it.
+/// Shows the XML of Checkstyle.
+pub type Checkstyle = Document<CheckstyleXml>;
+
+/// What it shows of rows and a verdict is `checkstyle_shown`.
+pub fn checkstyle_shows(reporter: &Checkstyle)
+    ensures { ⟦<Checkstyle as Reporter>⟧.shown reporter.now ≡ spec.checkstyle_shown }
+{}
+
+/// The XML of Checkstyle: an element for each run of rows of one file, and in it one for each row.
 #[derive(Drop)]
-pub struct Checkstyle {
-    alloc: Global,
-    rows: Vec<RowText>,
-    verdict: Option<Verdict>,
-    /// The document of the rows, or nothing where no verdict was given.
-    text: Vec<u8>,
-}
+pub struct CheckstyleXml;
 
-impl Model for Checkstyle {
-    ghost use Rattle.std.specs.Prelude.{◌≡◌};
-    ghost use Rattle.jn_reporters.specs.Checkstyle.{checkstyle_shown};
-    ghost use Rattle.jn_reporters.specs.Sheet.{Taken};
-
-    ghost Value = { Taken };
-
-    ghost view = { λ a. record { rows = a.rows.items; verdict = a.verdict } };
-
-    ghost invariant = { λ a. a.text.items ≡ checkstyle_shown a.rows.items a.verdict };
-}
-
-impl Checkstyle {
-    pub fn new(alloc: Global) -> Self
-        ensures { result ≡ nothing_taken }
-    {
-        Checkstyle {
-            alloc,
-            rows: Vec::new(alloc),
-            verdict: None,
-            text: Vec::new(alloc),
-        }
-    }
-}
-
-impl Reporter for Checkstyle {
+impl Format for CheckstyleXml {
     ghost use Rattle.std.specs.Prelude.{codes};
-    ghost use Rattle.jn_reporters.specs.Checkstyle.{checkstyle_shown};
+    ghost use Rattle.jn_reporters.specs.Checkstyle.{checkstyle_document};
 
-    ghost rows = { λ a. a.rows };
+    ghost title = { codes "checkstyle" };
 
-    ghost given = { λ a. a.verdict };
+    ghost written = { checkstyle_document };
 
-    ghost title = { λ a. codes "checkstyle" };
-
-    ghost shown = { λ a. checkstyle_shown };
-
-    fn name(&self) -> &str {
+    fn name() -> &'static str {
         "checkstyle"
     }
 
-    fn take(&mut self, row: &RowText) -> Result<(), OutOfMemory> {
-        push_copy(self.alloc, &mut self.rows, row)?;
-        match shown(self.alloc, &self.rows, self.verdict) {
-            Ok(text) => {
-                self.text = text;
-                Ok(())
-            }
-            Err(_) => {
-                self.rows.pop();
-                Err(OutOfMemory)
-            }
-        }
+    fn document(alloc: Global, rows: &[RowText]) -> Result<Vec<u8>, AllocError> {
+        let mut text = Vec::from_slice(
+            alloc,
+            b"<?xml version=\"1.0\" encoding=\"UTF-8\"?>\n<checkstyle version=\"4.3\">\n",
+        )?;
+        put_files(&mut text, alloc, rows)?;
+        text.extend_from_slice(b"</checkstyle>\n")?;
+        Ok(text)
     }
-
-    fn finish(&mut self, verdict: Verdict) -> Result<(), OutOfMemory> {
-        let text = shown(self.alloc, &self.rows, Some(verdict))?;
-        self.text = text;
-        self.verdict = Some(verdict);
-        Ok(())
-    }
-
-    fn bytes(&self) -> &[u8] {
-        &self.text
-    }
-}
-
-/// The document of the rows, or nothing where no verdict was given.
-fn shown(alloc: Global, rows: &[RowText], verdict: Option<Verdict>) -> Result<Vec<u8>, AllocError>
-    ensures { IfOk result (λ text. text.items ≡ spec.checkstyle_shown rows.now verdict) }
-{
-    match verdict {
-        None => Ok(Vec::new(alloc)),
-        Some(_) => document(alloc, rows),
-    }
-}
-
-fn document(alloc: Global, rows: &[RowText]) -> Result<Vec<u8>, AllocError>
-    ensures { IfOk result (λ text. text.items ≡ spec.checkstyle_document rows.now) }
-{
-    let mut text = Vec::from_slice(
-        alloc,
-        b"<?xml version=\"1.0\" encoding=\"UTF-8\"?>\n<checkstyle version=\"4.3\">\n",
-    )?;
-    put_files(&mut text, alloc, rows)?;
-    text.extend_from_slice(b"</checkstyle>\n")?;
-    Ok(text)
 }
 
 /// Puts an element for each run of rows of one file.

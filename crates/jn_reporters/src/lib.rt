@@ -3,6 +3,7 @@
 
 pub mod checkstyle;
 mod codes;
+pub mod document;
 mod escapes;
 mod gathered;
 pub mod github;
@@ -15,6 +16,7 @@ pub mod summary;
 pub mod tabbed;
 
 pub use checkstyle::Checkstyle;
+pub use document::{Document, Format};
 pub use github::Github;
 pub use plain::Plain;
 pub use reporter::Reporter;

@@ -1,118 +1,50 @@
 // The report in SARIF.
 ghost use Rattle.std.specs.Prelude.{◌≡◌, ◌++◌, ◌∷◌, [], IfOk, OnOk};
 ghost use Rattle.jn_reporters.specs.Sarif as spec;
-ghost use Rattle.jn_reporters.specs.Sheet.{nothing_taken};
 
 use crate::codes::{all, place};
+use crate::document::{Document, Format};
 use crate::escapes::{Escape, put};
-use crate::gathered::push_copy;
 use crate::reporter::Reporter;
 use itoa::{Buffer, Integer};
-use jn_base::{Code, OutOfMemory};
-use jn_diag::{RowText, Verdict};
+use jn_base::Code;
+use jn_diag::RowText;
 use std::alloc::{AllocError, Global};
-use std::marker::Model;
 
-/// Shows a log of one run in SARIF 2.1.0: a rule for each code that occurs, and a result for each row.
-/// Nothing is shown before a verdict is given. The document is made when it is given, in time linear in its size, and
-/// made anew for each row behind it.
+/// Shows a log of one run in SARIF 2.1.0.
+pub type Sarif = Document<SarifLog>;
+
+/// What it shows of rows and a verdict is `sarif_shown`.
+pub fn sarif_shows(reporter: &Sarif)
+    ensures { ⟦<Sarif as Reporter>⟧.shown reporter.now ≡ spec.sarif_shown }
+{}
+
+/// A log of one run in SARIF 2.1.0: a rule for each code that occurs, and a result for each row.
 #[derive(Drop)]
-pub struct Sarif {
-    alloc: Global,
-    rows: Vec<RowText>,
-    verdict: Option<Verdict>,
-    /// The document of the rows, or nothing where no verdict was given.
-    text: Vec<u8>,
-}
+pub struct SarifLog;
 
-impl Model for Sarif {
-    ghost use Rattle.std.specs.Prelude.{◌≡◌};
-    ghost use Rattle.jn_reporters.specs.Sarif.{sarif_shown};
-    ghost use Rattle.jn_reporters.specs.Sheet.{Taken};
-
-    ghost Value = { Taken };
-
-    ghost view = { λ a. record { rows = a.rows.items; verdict = a.verdict } };
-
-    ghost invariant = { λ a. a.text.items ≡ sarif_shown a.rows.items a.verdict };
-}
-
-impl Sarif {
-    pub fn new(alloc: Global) -> Self
-        ensures { result ≡ nothing_taken }
-    {
-        Sarif {
-            alloc,
-            rows: Vec::new(alloc),
-            verdict: None,
-            text: Vec::new(alloc),
-        }
-    }
-}
-
-impl Reporter for Sarif {
+impl Format for SarifLog {
     ghost use Rattle.std.specs.Prelude.{codes};
-    ghost use Rattle.jn_reporters.specs.Sarif.{sarif_shown};
+    ghost use Rattle.jn_reporters.specs.Sarif.{sarif_document};
 
-    ghost rows = { λ a. a.rows };
+    ghost title = { codes "sarif" };
 
-    ghost given = { λ a. a.verdict };
+    ghost written = { sarif_document };
 
-    ghost title = { λ a. codes "sarif" };
-
-    ghost shown = { λ a. sarif_shown };
-
-    fn name(&self) -> &str {
+    fn name() -> &'static str {
         "sarif"
     }
 
-    fn take(&mut self, row: &RowText) -> Result<(), OutOfMemory> {
-        push_copy(self.alloc, &mut self.rows, row)?;
-        match shown(self.alloc, &self.rows, self.verdict) {
-            Ok(text) => {
-                self.text = text;
-                Ok(())
-            }
-            Err(_) => {
-                self.rows.pop();
-                Err(OutOfMemory)
-            }
-        }
+    fn document(alloc: Global, rows: &[RowText]) -> Result<Vec<u8>, AllocError> {
+        let codes = occurring(alloc, rows, &all())?;
+        let mut text = Vec::new(alloc);
+        put_before_rules(&mut text)?;
+        put_rules(&mut text, alloc, &codes)?;
+        put_before_results(&mut text)?;
+        put_results(&mut text, alloc, rows)?;
+        put_behind_results(&mut text)?;
+        Ok(text)
     }
-
-    fn finish(&mut self, verdict: Verdict) -> Result<(), OutOfMemory> {
-        let text = shown(self.alloc, &self.rows, Some(verdict))?;
-        self.text = text;
-        self.verdict = Some(verdict);
-        Ok(())
-    }
-
-    fn bytes(&self) -> &[u8] {
-        &self.text
-    }
-}
-
-/// The document of the rows, or nothing where no verdict was given.
-fn shown(alloc: Global, rows: &[RowText], verdict: Option<Verdict>) -> Result<Vec<u8>, AllocError>
-    ensures { IfOk result (λ text. text.items ≡ spec.sarif_shown rows.now verdict) }
-{
-    match verdict {
-        None => Ok(Vec::new(alloc)),
-        Some(_) => document(alloc, rows),
-    }
-}
-
-fn document(alloc: Global, rows: &[RowText]) -> Result<Vec<u8>, AllocError>
-    ensures { IfOk result (λ text. text.items ≡ spec.sarif_document rows.now) }
-{
-    let codes = occurring(alloc, rows, &all())?;
-    let mut text = Vec::new(alloc);
-    put_before_rules(&mut text)?;
-    put_rules(&mut text, alloc, &codes)?;
-    put_before_results(&mut text)?;
-    put_results(&mut text, alloc, rows)?;
-    put_behind_results(&mut text)?;
-    Ok(text)
 }
 
 /// Those of the codes that some row has.

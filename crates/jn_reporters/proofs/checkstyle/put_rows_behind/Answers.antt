@@ -1,4 +1,3 @@
-use Rattle.std.proofs.Common.{◌≡◌}
 use Rattle.jn_reporters.proofs.Behind.{row_more}
 use Rattle.jn_reporters.proofs.checkstyle.put_rows_behind.Goals as goal
 

@@ -1,0 +1,120 @@
+// Reports that are one document of all rows.
+ghost use Rattle.std.specs.Prelude.{◌≡◌, ℕ, List, IfOk};
+ghost use Rattle.jn_diag.specs.declared.shown.RowText.{RowText};
+ghost use Rattle.jn_reporters.specs.Sheet.{document_shown, nothing_taken};
+
+use crate::gathered::push_copy;
+use crate::reporter::Reporter;
+use jn_base::OutOfMemory;
+use jn_diag::{RowText, Verdict};
+use std::alloc::{AllocError, Global};
+use std::marker::{Model, PhantomData};
+
+/// How rows are written as one document.
+pub trait Format: Drop {
+    /// The name by which the reporter is chosen.
+    ghost title: { List ℕ };
+
+    /// The document of the rows.
+    ghost written: { List RowText → List ℕ };
+
+    /// The name by which the reporter is chosen.
+    fn name() -> &'static str
+        ensures { result.now ≡ title };
+
+    /// The document of the rows, made in time linear in its size.
+    fn document(alloc: Global, rows: &[RowText]) -> Result<Vec<u8>, AllocError>
+        ensures { IfOk result (λ text. text.items ≡ written rows.now) };
+}
+
+/// Shows the document of the rows in this format, and nothing before a verdict is given.
+/// The document is made when the verdict is given, and made anew for each row behind it.
+#[derive(Drop)]
+pub struct Document<F: Format> {
+    alloc: Global,
+    rows: Vec<RowText>,
+    verdict: Option<Verdict>,
+    /// The document of the rows, or nothing where no verdict was given.
+    text: Vec<u8>,
+    format: PhantomData<F>,
+}
+
+impl<F: Format> Model for Document<F> {
+    ghost use Rattle.std.specs.Prelude.{◌≡◌};
+    ghost use Rattle.jn_reporters.specs.Sheet.{Taken, document_shown};
+
+    ghost Value = { Taken };
+
+    ghost view = { λ a. record { rows = a.rows.items; verdict = a.verdict } };
+
+    ghost invariant = { λ a. a.text.items ≡ document_shown F.written a.rows.items a.verdict };
+}
+
+impl<F: Format> Document<F> {
+    pub fn new(alloc: Global) -> Self
+        ensures { result ≡ nothing_taken }
+    {
+        Document {
+            alloc,
+            rows: Vec::new(alloc),
+            verdict: None,
+            text: Vec::new(alloc),
+            format: PhantomData,
+        }
+    }
+}
+
+impl<F: Format> Reporter for Document<F> {
+    ghost use Rattle.jn_reporters.specs.Sheet.{document_shown};
+
+    ghost rows = { λ a. a.rows };
+
+    ghost given = { λ a. a.verdict };
+
+    ghost title = { λ a. F.title };
+
+    ghost shown = { λ a. document_shown F.written };
+
+    fn name(&self) -> &str {
+        F::name()
+    }
+
+    fn take(&mut self, row: &RowText) -> Result<(), OutOfMemory> {
+        push_copy(self.alloc, &mut self.rows, row)?;
+        match shown::<F>(self.alloc, &self.rows, self.verdict) {
+            Ok(text) => {
+                self.text = text;
+                Ok(())
+            }
+            Err(_) => {
+                self.rows.pop();
+                Err(OutOfMemory)
+            }
+        }
+    }
+
+    fn finish(&mut self, verdict: Verdict) -> Result<(), OutOfMemory> {
+        let text = shown::<F>(self.alloc, &self.rows, Some(verdict))?;
+        self.text = text;
+        self.verdict = Some(verdict);
+        Ok(())
+    }
+
+    fn bytes(&self) -> &[u8] {
+        &self.text
+    }
+}
+
+/// The document of the rows, or nothing where no verdict was given.
+fn shown<F: Format>(
+    alloc: Global,
+    rows: &[RowText],
+    verdict: Option<Verdict>,
+) -> Result<Vec<u8>, AllocError>
+    ensures { IfOk result (λ text. text.items ≡ document_shown F.written rows.now verdict) }
+{
+    match verdict {
+        None => Ok(Vec::new(alloc)),
+        Some(_) => F::document(alloc, rows),
+    }
+}
