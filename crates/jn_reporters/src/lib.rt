@@ -5,7 +5,6 @@ pub mod checkstyle;
 mod codes;
 pub mod document;
 mod escapes;
-pub mod every;
 mod gathered;
 pub mod github;
 mod lines;
@@ -18,7 +17,6 @@ pub mod tabbed;
 
 pub use checkstyle::Checkstyle;
 pub use document::{Document, Format};
-pub use every::every_reporter;
 pub use github::Github;
 pub use plain::Plain;
 pub use reporter::Reporter;

@@ -1,10 +1,11 @@
-// Does what the words ask for, and ends with the status's number.
+// Checks the files that the words name, and ends with the status's number.
 #![tactic(auto)]
 
 use jn_outside::{HostFiles, HostSink};
-use jn_reporters::every_reporter;
+use jn_reporters::{Checkstyle, Github, Plain, Reporter, Sarif, Summary, Tabbed};
 use jn_workers::Straight;
 use nullcheck_top::{Status, nullcheck};
+use std::alloc::AllocError;
 use std::env;
 use std::io::{self, ErrorKind};
 use std::process::ExitCode;
@@ -21,6 +22,21 @@ fn words(rt: &HostRuntime) -> io::Result<Vec<String>> {
     Ok(words)
 }
 
+/// Checks what the words ask for. The reporters are made here, of which a command takes one by its name.
+fn checked(rt: &HostRuntime, words: &[String]) -> Result<Status, AllocError> {
+    let alloc = rt.alloc();
+    let mut reporters: Vec<Box<dyn Reporter>> = Vec::new(alloc);
+    reporters.push(Box::new(alloc, Plain::new(alloc))?)?;
+    reporters.push(Box::new(alloc, Tabbed::new(alloc))?)?;
+    reporters.push(Box::new(alloc, Summary::new(alloc))?)?;
+    reporters.push(Box::new(alloc, Github::new(alloc))?)?;
+    reporters.push(Box::new(alloc, Checkstyle::new(alloc))?)?;
+    reporters.push(Box::new(alloc, Sarif::new(alloc))?)?;
+    let mut files = HostFiles::new(rt);
+    let mut out = HostSink::new(rt);
+    Ok(nullcheck(rt, alloc, words, reporters, &mut files, &mut out, &Straight))
+}
+
 fn main(rt: HostRuntime) -> ExitCode {
     let words = match words(&rt) {
         Ok(words) => words,
@@ -29,19 +45,8 @@ fn main(rt: HostRuntime) -> ExitCode {
         }
         Err(_) => return ExitCode::from(NOT_TEXT),
     };
-    let Ok(reporters) = every_reporter(rt.alloc()) else {
-        return ExitCode::from(Status::OutOfMemory.number());
-    };
-    let mut files = HostFiles::new(&rt);
-    let mut out = HostSink::new(&rt);
-    let status = nullcheck(
-        &rt,
-        rt.alloc(),
-        &words,
-        reporters,
-        &mut files,
-        &mut out,
-        &Straight,
-    );
-    ExitCode::from(status.number())
+    match checked(&rt, &words) {
+        Ok(status) => ExitCode::from(status.number()),
+        Err(AllocError) => ExitCode::from(Status::OutOfMemory.number()),
+    }
 }
