@@ -1,4 +1,4 @@
-// Checks the files that the words name, and ends with the status's number.
+// Does what the words ask for, and ends with the status's number.
 #![tactic(auto)]
 
 use jn_outside::{HostFiles, HostSink};
@@ -9,6 +9,7 @@ use std::alloc::AllocError;
 use std::env;
 use std::io::{self, ErrorKind};
 use std::process::ExitCode;
+use std::thread::Threads;
 
 /// The number with which the program ends where a word is not text.
 const NOT_TEXT: u8 = 8;
@@ -22,8 +23,12 @@ fn words(rt: &HostRuntime) -> io::Result<Vec<String>> {
     Ok(words)
 }
 
-/// Checks what the words ask for. The reporters are made here, of which a command takes one by its name.
-fn checked(rt: &HostRuntime, words: &[String]) -> Result<Status, AllocError> {
+/// Does what the words ask for. The reporters are made here, of which a command takes one by its name.
+fn done<R: Threads + Sync>(
+    rt: &HostRuntime,
+    threads: &R,
+    words: &[String],
+) -> Result<Status, AllocError> {
     let alloc = rt.alloc();
     let mut reporters: Vec<Box<dyn Reporter>> = Vec::new(alloc);
     reporters.push(Box::new(alloc, Plain::new(alloc))?)?;
@@ -34,7 +39,9 @@ fn checked(rt: &HostRuntime, words: &[String]) -> Result<Status, AllocError> {
     reporters.push(Box::new(alloc, Sarif::new(alloc))?)?;
     let mut files = HostFiles::new(rt);
     let mut out = HostSink::new(rt);
-    Ok(nullcheck(rt, alloc, words, reporters, &mut files, &mut out, &Straight))
+    Ok(nullcheck(
+        threads, alloc, words, reporters, &mut files, &mut out, &Straight,
+    ))
 }
 
 fn main(rt: HostRuntime) -> ExitCode {
@@ -45,7 +52,7 @@ fn main(rt: HostRuntime) -> ExitCode {
         }
         Err(_) => return ExitCode::from(NOT_TEXT),
     };
-    match checked(&rt, &words) {
+    match done(&rt, &rt, &words) {
         Ok(status) => ExitCode::from(status.number()),
         Err(AllocError) => ExitCode::from(Status::OutOfMemory.number()),
     }
