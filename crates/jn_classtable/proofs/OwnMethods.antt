@@ -5,10 +5,10 @@ use Rattle.std.proofs.lemmas.Bool.{eqb-true, eq-eqb, or_left, or_right}
 use Rattle.jn_points.specs.declared.program.Method.{Method}
 use Rattle.jn_points.specs.declared.program.Program.{Program}
 use Rattle.jn_points.specs.Lookup.{method_at}
-use Rattle.jn_points.specs.Members.{declared_method, first_or, first_some, is_named, is_number, method_of, some_of}
-use Rattle.jn_index.specs.Numbers.{contains, list_at, places_of}
-use Rattle.jn_index.specs.Index.{owners, passes, Lists, IsIndex}
-use Rattle.jn_index.proofs.Declared.{walk_finds}
+use Rattle.jn_points.specs.Members.{declared_method, first_or, first_some, is_named, is_number, method_of, some_of, walk}
+use Rattle.jn_index.specs.Numbers.{contains, list_at, places_of, passes}
+use Rattle.jn_index.specs.Index.{owners, Lists, IsIndex}
+use Rattle.jn_index.proofs.Busied.{busy_abstract}
 use Rattle.jn_index.proofs.Having.{contained_some, same_truth, some_contained}
 use Rattle.jn_classtable.specs.Rows.{some_at}
 use Rattle.jn_classtable.proofs.Tests.{and_true, or_true}
@@ -82,12 +82,12 @@ first_some_in f (x ∷ xs) k h = by (f x) refl h (first_some_in f xs k)
     by None e h rest = let r = rest h in (r.0, or_right (eqb x r.0) (contains xs r.0) r.1, r.2)
 
 -- a class has a method from a class of its walk
-pub in_its_walk : (P : Program) (x : Lists) → IsIndex P x → (c name arity k : ℕ) (y : Method) → c < length P.classes → method_at P k ≡ Some y → is_number (method_of P c name arity) k ≡ true → contains (list_at x.walks c) y.owner.0 ≡ true
-in_its_walk P x is c name arity k y l at h = by (method_of P c name arity) refl h
+pub in_its_walk : (P : Program) (c name arity k : ℕ) (y : Method) → method_at P k ≡ Some y → is_number (method_of P c name arity) k ≡ true → contains (walk P c) y.owner.0 ≡ true
+in_its_walk P c name arity k y at h = by (method_of P c name arity) refl h
   where
-    found : (j : ℕ) → method_of P c name arity ≡ Some j → j ≡ k → contains (list_at x.walks c) y.owner.0 ≡ true
+    found : (j : ℕ) → method_of P c name arity ≡ Some j → j ≡ k → contains (walk P c) y.owner.0 ≡ true
     found j e s =
-        let d = first_some_in (declared_method P c name arity) (list_at x.walks c) j (walk_finds P x is c name arity l ∙ e) in
+        let d = first_some_in (declared_method P c name arity) (walk P c) j e in
         let m = first_at_passes (λ (m : Method). is_named m name arity && eqb m.owner.0 d.0 && (not m.is_private || eqb d.0 c)) 0 P.methods j d.2 in
         let n : j ≡ 0 + m.0 = m.4 in
         let p : m.0 ≡ k = omega arith in
@@ -96,12 +96,12 @@ in_its_walk P x is c name arity k y l at h = by (method_of P c name arity) refl 
         let a = and_true (is_named m.1 name arity && eqb m.1.owner.0 d.0) (not m.1.is_private || eqb d.0 c) m.3 in
         let b = and_true (is_named m.1 name arity) (eqb m.1.owner.0 d.0) a.0 in
         let o : y.owner.0 ≡ d.0 = ap (λ (z : Method). z.owner.0) (sym one) ∙ eqb-true m.1.owner.0 d.0 b.1 in
-        subst (λ i. contains (list_at x.walks c) i ≡ true) (sym o) d.1
+        subst (λ i. contains (walk P c) i ≡ true) (sym o) d.1
 
-    by : (o : Option ℕ) → method_of P c name arity ≡ o → is_number o k ≡ true → contains (list_at x.walks c) y.owner.0 ≡ true
+    by : (o : Option ℕ) → method_of P c name arity ≡ o → is_number o k ≡ true → contains (walk P c) y.owner.0 ≡ true
     by None e h = cc
     by (Some j) e h = found j e (eqb-true j k h)
 
--- T6: a class's abstract methods stand in its walk
+-- T6: a class's abstract methods stand in busy classes of its walk
 pub lacking_in_walk : (P : Program) (x : Lists) (c : ℕ) → IsIndex P x → c < length P.classes → some_of (λ d. some_of (λ k. passes (λ (y : Method). y.is_abstract && is_number (method_of P c y.name.0 (length y.params)) k) (method_at P k)) (list_at x.own d)) (list_at x.walks c) ≡ some_at (λ m y. y.is_abstract && is_number (method_of P c y.name.0 (length y.params)) m) 0 P.methods
-lacking_in_walk P x c is l = along_classes P x is (λ k y. y.is_abstract && is_number (method_of P c y.name.0 (length y.params)) k) (list_at x.walks c) (λ k y at h. in_its_walk P x is c y.name.0 (length y.params) k y l at (and_true y.is_abstract (is_number (method_of P c y.name.0 (length y.params)) k) h).1)
+lacking_in_walk P x c is l = along_classes P x is (λ k y. y.is_abstract && is_number (method_of P c y.name.0 (length y.params)) k) (list_at x.walks c) (λ k y at h. (let both = and_true y.is_abstract (is_number (method_of P c y.name.0 (length y.params)) k) h in is.walks_have c y.owner.0 l (busy_abstract P x is k y at both.0) (in_its_walk P c y.name.0 (length y.params) k y at both.1)))

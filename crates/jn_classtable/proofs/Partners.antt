@@ -5,9 +5,10 @@ use Rattle.jn_points.specs.declared.program.Method.{Method}
 use Rattle.jn_points.specs.declared.program.Program.{Program}
 use Rattle.jn_points.specs.Lookup.{method_at}
 use Rattle.jn_points.specs.Members.{some_of, is_pair, is_named, sub}
-use Rattle.jn_index.specs.Numbers.{list_at}
-use Rattle.jn_index.specs.Index.{passes, Lists, IsIndex}
-use Rattle.jn_index.specs.Users.{is_other, has_partner}
+use Rattle.jn_index.specs.Numbers.{list_at, passes}
+use Rattle.jn_index.specs.Index.{Lists, IsIndex}
+use Rattle.jn_index.specs.Busy.{is_other}
+use Rattle.jn_index.specs.Users.{has_partner}
 use Rattle.jn_index.proofs.Gathered.{pair_other, ctor_pairs}
 use Rattle.jn_classtable.specs.Rows.{agrees, overrides_badly, over_static, hides_well, hides_badly, is_bad_override}
 use Rattle.jn_classtable.proofs.ByName.{clashes_named, hides_named}
@@ -58,11 +59,11 @@ module _ (P : Program) (m : ℕ) (over : Method) (there : method_at P m ≡ Some
   not_hidden true false s p o u w h = cc
   not_hidden false n s p o u w h = cc
 
-  hidden_parts : (y : Method) → (over_static P over y && not (hides_well P over y)) ≡ true → (not over.ctor ≡ true) × ((is_named y over.name.0 (length over.params) ≡ true) × (not (eqb over.owner.0 y.owner.0) ≡ true))
+  pub hidden_parts : (y : Method) → (over_static P over y && not (hides_well P over y)) ≡ true → (not over.ctor ≡ true) × ((is_named y over.name.0 (length over.params) ≡ true) × (not (eqb over.owner.0 y.owner.0) ≡ true))
   hidden_parts y h = not_hidden (not over.ctor) (is_named y over.name.0 (length over.params)) y.is_static (not y.is_private) (not (eqb over.owner.0 y.owner.0)) (sub P over.owner.0 y.owner.0) (not (hides_well P over y)) h
 
   -- what a method hides is another of its name and arity
-  hidden_other : (k : ℕ) (y : Method) → method_at P k ≡ Some y → (over_static P over y && not (hides_well P over y)) ≡ true → is_other P m over k ≡ true
+  pub hidden_other : (k : ℕ) (y : Method) → method_at P k ≡ Some y → (over_static P over y && not (hides_well P over y)) ≡ true → is_other P m over k ≡ true
   hidden_other k y at h = by (true_or_not (eqb m k))
     where
       named : passes (λ z. is_named z over.name.0 (length over.params)) (method_at P k) ≡ true

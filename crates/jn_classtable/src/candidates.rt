@@ -25,7 +25,7 @@ fn push_walks(index: &Members, classes: &mut Seq<u32>, users: &[u32]) -> Result<
     Ok(())
 }
 
-/// Object, and the classes along the walks of the owner and of the users.
+/// Object, and the busy classes along the walks of the owner and of the users.
 pub fn candidates(
     alloc: Global,
     index: &Members,

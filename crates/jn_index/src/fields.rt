@@ -6,6 +6,7 @@ ghost use Rattle.jn_index.specs.Numbers.{first_in};
 ghost use Rattle.jn_index.specs.Index as index;
 ghost use Rattle.jn_index.specs.Index.{IsIndex};
 
+use crate::entries::field_key;
 use crate::index::Index;
 use crate::lookup::is_subclass;
 use jn_base::{ClassNo, FieldNo, NameNo};
@@ -86,7 +87,21 @@ fn outside_field(program: &Program, index: &Index, class: ClassNo, name: NameNo)
     declared_field(program, index, class, name, class.0)
 }
 
-#[tactic(auto, using(crate::proofs::Declared::walk_finds_field))]
+/// The field that a class has from above, where it declares none itself.
+#[tactic(auto, using(crate::proofs::Declared::inherited_field_found, crate::proofs::Declared::inherited_field_none))]
+fn inherited_field(program: &Program, index: &Index, class: ClassNo, name: NameNo) -> Option<u32>
+    requires is { IsIndex program.now index.now }
+    requires inside { class.0 < length program.now.classes }
+    requires none { spec.declared_field program.now class.0 name.0 class.0 ≡ None }
+    ensures { result ≡ spec.field_of program.now class.0 name.0 }
+{
+    match field_key(program, index.named_fields(name.0), name) {
+        None => None,
+        Some(key) => index.field(class.0, key),
+    }
+}
+
+#[tactic(auto, using(crate::proofs::Declared::own_field_first))]
 fn field_number(program: &Program, index: &Index, class: ClassNo, name: NameNo) -> Option<u32>
     requires { IsIndex program.now index.now }
     ensures { result ≡ spec.field_of program.now class.0 name.0 }
@@ -94,13 +109,10 @@ fn field_number(program: &Program, index: &Index, class: ClassNo, name: NameNo) 
     if class.0 as usize >= program.classes.len() {
         return outside_field(program, index, class, name);
     }
-    let walk = index.walk(class.0);
-    for above in walk {
-        if let Some(found) = declared_field(program, index, class, name, *above) {
-            return Some(found);
-        }
+    match declared_field(program, index, class, name, class.0) {
+        None => inherited_field(program, index, class, name),
+        Some(own) => Some(own),
     }
-    None
 }
 
 /// The field that a class has for a name (JLS 8, 8.2 and 8.3): its own, else the one that its parent

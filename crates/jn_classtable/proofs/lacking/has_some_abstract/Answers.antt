@@ -2,8 +2,7 @@ use Rattle.std.proofs.Common.{◌&&◌, ap, ◌∙◌, length}
 use Rattle.jn_points.specs.declared.program.Method.{Method}
 use Rattle.jn_points.specs.Lookup.{method_at}
 use Rattle.jn_points.specs.Members as members
-use Rattle.jn_index.specs.Numbers.{list_at}
-use Rattle.jn_index.specs.Index.{passes}
+use Rattle.jn_index.specs.Numbers.{list_at, passes}
 use Rattle.jn_classtable.proofs.OwnMethods.{lacking_in_walk}
 use Rattle.jn_classtable.proofs.lacking.has_some_abstract.Goals as goal
 

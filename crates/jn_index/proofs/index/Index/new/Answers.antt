@@ -1,5 +1,4 @@
 use Rattle.std.proofs.Common.{rules}
-use Rattle.jn_index.proofs.Rounds.{whole_walks}
 use Rattle.jn_index.proofs.index.Index.new.Goals as goal
 
 pub returns-clause-is : goal.returns-clause-is
@@ -10,7 +9,10 @@ returns-clause-is c = record {
   named_is = search rules;
   named_fields_are = search rules;
   named_classes_are = search rules;
-  walks_are = whole_walks c.args.program.now _ c.in_ok-walks.ensures.long (search rules) c.in_ok-walks.ensures.are;
+  classes_are = search rules;
+  methods_are = search rules;
+  open_fields_are = search rules;
+  few = search rules;
+  walks_have = search rules;
   under_has = search rules;
-  above_is = search rules;
 }
