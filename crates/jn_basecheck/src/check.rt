@@ -14,6 +14,7 @@ use crate::results::push_results;
 use crate::typed::BaseTyped;
 use jn_assigned::{Unwritten, unassigned};
 use jn_base::{Fail, OutOfMemory, Row};
+use jn_index::indexed::IndexedProgram;
 use jn_points::Program;
 use std::alloc::{AllocError, Global};
 
@@ -36,7 +37,7 @@ fn push_on_paths(
 fn push_body(
     alloc: Global,
     rows: &mut Vec<Row>,
-    program: &Program,
+    program: &IndexedProgram,
     body: usize,
 ) -> Result<(), OutOfMemory>
     requires inside { body < length program.now.bodies }
@@ -45,19 +46,20 @@ fn push_body(
     ensures { OnOk result (rows_of.Adds (rows_of.BodyRow program.now body) rows.old.items rows.new.items) }
 {
     push_body_types(rows, program, body)?;
-    let unwritten = unassigned(alloc, program, body)?;
-    push_on_paths(rows, program, body, &unwritten)?;
+    let lists = program.program();
+    let unwritten = unassigned(alloc, lists, body)?;
+    push_on_paths(rows, lists, body, &unwritten)?;
     Ok(())
 }
 
 /// All rows of base typing.
-fn all_rows(alloc: Global, program: &Program) -> Result<Vec<Row>, OutOfMemory>
+fn all_rows(alloc: Global, program: &IndexedProgram) -> Result<Vec<Row>, OutOfMemory>
     requires some { (b : ℕ) → b < length program.now.bodies → 0 < length (points_of (body_at program.now b)) }
     requires few { (b : ℕ) → length (points_of (body_at program.now b)) < 2 ^ 32 }
     ensures { IfOk result (λ rows. (row : RowOf) → Contains rows.items row ↔ IsBaseRow program.now row) }
 {
     let mut rows = Vec::new(alloc);
-    for body in 0..program.bodies.len() {
+    for body in 0..program.program().bodies.len() {
         push_body(alloc, &mut rows, program, body)?;
     }
     Ok(rows)
@@ -80,6 +82,23 @@ fn judged(program: Program, rows: Vec<Row>) -> Result<BaseTyped, Fail<Vec<Row>>>
     Err(Fail::Refused(rows))
 }
 
+/// The program back, where it is base-typed.
+#[tactic(auto, using(crate::proofs::Few::few_points, crate::proofs::Few::some_points))]
+fn check_indexed(alloc: Global, indexed: IndexedProgram) -> Result<BaseTyped, Fail<Vec<Row>>>
+    requires { Regular indexed }
+    ensures program { IfOk result (λ typed. typed ≡ indexed) }
+    ensures typed { IfOk result (λ typed. NoBaseRows indexed) }
+    ensures refused { IfErr result (λ fail. IsRefusedFor indexed fail) }
+{
+    match all_rows(alloc, &indexed) {
+        Err(_) => {
+            forget(indexed);
+            Err(Fail::OutOfMemory)
+        }
+        Ok(rows) => judged(indexed.into_program(), rows),
+    }
+}
+
 /// Gives the program back where it is base-typed: no operand has a type that does not fit (J7), or
 /// of which only element nullity does not (J10), no register is read where some path comes without a
 /// write of it (J8), and each reached Return gives a value exactly where its method has a result
@@ -88,18 +107,14 @@ fn judged(program: Program, rows: Vec<Row>) -> Result<BaseTyped, Fail<Vec<Row>>>
 /// # Errors
 /// `Refused` with all of the program's rows J7 to J10, each at its place once or more, in no order;
 /// `OutOfMemory` where no memory was found.
-#[tactic(auto, using(crate::proofs::Few::few_points, crate::proofs::Few::some_points))]
 pub fn base_check(alloc: Global, program: Program) -> Result<BaseTyped, Fail<Vec<Row>>>
     requires { Regular program }
     ensures program { IfOk result (λ typed. typed ≡ program) }
     ensures typed { IfOk result (λ typed. NoBaseRows program) }
     ensures refused { IfErr result (λ fail. IsRefusedFor program fail) }
 {
-    match all_rows(alloc, &program) {
-        Err(_) => {
-            forget(program);
-            Err(Fail::OutOfMemory)
-        }
-        Ok(rows) => judged(program, rows),
+    match IndexedProgram::new(alloc, program) {
+        Err(_) => Err(Fail::OutOfMemory),
+        Ok(indexed) => check_indexed(alloc, indexed),
     }
 }

@@ -10,14 +10,15 @@ use crate::lookup::{
 };
 use crate::types::{Want, is_void, push_all, push_arguments, push_operand, push_optional};
 use jn_base::{ClassNo, FieldNo, MethodNo, Row};
-use jn_points::{BaseType, Operand, Operator, PointKind, Program};
+use jn_index::indexed::IndexedProgram;
+use jn_points::{BaseType, Operand, Operator, PointKind};
 use std::alloc::AllocError;
 
 /// What a Return of the body at a place wants of its value.
-fn returned(program: &Program, body: usize) -> Want
+fn returned(program: &IndexedProgram, body: usize) -> Want
     ensures { meant result ≡ rules.returned program.now body }
 {
-    let result = result_base(program, body);
+    let result = result_base(program.program(), body);
     if is_void(result) {
         Want::Valued
     } else {
@@ -28,7 +29,7 @@ fn returned(program: &Program, body: usize) -> Want
 /// The rows of two operands of one kind of type.
 fn push_two(
     rows: &mut Vec<Row>,
-    program: &Program,
+    program: &IndexedProgram,
     body: usize,
     want: Want,
     left: Operand,
@@ -43,7 +44,7 @@ fn push_two(
 /// The rows of the sides of `==` and `!=` on primitives.
 fn push_same(
     rows: &mut Vec<Row>,
-    program: &Program,
+    program: &IndexedProgram,
     body: usize,
     left: Operand,
     right: Operand,
@@ -51,13 +52,13 @@ fn push_same(
     ensures { OnOk result (rows.new.items ≡ rows.old.items ++ (rules.operand_rows program.now body rules.Primitive left ++ rules.operand_rows program.now body (rules.Same (spec.reg_base program.now body left.reg.0)) right)) }
 {
     push_operand(rows, program, body, Want::Primitive, left)?;
-    let same = Want::Same(reg_base(program, body, left.reg));
+    let same = Want::Same(reg_base(program.program(), body, left.reg));
     push_operand(rows, program, body, same, right)
 }
 
 fn push_binary(
     rows: &mut Vec<Row>,
-    program: &Program,
+    program: &IndexedProgram,
     body: usize,
     operator: Operator,
     left: Operand,
@@ -82,14 +83,14 @@ fn push_binary(
 /// The row of an object whose field is read or written.
 fn push_object(
     rows: &mut Vec<Row>,
-    program: &Program,
+    program: &IndexedProgram,
     body: usize,
     field: FieldNo,
     object: Operand,
 ) -> Result<(), AllocError>
     ensures { OnOk result (rows.new.items ≡ rows.old.items ++ rules.operand_rows program.now body (rules.Within (BaseType.Ref (record { 0 = spec.owner program.now field.0 }))) object) }
 {
-    let class = owner(program, field);
+    let class = owner(program.program(), field);
     push_operand(
         rows,
         program,
@@ -102,21 +103,21 @@ fn push_object(
 /// The row of a value that a field is given.
 fn push_given(
     rows: &mut Vec<Row>,
-    program: &Program,
+    program: &IndexedProgram,
     body: usize,
     field: FieldNo,
     value: Operand,
 ) -> Result<(), AllocError>
     ensures { OnOk result (rows.new.items ≡ rows.old.items ++ rules.operand_rows program.now body (rules.Within (spec.field_base program.now field.0)) value) }
 {
-    let base = field_base(program, field);
+    let base = field_base(program.program(), field);
     push_operand(rows, program, body, Want::Within(base), value)
 }
 
 /// The rows of an array and an index into it.
 fn push_element(
     rows: &mut Vec<Row>,
-    program: &Program,
+    program: &IndexedProgram,
     body: usize,
     array: Operand,
     index: Operand,
@@ -130,14 +131,14 @@ fn push_element(
 /// The row of a receiver, where there is one.
 fn push_receiver(
     rows: &mut Vec<Row>,
-    program: &Program,
+    program: &IndexedProgram,
     body: usize,
     method: MethodNo,
     receiver: Option<Operand>,
 ) -> Result<(), AllocError>
     ensures { OnOk result (rows.new.items ≡ rows.old.items ++ rules.optional_rows program.now body (rules.Within (BaseType.Ref (record { 0 = spec.class_of (spec.method_at program.now method.0) }))) receiver) }
 {
-    let class = class_of(program, method);
+    let class = class_of(program.program(), method);
     push_optional(
         rows,
         program,
@@ -154,7 +155,7 @@ fn push_receiver(
 /// No memory was found.
 pub fn push_types(
     rows: &mut Vec<Row>,
-    program: &Program,
+    program: &IndexedProgram,
     body: usize,
     kind: &PointKind,
 ) -> Result<(), AllocError>
@@ -162,7 +163,7 @@ pub fn push_types(
 {
     match kind {
         PointKind::Move { dst, from, .. } => {
-            let base = reg_base(program, body, *dst);
+            let base = reg_base(program.program(), body, *dst);
             push_operand(rows, program, body, Want::Within(base), *from)
         }
         PointKind::Unary { of, .. } => {
@@ -201,7 +202,7 @@ pub fn push_types(
             value,
         } => {
             push_element(rows, program, body, *array, *index)?;
-            let elem = elem_base(reg_base(program, body, array.reg));
+            let elem = elem_base(reg_base(program.program(), body, array.reg));
             push_operand(rows, program, body, Want::Within(elem), *value)
         }
         PointKind::ArrayLen { array, .. } => {
@@ -215,11 +216,11 @@ pub fn push_types(
             push_all(rows, program, body, want, values.as_slice())
         }
         PointKind::New { ctor, args, .. } => {
-            let params = params_of(program, *ctor);
+            let params = params_of(program.program(), *ctor);
             push_arguments(rows, program, body, params, args.as_slice())
         }
         PointKind::CtorCall { ctor, args, .. } => {
-            let params = params_of(program, *ctor);
+            let params = params_of(program.program(), *ctor);
             push_arguments(rows, program, body, params, args.as_slice())
         }
         PointKind::Call {
@@ -229,7 +230,7 @@ pub fn push_types(
             ..
         } => {
             push_receiver(rows, program, body, *method, *receiver)?;
-            let params = params_of(program, *method);
+            let params = params_of(program.program(), *method);
             push_arguments(rows, program, body, params, args.as_slice())
         }
         PointKind::StrOp { of, other, .. } => {
@@ -255,13 +256,13 @@ pub fn push_types(
 
 fn push_types_at(
     rows: &mut Vec<Row>,
-    program: &Program,
+    program: &IndexedProgram,
     body: usize,
     at: usize,
 ) -> Result<(), AllocError>
     ensures { OnOk result (rows_of.Adds (rows_of.TypeRowAt program.now body at) rows.old.items rows.new.items) }
 {
-    match point_of(program, body, at) {
+    match point_of(program.program(), body, at) {
         None => Ok(()),
         Some(point) => push_types(rows, program, body, &point.kind),
     }
@@ -273,13 +274,13 @@ fn push_types_at(
 /// No memory was found.
 pub fn push_body_types(
     rows: &mut Vec<Row>,
-    program: &Program,
+    program: &IndexedProgram,
     body: usize,
 ) -> Result<(), AllocError>
     requires { body < length program.now.bodies }
     ensures { OnOk result (rows_of.Adds (rows_of.TypeRows program.now body) rows.old.items rows.new.items) }
 {
-    for at in 0..body_of(program, body).points.len() {
+    for at in 0..body_of(program.program(), body).points.len() {
         push_types_at(rows, program, body, at)?;
     }
     Ok(())

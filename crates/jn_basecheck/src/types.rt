@@ -2,11 +2,14 @@
 ghost use Rattle.std.specs.Prelude.{◌≡◌, ◌++◌, cond, OnOk};
 ghost use Rattle.jn_points.specs.BaseRows as rules;
 ghost use Rattle.jn_points.specs.Lookup as spec;
+ghost use Rattle.jn_points.specs.Members as members;
 ghost use Rattle.jn_basecheck.specs.Wanted.{meant};
 
 use crate::lookup::reg_base;
 use jn_base::{Code, Row};
-use jn_points::{BaseType, Operand, Program, is_sub};
+use jn_index::fits;
+use jn_index::indexed::IndexedProgram;
+use jn_points::{BaseType, Operand};
 use std::alloc::AllocError;
 
 /// What a point wants of an operand.
@@ -114,14 +117,25 @@ fn other_nullity(base: BaseType) -> BaseType
     }
 }
 
-fn is_value_within(program: &Program, base: BaseType, wanted: BaseType) -> bool
+/// Whether one type is within another (JLS 4.10).
+fn is_sub(program: &IndexedProgram, low: BaseType, high: BaseType) -> bool
+    ensures { result ≡ members.fits program.now low high }
+{
+    let lists = program.program();
+    match program.index() {
+        Some(index) => fits::is_sub(lists, index, low, high),
+        None => jn_points::is_sub(lists, low, high),
+    }
+}
+
+fn is_value_within(program: &IndexedProgram, base: BaseType, wanted: BaseType) -> bool
     ensures { result ≡ rules.suits program.now (rules.Within wanted) base }
 {
     !is_void(base) && is_sub(program, base, wanted)
 }
 
 /// Whether a type is what is wanted; no value of type void is.
-fn suits(program: &Program, want: Want, base: BaseType) -> bool
+fn suits(program: &IndexedProgram, want: Want, base: BaseType) -> bool
     ensures { result ≡ rules.suits program.now (meant want) base }
 {
     match want {
@@ -137,13 +151,13 @@ fn suits(program: &Program, want: Want, base: BaseType) -> bool
 }
 
 /// Whether only element nullity differs.
-fn suits_otherwise(program: &Program, want: Want, base: BaseType) -> bool
+fn suits_otherwise(program: &IndexedProgram, want: Want, base: BaseType) -> bool
     ensures { result ≡ rules.suits_otherwise program.now (meant want) base }
 {
     !suits(program, want, base) && suits(program, want, other_nullity(base))
 }
 
-fn code_of(program: &Program, want: Want, base: BaseType) -> Code
+fn code_of(program: &IndexedProgram, want: Want, base: BaseType) -> Code
     ensures { result ≡ cond (rules.suits_otherwise program.now (meant want) base) Code.J10 Code.J7 }
 {
     if suits_otherwise(program, want, base) {
@@ -159,14 +173,14 @@ fn code_of(program: &Program, want: Want, base: BaseType) -> Code
 /// No memory was found.
 pub fn push_operand(
     rows: &mut Vec<Row>,
-    program: &Program,
+    program: &IndexedProgram,
     body: usize,
     want: Want,
     operand: Operand,
 ) -> Result<(), AllocError>
     ensures { OnOk result (rows.new.items ≡ rows.old.items ++ rules.operand_rows program.now body (meant want) operand) }
 {
-    let base = reg_base(program, body, operand.reg);
+    let base = reg_base(program.program(), body, operand.reg);
     if !suits(program, want, base) {
         rows.push(Row {
             span: operand.span,
@@ -182,7 +196,7 @@ pub fn push_operand(
 /// No memory was found.
 pub fn push_all(
     rows: &mut Vec<Row>,
-    program: &Program,
+    program: &IndexedProgram,
     body: usize,
     want: Want,
     operands: &[Operand],
@@ -201,7 +215,7 @@ pub fn push_all(
 /// No memory was found.
 pub fn push_arguments(
     rows: &mut Vec<Row>,
-    program: &Program,
+    program: &IndexedProgram,
     body: usize,
     params: &[BaseType],
     arguments: &[Operand],
@@ -220,7 +234,7 @@ pub fn push_arguments(
 /// No memory was found.
 pub fn push_optional(
     rows: &mut Vec<Row>,
-    program: &Program,
+    program: &IndexedProgram,
     body: usize,
     want: Want,
     operand: Option<Operand>,
