@@ -1,4 +1,5 @@
-use Rattle.std.proofs.Common.{◌≡◌, [], length, subst, arith}
+use Rattle.std.proofs.Common.{◌≡◌, [], length, subst, arith, ap}
+use Rattle.jn_points.specs.declared.program.Program.{Program}
 use Rattle.jn_basecheck.specs.Rows.{Adds, Among, BodyRow}
 use Rattle.jn_basecheck.proofs.Gather.{adds_more}
 use Rattle.jn_basecheck.proofs.Meant.{base_rows}
@@ -10,5 +11,6 @@ loop-body-preserved c = adds_more (BodyRow c.args.program.now) [] c.loop-body.ro
 pub returns : goal.returns
 returns c =
     let P = c.args.program.now in
-    let ended : c.loop-body.body ≡ length P.bodies = omega arith in
+    let same = ap (λ (Q : Program). length Q.bodies) c.program.ensures in
+    let ended : c.loop-body.body ≡ length P.bodies = omega (arith, same) in
     base_rows P c.loop-body.rows.items (subst (λ n. Adds (Among (BodyRow P) n) [] c.loop-body.rows.items) ended c.loop-body.invariant)

@@ -1,4 +1,5 @@
-use Rattle.jn_basecheck.specs.Rows.{TypeRows, PathRow}
+use Rattle.std.proofs.Common.{subst}
+use Rattle.jn_basecheck.specs.Rows.{Adds, TypeRows, PathRow}
 use Rattle.jn_basecheck.proofs.Gather.{adds_then}
 use Rattle.jn_basecheck.proofs.check.push_body.Goals as goal
 
@@ -9,4 +10,4 @@ returns c =
     let old = c.args.rows.now.items in
     let typed = c.push_body_types.new.rows.items in
     let new = c.push_on_paths.new.rows.items in
-    adds_then (TypeRows P b) (PathRow P b) old typed new c.in_ok-push_body_types.ensures c.in_ok-push_on_paths.ensures
+    adds_then (TypeRows P b) (PathRow P b) old typed new c.in_ok-push_body_types.ensures (subst (λ Q. Adds (PathRow Q b) typed new) c.program-lists.ensures c.in_ok-push_on_paths.ensures)
