@@ -57,7 +57,8 @@ public final class AgainstJava {
   }
 
   private void check(List<StoredCase> cases) throws Exception {
-    List<StoredCase> plain = cases.stream().filter(one -> files.areFiles(one.words())).collect(Collectors.toList());
+    List<StoredCase> plain = cases.stream().filter(one -> one.isPlain() && files.areFiles(one.words()))
+        .collect(Collectors.toList());
     List<StoredCase> checked = new ArrayList<>(plain);
     for (StoredCase one : cases) {
       if (one.isRun() && one.isPlain() && RunAnswer.of(one.text, one.status).isPresent()) {

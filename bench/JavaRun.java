@@ -4,6 +4,7 @@ import java.nio.charset.StandardCharsets;
 import java.nio.file.Files;
 import java.nio.file.Path;
 import java.nio.file.Paths;
+import java.time.Duration;
 import java.util.ArrayList;
 import java.util.Arrays;
 import java.util.List;
@@ -62,11 +63,23 @@ final class JavaRun {
     ProcessBuilder builder = new ProcessBuilder(command).redirectOutput(printed.toFile()).redirectError(said.toFile());
     builder.environment().put("LC_ALL", "C.UTF-8");
     Process process = builder.start();
-    boolean isStopped = !process.waitFor(seconds, TimeUnit.SECONDS);
+    boolean isStopped = !endsWithin(process, seconds);
     if (isStopped) {
       process.destroyForcibly().waitFor();
     }
     return new JavaRun(textOf(printed), textOf(said), isStopped);
+  }
+
+  /** Whether the process ends before it has taken so many seconds of a processor. */
+  private static boolean endsWithin(Process process, int seconds) throws InterruptedException {
+    long start = System.nanoTime();
+    while (!process.waitFor(200, TimeUnit.MILLISECONDS)) {
+      Duration elapsed = Duration.ofNanos(System.nanoTime() - start);
+      if (process.info().totalCpuDuration().orElse(elapsed).getSeconds() >= seconds) {
+        return false;
+      }
+    }
+    return true;
   }
 
   private static List<String> strings(List<Path> folders) {

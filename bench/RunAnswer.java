@@ -53,18 +53,16 @@ final class RunAnswer {
 
   /** What differs from Java's run, given the case's names of the files that Java names; none where nothing does. */
   Optional<String> difference(JavaRun java, Map<String, String> names) {
-    if (fault == null && !end.equals("done")) {
-      return isFront(java) ? Optional.empty() : told("prints " + shown(printed), "prints " + shown(java.printed));
-    }
-    if (!printed.equals(java.printed)) {
+    boolean isStopped = fault == null && !end.equals("done");
+    if (isStopped || java.isStopped ? !isFront(java) : !printed.equals(java.printed)) {
       return told("prints " + shown(printed), "prints " + shown(java.printed));
     }
-    String javaEnd = java.hasEnded() ? "done" : java.fault == null ? "no end in time" : javaFault(java, names);
+    String javaEnd = java.hasEnded() ? "done" : java.isStopped ? "no end in time" : javaFault(java, names);
     String own = fault == null ? "done" : fault + " at " + place;
-    return own.equals(javaEnd) ? Optional.empty() : told("ends by " + own, "by " + javaEnd);
+    return isStopped || own.equals(javaEnd) ? Optional.empty() : told("ends by " + own, "by " + javaEnd);
   }
 
-  /** A run that was stopped printed the front of what Java prints, or Java's was stopped, too. */
+  /** Java prints what this run printed, and maybe more; where Java's run was stopped, too, it may be less. */
   private boolean isFront(JavaRun java) {
     return java.printed.startsWith(printed) || (java.isStopped && printed.startsWith(java.printed));
   }

@@ -5,7 +5,7 @@
 # what a case with `--run` answers is held against Java's run of the same main with the same words. It isn't part of
 # the gate. A file is compiled under the name of its public type, which needn't be its own.
 # Usage: bench/against-java.sh [SECONDS [PROGRAM]]
-#   SECONDS  how long one run may take before it is stopped (10)
+#   SECONDS  how many seconds of a processor one run may take before it is stopped (5)
 #   PROGRAM  a built nullcheck, which then answers in place of what is stored: for the cases with `--run`, for runs of
 #            all accepted cases that have one main, without words and with two, and for the files of examples/
 # A run answers as Java does where it printed the same text, and ended as Java's did: `done`, or by an exception of the
@@ -17,7 +17,7 @@
 # ended in a NullPointerException are among them, and with 0 where no Java is found. Accepted files that don't compile
 # are listed (docs/LANGUAGE.md says which); refused ones aren't of the subset, and needn't compile.
 set -eu
-seconds=${1:-10}
+seconds=${1:-5}
 program=${2:-}
 root=$(cd "$(dirname "$(readlink -f "${BASH_SOURCE[0]}")")/.." && pwd)
 cases="$root/crates/nullcheck_cases"
