@@ -3,3 +3,4 @@ pub mod BitOrder
 pub mod Pairs
 pub mod Order
 pub mod Weight
+pub mod OwnKeys

@@ -1,11 +1,13 @@
 // The keys of a body, along which its facts and assigned fields run.
-ghost use Rattle.std.specs.Prelude.{◌≡◌, ◌<◌, ◌++◌, ◌∷◌, ◌^◌, [], ◌&&◌, cond, IfOk, OnOk, MatchOption, length, filter, not, ltb};
-ghost use Rattle.jn_points.specs.Lookup.{owner, ref_field, method_at};
-ghost use Rattle.jn_env.specs.Keys.{is_key, kind_keys, origin_key, fact_keys, own_keys, is_own};
+ghost use Rattle.std.specs.Prelude.{◌≡◌, ◌<◌, ◌++◌, ◌∷◌, ◌^◌, true, false, [], ◌&&◌, cond, IfOk, OnOk, MatchOption, length, filter, not, ltb};
+ghost use Rattle.jn_points.specs.Lookup.{owner, ref_field, class_of, ctor_of, method_in};
+ghost use Rattle.jn_env.specs.Keys.{is_key, kind_keys, origin_key, fact_keys, own_keys};
 ghost use Rattle.jn_env.specs.Code.{AreKeys};
+ghost use Rattle.jn_env.specs.ClassFields.{is_field_of, class_fields, AreOwnFields};
 
+use crate::owned::OwnFields;
 use jn_base::{BodyNo, FieldNo, OutOfMemory, RegNo, Seq};
-use jn_points::{Body, Origin, PointKind, Program};
+use jn_points::{Origin, PointKind, Program};
 use std::alloc::{AllocError, Global};
 use std::marker::Model;
 
@@ -86,6 +88,28 @@ pub fn find_keys(alloc: Global, program: &Program, body: BodyNo) -> Result<Keys,
     })
 }
 
+/// The keys of the body, where the reference fields of all classes are at hand: they take no time that grows with the
+/// number of the program's fields.
+///
+/// # Errors
+/// No memory was found.
+pub fn find_keys_by(
+    alloc: Global,
+    program: &Program,
+    own: &OwnFields,
+    body: BodyNo,
+) -> Result<Keys, OutOfMemory>
+    requires inside { body.0 < length program.now.bodies }
+    requires few { length program.now.fields < 2 ^ 32 }
+    requires own { AreOwnFields program.now own.now }
+    ensures { IfOk result (λ keys. AreKeys program.now body.0 keys) }
+{
+    Ok(Keys {
+        facts: Seq::of_vec(fact_keys(alloc, program, body)?),
+        own: Seq::of_vec(own_keys_by(alloc, program, own, body)?),
+    })
+}
+
 fn fact_keys(alloc: Global, program: &Program, body: BodyNo) -> Result<Vec<FieldKey>, AllocError>
     requires inside { body.0 < length program.now.bodies }
     ensures { IfOk result (λ keys. keys.items ≡ fact_keys program.now body.0) }
@@ -157,15 +181,74 @@ fn with_first(alloc: Global, key: FieldKey, rest: &[FieldKey]) -> Result<Vec<Fie
     Ok(keys)
 }
 
+/// The class whose constructor the body is.
+fn constructed(program: &Program, body: BodyNo) -> Option<u32>
+    requires { body.0 < length program.now.bodies }
+    ensures { MatchOption result (ctor_of (method_in program.now body.0) ≡ false) (λ class. (ctor_of (method_in program.now body.0) ≡ true) × (class_of (method_in program.now body.0) ≡ class)) }
+{
+    let info = &program.bodies.as_slice()[body.0 as usize];
+    match program.methods.as_slice().get(info.method.0 as usize) {
+        None => None,
+        Some(method) => {
+            if method.ctor {
+                Some(method.owner.0)
+            } else {
+                None
+            }
+        }
+    }
+}
+
+#[tactic(auto, using(crate::proofs::OwnKeys::no_constructor, crate::proofs::OwnKeys::of_constructor))]
 fn own_keys(alloc: Global, program: &Program, body: BodyNo) -> Result<Vec<u32>, AllocError>
     requires inside { body.0 < length program.now.bodies }
     requires few { length program.now.fields < 2 ^ 32 }
     ensures { IfOk result (λ keys. keys.items ≡ own_keys program.now body.0) }
 {
-    let info = &program.bodies.as_slice()[body.0 as usize];
+    match constructed(program, body) {
+        None => Ok(Vec::new(alloc)),
+        Some(class) => fields_of(alloc, program, class),
+    }
+}
+
+#[tactic(auto, using(crate::proofs::OwnKeys::no_constructor, crate::proofs::OwnKeys::of_listed))]
+fn own_keys_by(
+    alloc: Global,
+    program: &Program,
+    own: &OwnFields,
+    body: BodyNo,
+) -> Result<Vec<u32>, AllocError>
+    requires inside { body.0 < length program.now.bodies }
+    requires few { length program.now.fields < 2 ^ 32 }
+    requires own { AreOwnFields program.now own.now }
+    ensures { IfOk result (λ keys. keys.items ≡ own_keys program.now body.0) }
+{
+    match constructed(program, body) {
+        None => Ok(Vec::new(alloc)),
+        Some(class) => match own.of(class) {
+            None => own_keys(alloc, program, body),
+            Some(fields) => copy(alloc, fields),
+        },
+    }
+}
+
+fn copy(alloc: Global, fields: &[u32]) -> Result<Vec<u32>, AllocError>
+    ensures { IfOk result (λ keys. keys.items ≡ fields.now) }
+{
+    let mut keys = Vec::new(alloc);
+    keys.extend_from_slice(fields)?;
+    Ok(keys)
+}
+
+/// The reference fields of a class, by rising numbers.
+fn fields_of(alloc: Global, program: &Program, class: u32) -> Result<Vec<u32>, AllocError>
+    requires { length program.now.fields < 2 ^ 32 }
+    ensures { IfOk result (λ keys. keys.items ≡ class_fields program.now class) }
+{
     let mut keys = Vec::new(alloc);
     for field in 0..program.fields.len() {
-        push_if(&mut keys, is_own(program, info, field as u32), field as u32)?;
+        let wanted = is_field_of(program, class, field as u32);
+        push_if(&mut keys, wanted, field as u32)?;
     }
     Ok(keys)
 }
@@ -179,16 +262,11 @@ fn push_if(keys: &mut Vec<u32>, wanted: bool, field: u32) -> Result<(), AllocErr
     Ok(())
 }
 
-/// Whether the body is a constructor's, and the field a reference field of its class.
-fn is_own(program: &Program, body: &Body, field: u32) -> bool
-    ensures { result ≡ is_own program.now (method_at program.now body.now.method.0) field }
+/// Whether the field is a reference field of the class.
+fn is_field_of(program: &Program, class: u32, field: u32) -> bool
+    ensures { result ≡ is_field_of program.now class field }
 {
-    match program.methods.as_slice().get(body.method.0 as usize) {
-        None => false,
-        Some(method) => {
-            method.ctor && owner(program, field) == method.owner.0 && is_ref_field(program, field)
-        }
-    }
+    owner(program, field) == class && is_ref_field(program, field)
 }
 
 /// The class that declares the field; 0 where the field is not there.

@@ -6,9 +6,11 @@ pub mod env;
 pub mod keys;
 pub mod law;
 pub mod lists;
+pub mod owned;
 pub mod table;
 
 pub use bits::is_assigned;
 pub use env::Env;
-pub use keys::{FieldKey, Keys, find_keys};
+pub use keys::{FieldKey, Keys, find_keys, find_keys_by};
+pub use owned::OwnFields;
 pub use table::FlowTable;
