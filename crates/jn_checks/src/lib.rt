@@ -8,4 +8,4 @@ pub mod rows;
 pub mod rules;
 
 pub use overriding::{indexed_override_rows, override_rows};
-pub use rows::checks;
+pub use rows::{checks, checks_by};

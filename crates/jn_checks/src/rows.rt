@@ -1,6 +1,7 @@
 // Rows of broken rules.
 ghost use Rattle.std.specs.Prelude.{◌≡◌, ◌<◌, ◌^◌, ◌++◌, IfOk, OnOk, length};
 ghost use Rattle.jn_points.specs.Lookup.{points_of, body_at};
+ghost use Rattle.jn_env.specs.Code.{AreKeys};
 ghost use Rattle.jn_transfer.specs.Rules.{body_rows, rows_from};
 
 use crate::ctor::push_ctor;
@@ -28,7 +29,6 @@ pub fn checks(
     requires long { length table.now ≡ length (points_of (body_at program.now body.0)) }
     ensures { IfOk result (λ rows. rows.items ≡ body_rows program.now sig.now body.0 table.now) }
 {
-    let info = &program.bodies.as_slice()[body.0 as usize];
     let keys = find_keys(alloc, program, body)?;
     let analysis = Analysis {
         program,
@@ -36,16 +36,34 @@ pub fn checks(
         body,
         keys: &keys,
     };
+    checks_by(alloc, &analysis, table)
+}
+
+/// The rows of a body whose keys are at hand; see `checks`.
+///
+/// # Errors
+/// No memory was found.
+pub fn checks_by(
+    alloc: Global,
+    analysis: &Analysis,
+    table: &FlowTable,
+) -> Result<Vec<Row>, OutOfMemory>
+    requires keys { AreKeys analysis.now.program.now analysis.now.body.0 analysis.now.keys.now }
+    requires inside { analysis.now.body.0 < length analysis.now.program.now.bodies }
+    requires long { length table.now ≡ length (points_of (body_at analysis.now.program.now analysis.now.body.0)) }
+    ensures { IfOk result (λ rows. rows.items ≡ body_rows analysis.now.program.now analysis.now.sig.now analysis.now.body.0 table.now) }
+{
+    let info = &analysis.program.bodies.as_slice()[analysis.body.0 as usize];
     let mut rows = Vec::new(alloc);
     push_points(
         &mut rows,
-        program,
-        sig,
-        body,
+        analysis.program,
+        analysis.sig,
+        analysis.body,
         info.points.as_slice(),
         table.slots(),
     )?;
-    push_ctor(&mut rows, &analysis, info, table.slots())?;
+    push_ctor(&mut rows, analysis, info, table.slots())?;
     Ok(rows)
 }
 

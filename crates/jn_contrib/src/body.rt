@@ -2,12 +2,13 @@
 ghost use Rattle.std.specs.Prelude.{◌≡◌, ◌<◌, ◌++◌, ◌^◌, IfOk, OnOk, length};
 ghost use Rattle.jn_env.specs.Order.{env_in};
 ghost use Rattle.jn_env.specs.Keys.{own_keys};
+ghost use Rattle.jn_env.specs.Code.{AreKeys};
 ghost use Rattle.jn_contrib.specs.Sends.{slot_numbers, point_sends, sends_from, body_sends};
 
 use crate::sends::{Send, send_kind};
 use jn_base::{BodyNo, OutOfMemory, SlotNo};
 use jn_ctor::env_at;
-use jn_env::{Env, FlowTable, find_keys};
+use jn_env::{Env, FlowTable, Keys, find_keys};
 use jn_points::{Point, Program};
 use jn_quals::Qual;
 use jn_sigs::Sig;
@@ -30,6 +31,24 @@ pub fn contrib(
     ensures { IfOk result (λ sends. slot_numbers sends.items ≡ body_sends program.now body.0 table.now) }
 {
     let keys = find_keys(alloc, program, body)?;
+    contrib_by(alloc, program, &keys, body, table)
+}
+
+/// What a body whose keys are at hand sends; see `contrib`.
+///
+/// # Errors
+/// No memory was found.
+pub fn contrib_by(
+    alloc: Global,
+    program: &Program,
+    keys: &Keys,
+    body: BodyNo,
+    table: &FlowTable,
+) -> Result<Vec<(SlotNo, Qual)>, OutOfMemory>
+    requires inside { body.0 < length program.now.bodies }
+    requires keys { AreKeys program.now body.0 keys.now }
+    ensures { IfOk result (λ sends. slot_numbers sends.items ≡ body_sends program.now body.0 table.now) }
+{
     let info = &program.bodies.as_slice()[body.0 as usize];
     let points = info.points.as_slice();
     let own = keys.own.as_slice();

@@ -5,4 +5,4 @@ pub mod body;
 pub mod law;
 pub mod sends;
 
-pub use body::contrib;
+pub use body::{contrib, contrib_by};

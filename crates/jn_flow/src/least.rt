@@ -1,6 +1,7 @@
 // The least table of a body.
 ghost use Rattle.std.specs.Prelude.{◌≡◌, ◌<◌, ◌^◌, IfOk, length};
 ghost use Rattle.jn_points.specs.Lookup.{body_at, points_of};
+ghost use Rattle.jn_env.specs.Code.{AreKeys};
 ghost use Rattle.jn_transfer.specs.Least.{IsLeastTable};
 ghost use Rattle.jn_transfer.specs.Sized.{StaysInside};
 
@@ -37,7 +38,21 @@ pub fn flow(
         body,
         keys: &keys,
     };
-    let qualifiers = Qualifiers::new(analysis);
+    flow_by(alloc, &analysis)
+}
+
+/// The least table of a body whose keys are at hand; see `flow`.
+///
+/// # Errors
+/// No memory was found.
+pub fn flow_by(alloc: Global, analysis: &Analysis) -> Result<FlowTable, OutOfMemory>
+    requires keys { AreKeys analysis.now.program.now analysis.now.body.0 analysis.now.keys.now }
+    requires inside { analysis.now.body.0 < length analysis.now.program.now.bodies }
+    requires stays { StaysInside analysis.now.program.now analysis.now.body.0 }
+    requires short { length (points_of (body_at analysis.now.program.now analysis.now.body.0)) < 2 ^ 32 }
+    ensures { IfOk result (λ table. IsLeastTable analysis.now.program.now analysis.now.sig.now analysis.now.body.0 table) }
+{
+    let qualifiers = Qualifiers::new(*analysis);
     let table = solve(alloc, &qualifiers)?;
     Ok(FlowTable::of_slots(table.into_vec()))
 }

@@ -8,4 +8,4 @@ mod least;
 mod qualifiers;
 
 pub use inside::stays_inside;
-pub use least::flow;
+pub use least::{flow, flow_by};

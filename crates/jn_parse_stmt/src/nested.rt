@@ -221,7 +221,8 @@ fn body(
 ) -> Result<Option<(Vec<Stmt>, &[Token])>, OutOfMemory>
     ensures { IfOk result (λ o. read_block (read_one depth context) (kinds tokens.now) ≡ seen_as body_views o) }
 {
-    let mut statements = Vec::new(alloc);
+    // (most blocks are small, and a statement is large)
+    let mut statements = Vec::with_capacity(alloc, 1)?;
     let mut left = tokens;
     'statements: loop {
         if let Some(rest) = expect(left, TokenKind::RightBrace) {

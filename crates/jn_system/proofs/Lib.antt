@@ -3,3 +3,5 @@ pub mod Outputs
 pub mod ReadSteps
 pub mod Gathering
 pub mod ListSteps
+pub mod OneFact
+pub mod Seen

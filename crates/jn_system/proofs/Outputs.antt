@@ -5,12 +5,15 @@ use Rattle.jn_base.specs.declared.number.WordNo.{WordNo}
 use Rattle.jn_quals.specs.Qualifier.{Qualifier}
 use Rattle.jn_points.specs.declared.program.Program.{Program}
 use Rattle.jn_sigs.specs.Packed.{unpacked}
+use Rattle.jn_sigtable.specs.System.{IsReadList}
 use Rattle.jn_env.specs.Order.{Table}
 use Rattle.jn_transfer.specs.Least.{IsLeastTable}
 use Rattle.jn_contrib.specs.Sends.{body_sends, slot_numbers}
 use Rattle.jn_inference_law.specs.Packing.{word_no, add_bits, packed}
-use Rattle.jn_inference_law.specs.Inference.{IsInferable, least_sends}
+use Rattle.jn_inference_law.specs.Inference.{IsInferable, inference, words_for, least_sends}
 use Rattle.jn_inference_law.proofs.InferenceLaws.{least_sends_is}
+use Rattle.jn_system.specs.Cleaning.{IsSignatureOf}
+use Rattle.jn_system.proofs.Seen.{same_output}
 
 -- none of the first i outputs is of the word
 abbrev pub NoneBefore : ℕ → ℕ → List (WordNo × ℕ) → Type 0
@@ -42,9 +45,9 @@ module _ (w bits : ℕ) where
       ∙ sym (ap (λ (t : Bool). if t then ((o.0, bit_or o.1 bits) ∷ os) else (o ∷ add_bits w bits os)) h.0)
 
 -- the packed sends are the output
-pub output_is : (P : Program) (b n : ℕ) (s : List Qualifier) (words : List ℕ) (T : Table) (sends slice : List (SlotNo × Qualifier)) (outputs : List (WordNo × ℕ)) → IsInferable P → b < length P.bodies → n ≡ length P.slots → s ≡ unpacked words n → IsLeastTable P s b T → slot_numbers sends ≡ body_sends P b T → slice ≡ sends → outputs ≡ packed (slot_numbers slice) → outputs ≡ packed (least_sends P (unpacked words (length P.slots)) b)
-output_is P b n s words T sends slice outputs can lt count is table sent same out =
+pub output_is : (P : Program) (b n : ℕ) (s : List Qualifier) (words : List ℕ) (listed : List WordNo) (T : Table) (sends slice : List (SlotNo × Qualifier)) (outputs : List (WordNo × ℕ)) → IsInferable P → b < length P.bodies → length words ≡ words_for (length P.slots) → n ≡ length P.slots → IsReadList (inference P) b listed → IsSignatureOf n words listed s → IsLeastTable P s b T → slot_numbers sends ≡ body_sends P b T → slice ≡ sends → outputs ≡ packed (slot_numbers slice) → outputs ≡ packed (least_sends P (unpacked words (length P.slots)) b)
+output_is P b n s words listed T sends slice outputs can lt long count reads sees table sent same out =
     out
     ∙ ap (λ (l : List (SlotNo × Qualifier)). packed (slot_numbers l)) same
     ∙ ap packed (sent ∙ sym (least_sends_is P s b T (can.inside b lt) table))
-    ∙ ap (λ (t : List Qualifier). packed (least_sends P t b)) (is ∙ ap (unpacked words) count)
+    ∙ same_output P b words listed s can lt long reads (subst (λ m. IsSignatureOf m words listed s) count sees)

@@ -1,3 +1,4 @@
 pub mod Cleaning
 pub mod Rows
 pub mod ReadLists
+pub mod Ready

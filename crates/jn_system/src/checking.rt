@@ -4,14 +4,16 @@ ghost use Rattle.std.proofs.Common.{Global};
 ghost use Rattle.jn_base.specs.declared.place.Row.{Row};
 ghost use Rattle.jn_points.specs.Members.{below};
 ghost use Rattle.jn_inference_law.specs.Inference.{IsInferable};
+ghost use Rattle.jn_system.specs.Ready.{AreReady};
 ghost use Rattle.jn_system.specs.Rows.{least_rows, AreFound, AreBroken};
 
-use crate::found::Found;
+use crate::found::{Bodies, Found};
 use crate::stealing::{rows_of, steal_by};
 use crossbeam_deque::Worker;
 use jn_base::{OutOfMemory, Row};
 use jn_checks::override_rows;
 use jn_diag::order;
+use jn_env::OwnFields;
 use jn_points::Program;
 use jn_sigs::Sig;
 use jn_workers::Gate;
@@ -21,17 +23,15 @@ use std::thread::Threads;
 /// The rows that were found, by body. A second result for a body takes the place of the first.
 fn laid_out(
     alloc: Global,
-    program: &Program,
-    sig: &Sig,
+    bodies: &Bodies,
     mut found: Vec<Found>,
 ) -> Result<Vec<Option<Vec<Row>>>, OutOfMemory>
-    requires { AreFound program.now sig.now found.items }
-    ensures count { IfOk result (λ laid. length laid.items ≡ length program.now.bodies) }
-    ensures rows { IfOk result (λ laid. (b : ℕ) (rows : Vec Row Global) → slice_get laid.items b ≡ Some (Some rows) → rows.items ≡ least_rows program.now sig.now b) }
+    requires { AreFound bodies.now.program.now bodies.now.sig.now found.items }
+    ensures count { IfOk result (λ laid. length laid.items ≡ length bodies.now.program.now.bodies) }
+    ensures rows { IfOk result (λ laid. (b : ℕ) (rows : Vec Row Global) → slice_get laid.items b ≡ Some (Some rows) → rows.items ≡ least_rows bodies.now.program.now bodies.now.sig.now b) }
 {
-    let _sig = sig;
     let mut laid: Vec<Option<Vec<Row>>> = Vec::new(alloc);
-    for _ in 0..program.bodies.len() {
+    for _ in 0..bodies.program.bodies.len() {
         if laid.push(None).is_err() {
             return Err(OutOfMemory);
         }
@@ -48,21 +48,20 @@ fn laid_out(
 /// One body's rows: those that were found, or else made now.
 fn rows_at<G: Gate>(
     alloc: Global,
-    program: &Program,
-    sig: &Sig,
+    bodies: &Bodies,
     slot: Option<Vec<Row>>,
     body: u32,
     gate: &G,
 ) -> Result<Vec<Row>, OutOfMemory>
-    requires inferable { IsInferable program.now }
-    requires inside { body < length program.now.bodies }
-    requires slot { (rows : Vec Row Global) → slot ≡ Some rows → rows.items ≡ least_rows program.now sig.now body }
-    ensures { IfOk result (λ rows. rows.items ≡ least_rows program.now sig.now body) }
+    requires ready { AreReady bodies.now.program.now bodies.now.own.now }
+    requires inside { body < length bodies.now.program.now.bodies }
+    requires slot { (rows : Vec Row Global) → slot ≡ Some rows → rows.items ≡ least_rows bodies.now.program.now bodies.now.sig.now body }
+    ensures { IfOk result (λ rows. rows.items ≡ least_rows bodies.now.program.now bodies.now.sig.now body) }
 {
     match slot {
         Some(rows) => Ok(rows),
         None => {
-            let found = rows_of(alloc, program, sig, body, 0, gate)?;
+            let found = rows_of(alloc, bodies, body, 0, gate)?;
             Ok(found.rows)
         }
     }
@@ -78,20 +77,19 @@ fn append(all: &mut Vec<Row>, rows: &[Row]) -> Result<(), AllocError>
 /// The rows of all bodies, in their order.
 fn in_order<G: Gate>(
     alloc: Global,
-    program: &Program,
-    sig: &Sig,
+    bodies: &Bodies,
     found: Vec<Found>,
     gate: &G,
 ) -> Result<Vec<Row>, OutOfMemory>
-    requires inferable { IsInferable program.now }
-    requires found { AreFound program.now sig.now found.items }
-    ensures { IfOk result (λ all. all.items ≡ flat_map (least_rows program.now sig.now) (below (length program.now.bodies))) }
+    requires ready { AreReady bodies.now.program.now bodies.now.own.now }
+    requires found { AreFound bodies.now.program.now bodies.now.sig.now found.items }
+    ensures { IfOk result (λ all. all.items ≡ flat_map (least_rows bodies.now.program.now bodies.now.sig.now) (below (length bodies.now.program.now.bodies))) }
 {
-    let mut laid = laid_out(alloc, program, sig, found)?;
+    let mut laid = laid_out(alloc, bodies, found)?;
     let mut all = Vec::new(alloc);
-    for body in 0..program.bodies.len() {
+    for body in 0..bodies.program.bodies.len() {
         let slot = laid[body].take();
-        let rows = rows_at(alloc, program, sig, slot, body as u32, gate)?;
+        let rows = rows_at(alloc, bodies, slot, body as u32, gate)?;
         append(&mut all, rows.as_slice())?;
     }
     Ok(all)
@@ -101,16 +99,15 @@ fn in_order<G: Gate>(
 fn bodies_rows<R: Threads + Sync, G: Gate + Sync>(
     rt: &R,
     alloc: Global,
-    program: &Program,
-    sig: &Sig,
+    bodies: &Bodies,
     workers: u32,
     gate: &G,
 ) -> Result<Vec<Row>, OutOfMemory>
-    requires inferable { IsInferable program.now }
+    requires ready { AreReady bodies.now.program.now bodies.now.own.now }
     requires workers { 0 < workers }
-    ensures { IfOk result (λ all. all.items ≡ flat_map (least_rows program.now sig.now) (below (length program.now.bodies))) }
+    ensures { IfOk result (λ all. all.items ≡ flat_map (least_rows bodies.now.program.now bodies.now.sig.now) (below (length bodies.now.program.now.bodies))) }
 {
-    let count = program.bodies.len() as u32;
+    let count = bodies.program.bodies.len() as u32;
     let Ok(mut deque) = Worker::new_fifo(alloc, count as usize) else {
         return Err(OutOfMemory);
     };
@@ -123,8 +120,8 @@ fn bodies_rows<R: Threads + Sync, G: Gate + Sync>(
         return Err(OutOfMemory);
     };
     let limit = 2 * count as u64 + 64;
-    let found = steal_by(rt, alloc, program, sig, &stealer, workers - 1, limit, gate)?;
-    in_order(alloc, program, sig, found, gate)
+    let found = steal_by(rt, alloc, bodies, &stealer, workers - 1, limit, gate)?;
+    in_order(alloc, bodies, found, gate)
 }
 
 /// Exactly the rows of the broken rules of a program under the least tables of the signature, in order, found
@@ -145,7 +142,13 @@ pub fn check_all<R: Threads + Sync, G: Gate + Sync>(
     requires workers { (0 < workers) × (workers ≤ 16) }
     ensures { IfOk result (λ rows. AreBroken program.now sig.now rows.items) }
 {
-    let mut all = bodies_rows(rt, alloc, program, sig, workers, gate)?;
+    let own = OwnFields::new(alloc, program)?;
+    let bodies = Bodies {
+        program,
+        sig,
+        own: &own,
+    };
+    let mut all = bodies_rows(rt, alloc, &bodies, workers, gate)?;
     let pairs = override_rows(alloc, program, sig)?;
     append(&mut all, pairs.as_slice())?;
     order(&mut all)?;

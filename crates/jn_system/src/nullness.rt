@@ -1,17 +1,19 @@
 // Inference over a program as a system of bodies and words.
 ghost use Rattle.std.specs.Prelude.{◌≡◌, ◌<◌, length};
-ghost use Rattle.jn_inference_law.proofs.OneFact.{inferable_prop};
-ghost use Rattle.jn_inference_law.specs.Inference.{IsInferable};
+ghost use Rattle.jn_system.specs.Ready.{AreReady};
+ghost use Rattle.jn_system.proofs.OneFact.{ready_prop};
 
 use crate::listing::words_read;
 use crate::packing::pack_sends;
 use crate::reading::body_reads;
-use crate::signature::signature;
+use crate::signature::signature_of;
 use jn_base::{BodyNo, OutOfMemory, WordNo};
-use jn_contrib::contrib;
-use jn_flow::flow;
+use jn_contrib::contrib_by;
+use jn_env::{OwnFields, find_keys_by};
+use jn_flow::flow_by;
 use jn_points::Program;
 use jn_sigtable::Constraints;
+use jn_transfer::Analysis;
 use std::alloc::Global;
 
 /// The system of a program: its bodies, the packed words of its signature, and what each body sends into
@@ -19,16 +21,17 @@ use std::alloc::Global;
 #[derive(Drop)]
 pub struct Nullness<'p> {
     pub program: &'p Program,
-    ghost inferable: { IsInferable program.now } by { inferable_prop program.now },
+    own: &'p OwnFields,
+    ghost ready: { AreReady program.now own.now } by { ready_prop program.now own.now },
 }
 
 impl<'p> Nullness<'p> {
-    /// The system of the program.
-    pub fn new(program: &'p Program) -> Nullness<'p>
-        requires { IsInferable program.now }
+    /// The system of a program with the reference fields of its classes.
+    pub fn new(program: &'p Program, own: &'p OwnFields) -> Nullness<'p>
+        requires { AreReady program.now own.now }
         ensures { result.program.now ≡ program.now }
     {
-        Nullness { program }
+        Nullness { program, own }
     }
 }
 
@@ -61,12 +64,21 @@ impl<'p> Constraints for Nullness<'p> {
         body: BodyNo,
         words: &[u64],
     ) -> Result<Vec<(WordNo, u64)>, OutOfMemory> {
-        let sig = signature(alloc, self.program.slots.len() as u32, words)?;
-        let table = flow(alloc, self.program, &sig, body)?;
-        let sends = contrib(alloc, self.program, &sig, body, &table)?;
+        let reads = self.words_read(alloc, body)?;
+        let slots = self.program.slots.len() as u32;
+        let sig = signature_of(alloc, slots, words, reads.as_slice())?;
+        let keys = find_keys_by(alloc, self.program, self.own, body)?;
+        let analysis = Analysis {
+            program: self.program,
+            sig: &sig,
+            body,
+            keys: &keys,
+        };
+        let table = flow_by(alloc, &analysis)?;
+        let sends = contrib_by(alloc, self.program, &keys, body, &table)?;
         let outputs = pack_sends(alloc, sends.as_slice())?;
         Ok(outputs)
     }
 
-    ghost laws = { λ it. inference_lawful it.program.now it.inferable };
+    ghost laws = { λ it. inference_lawful it.program.now it.ready.inferable };
 }

@@ -6,6 +6,7 @@ ghost use Rattle.jn_inference_law.specs.Solution.{IsLeastSignature};
 use crate::nullness::Nullness;
 use crate::signature::signature;
 use jn_base::OutOfMemory;
+use jn_env::OwnFields;
 use jn_points::Program;
 use jn_sigs::{Sig, start};
 use jn_workers::{Gate, solve};
@@ -33,7 +34,8 @@ pub fn solve_sig<R: Threads + Sync, G: Gate + Sync>(
     if program.bodies.len() == 0 {
         return Ok(first);
     }
-    let system = Nullness::new(program);
+    let own = OwnFields::new(alloc, program)?;
+    let system = Nullness::new(program, &own);
     let words = solve(rt, alloc, system, first.words(), workers, gate)?;
     let sig = signature(alloc, program.slots.len() as u32, words.as_slice())?;
     Ok(sig)

@@ -124,7 +124,7 @@ statement-returns-in-Some-expect-2 t c =
     subst (λ x. IfOk c.super_call.result (λ o. x ≡ seen_as boxed_view o)) (sym (one_at c.args.context c.args.depth (kinds c.args.tokens.now) (Super ∷ LeftParen ∷ kinds c.in-Some-expect-2.after.now) lt e)) c.super_call.ensures
 
 pub body-statements-init : goal.body-statements-init
-body-statements-init t c = blocking_starts (read_one c.args.depth c.args.context) (kinds c.args.tokens.now) c.new-statements.result.items c.new-statements.ensures.items
+body-statements-init t c = blocking_starts (read_one c.args.depth c.args.context) (kinds c.args.tokens.now) c.in_ok-statements.statements.items c.in_ok-statements.ensures.items
 
 pub body-returns-in-Some : goal.body-returns-in-Some
 body-returns-in-Some t c = blocking_ends (read_one c.args.depth c.args.context) (statement_views c.statements.statements.items) (kinds c.statements.left.now) (read_block (read_one c.args.depth c.args.context) (kinds c.args.tokens.now)) c.statements.invariant (kinds c.in-Some.rest.now) c.in-Some.ensures
