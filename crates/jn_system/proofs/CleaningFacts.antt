@@ -34,10 +34,10 @@ zero_unpacked : (j : ℕ) → unpack 0 j ≡ no_qual
 zero_unpacked j = gone 0 j 0 (omega arith)
 
 module _ (slots : ℕ) (words : List ℕ) where
-  length-cleaned : length (cleaned slots words) ≡ words_for slots
+  pub length-cleaned : length (cleaned slots words) ≡ words_for slots
   length-cleaned = length-map-range_with_len (λ w. clean slots w (slice_index words w)) 0 (words_for slots)
 
-  cleaned-at : (w : ℕ) → w < words_for slots → get_or (cleaned slots words) w 0 ≡ clean slots w (slice_index words w)
+  pub cleaned-at : (w : ℕ) → w < words_for slots → get_or (cleaned slots words) w 0 ≡ clean slots w (slice_index words w)
   cleaned-at w lt = get_or-map-range_with_len (λ v. clean slots v (slice_index words v)) 0 (words_for slots) w w 0 lt (omega arith)
 
   slot_kept : (i : ℕ) → i < slots → at_slot (cleaned slots words) i ≡ at_slot words i

@@ -3,5 +3,4 @@ pub mod Outputs
 pub mod ReadSteps
 pub mod Gathering
 pub mod ListSteps
-pub mod OneFact
 pub mod Seen

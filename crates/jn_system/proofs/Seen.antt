@@ -1,8 +1,9 @@
 -- Words that are taken over one by one, where they are listed.
-use Rattle.std.proofs.Common.{◌≡◌, ◌⊎◌, inl, inr, ℕ, zero, suc, ◌-◌, ◌*◌, ◌%◌, ◌^◌, ◌==◌, ◌||◌, Bool, true, false, ◌<◌, ◌≤◌, min, List, [], ◌∷◌, length, get_or, set, replicate, length-set, length-replicate, refl, sym, ap, ◌∙◌, subst, arith}
-use Rattle.std.specs.Prelude.{slice_index, slice_set}
-use Rattle.std.proofs.Math.Pow.{mod-mod-pow}
-use Rattle.std.proofs.lemmas.List.{get_or-set_same, get_or-set_other, get_or-replicate, ext_get_or}
+use Rattle.std.proofs.Common.{◌≡◌, ◌⊎◌, inl, inr, ℕ, zero, suc, ◌+◌, ◌-◌, ◌*◌, ◌%◌, ◌^◌, ◌==◌, ◌||◌, Bool, true, false, ◌<◌, ◌≤◌, min, List, [], ◌∷◌, length, get_or, set, drop, replicate, length-set, eqb-true, refl, sym, ap, ◌∙◌, subst, arith}
+use Rattle.std.specs.Prelude.{slice_index, slice_index_or, slice_set}
+use Rattle.std.proofs.Math.Nat.{zero-mod, mod-eq_of_lt}
+use Rattle.std.proofs.lemmas.Nat.{mod_below, pow_pos}
+use Rattle.std.proofs.lemmas.List.{length-replicate, drop_more, get_or-set_same, get_or-set_other, get_or-replicate, ext_get_or}
 use mathlib.Core.Logic.{dite}
 use native.Mathlib.Decide.{ℕ_discrete}
 use Rattle.jn_base.specs.declared.number.WordNo.{WordNo}
@@ -53,12 +54,17 @@ module _ (slots : ℕ) (words : List ℕ) where
       other w ne e = by (x.0 == w) refl e
         where
           by : (b : Bool) → (x.0 == w) ≡ b → (b || lists_word left w) ≡ true → lists_word left w ≡ true
-          by true is e = absurd (ne (sym (eq_of x.0 w is)))
+          by true is e = absurd (ne (sym (eqb-true x.0 w is)))
           by false is e = e
 
       still : (w : ℕ) → (w ≡ x.0 → ⊥) → (slice_index list w ≡ slice_index (cleaned slots words) w) ⊎ (lists_word (x ∷ left) w ≡ true) → (slice_index (set list x.0 (clean slots x.0 (slice_index words x.0))) w ≡ slice_index (cleaned slots words) w) ⊎ (lists_word left w ≡ true)
       still w ne (inl e) = inl (elsewhere list x h.count w ne ∙ e)
       still w ne (inr e) = inr (other w ne e)
+
+  pub seen_next : (listed : List WordNo) (i : ℕ) (d : WordNo) (list next : List ℕ) → i < length listed → AreSeen slots words listed (drop i listed) list → next ≡ slice_set list (slice_index_or listed i d).0 (clean slots (slice_index_or listed i d).0 (slice_index words (slice_index_or listed i d).0)) → AreSeen slots words listed (drop (i + 1) listed) next
+  seen_next listed i d list next lt h e =
+      let x = slice_index_or listed i d in
+      subst (AreSeen slots words listed (drop (i + 1) listed)) (sym e) (seen_more listed (drop (i + 1) listed) x list (subst (λ left. AreSeen slots words listed left list) (drop_more listed i d lt) h))
 
   module _ (listed : List WordNo) (list : List ℕ) (seen : AreSeen slots words listed [] list) where
     -- a word that is zero or clean is as clean as it can be
@@ -66,10 +72,10 @@ module _ (slots : ℕ) (words : List ℕ) where
     twice w lt = by (seen.clean w lt)
       where
         by : (slice_index list w ≡ 0) ⊎ (slice_index list w ≡ slice_index (cleaned slots words) w) → slice_index list w ≡ clean slots w (slice_index list w)
-        by (inl e) = e ∙ sym (ap (clean slots w) e ∙ zero_clean (3 * min 21 (slots - 21 * w)))
+        by (inl e) = e ∙ sym (ap (clean slots w) e ∙ zero-mod (2 ^ (3 * min 21 (slots - 21 * w))))
         by (inr e) =
             let is : slice_index list w ≡ clean slots w (slice_index words w) = e ∙ cleaned-at slots words w lt in
-            is ∙ sym (ap (clean slots w) is ∙ mod-mod-pow (slice_index words w) 0 (3 * min 21 (slots - 21 * w)))
+            is ∙ sym (ap (clean slots w) is ∙ mod-eq_of_lt (mod_below (slice_index words w) (2 ^ (3 * min 21 (slots - 21 * w))) (pow_pos (3 * min 21 (slots - 21 * w)))))
 
     all_clean : list ≡ cleaned slots list
     all_clean = ext_get_or 0 list (cleaned slots list) (seen.count ∙ sym (length-cleaned slots list)) (λ w lt.

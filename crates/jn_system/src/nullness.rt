@@ -1,7 +1,6 @@
 // Inference over a program as a system of bodies and words.
 ghost use Rattle.std.specs.Prelude.{◌≡◌, ◌<◌, length};
-ghost use Rattle.jn_system.specs.Ready.{AreReady};
-ghost use Rattle.jn_system.proofs.OneFact.{ready_prop};
+ghost use Rattle.jn_system.specs.Ready.{AreReady, ready_prop};
 
 use crate::listing::words_read;
 use crate::packing::pack_sends;
@@ -64,7 +63,7 @@ impl<'p> Constraints for Nullness<'p> {
         body: BodyNo,
         words: &[u64],
     ) -> Result<Vec<(WordNo, u64)>, OutOfMemory> {
-        let reads = self.words_read(alloc, body)?;
+        let reads = words_read(alloc, self.program, self.words(), body)?;
         let slots = self.program.slots.len() as u32;
         let sig = signature_of(alloc, slots, words, reads.as_slice())?;
         let keys = find_keys_by(alloc, self.program, self.own, body)?;

@@ -52,6 +52,7 @@ fn see(list: &mut Vec<u64>, slots: u32, words: &[u64], word: u32)
 }
 
 /// The clean words where they are listed, and zero elsewhere.
+#[tactic(auto, using(crate::proofs::Seen::seen_start, crate::proofs::Seen::seen_next))]
 fn seen_words(
     alloc: Global,
     slots: u32,
@@ -70,7 +71,6 @@ fn seen_words(
 
 /// The signature that the words hold where they are listed; in the slots of all others nothing. What a body does doesn't
 /// depend on words that it doesn't read, and most bodies read few.
-#[tactic(auto, using(crate::proofs::Seen::seen_packed, crate::proofs::Seen::seen_signature))]
 pub fn signature_of(
     alloc: Global,
     slots: u32,
