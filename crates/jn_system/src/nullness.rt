@@ -67,12 +67,7 @@ impl<'p> Constraints for Nullness<'p> {
         let slots = self.program.slots.len() as u32;
         let sig = signature_of(alloc, slots, words, reads.as_slice())?;
         let keys = find_keys_by(alloc, self.program, self.own, body)?;
-        let analysis = Analysis {
-            program: self.program,
-            sig: &sig,
-            body,
-            keys: &keys,
-        };
+        let analysis = Analysis::new(self.program, &sig, body, &keys);
         let table = flow_by(alloc, &analysis)?;
         let sends = contrib_by(alloc, self.program, &keys, body, &table)?;
         let outputs = pack_sends(alloc, sends.as_slice())?;

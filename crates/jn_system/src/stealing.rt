@@ -32,12 +32,7 @@ pub fn rows_of<G: Gate>(
     let Bodies { program, sig, own } = *bodies;
     gate.enter(worker, BodyNo(body));
     let keys = find_keys_by(alloc, program, own, BodyNo(body))?;
-    let analysis = Analysis {
-        program,
-        sig,
-        body: BodyNo(body),
-        keys: &keys,
-    };
+    let analysis = Analysis::new(program, sig, BodyNo(body), &keys);
     let table = flow_by(alloc, &analysis)?;
     let rows = checks_by(alloc, &analysis, &table)?;
     Ok(Found { body, rows })
