@@ -23,13 +23,12 @@ pub fn push_ctor(
     info: &Body,
     slots: &[Option<Env>],
 ) -> Result<(), AllocError>
-    requires keys { AreKeys analysis.now.program.now analysis.now.body.0 analysis.now.keys.now }
-    requires body { body_at analysis.now.program.now analysis.now.body.0 ≡ Some info.now }
+    requires body { body_at analysis.now.program analysis.now.body ≡ Some info.now }
     requires long { length slots.now ≡ length info.now.points }
-    ensures { OnOk result (rows.new.items ≡ rows.old.items ++ ctor_rows analysis.now.program.now analysis.now.sig.now analysis.now.body.0 (method_of_body analysis.now.program.now (Some info.now)) slots.now) }
+    ensures { OnOk result (rows.new.items ≡ rows.old.items ++ ctor_rows analysis.now.program analysis.now.sig analysis.now.body (method_of_body analysis.now.program (Some info.now)) slots.now) }
 {
     match analysis
-        .program
+        .program()
         .methods
         .as_slice()
         .get(info.method.0 as usize)
@@ -45,18 +44,16 @@ pub fn push_ctor(
 }
 
 fn leaves_unset(analysis: &Analysis, is_ctor: bool, points: &[Point], slots: &[Option<Env>]) -> bool
-    requires keys { AreKeys analysis.now.program.now analysis.now.body.0 analysis.now.keys.now }
     requires long { length slots.now ≡ length points.now }
-    ensures { result ≡ (is_ctor && unset_from analysis.now.program.now analysis.now.sig.now analysis.now.body.0 points.now 0 slots.now) }
+    ensures { result ≡ (is_ctor && unset_from analysis.now.program analysis.now.sig analysis.now.body points.now 0 slots.now) }
 {
     is_ctor && is_unset_at_end(analysis, points, slots)
 }
 
 /// Whether at some reached Return a field is not assigned.
 fn is_unset_at_end(analysis: &Analysis, points: &[Point], slots: &[Option<Env>]) -> bool
-    requires keys { AreKeys analysis.now.program.now analysis.now.body.0 analysis.now.keys.now }
     requires long { length slots.now ≡ length points.now }
-    ensures { result ≡ unset_from analysis.now.program.now analysis.now.sig.now analysis.now.body.0 points.now 0 slots.now }
+    ensures { result ≡ unset_from analysis.now.program analysis.now.sig analysis.now.body points.now 0 slots.now }
 {
     let mut unset = false;
     for at in 0..points.len() {
@@ -66,8 +63,7 @@ fn is_unset_at_end(analysis: &Analysis, points: &[Point], slots: &[Option<Env>])
 }
 
 fn is_unset_at(analysis: &Analysis, kind: &PointKind, slot: &Option<Env>) -> bool
-    requires keys { AreKeys analysis.now.program.now analysis.now.body.0 analysis.now.keys.now }
-    ensures { result ≡ unset_at analysis.now.program.now analysis.now.sig.now analysis.now.body.0 kind.now slot.now }
+    ensures { result ≡ unset_at analysis.now.program analysis.now.sig analysis.now.body kind.now slot.now }
 {
     match kind {
         PointKind::Return { .. } => match slot {
@@ -80,10 +76,9 @@ fn is_unset_at(analysis: &Analysis, kind: &PointKind, slot: &Option<Env>) -> boo
 
 /// Whether a field whose slot has no null is not assigned.
 fn is_unset(analysis: &Analysis, env: &Env) -> bool
-    requires keys { AreKeys analysis.now.program.now analysis.now.body.0 analysis.now.keys.now }
-    ensures { result ≡ is_unset analysis.now.program.now analysis.now.sig.now analysis.now.body.0 env.now }
+    ensures { result ≡ is_unset analysis.now.program analysis.now.sig analysis.now.body env.now }
 {
-    let own = analysis.keys.own.as_slice();
+    let own = analysis.keys().own.as_slice();
     let mut unset = false;
     for field in own {
         unset = either(
@@ -96,8 +91,8 @@ fn is_unset(analysis: &Analysis, env: &Env) -> bool
 
 /// Whether the field's slot has no null, and it is not assigned.
 fn lacks_value(analysis: &Analysis, own: &[u32], assigned: &[bool], field: u32) -> bool
-    ensures { result ≡ (not (field_qual analysis.now.program.now analysis.now.sig.now field).null && not (is_on (λ k. eqb k field) own.now assigned.now)) }
+    ensures { result ≡ (not (field_qual analysis.now.program analysis.now.sig field).null && not (is_on (λ k. eqb k field) own.now assigned.now)) }
 {
-    !field_qual(analysis.program, analysis.sig, field).has_null()
+    !field_qual(analysis.program(), analysis.sig(), field).has_null()
         && !is_assigned(own, assigned, field)
 }

@@ -30,12 +30,7 @@ pub fn checks(
     ensures { IfOk result (λ rows. rows.items ≡ body_rows program.now sig.now body.0 table.now) }
 {
     let keys = find_keys(alloc, program, body)?;
-    let analysis = Analysis {
-        program,
-        sig,
-        body,
-        keys: &keys,
-    };
+    let analysis = Analysis::new(program, sig, body, &keys);
     checks_by(alloc, &analysis, table)
 }
 
@@ -48,18 +43,17 @@ pub fn checks_by(
     analysis: &Analysis,
     table: &FlowTable,
 ) -> Result<Vec<Row>, OutOfMemory>
-    requires keys { AreKeys analysis.now.program.now analysis.now.body.0 analysis.now.keys.now }
-    requires inside { analysis.now.body.0 < length analysis.now.program.now.bodies }
-    requires long { length table.now ≡ length (points_of (body_at analysis.now.program.now analysis.now.body.0)) }
-    ensures { IfOk result (λ rows. rows.items ≡ body_rows analysis.now.program.now analysis.now.sig.now analysis.now.body.0 table.now) }
+    requires inside { analysis.now.body < length analysis.now.program.bodies }
+    requires long { length table.now ≡ length (points_of (body_at analysis.now.program analysis.now.body)) }
+    ensures { IfOk result (λ rows. rows.items ≡ body_rows analysis.now.program analysis.now.sig analysis.now.body table.now) }
 {
-    let info = &analysis.program.bodies.as_slice()[analysis.body.0 as usize];
+    let info = &analysis.program().bodies.as_slice()[analysis.body().0 as usize];
     let mut rows = Vec::new(alloc);
     push_points(
         &mut rows,
-        analysis.program,
-        analysis.sig,
-        analysis.body,
+        analysis.program(),
+        analysis.sig(),
+        analysis.body(),
         info.points.as_slice(),
         table.slots(),
     )?;

@@ -3,7 +3,6 @@ ghost use Rattle.std.specs.Prelude.{◌≡◌, ◌<◌, ◌++◌, IfOk, OnOk, So
 ghost use Rattle.jn_points.specs.Lookup.{method_at};
 ghost use Rattle.jn_sigs.specs.Signature.{slot_quals};
 ghost use Rattle.jn_transfer.specs.Transfer.{given_quals, this_qual, entry_env};
-ghost use Rattle.jn_env.specs.Code.{AreKeys};
 ghost use Rattle.jn_env.specs.Sized.{EnvSized};
 
 use jn_base::{OutOfMemory, SlotNo};
@@ -21,14 +20,16 @@ use std::alloc::{AllocError, Global};
 /// # Errors
 /// No memory was found.
 pub fn entry(alloc: Global, analysis: &Analysis) -> Result<Env, OutOfMemory>
-    requires inside { analysis.now.body.0 < length analysis.now.program.now.bodies }
-    requires keys { AreKeys analysis.now.program.now analysis.now.body.0 analysis.now.keys.now }
-    ensures is { IfOk result (λ env. env ≡ entry_env analysis.now.program.now analysis.now.sig.now analysis.now.body.0) }
-    ensures sized { IfOk result (λ env. EnvSized analysis.now.program.now analysis.now.body.0 env) }
+    requires inside { analysis.now.body < length analysis.now.program.bodies }
+    ensures is { IfOk result (λ env. env ≡ entry_env analysis.now.program analysis.now.sig analysis.now.body) }
+    ensures sized { IfOk result (λ env. EnvSized analysis.now.program analysis.now.body env) }
 {
-    let info = &analysis.program.bodies.as_slice()[analysis.body.0 as usize];
-    let given = given_by(alloc, analysis.program, analysis.sig, info)?;
-    let mut env = Env::empty(alloc, analysis.program, analysis.body, analysis.keys)?;
+    let program = analysis.program();
+    let sig = analysis.sig();
+    let body = analysis.body();
+    let info = &program.bodies.as_slice()[body.0 as usize];
+    let given = given_by(alloc, program, sig, info)?;
+    let mut env = Env::empty(alloc, program, body, analysis.keys())?;
     env.give(&given);
     Ok(env)
 }

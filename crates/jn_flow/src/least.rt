@@ -1,7 +1,6 @@
 // The least table of a body.
 ghost use Rattle.std.specs.Prelude.{◌≡◌, ◌<◌, ◌^◌, IfOk, length};
 ghost use Rattle.jn_points.specs.Lookup.{body_at, points_of};
-ghost use Rattle.jn_env.specs.Code.{AreKeys};
 ghost use Rattle.jn_transfer.specs.Least.{IsLeastTable};
 ghost use Rattle.jn_transfer.specs.Sized.{StaysInside};
 
@@ -32,12 +31,7 @@ pub fn flow(
     ensures { IfOk result (λ table. IsLeastTable program.now sig.now body.0 table) }
 {
     let keys = find_keys(alloc, program, body)?;
-    let analysis = Analysis {
-        program,
-        sig,
-        body,
-        keys: &keys,
-    };
+    let analysis = Analysis::new(program, sig, body, &keys);
     flow_by(alloc, &analysis)
 }
 
@@ -46,13 +40,12 @@ pub fn flow(
 /// # Errors
 /// No memory was found.
 pub fn flow_by(alloc: Global, analysis: &Analysis) -> Result<FlowTable, OutOfMemory>
-    requires keys { AreKeys analysis.now.program.now analysis.now.body.0 analysis.now.keys.now }
-    requires inside { analysis.now.body.0 < length analysis.now.program.now.bodies }
-    requires stays { StaysInside analysis.now.program.now analysis.now.body.0 }
-    requires short { length (points_of (body_at analysis.now.program.now analysis.now.body.0)) < 2 ^ 32 }
-    ensures { IfOk result (λ table. IsLeastTable analysis.now.program.now analysis.now.sig.now analysis.now.body.0 table) }
+    requires inside { analysis.now.body < length analysis.now.program.bodies }
+    requires stays { StaysInside analysis.now.program analysis.now.body }
+    requires short { length (points_of (body_at analysis.now.program analysis.now.body)) < 2 ^ 32 }
+    ensures { IfOk result (λ table. IsLeastTable analysis.now.program analysis.now.sig analysis.now.body table) }
 {
-    let qualifiers = Qualifiers::new(*analysis);
+    let qualifiers = Qualifiers::new(analysis);
     let table = solve(alloc, &qualifiers)?;
     Ok(FlowTable::of_slots(table.into_vec()))
 }

@@ -5,3 +5,4 @@ pub mod Contributions
 pub mod Sized
 pub mod Covered
 pub mod Closing
+pub mod Subject

@@ -7,6 +7,7 @@ ghost use Rattle.jn_sigs.specs.Signature.{result_of};
 ghost use Rattle.jn_transfer.specs.Transfer.{put, drop_all, put_to, learn, refine, side, written, write_facts, write_assigned, ctor_called, elem_read, read_part, read_qual, transfer, ref_quals, new_qual};
 ghost use Rattle.jn_env.specs.Sized.{EnvSized};
 ghost use Rattle.jn_env.specs.Code.{AreKeys};
+ghost use Rattle.jn_env.specs.Keys.{own_keys};
 
 use crate::creation::{new_qual, ref_quals};
 use crate::lookup::{
@@ -20,53 +21,105 @@ use jn_points::{Operand, Origin, PointKind, Program};
 use jn_quals::Qual;
 use jn_sigs::Sig;
 use std::alloc::{AllocError, Global};
+use std::marker::Model;
 
 /// The number of a target, and the environment there.
 pub type Edge = (u32, Env);
 
-/// A body under a signature, with its keys.
-#[derive(Clone, Copy)]
+/// A body of a program under a signature, with the body's keys. Contracts see all but the keys, which are told by it.
+#[derive(Drop)]
 pub struct Analysis<'a> {
-    pub program: &'a Program,
-    pub sig: &'a Sig,
-    pub body: BodyNo,
-    pub keys: &'a Keys,
+    program: &'a Program,
+    sig: &'a Sig,
+    body: BodyNo,
+    keys: &'a Keys,
+}
+
+impl<'a> Model for Analysis<'a> {
+    ghost use Rattle.jn_env.specs.Code.{AreKeys};
+    ghost use Rattle.jn_transfer.specs.Subject.{Subject};
+
+    ghost Value = { Subject };
+
+    ghost view = { λ a. record { program = a.program.now; sig = a.sig.now; body = a.body.0 } };
+
+    ghost invariant = { λ a. AreKeys a.program.now a.body.0 a.keys.now };
 }
 
 impl<'a> Analysis<'a> {
+    /// The analysis of a body, whose keys these are.
+    pub fn new(program: &'a Program, sig: &'a Sig, body: BodyNo, keys: &'a Keys) -> Analysis<'a>
+        requires { AreKeys program.now body.0 keys.now }
+        ensures program { result.program ≡ program.now }
+        ensures sig { result.sig ≡ sig.now }
+        ensures body { result.body ≡ body.0 }
+    {
+        Analysis {
+            program,
+            sig,
+            body,
+            keys,
+        }
+    }
+
+    /// The program.
+    pub fn program(&self) -> &'a Program
+        ensures { result.now ≡ self.now.program }
+    {
+        self.program
+    }
+
+    /// The signature.
+    pub fn sig(&self) -> &'a Sig
+        ensures { result.now ≡ self.now.sig }
+    {
+        self.sig
+    }
+
+    /// The body's number.
+    pub fn body(&self) -> BodyNo
+        ensures { result.0 ≡ self.now.body }
+    {
+        self.body
+    }
+
+    /// The body's keys.
+    pub fn keys(&self) -> &'a Keys
+        ensures { AreKeys self.now.program self.now.body result.now }
+    {
+        self.keys
+    }
+
     /// Writes a register; its facts go.
     fn put(&self, env: &mut Env, reg: RegNo, qual: Qual)
-        requires keys { AreKeys self.now.program.now self.now.body.0 self.now.keys.now }
-        requires sized { EnvSized self.now.program.now self.now.body.0 env.old }
-        ensures { env.new ≡ put self.now.program.now self.now.body.0 env.old reg.0 qual }
+        requires sized { EnvSized self.now.program self.now.body env.old }
+        ensures { env.new ≡ put self.now.program self.now.body env.old reg.0 qual }
     {
-        env.set(self.keys, reg, qual);
+        env.set(self.keys(), reg, qual);
     }
 
     /// All facts go.
     fn drop_all(&self, env: &mut Env)
-        requires keys { AreKeys self.now.program.now self.now.body.0 self.now.keys.now }
-        requires sized { EnvSized self.now.program.now self.now.body.0 env.old }
-        ensures { env.new ≡ drop_all self.now.program.now self.now.body.0 env.old }
+        requires sized { EnvSized self.now.program self.now.body env.old }
+        ensures { env.new ≡ drop_all self.now.program self.now.body env.old }
     {
-        env.drop_facts(self.keys, None);
+        env.drop_facts(self.keys(), None);
     }
 
     /// A test's origin is a fact.
     fn learn(&self, env: &mut Env, origin: Option<Origin>)
-        requires keys { AreKeys self.now.program.now self.now.body.0 self.now.keys.now }
-        requires sized { EnvSized self.now.program.now self.now.body.0 env.old }
-        ensures { env.new ≡ learn self.now.program.now self.now.body.0 origin env.old }
+        requires sized { EnvSized self.now.program self.now.body env.old }
+        ensures { env.new ≡ learn self.now.program self.now.body origin env.old }
     {
         match origin {
             None => {}
-            Some(origin) => env.add_fact(self.keys, origin.reg, origin.field),
+            Some(origin) => env.add_fact(self.keys(), origin.reg, origin.field),
         }
     }
 
     /// The qualifier of a field that is read from a non-null object.
     fn read_part(&self, field: FieldNo, object: Qual) -> Qual
-        ensures { result ≡ read_part self.now.program.now self.now.sig.now field.0 object }
+        ensures { result ≡ read_part self.now.program self.now.sig field.0 object }
     {
         if object.is_none() {
             return Qual::none();
@@ -83,16 +136,15 @@ impl<'a> Analysis<'a> {
 
     /// The qualifier of a field that is read through a register.
     fn read_qual(&self, env: &Env, object: RegNo, field: FieldNo) -> Qual
-        requires keys { AreKeys self.now.program.now self.now.body.0 self.now.keys.now }
-        requires sized { EnvSized self.now.program.now self.now.body.0 env.now }
-        ensures { result ≡ read_qual self.now.program.now self.now.sig.now self.now.body.0 env.now object.0 field.0 }
+        requires sized { EnvSized self.now.program self.now.body env.now }
+        ensures { result ≡ read_qual self.now.program self.now.sig self.now.body env.now object.0 field.0 }
     {
         let read = if is_ref_field(self.program, field.0) {
             self.read_part(field, env.qual(object).without_null())
         } else {
             Qual::none()
         };
-        if env.has_fact(self.keys, object, field) {
+        if env.has_fact(self.keys(), object, field) {
             read.without_null()
         } else {
             read
@@ -101,9 +153,8 @@ impl<'a> Analysis<'a> {
 
     /// A field of the object in a register is written.
     fn write(&self, env: &mut Env, object: RegNo, field: FieldNo, value: RegNo)
-        requires keys { AreKeys self.now.program.now self.now.body.0 self.now.keys.now }
-        requires sized { EnvSized self.now.program.now self.now.body.0 env.old }
-        ensures { env.new ≡ written self.now.program.now self.now.body.0 env.old object.0 field.0 value.0 (ref_field self.now.program.now field.0) }
+        requires sized { EnvSized self.now.program self.now.body env.old }
+        ensures { env.new ≡ written self.now.program self.now.body env.old object.0 field.0 value.0 (ref_field self.now.program field.0) }
     {
         if is_ref_field(self.program, field.0) {
             self.write_facts(env, object, field, value);
@@ -112,22 +163,20 @@ impl<'a> Analysis<'a> {
     }
 
     fn write_facts(&self, env: &mut Env, object: RegNo, field: FieldNo, value: RegNo)
-        requires keys { AreKeys self.now.program.now self.now.body.0 self.now.keys.now }
-        requires sized { EnvSized self.now.program.now self.now.body.0 env.old }
-        ensures facts { env.new.facts ≡ write_facts self.now.program.now self.now.body.0 env.old object.0 field.0 value.0 }
+        requires sized { EnvSized self.now.program self.now.body env.old }
+        ensures facts { env.new.facts ≡ write_facts self.now.program self.now.body env.old object.0 field.0 value.0 }
         ensures quals { env.new.quals ≡ env.old.quals }
         ensures assigned { env.new.assigned ≡ env.old.assigned }
     {
-        env.drop_facts(self.keys, Some(field));
+        env.drop_facts(self.keys(), Some(field));
         if object.0 < locals(self.program, self.body) && !env.qual(value).has_null() {
-            env.add_fact(self.keys, object, field);
+            env.add_fact(self.keys(), object, field);
         }
     }
 
     fn write_assigned(&self, env: &mut Env, object: RegNo, field: FieldNo)
-        requires keys { AreKeys self.now.program.now self.now.body.0 self.now.keys.now }
-        requires sized { length env.old.assigned ≡ length self.now.keys.now.own }
-        ensures assigned { env.new.assigned ≡ write_assigned self.now.program.now self.now.body.0 env.old object.0 field.0 }
+        requires sized { length env.old.assigned ≡ length (own_keys self.now.program self.now.body) }
+        ensures assigned { env.new.assigned ≡ write_assigned self.now.program self.now.body env.old object.0 field.0 }
         ensures quals { env.new.quals ≡ env.old.quals }
         ensures facts { env.new.facts ≡ env.old.facts }
     {
@@ -135,25 +184,24 @@ impl<'a> Analysis<'a> {
             && object.0 == 0
             && owner(self.program, field.0) == class_of(self.program, self.body)
         {
-            env.assign(self.keys, Some(field));
+            env.assign(self.keys(), Some(field));
         }
     }
 
     /// A constructor of the own class or the parent is called.
     fn call_ctor(&self, env: &mut Env, own: bool)
-        requires keys { AreKeys self.now.program.now self.now.body.0 self.now.keys.now }
-        requires sized { EnvSized self.now.program.now self.now.body.0 env.old }
-        ensures { env.new ≡ ctor_called self.now.program.now self.now.body.0 env.old own }
+        requires sized { EnvSized self.now.program self.now.body env.old }
+        ensures { env.new ≡ ctor_called self.now.program self.now.body env.old own }
     {
         self.drop_all(env);
         if own {
-            env.assign(self.keys, None);
+            env.assign(self.keys(), None);
         }
     }
 
     /// The qualifier of an element that is read through a register.
     fn elem_read(&self, env: &Env, array: RegNo) -> Qual
-        ensures { result ≡ elem_read self.now.program.now self.now.body.0 env.now array.0 }
+        ensures { result ≡ elem_read self.now.program self.now.body env.now array.0 }
     {
         if env.qual(array).without_null().is_none() {
             return Qual::none();
@@ -169,7 +217,7 @@ impl<'a> Analysis<'a> {
         ctor: MethodNo,
         args: &[Operand],
     ) -> Result<Qual, OutOfMemory>
-        ensures { IfOk result (λ q. q ≡ new_qual (ref_quals env.now (slots_of (method_at self.now.program.now ctor.0)) args.now)) }
+        ensures { IfOk result (λ q. q ≡ new_qual (ref_quals env.now (slots_of (method_at self.now.program ctor.0)) args.now)) }
     {
         let quals = match self.program.methods.as_slice().get(ctor.0 as usize) {
             None => Vec::new(alloc),
@@ -187,9 +235,8 @@ impl<'a> Analysis<'a> {
         reg: RegNo,
         qual: Qual,
     ) -> Result<Vec<Edge>, OutOfMemory>
-        requires keys { AreKeys self.now.program.now self.now.body.0 self.now.keys.now }
-        requires sized { EnvSized self.now.program.now self.now.body.0 env.now }
-        ensures { IfOk result (λ xs. xs.items ≡ (to, put self.now.program.now self.now.body.0 env.now reg.0 qual) ∷ []) }
+        requires sized { EnvSized self.now.program self.now.body env.now }
+        ensures { IfOk result (λ xs. xs.items ≡ (to, put self.now.program self.now.body env.now reg.0 qual) ∷ []) }
     {
         let mut after = env.copy(alloc)?;
         self.put(&mut after, reg, qual);
@@ -205,9 +252,8 @@ impl<'a> Analysis<'a> {
         field: FieldNo,
         value: RegNo,
     ) -> Result<Vec<Edge>, OutOfMemory>
-        requires keys { AreKeys self.now.program.now self.now.body.0 self.now.keys.now }
-        requires sized { EnvSized self.now.program.now self.now.body.0 env.now }
-        ensures { IfOk result (λ xs. xs.items ≡ (to, written self.now.program.now self.now.body.0 env.now object.0 field.0 value.0 (ref_field self.now.program.now field.0)) ∷ []) }
+        requires sized { EnvSized self.now.program self.now.body env.now }
+        ensures { IfOk result (λ xs. xs.items ≡ (to, written self.now.program self.now.body env.now object.0 field.0 value.0 (ref_field self.now.program field.0)) ∷ []) }
     {
         let mut after = env.copy(alloc)?;
         self.write(&mut after, object, field, value);
@@ -223,9 +269,8 @@ impl<'a> Analysis<'a> {
         ctor: MethodNo,
         args: &[Operand],
     ) -> Result<Vec<Edge>, OutOfMemory>
-        requires keys { AreKeys self.now.program.now self.now.body.0 self.now.keys.now }
-        requires sized { EnvSized self.now.program.now self.now.body.0 env.now }
-        ensures { IfOk result (λ xs. xs.items ≡ (to, put self.now.program.now self.now.body.0 (drop_all self.now.program.now self.now.body.0 env.now) dst.0 (new_qual (ref_quals env.now (slots_of (method_at self.now.program.now ctor.0)) args.now))) ∷ []) }
+        requires sized { EnvSized self.now.program self.now.body env.now }
+        ensures { IfOk result (λ xs. xs.items ≡ (to, put self.now.program self.now.body (drop_all self.now.program self.now.body env.now) dst.0 (new_qual (ref_quals env.now (slots_of (method_at self.now.program ctor.0)) args.now))) ∷ []) }
     {
         let qual = self.created(alloc, env, ctor, args)?;
         let mut after = env.copy(alloc)?;
@@ -241,9 +286,8 @@ impl<'a> Analysis<'a> {
         env: &Env,
         own: bool,
     ) -> Result<Vec<Edge>, OutOfMemory>
-        requires keys { AreKeys self.now.program.now self.now.body.0 self.now.keys.now }
-        requires sized { EnvSized self.now.program.now self.now.body.0 env.now }
-        ensures { IfOk result (λ xs. xs.items ≡ (to, ctor_called self.now.program.now self.now.body.0 env.now own) ∷ []) }
+        requires sized { EnvSized self.now.program self.now.body env.now }
+        ensures { IfOk result (λ xs. xs.items ≡ (to, ctor_called self.now.program self.now.body env.now own) ∷ []) }
     {
         let mut after = env.copy(alloc)?;
         self.call_ctor(&mut after, own);
@@ -258,9 +302,8 @@ impl<'a> Analysis<'a> {
         dst: Option<RegNo>,
         method: MethodNo,
     ) -> Result<Vec<Edge>, OutOfMemory>
-        requires keys { AreKeys self.now.program.now self.now.body.0 self.now.keys.now }
-        requires sized { EnvSized self.now.program.now self.now.body.0 env.now }
-        ensures { IfOk result (λ xs. xs.items ≡ (to, put_to self.now.program.now self.now.body.0 (drop_all self.now.program.now self.now.body.0 env.now) dst (result_of self.now.sig.now (method_at self.now.program.now method.0))) ∷ []) }
+        requires sized { EnvSized self.now.program self.now.body env.now }
+        ensures { IfOk result (λ xs. xs.items ≡ (to, put_to self.now.program self.now.body (drop_all self.now.program self.now.body env.now) dst (result_of self.now.sig (method_at self.now.program method.0))) ∷ []) }
     {
         let mut after = env.copy(alloc)?;
         self.drop_all(&mut after);
@@ -284,9 +327,8 @@ impl<'a> Analysis<'a> {
         qual: Qual,
         origin: Option<Origin>,
     ) -> Result<(), OutOfMemory>
-        requires keys { AreKeys self.now.program.now self.now.body.0 self.now.keys.now }
-        requires sized { EnvSized self.now.program.now self.now.body.0 env.now }
-        ensures { OnOk result (edges.new.items ≡ edges.old.items ++ side (is_none qual) to (learn self.now.program.now self.now.body.0 origin (refine env.now reg.0 qual))) }
+        requires sized { EnvSized self.now.program self.now.body env.now }
+        ensures { OnOk result (edges.new.items ≡ edges.old.items ++ side (is_none qual) to (learn self.now.program self.now.body origin (refine env.now reg.0 qual))) }
     {
         if qual.is_none() {
             return Ok(());
@@ -307,10 +349,9 @@ impl<'a> Analysis<'a> {
         null: u32,
         non_null: u32,
     ) -> Result<Vec<Edge>, OutOfMemory>
-        requires keys { AreKeys self.now.program.now self.now.body.0 self.now.keys.now }
-        requires sized { EnvSized self.now.program.now self.now.body.0 env.now }
+        requires sized { EnvSized self.now.program self.now.body env.now }
         ensures { IfOk result (λ xs. xs.items ≡ side (is_none (null_part (qual_at env.now of.0))) null (refine env.now of.0 (null_part (qual_at env.now of.0)))
-            ++ side (is_none (without_null (qual_at env.now of.0))) non_null (learn self.now.program.now self.now.body.0 origin (refine env.now of.0 (without_null (qual_at env.now of.0))))) }
+            ++ side (is_none (without_null (qual_at env.now of.0))) non_null (learn self.now.program self.now.body origin (refine env.now of.0 (without_null (qual_at env.now of.0))))) }
     {
         let qual = env.qual(of);
         let mut edges = Vec::new(alloc);
@@ -336,9 +377,8 @@ impl<'a> Analysis<'a> {
         yes: u32,
         no: u32,
     ) -> Result<Vec<Edge>, OutOfMemory>
-        requires keys { AreKeys self.now.program.now self.now.body.0 self.now.keys.now }
-        requires sized { EnvSized self.now.program.now self.now.body.0 env.now }
-        ensures { IfOk result (λ xs. xs.items ≡ side (is_none (without_null (qual_at env.now of.0))) yes (learn self.now.program.now self.now.body.0 origin (refine env.now of.0 (without_null (qual_at env.now of.0))))
+        requires sized { EnvSized self.now.program self.now.body env.now }
+        ensures { IfOk result (λ xs. xs.items ≡ side (is_none (without_null (qual_at env.now of.0))) yes (learn self.now.program self.now.body origin (refine env.now of.0 (without_null (qual_at env.now of.0))))
             ++ (no, env.now) ∷ []) }
     {
         let qual = env.qual(of).without_null();
@@ -358,10 +398,9 @@ impl<'a> Analysis<'a> {
         at: u32,
         env: &Env,
     ) -> Result<Vec<Edge>, OutOfMemory>
-        requires keys { AreKeys self.now.program.now self.now.body.0 self.now.keys.now }
-        requires sized { EnvSized self.now.program.now self.now.body.0 env.now }
+        requires sized { EnvSized self.now.program self.now.body env.now }
         requires small { at + 1 < 2 ^ 32 }
-        ensures { IfOk result (λ xs. xs.items ≡ transfer self.now.program.now self.now.sig.now self.now.body.0 kind.now at env.now) }
+        ensures { IfOk result (λ xs. xs.items ≡ transfer self.now.program self.now.sig self.now.body kind.now at env.now) }
     {
         let next = at + 1;
         let plain = Qual::none();

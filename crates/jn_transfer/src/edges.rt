@@ -33,12 +33,7 @@ pub fn transfer(
     ensures { IfOk result (λ edges. (pt : Point) → point_at program.now body.0 point.0 ≡ Some pt → numbered edges.items ≡ transfer program.now sig.now body.0 pt.kind point.0 env.now) }
 {
     let keys = find_keys(alloc, program, body)?;
-    let analysis = Analysis {
-        program,
-        sig,
-        body,
-        keys: &keys,
-    };
+    let analysis = Analysis::new(program, sig, body, &keys);
     let info = &program.bodies.as_slice()[body.0 as usize];
     let kind = &info.points.as_slice()[point.0 as usize].kind;
     let edges = analysis.edges_after(alloc, kind, point.0, env)?;

@@ -10,6 +10,6 @@ pub returns : goal.returns
 returns c =
     let A = c.args.analysis.now in
     let own = c.as_slice-own.result.now in
-    let lacks = λ (ks : List ℕ) (f : ℕ). not (field_qual A.program.now A.sig.now f).null && not (is_on (λ (k : ℕ). eqb k f) ks c.args.env.now.assigned) in
+    let lacks = λ (ks : List ℕ) (f : ℕ). not (field_qual A.program A.sig f).null && not (is_on (λ (k : ℕ). eqb k f) ks c.args.env.now.assigned) in
     some_end (lacks own) own c.loop-field.field-index c.loop-field.unset _ (omega (arith, c.loop-field-test.false)) c.loop-field.invariant
-    ∙ ap (λ ks. some_of (lacks ks) ks) (c.as_slice-own.ensures ∙ c.requires.keys.own)
+    ∙ ap (λ ks. some_of (lacks ks) ks) (c.as_slice-own.ensures ∙ c.keys.ensures.own)

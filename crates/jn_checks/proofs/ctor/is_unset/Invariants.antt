@@ -7,5 +7,5 @@ use Rattle.jn_checks.proofs.ctor.is_unset.Given as goal
 
 abbrev pub invariant-loop-field : goal.invariant-loop-field
 invariant-loop-field l =
-    let lacks = λ (f : ℕ). not (field_qual l.analysis.program.now l.analysis.sig.now f).null && not (is_on (λ (k : ℕ). eqb k f) l.own l.env.assigned) in
+    let lacks = λ (f : ℕ). not (field_qual l.analysis.program l.analysis.sig f).null && not (is_on (λ (k : ℕ). eqb k f) l.own l.env.assigned) in
     (l.unset || some_of lacks (drop l.field-index l.own)) ≡ some_of lacks l.own
