@@ -10,7 +10,7 @@ use Rattle.jn_index.specs.Index.{Lists, IsIndex}
 use Rattle.jn_index.specs.Busy.{is_other}
 use Rattle.jn_index.specs.Users.{has_partner}
 use Rattle.jn_index.proofs.Gathered.{pair_other, ctor_pairs}
-use Rattle.jn_classtable.specs.Rows.{agrees, overrides_badly, over_static, hides_well, hides_badly, is_bad_override}
+use Rattle.jn_classtable.specs.Rows.{agrees, over_static, hides_well, hides_badly, is_bad_override}
 use Rattle.jn_classtable.proofs.ByName.{clashes_named, hides_named}
 use Rattle.jn_classtable.proofs.Tests.{true_or_not}
 
