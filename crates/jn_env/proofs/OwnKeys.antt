@@ -22,7 +22,7 @@ module _ (P : Program) where
   no_constructor b none = sym (ap (λ ctor. filter (λ f. ctor && eqb (owner P f) (class_of (method_in P b)) && ref_field P f) (below (length P.fields))) none ∙ filter_nothing (below (length P.fields)))
 
   pub of_constructor : (b c : ℕ) → (ctor_of (method_in P b) ≡ true) × (class_of (method_in P b) ≡ c) → class_fields P c ≡ own_keys P b
-  of_constructor b c (is , at) = sym (ap (λ ctor. filter (λ f. ctor && eqb (owner P f) (class_of (method_in P b)) && ref_field P f) (below (length P.fields))) is ∙ ap (class_fields P) at)
+  of_constructor b c (is, at) = sym (ap (λ ctor. filter (λ f. ctor && eqb (owner P f) (class_of (method_in P b)) && ref_field P f) (below (length P.fields))) is ∙ ap (class_fields P) at)
 
   pub of_listed : (lists : List (List ℕ)) (b c : ℕ) → AreOwnFields P lists → c < length lists → (ctor_of (method_in P b) ≡ true) × (class_of (method_in P b) ≡ c) → slice_index_or lists c [] ≡ own_keys P b
   of_listed lists b c are inside here = are.own c (subst (λ n. c < n) are.long inside) ∙ of_constructor b c here

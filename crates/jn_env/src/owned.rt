@@ -71,11 +71,7 @@ fn push_at(lists: &mut Vec<Seq<u32>>, at: usize, item: u32) -> Result<(), AllocE
 }
 
 /// Puts the field into its class's list, where it is of reference type.
-fn push_field(
-    program: &Program,
-    lists: &mut Vec<Seq<u32>>,
-    field: u32,
-) -> Result<(), AllocError>
+fn push_field(program: &Program, lists: &mut Vec<Seq<u32>>, field: u32) -> Result<(), AllocError>
     ensures long { OnOk result (length lists.new.items ≡ length lists.old.items) }
     ensures pushed { OnOk result ((c : ℕ) → c < length lists.old.items → slice_index_or lists.new.items c [] ≡ slice_index_or lists.old.items c [] ++ cond (is_field_of program.now c field) (field ∷ []) []) }
 {

@@ -33,18 +33,18 @@ module _ (slots : ℕ) (words : List ℕ) where
     there w lt e =
         subst (λ n. slice_index after n ≡ slice_index (cleaned slots words) n) (sym e)
         (let in_list : x.0 < length list = omega (arith, lt, e, count) in
-          let in_words : x.0 < words_for slots = omega (arith, lt, e) in
-          get_or-set_same list x.0 (clean slots x.0 (slice_index words x.0)) 0 in_list ∙ sym (cleaned-at slots words x.0 in_words))
+        let in_words : x.0 < words_for slots = omega (arith, lt, e) in
+        get_or-set_same list x.0 (clean slots x.0 (slice_index words x.0)) 0 in_list ∙ sym (cleaned-at slots words x.0 in_words))
 
     elsewhere : (w : ℕ) → (w ≡ x.0 → ⊥) → slice_index after w ≡ slice_index list w
     elsewhere w ne = get_or-set_other list x.0 w (clean slots x.0 (slice_index words x.0)) 0 ne
 
   pub seen_more : (listed left : List WordNo) (x : WordNo) (list : List ℕ) → AreSeen slots words listed (x ∷ left) list → AreSeen slots words listed left (set list x.0 (clean slots x.0 (slice_index words x.0)))
   seen_more listed left x list h = record {
-      count = length-set list x.0 (clean slots x.0 (slice_index words x.0)) ∙ h.count;
-      clean = λ w lt. dite (ℕ_discrete w x.0) (λ e. inr (there list x h.count w lt e)) (λ ne. kept w ne (h.clean w lt));
-      same = λ w lt listing. dite (ℕ_discrete w x.0) (λ e. inl (there list x h.count w lt e)) (λ ne. still w ne (h.same w lt listing));
-    }
+    count = length-set list x.0 (clean slots x.0 (slice_index words x.0)) ∙ h.count;
+    clean = λ w lt. dite (ℕ_discrete w x.0) (λ e. inr (there list x h.count w lt e)) (λ ne. kept w ne (h.clean w lt));
+    same = λ w lt listing. dite (ℕ_discrete w x.0) (λ e. inl (there list x h.count w lt e)) (λ ne. still w ne (h.same w lt listing));
+  }
     where
       kept : (w : ℕ) → (w ≡ x.0 → ⊥) → (slice_index list w ≡ 0) ⊎ (slice_index list w ≡ slice_index (cleaned slots words) w) → (slice_index (set list x.0 (clean slots x.0 (slice_index words x.0))) w ≡ 0) ⊎ (slice_index (set list x.0 (clean slots x.0 (slice_index words x.0))) w ≡ slice_index (cleaned slots words) w)
       kept w ne (inl e) = inl (elsewhere list x h.count w ne ∙ e)
@@ -87,11 +87,11 @@ module _ (slots : ℕ) (words : List ℕ) where
 
     pub seen_signature : (s : List Qualifier) → s ≡ unpacked list slots → IsSignatureOf slots words listed s
     seen_signature s e = record {
-        seen = list;
-        count = seen.count;
-        same = λ w lt h. settled w (seen.same w lt h);
-        is = e;
-      }
+      seen = list;
+      count = seen.count;
+      same = λ w lt h. settled w (seen.same w lt h);
+      is = e;
+    }
       where
         settled : (w : ℕ) → (slice_index list w ≡ slice_index (cleaned slots words) w) ⊎ (false ≡ true) → slice_index list w ≡ slice_index (cleaned slots words) w
         settled w (inl e) = e

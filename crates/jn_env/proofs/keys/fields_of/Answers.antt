@@ -6,6 +6,6 @@ use Rattle.jn_env.proofs.keys.fields_of.Goals as goal
 
 pub loop-field-preserved : goal.loop-field-preserved
 loop-field-preserved c =
-  let f = c.loop-field.field in
-  let p = is_field_of c.args.program.now c.args.class in
-  rw add-one (c.in_ok-push_if.ensures ∙ ap (λ ks. ks ++ cond c.is_field_of-wanted.result (f ∷ []) []) c.loop-field.invariant ∙ ap (λ w. filter p (below f) ++ cond w (f ∷ []) []) c.is_field_of-wanted.ensures ∙ sym (filter_more p (below f) f))
+    let f = c.loop-field.field in
+    let p = is_field_of c.args.program.now c.args.class in
+    rw add-one (c.in_ok-push_if.ensures ∙ ap (λ ks. ks ++ cond c.is_field_of-wanted.result (f ∷ []) []) c.loop-field.invariant ∙ ap (λ w. filter p (below f) ++ cond w (f ∷ []) []) c.is_field_of-wanted.ensures ∙ sym (filter_more p (below f) f))
