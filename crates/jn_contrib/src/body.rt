@@ -7,8 +7,7 @@ ghost use Rattle.jn_contrib.specs.Sends.{slot_numbers, point_sends, sends_from, 
 
 use crate::sends::{Send, send_kind};
 use jn_base::{BodyNo, OutOfMemory, SlotNo};
-use jn_ctor::env_at;
-use jn_env::{Env, FlowTable, Keys, find_keys};
+use jn_env::{Env, FlowTable, Keys, env_at, find_keys};
 use jn_points::{Point, Program};
 use jn_quals::Qual;
 use jn_sigs::Sig;

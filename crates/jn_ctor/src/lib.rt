@@ -3,4 +3,4 @@
 
 pub mod unassigned;
 
-pub use unassigned::{env_at, unassigned_at_end};
+pub use unassigned::unassigned_at_end;

@@ -5,7 +5,7 @@ ghost use Rattle.jn_ctor.specs.Unassigned.{field_numbers, lacks, lacks_from, una
 
 use jn_base::{BodyNo, FieldNo, OutOfMemory};
 use jn_env::bits::{either, is_assigned};
-use jn_env::{Env, FlowTable, find_keys};
+use jn_env::{Env, FlowTable, env_at, find_keys};
 use jn_points::{Point, PointKind, Program};
 use jn_sigs::Sig;
 use std::alloc::{AllocError, Global};
@@ -79,15 +79,5 @@ fn lacks(own: &[u32], kind: &PointKind, slots: &[Option<Env>], at: usize, field:
             Some(env) => !is_assigned(own, env.assigned.as_slice(), field),
         },
         _ => false,
-    }
-}
-
-/// The environment of a point; None where it is unreached or not there.
-pub fn env_at(slots: &[Option<Env>], at: usize) -> Option<&Env>
-    ensures { MatchOption result (env_in slots.now at ≡ None) (λ env. env_in slots.now at ≡ Some env.now) }
-{
-    match slots.get(at) {
-        None => None,
-        Some(slot) => slot.as_ref(),
     }
 }

@@ -13,4 +13,4 @@ pub use bits::is_assigned;
 pub use env::Env;
 pub use keys::{FieldKey, Keys, find_keys, find_keys_by};
 pub use owned::OwnFields;
-pub use table::FlowTable;
+pub use table::{FlowTable, env_at};

@@ -63,10 +63,7 @@ impl FlowTable {
     pub fn at(&self, point: PointNo) -> Option<&Env>
         ensures { MatchOption result (env_in self.now point.0 ≡ None) (λ env. env_in self.now point.0 ≡ Some env.now) }
     {
-        match self.slots.get(point.0 as usize) {
-            None => None,
-            Some(slot) => slot.as_ref(),
-        }
+        env_at(&self.slots, point.0 as usize)
     }
 
     /// All environments, point by point.
@@ -74,6 +71,16 @@ impl FlowTable {
         ensures { result.now ≡ self.now }
     {
         &self.slots
+    }
+}
+
+/// The environment at a place of a table's slots; None where it is unreached or not there.
+pub fn env_at(slots: &[Option<Env>], at: usize) -> Option<&Env>
+    ensures { MatchOption result (env_in slots.now at ≡ None) (λ env. env_in slots.now at ≡ Some env.now) }
+{
+    match slots.get(at) {
+        None => None,
+        Some(slot) => slot.as_ref(),
     }
 }
 
