@@ -8,7 +8,6 @@ ghost use Rattle.jn_index.specs.Numbers as numbers;
 ghost use Rattle.jn_classtable.specs.Hidden as spec;
 ghost use Rattle.jn_classtable.specs.Rows.{is_hiding};
 
-use crate::rows::class_at;
 use jn_base::{ClassNo, Seq};
 use jn_index::index::Index as Members;
 use jn_index::order::find_order;
@@ -16,7 +15,8 @@ use jn_index::tables::{Entry, Tables, find_tables};
 use jn_points::{Class, Field, Program};
 use std::alloc::{AllocError, Global};
 
-/// For each class a table of the classes above it that declare fields, at the fields' names, which are below a number.
+/// For each class a table of the classes on its walk that declare fields, the nearest one at each field's name. Names are below
+/// a number.
 #[derive(Drop)]
 pub struct Owners {
     tables: Tables,
@@ -138,7 +138,8 @@ fn found_above(tables: &Tables, name: u32, supers: &[ClassNo]) -> Option<u32>
     None
 }
 
-/// Whether a field of a class that is there hides one, where the tables tell.
+/// Whether a field of a class that is there hides one, where the tables tell: not where Object declares a field of the name, nor
+/// where the class stands above itself.
 #[tactic(auto, using(crate::proofs::HiddenAbove::none_above, crate::proofs::HiddenAbove::some_above))]
 pub fn hides_above(program: &Program, owners: &Owners, field: &Field, class: &Class) -> Option<bool>
     requires are { spec.AreOwners program.now owners.now.count owners.now.tables }
