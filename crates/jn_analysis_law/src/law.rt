@@ -4,7 +4,7 @@ ghost use Rattle.jn_quals.specs.Qualifier.{Qualifier};
 ghost use Rattle.jn_points.specs.declared.point.PointKind.{PointKind};
 ghost use Rattle.jn_points.specs.declared.program.Program.{Program};
 ghost use Rattle.jn_points.specs.BaseTyping.{BaseTyped};
-ghost use Rattle.jn_env.specs.declared.env.Env.{Env};
+ghost use Rattle.jn_env.specs.Environment.{Env};
 ghost use Rattle.jn_env.specs.Order.{EnvWithin, QualsWithin, Table, TableWithin};
 ghost use Rattle.jn_transfer.specs.Contributions.{IsSent};
 ghost use Rattle.jn_transfer.specs.Covered.{Covered};

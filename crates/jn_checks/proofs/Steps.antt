@@ -7,7 +7,7 @@ use Rattle.jn_quals.specs.Qualifier.{Qualifier}
 use Rattle.jn_points.specs.declared.point.Operand.{Operand}
 use Rattle.jn_points.specs.Members.{some_of}
 use Rattle.jn_sigs.specs.Signature.{slot_quals}
-use Rattle.jn_env.specs.declared.env.Env.{Env}
+use Rattle.jn_env.specs.Environment.{Env}
 use Rattle.jn_env.specs.Keys.{is_on}
 use Rattle.jn_transfer.specs.Rules.{arg_rows}
 

@@ -9,8 +9,8 @@ ghost use Rattle.jn_env.specs.Code.{AreKeys};
 
 use crate::rules::push_if;
 use jn_base::{Code, Row};
+use jn_env::Env;
 use jn_env::bits::either;
-use jn_env::{Env, is_assigned};
 use jn_points::{Body, Point, PointKind};
 use jn_transfer::Analysis;
 use jn_transfer::lookup::field_qual;
@@ -81,18 +81,15 @@ fn is_unset(analysis: &Analysis, env: &Env) -> bool
     let own = analysis.keys().own.as_slice();
     let mut unset = false;
     for field in own {
-        unset = either(
-            unset,
-            lacks_value(analysis, own, env.assigned.as_slice(), *field),
-        );
+        unset = either(unset, lacks_value(analysis, own, env, *field));
     }
     unset
 }
 
 /// Whether the field's slot has no null, and it is not assigned.
-fn lacks_value(analysis: &Analysis, own: &[u32], assigned: &[bool], field: u32) -> bool
-    ensures { result ≡ (not (field_qual analysis.now.program analysis.now.sig field).null && not (is_on (λ k. eqb k field) own.now assigned.now)) }
+fn lacks_value(analysis: &Analysis, own: &[u32], env: &Env, field: u32) -> bool
+    ensures { result ≡ (not (field_qual analysis.now.program analysis.now.sig field).null && not (is_on (λ k. eqb k field) own.now env.now.assigned)) }
 {
     !field_qual(analysis.program(), analysis.sig(), field).has_null()
-        && !is_assigned(own, assigned, field)
+        && !env.is_assigned(own, field)
 }

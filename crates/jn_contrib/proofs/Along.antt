@@ -9,7 +9,7 @@ use Rattle.jn_points.specs.declared.point.Operand.{Operand}
 use Rattle.jn_points.specs.declared.point.Point.{Point}
 use Rattle.jn_points.specs.declared.program.Program.{Program}
 use Rattle.jn_points.specs.Lookup.{field_info}
-use Rattle.jn_env.specs.declared.env.Env.{Env}
+use Rattle.jn_env.specs.Environment.{Env}
 use Rattle.jn_env.specs.Order.{Table, env_in, qual_at}
 use Rattle.jn_env.specs.Keys.{is_on}
 use Rattle.jn_transfer.specs.Contributions.{sends, arg_sends, unset_sends, field_slot_of}

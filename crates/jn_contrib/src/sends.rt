@@ -6,7 +6,7 @@ ghost use Rattle.jn_transfer.specs.Contributions.{is_inferred, field_slot_of, re
 ghost use Rattle.jn_env.specs.Keys.{own_keys};
 
 use jn_base::{BodyNo, MethodNo, SlotNo};
-use jn_env::{Env, is_assigned};
+use jn_env::Env;
 use jn_points::{Operand, PointKind, Program};
 use jn_quals::Qual;
 use std::alloc::AllocError;
@@ -179,13 +179,13 @@ fn send_unless(
 fn send_unset(
     program: &Program,
     list: &mut Vec<Send>,
+    env: &Env,
     own: &[u32],
-    bits: &[bool],
 ) -> Result<(), AllocError>
-    ensures { OnOk result (list.new.items ≡ list.old.items ++ unset_sends program.now own.now own.now bits.now) }
+    ensures { OnOk result (list.new.items ≡ list.old.items ++ unset_sends program.now own.now own.now env.now.assigned) }
 {
     for field in own {
-        let assigned = is_assigned(own, bits, *field);
+        let assigned = env.is_assigned(own, *field);
         send_unless(program, list, assigned, field_slot(program, *field))?;
     }
     Ok(())
@@ -217,7 +217,7 @@ fn send_return(
     ensures { OnOk result (list.new.items ≡ list.old.items ++ (return_sends program.now env.now (result_slot_of (method_in program.now body.0)) value ++ unset_sends program.now (own_keys program.now body.0) (own_keys program.now body.0) env.now.assigned)) }
 {
     send_value(program, list, env, result_slot(program, body), value)?;
-    send_unset(program, list, own, env.assigned.as_slice())
+    send_unset(program, list, env, own)
 }
 
 /// What a reached point of the body sends.

@@ -4,7 +4,7 @@ ghost use Rattle.jn_env.specs.Order.{env_in};
 ghost use Rattle.jn_ctor.specs.Unassigned.{field_numbers, lacks, lacks_from, unassigned_at_end};
 
 use jn_base::{BodyNo, FieldNo, OutOfMemory};
-use jn_env::bits::{either, is_assigned};
+use jn_env::bits::either;
 use jn_env::{Env, FlowTable, env_at, find_keys};
 use jn_points::{Point, PointKind, Program};
 use jn_sigs::Sig;
@@ -76,7 +76,7 @@ fn lacks(own: &[u32], kind: &PointKind, slots: &[Option<Env>], at: usize, field:
     match kind {
         PointKind::Return { .. } => match env_at(slots, at) {
             None => false,
-            Some(env) => !is_assigned(own, env.assigned.as_slice(), field),
+            Some(env) => !env.is_assigned(own, field),
         },
         _ => false,
     }

@@ -1,56 +1,11 @@
 -- Bits along a list of keys, one after another.
 use Rattle.std.proofs.Common.{◌≡◌, ℕ, zero, suc, ◌+◌, ◌<◌, ◌≤◌, Bool, true, false, ◌&&◌, ◌||◌, List, [], ◌∷◌, ◌++◌, length, take, drop, filter, cond, replicate, Some, refl, sym, ap, ◌∙◌, add-one, arith}
 use Rattle.std.specs.Prelude.{slice_get, slice_set, slice_index_or}
-use Rattle.std.proofs.lemmas.List.{take_all}
+use Rattle.std.proofs.lemmas.List.{take_all, drop_all}
 use Rattle.std.proofs.lemmas.List.Elements.{filter-append}
 use Rattle.jn_env.specs.Keys.{mask, also, is_on, no_bits}
 
-module _ {K : Type 0} (f : K → Bool → Bool) where
-  abbrev pub along : List K → List Bool → List Bool
-  along [] bits = bits
-  along (k ∷ keys) [] = []
-  along (k ∷ keys) (b ∷ bits) = f k b ∷ along keys bits
-
-  pub length-along : (keys : List K) (bits : List Bool) → length (along keys bits) ≡ length bits
-  length-along [] bits = refl
-  length-along (k ∷ keys) [] = refl
-  length-along (k ∷ keys) (b ∷ bits) = ap suc (length-along keys bits)
-
-  pub along_step : (keys : List K) (bits : List Bool) (i : ℕ) (k : K) (b : Bool) → i < length keys → k ≡ slice_index_or keys i k → slice_get (along (take i keys) bits) i ≡ Some b → slice_set (along (take i keys) bits) i (f k b) ≡ along (take (suc i) keys) bits
-  along_step [] bits i k b lt e g = absurd (omega (arith, lt))
-  along_step (x ∷ keys) [] zero k b lt e g = refl
-  along_step (x ∷ keys) [] (suc i) k b lt e g = refl
-  along_step (x ∷ keys) (y ∷ bits) zero k b lt e g = let h : b ≡ y = cc in let j : k ≡ x = e in cc
-  along_step (x ∷ keys) (y ∷ bits) (suc i) k b lt e g = ap (λ bs. f x y ∷ bs) (along_step keys bits i k b (omega (arith, lt)) e g)
-
-  pub along_end : (keys : List K) (bits : List Bool) (n : ℕ) → length keys ≤ n → along (take n keys) bits ≡ along keys bits
-  along_end [] bits zero le = refl
-  along_end [] bits (suc n) le = refl
-  along_end (k ∷ keys) bits zero le = absurd (omega (arith, le))
-  along_end (k ∷ keys) [] (suc n) le = refl
-  along_end (k ∷ keys) (b ∷ bits) (suc n) le = ap (λ bs. f k b ∷ bs) (along_end keys bits n (omega (arith, le)))
-
-or_assoc : (a b c : Bool) → ((a || b) || c) ≡ (a || (b || c))
-or_assoc true b c = refl
-or_assoc false b c = refl
-
 module _ {K : Type 0} where
-  abbrev pub keeps : (K → Bool) → K → Bool → Bool
-  keeps keep k b = b && keep k
-
-  abbrev pub sets : (K → Bool) → K → Bool → Bool
-  sets test k b = b || test k
-
-  pub mask_along : (keep : K → Bool) (keys : List K) (bits : List Bool) → along (keeps keep) keys bits ≡ mask keep keys bits
-  mask_along keep [] bits = refl
-  mask_along keep (k ∷ keys) [] = refl
-  mask_along keep (k ∷ keys) (b ∷ bits) = ap (λ bs. (b && keep k) ∷ bs) (mask_along keep keys bits)
-
-  pub also_along : (test : K → Bool) (keys : List K) (bits : List Bool) → along (sets test) keys bits ≡ also test keys bits
-  also_along test [] bits = refl
-  also_along test (k ∷ keys) [] = refl
-  also_along test (k ∷ keys) (b ∷ bits) = ap (λ bs. (b || test k) ∷ bs) (also_along test keys bits)
-
   no_bits_on : (test : K → Bool) (keys : List K) → is_on test keys [] ≡ false
   no_bits_on test [] = refl
   no_bits_on test (k ∷ keys) = refl
@@ -63,14 +18,16 @@ module _ {K : Type 0} where
   on_at test (x ∷ keys) (y ∷ bits) zero k lt = refl
   on_at test (x ∷ keys) (y ∷ bits) (suc i) k lt = on_at test keys bits i k (omega (arith, lt))
 
-  pub on_step : (test : K → Bool) (keys : List K) (bits : List Bool) (i : ℕ) (k : K) (on more all : Bool) → i < length keys → more ≡ (on || (slice_index_or bits i false && test (slice_index_or keys i k))) → (on || is_on test (drop i keys) (drop i bits)) ≡ all → (more || is_on test (drop (i + 1) keys) (drop (i + 1) bits)) ≡ all
-  on_step test keys bits i k on more all lt m h =
-      let now = slice_index_or bits i false && test (slice_index_or keys i k) in
-      rw add-one (ap (λ z. z || is_on test (drop (suc i) keys) (drop (suc i) bits)) m ∙ or_assoc on now (is_on test (drop (suc i) keys) (drop (suc i) bits)) ∙ ap (λ z. on || z) (sym (on_at test keys bits i k lt)) ∙ h)
+  -- a walk along the keys that stops where a set bit is found
+  pub on_found : (test : K → Bool) (keys : List K) (bits : List Bool) (i : ℕ) (k : K) (found all : Bool) → i < length keys → found ≡ (slice_index_or bits i false && test (slice_index_or keys i k)) → found ≡ true → is_on test (drop i keys) (drop i bits) ≡ all → true ≡ all
+  on_found test keys bits i k found all lt is yes' h = sym (ap (λ z. z || is_on test (drop (suc i) keys) (drop (suc i) bits)) (sym is ∙ yes')) ∙ sym (on_at test keys bits i k lt) ∙ h
 
-  pub no_bits_replicate : (keys : List K) → replicate (length keys) false ≡ no_bits keys
-  no_bits_replicate [] = refl
-  no_bits_replicate (k ∷ keys) = ap (λ bs. false ∷ bs) (no_bits_replicate keys)
+  pub on_next : (test : K → Bool) (keys : List K) (bits : List Bool) (i : ℕ) (k : K) (found all : Bool) → i < length keys → found ≡ (slice_index_or bits i false && test (slice_index_or keys i k)) → found ≡ false → is_on test (drop i keys) (drop i bits) ≡ all → is_on test (drop (i + 1) keys) (drop (i + 1) bits) ≡ all
+  on_next test keys bits i k found all lt is no' h =
+      rw add-one (sym (ap (λ z. z || is_on test (drop (suc i) keys) (drop (suc i) bits)) (sym is ∙ no')) ∙ sym (on_at test keys bits i k lt) ∙ h)
+
+  pub on_over : (test : K → Bool) (keys : List K) (bits : List Bool) (i : ℕ) (all : Bool) → length keys ≤ i → is_on test (drop i keys) (drop i bits) ≡ all → false ≡ all
+  on_over test keys bits i all le h = sym (ap (λ ks. is_on test ks (drop i bits)) (drop_all i keys le)) ∙ h
 
 -- a list laid over the first places of another
 module _ {A : Type 0} where

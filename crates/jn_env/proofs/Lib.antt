@@ -4,3 +4,11 @@ pub mod Pairs
 pub mod Order
 pub mod Weight
 pub mod OwnKeys
+pub mod WordBits
+pub mod WordWrites
+pub mod Rises
+pub mod Held
+pub mod HeldWrites
+pub mod Written
+pub mod Laid
+pub mod Joined

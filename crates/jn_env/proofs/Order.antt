@@ -4,7 +4,7 @@ use Rattle.std.specs.Prelude.{slice_set, slice_index_or, IsTrue}
 use Rattle.jn_quals.specs.Qualifier.{Qualifier}
 use Rattle.jn_quals.specs.Order.{within, no_qual}
 use Rattle.jn_quals.proofs.Order.{within_refl, within_trans, within_join_left, within_join_right, within_join_least}
-use Rattle.jn_env.specs.declared.env.Env.{Env}
+use Rattle.jn_env.specs.Environment.{Env}
 use Rattle.jn_env.specs.Order.{Table, env_in, qual_at, QualsWithin, BitsAbove, EnvWithin, SlotWithin, TableWithin, join_quals, meet_bits, join_env, join_slot}
 use Rattle.jn_env.specs.Size.{SameSize}
 

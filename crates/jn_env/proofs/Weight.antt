@@ -4,7 +4,7 @@ use Rattle.std.specs.Prelude.{IsTrue}
 use Rattle.jn_quals.specs.Qualifier.{Qualifier}
 use Rattle.jn_quals.specs.Order.{within}
 use Rattle.jn_quals.proofs.Order.{included, same_qual}
-use Rattle.jn_env.specs.declared.env.Env.{Env}
+use Rattle.jn_env.specs.Environment.{Env}
 use Rattle.jn_env.specs.Order.{Table, QualsWithin, BitsAbove, EnvWithin, SlotWithin, TableWithin}
 use Rattle.jn_env.specs.Weight.{qual_weight, quals_weight, bits_weight, slot_weight, weight}
 

@@ -1,6 +1,6 @@
 -- How long an environment's lists are. Those of one body have one size.
 use Rattle.std.specs.Prelude.{◌≡◌, length}
-use Rattle.jn_env.specs.declared.env.Env.{Env}
+use Rattle.jn_env.specs.Environment.{Env}
 
 -- as many registers, keys and own fields
 pub record SameSize (a b : Env) : Type 0 where

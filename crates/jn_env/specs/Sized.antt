@@ -2,7 +2,7 @@
 use Rattle.std.specs.Prelude.{ℕ, ◌≡◌, [], ◌∷◌, length, Some, None}
 use Rattle.jn_points.specs.declared.program.Program.{Program}
 use Rattle.jn_points.specs.Lookup.{regs_of, body_at}
-use Rattle.jn_env.specs.declared.env.Env.{Env}
+use Rattle.jn_env.specs.Environment.{Env}
 use Rattle.jn_env.specs.Order.{Table}
 use Rattle.jn_env.specs.Keys.{fact_keys, own_keys}
 

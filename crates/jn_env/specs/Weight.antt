@@ -1,7 +1,7 @@
 -- How much an environment or a table lets be: it rises wherever the order does.
 use Rattle.std.specs.Prelude.{ℕ, ◌+◌, Bool, cond, List, [], ◌∷◌, Option, Some, None}
 use Rattle.jn_quals.specs.Qualifier.{Qualifier}
-use Rattle.jn_env.specs.declared.env.Env.{Env}
+use Rattle.jn_env.specs.Environment.{Env}
 use Rattle.jn_env.specs.Order.{Table}
 
 abbrev pub qual_weight : Qualifier → ℕ

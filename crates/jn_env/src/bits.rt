@@ -1,10 +1,13 @@
 // Bits along the keys of a body.
-ghost use Rattle.std.specs.Prelude.{◌≡◌, ◌&&◌, ◌||◌, not, length, eqb, false, slice_index_or};
-ghost use Rattle.jn_env.specs.Keys.{mask, also, is_on, is_key};
+ghost use Rattle.std.specs.Prelude.{◌≡◌, ◌<◌, ◌≤◌, ◌+◌, ◌^◌, ◌++◌, ◌&&◌, ◌||◌, length, take, drop, cond, false, slice_index_or, slice_set};
+ghost use Rattle.jn_env.specs.Keys.{is_on, is_key};
 ghost use Rattle.jn_env.specs.Code.{picks, is_field};
+ghost use Rattle.jn_env.specs.Flat.{written};
 
+use crate::env::Env;
 use crate::keys::FieldKey;
-use jn_base::{FieldNo, RegNo, Seq};
+use crate::packed::BitList;
+use jn_base::{FieldNo, RegNo};
 
 /// Some keys of a body.
 #[derive(Clone, Copy)]
@@ -31,50 +34,57 @@ fn picks(which: Which, key: FieldKey) -> bool
     }
 }
 
-/// Clears the bits at these keys.
-pub fn clear_bits(keys: &[FieldKey], bits: &mut Seq<bool>, which: Which)
-    requires { length keys.now ≡ length bits.old }
-    ensures { bits.new ≡ mask (λ k. not (picks which k)) keys.now bits.old }
+/// Writes a bit at each of these keys. The bits of all keys stand one after another from the first on.
+pub fn write_keys(keys: &[FieldKey], bits: &mut BitList, first: usize, which: Which, wanted: bool)
+    requires inside { first + length keys.now ≤ length bits.old }
+    requires few { first + length keys.now < 2 ^ 64 }
+    ensures { bits.new ≡ take first bits.old ++ written (picks which) wanted keys.now (drop first bits.old) }
 {
     for i in 0..keys.len() {
-        let kept = is_kept(bits.at(i), picks(which, keys[i]));
-        bits.set(i, kept);
+        write_if(bits, first + i, picks(which, keys[i]), wanted);
     }
 }
 
-fn is_kept(bit: bool, cleared: bool) -> bool
-    ensures { result ≡ (bit && not cleared) }
+/// Writes the bit at a place, where that is chosen.
+fn write_if(bits: &mut BitList, at: usize, chosen: bool, wanted: bool)
+    requires { at < length bits.old }
+    ensures { bits.new ≡ cond chosen (slice_set bits.old at wanted) bits.old }
 {
-    bit && !cleared
-}
-
-/// Sets the bits at these keys.
-pub fn set_bits(keys: &[FieldKey], bits: &mut Seq<bool>, which: Which)
-    requires { length keys.now ≡ length bits.old }
-    ensures { bits.new ≡ also (picks which) keys.now bits.old }
-{
-    for i in 0..keys.len() {
-        let set = either(bits.at(i), picks(which, keys[i]));
-        bits.set(i, set);
+    if chosen {
+        bits.set(at, wanted);
     }
 }
 
-/// Whether one of them is set.
-pub fn either(bit: bool, set: bool) -> bool
-    ensures { result ≡ (bit || set) }
-{
-    bit || set
-}
-
-/// Sets the bit of a field among a constructor's own, or all of them.
-pub fn assign_bits(own: &[u32], bits: &mut Seq<bool>, field: Option<FieldNo>)
-    requires { length own.now ≡ length bits.old }
-    ensures { bits.new ≡ also (is_field field) own.now bits.old }
+/// Writes the bit of a field among a constructor's own, or all of their bits, which stand one after another from the
+/// first on.
+pub fn write_own(
+    own: &[u32],
+    bits: &mut BitList,
+    first: usize,
+    field: Option<FieldNo>,
+    wanted: bool,
+)
+    requires inside { first + length own.now ≤ length bits.old }
+    requires few { first + length own.now < 2 ^ 64 }
+    ensures { bits.new ≡ take first bits.old ++ written (is_field field) wanted own.now (drop first bits.old) }
 {
     for i in 0..own.len() {
-        let set = either(bits.at(i), is_field(field, own[i]));
-        bits.set(i, set);
+        write_if(bits, first + i, is_field(field, own[i]), wanted);
     }
+}
+
+/// Whether either holds.
+pub fn either(left: bool, right: bool) -> bool
+    ensures { result ≡ (left || right) }
+{
+    left || right
+}
+
+/// Whether the bit is set and meant.
+pub fn is_set(bit: bool, meant: bool) -> bool
+    ensures { result ≡ (bit && meant) }
+{
+    bit && meant
 }
 
 fn is_field(field: Option<FieldNo>, own: u32) -> bool
@@ -86,41 +96,20 @@ fn is_field(field: Option<FieldNo>, own: u32) -> bool
     }
 }
 
-/// Whether the bit of the register's field is set.
-pub fn has_bit(keys: &[FieldKey], bits: &[bool], reg: RegNo, field: FieldNo) -> bool
-    ensures { result ≡ is_on (is_key reg.0 field.0) keys.now bits.now }
+/// Whether the register's field is known not to be null.
+pub fn is_known(keys: &[FieldKey], env: &Env, reg: RegNo, field: FieldNo) -> bool
+    ensures { result ≡ is_on (is_key reg.0 field.0) keys.now env.now.facts }
 {
-    let mut on = false;
     for i in 0..keys.len() {
-        on = either(on, is_set(bit_at(bits, i), keys[i].is(reg, field)));
+        if is_known_as(env, i, keys[i], reg, field) {
+            return true;
+        }
     }
-    on
+    false
 }
 
-/// Whether both are set.
-pub fn is_set(bit: bool, meant: bool) -> bool
-    ensures { result ≡ (bit && meant) }
+fn is_known_as(env: &Env, at: usize, key: FieldKey, reg: RegNo, field: FieldNo) -> bool
+    ensures { result ≡ (slice_index_or env.now.facts at false && is_key reg.0 field.0 key) }
 {
-    bit && meant
-}
-
-/// Whether the field's bit is set among a constructor's own fields.
-pub fn is_assigned(own: &[u32], bits: &[bool], field: u32) -> bool
-    ensures { result ≡ is_on (λ k. eqb k field) own.now bits.now }
-{
-    let mut on = false;
-    for i in 0..own.len() {
-        on = either(on, is_set(bit_at(bits, i), own[i] == field));
-    }
-    on
-}
-
-/// The bit at a place; false where there is none.
-fn bit_at(bits: &[bool], i: usize) -> bool
-    ensures { result ≡ slice_index_or bits.now i false }
-{
-    match bits.get(i) {
-        None => false,
-        Some(bit) => *bit,
-    }
+    key.is(reg, field) && env.has_fact_at(at)
 }

@@ -1,15 +1,16 @@
 // What is known at a point.
-ghost use Rattle.std.specs.Prelude.{◌≡◌, ◌++◌, IfOk, true, false, not, eqb, length, take, drop, replicate, slice_set};
+ghost use Rattle.std.specs.Prelude.{◌≡◌, ◌<◌, ◌≤◌, ◌+◌, ◌*◌, ◌^◌, ◌++◌, IfOk, true, false, not, eqb, length, take, drop, replicate, slice_index_or, slice_set};
 ghost use Rattle.jn_quals.specs.Order.{no_qual};
 ghost use Rattle.jn_points.specs.Lookup.{regs_of, body_at};
 
-use crate::bits::{Which, assign_bits, clear_bits, has_bit, is_assigned, set_bits};
-use crate::keys::Keys;
-use crate::lists::{bits_above, join_quals, meet_bits, quals_within};
-use jn_base::{BodyNo, FieldNo, OutOfMemory, RegNo, Seq};
+use crate::bits::{Which, is_known, is_set, write_keys, write_own};
+use crate::keys::{FieldKey, Keys};
+use crate::packed::BitList;
+use jn_base::{BodyNo, FieldNo, OutOfMemory, RegNo};
 use jn_points::Program;
 use jn_quals::Qual;
-use std::alloc::{AllocError, Global};
+use std::alloc::Global;
+use std::marker::Model;
 
 /// What is known at a point of a body: a qualifier for each register, for each key of the body
 /// whether the field that it names is known not to be null, and for each of a constructor's own
@@ -19,15 +20,31 @@ use std::alloc::{AllocError, Global};
 /// an environment for each point: each call that reads or changes facts or assigned fields is
 /// given them. Registers are as in the Checker Framework's stores, a fact is a field access that
 /// is known to be non-null there, and assigned fields follow JLS 8, chapter 16.
+///
+/// All of it is one list of bits, set for what may be: three bits for the qualifier of each
+/// register, then a bit for each key whose field may be null, then a bit for each own field that
+/// may be unassigned. So a join is a union of words, and order is inclusion.
 #[derive(Drop)]
 pub struct Env {
-    pub quals: Seq<Qual>,
-    pub facts: Seq<bool>,
-    pub assigned: Seq<bool>,
+    may: BitList,
+    registers: usize,
+    facts: usize,
+}
+
+impl Model for Env {
+    ghost use Rattle.std.specs.Prelude.{◌≤◌, ◌+◌, ◌*◌, length};
+    ghost use Rattle.jn_env.specs.Environment.{Env};
+    ghost use Rattle.jn_env.specs.Flat.{env_of};
+
+    ghost Value = { Env };
+
+    ghost view = { λ e. env_of e.may e.registers e.facts };
+
+    ghost invariant = { λ e. 3 * e.registers + e.facts ≤ length e.may };
 }
 
 impl Env {
-    ghost use Rattle.jn_env.specs.Code.{is_fact_on, is_field};
+    ghost use Rattle.jn_env.specs.Code.{picks, is_fact_on, is_field};
     ghost use Rattle.jn_env.specs.Keys.{mask, also, is_on, is_key, has_reg, no_bits};
     ghost use Rattle.jn_env.specs.Order.{qual_at, EnvWithin, join_env};
     ghost use Rattle.jn_env.specs.Size.{SameSize};
@@ -47,13 +64,36 @@ impl Env {
         ensures facts { IfOk result (λ e. e.facts ≡ no_bits keys.now.facts) }
         ensures assigned { IfOk result (λ e. e.assigned ≡ no_bits keys.now.own) }
     {
-        let quals = empty_quals(alloc, registers(program, body))?;
-        let facts = unset_bits(alloc, keys.facts.len())?;
-        let assigned = unset_bits(alloc, keys.own.len())?;
+        let mut env = Env::of_size(
+            alloc,
+            registers(program, body),
+            keys.facts.len(),
+            keys.own.len(),
+        )?;
+        env.forget(keys.facts.as_slice(), Which::Each);
+        env.unassign(keys.own.as_slice());
+        Ok(env)
+    }
+
+    /// The environment in which nothing may be: all facts are known, and all fields assigned.
+    fn of_size(
+        alloc: Global,
+        registers: usize,
+        facts: usize,
+        assigned: usize,
+    ) -> Result<Env, OutOfMemory>
+        ensures quals { IfOk result (λ e. e.quals ≡ replicate registers no_qual) }
+        ensures facts { IfOk result (λ e. e.facts ≡ replicate facts true) }
+        ensures assigned { IfOk result (λ e. e.assigned ≡ replicate assigned true) }
+    {
+        if registers > MOST || facts > MOST || assigned > MOST {
+            return Err(OutOfMemory);
+        }
+        let may = BitList::unset(alloc, 3 * registers + facts + assigned)?;
         Ok(Env {
-            quals: Seq::of_vec(quals),
-            facts: Seq::of_vec(facts),
-            assigned: Seq::of_vec(assigned),
+            may,
+            registers,
+            facts,
         })
     }
 
@@ -64,10 +104,11 @@ impl Env {
     pub fn copy(&self, alloc: Global) -> Result<Env, OutOfMemory>
         ensures { IfOk result (λ e. e ≡ self.now) }
     {
+        let may = self.may.copy(alloc)?;
         Ok(Env {
-            quals: self.quals.copy(alloc)?,
-            facts: self.facts.copy(alloc)?,
-            assigned: self.assigned.copy(alloc)?,
+            may,
+            registers: self.registers,
+            facts: self.facts,
         })
     }
 
@@ -76,8 +117,8 @@ impl Env {
         ensures { result ≡ qual_at self.now reg.0 }
     {
         let i = reg.0 as usize;
-        if i < self.quals.len() {
-            self.quals.at(i)
+        if i < self.registers {
+            self.may.qual(i)
         } else {
             Qual::none()
         }
@@ -98,8 +139,8 @@ impl Env {
         ensures facts { self.new.facts ≡ self.old.facts }
         ensures assigned { self.new.assigned ≡ self.old.assigned }
     {
-        if i < self.quals.len() {
-            self.quals.set(i, qual);
+        if i < self.registers {
+            self.may.set_qual(i, qual);
         }
     }
 
@@ -123,7 +164,35 @@ impl Env {
         ensures assigned { self.new.assigned ≡ self.old.assigned }
     {
         self.set_qual(reg, qual);
-        clear_bits(keys.facts.as_slice(), &mut self.facts, Which::OfReg(reg));
+        self.forget(keys.facts.as_slice(), Which::OfReg(reg));
+    }
+
+    /// Where the bits of the facts begin.
+    fn facts_from(&self) -> usize
+        ensures from { result ≡ 3 * length self.now.quals }
+        ensures few { result + length self.now.facts + length self.now.assigned < 2 ^ 64 }
+    {
+        let _all = self.may.len();
+        3 * self.registers
+    }
+
+    /// Where the bits of the own fields begin.
+    fn own_from(&self) -> usize
+        ensures from { result ≡ 3 * length self.now.quals + length self.now.facts }
+        ensures few { result + length self.now.assigned < 2 ^ 64 }
+    {
+        self.facts_from() + self.facts
+    }
+
+    /// Whether the fact at a place is known; not where there is none.
+    pub fn has_fact_at(&self, at: usize) -> bool
+        ensures { result ≡ slice_index_or self.now.facts at false }
+    {
+        if at < self.facts {
+            !self.may.get(self.facts_from() + at)
+        } else {
+            false
+        }
     }
 
     /// Whether the field of the object in the register is known not to be null; not where this is
@@ -131,7 +200,7 @@ impl Env {
     pub fn has_fact(&self, keys: &Keys, reg: RegNo, field: FieldNo) -> bool
         ensures { result ≡ is_on (is_key reg.0 field.0) keys.now.facts self.now.facts }
     {
-        has_bit(keys.facts.as_slice(), self.facts.as_slice(), reg, field)
+        is_known(keys.facts.as_slice(), self, reg, field)
     }
 
     /// Lets the field of the object in the register be known not to be null; nothing changes where
@@ -143,7 +212,29 @@ impl Env {
         ensures assigned { self.new.assigned ≡ self.old.assigned }
     {
         let facts = keys.facts.as_slice();
-        set_bits(facts, &mut self.facts, Which::Exactly(reg, field));
+        self.learn(facts, Which::Exactly(reg, field));
+    }
+
+    /// Lets the facts of these keys be known.
+    fn learn(&mut self, keys: &[FieldKey], which: Which)
+        requires { length keys.now ≡ length self.old.facts }
+        ensures facts { self.new.facts ≡ also (picks which) keys.now self.old.facts }
+        ensures quals { self.new.quals ≡ self.old.quals }
+        ensures assigned { self.new.assigned ≡ self.old.assigned }
+    {
+        let first = self.facts_from();
+        write_keys(keys, &mut self.may, first, which, false);
+    }
+
+    /// Forgets the facts of these keys.
+    fn forget(&mut self, keys: &[FieldKey], which: Which)
+        requires { length keys.now ≡ length self.old.facts }
+        ensures facts { self.new.facts ≡ mask (λ k. not (picks which k)) keys.now self.old.facts }
+        ensures quals { self.new.quals ≡ self.old.quals }
+        ensures assigned { self.new.assigned ≡ self.old.assigned }
+    {
+        let first = self.facts_from();
+        write_keys(keys, &mut self.may, first, which, true);
     }
 
     /// Forgets what is known of the field, in objects of all registers; with None all facts.
@@ -155,16 +246,40 @@ impl Env {
     {
         let facts = keys.facts.as_slice();
         match field {
-            None => clear_bits(facts, &mut self.facts, Which::Each),
-            Some(field) => clear_bits(facts, &mut self.facts, Which::OfField(field)),
+            None => self.forget(facts, Which::Each),
+            Some(field) => self.forget(facts, Which::OfField(field)),
         }
+    }
+
+    /// Whether the own field at a place is assigned; not where there is none.
+    pub fn has_assigned_at(&self, at: usize) -> bool
+        ensures { result ≡ slice_index_or self.now.assigned at false }
+    {
+        let first = self.own_from();
+        if at < self.may.len() - first {
+            !self.may.get(first + at)
+        } else {
+            false
+        }
+    }
+
+    /// Whether the field is among a constructor's own, and assigned.
+    pub fn is_assigned(&self, own: &[u32], field: u32) -> bool
+        ensures { result ≡ is_on (λ k. eqb k field) own.now self.now.assigned }
+    {
+        for i in 0..own.len() {
+            if is_set(self.has_assigned_at(i), own[i] == field) {
+                return true;
+            }
+        }
+        false
     }
 
     /// Whether the field is one of the constructor's own, and assigned.
     pub fn has_assigned(&self, keys: &Keys, field: FieldNo) -> bool
         ensures { result ≡ is_on (λ k. eqb k field.0) keys.now.own self.now.assigned }
     {
-        is_assigned(keys.own.as_slice(), self.assigned.as_slice(), field.0)
+        self.is_assigned(keys.own.as_slice(), field.0)
     }
 
     /// Assigns one of the constructor's own fields; with None all of them. Nothing changes where
@@ -175,7 +290,42 @@ impl Env {
         ensures quals { self.new.quals ≡ self.old.quals }
         ensures facts { self.new.facts ≡ self.old.facts }
     {
-        assign_bits(keys.own.as_slice(), &mut self.assigned, field);
+        self.assign_own(keys.own.as_slice(), field);
+    }
+
+    fn assign_own(&mut self, own: &[u32], field: Option<FieldNo>)
+        requires { length own.now ≡ length self.old.assigned }
+        ensures assigned { self.new.assigned ≡ also (is_field field) own.now self.old.assigned }
+        ensures quals { self.new.quals ≡ self.old.quals }
+        ensures facts { self.new.facts ≡ self.old.facts }
+    {
+        let first = self.own_from();
+        write_own(own, &mut self.may, first, field, false);
+    }
+
+    /// Lets no own field be assigned.
+    fn unassign(&mut self, own: &[u32])
+        requires { length own.now ≡ length self.old.assigned }
+        ensures assigned { self.new.assigned ≡ no_bits own.now }
+        ensures quals { self.new.quals ≡ self.old.quals }
+        ensures facts { self.new.facts ≡ self.old.facts }
+    {
+        let first = self.own_from();
+        write_own(own, &mut self.may, first, None, true);
+    }
+
+    /// Whether there are as many registers, keys and own fields.
+    fn has_size_of(&self, other: &Env) -> bool
+        ensures yes { result ≡ true → SameSize self.now other.now }
+        ensures no { result ≡ false → SameSize self.now other.now → ⊥ }
+    {
+        if self.registers != other.registers {
+            return false;
+        }
+        if self.facts != other.facts {
+            return false;
+        }
+        self.may.len() == other.may.len()
     }
 
     /// Whether all that may be here may be there, and all that is known there is known here.
@@ -183,9 +333,10 @@ impl Env {
         ensures yes { result ≡ true → EnvWithin self.now other.now }
         ensures no { result ≡ false → EnvWithin self.now other.now → ⊥ }
     {
-        quals_within(self.quals.as_slice(), other.quals.as_slice())
-            && bits_above(self.facts.as_slice(), other.facts.as_slice())
-            && bits_above(self.assigned.as_slice(), other.assigned.as_slice())
+        if !self.has_size_of(other) {
+            return false;
+        }
+        self.may.within(&other.may)
     }
 
     /// Joins the other environment of the same body. Gives whether that changed this one.
@@ -195,15 +346,12 @@ impl Env {
         ensures same { result ≡ false → self.new ≡ self.old }
         ensures changed { result ≡ true → self.new ≡ self.old → ⊥ }
     {
-        if other.within(self) {
-            return false;
-        }
-        join_quals(&mut self.quals, other.quals.as_slice());
-        meet_bits(&mut self.facts, other.facts.as_slice());
-        meet_bits(&mut self.assigned, other.assigned.as_slice());
-        true
+        self.may.join(&other.may)
     }
 }
+
+/// What an environment may have of each, so that its bits can be counted.
+const MOST: usize = usize::MAX / 5;
 
 /// How many registers the body has; 0 where it is not there.
 fn registers(program: &Program, body: BodyNo) -> usize
@@ -213,24 +361,4 @@ fn registers(program: &Program, body: BodyNo) -> usize
         None => 0,
         Some(info) => info.regs.len(),
     }
-}
-
-fn empty_quals(alloc: Global, count: usize) -> Result<Vec<Qual>, AllocError>
-    ensures { IfOk result (λ quals. quals.items ≡ replicate count no_qual) }
-{
-    let mut quals = Vec::new(alloc);
-    for _i in 0..count {
-        quals.push(Qual::none())?;
-    }
-    Ok(quals)
-}
-
-fn unset_bits(alloc: Global, count: usize) -> Result<Vec<bool>, AllocError>
-    ensures { IfOk result (λ bits. bits.items ≡ replicate count false) }
-{
-    let mut bits = Vec::new(alloc);
-    for _i in 0..count {
-        bits.push(false)?;
-    }
-    Ok(bits)
 }

@@ -1,6 +1,6 @@
 // Laws of environments.
 ghost use Rattle.std.specs.Prelude.{◌≡◌};
-ghost use Rattle.jn_env.specs.declared.env.Env.{Env};
+ghost use Rattle.jn_env.specs.Environment.{Env};
 ghost use Rattle.jn_env.specs.Order.{EnvWithin, join_env};
 ghost use Rattle.jn_env.specs.Size.{SameSize};
 

@@ -5,11 +5,11 @@ pub mod bits;
 pub mod env;
 pub mod keys;
 pub mod law;
-pub mod lists;
 pub mod owned;
+pub mod packed;
 pub mod table;
+pub mod words;
 
-pub use bits::is_assigned;
 pub use env::Env;
 pub use keys::{FieldKey, Keys, find_keys, find_keys_by};
 pub use owned::OwnFields;

@@ -11,7 +11,7 @@ use Rattle.jn_points.specs.declared.program.Program.{Program}
 use Rattle.jn_points.specs.Edges.{edges_of}
 use Rattle.jn_points.specs.Lookup.{points_of, regs_of, body_at, method_at, method_of_body}
 use Rattle.jn_quals.specs.Qualifier.{Qualifier}
-use Rattle.jn_env.specs.declared.env.Env.{Env}
+use Rattle.jn_env.specs.Environment.{Env}
 use Rattle.jn_env.specs.Order.{Table, env_in, SlotWithin, TableWithin, join_env, join_slot}
 use Rattle.jn_env.specs.Weight.{weight, quals_weight, bits_weight}
 use Rattle.jn_env.proofs.Along.{over, over_is}

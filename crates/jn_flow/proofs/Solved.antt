@@ -6,7 +6,7 @@ use Rattle.jn_quals.specs.Qualifier.{Qualifier}
 use Rattle.jn_points.specs.declared.point.Point.{Point}
 use Rattle.jn_points.specs.declared.program.Program.{Program}
 use Rattle.jn_points.specs.Lookup.{points_of, body_at, point_at}
-use Rattle.jn_env.specs.declared.env.Env.{Env}
+use Rattle.jn_env.specs.Environment.{Env}
 use Rattle.jn_env.specs.Order.{Table, env_in, EnvWithin, SlotWithin, TableWithin}
 use Rattle.jn_env.proofs.Order.{env_join_right, slot_trans, slot_join_least}
 use Rattle.jn_env.proofs.Weight.{table_antisym}

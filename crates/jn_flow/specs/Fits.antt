@@ -1,7 +1,7 @@
 -- Edges whose environments and targets are of a body.
 use Rattle.std.specs.Prelude.{ℕ, ◌<◌, List}
 use Rattle.jn_points.specs.declared.program.Program.{Program}
-use Rattle.jn_env.specs.declared.env.Env.{Env}
+use Rattle.jn_env.specs.Environment.{Env}
 use Rattle.jn_transfer.specs.Transfer.{IsAmong}
 use Rattle.jn_env.specs.Sized.{EnvSized}
 

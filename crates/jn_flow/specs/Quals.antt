@@ -4,7 +4,7 @@ use Rattle.jn_quals.specs.Qualifier.{Qualifier}
 use Rattle.jn_points.specs.declared.point.Point.{Point}
 use Rattle.jn_points.specs.declared.program.Program.{Program}
 use Rattle.jn_points.specs.Lookup.{points_of, regs_of, body_at, point_at}
-use Rattle.jn_env.specs.declared.env.Env.{Env}
+use Rattle.jn_env.specs.Environment.{Env}
 use Rattle.jn_env.specs.Keys.{fact_keys, own_keys}
 use Rattle.jn_env.specs.Order.{join_env}
 use Rattle.jn_env.specs.Weight.{quals_weight, bits_weight}

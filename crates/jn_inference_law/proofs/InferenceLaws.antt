@@ -16,7 +16,7 @@ use Rattle.jn_points.specs.declared.program.SlotInfo.{SlotInfo}
 use Rattle.jn_points.specs.declared.program.Program.{Program}
 use Rattle.jn_points.specs.Lookup.{field_info, method_at, method_in, slots_of, points_of, body_at}
 use Rattle.jn_sigs.specs.Packed.{at_slot, qualifiers_from, unpacked}
-use Rattle.jn_env.specs.declared.env.Env.{Env}
+use Rattle.jn_env.specs.Environment.{Env}
 use Rattle.jn_env.specs.Keys.{is_on, own_keys}
 use Rattle.jn_env.specs.Order.{QualsWithin, Table, TableWithin, env_in, qual_at}
 use Rattle.jn_env.specs.Weight.{weight}

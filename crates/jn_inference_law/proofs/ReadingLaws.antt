@@ -17,7 +17,7 @@ use Rattle.jn_points.specs.Lookup.{ctor_of, field_info, flat_field, method_at, m
 use Rattle.jn_sigs.specs.Packed.{unpacked}
 use Rattle.jn_sigs.specs.Signature.{slot_qual, slot_quals, field_qual_of, result_of, receiver_of}
 use Rattle.jn_sigs.proofs.Slots.{length-unpacked, unpacked-at}
-use Rattle.jn_env.specs.declared.env.Env.{Env}
+use Rattle.jn_env.specs.Environment.{Env}
 use Rattle.jn_env.specs.Keys.{is_key, is_on, fact_keys, own_keys, no_bits}
 use Rattle.jn_env.specs.Order.{Table, env_in, qual_at}
 use Rattle.jn_transfer.specs.Contributions.{field_slot_of, receiver_slot_of, result_slot_of}

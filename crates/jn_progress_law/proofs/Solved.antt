@@ -11,7 +11,7 @@ use Rattle.jn_points.specs.BaseTyping.{BaseTyped}
 use Rattle.jn_points.specs.Regular.{Regular}
 use Rattle.jn_points.specs.Shaped.{Shaped}
 use Rattle.jn_sigs.specs.Signature.{uncalled_from, start_of, starts_from}
-use Rattle.jn_env.specs.declared.env.Env.{Env}
+use Rattle.jn_env.specs.Environment.{Env}
 use Rattle.jn_env.specs.Order.{QualsWithin}
 use Rattle.jn_transfer.specs.Contributions.{FieldSlots}
 use Rattle.jn_transfer.specs.Least.{IsLeastTable, Respects}

@@ -10,7 +10,7 @@ use Rattle.jn_points.specs.Edges.{edges_of, one}
 use Rattle.jn_points.specs.Lookup.{ref_of, ctor_of, static_of, is_ref_base, point_at, ref_field, method_at, method_of_body}
 use Rattle.jn_points.specs.Shaped.{LeadsTo}
 use Rattle.jn_sigs.specs.Signature.{slot_qual}
-use Rattle.jn_env.specs.declared.env.Env.{Env}
+use Rattle.jn_env.specs.Environment.{Env}
 use Rattle.jn_env.specs.Order.{qual_at}
 use Rattle.jn_transfer.specs.Transfer.{transfer, side, learn, refine, IsAmong}
 use Rattle.jn_soundness.specs.World.{World, env_at}

@@ -7,7 +7,7 @@ use Rattle.jn_points.specs.declared.point.Operand.{Operand}
 use Rattle.jn_soundness.specs.Checked.{ArgsPass}
 use Rattle.jn_heap.specs.Values.{At, NullRef, Plain, Text, Value}
 use Rattle.jn_env.specs.Order.{BitsAbove, QualsWithin, qual_at}
-use Rattle.jn_env.specs.declared.env.Env.{Env}
+use Rattle.jn_env.specs.Environment.{Env}
 use Rattle.jn_heap.specs.State.{Regs, gather, gather_more, value_at}
 use Rattle.jn_heap.specs.Calls.{pad}
 use Rattle.jn_soundness.specs.World.{World}

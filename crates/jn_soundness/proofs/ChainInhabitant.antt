@@ -22,7 +22,7 @@ use Rattle.jn_points.specs.Lookup.{has_slot, is_ref_base, body_of, body_at, poin
 use Rattle.jn_points.specs.Members.{some_of, reaches, sub, has_field, pairs_of, is_pair, is_named, class_pairs, interface_pairs}
 use Rattle.jn_points.specs.Shaped.{FromRead, NotCtorCall, writes, test_at, test_in, test_of, Early, IsObjectClass, Chains, SlotsMatch, LeadsTo, RegularEdge, RegularPoint, StartsRegular, Shaped, Names, Passes, NotEarlyReturn}
 use Rattle.jn_points.specs.BaseTyping.{Ordered, PointTyped, StartsWith, given_bases, BaseTyped}
-use Rattle.jn_env.specs.declared.env.Env.{Env}
+use Rattle.jn_env.specs.Environment.{Env}
 use Rattle.jn_env.specs.Order.{SlotWithin, env_in}
 use Rattle.jn_transfer.specs.Transfer.{transfer, IsAmong}
 use Rattle.jn_transfer.specs.Least.{Respects}

@@ -5,7 +5,7 @@ use Rattle.std.proofs.lemmas.Bool.{eqb-true, eq-eqb}
 use Rattle.jn_quals.specs.Qualifier.{Qualifier}
 use Rattle.jn_soundness.specs.Checked.{AllAssigned}
 use Rattle.jn_heap.specs.Values.{At, Elems, NullRef, Object, Plain, Text, Thing, Value}
-use Rattle.jn_env.specs.declared.env.Env.{Env}
+use Rattle.jn_env.specs.Environment.{Env}
 use Rattle.jn_heap.specs.State.{Frame}
 use Rattle.jn_heap.specs.Steps.{field_at, field_in}
 use Rattle.jn_heap.specs.Calls.{class_at, class_in}

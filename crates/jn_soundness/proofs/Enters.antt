@@ -17,7 +17,7 @@ use Rattle.jn_points.specs.declared.program.Method.{Method}
 use Rattle.jn_points.specs.declared.program.Body.{Body}
 use Rattle.jn_soundness.specs.Checked.{ArgsPass, Checked, PointOk, ReceiverPasses}
 use Rattle.jn_heap.specs.Values.{At, NullRef, Object, Plain, Prim, Text, Thing, Value, default_of, defaults}
-use Rattle.jn_env.specs.declared.env.Env.{Env}
+use Rattle.jn_env.specs.Environment.{Env}
 use Rattle.jn_heap.specs.State.{Regs, State, gather, gather_more, object_of, value_at}
 use Rattle.jn_heap.specs.Steps.{field_in}
 use Rattle.jn_heap.specs.Calls.{calls, calls_on, calls_this, class_in, ctor_calls, enter, entered, news, pad, selected}

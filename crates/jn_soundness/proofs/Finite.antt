@@ -5,7 +5,7 @@ use Rattle.jn_points.specs.Lookup.{points_of, body_at, point_at}
 use Rattle.jn_points.specs.declared.program.Program.{Program}
 use Rattle.jn_points.specs.declared.program.Body.{Body}
 use Rattle.jn_points.specs.declared.point.Point.{Point}
-use Rattle.jn_env.specs.declared.env.Env.{Env}
+use Rattle.jn_env.specs.Environment.{Env}
 use Rattle.jn_transfer.specs.Transfer.{IsAmong}
 
 abbrev pub Each : {A : Type 0} → (ℕ → A → Type 0) → List A → Type 0

@@ -2,7 +2,7 @@
 use Rattle.std.proofs.Common.{◌≡◌, ℕ, Bool, ◌⊎◌, inl, inr, List, [], ◌∷◌, Option, Some, None}
 use Rattle.jn_quals.specs.Qualifier.{Qualifier}
 use Rattle.jn_heap.specs.Values.{At, NullRef, Plain, Text, Thing, Value}
-use Rattle.jn_env.specs.declared.env.Env.{Env}
+use Rattle.jn_env.specs.Environment.{Env}
 use Rattle.jn_heap.specs.State.{Frame, Regs}
 use Rattle.jn_heap.specs.Calls.{class_at}
 use Rattle.jn_soundness.specs.World.{World}

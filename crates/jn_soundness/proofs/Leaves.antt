@@ -11,7 +11,7 @@ use Rattle.jn_points.specs.declared.point.PointKind.{PointKind}
 use Rattle.jn_points.specs.declared.point.PointKind.TheVariants.{New, CtorCall, Call, Return}
 use Rattle.jn_soundness.specs.Checked.{AllOwn, Checked, PointOk, ResultPasses}
 use Rattle.jn_heap.specs.Values.{At, Thing, Value, same}
-use Rattle.jn_env.specs.declared.env.Env.{Env}
+use Rattle.jn_env.specs.Environment.{Env}
 use Rattle.jn_heap.specs.State.{Frame, State, holds_at, moves_to, value_at, value_of}
 use Rattle.jn_heap.specs.Calls.{gives, gives_to, resumes, returns, takes, takes_at}
 use Rattle.jn_heap.specs.Runs.{step}

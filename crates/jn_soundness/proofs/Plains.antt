@@ -12,7 +12,7 @@ use Rattle.jn_points.specs.declared.point.PointKind.{PointKind}
 use Rattle.jn_points.specs.declared.point.PointKind.TheVariants.{Const, Move, Unary, Binary, Concat, SameRef, FieldRead, FieldWrite, StaticRead, StaticWrite, ElemRead, ElemWrite, ArrayLen, NewArray, ArrayOf, New, CtorCall, Call, StrOp, Print, Cast, TestInst, TestNull, Branch, Goto, Return}
 use Rattle.jn_soundness.specs.Checked.{AllWithin, NewArrayPasses, PointOk, WritePasses, ref_elems}
 use Rattle.jn_heap.specs.Values.{At, Elems, Fails, Gives, Got, Lacks, NullRef, Object, Plain, Prim, Text, Thing, Value, default_of, index}
-use Rattle.jn_env.specs.declared.env.Env.{Env}
+use Rattle.jn_env.specs.Environment.{Env}
 use Rattle.jn_transfer.specs.Transfer.{IsAmong, elem_qual, elem_read, learn, literal_qual, put, read_qual, refine, side, written}
 use Rattle.jn_transfer.proofs.Monotone.{among_right}
 use Rattle.jn_heap.specs.State.{Regs, State, gather, gather_more, got_of, got_sets, holds_at, moves, moves_to, object_of, prim_of, sets, value_at, value_of, int_of, truth_of, text_in, got_plain, got_prim}

@@ -22,7 +22,7 @@ use Rattle.jn_points.specs.Lookup.{points_of, ref_of, ctor_of, class_of, slots_o
 use Rattle.jn_points.specs.Members.{some_of, below}
 use Rattle.jn_points.specs.Shaped.{Passes, ReceiverMatches}
 use Rattle.jn_sigs.specs.Signature.{slot_quals, result_of, receiver_of, field_qual}
-use Rattle.jn_env.specs.declared.env.Env.{Env}
+use Rattle.jn_env.specs.Environment.{Env}
 use Rattle.jn_env.specs.Order.{Table, env_in, qual_at}
 use Rattle.jn_env.specs.Keys.{is_on, is_own, own_keys}
 use Rattle.jn_transfer.specs.Transfer.{elem_qual}

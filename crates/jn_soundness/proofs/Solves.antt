@@ -13,7 +13,7 @@ use Rattle.jn_points.specs.declared.program.Field.{Field}
 use Rattle.jn_points.specs.declared.program.SlotInfo.{SlotInfo}
 use Rattle.jn_points.specs.Lookup.{has_slot, ref_of, point_at, field_info}
 use Rattle.jn_sigs.specs.Signature.{slot_qual, field_qual_of}
-use Rattle.jn_env.specs.declared.env.Env.{Env}
+use Rattle.jn_env.specs.Environment.{Env}
 use Rattle.jn_env.specs.Order.{qual_at}
 use Rattle.jn_transfer.specs.Contributions.{is_inferred, field_slot_of, IsSent, sends, kind_sends}
 use Rattle.jn_soundness.specs.World.{World, env_at}

@@ -10,7 +10,7 @@ use Rattle.jn_points.specs.declared.point.PointKind.TheVariants.{FieldRead}
 use Rattle.jn_heap.specs.Values.{At, Fails, Gives, Got, Lacks, NullRef, Plain, Text, Thing, Value}
 use Rattle.jn_env.specs.Order.{BitsAbove, EnvWithin, SlotWithin}
 use Rattle.jn_soundness.specs.Checked.{Edge}
-use Rattle.jn_env.specs.declared.env.Env.{Env}
+use Rattle.jn_env.specs.Environment.{Env}
 use Rattle.jn_heap.specs.State.{Frame, Regs, holds_at, moves_to, object_of, value_at}
 use Rattle.jn_heap.specs.Steps.{field_at}
 use Rattle.jn_transfer.specs.Transfer.{IsAmong, learn, put, refine, side}

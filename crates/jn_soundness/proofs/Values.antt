@@ -11,7 +11,7 @@ use Rattle.jn_points.specs.declared.point.Literal.{Literal}
 use Rattle.jn_points.specs.declared.point.Literal.TheVariants.{Int, Truth as TruthOf, Str, Null}
 use Rattle.jn_points.specs.declared.program.Field.{Field}
 use Rattle.jn_heap.specs.Values.{At, Elems, Fails, Gives, Got, Lacks, NullRef, Object, Plain, Prim, Text, Thing, Value, binary, index, unary, units, text_op}
-use Rattle.jn_env.specs.declared.env.Env.{Env}
+use Rattle.jn_env.specs.Environment.{Env}
 use Rattle.jn_heap.specs.State.{Regs, got_of, got_plain, object_of, value_at}
 use Rattle.jn_heap.specs.Steps.{array_len, binary_of, cast_as, cast_of, concat_of, elem_in, field_at, field_in, is_within, item_at, item_or_index, length_in, literal_value, read_elem, read_field, same_of, str_op, text_or_long, unary_of}
 use Rattle.jn_heap.specs.Calls.{class_at, class_in}

@@ -6,7 +6,7 @@ use Rattle.jn_quals.specs.Qualifier.{Qualifier}
 use Rattle.jn_base.specs.declared.number.SlotNo.{SlotNo}
 use Rattle.jn_points.specs.declared.program.Field.{Field}
 use Rattle.jn_heap.specs.Values.{At, NullRef, Object, Plain, Text, Thing, Value, same}
-use Rattle.jn_env.specs.declared.env.Env.{Env}
+use Rattle.jn_env.specs.Environment.{Env}
 use Rattle.jn_heap.specs.State.{Frame, Regs, value_at}
 use Rattle.jn_heap.specs.Steps.{field_at, field_in}
 use Rattle.jn_heap.specs.Calls.{class_at, class_in}

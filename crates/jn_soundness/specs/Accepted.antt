@@ -9,7 +9,7 @@ use Rattle.jn_points.specs.declared.program.SlotInfo.{SlotInfo}
 use Rattle.jn_points.specs.Lookup.{body_at, point_at, ref_field}
 use Rattle.jn_points.specs.Shaped.{Shaped}
 use Rattle.jn_sigs.specs.Signature.{field_qual}
-use Rattle.jn_env.specs.declared.env.Env.{Env}
+use Rattle.jn_env.specs.Environment.{Env}
 use Rattle.jn_env.specs.Order.{qual_at}
 use Rattle.jn_transfer.specs.Least.{Respects}
 use Rattle.jn_transfer.specs.Rules.{rows}

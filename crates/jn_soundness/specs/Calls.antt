@@ -4,7 +4,7 @@ use Rattle.jn_quals.specs.Order.{within}
 use Rattle.jn_points.specs.declared.point.Point.{Point}
 use Rattle.jn_points.specs.declared.point.PointKind.{PointKind}
 use Rattle.jn_points.specs.Lookup.{point_at, ctor_of, method_at, method_in, slots_of, class_of}
-use Rattle.jn_env.specs.declared.env.Env.{Env}
+use Rattle.jn_env.specs.Environment.{Env}
 use Rattle.jn_soundness.specs.World.{World}
 use Rattle.jn_points.specs.declared.point.PointKind.TheVariants.{New, Call, CtorCall}
 use Rattle.jn_quals.specs.Qualifier.{Qualifier}

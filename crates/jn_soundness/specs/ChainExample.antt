@@ -15,7 +15,7 @@ use Rattle.jn_points.specs.declared.program.Field.{Field}
 use Rattle.jn_points.specs.declared.program.Method.{Method}
 use Rattle.jn_points.specs.declared.program.Body.{Body}
 use Rattle.jn_points.specs.declared.program.Program.{Program}
-use Rattle.jn_env.specs.declared.env.Env.{Env}
+use Rattle.jn_env.specs.Environment.{Env}
 use Rattle.jn_soundness.specs.World.{World}
 use Rattle.jn_soundness.specs.ExampleParts.{no_span, point_of, reg, strings, object_class, class_under, main_method}
 

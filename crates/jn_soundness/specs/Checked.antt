@@ -12,7 +12,7 @@ use Rattle.jn_points.specs.declared.point.PointKind.TheVariants.{FieldRead, Fiel
 use Rattle.jn_points.specs.declared.program.Field.{Field}
 use Rattle.jn_points.specs.declared.program.Method.{Method}
 use Rattle.jn_points.specs.declared.program.Body.{Body}
-use Rattle.jn_env.specs.declared.env.Env.{Env}
+use Rattle.jn_env.specs.Environment.{Env}
 use Rattle.jn_transfer.specs.Transfer.{IsAmong, elem_qual, entry_env, transfer}
 use Rattle.jn_env.specs.Order.{SlotWithin, qual_at}
 use Rattle.jn_soundness.specs.World.{World, env_at, param_quals}

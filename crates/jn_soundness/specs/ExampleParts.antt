@@ -10,7 +10,7 @@ use Rattle.jn_points.specs.declared.point.Point.{Point}
 use Rattle.jn_points.specs.declared.point.PointKind.{PointKind}
 use Rattle.jn_points.specs.declared.program.Class.{Class}
 use Rattle.jn_points.specs.declared.program.Method.{Method}
-use Rattle.jn_env.specs.declared.env.Env.{Env}
+use Rattle.jn_env.specs.Environment.{Env}
 
 abbrev pub no_span : Span
 no_span = record { file = record { 0 = 0 }; from = 0; to = 0 }

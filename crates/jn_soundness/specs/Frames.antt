@@ -1,7 +1,7 @@
 -- Frames as tables and marks say: registers, facts, assigned fields, and what a constructor builds.
 use Rattle.std.specs.Prelude.{ℕ, ◌≡◌, true, false, [], Some, List, ◌∷◌, Option, None, Bool, ◌⊎◌}
 use Rattle.jn_sigs.specs.Signature.{field_qual}
-use Rattle.jn_env.specs.declared.env.Env.{Env}
+use Rattle.jn_env.specs.Environment.{Env}
 use Rattle.jn_soundness.specs.World.{World, env_at}
 use Rattle.jn_points.specs.Lookup.{ctor_of, method_in, class_of, owner}
 use Rattle.jn_quals.specs.Qualifier.{Qualifier}

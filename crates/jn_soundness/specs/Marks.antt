@@ -4,7 +4,7 @@ use Rattle.std.specs.Prelude.{ℕ, true, false, [], Some, List, ◌∷◌, Optio
 use Rattle.jn_points.specs.declared.point.Point.{Point}
 use Rattle.jn_points.specs.declared.point.PointKind.{PointKind}
 use Rattle.jn_points.specs.Lookup.{point_at, method_at, method_in, slots_of, class_of}
-use Rattle.jn_env.specs.declared.env.Env.{Env}
+use Rattle.jn_env.specs.Environment.{Env}
 use Rattle.jn_soundness.specs.World.{World, env_at}
 use Rattle.jn_points.specs.declared.point.PointKind.TheVariants.{ArrayOf, New, Call, CtorCall, Return, NewArray}
 use Rattle.jn_base.specs.declared.number.SlotNo.{SlotNo}

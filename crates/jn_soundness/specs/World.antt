@@ -4,7 +4,7 @@ use Rattle.jn_quals.specs.Qualifier.{Qualifier}
 use Rattle.jn_points.specs.declared.program.Program.{Program}
 use Rattle.jn_points.specs.Lookup.{slots_of, method_at}
 use Rattle.jn_sigs.specs.Signature.{slot_quals}
-use Rattle.jn_env.specs.declared.env.Env.{Env}
+use Rattle.jn_env.specs.Environment.{Env}
 use Rattle.jn_env.specs.Order.{env_in}
 
 pub record World : Type 0 where

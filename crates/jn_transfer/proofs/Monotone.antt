@@ -14,7 +14,7 @@ use Rattle.jn_points.specs.declared.point.PointKind.TheVariants.{Const, Move, Un
 use Rattle.jn_points.specs.declared.program.Program.{Program}
 use Rattle.jn_points.specs.Lookup.{slots_of, class_of, ctor_of, locals, owner, ref_field, flat_field, method_at, method_in, reg_base}
 use Rattle.jn_sigs.specs.Signature.{result_of, field_qual}
-use Rattle.jn_env.specs.declared.env.Env.{Env}
+use Rattle.jn_env.specs.Environment.{Env}
 use Rattle.jn_env.specs.Order.{qual_at, QualsWithin, EnvWithin, BitsAbove}
 use Rattle.jn_env.proofs.Order.{quals_set, env_qual}
 use Rattle.jn_env.specs.Keys.{is_key, has_key_field, also, is_on, fact_keys, own_keys}

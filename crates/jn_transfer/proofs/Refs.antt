@@ -5,7 +5,7 @@ use Rattle.jn_base.specs.declared.number.SlotNo.{SlotNo}
 use Rattle.jn_quals.specs.Qualifier.{Qualifier}
 use Rattle.jn_points.specs.declared.point.Operand.{Operand}
 use Rattle.jn_points.specs.Lookup.{has_slot}
-use Rattle.jn_env.specs.declared.env.Env.{Env}
+use Rattle.jn_env.specs.Environment.{Env}
 use Rattle.jn_env.specs.Order.{qual_at}
 use Rattle.jn_base.specs.declared.number.PointNo.{PointNo}
 use Rattle.jn_transfer.specs.Transfer.{ref_quals}

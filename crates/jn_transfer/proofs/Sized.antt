@@ -10,7 +10,7 @@ use Rattle.jn_points.specs.declared.point.PointKind.TheVariants.{Const, Move, Un
 use Rattle.jn_points.specs.declared.program.Program.{Program}
 use Rattle.jn_points.specs.Edges.{edges_of}
 use Rattle.jn_points.specs.Lookup.{regs_of, body_at, class_of, ctor_of, locals, owner, ref_field, method_in}
-use Rattle.jn_env.specs.declared.env.Env.{Env}
+use Rattle.jn_env.specs.Environment.{Env}
 use Rattle.jn_env.specs.Order.{qual_at}
 use Rattle.jn_env.specs.Keys.{is_key, has_key_field, mask, also, fact_keys, own_keys}
 use Rattle.jn_transfer.specs.Transfer.{refine, side, pad_quals, given_quals, put, drop_all, put_to, learn, written, ctor_called, transfer, entry_env, IsAmong}

@@ -3,7 +3,7 @@ use Rattle.std.specs.Prelude.{ℕ, List, [], Option, slice_index_or}
 use Rattle.jn_quals.specs.Qualifier.{Qualifier}
 use Rattle.jn_points.specs.declared.program.Program.{Program}
 use Rattle.jn_sigs.specs.Signature.{start_signature}
-use Rattle.jn_env.specs.declared.env.Env.{Env}
+use Rattle.jn_env.specs.Environment.{Env}
 use Rattle.jn_env.specs.Order.{QualsWithin}
 use Rattle.jn_transfer.specs.Contributions.{Closed}
 use Rattle.jn_transfer.specs.Least.{IsLeastTable}

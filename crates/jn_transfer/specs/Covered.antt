@@ -1,7 +1,7 @@
 -- Edges by numbers, and edges that others cover.
 use Rattle.std.specs.Prelude.{ℕ, List, [], ◌∷◌}
 use Rattle.jn_base.specs.declared.number.PointNo.{PointNo}
-use Rattle.jn_env.specs.declared.env.Env.{Env}
+use Rattle.jn_env.specs.Environment.{Env}
 use Rattle.jn_env.specs.Order.{EnvWithin}
 use Rattle.jn_transfer.specs.Transfer.{IsAmong}
 

@@ -20,7 +20,7 @@ use Rattle.jn_points.specs.declared.program.Program.{Program}
 use Rattle.jn_points.specs.Lookup.{points_of, slots_of, dereferences, body_at, reg_base, method_at, method_in}
 use Rattle.jn_points.specs.Members.{some_of, below, is_pair}
 use Rattle.jn_sigs.specs.Signature.{slot_quals, result_of, receiver_of, field_qual}
-use Rattle.jn_env.specs.declared.env.Env.{Env}
+use Rattle.jn_env.specs.Environment.{Env}
 use Rattle.jn_env.specs.Order.{Table, env_in, qual_at}
 use Rattle.jn_env.specs.Keys.{is_on, own_keys}
 use Rattle.jn_transfer.specs.Transfer.{elem_qual}

@@ -17,7 +17,7 @@ use Rattle.jn_points.specs.declared.program.Method.{Method}
 use Rattle.jn_points.specs.declared.program.Program.{Program}
 use Rattle.jn_points.specs.Lookup.{regs_of, slots_of, class_of, ctor_of, static_of, body_at, reg_base, locals, owner, ref_field, flat_field, method_at, method_in}
 use Rattle.jn_sigs.specs.Signature.{slot_quals, result_of, receiver_of, field_qual}
-use Rattle.jn_env.specs.declared.env.Env.{Env}
+use Rattle.jn_env.specs.Environment.{Env}
 use Rattle.jn_env.specs.Order.{qual_at}
 use Rattle.jn_env.specs.Keys.{has_reg, has_key_field, is_key, mask, also, is_on, no_bits, fact_keys, own_keys}
 

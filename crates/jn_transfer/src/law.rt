@@ -3,7 +3,7 @@ ghost use Rattle.std.specs.Prelude.{ℕ, List};
 ghost use Rattle.jn_quals.specs.Qualifier.{Qualifier};
 ghost use Rattle.jn_points.specs.declared.point.PointKind.{PointKind};
 ghost use Rattle.jn_points.specs.declared.program.Program.{Program};
-ghost use Rattle.jn_env.specs.declared.env.Env.{Env};
+ghost use Rattle.jn_env.specs.Environment.{Env};
 ghost use Rattle.jn_env.specs.Order.{EnvWithin};
 ghost use Rattle.jn_transfer.specs.Transfer.{transfer, IsAmong};
 ghost use Rattle.jn_transfer.specs.Covered.{Covered};

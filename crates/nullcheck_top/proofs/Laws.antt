@@ -7,7 +7,7 @@ use Rattle.jn_trees.specs.declared.token.Token.{Token}
 use Rattle.jn_places.specs.Placed.{PlacedFile}
 use Rattle.jn_points.specs.declared.program.Program.{Program}
 use Rattle.jn_points.specs.BaseRows.{IsBaseRow}
-use Rattle.jn_env.specs.declared.env.Env.{Env}
+use Rattle.jn_env.specs.Environment.{Env}
 use Rattle.jn_program_law.specs.FileProgram.{program_of_files}
 use Rattle.jn_transfer.specs.Least.{IsLeastTable}
 use Rattle.jn_transfer.specs.Rules.{Breaks}

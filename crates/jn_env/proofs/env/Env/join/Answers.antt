@@ -1,18 +1,37 @@
-use Rattle.std.proofs.Common.{sym, ap, ◌∙◌, subst, refl}
-use Rattle.jn_env.specs.Order.{EnvWithin, join_quals, meet_bits, join_env}
-use Rattle.jn_env.proofs.Order.{env_refl, env_join_left, env_join_right, env_join_least}
-use Rattle.jn_env.proofs.Weight.{env_antisym, same_env}
+use Rattle.std.proofs.Common.{subst, sym, ap, ◌∙◌}
+use Rattle.jn_env.specs.Flat.{env_of}
+use Rattle.jn_env.specs.Order.{join_env}
+use Rattle.jn_env.proofs.Laid.{Laid, laid, long_enough}
+use Rattle.jn_env.proofs.Joined.{joined_laid, joined_view, joined_back, same_length}
 use Rattle.jn_env.proofs.env.Env.join.Goals as goal
 
-pub returns-then-within-clause-joined : goal.returns-then-within-clause-joined
-returns-then-within-clause-joined c =
-    let a = c.args.self.now in
-    let b = c.args.other.now in
-    env_antisym a (join_env a b) (env_join_left a b c.requires) (env_join_least a b a (env_refl a) (c.if-within.ensures.yes refl))
+pub join-requires : goal.join-requires
+join-requires c =
+    let a = c.self.inside in
+    let b = c.other.inside in
+    same_length a.may b.may a.registers a.facts b.registers b.facts c.args.self.now c.args.other.now (laid a.may a.registers a.facts c.args.self.now c.self.invariant c.self.view_is) (laid b.may b.registers b.facts c.args.other.now c.other.invariant c.other.view_is) c.requires
+
+pub invariant_of-self : goal.invariant_of-self
+invariant_of-self c =
+    let a = c.self.inside in
+    let b = c.other.inside in
+    let whole = join_env c.args.self.now c.args.other.now in
+    let joined = joined_laid a.may b.may a.registers a.facts b.registers b.facts c.args.self.now c.args.other.now (laid a.may a.registers a.facts c.args.self.now c.self.invariant c.self.view_is) (laid b.may b.registers b.facts c.args.other.now c.other.invariant c.other.view_is) c.requires in
+    long_enough c.join.new.self a.registers a.facts whole (subst (λ bits. Laid bits a.registers a.facts whole) (sym c.join.ensures.joined) joined)
+
+pub returns-clause-joined : goal.returns-clause-joined
+returns-clause-joined c =
+    let a = c.self.inside in
+    let b = c.other.inside in
+    ap (λ bits. env_of bits a.registers a.facts) c.join.ensures.joined
+    ∙ joined_view a.may b.may a.registers a.facts b.registers b.facts c.args.self.now c.args.other.now (laid a.may a.registers a.facts c.args.self.now c.self.invariant c.self.view_is) (laid b.may b.registers b.facts c.args.other.now c.other.invariant c.other.view_is) c.requires
 
 pub returns-clause-changed : goal.returns-clause-changed
 returns-clause-changed c = λ t e.
-    let a = c.args.self.now in
-    let b = c.args.other.now in
-    let is = same_env _ (join_env a b) (c.join_quals.ensures ∙ ap (λ q. join_quals a.quals q) c.as_slice.ensures) (c.meet_bits.ensures ∙ ap (λ q. meet_bits a.facts q) c.as_slice-2.ensures) (c.meet_bits-2.ensures ∙ ap (λ q. meet_bits a.assigned q) c.as_slice-3.ensures) in
-    c.if-within.ensures.no refl (subst (λ x. EnvWithin b x) (sym is ∙ e) (env_join_right a b c.requires))
+    let a = c.self.inside in
+    let b = c.other.inside in
+    let l = laid a.may a.registers a.facts c.args.self.now c.self.invariant c.self.view_is in
+    let m = laid b.may b.registers b.facts c.args.other.now c.other.invariant c.other.view_is in
+    let view = joined_view a.may b.may a.registers a.facts b.registers b.facts c.args.self.now c.args.other.now l m c.requires in
+    let same = sym view ∙ ap (λ bits. env_of bits a.registers a.facts) (sym c.join.ensures.joined) ∙ e in
+    c.join.ensures.changed t (c.join.ensures.joined ∙ joined_back a.may b.may a.registers a.facts b.registers b.facts c.args.self.now c.args.other.now l m c.requires same)
