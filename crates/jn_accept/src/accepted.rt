@@ -1,4 +1,4 @@
-// Accepted programs.
+//! Accepted programs.
 ghost use Rattle.std.specs.Prelude.{◌≡◌};
 
 use crate::mains::only_main;

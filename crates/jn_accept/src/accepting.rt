@@ -1,4 +1,4 @@
-// Accepting a program.
+//! Accepting a program.
 ghost use Rattle.std.specs.Prelude.{◌≡◌, [], IfOk, IfErr};
 ghost use Rattle.jn_accept.specs.Accepting.{AreRowsOf};
 ghost use Rattle.jn_transfer.specs.Closing.{IsClosed, IsNotBelowStart};

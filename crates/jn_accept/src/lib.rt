@@ -1,4 +1,4 @@
-// Accepted programs: what is checked of them, and that they never dereference null and never get stuck.
+//! Accepted programs: what is checked of them, and that they never dereference null and never get stuck.
 #![tactic(auto)]
 
 pub mod accepted;

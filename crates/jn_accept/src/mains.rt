@@ -1,4 +1,4 @@
-// The one main of a program.
+//! The one main of a program.
 ghost use Rattle.std.specs.Prelude.{◌≡◌, ◌<◌, ◌^◌, length, ℕ, MatchOption, IfSome, slice_get};
 ghost use Rattle.jn_accept.specs.Mains.{IsOnlyMain, has_form, is_committed, takes_committed, IsFirst, NoneFrom};
 

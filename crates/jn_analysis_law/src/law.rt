@@ -1,4 +1,4 @@
-// Laws of the analysis, which inference and the machine rest on.
+//! Laws of the analysis, which inference and the machine rest on.
 ghost use Rattle.std.specs.Prelude.{◌≡◌, ℕ, List, Option};
 ghost use Rattle.jn_quals.specs.Qualifier.{Qualifier};
 ghost use Rattle.jn_points.specs.declared.point.PointKind.{PointKind};

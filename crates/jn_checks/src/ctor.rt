@@ -1,4 +1,4 @@
-// A constructor's fields that are left unassigned.
+//! A constructor's fields that are left unassigned.
 ghost use Rattle.std.specs.Prelude.{◌≡◌, ◌++◌, ◌&&◌, eqb, false, not, OnOk, length, Some};
 ghost use Rattle.jn_points.specs.Lookup.{method_of_body, body_at, points_of};
 ghost use Rattle.jn_points.specs.Members.{some_of};

@@ -1,4 +1,4 @@
-// The rules that each kind of point asks.
+//! The rules that each kind of point asks.
 ghost use Rattle.std.specs.Prelude.{◌≡◌, ◌++◌, OnOk};
 ghost use Rattle.jn_points.specs.Lookup.{dereferences};
 ghost use Rattle.jn_transfer.specs.Rules.{kind_rows, rows_at, arg_rows, receiver_rows};

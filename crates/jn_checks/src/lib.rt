@@ -1,4 +1,4 @@
-// The rules at the points of a body, as rows.
+//! The rules at the points of a body, as rows.
 #![tactic(auto)]
 
 pub mod ctor;

@@ -1,4 +1,4 @@
-// Rows of broken rules.
+//! Rows of broken rules.
 ghost use Rattle.std.specs.Prelude.{◌≡◌, ◌<◌, ◌^◌, ◌++◌, IfOk, OnOk, length};
 ghost use Rattle.jn_points.specs.Lookup.{points_of, body_at};
 ghost use Rattle.jn_env.specs.Code.{AreKeys};

@@ -1,4 +1,4 @@
-// The rules one by one. Each pushes the rows of what is broken.
+//! The rules one by one. Each pushes the rows of what is broken.
 ghost use Rattle.std.specs.Prelude.{◌≡◌, ◌≤◌, ◌⊎◌, ◌++◌, ◌&&◌, OnOk};
 ghost use Rattle.jn_points.specs.Lookup.{method_at, method_in, slots_of};
 ghost use Rattle.jn_sigs.specs.Signature.{slot_quals, result_of, receiver_of};

@@ -1,4 +1,4 @@
-// What a body sends into inferred slots, point by point.
+//! What a body sends into inferred slots, point by point.
 ghost use Rattle.std.specs.Prelude.{◌≡◌, ◌<◌, ◌++◌, ◌^◌, IfOk, OnOk, length};
 ghost use Rattle.jn_env.specs.Order.{env_in};
 ghost use Rattle.jn_env.specs.Keys.{own_keys};

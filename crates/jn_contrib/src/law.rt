@@ -1,4 +1,4 @@
-// Laws of contributions.
+//! Laws of contributions.
 ghost use Rattle.std.specs.Prelude.{ℕ};
 ghost use Rattle.jn_quals.specs.Qualifier.{Qualifier};
 ghost use Rattle.jn_points.specs.declared.program.Program.{Program};

@@ -1,4 +1,4 @@
-// What a body sends into inferred slots.
+//! What a body sends into inferred slots.
 #![tactic(auto)]
 
 pub mod body;

@@ -1,4 +1,4 @@
-// What a reached point sends into inferred slots.
+//! What a reached point sends into inferred slots.
 ghost use Rattle.std.specs.Prelude.{◌≡◌, ◌++◌, ◌∷◌, [], OnOk, cond, slice_get, slice_index_or, None};
 ghost use Rattle.jn_points.specs.Lookup.{slots_of, field_info, method_at, method_in};
 ghost use Rattle.jn_quals.specs.Order.{null_only};

@@ -1,4 +1,4 @@
-// The fields that a constructor leaves unassigned.
+//! The fields that a constructor leaves unassigned.
 #![tactic(auto)]
 
 pub mod unassigned;

@@ -1,4 +1,4 @@
-// Bits along the keys of a body.
+//! Bits along the keys of a body.
 ghost use Rattle.std.specs.Prelude.{◌≡◌, ◌<◌, ◌≤◌, ◌+◌, ◌^◌, ◌++◌, ◌&&◌, ◌||◌, length, take, drop, cond, false, slice_index_or, slice_set};
 ghost use Rattle.jn_env.specs.Keys.{is_on, is_key};
 ghost use Rattle.jn_env.specs.Code.{picks, is_field};

@@ -1,4 +1,4 @@
-// What is known at a point.
+//! What is known at a point.
 ghost use Rattle.std.specs.Prelude.{◌≡◌, ◌<◌, ◌≤◌, ◌+◌, ◌*◌, ◌^◌, ◌++◌, IfOk, true, false, not, eqb, length, take, drop, replicate, slice_index_or, slice_set};
 ghost use Rattle.jn_quals.specs.Order.{no_qual};
 ghost use Rattle.jn_points.specs.Lookup.{regs_of, body_at};

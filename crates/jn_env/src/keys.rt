@@ -1,4 +1,4 @@
-// The keys of a body, along which its facts and assigned fields run.
+//! The keys of a body, along which its facts and assigned fields run.
 ghost use Rattle.std.specs.Prelude.{◌≡◌, ◌<◌, ◌++◌, ◌∷◌, ◌^◌, true, false, [], ◌&&◌, cond, IfOk, OnOk, MatchOption, length, filter, not, ltb};
 ghost use Rattle.jn_points.specs.Lookup.{owner, ref_field, class_of, ctor_of, method_in};
 ghost use Rattle.jn_env.specs.Keys.{is_key, kind_keys, origin_key, fact_keys, own_keys};

@@ -1,4 +1,4 @@
-// Laws of environments.
+//! Laws of environments.
 ghost use Rattle.std.specs.Prelude.{◌≡◌};
 ghost use Rattle.jn_env.specs.Environment.{Env};
 ghost use Rattle.jn_env.specs.Order.{EnvWithin, join_env};

@@ -1,4 +1,4 @@
-// Environments: what is known of each register, field and assignment at a point, and tables of them.
+//! Environments: what is known of each register, field and assignment at a point, and tables of them.
 #![tactic(auto)]
 
 pub mod bits;

@@ -1,4 +1,4 @@
-// What is known at each point of a body.
+//! What is known at each point of a body.
 ghost use Rattle.std.specs.Prelude.{◌≡◌, ◌<◌, IfOk, MatchOption, None, Some, length, replicate, slice_set};
 ghost use Rattle.jn_env.specs.Order.{env_in};
 

@@ -1,4 +1,4 @@
-// Words of bits.
+//! Words of bits.
 ghost use Rattle.std.specs.Prelude.{◌≡◌, ◌<◌, ◌+◌, ◌*◌, ◌^◌, ℕ, not, length};
 ghost use Rattle.jn_quals.specs.Word.{unpack};
 ghost use Rattle.jn_env.specs.Packed.{bit, either_words, rises};

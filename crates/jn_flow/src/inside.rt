@@ -1,4 +1,4 @@
-// Whether the edges of a body stay in it.
+//! Whether the edges of a body stay in it.
 ghost use Rattle.std.specs.Prelude.{◌≡◌, ◌<◌, ◌-◌, ◌^◌, length, true, false};
 ghost use Rattle.jn_points.specs.Lookup.{body_at, points_of};
 ghost use Rattle.jn_transfer.specs.Sized.{Below, StaysInside};

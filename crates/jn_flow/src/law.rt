@@ -1,4 +1,4 @@
-// Laws of least tables.
+//! Laws of least tables.
 ghost use Rattle.std.specs.Prelude.{◌≡◌, ℕ, List, length};
 ghost use Rattle.jn_quals.specs.Qualifier.{Qualifier};
 ghost use Rattle.jn_points.specs.declared.program.Program.{Program};

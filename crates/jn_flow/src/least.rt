@@ -1,4 +1,4 @@
-// The least table of a body.
+//! The least table of a body.
 ghost use Rattle.std.specs.Prelude.{◌≡◌, ◌<◌, ◌^◌, IfOk, length};
 ghost use Rattle.jn_points.specs.Lookup.{body_at, points_of};
 ghost use Rattle.jn_transfer.specs.Least.{IsLeastTable};

@@ -1,4 +1,4 @@
-// The least table of a body, as the solution of a dataflow problem.
+//! The least table of a body, as the solution of a dataflow problem.
 #![tactic(auto)]
 
 mod initial;

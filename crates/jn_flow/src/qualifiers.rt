@@ -1,4 +1,4 @@
-// The qualifiers, facts and assigned fields of a body as a dataflow problem.
+//! The qualifiers, facts and assigned fields of a body as a dataflow problem.
 ghost use Rattle.std.specs.Prelude.{◌≡◌, ◌<◌, ◌^◌, IfOk, length};
 ghost use Rattle.jn_points.specs.Lookup.{body_at, points_of, point_at};
 ghost use Rattle.jn_env.specs.Sized.{EnvSized};

@@ -1,4 +1,4 @@
-// Laws of inference.
+//! Laws of inference.
 ghost use Rattle.std.specs.Prelude.{◌≡◌, ℕ, true, List, slice_get};
 ghost use Rattle.jn_quals.specs.Qualifier.{Qualifier};
 ghost use Rattle.jn_points.specs.declared.program.Program.{Program};

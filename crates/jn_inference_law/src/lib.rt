@@ -1,4 +1,4 @@
-// Laws of inference: a program is a system of bodies and words, and has at most one least signature.
+//! Laws of inference: a program is a system of bodies and words, and has at most one least signature.
 #![tactic(auto)]
 
 pub mod law;

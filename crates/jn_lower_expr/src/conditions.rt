@@ -1,4 +1,4 @@
-// Tests of values, and what is learnt from them.
+//! Tests of values, and what is learnt from them.
 ghost use Rattle.std.specs.Prelude.{◌≡◌, OnOk, Some};
 ghost use Rattle.jn_places.specs.PlacedView.{placed_view};
 ghost use Rattle.jn_lowering.specs.Calls as call;

@@ -1,4 +1,4 @@
-// Whether a value that stands in a local's register must be copied, since a later operand assigns that local (JLS 15.7).
+//! Whether a value that stands in a local's register must be copied, since a later operand assigns that local (JLS 15.7).
 ghost use Rattle.std.specs.Prelude.{◌≡◌, ◌&&◌, ◌||◌, ltb};
 ghost use Rattle.jn_places.specs.PlacedView.{placed_view, placed_views};
 ghost use Rattle.jn_lowering.specs.Expressions as expressions;

@@ -1,4 +1,4 @@
-// Groups of forms.
+//! Groups of forms.
 ghost use Rattle.std.specs.Prelude.{◌≡◌};
 ghost use Rattle.jn_places.specs.PlacedView.{placed_view};
 ghost use Rattle.jn_scopes.specs.Views.{Few, meaning_of};

@@ -1,4 +1,4 @@
-// What operators make of their operands.
+//! What operators make of their operands.
 ghost use Rattle.std.specs.Prelude.{◌≡◌, IfOk, List};
 ghost use Rattle.jn_base.specs.declared.place.Row.{Row};
 ghost use Rattle.jn_points.specs.Lookup as lookup;

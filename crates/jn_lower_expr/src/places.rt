@@ -1,4 +1,4 @@
-// Places that are read and assigned.
+//! Places that are read and assigned.
 ghost use Rattle.std.specs.Prelude.{◌≡◌, IfOk, OnOk, Some, None, Option, ℕ, Bool};
 ghost use Rattle.jn_points.specs.Lookup.{elem_base};
 ghost use Rattle.jn_points.specs.declared.point.BaseType.{BaseType};

@@ -1,4 +1,4 @@
-// Values in registers.
+//! Values in registers.
 ghost use Rattle.std.specs.Prelude.{◌≡◌, ◌+◌, ◌&&◌, true, None, IfOk, OnOk, ltb, ℕ, Bool};
 ghost use Rattle.jn_points.specs.declared.point.BaseType.TheVariants.{Void};
 ghost use Rattle.jn_points.specs.declared.point.PointKind.TheVariants.{Const, Move};

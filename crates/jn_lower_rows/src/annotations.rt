@@ -1,4 +1,4 @@
-// Rows of written types: annotations that have no meaning where they stand (J5), and unknown classes (J1).
+//! Rows of written types: annotations that have no meaning where they stand (J5), and unknown classes (J1).
 ghost use Rattle.std.specs.Prelude.{◌≡◌, ◌++◌, OnOk};
 ghost use Rattle.jn_lowering.specs.Annotations as spec;
 ghost use Rattle.jn_known.specs.Known.{is_object_member};

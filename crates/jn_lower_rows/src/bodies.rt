@@ -1,4 +1,4 @@
-// Rows J1 to J5 of whole bodies (JLS 8.4.7, 8.8.7 and 12.5).
+//! Rows J1 to J5 of whole bodies (JLS 8.4.7, 8.8.7 and 12.5).
 ghost use Rattle.std.specs.Prelude.{◌≡◌, ◌++◌, not, OnOk};
 ghost use Rattle.jn_points.specs.Lookup.{class_info, ctor_of, method_at, parent_of};
 ghost use Rattle.jn_places.specs.Placed.{PlacedStatements, MorePlacedStatements, NoPlacedTrees};

@@ -1,4 +1,4 @@
-// Rows of the method that a call names, where its receiver and its arguments are done.
+//! Rows of the method that a call names, where its receiver and its arguments are done.
 ghost use Rattle.std.specs.Prelude.{◌≡◌, ◌++◌, ◌&&◌, [], cond, not, eqb, OnOk};
 ghost use Rattle.jn_base.specs.declared.code.Code.TheVariants.{J5};
 ghost use Rattle.jn_known.specs.Known.{equals_name, is_object_member};

@@ -1,4 +1,4 @@
-// What a body begins with: its parameters in scope (JLS 8.4.1).
+//! What a body begins with: its parameters in scope (JLS 8.4.1).
 ghost use Rattle.std.specs.Prelude.{◌≡◌, ◌≤◌, [], drop, length, IfOk};
 ghost use Rattle.jn_points.specs.Lookup.{method_at, params_of};
 ghost use Rattle.jn_places.specs.PlacedView.{placed_parameters};

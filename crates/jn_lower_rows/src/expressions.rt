@@ -1,4 +1,4 @@
-// Rows J1 to J5 of an expression, and its type, in one pass.
+//! Rows J1 to J5 of an expression, and its type, in one pass.
 ghost use Rattle.std.specs.Prelude.{◌≡◌, ◌++◌, false, IfOk, OnOk};
 ghost use Rattle.jn_places.specs.PlacedView.{placed_view, placed_views};
 ghost use Rattle.jn_scopes.specs.Views.{Few, access_of, type_in};

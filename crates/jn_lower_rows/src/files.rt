@@ -1,4 +1,4 @@
-// Rows J5 outside bodies: packages, imports, annotations, names of Object's members, static and interface fields.
+//! Rows J5 outside bodies: packages, imports, annotations, names of Object's members, static and interface fields.
 ghost use Rattle.std.specs.Prelude.{◌≡◌, ◌++◌, ◌∷◌, true, map, OnOk};
 ghost use Rattle.jn_lowering.specs.Annotations as annotated;
 ghost use Rattle.jn_lowering.specs.Locals.{annotations_of};

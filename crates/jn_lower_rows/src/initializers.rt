@@ -1,4 +1,4 @@
-// Rows of the initializers of a class's fields (JLS 8.3.2 and 12.5).
+//! Rows of the initializers of a class's fields (JLS 8.3.2 and 12.5).
 ghost use Rattle.std.specs.Prelude.{◌≡◌, ◌++◌, [], not, OnOk, Some};
 ghost use Rattle.jn_places.specs.PlacedView.{placed_declarators, placed_member, placed_members, placed_optional, placed_view};
 ghost use Rattle.jn_lowering.specs.Annotations as annotated;

@@ -1,4 +1,4 @@
-// Row J6: a body that is too large.
+//! Row J6: a body that is too large.
 ghost use Rattle.std.specs.Prelude.{◌≡◌, ◌+◌, ◌++◌, ◌∷◌, ◌&&◌, [], filter, ltb, length, map, IfOk, OnOk, MatchOption, nat_eq};
 ghost use Rattle.std.specs.HashSet as bag;
 ghost use Rattle.std.specs.Set.{distinct_count};

@@ -1,4 +1,4 @@
-// Rows of identifiers and of what is assigned: unknown names and `this` where it can't stand (J1), what can't be assigned (J4).
+//! Rows of identifiers and of what is assigned: unknown names and `this` where it can't stand (J1), what can't be assigned (J4).
 ghost use Rattle.std.specs.Prelude.{◌≡◌, ◌++◌, ◌&&◌, ◌||◌, true, eqb, not, OnOk};
 ghost use Rattle.jn_points.specs.Lookup.{field_info, is_array, is_ref_base, owner};
 ghost use Rattle.jn_lowering.specs.Calls.{is_static};

@@ -1,4 +1,4 @@
-// The annotations among modifiers.
+//! The annotations among modifiers.
 ghost use Rattle.std.specs.Prelude.{◌≡◌, IfOk};
 ghost use Rattle.jn_lowering.specs.FileRows.{notes_of, without_override};
 ghost use Rattle.jn_lowering.specs.Locals.{annotations_of, has_final};

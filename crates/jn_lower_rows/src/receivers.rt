@@ -1,4 +1,4 @@
-// Rows of members behind a dot, of elements and of operators, where what stands before them is done.
+//! Rows of members behind a dot, of elements and of operators, where what stands before them is done.
 ghost use Rattle.std.specs.Prelude.{◌≡◌, ◌++◌, ◌&&◌, ◌||◌, [], cond, eqb, not, true, OnOk};
 ghost use Rattle.jn_base.specs.declared.code.Code.TheVariants.{J2, J5};
 ghost use Rattle.jn_points.specs.declared.point.BaseType.TheVariants.{Void};

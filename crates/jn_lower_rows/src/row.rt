@@ -1,4 +1,4 @@
-// Rows are added at the end of a list.
+//! Rows are added at the end of a list.
 ghost use Rattle.std.specs.Prelude.{◌≡◌, ◌++◌, OnOk};
 ghost use Rattle.jn_lowering.specs.Annotations as spec;
 

@@ -1,4 +1,4 @@
-// Where an expression stands.
+//! Where an expression stands.
 
 /// Whether `this` may stand there (JLS 8.4.3.2 and 8.8.7.1), and whether final fields of the class may be assigned through it (4.12.4, 8.3.1.2).
 #[derive(Clone, Copy)]

@@ -1,4 +1,4 @@
-// The names that are in scope where a statement stands (JLS 6.3).
+//! The names that are in scope where a statement stands (JLS 6.3).
 ghost use Rattle.std.specs.Prelude.{◌≡◌, ◌++◌, ◌∷◌, ◌≤◌, [], cond, length, take, IfOk, OnOk, Option};
 ghost use Rattle.jn_quals.specs.Qualifier.{Qualifier};
 ghost use Rattle.jn_lowering.specs.Annotations as annotated;

@@ -1,4 +1,4 @@
-// Rows J1 to J5 of statements (JLS 14).
+//! Rows J1 to J5 of statements (JLS 14).
 ghost use Rattle.std.specs.Prelude.{◌≡◌, ◌++◌, ◌∷◌, ◌≤◌, ◌&&◌, [], length, IfOk, OnOk, Option, Some, None};
 ghost use Rattle.jn_quals.specs.Qualifier.{Qualifier};
 ghost use Rattle.jn_lowering.specs.Bases.{type_of as type_in_scope};

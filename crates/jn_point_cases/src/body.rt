@@ -1,4 +1,4 @@
-// A body as text.
+//! A body as text.
 use crate::known::{write_base, write_method};
 use crate::line::{Line, Part};
 use crate::page::Page;

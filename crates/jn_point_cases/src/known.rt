@@ -1,4 +1,4 @@
-// What numbers stand for: names of classes, fields and methods, and types.
+//! What numbers stand for: names of classes, fields and methods, and types.
 use crate::page::Page;
 use jn_base::{ClassNo, FieldNo, MethodNo, NameNo};
 use jn_points::{BaseType, Class, Elem, Field, Method, Program};

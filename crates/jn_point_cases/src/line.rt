@@ -1,4 +1,4 @@
-// What a point has, part by part. A want of memory is kept until the end, so that what puts parts has no `?`.
+//! What a point has, part by part. A want of memory is kept until the end, so that what puts parts has no `?`.
 use jn_base::{ClassNo, FieldNo, MethodNo, OutOfMemory, PointNo, RegNo};
 use jn_points::{BaseType, Literal, Operand, Origin};
 use jn_quals::Qual;

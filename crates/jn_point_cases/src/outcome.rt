@@ -1,4 +1,4 @@
-// What becomes of a file: the bodies of its program, or its rows.
+//! What becomes of a file: the bodies of its program, or its rows.
 use crate::body::program_text;
 use crate::known::LIMIT;
 use crate::page::Page;

@@ -1,4 +1,4 @@
-// The parts of a point as text.
+//! The parts of a point as text.
 use crate::known::{write_base, write_class, write_field, write_method, write_name};
 use crate::line::Part;
 use crate::page::Page;

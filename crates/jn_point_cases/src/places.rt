@@ -1,4 +1,4 @@
-// Places as text.
+//! Places as text.
 use crate::known::LIMIT;
 use crate::page::Page;
 use jn_base::{Place, Span, place_of};

@@ -1,4 +1,4 @@
-// A point part by part.
+//! A point part by part.
 use crate::line::{Line, Part};
 use jn_points::{Operator, PointKind, StrOperation};
 

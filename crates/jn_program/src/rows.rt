@@ -1,4 +1,4 @@
-// Lists of rows.
+//! Lists of rows.
 ghost use Rattle.std.specs.Prelude.{◌≡◌, ◌++◌, [], OnOk, true, false};
 
 use jn_base::{OutOfMemory, Row, Seq};

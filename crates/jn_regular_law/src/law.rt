@@ -1,4 +1,4 @@
-// Laws over the definitions.
+//! Laws over the definitions.
 ghost use Rattle.std.specs.Prelude.{ℕ, ◌<◌, length};
 ghost use Rattle.jn_points.specs.declared.program.Program.{Program as ProgramOf};
 ghost use Rattle.jn_points.specs.BaseRows.{NoBaseRows};

@@ -1,4 +1,4 @@
-// The law that regular programs have what soundness asks of a program.
+//! The law that regular programs have what soundness asks of a program.
 #![tactic(auto)]
 
 pub mod law;

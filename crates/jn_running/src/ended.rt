@@ -1,4 +1,4 @@
-// How a run ended.
+//! How a run ended.
 ghost use Rattle.std.specs.Prelude.{◌≡◌};
 ghost use Rattle.jn_running.specs.Ending.{ended_at};
 

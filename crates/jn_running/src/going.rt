@@ -1,4 +1,4 @@
-// Steps and runs of an accepted program from a state that a run of its main comes to.
+//! Steps and runs of an accepted program from a state that a run of its main comes to.
 ghost use Rattle.std.specs.Prelude.{◌≡◌, ◌≢◌, ◌≤◌, [], Some, MatchOption};
 ghost use Rattle.jn_outside.specs.Causes.{Rose};
 ghost use Rattle.jn_points.specs.declared.point.Point.{Point as PointOf};

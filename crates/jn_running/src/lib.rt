@@ -1,5 +1,5 @@
-// Runs of accepted programs: each ends as done, by an exception of Java with its place, or at a limit; none gets
-// stuck.
+//! Runs of accepted programs: each ends as done, by an exception of Java with its place, or at a limit; none gets
+//! stuck.
 #![tactic(auto)]
 
 pub mod ended;

@@ -1,4 +1,4 @@
-// Machines of accepted programs.
+//! Machines of accepted programs.
 ghost use Rattle.std.specs.Prelude.{◌≡◌, ◌≢◌, ◌≤◌, ℕ, Some, None, IfOk, IfSome, MatchOption};
 ghost use Rattle.jn_outside.specs.Causes.{Rose};
 ghost use Rattle.jn_heap.specs.Values.{usual_limits};

@@ -1,4 +1,4 @@
-// Where an expression stands, and what its names mean there.
+//! Where an expression stands, and what its names mean there.
 use jn_base::{ClassNo, FieldNo, MethodNo, NameNo, RegNo, Row};
 use jn_index::indexed::IndexedProgram;
 use jn_points::{BaseType, StrOperation};

@@ -1,4 +1,4 @@
-// Shapes of expressions.
+//! Shapes of expressions.
 ghost use Rattle.std.specs.Prelude.{◌≡◌};
 ghost use Rattle.jn_lowering.specs.Expressions as spec;
 ghost use Rattle.jn_lowering.specs.Scopes as scopes;

@@ -1,4 +1,4 @@
-// What names mean (JLS 6.5, 15.11 and 15.12).
+//! What names mean (JLS 6.5, 15.11 and 15.12).
 ghost use Rattle.std.specs.Prelude.{◌≡◌, ◌&&◌, eqb, MatchOption, None, Some};
 ghost use Rattle.jn_lowering.specs.Scopes as spec;
 ghost use Rattle.jn_places.specs.PlacedView.{placed_view};

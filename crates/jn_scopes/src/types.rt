@@ -1,4 +1,4 @@
-// The type of an expression (JLS 15).
+//! The type of an expression (JLS 15).
 ghost use Rattle.std.specs.Prelude.{◌≡◌};
 ghost use Rattle.jn_points.specs.Lookup.{elem_base};
 ghost use Rattle.jn_points.specs.BaseRows as typing;

@@ -1,4 +1,4 @@
-// The law that accepted programs never dereference null.
+//! The law that accepted programs never dereference null.
 #![tactic(auto)]
 
 pub mod law;

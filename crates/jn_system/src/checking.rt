@@ -1,4 +1,4 @@
-// The rows of all bodies and overriding pairs, by any number of workers.
+//! The rows of all bodies and overriding pairs, by any number of workers.
 ghost use Rattle.std.specs.Prelude.{◌≡◌, ℕ, ◌++◌, ◌<◌, ◌≤◌, length, flat_map, slice_get, IfOk, OnOk, Some, Vec};
 ghost use Rattle.std.proofs.Common.{Global};
 ghost use Rattle.jn_base.specs.declared.place.Row.{Row};

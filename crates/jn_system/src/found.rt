@@ -1,4 +1,4 @@
-// What workers check, and the rows that they find.
+//! What workers check, and the rows that they find.
 use jn_base::Row;
 use jn_env::OwnFields;
 use jn_points::Program;

@@ -1,4 +1,4 @@
-// Whether inference takes a program.
+//! Whether inference takes a program.
 ghost use Rattle.std.specs.Prelude.{◌≡◌, ℕ, ◌-◌, ◌<◌, ◌^◌, length, true};
 ghost use Rattle.jn_points.specs.Lookup.{body_at, points_of};
 ghost use Rattle.jn_transfer.specs.Sized.{StaysInside};

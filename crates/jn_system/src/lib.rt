@@ -1,4 +1,4 @@
-// Inference as a system that workers solve, and checks of all bodies by workers.
+//! Inference as a system that workers solve, and checks of all bodies by workers.
 #![tactic(auto)]
 
 pub mod checking;

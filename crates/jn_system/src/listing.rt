@@ -1,4 +1,4 @@
-// The words that a body reads, each once.
+//! The words that a body reads, each once.
 ghost use Rattle.std.specs.Prelude.{◌≡◌, ◌<◌, ◌||◌, ◌==◌, [], ◌∷◌, length, IfOk, OnOk, Some};
 ghost use Rattle.jn_points.specs.Lookup.{method_in};
 ghost use Rattle.jn_sigtable.specs.System.{IsReadList, lists_word};

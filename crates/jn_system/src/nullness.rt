@@ -1,4 +1,4 @@
-// Inference over a program as a system of bodies and words.
+//! Inference over a program as a system of bodies and words.
 ghost use Rattle.std.specs.Prelude.{◌≡◌, ◌<◌, length};
 ghost use Rattle.jn_system.specs.Ready.{AreReady, ready_prop};
 

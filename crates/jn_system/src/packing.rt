@@ -1,4 +1,4 @@
-// Outputs from what is sent.
+//! Outputs from what is sent.
 ghost use Rattle.std.specs.Prelude.{◌≡◌, IfOk, OnOk};
 ghost use Rattle.jn_contrib.specs.Sends.{slot_numbers};
 ghost use Rattle.jn_inference_law.specs.Packing.{add_bits, packed};

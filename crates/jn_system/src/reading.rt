@@ -1,4 +1,4 @@
-// Which words a body reads.
+//! Which words a body reads.
 ghost use Rattle.std.specs.Prelude.{◌≡◌, ◌||◌, Some};
 ghost use Rattle.jn_points.specs.Lookup.{field_info, method_at, method_in, body_at, points_of};
 ghost use Rattle.jn_transfer.specs.Contributions.{field_slot_of, receiver_slot_of, result_slot_of};

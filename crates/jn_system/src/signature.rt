@@ -1,4 +1,4 @@
-// Signatures from words.
+//! Signatures from words.
 ghost use Rattle.std.specs.Prelude.{◌≡◌, ◌<◌, [], length, slice_index, slice_set, IfOk};
 ghost use Rattle.jn_sigs.specs.Packed.{unpacked};
 ghost use Rattle.jn_system.specs.Cleaning.{clean, cleaned, AreSeen, IsSignatureOf};

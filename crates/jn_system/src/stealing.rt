@@ -1,4 +1,4 @@
-// Workers that steal the numbers of bodies from one deque.
+//! Workers that steal the numbers of bodies from one deque.
 ghost use Rattle.std.specs.Prelude.{◌≡◌, ◌*◌, ◌<◌, length, IfOk};
 ghost use Rattle.std.specs.Thread.{IsSync};
 ghost use Rattle.jn_system.specs.Ready.{AreReady};

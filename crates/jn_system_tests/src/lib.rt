@@ -1,4 +1,4 @@
-// Tests of inference and of the check of all bodies by workers.
+//! Tests of inference and of the check of all bodies by workers.
 #![tactic(auto)]
 
 #[cfg(test)]

@@ -1,4 +1,4 @@
-// One program, solved and checked by one, two and sixteen workers, and by two that meet.
+//! One program, solved and checked by one, two and sixteen workers, and by two that meet.
 ghost use Rattle.std.specs.Prelude.{◌<◌, ◌≤◌};
 
 use crate::programs::round_of_calls;

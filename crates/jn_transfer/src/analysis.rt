@@ -1,4 +1,4 @@
-// What a point makes of an environment.
+//! What a point makes of an environment.
 ghost use Rattle.std.specs.Prelude.{◌≡◌, ◌<◌, ◌+◌, ◌^◌, ◌++◌, ◌∷◌, [], IfOk, OnOk, length};
 ghost use Rattle.jn_quals.specs.Order.{is_none, null_part, without_null};
 ghost use Rattle.jn_env.specs.Order.{qual_at};

@@ -1,4 +1,4 @@
-// The qualifier of a new object, by its reference arguments.
+//! The qualifier of a new object, by its reference arguments.
 ghost use Rattle.std.specs.Prelude.{◌≡◌, ◌≤◌, ◌⊎◌, ◌++◌, ◌∷◌, [], cond, IfOk, OnOk, false};
 ghost use Rattle.jn_points.specs.Lookup.{has_slot};
 ghost use Rattle.jn_transfer.specs.Transfer.{ref_quals, new_qual};

@@ -1,4 +1,4 @@
-// The transfer of a point.
+//! The transfer of a point.
 ghost use Rattle.std.specs.Prelude.{◌≡◌, ◌+◌, ◌<◌, ◌^◌, IfOk, length};
 ghost use Rattle.jn_points.specs.declared.point.Point.{Point};
 ghost use Rattle.jn_points.specs.Lookup.{body_at, points_of, point_at};

@@ -1,4 +1,4 @@
-// Laws of the transfer.
+//! Laws of the transfer.
 ghost use Rattle.std.specs.Prelude.{ℕ, List};
 ghost use Rattle.jn_quals.specs.Qualifier.{Qualifier};
 ghost use Rattle.jn_points.specs.declared.point.PointKind.{PointKind};

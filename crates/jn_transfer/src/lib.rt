@@ -1,4 +1,4 @@
-// What a point makes of an environment, least tables, and the rules.
+//! What a point makes of an environment, least tables, and the rules.
 #![tactic(auto)]
 
 pub mod analysis;

@@ -1,4 +1,4 @@
-// What the analysis looks up in a program and a signature.
+//! What the analysis looks up in a program and a signature.
 ghost use Rattle.std.specs.Prelude.{◌≡◌, ◌<◌, length};
 ghost use Rattle.jn_points.specs.Lookup.{is_flat, flat_field, locals, reg_base, ctor_of, class_of, method_in, method_at, slots_of, base_in, method_of_body};
 ghost use Rattle.jn_sigs.specs.Signature.{slot_qual, field_qual, result_of};

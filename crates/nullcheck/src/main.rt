@@ -1,4 +1,4 @@
-// Does what the words ask for, and ends with the status's number.
+//! Does what the words ask for, and ends with the status's number.
 #![tactic(auto)]
 
 use jn_outside::{HostFiles, HostSink};
