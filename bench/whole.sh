@@ -18,6 +18,10 @@
 #   one name    N classes with one method of one name, all overriding that of one class
 #   nested      N bodies of 150 nested blocks
 #   files       N classes in 64 files, with calls between files
+#   locals      one body with N locals, each set on two ways
+#   overloads   one class whose methods of one name have N parameters together, no two as many
+#   pairs       a chain of classes that all override one method, N overriding pairs
+#   rows        N methods that each break a rule
 # javac takes each as Java 8. What the programs need of Java stands in docs/LANGUAGE.md.
 set -eu
 
@@ -111,6 +115,39 @@ write_program() {
         print "}"
       }' >"$folder/Nested.java"
       ;;
+    locals)
+      awk -v n="$count" 'BEGIN {
+        print "class C {\n  int f(boolean b, @Nullable String s) {\n    int sum = 0;"
+        for (k = 0; k < n; k++) printf "    @Nullable String v%d = s;\n", k
+        for (k = 0; k < n; k++) printf "    if (b) { v%d = \"a\"; }\n", k
+        for (k = 0; k < n; k++) printf "    if (v%d != null) { sum = v%d.length(); }\n", k, k
+        print "    return sum;\n  }\n}"
+      }' >"$folder/Locals.java"
+      ;;
+    overloads)
+      awk -v n="$count" 'BEGIN {
+        print "class C {"
+        for (k = 0; k * (k + 1) / 2 < n; k++) {
+          printf "  int f("
+          for (i = 0; i < k; i++) printf "%sint a%d", i ? ", " : "", i
+          print ") { return 0; }"
+        }
+        print "}"
+      }' >"$folder/Overloads.java"
+      ;;
+    pairs)
+      awk -v n="$count" 'BEGIN {
+        print "class C0 { int f(int x) { return x; } }"
+        for (k = 1; k * (k + 1) / 2 < n; k++) printf "class C%d extends C%d { int f(int x) { return x + %d; } }\n", k, k - 1, k
+      }' >"$folder/Pairs.java"
+      ;;
+    rows)
+      awk -v n="$count" 'BEGIN {
+        print "class C {"
+        for (k = 0; k < n; k++) printf "  int f%d(@Nullable String s) { return s.length(); }\n", k
+        print "}"
+      }' >"$folder/Rows.java"
+      ;;
   esac
 }
 
@@ -181,7 +218,8 @@ compare() {
 }
 
 # Shapes and sizes: each within the limits of docs/LANGUAGE.md.
-sizes=("classes 4096" "chain 4096" "methods 16384" "statements 8192" "one name 4096" "nested 2048" "files 4096")
+sizes=("classes 4096" "chain 4096" "methods 16384" "statements 8192" "one name 4096" "nested 2048" "files 4096"
+  "locals 900" "overloads 65536" "pairs 524288" "rows 8192")
 
 if [ $# -eq 2 ] && [ "$1" = --files ]; then
   mkdir -p "$2"
