@@ -1,5 +1,5 @@
 -- A union of bits is a join of environments, and inclusion is their order.
-use Rattle.std.proofs.Common.{◌≡◌, ℕ, ◌+◌, ◌*◌, Bool, true, false, not, ◌||◌, ◌&&◌, List, [], ◌∷◌, ◌++◌, length, map, refl, sym, ap, ◌∙◌, subst, arith}
+use Rattle.std.proofs.Common.{◌≡◌, ℕ, Bool, true, false, not, ◌||◌, ◌&&◌, List, [], ◌∷◌, ◌++◌, length, map, refl, sym, ap, ◌∙◌, subst, arith}
 use Rattle.jn_quals.specs.Qualifier.{Qualifier}
 use Rattle.jn_env.specs.Environment.{Env}
 use Rattle.jn_env.specs.Order.{QualsWithin, BitsAbove, EnvWithin, join_quals, meet_bits, join_env}

@@ -1,5 +1,5 @@
 -- Bits that are written along a list of keys, from a place on.
-use Rattle.std.proofs.Common.{◌≡◌, ℕ, zero, suc, ◌+◌, ◌-◌, ◌<◌, ◌≤◌, Bool, true, false, not, ◌&&◌, ◌||◌, cond, List, [], ◌∷◌, ◌++◌, length, take, drop, map, get_or, set, refl, sym, ap, ◌∙◌, add-one, arith, length-append, length-drop}
+use Rattle.std.proofs.Common.{◌≡◌, ℕ, zero, suc, ◌+◌, ◌-◌, ◌<◌, ◌≤◌, Bool, true, false, not, ◌&&◌, ◌||◌, cond, List, [], ◌∷◌, ◌++◌, length, take, drop, map, get_or, set, refl, ap, ◌∙◌, add-one, arith, length-append, length-drop}
 use Rattle.std.proofs.lemmas.List.{take_all, set-append_right, length-take-le}
 use Rattle.jn_env.specs.Keys.{mask, also, no_bits}
 use Rattle.jn_env.specs.Flat.{written}

@@ -1,6 +1,6 @@
 -- An environment as one list of bits, set for what may be: three for each register, then one for each key whose field
 -- may be null, then one for each own field that may be unassigned.
-use Rattle.std.specs.Prelude.{ℕ, zero, suc, ◌+◌, ◌*◌, ◌≤◌, Bool, not, cond, List, [], ◌∷◌, length, map, take, drop}
+use Rattle.std.specs.Prelude.{ℕ, zero, suc, ◌+◌, ◌*◌, Bool, not, cond, List, [], ◌∷◌, map, take, drop}
 use Rattle.jn_quals.specs.Qualifier.{Qualifier}
 use Rattle.jn_env.specs.Environment.{Env}
 

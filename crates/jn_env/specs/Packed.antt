@@ -1,5 +1,5 @@
 -- Bits packed into words: 63 to a word, the first lowest, so that a qualifier's three bits stand in one word.
-use Rattle.std.specs.Prelude.{ℕ, zero, suc, ◌+◌, ◌*◌, ◌/◌, ◌%◌, ◌^◌, ◌<◌, ◌≤◌, ◌≡◌, Bool, true, false, not, ◌||◌, nat_eq, bit_or, List, [], ◌∷◌, length, slice_index_or, slice_set}
+use Rattle.std.specs.Prelude.{ℕ, zero, suc, ◌+◌, ◌*◌, ◌/◌, ◌%◌, ◌^◌, ◌<◌, ◌≤◌, ◌≡◌, Bool, false, not, ◌||◌, nat_eq, bit_or, List, [], ◌∷◌, length, slice_index_or, slice_set}
 use Rattle.jn_quals.specs.Qualifier.{Qualifier}
 
 abbrev pub bit : ℕ → ℕ → Bool

@@ -1,4 +1,4 @@
-use Rattle.std.proofs.Common.{◌≡◌, ◌≤◌, length, take, arith, ◌∙◌}
+use Rattle.std.proofs.Common.{◌≤◌, length, take, arith, ◌∙◌}
 use Rattle.jn_env.specs.Code.{picks}
 use Rattle.jn_env.proofs.Written.{length-so_far, written_step, written_end}
 use Rattle.jn_env.proofs.bits.write_keys.Goals as goal

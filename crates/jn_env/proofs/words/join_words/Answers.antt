@@ -1,6 +1,6 @@
 use Rattle.std.proofs.Common.{◌≡◌, ◌<◌, ◌||◌, not, nat_eq, bit_or, length, ap, ◌∙◌, add-one, arith}
 use Rattle.std.specs.Prelude.{slice_set, slice_index_or}
-use Rattle.jn_env.proofs.Pairs.{so_far, so_far_at, so_far_step, length-so_far}
+use Rattle.jn_env.proofs.Pairs.{so_far_at, so_far_step}
 use Rattle.jn_env.proofs.Rises.{rises_step}
 use Rattle.jn_env.proofs.words.join_words.Goals as goal
 

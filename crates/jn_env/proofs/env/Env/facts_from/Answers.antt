@@ -1,5 +1,5 @@
-use Rattle.std.proofs.Common.{◌+◌, ◌*◌, arith, sym, ap}
-use Rattle.jn_env.proofs.Laid.{laid, length_laid}
+use Rattle.std.proofs.Common.{◌*◌, sym, ap}
+use Rattle.jn_env.proofs.Laid.{laid}
 use Rattle.jn_env.proofs.env.Env.facts_from.Goals as goal
 
 pub returns-clause-from : goal.returns-clause-from

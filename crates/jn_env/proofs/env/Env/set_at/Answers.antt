@@ -1,4 +1,4 @@
-use Rattle.std.proofs.Common.{◌≤◌, length, set, sym, ap, ◌∙◌, arith}
+use Rattle.std.proofs.Common.{◌≤◌, length, sym, ap, arith}
 use Rattle.std.proofs.lemmas.List.{set_past}
 use Rattle.jn_env.proofs.Laid.{laid, view_of, long_enough, write_qual}
 use Rattle.jn_env.proofs.env.Env.set_at.Goals as goal

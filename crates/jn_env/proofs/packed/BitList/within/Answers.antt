@@ -1,4 +1,4 @@
-use Rattle.std.proofs.Common.{◌≡◌, false, true, not, sym, ap, ◌∙◌}
+use Rattle.std.proofs.Common.{◌≡◌, false, true, not, sym, ◌∙◌}
 use Rattle.jn_env.specs.Packed.{rises}
 use Rattle.jn_env.proofs.Held.{as_long, join_stays, join_changes, not_back}
 use Rattle.jn_env.proofs.packed.BitList.within.Goals as goal
