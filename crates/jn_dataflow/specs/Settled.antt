@@ -83,6 +83,11 @@ pub record Swept {E : Type 0} (d : Problem E) (t u : List (Option E)) (v s z : L
   pub blocks : Blocks d [] u v z
   pub raised : Raised d t u s z rose
 
+-- and where none of these environments rose, nobody waits anew
+pub record Ended {E : Type 0} (d : Problem E) (t u : List (Option E)) (w v s z : List Bool) (rose : Bool) : Type 0 where
+  pub swept : Swept d t u v s z rose
+  pub quiet : rose ≡ false → v ≡ w
+
 abbrev pub NobodyBefore : ℕ → List Bool → Type 0
 NobodyBefore at w = (p : ℕ) → p < at → waits w p ≡ false
 

@@ -1,5 +1,5 @@
 // Where blocks start, and how a block goes on.
-ghost use Rattle.std.specs.Prelude.{ℕ, ◌≡◌, ◌<◌, ◌∷◌, [], IfOk, Some, length, slice_set, replicate, true, false};
+ghost use Rattle.std.specs.Prelude.{ℕ, ◌≡◌, ◌+◌, ◌<◌, ◌==◌, ◌∷◌, [], IfOk, Some, length, slice_set, replicate, true, false};
 ghost use Rattle.jn_dataflow.specs.Problem.{IsAmong};
 ghost use Rattle.jn_dataflow.specs.Settled.{goes_on};
 
@@ -28,14 +28,20 @@ pub fn entry_alone(alloc: Global, count: usize) -> Result<Seq<bool>, AllocError>
     Ok(marks)
 }
 
+/// Whether a point is the next one.
+fn is_next(at: usize, next: usize) -> bool
+    ensures { result ≡ (next == at + 1) }
+{
+    at < next && next - at == 1
+}
+
 /// Whether the block of a point goes on behind it: its one edge leads to the next point, where no block starts.
 pub fn goes_on<E>(at: usize, starts: &Seq<bool>, edges: &[(u32, E)]) -> bool
-    requires there { at < length starts.now }
-    requires inside { (x : ℕ × E) → IsAmong x edges.now → x.0 < length starts.now }
+    requires { (x : ℕ × E) → IsAmong x edges.now → x.0 < length starts.now }
     ensures { result ≡ goes_on at starts.now edges.now }
 {
     match edges {
-        [edge] => edge.0 as usize == at + 1 && !starts.at(edge.0 as usize),
+        [edge] => is_next(at, edge.0 as usize) && !starts.at(edge.0 as usize),
         _ => false,
     }
 }

@@ -2,7 +2,7 @@
 ghost use Rattle.std.specs.Prelude.{◌≡◌, ◌<◌, ◌^◌, ◌||◌, [], IfOk, IsTrue, None, Some, length, cond, replicate, slice_set, true, false};
 ghost use Rattle.jn_dataflow.specs.Problem.{Problem, slot_at};
 ghost use Rattle.jn_dataflow.specs.Solution.{Solves};
-ghost use Rattle.jn_dataflow.specs.Settled.{SlotValid, Blocks, Stepped, Swept, Visited, NobodyWaits, join_slot, flow_in, edges_from};
+ghost use Rattle.jn_dataflow.specs.Settled.{SlotValid, Blocks, Stepped, Swept, Ended, Visited, NobodyWaits, join_slot, flow_in, edges_from};
 
 use crate::analysis::Dataflow;
 use crate::blocks::{entry_alone, goes_on, only, set_inner};
@@ -102,8 +102,7 @@ fn raise_all<D: Dataflow>(
     edges: &[(u32, D::Env)],
 ) -> Result<bool, OutOfMemory>
     requires { Blocks (D.describe analysis.now) edges.now table.old waiting.old starts.old }
-    ensures swept { IfOk result (λ rose. Swept (D.describe analysis.now) table.old table.new waiting.new starts.old starts.new rose) }
-    ensures quiet { IfOk result (λ rose. rose ≡ false → waiting.new ≡ waiting.old) }
+    ensures { IfOk result (λ rose. Ended (D.describe analysis.now) table.old table.new waiting.old waiting.new starts.old starts.new rose) }
 {
     let mut rose = false;
     for edge in edges {
