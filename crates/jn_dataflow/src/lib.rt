@@ -1,7 +1,8 @@
-// Dataflow over the points of a body, for any environments that can be joined.
+// Dataflow over the points of a body, block by block, for any environments that can be joined.
 #![tactic(auto)]
 
 mod analysis;
+mod blocks;
 mod slots;
 mod sweeps;
 

@@ -1,13 +1,14 @@
-// Sweeps over the points that wait for their edges to be joined, until none does.
+// Sweeps over the blocks that wait to be passed over, until none does.
 ghost use Rattle.std.specs.Prelude.{◌≡◌, ◌<◌, ◌^◌, ◌||◌, [], IfOk, IsTrue, None, Some, length, cond, replicate, slice_set, true, false};
 ghost use Rattle.jn_dataflow.specs.Problem.{Problem, slot_at};
 ghost use Rattle.jn_dataflow.specs.Solution.{Solves};
-ghost use Rattle.jn_dataflow.specs.Settled.{SlotValid, Settled, Stepped, Swept, Visited, NobodyWaits, join_slot, flow_in, edges_from};
+ghost use Rattle.jn_dataflow.specs.Settled.{SlotValid, Blocks, Stepped, Swept, Ended, Visited, NobodyWaits, join_slot, flow_in, edges_from};
 
 use crate::analysis::Dataflow;
+use crate::blocks::{entry_alone, goes_on, only, set_inner};
 use crate::slots::Slots;
 use jn_base::{OutOfMemory, Seq};
-use std::alloc::{AllocError, Global};
+use std::alloc::Global;
 
 /// A joined environment, and whether it is new.
 #[derive(Drop)]
@@ -58,21 +59,25 @@ fn flow_in<D: Dataflow>(
     Ok(joined.changed)
 }
 
-/// Joins an edge, and lets its target wait where its environment rose. Gives whether it did.
+/// Joins an edge, whose target starts a block from then on, and waits where its environment rose. Gives whether it did.
 fn raise<D: Dataflow>(
     alloc: Global,
     analysis: &D,
     table: &mut Slots<D::Env>,
     waiting: &mut Seq<bool>,
+    starts: &mut Seq<bool>,
     edge: &(u32, D::Env),
 ) -> Result<bool, OutOfMemory>
     requires target { edge.now.0 < length table.old }
     requires place { edge.now.0 < length waiting.old }
+    requires block { edge.now.0 < length starts.old }
     requires old { SlotValid (D.describe analysis.now) (slot_at table.old edge.now.0) }
     requires new { IsTrue ((D.describe analysis.now).valid edge.now.1) }
     ensures joined { IfOk result (λ rose. Stepped (flow_in (D.describe analysis.now) edge.now table.old) table.old table.new rose) }
     ensures marked { IfOk result (λ rose. waiting.new ≡ cond rose (slice_set waiting.old edge.now.0 true) waiting.old) }
+    ensures begun { IfOk result (λ rose. starts.new ≡ slice_set starts.old edge.now.0 true) }
 {
+    starts.set(edge.0 as usize, true);
     let rose = flow_in(alloc, analysis, table, edge)?;
     if rose {
         waiting.set(edge.0 as usize, true);
@@ -87,20 +92,21 @@ fn either(bit: bool, set: bool) -> bool
     bit || set
 }
 
-/// Joins the edges that are left of a point. Gives whether any environment rose.
+/// Joins the edges of a point behind which its block ends. Gives whether any environment rose.
 fn raise_all<D: Dataflow>(
     alloc: Global,
     analysis: &D,
     table: &mut Slots<D::Env>,
     waiting: &mut Seq<bool>,
+    starts: &mut Seq<bool>,
     edges: &[(u32, D::Env)],
 ) -> Result<bool, OutOfMemory>
-    requires { Settled (D.describe analysis.now) edges.now table.old waiting.old }
-    ensures { IfOk result (λ rose. Swept (D.describe analysis.now) table.old table.new waiting.old waiting.new rose) }
+    requires { Blocks (D.describe analysis.now) edges.now table.old waiting.old starts.old }
+    ensures { IfOk result (λ rose. Ended (D.describe analysis.now) table.old table.new waiting.old waiting.new starts.old starts.new rose) }
 {
     let mut rose = false;
     for edge in edges {
-        rose = either(rose, raise(alloc, analysis, table, waiting, edge)?);
+        rose = either(rose, raise(alloc, analysis, table, waiting, starts, edge)?);
     }
     Ok(rose)
 }
@@ -122,53 +128,50 @@ fn edges_from<D: Dataflow>(
     }
 }
 
-/// Joins the edges of a point if it waits, which it does no more. Gives whether any environment rose.
+/// Goes over the edges of a point if it waits, which it does no more: the next point of its block is set and taken up
+/// next, and at the block's end the edges are joined. Gives whether the environment of a block's start rose.
 fn visit<D: Dataflow>(
     alloc: Global,
     analysis: &D,
     at: usize,
     table: &mut Slots<D::Env>,
     waiting: &mut Seq<bool>,
+    starts: &mut Seq<bool>,
 ) -> Result<bool, OutOfMemory>
     requires there { at < (D.describe analysis.now).count }
-    requires settled { Settled (D.describe analysis.now) [] table.old waiting.old }
-    ensures { IfOk result (λ rose. Visited (D.describe analysis.now) at table.old table.new waiting.old waiting.new rose) }
+    requires blocks { Blocks (D.describe analysis.now) [] table.old waiting.old starts.old }
+    ensures { IfOk result (λ rose. Visited (D.describe analysis.now) at table.old table.new waiting.old waiting.new starts.old starts.new rose) }
 {
     if !waiting.at(at) {
         return Ok(false);
     }
     waiting.set(at, false);
     let edges = edges_from(alloc, analysis, at, &table.as_slice()[at])?;
-    raise_all(alloc, analysis, table, waiting, &edges)
+    if goes_on(at, starts, &edges) {
+        set_inner(table, waiting, only(edges));
+        return Ok(false);
+    }
+    raise_all(alloc, analysis, table, waiting, starts, &edges)
 }
 
-/// Visits each point that waits, in their order. Gives whether any environment rose; where none did, nobody waits.
+/// Passes over each block that waits, in the order of the points. Gives whether the environment of a block's start rose;
+/// where none did, nobody waits.
 fn sweep<D: Dataflow>(
     alloc: Global,
     analysis: &D,
     table: &mut Slots<D::Env>,
     waiting: &mut Seq<bool>,
+    starts: &mut Seq<bool>,
 ) -> Result<bool, OutOfMemory>
-    requires settled { Settled (D.describe analysis.now) [] table.old waiting.old }
-    ensures swept { IfOk result (λ rose. Swept (D.describe analysis.now) table.old table.new waiting.old waiting.new rose) }
+    requires blocks { Blocks (D.describe analysis.now) [] table.old waiting.old starts.old }
+    ensures swept { IfOk result (λ rose. Swept (D.describe analysis.now) table.old table.new waiting.new starts.old starts.new rose) }
     ensures still { IfOk result (λ rose. rose ≡ false → NobodyWaits waiting.new) }
 {
     let mut rose = false;
     for at in 0..analysis.points() {
-        rose = either(rose, visit(alloc, analysis, at, table, waiting)?);
+        rose = either(rose, visit(alloc, analysis, at, table, waiting, starts)?);
     }
     Ok(rose)
-}
-
-/// So many marks, none of them set.
-fn unset(alloc: Global, count: usize) -> Result<Vec<bool>, AllocError>
-    ensures { IfOk result (λ marks. marks.items ≡ replicate count false) }
-{
-    let mut marks = Vec::new(alloc);
-    for _i in 0..count {
-        marks.push(false)?;
-    }
-    Ok(marks)
 }
 
 /// The table in which only the entry is reached.
@@ -181,9 +184,12 @@ fn start<D: Dataflow>(alloc: Global, analysis: &D) -> Result<Slots<D::Env>, OutO
     Ok(table)
 }
 
-/// Solves the analysis: the edges of a point are joined again where its environment rose, in sweeps over the points that
-/// wait for that, until none does. A sweep goes over the points in their order, so what only edges forward carry is joined
-/// by the first one.
+/// Solves the analysis, block by block. A block starts at the entry and wherever an edge was joined: at the target of an
+/// edge that isn't the next point, and at the targets of a point whose edges aren't just one edge to the next point. To an
+/// inner point one edge comes, from the point before it, so its environment is what that edge carries, and is set; at the
+/// start of a block environments are joined. A block is passed over again where the environment of its start rose, in
+/// sweeps over the blocks that wait for that, until none does. A sweep goes over the points in their order, so an inner
+/// point that was set is taken up next, and what only edges forward carry is joined by the first sweep.
 ///
 /// # Errors
 /// No memory was found.
@@ -192,10 +198,10 @@ pub fn solve<D: Dataflow>(alloc: Global, analysis: &D) -> Result<Slots<D::Env>, 
     ensures { IfOk result (λ t. Solves (D.describe analysis.now) t) }
 {
     let mut table = start(alloc, analysis)?;
-    let mut waiting = Seq::of_vec(unset(alloc, analysis.points())?);
-    waiting.set(0, true);
+    let mut waiting = entry_alone(alloc, analysis.points())?;
+    let mut starts = entry_alone(alloc, analysis.points())?;
     loop {
-        if !sweep(alloc, analysis, &mut table, &mut waiting)? {
+        if !sweep(alloc, analysis, &mut table, &mut waiting, &mut starts)? {
             return Ok(table);
         }
     }
