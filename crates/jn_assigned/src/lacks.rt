@@ -1,4 +1,4 @@
-// The points of a body that some path comes to, and the registers that may lack a write there.
+//! The points of a body that some path comes to, and the registers that may lack a write there.
 ghost use Rattle.std.specs.Prelude.{◌≡◌, ◌<◌, ◌^◌, IfOk, length};
 ghost use Rattle.jn_points.specs.Lookup.{body_at, points_of};
 ghost use Rattle.jn_dataflow.specs.Problem.{slot_at};

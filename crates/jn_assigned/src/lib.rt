@@ -1,4 +1,4 @@
-// Definite assignment: the points that are reached, and the registers that some path leaves without a write, in one run.
+//! Definite assignment: the points that are reached, and the registers that some path leaves without a write, in one run.
 #![tactic(auto)]
 
 mod assignment;

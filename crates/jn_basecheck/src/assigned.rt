@@ -1,4 +1,4 @@
-// The rows J8 of a body: a register read where some path comes without a write of it (JLS 8, 16).
+//! The rows J8 of a body: a register read where some path comes without a write of it (JLS 8, 16).
 ghost use Rattle.std.specs.Prelude.{◌≡◌, ◌<◌, ◌++◌, ◌∷◌, ◌&&◌, [], ltb, length, not, OnOk};
 ghost use Rattle.jn_assigned.specs.Lacking.{TellsLacking};
 ghost use Rattle.jn_dataflow.specs.Problem.{slot_at};

@@ -1,4 +1,4 @@
-// Base typing of a program.
+//! Base typing of a program.
 ghost use Rattle.std.specs.Prelude.{◌≡◌, ◌<◌, ◌^◌, ◌≢◌, ◌↔◌, [], ℕ, length, Contains, IfOk, OnOk, IfErr};
 ghost use Rattle.jn_base.specs.declared.place.Row.{Row as RowOf};
 ghost use Rattle.jn_points.specs.BaseRows.{IsBaseRow, NoBaseRows};

@@ -1,4 +1,4 @@
-// Base typing of a program's bodies: the rows J7 to J10.
+//! Base typing of a program's bodies: the rows J7 to J10.
 #![tactic(auto)]
 
 mod assigned;

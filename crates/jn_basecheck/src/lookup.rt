@@ -1,4 +1,4 @@
-// What base typing looks up in a program.
+//! What base typing looks up in a program.
 ghost use Rattle.std.specs.Prelude.{◌≡◌, ◌<◌, length, MatchOption, None, Some};
 ghost use Rattle.jn_points.specs.Lookup as spec;
 

@@ -1,4 +1,4 @@
-// The operands that a point reads.
+//! The operands that a point reads.
 ghost use Rattle.std.specs.Prelude.{◌≡◌, ◌++◌, [], ◌∷◌, None, Some, length, slice_get, eqb};
 ghost use Rattle.jn_points.specs.Operands as spec;
 ghost use Rattle.jn_basecheck.specs.Listed.{listed};

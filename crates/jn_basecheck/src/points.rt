@@ -1,4 +1,4 @@
-// The rows J7 and J10 at the points of a body.
+//! The rows J7 and J10 at the points of a body.
 ghost use Rattle.std.specs.Prelude.{◌≡◌, ◌<◌, ◌++◌, length, OnOk};
 ghost use Rattle.jn_points.specs.BaseRows as rules;
 ghost use Rattle.jn_points.specs.Lookup as spec;

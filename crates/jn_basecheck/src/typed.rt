@@ -1,4 +1,4 @@
-// Base-typed programs.
+//! Base-typed programs.
 ghost use Rattle.std.specs.Prelude.{◌≡◌};
 ghost use Rattle.jn_points.specs.BaseRows.{NoBaseRows};
 ghost use Rattle.jn_points.specs.Regular.{Regular};

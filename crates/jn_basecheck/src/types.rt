@@ -1,4 +1,4 @@
-// What a point wants of an operand, and the rows J7 and J10 at it (JLS 8, 5.1 to 5.3 and 15).
+//! What a point wants of an operand, and the rows J7 and J10 at it (JLS 8, 5.1 to 5.3 and 15).
 ghost use Rattle.std.specs.Prelude.{◌≡◌, ◌++◌, cond, OnOk};
 ghost use Rattle.jn_points.specs.BaseRows as rules;
 ghost use Rattle.jn_points.specs.Lookup as spec;

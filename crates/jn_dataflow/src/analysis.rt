@@ -1,4 +1,4 @@
-// What a dataflow analysis gives.
+//! What a dataflow analysis gives.
 ghost use Rattle.std.specs.Prelude.{◌≡◌, ◌<◌, IfOk, IsTrue, true, false, length};
 ghost use Rattle.jn_dataflow.specs.Problem.{Problem, IsLawful};
 

@@ -1,4 +1,4 @@
-// Where blocks start, and how a block goes on.
+//! Where blocks start, and how a block goes on.
 ghost use Rattle.std.specs.Prelude.{ℕ, ◌≡◌, ◌+◌, ◌<◌, ◌==◌, ◌∷◌, [], IfOk, Some, length, slice_set, replicate, true, false};
 ghost use Rattle.jn_dataflow.specs.Problem.{IsAmong};
 ghost use Rattle.jn_dataflow.specs.Settled.{goes_on};

@@ -1,4 +1,4 @@
-// Dataflow over the points of a body, block by block, for any environments that can be joined.
+//! Dataflow over the points of a body, block by block, for any environments that can be joined.
 #![tactic(auto)]
 
 mod analysis;

@@ -1,4 +1,4 @@
-// An environment for each point that is reached.
+//! An environment for each point that is reached.
 ghost use Rattle.std.specs.Prelude.{◌≡◌, ◌<◌, IfOk, None, Some, length, replicate, slice_set};
 ghost use Rattle.jn_dataflow.specs.Problem.{slot_at};
 

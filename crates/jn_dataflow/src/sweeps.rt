@@ -1,4 +1,4 @@
-// Sweeps over the blocks that wait to be passed over, until none does.
+//! Sweeps over the blocks that wait to be passed over, until none does.
 ghost use Rattle.std.specs.Prelude.{◌≡◌, ◌<◌, ◌^◌, ◌||◌, [], IfOk, IsTrue, None, Some, length, cond, replicate, slice_set, true, false};
 ghost use Rattle.jn_dataflow.specs.Problem.{Problem, slot_at};
 ghost use Rattle.jn_dataflow.specs.Solution.{Solves};
