@@ -13,8 +13,8 @@ use jn_sigs::Sig;
 use jn_transfer::Analysis;
 use std::alloc::Global;
 
-/// The least table of a body: the one that whole rounds over all points end in. The edges of a point are joined again
-/// only where its environment rose.
+/// The least table of a body: the one that whole rounds over all points end in. A block of points is passed over again
+/// only where the environment of its first point rose.
 ///
 /// # Errors
 /// No memory was found.
