@@ -1,5 +1,5 @@
 -- A tree with places that is renumbered and then forgotten is the renumbered tree without places.
-use Rattle.std.proofs.Common.{◌≡◌, List, [], ◌∷◌, Option, Some, None, map, refl, ap}
+use Rattle.std.proofs.Common.{◌≡◌, List, [], ◌∷◌, Option, Some, None, map, refl, ap, sym, ◌∙◌}
 use Rattle.jn_base.specs.declared.number.NameNo.{NameNo}
 use Rattle.jn_trees.specs.declared.expression.Annotation.{Annotation}
 use Rattle.jn_trees.specs.declared.expression.Identifier.{Identifier}
@@ -9,7 +9,10 @@ use Rattle.jn_trees.specs.declared.statement.LocalModifier.{LocalModifier}
 use Rattle.jn_trees.specs.declared.statement.LocalModifier.TheVariants.{Annotation as LocalAnnotation, Final as LocalFinal}
 use Rattle.jn_trees.specs.declared.declaration.Modifier.{Modifier}
 use Rattle.jn_trees.specs.declared.declaration.Modifier.TheVariants.{Annotation as NoteOf, Public, Protected, Private, Static, Final, Abstract}
-use Rattle.jn_trees.specs.View.{base_view, local_mark, mark}
+use Rattle.jn_trees.specs.declared.declaration.FileTree.{FileTree}
+use Rattle.jn_trees.specs.View.{base_view, local_mark, mark, file_view}
+use Rattle.jn_places.specs.PlacedView.{placed_file}
+use Rattle.jn_places.proofs.ViewForgotten.{file_seen}
 use Rattle.jn_places.specs.Placed.{PlacedTree, PlacedTrees, PlacedLiteral, PlacedName, PlacedThis, PlacedParen, PlacedField, PlacedCall, PlacedOwnCall, PlacedSuperCall, PlacedIndex, PlacedNew, PlacedNewArray, PlacedArrayOf, PlacedPostfix, PlacedPrefix, PlacedUnary, PlacedCast, PlacedBinary, PlacedInstanceOf, PlacedConditional, PlacedAssign, NoPlacedTrees, MorePlacedTrees, PlacedTypeUse, PlacedDeclarator, PlacedLocal, PlacedInit, PlacedExpressions, PlacedDeclaration, PlacedStatement, PlacedStatements, PlacedBlock, PlacedEmpty, PlacedExpression, PlacedBreak, PlacedContinue, PlacedReturn, PlacedLocalStatement, PlacedIf, PlacedIfElse, PlacedWhile, PlacedDo, PlacedFor, PlacedForEach, PlacedThisCall, PlacedSuperCallStatement, NoPlacedStatements, MorePlacedStatements, PlacedParameter, PlacedReceiver, PlacedResult, PlacedVoid, PlacedValue, PlacedMember, PlacedFieldMember, PlacedMethod, PlacedConstructor, PlacedType, PlacedClass, PlacedInterface, PlacedDotted, PlacedPackage, PlacedImport, PlacedFile}
 use Rattle.jn_places.specs.Forget.{names_of, annotation_names_of, forget, forget_list, forget_optional, forget_brackets, forget_type_use, forget_declarator, forget_local, forget_init, forget_statement, forget_statements, forget_parameter, forget_receiver, forget_result, forget_body, forget_member, forget_parent, forget_type, forget_dotted, forget_package, forget_import, forget_file}
 use Rattle.jn_renumber.specs.Renumbered.{renumbered_names, renumbered_annotations, renumbered_base, renumbered, renumbered_list, renumbered_optional, renumbered_local_mark, renumbered_brackets, renumbered_type_use, renumbered_declarator, renumbered_local, renumbered_init, renumbered_statement, renumbered_statements, renumbered_mark, renumbered_parameter, renumbered_receiver, renumbered_result, renumbered_body, renumbered_member, renumbered_parent, renumbered_type, renumbered_dotted, renumbered_package, renumbered_import, renumbered_file}
@@ -172,3 +175,7 @@ module _ (ns : List NameNo) where
 
   pub file_kept : (f : PlacedFile) → forget_file (renumbered_file ns f) ≡ file_by ns (forget_file f)
   file_kept f = cc (package_kept f.package_line, each forget_import (renumbered_import ns) (import_by ns) import_kept f.imports, each forget_type (renumbered_type ns) (type_by ns) type_kept f.types)
+
+  -- the view without places is the renumbered one, too
+  pub view_kept : (old new : FileTree) → placed_file new ≡ renumbered_file ns (placed_file old) → file_view new ≡ file_by ns (file_view old)
+  view_kept old new e = sym (file_seen new) ∙ ap forget_file e ∙ file_kept (placed_file old) ∙ ap (file_by ns) (file_seen old)

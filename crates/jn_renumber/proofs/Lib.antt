@@ -7,3 +7,5 @@ pub mod Spelled
 pub mod StillGood
 pub mod Placed
 pub mod TreesOfTokens
+pub mod SameRow
+pub mod Examples

@@ -15,7 +15,7 @@ use Rattle.jn_trees.specs.declared.expression.BinaryOperator.TheVariants.{Multip
 use Rattle.jn_trees.specs.declared.expression.AssignOperator.{AssignOperator}
 use Rattle.jn_trees.specs.declared.expression.AssignOperator.TheVariants.{Assign as Simple, Add as AddTo, Subtract as SubtractFrom, Multiply as MultiplyBy, Divide as DivideBy, Remainder as RemainderBy}
 use Rattle.jn_trees.specs.Trees.{BaseTree, ClassBase, IntBase, BooleanBase, Tree, Trees, LiteralTree, NameTree, ThisTree, ParenTree, FieldTree, CallTree, OwnCallTree, SuperCallTree, IndexTree, NewTree, NewArrayTree, ArrayOfTree, PostfixTree, PrefixTree, UnaryTree, CastTree, BinaryTree, InstanceOfTree, ConditionalTree, AssignTree, NoTrees, MoreTrees, LocalMark, AnnotationMark, FinalMark, TypeUseTree, DeclaratorTree, LocalTree, InitTree, ExpressionsInit, DeclarationInit, Statement, Statements, BlockStatement, EmptyStatement, ExpressionStatement, BreakStatement, ContinueStatement, ReturnStatement, LocalStatement, IfStatement, IfElseStatement, WhileStatement, DoStatement, ForStatement, ForEachStatement, ThisCallStatement, SuperCallStatement, NoStatements, MoreStatements, Mark, NoteMark, PublicMark, ProtectedMark, PrivateMark, StaticMark, ConstantMark, AbstractMark, ParameterTree, ReceiverTree, MemberTree, FieldMember, MethodMember, ConstructorMember, TypeDeclaration, ClassType, InterfaceType, DottedName, ImportTree, SourceTree}
-use Rattle.jn_trees.specs.Spelling.{literal_token, sign_token, step_token, operator_token, assign_token, base_token, spell_annotations, spell, spell_list, spell_more, spell_marks, spell_brackets, spell_type_use, spell_value, spell_declarator, spell_more_declarators, spell_local, spell_init, spell_optional, spell_statement, spell_body, spell_mark, spell_all_marks, spell_parameter, spell_more_parameters, spell_parameters, spell_result, spell_method_body, spell_member, spell_members, spell_more_names, spell_names, spell_parent, spell_type, spell_types, spell_dots, spell_dotted, spell_star, spell_package_line, spell_import, spell_imports, spell_file}
+use Rattle.jn_trees.specs.Spelling.{literal_token, sign_token, step_token, operator_token, assign_token, base_token, spell_annotations, spell, spell_list, spell_more, spell_marks, spell_brackets, spell_type_use, spell_value, spell_declarator, spell_more_declarators, spell_local, spell_init, spell_optional, spell_statement, spell_body, spell_mark, spell_all_marks, spell_parameter, spell_more_parameters, spell_parameters, spell_result, spell_method_body, spell_field, spell_method_head, spell_constructor_head, spell_class_head, spell_interface_head, spell_member, spell_members, spell_more_names, spell_names, spell_parent, spell_type, spell_types, spell_dots, spell_dotted, spell_star, spell_package_line, spell_import, spell_imports, spell_file}
 use Rattle.jn_renumber.specs.Names.{entry, renumbered_literal}
 use Rattle.jn_renumber.specs.ByNumbers.{entries, base_by, tree_by, trees_by, optional_by, local_marks_by, brackets_by, type_use_by, declarator_by, declarators_by, local_by, init_by, statement_by, statements_by, mark_by, marks_by, parameter_by, parameters_by, receiver_by, result_by, body_by, member_by, members_by, parent_by, type_by, dotted_by, package_by, import_by, file_by}
 use Rattle.jn_renumber.specs.Tokens.{kind_by}
@@ -24,7 +24,7 @@ module _ (ns : List NameNo) where
   abbrev by : List TokenKind → List TokenKind
   by ks = map (kind_by ns) ks
 
-  two_parts : (ks ls ms os : List TokenKind) → ks ≡ by ms → ls ≡ by os → ks ++ ls ≡ by (ms ++ os)
+  pub two_parts : (ks ls ms os : List TokenKind) → ks ≡ by ms → ls ≡ by os → ks ++ ls ≡ by (ms ++ os)
   two_parts ks ls ms os p q = ap (λ r. r ++ ls) p ∙ ap (λ r. by ms ++ r) q ∙ sym (map-append (kind_by ns) ms os)
 
   literal_spelled : (l : Literal) → literal_token (renumbered_literal ns l) ≡ kind_by ns (literal_token l)
@@ -195,6 +195,15 @@ module _ (ns : List NameNo) where
   method_body_spelled None = refl
   method_body_spelled (Some ss) = simp (body_spelled ss)
 
+  pub field_spelled : (ms : List Mark) (u : TypeUseTree) (d : DeclaratorTree) (ds : List DeclaratorTree) → spell_field (marks_by ns ms) (type_use_by ns u) (declarator_by ns d) (declarators_by ns ds) ≡ by (spell_field ms u d ds)
+  field_spelled ms u d ds = simp (marks_spelled ms, base_spelled u.base, brackets_spelled u.array, value_spelled d.value, declarators_spelled ds, map-append)
+
+  pub method_head_spelled : (ms : List Mark) (u : Option TypeUseTree) (n : NameNo) (r : Option ReceiverTree) (ps : List ParameterTree) → spell_method_head (marks_by ns ms) (result_by ns u) (entry ns n) (receiver_by ns r) (parameters_by ns ps) ≡ by (spell_method_head ms u n r ps)
+  method_head_spelled ms u n r ps = simp (marks_spelled ms, result_spelled u, parameters_spelled r ps, map-append)
+
+  pub constructor_head_spelled : (ms : List Mark) (n : NameNo) (ps : List ParameterTree) → spell_constructor_head (marks_by ns ms) (entry ns n) (parameters_by ns ps) ≡ by (spell_constructor_head ms n ps)
+  constructor_head_spelled ms n ps = simp (marks_spelled ms, parameters_spelled None ps, map-append)
+
   pub member_spelled : (m : MemberTree) → spell_member (member_by ns m) ≡ by (spell_member m)
   member_spelled (FieldMember ms u d ds) = simp (marks_spelled ms, base_spelled u.base, brackets_spelled u.array, value_spelled d.value, declarators_spelled ds, map-append)
   member_spelled (MethodMember ms u n r ps body) = simp (marks_spelled ms, result_spelled u, parameters_spelled r ps, method_body_spelled body, map-append)
@@ -215,6 +224,12 @@ module _ (ns : List NameNo) where
   pub parent_spelled : (p : Option NameNo) → spell_parent (parent_by ns p) ≡ by (spell_parent p)
   parent_spelled None = refl
   parent_spelled (Some n) = refl
+
+  pub class_head_spelled : (ms : List Mark) (n : NameNo) (parent : Option NameNo) (interfaces : List NameNo) → spell_class_head (marks_by ns ms) (entry ns n) (parent_by ns parent) (entries ns interfaces) ≡ by (spell_class_head ms n parent interfaces)
+  class_head_spelled ms n parent interfaces = simp (marks_spelled ms, parent_spelled parent, names_spelled Implements refl interfaces, map-append)
+
+  pub interface_head_spelled : (ms : List Mark) (n : NameNo) (parents : List NameNo) → spell_interface_head (marks_by ns ms) (entry ns n) (entries ns parents) ≡ by (spell_interface_head ms n parents)
+  interface_head_spelled ms n parents = simp (marks_spelled ms, names_spelled Extends refl parents, map-append)
 
   pub type_spelled : (t : TypeDeclaration) → spell_type (type_by ns t) ≡ by (spell_type t)
   type_spelled (ClassType ms n parent interfaces members) = simp (marks_spelled ms, parent_spelled parent, names_spelled Implements refl interfaces, members_spelled members, map-append)

@@ -173,7 +173,7 @@ module _ (ns : List NameNo) where
   init_nested (DeclarationInit l) = local_nested l
 
   mutual
-    statement_nested : (s : Statement) → nesting_statement (statement_by ns s) ≡ nesting_statement s
+    pub statement_nested : (s : Statement) → nesting_statement (statement_by ns s) ≡ nesting_statement s
     statement_nested (BlockStatement ss) = simp (body_nested ss)
     statement_nested EmptyStatement = refl
     statement_nested (ExpressionStatement e) = simp (nested e)
@@ -212,7 +212,7 @@ module _ (ns : List NameNo) where
   open_kept (SuperCallStatement es) = refl
 
   mutual
-    good_statement : (c : Context) (s : Statement) → GoodStatement c s → GoodStatement c (statement_by ns s)
+    pub good_statement : (c : Context) (s : Statement) → GoodStatement c s → GoodStatement c (statement_by ns s)
     good_statement c (BlockStatement ss) g = good_statements (in_block c) ss g
     good_statement c EmptyStatement g = g
     good_statement c (ExpressionStatement e) g = (good e g.0, (alike e).effect ∙ g.1)
@@ -371,18 +371,37 @@ module _ (ns : List NameNo) where
   good_method_body interface None g = g
   good_method_body interface (Some ss) g = (g.0, good_body false ss g.1)
 
-  good_member : (interface : Bool) (name : NameNo) (m : MemberTree) → GoodMember (record { interface = interface; name = name }) m → GoodMember (record { interface = interface; name = entry ns name }) (member_by ns m)
-  good_member interface name (FieldMember ms u d ds) g = (good_marks marks_field field_kept ms g.0, good_declarators (d ∷ ds) g.1, subst (λ n. n ≤ 500) (sym (declarators_nested (d ∷ ds))) g.2)
-  good_member interface name (MethodMember ms u n r ps body) g = ((good_method_marks interface ms g.0.0, good_receiver name ms r g.0.1, good_parameters ps g.0.2), good_method_body interface body g.1)
-  good_member interface name (ConstructorMember ms n ps ss) g = ((good_marks marks_constructor constructor_kept ms g.0.0, g.0.1, ap (entry ns) g.0.2, good_parameters ps g.0.3), good_body true ss g.1)
+  pub good_field : (ms : List Mark) (d : DeclaratorTree) (ds : List DeclaratorTree) → GoodField ms d ds → GoodField (marks_by ns ms) (declarator_by ns d) (declarators_by ns ds)
+  good_field ms d ds g = (good_marks marks_field field_kept ms g.0, good_declarators (d ∷ ds) g.1, subst (λ n. n ≤ 500) (sym (declarators_nested (d ∷ ds))) g.2)
 
-  good_members : (interface : Bool) (name : NameNo) (ms : List MemberTree) → GoodMembers (record { interface = interface; name = name }) ms → GoodMembers (record { interface = interface; name = entry ns name }) (members_by ns ms)
-  good_members interface name [] g = g
-  good_members interface name (m ∷ ms) g = (good_member interface name m g.0, good_members interface name ms g.1)
+  -- the type that a member stands in
+  abbrev pub owner_by : Owner → Owner
+  owner_by o = record { interface = o.interface; name = entry ns o.name }
+
+  pub good_method_head : (o : Owner) (ms : List Mark) (r : Option ReceiverTree) (ps : List ParameterTree) → GoodMethodHead o ms r ps → GoodMethodHead (owner_by o) (marks_by ns ms) (receiver_by ns r) (parameters_by ns ps)
+  good_method_head o ms r ps g = (good_method_marks o.interface ms g.0, good_receiver o.name ms r g.1, good_parameters ps g.2)
+
+  pub good_constructor_head : (o : Owner) (ms : List Mark) (n : NameNo) (ps : List ParameterTree) → GoodConstructorHead o ms n ps → GoodConstructorHead (owner_by o) (marks_by ns ms) (entry ns n) (parameters_by ns ps)
+  good_constructor_head o ms n ps g = (good_marks marks_constructor constructor_kept ms g.0, g.1, ap (entry ns) g.2, good_parameters ps g.3)
+
+  good_member : (o : Owner) (m : MemberTree) → GoodMember o m → GoodMember (owner_by o) (member_by ns m)
+  good_member o (FieldMember ms u d ds) g = good_field ms d ds g
+  good_member o (MethodMember ms u n r ps body) g = (good_method_head o ms r ps g.0, good_method_body o.interface body g.1)
+  good_member o (ConstructorMember ms n ps ss) g = (good_constructor_head o ms n ps g.0, good_body true ss g.1)
+
+  good_members : (o : Owner) (ms : List MemberTree) → GoodMembers o ms → GoodMembers (owner_by o) (members_by ns ms)
+  good_members o [] g = g
+  good_members o (m ∷ ms) g = (good_member o m g.0, good_members o ms g.1)
+
+  pub good_class_marks : (ms : List Mark) → GoodMarks marks_type ms → GoodMarks marks_type (marks_by ns ms)
+  good_class_marks ms g = good_marks marks_type type_kept ms g
+
+  pub good_interface_marks : (ms : List Mark) → GoodMarks marks_interface ms → GoodMarks marks_interface (marks_by ns ms)
+  good_interface_marks ms g = good_marks marks_interface interface_kept ms g
 
   good_type : (t : TypeDeclaration) → GoodType t → GoodType (type_by ns t)
-  good_type (ClassType ms n parent interfaces members) g = (good_marks marks_type type_kept ms g.0, good_members false n members g.1)
-  good_type (InterfaceType ms n parents members) g = (good_marks marks_interface interface_kept ms g.0, good_members true n members g.1)
+  good_type (ClassType ms n parent interfaces members) g = (good_class_marks ms g.0, good_members (record { interface = false; name = n }) members g.1)
+  good_type (InterfaceType ms n parents members) g = (good_interface_marks ms g.0, good_members (record { interface = true; name = n }) members g.1)
 
   good_types : (ts : List TypeDeclaration) → GoodTypes ts → GoodTypes (map (type_by ns) ts)
   good_types [] g = g

@@ -18,7 +18,7 @@ use Rattle.jn_renumber.proofs.Spelled.{file_spelled}
 use Rattle.jn_renumber.proofs.StillGood.{good_file}
 
 module _ (ns : List NameNo) where
-  kinds_by : (ts : List Token) → kinds (tokens_by ns ts) ≡ map (kind_by ns) (kinds ts)
+  pub kinds_by : (ts : List Token) → kinds (tokens_by ns ts) ≡ map (kind_by ns) (kinds ts)
   kinds_by [] = refl
   kinds_by (t ∷ ts) = ap (λ ks. kind_by ns t.kind ∷ ks) (kinds_by ts)
 
@@ -27,20 +27,20 @@ module _ (ns : List NameNo) where
   opened_by n (Str name) = refl
   opened_by n k = refl
 
-  opened_from_by : (n : ℕ) (ks : List TokenKind) → opened_from n (map (kind_by ns) ks) ≡ opened_from n ks
+  pub opened_from_by : (n : ℕ) (ks : List TokenKind) → opened_from n (map (kind_by ns) ks) ≡ opened_from n ks
   opened_from_by n [] = refl
   opened_from_by n (k ∷ ks) = ap (λ m. opened_from m (map (kind_by ns) ks)) (opened_by n k) ∙ opened_from_by (opened n k) ks
 
-  take_by : (n : ℕ) (ks : List TokenKind) → take n (map (kind_by ns) ks) ≡ map (kind_by ns) (take n ks)
+  pub take_by : (n : ℕ) (ks : List TokenKind) → take n (map (kind_by ns) ks) ≡ map (kind_by ns) (take n ks)
   take_by zero ks = refl
   take_by (suc n) [] = refl
   take_by (suc n) (k ∷ ks) = ap (λ r. kind_by ns k ∷ r) (take_by n ks)
 
-  length_by : (ks : List TokenKind) → length (map (kind_by ns) ks) ≡ length ks
+  pub length_by : (ks : List TokenKind) → length (map (kind_by ns) ks) ≡ length ks
   length_by [] = refl
   length_by (k ∷ ks) = ap suc (length_by ks)
 
-  shallow : (ks : List TokenKind) → Shallow ks → Shallow (map (kind_by ns) ks)
+  pub shallow : (ks : List TokenKind) → Shallow ks → Shallow (map (kind_by ns) ks)
   shallow ks s m lt =
       let depth = ap (opened_from 0) (take_by (m + 1) ks) ∙ opened_from_by 0 (take (m + 1) ks) in
       subst (λ n. n ≤ 200) (sym depth) (s m (subst (λ n. m < n) (length_by ks) lt))

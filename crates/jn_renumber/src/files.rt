@@ -2,6 +2,7 @@
 ghost use Rattle.std.specs.Prelude.{◌≡◌, map};
 ghost use Rattle.jn_trees.specs.View.{file_view};
 ghost use Rattle.jn_places.specs.PlacedView.{placed_dotted, placed_file, placed_import, placed_package, placed_type};
+ghost use Rattle.jn_renumber.specs.ByNumbers.{file_by};
 ghost use Rattle.jn_renumber.specs.Renumbered.{renumbered_dotted, renumbered_file, renumbered_import, renumbered_package, renumbered_parent, renumbered_type};
 
 use crate::members::{renumber_marks, renumber_members};
@@ -101,7 +102,8 @@ fn renumber_types(numbers: &[NameNo], types: &mut Vec<TypeTree>)
 /// A number that the list has no entry for stays as it is, and so do the places of all nodes. Takes no memory, and time in
 /// proportion to the tree.
 pub fn renumber_file(numbers: &[NameNo], tree: &mut FileTree)
-    ensures { placed_file tree.new ≡ renumbered_file numbers.now (placed_file tree.old) }
+    ensures placed { placed_file tree.new ≡ renumbered_file numbers.now (placed_file tree.old) }
+    ensures view { file_view tree.new ≡ file_by numbers.now (file_view tree.old) }
 {
     renumber_package(numbers, &mut tree.package);
     renumber_imports(numbers, &mut tree.imports);

@@ -1,9 +1,11 @@
 //! Laws of names that are merged, and of trees that are renumbered.
 ghost use Rattle.std.specs.Prelude.{◌≡◌, ◌++◌, ℕ, List, map};
+ghost use Rattle.jn_base.specs.declared.number.FileNo.{FileNo};
 ghost use Rattle.jn_base.specs.declared.number.NameNo.{NameNo};
+ghost use Rattle.jn_base.specs.declared.place.Row.{Row};
 ghost use Rattle.jn_trees.specs.declared.token.Token.{Token};
 ghost use Rattle.jn_trees.specs.Names.{number_in, with_name};
-ghost use Rattle.jn_trees.specs.Pieces.{IsFile};
+ghost use Rattle.jn_trees.specs.Pieces.{IsFile, IsSyntaxRow};
 ghost use Rattle.jn_trees.specs.Spelling.{spell_file};
 ghost use Rattle.jn_trees.specs.Trees.{SourceTree};
 ghost use Rattle.jn_trees.specs.WellFormed.{GoodFile};
@@ -24,6 +26,11 @@ pub fn renumbered_trees_are_those_of_the_tokens()
     ensures good { (numbers : List NameNo) (tree : SourceTree) → GoodFile tree → GoodFile (file_by numbers tree) }
     ensures file { (numbers : List NameNo) (tokens : List Token) (tree : SourceTree) → IsFile tokens tree → IsFile (tokens_by numbers tokens) (file_by numbers tree) }
     ensures placed { (numbers : List NameNo) (tokens : List Token) (file : PlacedFile) → IsPlacedFile tokens file → IsPlacedFile (tokens_by numbers tokens) (renumbered_file numbers file) }
+{}
+
+/// Where the new numbers can be undone, the renumbered tokens have the syntax row that the tokens have.
+pub fn syntax_rows_stay()
+    ensures { (numbers back : List NameNo) (file : FileNo) (end : ℕ) (tokens : List Token) (row : Row) → tokens_by back (tokens_by numbers tokens) ≡ tokens → IsSyntaxRow file end tokens row → IsSyntaxRow file end (tokens_by numbers tokens) row }
 {}
 
 /// What a list of its own calls a text, the list of all calls by the entry of that number once the own one is merged into it;
