@@ -15,7 +15,7 @@ abbrev pub has : List (List ℕ) → List ℕ → Bool
 has names text = list_any (bytes_eq text) names
 
 module _ {A : Type 0} (p : A → Bool) where
-  front : (xs ys : List A) → list_any p xs ≡ true → (list_any p (xs ++ ys) ≡ true) × (position_or_len p (xs ++ ys) ≡ position_or_len p xs)
+  pub front : (xs ys : List A) → list_any p xs ≡ true → (list_any p (xs ++ ys) ≡ true) × (position_or_len p (xs ++ ys) ≡ position_or_len p xs)
   front [] ys h = absurd (false≢true h)
   front (x ∷ xs) ys h = here (p x) (front xs ys) h
     where
@@ -43,14 +43,14 @@ one_stays names text other h = here (has names other)
     here false = front (bytes_eq text) names (other ∷ []) h
 
 -- a name that is added is there
-added : (names : List (List ℕ)) (text : List ℕ) → (has (with_name names text) text ≡ true) × (number_in (with_name names text) text ≡ number_in names text)
+pub added : (names : List (List ℕ)) (text : List ℕ) → (has (with_name names text) text ≡ true) × (number_in (with_name names text) text ≡ number_in names text)
 added names text = here (has names text) refl
   where
     here : (b : Bool) → has names text ≡ b → (has (cond b names (names ++ text ∷ [])) text ≡ true) × (number_in (cond b names (names ++ text ∷ [])) text ≡ number_in names text)
     here true e = (e, refl)
     here false e = last (bytes_eq text) names text (same_text text)
 
-stays : (names others : List (List ℕ)) (text : List ℕ) → has names text ≡ true → (has (merged names others) text ≡ true) × (number_in (merged names others) text ≡ number_in names text)
+pub stays : (names others : List (List ℕ)) (text : List ℕ) → has names text ≡ true → (has (merged names others) text ≡ true) × (number_in (merged names others) text ≡ number_in names text)
 stays names [] text h = (h, refl)
 stays names (other ∷ others) text h =
     let one = one_stays names text other h in
@@ -95,12 +95,12 @@ entry_is all (x ∷ own) more text d = here (bytes_eq text x) refl (entry_is (wi
     here true e ih =
         let same : text ≡ x = (bytes_decides text x).0 e in
         ap numbered (subst (λ t. number_in all x ≡ number_in (merged (with_name all x) own) t) (sym same)
-          (sym ((stays (with_name all x) own x (added all x).0).1 ∙ (added all x).1)))
+        (sym ((stays (with_name all x) own x (added all x).0).1 ∙ (added all x).1)))
     here false e ih =
         let one : 1 + number_in own text ≡ suc (number_in own text) = omega arith in
         subst (λ n. get_or (merged_numbers all (cond (has own text) (x ∷ own) ((x ∷ own) ++ text ∷ []) ++ more)) n d ≡ numbered (number_in (merged (with_name all x) own) text)) (sym one)
         (subst (λ l. get_or (merged_numbers all (l ++ more)) (suc (number_in own text)) d ≡ numbered (number_in (merged (with_name all x) own) text)) (sym (step x own text (has own text)))
-          ih)
+        ih)
 
 -- what has the known names has them still when others are merged into it
 pub still_known : (all own known : List (List ℕ)) → merged all known ≡ all → merged (merged all own) known ≡ merged all own

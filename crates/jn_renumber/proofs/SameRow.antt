@@ -200,12 +200,12 @@ module _ (ns : List NameNo) where
 
   pub begins : (ks : List TokenKind) (n : ℕ) → Begins pieces AtStart ks n → Begins pieces AtStart (by ks) n
   begins ks n b = record {
-      pieces = map piece_by b.pieces;
-      rest = by b.rest;
-      ordered = in_order AtStart b.pieces b.ordered;
-      spelled = ap (λ ls. by ls) b.spelled ∙ map-append (kind_by ns) (spell_pieces pieces b.pieces) b.rest ∙ ap (λ ls. ls ++ by b.rest) (sym (row_spelled b.pieces));
-      place = b.place ∙ sym (length_by ns (spell_pieces pieces b.pieces)) ∙ ap length (sym (row_spelled b.pieces));
-    }
+    pieces = map piece_by b.pieces;
+    rest = by b.rest;
+    ordered = in_order AtStart b.pieces b.ordered;
+    spelled = ap (λ ls. by ls) b.spelled ∙ map-append (kind_by ns) (spell_pieces pieces b.pieces) b.rest ∙ ap (λ ls. ls ++ by b.rest) (sym (row_spelled b.pieces));
+    place = b.place ∙ sym (length_by ns (spell_pieces pieces b.pieces)) ∙ ap length (sym (row_spelled b.pieces));
+  }
 
   token_at : (file : FileNo) (end : ℕ) (ts : List Token) (n : ℕ) → token_place file end (tokens_by ns ts) n ≡ token_place file end ts n
   token_at file end [] n = refl
@@ -217,10 +217,10 @@ module _ (ns : List NameNo) where
 
   too_deep : (ks : List TokenKind) (n : ℕ) → IsTooDeep ks n → IsTooDeep (by ks) n
   too_deep ks n d = record {
-      inside = subst (λ m. n < m) (sym (length_by ns ks)) d.inside;
-      passes = subst (λ m. 200 < m) (sym (depth ks (n + 1))) d.passes;
-      first = λ m lt. subst (λ k. k ≤ 200) (sym (depth ks (m + 1))) (d.first m lt);
-    }
+    inside = subst (λ m. n < m) (sym (length_by ns ks)) d.inside;
+    passes = subst (λ m. 200 < m) (sym (depth ks (n + 1))) d.passes;
+    first = λ m lt. subst (λ k. k ≤ 200) (sym (depth ks (m + 1))) (d.first m lt);
+  }
 
   placed_row : (file : FileNo) (end : ℕ) (ts : List Token) (n : ℕ) (code : Code) (row : Row) → row ≡ record { span = token_place file end ts n; code = code } → row ≡ record { span = token_place file end (tokens_by ns ts) n; code = code }
   placed_row file end ts n code row e = e ∙ ap (λ (s : Span). (λ (r : Row). r) (record { span = s; code = code })) (sym (token_at file end ts n))
@@ -231,23 +231,23 @@ module _ (ns back : List NameNo) where
 
   same_place : (ks : List TokenKind) (n : ℕ) → map (kind_by back) (map (kind_by ns) ks) ≡ ks → IsPlace pieces AtStart ks n → IsPlace pieces AtStart (map (kind_by ns) ks) n
   same_place ks n e p = record {
-      reached = begins ns ks n p.reached;
-      greatest = λ m b. p.greatest m (subst (λ (ls : List TokenKind). Begins pieces AtStart ls m) e (begins back (map (kind_by ns) ks) m b));
-    }
+    reached = begins ns ks n p.reached;
+    greatest = λ m b. p.greatest m (subst (λ (ls : List TokenKind). Begins pieces AtStart ls m) e (begins back (map (kind_by ns) ks) m b));
+  }
 
   no_tree : (ks : List TokenKind) → map (kind_by back) (map (kind_by ns) ks) ≡ ks → ((t : SourceTree) → GoodFile t → ks ≡ spell_file t → ⊥) → (t : SourceTree) → GoodFile t → map (kind_by ns) ks ≡ spell_file t → ⊥
   no_tree ks e none t g s = none (file_by back t) (good_file back t g) (sym e ∙ ap (map (kind_by back)) s ∙ sym (file_spelled back t))
 
   pub same_row : (file : FileNo) (end : ℕ) (ts : List Token) (row : Row) → tokens_by back (tokens_by ns ts) ≡ ts → IsSyntaxRow file end ts row → IsSyntaxRow file end (tokens_by ns ts) row
   same_row file end ts row e (inl d) = inl (record {
-      place = d.place;
-      deep = subst (λ (ks : List TokenKind). IsTooDeep ks d.place) (sym (kinds_by ns ts)) (too_deep ns (kinds ts) d.place d.deep);
-      is = placed_row ns file end ts d.place S2 row d.is;
-    })
+    place = d.place;
+    deep = subst (λ (ks : List TokenKind). IsTooDeep ks d.place) (sym (kinds_by ns ts)) (too_deep ns (kinds ts) d.place d.deep);
+    is = placed_row ns file end ts d.place S2 row d.is;
+  })
   same_row file end ts row e (inr f) = inr (record {
-      place = f.place;
-      shallow = subst Shallow (sym (kinds_by ns ts)) (shallow ns (kinds ts) f.shallow);
-      no_tree = subst (λ (ks : List TokenKind). (t : SourceTree) → GoodFile t → ks ≡ spell_file t → ⊥) (sym (kinds_by ns ts)) (no_tree (kinds ts) (undone ts e) f.no_tree);
-      ends = subst (λ (ks : List TokenKind). IsPlace pieces AtStart ks f.place) (sym (kinds_by ns ts)) (same_place (kinds ts) f.place (undone ts e) f.ends);
-      is = placed_row ns file end ts f.place S1 row f.is;
-    })
+    place = f.place;
+    shallow = subst Shallow (sym (kinds_by ns ts)) (shallow ns (kinds ts) f.shallow);
+    no_tree = subst (λ (ks : List TokenKind). (t : SourceTree) → GoodFile t → ks ≡ spell_file t → ⊥) (sym (kinds_by ns ts)) (no_tree (kinds ts) (undone ts e) f.no_tree);
+    ends = subst (λ (ks : List TokenKind). IsPlace pieces AtStart ks f.place) (sym (kinds_by ns ts)) (same_place (kinds ts) f.place (undone ts e) f.ends);
+    is = placed_row ns file end ts f.place S1 row f.is;
+  })

@@ -50,6 +50,7 @@ module _ (ns : List NameNo) where
       (good_file ns t is.0, kinds_by ts ∙ ap (map (kind_by ns)) is.1 ∙ sym (file_spelled ns t), subst Shallow (sym (kinds_by ts)) (shallow (kinds ts) is.2))
 
   pub placed_renumbered : (ts : List Token) (f : PlacedFile) → IsPlacedFile ts f → IsPlacedFile (tokens_by ns ts) (renumbered_file ns f)
-  placed_renumbered ts f is =
-      (subst (IsFile (tokens_by ns ts)) (sym (file_kept ns f)) (file_renumbered ts (forget_file f) is.0),
-       ap (renumbered_file ns) is.1 ∙ sym (file_same ns ts (forget_file f)) ∙ ap (place_file (tokens_by ns ts)) (sym (file_kept ns f)))
+  placed_renumbered ts f is = (
+    subst (IsFile (tokens_by ns ts)) (sym (file_kept ns f)) (file_renumbered ts (forget_file f) is.0),
+    ap (renumbered_file ns) is.1 ∙ sym (file_same ns ts (forget_file f)) ∙ ap (place_file (tokens_by ns ts)) (sym (file_kept ns f)),
+  )

@@ -10,11 +10,7 @@ use std::alloc::Global;
 /// new one goes last.
 ///
 /// Where no memory is found, `names` is the old list with the first of the others.
-pub fn merge(
-    alloc: Global,
-    names: &mut Names,
-    other: &Names,
-) -> Result<Vec<NameNo>, OutOfMemory>
+pub fn merge(alloc: Global, names: &mut Names, other: &Names) -> Result<Vec<NameNo>, OutOfMemory>
     requires { length names.old + length other.now < 2 ^ 32 - 1 }
     ensures numbers { IfOk result (λ numbers. numbers.items ≡ spec_numbers names.old other.now) }
     ensures names { OnOk result (names.new ≡ merged names.old other.now) }

@@ -11,7 +11,11 @@ fn entry(numbers: &[NameNo], name: NameNo) -> NameNo
     ensures { result ≡ spec_entry numbers.now name }
 {
     let at = name.0 as usize;
-    if at < numbers.len() { numbers[at] } else { name }
+    if at < numbers.len() {
+        numbers[at]
+    } else {
+        name
+    }
 }
 
 /// Renumbers a name.
