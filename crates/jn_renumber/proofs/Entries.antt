@@ -1,5 +1,5 @@
 -- What names that are merged find by their entries.
-use Rattle.std.proofs.Common.{◌≡◌, ℕ, zero, suc, ◌+◌, Bool, true, false, cond, not, ◌||◌, List, [], ◌∷◌, ◌++◌, refl, sym, ap, ◌∙◌, subst, arith}
+use Rattle.std.proofs.Common.{◌≡◌, ℕ, suc, ◌+◌, Bool, true, false, cond, not, ◌||◌, List, [], ◌∷◌, ◌++◌, refl, sym, ap, ◌∙◌, subst, arith}
 use Rattle.std.specs.Prelude.{bytes_eq, get_or}
 use Rattle.std.specs.List.{list_any, position_or_len}
 use Rattle.std.specs.Cmp.Lexicographic.{bytes_decides}

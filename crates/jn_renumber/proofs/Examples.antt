@@ -1,15 +1,13 @@
 -- Small lists that are merged, and small trees that are renumbered, by computation.
-use Rattle.std.proofs.Common.{◌≡◌, ℕ, List, [], ◌∷◌, None, Some, refl}
+use Rattle.std.proofs.Common.{◌≡◌, ℕ, [], ◌∷◌, refl}
 use Rattle.std.specs.Prelude.{codes}
 use Rattle.jn_base.specs.declared.number.NameNo.{NameNo}
 use Rattle.jn_base.specs.declared.place.Span.{Span}
-use Rattle.jn_trees.specs.declared.expression.Annotation.{Annotation}
 use Rattle.jn_trees.specs.declared.expression.Identifier.{Identifier}
 use Rattle.jn_trees.specs.declared.expression.AssignOperator.TheVariants.{Assign}
 use Rattle.jn_trees.specs.declared.expression.Literal.TheVariants.{Number, Str}
-use Rattle.jn_trees.specs.declared.token.Token.{Token}
 use Rattle.jn_trees.specs.declared.token.TokenKind.TheVariants.{Id, Dot}
-use Rattle.jn_places.specs.Placed.{PlacedTree, PlacedAssign, PlacedField, PlacedLiteral, PlacedName, PlacedThis}
+use Rattle.jn_places.specs.Placed.{PlacedTree, PlacedAssign, PlacedField, PlacedLiteral, PlacedThis}
 use Rattle.jn_renumber.specs.Merged.{merged, merged_numbers}
 use Rattle.jn_renumber.specs.Renumbered.{renumbered}
 use Rattle.jn_renumber.specs.Tokens.{tokens_by}

@@ -1,27 +1,26 @@
 -- A renumbered tree stands at the renumbered tokens where the tree stands at the tokens.
-use Rattle.std.proofs.Common.{◌≡◌, ℕ, zero, suc, ◌+◌, ◌-◌, ◌≤◌, ◌<◌, List, [], ◌∷◌, ◌++◌, Option, Some, None, map, length, take, drop, refl, ap, sym, ◌∙◌, subst, arith}
+use Rattle.std.proofs.Common.{◌≡◌, ℕ, zero, suc, ◌-◌, List, [], ◌∷◌, ◌++◌, Option, Some, None, map, length, drop, refl, ap, sym, ◌∙◌}
 use Rattle.std.specs.Prelude.{slice_get}
 use Rattle.std.proofs.lemmas.List.{map-append}
 use Rattle.jn_base.specs.declared.number.NameNo.{NameNo}
 use Rattle.jn_base.specs.declared.place.Span.{Span}
 use Rattle.jn_trees.specs.declared.token.Token.{Token}
 use Rattle.jn_trees.specs.declared.token.TokenKind.{TokenKind}
-use Rattle.jn_trees.specs.declared.token.TokenKind.TheVariants.{Id, At, New, Super, If, Else, While, Do, For, This, Instanceof, LeftParen, RightParen, LeftBrace, RightBrace, LeftBracket, RightBracket, Dot, Comma, Semicolon, Question, Colon, Class, Interface, Implements, Extends}
+use Rattle.jn_trees.specs.declared.token.TokenKind.TheVariants.{Id, New, Super, If, Else, While, Do, For, This, Instanceof, LeftParen, RightParen, LeftBrace, LeftBracket, RightBracket, Dot, Comma, Semicolon, Question, Colon, Class, Interface, Implements, Extends}
 use Rattle.jn_trees.specs.declared.expression.Annotation.{Annotation}
 use Rattle.jn_trees.specs.declared.expression.Identifier.{Identifier}
-use Rattle.jn_trees.specs.declared.expression.Base.{Base}
 use Rattle.jn_trees.specs.declared.expression.Base.TheVariants.{Class as ClassUse, Int as IntUse, Boolean as BooleanUse}
 use Rattle.jn_trees.specs.declared.statement.LocalModifier.TheVariants.{Annotation as LocalAnnotation, Final as LocalFinal}
 use Rattle.jn_trees.specs.declared.declaration.Modifier.TheVariants.{Annotation as NoteOf, Public as PublicOf, Protected as ProtectedOf, Private as PrivateOf, Static as StaticOf, Final as FinalOf, Abstract as AbstractOf}
 use Rattle.jn_trees.specs.Covered.{covered, joined, span_of}
 use Rattle.jn_trees.specs.Trees.{BaseTree, ClassBase, IntBase, BooleanBase, Tree, Trees, LiteralTree, NameTree, ThisTree, ParenTree, FieldTree, CallTree, OwnCallTree, SuperCallTree, IndexTree, NewTree, NewArrayTree, ArrayOfTree, PostfixTree, PrefixTree, UnaryTree, CastTree, BinaryTree, InstanceOfTree, ConditionalTree, AssignTree, NoTrees, MoreTrees, LocalMark, AnnotationMark, FinalMark, TypeUseTree, DeclaratorTree, LocalTree, InitTree, ExpressionsInit, DeclarationInit, Statement, Statements, BlockStatement, EmptyStatement, ExpressionStatement, BreakStatement, ContinueStatement, ReturnStatement, LocalStatement, IfStatement, IfElseStatement, WhileStatement, DoStatement, ForStatement, ForEachStatement, ThisCallStatement, SuperCallStatement, NoStatements, MoreStatements, Mark, NoteMark, PublicMark, ProtectedMark, PrivateMark, StaticMark, ConstantMark, AbstractMark, ParameterTree, ReceiverTree, MemberTree, FieldMember, MethodMember, ConstructorMember, TypeDeclaration, ClassType, InterfaceType, DottedName, ImportTree, SourceTree}
-use Rattle.jn_trees.specs.Spelling.{spell, spell_annotations, base_token, operator_token, assign_token, spell_list, spell_marks, spell_type_use, spell_declarator, spell_init, spell_optional, spell_statement, spell_mark, spell_all_marks, spell_parameter, spell_parameters, spell_result, spell_member, spell_parent, spell_names, spell_type, spell_package, spell_package_line, spell_import, spell_imports, spell_body}
-use Rattle.jn_places.specs.Placed.{PlacedTree, PlacedTrees, PlacedLiteral, PlacedName, PlacedThis, PlacedParen, PlacedField, PlacedCall, PlacedOwnCall, PlacedSuperCall, PlacedIndex, PlacedNew, PlacedNewArray, PlacedArrayOf, PlacedPostfix, PlacedPrefix, PlacedUnary, PlacedCast, PlacedBinary, PlacedInstanceOf, PlacedConditional, PlacedAssign, NoPlacedTrees, MorePlacedTrees, PlacedTypeUse, PlacedDeclarator, PlacedLocal, PlacedInit, PlacedExpressions, PlacedDeclaration, PlacedStatement, PlacedStatements, PlacedBlock, PlacedEmpty, PlacedExpression, PlacedBreak, PlacedContinue, PlacedReturn, PlacedLocalStatement, PlacedIf, PlacedIfElse, PlacedWhile, PlacedDo, PlacedFor, PlacedForEach, PlacedThisCall, PlacedSuperCallStatement, NoPlacedStatements, MorePlacedStatements, PlacedParameter, PlacedReceiver, PlacedResult, PlacedVoid, PlacedValue, PlacedMember, PlacedFieldMember, PlacedMethod, PlacedConstructor, PlacedType, PlacedClass, PlacedInterface, PlacedDotted, PlacedPackage, PlacedImport, PlacedFile}
+use Rattle.jn_trees.specs.Spelling.{spell, spell_annotations, base_token, operator_token, assign_token, spell_list, spell_marks, spell_type_use, spell_declarator, spell_init, spell_optional, spell_statement, spell_mark, spell_all_marks, spell_parameter, spell_parameters, spell_result, spell_member, spell_parent, spell_names, spell_type, spell_package_line, spell_import, spell_imports}
+use Rattle.jn_places.specs.Placed.{PlacedLiteral, PlacedName, PlacedThis, PlacedParen, PlacedField, PlacedCall, PlacedOwnCall, PlacedSuperCall, PlacedIndex, PlacedNew, PlacedNewArray, PlacedArrayOf, PlacedPostfix, PlacedPrefix, PlacedUnary, PlacedCast, PlacedBinary, PlacedInstanceOf, PlacedConditional, PlacedAssign, MorePlacedTrees, PlacedTypeUse, PlacedDeclarator, PlacedLocal, PlacedExpressions, PlacedDeclaration, PlacedBlock, PlacedEmpty, PlacedExpression, PlacedBreak, PlacedContinue, PlacedReturn, PlacedLocalStatement, PlacedIf, PlacedIfElse, PlacedWhile, PlacedDo, PlacedFor, PlacedForEach, PlacedThisCall, PlacedSuperCallStatement, MorePlacedStatements, PlacedParameter, PlacedReceiver, PlacedVoid, PlacedValue, PlacedFieldMember, PlacedMethod, PlacedConstructor, PlacedClass, PlacedInterface, PlacedDotted, PlacedPackage, PlacedImport, PlacedFile}
 use Rattle.jn_places.specs.Places.{behind, over, front, place_name, place_each, spell_annotation, place_annotation, place_annotations, place_base, place, place_list, place_optional, spell_local_mark, place_local_mark, place_local_marks, place_brackets, place_type_use, place_declarator, spell_next_declarator, place_next_declarator, place_more_declarators, place_local, place_init, place_statement, place_body, place_mark, place_marks, place_parameter, spell_parameter_through, place_parameters, spell_receiver, place_receiver, place_result, place_method_body, place_member, place_members, spell_next_name, place_next_name, place_next_names, place_parent, place_type, place_dotted, place_package, place_import, place_file}
 use Rattle.jn_renumber.specs.Names.{entry, renumbered_literal}
 use Rattle.jn_renumber.specs.Renumbered.{renumbered_name, renumbered_names, renumbered_annotation, renumbered_annotations, renumbered_base, renumbered, renumbered_list, renumbered_optional, renumbered_local_mark, renumbered_local_marks, renumbered_brackets, renumbered_type_use, renumbered_declarator, renumbered_declarators, renumbered_local, renumbered_init, renumbered_statement, renumbered_statements, renumbered_mark, renumbered_marks, renumbered_parameter, renumbered_parameters, renumbered_receiver, renumbered_result, renumbered_body, renumbered_member, renumbered_members, renumbered_parent, renumbered_type, renumbered_dotted, renumbered_package, renumbered_import, renumbered_file}
 use Rattle.jn_renumber.specs.ByNumbers.{entries, base_by, tree_by, trees_by, optional_by, local_mark_by, local_marks_by, brackets_by, type_use_by, declarator_by, declarators_by, local_by, init_by, statement_by, statements_by, mark_by, marks_by, parameter_by, parameters_by, receiver_by, result_by, body_by, member_by, members_by, parent_by, type_by, dotted_by, package_by, import_by, file_by}
-use Rattle.jn_renumber.specs.Tokens.{kind_by, token_by, tokens_by}
+use Rattle.jn_renumber.specs.Tokens.{kind_by, tokens_by}
 use Rattle.jn_renumber.proofs.Spelled.{notes_spelled, base_spelled, operator_spelled, assign_spelled, spelled, list_spelled, local_marks_spelled, type_use_spelled, declarator_spelled, init_spelled, optional_spelled, statement_spelled, mark_spelled, marks_spelled, parameter_spelled, parameters_spelled, result_spelled, member_spelled, names_spelled, parent_spelled, type_spelled, package_spelled, import_spelled, imports_spelled}
 
 two : {A B C : Type 0} (f : A → B → C) {a x : A} {b y : B} → a ≡ x → b ≡ y → f a b ≡ f x y

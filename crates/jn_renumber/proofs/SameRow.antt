@@ -1,6 +1,5 @@
 -- Renumbered tokens have the same syntax row, where the numbers can be undone.
-use Rattle.std.proofs.Common.{◌≡◌, ℕ, zero, ◌+◌, ◌≤◌, ◌<◌, List, [], ◌∷◌, ◌++◌, Bool, true, false, Option, Some, None, map, length, take, refl, ap, sym, ◌∙◌, subst, suc}
-use Rattle.std.specs.Prelude.{slice_get, ◌⊎◌}
+use Rattle.std.proofs.Common.{◌≡◌, ℕ, zero, ◌+◌, ◌≤◌, ◌<◌, List, [], ◌∷◌, ◌++◌, Bool, Some, map, length, take, refl, ap, sym, ◌∙◌, subst, suc}
 use mathlib.Core.Logic.{inl, inr}
 use Rattle.std.proofs.lemmas.List.{map-append}
 use Rattle.jn_base.specs.declared.number.NameNo.{NameNo}
@@ -16,10 +15,10 @@ use Rattle.jn_trees.specs.declared.context.Owner.{Owner}
 use Rattle.jn_trees.specs.Trees.{SourceTree}
 use Rattle.jn_trees.specs.Spelling.{spell_file, spell_method_head, spell_constructor_head}
 use Rattle.jn_trees.specs.WellFormed.{GoodFile, body_context}
-use Rattle.jn_trees.specs.Pieces.{spell_pieces, InOrder, Begins, IsPlace, Piece, PackagePiece, ImportPiece, ClassHead, InterfaceHead, FieldPiece, MethodPiece, MethodHead, ConstructorHead, StatementPiece, BodyEnd, TypeEnd, spell_piece, Around, AtStart, BehindLines, BehindTypes, InType, InBody, MayHead, MayMember, MayStatement, MayImport, MayPackage, May, behind, pieces, kinds, opened_from, place_from, token_place, IsTooDeep, Shallow, IsDeepFault, IsSyntaxFault, IsSyntaxRow}
+use Rattle.jn_trees.specs.Pieces.{spell_pieces, InOrder, Begins, IsPlace, Piece, PackagePiece, ImportPiece, ClassHead, InterfaceHead, FieldPiece, MethodPiece, MethodHead, ConstructorHead, StatementPiece, BodyEnd, TypeEnd, spell_piece, Around, AtStart, BehindLines, BehindTypes, InType, InBody, MayHead, MayMember, MayStatement, MayImport, MayPackage, May, behind, pieces, kinds, opened_from, token_place, IsTooDeep, Shallow, IsSyntaxRow}
 use Rattle.jn_renumber.specs.Names.{entry}
 use Rattle.jn_renumber.specs.ByNumbers.{entries, declarator_by, declarators_by, file_by, import_by, dotted_by, marks_by, parameters_by, parent_by, receiver_by, result_by, statement_by, type_use_by}
-use Rattle.jn_renumber.specs.Tokens.{kind_by, token_by, tokens_by}
+use Rattle.jn_renumber.specs.Tokens.{kind_by, tokens_by}
 use Rattle.jn_renumber.proofs.Spelled.{two_parts, package_spelled, import_spelled, class_head_spelled, interface_head_spelled, field_spelled, method_head_spelled, constructor_head_spelled, statement_spelled, file_spelled}
 use Rattle.jn_renumber.proofs.StillGood.{good_class_marks, good_interface_marks, owner_by, good_field, good_method_head, good_constructor_head, good_statement, statement_nested, good_file}
 use Rattle.jn_renumber.proofs.TreesOfTokens.{kinds_by, opened_from_by, take_by, length_by, shallow}

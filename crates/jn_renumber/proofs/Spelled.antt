@@ -15,9 +15,9 @@ use Rattle.jn_trees.specs.declared.expression.BinaryOperator.TheVariants.{Multip
 use Rattle.jn_trees.specs.declared.expression.AssignOperator.{AssignOperator}
 use Rattle.jn_trees.specs.declared.expression.AssignOperator.TheVariants.{Assign as Simple, Add as AddTo, Subtract as SubtractFrom, Multiply as MultiplyBy, Divide as DivideBy, Remainder as RemainderBy}
 use Rattle.jn_trees.specs.Trees.{BaseTree, ClassBase, IntBase, BooleanBase, Tree, Trees, LiteralTree, NameTree, ThisTree, ParenTree, FieldTree, CallTree, OwnCallTree, SuperCallTree, IndexTree, NewTree, NewArrayTree, ArrayOfTree, PostfixTree, PrefixTree, UnaryTree, CastTree, BinaryTree, InstanceOfTree, ConditionalTree, AssignTree, NoTrees, MoreTrees, LocalMark, AnnotationMark, FinalMark, TypeUseTree, DeclaratorTree, LocalTree, InitTree, ExpressionsInit, DeclarationInit, Statement, Statements, BlockStatement, EmptyStatement, ExpressionStatement, BreakStatement, ContinueStatement, ReturnStatement, LocalStatement, IfStatement, IfElseStatement, WhileStatement, DoStatement, ForStatement, ForEachStatement, ThisCallStatement, SuperCallStatement, NoStatements, MoreStatements, Mark, NoteMark, PublicMark, ProtectedMark, PrivateMark, StaticMark, ConstantMark, AbstractMark, ParameterTree, ReceiverTree, MemberTree, FieldMember, MethodMember, ConstructorMember, TypeDeclaration, ClassType, InterfaceType, DottedName, ImportTree, SourceTree}
-use Rattle.jn_trees.specs.Spelling.{literal_token, sign_token, step_token, operator_token, assign_token, base_token, spell_annotations, spell, spell_list, spell_more, spell_marks, spell_brackets, spell_type_use, spell_value, spell_declarator, spell_more_declarators, spell_local, spell_init, spell_optional, spell_statement, spell_body, spell_mark, spell_all_marks, spell_parameter, spell_more_parameters, spell_parameters, spell_result, spell_method_body, spell_field, spell_method_head, spell_constructor_head, spell_class_head, spell_interface_head, spell_member, spell_members, spell_more_names, spell_names, spell_parent, spell_type, spell_types, spell_dots, spell_dotted, spell_star, spell_package_line, spell_import, spell_imports, spell_file}
+use Rattle.jn_trees.specs.Spelling.{literal_token, sign_token, step_token, operator_token, assign_token, base_token, spell_annotations, spell, spell_list, spell_more, spell_marks, spell_brackets, spell_type_use, spell_value, spell_declarator, spell_more_declarators, spell_local, spell_init, spell_optional, spell_statement, spell_body, spell_mark, spell_all_marks, spell_parameter, spell_more_parameters, spell_parameters, spell_result, spell_method_body, spell_field, spell_method_head, spell_constructor_head, spell_class_head, spell_interface_head, spell_member, spell_members, spell_more_names, spell_names, spell_parent, spell_type, spell_types, spell_dots, spell_star, spell_package_line, spell_import, spell_imports, spell_file}
 use Rattle.jn_renumber.specs.Names.{entry, renumbered_literal}
-use Rattle.jn_renumber.specs.ByNumbers.{entries, base_by, tree_by, trees_by, optional_by, local_marks_by, brackets_by, type_use_by, declarator_by, declarators_by, local_by, init_by, statement_by, statements_by, mark_by, marks_by, parameter_by, parameters_by, receiver_by, result_by, body_by, member_by, members_by, parent_by, type_by, dotted_by, package_by, import_by, file_by}
+use Rattle.jn_renumber.specs.ByNumbers.{entries, base_by, tree_by, trees_by, optional_by, local_marks_by, brackets_by, type_use_by, declarator_by, declarators_by, local_by, init_by, statement_by, statements_by, mark_by, marks_by, parameter_by, parameters_by, receiver_by, result_by, body_by, member_by, members_by, parent_by, type_by, package_by, import_by, file_by}
 use Rattle.jn_renumber.specs.Tokens.{kind_by}
 
 module _ (ns : List NameNo) where

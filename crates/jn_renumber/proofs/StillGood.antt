@@ -1,16 +1,15 @@
 -- A renumbered well-formed tree is well formed.
-use Rattle.std.proofs.Common.{◌≡◌, ℕ, ◌+◌, ◌≤◌, ◌<◌, max, List, [], ◌∷◌, Bool, true, false, not, ◌&&◌, ◌||◌, Option, Some, None, map, refl, ap, sym, ◌∙◌, subst}
+use Rattle.std.proofs.Common.{◌≡◌, ℕ, ◌+◌, ◌≤◌, ◌<◌, List, [], ◌∷◌, Bool, true, false, Option, Some, None, map, refl, ap, sym, ◌∙◌, subst}
 use Rattle.jn_base.specs.declared.number.NameNo.{NameNo}
 use Rattle.jn_trees.specs.declared.expression.Literal.{Literal}
 use Rattle.jn_trees.specs.declared.expression.Literal.TheVariants.{Number, Str, True, False, Null}
-use Rattle.jn_trees.specs.declared.expression.UnaryOperator.{UnaryOperator}
 use Rattle.jn_trees.specs.declared.expression.UnaryOperator.TheVariants.{Plus, Minus, Not}
 use Rattle.jn_trees.specs.declared.context.Context.{Context}
 use Rattle.jn_trees.specs.declared.context.Owner.{Owner}
-use Rattle.jn_trees.specs.Trees.{BaseTree, ClassBase, IntBase, BooleanBase, Tree, Trees, LiteralTree, NameTree, ThisTree, ParenTree, FieldTree, CallTree, OwnCallTree, SuperCallTree, IndexTree, NewTree, NewArrayTree, ArrayOfTree, PostfixTree, PrefixTree, UnaryTree, CastTree, BinaryTree, InstanceOfTree, ConditionalTree, AssignTree, NoTrees, MoreTrees, LocalMark, AnnotationMark, FinalMark, TypeUseTree, DeclaratorTree, LocalTree, InitTree, ExpressionsInit, DeclarationInit, Statement, Statements, BlockStatement, EmptyStatement, ExpressionStatement, BreakStatement, ContinueStatement, ReturnStatement, LocalStatement, IfStatement, IfElseStatement, WhileStatement, DoStatement, ForStatement, ForEachStatement, ThisCallStatement, SuperCallStatement, NoStatements, MoreStatements, Mark, NoteMark, PublicMark, ProtectedMark, PrivateMark, StaticMark, ConstantMark, AbstractMark, ParameterTree, ReceiverTree, MemberTree, FieldMember, MethodMember, ConstructorMember, TypeDeclaration, ClassType, InterfaceType, DottedName, ImportTree, SourceTree}
-use Rattle.jn_trees.specs.WellFormed.{nesting, nesting_all, rank, is_left_side, is_indexable, is_least_literal, is_least_number, GoodLiteral, is_castable, GoodSigned, Good, AllGood, is_effect, GoodEffects, GoodOptional, nesting_optional, is_final_mark, no_final, final_once, GoodDeclarators, nesting_declarators, GoodLocal, nesting_local, GoodInit, nesting_init, nesting_statement, nesting_body, ends_open, under, in_block, loop_body, body_context, GoodStatement, GoodStatements, GoodBody, is_access, clashes, clashes_none, no_clash, marks_type, marks_interface, marks_field, marks_method, marks_interface_method, marks_constructor, every, GoodMarks, has_static, is_static_mark, GoodParameters, GoodReceiver, GoodMethodMarks, GoodMethodHead, GoodConstructorHead, GoodField, GoodMethodBody, GoodMember, GoodMembers, GoodType, GoodTypes, GoodFile}
+use Rattle.jn_trees.specs.Trees.{Tree, Trees, LiteralTree, NameTree, ThisTree, ParenTree, FieldTree, CallTree, OwnCallTree, SuperCallTree, IndexTree, NewTree, NewArrayTree, ArrayOfTree, PostfixTree, PrefixTree, UnaryTree, CastTree, BinaryTree, InstanceOfTree, ConditionalTree, AssignTree, NoTrees, MoreTrees, LocalMark, AnnotationMark, FinalMark, DeclaratorTree, LocalTree, InitTree, ExpressionsInit, DeclarationInit, Statement, Statements, BlockStatement, EmptyStatement, ExpressionStatement, BreakStatement, ContinueStatement, ReturnStatement, LocalStatement, IfStatement, IfElseStatement, WhileStatement, DoStatement, ForStatement, ForEachStatement, ThisCallStatement, SuperCallStatement, NoStatements, MoreStatements, Mark, NoteMark, PublicMark, ProtectedMark, PrivateMark, StaticMark, ConstantMark, AbstractMark, ParameterTree, ReceiverTree, MemberTree, FieldMember, MethodMember, ConstructorMember, TypeDeclaration, ClassType, InterfaceType, SourceTree}
+use Rattle.jn_trees.specs.WellFormed.{nesting, nesting_all, rank, is_left_side, is_indexable, is_least_literal, is_least_number, GoodLiteral, is_castable, Good, AllGood, is_effect, GoodEffects, GoodOptional, nesting_optional, no_final, final_once, GoodDeclarators, nesting_declarators, GoodLocal, nesting_local, GoodInit, nesting_init, nesting_statement, nesting_body, ends_open, under, in_block, loop_body, body_context, GoodStatement, GoodStatements, GoodBody, is_access, clashes, clashes_none, no_clash, marks_type, marks_interface, marks_field, marks_method, marks_interface_method, marks_constructor, every, GoodMarks, has_static, is_static_mark, GoodParameters, GoodReceiver, GoodMethodMarks, GoodMethodHead, GoodConstructorHead, GoodField, GoodMethodBody, GoodMember, GoodMembers, GoodType, GoodTypes, GoodFile}
 use Rattle.jn_renumber.specs.Names.{entry, renumbered_literal}
-use Rattle.jn_renumber.specs.ByNumbers.{tree_by, trees_by, optional_by, local_mark_by, local_marks_by, declarator_by, declarators_by, local_by, init_by, statement_by, statements_by, mark_by, marks_by, parameters_by, receiver_by, body_by, member_by, members_by, type_by, file_by}
+use Rattle.jn_renumber.specs.ByNumbers.{tree_by, trees_by, optional_by, local_marks_by, declarator_by, declarators_by, local_by, init_by, statement_by, statements_by, mark_by, marks_by, parameters_by, receiver_by, body_by, member_by, members_by, type_by, file_by}
 
 -- what stands at two trees' heads is of one kind
 record Alike (e f : Tree) : Type 0 where

@@ -1,5 +1,5 @@
 -- A name by another number.
-use Rattle.std.specs.Prelude.{List, get_or, map}
+use Rattle.std.specs.Prelude.{List, get_or}
 use Rattle.jn_base.specs.declared.number.NameNo.{NameNo}
 use Rattle.jn_trees.specs.declared.expression.Literal.{Literal}
 use Rattle.jn_trees.specs.declared.expression.Literal.TheVariants.{Number, Str, True, False, Null}
