@@ -13,7 +13,7 @@ use Rattle.jn_lexer.specs.Lexed.{names_with, kind_of, names_after, tokens_of, Le
 use Rattle.jn_lexer.proofs.OneList.{one_list}
 use Rattle.jn_base.specs.declared.number.NameNo.{NameNo}
 use Rattle.jn_renumber.specs.Merged.{merged, merged_numbers}
-use Rattle.jn_renumber.specs.Tokens.{kind_by, token_by, tokens_by}
+use Rattle.jn_renumber.specs.Tokens.{kind_by, tokens_by}
 use Rattle.jn_renumber.specs.Renumbered.{renumbered_file}
 use Rattle.jn_renumber.proofs.Entries.{has, front, added, stays, numbered, entry_is, merged_with}
 use Rattle.jn_renumber.proofs.TreesOfTokens.{placed_renumbered}
