@@ -83,9 +83,6 @@ module _ (ns : List NameNo) where
   over_at : (us ts : List Token) (ls ks : List TokenKind) → Same us ts → ls ≡ by ks → over us ls ≡ over ts ks
   over_at us ts ls ks u l = two covered u (further us ts ls ks u l) ∙ covered_by ts (behind ts ks)
 
-  named : NameNo → Span → Identifier
-  named n s = record { name = n; span = s }
-
   name_at : (us ts : List Token) (n : NameNo) → Same us ts → place_name us (entry ns n) ≡ renumbered_name ns (place_name ts n)
   name_at us ts n u = ap (λ (s : Span). (λ (i : Identifier). i) (record { name = entry ns n; span = s })) (front_at us ts u)
 
