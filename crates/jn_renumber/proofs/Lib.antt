@@ -1,0 +1,11 @@
+pub mod Lists
+pub mod Blocks
+pub mod Interning
+pub mod Entries
+pub mod Forgotten
+pub mod Spelled
+pub mod StillGood
+pub mod Placed
+pub mod TreesOfTokens
+pub mod SameRow
+pub mod Examples

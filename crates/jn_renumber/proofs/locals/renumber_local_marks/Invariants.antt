@@ -1,0 +1,6 @@
+use Rattle.jn_renumber.specs.Renumbered.{renumbered_local_mark}
+use Rattle.jn_renumber.proofs.Lists.{Changing}
+use Rattle.jn_renumber.proofs.locals.renumber_local_marks.Given as goal
+
+abbrev pub invariant-loop-at : goal.invariant-loop-at
+invariant-loop-at l = Changing (renumbered_local_mark l.numbers) l.initial.modifiers.items l.modifiers.items l.at

@@ -1,0 +1,5 @@
+pub mod Names
+pub mod Renumbered
+pub mod ByNumbers
+pub mod Merged
+pub mod Tokens
