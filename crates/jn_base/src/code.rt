@@ -1,5 +1,4 @@
-// The codes of report rows.
-
+//! The codes of report rows.
 ghost use Rattle.std.specs.Prelude.{◌≡◌};
 ghost use Rattle.jn_base.specs.Codes.{code_name, code_text};
 

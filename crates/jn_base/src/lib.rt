@@ -1,4 +1,8 @@
-// Places, rows and their codes, typed numbers, and lists and texts that contracts see as lists.
+//! Places, rows and their codes, typed numbers, and lists and texts that contracts see as lists.
+//!
+//! [`Row`] is one line of a report: a [`Code`] at a [`Span`], whose [`Place`] [`place_of`] gives. A call that refuses its input answers
+//! [`Fail`], one that can only want memory [`OutOfMemory`]. Where a `Vec` or a `String` stands inside another type, [`Seq`] and [`Text`]
+//! let contracts speak of the list alone.
 #![tactic(auto)]
 
 pub mod code;

@@ -1,5 +1,4 @@
-// Typed numbers of the things of a program.
-
+//! Typed numbers of the things of a program.
 /// A file, by its place in the list of files.
 #[derive(Clone, Copy, Debug, PartialEq, Eq, PartialOrd, Ord)]
 pub struct FileNo(pub u32);

@@ -1,4 +1,4 @@
-// Spans, places and rows, and the place of a byte.
+//! Spans, places and rows, and the place of a byte.
 ghost use Rattle.std.specs.Prelude.{◌≡◌, ◌≤◌, ◌<◌, ◌-◌, ◌^◌, length};
 ghost use Rattle.jn_base.specs.Place as spec;
 

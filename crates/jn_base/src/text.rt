@@ -1,4 +1,4 @@
-// A text that contracts see as the list of its bytes.
+//! A text that contracts see as the list of its bytes.
 ghost use Rattle.std.specs.Prelude.{◌≡◌, length, string_bytes, IfOk};
 
 use std::alloc::{AllocError, Global};

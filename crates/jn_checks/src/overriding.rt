@@ -1,4 +1,5 @@
-//! The rules at overriding pairs: parameters and receivers may widen, results may narrow (JLS 8, 8.4.8.3; the Checker Framework manual on overriding).
+//! The rules at overriding pairs: parameters and receivers may widen, results may narrow (JLS 8, 8.4.8.3; the Checker Framework manual on
+//! overriding).
 ghost use Rattle.std.specs.Prelude.{◌≡◌, ◌<◌, ◌≤◌, ◌⊎◌, ◌^◌, ◌++◌, ◌||◌, ℕ, true, Some, flat_map, slice_index, IfOk, OnOk, length, not};
 ghost use Rattle.jn_points.specs.Lookup.{method_at};
 ghost use Rattle.jn_points.specs.Members.{below, is_pair};

@@ -1,4 +1,4 @@
-// The command that the words give.
+//! The command that the words give.
 ghost use Rattle.std.specs.Prelude.{◌≡◌, ◌≤◌, ◌<◌, ◌^◌, ◌==◌, IfOk, false, true, map, not, string_bytes, unwrap_or};
 ghost use Rattle.std.specs.List.{filter, slice_split};
 ghost use Rattle.jn_cli.specs.Refused.{IfRefused};

@@ -1,4 +1,6 @@
-// The words of the command line.
+//! The words of the command line.
+//!
+//! [`read_words`] takes them exactly as `clap` does, and gives a [`Command`] within its limits or [`Usage`].
 #![tactic(auto)]
 
 pub mod command;

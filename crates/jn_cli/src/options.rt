@@ -1,4 +1,4 @@
-// The texts behind the options, and which of them are refused.
+//! The texts behind the options, and which of them are refused.
 ghost use Rattle.std.specs.Prelude.{◌≡◌};
 ghost use Rattle.jn_cli.specs.Words as spec;
 

@@ -1,4 +1,4 @@
-// Rows as a reader sees them, and what a check comes to.
+//! Rows as a reader sees them, and what a check comes to.
 ghost use Rattle.std.specs.Prelude.{◌≡◌, ◌≤◌, ◌<◌, ◌-◌, ◌^◌, length, IfOk};
 ghost use Rattle.jn_diag.specs.Shown.{row_shown};
 

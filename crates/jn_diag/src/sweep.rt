@@ -1,4 +1,4 @@
-// Places in one text, each from the one before.
+//! Places in one text, each from the one before.
 ghost use Rattle.std.specs.Prelude.{◌≡◌, ◌≤◌, ◌<◌, ◌+◌, ◌-◌, ◌^◌, length};
 ghost use Rattle.jn_base.specs.Place.{is_line_end, ends_line, is_continuation, place_in};
 ghost use Rattle.jn_diag.specs.Sweep as spec;

@@ -1,5 +1,4 @@
-// Laws of the grammar of expressions.
-
+//! Laws of the grammar of expressions.
 ghost use Rattle.std.specs.Prelude.{◌≡◌, ◌≤◌, ◌++◌, List, ℕ};
 ghost use Rattle.jn_trees.specs.declared.token.TokenKind.{TokenKind};
 ghost use Rattle.jn_trees.specs.Trees.{Tree};

@@ -1,4 +1,6 @@
-// A large valid program, made from a number.
+//! A large valid program, made from a number.
+//!
+//! [`generate`] gives its text, byte for byte the lines of `specs/Generated.antt`.
 #![tactic(auto)]
 
 ghost use Rattle.std.specs.Prelude.{◌≡◌, ◌≤◌, string_bytes, IfOk};

@@ -1,5 +1,5 @@
-// Programs made by hand. Class 0 is Object, with its constructor without parameters, and class 1 is String.
-// A constructor that Java gives a class without one is left out where nothing calls it.
+//! Programs made by hand. Class 0 is Object, with its constructor without parameters, and class 1 is String.
+//! A constructor that Java gives a class without one is left out where nothing calls it.
 use crate::lines::{array_of, call, construct, create, end, span};
 use jn_base::{BodyNo, ClassNo, FieldNo, MethodNo, NameNo, RegNo, Seq, SlotNo};
 use jn_points::{BaseType, Body, Class, Elem, Field, Method, Operand, Point, Program, SlotInfo};

@@ -1,4 +1,4 @@
-// Points of bodies made by hand. A place is a number: line times 100 plus column, where its program stands in a file.
+//! Points of bodies made by hand. A place is a number: line times 100 plus column, where its program stands in a file.
 use jn_base::{ClassNo, Code, FieldNo, FileNo, MethodNo, NameNo, PointNo, RegNo, Row, Seq, Span};
 use jn_points::{BaseType, Literal, Operand, Operator, Origin, Point, PointKind, StrOperation};
 use jn_quals::Qual;

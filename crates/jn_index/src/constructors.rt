@@ -1,4 +1,4 @@
-// The constructors among the methods of each class.
+//! The constructors among the methods of each class.
 ghost use Rattle.std.specs.Prelude.{◌≡◌, ℕ, filter, IfOk};
 ghost use Rattle.jn_index.specs.Index as spec;
 ghost use Rattle.jn_index.specs.Numbers.{list_at};

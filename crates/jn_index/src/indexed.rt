@@ -1,4 +1,4 @@
-// A program with an index of it.
+//! A program with an index of it.
 ghost use Rattle.std.specs.Prelude.{◌≡◌, IfOk, IfSome};
 ghost use Rattle.jn_index.specs.Index.{IsIndex};
 

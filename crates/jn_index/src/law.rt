@@ -1,4 +1,4 @@
-// An index looks at classes, fields and methods alone.
+//! An index looks at classes, fields and methods alone.
 ghost use Rattle.std.specs.Prelude.{◌≡◌};
 ghost use Rattle.jn_index.specs.Index.{Lists, IsIndex};
 

@@ -1,4 +1,4 @@
-// Persistent tables in one list of nodes that only grows.
+//! Persistent tables in one list of nodes that only grows.
 ghost use Rattle.std.specs.Prelude.{◌≡◌, ◌<◌, ◌++◌, ◌∷◌, [], ℕ, true, Some, length, IfOk, OnOk};
 ghost use Rattle.jn_index.specs.Numbers.{contains};
 ghost use Rattle.jn_index.specs.Nodes as spec;

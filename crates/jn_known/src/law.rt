@@ -1,4 +1,4 @@
-// Numbers and texts of the known names.
+//! Numbers and texts of the known names.
 ghost use Rattle.std.specs.Prelude.{◌≡◌, Some, slice_get, codes};
 ghost use Rattle.jn_known.specs.Known.{known_names, string_name, system_name, out_name, println_name, length_name, main_name, object_name, equals_name, is_empty_name, non_null_name, nullable_name, initialized_name, under_name, unknown_name, override_name, org_name, checkerframework_name};
 

@@ -1,5 +1,4 @@
-// Classes of characters.
-
+//! Classes of characters.
 ghost use Rattle.std.specs.Prelude.{◌≡◌, ◌≤◌, ◌^◌, ◌<◌, length};
 ghost use Rattle.jn_lexer.specs.Characters.{is_line_end, is_in_line, is_white, is_digit, is_digit_or_low, is_start, is_part, is_plain, width};
 

@@ -1,5 +1,4 @@
-// White space and comments.
-
+//! White space and comments.
 ghost use Rattle.std.specs.Prelude.{◌≡◌, ◌≤◌, ◌<◌, ◌^◌, false, ◌∷◌, length, drop, IfSome, MatchResult};
 ghost use Rattle.std.specs.List.{prefix_len};
 ghost use Rattle.jn_lexer.specs.Characters.{is_in_line};

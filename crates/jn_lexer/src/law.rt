@@ -1,5 +1,4 @@
-// Laws over the definitions of tokens and faults.
-
+//! Laws over the definitions of tokens and faults.
 ghost use Rattle.std.specs.Prelude.{◌≡◌, ◌≤◌, ◌+◌, List, ℕ, length};
 ghost use Rattle.jn_base.specs.declared.number.FileNo.{FileNo};
 ghost use Rattle.jn_base.specs.declared.place.Row.{Row};

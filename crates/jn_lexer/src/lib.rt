@@ -1,4 +1,7 @@
-// Texts as tokens.
+//! Texts as tokens.
+//!
+//! [`lex`] gives the one list of tokens of a text (JLS 3.3 to 3.12) and interns its names, or the row of its first lexical fault.
+//! `specs/Lexed.antt` and `specs/Faults.antt` say what these are; [`law`] that there is one of the two, and one alone.
 #![tactic(auto)]
 
 mod characters;

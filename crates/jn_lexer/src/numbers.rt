@@ -1,5 +1,4 @@
-// Numbers.
-
+//! Numbers.
 ghost use Rattle.std.specs.Prelude.{◌≡◌, ◌+◌, ◌-◌, ◌*◌, ◌≤◌, ◌&&◌, not, nat_eq, if◌then◌else◌, ℕ, length, MatchOption};
 ghost use Rattle.std.specs.List.{list_all};
 ghost use Rattle.jn_lexer.specs.Characters.{is_digit, is_digit_or_low};

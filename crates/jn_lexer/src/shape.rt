@@ -1,5 +1,4 @@
-// What a scan finds at the front of a text.
-
+//! What a scan finds at the front of a text.
 use jn_base::Code;
 use jn_trees::TokenKind;
 

@@ -1,5 +1,4 @@
-// The tokens that have one spelling.
-
+//! The tokens that have one spelling.
 ghost use Rattle.std.specs.Prelude.{◌≡◌, find};
 ghost use Rattle.jn_lexer.specs.Spelling.{spelling};
 ghost use Rattle.jn_lexer.specs.Scan.{begins, is_spelled};

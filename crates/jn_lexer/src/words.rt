@@ -1,5 +1,4 @@
-// Tokens at the front of a text.
-
+//! Tokens at the front of a text.
 ghost use Rattle.std.specs.Prelude.{◌≡◌, ◌≤◌, ◌<◌, ◌^◌, false, length, MatchOption, MatchResult};
 ghost use Rattle.std.specs.List.{prefix_len};
 ghost use Rattle.jn_lexer.specs.Characters.{is_part, is_start, is_digit};

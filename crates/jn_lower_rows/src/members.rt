@@ -1,4 +1,5 @@
-//! Rows of the members that names mean: none of that name (J2), static or not where it must be the other (J2), private in another class (J3).
+//! Rows of the members that names mean: none of that name (J2), static or not where it must be the other (J2), private in another class
+//! (J3).
 ghost use Rattle.std.specs.Prelude.{◌≡◌, ◌++◌, ◌||◌, ◌&&◌, not, eqb, OnOk, MatchOption, None, Some};
 ghost use Rattle.jn_points.specs.Lookup.{class_info, class_of, field_info, interface_of, method_at, owner, private_of};
 ghost use Rattle.jn_points.specs.Members as members;

@@ -1,4 +1,4 @@
-// Calls, new objects and returns.
+//! Calls, new objects and returns.
 ghost use Rattle.std.specs.Prelude.{◌≡◌, ◌<◌, ◌+◌, ◌-◌, ◌^◌, ◌++◌, Bool, ◌∷◌, [], ℕ, List, Some, None, IfOk, MatchOption, length, ltb};
 ghost use Rattle.jn_points.specs.Lookup.{point_at, body_at, regs_of, body_of, class_of, method_at};
 ghost use Rattle.jn_heap.specs.Values.{defaults, Object, At, usual_limits};

@@ -1,4 +1,4 @@
-// Frames.
+//! Frames.
 ghost use Rattle.std.specs.Prelude.{◌≡◌, ◌<◌, ◌+◌, ◌-◌, ◌^◌, Some, None, MatchOption, slice_set};
 ghost use Rattle.jn_heap.specs.State as spec;
 

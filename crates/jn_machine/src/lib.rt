@@ -1,4 +1,7 @@
-// The machine as code: an interpreter of programs, equal to its definition.
+//! The machine as code: an interpreter of programs, equal to its definition.
+//!
+//! [`start`] is the state in which `main` begins, [`step`] one point, [`run`] so many of them; each equals the definition of `jn_heap`.
+//! [`step_to`] and [`run_to`] print to a sink on the way.
 #![tactic(auto)]
 
 mod calls;

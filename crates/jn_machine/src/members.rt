@@ -1,4 +1,4 @@
-// The points of fields, static fields, arrays, casts and tests of classes.
+//! The points of fields, static fields, arrays, casts and tests of classes.
 ghost use Rattle.std.specs.Prelude.{◌≡◌, ◌<◌, ◌-◌, ◌^◌, ℕ, List, IfOk, replicate, slice_get, slice_set};
 ghost use Rattle.jn_points.specs.Lookup.{elem_base};
 ghost use Rattle.jn_heap.specs.Values.{count, default_of, usual_limits};

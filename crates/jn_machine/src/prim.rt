@@ -1,4 +1,4 @@
-// Ints and booleans, ends of runs, and arithmetic.
+//! Ints and booleans, ends of runs, and arithmetic.
 ghost use Rattle.std.specs.Prelude.{◌≡◌};
 ghost use Rattle.jn_heap.specs.Values as spec;
 ghost use Rattle.jn_machine.specs.Ends.{answer_of};

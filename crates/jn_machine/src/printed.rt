@@ -1,4 +1,4 @@
-// Steps that print to a sink.
+//! Steps that print to a sink.
 ghost use Rattle.std.specs.Prelude.{◌≡◌, ◌≢◌, ◌≤◌, ◌<◌, ℕ, List, IfOk, Err};
 ghost use Rattle.jn_outside.specs.Causes.{Rose};
 ghost use Rattle.jn_heap.specs.State.{Goes};

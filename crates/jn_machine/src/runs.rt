@@ -1,4 +1,4 @@
-// Start states and runs.
+//! Start states and runs.
 ghost use Rattle.std.specs.Prelude.{◌≡◌, ◌∷◌, [], IfOk};
 ghost use Rattle.jn_heap.specs.Values.{At, Elems, first_of, statics_of, usual_limits};
 ghost use Rattle.jn_heap.specs.State.{Goes};

@@ -1,4 +1,4 @@
-// States of the machine.
+//! States of the machine.
 ghost use Rattle.std.specs.Prelude.{◌≡◌, ◌<◌, ◌-◌, ◌^◌, ℕ, List, Some};
 ghost use Rattle.jn_heap.specs.State as spec;
 ghost use Rattle.jn_machine.specs.Ends.{answer_of};

@@ -1,4 +1,4 @@
-// One point is one step.
+//! One point is one step.
 ghost use Rattle.std.specs.Prelude.{◌≡◌, ◌<◌, ◌-◌, ◌^◌, ℕ, List, IfOk};
 ghost use Rattle.jn_heap.specs.Runs.{act, step};
 ghost use Rattle.jn_machine.specs.StateView.{state_of, acted_next, next_of};

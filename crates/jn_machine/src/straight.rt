@@ -1,4 +1,4 @@
-// The points of straight code: constants, moves, operators, texts, tests of null, branches.
+//! The points of straight code: constants, moves, operators, texts, tests of null, branches.
 ghost use Rattle.std.specs.Prelude.{◌≡◌, ◌<◌, ◌-◌, ◌^◌, [], ℕ, List, IfOk, ltb, slice_index_or};
 ghost use Rattle.jn_heap.specs.Values.{units, text_equals, usual_limits};
 ghost use Rattle.jn_heap.specs.State.{State, got_of, got_plain, prim_of, text_in, truth_of, value_at, value_of};

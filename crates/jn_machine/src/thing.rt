@@ -1,4 +1,4 @@
-// Things on the heap.
+//! Things on the heap.
 ghost use Rattle.std.specs.Prelude.{◌≡◌, Some, None, MatchOption, IfOk, slice_set};
 ghost use Rattle.jn_points.specs.Lookup.{elem_base};
 ghost use Rattle.jn_heap.specs.Values as spec;

@@ -1,4 +1,4 @@
-// Values.
+//! Values.
 ghost use Rattle.std.specs.Prelude.{◌≡◌, IfOk, Option, Some, None, MatchOption};
 ghost use Rattle.jn_heap.specs.Values as spec;
 ghost use Rattle.jn_heap.specs.State.{State, object_of, prim_of};

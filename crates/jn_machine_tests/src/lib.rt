@@ -1,4 +1,4 @@
-// Tests of the machine: small programs run to their end.
+//! Tests of the machine: small programs run to their end.
 #![tactic(auto)]
 
 #[cfg(test)]

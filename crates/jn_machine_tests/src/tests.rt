@@ -1,4 +1,4 @@
-// Small programs run to their end.
+//! Small programs run to their end.
 use jn_base::{BodyNo, ClassNo, MethodNo, OutOfMemory, Text};
 use jn_hand_programs::build::{Hand, Kind, OBJECT, VOID, instance, named, plain};
 use jn_hand_programs::lines::{

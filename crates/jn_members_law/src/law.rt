@@ -1,4 +1,4 @@
-// Laws over the definitions.
+//! Laws over the definitions.
 ghost use Rattle.std.specs.Prelude.{ℕ, ◌≡◌, ◌⊎◌, length, true, false, Some};
 ghost use Rattle.jn_points.specs.declared.program.Field.{Field as FieldOf};
 ghost use Rattle.jn_points.specs.declared.program.Method.{Method as MethodOf};

@@ -1,4 +1,4 @@
-// Counts of calls and of faults, which stand still at their last value.
+//! Counts of calls and of faults, which stand still at their last value.
 ghost use Rattle.std.specs.Prelude.{◌≡◌, ◌<◌, ◌+◌, ◌-◌, ◌^◌, min, IsTrue};
 ghost use Rattle.jn_outside.specs.Calls as spec;
 

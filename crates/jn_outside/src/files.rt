@@ -1,4 +1,4 @@
-// A source of files, and a whole read by counts of faults.
+//! A source of files, and a whole read by counts of faults.
 ghost use Rattle.std.specs.Prelude.{◌≡◌, ◌<◌, ◌≤◌, ◌^◌, ◌+◌, ℕ, List, [], ◌∷◌, ◌++◌, length, take, Option, IfOk, OnOk, OnErr, IsOk, IsSome, ◌≢◌, Err, ◌-◌};
 ghost use Rattle.jn_outside.specs.Causes.{Rose, HasCause};
 ghost use Rattle.jn_outside.specs.Gave.{given, with_start, with_read, GivesBehind, GivesTooMany, GivesLittle};

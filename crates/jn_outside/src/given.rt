@@ -1,4 +1,4 @@
-// What the calls of a source gave, which only clauses read.
+//! What the calls of a source gave, which only clauses read.
 ghost use Rattle.std.specs.Prelude.{◌≡◌};
 ghost use Rattle.jn_outside.specs.Gave as spec;
 

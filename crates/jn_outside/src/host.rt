@@ -1,5 +1,5 @@
-// The files and the standard output of the host. Files tell what their calls gave, and the output what its writes took;
-// what a file holds, and what was written before, no call can tell.
+//! The files and the standard output of the host. Files tell what their calls gave, and the output what its writes took;
+//! what a file holds, and what was written before, no call can tell.
 ghost use Rattle.std.specs.Prelude.{◌≡◌, ◌<◌, ◌≤◌, ◌+◌, ◌-◌, ◌^◌, [], length, take, min, None, Some, Ok, IfOk, OnOk, OnErr, IsOk, IsSome};
 ghost use Rattle.jn_outside.specs.Causes.{HasCause};
 ghost use Rattle.jn_outside.specs.Files.{Holds, Starts, Reads};

@@ -1,4 +1,8 @@
-// Sources of files and sinks of bytes, which count their faults.
+//! Sources of files and sinks of bytes, which count their faults.
+//!
+//! [`Files`] and [`Sink`] are what the program asks of the outside; [`read_whole`] and [`write_whole`] read and write whole over any of
+//! them. [`HostFiles`] and [`HostSink`] stand for the host, [`MemFiles`] and [`MemSink`] for tests, which say where they fail. A source
+//! tells only clauses what its calls gave ([`Told`], [`Given`]).
 #![tactic(auto)]
 
 mod count;

@@ -1,4 +1,4 @@
-// Files in memory, which tell all and fail where they are told to.
+//! Files in memory, which tell all and fail where they are told to.
 ghost use Rattle.std.specs.Prelude.{◌≡◌, ◌≤◌, ◌+◌, ◌-◌, ◌^◌, ◌||◌, [], length, None, take, min, IfOk, OnOk, OnErr, IsOk, is_err, is_none};
 ghost use Rattle.std.specs.List.{position};
 ghost use Rattle.jn_outside.specs.Causes.{HasCause};

@@ -1,4 +1,4 @@
-// A sink in memory, which tells all and fails where it is told to.
+//! A sink in memory, which tells all and fails where it is told to.
 ghost use Rattle.std.specs.Prelude.{◌≡◌, ◌<◌, ◌≤◌, ◌+◌, ◌-◌, ◌^◌, ◌||◌, [], length, Some, Ok, take, min, nat_le, IfOk, OnErr, is_err, vec_capacity};
 ghost use Rattle.jn_outside.specs.Causes.{HasCause};
 ghost use Rattle.jn_outside.specs.Sink.{Appends};

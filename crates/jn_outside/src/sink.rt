@@ -1,4 +1,4 @@
-// A sink of bytes, and a whole write by counts of faults.
+//! A sink of bytes, and a whole write by counts of faults.
 ghost use Rattle.std.specs.Prelude.{◌≡◌, ◌<◌, ◌≤◌, ℕ, List, [], length, Option, IfOk, OnOk, OnErr, Ok, take};
 ghost use Rattle.jn_outside.specs.Causes.{Rose, HasCause};
 ghost use Rattle.jn_outside.specs.Sink.{Appends, AppendsPrefix};

@@ -1,4 +1,4 @@
-// What a source or a sink did, as a list that only clauses read.
+//! What a source or a sink did, as a list that only clauses read.
 ghost use Rattle.std.specs.Prelude.{◌≡◌, List, [], ◌++◌};
 ghost use Rattle.std.specs.Borrow.{ftrue};
 

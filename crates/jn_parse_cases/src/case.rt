@@ -1,4 +1,4 @@
-// A case is one line: what is shown, if not shapes; its kind, with a number if not the greatest depth; and its text.
+//! A case is one line: what is shown, if not shapes; its kind, with a number if not the greatest depth; and its text.
 use crate::expressions::expression_text;
 use crate::outcome::{FILE, LIMIT, fail_text, tree_text};
 use crate::page::Shown;

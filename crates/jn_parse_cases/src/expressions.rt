@@ -1,4 +1,4 @@
-// The shape of an expression as text, with each node in parentheses.
+//! The shape of an expression as text, with each node in parentheses.
 use crate::outcome::LIMIT;
 use crate::page::{Page, Shown};
 use crate::places::expression_span;

@@ -1,4 +1,4 @@
-// Reads the tables that the words name, and prints each case with what becomes of its text.
+//! Reads the tables that the words name, and prints each case with what becomes of its text.
 #![tactic(auto)]
 
 mod case;

@@ -1,4 +1,4 @@
-// What becomes of a text: the shape of its tree, or its row.
+//! What becomes of a text: the shape of its tree, or its row.
 use crate::page::Shown;
 use crate::shape::shape_of;
 use jn_base::{Fail, FileNo, OutOfMemory, Row, place_of};

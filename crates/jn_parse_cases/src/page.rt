@@ -1,4 +1,4 @@
-// A text that grows. A want of memory is kept until the end, so that what writes has no `?` and is proved in a moment.
+//! A text that grows. A want of memory is kept until the end, so that what writes has no `?` and is proved in a moment.
 use jn_base::{OutOfMemory, Span};
 use std::alloc::Global;
 

@@ -1,4 +1,4 @@
-// The bytes that a node takes.
+//! The bytes that a node takes.
 use jn_base::Span;
 use jn_trees::{Expr, Member, Stmt, TypeTree};
 

@@ -1,4 +1,4 @@
-// The shape of a file or of a statement as text.
+//! The shape of a file or of a statement as text.
 use crate::expressions::{write_base, write_expression, write_identifier, write_list};
 use crate::page::{Page, Shown};
 use crate::places::{member_span, statement_span, type_span};

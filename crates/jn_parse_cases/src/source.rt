@@ -1,4 +1,4 @@
-// The bytes of a case's text: ¶ is the end of a line, «N» the byte of that number, and «N TEXT» the text N times.
+//! The bytes of a case's text: ¶ is the end of a line, «N» the byte of that number, and «N TEXT» the text N times.
 use jn_base::OutOfMemory;
 use std::alloc::{AllocError, Global};
 

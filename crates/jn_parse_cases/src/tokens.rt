@@ -1,4 +1,4 @@
-// The tokens of a text, and its names.
+//! The tokens of a text, and its names.
 use jn_base::{NameNo, OutOfMemory};
 use jn_trees::{Names, Token};
 use std::alloc::{AllocError, Global};

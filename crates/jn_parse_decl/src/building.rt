@@ -1,4 +1,4 @@
-// What has been read of a file: what is closed, and the open type and member.
+//! What has been read of a file: what is closed, and the open type and member.
 ghost use Rattle.std.specs.Prelude.{◌≡◌, ◌++◌, ◌∷◌, [], IfOk, Some, None, map, option_map};
 ghost use Rattle.jn_trees.specs.View.{file_view, member_view, member_views, type_view, statement_view, marks, type_use_view, declarator_view, declarator_views, result_view, receiver_view, parameter_views};
 ghost use Rattle.jn_trees.specs.Trees.{FieldMember, MethodMember};

@@ -1,4 +1,4 @@
-// Files from tokens.
+//! Files from tokens.
 ghost use Rattle.std.specs.Prelude.{◌≡◌, ◌<◌, ◌^◌, length, IfOk, IfErr};
 ghost use Rattle.jn_trees.specs.Refused.{IfRefused};
 ghost use Rattle.jn_trees.specs.Pieces.{IsFile, IsSyntaxRow, Shallow, kinds, token_place as spec_place};

@@ -1,4 +1,4 @@
-// Heads of types, through the opening brace (JLS 8.1, 9.1).
+//! Heads of types, through the opening brace (JLS 8.1, 9.1).
 ghost use Rattle.std.specs.Prelude.{◌≡◌, IfOk};
 ghost use Rattle.jn_trees.specs.View.{marks, identifier_names, parent_view};
 ghost use Rattle.jn_trees.specs.Pieces.{kinds};

@@ -1,4 +1,7 @@
-// Files from tokens.
+//! Files from tokens.
+//!
+//! [`parse_file`] gives the one well-formed tree that tokens spell (JLS 7.3), or the row where they stop to be one. The file is read piece
+//! by piece, with what is open on a stack of its own; statements and expressions inside are those of `jn_parse_stmt` and `jn_parse_expr`.
 #![tactic(auto)]
 
 mod building;

@@ -1,4 +1,4 @@
-// The lines that begin a file (JLS 7.4, 7.5).
+//! The lines that begin a file (JLS 7.4, 7.5).
 ghost use Rattle.std.specs.Prelude.{◌≡◌, ◌∷◌, List, IfOk, MatchOption};
 ghost use Rattle.jn_trees.specs.declared.token.TokenKind.{TokenKind as Kind};
 ghost use Rattle.jn_trees.specs.View.{identifier_names};

@@ -1,4 +1,4 @@
-// Members: fields and methods without body whole, others through the brace of their body (JLS 8.3, 8.4, 8.8, 9.3, 9.4).
+//! Members: fields and methods without body whole, others through the brace of their body (JLS 8.3, 8.4, 8.8, 9.3, 9.4).
 ghost use Rattle.std.specs.Prelude.{◌≡◌, ◌∷◌, List, IfOk, MatchOption, None};
 ghost use Rattle.jn_base.specs.declared.number.NameNo.{NameNo as Name};
 ghost use Rattle.jn_trees.specs.declared.token.TokenKind.{TokenKind as Kind};

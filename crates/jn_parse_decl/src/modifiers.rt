@@ -1,4 +1,4 @@
-// Modifiers of types and members (JLS 8.1.1, 8.3.1, 8.4.3, 8.8.3, 9.4).
+//! Modifiers of types and members (JLS 8.1.1, 8.3.1, 8.4.3, 8.8.3, 9.4).
 ghost use Rattle.std.specs.Prelude.{◌≡◌, ◌&&◌, ◌∷◌, [], List, MatchOption, IfOk, IfSome, option_map, length, ◌<◌};
 ghost use Rattle.jn_base.specs.declared.number.NameNo.{NameNo as Name};
 ghost use Rattle.jn_trees.specs.declared.token.TokenKind.{TokenKind as Kind};

@@ -1,4 +1,4 @@
-// Declarators and statements, as deep as a file may nest them.
+//! Declarators and statements, as deep as a file may nest them.
 ghost use Rattle.std.specs.Prelude.{◌≡◌, IfOk};
 ghost use Rattle.jn_trees.specs.WellFormed.{deepest};
 ghost use Rattle.jn_trees.specs.Longest.{seen_statement};

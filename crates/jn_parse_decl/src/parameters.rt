@@ -1,4 +1,4 @@
-// Parameters and receivers (JLS 8.4.1).
+//! Parameters and receivers (JLS 8.4.1).
 ghost use Rattle.std.specs.Prelude.{◌≡◌, ◌<◌, length, IfOk, IfSome, Some};
 ghost use Rattle.jn_trees.specs.View.{local_marks, type_use_view, receiver_view, parameter_view, parameter_views, parent_view};
 ghost use Rattle.jn_trees.specs.Pieces.{kinds};

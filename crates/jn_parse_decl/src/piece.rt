@@ -1,4 +1,4 @@
-// The pieces of a file, and what stands around each.
+//! The pieces of a file, and what stands around each.
 ghost use Rattle.std.specs.Prelude.{◌≡◌};
 ghost use Rattle.jn_trees.specs.Pieces as trees;
 ghost use Rattle.jn_parse_decl.specs.Seen.{piece_view, around_view, head_piece};

@@ -1,4 +1,4 @@
-// One piece from the front of tokens.
+//! One piece from the front of tokens.
 ghost use Rattle.std.specs.Prelude.{◌≡◌, IfOk};
 ghost use Rattle.jn_trees.specs.Pieces.{kinds};
 ghost use Rattle.jn_file_law.specs.PieceReader as reader;

@@ -1,4 +1,4 @@
-// One item more.
+//! One item more.
 ghost use Rattle.std.specs.Prelude.{◌≡◌, ◌++◌, ◌∷◌, [], OnOk};
 
 use jn_base::OutOfMemory;

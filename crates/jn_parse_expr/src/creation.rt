@@ -1,5 +1,4 @@
-// New objects and arrays (JLS 15.9, 15.10).
-
+//! New objects and arrays (JLS 15.9, 15.10).
 ghost use Rattle.std.specs.Prelude.{◌≡◌, ◌++◌, ◌∷◌, ◌-◌, ◌+◌, ◌<◌, ◌^◌, [], ℕ, List, Option, Some, None, IfOk, IfSome, OnOk, MatchOption, option_map};
 ghost use Rattle.jn_base.specs.declared.number.NameNo.{NameNo as SpecName};
 ghost use Rattle.jn_trees.specs.declared.token.TokenKind.{TokenKind as Kind};

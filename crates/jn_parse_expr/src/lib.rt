@@ -1,4 +1,4 @@
-// Expressions from tokens.
+//! Expressions from tokens.
 #![tactic(auto)]
 
 ghost use Rattle.std.specs.Prelude.{◌≡◌, ◌-◌, ◌≤◌, ◌<◌, ◌^◌, IfOk, IfSome, drop, length};

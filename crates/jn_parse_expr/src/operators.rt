@@ -1,5 +1,4 @@
-// Operators between two operands, and `instanceof` (JLS 15.17 to 15.24).
-
+//! Operators between two operands, and `instanceof` (JLS 15.17 to 15.24).
 ghost use Rattle.std.specs.Prelude.{◌≡◌, ◌-◌, ◌≤◌, ◌<◌, ◌^◌, ℕ, IfOk, IfSome, List, [], ◌∷◌};
 ghost use Rattle.jn_trees.specs.Trees.{Tree};
 ghost use Rattle.jn_trees.specs.WellFormed.{nesting, power as weakness};

@@ -1,5 +1,4 @@
-// Primaries: what stands by itself, with its fields, calls and indices (JLS 15.8 to 15.13).
-
+//! Primaries: what stands by itself, with its fields, calls and indices (JLS 15.8 to 15.13).
 ghost use Rattle.std.specs.Prelude.{◌≡◌, ◌-◌, ◌+◌, ◌≤◌, ◌<◌, ◌^◌, ℕ, IfOk, IfSome, MatchOption, option_map, List, [], ◌∷◌, Option, Some};
 ghost use Rattle.jn_base.specs.declared.number.NameNo.{NameNo as SpecName};
 ghost use Rattle.jn_trees.specs.declared.token.TokenKind.{TokenKind as Kind};

@@ -1,5 +1,4 @@
-// What goes on with a tree that stands to the left.
-
+//! What goes on with a tree that stands to the left.
 ghost use Rattle.std.specs.Prelude.{◌≡◌, ◌≤◌, ◌∷◌, List, [], Option, Some, IfOk, MatchOption, ℕ, max};
 ghost use Rattle.jn_trees.specs.declared.token.TokenKind.{TokenKind as Kind};
 ghost use Rattle.jn_trees.specs.Trees.{CallTree};

@@ -1,5 +1,4 @@
-// Unary expressions: signs, steps and casts (JLS 15.14 to 15.16).
-
+//! Unary expressions: signs, steps and casts (JLS 15.14 to 15.16).
 ghost use Rattle.std.specs.Prelude.{◌≡◌, ◌-◌, ◌+◌, ◌≤◌, ◌<◌, ◌^◌, ℕ, IfOk, IfSome, List, [], ◌∷◌, Option, nat_eq, option_map};
 ghost use Rattle.jn_trees.specs.declared.expression.UnaryOperator.{UnaryOperator as Operator};
 ghost use Rattle.jn_trees.specs.Trees.{Tree, PrefixTree};

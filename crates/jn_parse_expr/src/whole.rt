@@ -1,5 +1,4 @@
-// Whole expressions: assignments and conditionals (JLS 15.25, 15.26).
-
+//! Whole expressions: assignments and conditionals (JLS 15.25, 15.26).
 ghost use Rattle.std.specs.Prelude.{◌≡◌, ◌-◌, ◌≤◌, ◌<◌, IfOk, List, [], ◌∷◌};
 ghost use Rattle.jn_trees.specs.Trees.{Tree};
 ghost use Rattle.jn_trees.specs.WellFormed.{nesting, is_left_side};

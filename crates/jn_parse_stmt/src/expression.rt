@@ -1,4 +1,4 @@
-// Expressions, as the reader of the grammar has them.
+//! Expressions, as the reader of the grammar has them.
 ghost use Rattle.std.specs.Prelude.{◌≡◌, ◌≤◌, length, IfOk, IfSome};
 ghost use Rattle.jn_trees.specs.Longest.{seen};
 ghost use Rattle.jn_trees.specs.Pieces.{kinds};

@@ -1,4 +1,4 @@
-// Statements from tokens.
+//! Statements from tokens.
 #![tactic(auto)]
 
 ghost use Rattle.std.specs.Prelude.{◌≡◌, IfOk};

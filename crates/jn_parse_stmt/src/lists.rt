@@ -1,4 +1,4 @@
-// Expressions by themselves, in parentheses, before a semicolon and in lists.
+//! Expressions by themselves, in parentheses, before a semicolon and in lists.
 ghost use Rattle.std.specs.Prelude.{◌≡◌, IfOk};
 ghost use Rattle.jn_trees.specs.Longest.{seen};
 ghost use Rattle.jn_trees.specs.Pieces.{kinds};

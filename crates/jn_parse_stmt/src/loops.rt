@@ -1,4 +1,4 @@
-// What stands before the body of a loop.
+//! What stands before the body of a loop.
 ghost use Rattle.std.specs.Prelude.{◌≡◌, List, IfOk, None};
 ghost use Rattle.jn_trees.specs.declared.token.TokenKind.{TokenKind as Kind};
 ghost use Rattle.jn_trees.specs.Longest.{TryStatement};

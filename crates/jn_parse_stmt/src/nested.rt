@@ -1,4 +1,4 @@
-// Statements in which others stand. What is built or read beside the recursion is in functions of its own, so that its frames stay small.
+//! Statements in which others stand. What is built or read beside the recursion is in functions of its own, so that its frames stay small.
 ghost use Rattle.std.specs.Prelude.{◌≡◌, ◌++◌, ◌∷◌, [], IfOk, OnOk, Some};
 ghost use Rattle.jn_trees.specs.Longest.{TryStatement};
 ghost use Rattle.jn_trees.specs.Trees.{Tree, EmptyStatement, BlockStatement, IfStatement, IfElseStatement};

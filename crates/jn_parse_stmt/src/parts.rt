@@ -1,4 +1,4 @@
-// What statements and members share: annotations, modifiers of locals, uses of types, and declarators.
+//! What statements and members share: annotations, modifiers of locals, uses of types, and declarators.
 ghost use Rattle.std.specs.Prelude.{◌≡◌, ◌∷◌, ◌≤◌, length, List, IfOk, MatchOption, IfSome, None};
 ghost use Rattle.jn_base.specs.declared.number.NameNo.{NameNo as SpecName};
 ghost use Rattle.jn_trees.specs.declared.token.TokenKind.{TokenKind as Kind};

@@ -1,4 +1,4 @@
-// What wants memory.
+//! What wants memory.
 ghost use Rattle.std.specs.Prelude.{◌≡◌, ◌++◌, ◌∷◌, [], OnOk, IfOk};
 
 use jn_base::OutOfMemory;

@@ -1,4 +1,4 @@
-// Statements in which no other stands. Each answers in a box, so that the frames of nested statements stay small.
+//! Statements in which no other stands. Each answers in a box, so that the frames of nested statements stay small.
 ghost use Rattle.std.specs.Prelude.{◌≡◌, IfOk};
 ghost use Rattle.jn_trees.specs.Pieces.{kinds};
 ghost use Rattle.jn_trees.specs.Trees.{BreakStatement, ContinueStatement, ThisCallStatement, SuperCallStatement};

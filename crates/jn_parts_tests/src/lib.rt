@@ -1,4 +1,4 @@
-// Tests of what no Java file can show: sets of qualifiers by their bits, and how they are packed into words.
+//! Tests of what no Java file can show: sets of qualifiers by their bits, and how they are packed into words.
 #![tactic(auto)]
 
 #[cfg(test)]

@@ -1,4 +1,4 @@
-// All pairs of sets, and words.
+//! All pairs of sets, and words.
 use jn_quals::{Qual, pack, unpack};
 
 /// The union of two sets, by their bits.

@@ -1,4 +1,4 @@
-// Signatures as words.
+//! Signatures as words.
 use jn_base::SlotNo;
 use jn_quals::Qual;
 use jn_sigs::Sig;

@@ -1,4 +1,4 @@
-// The edges of a point.
+//! The edges of a point.
 use jn_base::PointNo;
 
 /// Where a point leads: its targets, two where it tests.

@@ -1,4 +1,8 @@
-// Programs as points.
+//! Programs as points.
+//!
+//! A [`Program`] has classes, fields, methods and slots, and bodies whose [`Point`]s are one operation on registers each; [`edges`] gives
+//! where a point leads. [`method_of`], [`field_of`], [`dispatch`] and [`is_pair`] are the look-ups of members (JLS 8), each equal to its
+//! definition in `specs/Members.antt`. `specs/Regular.antt` says which programs are regular, `specs/BaseTyping.antt` which are base-typed.
 #![tactic(auto)]
 
 ghost use Rattle.std.specs.Prelude.{◌≡◌, ◌<◌, ◌^◌, ◌-◌, length, slice_get};

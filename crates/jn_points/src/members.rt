@@ -1,4 +1,4 @@
-// Subtypes, members, dispatch and overriding pairs (JLS 8, 4.10, 8.2, 8.4.8, 9.4.1 and 15.12.4.4).
+//! Subtypes, members, dispatch and overriding pairs (JLS 8, 4.10, 8.2, 8.4.8, 9.4.1 and 15.12.4.4).
 ghost use Rattle.std.specs.Prelude.{◌≡◌, ◌<◌, ◌^◌, ◌&&◌, ◌||◌, not, eqb, length, IfSome, MatchOption, None, Some};
 ghost use Rattle.jn_points.specs.Members as spec;
 ghost use Rattle.jn_points.specs.Sought.{count_of, declared};

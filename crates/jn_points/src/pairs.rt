@@ -1,4 +1,4 @@
-// Overriding pairs (JLS 8, 8.4.8 and 9.4.1).
+//! Overriding pairs (JLS 8, 8.4.8 and 9.4.1).
 ghost use Rattle.std.specs.Prelude.{◌≡◌, ◌<◌, ◌^◌, ◌&&◌, ◌||◌, not, eqb, length};
 ghost use Rattle.jn_points.specs.Members as spec;
 ghost use Rattle.jn_points.specs.Lookup.{class_info, interface_of, method_at};

@@ -1,4 +1,4 @@
-// The points of a body.
+//! The points of a body.
 use jn_base::{ClassNo, FieldNo, MethodNo, NameNo, PointNo, RegNo, Seq, Span};
 use jn_quals::Qual;
 

@@ -1,4 +1,4 @@
-// A program as lists.
+//! A program as lists.
 use crate::point::{BaseType, Point};
 use jn_base::{BodyNo, ClassNo, MethodNo, NameNo, Seq, SlotNo, Span};
 use jn_quals::Qual;

@@ -1,4 +1,4 @@
-// Laws of qualifiers and packed words.
+//! Laws of qualifiers and packed words.
 ghost use Rattle.std.specs.Prelude.{◌≡◌, ◌<◌, ◌≤◌, ◌+◌, ◌*◌, ◌^◌, ℕ, IsTrue};
 ghost use Rattle.jn_quals.specs.Qualifier.{Qualifier};
 ghost use Rattle.jn_quals.specs.Order.{join, within};

@@ -1,4 +1,4 @@
-// Qualifiers as sets of three bits.
+//! Qualifiers as sets of three bits.
 ghost use Rattle.std.specs.Prelude.{◌≡◌, ◌<◌};
 ghost use Rattle.jn_quals.specs.Qualifier.{Qualifier, of_bits};
 

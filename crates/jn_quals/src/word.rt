@@ -1,4 +1,4 @@
-// Qualifiers packed into words.
+//! Qualifiers packed into words.
 ghost use Rattle.std.specs.Prelude.{◌≡◌, ◌<◌};
 ghost use Rattle.jn_quals.specs.Word.{unpack, pack};
 

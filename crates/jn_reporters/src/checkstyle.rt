@@ -1,4 +1,4 @@
-// The report as the XML of Checkstyle.
+//! The report as the XML of Checkstyle.
 ghost use Rattle.std.specs.Prelude.{◌≡◌, ◌++◌, IfOk, OnOk};
 ghost use Rattle.jn_reporters.specs.Checkstyle as spec;
 

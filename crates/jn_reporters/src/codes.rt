@@ -1,4 +1,4 @@
-// All codes of rows, and their order.
+//! All codes of rows, and their order.
 ghost use Rattle.std.specs.Prelude.{◌≡◌, ◌<◌};
 ghost use Rattle.jn_diag.specs.Order.{code_place};
 ghost use Rattle.jn_reporters.specs.Reports.{all_codes};

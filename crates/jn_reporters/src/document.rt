@@ -1,4 +1,4 @@
-// Reports that are one document of all rows.
+//! Reports that are one document of all rows.
 ghost use Rattle.std.specs.Prelude.{◌≡◌, ℕ, List, IfOk};
 ghost use Rattle.jn_diag.specs.declared.shown.RowText.{RowText};
 ghost use Rattle.jn_reporters.specs.Sheet.{document_shown, nothing_taken};

@@ -1,4 +1,4 @@
-// Texts that are written where some bytes have a meaning of their own.
+//! Texts that are written where some bytes have a meaning of their own.
 ghost use Rattle.std.specs.Prelude.{◌≡◌, ◌++◌, ◌∷◌, [], ◌<◌, OnOk};
 ghost use Rattle.jn_reporters.specs.Escapes as spec;
 

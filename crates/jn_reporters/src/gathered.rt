@@ -1,4 +1,4 @@
-// Rows that a reporter keeps.
+//! Rows that a reporter keeps.
 ghost use Rattle.std.specs.Prelude.{◌≡◌, ◌++◌, ◌∷◌, [], OnOk, OnErr};
 
 use jn_base::OutOfMemory;

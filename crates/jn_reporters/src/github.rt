@@ -1,4 +1,4 @@
-// The report as workflow commands of GitHub.
+//! The report as workflow commands of GitHub.
 ghost use Rattle.std.specs.Prelude.{◌≡◌, IfOk};
 ghost use Rattle.jn_reporters.specs.Github.{github_shown};
 ghost use Rattle.jn_reporters.specs.Github as spec;

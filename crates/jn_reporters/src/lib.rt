@@ -1,4 +1,7 @@
-// Reporters, which make the text of a report from rows and a verdict.
+//! Reporters, which make the text of a report from rows and a verdict.
+//!
+//! A [`Reporter`] takes each row once and in order, and then the verdict; its bytes are a function of both, defined in `specs/` for each of
+//! [`Plain`], [`Tabbed`], [`Summary`], [`Github`], [`Checkstyle`] and [`Sarif`]. `docs/HOWTO.md` says how to add one.
 #![tactic(auto)]
 
 pub mod checkstyle;

@@ -1,4 +1,4 @@
-// The lines of reports.
+//! The lines of reports.
 ghost use Rattle.std.specs.Prelude.{◌≡◌, ◌++◌, codes, decimal, IfOk, OnOk, OnErr};
 ghost use Rattle.jn_reporters.specs.Reports as spec;
 

@@ -1,4 +1,4 @@
-// The plain report.
+//! The plain report.
 ghost use Rattle.std.specs.Prelude.{◌≡◌};
 ghost use Rattle.jn_reporters.specs.Reports.{plain_shown};
 ghost use Rattle.jn_reporters.specs.Sheet.{nothing_taken};

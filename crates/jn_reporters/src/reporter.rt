@@ -1,4 +1,4 @@
-// What a reporter is.
+//! What a reporter is.
 ghost use Rattle.std.specs.Prelude.{◌≡◌, ◌++◌, ◌∷◌, [], ℕ, List, Option, Some, OnOk, OnErr};
 ghost use Rattle.jn_diag.specs.declared.shown.RowText.{RowText};
 ghost use Rattle.jn_diag.specs.declared.shown.Verdict.{Verdict};

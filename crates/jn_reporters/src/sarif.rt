@@ -1,4 +1,4 @@
-// The report in SARIF.
+//! The report in SARIF.
 ghost use Rattle.std.specs.Prelude.{◌≡◌, ◌++◌, ◌∷◌, [], IfOk, OnOk};
 ghost use Rattle.jn_reporters.specs.Sarif as spec;
 

@@ -1,4 +1,4 @@
-// The summary.
+//! The summary.
 ghost use Rattle.std.specs.Prelude.{◌≡◌, ◌<◌, ◌+◌, ◌-◌, ◌^◌, length, slice_index, slice_set, IfOk};
 ghost use Rattle.jn_diag.specs.Order.{code_place};
 ghost use Rattle.jn_reporters.specs.Counts.{lines_of};

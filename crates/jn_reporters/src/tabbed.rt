@@ -1,4 +1,4 @@
-// The tabbed report.
+//! The tabbed report.
 ghost use Rattle.std.specs.Prelude.{◌≡◌};
 ghost use Rattle.jn_reporters.specs.Reports.{tabbed_shown};
 ghost use Rattle.jn_reporters.specs.Sheet.{nothing_taken};

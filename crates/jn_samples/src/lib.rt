@@ -1,4 +1,6 @@
-// Small systems and a gate, on which the solver is tried.
+//! Small systems and a gate, on which the solver is tried.
+//!
+//! [`Pair`] and [`Net`] are systems with known least words, and [`Meet`] is a gate that holds one worker until another one comes.
 #![tactic(auto)]
 
 mod meet;

@@ -1,4 +1,4 @@
-// A gate at which workers meet.
+//! A gate at which workers meet.
 use jn_base::BodyNo;
 use jn_workers::Gate;
 use std::sync::atomic::{AtomicU64, Ordering};

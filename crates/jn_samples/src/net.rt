@@ -1,4 +1,4 @@
-// Many bodies, each with a word of its own.
+//! Many bodies, each with a word of its own.
 ghost use Rattle.std.specs.Prelude.{◌≡◌, ◌<◌};
 ghost use Rattle.jn_samples.specs.Nets.{source};
 

@@ -1,4 +1,4 @@
-// Two bodies over one word.
+//! Two bodies over one word.
 use jn_base::{BodyNo, OutOfMemory, WordNo};
 use jn_sigtable::Constraints;
 use std::alloc::Global;

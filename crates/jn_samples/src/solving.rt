@@ -1,4 +1,4 @@
-// Systems solved by workers and on one thread.
+//! Systems solved by workers and on one thread.
 ghost use Rattle.std.specs.Prelude.{◌≡◌, ◌+◌, ◌/◌, ◌<◌, ◌≤◌, replicate, IfOk};
 ghost use Rattle.jn_sigtable.specs.System.{least};
 ghost use Rattle.jn_samples.specs.Nets.{net_of};

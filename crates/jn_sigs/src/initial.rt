@@ -1,4 +1,4 @@
-// The signature from which inference starts.
+//! The signature from which inference starts.
 ghost use Rattle.std.specs.Prelude.{◌≡◌, ◌<◌, ◌^◌, cond, length, replicate, IfOk};
 ghost use Rattle.jn_quals.specs.Order.{no_qual, committed_only};
 ghost use Rattle.jn_sigs.specs.Marks.{AreFlags};

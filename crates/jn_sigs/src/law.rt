@@ -1,4 +1,4 @@
-// Laws of packed words.
+//! Laws of packed words.
 ghost use Rattle.std.specs.Prelude.{◌≡◌, ◌≢◌, ◌<◌, ℕ, List, length, slice_index_or};
 ghost use Rattle.jn_quals.specs.Qualifier.{Qualifier};
 ghost use Rattle.jn_quals.specs.Order.{no_qual, join};

@@ -1,4 +1,4 @@
-// Signatures as packed words.
+//! Signatures as packed words.
 ghost use Rattle.std.specs.Prelude.{◌≡◌, ◌<◌, ◌+◌, ◌/◌, length, replicate, slice_index_or, IfOk};
 ghost use Rattle.jn_quals.specs.Order.{no_qual};
 ghost use Rattle.jn_sigs.specs.Packed.{ArePacked, raised, unpacked};

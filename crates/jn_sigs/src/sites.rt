@@ -1,4 +1,4 @@
-// Methods that a body of their class calls.
+//! Methods that a body of their class calls.
 ghost use Rattle.std.specs.Prelude.{◌≡◌, ℕ, ◌&&◌, eqb, length, IfOk};
 ghost use Rattle.jn_points.specs.Lookup.{class_of, method_at};
 ghost use Rattle.jn_points.specs.Members.{some_of};

@@ -1,4 +1,4 @@
-// The system that is solved.
+//! The system that is solved.
 ghost use Rattle.std.specs.Prelude.{◌≡◌, ℕ, ◌<◌, IfOk, length};
 ghost use Rattle.jn_sigtable.specs.System.{System, IsLawful, IsReadList};
 

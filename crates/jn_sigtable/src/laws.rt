@@ -1,4 +1,4 @@
-// Laws of the least words.
+//! Laws of the least words.
 ghost use Rattle.std.specs.Prelude.{◌≡◌, length};
 ghost use Rattle.jn_sigtable.specs.System.{least, IsLeast};
 

@@ -1,4 +1,8 @@
-// Words of bits that workers raise together.
+//! Words of bits that workers raise together.
+//!
+//! A system of words ([`Constraints`]) is solved on a [`SigTable`] of atomic words: a [`Pass`] is what one worker knows of it, and each of
+//! its steps, take, read, raise, mark, scan and join, is one atomic operation. Where a pass has seen all idle, `close` gives the least
+//! words ([`least_words_are_least`]); `specs/Machine.antt` is the raise machine behind it.
 #![tactic(auto)]
 
 mod constraints;

@@ -1,4 +1,4 @@
-// What each kind of step makes of a pass's view.
+//! What each kind of step makes of a pass's view.
 ghost use Rattle.jn_sigtable.specs.Machine.{Takes, Reads, Raises, Marks, Scans, described, left_seen, right_seen, both_seen, spent};
 
 use crate::constraints::Constraints;

@@ -1,4 +1,4 @@
-// What a table is told once, what a pass knows, and the rule that ties both to the words.
+//! What a table is told once, what a pass knows, and the rule that ties both to the words.
 use crate::constraints::Constraints;
 use atomic_table::TableRule;
 use jn_base::WordNo;

@@ -1,4 +1,4 @@
-// Reads and writes over fakes that fail at each call in turn, and over the host.
+//! Reads and writes over fakes that fail at each call in turn, and over the host.
 use jn_base::{Fail, OutOfMemory};
 use jn_outside::given::{with_read, with_start};
 use jn_outside::{

@@ -1,4 +1,4 @@
-// The generated program.
+//! The generated program.
 use jn_gen::generate;
 use std::process::Abort;
 

@@ -1,4 +1,5 @@
-// Tests of small libraries by their public names: places and lists, names, words of a command, order of rows, reporters, the generated program, sources and sinks.
+//! Tests of small libraries by their public names: places and lists, names, words of a command, order of rows, reporters, the generated
+//! program, sources and sinks.
 #![tactic(auto)]
 
 #[cfg(test)]

@@ -1,4 +1,4 @@
-// Places of bytes, lists and names.
+//! Places of bytes, lists and names.
 use jn_base::{FileNo, NameNo, Place, Seq, Span, place_of};
 use jn_trees::Names;
 use std::alloc::{AllocError, Global};

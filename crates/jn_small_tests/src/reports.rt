@@ -1,4 +1,4 @@
-// What each reporter writes: a row and a verdict, and then one row more; and names of files with bytes that are escaped.
+//! What each reporter writes: a row and a verdict, and then one row more; and names of files with bytes that are escaped.
 use jn_base::{Code, OutOfMemory, Text};
 use jn_diag::{RowText, Verdict};
 use jn_reporters::{Checkstyle, Github, Plain, Reporter, Sarif, Summary, Tabbed};

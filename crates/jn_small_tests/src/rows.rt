@@ -1,4 +1,4 @@
-// Rows in order, and as a reader sees them.
+//! Rows in order, and as a reader sees them.
 use jn_base::{Code, FileNo, OutOfMemory, Row, Span};
 use jn_diag::{order, row_text};
 use std::alloc::Global;

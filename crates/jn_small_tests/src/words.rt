@@ -1,4 +1,4 @@
-// The words of a command, with bars between them.
+//! The words of a command, with bars between them.
 use jn_base::{Fail, Seq, Text};
 use jn_cli::{Command, Usage, read_words};
 use std::alloc::{AllocError, Global};

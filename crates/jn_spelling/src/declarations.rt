@@ -1,5 +1,4 @@
-// The tokens that spell classes and interfaces.
-
+//! The tokens that spell classes and interfaces.
 ghost use Rattle.std.specs.Prelude.{◌≡◌, ◌++◌, OnOk};
 ghost use Rattle.jn_trees.specs.Spelling.{spell_members as spec_members, spell_more_names as spec_more_names, spell_names as spec_names, spell_parent as spec_parent, spell_class_head as spec_class_head, spell_interface_head as spec_interface_head, spell_type as spec_type};
 ghost use Rattle.jn_trees.specs.View.{marks, identifier_names, parent_view, member_views, type_view};

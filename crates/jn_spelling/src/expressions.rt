@@ -1,5 +1,4 @@
-// The tokens that spell expressions.
-
+//! The tokens that spell expressions.
 ghost use Rattle.std.specs.Prelude.{◌≡◌, ◌++◌, OnOk};
 ghost use Rattle.jn_trees.specs.Spelling.{spell as spec_spell, spell_list as spec_list, spell_annotations as spec_annotations};
 ghost use Rattle.jn_spelling.specs.Parts.{new_front as spec_new};

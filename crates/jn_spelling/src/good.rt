@@ -1,5 +1,4 @@
-// Which expressions are well formed.
-
+//! Which expressions are well formed.
 ghost use Rattle.std.specs.Prelude.{◌≡◌, ◌↔◌, IsTrue};
 ghost use Rattle.jn_trees.specs.WellFormed.{Good, AllGood, GoodLiteral};
 ghost use Rattle.jn_spelling.specs.Parts.{is_least_signed};

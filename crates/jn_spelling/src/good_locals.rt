@@ -1,5 +1,4 @@
-// Which declarations of locals are well formed.
-
+//! Which declarations of locals are well formed.
 ghost use Rattle.std.specs.Prelude.{◌≡◌, ◌↔◌, ◌-◌, ◌^◌, ◌∷◌, min, IsTrue};
 ghost use Rattle.jn_trees.specs.WellFormed.{is_final_mark as spec_is_final, final_once as spec_final_once, GoodOptional, GoodDeclarators, GoodLocal, GoodInit, GoodEffects, nesting_declarators as spec_declarators, nesting_local as spec_local, nesting_init as spec_init};
 ghost use Rattle.jn_trees.specs.View.{views, optional_view, local_mark, local_marks, declarator_view, declarator_views, local_view, init_view};

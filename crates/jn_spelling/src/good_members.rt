@@ -1,5 +1,4 @@
-// Which members, types and files are well formed.
-
+//! Which members, types and files are well formed.
 ghost use Rattle.std.specs.Prelude.{◌≡◌, ◌↔◌, IsTrue, map};
 ghost use Rattle.jn_base.specs.declared.number.NameNo.{NameNo as SpecName};
 ghost use Rattle.jn_trees.specs.WellFormed.{GoodParameters, GoodReceiver, GoodMethodMarks, GoodMethodHead, GoodConstructorHead, GoodField, GoodMethodBody, GoodMember, GoodMembers, GoodType, GoodTypes, GoodFile};

@@ -1,5 +1,4 @@
-// Which statements are well formed.
-
+//! Which statements are well formed.
 ghost use Rattle.std.specs.Prelude.{◌≡◌, ◌↔◌, ◌-◌, ◌^◌, ◌≤◌, min, IsTrue};
 ghost use Rattle.jn_trees.specs.WellFormed.{GoodStatement, GoodStatements, GoodBody, ends_open as spec_ends_open, under as spec_under, in_block as spec_in_block, loop_body as spec_loop_body, body_context as spec_body_context, nesting_statement as spec_nesting, nesting_body as spec_body, deepest as spec_deepest};
 ghost use Rattle.jn_trees.specs.View.{statement_view, statement_views};

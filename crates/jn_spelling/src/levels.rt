@@ -1,5 +1,4 @@
-// How strongly expressions bind, and what may stand in which place.
-
+//! How strongly expressions bind, and what may stand in which place.
 ghost use Rattle.std.specs.Prelude.{◌≡◌, ◌+◌};
 ghost use Rattle.jn_trees.specs.WellFormed.{power as spec_power, rank as spec_rank, is_left_side as spec_is_left_side, is_indexable as spec_is_indexable, is_least_literal as spec_is_least_literal, is_least_number as spec_is_least_number, is_castable as spec_is_castable, is_effect as spec_is_effect};
 ghost use Rattle.jn_spelling.specs.Parts.{is_not_sign};

@@ -1,4 +1,6 @@
-// The definitions of trees, run: the tokens that spell a tree, and whether a tree is well formed.
+//! The definitions of trees, run: the tokens that spell a tree, and whether a tree is well formed.
+//!
+//! [`spell_file`] and [`well_formed_file`] equal the definitions of `jn_trees`, so that cases can hold what the parser gives against them.
 #![tactic(auto)]
 
 pub mod declarations;

@@ -1,5 +1,4 @@
-// The tokens that spell uses of types and declarations of locals.
-
+//! The tokens that spell uses of types and declarations of locals.
 ghost use Rattle.std.specs.Prelude.{◌≡◌, ◌++◌, OnOk};
 ghost use Rattle.jn_trees.specs.Spelling.{spell_brackets as spec_brackets, spell_type_use as spec_type_use, spell_declarator as spec_declarator, spell_more_declarators as spec_more_declarators, spell_local as spec_local, spell_marks as spec_marks, spell_value as spec_value};
 ghost use Rattle.jn_trees.specs.View.{brackets_view, type_use_view, declarator_view, declarator_views, local_view, local_mark, local_marks, optional_view};

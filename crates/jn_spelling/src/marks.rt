@@ -1,5 +1,4 @@
-// Which modifiers may stand together, and where.
-
+//! Which modifiers may stand together, and where.
 ghost use Rattle.std.specs.Prelude.{◌≡◌, ◌↔◌, IsTrue};
 ghost use Rattle.jn_trees.specs.WellFormed.{is_access as spec_is_access, clashes as spec_clashes, clashes_none as spec_clashes_none, no_clash as spec_no_clash, marks_type as spec_type, marks_interface as spec_interface, marks_field as spec_field, marks_interface_method as spec_interface_method, marks_constructor as spec_constructor, every as spec_every, GoodMarks, is_static_mark as spec_is_static, has_static as spec_has_static};
 ghost use Rattle.jn_trees.specs.View.{mark, marks};

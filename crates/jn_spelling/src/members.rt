@@ -1,5 +1,4 @@
-// The tokens that spell members.
-
+//! The tokens that spell members.
 ghost use Rattle.std.specs.Prelude.{◌≡◌, ◌++◌, OnOk, None};
 ghost use Rattle.jn_trees.specs.Spelling.{spell_mark as spec_mark, spell_all_marks as spec_all_marks, spell_parameter as spec_parameter, spell_more_parameters as spec_more_parameters, spell_parameters as spec_parameters, spell_result as spec_result, spell_method_head as spec_method_head, spell_constructor_head as spec_constructor_head, spell_method_body as spec_method_body, spell_field as spec_field, spell_member as spec_member};
 ghost use Rattle.jn_trees.specs.View.{mark, marks, parameter_view, parameter_views, receiver_view, result_view, body_view, member_view, type_use_view, declarator_view, declarator_views};

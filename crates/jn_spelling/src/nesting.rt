@@ -1,5 +1,4 @@
-// How deep expressions are nested, or the largest `u32` where they are deeper.
-
+//! How deep expressions are nested, or the largest `u32` where they are deeper.
 ghost use Rattle.std.specs.Prelude.{◌≡◌, ◌-◌, ◌^◌, min, max};
 ghost use Rattle.jn_trees.specs.WellFormed.{nesting as spec_nesting, nesting_all as spec_all, nesting_optional as spec_optional};
 ghost use Rattle.jn_trees.specs.View.{view, views, optional_view};

@@ -1,5 +1,4 @@
-// Tokens behind others.
-
+//! Tokens behind others.
 ghost use Rattle.jn_spelling.specs.Parts.{separator};
 ghost use Rattle.std.specs.Prelude.{◌≡◌, ◌++◌, ◌∷◌, [], OnOk};
 

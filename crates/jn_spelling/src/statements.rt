@@ -1,5 +1,4 @@
-// The tokens that spell statements.
-
+//! The tokens that spell statements.
 ghost use Rattle.std.specs.Prelude.{◌≡◌, ◌++◌, OnOk};
 ghost use Rattle.jn_trees.specs.Spelling.{spell_statement as spec_statement, spell_body as spec_body, spell_init as spec_init, spell_optional as spec_optional};
 ghost use Rattle.jn_spelling.specs.Parts.{condition as spec_condition, for_head as spec_for_head, each_head as spec_each_head, other_call as spec_other_call};

@@ -1,5 +1,4 @@
-// The tokens of literals, operators and types without brackets.
-
+//! The tokens of literals, operators and types without brackets.
 ghost use Rattle.std.specs.Prelude.{◌≡◌};
 ghost use Rattle.jn_trees.specs.Spelling.{literal_token as spec_literal, sign_token as spec_sign, step_token as spec_step, operator_token as spec_operator, assign_token as spec_assign, base_token as spec_base};
 ghost use Rattle.jn_trees.specs.View.{base_view};

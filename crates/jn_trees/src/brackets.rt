@@ -1,4 +1,4 @@
-// How many brackets are open at once.
+//! How many brackets are open at once.
 ghost use Rattle.std.specs.Prelude.{◌≡◌, ◌<◌, MatchOption};
 ghost use Rattle.jn_trees.specs.Pieces.{IsTooDeep, Shallow, kinds, opened as spec_opened};
 

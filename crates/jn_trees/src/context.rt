@@ -1,4 +1,4 @@
-// Where statements and members stand.
+//! Where statements and members stand.
 use jn_base::NameNo;
 
 /// Where a statement stands: in a loop, directly in a block or body, and as the first statement of a constructor.

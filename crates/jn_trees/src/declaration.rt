@@ -1,4 +1,4 @@
-// Trees of members, types and files (JLS 7 to 9).
+//! Trees of members, types and files (JLS 7 to 9).
 use crate::expression::{Annotation, Identifier};
 use crate::statement::{Declarator, LocalModifier, Stmt, TypeUse};
 use jn_base::Span;

@@ -1,4 +1,4 @@
-// Trees of expressions (JLS 15).
+//! Trees of expressions (JLS 15).
 use jn_base::{NameNo, Span};
 
 /// An identifier, and where it stands.

@@ -1,5 +1,4 @@
-// Laws over lists of names.
-
+//! Laws over lists of names.
 ghost use Rattle.std.specs.Prelude.{◌≡◌, List, ℕ, Some, slice_get};
 ghost use Rattle.jn_trees.specs.Names.{with_name, number_in, AreDistinct};
 

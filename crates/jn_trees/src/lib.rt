@@ -1,4 +1,8 @@
-// Tokens, names and trees.
+//! Tokens, names and trees.
+//!
+//! [`Token`] has its kind and span, and names stand in [`Names`] by number. [`Expr`], [`Stmt`] and [`FileTree`] are the trees (JLS 7 to 9,
+//! 14 and 15). `specs/Trees.antt` has them without places, `specs/WellFormed.antt` what is well formed, and `specs/Spelling.antt` the
+//! tokens that spell a tree, by which parsing is defined.
 #![tactic(auto)]
 
 pub mod brackets;

@@ -1,5 +1,4 @@
-// Names: the texts of identifiers and strings by numbers.
-
+//! Names: the texts of identifiers and strings by numbers.
 ghost use Rattle.std.specs.Prelude.{◌≡◌, ◌<◌, ◌^◌, ◌-◌, [], length, bytes_eq, slice_get, position, option_map, Some, OnOk, OnErr, IfOk};
 ghost use Rattle.jn_trees.specs.Names.{with_name, number_in};
 

@@ -1,4 +1,4 @@
-// Tokens taken one by one from the front.
+//! Tokens taken one by one from the front.
 ghost use Rattle.std.specs.Prelude.{◌≡◌, ◌∷◌, ◌≤◌, List, [], MatchOption, length};
 ghost use Rattle.jn_base.specs.declared.number.NameNo.{NameNo as SpecName};
 ghost use Rattle.jn_trees.specs.declared.token.TokenKind.{TokenKind as Kind};

@@ -1,4 +1,4 @@
-// Trees of statements (JLS 14).
+//! Trees of statements (JLS 14).
 use crate::expression::{Annotation, Base, Expr, Identifier};
 use jn_base::Span;
 

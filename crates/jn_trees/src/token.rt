@@ -1,4 +1,4 @@
-// Tokens.
+//! Tokens.
 use jn_base::{NameNo, Span};
 
 /// What a token is (JLS 3.5 to 3.12): an identifier or a string by the number of its text, a number by its value, a keyword, a literal word, a separator or an operator.

@@ -1,4 +1,4 @@
-// What a worker calls at each body.
+//! What a worker calls at each body.
 use jn_base::BodyNo;
 
 /// Called by a worker once for each body that it has taken, before it runs the body.

@@ -1,4 +1,4 @@
-// All workers.
+//! All workers.
 ghost use Rattle.std.specs.Prelude.{◌≡◌, ℕ, ◌+◌, ◌-◌, ◌/◌, ◌<◌, ◌≤◌, length, replicate, IfOk};
 ghost use Rattle.std.specs.Thread.{IsSync};
 ghost use Rattle.jn_sigtable.specs.System.{least};

@@ -1,4 +1,4 @@
-// One worker.
+//! One worker.
 ghost use Rattle.std.specs.Prelude.{◌≡◌, ℕ, ◌+◌, ◌<◌, ◌≤◌, ◌/◌, ◌%◌, ◌∷◌, IfOk, IfErr};
 ghost use Rattle.jn_sigtable.specs.Machine.{Has, IsAtRest, HasSeenAll, dirty_words};
 ghost use Rattle.jn_sigtable.specs.Words.{system_of, view_of, IsPassOf};

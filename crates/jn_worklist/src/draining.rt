@@ -1,4 +1,4 @@
-// All bodies on one thread.
+//! All bodies on one thread.
 ghost use Rattle.std.specs.Prelude.{◌≡◌, ◌≢◌, ◌⊎◌, ◌↔◌, ℕ, ◌<◌, ◌/◌, true, false, [], length, get_or, slice_index, slice_set, bit_or, IfOk, OnOk};
 ghost use Rattle.jn_sigtable.specs.System.{least, IsLeast, ones_in};
 ghost use Rattle.jn_sigtable.specs.Machine.{dirty_words};

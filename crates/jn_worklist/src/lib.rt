@@ -1,4 +1,7 @@
-// One body's steps on a shared table, and all bodies on one thread.
+//! One body's steps on a shared table, and all bodies on one thread.
+//!
+//! [`plan`] lists which bodies read a word. [`run_body`] takes a body, reads its words, raises what it sends and marks the readers, in the
+//! one order that loses no mark. [`drain`] gives the least words on one thread.
 #![tactic(auto)]
 
 mod bits;

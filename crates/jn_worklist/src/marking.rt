@@ -1,4 +1,4 @@
-// A body's marks.
+//! A body's marks.
 ghost use Rattle.std.specs.Prelude.{◌≡◌, ℕ, ◌+◌, ◌<◌, Some, [], length};
 ghost use Rattle.jn_sigtable.specs.Machine.{IsAtRest, dirty_words};
 ghost use Rattle.jn_sigtable.specs.Words.{system_of, view_of, IsPassOf};

@@ -1,4 +1,4 @@
-// The lists of a plan.
+//! The lists of a plan.
 ghost use Rattle.std.specs.Prelude.{◌≡◌, ◌<◌, [], length, get_or};
 
 use jn_base::{BodyNo, Seq, WordNo};

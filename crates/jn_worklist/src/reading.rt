@@ -1,4 +1,4 @@
-// A body's reads.
+//! A body's reads.
 ghost use Rattle.std.specs.Prelude.{◌≡◌, ◌<◌, []};
 ghost use Rattle.jn_sigtable.specs.System.{IsReadList};
 ghost use Rattle.jn_sigtable.specs.Words.{system_of, view_of, IsPassOf};

@@ -1,4 +1,4 @@
-// Solves a sample system again and again, so that the solver's ways can be timed.
+//! Solves a sample system again and again, so that the solver's ways can be timed.
 #![tactic(auto)]
 
 mod end;

@@ -1,4 +1,4 @@
-// What the words ask for.
+//! What the words ask for.
 ghost use Rattle.std.specs.Prelude.{◌≡◌, ◌<◌, ◌≤◌, IfSome};
 
 use jn_samples::{Net, Shape};
