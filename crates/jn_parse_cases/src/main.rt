@@ -3,6 +3,7 @@
 
 mod case;
 mod expressions;
+mod files;
 mod outcome;
 mod page;
 mod places;
@@ -11,17 +12,43 @@ mod source;
 mod tokens;
 
 use case::answer;
+use files::files_text;
 use std::alloc::AllocError;
 use std::{env, fs, io};
+
+/// The workers and the two files of a line such as `files=2 Empty.java Stack.java`.
+fn files_of(line: &str) -> Option<(u32, &str, &str)> {
+    let (word, names) = line.split_once(' ')?;
+    let (kind, workers) = word.split_once('=')?;
+    let (one, other) = names.split_once(' ')?;
+    if kind != "files" {
+        return None;
+    }
+    Some((workers.parse().ok()?, one, other))
+}
+
+/// What becomes of the line's text or files.
+fn line_answer(rt: &HostRuntime, line: &str) -> io::Result<String> {
+    let shown = match files_of(line) {
+        Some((workers, one, other)) => {
+            let one = fs::read(rt, one)?;
+            let other = fs::read(rt, other)?;
+            files_text(rt, rt.alloc(), workers, one, other)
+        }
+        None => answer(rt.alloc(), line),
+    };
+    match shown {
+        Ok(shown) => Ok(shown),
+        Err(_) => Err(io::Error::from(AllocError)),
+    }
+}
 
 fn main(rt: HostRuntime) -> io::Result<()> {
     for table in env::args(&rt)?.skip(1) {
         let text = fs::read_to_string(&rt, table.as_str())?;
         for line in text.lines() {
-            match answer(rt.alloc(), line) {
-                Ok(answer) => println!(rt; "{line} => {answer}")?,
-                Err(_) => return Err(io::Error::from(AllocError)),
-            }
+            let shown = line_answer(&rt, line)?;
+            println!(rt; "{line} => {shown}")?;
         }
     }
     Ok(())

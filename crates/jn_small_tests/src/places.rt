@@ -1,5 +1,6 @@
 //! Places of bytes, lists and names.
 use jn_base::{FileNo, NameNo, Place, Seq, Span, place_of};
+use jn_renumber::merge;
 use jn_trees::Names;
 use std::alloc::{AllocError, Global};
 use std::process::Abort;
@@ -79,4 +80,30 @@ fn texts_are_numbered_once(rt: HostRuntime) {
     assert!(rt; names.text(NameNo(3)) == "é");
     assert!(rt; names.number("a") == Some(NameNo(1)));
     assert!(rt; names.number("c") == None);
+}
+
+fn expect_names(rt: &impl Abort, names: &Names, texts: &[&str]) {
+    assert_eq!(rt; names.len(), texts.len());
+    for (at, text) in texts.iter().enumerate() {
+        assert!(rt; at < names.len());
+        assert!(rt; names.text(NameNo(at as u32)) == *text, "{at}");
+    }
+}
+
+#[test]
+fn merged_names_keep_their_numbers_or_go_last(rt: HostRuntime) {
+    let mut names = Names::new(rt.alloc());
+    for (text, number) in [("a", 0), ("b", 1)] {
+        expect_number(&rt, &mut names, text, number);
+    }
+    let mut other = Names::new(rt.alloc());
+    for (text, number) in [("b", 0), ("c", 1)] {
+        expect_number(&rt, &mut other, text, number);
+    }
+    assert!(rt; names.len() == 2 && other.len() == 2);
+    let Ok(numbers) = merge(rt.alloc(), &mut names, &other) else {
+        panic!(rt; "no memory")
+    };
+    assert!(rt; numbers.as_slice() == [NameNo(1), NameNo(2)].as_slice());
+    expect_names(&rt, &names, &["a", "b", "c"]);
 }

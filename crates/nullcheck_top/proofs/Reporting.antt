@@ -25,7 +25,7 @@ use Rattle.jn_front.specs.declared.source.SourceFile.{SourceFile}
 use Rattle.jn_front.specs.declared.source.SourceRead.{SourceRead}
 use Rattle.jn_front.specs.Files.{files_of_reads, AllWhole, AreReads, most_files, file_limit}
 use Rattle.jn_front.specs.Limits.{row_at, counted, large_row, passing_row, size_rows, limit_rows, all_limit}
-use Rattle.jn_front.specs.Phases.{AreParsed, ArePlaced, FaultRows, SyntaxRows, LexedFrom}
+use Rattle.jn_front.specs.Phases.{AreParsed, ArePlaced, FaultRows, SyntaxRows, LexedFrom, TextRows}
 use Rattle.jn_command.specs.declared.report.Report.{Report}
 use Rattle.jn_command.specs.declared.report.Report.TheVariants.{Refused, Checked}
 use Rattle.jn_command.specs.Reports.{rows_of}
@@ -228,17 +228,21 @@ pub whole_stand : (reads : List SourceRead) (limits : List Row) (made : Made) �
 whole_stand reads limits (Ok r) limited none some = all_stand reads limits (rows_of r.found.report) limited none some
 whole_stand reads limits (Err e) limited none some = tt
 
-pub lexical_made : (reads : List SourceRead) (limits faults : List Row) (made : Made) → Limited reads limits → limits ≡ [] → FaultRows 0 (files_of_reads reads) faults → (faults ≡ [] → ⊥) → RefusesBy faults made → ReportsAll reads made
+lexical_made : (reads : List SourceRead) (limits faults : List Row) (made : Made) → Limited reads limits → limits ≡ [] → FaultRows 0 (files_of_reads reads) faults → (faults ≡ [] → ⊥) → RefusesBy faults made → ReportsAll reads made
 lexical_made reads limits faults (Ok r) limited none faulty some by = λ files are.
     let w = within_limits reads limits limited none files are in
     refused_finding files r.names faults by.0 r.found (inl (inr (inl (record { within = w.1; are = subst (λ fs. FaultRows 0 fs faults) w.0 faulty; some = some })))) by.1 by.2
 lexical_made reads limits faults (Err e) limited none faulty some by = tt
 
-pub grammar_made : (reads : List SourceRead) (limits rows : List Row) (names : List (List ℕ)) (tokens : List (List Token)) (made : Made) → Limited reads limits → limits ≡ [] → LexedFrom 0 known_names (files_of_reads reads) tokens names → SyntaxRows 0 (files_of_reads reads) tokens rows → (rows ≡ [] → ⊥) → RefusesBy rows made → ReportsAll reads made
+grammar_made : (reads : List SourceRead) (limits rows : List Row) (names : List (List ℕ)) (tokens : List (List Token)) (made : Made) → Limited reads limits → limits ≡ [] → LexedFrom 0 known_names (files_of_reads reads) tokens names → SyntaxRows 0 (files_of_reads reads) tokens rows → (rows ≡ [] → ⊥) → RefusesBy rows made → ReportsAll reads made
 grammar_made reads limits rows names tokens (Ok r) limited none lexed syntax some by = λ files are.
     let w = within_limits reads limits limited none files are in
     refused_finding files r.names rows by.0 r.found (inl (inr (inr (record { within = w.1; names = names; tokens = tokens; lexed = subst (λ fs. LexedFrom 0 known_names fs tokens names) w.0 lexed; are = subst (λ fs. SyntaxRows 0 fs tokens rows) w.0 syntax; some = some })))) by.1 by.2
 grammar_made reads limits rows names tokens (Err e) limited none lexed syntax some by = tt
+
+pub text_made : (reads : List SourceRead) (limits rows : List Row) (made : Made) → Limited reads limits → limits ≡ [] → TextRows (files_of_reads reads) rows → (rows ≡ [] → ⊥) → RefusesBy rows made → ReportsAll reads made
+text_made reads limits rows made limited none (inl faulty) some by = lexical_made reads limits rows made limited none faulty some by
+text_made reads limits rows made limited none (inr g) some by = grammar_made reads limits rows g.0 g.1 made limited none g.2 g.3 some by
 
 pub are_parsed : (reads : List SourceRead) (limits : List Row) → Limited reads limits → limits ≡ [] → (names : List (List ℕ)) (tokens : List (List Token)) (trees : List PlacedFile) → ((files : List SourceFile) × AreReads reads files) → LexedFrom 0 known_names (files_of_reads reads) tokens names → ArePlaced tokens trees → AreParsed (files_of_reads reads) names tokens trees
 are_parsed reads limits limited none names tokens trees some lexed placed =

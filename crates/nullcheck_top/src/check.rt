@@ -25,7 +25,7 @@ use jn_basecheck::{BaseTyped, base_check};
 use jn_classtable::{ClassTable, build};
 use jn_command::Report;
 use jn_diag::order;
-use jn_front::{SourceRead, lex_all, limit_rows, parse_all, row_at};
+use jn_front::{SourceRead, limit_rows, parse_files, row_at};
 use jn_inference_law::law::regular_programs_are_inferable;
 use jn_points::Program;
 use jn_program::lowering::lower;
@@ -174,18 +174,14 @@ fn find<R: Threads + Sync, G: Gate + Sync>(
     if !no_rows(&limits) {
         return refused_texts(alloc, limits);
     }
-    let lexed = lex_all(alloc, reads)?;
-    if !no_rows(&lexed.faults) {
-        return refused_texts(alloc, lexed.faults);
-    }
-    let parsed = parse_all(alloc, reads, &lexed.tokens)?;
+    let parsed = parse_files(rt, alloc, reads, workers, gate)?;
     if !no_rows(&parsed.rows) {
         return refused_texts(alloc, parsed.rows);
     }
-    let found = find_trees(rt, alloc, workers, reads, &lexed.names, &parsed.trees, gate)?;
+    let found = find_trees(rt, alloc, workers, reads, &parsed.names, &parsed.trees, gate)?;
     Ok(CheckedFiles {
         found,
-        names: lexed.names,
+        names: parsed.names,
     })
 }
 

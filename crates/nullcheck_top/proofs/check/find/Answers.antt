@@ -1,12 +1,10 @@
 use Rattle.std.proofs.Common.{List, map, sym, subst}
 use Rattle.jn_trees.specs.declared.declaration.FileTree.{FileTree}
-use Rattle.jn_trees.specs.declared.token.Token.{Token}
-use Rattle.jn_known.specs.Known.{known_names}
 use Rattle.jn_places.specs.PlacedView.{placed_file}
 use Rattle.jn_front.specs.Files.{files_of_reads}
 use Rattle.jn_command.specs.Reports.{rows_of}
-use Rattle.jn_front.specs.Phases.{ArePlaced, AreParsed, LexedFrom, SyntaxRows}
-use Rattle.nullcheck_top.proofs.Reporting.{limited_made, lexical_made, grammar_made, found_all, are_parsed, limited_stand, all_stand, whole_stand, refused_whole, found_whole}
+use Rattle.jn_front.specs.Phases.{AreParsed}
+use Rattle.nullcheck_top.proofs.Reporting.{limited_made, text_made, found_all, are_parsed, limited_stand, all_stand, whole_stand, refused_whole, found_whole}
 use Rattle.nullcheck_top.proofs.check.find.Goals as goal
 
 pub returns-then-not-no_rows-clause-found : goal.returns-then-not-no_rows-clause-found
@@ -15,41 +13,26 @@ returns-then-not-no_rows-clause-found g c = limited_made c.args.reads.now c.in_o
 pub returns-then-not-no_rows-2-clause-found : goal.returns-then-not-no_rows-2-clause-found
 returns-then-not-no_rows-2-clause-found g c =
     let r = c.refused_texts-then-not-no_rows-2 in
-    lexical_made c.args.reads.now c.in_ok-limits.limits.items c.in_ok-lexed.lexed.faults.items r.result c.in_ok-limits.ensures (c.no_rows.ensures.none c.if-not-no_rows.false) c.in_ok-lexed.ensures.faults (c.no_rows-2.ensures.some c.if-not-no_rows-2.true) r.ensures
-
-pub returns-then-not-no_rows-3-clause-found : goal.returns-then-not-no_rows-3-clause-found
-returns-then-not-no_rows-3-clause-found g c =
-    let r = c.refused_texts-then-not-no_rows-3 in
-    let lexed = c.in_ok-lexed.ensures.tokens (c.no_rows-2.ensures.none c.if-not-no_rows-2.false) in
-    let syntax = subst (λ tss. SyntaxRows 0 (files_of_reads c.args.reads.now) tss c.in_ok-parsed.parsed.rows.items) c.deref.ensures.value c.in_ok-parsed.ensures.rows in
-    grammar_made c.args.reads.now c.in_ok-limits.limits.items c.in_ok-parsed.parsed.rows.items c.in_ok-lexed.lexed.names c.in_ok-lexed.lexed.tokens.items r.result c.in_ok-limits.ensures (c.no_rows.ensures.none c.if-not-no_rows.false) lexed syntax (c.no_rows-3.ensures.some c.if-not-no_rows-3.true) r.ensures
-
-pub parse_all-requires-clause-lexed : goal.parse_all-requires-clause-lexed
-parse_all-requires-clause-lexed g c =
-    let names = c.in_ok-lexed.lexed.names in
-    (names, subst (λ (tss : List (List Token)). LexedFrom 0 known_names (files_of_reads c.args.reads.now) tss names) (sym c.deref.ensures.value) (c.in_ok-lexed.ensures.tokens (c.no_rows-2.ensures.none c.if-not-no_rows-2.false)))
+    let some = c.no_rows-2.ensures.some c.if-not-no_rows-2.true in
+    text_made c.args.reads.now c.in_ok-limits.limits.items c.in_ok-parsed.parsed.rows.items r.result c.in_ok-limits.ensures (c.no_rows.ensures.none c.if-not-no_rows.false) (c.in_ok-parsed.ensures.rows some) some r.ensures
 
 pub find_trees-requires-clause-parsed : goal.find_trees-requires-clause-parsed
 find_trees-requires-clause-parsed g c κs lives =
     let reads = c.args.reads.now in
-    let names = c.in_ok-lexed.lexed.names in
+    let names = c.in_ok-parsed.parsed.names in
     let trees = map placed_file c.in_ok-parsed.parsed.trees.items in
-    let lexed = c.in_ok-lexed.ensures.tokens (c.no_rows-2.ensures.none c.if-not-no_rows-2.false) in
-    let placed = subst (λ (tss : List (List Token)). ArePlaced tss trees) c.deref.ensures.value (c.in_ok-parsed.ensures.trees (c.no_rows-3.ensures.none c.if-not-no_rows-3.false)) in
-    let parsed = are_parsed reads c.in_ok-limits.limits.items c.in_ok-limits.ensures (c.no_rows.ensures.none c.if-not-no_rows.false) names c.in_ok-lexed.lexed.tokens.items trees c.requires.read lexed placed in
-    (c.in_ok-lexed.lexed.tokens.items, subst (λ (ts : List FileTree). AreParsed (files_of_reads reads) names c.in_ok-lexed.lexed.tokens.items (map placed_file ts)) (sym c.deref-2.ensures.value) parsed)
+    let made = c.in_ok-parsed.ensures.trees (c.no_rows-2.ensures.none c.if-not-no_rows-2.false) in
+    let parsed = are_parsed reads c.in_ok-limits.limits.items c.in_ok-limits.ensures (c.no_rows.ensures.none c.if-not-no_rows.false) names made.0 trees c.requires.read made.1 made.2 in
+    (made.0, subst (λ (ts : List FileTree). AreParsed (files_of_reads reads) names made.0 (map placed_file ts)) (sym c.deref.ensures.value) parsed)
 
 pub returns-clause-found : goal.returns-clause-found
-returns-clause-found g c = found_all c.args.reads.now c.in_ok-limits.limits.items c.in_ok-lexed.lexed.names c.in_ok-found.found c.in_ok-limits.ensures (c.no_rows.ensures.none c.if-not-no_rows.false) c.in_ok-found.ensures
+returns-clause-found g c = found_all c.args.reads.now c.in_ok-limits.limits.items c.in_ok-parsed.parsed.names c.in_ok-found.found c.in_ok-limits.ensures (c.no_rows.ensures.none c.if-not-no_rows.false) c.in_ok-found.ensures
 
 pub returns-then-not-no_rows-clause-stand : goal.returns-then-not-no_rows-clause-stand
 returns-then-not-no_rows-clause-stand g c = limited_stand c.args.reads.now c.in_ok-limits.limits.items c.refused_texts.result c.in_ok-limits.ensures c.requires.read c.refused_texts.ensures
 
 pub returns-then-not-no_rows-2-clause-stand : goal.returns-then-not-no_rows-2-clause-stand
 returns-then-not-no_rows-2-clause-stand g c = whole_stand c.args.reads.now c.in_ok-limits.limits.items c.refused_texts-then-not-no_rows-2.result c.in_ok-limits.ensures (c.no_rows.ensures.none c.if-not-no_rows.false) c.requires.read
-
-pub returns-then-not-no_rows-3-clause-stand : goal.returns-then-not-no_rows-3-clause-stand
-returns-then-not-no_rows-3-clause-stand g c = whole_stand c.args.reads.now c.in_ok-limits.limits.items c.refused_texts-then-not-no_rows-3.result c.in_ok-limits.ensures (c.no_rows.ensures.none c.if-not-no_rows.false) c.requires.read
 
 pub returns-clause-stand : goal.returns-clause-stand
 returns-clause-stand g c = all_stand c.args.reads.now c.in_ok-limits.limits.items (rows_of c.in_ok-found.found.report) c.in_ok-limits.ensures (c.no_rows.ensures.none c.if-not-no_rows.false) c.requires.read
@@ -58,10 +41,7 @@ pub returns-then-not-no_rows-clause-whole : goal.returns-then-not-no_rows-clause
 returns-then-not-no_rows-clause-whole g c = refused_whole c.args.reads.now c.in_ok-limits.limits.items c.refused_texts.result c.refused_texts.ensures
 
 pub returns-then-not-no_rows-2-clause-whole : goal.returns-then-not-no_rows-2-clause-whole
-returns-then-not-no_rows-2-clause-whole g c = refused_whole c.args.reads.now c.in_ok-lexed.lexed.faults.items c.refused_texts-then-not-no_rows-2.result c.refused_texts-then-not-no_rows-2.ensures
-
-pub returns-then-not-no_rows-3-clause-whole : goal.returns-then-not-no_rows-3-clause-whole
-returns-then-not-no_rows-3-clause-whole g c = refused_whole c.args.reads.now c.in_ok-parsed.parsed.rows.items c.refused_texts-then-not-no_rows-3.result c.refused_texts-then-not-no_rows-3.ensures
+returns-then-not-no_rows-2-clause-whole g c = refused_whole c.args.reads.now c.in_ok-parsed.parsed.rows.items c.refused_texts-then-not-no_rows-2.result c.refused_texts-then-not-no_rows-2.ensures
 
 pub returns-clause-whole : goal.returns-clause-whole
 returns-clause-whole g c accepted = found_whole c.args.reads.now c.in_ok-limits.limits.items c.in_ok-limits.ensures (c.no_rows.ensures.none c.if-not-no_rows.false)
