@@ -1,7 +1,8 @@
 //! What a worker calls at each body.
 use jn_base::BodyNo;
 
-/// Called by a worker once for each body that it has taken, before it runs the body.
+/// Called by a worker once for each body that it has taken, before it runs the body, and once for each file, under the file's number,
+/// before it lexes the file.
 pub trait Gate {
     fn enter(&self, worker: u32, body: BodyNo);
 }

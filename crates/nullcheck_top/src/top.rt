@@ -24,8 +24,8 @@ const USAGE: &str =
 /// Checks what the words ask for, and writes the report by the first of these reporters that has the name; or runs the main of
 /// accepted files where a run is asked for.
 ///
-/// `rt` gives the threads of as many workers as the words say, which infer qualifiers and check bodies; each calls `gate` when it
-/// takes a body.
+/// `rt` gives the threads of as many workers as the words say, which lex and parse files, infer qualifiers and check bodies; each
+/// calls `gate` when it takes a file or a body.
 pub fn nullcheck<R: Threads + Sync, F: Files, K: Sink, G: Gate + Sync>(
     rt: &R,
     alloc: Global,
