@@ -13,7 +13,9 @@ pub mod Enters
 pub mod Commits
 pub mod Leaves
 pub mod Sound
-pub mod Typing
+pub mod TypedValues
+pub mod TypedHeaps
+pub mod TypedSteps
 pub mod Whole
 pub mod Overriding
 pub mod Accepts
