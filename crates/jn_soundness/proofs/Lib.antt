@@ -20,5 +20,7 @@ pub mod Whole
 pub mod Overriding
 pub mod Accepts
 pub mod Finite
-pub mod ChainInhabitant
+pub mod ChainShape
+pub mod ChainTyping
+pub mod ChainTables
 pub mod Solves
