@@ -7,7 +7,8 @@ use Rattle.jn_soundness.specs.Solved.{Solved}
 use Rattle.jn_soundness.specs.Types.{StateTyped}
 use Rattle.jn_soundness.specs.World.{World}
 use Rattle.jn_soundness.proofs.Overriding.{program_typed}
-use Rattle.jn_soundness.proofs.Typing.{NextOk, run_typed}
+use Rattle.jn_soundness.proofs.TypedHeaps.{NextOk}
+use Rattle.jn_soundness.proofs.TypedSteps.{run_typed}
 
 pub base_types_kept : (W : World) → Solved W → BaseTyped W.program → (names : List (List ℕ)) (n : ℕ) (one next : State) → StateTyped W one → run W.program names (Goes one) n ≡ Goes next → StateTyped W next
 base_types_kept W S B names n one next typed goes =

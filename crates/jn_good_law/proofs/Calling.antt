@@ -22,7 +22,7 @@ use Rattle.jn_soundness.proofs.Tops.{object_is}
 use Rattle.jn_soundness.proofs.Grows.{append_last}
 use Rattle.jn_points.specs.declared.program.Body.{Body}
 use Rattle.jn_points.specs.Shaped.{writes}
-use Rattle.jn_soundness.proofs.Typing.{selects_on}
+use Rattle.jn_soundness.proofs.TypedValues.{selects_on}
 use Rattle.jn_regular_law.proofs.Bodies.{body_method, ctor_static, method_body, front_some}
 use Rattle.jn_regular_law.proofs.Whole.{point_regular}
 use Rattle.jn_good_law.specs.Calls.{HasThis, Entered, EnteredAt, Calls}

@@ -14,7 +14,7 @@ use Rattle.jn_points.specs.Regular.{CtorCallAt, IsConcrete, Regular, RegularBody
 use Rattle.jn_soundness.specs.ExampleParts.{class_under}
 use Rattle.jn_soundness.specs.ChainExample.{chain_program, third_points}
 use Rattle.jn_soundness.proofs.Finite.{each_at, points_each}
-use Rattle.jn_soundness.proofs.ChainInhabitant.{no_pairs}
+use Rattle.jn_soundness.proofs.ChainTyping.{no_pairs}
 use Rattle.jn_regular_law.proofs.Given.{EachAssigned, NoReturnTo, given_before, next_edge, no_base_rows, no_edge, point, straight_call, written_before}
 use Rattle.jn_regular_law.proofs.ChainLists.{chain_classes, chain_fields, chain_implements, chain_methods}
 

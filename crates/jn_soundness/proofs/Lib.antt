@@ -13,10 +13,14 @@ pub mod Enters
 pub mod Commits
 pub mod Leaves
 pub mod Sound
-pub mod Typing
+pub mod TypedValues
+pub mod TypedHeaps
+pub mod TypedSteps
 pub mod Whole
 pub mod Overriding
 pub mod Accepts
 pub mod Finite
-pub mod ChainInhabitant
+pub mod ChainShape
+pub mod ChainTyping
+pub mod ChainTables
 pub mod Solves

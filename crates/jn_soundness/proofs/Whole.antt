@@ -16,7 +16,9 @@ use Rattle.jn_heap.specs.State.{Goes, Next, State, Ends, Stuck}
 use Rattle.jn_heap.specs.Runs.{start_state, texts, MainForm, NeverNull, run, step, then_step}
 use Rattle.jn_soundness.specs.World.{World}
 use Rattle.jn_points.specs.Lookup.{body_at, point_at, reg_base, regs_of, body_of, method_at, method_in, ctor_of, static_of}
-use Rattle.jn_soundness.proofs.Typing.{typed_kind, padded, NextOk, step_typed}
+use Rattle.jn_soundness.proofs.TypedValues.{typed_kind}
+use Rattle.jn_soundness.proofs.TypedHeaps.{NextOk, padded}
+use Rattle.jn_soundness.proofs.TypedSteps.{step_typed}
 use Rattle.jn_soundness.specs.Asked.{IsMain, TypedAt, MainsOk}
 use Rattle.jn_soundness.specs.Marks.{Marking, mark_after, start_marking}
 use Rattle.jn_soundness.specs.Marked.{Marked, MarkedNext}

@@ -6,6 +6,7 @@ ghost use Rattle.jn_sigtable.specs.Machine.{IsAtRest, HasSeenAll, AreBetween};
 ghost use Rattle.jn_sigtable.specs.Words.{system_of, view_of, IsPassOf};
 ghost use Rattle.jn_worklist.specs.Plans.{plan_of};
 ghost use Rattle.jn_workers.specs.Ends.{WeighsAs};
+ghost use Rattle.jn_workers.specs.Passes.{CanWork, HasWorked};
 
 use crate::gate::Gate;
 use crate::working::{Worked, work};
@@ -37,12 +38,8 @@ fn work_alone<C: Constraints, G: Gate>(
     worker: u32,
     gate: &G,
 ) -> (Pass<C>, Worked)
-    requires own { IsPassOf table.now pass }
-    requires plan { plan.now ≡ plan_of (C.describe (system_of table.now)) }
-    requires idle { IsAtRest (C.describe (system_of table.now)) (view_of pass) }
-    ensures own { IsPassOf table.now result.0 }
-    ensures idle { IsAtRest (C.describe (system_of table.now)) (view_of result.0) }
-    ensures share { (view_of result.0).share ≡ (view_of pass).share }
+    requires ready { CanWork C.describe table.now plan.now pass }
+    ensures worked { HasWorked C.describe table.now pass result.0 }
     ensures emptied { result.1 ≡ Worked.Emptied → HasSeenAll (C.describe (system_of table.now)) (view_of result.0) }
 {
     let budget = 4 * table.system().bodies() as u64 + 64;
@@ -61,9 +58,7 @@ fn spread<R: Threads + Sync, C: Constraints + Sync, G: Gate + Sync>(
     more: u32,
     gate: &G,
 ) -> (Pass<C>, Worked)
-    requires own { IsPassOf table.now pass }
-    requires plan { plan.now ≡ plan_of (C.describe (system_of table.now)) }
-    requires idle { IsAtRest (C.describe (system_of table.now)) (view_of pass) }
+    requires ready { CanWork C.describe table.now plan.now pass }
     ensures own { IsPassOf table.now result.0 }
     ensures idle { IsAtRest (C.describe (system_of table.now)) (view_of result.0) }
     ensures share { WeighsAs (view_of result.0) (view_of pass) }
@@ -74,14 +69,12 @@ fn spread<R: Threads + Sync, C: Constraints + Sync, G: Gate + Sync>(
     }
     let other = table.split(&mut pass);
     let theirs = move || -> (Pass<C>, Worked)
-        requires { IsPassOf table.now other × IsAtRest (C.describe (system_of table.now)) (view_of other) × (plan.now ≡ plan_of (C.describe (system_of table.now))) }
-        ensures own { IsPassOf table.entry.now result.0 }
-        ensures idle { IsAtRest (C.describe (system_of table.entry.now)) (view_of result.0) }
-        ensures share { (view_of result.0).share ≡ (view_of other).share }
+        requires { CanWork C.describe table.now plan.now other }
+        ensures worked { HasWorked C.describe table.entry.now other result.0 }
         ensures emptied { result.1 ≡ Worked.Emptied → HasSeenAll (C.describe (system_of table.entry.now)) (view_of result.0) }
     { work_alone(alloc, table, plan, other, more, gate) };
     let ours = move || -> (Pass<C>, Worked)
-        requires { IsSync R.row × IsSync C.row × IsSync G.row × (0 < more) × IsPassOf table.now pass × IsAtRest (C.describe (system_of table.now)) (view_of pass) × (plan.now ≡ plan_of (C.describe (system_of table.now))) }
+        requires { IsSync R.row × IsSync C.row × IsSync G.row × (0 < more) × CanWork C.describe table.now plan.now pass }
         ensures own { IsPassOf table.entry.now result.0 }
         ensures idle { IsAtRest (C.describe (system_of table.entry.now)) (view_of result.0) }
         ensures share { WeighsAs (view_of result.0) (view_of pass) }

@@ -4,6 +4,7 @@ ghost use Rattle.jn_sigtable.specs.Machine.{Has, IsAtRest, HasSeenAll, dirty_wor
 ghost use Rattle.jn_sigtable.specs.Words.{system_of, view_of, IsPassOf};
 ghost use Rattle.jn_worklist.specs.Plans.{plan_of};
 ghost use Rattle.jn_workers.specs.Ends.{SeenIn, SeenUpTo, StillSeen};
+ghost use Rattle.jn_workers.specs.Passes.{CanWork, HasWorked};
 
 use crate::gate::Gate;
 use jn_base::{BodyNo, WordNo};
@@ -40,14 +41,10 @@ fn try_body<C: Constraints, G: Gate>(
     left: u64,
     gate: &G,
 ) -> Result<u64, Stop>
-    requires own { IsPassOf table.now pass.old }
-    requires plan { plan.now ≡ plan_of (C.describe (system_of table.now)) }
+    requires ready { CanWork C.describe table.now plan.now pass.old }
     requires inside { body.0 < (C.describe (system_of table.now)).bodies }
-    requires idle { IsAtRest (C.describe (system_of table.now)) (view_of pass.old) }
     requires left { 0 < left }
-    ensures own { IsPassOf table.now pass.new }
-    ensures idle { IsAtRest (C.describe (system_of table.now)) (view_of pass.new) }
-    ensures share { (view_of pass.new).share ≡ (view_of pass.old).share }
+    ensures worked { HasWorked C.describe table.now pass.old pass.new }
     ensures count { IfOk result (λ l. (l ≤ left) × ((view_of pass.new).taken + l ≡ (view_of pass.old).taken + left)) }
     ensures clear { IfOk result (λ l. l ≡ left → (view_of pass.new).clear ≡ body.0 ∷ (view_of pass.old).clear) }
     ensures stop { IfErr result (λ s. s ≡ Stop.OutOfMemory) }
@@ -75,13 +72,9 @@ fn try_place<C: Constraints, G: Gate>(
     left: u64,
     gate: &G,
 ) -> Result<u64, Stop>
-    requires own { IsPassOf table.now pass.old }
-    requires plan { plan.now ≡ plan_of (C.describe (system_of table.now)) }
+    requires ready { CanWork C.describe table.now plan.now pass.old }
     requires place { place < 64 }
-    requires idle { IsAtRest (C.describe (system_of table.now)) (view_of pass.old) }
-    ensures own { IsPassOf table.now pass.new }
-    ensures idle { IsAtRest (C.describe (system_of table.now)) (view_of pass.new) }
-    ensures share { (view_of pass.new).share ≡ (view_of pass.old).share }
+    ensures worked { HasWorked C.describe table.now pass.old pass.new }
     ensures count { IfOk result (λ l. (l ≤ left) × ((view_of pass.new).taken + l ≡ (view_of pass.old).taken + left)) }
     ensures still { IfOk result (λ l. l ≡ left → StillSeen (view_of pass.old) (view_of pass.new)) }
     ensures seen { IfOk result (λ l. l ≡ left → SeenIn (C.describe (system_of table.now)) (view_of pass.old) dirty bits → (b : ℕ) → b < (C.describe (system_of table.now)).bodies → b / 64 ≡ dirty → b % 64 ≡ place → Has (view_of pass.new).clear b) }
@@ -118,12 +111,8 @@ fn visit<C: Constraints, G: Gate>(
     budget: u64,
     gate: &G,
 ) -> Result<u64, Stop>
-    requires own { IsPassOf table.now pass.old }
-    requires plan { plan.now ≡ plan_of (C.describe (system_of table.now)) }
-    requires idle { IsAtRest (C.describe (system_of table.now)) (view_of pass.old) }
-    ensures own { IsPassOf table.now pass.new }
-    ensures idle { IsAtRest (C.describe (system_of table.now)) (view_of pass.new) }
-    ensures share { (view_of pass.new).share ≡ (view_of pass.old).share }
+    requires ready { CanWork C.describe table.now plan.now pass.old }
+    ensures worked { HasWorked C.describe table.now pass.old pass.new }
     ensures count { IfOk result (λ l. (l ≤ budget) × ((view_of pass.new).taken + l ≡ (view_of pass.old).taken + budget)) }
     ensures still { IfOk result (λ l. l ≡ budget → StillSeen (view_of pass.old) (view_of pass.new)) }
     ensures seen { IfOk result (λ l. l ≡ budget → SeenIn (C.describe (system_of table.now)) (view_of pass.old) dirty bits → SeenUpTo (C.describe (system_of table.now)) (view_of pass.new) dirty 64) }
@@ -148,12 +137,8 @@ fn round<C: Constraints, G: Gate>(
     budget: u64,
     gate: &G,
 ) -> Result<u64, Stop>
-    requires own { IsPassOf table.now pass.old }
-    requires plan { plan.now ≡ plan_of (C.describe (system_of table.now)) }
-    requires idle { IsAtRest (C.describe (system_of table.now)) (view_of pass.old) }
-    ensures own { IsPassOf table.now pass.new }
-    ensures idle { IsAtRest (C.describe (system_of table.now)) (view_of pass.new) }
-    ensures share { (view_of pass.new).share ≡ (view_of pass.old).share }
+    requires ready { CanWork C.describe table.now plan.now pass.old }
+    ensures worked { HasWorked C.describe table.now pass.old pass.new }
     ensures count { IfOk result (λ l. (l ≤ budget) × ((view_of pass.new).taken + l ≡ (view_of pass.old).taken + budget)) }
     ensures seen { IfOk result (λ l. l ≡ budget → HasSeenAll (C.describe (system_of table.now)) (view_of pass.new)) }
     ensures spent { IfErr result (λ s. s ≡ Stop.Spent → (view_of pass.new).taken ≡ (view_of pass.old).taken + budget) }

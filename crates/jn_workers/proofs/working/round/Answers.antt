@@ -14,9 +14,9 @@ loop-word-preserved g c =
     let low = i.low in
     let less = e.count.0 in
     record {
-      own = e.own;
-      idle = e.idle;
-      share = e.share ∙ (ap (λ x. x.share) s.view ∙ i.share);
+      own = e.worked.own;
+      idle = e.worked.idle;
+      share = e.worked.share ∙ (ap (λ x. x.share) s.view ∙ i.share);
       low = omega arith;
       count = let a = i.count in let b = e.count.1 in omega arith;
       seen = λ same. seen_more (d it) c.loop-word.pass.seat.me.0 c.scan-bits.new.pass.seat.me.0 c.visit.new.pass.seat.me.0 c.loop-word.word (i.seen (omega arith)) o.0 (e.still (omega arith)) (e.seen (omega arith) o.1);
