@@ -76,6 +76,7 @@ fn for_each_of(
         type_use,
         name,
     } = front;
+    let type_use = boxed(alloc, type_use)?;
     boxed(
         alloc,
         Stmt::ForEach {
@@ -180,7 +181,10 @@ fn for_local(
     let (declaration, after) = declaration(alloc, front, tokens, depth)?;
     match expect(after, TokenKind::Semicolon) {
         None => Ok(None),
-        Some(after) => for_rest(alloc, ForInit::Declaration(declaration), after, depth),
+        Some(after) => {
+            let init = ForInit::Declaration(boxed(alloc, declaration)?);
+            for_rest(alloc, init, after, depth)
+        }
     }
 }
 

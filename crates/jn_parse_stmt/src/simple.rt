@@ -193,6 +193,7 @@ fn local_statement<'t>(
     match expect(after, TokenKind::Semicolon) {
         None => Ok(None),
         Some(rest) => {
+            let declaration = boxed(alloc, declaration)?;
             let span = covered(tokens, rest);
             Ok(Some((boxed(alloc, Stmt::Local { declaration, span })?, rest)))
         }

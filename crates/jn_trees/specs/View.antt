@@ -103,7 +103,7 @@ local_view l = record { marks = local_marks l.modifiers.items; type_use = type_u
 
 abbrev pub init_view : ForInit → InitTree
 init_view (Expressions es) = ExpressionsInit (views es.items)
-init_view (Declaration l) = DeclarationInit (local_view l)
+init_view (Declaration l) = DeclarationInit (local_view l.value)
 
 -- a statement
 abbrev mutual
@@ -114,13 +114,13 @@ abbrev mutual
   statement_view (Break s) = BreakStatement
   statement_view (Continue s) = ContinueStatement
   statement_view (Return e s) = ReturnStatement (optional_view e)
-  statement_view (Local l s) = LocalStatement (local_view l)
+  statement_view (Local l s) = LocalStatement (local_view l.value)
   statement_view (If' c p b s) = IfStatement (view c) (statement_view b)
   statement_view (IfElse' c p b q o s) = IfElseStatement (view c) (statement_view b) (statement_view o)
   statement_view (While' c p b s) = WhileStatement (view c) (statement_view b)
   statement_view (Do' p b c s) = DoStatement (statement_view b) (view c)
   statement_view (For' i c us p b s) = ForStatement (init_view i) (optional_view c) (views us.items) (statement_view b)
-  statement_view (ForEach' ms u n e p b s) = ForEachStatement (local_marks ms.items) (type_use_view u) n.name (view e) (statement_view b)
+  statement_view (ForEach' ms u n e p b s) = ForEachStatement (local_marks ms.items) (type_use_view u.value) n.name (view e) (statement_view b)
   statement_view (ThisCall es s) = ThisCallStatement (views es.items)
   statement_view (SuperCall es s) = SuperCallStatement (views es.items)
 

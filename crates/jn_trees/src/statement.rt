@@ -37,7 +37,7 @@ pub struct LocalDeclaration {
 #[derive(Drop)]
 pub enum ForInit {
     Expressions(Vec<Expr>),
-    Declaration(LocalDeclaration),
+    Declaration(Box<LocalDeclaration>),
 }
 
 /// A statement (JLS 14). Each span goes from the statement's first token through its last.
@@ -72,7 +72,7 @@ pub enum Stmt {
     },
     /// `T x = e;`
     Local {
-        declaration: LocalDeclaration,
+        declaration: Box<LocalDeclaration>,
         span: Span,
     },
     /// `if (c) s`
@@ -111,7 +111,7 @@ pub enum Stmt {
     /// `for (T x : a) s`
     ForEach {
         modifiers: Vec<LocalModifier>,
-        type_use: TypeUse,
+        type_use: Box<TypeUse>,
         name: Identifier,
         array: Expr,
         body: Box<Stmt>,
