@@ -88,10 +88,10 @@ module _ (P : Program) (c : ℕ) (at : Setting) where
   pub return_walks : (e : Stmt) (o : Option Expr) (s : Span) (names : Names) (x y : List Row) → e ≡ Return o s → Walks (λ f st. spec.optional_rows P c f at st (placed_optional o)) (λ f st. st) names names x y → WalksOne (placed_statement e) names names x y
   return_walks e o s names x y is g = subst (λ e. WalksOne (placed_statement e) names names x y) (sym is) (walk_behind (λ f st. spec.optional_rows P c f at st (placed_optional o)) (λ f st. st) (λ f st. (lowered.statement P c f st (placed_statement (Return o s))).behind) names names x y (λ f st. refl) g)
 
-  pub local_walks : (e : Stmt) (l : LocalDeclaration) (s : Span) (old new : Names) (x y : List Row) → e ≡ Local l s → Walks (λ f st. spec.declaration_rows P c f at st (placed_local l)) (λ f st. (lowered.declaration P c f st (placed_local l)).behind) old new x y → WalksOne (placed_statement e) old new x y
-  local_walks e l s old new x y is g = subst (λ e. WalksOne (placed_statement e) old new x y) (sym is)
-      (walk_behind (λ f st. spec.declaration_rows P c f at (lowered.fresh st) (placed_local l)) (λ f st. (lowered.declaration P c f (lowered.fresh st) (placed_local l)).behind) (λ f st. (lowered.statement P c f st (placed_statement (Local l s))).behind) old new x y (λ f st. refl)
-      (walk_on (λ f st. spec.declaration_rows P c f at st (placed_local l)) (λ f st. (lowered.declaration P c f st (placed_local l)).behind) (λ f st. lowered.fresh st) old new x y (λ f st. refl) g))
+  pub local_walks : (e : Stmt) (q : Box LocalDeclaration Global) (l : LocalDeclaration) (s : Span) (old new : Names) (x y : List Row) → e ≡ Local q s → l ≡ q.value → Walks (λ f st. spec.declaration_rows P c f at st (placed_local l)) (λ f st. (lowered.declaration P c f st (placed_local l)).behind) old new x y → WalksOne (placed_statement e) old new x y
+  local_walks e q l s old new x y is le g = subst (λ e. WalksOne (placed_statement e) old new x y) (sym is)
+      (walk_behind (λ f st. spec.declaration_rows P c f at (lowered.fresh st) (placed_local q.value)) (λ f st. (lowered.declaration P c f (lowered.fresh st) (placed_local q.value)).behind) (λ f st. (lowered.statement P c f st (placed_statement (Local q s))).behind) old new x y (λ f st. refl)
+      (walk_on (λ f st. spec.declaration_rows P c f at st (placed_local q.value)) (λ f st. (lowered.declaration P c f st (placed_local q.value)).behind) (λ f st. lowered.fresh st) old new x y (λ f st. refl) (subst (λ l. Walks (λ f st. spec.declaration_rows P c f at st (placed_local l)) (λ f st. (lowered.declaration P c f st (placed_local l)).behind) old new x y) le g)))
 
   -- a condition, and a statement behind it
   abbrev tested : Expr → ℕ → State → State
@@ -174,24 +174,28 @@ module _ (P : Program) (c : ℕ) (at : Setting) where
   abbrev declared_behind : Identifier → BaseType → Option Qualifier → Bool → List Row → Stmt → ℕ → State → State
   declared_behind n base b fixed faults t f st = (lowered.statement P c f (declares st n.name.0 base b fixed faults) (placed_statement t)).behind
 
-  pub each_walks : (e : Stmt) (ms : Vec LocalModifier Global) (u : TypeUse) (n : Identifier) (a : Expr) (p : Box Stmt Global) (s : Span) (t : Stmt) (notes : List Annotation) (base : BaseType) (fixed : Bool) (faults : List Row) (old mid new last back : Names) (x y z w v : List Row) → e ≡ ForEach ms u n a p s → t ≡ p.value →
-      notes ≡ annotations_of ms.items → base ≡ type_of_use P (placed_type_use u) notes → fixed ≡ has_final ms.items → faults ≡ base_rows P u.base → WellKept old →
-      Walks (λ f st. type_rows (placed_type_use u) both_kinds notes ++ base_rows P u.base) (λ f st. st) old mid x y → Walks (λ f st. spec.array_rows P c f at st (placed_view a)) (λ f st. st) mid mid y z →
+  -- the use of a type that is read out of its box
+  pub unboxed_type : (q : Box TypeUse Global) (u : TypeUse) (notes : List Annotation) (old mid : Names) (x y : List Row) → u ≡ q.value → Walks (λ f st. type_rows (placed_type_use u) both_kinds notes ++ base_rows P u.base) (λ f st. st) old mid x y → Walks (λ f st. type_rows (placed_type_use q.value) both_kinds notes ++ base_rows P q.value.base) (λ f st. st) old mid x y
+  unboxed_type q u notes old mid x y e g = subst (λ u. Walks (λ f st. type_rows (placed_type_use u) both_kinds notes ++ base_rows P u.base) (λ f st. st) old mid x y) e g
+
+  pub each_walks : (e : Stmt) (ms : Vec LocalModifier Global) (u : Box TypeUse Global) (n : Identifier) (a : Expr) (p : Box Stmt Global) (s : Span) (t : Stmt) (notes : List Annotation) (base : BaseType) (fixed : Bool) (faults : List Row) (old mid new last back : Names) (x y z w v : List Row) → e ≡ ForEach ms u n a p s → t ≡ p.value →
+      notes ≡ annotations_of ms.items → base ≡ type_of_use P (placed_type_use u.value) notes → fixed ≡ has_final ms.items → faults ≡ base_rows P u.value.base → WellKept old →
+      Walks (λ f st. type_rows (placed_type_use u.value) both_kinds notes ++ base_rows P u.value.base) (λ f st. st) old mid x y → Walks (λ f st. spec.array_rows P c f at st (placed_view a)) (λ f st. st) mid mid y z →
       ((b : Option Qualifier) → Walks (λ f st. spec.declared_rows st.scope n.name.0 n.span) (λ f st. declares st n.name.0 base b fixed faults) mid new z w) → WalksOne (placed_statement t) new last w v → IsBack old last back → WalksOne (placed_statement e) old back x v
   each_walks e ms u n a p s t notes base fixed faults old mid new last back x y z w v is te ne be fe he k g h d b back_is = subst (λ e. WalksOne (placed_statement e) old back x v) (sym is)
-      (walk_back (λ f st. (type_rows (placed_type_use u) both_kinds (annotations_of ms.items) ++ base_rows P u.base) ++ (spec.array_rows P c f at st (placed_view a) ++ declared_then n (type_of_use P (placed_type_use u) (annotations_of ms.items)) (bound u ms.items) (has_final ms.items) (base_rows P u.base) p.value f (ready a f st))) (λ f st. declared_behind n (type_of_use P (placed_type_use u) (annotations_of ms.items)) (bound u ms.items) (has_final ms.items) (base_rows P u.base) p.value f (ready a f st)) (λ f st. (lowered.statement P c f st (placed_statement (ForEach ms u n a p s))).behind) old last back x v k (λ f st. refl)
-      (walk_then (λ f st. type_rows (placed_type_use u) both_kinds (annotations_of ms.items) ++ base_rows P u.base) (λ f st. spec.array_rows P c f at st (placed_view a) ++ declared_then n (type_of_use P (placed_type_use u) (annotations_of ms.items)) (bound u ms.items) (has_final ms.items) (base_rows P u.base) p.value f (ready a f st)) (λ f st. st) (λ f st. declared_behind n (type_of_use P (placed_type_use u) (annotations_of ms.items)) (bound u ms.items) (has_final ms.items) (base_rows P u.base) p.value f (ready a f st)) old mid last x y v
-      (subst (λ ns. Walks (λ f st. type_rows (placed_type_use u) both_kinds ns ++ base_rows P u.base) (λ f st. st) old mid x y) ne g)
-      (walk_then (λ f st. spec.array_rows P c f at st (placed_view a)) (λ f st. declared_then n (type_of_use P (placed_type_use u) (annotations_of ms.items)) (bound u ms.items) (has_final ms.items) (base_rows P u.base) p.value f (ready a f st)) (λ f st. st) (λ f st. declared_behind n (type_of_use P (placed_type_use u) (annotations_of ms.items)) (bound u ms.items) (has_final ms.items) (base_rows P u.base) p.value f (ready a f st)) mid mid last y z v h
-      (walk_on (declared_then n (type_of_use P (placed_type_use u) (annotations_of ms.items)) (bound u ms.items) (has_final ms.items) (base_rows P u.base) p.value) (declared_behind n (type_of_use P (placed_type_use u) (annotations_of ms.items)) (bound u ms.items) (has_final ms.items) (base_rows P u.base) p.value) (ready a) mid last z v (λ f st. refl)
-      (walk_then (λ f st. spec.declared_rows st.scope n.name.0 n.span) (λ f st. spec.statement_rows P c f at st (placed_statement p.value)) (λ f st. declares st n.name.0 (type_of_use P (placed_type_use u) (annotations_of ms.items)) (bound u ms.items) (has_final ms.items) (base_rows P u.base)) (λ f st. (lowered.statement P c f st (placed_statement p.value)).behind) mid new last z w v declared
+      (walk_back (λ f st. (type_rows (placed_type_use u.value) both_kinds (annotations_of ms.items) ++ base_rows P u.value.base) ++ (spec.array_rows P c f at st (placed_view a) ++ declared_then n (type_of_use P (placed_type_use u.value) (annotations_of ms.items)) (bound u.value ms.items) (has_final ms.items) (base_rows P u.value.base) p.value f (ready a f st))) (λ f st. declared_behind n (type_of_use P (placed_type_use u.value) (annotations_of ms.items)) (bound u.value ms.items) (has_final ms.items) (base_rows P u.value.base) p.value f (ready a f st)) (λ f st. (lowered.statement P c f st (placed_statement (ForEach ms u n a p s))).behind) old last back x v k (λ f st. refl)
+      (walk_then (λ f st. type_rows (placed_type_use u.value) both_kinds (annotations_of ms.items) ++ base_rows P u.value.base) (λ f st. spec.array_rows P c f at st (placed_view a) ++ declared_then n (type_of_use P (placed_type_use u.value) (annotations_of ms.items)) (bound u.value ms.items) (has_final ms.items) (base_rows P u.value.base) p.value f (ready a f st)) (λ f st. st) (λ f st. declared_behind n (type_of_use P (placed_type_use u.value) (annotations_of ms.items)) (bound u.value ms.items) (has_final ms.items) (base_rows P u.value.base) p.value f (ready a f st)) old mid last x y v
+      (subst (λ ns. Walks (λ f st. type_rows (placed_type_use u.value) both_kinds ns ++ base_rows P u.value.base) (λ f st. st) old mid x y) ne g)
+      (walk_then (λ f st. spec.array_rows P c f at st (placed_view a)) (λ f st. declared_then n (type_of_use P (placed_type_use u.value) (annotations_of ms.items)) (bound u.value ms.items) (has_final ms.items) (base_rows P u.value.base) p.value f (ready a f st)) (λ f st. st) (λ f st. declared_behind n (type_of_use P (placed_type_use u.value) (annotations_of ms.items)) (bound u.value ms.items) (has_final ms.items) (base_rows P u.value.base) p.value f (ready a f st)) mid mid last y z v h
+      (walk_on (declared_then n (type_of_use P (placed_type_use u.value) (annotations_of ms.items)) (bound u.value ms.items) (has_final ms.items) (base_rows P u.value.base) p.value) (declared_behind n (type_of_use P (placed_type_use u.value) (annotations_of ms.items)) (bound u.value ms.items) (has_final ms.items) (base_rows P u.value.base) p.value) (ready a) mid last z v (λ f st. refl)
+      (walk_then (λ f st. spec.declared_rows st.scope n.name.0 n.span) (λ f st. spec.statement_rows P c f at st (placed_statement p.value)) (λ f st. declares st n.name.0 (type_of_use P (placed_type_use u.value) (annotations_of ms.items)) (bound u.value ms.items) (has_final ms.items) (base_rows P u.value.base)) (λ f st. (lowered.statement P c f st (placed_statement p.value)).behind) mid new last z w v declared
       (subst (λ t. WalksOne (placed_statement t) new last w v) te b))))) back_is.0 back_is.1)
     where
-      declared : Walks (λ f st. spec.declared_rows st.scope n.name.0 n.span) (λ f st. declares st n.name.0 (type_of_use P (placed_type_use u) (annotations_of ms.items)) (bound u ms.items) (has_final ms.items) (base_rows P u.base)) mid new z w
+      declared : Walks (λ f st. spec.declared_rows st.scope n.name.0 n.span) (λ f st. declares st n.name.0 (type_of_use P (placed_type_use u.value) (annotations_of ms.items)) (bound u.value ms.items) (has_final ms.items) (base_rows P u.value.base)) mid new z w
       declared =
-          subst (λ q. Walks (λ f st. spec.declared_rows st.scope n.name.0 n.span) (λ f st. declares st n.name.0 (type_of_use P (placed_type_use u) (annotations_of ms.items)) (bound u ms.items) (has_final ms.items) q) mid new z w) he
-          (subst (λ q. Walks (λ f st. spec.declared_rows st.scope n.name.0 n.span) (λ f st. declares st n.name.0 (type_of_use P (placed_type_use u) (annotations_of ms.items)) (bound u ms.items) q faults) mid new z w) fe
-          (subst (λ q. Walks (λ f st. spec.declared_rows st.scope n.name.0 n.span) (λ f st. declares st n.name.0 q (bound u ms.items) fixed faults) mid new z w) (be ∙ ap (type_of_use P (placed_type_use u)) ne) (d (bound u ms.items))))
+          subst (λ q. Walks (λ f st. spec.declared_rows st.scope n.name.0 n.span) (λ f st. declares st n.name.0 (type_of_use P (placed_type_use u.value) (annotations_of ms.items)) (bound u.value ms.items) (has_final ms.items) q) mid new z w) he
+          (subst (λ q. Walks (λ f st. spec.declared_rows st.scope n.name.0 n.span) (λ f st. declares st n.name.0 (type_of_use P (placed_type_use u.value) (annotations_of ms.items)) (bound u.value ms.items) q faults) mid new z w) fe
+          (subst (λ q. Walks (λ f st. spec.declared_rows st.scope n.name.0 n.span) (λ f st. declares st n.name.0 q (bound u.value ms.items) fixed faults) mid new z w) (be ∙ ap (type_of_use P (placed_type_use u.value)) ne) (d (bound u.value ms.items))))
 
   -- statements one after the other, from the i-th one on
 
@@ -285,5 +289,5 @@ module _ (P : Program) (c : ℕ) (at : Setting) where
   pub init_effects : (i : ForInit) (v : Vec Expr Global) (es : List Expr) (names : Names) (x y : List Row) → i ≡ Expressions v → es ≡ v.items → WellKept names → AddsAll es names x y → WalksInit i names names x y
   init_effects i v es names x y is b k h = subst (λ i. WalksInit i names names x y) (sym is) (effect_walks v.items names x y k (subst (λ es. AddsAll es names x y) b h))
 
-  pub init_local : (i : ForInit) (l : LocalDeclaration) (old new : Names) (x y : List Row) → i ≡ Declaration l → Walks (λ f st. spec.declaration_rows P c f at st (placed_local l)) (λ f st. (lowered.declaration P c f st (placed_local l)).behind) old new x y → WalksInit i old new x y
-  init_local i l old new x y is g = subst (λ i. WalksInit i old new x y) (sym is) g
+  pub init_local : (i : ForInit) (q : Box LocalDeclaration Global) (l : LocalDeclaration) (old new : Names) (x y : List Row) → i ≡ Declaration q → l ≡ q.value → Walks (λ f st. spec.declaration_rows P c f at st (placed_local l)) (λ f st. (lowered.declaration P c f st (placed_local l)).behind) old new x y → WalksInit i old new x y
+  init_local i q l old new x y is le g = subst (λ i. WalksInit i old new x y) (sym is) (subst (λ l. Walks (λ f st. spec.declaration_rows P c f at st (placed_local l)) (λ f st. (lowered.declaration P c f st (placed_local l)).behind) old new x y) le g)

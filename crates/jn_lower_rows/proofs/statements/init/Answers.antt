@@ -6,4 +6,4 @@ pub returns-in_ok-look_all-in-Expressions : goal.returns-in_ok-look_all-in-Expre
 returns-in_ok-look_all-in-Expressions c = init_effects c.args.place.now.program.now c.args.place.now.class.0 (setting_of c.args.place.now.at) _ c.in-Expressions.trees _ c.args.names.now _ _ c.in-Expressions.is c.deref.ensures.value c.requires.kept c.in_ok-look_all-in-Expressions.ensures
 
 pub returns-in_ok-declaration-in-Declaration : goal.returns-in_ok-declaration-in-Declaration
-returns-in_ok-declaration-in-Declaration c = init_local c.args.place.now.program.now c.args.place.now.class.0 (setting_of c.args.place.now.at) _ c.in-Declaration.local c.args.names.now _ _ _ c.in-Declaration.is c.in_ok-declaration-in-Declaration.ensures
+returns-in_ok-declaration-in-Declaration c = init_local c.args.place.now.program.now c.args.place.now.class.0 (setting_of c.args.place.now.at) _ c.in-Declaration.local _ c.args.names.now _ _ _ c.in-Declaration.is c.deref-in-Declaration.ensures c.in_ok-declaration-in-Declaration.ensures
