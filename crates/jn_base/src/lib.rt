@@ -2,6 +2,7 @@
 #![tactic(auto)]
 
 pub mod code;
+pub mod lists;
 pub mod number;
 pub mod place;
 pub mod refusal;
