@@ -1,6 +1,7 @@
 // Places, rows and their codes, typed numbers, and lists and texts that contracts see as lists.
 #![tactic(auto)]
 
+pub mod choice;
 pub mod code;
 pub mod lists;
 pub mod number;
@@ -9,6 +10,7 @@ pub mod refusal;
 pub mod seq;
 pub mod text;
 
+pub use choice::either;
 pub use code::Code;
 pub use number::{
     BodyNo, ClassNo, FieldNo, FileNo, MethodNo, NameNo, PointNo, RegNo, SlotNo, WordNo,
