@@ -5,13 +5,16 @@
 //! let contracts speak of the list alone.
 #![tactic(auto)]
 
+pub mod choice;
 pub mod code;
+pub mod lists;
 pub mod number;
 pub mod place;
 pub mod refusal;
 pub mod seq;
 pub mod text;
 
+pub use choice::either;
 pub use code::Code;
 pub use number::{
     BodyNo, ClassNo, FieldNo, FileNo, MethodNo, NameNo, PointNo, RegNo, SlotNo, WordNo,

@@ -1,5 +1,5 @@
 //! Sweeps over the blocks that wait to be passed over, until none does.
-ghost use Rattle.std.specs.Prelude.{◌≡◌, ◌<◌, ◌^◌, ◌||◌, [], IfOk, IsTrue, None, Some, length, cond, replicate, slice_set, true, false};
+ghost use Rattle.std.specs.Prelude.{◌≡◌, ◌<◌, ◌^◌, [], IfOk, IsTrue, None, Some, length, cond, replicate, slice_set, true, false};
 ghost use Rattle.jn_dataflow.specs.Problem.{Problem, slot_at};
 ghost use Rattle.jn_dataflow.specs.Solution.{Solves};
 ghost use Rattle.jn_dataflow.specs.Settled.{SlotValid, Blocks, Stepped, Swept, Ended, Visited, NobodyWaits, join_slot, flow_in, edges_from};
@@ -7,7 +7,7 @@ ghost use Rattle.jn_dataflow.specs.Settled.{SlotValid, Blocks, Stepped, Swept, E
 use crate::analysis::Dataflow;
 use crate::blocks::{entry_alone, goes_on, only, set_inner};
 use crate::slots::Slots;
-use jn_base::{OutOfMemory, Seq};
+use jn_base::{OutOfMemory, Seq, either};
 use std::alloc::Global;
 
 /// A joined environment, and whether it is new.
@@ -83,13 +83,6 @@ fn raise<D: Dataflow>(
         waiting.set(edge.0 as usize, true);
     }
     Ok(rose)
-}
-
-/// Whether one of the two is set.
-fn either(bit: bool, set: bool) -> bool
-    ensures { result ≡ (bit || set) }
-{
-    bit || set
 }
 
 /// Joins the edges of a point behind which its block ends. Gives whether any environment rose.

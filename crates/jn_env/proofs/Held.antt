@@ -7,6 +7,7 @@ use Rattle.std.proofs.lemmas.Nat.{or_lt}
 use Rattle.jn_quals.specs.Qualifier.{Qualifier}
 use Rattle.jn_quals.specs.Word.{unpack}
 use Rattle.jn_quals.proofs.Order.{same_qual}
+use Rattle.jn_quals.proofs.WordLists.{zeros, length_zeros, zero_at}
 use Rattle.jn_env.specs.Packed.{bit, bit_at, bits_from, bits_of, HoldBits, qual_in, either_bits, either_words, rises}
 use Rattle.jn_env.proofs.Pairs.{zip_both, zip_both_at, length-zip_both}
 use Rattle.jn_env.proofs.Rises.{words_zip, still, moved}
@@ -74,20 +75,6 @@ read_qual words count r w q view e lt word is =
     ∙ ap (λ v. qual_in v r) e
 
 -- words of zeros
-abbrev pub zeros : ℕ → List ℕ
-zeros n = replicate n 0
-
-length_zeros : (n : ℕ) → length (zeros n) ≡ n
-length_zeros n = length-replicate n _
-
-zero_at : (n k : ℕ) → get_or (zeros n) k 0 ≡ 0
-zero_at n k = sides (cases_order k n)
-  where
-    sides : (k ≡ n) ⊎ ((k < n) ⊎ (n < k)) → get_or (zeros n) k 0 ≡ 0
-    sides (inl e) = get_or_past (replicate n 0) k 0 (omega (arith, e, length_zeros n))
-    sides (inr (inl lt)) = get_or-replicate n k 0 0 lt
-    sides (inr (inr lt)) = get_or_past (replicate n 0) k 0 (omega (arith, lt, length_zeros n))
-
 zero_place : (n i : ℕ) → bit_at (zeros n) i ≡ false
 zero_place n i = ap (λ w. bit w (i % 63)) (zero_at n (i / 63)) ∙ zero_bit (i % 63)
 

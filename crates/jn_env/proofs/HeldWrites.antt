@@ -3,6 +3,7 @@ use Rattle.std.proofs.Common.{◌≡◌, ◌≢◌, ℕ, ◌+◌, ◌*◌, ◌/�
 use Rattle.std.proofs.lemmas.Bool.{cases_order}
 use Rattle.jn_quals.specs.Qualifier.{Qualifier}
 use Rattle.jn_quals.specs.Word.{unpack}
+use Rattle.jn_quals.proofs.WordLists.{set_below}
 use Rattle.jn_env.specs.Packed.{bit, bit_at, bits_of, HoldBits, with_qual}
 use Rattle.jn_env.proofs.WordBits.{low_first, low_second, low_third}
 use Rattle.jn_env.proofs.Held.{length-bits_of, bits_of-at, bits_are}
@@ -16,19 +17,6 @@ module _ (words : List ℕ) (count at v : ℕ) (held : HoldBits words count) (th
 
   written_other : (i : ℕ) → i / 63 ≢ at → bit_at written i ≡ bit_at words i
   written_other i ne = ap (λ w. bit w (i % 63)) (get_or-set_other words at (i / 63) v 0 ne)
-
-  written_top : (i : ℕ) → get_or written i 0 < 2 ^ 63
-  written_top i = sides (cases_order i at)
-    where
-      elsewhere : i ≢ at → get_or written i 0 < 2 ^ 63
-      elsewhere ne = let e = get_or-set_other words at i v 0 ne in rw e (held.top i)
-
-      sides : (i ≡ at) ⊎ ((i < at) ⊎ (at < i)) → get_or written i 0 < 2 ^ 63
-      sides (inl e) =
-          let f : get_or written i 0 ≡ v = ap (λ k. get_or written k 0) e ∙ get_or-set_same words at v 0 there in
-          rw f small
-      sides (inr (inl before)) = elsewhere (λ h. omega (arith, before, h))
-      sides (inr (inr behind)) = elsewhere (λ h. omega (arith, behind, h))
 
   -- by what the word has at each of its places
   each : (i : ℕ) (b : Bool) → (i / 63 ≡ at → bit v (i % 63) ≡ b) → (i / 63 ≢ at → bit_at words i ≡ b) → bit_at written i ≡ b
@@ -46,7 +34,7 @@ module _ (words : List ℕ) (count at v : ℕ) (held : HoldBits words count) (th
   written_held kept = record {
     enough = length-set words at v ∙ held.enough;
     empty = λ i le. each i false (λ e. kept i le e ∙ held.empty i le) (λ ne. held.empty i le);
-    top = written_top;
+    top = set_below words at v (2 ^ 63) there small held.top;
   }
 
   pub written_are : (ys : List Bool) → length ys ≡ count → ((i : ℕ) → i < count → i / 63 ≡ at → bit v (i % 63) ≡ get_or ys i false) → ((i : ℕ) → i < count → i / 63 ≢ at → get_or (bits_of words count) i false ≡ get_or ys i false) → bits_of written count ≡ ys

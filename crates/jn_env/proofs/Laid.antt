@@ -5,12 +5,10 @@ use Rattle.jn_quals.specs.Qualifier.{Qualifier}
 use Rattle.jn_quals.specs.Order.{no_qual}
 use Rattle.jn_quals.proofs.Order.{same_qual}
 use Rattle.jn_env.specs.Environment.{Env}
-use Rattle.jn_env.specs.Keys.{mask, also}
 use Rattle.jn_env.specs.Packed.{qual_in, with_qual}
-use Rattle.jn_env.specs.Flat.{quals_of, env_of, written}
-use Rattle.jn_env.proofs.BitOrder.{length-mask, length-also}
+use Rattle.jn_env.specs.Flat.{quals_of, env_of, written, marked}
 use Rattle.jn_env.proofs.Weight.{same_env}
-use Rattle.jn_env.proofs.Written.{written_mask, written_also}
+use Rattle.jn_env.proofs.Written.{length-marked, written_marked}
 
 abbrev pub quals_flat : List Qualifier → List Bool
 quals_flat [] = []
@@ -221,30 +219,16 @@ module _ (bits : List Bool) (r f : ℕ) (e : Env) (l : Laid bits r f e) where
         ∙ ap (λ z. z ++ written test wanted keys (drop (3 * r + f) bits)) taken_own
         ∙ ap (λ z. (quals_flat e.quals ++ map not e.facts) ++ written test wanted keys z) dropped_own
 
-    pub forget_laid : (now : List Bool) → first ≡ 3 * length e.quals → length keys ≡ length e.facts → now ≡ take first bits ++ written test true keys (drop first bits) → Laid now r f (record { quals = e.quals; facts = mask (λ k. not (test k)) keys e.facts; assigned = e.assigned })
-    forget_laid now from m is = record {
-      is = is ∙ on_facts true from ∙ ap (λ z. quals_flat e.quals ++ z) (written_mask test keys e.facts (map not e.assigned) m);
+    pub facts_laid : (known : Bool) (now : List Bool) → first ≡ 3 * length e.quals → length keys ≡ length e.facts → now ≡ take first bits ++ written test (not known) keys (drop first bits) → Laid now r f (record { quals = e.quals; facts = marked known test keys e.facts; assigned = e.assigned })
+    facts_laid known now from m is = record {
+      is = is ∙ on_facts (not known) from ∙ ap (λ z. quals_flat e.quals ++ z) (written_marked test known keys e.facts (map not e.assigned) m);
       quals = l.quals;
-      facts = length-mask (λ k. not (test k)) keys e.facts ∙ l.facts;
+      facts = length-marked test known keys e.facts ∙ l.facts;
     }
 
-    pub learn_laid : (now : List Bool) → first ≡ 3 * length e.quals → length keys ≡ length e.facts → now ≡ take first bits ++ written test false keys (drop first bits) → Laid now r f (record { quals = e.quals; facts = also test keys e.facts; assigned = e.assigned })
-    learn_laid now from m is = record {
-      is = is ∙ on_facts false from ∙ ap (λ z. quals_flat e.quals ++ z) (written_also test keys e.facts (map not e.assigned) m);
-      quals = l.quals;
-      facts = length-also test keys e.facts ∙ l.facts;
-    }
-
-    pub unassign_laid : (now : List Bool) → first ≡ 3 * length e.quals + length e.facts → length keys ≡ length e.assigned → now ≡ take first bits ++ written test true keys (drop first bits) → Laid now r f (record { quals = e.quals; facts = e.facts; assigned = mask (λ k. not (test k)) keys e.assigned })
-    unassign_laid now from m is = record {
-      is = is ∙ on_own true from ∙ ap (λ z. (quals_flat e.quals ++ map not e.facts) ++ z) (written_mask test keys e.assigned [] m) ∙ regroup (mask (λ k. not (test k)) keys e.assigned);
-      quals = l.quals;
-      facts = l.facts;
-    }
-
-    pub assign_laid : (now : List Bool) → first ≡ 3 * length e.quals + length e.facts → length keys ≡ length e.assigned → now ≡ take first bits ++ written test false keys (drop first bits) → Laid now r f (record { quals = e.quals; facts = e.facts; assigned = also test keys e.assigned })
-    assign_laid now from m is = record {
-      is = is ∙ on_own false from ∙ ap (λ z. (quals_flat e.quals ++ map not e.facts) ++ z) (written_also test keys e.assigned [] m) ∙ regroup (also test keys e.assigned);
+    pub own_laid : (known : Bool) (now : List Bool) → first ≡ 3 * length e.quals + length e.facts → length keys ≡ length e.assigned → now ≡ take first bits ++ written test (not known) keys (drop first bits) → Laid now r f (record { quals = e.quals; facts = e.facts; assigned = marked known test keys e.assigned })
+    own_laid known now from m is = record {
+      is = is ∙ on_own (not known) from ∙ ap (λ z. (quals_flat e.quals ++ map not e.facts) ++ z) (written_marked test known keys e.assigned [] m) ∙ regroup (marked known test keys e.assigned);
       quals = l.quals;
       facts = l.facts;
     }

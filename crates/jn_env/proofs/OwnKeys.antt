@@ -1,5 +1,5 @@
 -- A constructor's own keys are the reference fields of its class.
-use Rattle.std.proofs.Common.{ℕ, zero, suc, ◌≡◌, ◌<◌, ◌≤◌, Bool, true, false, ◌&&◌, List, [], ◌∷◌, ◌++◌, length, filter, cond, refl, sym, ap, subst, ◌∙◌, arith}
+use Rattle.std.proofs.Common.{ℕ, ◌≡◌, ◌<◌, Bool, true, false, ◌&&◌, List, [], ◌∷◌, length, filter, refl, sym, ap, subst, ◌∙◌, arith}
 use Rattle.std.specs.Prelude.{eqb, slice_index_or}
 use Rattle.std.proofs.lemmas.Bool.{ne_eqb}
 use Rattle.jn_points.specs.declared.program.Program.{Program}

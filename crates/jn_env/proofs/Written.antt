@@ -1,8 +1,9 @@
 -- Bits that are written along a list of keys, from a place on.
 use Rattle.std.proofs.Common.{◌≡◌, ℕ, zero, suc, ◌+◌, ◌-◌, ◌<◌, ◌≤◌, Bool, true, false, not, ◌&&◌, ◌||◌, cond, List, [], ◌∷◌, ◌++◌, length, take, drop, map, get_or, set, refl, ap, ◌∙◌, add-one, arith, length-append, length-drop}
 use Rattle.std.proofs.lemmas.List.{take_all, set-append_right, length-take-le}
-use Rattle.jn_env.specs.Keys.{mask, also, no_bits}
-use Rattle.jn_env.specs.Flat.{written}
+use Rattle.jn_env.specs.Keys.{mask, no_bits}
+use Rattle.jn_env.specs.Flat.{written, marked}
+use Rattle.jn_env.proofs.BitOrder.{length-mask, length-also}
 
 cond_same : {A : Type 0} (t : Bool) (z : A) → cond t z z ≡ z
 cond_same true z = refl
@@ -57,31 +58,31 @@ module _ {K : Type 0} (test : K → Bool) (wanted : Bool) where
   pub written_end : (keys : List K) (old : List Bool) (first n : ℕ) → length keys ≤ n → take first old ++ written test wanted (take n keys) (drop first old) ≡ take first old ++ written test wanted keys (drop first old)
   written_end keys old first n le = ap (λ ks. take first old ++ written test wanted ks (drop first old)) (take_all n keys le)
 
-forgotten : (t b : Bool) → cond t true (not b) ≡ not (b && not t)
-forgotten true true = refl
-forgotten true false = refl
-forgotten false true = refl
-forgotten false false = refl
-
 learned : (t b : Bool) → cond t false (not b) ≡ not (b || t)
 learned true true = refl
 learned true false = refl
 learned false true = refl
 learned false false = refl
 
-module _ {K : Type 0} (test : K → Bool) where
-  -- what may be is set where what is known is cleared
-  pub written_mask : (keys : List K) (bits rest : List Bool) → length keys ≡ length bits → written test true keys (map not bits ++ rest) ≡ map not (mask (λ k. not (test k)) keys bits) ++ rest
-  written_mask [] [] rest l = refl
-  written_mask [] (b ∷ bits) rest l = refl
-  written_mask (k ∷ keys) [] rest l = absurd (omega (arith, l))
-  written_mask (k ∷ keys) (b ∷ bits) rest l = ap (λ z. z ∷ written test true keys (map not bits ++ rest)) (forgotten (test k) b) ∙ ap (λ bs. not (b && not (test k)) ∷ bs) (written_mask keys bits rest (omega (arith, l)))
+forgotten : (t b : Bool) → cond t true (not b) ≡ not (b && not t)
+forgotten true true = refl
+forgotten true false = refl
+forgotten false true = refl
+forgotten false false = refl
 
-  pub written_also : (keys : List K) (bits rest : List Bool) → length keys ≡ length bits → written test false keys (map not bits ++ rest) ≡ map not (also test keys bits) ++ rest
-  written_also [] [] rest l = refl
-  written_also [] (b ∷ bits) rest l = refl
-  written_also (k ∷ keys) [] rest l = absurd (omega (arith, l))
-  written_also (k ∷ keys) (b ∷ bits) rest l = ap (λ z. z ∷ written test false keys (map not bits ++ rest)) (learned (test k) b) ∙ ap (λ bs. not (b || test k) ∷ bs) (written_also keys bits rest (omega (arith, l)))
+module _ {K : Type 0} (test : K → Bool) where
+  pub length-marked : (known : Bool) (keys : List K) (bits : List Bool) → length (marked known test keys bits) ≡ length bits
+  length-marked true keys bits = length-also test keys bits
+  length-marked false keys bits = length-mask (λ k. not (test k)) keys bits
+
+  -- what may be is cleared where what is known is set, and the other way round
+  pub written_marked : (known : Bool) (keys : List K) (bits rest : List Bool) → length keys ≡ length bits → written test (not known) keys (map not bits ++ rest) ≡ map not (marked known test keys bits) ++ rest
+  written_marked true [] [] rest l = refl
+  written_marked false [] [] rest l = refl
+  written_marked known [] (b ∷ bits) rest l = absurd (omega (arith, l))
+  written_marked known (k ∷ keys) [] rest l = absurd (omega (arith, l))
+  written_marked true (k ∷ keys) (b ∷ bits) rest l = ap (λ z. z ∷ written test false keys (map not bits ++ rest)) (learned (test k) b) ∙ ap (λ bs. not (b || test k) ∷ bs) (written_marked true keys bits rest (omega (arith, l)))
+  written_marked false (k ∷ keys) (b ∷ bits) rest l = ap (λ z. z ∷ written test true keys (map not bits ++ rest)) (forgotten (test k) b) ∙ ap (λ bs. not (b && not (test k)) ∷ bs) (written_marked false keys bits rest (omega (arith, l)))
 
 pub mask_none : {K : Type 0} (keys : List K) (bits : List Bool) → length keys ≡ length bits → mask (λ k. false) keys bits ≡ no_bits keys
 mask_none [] [] l = refl

@@ -1,8 +1,9 @@
 -- An environment as one list of bits, set for what may be: three for each register, then one for each key whose field
 -- may be null, then one for each own field that may be unassigned.
-use Rattle.std.specs.Prelude.{ℕ, zero, suc, ◌+◌, ◌*◌, Bool, not, cond, List, [], ◌∷◌, map, take, drop}
+use Rattle.std.specs.Prelude.{ℕ, zero, suc, ◌+◌, ◌*◌, Bool, true, false, not, cond, List, [], ◌∷◌, map, take, drop}
 use Rattle.jn_quals.specs.Qualifier.{Qualifier}
 use Rattle.jn_env.specs.Environment.{Env}
+use Rattle.jn_env.specs.Keys.{mask, also}
 
 abbrev pub quals_of : ℕ → List Bool → List Qualifier
 quals_of zero bits = []
@@ -20,3 +21,8 @@ abbrev pub written : {K : Type 0} → (K → Bool) → Bool → List K → List 
 written test wanted [] bits = bits
 written test wanted (k ∷ keys) [] = []
 written test wanted (k ∷ keys) (b ∷ bits) = cond (test k) wanted b ∷ written test wanted keys bits
+
+-- bits are set at keys that pass, or cleared there
+abbrev pub marked : {K : Type 0} → Bool → (K → Bool) → List K → List Bool → List Bool
+marked true test keys bits = also test keys bits
+marked false test keys bits = mask (λ k. not (test k)) keys bits

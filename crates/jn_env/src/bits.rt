@@ -1,5 +1,5 @@
 //! Bits along the keys of a body.
-ghost use Rattle.std.specs.Prelude.{◌≡◌, ◌<◌, ◌≤◌, ◌+◌, ◌^◌, ◌++◌, ◌&&◌, ◌||◌, length, take, drop, cond, false, slice_index_or, slice_set};
+ghost use Rattle.std.specs.Prelude.{◌≡◌, ◌<◌, ◌≤◌, ◌+◌, ◌^◌, ◌++◌, ◌&&◌, length, take, drop, cond, false, slice_index_or, slice_set};
 ghost use Rattle.jn_env.specs.Keys.{is_on, is_key};
 ghost use Rattle.jn_env.specs.Code.{picks, is_field};
 ghost use Rattle.jn_env.specs.Flat.{written};
@@ -7,6 +7,7 @@ ghost use Rattle.jn_env.specs.Flat.{written};
 use crate::env::Env;
 use crate::keys::FieldKey;
 use crate::packed::BitList;
+pub use jn_base::either;
 use jn_base::{FieldNo, RegNo};
 
 /// Some keys of a body.
@@ -71,13 +72,6 @@ pub fn write_own(
     for i in 0..own.len() {
         write_if(bits, first + i, is_field(field, own[i]), wanted);
     }
-}
-
-/// Whether either holds.
-pub fn either(left: bool, right: bool) -> bool
-    ensures { result ≡ (left || right) }
-{
-    left || right
 }
 
 /// Whether the bit is set and meant.

@@ -46,6 +46,7 @@ impl Model for Env {
 impl Env {
     ghost use Rattle.jn_env.specs.Code.{picks, is_fact_on, is_field};
     ghost use Rattle.jn_env.specs.Keys.{mask, also, is_on, is_key, has_reg, no_bits};
+    ghost use Rattle.jn_env.specs.Flat.{marked};
     ghost use Rattle.jn_env.specs.Order.{qual_at, EnvWithin, join_env};
     ghost use Rattle.jn_env.specs.Size.{SameSize};
 
@@ -53,7 +54,8 @@ impl Env {
     /// nothing is assigned.
     ///
     /// # Errors
-    /// No memory was found.
+    /// No memory was found, or there are more registers, keys or own fields than a number of bits
+    /// can be counted for.
     pub fn empty(
         alloc: Global,
         program: &Program,
@@ -70,8 +72,8 @@ impl Env {
             keys.facts.len(),
             keys.own.len(),
         )?;
-        env.forget(keys.facts.as_slice(), Which::Each);
-        env.unassign(keys.own.as_slice());
+        env.write_facts(keys.facts.as_slice(), Which::Each, false);
+        env.write_assigned(keys.own.as_slice(), None, false);
         Ok(env)
     }
 
@@ -164,7 +166,7 @@ impl Env {
         ensures assigned { self.new.assigned ≡ self.old.assigned }
     {
         self.set_qual(reg, qual);
-        self.forget(keys.facts.as_slice(), Which::OfReg(reg));
+        self.write_facts(keys.facts.as_slice(), Which::OfReg(reg), false);
     }
 
     /// Where the bits of the facts begin.
@@ -212,29 +214,18 @@ impl Env {
         ensures assigned { self.new.assigned ≡ self.old.assigned }
     {
         let facts = keys.facts.as_slice();
-        self.learn(facts, Which::Exactly(reg, field));
+        self.write_facts(facts, Which::Exactly(reg, field), true);
     }
 
-    /// Lets the facts of these keys be known.
-    fn learn(&mut self, keys: &[FieldKey], which: Which)
+    /// Lets the facts of these keys be known, or forgets them.
+    fn write_facts(&mut self, keys: &[FieldKey], which: Which, known: bool)
         requires { length keys.now ≡ length self.old.facts }
-        ensures facts { self.new.facts ≡ also (picks which) keys.now self.old.facts }
+        ensures facts { self.new.facts ≡ marked known (picks which) keys.now self.old.facts }
         ensures quals { self.new.quals ≡ self.old.quals }
         ensures assigned { self.new.assigned ≡ self.old.assigned }
     {
         let first = self.facts_from();
-        write_keys(keys, &mut self.may, first, which, false);
-    }
-
-    /// Forgets the facts of these keys.
-    fn forget(&mut self, keys: &[FieldKey], which: Which)
-        requires { length keys.now ≡ length self.old.facts }
-        ensures facts { self.new.facts ≡ mask (λ k. not (picks which k)) keys.now self.old.facts }
-        ensures quals { self.new.quals ≡ self.old.quals }
-        ensures assigned { self.new.assigned ≡ self.old.assigned }
-    {
-        let first = self.facts_from();
-        write_keys(keys, &mut self.may, first, which, true);
+        write_keys(keys, &mut self.may, first, which, !known);
     }
 
     /// Forgets what is known of the field, in objects of all registers; with None all facts.
@@ -246,8 +237,8 @@ impl Env {
     {
         let facts = keys.facts.as_slice();
         match field {
-            None => self.forget(facts, Which::Each),
-            Some(field) => self.forget(facts, Which::OfField(field)),
+            None => self.write_facts(facts, Which::Each, false),
+            Some(field) => self.write_facts(facts, Which::OfField(field), false),
         }
     }
 
@@ -290,28 +281,18 @@ impl Env {
         ensures quals { self.new.quals ≡ self.old.quals }
         ensures facts { self.new.facts ≡ self.old.facts }
     {
-        self.assign_own(keys.own.as_slice(), field);
+        self.write_assigned(keys.own.as_slice(), field, true);
     }
 
-    fn assign_own(&mut self, own: &[u32], field: Option<FieldNo>)
+    /// Lets an own field be assigned or not; with None all of them.
+    fn write_assigned(&mut self, own: &[u32], field: Option<FieldNo>, assigned: bool)
         requires { length own.now ≡ length self.old.assigned }
-        ensures assigned { self.new.assigned ≡ also (is_field field) own.now self.old.assigned }
+        ensures assigned { self.new.assigned ≡ marked assigned (is_field field) own.now self.old.assigned }
         ensures quals { self.new.quals ≡ self.old.quals }
         ensures facts { self.new.facts ≡ self.old.facts }
     {
         let first = self.own_from();
-        write_own(own, &mut self.may, first, field, false);
-    }
-
-    /// Lets no own field be assigned.
-    fn unassign(&mut self, own: &[u32])
-        requires { length own.now ≡ length self.old.assigned }
-        ensures assigned { self.new.assigned ≡ no_bits own.now }
-        ensures quals { self.new.quals ≡ self.old.quals }
-        ensures facts { self.new.facts ≡ self.old.facts }
-    {
-        let first = self.own_from();
-        write_own(own, &mut self.may, first, None, true);
+        write_own(own, &mut self.may, first, field, !assigned);
     }
 
     /// Whether there are as many registers, keys and own fields.

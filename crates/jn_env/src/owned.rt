@@ -3,6 +3,7 @@ ghost use Rattle.std.specs.Prelude.{◌≡◌, ◌<◌, ◌≤◌, ◌^◌, ◌+
 ghost use Rattle.jn_env.specs.ClassFields.{is_field_of, AreOwnFields};
 
 use crate::keys::{is_ref_field, owner};
+use jn_base::lists::{empty_lists, push_at};
 use jn_base::{OutOfMemory, Seq};
 use jn_points::Program;
 use std::alloc::{AllocError, Global};
@@ -31,7 +32,7 @@ impl OwnFields {
         requires { length program.now.fields < 2 ^ 32 }
         ensures { IfOk result (λ own. AreOwnFields program.now own) }
     {
-        let mut lists = no_lists(alloc, program.classes.len())?;
+        let mut lists = empty_lists(alloc, program.classes.len())?;
         for field in 0..program.fields.len() {
             push_field(program, &mut lists, field as u32)?;
         }
@@ -49,25 +50,6 @@ impl OwnFields {
             None
         }
     }
-}
-
-fn no_lists(alloc: Global, count: usize) -> Result<Vec<Seq<u32>>, AllocError>
-    ensures long { IfOk result (λ lists. length lists.items ≡ count) }
-    ensures empty { IfOk result (λ lists. (c : ℕ) → slice_index_or lists.items c [] ≡ []) }
-{
-    let mut lists = Vec::new(alloc);
-    for _class in 0..count {
-        lists.push(Seq::new(alloc))?;
-    }
-    Ok(lists)
-}
-
-fn push_at(lists: &mut Vec<Seq<u32>>, at: usize, item: u32) -> Result<(), AllocError>
-    requires { at < length lists.old.items }
-    ensures long { OnOk result (length lists.new.items ≡ length lists.old.items) }
-    ensures pushed { OnOk result ((c : ℕ) → slice_index_or lists.new.items c [] ≡ slice_index_or lists.old.items c [] ++ cond (eqb at c) (item ∷ []) []) }
-{
-    lists[at].push(item)
 }
 
 /// Puts the field into its class's list, where it is of reference type.

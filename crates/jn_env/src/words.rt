@@ -3,7 +3,7 @@ ghost use Rattle.std.specs.Prelude.{◌≡◌, ◌<◌, ◌+◌, ◌*◌, ◌^�
 ghost use Rattle.jn_quals.specs.Word.{unpack};
 ghost use Rattle.jn_env.specs.Packed.{bit, either_words, rises};
 
-use crate::bits::either;
+use jn_base::either;
 use jn_quals::{Qual, unpack};
 
 /// The bit at a place of a word.

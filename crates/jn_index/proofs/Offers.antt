@@ -20,7 +20,7 @@ use Rattle.jn_index.proofs.Ready.{hit, contains_found, class_inside}
 use Rattle.jn_index.proofs.Offered.{first_passes, entries_found}
 use Rattle.jn_index.proofs.Declared.{first_of}
 
-past_list : (xs : List (List Entry)) (c : ℕ) → length xs ≤ c → entries_at xs c ≡ []
+pub past_list : (xs : List (List Entry)) (c : ℕ) → length xs ≤ c → entries_at xs c ≡ []
 past_list [] c le = refl
 past_list (x ∷ xs) zero le = absurd (omega (arith, le))
 past_list (x ∷ xs) (suc c) le = past_list xs c (omega (arith, le))
@@ -35,7 +35,7 @@ small_listed n m of all listed small c = by (true_or_not (ltb c n))
         let long = listed.long in
         subst (SmallKeys m) (sym (past_list all c (omega (arith, high, long)))) tt
 
-small_append : (n : ℕ) (xs ys : List Entry) → SmallKeys n xs → SmallKeys n ys → SmallKeys n (xs ++ ys)
+pub small_append : (n : ℕ) (xs ys : List Entry) → SmallKeys n xs → SmallKeys n ys → SmallKeys n (xs ++ ys)
 small_append n [] ys a b = b
 small_append n (x ∷ xs) ys a b = (a.0, small_append n xs ys a.1 b)
 

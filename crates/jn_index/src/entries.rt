@@ -15,7 +15,8 @@ use jn_points::members::method_at;
 use jn_points::{Field, Method, Program};
 use std::alloc::{AllocError, Global};
 
-fn field_at(program: &Program, field: usize) -> Option<&Field>
+/// The field of a number; none past the end.
+pub fn field_at(program: &Program, field: usize) -> Option<&Field>
     ensures { MatchOption result (field_info program.now field ≡ None) (λ f. field_info program.now field ≡ Some f.now) }
 {
     program.fields.as_slice().get(field)

@@ -6,17 +6,11 @@ ghost use Rattle.jn_index.specs.Numbers.{first_in};
 ghost use Rattle.jn_index.specs.Index as index;
 ghost use Rattle.jn_index.specs.Index.{IsIndex};
 
-use crate::entries::field_key;
+use crate::entries::{field_at, field_key};
 use crate::index::Index;
 use crate::lookup::is_subclass;
 use jn_base::{ClassNo, FieldNo, NameNo};
 use jn_points::{Field, Program};
-
-fn field_at(program: &Program, field: usize) -> Option<&Field>
-    ensures { MatchOption result (field_info program.now field ≡ None) (λ f. field_info program.now field ≡ Some f.now) }
-{
-    program.fields.as_slice().get(field)
-}
 
 fn declares(field: &Field, c: ClassNo, name: NameNo, d: u32) -> bool
     ensures { result ≡ index.declares_field c.0 name.0 d field.now }

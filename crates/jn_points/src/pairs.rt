@@ -1,11 +1,11 @@
 //! Overriding pairs (JLS 8, 8.4.8 and 9.4.1).
-ghost use Rattle.std.specs.Prelude.{◌≡◌, ◌<◌, ◌^◌, ◌&&◌, ◌||◌, not, eqb, length};
+ghost use Rattle.std.specs.Prelude.{◌≡◌, ◌<◌, ◌^◌, ◌&&◌, not, eqb, length};
 ghost use Rattle.jn_points.specs.Members as spec;
 ghost use Rattle.jn_points.specs.Lookup.{class_info, interface_of, method_at};
 
 use crate::members::{class_info, is_named, is_subclass, method_at, method_for};
 use crate::program::{Method, Program};
-use jn_base::{ClassNo, MethodNo};
+use jn_base::{ClassNo, MethodNo, either};
 
 fn is_interface(program: &Program, class: ClassNo) -> bool
     ensures { result ≡ interface_of (class_info program.now class.0) }
@@ -33,12 +33,6 @@ fn class_pair(program: &Program, m: usize, over: &Method, under: &Method, class:
     !is_interface(program, class)
         && is_number(method_for(program, class, over.name, over.params.len()), m)
         && is_subclass(program, class, under.owner)
-}
-
-fn either(left: bool, right: bool) -> bool
-    ensures { result ≡ (left || right) }
-{
-    left || right
 }
 
 #[tactic(auto, using(crate::proofs::Below::some_below_more))]

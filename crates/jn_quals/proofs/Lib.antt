@@ -1,3 +1,4 @@
 pub mod Bits
 pub mod Order
 pub mod Words
+pub mod WordLists

@@ -7,6 +7,7 @@ use Rattle.jn_quals.specs.Qualifier.{Qualifier, of_bits}
 use Rattle.jn_quals.specs.Order.{no_qual, join}
 use Rattle.jn_quals.specs.Word.{unpack, pack}
 use Rattle.jn_quals.proofs.Words.{pack_same, pack_other, pack_small}
+use Rattle.jn_quals.proofs.WordLists.{zeros, length_zeros, zero_at, set_below}
 use Rattle.jn_sigs.specs.Packed.{at_slot, qualifiers_from, unpacked, ArePacked, raised}
 
 pub length-qualifiers_from : (words : List ℕ) (i n : ℕ) → length (qualifiers_from words i n) ≡ n
@@ -42,20 +43,6 @@ pub read_past : (words : List ℕ) (slots i : ℕ) (view : List Qualifier) → u
 read_past words slots i view e le =
     let short : length view ≤ i = omega (arith, le, length-unpacked words slots, ap length e) in
     sym (get_or_past view i no_qual short)
-
-abbrev pub zeros : ℕ → List ℕ
-zeros n = replicate n 0
-
-length_zeros : (n : ℕ) → length (zeros n) ≡ n
-length_zeros n = length-replicate n _
-
-zero_at : (n k : ℕ) → get_or (zeros n) k 0 ≡ 0
-zero_at n k = sides (cases_order k n)
-  where
-    sides : (k ≡ n) ⊎ ((k < n) ⊎ (n < k)) → get_or (zeros n) k 0 ≡ 0
-    sides (inl e) = get_or_past (replicate n 0) k 0 (omega (arith, e, length_zeros n))
-    sides (inr (inl lt)) = get_or-replicate n k 0 0 lt
-    sides (inr (inr lt)) = get_or_past (replicate n 0) k 0 (omega (arith, lt, length_zeros n))
 
 zero_slot : (n i : ℕ) → at_slot (zeros n) i ≡ no_qual
 zero_slot n i =
@@ -105,24 +92,11 @@ module _ (words : List ℕ) (slots s : ℕ) (q : Qualifier) (packed : ArePacked 
       sides (inr (inl before)) = elsewhere (λ h. omega (arith, before, h))
       sides (inr (inr behind)) = elsewhere (λ h. omega (arith, behind, h))
 
-  raised_top : (i : ℕ) → get_or raised_words i 0 < 2 ^ 63
-  raised_top i = sides (cases_order i (s / 21))
-    where
-      elsewhere : i ≢ s / 21 → get_or raised_words i 0 < 2 ^ 63
-      elsewhere apart = let e = get_or-set_other words (s / 21) i word 0 apart in rw e (packed.top i)
-
-      sides : (i ≡ s / 21) ⊎ ((i < s / 21) ⊎ (s / 21 < i)) → get_or raised_words i 0 < 2 ^ 63
-      sides (inl e) =
-          let f : get_or raised_words i 0 ≡ word = ap (λ k. get_or raised_words k 0) e ∙ here in
-          rw f (pack_small (get_or words (s / 21) 0) (s % 21) 63 q (packed.top (s / 21)) (omega arith))
-      sides (inr (inl before)) = elsewhere (λ h. omega (arith, before, h))
-      sides (inr (inr behind)) = elsewhere (λ h. omega (arith, behind, h))
-
   pub raised_packed : ArePacked raised_words slots
   raised_packed = record {
     enough = length-set words (s / 21) word ∙ packed.enough;
     empty = λ i le. raised_other i (λ h. omega (arith, h, le, lt)) ∙ packed.empty i le;
-    top = raised_top;
+    top = set_below words (s / 21) word (2 ^ 63) (word_below words slots s packed lt) (pack_small (get_or words (s / 21) 0) (s % 21) 63 q (packed.top (s / 21)) (omega arith)) packed.top;
   }
 
   pub raised_unpacked : unpacked raised_words slots ≡ raised (unpacked words slots) s q

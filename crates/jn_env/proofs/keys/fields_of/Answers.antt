@@ -1,4 +1,4 @@
-use Rattle.std.proofs.Common.{◌≡◌, ◌++◌, ◌∷◌, [], cond, filter, sym, ap, ◌∙◌, add-one}
+use Rattle.std.proofs.Common.{◌++◌, ◌∷◌, [], cond, filter, sym, ap, ◌∙◌, add-one}
 use Rattle.jn_points.specs.Members.{below}
 use Rattle.jn_env.specs.ClassFields.{is_field_of}
 use Rattle.jn_env.proofs.Along.{filter_more}

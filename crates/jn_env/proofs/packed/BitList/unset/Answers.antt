@@ -1,6 +1,7 @@
 use Rattle.std.proofs.Common.{◌≡◌, ◌+◌, ◌/◌, ap, ◌∙◌}
 use Rattle.jn_env.specs.Packed.{bits_of}
-use Rattle.jn_env.proofs.Held.{zeros, zeros_held, zeros_are}
+use Rattle.jn_quals.proofs.WordLists.{zeros}
+use Rattle.jn_env.proofs.Held.{zeros_held, zeros_are}
 use Rattle.jn_env.proofs.packed.BitList.unset.Goals as goal
 
 pub returns : goal.returns

@@ -1,6 +1,7 @@
 use Rattle.std.proofs.Common.{◌≡◌, ◌+◌, ◌/◌, ap, ◌∙◌}
 use Rattle.jn_sigs.specs.Packed.{unpacked}
-use Rattle.jn_sigs.proofs.Slots.{zeros, zeros_packed, zeros_unpacked}
+use Rattle.jn_quals.proofs.WordLists.{zeros}
+use Rattle.jn_sigs.proofs.Slots.{zeros_packed, zeros_unpacked}
 use Rattle.jn_sigs.proofs.sig.Sig.empty.Goals as goal
 
 pub returns : goal.returns

@@ -1,7 +1,7 @@
 use Rattle.std.proofs.Common.{ap}
 use Rattle.jn_env.specs.Code.{picks}
-use Rattle.jn_env.proofs.Laid.{laid, view_of, long_enough, facts_there, learn_laid}
-use Rattle.jn_env.proofs.env.Env.learn.Goals as goal
+use Rattle.jn_env.proofs.Laid.{laid, view_of, long_enough, facts_there, facts_laid}
+use Rattle.jn_env.proofs.env.Env.write_facts.Goals as goal
 
 pub write_keys-requires-clause-inside : goal.write_keys-requires-clause-inside
 write_keys-requires-clause-inside c =
@@ -17,7 +17,7 @@ invariant_of-self c =
     let r = c.self.inside.registers in
     let f = c.self.inside.facts in
     let e = c.args.self.now in
-    long_enough c.write_keys.new.bits r f _ (learn_laid may r f e (laid may r f e c.self.invariant c.self.view_is) (picks c.args.which) c.args.keys.now c.facts_from-first.result c.write_keys.new.bits c.facts_from-first.ensures.from c.requires c.write_keys.ensures)
+    long_enough c.write_keys.new.bits r f _ (facts_laid may r f e (laid may r f e c.self.invariant c.self.view_is) (picks c.args.which) c.args.keys.now c.facts_from-first.result c.args.known c.write_keys.new.bits c.facts_from-first.ensures.from c.requires c.write_keys.ensures)
 
 pub returns-clause-quals : goal.returns-clause-quals
 returns-clause-quals c =
@@ -25,7 +25,7 @@ returns-clause-quals c =
     let r = c.self.inside.registers in
     let f = c.self.inside.facts in
     let e = c.args.self.now in
-    ap (λ x. x.quals) (view_of c.write_keys.new.bits r f _ (learn_laid may r f e (laid may r f e c.self.invariant c.self.view_is) (picks c.args.which) c.args.keys.now c.facts_from-first.result c.write_keys.new.bits c.facts_from-first.ensures.from c.requires c.write_keys.ensures))
+    ap (λ x. x.quals) (view_of c.write_keys.new.bits r f _ (facts_laid may r f e (laid may r f e c.self.invariant c.self.view_is) (picks c.args.which) c.args.keys.now c.facts_from-first.result c.args.known c.write_keys.new.bits c.facts_from-first.ensures.from c.requires c.write_keys.ensures))
 
 pub returns-clause-facts : goal.returns-clause-facts
 returns-clause-facts c =
@@ -33,7 +33,7 @@ returns-clause-facts c =
     let r = c.self.inside.registers in
     let f = c.self.inside.facts in
     let e = c.args.self.now in
-    ap (λ x. x.facts) (view_of c.write_keys.new.bits r f _ (learn_laid may r f e (laid may r f e c.self.invariant c.self.view_is) (picks c.args.which) c.args.keys.now c.facts_from-first.result c.write_keys.new.bits c.facts_from-first.ensures.from c.requires c.write_keys.ensures))
+    ap (λ x. x.facts) (view_of c.write_keys.new.bits r f _ (facts_laid may r f e (laid may r f e c.self.invariant c.self.view_is) (picks c.args.which) c.args.keys.now c.facts_from-first.result c.args.known c.write_keys.new.bits c.facts_from-first.ensures.from c.requires c.write_keys.ensures))
 
 pub returns-clause-assigned : goal.returns-clause-assigned
 returns-clause-assigned c =
@@ -41,4 +41,4 @@ returns-clause-assigned c =
     let r = c.self.inside.registers in
     let f = c.self.inside.facts in
     let e = c.args.self.now in
-    ap (λ x. x.assigned) (view_of c.write_keys.new.bits r f _ (learn_laid may r f e (laid may r f e c.self.invariant c.self.view_is) (picks c.args.which) c.args.keys.now c.facts_from-first.result c.write_keys.new.bits c.facts_from-first.ensures.from c.requires c.write_keys.ensures))
+    ap (λ x. x.assigned) (view_of c.write_keys.new.bits r f _ (facts_laid may r f e (laid may r f e c.self.invariant c.self.view_is) (picks c.args.which) c.args.keys.now c.facts_from-first.result c.args.known c.write_keys.new.bits c.facts_from-first.ensures.from c.requires c.write_keys.ensures))

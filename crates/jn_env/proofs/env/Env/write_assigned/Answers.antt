@@ -1,7 +1,7 @@
 use Rattle.std.proofs.Common.{ap}
 use Rattle.jn_env.specs.Code.{is_field}
-use Rattle.jn_env.proofs.Laid.{laid, view_of, long_enough, own_there, assign_laid}
-use Rattle.jn_env.proofs.env.Env.assign_own.Goals as goal
+use Rattle.jn_env.proofs.Laid.{laid, view_of, long_enough, own_there, own_laid}
+use Rattle.jn_env.proofs.env.Env.write_assigned.Goals as goal
 
 pub write_own-requires-clause-inside : goal.write_own-requires-clause-inside
 write_own-requires-clause-inside c =
@@ -17,7 +17,7 @@ invariant_of-self c =
     let r = c.self.inside.registers in
     let f = c.self.inside.facts in
     let e = c.args.self.now in
-    long_enough c.write_own.new.bits r f _ (assign_laid may r f e (laid may r f e c.self.invariant c.self.view_is) (is_field c.args.field) c.args.own.now c.own_from-first.result c.write_own.new.bits c.own_from-first.ensures.from c.requires c.write_own.ensures)
+    long_enough c.write_own.new.bits r f _ (own_laid may r f e (laid may r f e c.self.invariant c.self.view_is) (is_field c.args.field) c.args.own.now c.own_from-first.result c.args.assigned c.write_own.new.bits c.own_from-first.ensures.from c.requires c.write_own.ensures)
 
 pub returns-clause-quals : goal.returns-clause-quals
 returns-clause-quals c =
@@ -25,7 +25,7 @@ returns-clause-quals c =
     let r = c.self.inside.registers in
     let f = c.self.inside.facts in
     let e = c.args.self.now in
-    ap (λ x. x.quals) (view_of c.write_own.new.bits r f _ (assign_laid may r f e (laid may r f e c.self.invariant c.self.view_is) (is_field c.args.field) c.args.own.now c.own_from-first.result c.write_own.new.bits c.own_from-first.ensures.from c.requires c.write_own.ensures))
+    ap (λ x. x.quals) (view_of c.write_own.new.bits r f _ (own_laid may r f e (laid may r f e c.self.invariant c.self.view_is) (is_field c.args.field) c.args.own.now c.own_from-first.result c.args.assigned c.write_own.new.bits c.own_from-first.ensures.from c.requires c.write_own.ensures))
 
 pub returns-clause-facts : goal.returns-clause-facts
 returns-clause-facts c =
@@ -33,7 +33,7 @@ returns-clause-facts c =
     let r = c.self.inside.registers in
     let f = c.self.inside.facts in
     let e = c.args.self.now in
-    ap (λ x. x.facts) (view_of c.write_own.new.bits r f _ (assign_laid may r f e (laid may r f e c.self.invariant c.self.view_is) (is_field c.args.field) c.args.own.now c.own_from-first.result c.write_own.new.bits c.own_from-first.ensures.from c.requires c.write_own.ensures))
+    ap (λ x. x.facts) (view_of c.write_own.new.bits r f _ (own_laid may r f e (laid may r f e c.self.invariant c.self.view_is) (is_field c.args.field) c.args.own.now c.own_from-first.result c.args.assigned c.write_own.new.bits c.own_from-first.ensures.from c.requires c.write_own.ensures))
 
 pub returns-clause-assigned : goal.returns-clause-assigned
 returns-clause-assigned c =
@@ -41,4 +41,4 @@ returns-clause-assigned c =
     let r = c.self.inside.registers in
     let f = c.self.inside.facts in
     let e = c.args.self.now in
-    ap (λ x. x.assigned) (view_of c.write_own.new.bits r f _ (assign_laid may r f e (laid may r f e c.self.invariant c.self.view_is) (is_field c.args.field) c.args.own.now c.own_from-first.result c.write_own.new.bits c.own_from-first.ensures.from c.requires c.write_own.ensures))
+    ap (λ x. x.assigned) (view_of c.write_own.new.bits r f _ (own_laid may r f e (laid may r f e c.self.invariant c.self.view_is) (is_field c.args.field) c.args.own.now c.own_from-first.result c.args.assigned c.write_own.new.bits c.own_from-first.ensures.from c.requires c.write_own.ensures))
