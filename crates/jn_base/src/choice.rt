@@ -1,4 +1,4 @@
-// Choices between two truth values, as a call, so that a loop that joins them keeps the facts of both.
+//! Choices between two truth values, as a call, so that a loop that joins them keeps the facts of both.
 ghost use Rattle.std.specs.Prelude.{◌≡◌, ◌||◌};
 
 /// Whether either holds.

@@ -1,4 +1,4 @@
-// Lists of numbers, one for each number.
+//! Lists of numbers, one for each number.
 ghost use Rattle.std.specs.Prelude.{◌≡◌, ◌<◌, ◌++◌, ◌∷◌, [], ℕ, cond, eqb, length, slice_index_or, IfOk, OnOk};
 
 use crate::seq::Seq;
