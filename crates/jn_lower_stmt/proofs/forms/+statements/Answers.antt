@@ -4,7 +4,9 @@ use Rattle.jn_places.specs.Placed.{PlacedStatements, PlacedBlock, PlacedExpressi
 use Rattle.jn_places.specs.PlacedView.{placed_init, placed_local, placed_optional, placed_statement, placed_statements, placed_type_use, placed_view, placed_views}
 use Rattle.jn_places.proofs.Rows.{statements_placed}
 use Rattle.jn_lowering.specs.Locals.{State}
+use Rattle.jn_trees.specs.declared.statement.LocalDeclaration.{LocalDeclaration}
 use Rattle.jn_trees.specs.declared.statement.LocalModifier.{LocalModifier}
+use Rattle.jn_trees.specs.declared.statement.TypeUse.{TypeUse}
 use Rattle.jn_lowering.specs.Bases.{type_of}
 use Rattle.jn_lowering.specs.Annotations.{base_rows}
 use Rattle.jn_lowering.specs.Forms.{Value}
@@ -99,7 +101,8 @@ statement-returns-in_ok-returns-in-Return t c =
 pub statement-returns-in_ok-local-in-Local : goal.statement-returns-in_ok-local-in-Local
 statement-returns-in_ok-local-in-Local t c =
     subst (λ (x : Stmt). Steps (stated c.args.c.now c.args.s.now (placed_statement x)) c.args.ways.out.0 c.args.ways.again.0 c.args.e.now c.local.new.e c.local.new.s) (sym c.in-Local.is)
-    (any_way (stated c.args.c.now c.args.s.now (PlacedLocalStatement (placed_local c.in-Local.declaration) c.in-Local.span)) c.args.ways.out.0 c.args.ways.again.0 c.args.e.now c.local.new.e c.local.new.s c.in_ok-local-in-Local.ensures)
+    (any_way (stated c.args.c.now c.args.s.now (PlacedLocalStatement (placed_local c.in-Local.declaration.value) c.in-Local.span)) c.args.ways.out.0 c.args.ways.again.0 c.args.e.now c.local.new.e c.local.new.s
+    (subst (λ (l : LocalDeclaration). StepsOn (stated c.args.c.now c.args.s.now (PlacedLocalStatement (placed_local l) c.in-Local.span)) c.args.e.now c.local.new.e c.local.new.s) c.deref-in-Local.ensures c.in_ok-local-in-Local.ensures))
 
 pub statement-place-requires-in-IfElse : goal.statement-place-requires-in-IfElse
 statement-place-requires-in-IfElse t c = record { there = (c.in_ok-jump-in-IfElse.ensures 0).kept _ _ (c.in_ok-statement-in-IfElse.ensures.adds.kept _ _ (c.in_ok-place-in-IfElse.ensures.kept _ _ (λ same. let s : c.in_ok-second-in-IfElse.second.0 ≡ c.in_ok-first-in-IfElse.first.0 = same in absurd (omega (arith, s, c.in_ok-second-in-IfElse.ensures.is, c.in_ok-first-in-IfElse.ensures.is, c.in_ok-first-in-IfElse.ensures.more))) (c.in_ok-decide-in-IfElse.ensures.adds.kept _ _ (c.in_ok-end-in-IfElse.ensures.kept _ _ c.in_ok-second-in-IfElse.ensures.free)))) }
@@ -156,5 +159,6 @@ each_loop-returns t c = λ span.
 pub statement-returns-in_ok-each_loop-in-ForEach : goal.statement-returns-in_ok-each_loop-in-ForEach
 statement-returns-in_ok-each_loop-in-ForEach t c =
     subst (λ (x : Stmt). Steps (stated c.args.c.now c.args.s.now (placed_statement x)) c.args.ways.out.0 c.args.ways.again.0 c.args.e.now c.each_loop.new.e c.each_loop.new.s) (sym c.in-ForEach.is)
-    (subst (λ (b : Stmt). Steps (stated c.args.c.now c.args.s.now (PlacedForEach c.in-ForEach.modifiers.items (placed_type_use c.in-ForEach.type_use) c.in-ForEach.name (placed_view c.in-ForEach.array) (placed_statement b) c.in-ForEach.span)) c.args.ways.out.0 c.args.ways.again.0 c.args.e.now c.each_loop.new.e c.each_loop.new.s) c.deref-in-ForEach.ensures
-    (subst (λ (ms : List LocalModifier). Steps (stated c.args.c.now c.args.s.now (PlacedForEach ms (placed_type_use c.in-ForEach.type_use) c.in-ForEach.name (placed_view c.in-ForEach.array) (placed_statement c.deref-in-ForEach.result.now) c.in-ForEach.span)) c.args.ways.out.0 c.args.ways.again.0 c.args.e.now c.each_loop.new.e c.each_loop.new.s) c.deref-in-ForEach-2.ensures.value (c.in_ok-each_loop-in-ForEach.ensures c.in-ForEach.span)))
+    (subst (λ (b : Stmt). Steps (stated c.args.c.now c.args.s.now (PlacedForEach c.in-ForEach.modifiers.items (placed_type_use c.in-ForEach.type_use.value) c.in-ForEach.name (placed_view c.in-ForEach.array) (placed_statement b) c.in-ForEach.span)) c.args.ways.out.0 c.args.ways.again.0 c.args.e.now c.each_loop.new.e c.each_loop.new.s) c.deref-in-ForEach.ensures
+    (subst (λ (ms : List LocalModifier). Steps (stated c.args.c.now c.args.s.now (PlacedForEach ms (placed_type_use c.in-ForEach.type_use.value) c.in-ForEach.name (placed_view c.in-ForEach.array) (placed_statement c.deref-in-ForEach.result.now) c.in-ForEach.span)) c.args.ways.out.0 c.args.ways.again.0 c.args.e.now c.each_loop.new.e c.each_loop.new.s) c.deref-in-ForEach-2.ensures.value
+    (subst (λ (u : TypeUse). Steps (stated c.args.c.now c.args.s.now (PlacedForEach c.deref-in-ForEach-2.result.now (placed_type_use u) c.in-ForEach.name (placed_view c.in-ForEach.array) (placed_statement c.deref-in-ForEach.result.now) c.in-ForEach.span)) c.args.ways.out.0 c.args.ways.again.0 c.args.e.now c.each_loop.new.e c.each_loop.new.s) c.deref-in-ForEach-3.ensures (c.in_ok-each_loop-in-ForEach.ensures c.in-ForEach.span))))
