@@ -1,7 +1,7 @@
 //! Small programs run to their end.
 use jn_base::{BodyNo, ClassNo, MethodNo, OutOfMemory, Text};
-use jn_hand_programs::build::{Hand, Kind, OBJECT, VOID, instance, named, plain};
-use jn_hand_programs::lines::{
+use jn_test_programs::build::{Hand, Kind, OBJECT, VOID, instance, named, plain};
+use jn_test_programs::lines::{
     at, binary, cast, concat, element, end, give, int, length, new_array, null, print, put, read,
     text, write,
 };

@@ -5,8 +5,8 @@ use Rattle.jn_trees.specs.declared.token.TokenKind.{TokenKind}
 use Rattle.jn_trees.specs.declared.token.TokenKind.TheVariants.{Id, Void, LeftParen, RightBrace}
 use Rattle.jn_trees.specs.declared.context.Owner.{Owner}
 use Rattle.jn_trees.specs.Trees.{Mark}
-use Rattle.jn_stmt_law.specs.Parts.{read_type_use}
-use Rattle.jn_file_law.specs.PieceReader.{read_member, member_behind, read_all_marks, after_type, typed_member}
+use Rattle.jn_parse_stmt_law.specs.Parts.{read_type_use}
+use Rattle.jn_parse_decl_law.specs.PieceReader.{read_member, member_behind, read_all_marks, after_type, typed_member}
 
 pub no_type_end : (o : Owner) (ts : List TokenKind) → ((rest : List TokenKind) → ts ≡ RightBrace ∷ rest → ⊥) → read_member o ts ≡ member_behind o (read_all_marks ts).0 (read_all_marks ts).1
 no_type_end o [] h = refl

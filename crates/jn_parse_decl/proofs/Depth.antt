@@ -10,11 +10,11 @@ use Rattle.jn_trees.specs.declared.statement.Declarator.{Declarator}
 use Rattle.jn_trees.specs.declared.statement.Stmt.{Stmt}
 use Rattle.jn_trees.specs.WellFormed.{deepest, body_context}
 use Rattle.jn_trees.specs.Longest.{TryStatement, IsLongestStatement, seen_statement}
-use Rattle.jn_expr_law.specs.Reader.{reader}
-use Rattle.jn_stmt_law.specs.Parts.{read_declarators}
-use Rattle.jn_stmt_law.specs.StatementReader.{statement_reader}
+use Rattle.jn_parse_expr_law.specs.Reader.{reader}
+use Rattle.jn_parse_stmt_law.specs.Parts.{read_declarators}
+use Rattle.jn_parse_stmt_law.specs.StatementReader.{statement_reader}
 use Rattle.jn_parse_stmt.specs.Seen.{maybe_declarators}
-use Rattle.jn_file_law.specs.PieceReader.{read_field_declarators, read_body_statement}
+use Rattle.jn_parse_decl_law.specs.PieceReader.{read_field_declarators, read_body_statement}
 
 fields_at : (d : ℕ) (ts : List TokenKind) → d ≡ deepest → read_declarators (reader d).whole ts ≡ read_field_declarators ts
 unfolding read_field_declarators

@@ -5,8 +5,8 @@ use Rattle.jn_trees.specs.declared.token.TokenKind.{TokenKind}
 use Rattle.jn_trees.specs.declared.token.TokenKind.TheVariants.{Id, Void, LeftParen, RightBrace}
 use Rattle.jn_trees.specs.declared.context.Owner.{Owner}
 use Rattle.jn_trees.specs.Trees.{Mark, TypeUseTree}
-use Rattle.jn_stmt_law.specs.Parts.{read_type_use}
-use Rattle.jn_file_law.specs.PieceReader.{TryPiece, read_member, member_behind, read_all_marks, after_type, typed_member}
+use Rattle.jn_parse_stmt_law.specs.Parts.{read_type_use}
+use Rattle.jn_parse_decl_law.specs.PieceReader.{TryPiece, read_member, member_behind, read_all_marks, after_type, typed_member}
 use Rattle.jn_parse_decl.proofs.Absent.{no_type_end, no_head}
 
 pub member_reads : (w : Owner) (ts us : List TokenKind) (ms : List Mark) (o : TryPiece) → ((rest : List TokenKind) → ts ≡ RightBrace ∷ rest → ⊥) → read_all_marks ts ≡ (ms, us) → o ≡ member_behind w ms us → o ≡ read_member w ts

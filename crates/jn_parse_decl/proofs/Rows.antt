@@ -5,10 +5,10 @@ use Rattle.jn_trees.specs.declared.token.TokenKind.{TokenKind}
 use Rattle.jn_trees.specs.declared.token.TokenKind.TheVariants.{Id, Comma}
 use Rattle.jn_trees.specs.Trees.{LocalMark, TypeUseTree, ParameterTree}
 use Rattle.jn_trees.specs.Spelling.{spell_marks, spell_type_use}
-use Rattle.jn_stmt_law.specs.Fronts.{SpelledIfRead}
-use Rattle.jn_stmt_law.specs.Parts.{read_marks, read_type_use}
-use Rattle.jn_stmt_law.proofs.Fronts.{marks_spell, type_use_spells}
-use Rattle.jn_file_law.specs.PieceReader.{TryParameters, after_type, parameter_end, parameter_from, add_parameter, more_parameters_from, read_more_parameters}
+use Rattle.jn_parse_stmt_law.specs.Fronts.{SpelledIfRead}
+use Rattle.jn_parse_stmt_law.specs.Parts.{read_marks, read_type_use}
+use Rattle.jn_parse_stmt_law.proofs.Fronts.{marks_spell, type_use_spells}
+use Rattle.jn_parse_decl_law.specs.PieceReader.{TryParameters, after_type, parameter_end, parameter_from, add_parameter, more_parameters_from, read_more_parameters}
 use Rattle.jn_parse_decl.specs.Front.{prepend_parameters, name_behind, one_parameter}
 
 end_by : (more : List TokenKind → TryParameters) (ms : List LocalMark) (u : TypeUseTree) (ts : List TokenKind) (r : Option (ParameterTree × List TokenKind)) → name_behind ms u ts ≡ r → parameter_end more ms u ts ≡ elim r as (λ _. TryParameters) [ None ↦ None | Some q ↦ add_parameter q.0 (more q.1) ]

@@ -9,9 +9,9 @@ use Rattle.jn_trees.specs.Trees.{SourceTree}
 use Rattle.jn_trees.specs.Spelling.{spell_file}
 use Rattle.jn_trees.specs.WellFormed.{GoodFile}
 use Rattle.jn_trees.specs.Pieces.{Piece, Around, AtStart, behind, pieces, IsPlace, kinds, IsTooDeep, Shallow, token_place, IsSyntaxRow}
-use Rattle.jn_file_law.specs.Built.{Built, add, finished}
-use Rattle.jn_file_law.specs.PieceReader.{piece_reader}
-use Rattle.jn_file_law.specs.Progress.{IsReached}
+use Rattle.jn_parse_decl_law.specs.Built.{Built, add, finished}
+use Rattle.jn_parse_decl_law.specs.PieceReader.{piece_reader}
+use Rattle.jn_parse_decl_law.specs.Progress.{IsReached}
 use Rattle.jn_parse_decl.specs.Ends.{EndsAt, IsWhole, NoFile}
 
 pub as_many : (ts : List Token) → length (kinds ts) ≡ length ts

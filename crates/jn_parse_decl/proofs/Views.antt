@@ -3,7 +3,7 @@ use Rattle.std.proofs.Common.{◌≡◌, Option, List, [], ◌∷◌, ◌++◌, 
 use Rattle.jn_trees.specs.declared.statement.Stmt.{Stmt}
 use Rattle.jn_trees.specs.Trees.{MoreStatements}
 use Rattle.jn_trees.specs.View.{statement_view, statement_views}
-use Rattle.jn_file_law.specs.Built.{Built, OpenType, open_type, add, all_statements}
+use Rattle.jn_parse_decl_law.specs.Built.{Built, OpenType, open_type, add, all_statements}
 use Rattle.jn_parse_decl.specs.declared.piece.TypeHead.{TypeHead}
 use Rattle.jn_parse_decl.specs.declared.piece.TypeHead.TheVariants.{Class, Interface}
 use Rattle.jn_parse_decl.specs.Seen.{head_piece, opening}

@@ -7,9 +7,9 @@ use Rattle.jn_trees.specs.Trees.{SourceTree}
 use Rattle.jn_trees.specs.Spelling.{spell_file}
 use Rattle.jn_trees.specs.WellFormed.{GoodFile}
 use Rattle.jn_trees.specs.Pieces.{Around, AtStart, pieces, IsPlace}
-use Rattle.jn_file_law.specs.Built.{Built}
-use Rattle.jn_file_law.specs.PieceReader.{piece_reader}
-use Rattle.jn_file_law.specs.Progress.{IsReached}
+use Rattle.jn_parse_decl_law.specs.Built.{Built}
+use Rattle.jn_parse_decl_law.specs.PieceReader.{piece_reader}
+use Rattle.jn_parse_decl_law.specs.Progress.{IsReached}
 
 -- pieces read in turn build this, and before the rest stands no piece more
 pub record EndsAt (ts : List TokenKind) (built : Built) (rest : List TokenKind) : Type 0 where

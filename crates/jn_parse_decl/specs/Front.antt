@@ -3,8 +3,8 @@ use Rattle.std.specs.Prelude.{List, ◌∷◌, ◌++◌, Option, Some, None}
 use Rattle.jn_trees.specs.declared.token.TokenKind.{TokenKind}
 use Rattle.jn_trees.specs.declared.token.TokenKind.TheVariants.{Id, Public as PublicWord, Protected as ProtectedWord, Private as PrivateWord, Static as StaticWord, Final as FinalWord, Abstract as AbstractWord}
 use Rattle.jn_trees.specs.Trees.{Mark, PublicMark, ProtectedMark, PrivateMark, StaticMark, ConstantMark, AbstractMark, ParameterTree, LocalMark, TypeUseTree}
-use Rattle.jn_stmt_law.specs.Parts.{read_marks, read_type_use}
-use Rattle.jn_file_law.specs.PieceReader.{TryParameters, after_type}
+use Rattle.jn_parse_stmt_law.specs.Parts.{read_marks, read_type_use}
+use Rattle.jn_parse_decl_law.specs.PieceReader.{TryParameters, after_type}
 
 -- the mark that a word alone is
 abbrev pub word_mark : TokenKind → Option Mark

@@ -11,9 +11,9 @@ use Rattle.jn_trees.specs.Trees.{ParameterTree}
 use Rattle.jn_trees.specs.View.{marks, annotation_names, identifier_names, parent_view, type_use_view, declarator_view, declarator_views, result_view, receiver_view, parameter_view, parameter_views, statement_view, dotted_view, package_view, import_view, member_views, type_view}
 use Rattle.jn_trees.specs.Pieces as trees
 use Rattle.jn_trees.specs.Pieces.{kinds, PackagePiece, ImportPiece, ClassHead, InterfaceHead, FieldPiece, MethodPiece, ConstructorHead, StatementPiece}
-use Rattle.jn_file_law.specs.PieceReader.{TryPiece, TryParameters, TryAllParameters}
-use Rattle.jn_file_law.specs.Built as law
-use Rattle.jn_file_law.specs.Built.{ClassOpening, InterfaceOpening, MethodOpening, ConstructorOpening}
+use Rattle.jn_parse_decl_law.specs.PieceReader.{TryPiece, TryParameters, TryAllParameters}
+use Rattle.jn_parse_decl_law.specs.Built as law
+use Rattle.jn_parse_decl_law.specs.Built.{ClassOpening, InterfaceOpening, MethodOpening, ConstructorOpening}
 use Rattle.jn_parse_decl.specs.declared.piece.TypeHead.{TypeHead}
 use Rattle.jn_parse_decl.specs.declared.piece.TypeHead.TheVariants.{Class, Interface}
 use Rattle.jn_parse_decl.specs.declared.piece.Piece.{Piece}

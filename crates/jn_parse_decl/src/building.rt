@@ -3,7 +3,7 @@ ghost use Rattle.std.specs.Prelude.{◌≡◌, ◌++◌, ◌∷◌, [], IfOk, So
 ghost use Rattle.jn_trees.specs.View.{file_view, member_view, member_views, type_view, statement_view, marks, type_use_view, declarator_view, declarator_views, result_view, receiver_view, parameter_views};
 ghost use Rattle.jn_trees.specs.Trees.{FieldMember, MethodMember};
 ghost use Rattle.jn_trees.specs.Covered.{joined};
-ghost use Rattle.jn_file_law.specs.Built as law;
+ghost use Rattle.jn_parse_decl_law.specs.Built as law;
 ghost use Rattle.jn_parse_decl.specs.Seen.{piece_view, built_view, inside_of, body_of, opening, member_opening};
 
 use crate::piece::{ConstructorHead, FieldParts, MethodHead, Piece, TypeHead};

@@ -10,7 +10,7 @@ use crate::building::{Built, add, finished, nothing};
 use crate::piece::{Around, behind};
 use crate::pieces::read_piece;
 use jn_base::{Code, Fail, FileNo, OutOfMemory, Row, Span};
-use jn_file_law::law::{pieces_are_read_in_turn, pieces_build_files};
+use jn_parse_decl_law::law::{pieces_are_read_in_turn, pieces_build_files};
 use jn_trees::reading::covered;
 use jn_trees::{FileTree, Token, too_deep};
 use std::alloc::Global;

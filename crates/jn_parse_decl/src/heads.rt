@@ -2,7 +2,7 @@
 ghost use Rattle.std.specs.Prelude.{◌≡◌, IfOk};
 ghost use Rattle.jn_trees.specs.View.{marks, identifier_names, parent_view};
 ghost use Rattle.jn_trees.specs.Pieces.{kinds};
-ghost use Rattle.jn_file_law.specs.PieceReader as reader;
+ghost use Rattle.jn_parse_decl_law.specs.PieceReader as reader;
 ghost use Rattle.jn_parse_decl.specs.Seen.{seen_piece};
 
 use crate::modifiers::{Bearer, may_all_stand, read_modifiers};

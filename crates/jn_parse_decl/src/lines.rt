@@ -3,7 +3,7 @@ ghost use Rattle.std.specs.Prelude.{◌≡◌, ◌∷◌, List, IfOk, MatchOptio
 ghost use Rattle.jn_trees.specs.declared.token.TokenKind.{TokenKind as Kind};
 ghost use Rattle.jn_trees.specs.View.{identifier_names};
 ghost use Rattle.jn_trees.specs.Pieces.{kinds};
-ghost use Rattle.jn_file_law.specs.PieceReader.{read_package, package_end, read_import, import_end};
+ghost use Rattle.jn_parse_decl_law.specs.PieceReader.{read_package, package_end, read_import, import_end};
 ghost use Rattle.jn_parse_decl.specs.Seen.{seen_piece};
 
 use crate::names::dotted_names;

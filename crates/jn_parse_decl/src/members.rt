@@ -4,7 +4,7 @@ ghost use Rattle.jn_base.specs.declared.number.NameNo.{NameNo as Name};
 ghost use Rattle.jn_trees.specs.declared.token.TokenKind.{TokenKind as Kind};
 ghost use Rattle.jn_trees.specs.View.{marks, type_use_view, declarator_view, declarator_views, receiver_view, parameter_views, result_view};
 ghost use Rattle.jn_trees.specs.Pieces.{kinds};
-ghost use Rattle.jn_file_law.specs.PieceReader as reader;
+ghost use Rattle.jn_parse_decl_law.specs.PieceReader as reader;
 ghost use Rattle.jn_parse_decl.specs.Seen.{seen_piece};
 
 use crate::modifiers::{Bearer, has_static, may_all_stand, read_modifiers};

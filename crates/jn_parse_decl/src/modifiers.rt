@@ -6,7 +6,7 @@ ghost use Rattle.jn_trees.specs.Trees.{Mark, PublicMark};
 ghost use Rattle.jn_trees.specs.View.{mark, marks};
 ghost use Rattle.jn_trees.specs.Pieces.{kinds};
 ghost use Rattle.jn_trees.specs.WellFormed as good;
-ghost use Rattle.jn_file_law.specs.PieceReader.{read_all_marks, add_mark, good_marks};
+ghost use Rattle.jn_parse_decl_law.specs.PieceReader.{read_all_marks, add_mark, good_marks};
 ghost use Rattle.jn_parse_decl.specs.Bearers.{may};
 ghost use Rattle.jn_parse_decl.specs.Clear.{clear, clear_behind};
 ghost use Rattle.jn_parse_decl.specs.Front.{word_mark};

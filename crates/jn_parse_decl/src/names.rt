@@ -4,7 +4,7 @@ ghost use Rattle.jn_base.specs.declared.number.NameNo.{NameNo as Name};
 ghost use Rattle.jn_trees.specs.declared.token.TokenKind.{TokenKind as Kind};
 ghost use Rattle.jn_trees.specs.View.{identifier_names, parent_view};
 ghost use Rattle.jn_trees.specs.Pieces.{kinds};
-ghost use Rattle.jn_file_law.specs.PieceReader.{read_dots, read_more_names, read_parent, read_implements, read_extends, add_name};
+ghost use Rattle.jn_parse_decl_law.specs.PieceReader.{read_dots, read_more_names, read_parent, read_implements, read_extends, add_name};
 ghost use Rattle.jn_parse_decl.specs.Front.{prepend};
 
 use crate::put::put;

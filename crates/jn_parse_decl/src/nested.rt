@@ -4,11 +4,11 @@ ghost use Rattle.jn_trees.specs.WellFormed.{deepest};
 ghost use Rattle.jn_trees.specs.Longest.{seen_statement};
 ghost use Rattle.jn_trees.specs.Pieces.{kinds};
 ghost use Rattle.jn_parse_stmt.specs.Seen.{maybe_declarators};
-ghost use Rattle.jn_file_law.specs.PieceReader as reader;
+ghost use Rattle.jn_parse_decl_law.specs.PieceReader as reader;
 
 use jn_base::OutOfMemory;
 use jn_parse_stmt::{read_declarators, read_statement};
-use jn_stmt_law::law::statements_are_read_once;
+use jn_parse_stmt_law::law::statements_are_read_once;
 use jn_trees::{Context, Declarator, Stmt, Token};
 use std::alloc::Global;
 

@@ -2,8 +2,8 @@
 ghost use Rattle.std.specs.Prelude.{◌≡◌, ◌<◌, length, IfOk, IfSome, Some};
 ghost use Rattle.jn_trees.specs.View.{local_marks, type_use_view, receiver_view, parameter_view, parameter_views, parent_view};
 ghost use Rattle.jn_trees.specs.Pieces.{kinds};
-ghost use Rattle.jn_stmt_law.specs.Parts.{read_marks, read_type_use as spec_type_use};
-ghost use Rattle.jn_file_law.specs.PieceReader as reader;
+ghost use Rattle.jn_parse_stmt_law.specs.Parts.{read_marks, read_type_use as spec_type_use};
+ghost use Rattle.jn_parse_decl_law.specs.PieceReader as reader;
 ghost use Rattle.jn_parse_decl.specs.Front.{prepend_parameters, one_parameter, name_behind};
 ghost use Rattle.jn_parse_decl.specs.Seen.{seen_parameter, seen_row, seen_parameters, names_seen};
 

@@ -1,7 +1,7 @@
 //! One piece from the front of tokens.
 ghost use Rattle.std.specs.Prelude.{◌≡◌, IfOk};
 ghost use Rattle.jn_trees.specs.Pieces.{kinds};
-ghost use Rattle.jn_file_law.specs.PieceReader as reader;
+ghost use Rattle.jn_parse_decl_law.specs.PieceReader as reader;
 ghost use Rattle.jn_parse_decl.specs.Seen.{seen_piece, around_view};
 
 use crate::heads::read_type_head;

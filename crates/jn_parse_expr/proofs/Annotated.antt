@@ -5,7 +5,7 @@ use Rattle.jn_trees.specs.declared.token.TokenKind.{TokenKind}
 use Rattle.jn_trees.specs.declared.token.TokenKind.TheVariants.{Id, At}
 use Rattle.jn_trees.specs.declared.expression.Annotation.{Annotation}
 use Rattle.jn_trees.specs.View.{annotation_names}
-use Rattle.jn_expr_law.specs.Reader.{annotations, add_annotation}
+use Rattle.jn_parse_expr_law.specs.Reader.{annotations, add_annotation}
 
 abbrev pub prepended : List NameNo → List NameNo × List TokenKind → List NameNo × List TokenKind
 prepended names r = (names ++ r.0, r.1)

@@ -10,7 +10,7 @@ use Rattle.jn_trees.specs.Trees.{Tree}
 use Rattle.jn_trees.specs.Spelling.{spell}
 use Rattle.jn_trees.specs.Longest.{Try, IsLongest}
 use Rattle.jn_trees.specs.Pieces.{kinds}
-use Rattle.jn_expr_law.proofs.Items.{begins, begins_tree}
+use Rattle.jn_parse_expr_law.proofs.Items.{begins, begins_tree}
 
 some_length : (xs : List TokenKind) → begins (xs ++ []) ≡ true → 0 < length xs
 some_length [] e = cc

@@ -3,7 +3,7 @@ use Rattle.std.proofs.Common.{◌≡◌, ℕ, zero, suc, ◌+◌, ◌-◌, ◌<�
 use Rattle.jn_trees.specs.declared.token.TokenKind.{TokenKind}
 use Rattle.jn_trees.specs.Trees.{Tree, Trees}
 use Rattle.jn_trees.specs.Longest.{Try}
-use Rattle.jn_expr_law.specs.Reader.{Got, TryAll, iterate, items_from}
+use Rattle.jn_parse_expr_law.specs.Reader.{Got, TryAll, iterate, items_from}
 use Rattle.jn_parse_expr.specs.Steps.{prepend}
 
 -- n steps more from here give the answer, and n is enough

@@ -9,7 +9,7 @@ use Rattle.jn_trees.specs.declared.expression.UnaryOperator.{UnaryOperator}
 use Rattle.jn_trees.specs.declared.expression.Step.{Step}
 use Rattle.jn_trees.specs.Trees.{BaseTree, Tree, LiteralTree, PrefixTree}
 use Rattle.jn_trees.specs.Longest.{Try}
-use Rattle.jn_expr_law.specs.Reader.{Reader, reader, bind, trim, build, number_at, head, super_call, annotations, base_of, array_of, array_from, array_behind, creation, prefix, step_of, unary, primary, after, cast, extend}
+use Rattle.jn_parse_expr_law.specs.Reader.{Reader, reader, bind, trim, build, number_at, head, super_call, annotations, base_of, array_of, array_from, array_behind, creation, prefix, step_of, unary, primary, after, cast, extend}
 use Rattle.jn_parse_expr.specs.Steps.{sign_before, signed_by, word, word_then, or_else}
 use Rattle.jn_parse_expr.proofs.Parts.{extend_is, back}
 

@@ -8,8 +8,8 @@ use Rattle.jn_trees.specs.Trees.{BaseTree, ClassBase, Tree, Trees, LiteralTree, 
 use Rattle.jn_trees.specs.Spelling.{spell_list}
 use Rattle.jn_trees.specs.WellFormed.{nesting, is_indexable}
 use Rattle.jn_trees.specs.Longest.{Try}
-use Rattle.jn_expr_law.specs.Reader.{Got, TryAll, Reader, bind, build_all, close_paren, close_index, arguments_in, elements_in, arguments, called, base_of, close_array, array_elements, array_inside, array_behind, array_of, array_from, annotations, creation_of, creation, number_at, super_call, head, member, link}
-use Rattle.jn_expr_law.proofs.Sound.{SoundReader, SoundCall, call_sound}
+use Rattle.jn_parse_expr_law.specs.Reader.{Got, TryAll, Reader, bind, build_all, close_paren, close_index, arguments_in, elements_in, arguments, called, base_of, close_array, array_elements, array_inside, array_behind, array_of, array_from, annotations, creation_of, creation, number_at, super_call, head, member, link}
+use Rattle.jn_parse_expr_law.proofs.Sound.{SoundReader, SoundCall, call_sound}
 use Rattle.jn_parse_expr.specs.Steps.{IsLinked}
 
 -- whatever link was before

@@ -10,8 +10,8 @@ use Rattle.jn_trees.specs.Spelling.{spell}
 use Rattle.jn_trees.specs.WellFormed.{nesting, nesting_all}
 use Rattle.jn_trees.specs.View.{view, views}
 use Rattle.jn_trees.specs.Longest.{Try}
-use Rattle.jn_expr_law.specs.Reader.{Got, TryAll, Reader, iterate, extend, go_on, bind_all, add_first, items_behind, items_from, all_items, head, link, primary, grow, choose, assign, unary, reader, operand_at}
-use Rattle.jn_expr_law.proofs.Sound.{Sound, sound}
+use Rattle.jn_parse_expr_law.specs.Reader.{Got, TryAll, Reader, iterate, extend, go_on, bind_all, add_first, items_behind, items_from, all_items, head, link, primary, grow, choose, assign, unary, reader, operand_at}
+use Rattle.jn_parse_expr_law.proofs.Sound.{Sound, sound}
 use Rattle.jn_parse_expr.specs.Steps.{ReadAs, or_else, prepend, joined}
 use Rattle.jn_parse_expr.proofs.Going.{Going, GoingAll}
 

@@ -20,7 +20,7 @@ use Rattle.jn_trees.specs.WellFormed.{nesting, nesting_all}
 use Rattle.jn_trees.specs.View.{view, views, annotation_names, base_view}
 use Rattle.jn_trees.specs.Longest.{Try}
 use Rattle.jn_trees.specs.Pieces.{kinds}
-use Rattle.jn_expr_law.specs.Reader.{base_of, build, or_least, TryAll, Sign, NoSign, OperatorSign, TestSign}
+use Rattle.jn_parse_expr_law.specs.Reader.{base_of, build, or_least, TryAll, Sign, NoSign, OperatorSign, TestSign}
 use Rattle.jn_parse_expr.specs.declared.tail.Tail.{Tail}
 use Rattle.jn_parse_expr.specs.declared.tail.Tail.TheVariants.{Field, Call, Index, Step, Cast, Operand, Class, Choice, Value}
 use Rattle.jn_parse_expr.specs.declared.primary.Primary.{Primary}

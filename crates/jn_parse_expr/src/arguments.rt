@@ -1,7 +1,7 @@
 //! Lists of expressions in brackets (JLS 15.12, 10.6).
 ghost use Rattle.std.specs.Prelude.{◌≡◌, ◌++◌, ◌∷◌, [], ℕ, IfOk, OnOk};
 ghost use Rattle.jn_trees.specs.Pieces.{kinds};
-ghost use Rattle.jn_expr_law.specs.Reader.{reader, TryAll, arguments, arguments_in, elements_in, all_items, bind_items, close_arguments, close_elements};
+ghost use Rattle.jn_parse_expr_law.specs.Reader.{reader, TryAll, arguments, arguments_in, elements_in, all_items, bind_items, close_arguments, close_elements};
 ghost use Rattle.jn_parse_expr.specs.Steps.{AllAs};
 
 use crate::tail::larger;

@@ -6,7 +6,7 @@ ghost use Rattle.jn_trees.specs.Trees.{NewTree, NewArrayTree, ArrayOfTree};
 ghost use Rattle.jn_trees.specs.View.{view, views, annotation_names, base_view};
 ghost use Rattle.jn_trees.specs.Longest.{Try};
 ghost use Rattle.jn_trees.specs.Pieces.{kinds};
-ghost use Rattle.jn_expr_law.specs.Reader.{reader, TryAll, annotations as annotations_of, base_of, build_all, bind, close_array, array_behind, array_from, creation};
+ghost use Rattle.jn_parse_expr_law.specs.Reader.{reader, TryAll, annotations as annotations_of, base_of, build_all, bind, close_array, array_behind, array_from, creation};
 ghost use Rattle.jn_parse_expr.specs.Steps.{ReadAs, AllAs, ElementAs};
 
 use crate::arguments::{read_arguments_in, read_elements_in};

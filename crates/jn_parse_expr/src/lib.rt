@@ -16,7 +16,7 @@ mod whole;
 
 use crate::whole::read_whole;
 use jn_base::OutOfMemory;
-use jn_expr_law::law::expressions_are_read_once;
+use jn_parse_expr_law::law::expressions_are_read_once;
 use jn_trees::{Expr, Token};
 use std::alloc::Global;
 

@@ -4,7 +4,7 @@ ghost use Rattle.jn_trees.specs.Trees.{Tree};
 ghost use Rattle.jn_trees.specs.WellFormed.{nesting, power as weakness};
 ghost use Rattle.jn_trees.specs.View.{view};
 ghost use Rattle.jn_trees.specs.Pieces.{kinds};
-ghost use Rattle.jn_expr_law.specs.Reader.{reader, sign, grow, grow_by, OperatorSign, test};
+ghost use Rattle.jn_parse_expr_law.specs.Reader.{reader, sign, grow, grow_by, OperatorSign, test};
 ghost use Rattle.jn_parse_expr.specs.Steps.{ReadAs, TailAs, sign_as};
 
 use crate::tail::{Tail, attach, front, larger};

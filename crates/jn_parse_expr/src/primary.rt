@@ -7,7 +7,7 @@ ghost use Rattle.jn_trees.specs.WellFormed.{nesting, is_indexable as may_have_in
 ghost use Rattle.jn_trees.specs.View.{view, views};
 ghost use Rattle.jn_trees.specs.Longest.{Try};
 ghost use Rattle.jn_trees.specs.Pieces.{kinds};
-ghost use Rattle.jn_expr_law.specs.Reader.{reader, TryAll, trim, primary, link as link_at, member, close_index, close_paren, bind, build_all, called, head, super_call};
+ghost use Rattle.jn_parse_expr_law.specs.Reader.{reader, TryAll, trim, primary, link as link_at, member, close_index, close_paren, bind, build_all, called, head, super_call};
 ghost use Rattle.jn_parse_expr.specs.Steps.{ReadAs, TailAs, AllAs, PrimaryAs, IsLinked, literal_at, word, word_at};
 
 use crate::arguments::read_arguments;

@@ -6,8 +6,8 @@ ghost use Rattle.jn_trees.specs.WellFormed.{nesting};
 ghost use Rattle.jn_trees.specs.View.{view};
 ghost use Rattle.jn_trees.specs.Longest.{Try};
 ghost use Rattle.jn_trees.specs.Pieces.{kinds};
-ghost use Rattle.jn_expr_law.specs.Follow.{reach_of};
-ghost use Rattle.jn_expr_law.specs.Reader.{reader, step_of as step_at, after, least, build, unary, cast, prefix};
+ghost use Rattle.jn_parse_expr_law.specs.Follow.{reach_of};
+ghost use Rattle.jn_parse_expr_law.specs.Reader.{reader, step_of as step_at, after, least, build, unary, cast, prefix};
 ghost use Rattle.jn_parse_expr.specs.Steps.{ReadAs, TailAs, sign_before, signed_by, name_at, name_in_paren};
 
 use crate::operators::read_operand;

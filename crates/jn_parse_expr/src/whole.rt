@@ -4,7 +4,7 @@ ghost use Rattle.jn_trees.specs.Trees.{Tree};
 ghost use Rattle.jn_trees.specs.WellFormed.{nesting, is_left_side};
 ghost use Rattle.jn_trees.specs.View.{view};
 ghost use Rattle.jn_trees.specs.Pieces.{kinds};
-ghost use Rattle.jn_expr_law.specs.Reader.{reader, assign_of, assign, choose};
+ghost use Rattle.jn_parse_expr_law.specs.Reader.{reader, assign_of, assign, choose};
 ghost use Rattle.jn_parse_expr.specs.Steps.{ReadAs, TailAs};
 
 use crate::operators::read_operand;

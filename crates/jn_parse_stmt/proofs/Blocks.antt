@@ -9,11 +9,11 @@ use Rattle.jn_trees.specs.Spelling.{spell_statement}
 use Rattle.jn_trees.specs.WellFormed.{under, in_block, loop_body}
 use Rattle.jn_trees.specs.View.{statement_view, statement_views}
 use Rattle.jn_trees.specs.Longest.{Try, TryStatement, IsLongestStatement}
-use Rattle.jn_expr_law.specs.Reader.{reader}
-use Rattle.jn_stmt_law.specs.Parts.{Read, then_read}
-use Rattle.jn_stmt_law.specs.StatementReader.{block_from, read_block, statement_reader, statement_at, block_statement, loop_word, return_statement, if_statement, while_statement, do_statement, for_statement, constructor_call, simple}
-use Rattle.jn_stmt_law.proofs.Statements.{some_tokens}
-use Rattle.jn_stmt_law.proofs.Laws.{longest}
+use Rattle.jn_parse_expr_law.specs.Reader.{reader}
+use Rattle.jn_parse_stmt_law.specs.Parts.{Read, then_read}
+use Rattle.jn_parse_stmt_law.specs.StatementReader.{block_from, read_block, statement_reader, statement_at, block_statement, loop_word, return_statement, if_statement, while_statement, do_statement, for_statement, constructor_call, simple}
+use Rattle.jn_parse_stmt_law.proofs.Statements.{some_tokens}
+use Rattle.jn_parse_stmt_law.proofs.Laws.{longest}
 use Rattle.jn_parse_stmt.specs.Heads.{read_one}
 
 -- these statements before those

@@ -6,8 +6,8 @@ use Rattle.jn_trees.specs.declared.expression.Expr.{Expr}
 use Rattle.jn_trees.specs.Trees.{Tree, Trees, NoTrees, MoreTrees}
 use Rattle.jn_trees.specs.View.{view, views}
 use Rattle.jn_trees.specs.Longest.{Try}
-use Rattle.jn_expr_law.specs.Reader.{TryAll, add_first, bind_all, bind_items, items_behind, items_from, all_items, arguments_in, close_arguments}
-use Rattle.jn_stmt_law.specs.Parts.{then_read, ended, read_initial, read_optional}
+use Rattle.jn_parse_expr_law.specs.Reader.{TryAll, add_first, bind_all, bind_items, items_behind, items_from, all_items, arguments_in, close_arguments}
+use Rattle.jn_parse_stmt_law.specs.Parts.{then_read, ended, read_initial, read_optional}
 
 -- these trees before those
 abbrev pub chained : Trees → Trees → Trees

@@ -8,8 +8,8 @@ use Rattle.jn_trees.specs.Trees.{BaseTree, LocalMark, AnnotationMark, FinalMark,
 use Rattle.jn_trees.specs.Longest.{Try}
 use Rattle.jn_trees.specs.Pieces.{kinds}
 use Rattle.jn_trees.specs.WellFormed.{final_once, no_final, is_final_mark}
-use Rattle.jn_stmt_law.specs.Parts.{Behind, put, read_annotations, read_marks, brackets_or, read_brackets, use_of, type_use_from, read_type_use, read_value, declarator_behind, more_declarators, all_declarators}
-use Rattle.jn_expr_law.specs.Reader.{base_of}
+use Rattle.jn_parse_stmt_law.specs.Parts.{Behind, put, read_annotations, read_marks, brackets_or, read_brackets, use_of, type_use_from, read_type_use, read_value, declarator_behind, more_declarators, all_declarators}
+use Rattle.jn_parse_expr_law.specs.Reader.{base_of}
 use Rattle.jn_parse_stmt.specs.Seen.{mark_tokens, base_behind, read_base}
 
 -- with these in front

@@ -4,8 +4,8 @@ use Rattle.jn_trees.specs.declared.context.Context.{Context}
 use Rattle.jn_trees.specs.declared.token.TokenKind.{TokenKind}
 use Rattle.jn_trees.specs.declared.token.TokenKind.TheVariants.{Break, Continue, Do, For, If, Return, Super, This, While, LeftParen, LeftBrace, Semicolon}
 use Rattle.jn_trees.specs.Longest.{Try, TryStatement}
-use Rattle.jn_expr_law.specs.Reader.{reader}
-use Rattle.jn_stmt_law.specs.StatementReader.{statement_reader, statement_at, simple}
+use Rattle.jn_parse_expr_law.specs.Reader.{reader}
+use Rattle.jn_parse_stmt_law.specs.StatementReader.{statement_reader, statement_at, simple}
 use Rattle.jn_parse_stmt.specs.Heads.{read_one}
 
 back : (d : ℕ) → d ≡ suc d - 1

@@ -9,7 +9,7 @@ use Rattle.jn_trees.specs.Trees.{Tree, Statement, IfStatement, IfElseStatement, 
 use Rattle.jn_trees.specs.View.{view, views, optional_view, init_view, local_marks, type_use_view}
 use Rattle.jn_trees.specs.Longest.{TryStatement}
 use Rattle.jn_trees.specs.Pieces.{kinds}
-use Rattle.jn_stmt_law.specs.StatementReader.{around, statement_reader}
+use Rattle.jn_parse_stmt_law.specs.StatementReader.{around, statement_reader}
 use Rattle.jn_parse_stmt.specs.declared.loops.Head.{Head}
 use Rattle.jn_parse_stmt.specs.declared.loops.Head.TheVariants.{While, For, ForEach}
 

@@ -12,8 +12,8 @@ use Rattle.jn_trees.specs.declared.token.TokenKind.TheVariants.{Id, Final, At}
 use Rattle.jn_trees.specs.Trees.{Tree, Trees, Statement, Statements, BaseTree, DeclaratorTree, LocalMark, AnnotationMark, FinalMark}
 use Rattle.jn_trees.specs.View.{view, views, statement_view, statement_views, declarator_view, declarator_views}
 use Rattle.jn_trees.specs.Pieces.{kinds}
-use Rattle.jn_expr_law.specs.Reader.{base_of}
-use Rattle.jn_stmt_law.specs.Parts.{Behind, Read}
+use Rattle.jn_parse_expr_law.specs.Reader.{base_of}
+use Rattle.jn_parse_stmt_law.specs.Parts.{Behind, Read}
 
 -- what was read and the tokens behind it, or none
 abbrev pub seen_as : {A B : Type 0} → (A → B) → Option (A × Bor (List Token)) → Read B

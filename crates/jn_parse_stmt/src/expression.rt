@@ -2,10 +2,10 @@
 ghost use Rattle.std.specs.Prelude.{◌≡◌, ◌≤◌, length, IfOk, IfSome};
 ghost use Rattle.jn_trees.specs.Longest.{seen};
 ghost use Rattle.jn_trees.specs.Pieces.{kinds};
-ghost use Rattle.jn_expr_law.specs.Reader.{reader};
+ghost use Rattle.jn_parse_expr_law.specs.Reader.{reader};
 
 use jn_base::OutOfMemory;
-use jn_expr_law::law::expressions_are_read_once;
+use jn_parse_expr_law::law::expressions_are_read_once;
 use jn_parse_expr::read_expr;
 use jn_trees::{Expr, Token};
 use std::alloc::Global;

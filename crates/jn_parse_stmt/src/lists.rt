@@ -4,9 +4,9 @@ ghost use Rattle.jn_trees.specs.Longest.{seen};
 ghost use Rattle.jn_trees.specs.Pieces.{kinds};
 ghost use Rattle.jn_trees.specs.View.{view, views, optional_view};
 ghost use Rattle.jn_trees.specs.WellFormed.{is_effect};
-ghost use Rattle.jn_expr_law.specs.Reader.{reader, all_items, arguments_in};
-ghost use Rattle.jn_stmt_law.specs.Parts.{then_read, closed, are_effects, if_effects, read_initial, read_optional};
-ghost use Rattle.jn_stmt_law.specs.StatementReader.{in_parens};
+ghost use Rattle.jn_parse_expr_law.specs.Reader.{reader, all_items, arguments_in};
+ghost use Rattle.jn_parse_stmt_law.specs.Parts.{then_read, closed, are_effects, if_effects, read_initial, read_optional};
+ghost use Rattle.jn_parse_stmt_law.specs.StatementReader.{in_parens};
 ghost use Rattle.jn_parse_stmt.specs.Seen.{seen_as, all_views};
 
 use crate::expression::expression;

@@ -4,9 +4,9 @@ ghost use Rattle.jn_trees.specs.declared.token.TokenKind.{TokenKind as Kind};
 ghost use Rattle.jn_trees.specs.Longest.{TryStatement};
 ghost use Rattle.jn_trees.specs.Pieces.{kinds};
 ghost use Rattle.jn_trees.specs.View.{statement_view, init_view, parameter_view};
-ghost use Rattle.jn_expr_law.specs.Reader.{reader};
-ghost use Rattle.jn_stmt_law.specs.Parts.{local_behind};
-ghost use Rattle.jn_stmt_law.specs.StatementReader.{while_statement, for_statement, for_from, for_named, for_each, for_local, for_rest};
+ghost use Rattle.jn_parse_expr_law.specs.Reader.{reader};
+ghost use Rattle.jn_parse_stmt_law.specs.Parts.{local_behind};
+ghost use Rattle.jn_parse_stmt_law.specs.StatementReader.{while_statement, for_statement, for_from, for_named, for_each, for_local, for_rest};
 ghost use Rattle.jn_parse_stmt.specs.Heads.{body_of, with_body};
 
 use crate::lists::{arguments, closed, in_parentheses, initial, only_effects, optional};

@@ -5,8 +5,8 @@ ghost use Rattle.jn_trees.specs.Trees.{Tree, EmptyStatement, BlockStatement, IfS
 ghost use Rattle.jn_trees.specs.Pieces.{kinds};
 ghost use Rattle.jn_trees.specs.View.{view, statement_view, statement_views};
 ghost use Rattle.jn_trees.specs.WellFormed.{ends_open, under, in_block, loop_body};
-ghost use Rattle.jn_expr_law.specs.Reader.{reader};
-ghost use Rattle.jn_stmt_law.specs.StatementReader.{around, in_parens, if_end, if_statement, while_statement, for_statement, do_end, do_statement, block_statement, read_block};
+ghost use Rattle.jn_parse_expr_law.specs.Reader.{reader};
+ghost use Rattle.jn_parse_stmt_law.specs.StatementReader.{around, in_parens, if_end, if_statement, while_statement, for_statement, do_end, do_statement, block_statement, read_block};
 ghost use Rattle.jn_parse_stmt.specs.Seen.{seen_as, boxed_view, boxed_expression, body_views};
 ghost use Rattle.jn_parse_stmt.specs.Heads.{body_of, if_ended, read_one};
 

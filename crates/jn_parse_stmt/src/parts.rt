@@ -5,8 +5,8 @@ ghost use Rattle.jn_trees.specs.declared.token.TokenKind.{TokenKind as Kind};
 ghost use Rattle.jn_trees.specs.Pieces.{kinds};
 ghost use Rattle.jn_trees.specs.View.{annotation_names, base_view, brackets_view, local_mark, local_marks, type_use_view, declarator_view, declarator_views, optional_view, parameter_view};
 ghost use Rattle.jn_trees.specs.WellFormed.{final_once as final_once_of, is_final_mark};
-ghost use Rattle.jn_expr_law.specs.Reader.{reader};
-ghost use Rattle.jn_stmt_law.specs.Parts.{read_annotations, read_marks, read_brackets, read_type_use, read_parameter, parameter_from, read_value, declarator_behind, all_declarators, declarators_behind, read_declarators};
+ghost use Rattle.jn_parse_expr_law.specs.Reader.{reader};
+ghost use Rattle.jn_parse_stmt_law.specs.Parts.{read_annotations, read_marks, read_brackets, read_type_use, read_parameter, parameter_from, read_value, declarator_behind, all_declarators, declarators_behind, read_declarators};
 ghost use Rattle.jn_parse_stmt.specs.Seen.{seen_as, mark_tokens, seen_declarators, maybe_declarators, read_base};
 
 use crate::expression::expression;

@@ -3,9 +3,9 @@ ghost use Rattle.std.specs.Prelude.{◌≡◌, IfOk};
 ghost use Rattle.jn_trees.specs.Pieces.{kinds};
 ghost use Rattle.jn_trees.specs.Trees.{BreakStatement, ContinueStatement, ThisCallStatement, SuperCallStatement};
 ghost use Rattle.jn_trees.specs.View.{view, local_view, parameter_view};
-ghost use Rattle.jn_expr_law.specs.Reader.{reader};
-ghost use Rattle.jn_stmt_law.specs.Parts.{local_behind};
-ghost use Rattle.jn_stmt_law.specs.StatementReader.{loop_word, return_statement, constructor_call, effect_statement, local_statement, simple};
+ghost use Rattle.jn_parse_expr_law.specs.Reader.{reader};
+ghost use Rattle.jn_parse_stmt_law.specs.Parts.{local_behind};
+ghost use Rattle.jn_parse_stmt_law.specs.StatementReader.{loop_word, return_statement, constructor_call, effect_statement, local_statement, simple};
 ghost use Rattle.jn_parse_stmt.specs.Seen.{seen_as, boxed_view};
 
 use crate::expression::expression;

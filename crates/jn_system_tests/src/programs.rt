@@ -1,6 +1,6 @@
 //! A program made by hand. A place is line times 100 plus column.
-use jn_hand_programs::build::{FIRST, Hand, Kind, OBJECT, STRING, VOID, inferred, instance, named};
-use jn_hand_programs::lines::{at, end, length, null, text};
+use jn_test_programs::build::{FIRST, Hand, Kind, OBJECT, STRING, VOID, inferred, instance, named};
+use jn_test_programs::lines::{at, end, length, null, text};
 use jn_points::{BaseType, Program};
 use std::alloc::{AllocError, Global};
 

@@ -8,7 +8,7 @@ ghost use Rattle.std.specs.Prelude.{◌<◌, ◌≤◌};
 
 use end::End;
 use jn_base::OutOfMemory;
-use jn_samples::{drained, solved};
+use jn_solver_samples::{drained, solved};
 use request::{Request, request_of};
 use std::alloc::Global;
 use std::process::ExitCode;

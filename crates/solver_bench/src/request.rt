@@ -1,7 +1,7 @@
 //! What the words ask for.
 ghost use Rattle.std.specs.Prelude.{◌≡◌, ◌<◌, ◌≤◌, IfSome};
 
-use jn_samples::{Net, Shape};
+use jn_solver_samples::{Net, Shape};
 
 /// The most workers that a run may have.
 const MOST_WORKERS: u32 = 16;

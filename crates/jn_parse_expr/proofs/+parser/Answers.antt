@@ -7,8 +7,8 @@ use Rattle.jn_trees.specs.Trees.{Tree, SuperCallTree, NewTree, ArrayOfTree, Pref
 use Rattle.jn_trees.specs.WellFormed.{nesting, nesting_all}
 use Rattle.jn_trees.specs.View.{view, views, annotation_names, base_view}
 use Rattle.jn_trees.specs.Pieces.{kinds}
-use Rattle.jn_expr_law.specs.Reader.{reader, choose, assign, grow, link, primary, trim, prefix, build, build_all, head, super_call, creation, annotations, array_behind, arguments, arguments_in, elements_in, all_items}
-use Rattle.jn_expr_law.proofs.Sound.{sound}
+use Rattle.jn_parse_expr_law.specs.Reader.{reader, choose, assign, grow, link, primary, trim, prefix, build, build_all, head, super_call, creation, annotations, array_behind, arguments, arguments_in, elements_in, all_items}
+use Rattle.jn_parse_expr_law.proofs.Sound.{sound}
 use Rattle.jn_parse_expr.specs.Steps.{ReadAs, TailAs, AllAs, IsLinked, signed_by, or_else}
 use Rattle.jn_parse_expr.proofs.Going.{Going, GoingAll, stopped, went}
 use Rattle.jn_parse_expr.proofs.Linked.{head_linked, link_linked}

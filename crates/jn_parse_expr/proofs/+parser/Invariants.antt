@@ -2,7 +2,7 @@ use Rattle.std.proofs.Common.{◌≡◌, ◌++◌, ◌+◌, ◌-◌, ◌*◌, �
 use Rattle.jn_trees.specs.WellFormed.{nesting, nesting_all}
 use Rattle.jn_trees.specs.View.{view, views}
 use Rattle.jn_trees.specs.Pieces.{kinds}
-use Rattle.jn_expr_law.specs.Reader.{reader, grow, link, primary, all_items}
+use Rattle.jn_parse_expr_law.specs.Reader.{reader, grow, link, primary, all_items}
 use Rattle.jn_parse_expr.specs.Steps.{IsLinked}
 use Rattle.jn_parse_expr.proofs.Going.{Going, GoingAll}
 use Rattle.jn_parse_expr.proofs.+parser.Given as goal

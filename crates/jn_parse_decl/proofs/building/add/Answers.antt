@@ -1,5 +1,5 @@
 use Rattle.std.proofs.Common.{Some, sym, ap, ◌∙◌}
-use Rattle.jn_file_law.specs.Built.{add}
+use Rattle.jn_parse_decl_law.specs.Built.{add}
 use Rattle.jn_parse_decl.specs.declared.piece.Piece.{Piece}
 use Rattle.jn_parse_decl.specs.Seen.{built_view, inside_of, piece_view}
 use Rattle.jn_parse_decl.proofs.Views.{add_head}

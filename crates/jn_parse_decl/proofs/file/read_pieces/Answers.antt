@@ -1,6 +1,6 @@
 use Rattle.std.proofs.Common.{sym, subst}
 use Rattle.jn_trees.specs.Pieces.{AtStart, kinds}
-use Rattle.jn_file_law.specs.Progress.{IsReached}
+use Rattle.jn_parse_decl_law.specs.Progress.{IsReached}
 use Rattle.jn_parse_decl.specs.Seen.{built_view, around_view, piece_view}
 use Rattle.jn_parse_decl.proofs.Turns.{moved}
 use Rattle.jn_parse_decl.proofs.file.read_pieces.Goals as goal

@@ -1,6 +1,6 @@
 use Rattle.std.proofs.Common.{length}
 use Rattle.jn_trees.specs.Pieces.{kinds}
-use Rattle.jn_file_law.specs.Progress.{IsReached}
+use Rattle.jn_parse_decl_law.specs.Progress.{IsReached}
 use Rattle.jn_parse_decl.specs.Seen.{built_view, around_view}
 use Rattle.jn_parse_decl.proofs.file.read_pieces.Given as goal
 

@@ -1,7 +1,7 @@
 use Rattle.std.proofs.Common.{◌≡◌, subst, refl, IfOk}
 use Rattle.jn_trees.specs.Pieces.{kinds}
 use Rattle.jn_trees.specs.View.{marks, type_use_view}
-use Rattle.jn_file_law.specs.PieceReader.{TryPiece, typed_member}
+use Rattle.jn_parse_decl_law.specs.PieceReader.{TryPiece, typed_member}
 use Rattle.jn_parse_decl.specs.Seen.{seen_piece}
 use Rattle.jn_parse_decl.proofs.Found.{typed_reads}
 use Rattle.jn_parse_decl.proofs.members.member_behind.Goals as goal

@@ -1,7 +1,7 @@
 use Rattle.std.proofs.Common.{◌≡◌, length}
 use Rattle.jn_trees.specs.View.{marks}
 use Rattle.jn_trees.specs.Pieces.{kinds}
-use Rattle.jn_file_law.specs.PieceReader.{read_all_marks}
+use Rattle.jn_parse_decl_law.specs.PieceReader.{read_all_marks}
 use Rattle.jn_parse_decl.specs.Front.{prepend}
 use Rattle.jn_parse_decl.proofs.modifiers.read_modifiers.Given as goal
 

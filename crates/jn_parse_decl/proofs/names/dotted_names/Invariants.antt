@@ -1,7 +1,7 @@
 use Rattle.std.proofs.Common.{◌≡◌, length}
 use Rattle.jn_trees.specs.View.{identifier_names}
 use Rattle.jn_trees.specs.Pieces.{kinds}
-use Rattle.jn_file_law.specs.PieceReader.{read_dots}
+use Rattle.jn_parse_decl_law.specs.PieceReader.{read_dots}
 use Rattle.jn_parse_decl.specs.Front.{prepend}
 use Rattle.jn_parse_decl.proofs.names.dotted_names.Given as goal
 

@@ -1,6 +1,6 @@
 use Rattle.std.proofs.Common.{◌≡◌, drop}
 use Rattle.jn_trees.specs.View.{annotation_names, local_marks}
-use Rattle.jn_file_law.specs.PieceReader.{annotation_names_of}
+use Rattle.jn_parse_decl_law.specs.PieceReader.{annotation_names_of}
 use Rattle.jn_parse_decl.proofs.Rows.{with_names}
 use Rattle.jn_parse_decl.proofs.parameters.annotations_of.Given as goal
 

@@ -1,6 +1,6 @@
 use Rattle.std.proofs.Common.{◌≡◌, drop}
 use Rattle.jn_trees.specs.View.{parameter_views}
-use Rattle.jn_file_law.specs.PieceReader.{good_parameters}
+use Rattle.jn_parse_decl_law.specs.PieceReader.{good_parameters}
 use Rattle.jn_parse_decl.proofs.parameters.each_final_once.Given as goal
 
 abbrev pub invariant-loop-parameter : goal.invariant-loop-parameter

@@ -1,7 +1,7 @@
 use Rattle.std.proofs.Common.{◌≡◌, ◌+◌, ◌<◌, sym, ap, ◌∙◌, subst, arith, length}
 use Rattle.jn_trees.specs.Pieces.{kinds}
 use Rattle.jn_trees.specs.View.{parameter_view, parameter_views}
-use Rattle.jn_file_law.specs.PieceReader.{read_more_parameters}
+use Rattle.jn_parse_decl_law.specs.PieceReader.{read_more_parameters}
 use Rattle.jn_parse_decl.specs.Front.{prepend_parameters}
 use Rattle.jn_parse_decl.proofs.Rows.{Going, going_start, going_fails, going_on, one_shorter}
 use Rattle.jn_parse_decl.proofs.Views.{more}

@@ -1,7 +1,7 @@
 use Rattle.std.proofs.Common.{length}
 use Rattle.jn_trees.specs.View.{parameter_views}
 use Rattle.jn_trees.specs.Pieces.{kinds}
-use Rattle.jn_file_law.specs.PieceReader.{read_more_parameters}
+use Rattle.jn_parse_decl_law.specs.PieceReader.{read_more_parameters}
 use Rattle.jn_parse_decl.specs.Front.{prepend_parameters}
 use Rattle.jn_parse_decl.proofs.Rows.{Going}
 use Rattle.jn_parse_decl.proofs.parameters.more_parameters.Given as goal

@@ -1,7 +1,7 @@
 use Rattle.std.proofs.Common.{◌≡◌, length}
 use Rattle.jn_trees.specs.View.{annotation_names}
 use Rattle.jn_trees.specs.Pieces.{kinds}
-use Rattle.jn_expr_law.specs.Reader.{annotations}
+use Rattle.jn_parse_expr_law.specs.Reader.{annotations}
 use Rattle.jn_parse_expr.proofs.Annotated.{prepended}
 use Rattle.jn_parse_expr.proofs.creation.annotations.Given as goal
 

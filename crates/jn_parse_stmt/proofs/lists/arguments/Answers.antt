@@ -1,7 +1,7 @@
 use Rattle.std.proofs.Common.{◌≡◌, sym, ap, ◌∙◌, Some}
 use Rattle.jn_trees.specs.Pieces.{kinds}
 use Rattle.jn_trees.specs.View.{views}
-use Rattle.jn_expr_law.specs.Reader.{reader, TryAll, arguments_in, bind_items, close_arguments}
+use Rattle.jn_parse_expr_law.specs.Reader.{reader, TryAll, arguments_in, bind_items, close_arguments}
 use Rattle.jn_parse_stmt.proofs.Items.{not_closed, none_closes}
 use Rattle.jn_parse_stmt.proofs.lists.arguments.Goals as goal
 

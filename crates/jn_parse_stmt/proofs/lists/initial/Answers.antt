@@ -2,8 +2,8 @@ use Rattle.std.proofs.Common.{◌≡◌, sym, ap, ◌∙◌, Some}
 use Rattle.jn_trees.specs.Pieces.{kinds}
 use Rattle.jn_trees.specs.Trees.{Trees}
 use Rattle.jn_trees.specs.View.{views}
-use Rattle.jn_expr_law.specs.Reader.{reader, TryAll}
-use Rattle.jn_stmt_law.specs.Parts.{then_read, ended, read_initial}
+use Rattle.jn_parse_expr_law.specs.Reader.{reader, TryAll}
+use Rattle.jn_parse_stmt_law.specs.Parts.{then_read, ended, read_initial}
 use Rattle.jn_parse_stmt.proofs.Items.{not_empty, none_ends}
 use Rattle.jn_parse_stmt.proofs.lists.initial.Goals as goal
 

@@ -1,7 +1,7 @@
 use Rattle.std.proofs.Common.{◌≡◌, ◌≤◌, ◌∷◌, ◌++◌, [], length, sym, ap, ◌∙◌, subst, arith}
 use Rattle.jn_trees.specs.Pieces.{kinds}
 use Rattle.jn_trees.specs.View.{view, views}
-use Rattle.jn_expr_law.specs.Reader.{reader, all_items}
+use Rattle.jn_parse_expr_law.specs.Reader.{reader, all_items}
 use Rattle.jn_parse_stmt.proofs.Runs.{as_many}
 use Rattle.jn_parse_stmt.proofs.Items.{listing_starts, listing_ends, listing_goes}
 use Rattle.jn_parse_stmt.proofs.lists.items.Goals as goal

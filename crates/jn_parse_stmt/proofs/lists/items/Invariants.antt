@@ -1,7 +1,7 @@
 use Rattle.std.proofs.Common.{◌≡◌, length}
 use Rattle.jn_trees.specs.Pieces.{kinds}
 use Rattle.jn_trees.specs.View.{views}
-use Rattle.jn_expr_law.specs.Reader.{reader, all_items}
+use Rattle.jn_parse_expr_law.specs.Reader.{reader, all_items}
 use Rattle.jn_parse_stmt.proofs.Items.{Listing}
 use Rattle.jn_parse_stmt.proofs.lists.items.Given as goal
 

@@ -3,8 +3,8 @@ use Rattle.jn_trees.specs.Pieces.{kinds}
 use Rattle.jn_trees.specs.Trees.{Tree}
 use Rattle.jn_trees.specs.View.{view}
 use Rattle.jn_trees.specs.Longest.{Try}
-use Rattle.jn_expr_law.specs.Reader.{reader}
-use Rattle.jn_stmt_law.specs.Parts.{then_read, ended, read_optional}
+use Rattle.jn_parse_expr_law.specs.Reader.{reader}
+use Rattle.jn_parse_stmt_law.specs.Parts.{then_read, ended, read_optional}
 use Rattle.jn_parse_stmt.proofs.Items.{not_absent, none_ends}
 use Rattle.jn_parse_stmt.proofs.lists.optional.Goals as goal
 

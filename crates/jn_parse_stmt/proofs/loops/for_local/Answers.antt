@@ -2,9 +2,9 @@ use Rattle.std.proofs.Common.{◌≡◌, ap, ◌∙◌}
 use Rattle.jn_trees.specs.Pieces.{kinds}
 use Rattle.jn_trees.specs.Trees.{InitTree, DeclarationInit, LocalTree}
 use Rattle.jn_trees.specs.View.{local_view}
-use Rattle.jn_expr_law.specs.Reader.{reader}
-use Rattle.jn_stmt_law.specs.Parts.{Behind, Read, then_read}
-use Rattle.jn_stmt_law.specs.StatementReader.{for_local, for_rest}
+use Rattle.jn_parse_expr_law.specs.Reader.{reader}
+use Rattle.jn_parse_stmt_law.specs.Parts.{Behind, Read, then_read}
+use Rattle.jn_parse_stmt_law.specs.StatementReader.{for_local, for_rest}
 use Rattle.jn_parse_stmt.proofs.Items.{none_ends}
 use Rattle.jn_parse_stmt.proofs.loops.for_local.Goals as goal
 

@@ -1,7 +1,7 @@
 use Rattle.std.proofs.Common.{◌≡◌, ◌+◌, ◌*◌, length}
 use Rattle.jn_trees.specs.Pieces.{kinds}
 use Rattle.jn_trees.specs.View.{statement_views}
-use Rattle.jn_stmt_law.specs.StatementReader.{read_block}
+use Rattle.jn_parse_stmt_law.specs.StatementReader.{read_block}
 use Rattle.jn_parse_stmt.specs.Heads.{read_one}
 use Rattle.jn_parse_stmt.proofs.Blocks.{Blocking}
 use Rattle.jn_parse_stmt.proofs.nested.+statements.Given as goal

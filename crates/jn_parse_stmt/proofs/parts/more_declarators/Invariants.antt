@@ -1,8 +1,8 @@
 use Rattle.std.proofs.Common.{◌≡◌, length}
 use Rattle.jn_trees.specs.Pieces.{kinds}
 use Rattle.jn_trees.specs.View.{declarator_views}
-use Rattle.jn_expr_law.specs.Reader.{reader}
-use Rattle.jn_stmt_law.specs.Parts.{all_declarators}
+use Rattle.jn_parse_expr_law.specs.Reader.{reader}
+use Rattle.jn_parse_stmt_law.specs.Parts.{all_declarators}
 use Rattle.jn_parse_stmt.proofs.Runs.{Declaring}
 use Rattle.jn_parse_stmt.proofs.parts.more_declarators.Given as goal
 

@@ -1,7 +1,7 @@
 use Rattle.std.proofs.Common.{◌≡◌, length}
 use Rattle.jn_trees.specs.Pieces.{kinds}
 use Rattle.jn_trees.specs.View.{annotation_names}
-use Rattle.jn_stmt_law.specs.Parts.{read_annotations}
+use Rattle.jn_parse_stmt_law.specs.Parts.{read_annotations}
 use Rattle.jn_parse_stmt.proofs.Runs.{ahead}
 use Rattle.jn_parse_stmt.proofs.parts.read_annotations.Given as goal
 

@@ -1,7 +1,7 @@
 use Rattle.std.proofs.Common.{◌≡◌, ap, ◌∙◌, Some}
 use Rattle.jn_trees.specs.Pieces.{kinds}
 use Rattle.jn_trees.specs.View.{base_view}
-use Rattle.jn_stmt_law.specs.Parts.{use_of}
+use Rattle.jn_parse_stmt_law.specs.Parts.{use_of}
 use Rattle.jn_parse_stmt.proofs.Runs.{type_use_is}
 use Rattle.jn_parse_stmt.proofs.parts.read_type_use.Goals as goal
 

@@ -1,5 +1,0 @@
-use Rattle.jn_file_law.proofs.PiecesRead.{sound_at, full_at}
-use Rattle.jn_file_law.proofs.law.a_piece_is_read_once.Goals as goal
-
-pub returns : goal.returns
-returns c = record { sound = sound_at; full = full_at }

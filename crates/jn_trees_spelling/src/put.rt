@@ -1,0 +1,36 @@
+//! Tokens behind others.
+ghost use Rattle.jn_trees_spelling.specs.Parts.{separator};
+ghost use Rattle.std.specs.Prelude.{◌≡◌, ◌++◌, ◌∷◌, [], OnOk};
+
+use jn_base::OutOfMemory;
+use jn_trees::TokenKind;
+
+/// Puts the token behind the others.
+pub fn put(kinds: &mut Vec<TokenKind>, kind: TokenKind) -> Result<(), OutOfMemory>
+    ensures { OnOk result (kinds.new.items ≡ kinds.old.items ++ kind ∷ []) }
+{
+    match kinds.push(kind) {
+        Ok(()) => Ok(()),
+        Err(_) => Err(OutOfMemory),
+    }
+}
+
+/// Puts the tokens behind the others, in their order.
+pub fn put_all(kinds: &mut Vec<TokenKind>, more: &[TokenKind]) -> Result<(), OutOfMemory>
+    ensures { OnOk result (kinds.new.items ≡ kinds.old.items ++ more.now) }
+{
+    match kinds.extend_from_slice(more) {
+        Ok(()) => Ok(()),
+        Err(_) => Err(OutOfMemory),
+    }
+}
+
+/// Puts a comma behind the tokens, unless the item that follows is the first.
+pub fn separate(kinds: &mut Vec<TokenKind>, place: usize) -> Result<(), OutOfMemory>
+    ensures { OnOk result (kinds.new.items ≡ kinds.old.items ++ separator place) }
+{
+    if place == 0 {
+        return Ok(());
+    }
+    put(kinds, TokenKind::Comma)
+}
