@@ -9,8 +9,8 @@ ghost use Rattle.jn_lexer.specs.Lexed.{Lexed};
 ghost use Rattle.jn_front.specs.declared.source.SourceFile.{SourceFile};
 ghost use Rattle.jn_front.specs.Phases.{AreParsed, FrontRows};
 
-use jn_parse_decl_law::law::files_have_one_outcome;
 use jn_lexer::law::texts_have_one_reading;
+use jn_parse_decl_law::law::files_have_one_outcome;
 use jn_parse_placed::law::files_have_one_placed_tree;
 
 /// Files have the rows of one phase, in one way, or their names, tokens and trees with places, in one way, and never both.

@@ -1,13 +1,13 @@
 //! Small programs run to their end.
 use jn_base::{BodyNo, ClassNo, MethodNo, OutOfMemory, Text};
+use jn_machine::{End, StepFail, Stepped, run, run_to, start};
+use jn_outside::MemSink;
+use jn_points::{BaseType, Elem, Operand, Operator, Program};
 use jn_test_programs::build::{Hand, Kind, OBJECT, VOID, instance, named, plain};
 use jn_test_programs::lines::{
     at, binary, cast, concat, element, end, give, int, length, new_array, null, print, put, read,
     text, write,
 };
-use jn_machine::{End, StepFail, Stepped, run, run_to, start};
-use jn_outside::MemSink;
-use jn_points::{BaseType, Elem, Operand, Operator, Program};
 use jn_trees::Names;
 use std::alloc::{AllocError, Global};
 use std::process::Abort;

@@ -30,7 +30,12 @@ fn whole(alloc: Global, bytes: Vec<u8>) -> Result<SourceRead, OutOfMemory>
 fn rows_text(alloc: Global, rows: &[Row]) -> Result<String, OutOfMemory> {
     let mut text = String::new(alloc);
     for row in rows {
-        let shown = format!(in alloc; " {} {}:{}", row.code.name(), row.span.file.0, row.span.from)?;
+        let shown = format!(in alloc;
+            " {} {}:{}",
+            row.code.name(),
+            row.span.file.0,
+            row.span.from
+        )?;
         text.push_str(&shown)?;
     }
     Ok(text)

@@ -3,8 +3,8 @@ use crate::page::Shown;
 use crate::shape::shape_of;
 use jn_base::{Fail, FileNo, OutOfMemory, Row, place_of};
 use jn_parse_decl::parse_file;
-use jn_trees_spelling::{spell_file, well_formed_file};
 use jn_trees::{FileTree, Names, Token, TokenKind};
+use jn_trees_spelling::{spell_file, well_formed_file};
 use std::alloc::Global;
 
 pub const FILE: FileNo = FileNo(0);

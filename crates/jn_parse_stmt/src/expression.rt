@@ -5,8 +5,8 @@ ghost use Rattle.jn_trees.specs.Pieces.{kinds};
 ghost use Rattle.jn_parse_expr_law.specs.Reader.{reader};
 
 use jn_base::OutOfMemory;
-use jn_parse_expr_law::law::expressions_are_read_once;
 use jn_parse_expr::read_expr;
+use jn_parse_expr_law::law::expressions_are_read_once;
 use jn_trees::{Expr, Token};
 use std::alloc::Global;
 

@@ -1,7 +1,7 @@
 //! A program made by hand. A place is line times 100 plus column.
+use jn_points::{BaseType, Program};
 use jn_test_programs::build::{FIRST, Hand, Kind, OBJECT, STRING, VOID, inferred, instance, named};
 use jn_test_programs::lines::{at, end, length, null, text};
-use jn_points::{BaseType, Program};
 use std::alloc::{AllocError, Global};
 
 const CLASS: BaseType = BaseType::Ref(FIRST);

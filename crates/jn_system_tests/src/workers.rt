@@ -3,11 +3,11 @@ ghost use Rattle.std.specs.Prelude.{◌<◌, ◌≤◌};
 
 use crate::programs::round_of_calls;
 use jn_base::{Code, Row, SlotNo};
-use jn_test_programs::lines::row;
 use jn_points::Program;
-use jn_solver_samples::Meet;
 use jn_sigs::Sig;
+use jn_solver_samples::Meet;
 use jn_system::{check_all, is_inferable, solve_sig};
+use jn_test_programs::lines::row;
 use jn_workers::{Gate, Straight};
 use std::alloc::Global;
 use std::process::Abort;

@@ -178,7 +178,15 @@ fn find<R: Threads + Sync, G: Gate + Sync>(
     if !no_rows(&parsed.rows) {
         return refused_texts(alloc, parsed.rows);
     }
-    let found = find_trees(rt, alloc, workers, reads, &parsed.names, &parsed.trees, gate)?;
+    let found = find_trees(
+        rt,
+        alloc,
+        workers,
+        reads,
+        &parsed.names,
+        &parsed.trees,
+        gate,
+    )?;
     Ok(CheckedFiles {
         found,
         names: parsed.names,
