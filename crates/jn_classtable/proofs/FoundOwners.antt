@@ -11,15 +11,12 @@ use Rattle.jn_index.specs.Numbers.{list_at, places_of, contains}
 use Rattle.jn_index.specs.Index.{Lists, IsIndex, field_owners}
 use Rattle.jn_index.specs.Entries.{IsListed}
 use Rattle.jn_index.specs.Tables.{Trees, find_in, first_entry, entries_at, offers, SmallKeys, IsTable}
+use Rattle.jn_index.proofs.Offers.{past_list, small_append}
 use Rattle.jn_classtable.specs.Listed.{there}
 use Rattle.jn_classtable.specs.Hidden.{declares, owner_entry, owner_entries, AreOwners}
 use Rattle.jn_classtable.proofs.Tests.{or_true, true_or_not, not_both}
 use Rattle.jn_classtable.proofs.Listed.{some_listed}
 use Rattle.jn_classtable.proofs.HiddenFields.{some_at_any}
-
-small_append : (n : ℕ) (xs ys : List Entry) → SmallKeys n xs → SmallKeys n ys → SmallKeys n (xs ++ ys)
-small_append n [] ys a b = b
-small_append n (x ∷ xs) ys a b = (a.0, small_append n xs ys a.1 b)
 
 small_entry : (n d : ℕ) (o : Option Field) → SmallKeys n (owner_entry n d o)
 small_entry n d None = tt
@@ -33,11 +30,6 @@ small_entry n d (Some f) = by (eqb f.owner.0 d) (ltb f.name.0 n) refl
 small_entries : (P : Program) (n d : ℕ) (ks : List ℕ) → SmallKeys n (owner_entries P n d ks)
 small_entries P n d [] = tt
 small_entries P n d (k ∷ ks) = small_append n (owner_entry n d (field_info P k)) (owner_entries P n d ks) (small_entry n d (field_info P k)) (small_entries P n d ks)
-
-past_list : (xs : List (List Entry)) (c : ℕ) → length xs ≤ c → entries_at xs c ≡ []
-past_list [] c le = refl
-past_list (x ∷ xs) zero le = absurd (omega (arith, le))
-past_list (x ∷ xs) (suc c) le = past_list xs c (omega (arith, le))
 
 -- no walk finds nothing where a class on it offers something
 none_along : (f : ℕ → Option ℕ) (xs : List ℕ) (d : ℕ) → first_some f xs ≡ None → contains xs d ≡ true → f d ≡ None

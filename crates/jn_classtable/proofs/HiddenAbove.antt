@@ -1,5 +1,6 @@
 -- A field hides one where a supertype's table has its name.
 use Rattle.std.proofs.Common.{◌≡◌, ◌<◌, ℕ, zero, suc, Bool, true, false, not, ◌||◌, ◌&&◌, ◌⊎◌, inl, inr, List, [], ◌∷◌, length, Option, Some, None, refl, sym, ap, ◌∙◌, subst, eqb, arith}
+use Rattle.std.specs.Option.{is_some}
 use Rattle.std.proofs.lemmas.Bool.{eqb-true, eq-eqb, or_left, or_right}
 use Rattle.jn_base.specs.declared.number.ClassNo.{ClassNo}
 use Rattle.jn_points.specs.declared.program.Class.{Class}
@@ -10,7 +11,7 @@ use Rattle.jn_points.specs.Members.{some_of, first_or, reaches, sub}
 use Rattle.jn_index.specs.Tables.{Trees, find_in}
 use Rattle.jn_index.proofs.Ready.{class_inside, some_super}
 use Rattle.jn_classtable.specs.Rows.{is_hiding}
-use Rattle.jn_classtable.specs.Hidden.{declares, AreOwners, found_above}
+use Rattle.jn_classtable.specs.Hidden.{declares, AreOwners, Untold, object, circle, found_above}
 use Rattle.jn_classtable.proofs.Tests.{and_true, and_both, or_true, true_or_not, not_true, not_both}
 
 -- an item that passes; each test that it passes some item does
@@ -78,6 +79,21 @@ module _ (P : Program) (n : ℕ) (t : Trees) (are : AreOwners P n t) (x : Field)
       by : (eqb x.owner.0 d ≡ true) ⊎ (eqb x.owner.0 d ≡ false) → eqb x.owner.0 d ≡ false
       by (inl e) = absurd (other (sym (eqb-true x.owner.0 d e)))
       by (inr e) = e
+
+  -- Object or a class above it declares what its table finds
+  pub untold_object : (o : Option ℕ) → find_in t 0 x.name.0 ≡ o → is_some o ≡ true → Untold P n x info
+  untold_object None e h = cc
+  untold_object (Some d) e h =
+      let lt = inside in
+      let own = are.some 0 d x.name.0 (omega (arith, lt)) low e in
+      object d own.0 own.1
+
+  -- a class that its own supertypes find stands above itself
+  pub untold_circle : (d : ℕ) → found_above t x.name.0 info.supers ≡ Some d → d ≡ x.owner.0 → Untold P n x info
+  untold_circle d h same =
+      let s = some_found t x.name.0 info.supers d h in
+      let own = are.some s.0.0 d x.name.0 (super_inside s.0.0 s.1) low s.2 in
+      circle (subst (λ z. some_of (λ (u : ClassNo). reaches P (length P.classes) u.0 z) info.supers ≡ true) same (super_some (λ u. reaches P (length P.classes) u d) info.supers s.0.0 s.1 own.0))
 
   -- a class on the walk of a class that finds nothing declares no field of the name
   unseen : (s : ℕ) (y : Field) → s < length P.classes → find_in t s x.name.0 ≡ None → reaches P (length P.classes) s y.owner.0 ≡ true → declares P y.owner.0 x.name.0 ≡ true → ⊥

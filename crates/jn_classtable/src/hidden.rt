@@ -2,6 +2,7 @@
 //! unrelated classes with a field of one name don't meet.
 ghost use Rattle.std.specs.Prelude.{◌≡◌, ◌<◌, ◌^◌, ◌++◌, length, MatchOption, None, Some, IfOk, IfSome, OnOk};
 ghost use Rattle.jn_points.specs.Lookup.{class_info, field_info};
+ghost use Rattle.jn_points.specs.Regular.{RegularClasses};
 ghost use Rattle.jn_index.specs.Entries.{IsListed};
 ghost use Rattle.jn_index.specs.Index.{IsIndex};
 ghost use Rattle.jn_index.specs.Numbers as numbers;
@@ -9,6 +10,7 @@ ghost use Rattle.jn_classtable.specs.Hidden as spec;
 ghost use Rattle.jn_classtable.specs.Rows.{is_hiding};
 
 use jn_base::{ClassNo, Seq};
+use jn_index::entries::field_at;
 use jn_index::index::Index as Members;
 use jn_index::order::find_order;
 use jn_index::tables::{Entry, Tables, find_tables};
@@ -34,12 +36,6 @@ fn name_count(fields: &[Field]) -> usize
         }
     }
     most as usize + 1
-}
-
-fn field_at(program: &Program, field: usize) -> Option<&Field>
-    ensures { MatchOption result (field_info program.now field ≡ None) (λ f. field_info program.now field ≡ Some f.now) }
-{
-    program.fields.as_slice().get(field)
 }
 
 /// Adds the entry of a field that the class declares.
@@ -113,7 +109,8 @@ pub fn find_owners(
     index: &Members,
 ) -> Result<Option<Owners>, AllocError>
     requires { IsIndex program.now index.now }
-    ensures { IfOk result (λ o. IfSome o (λ w. spec.AreOwners program.now w.count w.tables)) }
+    ensures is { IfOk result (λ o. IfSome o (λ w. spec.AreOwners program.now w.count w.tables)) }
+    ensures none { IfOk result (λ o. MatchOption o (RegularClasses program.now → ⊥) (λ w. Unit {0})) }
 {
     let count = name_count(program.fields.as_slice());
     let order = find_order(alloc, program)?;
@@ -138,16 +135,20 @@ fn found_above(tables: &Tables, name: u32, supers: &[ClassNo]) -> Option<u32>
     None
 }
 
-/// Whether a field of a class that is there hides one, where the tables tell: not where Object declares a field of the name, nor
-/// where the class stands above itself.
+/// Whether a field of a class that is there hides one, where the tables tell: not where Object or a class above it declares a
+/// field of the name, nor where the class stands above itself.
 #[tactic(auto, using(crate::proofs::HiddenAbove::none_above, crate::proofs::HiddenAbove::some_above))]
 pub fn hides_above(program: &Program, owners: &Owners, field: &Field, class: &Class) -> Option<bool>
     requires are { spec.AreOwners program.now owners.now.count owners.now.tables }
     requires at { class_info program.now field.now.owner.0 ≡ Some class.now }
-    ensures { IfSome result (λ hides. hides ≡ is_hiding program.now field.now) }
+    ensures is { IfSome result (λ hides. hides ≡ is_hiding program.now field.now) }
+    ensures none { MatchOption result (spec.Untold program.now owners.now.count field.now class.now) (λ hides. Unit {0}) }
 {
     let name = field.name.0;
-    if name as usize >= owners.count || owners.tables.find(0, name).is_some() {
+    if name as usize >= owners.count {
+        return None;
+    }
+    if owners.tables.find(0, name).is_some() {
         return None;
     }
     match found_above(&owners.tables, name, class.supers.as_slice()) {
