@@ -4,6 +4,7 @@ use Rattle.std.proofs.Common.{◌≡◌, ℕ, ◌+◌, ◌<◌, ◌≤◌, take,
 use Rattle.std.specs.Prelude.{bytes_eq, if◌then◌else◌}
 use Rattle.std.specs.List.{list_any}
 use Rattle.jn_trees.specs.Names.{with_name}
+use Rattle.jn_renumber.specs.Merged.{merged}
 use Rattle.jn_front.specs.Interned.{interned}
 
 pub interned_more : (names : List (List ℕ)) (bs : List (Bor (List ℕ))) (b : Bor (List ℕ)) → interned names (bs ++ b ∷ []) ≡ with_name (interned names bs) b.now
@@ -19,6 +20,13 @@ interned_length names [] = omega arith
 interned_length names (b ∷ bs) =
     let more = one_more (list_any (bytes_eq b.now) names) names b.now in
     let ih = interned_length (with_name names b.now) bs in
+    omega (arith, more, ih)
+
+pub merged_length : (names others : List (List ℕ)) → length (merged names others) ≤ length names + length others
+merged_length names [] = omega arith
+merged_length names (text ∷ others) =
+    let more = one_more (list_any (bytes_eq text) names) names text in
+    let ih = merged_length (with_name names text) others in
     omega (arith, more, ih)
 
 pub further : (old names new : List (List ℕ)) (texts : List (Bor (List ℕ))) (i : ℕ) (d : Bor (List ℕ)) → i < length texts → names ≡ interned old (take i texts) → new ≡ with_name names (get_or texts i d).now → new ≡ interned old (take (i + 1) texts)

@@ -1,4 +1,7 @@
 pub mod Known
 pub mod OneFront
 pub mod Loops
+pub mod Shares
+pub mod Joining
+pub mod Sending
 pub mod Reading

@@ -3,4 +3,4 @@ pub mod Limits
 pub mod Phases
 pub mod Interned
 pub mod Counted
-pub mod Steps
+pub mod Outcomes

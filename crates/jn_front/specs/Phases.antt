@@ -76,3 +76,13 @@ pub record GrammarRows (files : List SourceFile) (rows : List Row) : Type 0 wher
 
 abbrev pub FrontRows : List SourceFile → List Row → Type 0
 FrontRows files rows = LimitRows files rows ⊎ (LexicalRows files rows ⊎ GrammarRows files rows)
+
+-- the lexical faults, or where no file has one, the syntax rows
+abbrev pub TextRows : List SourceFile → List Row → Type 0
+TextRows files rows =
+    FaultRows 0 files rows
+    ⊎ ((names : List (List ℕ)) × (tokens : List (List Token)) × LexedFrom 0 known_names files tokens names × SyntaxRows 0 files tokens rows)
+
+-- the files have these names and, file by file, these trees
+abbrev pub AreTreesOf : List SourceFile → List (List ℕ) → List PlacedFile → Type 0
+AreTreesOf files names trees = (tokens : List (List Token)) × LexedFrom 0 known_names files tokens names × ArePlaced tokens trees

@@ -1,21 +1,24 @@
-//! From the names of files to their tokens, names and trees, or their first rows.
+//! From the names of files to their names and trees, or their first rows.
 //!
-//! [`read_all`] reads the files, [`limit_rows`] gives the rows of the limits, [`lex_all`] the tokens and names or the lexical
-//! faults, and [`parse_all`] the trees with their places or the syntax rows. `specs/Phases.antt` says what all this is of
-//! files: `FrontRows` the rows of the first phase that has any, `AreParsed` names, tokens and trees where none has; and
-//! [`law`], that files have one of the two, in one way.
+//! [`read_all`] reads the files, [`limit_rows`] gives the rows of the limits, and [`parse_files`] the names and the trees with
+//! their places, or the lexical faults, or the syntax rows: workers lex and parse each file with names of its own
+//! (`specs/Outcomes.antt`), which are then merged into one list. `specs/Phases.antt` says what all this is of files: `FrontRows`
+//! the rows of the first phase that has any, `AreParsed` names, tokens and trees where none has; and [`law`], that files have
+//! one of the two, in one way.
 #![tactic(auto)]
 
+mod alone;
+mod gathering;
 pub mod law;
-pub mod lexing;
 pub mod limits;
 pub mod names;
+mod outcome;
 pub mod parsing;
 pub mod reads;
+mod sharing;
 pub mod source;
 
-pub use lexing::{LexedFiles, lex_all};
 pub use limits::{limit_rows, row_at};
-pub use parsing::{ParsedFiles, parse_all};
+pub use parsing::{ParsedFiles, parse_files};
 pub use reads::read_all;
 pub use source::{SourceFile, SourceRead};

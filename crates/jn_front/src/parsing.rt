@@ -1,113 +1,128 @@
-//! The trees of files, with their places, or their syntax rows.
-ghost use Rattle.std.specs.Prelude.{◌≡◌, ◌<◌, ◌≤◌, ◌^◌, ◌++◌, ◌∷◌, [], List, ℕ, length, map, IfOk, OnOk};
-ghost use Rattle.jn_known.specs.Known.{known_names};
+//! From the texts of files to their names and trees, or their rows, by workers.
+ghost use Rattle.std.specs.Prelude.{◌≡◌, ◌≤◌, ◌-◌, [], true, length, map, min, IfOk};
 ghost use Rattle.jn_places.specs.PlacedView.{placed_file};
-ghost use Rattle.jn_front.specs.Counted.{ReadsFit, size_at};
+ghost use Rattle.jn_front.specs.Counted.{ReadsFit};
 ghost use Rattle.jn_front.specs.Files.{files_of_reads};
-ghost use Rattle.jn_front.specs.Phases.{ArePlaced, SyntaxRows, LexedFrom};
-ghost use Rattle.jn_front.specs.Steps.{ParseStep};
+ghost use Rattle.jn_front.specs.Outcomes.{AreOutcomes};
+ghost use Rattle.jn_front.specs.Phases.{AreTreesOf, TextRows};
 
+use crate::gathering::{join_all, lexical_rows, syntax_rows};
+use crate::outcome::Outcome;
+use crate::sharing::parse_by;
 use crate::source::SourceRead;
-use jn_base::{Fail, FileNo, OutOfMemory, Row, Seq};
-use jn_lexer::law::texts_have_few_tokens;
-use jn_parse_placed::parse_placed;
-use jn_trees::{FileTree, Token};
-use std::alloc::{AllocError, Global};
+use jn_base::{OutOfMemory, Row};
+use jn_lexer::law::{texts_have_few_tokens, texts_have_one_reading};
+use jn_renumber_law::law::{own_names_can_be_merged, own_trees_can_be_renumbered};
+use jn_trees::{FileTree, Names};
+use jn_workers::Gate;
+use std::alloc::Global;
+use std::thread::Threads;
 
-/// The tree of each file, each node where its tokens stand, or where some file has none, the syntax row of each such file.
+/// What became of the texts of files: the tree of each, or the rows of those that have none.
 #[derive(Drop)]
 pub struct ParsedFiles {
-    /// The tree of each file, in the files' order. They say nothing where there are rows.
+    /// The tree of each file, in the files' order, each node where its tokens stand; none where there are rows.
     pub trees: Vec<FileTree>,
-    /// The one syntax row of each file that has no tree, in the files' order.
+    /// The names in the order of their numbers, the known ones first; none where there are rows.
+    pub names: Names,
+    /// The first lexical fault of each file that has one; where none has, the one syntax row of each file that has no tree. In
+    /// the files' order.
     pub rows: Vec<Row>,
 }
 
-fn put_row(rows: &mut Vec<Row>, row: Row) -> Result<(), AllocError>
-    ensures { OnOk result (rows.new.items ≡ rows.old.items ++ row ∷ []) }
+/// Rows, and so no trees.
+fn refused(alloc: Global, rows: Vec<Row>) -> ParsedFiles
+    ensures rows { result.rows.items ≡ rows.items }
+    ensures trees { result.trees.items ≡ [] }
+    ensures names { result.names ≡ [] }
 {
-    rows.push(row)?;
-    Ok(())
-}
-
-fn put_tree(trees: &mut Vec<FileTree>, tree: FileTree) -> Result<(), AllocError>
-    ensures { OnOk result (trees.new.items ≡ trees.old.items ++ tree ∷ []) }
-{
-    trees.push(tree)?;
-    Ok(())
-}
-
-/// Adds the tree of a file's tokens, or their syntax row.
-fn parse_next(
-    alloc: Global,
-    trees: &mut Vec<FileTree>,
-    rows: &mut Vec<Row>,
-    tokens: &[Token],
-    file: FileNo,
-    end: u32,
-) -> Result<(), OutOfMemory>
-    requires { length tokens.now < 2 ^ 32 }
-    ensures { OnOk result (ParseStep file end tokens.now (map placed_file trees.old.items) (map placed_file trees.new.items) rows.old.items rows.new.items) }
-{
-    match parse_placed(alloc, tokens, file, end) {
-        Ok(tree) => {
-            put_tree(trees, tree)?;
-            return Ok(());
-        }
-        Err(Fail::Refused(row)) => {
-            put_row(rows, row)?;
-            return Ok(());
-        }
-        Err(Fail::OutOfMemory) => return Err(OutOfMemory),
+    ParsedFiles {
+        trees: Vec::new(alloc),
+        names: Names::new(alloc),
+        rows,
     }
 }
 
-/// The tree of each file (JLS 7.3) with its places, or the syntax row of each file that has none. `tokens` are those of the
-/// files, as [`lex_all`](crate::lex_all) gives them.
-///
-/// Takes time in proportion to the tokens.
-///
-/// # Errors
-///
-/// [`OutOfMemory`] where a tree found no memory.
-pub fn parse_all(
+/// Whether there are no rows.
+fn is_empty(rows: &[Row]) -> bool
+    ensures none { result ≡ true → rows.now ≡ [] }
+    ensures some { rows.now ≡ [] → result ≡ true }
+{
+    match rows {
+        [] => true,
+        _ => false,
+    }
+}
+
+/// The rows, or the names and trees, of files with these outcomes.
+fn put_together(
     alloc: Global,
     reads: &[SourceRead],
-    tokens: &[Seq<Token>],
+    outcomes: Vec<Outcome>,
 ) -> Result<ParsedFiles, OutOfMemory>
     requires few { length reads.now ≤ 64 }
     requires fit { ReadsFit reads.now }
-    requires lexed { (names : List (List ℕ)) × LexedFrom 0 known_names (files_of_reads reads.now) tokens.now names }
-    ensures rows { IfOk result (λ p. SyntaxRows 0 (files_of_reads reads.now) tokens.now p.rows.items) }
-    ensures trees { IfOk result (λ p. p.rows.items ≡ [] → ArePlaced tokens.now (map placed_file p.trees.items)) }
+    requires found { AreOutcomes 0 (files_of_reads reads.now) outcomes.items }
+    ensures rows { IfOk result (λ p. (p.rows.items ≡ [] → ⊥) → TextRows (files_of_reads reads.now) p.rows.items) }
+    ensures trees { IfOk result (λ p. p.rows.items ≡ [] → AreTreesOf (files_of_reads reads.now) p.names (map placed_file p.trees.items)) }
+    ensures none { IfOk result (λ p. (p.rows.items ≡ [] → ⊥) → (p.trees.items ≡ []) × (p.names ≡ [])) }
 {
+    let _reads = reads;
+    texts_have_one_reading();
     texts_have_few_tokens();
-    let mut trees = Vec::new(alloc);
-    let mut rows = Vec::new(alloc);
-    let mut file = 0;
-    'files: for tokens in tokens {
-        let end = size_of(reads, file as usize);
-        parse_next(
-            alloc,
-            &mut trees,
-            &mut rows,
-            tokens.as_slice(),
-            FileNo(file),
-            end,
-        )?;
-        file += 1;
+    own_names_can_be_merged();
+    own_trees_can_be_renumbered();
+    let faults = lexical_rows(alloc, outcomes.as_slice())?;
+    if !is_empty(faults.as_slice()) {
+        return Ok(refused(alloc, faults));
     }
-    Ok(ParsedFiles { trees, rows })
+    let rows = syntax_rows(alloc, outcomes.as_slice())?;
+    if !is_empty(rows.as_slice()) {
+        return Ok(refused(alloc, rows));
+    }
+    let parsed = join_all(alloc, outcomes)?;
+    Ok(parsed)
 }
 
-/// How many bytes the file of this number has, or none where there is no such file.
-fn size_of(reads: &[SourceRead], file: usize) -> u32
-    requires { ReadsFit reads.now }
-    ensures { result ≡ size_at reads.now file }
+/// How many workers there are beside the first: together no more than there are files.
+fn more_workers(files: usize, workers: u32) -> u32
+    ensures { result ≡ min workers files - 1 }
 {
-    if file < reads.len() {
-        reads[file].file.bytes.len() as u32
-    } else {
+    if files == 0 || workers == 0 {
         0
+    } else if (workers as usize) < files {
+        workers - 1
+    } else {
+        files as u32 - 1
     }
+}
+
+/// The tree of each file that was read (JLS 7.3) with its places and all names, or where some file has a lexical fault (JLS 3.3
+/// to 3.12), the first fault of each, else the syntax row of each file that has no tree.
+///
+/// Names are numbered over all files, in the order in which they are first met, behind those of `jn_known`. The files are
+/// shared among as many workers as are asked for, at most one for a file, each of which takes a range of them; a worker
+/// enters the gate with the number of each file before it lexes the file. It goes by `join`, and so may wait for its workers.
+/// Takes time in proportion to the bytes.
+///
+/// # Errors
+///
+/// [`OutOfMemory`] where tokens, names or trees found no memory.
+pub fn parse_files<R: Threads + Sync, G: Gate + Sync>(
+    rt: &R,
+    alloc: Global,
+    reads: &[SourceRead],
+    workers: u32,
+    gate: &G,
+) -> Result<ParsedFiles, OutOfMemory>
+    requires few { length reads.now ≤ 64 }
+    requires fit { ReadsFit reads.now }
+    requires workers { (1 ≤ workers) × (workers ≤ 16) }
+    ensures rows { IfOk result (λ p. (p.rows.items ≡ [] → ⊥) → TextRows (files_of_reads reads.now) p.rows.items) }
+    ensures trees { IfOk result (λ p. p.rows.items ≡ [] → AreTreesOf (files_of_reads reads.now) p.names (map placed_file p.trees.items)) }
+    ensures none { IfOk result (λ p. (p.rows.items ≡ [] → ⊥) → (p.trees.items ≡ []) × (p.names ≡ [])) }
+{
+    let more = more_workers(reads.len(), workers);
+    let outcomes = parse_by(rt, alloc, reads, 0, more, gate)?;
+    put_together(alloc, reads, outcomes)
 }

@@ -1,0 +1,90 @@
+//! What files have, by the outcomes of their texts.
+ghost use Rattle.std.specs.Prelude.{◌≡◌, ◌≤◌, ◌<◌, ◌+◌, ◌^◌, ◌++◌, ◌∷◌, [], length, map, IfOk, OnOk};
+ghost use Rattle.jn_known.specs.Known.{known_names};
+ghost use Rattle.jn_places.specs.PlacedView.{placed_file};
+ghost use Rattle.jn_front.specs.Outcomes.{lexical_rows, syntax_rows, joined_names, joined_trees, HaveFewNames};
+
+use crate::names::known_names;
+use crate::outcome::Outcome;
+use crate::parsing::ParsedFiles;
+use jn_base::{OutOfMemory, Row};
+use jn_renumber::{merge, renumber_file};
+use jn_trees::{FileTree, Names};
+use std::alloc::{AllocError, Global};
+
+/// The lexical faults, in the files' order.
+pub fn lexical_rows(alloc: Global, outcomes: &[Outcome]) -> Result<Vec<Row>, AllocError>
+    ensures { IfOk result (λ rows. rows.items ≡ lexical_rows outcomes.now) }
+{
+    let mut rows = Vec::new(alloc);
+    'outcomes: for outcome in outcomes {
+        match outcome {
+            Outcome::Lexical(row) => rows.push(*row)?,
+            Outcome::Syntax(_) => (),
+            Outcome::Tree { .. } => (),
+        }
+    }
+    Ok(rows)
+}
+
+/// The syntax rows, in the files' order.
+pub fn syntax_rows(alloc: Global, outcomes: &[Outcome]) -> Result<Vec<Row>, AllocError>
+    ensures { IfOk result (λ rows. rows.items ≡ syntax_rows outcomes.now) }
+{
+    let mut rows = Vec::new(alloc);
+    'outcomes: for outcome in outcomes {
+        match outcome {
+            Outcome::Lexical(_) => (),
+            Outcome::Syntax(row) => rows.push(*row)?,
+            Outcome::Tree { .. } => (),
+        }
+    }
+    Ok(rows)
+}
+
+/// Merges a file's names into those of the files before it, and adds its tree with their new numbers.
+fn join_next(
+    alloc: Global,
+    names: &mut Names,
+    trees: &mut Vec<FileTree>,
+    outcome: Outcome,
+) -> Result<(), OutOfMemory>
+    requires room { length names.old < 2 ^ 31 }
+    requires few { HaveFewNames (outcome ∷ []) }
+    ensures names { OnOk result (names.new ≡ joined_names names.old (outcome ∷ [])) }
+    ensures trees { OnOk result (map placed_file trees.new.items ≡ map placed_file trees.old.items ++ joined_trees names.old (outcome ∷ [])) }
+{
+    match outcome {
+        Outcome::Lexical(_) => Ok(()),
+        Outcome::Syntax(_) => Ok(()),
+        Outcome::Tree { names: own, tree } => {
+            let mut tree = tree;
+            let numbers = merge(alloc, names, &own)?;
+            renumber_file(numbers.as_slice(), &mut tree);
+            match trees.push(tree) {
+                Ok(()) => Ok(()),
+                Err(_) => Err(OutOfMemory),
+            }
+        }
+    }
+}
+
+/// The names and trees of all files.
+pub fn join_all(alloc: Global, outcomes: Vec<Outcome>) -> Result<ParsedFiles, OutOfMemory>
+    requires many { length outcomes.items ≤ 64 }
+    requires few { HaveFewNames outcomes.items }
+    ensures rows { IfOk result (λ p. p.rows.items ≡ []) }
+    ensures names { IfOk result (λ p. p.names ≡ joined_names known_names outcomes.items) }
+    ensures trees { IfOk result (λ p. map placed_file p.trees.items ≡ joined_trees known_names outcomes.items) }
+{
+    let mut names = known_names(alloc)?;
+    let mut trees = Vec::new(alloc);
+    for outcome in outcomes {
+        join_next(alloc, &mut names, &mut trees, outcome)?;
+    }
+    Ok(ParsedFiles {
+        trees,
+        names,
+        rows: Vec::new(alloc),
+    })
+}

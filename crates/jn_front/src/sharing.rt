@@ -1,0 +1,110 @@
+//! Files shared among workers.
+ghost use Rattle.std.specs.Prelude.{◌≡◌, ◌≤◌, ◌<◌, ◌+◌, ◌++◌, ◌∷◌, [], length, take, drop, IfOk, OnOk};
+ghost use Rattle.std.specs.Thread.{IsSync};
+ghost use Rattle.jn_front.specs.Counted.{ReadsFit};
+ghost use Rattle.jn_front.specs.Files.{files_of_reads};
+ghost use Rattle.jn_front.specs.Outcomes.{AreOutcomes};
+
+use crate::alone::outcome_of;
+use crate::outcome::Outcome;
+use crate::source::SourceRead;
+use jn_base::OutOfMemory;
+use jn_workers::Gate;
+use std::alloc::{AllocError, Global};
+use std::thread::{Threads, join};
+
+fn put_outcome(outcomes: &mut Vec<Outcome>, outcome: Outcome) -> Result<(), AllocError>
+    ensures { OnOk result (outcomes.new.items ≡ outcomes.old.items ++ outcome ∷ []) }
+{
+    outcomes.push(outcome)?;
+    Ok(())
+}
+
+/// The outcomes of files one after another, the first of which has this number.
+fn parse_each<G: Gate>(
+    alloc: Global,
+    reads: &[SourceRead],
+    first: u32,
+    worker: u32,
+    gate: &G,
+) -> Result<Vec<Outcome>, OutOfMemory>
+    requires few { first + length reads.now ≤ 64 }
+    requires fit { ReadsFit reads.now }
+    ensures { IfOk result (λ outcomes. AreOutcomes first (files_of_reads reads.now) outcomes.items) }
+{
+    let mut outcomes = Vec::new(alloc);
+    let mut file = first;
+    'files: for read in reads {
+        let outcome = outcome_of(alloc, read, file, worker, gate)?;
+        put_outcome(&mut outcomes, outcome)?;
+        file += 1;
+    }
+    Ok(outcomes)
+}
+
+/// The first outcomes, and the others behind them.
+fn append(first: Vec<Outcome>, others: Vec<Outcome>) -> Result<Vec<Outcome>, OutOfMemory>
+    ensures { IfOk result (λ all. all.items ≡ first.items ++ others.items) }
+{
+    let mut all = first;
+    for outcome in others {
+        match all.push(outcome) {
+            Ok(()) => {}
+            Err(_) => return Err(OutOfMemory),
+        }
+    }
+    Ok(all)
+}
+
+/// The outcomes of files, of which the first ones and those behind them have these.
+fn in_order(
+    reads: &[SourceRead],
+    first: u32,
+    share: u32,
+    front: Result<Vec<Outcome>, OutOfMemory>,
+    back: Result<Vec<Outcome>, OutOfMemory>,
+) -> Result<Vec<Outcome>, OutOfMemory>
+    requires share { share ≤ length reads.now }
+    requires front { IfOk front (λ outcomes. AreOutcomes first (files_of_reads (take share reads.now)) outcomes.items) }
+    requires back { IfOk back (λ outcomes. AreOutcomes (first + share) (files_of_reads (drop share reads.now)) outcomes.items) }
+    ensures { IfOk result (λ outcomes. AreOutcomes first (files_of_reads reads.now) outcomes.items) }
+{
+    let (_reads, _first, _share) = (reads, first, share);
+    let front = front?;
+    let back = back?;
+    let all = append(front, back)?;
+    Ok(all)
+}
+
+/// The outcomes of files, the first of which has this number: worker 0 and as many others as `more` take each a range of
+/// them, of lengths that differ by at most one.
+#[cycle(share)]
+pub fn parse_by<R: Threads + Sync, G: Gate + Sync>(
+    rt: &R,
+    alloc: Global,
+    reads: &[SourceRead],
+    first: u32,
+    more: u32,
+    gate: &G,
+) -> Result<Vec<Outcome>, OutOfMemory>
+    requires few { first + length reads.now ≤ 64 }
+    requires fit { ReadsFit reads.now }
+    ensures { IfOk result (λ outcomes. AreOutcomes first (files_of_reads reads.now) outcomes.items) }
+{
+    if more == 0 {
+        return parse_each(alloc, reads, first, 0, gate);
+    }
+    let share = reads.len() / (more as usize + 1);
+    let (front, back) = reads.split_at(share);
+    let share = share as u32;
+    let theirs = move || -> Result<Vec<Outcome>, OutOfMemory>
+        requires { (first + length front.now ≤ 64) × ReadsFit front.now }
+        ensures { IfOk result (λ outcomes. AreOutcomes first (files_of_reads front.entry.now) outcomes.items) }
+    { parse_each(alloc, front, first, more, gate) };
+    let ours = move || -> Result<Vec<Outcome>, OutOfMemory>
+        requires { IsSync R.row × IsSync G.row × (0 < more) × (first + share + length back.now ≤ 64) × ReadsFit back.now }
+        ensures { IfOk result (λ outcomes. AreOutcomes (first + share) (files_of_reads back.entry.now) outcomes.items) }
+    { parse_by(rt, alloc, back, first + share, more - 1, gate) };
+    let (theirs, ours) = join(rt, theirs, ours);
+    in_order(reads, first, share, theirs, ours)
+}
