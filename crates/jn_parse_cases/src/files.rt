@@ -1,11 +1,11 @@
-//! Two files that workers lex and parse together: the names of both and each tree, or the rows.
+//! Two files that workers lex and parse together: the names of both and each tree, or the rows, and whether two workers met.
 use crate::page::Shown;
 use crate::shape::shape_of;
 use crate::tokens::names_text;
 use jn_base::{OutOfMemory, Row, Seq, Text};
 use jn_front::{ParsedFiles, SourceFile, SourceRead, parse_files};
+use jn_solver_samples::Meet;
 use jn_trees::{FileTree, Names};
-use jn_workers::Straight;
 use std::alloc::Global;
 use std::thread::Threads;
 
@@ -52,7 +52,16 @@ fn trees_text(alloc: Global, names: &Names, trees: &[FileTree]) -> Result<String
     Ok(text)
 }
 
-/// What so many workers make of two files.
+/// The rows, or the names and trees.
+fn parsed_text(alloc: Global, parsed: &ParsedFiles) -> Result<String, OutOfMemory> {
+    if parsed.rows.is_empty() {
+        trees_text(alloc, &parsed.names, &parsed.trees)
+    } else {
+        rows_text(alloc, &parsed.rows)
+    }
+}
+
+/// What so many workers make of two files, the first of which, where there is another worker, waits at the gate for its file.
 pub fn files_text<R: Threads + Sync>(
     rt: &R,
     alloc: Global,
@@ -64,10 +73,11 @@ pub fn files_text<R: Threads + Sync>(
         return Ok(String::from_str(alloc, "beyond a limit")?);
     }
     let reads = [whole(alloc, one)?, whole(alloc, other)?];
-    let ParsedFiles { trees, names, rows } = parse_files(rt, alloc, &reads, workers, &Straight)?;
-    if rows.is_empty() {
-        trees_text(alloc, &names, &trees)
-    } else {
-        rows_text(alloc, &rows)
+    let gate = Meet::new(if workers > 1 { 1 } else { 0 });
+    let parsed = parse_files(rt, alloc, &reads, workers, &gate)?;
+    let mut text = parsed_text(alloc, &parsed)?;
+    if gate.met() {
+        text.push_str(" | two workers met")?;
     }
+    Ok(text)
 }

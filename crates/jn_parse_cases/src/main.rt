@@ -14,6 +14,7 @@ mod tokens;
 use case::answer;
 use files::files_text;
 use std::alloc::AllocError;
+use std::thread::Threads;
 use std::{env, fs, io};
 
 /// The workers and the two files of a line such as `files=2 Empty.java Stack.java`.
@@ -27,13 +28,13 @@ fn files_of(line: &str) -> Option<(u32, &str, &str)> {
     Some((workers.parse().ok()?, one, other))
 }
 
-/// What becomes of the line's text or files.
-fn line_answer(rt: &HostRuntime, line: &str) -> io::Result<String> {
+/// What becomes of the line's text, or of its files with these threads.
+fn line_answer<R: Threads + Sync>(rt: &HostRuntime, threads: &R, line: &str) -> io::Result<String> {
     let shown = match files_of(line) {
         Some((workers, one, other)) => {
             let one = fs::read(rt, one)?;
             let other = fs::read(rt, other)?;
-            files_text(rt, rt.alloc(), workers, one, other)
+            files_text(threads, rt.alloc(), workers, one, other)
         }
         None => answer(rt.alloc(), line),
     };
@@ -47,7 +48,7 @@ fn main(rt: HostRuntime) -> io::Result<()> {
     for table in env::args(&rt)?.skip(1) {
         let text = fs::read_to_string(&rt, table.as_str())?;
         for line in text.lines() {
-            let shown = line_answer(&rt, line)?;
+            let shown = line_answer(&rt, &rt, line)?;
             println!(rt; "{line} => {shown}")?;
         }
     }
