@@ -1,4 +1,6 @@
 //! Two files that workers lex and parse together: the names of both and each tree, or the rows, and whether two workers met.
+ghost use Rattle.std.specs.Prelude.{◌≡◌, IfOk};
+
 use crate::page::Shown;
 use crate::shape::shape_of;
 use crate::tokens::names_text;
