@@ -73,7 +73,8 @@ impl Accepted {
 
     /// The one method of the form of a main; None where there is none, or more than one. Takes no memory.
     pub fn main(&self) -> Option<MethodNo>
-        ensures { MatchOption result ((m : ℕ) → IsOnlyMain self.now.0 m → ⊥) (λ m. IsOnlyMain self.now.0 m.0) }
+        ensures { MatchOption result ((m : ℕ) → IsOnlyMain self.now.0 m → ⊥)
+            (λ m. IsOnlyMain self.now.0 m.0) }
     {
         only_main(self.program())
     }

@@ -42,7 +42,8 @@ fn has_form(program: &Program, method: &Method) -> bool
 /// The first method of the form from a place on.
 #[tactic(auto, using(crate::proofs::OneMain::none_more, crate::proofs::OneMain::first_there, crate::proofs::OneMain::none_from))]
 fn first_from(program: &Program, place: usize) -> Option<usize>
-    ensures first { MatchOption result (NoneFrom program.now place) (λ n. IsFirst program.now place n) }
+    ensures first { MatchOption result (NoneFrom program.now place)
+        (λ n. IsFirst program.now place n) }
     ensures inside { IfSome result (λ n. n < length program.now.methods) }
 {
     let methods = program.methods.as_slice();
@@ -59,7 +60,8 @@ fn first_from(program: &Program, place: usize) -> Option<usize>
 #[tactic(auto, using(crate::proofs::OneMain::none_only, crate::proofs::OneMain::one_only, crate::proofs::OneMain::two_mains))]
 pub fn only_main(program: &Program) -> Option<MethodNo>
     requires few { length program.now.methods < 2 ^ 32 }
-    ensures { MatchOption result ((m : ℕ) → IsOnlyMain program.now m → ⊥) (λ m. IsOnlyMain program.now m.0) }
+    ensures { MatchOption result ((m : ℕ) → IsOnlyMain program.now m → ⊥)
+        (λ m. IsOnlyMain program.now m.0) }
 {
     match first_from(program, 0) {
         None => None,

@@ -20,7 +20,9 @@ pub fn empty_lists(alloc: Global, count: usize) -> Result<Vec<Seq<u32>>, AllocEr
 pub fn push_at(lists: &mut Vec<Seq<u32>>, at: usize, item: u32) -> Result<(), AllocError>
     requires { at < length lists.old.items }
     ensures long { OnOk result (length lists.new.items ≡ length lists.old.items) }
-    ensures pushed { OnOk result ((d : ℕ) → slice_index_or lists.new.items d [] ≡ slice_index_or lists.old.items d [] ++ cond (eqb at d) (item ∷ []) []) }
+    ensures pushed { OnOk result ((d : ℕ)
+        → slice_index_or lists.new.items d []
+        ≡ slice_index_or lists.old.items d [] ++ cond (eqb at d) (item ∷ []) []) }
 {
     lists[at].push(item)
 }

@@ -60,7 +60,9 @@ fn push_reading(
     at: usize,
     operand: Operand,
 ) -> Result<(), AllocError>
-    ensures { OnOk result (rows.new.items ≡ rows.old.items ++ rows_of.readings program.now body (slot_at unwritten.now at) (operand ∷ [])) }
+    ensures { OnOk result (rows.new.items
+        ≡ rows.old.items
+        ++ rows_of.readings program.now body (slot_at unwritten.now at) (operand ∷ [])) }
 {
     if is_unassigned(program, body, unwritten, at, operand.reg) {
         rows.push(Row {
@@ -79,7 +81,9 @@ fn push_optional_reading(
     at: usize,
     operand: Option<Operand>,
 ) -> Result<(), AllocError>
-    ensures { OnOk result (rows.new.items ≡ rows.old.items ++ rows_of.readings program.now body (slot_at unwritten.now at) (operand_if operand)) }
+    ensures { OnOk result (rows.new.items
+        ≡ rows.old.items
+        ++ rows_of.readings program.now body (slot_at unwritten.now at) (operand_if operand)) }
 {
     match operand {
         None => Ok(()),
@@ -95,7 +99,9 @@ fn push_list_readings(
     at: usize,
     operands: &[Operand],
 ) -> Result<(), AllocError>
-    ensures { OnOk result (rows.new.items ≡ rows.old.items ++ rows_of.readings program.now body (slot_at unwritten.now at) operands.now) }
+    ensures { OnOk result (rows.new.items
+        ≡ rows.old.items
+        ++ rows_of.readings program.now body (slot_at unwritten.now at) operands.now) }
 {
     for operand in operands {
         push_reading(rows, program, body, unwritten, at, *operand)?;
@@ -112,7 +118,9 @@ fn push_readings(
     at: usize,
     operands: &Operands,
 ) -> Result<(), AllocError>
-    ensures { OnOk result (rows.new.items ≡ rows.old.items ++ rows_of.readings program.now body (slot_at unwritten.now at) (listed operands.now)) }
+    ensures { OnOk result (rows.new.items
+        ≡ rows.old.items
+        ++ rows_of.readings program.now body (slot_at unwritten.now at) (listed operands.now)) }
 {
     push_optional_reading(rows, program, body, unwritten, at, operands.first)?;
     push_optional_reading(rows, program, body, unwritten, at, operands.second)?;
@@ -129,7 +137,8 @@ fn push_readings_at(
     at: usize,
 ) -> Result<(), AllocError>
     requires { TellsLacking program.now body unwritten.now }
-    ensures { OnOk result (rows_of.Adds (rows_of.UnassignedAt program.now body at) rows.old.items rows.new.items) }
+    ensures { OnOk result
+        (rows_of.Adds (rows_of.UnassignedAt program.now body at) rows.old.items rows.new.items) }
 {
     match point_of(program, body, at) {
         None => Ok(()),
@@ -153,7 +162,8 @@ pub fn push_unassigned(
 ) -> Result<(), AllocError>
     requires inside { body < length program.now.bodies }
     requires tells { TellsLacking program.now body unwritten.now }
-    ensures { OnOk result (rows_of.Adds (rows_of.UnassignedRows program.now body) rows.old.items rows.new.items) }
+    ensures { OnOk result
+        (rows_of.Adds (rows_of.UnassignedRows program.now body) rows.old.items rows.new.items) }
 {
     for at in 0..body_of(program, body).points.len() {
         push_readings_at(rows, program, body, unwritten, at)?;

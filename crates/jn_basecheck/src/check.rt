@@ -27,7 +27,8 @@ fn push_on_paths(
 ) -> Result<(), AllocError>
     requires inside { body < length program.now.bodies }
     requires tells { TellsLacking program.now body unwritten.now }
-    ensures { OnOk result (rows_of.Adds (rows_of.PathRow program.now body) rows.old.items rows.new.items) }
+    ensures { OnOk result
+        (rows_of.Adds (rows_of.PathRow program.now body) rows.old.items rows.new.items) }
 {
     push_unassigned(rows, program, body, unwritten)?;
     push_results(rows, program, body, unwritten)
@@ -43,7 +44,8 @@ fn push_body(
     requires inside { body < length program.now.bodies }
     requires some { 0 < length (points_of (body_at program.now body)) }
     requires few { length (points_of (body_at program.now body)) < 2 ^ 32 }
-    ensures { OnOk result (rows_of.Adds (rows_of.BodyRow program.now body) rows.old.items rows.new.items) }
+    ensures { OnOk result
+        (rows_of.Adds (rows_of.BodyRow program.now body) rows.old.items rows.new.items) }
 {
     push_body_types(rows, program, body)?;
     let lists = program.program();
@@ -54,9 +56,11 @@ fn push_body(
 
 /// All rows of base typing.
 fn all_rows(alloc: Global, program: &IndexedProgram) -> Result<Vec<Row>, OutOfMemory>
-    requires some { (b : ℕ) → b < length program.now.bodies → 0 < length (points_of (body_at program.now b)) }
+    requires some { (b : ℕ) → b < length program.now.bodies
+        → 0 < length (points_of (body_at program.now b)) }
     requires few { (b : ℕ) → length (points_of (body_at program.now b)) < 2 ^ 32 }
-    ensures { IfOk result (λ rows. (row : RowOf) → Contains rows.items row ↔ IsBaseRow program.now row) }
+    ensures { IfOk result
+        (λ rows. (row : RowOf) → Contains rows.items row ↔ IsBaseRow program.now row) }
 {
     let mut rows = Vec::new(alloc);
     for body in 0..program.program().bodies.len() {

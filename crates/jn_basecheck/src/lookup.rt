@@ -16,7 +16,8 @@ pub fn body_of(program: &Program, body: usize) -> &Body
 
 /// The point at a place of the body at a place.
 pub fn point_of(program: &Program, body: usize, point: usize) -> Option<&Point>
-    ensures { MatchOption result (spec.point_at program.now body point ≡ None) (λ p. spec.point_at program.now body point ≡ Some p.now) }
+    ensures { MatchOption result (spec.point_at program.now body point ≡ None)
+        (λ p. spec.point_at program.now body point ≡ Some p.now) }
 {
     match program.bodies.as_slice().get(body) {
         None => None,
@@ -45,7 +46,8 @@ pub fn base_in(body: &Body, reg: usize) -> BaseType
 }
 
 fn field_info(program: &Program, field: FieldNo) -> Option<&Field>
-    ensures { MatchOption result (spec.field_info program.now field.0 ≡ None) (λ f. spec.field_info program.now field.0 ≡ Some f.now) }
+    ensures { MatchOption result (spec.field_info program.now field.0 ≡ None)
+        (λ f. spec.field_info program.now field.0 ≡ Some f.now) }
 {
     program.fields.as_slice().get(field.0 as usize)
 }
@@ -92,7 +94,8 @@ pub fn params_of(program: &Program, method: MethodNo) -> &[BaseType]
 
 /// The method of the body at a place.
 pub fn method_in(program: &Program, body: usize) -> Option<&Method>
-    ensures { MatchOption result (spec.method_in program.now body ≡ None) (λ m. spec.method_in program.now body ≡ Some m.now) }
+    ensures { MatchOption result (spec.method_in program.now body ≡ None)
+        (λ m. spec.method_in program.now body ≡ Some m.now) }
 {
     match program.bodies.as_slice().get(body) {
         None => None,

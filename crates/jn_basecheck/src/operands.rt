@@ -16,7 +16,8 @@ pub struct Operands<'a> {
 }
 
 fn few<'a>(first: Option<Operand>, second: Option<Operand>, third: Option<Operand>) -> Operands<'a>
-    ensures { listed result ≡ spec.operand_if first ++ (spec.operand_if second ++ spec.operand_if third) }
+    ensures { listed result
+        ≡ spec.operand_if first ++ (spec.operand_if second ++ spec.operand_if third) }
 {
     Operands {
         first,

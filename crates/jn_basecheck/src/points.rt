@@ -35,7 +35,10 @@ fn push_two(
     left: Operand,
     right: Operand,
 ) -> Result<(), AllocError>
-    ensures { OnOk result (rows.new.items ≡ rows.old.items ++ (rules.operand_rows program.now body (meant want) left ++ rules.operand_rows program.now body (meant want) right)) }
+    ensures { OnOk result (rows.new.items
+        ≡ rows.old.items
+        ++ (rules.operand_rows program.now body (meant want) left
+        ++ rules.operand_rows program.now body (meant want) right)) }
 {
     push_operand(rows, program, body, want, left)?;
     push_operand(rows, program, body, want, right)
@@ -49,7 +52,11 @@ fn push_same(
     left: Operand,
     right: Operand,
 ) -> Result<(), AllocError>
-    ensures { OnOk result (rows.new.items ≡ rows.old.items ++ (rules.operand_rows program.now body rules.Primitive left ++ rules.operand_rows program.now body (rules.Same (spec.reg_base program.now body left.reg.0)) right)) }
+    ensures { OnOk result (rows.new.items
+        ≡ rows.old.items
+        ++ (rules.operand_rows program.now body rules.Primitive left
+        ++ rules.operand_rows program.now body
+        (rules.Same (spec.reg_base program.now body left.reg.0)) right)) }
 {
     push_operand(rows, program, body, Want::Primitive, left)?;
     let same = Want::Same(reg_base(program.program(), body, left.reg));
@@ -64,7 +71,8 @@ fn push_binary(
     left: Operand,
     right: Operand,
 ) -> Result<(), AllocError>
-    ensures { OnOk result (rows.new.items ≡ rows.old.items ++ rules.binary_rows program.now body operator left right) }
+    ensures { OnOk result (rows.new.items
+        ≡ rows.old.items ++ rules.binary_rows program.now body operator left right) }
 {
     match operator {
         Operator::Equal => push_same(rows, program, body, left, right),
@@ -88,7 +96,11 @@ fn push_object(
     field: FieldNo,
     object: Operand,
 ) -> Result<(), AllocError>
-    ensures { OnOk result (rows.new.items ≡ rows.old.items ++ rules.operand_rows program.now body (rules.Within (BaseType.Ref (record { 0 = spec.owner program.now field.0 }))) object) }
+    ensures { OnOk result (rows.new.items
+        ≡ rows.old.items
+        ++ rules.operand_rows program.now body
+        (rules.Within (BaseType.Ref (record { 0 = spec.owner program.now field.0 })))
+        object) }
 {
     let class = owner(program.program(), field);
     push_operand(
@@ -108,7 +120,10 @@ fn push_given(
     field: FieldNo,
     value: Operand,
 ) -> Result<(), AllocError>
-    ensures { OnOk result (rows.new.items ≡ rows.old.items ++ rules.operand_rows program.now body (rules.Within (spec.field_base program.now field.0)) value) }
+    ensures { OnOk result (rows.new.items
+        ≡ rows.old.items
+        ++ rules.operand_rows program.now body
+        (rules.Within (spec.field_base program.now field.0)) value) }
 {
     let base = field_base(program.program(), field);
     push_operand(rows, program, body, Want::Within(base), value)
@@ -122,7 +137,10 @@ fn push_element(
     array: Operand,
     index: Operand,
 ) -> Result<(), AllocError>
-    ensures { OnOk result (rows.new.items ≡ rows.old.items ++ (rules.operand_rows program.now body rules.Elements array ++ rules.operand_rows program.now body (rules.Within BaseType.Int) index)) }
+    ensures { OnOk result (rows.new.items
+        ≡ rows.old.items
+        ++ (rules.operand_rows program.now body rules.Elements array
+        ++ rules.operand_rows program.now body (rules.Within BaseType.Int) index)) }
 {
     push_operand(rows, program, body, Want::Elements, array)?;
     push_operand(rows, program, body, Want::Within(BaseType::Int), index)
@@ -136,7 +154,12 @@ fn push_receiver(
     method: MethodNo,
     receiver: Option<Operand>,
 ) -> Result<(), AllocError>
-    ensures { OnOk result (rows.new.items ≡ rows.old.items ++ rules.optional_rows program.now body (rules.Within (BaseType.Ref (record { 0 = spec.class_of (spec.method_at program.now method.0) }))) receiver) }
+    ensures { OnOk result (rows.new.items
+        ≡ rows.old.items
+        ++ rules.optional_rows program.now body
+        (rules.Within (BaseType.Ref
+        (record { 0 = spec.class_of (spec.method_at program.now method.0) })))
+        receiver) }
 {
     let class = class_of(program.program(), method);
     push_optional(
@@ -159,7 +182,8 @@ pub fn push_types(
     body: usize,
     kind: &PointKind,
 ) -> Result<(), AllocError>
-    ensures { OnOk result (rows.new.items ≡ rows.old.items ++ rules.type_rows program.now body kind.now) }
+    ensures { OnOk result
+        (rows.new.items ≡ rows.old.items ++ rules.type_rows program.now body kind.now) }
 {
     match kind {
         PointKind::Move { dst, from, .. } => {
@@ -260,7 +284,8 @@ fn push_types_at(
     body: usize,
     at: usize,
 ) -> Result<(), AllocError>
-    ensures { OnOk result (rows_of.Adds (rows_of.TypeRowAt program.now body at) rows.old.items rows.new.items) }
+    ensures { OnOk result
+        (rows_of.Adds (rows_of.TypeRowAt program.now body at) rows.old.items rows.new.items) }
 {
     match point_of(program.program(), body, at) {
         None => Ok(()),
@@ -278,7 +303,8 @@ pub fn push_body_types(
     body: usize,
 ) -> Result<(), AllocError>
     requires { body < length program.now.bodies }
-    ensures { OnOk result (rows_of.Adds (rows_of.TypeRows program.now body) rows.old.items rows.new.items) }
+    ensures { OnOk result
+        (rows_of.Adds (rows_of.TypeRows program.now body) rows.old.items rows.new.items) }
 {
     for at in 0..body_of(program.program(), body).points.len() {
         push_types_at(rows, program, body, at)?;

@@ -16,7 +16,8 @@ use jn_points::{Operand, PointKind, Program};
 use std::alloc::AllocError;
 
 fn push_missing(rows: &mut Vec<Row>, span: Span) -> Result<(), AllocError>
-    ensures { OnOk result (rows.new.items ≡ rows.old.items ++ (record { span = span; code = J9 } ∷ [])) }
+    ensures { OnOk result
+        (rows.new.items ≡ rows.old.items ++ (record { span = span; code = J9 } ∷ [])) }
 {
     rows.push(Row {
         span,
@@ -27,7 +28,10 @@ fn push_missing(rows: &mut Vec<Row>, span: Span) -> Result<(), AllocError>
 
 /// The row at the name of the body's method.
 fn push_name(rows: &mut Vec<Row>, program: &Program, body: usize) -> Result<(), AllocError>
-    ensures { OnOk result (rows.new.items ≡ rows.old.items ++ rules.rows_with program.now J9 (rules.name_of program.now (spec.method_in program.now body))) }
+    ensures { OnOk result (rows.new.items
+        ≡ rows.old.items
+        ++ rules.rows_with program.now J9
+        (rules.name_of program.now (spec.method_in program.now body))) }
 {
     match method_in(program, body) {
         None => Ok(()),
@@ -41,7 +45,8 @@ fn push_value(
     body: usize,
     value: Option<Operand>,
 ) -> Result<(), AllocError>
-    ensures { OnOk result (rows.new.items ≡ rows.old.items ++ rules.result_rows program.now body (PointKind.Return value)) }
+    ensures { OnOk result (rows.new.items
+        ≡ rows.old.items ++ rules.result_rows program.now body (PointKind.Return value)) }
 {
     let without = is_void(result_base(program, body));
     match value {
@@ -68,7 +73,8 @@ fn push_result(
     body: usize,
     kind: &PointKind,
 ) -> Result<(), AllocError>
-    ensures { OnOk result (rows.new.items ≡ rows.old.items ++ rules.result_rows program.now body kind.now) }
+    ensures { OnOk result
+        (rows.new.items ≡ rows.old.items ++ rules.result_rows program.now body kind.now) }
 {
     match kind {
         PointKind::Return { value } => push_value(rows, program, body, *value),
@@ -85,8 +91,10 @@ fn push_result_at(
     is_reached: bool,
 ) -> Result<(), AllocError>
     requires reached { is_reached ≡ true → Reached program.now body at }
-    requires missed { Reached program.now body at → at < length (spec.points_of (spec.body_at program.now body)) → is_reached ≡ true }
-    ensures { OnOk result (rows_of.Adds (rows_of.ResultRowAt program.now body at) rows.old.items rows.new.items) }
+    requires missed { Reached program.now body at
+        → at < length (spec.points_of (spec.body_at program.now body)) → is_reached ≡ true }
+    ensures { OnOk result
+        (rows_of.Adds (rows_of.ResultRowAt program.now body at) rows.old.items rows.new.items) }
 {
     if !is_reached {
         return Ok(());
@@ -110,7 +118,8 @@ pub fn push_results(
 ) -> Result<(), AllocError>
     requires inside { body < length program.now.bodies }
     requires tells { TellsLacking program.now body unwritten.now }
-    ensures { OnOk result (rows_of.Adds (rows_of.ResultRows program.now body) rows.old.items rows.new.items) }
+    ensures { OnOk result
+        (rows_of.Adds (rows_of.ResultRows program.now body) rows.old.items rows.new.items) }
 {
     for at in 0..body_of(program, body).points.len() {
         push_result_at(rows, program, body, at, unwritten.is_reached(at))?;

@@ -178,7 +178,8 @@ pub fn push_operand(
     want: Want,
     operand: Operand,
 ) -> Result<(), AllocError>
-    ensures { OnOk result (rows.new.items ≡ rows.old.items ++ rules.operand_rows program.now body (meant want) operand) }
+    ensures { OnOk result (rows.new.items
+        ≡ rows.old.items ++ rules.operand_rows program.now body (meant want) operand) }
 {
     let base = reg_base(program.program(), body, operand.reg);
     if !suits(program, want, base) {
@@ -201,7 +202,8 @@ pub fn push_all(
     want: Want,
     operands: &[Operand],
 ) -> Result<(), AllocError>
-    ensures { OnOk result (rows.new.items ≡ rows.old.items ++ rules.all_rows program.now body (meant want) operands.now) }
+    ensures { OnOk result (rows.new.items
+        ≡ rows.old.items ++ rules.all_rows program.now body (meant want) operands.now) }
 {
     for operand in operands {
         push_operand(rows, program, body, want, *operand)?;
@@ -220,7 +222,8 @@ pub fn push_arguments(
     params: &[BaseType],
     arguments: &[Operand],
 ) -> Result<(), AllocError>
-    ensures { OnOk result (rows.new.items ≡ rows.old.items ++ rules.argument_rows program.now body params.now arguments.now) }
+    ensures { OnOk result (rows.new.items
+        ≡ rows.old.items ++ rules.argument_rows program.now body params.now arguments.now) }
 {
     for (param, argument) in params.iter().zip(arguments) {
         push_operand(rows, program, body, Want::Within(*param), *argument)?;
@@ -239,7 +242,8 @@ pub fn push_optional(
     want: Want,
     operand: Option<Operand>,
 ) -> Result<(), AllocError>
-    ensures { OnOk result (rows.new.items ≡ rows.old.items ++ rules.optional_rows program.now body (meant want) operand) }
+    ensures { OnOk result (rows.new.items
+        ≡ rows.old.items ++ rules.optional_rows program.now body (meant want) operand) }
 {
     match operand {
         None => Ok(()),

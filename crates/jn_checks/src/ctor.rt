@@ -25,7 +25,10 @@ pub fn push_ctor(
 ) -> Result<(), AllocError>
     requires body { body_at analysis.now.program analysis.now.body ≡ Some info.now }
     requires long { length slots.now ≡ length info.now.points }
-    ensures { OnOk result (rows.new.items ≡ rows.old.items ++ ctor_rows analysis.now.program analysis.now.sig analysis.now.body (method_of_body analysis.now.program (Some info.now)) slots.now) }
+    ensures { OnOk result (rows.new.items
+        ≡ rows.old.items
+        ++ ctor_rows analysis.now.program analysis.now.sig analysis.now.body
+        (method_of_body analysis.now.program (Some info.now)) slots.now) }
 {
     match analysis
         .program()
@@ -45,7 +48,10 @@ pub fn push_ctor(
 
 fn leaves_unset(analysis: &Analysis, is_ctor: bool, points: &[Point], slots: &[Option<Env>]) -> bool
     requires long { length slots.now ≡ length points.now }
-    ensures { result ≡ (is_ctor && unset_from analysis.now.program analysis.now.sig analysis.now.body points.now 0 slots.now) }
+    ensures { result
+        ≡ (is_ctor
+        && unset_from analysis.now.program analysis.now.sig analysis.now.body points.now 0
+        slots.now) }
 {
     is_ctor && is_unset_at_end(analysis, points, slots)
 }
@@ -53,7 +59,9 @@ fn leaves_unset(analysis: &Analysis, is_ctor: bool, points: &[Point], slots: &[O
 /// Whether at some reached Return a field is not assigned.
 fn is_unset_at_end(analysis: &Analysis, points: &[Point], slots: &[Option<Env>]) -> bool
     requires long { length slots.now ≡ length points.now }
-    ensures { result ≡ unset_from analysis.now.program analysis.now.sig analysis.now.body points.now 0 slots.now }
+    ensures { result
+        ≡ unset_from analysis.now.program analysis.now.sig analysis.now.body points.now 0
+        slots.now }
 {
     let mut unset = false;
     for at in 0..points.len() {
@@ -63,7 +71,8 @@ fn is_unset_at_end(analysis: &Analysis, points: &[Point], slots: &[Option<Env>])
 }
 
 fn is_unset_at(analysis: &Analysis, kind: &PointKind, slot: &Option<Env>) -> bool
-    ensures { result ≡ unset_at analysis.now.program analysis.now.sig analysis.now.body kind.now slot.now }
+    ensures { result
+        ≡ unset_at analysis.now.program analysis.now.sig analysis.now.body kind.now slot.now }
 {
     match kind {
         PointKind::Return { .. } => match slot {
@@ -88,7 +97,9 @@ fn is_unset(analysis: &Analysis, env: &Env) -> bool
 
 /// Whether the field's slot has no null, and it is not assigned.
 fn lacks_value(analysis: &Analysis, own: &[u32], env: &Env, field: u32) -> bool
-    ensures { result ≡ (not (field_qual analysis.now.program analysis.now.sig field).null && not (is_on (λ k. eqb k field) own.now env.now.assigned)) }
+    ensures { result
+        ≡ (not (field_qual analysis.now.program analysis.now.sig field).null
+        && not (is_on (λ k. eqb k field) own.now env.now.assigned)) }
 {
     !field_qual(analysis.program(), analysis.sig(), field).has_null()
         && !env.is_assigned(own, field)

@@ -41,7 +41,8 @@ pub fn push_rows(
     point: &Point,
     slot: &Option<Env>,
 ) -> Result<(), AllocError>
-    ensures { OnOk result (rows.new.items ≡ rows.old.items ++ rows_at program.now sig.now body.0 point.now slot.now) }
+    ensures { OnOk result
+        (rows.new.items ≡ rows.old.items ++ rows_at program.now sig.now body.0 point.now slot.now) }
 {
     match slot {
         None => Ok(()),
@@ -61,7 +62,9 @@ fn push_kind(
     env: &Env,
     point: &Point,
 ) -> Result<(), AllocError>
-    ensures { OnOk result (rows.new.items ≡ rows.old.items ++ kind_rows program.now sig.now body.0 env.now point.now.span point.now.kind) }
+    ensures { OnOk result (rows.new.items
+        ≡ rows.old.items
+        ++ kind_rows program.now sig.now body.0 env.now point.now.span point.now.kind) }
 {
     match &point.kind {
         PointKind::Move { from, bound, .. } => push_bound(rows, env, *from, *bound),
@@ -105,7 +108,12 @@ fn push_call(
     receiver: Option<Operand>,
     args: &[Operand],
 ) -> Result<(), AllocError>
-    ensures { OnOk result (rows.new.items ≡ rows.old.items ++ arg_rows env.now (slot_quals sig.now (slots_of (method_at program.now method.0))) args.now ++ receiver_rows env.now receiver (receiver_of sig.now (method_at program.now method.0))) }
+    ensures { OnOk result (rows.new.items
+        ≡ rows.old.items
+        ++ arg_rows env.now (slot_quals sig.now (slots_of (method_at program.now method.0)))
+        args.now
+        ++ receiver_rows env.now receiver
+        (receiver_of sig.now (method_at program.now method.0))) }
 {
     push_call_args(rows, program, sig, env, method, args)?;
     push_receiver(rows, program, sig, env, receiver, method)

@@ -42,7 +42,8 @@ fn least(left: usize, right: usize) -> usize
 
 /// Whether a parameter of the overridden method takes what the overrider's doesn't.
 fn some_outside(sig: &Sig, under: &[Option<SlotNo>], over: &[Option<SlotNo>]) -> bool
-    ensures { result ≡ spec.some_outside (slot_quals sig.now under.now) (slot_quals sig.now over.now) }
+    ensures { result
+        ≡ spec.some_outside (slot_quals sig.now under.now) (slot_quals sig.now over.now) }
 {
     let mut some = false;
     for i in 0..least(under.len(), over.len()) {
@@ -61,7 +62,8 @@ fn push_override(
     over: &Method,
     under: &Method,
 ) -> Result<(), AllocError>
-    ensures { OnOk result (rows.new.items ≡ rows.old.items ++ spec.override_rows sig.now (Some over.now) (Some under.now)) }
+    ensures { OnOk result (rows.new.items
+        ≡ rows.old.items ++ spec.override_rows sig.now (Some over.now) (Some under.now)) }
 {
     let params = some_outside(
         sig,
@@ -91,7 +93,8 @@ fn push_pair(
     k: MethodNo,
 ) -> Result<(), AllocError>
     requires few { length program.now.classes < 2 ^ 32 }
-    ensures { OnOk result (rows.new.items ≡ rows.old.items ++ spec.pair_rows program.now sig.now m.0 k.0) }
+    ensures { OnOk result
+        (rows.new.items ≡ rows.old.items ++ spec.pair_rows program.now sig.now m.0 k.0) }
 {
     match method_at(program, m.0 as usize) {
         None => Ok(()),
@@ -118,7 +121,10 @@ fn push_overrider(
 ) -> Result<(), AllocError>
     requires few { length program.now.classes < 2 ^ 32 }
     requires methods { length program.now.methods < 2 ^ 32 }
-    ensures { OnOk result (rows.new.items ≡ rows.old.items ++ flat_map (spec.pair_rows program.now sig.now m.0) (below (length program.now.methods))) }
+    ensures { OnOk result (rows.new.items
+        ≡ rows.old.items
+        ++ flat_map (spec.pair_rows program.now sig.now m.0)
+        (below (length program.now.methods))) }
 {
     for k in 0..program.methods.len() {
         push_pair(rows, program, sig, m, MethodNo(k as u32))?;
@@ -138,7 +144,8 @@ fn push_found(
 ) -> Result<(), AllocError>
     requires there { method_at program.now m ≡ Some over.now }
     requires pair { is_pair program.now m k ≡ true }
-    ensures { OnOk result (rows.new.items ≡ rows.old.items ++ spec.pair_rows program.now sig.now m k) }
+    ensures { OnOk result
+        (rows.new.items ≡ rows.old.items ++ spec.pair_rows program.now sig.now m k) }
 {
     match method_at(program, k as usize) {
         None => Ok(()),
@@ -156,8 +163,10 @@ fn push_some(
     ks: &[u32],
 ) -> Result<(), AllocError>
     requires there { method_at program.now m ≡ Some over.now }
-    requires pairs { (i : ℕ) → i < length ks.now → is_pair program.now m (slice_index ks.now i) ≡ true }
-    ensures { OnOk result (rows.new.items ≡ rows.old.items ++ flat_map (spec.pair_rows program.now sig.now m) ks.now) }
+    requires pairs { (i : ℕ) → i < length ks.now
+        → is_pair program.now m (slice_index ks.now i) ≡ true }
+    ensures { OnOk result (rows.new.items
+        ≡ rows.old.items ++ flat_map (spec.pair_rows program.now sig.now m) ks.now) }
 {
     for k in ks {
         push_found(rows, program, sig, m, over, *k)?;
@@ -178,7 +187,10 @@ fn push_all_found(
 ) -> Result<(), AllocError>
     requires is { IsIndex program.now index.now }
     requires there { method_at program.now m ≡ Some over.now }
-    ensures { OnOk result (rows.new.items ≡ rows.old.items ++ flat_map (spec.pair_rows program.now sig.now m) (below (length program.now.methods))) }
+    ensures { OnOk result (rows.new.items
+        ≡ rows.old.items
+        ++ flat_map (spec.pair_rows program.now sig.now m)
+        (below (length program.now.methods))) }
 {
     let pairs = overridden(alloc, program, index, m, over)?;
     push_some(rows, program, sig, m, over, pairs.as_slice())

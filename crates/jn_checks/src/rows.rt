@@ -44,8 +44,10 @@ pub fn checks_by(
     table: &FlowTable,
 ) -> Result<Vec<Row>, OutOfMemory>
     requires inside { analysis.now.body < length analysis.now.program.bodies }
-    requires long { length table.now ≡ length (points_of (body_at analysis.now.program analysis.now.body)) }
-    ensures { IfOk result (λ rows. rows.items ≡ body_rows analysis.now.program analysis.now.sig analysis.now.body table.now) }
+    requires long { length table.now
+        ≡ length (points_of (body_at analysis.now.program analysis.now.body)) }
+    ensures { IfOk result (λ rows.
+        rows.items ≡ body_rows analysis.now.program analysis.now.sig analysis.now.body table.now) }
 {
     let info = &analysis.program().bodies.as_slice()[analysis.body().0 as usize];
     let mut rows = Vec::new(alloc);
@@ -70,7 +72,8 @@ fn push_points(
     slots: &[Option<Env>],
 ) -> Result<(), AllocError>
     requires { length slots.now ≡ length points.now }
-    ensures { OnOk result (rows.new.items ≡ rows.old.items ++ rows_from program.now sig.now body.0 points.now 0 slots.now) }
+    ensures { OnOk result (rows.new.items
+        ≡ rows.old.items ++ rows_from program.now sig.now body.0 points.now 0 slots.now) }
 {
     for at in 0..points.len() {
         push_rows(rows, program, sig, body, &points[at], &slots[at])?;

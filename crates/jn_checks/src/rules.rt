@@ -45,7 +45,8 @@ fn push_pass(
     code: Code,
     init: Code,
 ) -> Result<(), AllocError>
-    ensures { OnOk result (rows.new.items ≡ rows.old.items ++ pass_rows code init env.now value slot) }
+    ensures { OnOk result
+        (rows.new.items ≡ rows.old.items ++ pass_rows code init env.now value slot) }
 {
     let qual = env.qual(value.reg);
     push_if(rows, lacks_null(qual, slot), value.span, code)?;
@@ -92,7 +93,8 @@ pub fn push_write(
     field: FieldNo,
     value: Operand,
 ) -> Result<(), AllocError>
-    ensures { OnOk result (rows.new.items ≡ rows.old.items ++ write_rows program.now sig.now env.now object field.0 value) }
+    ensures { OnOk result (rows.new.items
+        ≡ rows.old.items ++ write_rows program.now sig.now env.now object field.0 value) }
 {
     let qual = env.qual(value.reg);
     let slot = field_qual(program, sig, field.0);
@@ -172,7 +174,10 @@ pub fn push_call_args(
     method: MethodNo,
     args: &[Operand],
 ) -> Result<(), AllocError>
-    ensures { OnOk result (rows.new.items ≡ rows.old.items ++ arg_rows env.now (slot_quals sig.now (slots_of (method_at program.now method.0))) args.now) }
+    ensures { OnOk result (rows.new.items
+        ≡ rows.old.items
+        ++ arg_rows env.now (slot_quals sig.now (slots_of (method_at program.now method.0)))
+        args.now) }
 {
     match program.methods.as_slice().get(method.0 as usize) {
         None => Ok(()),
@@ -187,7 +192,8 @@ fn push_args(
     slots: &[Option<SlotNo>],
     args: &[Operand],
 ) -> Result<(), AllocError>
-    ensures { OnOk result (rows.new.items ≡ rows.old.items ++ arg_rows env.now (slot_quals sig.now slots.now) args.now) }
+    ensures { OnOk result (rows.new.items
+        ≡ rows.old.items ++ arg_rows env.now (slot_quals sig.now slots.now) args.now) }
 {
     for i in 0..least(slots.len(), args.len()) {
         push_pass(
@@ -219,7 +225,10 @@ pub fn push_receiver(
     receiver: Option<Operand>,
     method: MethodNo,
 ) -> Result<(), AllocError>
-    ensures { OnOk result (rows.new.items ≡ rows.old.items ++ receiver_rows env.now receiver (receiver_of sig.now (method_at program.now method.0))) }
+    ensures { OnOk result (rows.new.items
+        ≡ rows.old.items
+        ++ receiver_rows env.now receiver
+        (receiver_of sig.now (method_at program.now method.0))) }
 {
     match receiver {
         None => Ok(()),
@@ -275,7 +284,9 @@ pub fn push_return(
     env: &Env,
     value: Option<Operand>,
 ) -> Result<(), AllocError>
-    ensures { OnOk result (rows.new.items ≡ rows.old.items ++ return_rows env.now value (result_of sig.now (method_in program.now body.0))) }
+    ensures { OnOk result (rows.new.items
+        ≡ rows.old.items
+        ++ return_rows env.now value (result_of sig.now (method_in program.now body.0))) }
 {
     match value {
         None => Ok(()),

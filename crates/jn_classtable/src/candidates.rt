@@ -17,7 +17,8 @@ fn push_all(classes: &mut Seq<u32>, more: &[u32]) -> Result<(), AllocError>
 }
 
 fn push_walks(index: &Members, classes: &mut Seq<u32>, users: &[u32]) -> Result<(), AllocError>
-    ensures { OnOk result (classes.new ≡ classes.old ++ flat_map (list_at index.now.walks) users.now) }
+    ensures { OnOk result
+        (classes.new ≡ classes.old ++ flat_map (list_at index.now.walks) users.now) }
 {
     for class in users {
         push_all(classes, index.walk(*class))?;

@@ -90,7 +90,9 @@ impl ClassTable {
         ensures fields { length (table self.now).fields < 2 ^ 32 }
         ensures methods { length (table self.now).methods < 2 ^ 32 }
         ensures parameters { ParamsFit (table self.now) }
-        ensures regular { (bodies : List BodyOf) → length bodies ≡ bodies_of_all (all_heads self.now) → RegularTable (program_with self.now bodies) (called self.now) }
+        ensures regular { (bodies : List BodyOf)
+            → length bodies ≡ bodies_of_all (all_heads self.now)
+            → RegularTable (program_with self.now bodies) (called self.now) }
     {
         let _program = &self.program;
     }

@@ -46,7 +46,8 @@ fn push_entry(
     class: u32,
     k: u32,
 ) -> Result<(), AllocError>
-    ensures { OnOk result (entries.new ≡ entries.old ++ spec.owner_entry count class (field_info program.now k)) }
+    ensures { OnOk result
+        (entries.new ≡ entries.old ++ spec.owner_entry count class (field_info program.now k)) }
 {
     match field_at(program, k as usize) {
         None => Ok(()),
@@ -70,7 +71,8 @@ fn own_entries(
     class: u32,
     fields: &[u32],
 ) -> Result<Seq<Entry>, AllocError>
-    ensures { IfOk result (λ entries. entries ≡ spec.owner_entries program.now count class fields.now) }
+    ensures { IfOk result
+        (λ entries. entries ≡ spec.owner_entries program.now count class fields.now) }
 {
     let mut entries = Seq::new(alloc);
     for k in fields {
@@ -88,7 +90,9 @@ fn all_entries(
     count: usize,
 ) -> Result<Vec<Seq<Entry>>, AllocError>
     requires { length program.now.classes < 2 ^ 32 }
-    ensures { IfOk result (λ all. IsListed (length program.now.classes) (λ d. spec.owner_entries program.now count d (numbers.list_at index.now.own_fields d)) all.items) }
+    ensures { IfOk result (λ all. IsListed (length program.now.classes)
+        (λ d. spec.owner_entries program.now count d (numbers.list_at index.now.own_fields d))
+        all.items) }
 {
     let mut all = Vec::new(alloc);
     for place in 0..program.classes.len() {
@@ -110,7 +114,8 @@ pub fn find_owners(
 ) -> Result<Option<Owners>, AllocError>
     requires { IsIndex program.now index.now }
     ensures is { IfOk result (λ o. IfSome o (λ w. spec.AreOwners program.now w.count w.tables)) }
-    ensures none { IfOk result (λ o. MatchOption o (RegularClasses program.now → ⊥) (λ w. Unit {0})) }
+    ensures none { IfOk result
+        (λ o. MatchOption o (RegularClasses program.now → ⊥) (λ w. Unit {0})) }
 {
     let count = name_count(program.fields.as_slice());
     let order = find_order(alloc, program)?;
@@ -142,7 +147,8 @@ pub fn hides_above(program: &Program, owners: &Owners, field: &Field, class: &Cl
     requires are { spec.AreOwners program.now owners.now.count owners.now.tables }
     requires at { class_info program.now field.now.owner.0 ≡ Some class.now }
     ensures is { IfSome result (λ hides. hides ≡ is_hiding program.now field.now) }
-    ensures none { MatchOption result (spec.Untold program.now owners.now.count field.now class.now) (λ hides. Unit {0}) }
+    ensures none { MatchOption result (spec.Untold program.now owners.now.count field.now class.now)
+        (λ hides. Unit {0}) }
 {
     let name = field.name.0;
     if name as usize >= owners.count {

@@ -34,7 +34,8 @@ pub struct Usage;
 /// The command that the words after the program's name give. `Usage` comes exactly where `is_usage` says so.
 pub fn read_words(alloc: Global, words: &[String]) -> Result<Command, Fail<Usage>>
     ensures taken { IfOk result (λ c. spec.is_usage (map string_bytes words.now) ≡ false) }
-    ensures ok { IfOk result (λ c. c ≡ spec.command_of (spec.options_of (map string_bytes words.now))) }
+    ensures ok { IfOk result
+        (λ c. c ≡ spec.command_of (spec.options_of (map string_bytes words.now))) }
     ensures usage { IfRefused result (spec.is_usage (map string_bytes words.now) ≡ true) }
     // The numbers are those that their options take, or the defaults.
     ensures workers { IfOk result (λ c. (1 ≤ c.workers) × (c.workers ≤ 16)) }
@@ -90,13 +91,15 @@ fn pieces(alloc: Global, text: &str) -> Result<Seq<Text>, AllocError>
 }
 
 fn split<'a>(alloc: Global, text: &'a str) -> Result<Vec<&'a str>, AllocError>
-    ensures { IfOk result (λ v. map (λ x. x.now) v.items ≡ slice_split (λ byte. byte == 32) text.entry.now) }
+    ensures { IfOk result
+        (λ v. map (λ x. x.now) v.items ≡ slice_split (λ byte. byte == 32) text.entry.now) }
 {
     text.split(' ').collect(alloc)
 }
 
 fn kept(alloc: Global, pieces: &[&str]) -> Result<Seq<Text>, AllocError>
-    ensures { IfOk result (λ ts. ts ≡ filter (λ piece. not (spec.is_empty piece)) (map (λ x. x.now) pieces.now)) }
+    ensures { IfOk result
+        (λ ts. ts ≡ filter (λ piece. not (spec.is_empty piece)) (map (λ x. x.now) pieces.now)) }
 {
     let mut kept = Seq::new(alloc);
     for piece in pieces {

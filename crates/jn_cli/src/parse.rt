@@ -28,7 +28,8 @@ pub fn read_options(alloc: Global, words: &[String]) -> Result<Options, Fail<Usa
 
 fn read_matches<'a>(alloc: Global, words: &'a [String]) -> Result<ArgMatches<'a>, Fail<Usage>>
     ensures taken { IfOk result (λ m. spec.takes_words (map string_bytes words.entry.now) ≡ true) }
-    ensures ok { IfOk result (λ m. rows_of (found_of m) ≡ matches_of spec.nullcheck_app (map string_bytes words.entry.now)) }
+    ensures ok { IfOk result (λ m.
+        rows_of (found_of m) ≡ matches_of spec.nullcheck_app (map string_bytes words.entry.now)) }
     ensures usage { IfRefused result (spec.takes_words (map string_bytes words.entry.now) ≡ false) }
 {
     let command = match command(alloc) {
@@ -113,7 +114,8 @@ fn is_on(matches: &ArgMatches, id: &str) -> bool
 }
 
 fn texts_of(alloc: Global, matches: &ArgMatches, id: &str) -> Result<Seq<Text>, AllocError>
-    ensures { IfOk result (λ ts. ts ≡ unwrap_or (all_of id.now (rows_of (found_of matches.now))) []) }
+    ensures { IfOk result
+        (λ ts. ts ≡ unwrap_or (all_of id.now (rows_of (found_of matches.now))) []) }
 {
     match matches.get_strs(id) {
         None => Ok(Seq::new(alloc)),

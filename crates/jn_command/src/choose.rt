@@ -41,7 +41,12 @@ impl Reporter for Chosen {
 
 /// The first reporter of the list that has the name.
 pub fn choose(reporters: Vec<Box<dyn Reporter>>, name: &str) -> Option<Chosen>
-    ensures { first_named name.now (map (λ b. record { title = title b; rows = rows b; shown = shown b }) reporters.items) ≡ option_map (λ a. record { title = title a.reporter; rows = rows a.reporter; shown = shown a.reporter }) result }
+    ensures { first_named name.now
+        (map (λ b. record { title = title b; rows = rows b; shown = shown b }) reporters.items)
+        ≡ option_map
+        (λ a. record
+        { title = title a.reporter; rows = rows a.reporter; shown = shown a.reporter })
+        result }
 {
     for reporter in reporters {
         if reporter.name() == name {

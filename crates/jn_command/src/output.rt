@@ -16,7 +16,8 @@ pub struct Output {
 
 /// Writes the bytes, and gives the status behind them.
 pub fn finish<K: Sink>(out: &mut K, bytes: &[u8], status: Status) -> Status
-    ensures { Finished (K.written out.old) (K.written out.new) bytes.now status (K.faults out.old) (K.faults out.new) result }
+    ensures { Finished (K.written out.old) (K.written out.new) bytes.now status (K.faults out.old)
+        (K.faults out.new) result }
 {
     match write_whole(out, bytes) {
         Ok(()) => status,
@@ -26,7 +27,11 @@ pub fn finish<K: Sink>(out: &mut K, bytes: &[u8], status: Status) -> Status
 
 /// Writes an output that was made, or answers that no memory was found for it.
 pub fn write<K: Sink>(made: Result<Output, OutOfMemory>, out: &mut K) -> Status
-    ensures { IfMade made (λ status bytes. Finished (K.written out.old) (K.written out.new) bytes status (K.faults out.old) (K.faults out.new) result) ((result ≡ Status.OutOfMemory) × (K.written out.new ≡ K.written out.old) × (K.faults out.new ≡ K.faults out.old)) }
+    ensures { IfMade made
+        (λ status bytes. Finished (K.written out.old) (K.written out.new) bytes status
+        (K.faults out.old) (K.faults out.new) result)
+        ((result ≡ Status.OutOfMemory) × (K.written out.new ≡ K.written out.old)
+        × (K.faults out.new ≡ K.faults out.old)) }
 {
     match made {
         Err(_) => Status::OutOfMemory,

@@ -27,7 +27,9 @@ pub struct Place {
 
 /// The place, or the beginning of the file where it is of another one.
 fn place_in(place: Place, file: usize) -> Place
-    ensures { ((result ≡ place) × (place.file ≡ file)) ⊎ (result ≡ record { file = file; position = record { before = 0; line = 1; column = 1 } }) }
+    ensures { ((result ≡ place) × (place.file ≡ file))
+        ⊎ (result
+        ≡ record { file = file; position = record { before = 0; line = 1; column = 1 } }) }
 {
     if place.file == file {
         place
@@ -48,7 +50,8 @@ fn row_in(
 ) -> Result<RowText, OutOfMemory>
     requires fits { length read.now.file.bytes ≤ 1048576 }
     requires is { IsPosition read.now.file.bytes position.old }
-    ensures shown { IfOk result (λ t. t ≡ row_shown read.now.file.name read.now.file.bytes row.now) }
+    ensures shown { IfOk result
+        (λ t. t ≡ row_shown read.now.file.name read.now.file.bytes row.now) }
     ensures is { IsPosition read.now.file.bytes position.new }
 {
     let text = read.file.bytes.as_slice();
@@ -100,7 +103,8 @@ pub fn show<P: Reporter>(
     reporter: P,
 ) -> Result<P, OutOfMemory>
     requires fit { ReadsFit reads.now }
-    ensures rows { IfOk result (λ shower. P.rows shower ≡ P.rows reporter ++ map (row_of (files_of_reads reads.now)) (rows_of report.now)) }
+    ensures rows { IfOk result (λ shower. P.rows shower
+        ≡ P.rows reporter ++ map (row_of (files_of_reads reads.now)) (rows_of report.now)) }
     ensures verdict { IfOk result (λ shower. P.given shower ≡ Some (verdict_of report.now)) }
     ensures shown { IfOk result (λ shower. P.shown shower ≡ P.shown reporter) }
 {
@@ -119,7 +123,8 @@ pub fn show<P: Reporter>(
 
 /// Hands the report of more files than there may be to a reporter; this is the name of the first that is too many.
 pub fn show_number<P: Reporter>(alloc: Global, name: &str, reporter: P) -> Result<P, OutOfMemory>
-    ensures rows { IfOk result (λ shower. P.rows shower ≡ P.rows reporter ++ row_shown name.now [] (row_at 64 B1) ∷ []) }
+    ensures rows { IfOk result
+        (λ shower. P.rows shower ≡ P.rows reporter ++ row_shown name.now [] (row_at 64 B1) ∷ []) }
     ensures verdict { IfOk result (λ shower. P.given shower ≡ Some (Verdict.Refused 1)) }
     ensures shown { IfOk result (λ shower. P.shown shower ≡ P.shown reporter) }
 {

@@ -27,7 +27,8 @@ pub fn contrib(
 ) -> Result<Vec<(SlotNo, Qual)>, OutOfMemory>
     requires inside { body.0 < length program.now.bodies }
     requires few { length program.now.fields < 2 ^ 32 }
-    ensures { IfOk result (λ sends. slot_numbers sends.items ≡ body_sends program.now body.0 table.now) }
+    ensures { IfOk result
+        (λ sends. slot_numbers sends.items ≡ body_sends program.now body.0 table.now) }
 {
     let keys = find_keys(alloc, program, body)?;
     contrib_by(alloc, program, &keys, body, table)
@@ -46,7 +47,8 @@ pub fn contrib_by(
 ) -> Result<Vec<(SlotNo, Qual)>, OutOfMemory>
     requires inside { body.0 < length program.now.bodies }
     requires keys { AreKeys program.now body.0 keys.now }
-    ensures { IfOk result (λ sends. slot_numbers sends.items ≡ body_sends program.now body.0 table.now) }
+    ensures { IfOk result
+        (λ sends. slot_numbers sends.items ≡ body_sends program.now body.0 table.now) }
 {
     let info = &program.bodies.as_slice()[body.0 as usize];
     let points = info.points.as_slice();
@@ -64,7 +66,8 @@ fn all_sends(
     slots: &[Option<Env>],
 ) -> Result<Vec<Send>, AllocError>
     requires { own.now ≡ own_keys program.now body.0 }
-    ensures { IfOk result (λ list. list.items ≡ sends_from program.now body.0 points.now 0 slots.now) }
+    ensures { IfOk result
+        (λ list. list.items ≡ sends_from program.now body.0 points.now 0 slots.now) }
 {
     let mut list = Vec::new(alloc);
     for at in 0..points.len() {
@@ -84,7 +87,8 @@ fn send_point(
     at: usize,
 ) -> Result<(), AllocError>
     requires { own.now ≡ own_keys program.now body.0 }
-    ensures { OnOk result (list.new.items ≡ list.old.items ++ point_sends program.now body.0 point.now (env_in slots.now at)) }
+    ensures { OnOk result (list.new.items
+        ≡ list.old.items ++ point_sends program.now body.0 point.now (env_in slots.now at)) }
 {
     match env_at(slots, at) {
         None => Ok(()),

@@ -66,7 +66,8 @@ fn send_args(
     slots: &[Option<SlotNo>],
     args: &[Operand],
 ) -> Result<(), AllocError>
-    ensures { OnOk result (list.new.items ≡ list.old.items ++ arg_sends program.now env.now slots.now args.now) }
+    ensures { OnOk result
+        (list.new.items ≡ list.old.items ++ arg_sends program.now env.now slots.now args.now) }
 {
     for i in 0..args.len() {
         send(program, list, slot_at(slots, i), env.qual(args[i].reg))?;
@@ -92,7 +93,9 @@ fn send_call(
     method: MethodNo,
     args: &[Operand],
 ) -> Result<(), AllocError>
-    ensures { OnOk result (list.new.items ≡ list.old.items ++ arg_sends program.now env.now (slots_of (method_at program.now method.0)) args.now) }
+    ensures { OnOk result (list.new.items
+        ≡ list.old.items
+        ++ arg_sends program.now env.now (slots_of (method_at program.now method.0)) args.now) }
 {
     send_args(program, list, env, param_slots(program, method), args)
 }
@@ -136,7 +139,8 @@ fn send_receiver(
     slot: Option<SlotNo>,
     receiver: Option<Operand>,
 ) -> Result<(), AllocError>
-    ensures { OnOk result (list.new.items ≡ list.old.items ++ receiver_sends program.now env.now slot receiver) }
+    ensures { OnOk result
+        (list.new.items ≡ list.old.items ++ receiver_sends program.now env.now slot receiver) }
 {
     match receiver {
         None => Ok(()),
@@ -152,7 +156,8 @@ fn send_value(
     slot: Option<SlotNo>,
     value: Option<Operand>,
 ) -> Result<(), AllocError>
-    ensures { OnOk result (list.new.items ≡ list.old.items ++ return_sends program.now env.now slot value) }
+    ensures { OnOk result
+        (list.new.items ≡ list.old.items ++ return_sends program.now env.now slot value) }
 {
     match value {
         None => Ok(()),
@@ -166,7 +171,8 @@ fn send_unless(
     assigned: bool,
     slot: Option<SlotNo>,
 ) -> Result<(), AllocError>
-    ensures { OnOk result (list.new.items ≡ list.old.items ++ cond assigned [] (sends program.now slot null_only)) }
+    ensures { OnOk result
+        (list.new.items ≡ list.old.items ++ cond assigned [] (sends program.now slot null_only)) }
 {
     if assigned {
         Ok(())
@@ -182,7 +188,8 @@ fn send_unset(
     env: &Env,
     own: &[u32],
 ) -> Result<(), AllocError>
-    ensures { OnOk result (list.new.items ≡ list.old.items ++ unset_sends program.now own.now own.now env.now.assigned) }
+    ensures { OnOk result (list.new.items
+        ≡ list.old.items ++ unset_sends program.now own.now own.now env.now.assigned) }
 {
     for field in own {
         let assigned = env.is_assigned(own, *field);
@@ -199,7 +206,11 @@ fn send_method(
     receiver: Option<Operand>,
     args: &[Operand],
 ) -> Result<(), AllocError>
-    ensures { OnOk result (list.new.items ≡ list.old.items ++ (arg_sends program.now env.now (slots_of (method_at program.now method.0)) args.now ++ receiver_sends program.now env.now (receiver_slot_of (method_at program.now method.0)) receiver)) }
+    ensures { OnOk result (list.new.items
+        ≡ list.old.items
+        ++ (arg_sends program.now env.now (slots_of (method_at program.now method.0)) args.now
+        ++ receiver_sends program.now env.now
+        (receiver_slot_of (method_at program.now method.0)) receiver)) }
 {
     send_call(program, list, env, method, args)?;
     send_receiver(program, list, env, receiver_slot(program, method), receiver)
@@ -214,7 +225,12 @@ fn send_return(
     value: Option<Operand>,
 ) -> Result<(), AllocError>
     requires { own.now ≡ own_keys program.now body.0 }
-    ensures { OnOk result (list.new.items ≡ list.old.items ++ (return_sends program.now env.now (result_slot_of (method_in program.now body.0)) value ++ unset_sends program.now (own_keys program.now body.0) (own_keys program.now body.0) env.now.assigned)) }
+    ensures { OnOk result (list.new.items
+        ≡ list.old.items
+        ++ (return_sends program.now env.now (result_slot_of (method_in program.now body.0))
+        value
+        ++ unset_sends program.now (own_keys program.now body.0)
+        (own_keys program.now body.0) env.now.assigned)) }
 {
     send_value(program, list, env, result_slot(program, body), value)?;
     send_unset(program, list, env, own)
@@ -230,7 +246,8 @@ pub fn send_kind(
     kind: &PointKind,
 ) -> Result<(), AllocError>
     requires { own.now ≡ own_keys program.now body.0 }
-    ensures { OnOk result (list.new.items ≡ list.old.items ++ kind_sends program.now body.0 env.now kind.now) }
+    ensures { OnOk result
+        (list.new.items ≡ list.old.items ++ kind_sends program.now body.0 env.now kind.now) }
 {
     match kind {
         PointKind::FieldWrite { field, value, .. } => {

@@ -24,7 +24,8 @@ pub fn unassigned_at_end(
 ) -> Result<Vec<FieldNo>, OutOfMemory>
     requires inside { body.0 < length program.now.bodies }
     requires few { length program.now.fields < 2 ^ 32 }
-    ensures { IfOk result (λ fields. field_numbers fields.items ≡ unassigned_at_end program.now body.0 table.now) }
+    ensures { IfOk result
+        (λ fields. field_numbers fields.items ≡ unassigned_at_end program.now body.0 table.now) }
 {
     let keys = find_keys(alloc, program, body)?;
     let info = &program.bodies.as_slice()[body.0 as usize];
@@ -39,7 +40,8 @@ fn unassigned(
     points: &[Point],
     slots: &[Option<Env>],
 ) -> Result<Vec<FieldNo>, AllocError>
-    ensures { IfOk result (λ fields. field_numbers fields.items ≡ filter (λ f. lacks_from own.now f points.now 0 slots.now) own.now) }
+    ensures { IfOk result (λ fields. field_numbers fields.items
+        ≡ filter (λ f. lacks_from own.now f points.now 0 slots.now) own.now) }
 {
     let mut fields = Vec::new(alloc);
     for field in own {

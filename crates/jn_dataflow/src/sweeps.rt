@@ -26,7 +26,8 @@ fn join_slot<D: Dataflow>(
 ) -> Result<Joined<D::Env>, OutOfMemory>
     requires old { SlotValid (D.describe analysis.now) slot }
     requires new { IsTrue ((D.describe analysis.now).valid env.now) }
-    ensures joined { IfOk result (λ j. Some j.env ≡ join_slot (D.describe analysis.now) slot env.now) }
+    ensures joined { IfOk result
+        (λ j. Some j.env ≡ join_slot (D.describe analysis.now) slot env.now) }
     ensures same { IfOk result (λ j. j.changed ≡ false → Some j.env ≡ slot) }
     ensures other { IfOk result (λ j. j.changed ≡ true → Some j.env ≡ slot → ⊥) }
 {
@@ -52,7 +53,8 @@ fn flow_in<D: Dataflow>(
     requires target { edge.now.0 < length table.old }
     requires old { SlotValid (D.describe analysis.now) (slot_at table.old edge.now.0) }
     requires new { IsTrue ((D.describe analysis.now).valid edge.now.1) }
-    ensures { IfOk result (λ changed. Stepped (flow_in (D.describe analysis.now) edge.now table.old) table.old table.new changed) }
+    ensures { IfOk result (λ changed. Stepped (flow_in (D.describe analysis.now) edge.now table.old)
+        table.old table.new changed) }
 {
     let joined = join_slot(alloc, analysis, table.take(edge.0 as usize), &edge.1)?;
     table.put(edge.0 as usize, joined.env);
@@ -73,8 +75,10 @@ fn raise<D: Dataflow>(
     requires block { edge.now.0 < length starts.old }
     requires old { SlotValid (D.describe analysis.now) (slot_at table.old edge.now.0) }
     requires new { IsTrue ((D.describe analysis.now).valid edge.now.1) }
-    ensures joined { IfOk result (λ rose. Stepped (flow_in (D.describe analysis.now) edge.now table.old) table.old table.new rose) }
-    ensures marked { IfOk result (λ rose. waiting.new ≡ cond rose (slice_set waiting.old edge.now.0 true) waiting.old) }
+    ensures joined { IfOk result (λ rose.
+        Stepped (flow_in (D.describe analysis.now) edge.now table.old) table.old table.new rose) }
+    ensures marked { IfOk result
+        (λ rose. waiting.new ≡ cond rose (slice_set waiting.old edge.now.0 true) waiting.old) }
     ensures begun { IfOk result (λ rose. starts.new ≡ slice_set starts.old edge.now.0 true) }
 {
     starts.set(edge.0 as usize, true);
@@ -95,7 +99,8 @@ fn raise_all<D: Dataflow>(
     edges: &[(u32, D::Env)],
 ) -> Result<bool, OutOfMemory>
     requires { Blocks (D.describe analysis.now) edges.now table.old waiting.old starts.old }
-    ensures { IfOk result (λ rose. Ended (D.describe analysis.now) table.old table.new waiting.old waiting.new starts.old starts.new rose) }
+    ensures { IfOk result (λ rose. Ended (D.describe analysis.now) table.old table.new waiting.old
+        waiting.new starts.old starts.new rose) }
 {
     let mut rose = false;
     for edge in edges {
@@ -113,7 +118,8 @@ fn edges_from<D: Dataflow>(
 ) -> Result<Vec<(u32, D::Env)>, OutOfMemory>
     requires there { at < (D.describe analysis.now).count }
     requires valid { SlotValid (D.describe analysis.now) slot.now }
-    ensures { IfOk result (λ edges. edges.items ≡ edges_from (D.describe analysis.now) at slot.now) }
+    ensures { IfOk result
+        (λ edges. edges.items ≡ edges_from (D.describe analysis.now) at slot.now) }
 {
     match slot {
         None => Ok(Vec::new(alloc)),
@@ -133,7 +139,8 @@ fn visit<D: Dataflow>(
 ) -> Result<bool, OutOfMemory>
     requires there { at < (D.describe analysis.now).count }
     requires blocks { Blocks (D.describe analysis.now) [] table.old waiting.old starts.old }
-    ensures { IfOk result (λ rose. Visited (D.describe analysis.now) at table.old table.new waiting.old waiting.new starts.old starts.new rose) }
+    ensures { IfOk result (λ rose. Visited (D.describe analysis.now) at table.old table.new
+        waiting.old waiting.new starts.old starts.new rose) }
 {
     if !waiting.at(at) {
         return Ok(false);
@@ -157,7 +164,8 @@ fn sweep<D: Dataflow>(
     starts: &mut Seq<bool>,
 ) -> Result<bool, OutOfMemory>
     requires blocks { Blocks (D.describe analysis.now) [] table.old waiting.old starts.old }
-    ensures swept { IfOk result (λ rose. Swept (D.describe analysis.now) table.old table.new waiting.new starts.old starts.new rose) }
+    ensures swept { IfOk result (λ rose. Swept (D.describe analysis.now) table.old table.new
+        waiting.new starts.old starts.new rose) }
     ensures still { IfOk result (λ rose. rose ≡ false → NobodyWaits waiting.new) }
 {
     let mut rose = false;
@@ -170,7 +178,9 @@ fn sweep<D: Dataflow>(
 /// The table in which only the entry is reached.
 fn start<D: Dataflow>(alloc: Global, analysis: &D) -> Result<Slots<D::Env>, OutOfMemory>
     requires { 0 < (D.describe analysis.now).count }
-    ensures { IfOk result (λ t. t ≡ slice_set (replicate (D.describe analysis.now).count None) 0 (Some (D.describe analysis.now).entry)) }
+    ensures { IfOk result (λ t. t
+        ≡ slice_set (replicate (D.describe analysis.now).count None) 0
+        (Some (D.describe analysis.now).entry)) }
 {
     let mut table = Slots::unreached(alloc, analysis.points())?;
     table.put(0, analysis.entry(alloc)?);

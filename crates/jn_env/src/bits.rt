@@ -39,7 +39,8 @@ fn picks(which: Which, key: FieldKey) -> bool
 pub fn write_keys(keys: &[FieldKey], bits: &mut BitList, first: usize, which: Which, wanted: bool)
     requires inside { first + length keys.now ≤ length bits.old }
     requires few { first + length keys.now < 2 ^ 64 }
-    ensures { bits.new ≡ take first bits.old ++ written (picks which) wanted keys.now (drop first bits.old) }
+    ensures { bits.new
+        ≡ take first bits.old ++ written (picks which) wanted keys.now (drop first bits.old) }
 {
     for i in 0..keys.len() {
         write_if(bits, first + i, picks(which, keys[i]), wanted);
@@ -67,7 +68,8 @@ pub fn write_own(
 )
     requires inside { first + length own.now ≤ length bits.old }
     requires few { first + length own.now < 2 ^ 64 }
-    ensures { bits.new ≡ take first bits.old ++ written (is_field field) wanted own.now (drop first bits.old) }
+    ensures { bits.new
+        ≡ take first bits.old ++ written (is_field field) wanted own.now (drop first bits.old) }
 {
     for i in 0..own.len() {
         write_if(bits, first + i, is_field(field, own[i]), wanted);

@@ -62,7 +62,8 @@ impl Env {
         body: BodyNo,
         keys: &Keys,
     ) -> Result<Env, OutOfMemory>
-        ensures quals { IfOk result (λ e. e.quals ≡ replicate (regs_of (body_at program.now body.0)) no_qual) }
+        ensures quals { IfOk result
+            (λ e. e.quals ≡ replicate (regs_of (body_at program.now body.0)) no_qual) }
         ensures facts { IfOk result (λ e. e.facts ≡ no_bits keys.now.facts) }
         ensures assigned { IfOk result (λ e. e.assigned ≡ no_bits keys.now.own) }
     {
@@ -148,7 +149,8 @@ impl Env {
 
     /// Gives the first registers these qualifiers, as many as there are registers.
     pub fn give(&mut self, quals: &[Qual])
-        ensures quals { self.new.quals ≡ take (length self.old.quals) quals.now ++ drop (length quals.now) self.old.quals }
+        ensures quals { self.new.quals
+            ≡ take (length self.old.quals) quals.now ++ drop (length quals.now) self.old.quals }
         ensures facts { self.new.facts ≡ self.old.facts }
         ensures assigned { self.new.assigned ≡ self.old.assigned }
     {
@@ -162,7 +164,8 @@ impl Env {
     pub fn set(&mut self, keys: &Keys, reg: RegNo, qual: Qual)
         requires { length keys.now.facts ≡ length self.old.facts }
         ensures quals { self.new.quals ≡ slice_set self.old.quals reg.0 qual }
-        ensures facts { self.new.facts ≡ mask (λ k. not (has_reg reg.0 k)) keys.now.facts self.old.facts }
+        ensures facts { self.new.facts
+            ≡ mask (λ k. not (has_reg reg.0 k)) keys.now.facts self.old.facts }
         ensures assigned { self.new.assigned ≡ self.old.assigned }
     {
         self.set_qual(reg, qual);
@@ -231,7 +234,8 @@ impl Env {
     /// Forgets what is known of the field, in objects of all registers; with None all facts.
     pub fn drop_facts(&mut self, keys: &Keys, field: Option<FieldNo>)
         requires { length keys.now.facts ≡ length self.old.facts }
-        ensures facts { self.new.facts ≡ mask (λ k. not (is_fact_on field k)) keys.now.facts self.old.facts }
+        ensures facts { self.new.facts
+            ≡ mask (λ k. not (is_fact_on field k)) keys.now.facts self.old.facts }
         ensures quals { self.new.quals ≡ self.old.quals }
         ensures assigned { self.new.assigned ≡ self.old.assigned }
     {
@@ -277,7 +281,8 @@ impl Env {
     /// the field is none of them.
     pub fn assign(&mut self, keys: &Keys, field: Option<FieldNo>)
         requires { length keys.now.own ≡ length self.old.assigned }
-        ensures assigned { self.new.assigned ≡ also (is_field field) keys.now.own self.old.assigned }
+        ensures assigned { self.new.assigned
+            ≡ also (is_field field) keys.now.own self.old.assigned }
         ensures quals { self.new.quals ≡ self.old.quals }
         ensures facts { self.new.facts ≡ self.old.facts }
     {
@@ -287,7 +292,8 @@ impl Env {
     /// Lets an own field be assigned or not; with None all of them.
     fn write_assigned(&mut self, own: &[u32], field: Option<FieldNo>, assigned: bool)
         requires { length own.now ≡ length self.old.assigned }
-        ensures assigned { self.new.assigned ≡ marked assigned (is_field field) own.now self.old.assigned }
+        ensures assigned { self.new.assigned
+            ≡ marked assigned (is_field field) own.now self.old.assigned }
         ensures quals { self.new.quals ≡ self.old.quals }
         ensures facts { self.new.facts ≡ self.old.facts }
     {

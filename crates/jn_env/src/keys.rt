@@ -169,7 +169,8 @@ pub fn is_ref_field(program: &Program, field: u32) -> bool
 
 /// The key, and all others of the list.
 fn with_first(alloc: Global, key: FieldKey, rest: &[FieldKey]) -> Result<Vec<FieldKey>, AllocError>
-    ensures { IfOk result (λ keys. keys.items ≡ key ∷ filter (λ x. not (is_key key.reg key.field x)) rest.now) }
+    ensures { IfOk result
+        (λ keys. keys.items ≡ key ∷ filter (λ x. not (is_key key.reg key.field x)) rest.now) }
 {
     let mut keys = Vec::new(alloc);
     keys.push(key)?;
@@ -184,7 +185,10 @@ fn with_first(alloc: Global, key: FieldKey, rest: &[FieldKey]) -> Result<Vec<Fie
 /// The class whose constructor the body is.
 fn constructed(program: &Program, body: BodyNo) -> Option<u32>
     requires { body.0 < length program.now.bodies }
-    ensures { MatchOption result (ctor_of (method_in program.now body.0) ≡ false) (λ class. (ctor_of (method_in program.now body.0) ≡ true) × (class_of (method_in program.now body.0) ≡ class)) }
+    ensures { MatchOption result (ctor_of (method_in program.now body.0) ≡ false) (λ class. (ctor_of
+        (method_in program.now body.0)
+        ≡ true)
+        × (class_of (method_in program.now body.0) ≡ class)) }
 {
     let info = &program.bodies.as_slice()[body.0 as usize];
     match program.methods.as_slice().get(info.method.0 as usize) {

@@ -15,5 +15,6 @@ pub fn within_is_an_order()
 pub fn join_is_least()
     ensures left { (a b : Env) → SameSize a b → EnvWithin a (join_env a b) }
     ensures right { (a b : Env) → SameSize a b → EnvWithin b (join_env a b) }
-    ensures least { (a b c : Env) → SameSize a b → EnvWithin a c → EnvWithin b c → EnvWithin (join_env a b) c }
+    ensures least { (a b c : Env) → SameSize a b → EnvWithin a c → EnvWithin b c
+        → EnvWithin (join_env a b) c }
 {}

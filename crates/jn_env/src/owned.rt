@@ -41,7 +41,8 @@ impl OwnFields {
 
     /// The reference fields of a class; None for one that isn't there.
     pub(crate) fn of(&self, class: u32) -> Option<&[u32]>
-        ensures { MatchOption result (length self.now ≤ class) (λ fields. (class < length self.now) × (fields.now ≡ slice_index_or self.now class [])) }
+        ensures { MatchOption result (length self.now ≤ class) (λ fields.
+            (class < length self.now) × (fields.now ≡ slice_index_or self.now class [])) }
     {
         let place = class as usize;
         if place < self.lists.len() {
@@ -55,7 +56,10 @@ impl OwnFields {
 /// Puts the field into its class's list, where it is of reference type.
 fn push_field(program: &Program, lists: &mut Vec<Seq<u32>>, field: u32) -> Result<(), AllocError>
     ensures long { OnOk result (length lists.new.items ≡ length lists.old.items) }
-    ensures pushed { OnOk result ((c : ℕ) → c < length lists.old.items → slice_index_or lists.new.items c [] ≡ slice_index_or lists.old.items c [] ++ cond (is_field_of program.now c field) (field ∷ []) []) }
+    ensures pushed { OnOk result ((c : ℕ) → c < length lists.old.items
+        → slice_index_or lists.new.items c []
+        ≡ slice_index_or lists.old.items c []
+        ++ cond (is_field_of program.now c field) (field ∷ []) []) }
 {
     if !is_ref_field(program, field) {
         return Ok(());

@@ -61,7 +61,8 @@ impl FlowTable {
 
     /// The environment of a point; None where it is unreached or not there.
     pub fn at(&self, point: PointNo) -> Option<&Env>
-        ensures { MatchOption result (env_in self.now point.0 ≡ None) (λ env. env_in self.now point.0 ≡ Some env.now) }
+        ensures { MatchOption result (env_in self.now point.0 ≡ None)
+            (λ env. env_in self.now point.0 ≡ Some env.now) }
     {
         env_at(&self.slots, point.0 as usize)
     }
@@ -76,7 +77,8 @@ impl FlowTable {
 
 /// The environment at a place of a table's slots; None where it is unreached or not there.
 pub fn env_at(slots: &[Option<Env>], at: usize) -> Option<&Env>
-    ensures { MatchOption result (env_in slots.now at ≡ None) (λ env. env_in slots.now at ≡ Some env.now) }
+    ensures { MatchOption result (env_in slots.now at ≡ None)
+        (λ env. env_in slots.now at ≡ Some env.now) }
 {
     match slots.get(at) {
         None => None,

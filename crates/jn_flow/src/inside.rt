@@ -12,7 +12,8 @@ pub fn stays_inside(program: &Program, body: BodyNo) -> bool
     requires { body.0 < length program.now.bodies }
     ensures stays { result ≡ true → StaysInside program.now body.0 }
     ensures short { result ≡ true → length (points_of (body_at program.now body.0)) < 2 ^ 32 - 1 }
-    ensures left { result ≡ false → StaysInside program.now body.0 → length (points_of (body_at program.now body.0)) < 2 ^ 32 - 1 → ⊥ }
+    ensures left { result ≡ false → StaysInside program.now body.0
+        → length (points_of (body_at program.now body.0)) < 2 ^ 32 - 1 → ⊥ }
 {
     let info = &program.bodies.as_slice()[body.0 as usize];
     let count = info.points.len();

@@ -43,7 +43,8 @@ pub fn flow_by(alloc: Global, analysis: &Analysis) -> Result<FlowTable, OutOfMem
     requires inside { analysis.now.body < length analysis.now.program.bodies }
     requires stays { StaysInside analysis.now.program analysis.now.body }
     requires short { length (points_of (body_at analysis.now.program analysis.now.body)) < 2 ^ 32 }
-    ensures { IfOk result (λ table. IsLeastTable analysis.now.program analysis.now.sig analysis.now.body table) }
+    ensures { IfOk result
+        (λ table. IsLeastTable analysis.now.program analysis.now.sig analysis.now.body table) }
 {
     let qualifiers = Qualifiers::new(analysis);
     let table = solve(alloc, &qualifiers)?;

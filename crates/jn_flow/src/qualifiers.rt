@@ -26,7 +26,8 @@ impl<'a> Qualifiers<'a> {
     pub fn new(analysis: &'a Analysis<'a>) -> Self
         requires inside { analysis.now.body < length analysis.now.program.bodies }
         requires stays { EdgesStay analysis.now.program analysis.now.body }
-        requires short { length (points_of (body_at analysis.now.program analysis.now.body)) < 2 ^ 32 }
+        requires short { length (points_of (body_at analysis.now.program analysis.now.body))
+            < 2 ^ 32 }
         ensures { result.analysis.now ≡ analysis.now }
     {
         Qualifiers { analysis }
@@ -44,7 +45,9 @@ fn edges_at(
     requires there { at < length (points_of (body_at analysis.now.program analysis.now.body)) }
     requires short { length (points_of (body_at analysis.now.program analysis.now.body)) < 2 ^ 32 }
     requires sized { EnvSized analysis.now.program analysis.now.body env.now }
-    ensures { IfOk result (λ xs. xs.items ≡ edges_after analysis.now.program analysis.now.sig analysis.now.body (point_at analysis.now.program analysis.now.body at) at env.now) }
+    ensures { IfOk result (λ xs. xs.items
+        ≡ edges_after analysis.now.program analysis.now.sig analysis.now.body
+        (point_at analysis.now.program analysis.now.body at) at env.now) }
 {
     let info = &analysis.program().bodies.as_slice()[analysis.body().0 as usize];
     let point = &info.points.as_slice()[at];

@@ -52,7 +52,8 @@ fn join_next(
     requires room { length names.old < 2 ^ 31 }
     requires few { HaveFewNames (outcome ∷ []) }
     ensures names { OnOk result (names.new ≡ joined_names names.old (outcome ∷ [])) }
-    ensures trees { OnOk result (map placed_file trees.new.items ≡ map placed_file trees.old.items ++ joined_trees names.old (outcome ∷ [])) }
+    ensures trees { OnOk result (map placed_file trees.new.items
+        ≡ map placed_file trees.old.items ++ joined_trees names.old (outcome ∷ [])) }
 {
     match outcome {
         Outcome::Lexical(_) => Ok(()),
@@ -75,7 +76,8 @@ pub fn join_all(alloc: Global, outcomes: Vec<Outcome>) -> Result<ParsedFiles, Ou
     requires few { HaveFewNames outcomes.items }
     ensures rows { IfOk result (λ p. p.rows.items ≡ []) }
     ensures names { IfOk result (λ p. p.names ≡ joined_names known_names outcomes.items) }
-    ensures trees { IfOk result (λ p. map placed_file p.trees.items ≡ joined_trees known_names outcomes.items) }
+    ensures trees { IfOk result
+        (λ p. map placed_file p.trees.items ≡ joined_trees known_names outcomes.items) }
 {
     let mut names = known_names(alloc)?;
     let mut trees = Vec::new(alloc);

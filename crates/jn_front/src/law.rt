@@ -15,9 +15,15 @@ use jn_parse_placed::law::files_have_one_placed_tree;
 
 /// Files have the rows of one phase, in one way, or their names, tokens and trees with places, in one way, and never both.
 pub fn files_have_one_front()
-    ensures rows { (files : List SourceFile) (rows others : List Row) → FrontRows files rows → FrontRows files others → rows ≡ others }
-    ensures parsed { (files : List SourceFile) (names others : List (List ℕ)) (tokens us : List (List Token)) (trees vs : List PlacedFile) → AreParsed files names tokens trees → AreParsed files others us vs → (names ≡ others) × (tokens ≡ us) × (trees ≡ vs) }
-    ensures apart { (files : List SourceFile) (names : List (List ℕ)) (tokens : List (List Token)) (trees : List PlacedFile) (rows : List Row) → AreParsed files names tokens trees → FrontRows files rows → ⊥ }
+    ensures rows { (files : List SourceFile) (rows others : List Row) → FrontRows files rows
+        → FrontRows files others → rows ≡ others }
+    ensures parsed { (files : List SourceFile) (names others : List (List ℕ))
+        (tokens us : List (List Token)) (trees vs : List PlacedFile)
+        → AreParsed files names tokens trees → AreParsed files others us vs
+        → (names ≡ others) × (tokens ≡ us) × (trees ≡ vs) }
+    ensures apart { (files : List SourceFile) (names : List (List ℕ)) (tokens : List (List Token))
+        (trees : List PlacedFile) (rows : List Row)
+        → AreParsed files names tokens trees → FrontRows files rows → ⊥ }
 {
     texts_have_one_reading();
     files_have_one_outcome();
@@ -26,7 +32,10 @@ pub fn files_have_one_front()
 
 /// A text has at most one tree with places.
 pub fn texts_have_one_placed_tree()
-    ensures { (file : FileNo) (text : List ℕ) (old : List (List ℕ)) (ts us : List Token) (ns ms : List (List ℕ)) (one other : PlacedFile) → Lexed file text old ts ns → Lexed file text old us ms → IsPlacedFile ts one → IsPlacedFile us other → one ≡ other }
+    ensures { (file : FileNo) (text : List ℕ) (old : List (List ℕ)) (ts us : List Token)
+        (ns ms : List (List ℕ)) (one other : PlacedFile)
+        → Lexed file text old ts ns → Lexed file text old us ms → IsPlacedFile ts one
+        → IsPlacedFile us other → one ≡ other }
 {
     texts_have_one_reading();
     files_have_one_placed_tree();

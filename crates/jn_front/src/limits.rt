@@ -63,7 +63,8 @@ fn put_passing(rows: &mut Vec<Row>, file: u32, before: u32, size: u32) -> Result
 pub fn limit_rows(alloc: Global, reads: &[SourceRead]) -> Result<Vec<Row>, AllocError>
     requires few { length reads.now ≤ 64 }
     requires fit { ReadsFit reads.now }
-    ensures { IfOk result (λ rows. (files : List SpecFile) → AreReads reads.now files → rows.items ≡ limit_rows files) }
+    ensures { IfOk result (λ rows.
+        (files : List SpecFile) → AreReads reads.now files → rows.items ≡ limit_rows files) }
 {
     let mut rows = Vec::new(alloc);
     let mut before = 0;

@@ -63,9 +63,12 @@ fn put_together(
     requires few { length reads.now ≤ 64 }
     requires fit { ReadsFit reads.now }
     requires found { AreOutcomes 0 (files_of_reads reads.now) outcomes.items }
-    ensures rows { IfOk result (λ p. (p.rows.items ≡ [] → ⊥) → TextRows (files_of_reads reads.now) p.rows.items) }
-    ensures trees { IfOk result (λ p. p.rows.items ≡ [] → AreTreesOf (files_of_reads reads.now) p.names (map placed_file p.trees.items)) }
-    ensures none { IfOk result (λ p. (p.rows.items ≡ [] → ⊥) → (p.trees.items ≡ []) × (p.names ≡ [])) }
+    ensures rows { IfOk result
+        (λ p. (p.rows.items ≡ [] → ⊥) → TextRows (files_of_reads reads.now) p.rows.items) }
+    ensures trees { IfOk result (λ p. p.rows.items ≡ []
+        → AreTreesOf (files_of_reads reads.now) p.names (map placed_file p.trees.items)) }
+    ensures none { IfOk result
+        (λ p. (p.rows.items ≡ [] → ⊥) → (p.trees.items ≡ []) × (p.names ≡ [])) }
 {
     let _reads = reads;
     texts_have_one_reading();
@@ -118,9 +121,12 @@ pub fn parse_files<R: Threads + Sync, G: Gate + Sync>(
     requires few { length reads.now ≤ 64 }
     requires fit { ReadsFit reads.now }
     requires workers { (1 ≤ workers) × (workers ≤ 16) }
-    ensures rows { IfOk result (λ p. (p.rows.items ≡ [] → ⊥) → TextRows (files_of_reads reads.now) p.rows.items) }
-    ensures trees { IfOk result (λ p. p.rows.items ≡ [] → AreTreesOf (files_of_reads reads.now) p.names (map placed_file p.trees.items)) }
-    ensures none { IfOk result (λ p. (p.rows.items ≡ [] → ⊥) → (p.trees.items ≡ []) × (p.names ≡ [])) }
+    ensures rows { IfOk result
+        (λ p. (p.rows.items ≡ [] → ⊥) → TextRows (files_of_reads reads.now) p.rows.items) }
+    ensures trees { IfOk result (λ p. p.rows.items ≡ []
+        → AreTreesOf (files_of_reads reads.now) p.names (map placed_file p.trees.items)) }
+    ensures none { IfOk result
+        (λ p. (p.rows.items ≡ [] → ⊥) → (p.trees.items ≡ []) × (p.names ≡ [])) }
 {
     let more = more_workers(reads.len(), workers);
     let outcomes = parse_by(rt, alloc, reads, 0, more, gate)?;

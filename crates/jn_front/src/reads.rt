@@ -33,13 +33,15 @@ fn named(alloc: Global, name: &str, bytes: Vec<u8>, whole: bool) -> Result<Sourc
 /// The file of this name.
 fn read_one<F: Files>(alloc: Global, files: &mut F, name: &str) -> Result<SourceRead, Fail<Failed>>
     ensures held { F.held files.new ≡ F.held files.old }
-    ensures ok { IfOk result (λ read. ReadFrom (F.held files.old) (name.now ∷ []) (F.gave files.old) (F.gave files.new) (read ∷ [])) }
+    ensures ok { IfOk result (λ read. ReadFrom (F.held files.old) (name.now ∷ []) (F.gave files.old)
+        (F.gave files.new) (read ∷ [])) }
     ensures little { GivesLittle name.now 1048577 (F.gave files.old) (F.gave files.new) }
     ensures later { F.faults files.old ≤ F.faults files.new }
     ensures failed { CannotRead result → Rose (F.faults files.old) (F.faults files.new) }
     ensures always { F.faults files.old < F.faults files.new → CannotRead result }
     ensures kept { (CannotRead result → ⊥) → F.faults files.new ≡ F.faults files.old }
-    ensures steady { F.steady files.old → Holds (F.held files.old) name.now → CannotRead result → ⊥ }
+    ensures steady { F.steady files.old → Holds (F.held files.old) name.now → CannotRead result
+        → ⊥ }
     ensures stays { F.steady files.old → Holds (F.held files.old) name.now → F.steady files.new }
 {
     match read_whole(alloc, files, name, LIMIT) {
@@ -69,12 +71,15 @@ pub fn read_all<F: Files>(
     names: &[String],
 ) -> Result<Vec<SourceRead>, Fail<Failed>>
     ensures held { F.held files.new ≡ F.held files.old }
-    ensures ok { IfOk result (λ reads. ReadFrom (F.held files.old) (map string_bytes names.now) (F.gave files.old) (F.gave files.new) reads.items) }
-    ensures started { StartsOnly (map string_bytes names.now) (F.gave files.old) (F.gave files.new) }
+    ensures ok { IfOk result (λ reads. ReadFrom (F.held files.old) (map string_bytes names.now)
+        (F.gave files.old) (F.gave files.new) reads.items) }
+    ensures started { StartsOnly (map string_bytes names.now) (F.gave files.old)
+        (F.gave files.new) }
     ensures failed { CannotRead result → Rose (F.faults files.old) (F.faults files.new) }
     ensures always { F.faults files.old < F.faults files.new → CannotRead result }
     ensures kept { (CannotRead result → ⊥) → F.faults files.new ≡ F.faults files.old }
-    ensures steady { F.steady files.old → AllHeld (F.held files.old) (map string_bytes names.now) → CannotRead result → ⊥ }
+    ensures steady { F.steady files.old → AllHeld (F.held files.old) (map string_bytes names.now)
+        → CannotRead result → ⊥ }
 {
     let mut reads = Vec::new(alloc);
     'names: for name in names {

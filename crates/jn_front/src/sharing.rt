@@ -30,7 +30,8 @@ fn parse_each<G: Gate>(
 ) -> Result<Vec<Outcome>, OutOfMemory>
     requires few { first + length reads.now ≤ 64 }
     requires fit { ReadsFit reads.now }
-    ensures { IfOk result (λ outcomes. AreOutcomes first (files_of_reads reads.now) outcomes.items) }
+    ensures { IfOk result
+        (λ outcomes. AreOutcomes first (files_of_reads reads.now) outcomes.items) }
 {
     let mut outcomes = Vec::new(alloc);
     let mut file = first;
@@ -65,9 +66,12 @@ fn in_order(
     back: Result<Vec<Outcome>, OutOfMemory>,
 ) -> Result<Vec<Outcome>, OutOfMemory>
     requires share { share ≤ length reads.now }
-    requires front { IfOk front (λ outcomes. AreOutcomes first (files_of_reads (take share reads.now)) outcomes.items) }
-    requires back { IfOk back (λ outcomes. AreOutcomes (first + share) (files_of_reads (drop share reads.now)) outcomes.items) }
-    ensures { IfOk result (λ outcomes. AreOutcomes first (files_of_reads reads.now) outcomes.items) }
+    requires front { IfOk front
+        (λ outcomes. AreOutcomes first (files_of_reads (take share reads.now)) outcomes.items) }
+    requires back { IfOk back (λ outcomes.
+        AreOutcomes (first + share) (files_of_reads (drop share reads.now)) outcomes.items) }
+    ensures { IfOk result
+        (λ outcomes. AreOutcomes first (files_of_reads reads.now) outcomes.items) }
 {
     let (_reads, _first, _share) = (reads, first, share);
     let front = front?;
@@ -89,7 +93,8 @@ pub fn parse_by<R: Threads + Sync, G: Gate + Sync>(
 ) -> Result<Vec<Outcome>, OutOfMemory>
     requires few { first + length reads.now ≤ 64 }
     requires fit { ReadsFit reads.now }
-    ensures { IfOk result (λ outcomes. AreOutcomes first (files_of_reads reads.now) outcomes.items) }
+    ensures { IfOk result
+        (λ outcomes. AreOutcomes first (files_of_reads reads.now) outcomes.items) }
 {
     if more == 0 {
         return parse_each(alloc, reads, first, 0, gate);
@@ -99,11 +104,14 @@ pub fn parse_by<R: Threads + Sync, G: Gate + Sync>(
     let share = share as u32;
     let theirs = move || -> Result<Vec<Outcome>, OutOfMemory>
         requires { (first + length front.now ≤ 64) × ReadsFit front.now }
-        ensures { IfOk result (λ outcomes. AreOutcomes first (files_of_reads front.entry.now) outcomes.items) }
+        ensures { IfOk result
+            (λ outcomes. AreOutcomes first (files_of_reads front.entry.now) outcomes.items) }
     { parse_each(alloc, front, first, more, gate) };
     let ours = move || -> Result<Vec<Outcome>, OutOfMemory>
-        requires { IsSync R.row × IsSync G.row × (0 < more) × (first + share + length back.now ≤ 64) × ReadsFit back.now }
-        ensures { IfOk result (λ outcomes. AreOutcomes (first + share) (files_of_reads back.entry.now) outcomes.items) }
+        requires { IsSync R.row × IsSync G.row × (0 < more) × (first + share + length back.now ≤ 64)
+            × ReadsFit back.now }
+        ensures { IfOk result (λ outcomes.
+            AreOutcomes (first + share) (files_of_reads back.entry.now) outcomes.items) }
     { parse_by(rt, alloc, back, first + share, more - 1, gate) };
     let (theirs, ours) = join(rt, theirs, ours);
     in_order(reads, first, share, theirs, ours)

@@ -18,9 +18,14 @@ use jn_soundness::law::steps_keep_marks;
 /// words; a step from a good state that gives a state gives a good one, with the marking that comes after it; and the point
 /// of a good state dereferences no null.
 pub fn steps_keep_good_states()
-    ensures start { (W : World) → Solved W → Regular W.program → NoBaseRows W.program → (m b : ℕ) → MainForm W.program m b → (limits : Limits) (words : List (List ℕ)) → Good W (start_state W.program limits b words) start_marking }
-    ensures step { (W : World) → Solved W → Regular W.program → NoBaseRows W.program → (names : List (List ℕ)) (st next : State) (mk : Marking) → Good W st mk → step W.program names st ≡ Goes next → Good W next (mark_after W st mk) }
-    ensures no_fault { (W : World) → Solved W → (st : State) (mk : Marking) → Good W st mk → NullFault W.program st → ⊥ }
+    ensures start { (W : World) → Solved W → Regular W.program → NoBaseRows W.program → (m b : ℕ)
+        → MainForm W.program m b → (limits : Limits) (words : List (List ℕ))
+        → Good W (start_state W.program limits b words) start_marking }
+    ensures step { (W : World) → Solved W → Regular W.program → NoBaseRows W.program
+        → (names : List (List ℕ)) (st next : State) (mk : Marking) → Good W st mk
+        → step W.program names st ≡ Goes next → Good W next (mark_after W st mk) }
+    ensures no_fault { (W : World) → Solved W → (st : State) (mk : Marking) → Good W st mk
+        → NullFault W.program st → ⊥ }
 {
     regular_programs_are_typed();
     steps_keep_marks();
@@ -28,7 +33,8 @@ pub fn steps_keep_good_states()
 
 /// So no run of a main comes to a null fault: each of its states is good with some marking.
 pub fn good_runs_never_fault()
-    ensures { (W : World) → Solved W → Regular W.program → NoBaseRows W.program → NeverNull W.program }
+    ensures { (W : World) → Solved W → Regular W.program → NoBaseRows W.program
+        → NeverNull W.program }
 {
     steps_keep_good_states();
 }

@@ -23,7 +23,8 @@ pub fn classes_table(
 ) -> Result<Option<Tables>, AllocError>
     requires few { length program.now.classes < 2 ^ 32 }
     ensures are { IfOk result (λ o. IfSome o (λ t. spec.AreClasses program.now t)) }
-    ensures none { IfOk result (λ o. MatchOption o (RegularClasses program.now → ⊥) (λ t. Unit {0})) }
+    ensures none { IfOk result
+        (λ o. MatchOption o (RegularClasses program.now → ⊥) (λ t. Unit {0})) }
 {
     let entries = all_classes(alloc, program)?;
     let table = find_tables(
@@ -49,7 +50,8 @@ pub fn methods_table(
     requires methods { length program.now.methods < 2 ^ 32 }
     requires own { (d : ℕ) → list_at own.now d ≡ places_of d 0 (owners program.now.methods) }
     ensures are { IfOk result (λ o. IfSome o (λ t. spec.AreMethods program.now named.now t)) }
-    ensures none { IfOk result (λ o. MatchOption o (RegularClasses program.now → ⊥) (λ t. Unit {0})) }
+    ensures none { IfOk result
+        (λ o. MatchOption o (RegularClasses program.now → ⊥) (λ t. Unit {0})) }
 {
     let entries = all_methods(alloc, program, named, own)?;
     let table = find_tables(
@@ -75,7 +77,8 @@ pub fn fields_table(
     requires fields { length program.now.fields < 2 ^ 32 }
     requires own { (d : ℕ) → list_at own.now d ≡ places_of d 0 (field_owners program.now.fields) }
     ensures are { IfOk result (λ o. IfSome o (λ t. spec.AreFields program.now named.now t)) }
-    ensures none { IfOk result (λ o. MatchOption o (RegularClasses program.now → ⊥) (λ t. Unit {0})) }
+    ensures none { IfOk result
+        (λ o. MatchOption o (RegularClasses program.now → ⊥) (λ t. Unit {0})) }
 {
     let entries = all_fields(alloc, program, named, own)?;
     let table = find_tables(
@@ -99,7 +102,8 @@ pub fn busy_table(
 ) -> Result<Option<Tables>, AllocError>
     requires few { length program.now.classes < 2 ^ 32 }
     ensures are { IfOk result (λ o. IfSome o (λ t. spec.AreBusy program.now own.now named.now t)) }
-    ensures none { IfOk result (λ o. MatchOption o (RegularClasses program.now → ⊥) (λ t. Unit {0})) }
+    ensures none { IfOk result
+        (λ o. MatchOption o (RegularClasses program.now → ⊥) (λ t. Unit {0})) }
 {
     let entries = all_busy(alloc, program, own, named)?;
     let table = find_tables(
@@ -116,7 +120,8 @@ pub fn busy_table(
 pub fn all_values(alloc: Global, tables: &Tables, count: usize) -> Result<Vec<Seq<u32>>, AllocError>
     requires { count < 2 ^ 32 }
     ensures long { IfOk result (λ lists. length lists.items ≡ count) }
-    ensures have { IfOk result (λ lists. (c k v : ℕ) → c < count → find_in tables.now c k ≡ Some v → contains (list_at lists.items c) v ≡ true) }
+    ensures have { IfOk result (λ lists. (c k v : ℕ) → c < count → find_in tables.now c k ≡ Some v
+        → contains (list_at lists.items c) v ≡ true) }
 {
     let mut lists = Vec::new(alloc);
     for place in 0..count {

@@ -40,7 +40,8 @@ pub fn constructors(
     program: &Program,
     own: &[Seq<u32>],
 ) -> Result<Vec<Seq<u32>>, AllocError>
-    ensures { IfOk result (λ lists. (d : ℕ) → list_at lists.items d ≡ filter (spec.is_constructor program.now) (list_at own.now d)) }
+    ensures { IfOk result (λ lists. (d : ℕ)
+        → list_at lists.items d ≡ filter (spec.is_constructor program.now) (list_at own.now d)) }
 {
     let mut lists = Vec::new(alloc);
     for methods in own {

@@ -17,7 +17,8 @@ use std::alloc::{AllocError, Global};
 
 /// The field of a number; none past the end.
 pub fn field_at(program: &Program, field: usize) -> Option<&Field>
-    ensures { MatchOption result (field_info program.now field ≡ None) (λ f. field_info program.now field ≡ Some f.now) }
+    ensures { MatchOption result (field_info program.now field ≡ None)
+        (λ f. field_info program.now field ≡ Some f.now) }
 {
     program.fields.as_slice().get(field)
 }
@@ -86,7 +87,9 @@ fn push_method(
     class: u32,
     k: u32,
 ) -> Result<(), AllocError>
-    ensures { OnOk result (entries.new ≡ entries.old ++ spec.method_entry program.now named.now class k (method_at program.now k)) }
+    ensures { OnOk result (entries.new
+        ≡ entries.old
+        ++ spec.method_entry program.now named.now class k (method_at program.now k)) }
 {
     match method_at(program, k as usize) {
         None => Ok(()),
@@ -109,7 +112,8 @@ fn method_entries(
     class: u32,
     methods: &[u32],
 ) -> Result<Seq<Entry>, AllocError>
-    ensures { IfOk result (λ entries. entries ≡ spec.method_entries program.now named.now class methods.now) }
+    ensures { IfOk result
+        (λ entries. entries ≡ spec.method_entries program.now named.now class methods.now) }
 {
     let mut entries = Seq::new(alloc);
     for k in methods {
@@ -127,7 +131,8 @@ pub fn all_methods(
     own: &[Seq<u32>],
 ) -> Result<Vec<Seq<Entry>>, AllocError>
     requires { length program.now.classes < 2 ^ 32 }
-    ensures { IfOk result (λ all. spec.IsListed (length program.now.classes) (λ d. spec.method_entries program.now named.now d (list_at own.now d)) all.items) }
+    ensures { IfOk result (λ all. spec.IsListed (length program.now.classes)
+        (λ d. spec.method_entries program.now named.now d (list_at own.now d)) all.items) }
 {
     let mut all = Vec::new(alloc);
     for place in 0..program.classes.len() {
@@ -150,7 +155,9 @@ fn push_field(
     class: u32,
     k: u32,
 ) -> Result<(), AllocError>
-    ensures { OnOk result (entries.new ≡ entries.old ++ spec.field_entry program.now named.now class k (field_info program.now k)) }
+    ensures { OnOk result (entries.new
+        ≡ entries.old
+        ++ spec.field_entry program.now named.now class k (field_info program.now k)) }
 {
     match field_at(program, k as usize) {
         None => Ok(()),
@@ -173,7 +180,8 @@ fn field_entries(
     class: u32,
     fields: &[u32],
 ) -> Result<Seq<Entry>, AllocError>
-    ensures { IfOk result (λ entries. entries ≡ spec.field_entries program.now named.now class fields.now) }
+    ensures { IfOk result
+        (λ entries. entries ≡ spec.field_entries program.now named.now class fields.now) }
 {
     let mut entries = Seq::new(alloc);
     for k in fields {
@@ -191,7 +199,8 @@ pub fn all_fields(
     own: &[Seq<u32>],
 ) -> Result<Vec<Seq<Entry>>, AllocError>
     requires { length program.now.classes < 2 ^ 32 }
-    ensures { IfOk result (λ all. spec.IsListed (length program.now.classes) (λ d. spec.field_entries program.now named.now d (list_at own.now d)) all.items) }
+    ensures { IfOk result (λ all. spec.IsListed (length program.now.classes)
+        (λ d. spec.field_entries program.now named.now d (list_at own.now d)) all.items) }
 {
     let mut all = Vec::new(alloc);
     for place in 0..program.classes.len() {
@@ -218,7 +227,8 @@ fn class_entries(alloc: Global, class: u32, listed: bool) -> Result<Seq<Entry>, 
 #[tactic(auto, using(crate::proofs::Offered::listed_more))]
 pub fn all_classes(alloc: Global, program: &Program) -> Result<Vec<Seq<Entry>>, AllocError>
     requires { length program.now.classes < 2 ^ 32 }
-    ensures { IfOk result (λ all. spec.IsListed (length program.now.classes) (spec.class_entries true) all.items) }
+    ensures { IfOk result
+        (λ all. spec.IsListed (length program.now.classes) (spec.class_entries true) all.items) }
 {
     let mut all = Vec::new(alloc);
     for place in 0..program.classes.len() {
@@ -236,7 +246,8 @@ pub fn all_busy(
     named: &[Seq<u32>],
 ) -> Result<Vec<Seq<Entry>>, AllocError>
     requires { length program.now.classes < 2 ^ 32 }
-    ensures { IfOk result (λ all. spec.IsListed (length program.now.classes) (λ d. spec.class_entries (busy.is_busy program.now own.now named.now d) d) all.items) }
+    ensures { IfOk result (λ all. spec.IsListed (length program.now.classes)
+        (λ d. spec.class_entries (busy.is_busy program.now own.now named.now d) d) all.items) }
 {
     let mut all = Vec::new(alloc);
     for place in 0..program.classes.len() {

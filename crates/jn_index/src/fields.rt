@@ -113,7 +113,8 @@ fn field_number(program: &Program, index: &Index, class: ClassNo, name: NameNo) 
 /// or an interface has, where a private one counts at its own class alone.
 pub fn field_of(program: &Program, index: &Index, class: ClassNo, name: NameNo) -> Option<FieldNo>
     requires { IsIndex program.now index.now }
-    ensures { MatchOption result (spec.field_of program.now class.0 name.0 ≡ None) (λ f. spec.field_of program.now class.0 name.0 ≡ Some f.0) }
+    ensures { MatchOption result (spec.field_of program.now class.0 name.0 ≡ None)
+        (λ f. spec.field_of program.now class.0 name.0 ≡ Some f.0) }
 {
     match field_number(program, index, class, name) {
         None => None,

@@ -107,7 +107,8 @@ pub fn put(
 ) -> Result<u32, AllocError>
     requires closed { spec.Closed nodes.old.items }
     requires there { number < length nodes.old.items }
-    ensures { IfOk result (λ r. spec.IsPut nodes.old.items nodes.new.items height number key value r) }
+    ensures { IfOk result
+        (λ r. spec.IsPut nodes.old.items nodes.new.items height number key value r) }
 {
     if height == 0 {
         let added = add(nodes, leaf(value))?;
@@ -143,7 +144,8 @@ pub fn merge(
     requires closed { spec.Closed nodes.old.items }
     requires first { first < length nodes.old.items }
     requires second { second < length nodes.old.items }
-    ensures { IfOk result (λ r. spec.IsMerged nodes.old.items nodes.new.items height first second r) }
+    ensures { IfOk result
+        (λ r. spec.IsMerged nodes.old.items nodes.new.items height first second r) }
 {
     if second == 0 {
         return Ok(first);
@@ -170,8 +172,10 @@ pub fn merge(
 }
 
 fn push_value(values: &mut Vec<u32>, node: Node) -> Result<(), AllocError>
-    ensures kept { OnOk result ((v : ℕ) → contains values.old.items v ≡ true → contains values.new.items v ≡ true) }
-    ensures pushed { OnOk result ((v : ℕ) → node.value ≡ Some v → contains values.new.items v ≡ true) }
+    ensures kept { OnOk result
+        ((v : ℕ) → contains values.old.items v ≡ true → contains values.new.items v ≡ true) }
+    ensures pushed { OnOk result
+        ((v : ℕ) → node.value ≡ Some v → contains values.new.items v ≡ true) }
 {
     match node.value {
         None => Ok(()),
@@ -194,8 +198,10 @@ pub fn collect(
     number: u32,
 ) -> Result<(), AllocError>
     requires { spec.Closed nodes.now }
-    ensures kept { OnOk result ((v : ℕ) → contains values.old.items v ≡ true → contains values.new.items v ≡ true) }
-    ensures all { OnOk result ((k v : ℕ) → spec.find nodes.now height number k ≡ Some v → contains values.new.items v ≡ true) }
+    ensures kept { OnOk result
+        ((v : ℕ) → contains values.old.items v ≡ true → contains values.new.items v ≡ true) }
+    ensures all { OnOk result ((k v : ℕ) → spec.find nodes.now height number k ≡ Some v
+        → contains values.new.items v ≡ true) }
 {
     if number == 0 {
         return Ok(());

@@ -95,7 +95,8 @@ fn put_all(
     requires closed { Closed nodes.old.items }
     requires there { number < length nodes.old.items }
     requires small { spec.SmallKeys (keys height) entries.now }
-    ensures { IfOk result (λ r. spec.IsOver nodes.old.items nodes.new.items height number entries.now r) }
+    ensures { IfOk result
+        (λ r. spec.IsOver nodes.old.items nodes.new.items height number entries.now r) }
 {
     let mut root = number;
     for step in 0..entries.len() {
@@ -126,7 +127,8 @@ fn merge_others(
     requires closed { Closed nodes.old.items }
     requires there { number < length nodes.old.items }
     requires inside { (c r : ℕ) → along.root_at roots.now c ≡ Some r → r < length nodes.old.items }
-    ensures { IfOk result (λ r. spec.IsBeside nodes.old.items nodes.new.items height number roots.now parent supers.now r) }
+    ensures { IfOk result (λ r.
+        spec.IsBeside nodes.old.items nodes.new.items height number roots.now parent supers.now r) }
 {
     let mut root = number;
     for class in supers {
@@ -159,7 +161,8 @@ fn join(
     requires closed { Closed nodes.old.items }
     requires inside { (c r : ℕ) → along.root_at roots.now c ≡ Some r → r < length nodes.old.items }
     requires small { spec.SmallKeys (keys height) entries.now }
-    ensures { IfOk result (λ r. spec.IsJoined nodes.old.items nodes.new.items height roots.now info.now entries.now r) }
+    ensures { IfOk result (λ r.
+        spec.IsJoined nodes.old.items nodes.new.items height roots.now info.now entries.now r) }
 {
     let first = parent_root(roots, info.parent);
     let above = merge_others(
@@ -223,7 +226,8 @@ fn is_ready(roots: &[Option<u32>], info: &Class) -> bool
 }
 
 fn class_info(program: &Program, class: usize) -> Option<&Class>
-    ensures { MatchOption result (class_info program.now class ≡ None) (λ c. class_info program.now class ≡ Some c.now) }
+    ensures { MatchOption result (class_info program.now class ≡ None)
+        (λ c. class_info program.now class ≡ Some c.now) }
 {
     program.classes.as_slice().get(class)
 }
@@ -239,7 +243,8 @@ fn add_tree(
     class: u32,
 ) -> Result<(), AllocError>
     requires { spec.AreTrees program.now own.now height nodes.old.items roots.old.items }
-    ensures are { OnOk result (spec.AreTrees program.now own.now height nodes.new.items roots.new.items) }
+    ensures are { OnOk result
+        (spec.AreTrees program.now own.now height nodes.new.items roots.new.items) }
     ensures kept { OnOk result (along.Keeps roots.old.items roots.new.items) }
     ensures ready { OnOk result (along.GetsRoot program.now roots.old.items roots.new.items class) }
 {
@@ -274,7 +279,8 @@ fn add_in_order(
     order: &[u32],
 ) -> Result<(), AllocError>
     requires { spec.AreTrees program.now own.now height nodes.old.items roots.old.items }
-    ensures { OnOk result (spec.AreTrees program.now own.now height nodes.new.items roots.new.items) }
+    ensures { OnOk result
+        (spec.AreTrees program.now own.now height nodes.new.items roots.new.items) }
 {
     for class in order {
         add_tree(program, own, height, nodes, roots, *class)?;
@@ -292,8 +298,10 @@ fn add_round(
 ) -> Result<(), AllocError>
     requires few { length program.now.classes < 2 ^ 32 }
     requires are { spec.AreTrees program.now own.now height nodes.old.items roots.old.items }
-    ensures are { OnOk result (spec.AreTrees program.now own.now height nodes.new.items roots.new.items) }
-    ensures ready { OnOk result ((c : ℕ) → c < length roots.old.items → along.GetsRoot program.now roots.old.items roots.new.items c) }
+    ensures are { OnOk result
+        (spec.AreTrees program.now own.now height nodes.new.items roots.new.items) }
+    ensures ready { OnOk result ((c : ℕ) → c < length roots.old.items
+        → along.GetsRoot program.now roots.old.items roots.new.items c) }
 {
     for place in 0..program.classes.len() {
         add_tree(program, own, height, nodes, roots, place as u32)?;
@@ -313,8 +321,10 @@ fn add_others(
 ) -> Result<(), AllocError>
     requires few { length program.now.classes < 2 ^ 32 }
     requires are { spec.AreTrees program.now own.now height nodes.old.items roots.old.items }
-    ensures are { OnOk result (spec.AreTrees program.now own.now height nodes.new.items roots.new.items) }
-    ensures all { OnOk result (RegularClasses program.now → along.AllRooted program.now roots.new.items) }
+    ensures are { OnOk result
+        (spec.AreTrees program.now own.now height nodes.new.items roots.new.items) }
+    ensures all { OnOk result
+        (RegularClasses program.now → along.AllRooted program.now roots.new.items) }
 {
     for _round in 0..program.classes.len() {
         if all_there(roots.as_slice()) {
@@ -327,8 +337,10 @@ fn add_others(
 
 /// Whether each class has its tree.
 fn all_there(roots: &[Option<u32>]) -> bool
-    ensures all { result ≡ true → (c : ℕ) → c < length roots.now → along.has_root roots.now c ≡ true }
-    ensures missing { result ≡ false → (c : ℕ) × (c < length roots.now) × (along.has_root roots.now c ≡ false) }
+    ensures all { result ≡ true → (c : ℕ) → c < length roots.now
+        → along.has_root roots.now c ≡ true }
+    ensures missing { result ≡ false
+        → (c : ℕ) × (c < length roots.now) × (along.has_root roots.now c ≡ false) }
 {
     for root in roots {
         if root.is_none() {
@@ -374,7 +386,8 @@ pub fn find_tables(
     requires keys { count < 2 ^ 33 }
     requires small { (c : ℕ) → spec.SmallKeys count (spec.entries_at own.now c) }
     ensures is { IfOk result (λ o. IfSome o (λ t. spec.IsTable program.now own.now count t)) }
-    ensures none { IfOk result (λ o. MatchOption o (RegularClasses program.now → ⊥) (λ t. Unit {0})) }
+    ensures none { IfOk result
+        (λ o. MatchOption o (RegularClasses program.now → ⊥) (λ t. Unit {0})) }
 {
     let height = height_of(count);
     let mut nodes = one_node(alloc)?;
@@ -405,7 +418,8 @@ impl Tables {
     /// # Errors
     /// No memory was found.
     pub fn values(&self, alloc: Global, class: u32) -> Result<Vec<u32>, AllocError>
-        ensures { IfOk result (λ values. (k v : ℕ) → spec.find_in self.now class k ≡ Some v → contains values.items v ≡ true) }
+        ensures { IfOk result (λ values.
+            (k v : ℕ) → spec.find_in self.now class k ≡ Some v → contains values.items v ≡ true) }
     {
         let mut values = Vec::new(alloc);
         let root = root_or(root_at(self.roots.as_slice(), class));

@@ -19,11 +19,14 @@ pub fn regular_programs_are_inferable()
 
 /// What the system's bodies output is what they send under their least tables, and it goes to inferred slots alone.
 pub fn outputs_are_contributions()
-    ensures sends { (P : Program) (s : List Qualifier) (b : ℕ) (t : Table) → IsInferable P → IsLeastTable P s b t → least_sends P s b ≡ body_sends P b t }
-    ensures inferred { (P : Program) (s : List Qualifier) (b : ℕ) (x : ℕ × Qualifier) → IsSent x (least_sends P s b) → is_inferred (slice_get P.slots x.0) ≡ true }
+    ensures sends { (P : Program) (s : List Qualifier) (b : ℕ) (t : Table) → IsInferable P
+        → IsLeastTable P s b t → least_sends P s b ≡ body_sends P b t }
+    ensures inferred { (P : Program) (s : List Qualifier) (b : ℕ) (x : ℕ × Qualifier)
+        → IsSent x (least_sends P s b) → is_inferred (slice_get P.slots x.0) ≡ true }
 {}
 
 /// A program has at most one least signature, so what is found of it doesn't depend on who found it.
 pub fn least_signatures_are_unique()
-    ensures { (P : Program) (s t : List Qualifier) → IsLeastSignature P s → IsLeastSignature P t → s ≡ t }
+    ensures { (P : Program) (s t : List Qualifier) → IsLeastSignature P s → IsLeastSignature P t
+        → s ≡ t }
 {}

@@ -4,7 +4,21 @@ ghost use Rattle.jn_known.specs.Known.{known_names, string_name, system_name, ou
 
 /// Each number is that of its text.
 pub fn numbers_tell_names()
-    ensures words { (slice_get known_names string_name ≡ Some (codes "String")) × (slice_get known_names system_name ≡ Some (codes "System")) × (slice_get known_names out_name ≡ Some (codes "out")) × (slice_get known_names println_name ≡ Some (codes "println")) × (slice_get known_names length_name ≡ Some (codes "length")) × (slice_get known_names main_name ≡ Some (codes "main")) × (slice_get known_names object_name ≡ Some (codes "Object")) × (slice_get known_names equals_name ≡ Some (codes "equals")) × (slice_get known_names is_empty_name ≡ Some (codes "isEmpty")) }
-    ensures annotations { (slice_get known_names non_null_name ≡ Some (codes "NonNull")) × (slice_get known_names nullable_name ≡ Some (codes "Nullable")) × (slice_get known_names initialized_name ≡ Some (codes "Initialized")) × (slice_get known_names under_name ≡ Some (codes "UnderInitialization")) × (slice_get known_names unknown_name ≡ Some (codes "UnknownInitialization")) × (slice_get known_names override_name ≡ Some (codes "Override")) }
-    ensures packages { (slice_get known_names org_name ≡ Some (codes "org")) × (slice_get known_names checkerframework_name ≡ Some (codes "checkerframework")) }
+    ensures words { (slice_get known_names string_name ≡ Some (codes "String"))
+        × (slice_get known_names system_name ≡ Some (codes "System"))
+        × (slice_get known_names out_name ≡ Some (codes "out"))
+        × (slice_get known_names println_name ≡ Some (codes "println"))
+        × (slice_get known_names length_name ≡ Some (codes "length"))
+        × (slice_get known_names main_name ≡ Some (codes "main"))
+        × (slice_get known_names object_name ≡ Some (codes "Object"))
+        × (slice_get known_names equals_name ≡ Some (codes "equals"))
+        × (slice_get known_names is_empty_name ≡ Some (codes "isEmpty")) }
+    ensures annotations { (slice_get known_names non_null_name ≡ Some (codes "NonNull"))
+        × (slice_get known_names nullable_name ≡ Some (codes "Nullable"))
+        × (slice_get known_names initialized_name ≡ Some (codes "Initialized"))
+        × (slice_get known_names under_name ≡ Some (codes "UnderInitialization"))
+        × (slice_get known_names unknown_name ≡ Some (codes "UnknownInitialization"))
+        × (slice_get known_names override_name ≡ Some (codes "Override")) }
+    ensures packages { (slice_get known_names org_name ≡ Some (codes "org"))
+        × (slice_get known_names checkerframework_name ≡ Some (codes "checkerframework")) }
 {}

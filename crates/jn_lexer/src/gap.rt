@@ -91,7 +91,8 @@ pub fn gap_len(text: &[char]) -> Result<usize, usize>
     requires { length text.now < 2 ^ 32 }
     ensures gap { MatchResult result (λ n. IsGapOf text.now n) (λ n. IsGapOf text.now n) }
     ensures within { MatchResult result (λ n. n ≤ length text.now) (λ n. n < length text.now) }
-    ensures ends { MatchResult result (λ n. begins_blank (drop n text.now) ≡ false) (λ n. IsOpenComment (drop n text.now)) }
+    ensures ends { MatchResult result (λ n. begins_blank (drop n text.now) ≡ false)
+        (λ n. IsOpenComment (drop n text.now)) }
 {
     let mut done = 0;
     loop {

@@ -34,7 +34,8 @@ fn escape_at(text: &[char]) -> Option<usize>
 
 /// Behind how many characters the first Unicode escape begins.
 fn first_escape(text: &[char]) -> Option<usize>
-    ensures { MatchOption result (HasNoUnicodeEscape text.now) (λ n. (n < length text.now) × (slice_get text.now n ≡ Some 92) × IsFirstEscape text.now (take n text.now)) }
+    ensures { MatchOption result (HasNoUnicodeEscape text.now) (λ n. (n < length text.now)
+        × (slice_get text.now n ≡ Some 92) × IsFirstEscape text.now (take n text.now)) }
 {
     match escape_at(text) {
         Some(letter) => Some(letter - 1),
@@ -54,7 +55,8 @@ fn row_at(text: &[char], file: FileNo, at: u32, fault: Fault) -> Row
     requires before { fault.before < length text.now }
     requires fits { at + width text.now < 2 ^ 32 }
     ensures code { result.code ≡ fault.code }
-    ensures place { (c : ℕ) × (slice_get text.now fault.before ≡ Some c) × IsAtCharacter file (at + width (take fault.before text.now)) c result }
+    ensures place { (c : ℕ) × (slice_get text.now fault.before ≡ Some c)
+        × IsAtCharacter file (at + width (take fault.before text.now)) c result }
 {
     let from = at + width(&text[..fault.before]) as u32;
     let to = from + text[fault.before].len_utf8() as u32;
@@ -96,7 +98,8 @@ fn kind_of(
 /// The next token of a text whose first byte is `at`; none at its end.
 fn next_token(text: &[char], file: FileNo, at: u32) -> Result<Option<Spelled>, Row>
     requires { at + width text.now < 2 ^ 32 }
-    ensures { MatchResult result (λ next. IsNextOrEnd text.now at next) (λ row. IsFaultNext file text.now at row) }
+    ensures { MatchResult result (λ next. IsNextOrEnd text.now at next)
+        (λ row. IsFaultNext file text.now at row) }
 {
     let gap = match gap_len(text) {
         Ok(gap) => gap,
@@ -155,7 +158,8 @@ fn tokens_of(
 ) -> Result<Vec<Token>, Fail<Row>>
     requires { length names.old + width text.now < 2 ^ 32 - 1 }
     ensures ok { IfOk result (λ tokens. IsLexing file text.now names.old tokens.items names.new) }
-    ensures refused { IfErr result (λ fail. IfRefused fail (λ row. IsTokenFault file text.now row)) }
+    ensures refused { IfErr result
+        (λ fail. IfRefused fail (λ row. IsTokenFault file text.now row)) }
     ensures extends { Extends names.old names.new }
 {
     let mut tokens = Vec::new(alloc);
@@ -196,7 +200,8 @@ pub fn lex(
 ) -> Result<Vec<Token>, Fail<Row>>
     requires { length names.old + length text.now < 2 ^ 32 - 1 }
     ensures ok { IfOk result (λ tokens. Lexed file text.now names.old tokens.items names.new) }
-    ensures refused { IfErr result (λ fail. IfRefused fail (λ row. LexicalFault file text.now row)) }
+    ensures refused { IfErr result
+        (λ fail. IfRefused fail (λ row. LexicalFault file text.now row)) }
     ensures extends { Extends names.old names.new }
 {
     let decoded = match str::from_utf8(text) {

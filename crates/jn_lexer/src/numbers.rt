@@ -61,7 +61,8 @@ fn with_digit(value: u64, c: char) -> u64
 
 /// The value of the word, if it is a number that may be written.
 pub fn number_value(word: &[char]) -> Option<u32>
-    ensures { MatchOption result ((value : ℕ) → IsNumeral word.now value → ⊥) (λ value. IsNumeral word.now value) }
+    ensures { MatchOption result ((value : ℕ) → IsNumeral word.now value → ⊥)
+        (λ value. IsNumeral word.now value) }
 {
     if !is_decimal(word) {
         return None;

@@ -69,7 +69,8 @@ fn bad_letter(inside: &[char]) -> Option<usize>
 pub fn quoted_at(text: &[char]) -> Result<Found, Fault>
     requires quote { BeginsWith is_quote text.now }
     requires fits { length text.now < 2 ^ 32 }
-    ensures { MatchResult result (λ found. IsFound text.now found) (λ fault. IsFaultHere text.now fault) }
+    ensures { MatchResult result (λ found. IsFound text.now found)
+        (λ fault. IsFaultHere text.now fault) }
 {
     let inside = &text[1..];
     match string_len(inside) {
@@ -103,7 +104,8 @@ pub fn text_of(alloc: Global, word: &[char]) -> Result<String, OutOfMemory>
 
 /// What the inside of a string stands for.
 pub fn value_of(alloc: Global, inside: &[char]) -> Result<String, OutOfMemory>
-    ensures { IfOk result (λ text. string_bytes text ≡ encode_utf8_all (unescaped false inside.now)) }
+    ensures { IfOk result
+        (λ text. string_bytes text ≡ encode_utf8_all (unescaped false inside.now)) }
 {
     let mut text = String::new(alloc);
     let mut slash = false;

@@ -51,7 +51,8 @@ fn begins_dot(text: &[char]) -> bool
 /// A number at the front.
 fn number_at(text: &[char]) -> Result<Found, Fault>
     requires { BeginsWith is_digit text.now }
-    ensures { MatchResult result (λ found. IsFound text.now found) (λ fault. IsFaultHere text.now fault) }
+    ensures { MatchResult result (λ found. IsFound text.now found)
+        (λ fault. IsFaultHere text.now fault) }
 {
     let bad = Fault {
         code: Code::L7,
@@ -94,7 +95,8 @@ fn mark_at(text: &[char]) -> Option<Found>
 /// A separator or an operator at the front, or a fault.
 fn mark_or_fault(text: &[char]) -> Result<Found, Fault>
     requires { IsMarkPlace text.now }
-    ensures { MatchResult result (λ found. IsFound text.now found) (λ fault. IsFaultHere text.now fault) }
+    ensures { MatchResult result (λ found. IsFound text.now found)
+        (λ fault. IsFaultHere text.now fault) }
 {
     if begins_bad_dot(text) {
         return Err(Fault {
@@ -126,7 +128,8 @@ pub fn token_at(text: &[char]) -> Result<Found, Fault>
     requires some { 0 < length text.now }
     requires fits { length text.now < 2 ^ 32 }
     requires no_blank { begins_blank text.now ≡ false }
-    ensures { MatchResult result (λ found. IsFound text.now found) (λ fault. IsFaultHere text.now fault) }
+    ensures { MatchResult result (λ found. IsFound text.now found)
+        (λ fault. IsFaultHere text.now fault) }
 {
     let first = text[0];
     if is_start(first) {

@@ -19,7 +19,9 @@ use jn_trees::{BinaryOperator, Expr};
 /// The register of `this`, a parameter or a local.
 fn register_of(tree: &Expr, c: &Context) -> Option<RegNo>
     requires few { Few c.now.program.now }
-    ensures { reg_of result ≡ expressions.register_of c.now.program.now c.now.class.0 (scope_in c.now) (placed_view tree.now) }
+    ensures { reg_of result
+        ≡ expressions.register_of c.now.program.now c.now.class.0 (scope_in c.now)
+        (placed_view tree.now) }
 {
     match tree {
         Expr::Name { name } => match meaning(c, name.name) {
@@ -33,7 +35,9 @@ fn register_of(tree: &Expr, c: &Context) -> Option<RegNo>
 }
 
 fn name_origin(c: &Context, meaning: Meaning) -> Option<Origin>
-    ensures { result ≡ expressions.name_origin c.now.program.now c.now.class.0 (meaning_of c.now.faults.now meaning) }
+    ensures { result
+        ≡ expressions.name_origin c.now.program.now c.now.class.0
+        (meaning_of c.now.faults.now meaning) }
 {
     match meaning {
         Meaning::Field(field) => {
@@ -51,7 +55,9 @@ fn name_origin(c: &Context, meaning: Meaning) -> Option<Origin>
 }
 
 fn access_origin(c: &Context, reg: RegNo, access: Access) -> Option<Origin>
-    ensures { result ≡ expressions.access_origin c.now.program.now c.now.class.0 (Some reg.0) (access_of access) }
+    ensures { result
+        ≡ expressions.access_origin c.now.program.now c.now.class.0 (Some reg.0)
+        (access_of access) }
 {
     match access {
         Access::Object(field) => Some(Origin { reg, field }),
@@ -62,7 +68,9 @@ fn access_origin(c: &Context, reg: RegNo, access: Access) -> Option<Origin>
 /// The field of which something is learnt from a test of the expression: one that is read through `this`, a parameter or a local.
 pub fn origin_of(tree: &Expr, c: &Context) -> Option<Origin>
     requires few { Few c.now.program.now }
-    ensures { result ≡ expressions.origin_of c.now.program.now c.now.class.0 (scope_in c.now) (placed_view tree.now) }
+    ensures { result
+        ≡ expressions.origin_of c.now.program.now c.now.class.0 (scope_in c.now)
+        (placed_view tree.now) }
 {
     match tree {
         Expr::Name { name } => name_origin(c, meaning(c, name.name)),
@@ -98,7 +106,12 @@ pub fn test_null(
     yes: PointNo,
     no: PointNo,
 ) -> Result<(), OutOfMemory>
-    ensures { OnOk result ((t : temporaries) → ContinuesTest (call.null_tested (expressions.on_null c.now.program.now c.now.class.0 c.now.first operator) origin span) yes.0 no.0 e.old t of e.new) }
+    ensures { OnOk result ((t : temporaries)
+        → ContinuesTest
+        (call.null_tested
+        (expressions.on_null c.now.program.now c.now.class.0 c.now.first operator) origin
+        span)
+        yes.0 no.0 e.old t of e.new) }
 {
     if is_on_null(c, operator) {
         put(
@@ -137,7 +150,8 @@ pub fn test_instance(
     yes: PointNo,
     no: PointNo,
 ) -> Result<(), OutOfMemory>
-    ensures { OnOk result ((t : temporaries) → ContinuesTest (call.instance_tested class.0 origin span) yes.0 no.0 e.old t of e.new) }
+    ensures { OnOk result ((t : temporaries)
+        → ContinuesTest (call.instance_tested class.0 origin span) yes.0 no.0 e.old t of e.new) }
 {
     put(
         e,

@@ -31,7 +31,10 @@ pub fn copied(c: &Context, later: Option<&Expr>, value: Operand) -> bool
 /// Where the expression follows.
 pub fn copied_by(c: &Context, next: &Expr, value: Operand) -> bool
     requires few { Few c.now.program.now }
-    ensures { result ≡ (ltb value.reg.0 c.now.first && expressions.assigns c.now.program.now c.now.class.0 (scope_in c.now) value.reg.0 (placed_view next.now)) }
+    ensures { result
+        ≡ (ltb value.reg.0 c.now.first
+        && expressions.assigns c.now.program.now c.now.class.0 (scope_in c.now) value.reg.0
+        (placed_view next.now)) }
 {
     value.reg.0 < c.first && assigns(next, c, value.reg.0)
 }
@@ -39,7 +42,11 @@ pub fn copied_by(c: &Context, next: &Expr, value: Operand) -> bool
 /// Where the expression follows, and then another or none.
 pub fn copied_by_either(c: &Context, next: &Expr, later: Option<&Expr>, value: Operand) -> bool
     requires few { Few c.now.program.now }
-    ensures { result ≡ (ltb value.reg.0 c.now.first && (expressions.assigns c.now.program.now c.now.class.0 (scope_in c.now) value.reg.0 (placed_view next.now) || later_of c.now later.entry value.reg.0)) }
+    ensures { result
+        ≡ (ltb value.reg.0 c.now.first
+        && (expressions.assigns c.now.program.now c.now.class.0 (scope_in c.now) value.reg.0
+        (placed_view next.now)
+        || later_of c.now later.entry value.reg.0)) }
 {
     value.reg.0 < c.first && (assigns(next, c, value.reg.0) || is_later(c, later, value.reg.0))
 }
@@ -47,7 +54,8 @@ pub fn copied_by_either(c: &Context, next: &Expr, later: Option<&Expr>, value: O
 /// Where these expressions follow.
 pub fn copied_before(c: &Context, rest: &[Expr], value: Operand) -> bool
     requires few { Few c.now.program.now }
-    ensures { result ≡ (ltb value.reg.0 c.now.first && later_in c.now (placed_views rest.now) value.reg.0) }
+    ensures { result
+        ≡ (ltb value.reg.0 c.now.first && later_in c.now (placed_views rest.now) value.reg.0) }
 {
     value.reg.0 < c.first && assigns_any(rest, c, value.reg.0)
 }

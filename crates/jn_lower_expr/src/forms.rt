@@ -114,7 +114,8 @@ pub fn is_true(literal: Literal) -> bool
 #[tactic(auto, using(crate::proofs::Naming::numbered))]
 pub fn class_method(c: &Context, before: Meaning, name: NameNo, arity: usize) -> Option<MethodNo>
     requires few { Few c.now.program.now }
-    ensures { spec.number_of result ≡ spec.class_method c.now.program.now (meaning_of c.now.faults.now before) name.0 arity }
+    ensures { spec.number_of result
+        ≡ spec.class_method c.now.program.now (meaning_of c.now.faults.now before) name.0 arity }
 {
     match before {
         Meaning::Class(class) => method_of(c.program, class, name, arity),
@@ -126,7 +127,8 @@ pub fn class_method(c: &Context, before: Meaning, name: NameNo, arity: usize) ->
 #[tactic(auto, using(crate::proofs::Naming::field_numbered))]
 pub fn class_field(c: &Context, before: Meaning, name: NameNo) -> Option<FieldNo>
     requires few { Few c.now.program.now }
-    ensures { spec.field_number result ≡ spec.class_field c.now.program.now (meaning_of c.now.faults.now before) name.0 }
+    ensures { spec.field_number result
+        ≡ spec.class_field c.now.program.now (meaning_of c.now.faults.now before) name.0 }
 {
     match before {
         Meaning::Class(class) => field_of(c.program, class, name),

@@ -30,7 +30,10 @@ pub fn sign(
     of: Operand,
     span: Span,
 ) -> Result<Typed, OutOfMemory>
-    ensures { IfOk result (λ o. Continues (λ v. form.gives c.now.program.now c.now.first v.behind v.fragment Int span (λ dst. Unary dst negate v.operand)) Int e.old t.old of e.new o t.new) }
+    ensures { IfOk result (λ o. Continues
+        (λ v. form.gives c.now.program.now c.now.first v.behind v.fragment Int span
+        (λ dst. Unary dst negate v.operand))
+        Int e.old t.old of e.new o t.new) }
 {
     let base = BaseType::Int;
     let dst = temporary(c, t, base)?;
@@ -50,7 +53,10 @@ pub fn cast(
     of: Operand,
     span: Span,
 ) -> Result<Typed, OutOfMemory>
-    ensures { IfOk result (λ o. Continues (λ v. form.gives c.now.program.now c.now.first v.behind v.fragment (Ref class) span (λ dst. Cast dst v.operand class)) (Ref class) e.old t.old of e.new o t.new) }
+    ensures { IfOk result (λ o. Continues
+        (λ v. form.gives c.now.program.now c.now.first v.behind v.fragment (Ref class) span
+        (λ dst. Cast dst v.operand class))
+        (Ref class) e.old t.old of e.new o t.new) }
 {
     let base = BaseType::Ref(class);
     let dst = temporary(c, t, base)?;
@@ -70,7 +76,10 @@ pub fn new_array(
     length: Operand,
     span: Span,
 ) -> Result<Typed, OutOfMemory>
-    ensures { IfOk result (λ o. Continues (λ v. form.gives c.now.program.now c.now.first v.behind v.fragment base span (λ dst. NewArray dst base v.operand)) base e.old t.old length e.new o t.new) }
+    ensures { IfOk result (λ o. Continues
+        (λ v. form.gives c.now.program.now c.now.first v.behind v.fragment base span
+        (λ dst. NewArray dst base v.operand))
+        base e.old t.old length e.new o t.new) }
 {
     let dst = temporary(c, t, base)?;
     step(e, PointKind::NewArray { dst, base, length }, span)?;
@@ -149,7 +158,11 @@ pub fn combine(
     right: Typed,
     span: Span,
 ) -> Result<Typed, OutOfMemory>
-    ensures { IfOk result (λ o. ContinuesTwo (λ l r. form.combined c.now.program.now c.now.first r.behind (then l.fragment r.fragment) span operator left.base right.base l.operand r.operand) (bases.binary_type operator left.base right.base) e.old t.old left.operand right.operand e.new o t.new) }
+    ensures { IfOk result (λ o. ContinuesTwo
+        (λ l r. form.combined c.now.program.now c.now.first r.behind (then l.fragment r.fragment)
+        span operator left.base right.base l.operand r.operand)
+        (bases.binary_type operator left.base right.base) e.old t.old left.operand right.operand
+        e.new o t.new) }
 {
     let base = binary_type(operator, left.base, right.base);
     let dst = temporary(c, t, base)?;
@@ -187,7 +200,12 @@ pub fn step_by_one(
     old: Operand,
     span: Span,
 ) -> Result<Typed, OutOfMemory>
-    ensures { IfOk result (λ o. (x : Operand) → Continues (λ v. call.stepped c.now.program.now c.now.first span (form.step_operator by) (spot_of c.now.faults.now spot.now) old (call.one c.now.program.now c.now.first v.behind v.fragment span)) Int e.old t.old x e.new o t.new) }
+    ensures { IfOk result (λ o. (x : Operand)
+        → Continues
+        (λ v. call.stepped c.now.program.now c.now.first span (form.step_operator by)
+        (spot_of c.now.faults.now spot.now) old
+        (call.one c.now.program.now c.now.first v.behind v.fragment span))
+        Int e.old t.old x e.new o t.new) }
 {
     let base = BaseType::Int;
     let one = temporary(c, t, base)?;
@@ -237,7 +255,10 @@ pub fn old_value(
     given: Operand,
     span: Span,
 ) -> Result<Typed, OutOfMemory>
-    ensures { IfOk result (λ o. Continues (call.old_value c.now.program.now c.now.first (spot_of c.now.faults.now place.now.spot) place.now.base span) place.now.base e.old t.old given e.new o t.new) }
+    ensures { IfOk result (λ o. Continues
+        (call.old_value c.now.program.now c.now.first (spot_of c.now.faults.now place.now.spot)
+        place.now.base span)
+        place.now.base e.old t.old given e.new o t.new) }
 {
     let base = place.base;
     if is_local_spot(&place.spot) {

@@ -42,7 +42,8 @@ pub struct Place {
 }
 
 fn name_spot(c: &Context, meaning: Meaning, span: Span) -> Spot
-    ensures { spot_of c.now.faults.now result ≡ call.name_spot c.now.program.now (meaning_of c.now.faults.now meaning) span }
+    ensures { spot_of c.now.faults.now result
+        ≡ call.name_spot c.now.program.now (meaning_of c.now.faults.now meaning) span }
 {
     match meaning {
         Meaning::Local(variable) => Spot::Local(variable),
@@ -65,8 +66,10 @@ fn name_spot(c: &Context, meaning: Meaning, span: Span) -> Spot
 
 /// The place that an identifier names.
 pub fn name_place(c: &Context, meaning: Meaning, span: Span) -> Place
-    ensures spot { spot_of c.now.faults.now result.spot ≡ call.name_spot c.now.program.now (meaning_of c.now.faults.now meaning) span }
-    ensures base { result.base ≡ bases.meaning_type c.now.program.now (meaning_of c.now.faults.now meaning) }
+    ensures spot { spot_of c.now.faults.now result.spot
+        ≡ call.name_spot c.now.program.now (meaning_of c.now.faults.now meaning) span }
+    ensures base { result.base
+        ≡ bases.meaning_type c.now.program.now (meaning_of c.now.faults.now meaning) }
 {
     Place {
         spot: name_spot(c, meaning, span),
@@ -104,7 +107,9 @@ pub fn read(
     place: Place,
     span: Span,
 ) -> Result<Typed, OutOfMemory>
-    ensures { IfOk result (λ o. (p : form.Located) (base : BaseType) (start : emitted.Emitter) → Finds p base c.now.faults.now start place e.old t.old → Evaluates (form.read_of c.now.program.now c.now.first p span) base start o e.new t.new) }
+    ensures { IfOk result (λ o. (p : form.Located) (base : BaseType) (start : emitted.Emitter)
+        → Finds p base c.now.faults.now start place e.old t.old
+        → Evaluates (form.read_of c.now.program.now c.now.first p span) base start o e.new t.new) }
 {
     match place.spot {
         Spot::Local(variable) => {
@@ -169,7 +174,8 @@ pub fn qualifier(bound: Option<Bound>) -> Option<Qual>
 }
 
 fn written(bound: Bound) -> Qual
-    ensures { result ≡ record { null = bound.null; committed = bound.committed; free = bound.free } }
+    ensures { result
+        ≡ record { null = bound.null; committed = bound.committed; free = bound.free } }
 {
     let null = if bound.null { 1 } else { 0 };
     let committed = if bound.committed { 2 } else { 0 };
@@ -186,7 +192,9 @@ pub fn write(
     span: Span,
     value: Operand,
 ) -> Result<(), OutOfMemory>
-    ensures { OnOk result (Runs (form.write c.now.program.now c.now.first (spot_of c.now.faults.now spot.now) span value) e.old e.new) }
+    ensures { OnOk result (Runs
+        (form.write c.now.program.now c.now.first (spot_of c.now.faults.now spot.now) span value)
+        e.old e.new) }
 {
     match spot {
         Spot::Local(variable) => step(
@@ -230,7 +238,9 @@ pub fn write(
 
 /// The register in which what was assigned stands: the local's, or that of the value.
 pub fn assigned(c: &Context, spot: &Spot, span: Span, value: Operand) -> Operand
-    ensures { result ≡ call.assigned_operand c.now.program.now c.now.first (spot_of c.now.faults.now spot.now) span value }
+    ensures { result
+        ≡ call.assigned_operand c.now.program.now c.now.first (spot_of c.now.faults.now spot.now)
+        span value }
 {
     match spot {
         Spot::Local(variable) => Operand {

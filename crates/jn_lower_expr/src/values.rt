@@ -44,7 +44,8 @@ pub fn jump(e: &mut Emitter, to: PointNo, span: Span) -> Result<(), OutOfMemory>
 
 /// Tests the value.
 pub fn branch(e: &mut Emitter, of: Operand, yes: PointNo, no: PointNo) -> Result<(), OutOfMemory>
-    ensures { OnOk result (Adds (asks of.span (λ first second. Branch of first second)) yes.0 no.0 e.old e.new) }
+    ensures { OnOk result
+        (Adds (asks of.span (λ first second. Branch of first second)) yes.0 no.0 e.old e.new) }
 {
     put(e, PointKind::Branch { of, yes, no }, of.span)?;
     Ok(())
@@ -94,7 +95,8 @@ pub fn temporary(c: &Context, t: &mut Temporaries, base: BaseType) -> Result<Reg
 
 /// A value of type void, which no point writes.
 pub fn void(c: &Context, t: &mut Temporaries, span: Span) -> Result<Typed, OutOfMemory>
-    ensures register { IfOk result (λ o. (o.operand.reg.0 ≡ c.now.first + (take_one t.old Void).number) × (o.operand.span ≡ span)) }
+    ensures register { IfOk result (λ o.
+        (o.operand.reg.0 ≡ c.now.first + (take_one t.old Void).number) × (o.operand.span ≡ span)) }
     ensures typed { IfOk result (λ o. o.base ≡ Void) }
     ensures behind { OnOk result (t.new ≡ (take_one t.old Void).behind) }
 {
@@ -135,7 +137,10 @@ pub fn literal(
     literal: Literal,
     span: Span,
 ) -> Result<Typed, OutOfMemory>
-    ensures { IfOk result (λ o. Evaluates (form.gives c.now.program.now c.now.first t.old nothing (bases.literal_type literal) span (λ dst. Const dst (form.constant literal))) (bases.literal_type literal) e.old o e.new t.new) }
+    ensures { IfOk result (λ o. Evaluates
+        (form.gives c.now.program.now c.now.first t.old nothing (bases.literal_type literal) span
+        (λ dst. Const dst (form.constant literal)))
+        (bases.literal_type literal) e.old o e.new t.new) }
 {
     let base = literal_type(literal);
     let dst = temporary(c, t, base)?;
@@ -155,7 +160,10 @@ pub fn keep(
     copied: bool,
     given: Typed,
 ) -> Result<Typed, OutOfMemory>
-    ensures { IfOk result (λ o. (later : ℕ → Bool) → copied ≡ (ltb given.operand.reg.0 c.now.first && later given.operand.reg.0) → Continues (form.kept c.now.program.now c.now.first later given.base) given.base e.old t.old given.operand e.new o t.new) }
+    ensures { IfOk result (λ o. (later : ℕ → Bool)
+        → copied ≡ (ltb given.operand.reg.0 c.now.first && later given.operand.reg.0)
+        → Continues (form.kept c.now.program.now c.now.first later given.base) given.base e.old
+        t.old given.operand e.new o t.new) }
 {
     if copied {
         let span = given.operand.span;

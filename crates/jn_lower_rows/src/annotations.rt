@@ -98,7 +98,8 @@ fn not_allowed(
     reference: bool,
     annotations: &[Annotation],
 ) -> Result<(), AllocError>
-    ensures { OnOk result (rows.new ≡ rows.old ++ spec.not_allowed (allowed_of allowed) reference annotations.now) }
+    ensures { OnOk result
+        (rows.new ≡ rows.old ++ spec.not_allowed (allowed_of allowed) reference annotations.now) }
 {
     for annotation in annotations {
         let wrong = !is_allowed(allowed, reference, annotation.name);
@@ -114,7 +115,8 @@ pub fn annotation_rows(
     reference: bool,
     annotations: &[Annotation],
 ) -> Result<(), AllocError>
-    ensures { OnOk result (rows.new ≡ rows.old ++ spec.annotation_rows (allowed_of allowed) reference annotations.now) }
+    ensures { OnOk result (rows.new
+        ≡ rows.old ++ spec.annotation_rows (allowed_of allowed) reference annotations.now) }
 {
     not_allowed(rows, allowed, reference, annotations)?;
     doubled(rows, Kind::Nullity, annotations)?;
@@ -138,7 +140,9 @@ pub fn type_rows(
     allowed: Allowed,
     leading: &[Annotation],
 ) -> Result<(), AllocError>
-    ensures { OnOk result (rows.new ≡ rows.old ++ spec.type_rows (placed_type_use type_use.now) (allowed_of allowed) leading.now) }
+    ensures { OnOk result (rows.new
+        ≡ rows.old
+        ++ spec.type_rows (placed_type_use type_use.now) (allowed_of allowed) leading.now) }
 {
     let reference = is_class_use(type_use.base);
     match &type_use.array {

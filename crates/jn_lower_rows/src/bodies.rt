@@ -35,7 +35,11 @@ fn ctor_call(
     rows: &mut Seq<Row>,
 ) -> Result<(), AllocError>
     requires few { Few whole.now.program.now }
-    ensures { OnOk result ((st : State) → Stands st names.now → rows.new ≡ rows.old ++ spec.ctor_call_rows whole.now.program.now whole.now.method.0 st class.0 (placed_views arguments.now) span) }
+    ensures { OnOk result ((st : State) → Stands st names.now
+        → rows.new
+        ≡ rows.old
+        ++ spec.ctor_call_rows whole.now.program.now whole.now.method.0 st class.0
+        (placed_views arguments.now) span) }
 {
     let place = place_of(whole, NO_THIS);
     look_all(arguments, &place, names, rows)?;
@@ -46,7 +50,15 @@ fn ctor_call(
 /// `super()` where neither is written (JLS 8.8.7).
 fn unwritten_call(whole: &Whole, names: &Names, rows: &mut Seq<Row>) -> Result<(), AllocError>
     requires few { Few whole.now.program.now }
-    ensures { OnOk result ((st : State) → Stands st names.now → rows.new ≡ rows.old ++ annotated.when (not (bodies.is_under_object (parent_of (class_info whole.now.program.now (bodies.class whole.now.program.now whole.now.method.0))))) (spec.ctor_call_rows whole.now.program.now whole.now.method.0 st (bodies.parent whole.now.program.now whole.now.method.0) NoPlacedTrees (bodies.name_span whole.now.program.now whole.now.method.0))) }
+    ensures { OnOk result ((st : State) → Stands st names.now
+        → rows.new
+        ≡ rows.old
+        ++ annotated.when
+        (not (bodies.is_under_object (parent_of (class_info whole.now.program.now
+        (bodies.class whole.now.program.now whole.now.method.0)))))
+        (spec.ctor_call_rows whole.now.program.now whole.now.method.0 st
+        (bodies.parent whole.now.program.now whole.now.method.0) NoPlacedTrees
+        (bodies.name_span whole.now.program.now whole.now.method.0))) }
 {
     let class = class_of(whole.program, whole.method);
     if is_under_object(whole.program, class) {
@@ -65,7 +77,11 @@ fn begin_rows(
     rows: &mut Seq<Row>,
 ) -> Result<(), AllocError>
     requires few { Few whole.now.program.now }
-    ensures { OnOk result ((st : State) (more : PlacedStatements) → Stands st names.now → rows.new ≡ rows.old ++ spec.construction_rows whole.now.program.now whole.now.method.0 st (MorePlacedStatements (placed_statement first.now) more)) }
+    ensures { OnOk result ((st : State) (more : PlacedStatements) → Stands st names.now
+        → rows.new
+        ≡ rows.old
+        ++ spec.construction_rows whole.now.program.now whole.now.method.0 st
+        (MorePlacedStatements (placed_statement first.now) more)) }
 {
     match first {
         Stmt::ThisCall { arguments, span } => {
@@ -89,7 +105,11 @@ fn construction(
     rows: &mut Seq<Row>,
 ) -> Result<(), AllocError>
     requires few { Few whole.now.program.now }
-    ensures { OnOk result ((st : State) → Stands st names.now → rows.new ≡ rows.old ++ spec.construction_rows whole.now.program.now whole.now.method.0 st (placed_statements body.now)) }
+    ensures { OnOk result ((st : State) → Stands st names.now
+        → rows.new
+        ≡ rows.old
+        ++ spec.construction_rows whole.now.program.now whole.now.method.0 st
+        (placed_statements body.now)) }
 {
     match body.first() {
         None => unwritten_call(whole, names, rows),
@@ -98,7 +118,8 @@ fn construction(
 }
 
 fn is_own_call(first: &Stmt) -> bool
-    ensures { (more : PlacedStatements) → result ≡ bodies.calls_own (MorePlacedStatements (placed_statement first.now) more) }
+    ensures { (more : PlacedStatements)
+        → result ≡ bodies.calls_own (MorePlacedStatements (placed_statement first.now) more) }
 {
     match first {
         Stmt::ThisCall { .. } => true,
@@ -126,7 +147,14 @@ fn before_statements(
     rows: &mut Seq<Row>,
 ) -> Result<(), AllocError>
     requires few { Few whole.now.program.now }
-    ensures { OnOk result ((st : State) → Stands st names.now → rows.new ≡ rows.old ++ (spec.construction_rows whole.now.program.now whole.now.method.0 st (placed_statements body.now) ++ annotated.when (not (bodies.calls_own (placed_statements body.now))) (spec.member_rows whole.now.program.now whole.now.method.0 (placed_members members.now)))) }
+    ensures { OnOk result ((st : State) → Stands st names.now
+        → rows.new
+        ≡ rows.old
+        ++ (spec.construction_rows whole.now.program.now whole.now.method.0 st
+        (placed_statements body.now)
+        ++ annotated.when (not (bodies.calls_own (placed_statements body.now)))
+        (spec.member_rows whole.now.program.now whole.now.method.0
+        (placed_members members.now)))) }
 {
     construction(whole, names, body, rows)?;
     if calls_own(body) {
@@ -144,7 +172,15 @@ fn constructed(
     rows: &mut Seq<Row>,
 ) -> Result<(), AllocError>
     requires few { Few whole.now.program.now }
-    ensures { OnOk result ((st : State) → Stands st names.now → rows.new ≡ rows.old ++ annotated.when (ctor_of (method_at whole.now.program.now whole.now.method.0)) (spec.construction_rows whole.now.program.now whole.now.method.0 st (placed_statements body.now) ++ annotated.when (not (bodies.calls_own (placed_statements body.now))) (spec.member_rows whole.now.program.now whole.now.method.0 (placed_members members.now)))) }
+    ensures { OnOk result ((st : State) → Stands st names.now
+        → rows.new
+        ≡ rows.old
+        ++ annotated.when (ctor_of (method_at whole.now.program.now whole.now.method.0))
+        (spec.construction_rows whole.now.program.now whole.now.method.0 st
+        (placed_statements body.now)
+        ++ annotated.when (not (bodies.calls_own (placed_statements body.now)))
+        (spec.member_rows whole.now.program.now whole.now.method.0
+        (placed_members members.now)))) }
 {
     if is_ctor(whole.program, whole.method) {
         before_statements(whole, names, body, members, rows)
@@ -178,7 +214,14 @@ pub fn body_rows(
     rows: &mut Seq<Row>,
 ) -> Result<(), AllocError>
     requires few { Few program.now }
-    ensures { OnOk result (rows.new ≡ rows.old ++ spec.rows_of_source program.now (record { method = method.0; parameters = placed_parameters parameters.now; body = placed_statements body.now; members = placed_members members.now })) }
+    ensures { OnOk result (rows.new
+        ≡ rows.old
+        ++ spec.rows_of_source program.now (record {
+          method = method.0;
+          parameters = placed_parameters parameters.now;
+          body = placed_statements body.now;
+          members = placed_members members.now;
+        })) }
 {
     let whole = Whole {
         program,

@@ -31,7 +31,14 @@ pub fn class_call_rows(
     arity: usize,
 ) -> Result<(), AllocError>
     requires few { Few c.now.program.now }
-    ensures { OnOk result (rows.new ≡ rows.old ++ cond (eqb class.0 1) (spec.string_method_rows c.now.program.now name.name.0 arity name.span) (cond (is_object_member name.name.0) (annotated.row J5 name.span) (spec.class_method_rows c.now.program.now c.now.class.0 (members.method_of c.now.program.now class.0 name.name.0 arity) name.span))) }
+    ensures { OnOk result (rows.new
+        ≡ rows.old
+        ++ cond (eqb class.0 1)
+        (spec.string_method_rows c.now.program.now name.name.0 arity name.span)
+        (cond (is_object_member name.name.0) (annotated.row J5 name.span)
+        (spec.class_method_rows c.now.program.now c.now.class.0
+        (members.method_of c.now.program.now class.0 name.name.0 arity)
+        name.span))) }
 {
     if class.0 == 1 {
         if is_text_method(name.name, arity) {
@@ -56,7 +63,14 @@ pub fn value_call_rows(
     arity: usize,
 ) -> Result<(), AllocError>
     requires few { Few c.now.program.now }
-    ensures { OnOk result (rows.new ≡ rows.old ++ cond (is_object_member name.name.0 && not (eqb name.name.0 equals_name)) (annotated.row J5 name.span) (cond clean (spec.value_method_rows c.now.program.now c.now.class.0 base name.name.0 arity name.span) [])) }
+    ensures { OnOk result (rows.new
+        ≡ rows.old
+        ++ cond (is_object_member name.name.0 && not (eqb name.name.0 equals_name))
+        (annotated.row J5 name.span)
+        (cond clean
+        (spec.value_method_rows c.now.program.now c.now.class.0 base name.name.0 arity
+        name.span)
+        [])) }
 {
     if is_object_member(name.name) && name.name.0 != EQUALS.0 {
         push(rows, Code::J5, name.span)
@@ -76,7 +90,12 @@ pub fn own_call_rows(
     arity: usize,
 ) -> Result<(), AllocError>
     requires few { Few c.now.program.now }
-    ensures { OnOk result (rows.new ≡ rows.old ++ cond (is_object_member name.name.0) (annotated.row J5 name.span) (spec.own_method_rows c.now.program.now (setting_of at) (members.method_of c.now.program.now c.now.class.0 name.name.0 arity) name.span)) }
+    ensures { OnOk result (rows.new
+        ≡ rows.old
+        ++ cond (is_object_member name.name.0) (annotated.row J5 name.span)
+        (spec.own_method_rows c.now.program.now (setting_of at)
+        (members.method_of c.now.program.now c.now.class.0 name.name.0 arity)
+        name.span)) }
 {
     if is_object_member(name.name) {
         push(rows, Code::J5, name.span)
@@ -94,7 +113,12 @@ pub fn super_call_rows(
     arity: usize,
 ) -> Result<(), AllocError>
     requires few { Few c.now.program.now }
-    ensures { OnOk result (rows.new ≡ rows.old ++ cond (is_object_member name.name.0) (annotated.row J5 name.span) (annotated.when at.this_stands (spec.super_method_rows c.now.program.now c.now.class.0 (super_method c.now.program.now c.now.class.0 name.name.0 arity) name.span))) }
+    ensures { OnOk result (rows.new
+        ≡ rows.old
+        ++ cond (is_object_member name.name.0) (annotated.row J5 name.span) (annotated.when
+        at.this_stands
+        (spec.super_method_rows c.now.program.now c.now.class.0
+        (super_method c.now.program.now c.now.class.0 name.name.0 arity) name.span))) }
 {
     if is_object_member(name.name) {
         push(rows, Code::J5, name.span)

@@ -36,7 +36,15 @@ pub fn no_names(alloc: Global) -> Names
 }
 
 fn parameter_of(parameter: &Parameter, base: BaseType) -> Variable
-    ensures local { local_of [] result ≡ record { name = parameter.now.name.name.0; reg = 0; base = base; bound = None; fixed = has_final parameter.now.modifiers.items; faults = [] } }
+    ensures local { local_of [] result
+        ≡ record {
+          name = parameter.now.name.name.0;
+          reg = 0;
+          base = base;
+          bound = None;
+          fixed = has_final parameter.now.modifiers.items;
+          faults = [];
+        } }
     ensures within { result.faults.to ≤ 0 }
 {
     Variable {
@@ -53,7 +61,9 @@ fn parameter_of(parameter: &Parameter, base: BaseType) -> Variable
 fn typed(parameters: &[Parameter], bases: &[BaseType]) -> usize
     ensures parameters { result ≤ length parameters.now }
     ensures bases { result ≤ length bases.now }
-    ensures all { parameters_from 0 (placed_parameters (drop result parameters.now)) (drop result bases.now) ≡ [] }
+    ensures all { parameters_from 0 (placed_parameters (drop result parameters.now))
+        (drop result bases.now)
+        ≡ [] }
 {
     if parameters.len() < bases.len() {
         parameters.len()
@@ -68,7 +78,9 @@ fn parameter_scope(
     parameters: &[Parameter],
     bases: &[BaseType],
 ) -> Result<Vec<Variable>, AllocError>
-    ensures { IfOk result (λ vs. (scope_of [] vs.items ≡ plain (parameters_from 0 (placed_parameters parameters.now) bases.now)) × AllWithin 0 vs.items) }
+    ensures { IfOk result (λ vs. (scope_of [] vs.items
+        ≡ plain (parameters_from 0 (placed_parameters parameters.now) bases.now))
+        × AllWithin 0 vs.items) }
 {
     let mut scope = Vec::new(alloc);
     let mut left = typed(parameters, bases);
@@ -80,7 +92,10 @@ fn parameter_scope(
 }
 
 fn entry_scope(whole: &Whole, parameters: &[Parameter]) -> Result<Vec<Variable>, AllocError>
-    ensures { IfOk result (λ vs. (scope_of [] vs.items ≡ plain (parameters_from 0 (placed_parameters parameters.now) (params_of (method_at whole.now.program.now whole.now.method.0)))) × AllWithin 0 vs.items) }
+    ensures { IfOk result (λ vs. (scope_of [] vs.items
+        ≡ plain (parameters_from 0 (placed_parameters parameters.now)
+        (params_of (method_at whole.now.program.now whole.now.method.0))))
+        × AllWithin 0 vs.items) }
 {
     let bases = params_of(whole.program, whole.method);
     parameter_scope(whole.alloc, parameters, bases)
@@ -88,7 +103,11 @@ fn entry_scope(whole: &Whole, parameters: &[Parameter]) -> Result<Vec<Variable>,
 
 /// The names in scope where a body begins.
 pub fn entry(whole: &Whole, parameters: &[Parameter]) -> Result<Names, AllocError>
-    ensures { IfOk result (λ names. Stands (bodies.at_entry whole.now.program.now whole.now.method.0 (placed_parameters parameters.now)) names × WellKept names) }
+    ensures { IfOk result (λ names. Stands
+        (bodies.at_entry whole.now.program.now whole.now.method.0
+        (placed_parameters parameters.now))
+        names
+        × WellKept names) }
 {
     Ok(Names {
         scope: entry_scope(whole, parameters)?,

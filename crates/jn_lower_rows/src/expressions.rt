@@ -37,7 +37,8 @@ pub fn expression(
     rows: &mut Seq<Row>,
 ) -> Result<BaseType, AllocError>
     requires few { Few c.now.program.now }
-    ensures { IfOk result (λ base. (base ≡ type_in c.now (placed_view tree.now)) × (rows.new ≡ rows.old ++ rows_in c.now at (placed_view tree.now))) }
+    ensures { IfOk result (λ base. (base ≡ type_in c.now (placed_view tree.now))
+        × (rows.new ≡ rows.old ++ rows_in c.now at (placed_view tree.now))) }
 {
     match tree {
         Expr::Literal { literal, .. } => Ok(literal_type(*literal)),
@@ -195,7 +196,8 @@ fn assigned(
     rows: &mut Seq<Row>,
 ) -> Result<BaseType, AllocError>
     requires few { Few c.now.program.now }
-    ensures { IfOk result (λ base. (base ≡ type_in c.now (placed_view tree.now)) × (rows.new ≡ rows.old ++ assigned_in c.now at (placed_view tree.now))) }
+    ensures { IfOk result (λ base. (base ≡ type_in c.now (placed_view tree.now))
+        × (rows.new ≡ rows.old ++ assigned_in c.now at (placed_view tree.now))) }
 {
     match tree {
         Expr::Name { name } => {
@@ -225,7 +227,9 @@ fn assigned(
 #[cycle(looking)]
 fn looked(tree: &Expr, c: &Context, at: Setting, rows: &mut Seq<Row>) -> Result<Looked, AllocError>
     requires few { Few c.now.program.now }
-    ensures { IfOk result (λ seen. (seen.base ≡ type_in c.now (placed_view tree.now)) × (seen.clean ≡ is_clean (rows_in c.now at (placed_view tree.now))) × (rows.new ≡ rows.old ++ rows_in c.now at (placed_view tree.now))) }
+    ensures { IfOk result (λ seen. (seen.base ≡ type_in c.now (placed_view tree.now))
+        × (seen.clean ≡ is_clean (rows_in c.now at (placed_view tree.now)))
+        × (rows.new ≡ rows.old ++ rows_in c.now at (placed_view tree.now))) }
 {
     let start = rows.len();
     let base = expression(tree, c, at, rows)?;
@@ -244,7 +248,8 @@ fn before(
     rows: &mut Seq<Row>,
 ) -> Result<Before, AllocError>
     requires few { Few c.now.program.now }
-    ensures { IfOk result (λ b. IsBefore c.now at false (placed_view target.now) b rows.old rows.new) }
+    ensures { IfOk result
+        (λ b. IsBefore c.now at false (placed_view target.now) b rows.old rows.new) }
 {
     let meaning = before_dot(c, target);
     match meaning {
@@ -273,7 +278,9 @@ fn receiver(
     rows: &mut Seq<Row>,
 ) -> Result<Before, AllocError>
     requires few { Few c.now.program.now }
-    ensures { IfOk result (λ b. IsBefore c.now at (prints_in c.now (placed_view target.now) name (spec_count (placed_views arguments.now))) (placed_view target.now) b rows.old rows.new) }
+    ensures { IfOk result (λ b. IsBefore c.now at
+        (prints_in c.now (placed_view target.now) name (spec_count (placed_views arguments.now)))
+        (placed_view target.now) b rows.old rows.new) }
 {
     if is_println(c, target, name.name, count(arguments)) {
         return Ok(unseen(before_dot(c, target), true));
@@ -291,7 +298,10 @@ fn field(
     rows: &mut Seq<Row>,
 ) -> Result<Found, AllocError>
     requires few { Few c.now.program.now }
-    ensures { IfOk result (λ found. (access_of found.access ≡ access_in c.now (placed_view target.now) name) × (found.clean ≡ is_clean (accessed_rows c.now at (placed_view target.now) name)) × (rows.new ≡ rows.old ++ accessed_rows c.now at (placed_view target.now) name)) }
+    ensures { IfOk result (λ found. (access_of found.access
+        ≡ access_in c.now (placed_view target.now) name)
+        × (found.clean ≡ is_clean (accessed_rows c.now at (placed_view target.now) name))
+        × (rows.new ≡ rows.old ++ accessed_rows c.now at (placed_view target.now) name)) }
 {
     let start = rows.len();
     let before = before(target, c, at, rows)?;

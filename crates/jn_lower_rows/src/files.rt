@@ -94,7 +94,9 @@ fn is_primitive(base: Base) -> bool
 }
 
 fn is_static_start(type_use: &TypeUse, first: &Declarator, more: &[Declarator]) -> bool
-    ensures { result ≡ spec.is_static_start (placed_type_use type_use.now) (placed_declarator first.now ∷ placed_declarators more.now) }
+    ensures { result
+        ≡ spec.is_static_start (placed_type_use type_use.now)
+        (placed_declarator first.now ∷ placed_declarators more.now) }
 {
     is_primitive(type_use.base)
         && type_use.array.is_none()
@@ -114,7 +116,8 @@ fn has_static(modifiers: &[Modifier]) -> bool
 }
 
 fn names_rows(rows: &mut Seq<Row>, declarators: &[Declarator]) -> Result<(), AllocError>
-    ensures { OnOk result (rows.new ≡ rows.old ++ spec.names_rows (placed_declarators declarators.now)) }
+    ensures { OnOk result
+        (rows.new ≡ rows.old ++ spec.names_rows (placed_declarators declarators.now)) }
 {
     for declarator in declarators {
         name_row(rows, declarator.name)?;
@@ -127,7 +130,11 @@ fn parameter_row(
     rows: &mut Seq<Row>,
     parameter: &Parameter,
 ) -> Result<(), AllocError>
-    ensures { OnOk result (rows.new ≡ rows.old ++ (annotated.name_row parameter.now.name.name.0 parameter.now.name.span ++ annotated.type_rows (placed_type_use parameter.now.type_use) annotated.both_kinds (annotations_of parameter.now.modifiers.items))) }
+    ensures { OnOk result (rows.new
+        ≡ rows.old
+        ++ (annotated.name_row parameter.now.name.name.0 parameter.now.name.span
+        ++ annotated.type_rows (placed_type_use parameter.now.type_use) annotated.both_kinds
+        (annotations_of parameter.now.modifiers.items))) }
 {
     name_row(rows, parameter.name)?;
     let notes = local_notes(alloc, &parameter.modifiers)?;
@@ -139,7 +146,8 @@ fn parameter_rows(
     rows: &mut Seq<Row>,
     parameters: &[Parameter],
 ) -> Result<(), AllocError>
-    ensures { OnOk result (rows.new ≡ rows.old ++ spec.parameter_rows (placed_parameters parameters.now)) }
+    ensures { OnOk result
+        (rows.new ≡ rows.old ++ spec.parameter_rows (placed_parameters parameters.now)) }
 {
     for parameter in parameters {
         parameter_row(alloc, rows, parameter)?;
@@ -153,7 +161,10 @@ fn result_rows(
     result_use: &ResultUse,
     modifiers: &[Modifier],
 ) -> Result<(), AllocError>
-    ensures { OnOk result (rows.new ≡ rows.old ++ spec.result_rows (placed_result result_use.now) (spec.without_override (spec.notes_of modifiers.now))) }
+    ensures { OnOk result (rows.new
+        ≡ rows.old
+        ++ spec.result_rows (placed_result result_use.now)
+        (spec.without_override (spec.notes_of modifiers.now))) }
 {
     let notes = notes_but_override(alloc, modifiers)?;
     match result_use {
@@ -163,7 +174,8 @@ fn result_rows(
 }
 
 fn receiver_rows(rows: &mut Seq<Row>, receiver: &Option<Receiver>) -> Result<(), AllocError>
-    ensures { OnOk result (rows.new ≡ rows.old ++ spec.receiver_rows (placed_receiver receiver.now)) }
+    ensures { OnOk result
+        (rows.new ≡ rows.old ++ spec.receiver_rows (placed_receiver receiver.now)) }
 {
     match receiver {
         None => Ok(()),
@@ -172,7 +184,9 @@ fn receiver_rows(rows: &mut Seq<Row>, receiver: &Option<Receiver>) -> Result<(),
 }
 
 fn marked_rows(alloc: Global, rows: &mut Seq<Row>, modifiers: &[Modifier]) -> Result<(), AllocError>
-    ensures { OnOk result (rows.new ≡ rows.old ++ annotated.annotation_rows annotated.both_kinds true (spec.notes_of modifiers.now)) }
+    ensures { OnOk result (rows.new
+        ≡ rows.old
+        ++ annotated.annotation_rows annotated.both_kinds true (spec.notes_of modifiers.now)) }
 {
     let notes = notes(alloc, modifiers)?;
     annotation_rows(rows, BOTH_KINDS, true, &notes)
@@ -184,7 +198,10 @@ fn field_type_rows(
     type_use: &TypeUse,
     modifiers: &[Modifier],
 ) -> Result<(), AllocError>
-    ensures { OnOk result (rows.new ≡ rows.old ++ annotated.type_rows (placed_type_use type_use.now) annotated.nullity_alone (spec.notes_of modifiers.now)) }
+    ensures { OnOk result (rows.new
+        ≡ rows.old
+        ++ annotated.type_rows (placed_type_use type_use.now) annotated.nullity_alone
+        (spec.notes_of modifiers.now)) }
 {
     let notes = notes(alloc, modifiers)?;
     type_rows(rows, type_use, NULLITY_ALONE, &notes)
@@ -197,7 +214,8 @@ fn head_rows(
     interface: bool,
     member: &Member,
 ) -> Result<(), AllocError>
-    ensures { OnOk result (rows.new ≡ rows.old ++ spec.head_rows interface (placed_member member.now)) }
+    ensures { OnOk result
+        (rows.new ≡ rows.old ++ spec.head_rows interface (placed_member member.now)) }
 {
     match member {
         Member::Field {
@@ -247,7 +265,8 @@ fn heads_rows(
     interface: bool,
     members: &[Member],
 ) -> Result<(), AllocError>
-    ensures { OnOk result (rows.new ≡ rows.old ++ spec.heads_rows interface (placed_members members.now)) }
+    ensures { OnOk result
+        (rows.new ≡ rows.old ++ spec.heads_rows interface (placed_members members.now)) }
 {
     for member in members {
         head_rows(alloc, rows, interface, member)?;
@@ -260,7 +279,8 @@ fn declared_type_rows(
     rows: &mut Seq<Row>,
     declared: &TypeTree,
 ) -> Result<(), AllocError>
-    ensures { OnOk result (rows.new ≡ rows.old ++ spec.declared_type_rows (placed_type declared.now)) }
+    ensures { OnOk result
+        (rows.new ≡ rows.old ++ spec.declared_type_rows (placed_type declared.now)) }
 {
     match declared {
         TypeTree::Class {
@@ -314,7 +334,8 @@ fn import_row(rows: &mut Seq<Row>, import: &Import) -> Result<(), AllocError>
 }
 
 fn import_rows(rows: &mut Seq<Row>, imports: &[Import]) -> Result<(), AllocError>
-    ensures { OnOk result (rows.new ≡ rows.old ++ spec.import_rows (map placed_import imports.now)) }
+    ensures { OnOk result
+        (rows.new ≡ rows.old ++ spec.import_rows (map placed_import imports.now)) }
 {
     for import in imports {
         import_row(rows, import)?;
@@ -354,7 +375,8 @@ fn package_row(
     first: Option<&QualifiedName>,
     line: &Option<PackageLine>,
 ) -> Result<(), AllocError>
-    ensures { OnOk result (rows.new ≡ rows.old ++ spec.package_row (first_package first.entry) (placed_package line.now)) }
+    ensures { OnOk result (rows.new
+        ≡ rows.old ++ spec.package_row (first_package first.entry) (placed_package line.now)) }
 {
     match line {
         None => Ok(()),
@@ -373,7 +395,8 @@ fn package_behind<'a>(
     first: Option<&'a QualifiedName>,
     line: &'a Option<PackageLine>,
 ) -> Option<&'a QualifiedName>
-    ensures { first_package result ≡ spec.package_behind (first_package first.entry) (placed_package line.now) }
+    ensures { first_package result
+        ≡ spec.package_behind (first_package first.entry) (placed_package line.now) }
 {
     match first {
         Some(name) => Some(name),

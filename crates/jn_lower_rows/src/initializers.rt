@@ -20,7 +20,9 @@ use std::alloc::AllocError;
 
 /// What is the same in a body, or in an initializer.
 pub fn place_of<'a>(whole: &Whole<'a>, at: Setting) -> Place<'a>
-    ensures { (result.program.now ≡ whole.now.program.now) × (result.class.0 ≡ bodies.class whole.now.program.now whole.now.method.0) × (result.at ≡ at) }
+    ensures { (result.program.now ≡ whole.now.program.now)
+        × (result.class.0 ≡ bodies.class whole.now.program.now whole.now.method.0)
+        × (result.at ≡ at) }
 {
     Place {
         program: whole.program,
@@ -40,7 +42,11 @@ fn field_rows(
 ) -> Result<(), AllocError>
     requires few { Few whole.now.program.now }
     requires none { none.now.scope.items ≡ [] }
-    ensures { OnOk result (rows.new ≡ rows.old ++ annotated.when (not (is_static whole.now.program.now field.0)) (rows_of whole.now.program.now (bodies.class whole.now.program.now whole.now.method.0) spec.in_initializer [] (placed_view value.now))) }
+    ensures { OnOk result (rows.new
+        ≡ rows.old
+        ++ annotated.when (not (is_static whole.now.program.now field.0)) (rows_of
+        whole.now.program.now (bodies.class whole.now.program.now whole.now.method.0)
+        spec.in_initializer [] (placed_view value.now))) }
 {
     if is_static_field(whole.program, field) {
         return Ok(());
@@ -58,7 +64,10 @@ fn value_rows(
 ) -> Result<(), AllocError>
     requires few { Few whole.now.program.now }
     requires none { none.now.scope.items ≡ [] }
-    ensures { OnOk result (rows.new ≡ rows.old ++ spec.initializer_rows whole.now.program.now whole.now.method.0 name.0 (Some (placed_view value.now))) }
+    ensures { OnOk result (rows.new
+        ≡ rows.old
+        ++ spec.initializer_rows whole.now.program.now whole.now.method.0 name.0
+        (Some (placed_view value.now))) }
 {
     let class = class_of(whole.program, whole.method);
     match declared_field(whole.program, class, name) {
@@ -76,7 +85,10 @@ fn initializer(
 ) -> Result<(), AllocError>
     requires few { Few whole.now.program.now }
     requires none { none.now.scope.items ≡ [] }
-    ensures { OnOk result (rows.new ≡ rows.old ++ spec.initializer_rows whole.now.program.now whole.now.method.0 declared.now.name.name.0 (placed_optional declared.now.value)) }
+    ensures { OnOk result (rows.new
+        ≡ rows.old
+        ++ spec.initializer_rows whole.now.program.now whole.now.method.0
+        declared.now.name.name.0 (placed_optional declared.now.value)) }
 {
     match &declared.value {
         None => Ok(()),
@@ -92,7 +104,10 @@ fn initializers(
 ) -> Result<(), AllocError>
     requires few { Few whole.now.program.now }
     requires none { none.now.scope.items ≡ [] }
-    ensures { OnOk result (rows.new ≡ rows.old ++ spec.initializers_rows whole.now.program.now whole.now.method.0 (placed_declarators more.now)) }
+    ensures { OnOk result (rows.new
+        ≡ rows.old
+        ++ spec.initializers_rows whole.now.program.now whole.now.method.0
+        (placed_declarators more.now)) }
 {
     for declared in more {
         initializer(whole, none, declared, rows)?;
@@ -108,7 +123,10 @@ fn member_initializers(
 ) -> Result<(), AllocError>
     requires few { Few whole.now.program.now }
     requires none { none.now.scope.items ≡ [] }
-    ensures { OnOk result (rows.new ≡ rows.old ++ spec.initializers_rows whole.now.program.now whole.now.method.0 (bodies.declarators_of (placed_member member.now))) }
+    ensures { OnOk result (rows.new
+        ≡ rows.old
+        ++ spec.initializers_rows whole.now.program.now whole.now.method.0
+        (bodies.declarators_of (placed_member member.now))) }
 {
     match member {
         Member::Field { first, more, .. } => {
@@ -129,7 +147,10 @@ pub fn all_initializers(
 ) -> Result<(), AllocError>
     requires few { Few whole.now.program.now }
     requires none { none.now.scope.items ≡ [] }
-    ensures { OnOk result (rows.new ≡ rows.old ++ spec.member_rows whole.now.program.now whole.now.method.0 (placed_members members.now)) }
+    ensures { OnOk result (rows.new
+        ≡ rows.old
+        ++ spec.member_rows whole.now.program.now whole.now.method.0
+        (placed_members members.now)) }
 {
     for member in members {
         member_initializers(whole, none, member, rows)?;

@@ -28,7 +28,8 @@ struct Fact {
 }
 
 fn fact_of_origin(origin: Option<Origin>) -> Option<Fact>
-    ensures { MatchOption result (origin_key origin ≡ []) (λ k. origin_key origin ≡ record { reg = k.reg.0; field = k.field.0 } ∷ []) }
+    ensures { MatchOption result (origin_key origin ≡ [])
+        (λ k. origin_key origin ≡ record { reg = k.reg.0; field = k.field.0 } ∷ []) }
 {
     match origin {
         None => None,
@@ -41,7 +42,8 @@ fn fact_of_origin(origin: Option<Origin>) -> Option<Fact>
 
 /// The field that a point reads, writes or tests through a register.
 fn fact_of(kind: &PointKind) -> Option<Fact>
-    ensures { MatchOption result (kind_keys kind.now ≡ []) (λ k. kind_keys kind.now ≡ record { reg = k.reg.0; field = k.field.0 } ∷ []) }
+    ensures { MatchOption result (kind_keys kind.now ≡ [])
+        (λ k. kind_keys kind.now ≡ record { reg = k.reg.0; field = k.field.0 } ∷ []) }
 {
     match kind {
         PointKind::FieldRead { object, field, .. } => Some(Fact {
@@ -77,7 +79,9 @@ fn add_fact(
     locals: u32,
     kind: &PointKind,
 ) -> Result<(), AllocError>
-    ensures { OnOk result ((codes.new.items ≡ codes.old.items ++ map code (facts_at program.now locals kind.now)) × AllNarrow (facts_at program.now locals kind.now)) }
+    ensures { OnOk result ((codes.new.items
+        ≡ codes.old.items ++ map code (facts_at program.now locals kind.now))
+        × AllNarrow (facts_at program.now locals kind.now)) }
 {
     if let Some(fact) = fact_of(kind)
         && is_fact(program, locals, fact)
@@ -88,7 +92,9 @@ fn add_fact(
 }
 
 fn fact_codes(alloc: Global, program: &IndexedProgram, body: &Body) -> Result<Vec<u64>, AllocError>
-    ensures { IfOk result (λ codes. (codes.items ≡ map code (facts_of program.now body.now.locals body.now.points)) × AllNarrow (facts_of program.now body.now.locals body.now.points)) }
+    ensures { IfOk result (λ codes. (codes.items
+        ≡ map code (facts_of program.now body.now.locals body.now.points))
+        × AllNarrow (facts_of program.now body.now.locals body.now.points)) }
 {
     let mut codes = Vec::new(alloc);
     let points = body.points.as_slice();
@@ -130,7 +136,8 @@ fn is_own_field(program: &IndexedProgram, method: MethodNo, field: u32) -> bool
 
 /// How many of the fields are reference fields of a constructor's class.
 fn count_own(program: &IndexedProgram, method: MethodNo, fields: &[u32]) -> usize
-    ensures { result ≡ length (filter (is_own program.now (method_at program.now method.0)) fields.now) }
+    ensures { result
+        ≡ length (filter (is_own program.now (method_at program.now method.0)) fields.now) }
 {
     let mut count = 0;
     for field in fields {
@@ -197,7 +204,10 @@ pub fn limit_rows(
     rows: &mut Seq<Row>,
 ) -> Result<(), AllocError>
     requires few { Few program.now }
-    ensures { OnOk result (rows.new ≡ rows.old ++ annotated.when (spec.is_too_large program.now body.now) (annotated.row J6 (bodies.name_span program.now body.now.method.0))) }
+    ensures { OnOk result (rows.new
+        ≡ rows.old
+        ++ annotated.when (spec.is_too_large program.now body.now)
+        (annotated.row J6 (bodies.name_span program.now body.now.method.0))) }
 {
     let large = is_too_large(alloc, program, body)?;
     push_if(rows, large, Code::J6, name_span(program, body.method))

@@ -25,7 +25,8 @@ use jn_trees::Identifier;
 use std::alloc::AllocError;
 
 fn field_at(program: &IndexedProgram, field: FieldNo) -> Option<&Field>
-    ensures { MatchOption result (field_info program.now field.0 ≡ None) (λ f. field_info program.now field.0 ≡ Some f.now) }
+    ensures { MatchOption result (field_info program.now field.0 ≡ None)
+        (λ f. field_info program.now field.0 ≡ Some f.now) }
 {
     program.program().fields.as_slice().get(field.0 as usize)
 }
@@ -51,7 +52,9 @@ pub fn is_own(c: &Context, field: FieldNo) -> bool
 }
 
 fn is_closed_field(c: &Context, field: FieldNo) -> bool
-    ensures { result ≡ (spec.private_field (field_info c.now.program.now field.0) && not (eqb (owner c.now.program.now field.0) c.now.class.0)) }
+    ensures { result
+        ≡ (spec.private_field (field_info c.now.program.now field.0)
+        && not (eqb (owner c.now.program.now field.0) c.now.class.0)) }
 {
     match field_at(c.program, field) {
         None => false,
@@ -60,7 +63,9 @@ fn is_closed_field(c: &Context, field: FieldNo) -> bool
 }
 
 fn is_closed_method(c: &Context, method: MethodNo) -> bool
-    ensures { result ≡ (private_of (method_at c.now.program.now method.0) && not (eqb (class_of (method_at c.now.program.now method.0)) c.now.class.0)) }
+    ensures { result
+        ≡ (private_of (method_at c.now.program.now method.0)
+        && not (eqb (class_of (method_at c.now.program.now method.0)) c.now.class.0)) }
 {
     match method_at(c.program, method) {
         None => false,
@@ -83,7 +88,8 @@ fn field_private(
     field: FieldNo,
     span: Span,
 ) -> Result<(), AllocError>
-    ensures { OnOk result (rows.new ≡ rows.old ++ spec.field_private c.now.program.now c.now.class.0 field.0 span) }
+    ensures { OnOk result
+        (rows.new ≡ rows.old ++ spec.field_private c.now.program.now c.now.class.0 field.0 span) }
 {
     push_if(rows, is_closed_field(c, field), Code::J3, span)
 }
@@ -94,7 +100,8 @@ fn method_private(
     method: MethodNo,
     span: Span,
 ) -> Result<(), AllocError>
-    ensures { OnOk result (rows.new ≡ rows.old ++ spec.method_private c.now.program.now c.now.class.0 method.0 span) }
+    ensures { OnOk result
+        (rows.new ≡ rows.old ++ spec.method_private c.now.program.now c.now.class.0 method.0 span) }
 {
     push_if(rows, is_closed_method(c, method), Code::J3, span)
 }
@@ -107,7 +114,10 @@ pub fn class_field_rows(
     name: Identifier,
 ) -> Result<(), AllocError>
     requires few { Few c.now.program.now }
-    ensures { OnOk result (rows.new ≡ rows.old ++ spec.class_field_rows c.now.program.now c.now.class.0 (members.field_of c.now.program.now class.0 name.name.0) name.span) }
+    ensures { OnOk result (rows.new
+        ≡ rows.old
+        ++ spec.class_field_rows c.now.program.now c.now.class.0
+        (members.field_of c.now.program.now class.0 name.name.0) name.span) }
 {
     match field_of(c.program, class, name.name) {
         None => push(rows, Code::J2, name.span),
@@ -130,7 +140,10 @@ fn object_field_rows(
     name: Identifier,
 ) -> Result<(), AllocError>
     requires few { Few c.now.program.now }
-    ensures { OnOk result (rows.new ≡ rows.old ++ spec.object_field_rows c.now.program.now c.now.class.0 (members.field_of c.now.program.now class.0 name.name.0) name.span) }
+    ensures { OnOk result (rows.new
+        ≡ rows.old
+        ++ spec.object_field_rows c.now.program.now c.now.class.0
+        (members.field_of c.now.program.now class.0 name.name.0) name.span) }
 {
     match field_of(c.program, class, name.name) {
         None => push(rows, Code::J2, name.span),
@@ -149,7 +162,9 @@ pub fn value_field_rows(
     name: Identifier,
 ) -> Result<(), AllocError>
     requires few { Few c.now.program.now }
-    ensures { OnOk result (rows.new ≡ rows.old ++ spec.value_field_rows c.now.program.now c.now.class.0 base name.name.0 name.span) }
+    ensures { OnOk result (rows.new
+        ≡ rows.old
+        ++ spec.value_field_rows c.now.program.now c.now.class.0 base name.name.0 name.span) }
 {
     match base {
         BaseType::Ref(class) => {
@@ -173,7 +188,10 @@ pub fn class_method_rows(
     arity: usize,
 ) -> Result<(), AllocError>
     requires few { Few c.now.program.now }
-    ensures { OnOk result (rows.new ≡ rows.old ++ spec.class_method_rows c.now.program.now c.now.class.0 (members.method_of c.now.program.now class.0 name.name.0 arity) name.span) }
+    ensures { OnOk result (rows.new
+        ≡ rows.old
+        ++ spec.class_method_rows c.now.program.now c.now.class.0
+        (members.method_of c.now.program.now class.0 name.name.0 arity) name.span) }
 {
     match method_of(c.program, class, name.name, arity) {
         None => push(rows, Code::J2, name.span),
@@ -192,7 +210,10 @@ fn object_method_rows(
     arity: usize,
 ) -> Result<(), AllocError>
     requires few { Few c.now.program.now }
-    ensures { OnOk result (rows.new ≡ rows.old ++ spec.object_method_rows c.now.program.now c.now.class.0 (members.method_of c.now.program.now class.0 name.name.0 arity) name.span) }
+    ensures { OnOk result (rows.new
+        ≡ rows.old
+        ++ spec.object_method_rows c.now.program.now c.now.class.0
+        (members.method_of c.now.program.now class.0 name.name.0 arity) name.span) }
 {
     match method_of(c.program, class, name.name, arity) {
         None => push(rows, Code::J2, name.span),
@@ -222,7 +243,10 @@ fn reference_method_rows(
     arity: usize,
 ) -> Result<(), AllocError>
     requires few { Few c.now.program.now }
-    ensures { OnOk result (rows.new ≡ rows.old ++ spec.reference_method_rows c.now.program.now c.now.class.0 base name.name.0 arity name.span) }
+    ensures { OnOk result (rows.new
+        ≡ rows.old
+        ++ spec.reference_method_rows c.now.program.now c.now.class.0 base name.name.0 arity
+        name.span) }
 {
     match base {
         BaseType::Ref(class) => object_method_rows(rows, c, class, name, arity),
@@ -239,7 +263,10 @@ pub fn value_method_rows(
     arity: usize,
 ) -> Result<(), AllocError>
     requires few { Few c.now.program.now }
-    ensures { OnOk result (rows.new ≡ rows.old ++ spec.value_method_rows c.now.program.now c.now.class.0 base name.name.0 arity name.span) }
+    ensures { OnOk result (rows.new
+        ≡ rows.old
+        ++ spec.value_method_rows c.now.program.now c.now.class.0 base name.name.0 arity
+        name.span) }
 {
     if is_string(base) {
         push_if(rows, !is_text_method(name.name, arity), Code::J5, name.span)
@@ -259,7 +286,10 @@ pub fn own_method_rows(
     arity: usize,
 ) -> Result<(), AllocError>
     requires few { Few c.now.program.now }
-    ensures { OnOk result (rows.new ≡ rows.old ++ spec.own_method_rows c.now.program.now (setting_of at) (members.method_of c.now.program.now c.now.class.0 name.name.0 arity) name.span) }
+    ensures { OnOk result (rows.new
+        ≡ rows.old
+        ++ spec.own_method_rows c.now.program.now (setting_of at)
+        (members.method_of c.now.program.now c.now.class.0 name.name.0 arity) name.span) }
 {
     match method_of(c.program, c.class, name.name, arity) {
         None => push(rows, Code::J2, name.span),
@@ -278,7 +308,10 @@ pub fn super_method_rows(
     arity: usize,
 ) -> Result<(), AllocError>
     requires few { Few c.now.program.now }
-    ensures { OnOk result (rows.new ≡ rows.old ++ spec.super_method_rows c.now.program.now c.now.class.0 (super_method c.now.program.now c.now.class.0 name.name.0 arity) name.span) }
+    ensures { OnOk result (rows.new
+        ≡ rows.old
+        ++ spec.super_method_rows c.now.program.now c.now.class.0
+        (super_method c.now.program.now c.now.class.0 name.name.0 arity) name.span) }
 {
     match super_method(c.program, c.class, name.name, arity) {
         None => push(rows, Code::J2, name.span),
@@ -299,7 +332,10 @@ pub fn ctor_rows(
     span: Span,
 ) -> Result<(), AllocError>
     requires few { Few c.now.program.now }
-    ensures { OnOk result (rows.new ≡ rows.old ++ spec.ctor_rows c.now.program.now c.now.class.0 (members.constructor_of c.now.program.now class.0 arity) span) }
+    ensures { OnOk result (rows.new
+        ≡ rows.old
+        ++ spec.ctor_rows c.now.program.now c.now.class.0
+        (members.constructor_of c.now.program.now class.0 arity) span) }
 {
     match constructor_of(c.program, class, arity) {
         None => push(rows, Code::J2, span),
@@ -308,7 +344,9 @@ pub fn ctor_rows(
 }
 
 fn is_open_class(c: &Context, class: ClassNo) -> bool
-    ensures { result ≡ (interface_of (class_info c.now.program.now class.0) || spec.abstract_class (class_info c.now.program.now class.0)) }
+    ensures { result
+        ≡ (interface_of (class_info c.now.program.now class.0)
+        || spec.abstract_class (class_info c.now.program.now class.0)) }
 {
     match class_at(c.program, class) {
         None => false,
@@ -324,7 +362,10 @@ pub fn new_rows(
     arity: usize,
 ) -> Result<(), AllocError>
     requires few { Few c.now.program.now }
-    ensures { OnOk result (rows.new ≡ rows.old ++ spec.new_rows c.now.program.now c.now.class.0 (class_named c.now.program.now class.name.0) arity class.span) }
+    ensures { OnOk result (rows.new
+        ≡ rows.old
+        ++ spec.new_rows c.now.program.now c.now.class.0
+        (class_named c.now.program.now class.name.0) arity class.span) }
 {
     match class_named(c.program, class.name) {
         None => push(rows, Code::J1, class.span),
@@ -338,7 +379,10 @@ pub fn new_rows(
 /// J1: the name of a class that isn't there.
 pub fn known_class(rows: &mut Seq<Row>, c: &Context, class: Identifier) -> Result<(), AllocError>
     requires few { Few c.now.program.now }
-    ensures { OnOk result (rows.new ≡ rows.old ++ annotated.known_class c.now.program.now (class_named c.now.program.now class.name.0) class.span) }
+    ensures { OnOk result (rows.new
+        ≡ rows.old
+        ++ annotated.known_class c.now.program.now (class_named c.now.program.now class.name.0)
+        class.span) }
 {
     match class_named(c.program, class.name) {
         None => push(rows, Code::J1, class.span),

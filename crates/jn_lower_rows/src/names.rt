@@ -62,7 +62,9 @@ fn own_field_rows(
     field: FieldNo,
     span: Span,
 ) -> Result<(), AllocError>
-    ensures { OnOk result (rows.new ≡ rows.old ++ spec.own_field_rows c.now.program.now c.now.class.0 (setting_of at) field.0 span) }
+    ensures { OnOk result (rows.new
+        ≡ rows.old
+        ++ spec.own_field_rows c.now.program.now c.now.class.0 (setting_of at) field.0 span) }
 {
     let wrong = !is_static_field(c.program, field) && !at.this_stands;
     push_if(rows, wrong, Code::J1, span)
@@ -76,7 +78,10 @@ pub fn name_rows(
     meaning: Meaning,
     span: Span,
 ) -> Result<(), AllocError>
-    ensures { OnOk result (rows.new ≡ rows.old ++ spec.name_rows c.now.program.now c.now.class.0 (setting_of at) (meaning_of c.now.faults.now meaning) span) }
+    ensures { OnOk result (rows.new
+        ≡ rows.old
+        ++ spec.name_rows c.now.program.now c.now.class.0 (setting_of at)
+        (meaning_of c.now.faults.now meaning) span) }
 {
     match meaning {
         Meaning::Local(variable) => fault_rows(rows, c, variable.faults),
@@ -86,7 +91,11 @@ pub fn name_rows(
 }
 
 fn is_closed(c: &Context, at: Setting, field: FieldNo, through_this: bool) -> bool
-    ensures { result ≡ (spec.final_field (field_info c.now.program.now field.0) && not (not (is_static c.now.program.now field.0) && (at.own_fields && (eqb (owner c.now.program.now field.0) c.now.class.0 && through_this)))) }
+    ensures { result
+        ≡ (spec.final_field (field_info c.now.program.now field.0)
+        && not (not (is_static c.now.program.now field.0)
+        && (at.own_fields
+        && (eqb (owner c.now.program.now field.0) c.now.class.0 && through_this)))) }
 {
     let open = !is_static_field(c.program, field)
         && at.own_fields
@@ -103,7 +112,10 @@ fn final_rows(
     through_this: bool,
     span: Span,
 ) -> Result<(), AllocError>
-    ensures { OnOk result (rows.new ≡ rows.old ++ spec.final_rows c.now.program.now c.now.class.0 (setting_of at) field.0 through_this span) }
+    ensures { OnOk result (rows.new
+        ≡ rows.old
+        ++ spec.final_rows c.now.program.now c.now.class.0 (setting_of at) field.0 through_this
+        span) }
 {
     push_if(rows, is_closed(c, at, field, through_this), Code::J4, span)
 }
@@ -115,7 +127,14 @@ fn assigned_field_rows(
     field: FieldNo,
     span: Span,
 ) -> Result<(), AllocError>
-    ensures { OnOk result (rows.new ≡ rows.old ++ (spec.own_field_rows c.now.program.now c.now.class.0 (setting_of at) field.0 span ++ annotated.unless (spec.own_field_rows c.now.program.now c.now.class.0 (setting_of at) field.0 span) (spec.final_rows c.now.program.now c.now.class.0 (setting_of at) field.0 true span))) }
+    ensures { OnOk result (rows.new
+        ≡ rows.old
+        ++ (spec.own_field_rows c.now.program.now c.now.class.0 (setting_of at) field.0 span
+        ++ annotated.unless
+        (spec.own_field_rows c.now.program.now c.now.class.0 (setting_of at) field.0
+        span)
+        (spec.final_rows c.now.program.now c.now.class.0 (setting_of at) field.0 true
+        span))) }
 {
     let wrong = !is_static_field(c.program, field) && !at.this_stands;
     if wrong {
@@ -133,7 +152,10 @@ pub fn assigned_name_rows(
     meaning: Meaning,
     span: Span,
 ) -> Result<(), AllocError>
-    ensures { OnOk result (rows.new ≡ rows.old ++ spec.assigned_name_rows c.now.program.now c.now.class.0 (setting_of at) (meaning_of c.now.faults.now meaning) span) }
+    ensures { OnOk result (rows.new
+        ≡ rows.old
+        ++ spec.assigned_name_rows c.now.program.now c.now.class.0 (setting_of at)
+        (meaning_of c.now.faults.now meaning) span) }
 {
     match meaning {
         Meaning::Local(variable) => {
@@ -154,7 +176,10 @@ pub fn assigned_access_rows(
     through_this: bool,
     span: Span,
 ) -> Result<(), AllocError>
-    ensures { OnOk result (rows.new ≡ rows.old ++ spec.assigned_access_rows c.now.program.now c.now.class.0 (setting_of at) (access_of access) through_this span) }
+    ensures { OnOk result (rows.new
+        ≡ rows.old
+        ++ spec.assigned_access_rows c.now.program.now c.now.class.0 (setting_of at)
+        (access_of access) through_this span) }
 {
     match access {
         Access::Class(field) => final_rows(rows, c, at, field, false, span),
@@ -183,7 +208,8 @@ pub fn array_rows(
     annotations: &[Annotation],
 ) -> Result<(), AllocError>
     requires few { Few c.now.program.now }
-    ensures { OnOk result (rows.new ≡ rows.old ++ spec.array_rows c.now.program.now base annotations.now) }
+    ensures { OnOk result
+        (rows.new ≡ rows.old ++ spec.array_rows c.now.program.now base annotations.now) }
 {
     annotation_rows(rows, NULLITY_ALONE, is_class_use(base), annotations)?;
     base_rows(rows, c, base)
@@ -239,7 +265,8 @@ pub fn equality_rows(
     right: BaseType,
     span: Span,
 ) -> Result<(), AllocError>
-    ensures { OnOk result (rows.new ≡ rows.old ++ spec.equality_rows c.now.program.now operator null left right span) }
+    ensures { OnOk result (rows.new
+        ≡ rows.old ++ spec.equality_rows c.now.program.now operator null left right span) }
 {
     let wrong = !null
         && compares_references(operator_of(operator), left, right)

@@ -54,7 +54,8 @@ pub struct Found {
 
 /// What is no value.
 pub fn unseen(meaning: Meaning, prints: bool) -> Before
-    ensures { (result.prints ≡ prints) × (result.meaning ≡ meaning) × (result.base ≡ Void) × (result.clean ≡ true) }
+    ensures { (result.prints ≡ prints) × (result.meaning ≡ meaning) × (result.base ≡ Void)
+        × (result.clean ≡ true) }
 {
     Before {
         prints,
@@ -71,7 +72,11 @@ fn named_field_rows(
     name: Identifier,
 ) -> Result<(), AllocError>
     requires few { Few c.now.program.now }
-    ensures { OnOk result (rows.new ≡ rows.old ++ cond (eqb class.0 1) (annotated.row J5 name.span) (spec.class_field_rows c.now.program.now c.now.class.0 (field_of c.now.program.now class.0 name.name.0) name.span)) }
+    ensures { OnOk result (rows.new
+        ≡ rows.old
+        ++ cond (eqb class.0 1) (annotated.row J5 name.span) (spec.class_field_rows
+        c.now.program.now c.now.class.0 (field_of c.now.program.now class.0 name.name.0)
+        name.span)) }
 {
     if class.0 == 1 {
         push(rows, Code::J5, name.span)
@@ -88,7 +93,11 @@ pub fn access_rows(
     name: Identifier,
 ) -> Result<(), AllocError>
     requires few { Few c.now.program.now }
-    ensures { OnOk result (rows.new ≡ rows.old ++ field_behind c.now.program.now c.now.class.0 (meaning_of c.now.faults.now before.meaning) before.base before.clean name.name.0 name.span) }
+    ensures { OnOk result (rows.new
+        ≡ rows.old
+        ++ field_behind c.now.program.now c.now.class.0
+        (meaning_of c.now.faults.now before.meaning) before.base before.clean name.name.0
+        name.span) }
 {
     match before.meaning {
         Meaning::Class(class) => named_field_rows(rows, c, class, name),
@@ -111,7 +120,11 @@ fn method_rows(
     arity: usize,
 ) -> Result<(), AllocError>
     requires few { Few c.now.program.now }
-    ensures { OnOk result (rows.new ≡ rows.old ++ method_behind c.now.program.now c.now.class.0 (meaning_of c.now.faults.now before.meaning) before.base before.clean name.name.0 arity name.span) }
+    ensures { OnOk result (rows.new
+        ≡ rows.old
+        ++ method_behind c.now.program.now c.now.class.0
+        (meaning_of c.now.faults.now before.meaning) before.base before.clean name.name.0
+        arity name.span) }
 {
     match before.meaning {
         Meaning::Class(class) => class_call_rows(rows, c, class, name, arity),
@@ -129,7 +142,11 @@ pub fn call_rows(
     arity: usize,
 ) -> Result<(), AllocError>
     requires few { Few c.now.program.now }
-    ensures { OnOk result (rows.new ≡ rows.old ++ cond before.prints [] (method_behind c.now.program.now c.now.class.0 (meaning_of c.now.faults.now before.meaning) before.base before.clean name.name.0 arity name.span)) }
+    ensures { OnOk result (rows.new
+        ≡ rows.old
+        ++ cond before.prints [] (method_behind c.now.program.now c.now.class.0
+        (meaning_of c.now.faults.now before.meaning) before.base before.clean name.name.0
+        arity name.span)) }
 {
     if before.prints {
         Ok(())
@@ -141,7 +158,9 @@ pub fn call_rows(
 /// The type of a call with a dot.
 pub fn called_type(c: &Context, before: Before, name: NameNo, arity: usize) -> BaseType
     requires few { Few c.now.program.now }
-    ensures { result ≡ cond before.prints Void (type_of_callee c.now.program.now (callee_behind c.now.program.now (meaning_of c.now.faults.now before.meaning) before.base name.0 arity)) }
+    ensures { result
+        ≡ cond before.prints Void (type_of_callee c.now.program.now (callee_behind c.now.program.now
+        (meaning_of c.now.faults.now before.meaning) before.base name.0 arity)) }
 {
     if before.prints {
         BaseType::Void
@@ -159,7 +178,12 @@ pub fn found_rows(
     target: &Expr,
     span: Span,
 ) -> Result<(), AllocError>
-    ensures { OnOk result (rows.new ≡ rows.old ++ cond found.clean (spec.assigned_access_rows c.now.program.now c.now.class.0 (setting_of at) (access_of found.access) (spec.is_this (placed_view target.now)) span) []) }
+    ensures { OnOk result (rows.new
+        ≡ rows.old
+        ++ cond found.clean
+        (spec.assigned_access_rows c.now.program.now c.now.class.0 (setting_of at)
+        (access_of found.access) (spec.is_this (placed_view target.now)) span)
+        []) }
 {
     if found.clean {
         assigned_access_rows(rows, c, at, found.access, is_this(target), span)
@@ -170,7 +194,12 @@ pub fn found_rows(
 
 /// An index into what must be an array (JLS 15.10.3).
 pub fn index_rows(rows: &mut Seq<Row>, of: Looked, array: &Expr) -> Result<(), AllocError>
-    ensures { OnOk result (rows.new ≡ rows.old ++ cond of.clean (annotated.when (not (is_array_base of.base)) (annotated.row J2 (spec.inner_span (placed_view array.now)))) []) }
+    ensures { OnOk result (rows.new
+        ≡ rows.old
+        ++ cond of.clean
+        (annotated.when (not (is_array_base of.base))
+        (annotated.row J2 (spec.inner_span (placed_view array.now))))
+        []) }
 {
     let wrong = of.clean && !is_array(of.base);
     push_if(rows, wrong, Code::J2, inner_span(array))
@@ -186,7 +215,10 @@ pub fn both_rows(
     other: Looked,
     span: Span,
 ) -> Result<(), AllocError>
-    ensures { OnOk result (rows.new ≡ rows.old ++ cond (one.clean && other.clean) (spec.equality_rows c.now.program.now operator null one.base other.base span) []) }
+    ensures { OnOk result (rows.new
+        ≡ rows.old
+        ++ cond (one.clean && other.clean)
+        (spec.equality_rows c.now.program.now operator null one.base other.base span) []) }
 {
     if one.clean && other.clean {
         equality_rows(rows, c, operator, null, one.base, other.base, span)
@@ -197,7 +229,8 @@ pub fn both_rows(
 
 /// Whether one of the sides is `null`, perhaps in parentheses.
 pub fn either_null(left: &Expr, right: &Expr) -> bool
-    ensures { result ≡ (is_null_tree (placed_view left.now) || is_null_tree (placed_view right.now)) }
+    ensures { result
+        ≡ (is_null_tree (placed_view left.now) || is_null_tree (placed_view right.now)) }
 {
     is_null(left) || is_null(right)
 }

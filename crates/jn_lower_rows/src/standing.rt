@@ -47,7 +47,9 @@ pub struct Mark {
 
 /// Where the expressions of a statement stand. Rows have no use for registers.
 pub fn context<'a>(place: &Place<'a>, names: &'a Names) -> Context<'a>
-    ensures { (result.program.now ≡ place.now.program.now) × (result.class ≡ place.now.class) × (result.scope.now ≡ names.now.scope.items) × (result.faults.now ≡ names.now.faults.items) }
+    ensures { (result.program.now ≡ place.now.program.now) × (result.class ≡ place.now.class)
+        × (result.scope.now ≡ names.now.scope.items)
+        × (result.faults.now ≡ names.now.faults.items) }
 {
     Context {
         program: place.program,
@@ -61,7 +63,8 @@ pub fn context<'a>(place: &Place<'a>, names: &'a Names) -> Context<'a>
 
 /// Where the names end.
 pub fn mark_of(names: &Names) -> Mark
-    ensures { (result.scope ≡ length names.now.scope.items) × (result.faults ≡ length names.now.faults.items) }
+    ensures { (result.scope ≡ length names.now.scope.items)
+        × (result.faults ≡ length names.now.faults.items) }
 {
     Mark {
         scope: names.scope.len(),
@@ -71,7 +74,8 @@ pub fn mark_of(names: &Names) -> Mark
 
 /// The names that were declared since then are in scope no more.
 pub fn back_to(names: &mut Names, mark: Mark)
-    ensures { (names.new.scope.items ≡ take mark.scope names.old.scope.items) × (names.new.faults.items ≡ take mark.faults names.old.faults.items) }
+    ensures { (names.new.scope.items ≡ take mark.scope names.old.scope.items)
+        × (names.new.faults.items ≡ take mark.faults names.old.faults.items) }
 {
     names.scope.truncate(mark.scope);
     names.faults.truncate(mark.faults);
@@ -83,7 +87,9 @@ fn add_faults(
     base: Base,
 ) -> Result<Faults, AllocError>
     requires few { Few program.now }
-    ensures { IfOk result (λ f. (faults.new.items ≡ faults.old.items ++ annotated.base_rows program.now base) × (f.from ≡ length faults.old.items) × (f.to ≡ length faults.new.items)) }
+    ensures { IfOk result (λ f. (faults.new.items
+        ≡ faults.old.items ++ annotated.base_rows program.now base)
+        × (f.from ≡ length faults.old.items) × (f.to ≡ length faults.new.items)) }
 {
     let from = faults.len();
     if let Base::Class(name) = base
@@ -102,13 +108,15 @@ fn add_faults(
 
 /// Whether a local of the name is in scope.
 fn is_known(place: &Place, names: &Names, name: Identifier) -> bool
-    ensures { result ≡ is_some (found_in (scope_of names.now.faults.items names.now.scope.items) name.name.0) }
+    ensures { result
+        ≡ is_some (found_in (scope_of names.now.faults.items names.now.scope.items) name.name.0) }
 {
     local_in(&context(place, names), name.name).is_some()
 }
 
 fn add(names: &mut Names, known: bool, variable: Variable) -> Result<(), AllocError>
-    ensures { OnOk result ((names.new.faults.items ≡ names.old.faults.items) × (names.new.scope.items ≡ names.old.scope.items ++ cond known [] (variable ∷ []))) }
+    ensures { OnOk result ((names.new.faults.items ≡ names.old.faults.items)
+        × (names.new.scope.items ≡ names.old.scope.items ++ cond known [] (variable ∷ []))) }
 {
     if !known {
         names.scope.push(variable)?;
@@ -128,7 +136,11 @@ pub fn declare(
 ) -> Result<(), AllocError>
     requires kept { WellKept names.old }
     requires within { faults.to ≤ length names.old.faults.items }
-    ensures walks { OnOk result ((bound : Option Qualifier) → Walks (λ f st. spec.declared_rows st.scope name.name.0 name.span) (λ f st. declares st name.name.0 base bound fixed (faults_of names.old.faults.items faults)) names.old names.new rows.old rows.new) }
+    ensures walks { OnOk result ((bound : Option Qualifier)
+        → Walks (λ f st. spec.declared_rows st.scope name.name.0 name.span)
+        (λ f st.
+        declares st name.name.0 base bound fixed (faults_of names.old.faults.items faults))
+        names.old names.new rows.old rows.new) }
     ensures kept { OnOk result (WellKept names.new) }
     ensures same { OnOk result (names.new.faults.items ≡ names.old.faults.items) }
 {
@@ -169,8 +181,13 @@ pub fn declare_type(
 ) -> Result<Faults, AllocError>
     requires few { Few place.now.program.now }
     requires kept { WellKept names.old }
-    ensures walks { IfOk result (λ f. Walks (λ n st. annotated.type_rows (placed_type_use type_use.now) annotated.both_kinds notes.now ++ annotated.base_rows place.now.program.now type_use.now.base) (λ n st. st) names.old names.new rows.old rows.new) }
-    ensures faults { IfOk result (λ f. (faults_of names.new.faults.items f ≡ annotated.base_rows place.now.program.now type_use.now.base) × (f.to ≤ length names.new.faults.items)) }
+    ensures walks { IfOk result (λ f. Walks
+        (λ n st. annotated.type_rows (placed_type_use type_use.now) annotated.both_kinds notes.now
+        ++ annotated.base_rows place.now.program.now type_use.now.base)
+        (λ n st. st) names.old names.new rows.old rows.new) }
+    ensures faults { IfOk result (λ f. (faults_of names.new.faults.items f
+        ≡ annotated.base_rows place.now.program.now type_use.now.base)
+        × (f.to ≤ length names.new.faults.items)) }
 {
     type_rows(rows, type_use, BOTH_KINDS, notes)?;
     unknown_rows(rows, place, names, type_use.base)?;

@@ -30,7 +30,14 @@ pub fn look(
     rows: &mut Seq<Row>,
 ) -> Result<BaseType, AllocError>
     requires few { Few place.now.program.now }
-    ensures { IfOk result (λ base. (base ≡ type_in_scope place.now.program.now place.now.class.0 (scope_of names.now.faults.items names.now.scope.items) (placed_view tree.now)) × (rows.new ≡ rows.old ++ rows_of place.now.program.now place.now.class.0 (setting_of place.now.at) (scope_of names.now.faults.items names.now.scope.items) (placed_view tree.now))) }
+    ensures { IfOk result (λ base. (base
+        ≡ type_in_scope place.now.program.now place.now.class.0
+        (scope_of names.now.faults.items names.now.scope.items) (placed_view tree.now))
+        × (rows.new
+        ≡ rows.old
+        ++ rows_of place.now.program.now place.now.class.0 (setting_of place.now.at)
+        (scope_of names.now.faults.items names.now.scope.items)
+        (placed_view tree.now))) }
 {
     let base = expression(tree, &context(place, names), place.at, rows)?;
     Ok(base)
@@ -44,7 +51,10 @@ pub fn look_all(
     rows: &mut Seq<Row>,
 ) -> Result<(), AllocError>
     requires few { Few place.now.program.now }
-    ensures { OnOk result (rows.new ≡ rows.old ++ rows_of_all place.now.program.now place.now.class.0 (setting_of place.now.at) (scope_of names.now.faults.items names.now.scope.items) (placed_views trees.now)) }
+    ensures { OnOk result (rows.new
+        ≡ rows.old
+        ++ rows_of_all place.now.program.now place.now.class.0 (setting_of place.now.at)
+        (scope_of names.now.faults.items names.now.scope.items) (placed_views trees.now)) }
 {
     all(trees, &context(place, names), place.at, rows)?;
     Ok(())
@@ -59,7 +69,10 @@ fn optional(
 ) -> Result<(), AllocError>
     requires few { Few place.now.program.now }
     requires kept { WellKept names.now }
-    ensures { OnOk result (Walks (λ f st. spec.optional_rows place.now.program.now place.now.class.0 f (setting_of place.now.at) st (placed_optional tree.now)) (λ f st. st) names.now names.now rows.old rows.new) }
+    ensures { OnOk result (Walks
+        (λ f st. spec.optional_rows place.now.program.now place.now.class.0 f
+        (setting_of place.now.at) st (placed_optional tree.now))
+        (λ f st. st) names.now names.now rows.old rows.new) }
 {
     match tree {
         None => Ok(()),
@@ -97,7 +110,15 @@ fn declarator(
     requires few { Few place.now.program.now }
     requires kept { WellKept names.old }
     requires within { faults.to ≤ length names.old.faults.items }
-    ensures walks { OnOk result ((bound : Option Qualifier) → Walks (λ f st. spec.declarator_rows place.now.program.now place.now.class.0 f (setting_of place.now.at) base bound is_final (faults_of names.old.faults.items faults) st (placed_declarator declared.now)) (λ f st. (lowered.declarator place.now.program.now place.now.class.0 f base bound is_final (faults_of names.old.faults.items faults) st (placed_declarator declared.now)).behind) names.old names.new rows.old rows.new) }
+    ensures walks { OnOk result ((bound : Option Qualifier)
+        → Walks
+        (λ f st. spec.declarator_rows place.now.program.now place.now.class.0 f
+        (setting_of place.now.at) base bound is_final
+        (faults_of names.old.faults.items faults) st (placed_declarator declared.now))
+        (λ f st. (lowered.declarator place.now.program.now place.now.class.0 f base bound
+        is_final (faults_of names.old.faults.items faults) st
+        (placed_declarator declared.now)).behind)
+        names.old names.new rows.old rows.new) }
     ensures kept { OnOk result (WellKept names.new) }
     ensures same { OnOk result (names.new.faults.items ≡ names.old.faults.items) }
 {
@@ -120,7 +141,15 @@ fn declarators(
     requires few { Few place.now.program.now }
     requires kept { WellKept names.old }
     requires within { faults.to ≤ length names.old.faults.items }
-    ensures { OnOk result ((bound : Option Qualifier) → Walks (λ f st. spec.declarators_rows place.now.program.now place.now.class.0 f (setting_of place.now.at) base bound is_final (faults_of names.old.faults.items faults) st (placed_declarators more.now)) (λ f st. (lowered.declarators place.now.program.now place.now.class.0 f base bound is_final (faults_of names.old.faults.items faults) st (placed_declarators more.now)).behind) names.old names.new rows.old rows.new) }
+    ensures { OnOk result ((bound : Option Qualifier)
+        → Walks
+        (λ f st. spec.declarators_rows place.now.program.now place.now.class.0 f
+        (setting_of place.now.at) base bound is_final
+        (faults_of names.old.faults.items faults) st (placed_declarators more.now))
+        (λ f st. (lowered.declarators place.now.program.now place.now.class.0 f base bound
+        is_final (faults_of names.old.faults.items faults) st
+        (placed_declarators more.now)).behind)
+        names.old names.new rows.old rows.new) }
 {
     for declared in more {
         declarator(declared, place, names, rows, base, is_final, faults)?;
@@ -137,7 +166,12 @@ fn declaration(
 ) -> Result<(), AllocError>
     requires few { Few place.now.program.now }
     requires kept { WellKept names.old }
-    ensures { OnOk result (Walks (λ f st. spec.declaration_rows place.now.program.now place.now.class.0 f (setting_of place.now.at) st (placed_local local.now)) (λ f st. (lowered.declaration place.now.program.now place.now.class.0 f st (placed_local local.now)).behind) names.old names.new rows.old rows.new) }
+    ensures { OnOk result (Walks
+        (λ f st. spec.declaration_rows place.now.program.now place.now.class.0 f
+        (setting_of place.now.at) st (placed_local local.now))
+        (λ f st. (lowered.declaration place.now.program.now place.now.class.0 f st
+        (placed_local local.now)).behind)
+        names.old names.new rows.old rows.new) }
 {
     let notes = local_notes(place.alloc, &local.modifiers)?;
     let is_final = has_final(&local.modifiers);
@@ -157,7 +191,12 @@ fn init(
 ) -> Result<(), AllocError>
     requires few { Few place.now.program.now }
     requires kept { WellKept names.old }
-    ensures { OnOk result (Walks (λ f st. spec.init_rows place.now.program.now place.now.class.0 f (setting_of place.now.at) st (placed_init start.now)) (λ f st. (lowered.init place.now.program.now place.now.class.0 f st (placed_init start.now)).behind) names.old names.new rows.old rows.new) }
+    ensures { OnOk result (Walks
+        (λ f st. spec.init_rows place.now.program.now place.now.class.0 f (setting_of place.now.at)
+        st (placed_init start.now))
+        (λ f st. (lowered.init place.now.program.now place.now.class.0 f st
+        (placed_init start.now)).behind)
+        names.old names.new rows.old rows.new) }
 {
     match start {
         ForInit::Expressions(trees) => {
@@ -175,7 +214,10 @@ fn init(
 fn array(tree: &Expr, place: &Place, names: &Names, rows: &mut Seq<Row>) -> Result<(), AllocError>
     requires few { Few place.now.program.now }
     requires kept { WellKept names.now }
-    ensures { OnOk result (Walks (λ f st. spec.array_rows place.now.program.now place.now.class.0 f (setting_of place.now.at) st (placed_view tree.now)) (λ f st. st) names.now names.now rows.old rows.new) }
+    ensures { OnOk result (Walks
+        (λ f st. spec.array_rows place.now.program.now place.now.class.0 f (setting_of place.now.at)
+        st (placed_view tree.now))
+        (λ f st. st) names.now names.now rows.old rows.new) }
 {
     let start = rows.len();
     let base = look(tree, place, names, rows)?;
@@ -197,7 +239,12 @@ pub fn statement(
 ) -> Result<(), AllocError>
     requires few { Few place.now.program.now }
     requires kept { WellKept names.old }
-    ensures { OnOk result (Walks (λ f st. spec.statement_rows place.now.program.now place.now.class.0 f (setting_of place.now.at) st (placed_statement tree.now)) (λ f st. (lowered.statement place.now.program.now place.now.class.0 f st (placed_statement tree.now)).behind) names.old names.new rows.old rows.new) }
+    ensures { OnOk result (Walks
+        (λ f st. spec.statement_rows place.now.program.now place.now.class.0 f
+        (setting_of place.now.at) st (placed_statement tree.now))
+        (λ f st. (lowered.statement place.now.program.now place.now.class.0 f st
+        (placed_statement tree.now)).behind)
+        names.old names.new rows.old rows.new) }
 {
     match tree {
         Stmt::Block {
@@ -332,7 +379,12 @@ pub fn statements(
 ) -> Result<(), AllocError>
     requires few { Few place.now.program.now }
     requires kept { WellKept names.old }
-    ensures { OnOk result (Walks (λ f st. spec.all_rows place.now.program.now place.now.class.0 f (setting_of place.now.at) st (placed_statements trees.now)) (λ f st. (lowered.statements place.now.program.now place.now.class.0 f st (placed_statements trees.now)).behind) names.old names.new rows.old rows.new) }
+    ensures { OnOk result (Walks
+        (λ f st. spec.all_rows place.now.program.now place.now.class.0 f (setting_of place.now.at)
+        st (placed_statements trees.now))
+        (λ f st. (lowered.statements place.now.program.now place.now.class.0 f st
+        (placed_statements trees.now)).behind)
+        names.old names.new rows.old rows.new) }
 {
     for tree in trees {
         statement(tree, place, names, rows)?;

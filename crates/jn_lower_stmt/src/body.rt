@@ -54,7 +54,11 @@ fn call_of(
 ) -> Result<(), OutOfMemory>
     requires few { Few c.now.program.now }
     requires class { c.now.class.0 ≡ spec.class c.now.program.now source.now.method.0 }
-    ensures { OnOk result (StepsOn (spec.call_of c.now.program.now source.now.method.0 c.now.first (ctor_of (method_at c.now.program.now source.now.method.0)) s.old (placed_statements source.now.body.now)) e.old e.new s.new) }
+    ensures { OnOk result (StepsOn
+        (spec.call_of c.now.program.now source.now.method.0 c.now.first
+        (ctor_of (method_at c.now.program.now source.now.method.0)) s.old
+        (placed_statements source.now.body.now))
+        e.old e.new s.new) }
 {
     if is_ctor(c.program, source.method) {
         construct(source.body, source.method, c, e, s)?;
@@ -71,7 +75,10 @@ fn own_initializers(
 ) -> Result<(), OutOfMemory>
     requires few { Few c.now.program.now }
     requires class { c.now.class.0 ≡ spec.class c.now.program.now source.now.method.0 }
-    ensures { OnOk result (StepsOn (spec.own_initializers c.now.program.now source.now.method.0 c.now.first s.old (placed_statements source.now.body.now) (placed_members source.now.members.now)) e.old e.new s.new) }
+    ensures { OnOk result (StepsOn
+        (spec.own_initializers c.now.program.now source.now.method.0 c.now.first s.old
+        (placed_statements source.now.body.now) (placed_members source.now.members.now))
+        e.old e.new s.new) }
 {
     if calls_own(source.body) {
         return Ok(());
@@ -88,7 +95,11 @@ fn fields_of(
 ) -> Result<(), OutOfMemory>
     requires few { Few c.now.program.now }
     requires class { c.now.class.0 ≡ spec.class c.now.program.now source.now.method.0 }
-    ensures { OnOk result (StepsOn (spec.fields_of c.now.program.now source.now.method.0 c.now.first (ctor_of (method_at c.now.program.now source.now.method.0)) s.old (placed_statements source.now.body.now) (placed_members source.now.members.now)) e.old e.new s.new) }
+    ensures { OnOk result (StepsOn
+        (spec.fields_of c.now.program.now source.now.method.0 c.now.first
+        (ctor_of (method_at c.now.program.now source.now.method.0)) s.old
+        (placed_statements source.now.body.now) (placed_members source.now.members.now))
+        e.old e.new s.new) }
 {
     if is_ctor(c.program, source.method) {
         own_initializers(source, c, e, s)?;
@@ -105,7 +116,10 @@ pub fn whole(
 ) -> Result<(), OutOfMemory>
     requires few { Few c.now.program.now }
     requires class { c.now.class.0 ≡ spec.class c.now.program.now source.now.method.0 }
-    ensures { OnOk result (StepsOn (spec.whole c.now.program.now source.now.method.0 c.now.first s.old (placed_statements source.now.body.now) (placed_members source.now.members.now)) e.old e.new s.new) }
+    ensures { OnOk result (StepsOn
+        (spec.whole c.now.program.now source.now.method.0 c.now.first s.old
+        (placed_statements source.now.body.now) (placed_members source.now.members.now))
+        e.old e.new s.new) }
 {
     let start = label(e)?;
     let fields = label(e)?;

@@ -34,7 +34,10 @@ fn call(
     span: Span,
     args: Seq<Operand>,
 ) -> Result<(), OutOfMemory>
-    ensures { OnOk result ((P : program.Program) (m first : ℕ) (vs : Operands) (start : emitted.Emitter) → Runs vs.fragment start e.old → args ≡ vs.values → Runs (spec.called_ctor P m first (option_map (λ k. k.0) ctor) own span vs) start e.new) }
+    ensures { OnOk result ((P : program.Program) (m first : ℕ) (vs : Operands)
+        (start : emitted.Emitter)
+        → Runs vs.fragment start e.old → args ≡ vs.values
+        → Runs (spec.called_ctor P m first (option_map (λ k. k.0) ctor) own span vs) start e.new) }
 {
     match ctor {
         None => Ok(()),
@@ -58,7 +61,10 @@ fn call_ctor(
 ) -> Result<(), OutOfMemory>
     requires few { Few c.now.program.now }
     requires class { c.now.class.0 ≡ spec.class c.now.program.now method.0 }
-    ensures { OnOk result (StepsOn (spec.ctor_call c.now.program.now method.0 c.now.first s.old own class.0 (placed_views arguments.now) span) e.old e.new s.new) }
+    ensures { OnOk result (StepsOn
+        (spec.ctor_call c.now.program.now method.0 c.now.first s.old own class.0
+        (placed_views arguments.now) span)
+        e.old e.new s.new) }
 {
     let outer = s.begin(c.alloc);
     let args = evaluate_all(arguments, c, e, s)?;
@@ -82,7 +88,8 @@ fn unwritten_call(
 ) -> Result<(), OutOfMemory>
     requires few { Few c.now.program.now }
     requires class { c.now.class.0 ≡ spec.class c.now.program.now method.0 }
-    ensures { OnOk result (StepsOn (spec.unwritten_call c.now.program.now method.0 c.now.first s.old) e.old e.new s.new) }
+    ensures { OnOk result (StepsOn
+        (spec.unwritten_call c.now.program.now method.0 c.now.first s.old) e.old e.new s.new) }
 {
     if is_under_object(c.program, c.class) {
         return Ok(());
@@ -103,7 +110,10 @@ pub fn construct(
 ) -> Result<(), OutOfMemory>
     requires few { Few c.now.program.now }
     requires class { c.now.class.0 ≡ spec.class c.now.program.now method.0 }
-    ensures { OnOk result (StepsOn (spec.construction c.now.program.now method.0 c.now.first s.old (placed_statements body.now)) e.old e.new s.new) }
+    ensures { OnOk result (StepsOn
+        (spec.construction c.now.program.now method.0 c.now.first s.old
+        (placed_statements body.now))
+        e.old e.new s.new) }
 {
     let [first, ..] = body else {
         unwritten_call(method, c, e, s)?;
@@ -138,7 +148,10 @@ fn write_first(
 ) -> Result<(), OutOfMemory>
     requires few { Few c.now.program.now }
     requires class { c.now.class.0 ≡ spec.class c.now.program.now method.0 }
-    ensures { OnOk result (StepsOn (spec.writes_field c.now.program.now method.0 c.now.first (Some field.0) name s.old (placed_view value.now)) e.old e.new s.new) }
+    ensures { OnOk result (StepsOn
+        (spec.writes_field c.now.program.now method.0 c.now.first (Some field.0) name s.old
+        (placed_view value.now))
+        e.old e.new s.new) }
 {
     if is_static_field(c.program, field) {
         return Ok(());
@@ -169,7 +182,11 @@ fn initializer(
 ) -> Result<(), OutOfMemory>
     requires few { Few c.now.program.now }
     requires class { c.now.class.0 ≡ spec.class c.now.program.now method.0 }
-    ensures { OnOk result (StepsOn (spec.initializes c.now.program.now method.0 c.now.first (placed_declarator tree.now).name.span (placed_declarator tree.now).name.name.0 s.old (placed_declarator tree.now).value) e.old e.new s.new) }
+    ensures { OnOk result (StepsOn
+        (spec.initializes c.now.program.now method.0 c.now.first
+        (placed_declarator tree.now).name.span (placed_declarator tree.now).name.name.0 s.old
+        (placed_declarator tree.now).value)
+        e.old e.new s.new) }
 {
     match &tree.value {
         None => Ok(()),
@@ -192,7 +209,10 @@ fn initializers_of(
 ) -> Result<(), OutOfMemory>
     requires few { Few c.now.program.now }
     requires class { c.now.class.0 ≡ spec.class c.now.program.now method.0 }
-    ensures { OnOk result (StepsOn (spec.initializers_of c.now.program.now method.0 c.now.first s.old (placed_declarators trees.now)) e.old e.new s.new) }
+    ensures { OnOk result (StepsOn
+        (spec.initializers_of c.now.program.now method.0 c.now.first s.old
+        (placed_declarators trees.now))
+        e.old e.new s.new) }
 {
     for tree in trees {
         initializer(tree, method, c, e, s)?;
@@ -209,7 +229,10 @@ fn member_initializers(
 ) -> Result<(), OutOfMemory>
     requires few { Few c.now.program.now }
     requires class { c.now.class.0 ≡ spec.class c.now.program.now method.0 }
-    ensures { OnOk result (StepsOn (spec.initializers_of c.now.program.now method.0 c.now.first s.old (spec.declarators_of (placed_member tree.now))) e.old e.new s.new) }
+    ensures { OnOk result (StepsOn
+        (spec.initializers_of c.now.program.now method.0 c.now.first s.old
+        (spec.declarators_of (placed_member tree.now)))
+        e.old e.new s.new) }
 {
     match tree {
         Member::Field { first, more, .. } => {
@@ -232,7 +255,9 @@ pub fn initializers(
 ) -> Result<(), OutOfMemory>
     requires few { Few c.now.program.now }
     requires class { c.now.class.0 ≡ spec.class c.now.program.now method.0 }
-    ensures { OnOk result (StepsOn (spec.initializers c.now.program.now method.0 c.now.first s.old (placed_members trees.now)) e.old e.new s.new) }
+    ensures { OnOk result (StepsOn
+        (spec.initializers c.now.program.now method.0 c.now.first s.old (placed_members trees.now))
+        e.old e.new s.new) }
 {
     for tree in trees {
         member_initializers(tree, method, c, e, s)?;

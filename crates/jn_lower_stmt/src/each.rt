@@ -36,7 +36,11 @@ fn started(
     s: &mut State,
 ) -> Result<Operand, OutOfMemory>
     requires few { Few c.now.program.now }
-    ensures { IfOk result (λ o. (o.span ≡ (valued c.now s.old (placed_view tree.now)).operand.span) × GivesIn (spec.each_start c.now.program.now c.now.class.0 c.now.first o.span array.0 (valued c.now s.old (placed_view tree.now))) s.old e.old o e.new s.new) }
+    ensures { IfOk result (λ o. (o.span ≡ (valued c.now s.old (placed_view tree.now)).operand.span)
+        × GivesIn
+        (spec.each_start c.now.program.now c.now.class.0 c.now.first o.span array.0
+        (valued c.now s.old (placed_view tree.now)))
+        s.old e.old o e.new s.new) }
 {
     let given = evaluate(tree, c, e, s)?;
     let at = given.span;
@@ -70,7 +74,11 @@ pub fn start_with(
     s: &mut State,
 ) -> Result<Span, OutOfMemory>
     requires few { Few c.now.program.now }
-    ensures { IfOk result (λ at. (at ≡ (valued c.now s.old (placed_view tree.now)).operand.span) × StepsOn (moved_to at (array.0 + 1) None s.old (spec.each_start c.now.program.now c.now.class.0 c.now.first at array.0 (valued c.now s.old (placed_view tree.now)))) e.old e.new s.new) }
+    ensures { IfOk result (λ at. (at ≡ (valued c.now s.old (placed_view tree.now)).operand.span)
+        × StepsOn
+        (moved_to at (array.0 + 1) None s.old (spec.each_start c.now.program.now c.now.class.0
+        c.now.first at array.0 (valued c.now s.old (placed_view tree.now))))
+        e.old e.new s.new) }
 {
     let from = started(tree, array, c, e, s)?;
     let index = behind(array, 1)?;
@@ -94,7 +102,9 @@ fn length(
     e: &mut Emitter,
     s: &mut State,
 ) -> Result<Operand, OutOfMemory>
-    ensures { IfOk result (λ o. GivesIn (spec.each_length c.now.program.now c.now.class.0 c.now.first at array.0 s.old.temporaries) s.old e.old o e.new s.new) }
+    ensures { IfOk result (λ o. GivesIn
+        (spec.each_length c.now.program.now c.now.class.0 c.now.first at array.0 s.old.temporaries)
+        s.old e.old o e.new s.new) }
 {
     let dst = s.temporary(c, BaseType::Int)?;
     let array = Operand {
@@ -113,7 +123,9 @@ fn is_below(
     e: &mut Emitter,
     s: &mut State,
 ) -> Result<Operand, OutOfMemory>
-    ensures { IfOk result (λ o. GivesIn (spec.each_tested c.now.program.now c.now.class.0 c.now.first at array.0 s.old.temporaries) s.old e.old o e.new s.new) }
+    ensures { IfOk result (λ o. GivesIn
+        (spec.each_tested c.now.program.now c.now.class.0 c.now.first at array.0 s.old.temporaries)
+        s.old e.old o e.new s.new) }
 {
     let right = length(array, at, c, e, s)?;
     let index = behind(array, 1)?;
@@ -145,7 +157,10 @@ pub fn goes_on(
     yes: PointNo,
     no: PointNo,
 ) -> Result<(), OutOfMemory>
-    ensures { OnOk result (TestsIn (branch (spec.each_tested c.now.program.now c.now.class.0 c.now.first at array.0 s.old.temporaries)) s.old yes.0 no.0 e.old e.new s.new) }
+    ensures { OnOk result (TestsIn
+        (branch (spec.each_tested c.now.program.now c.now.class.0 c.now.first at array.0
+        s.old.temporaries))
+        s.old yes.0 no.0 e.old e.new s.new) }
 {
     let below = is_below(array, at, c, e, s)?;
     branch(e, below, yes, no)?;
@@ -161,7 +176,10 @@ fn element(
     e: &mut Emitter,
     s: &mut State,
 ) -> Result<Operand, OutOfMemory>
-    ensures { IfOk result (λ o. GivesIn (spec.each_element c.now.program.now c.now.class.0 c.now.first at array.0 base s.old.temporaries) s.old e.old o e.new s.new) }
+    ensures { IfOk result (λ o. GivesIn
+        (spec.each_element c.now.program.now c.now.class.0 c.now.first at array.0 base
+        s.old.temporaries)
+        s.old e.old o e.new s.new) }
 {
     let index = behind(array, 1)?;
     let dst = s.temporary(c, base)?;
@@ -187,7 +205,10 @@ pub fn item(
     e: &mut Emitter,
     s: &mut State,
 ) -> Result<(), OutOfMemory>
-    ensures { OnOk result (StepsOn (moved_to at (array.0 + 2) (bound_of bound) s.old (spec.each_element c.now.program.now c.now.class.0 c.now.first at array.0 (elem_base base) s.old.temporaries)) e.old e.new s.new) }
+    ensures { OnOk result (StepsOn
+        (moved_to at (array.0 + 2) (bound_of bound) s.old (spec.each_element c.now.program.now
+        c.now.class.0 c.now.first at array.0 (elem_base base) s.old.temporaries))
+        e.old e.new s.new) }
 {
     let from = element(array, at, elem_base(base), c, e, s)?;
     let local = behind(array, 2)?;
@@ -206,7 +227,9 @@ pub fn item(
 
 /// The number one.
 fn one(at: Span, c: &BodyContext, e: &mut Emitter, s: &mut State) -> Result<Operand, OutOfMemory>
-    ensures { IfOk result (λ o. GivesIn (spec.each_one c.now.program.now c.now.class.0 c.now.first at s.old.temporaries) s.old e.old o e.new s.new) }
+    ensures { IfOk result (λ o. GivesIn
+        (spec.each_one c.now.program.now c.now.class.0 c.now.first at s.old.temporaries) s.old e.old
+        o e.new s.new) }
 {
     let dst = s.temporary(c, BaseType::Int)?;
     step(
@@ -228,7 +251,10 @@ fn increased(
     e: &mut Emitter,
     s: &mut State,
 ) -> Result<Operand, OutOfMemory>
-    ensures { IfOk result (λ o. GivesIn (spec.each_next c.now.program.now c.now.class.0 c.now.first at array.0 (spec.each_one c.now.program.now c.now.class.0 c.now.first at s.old.temporaries)) s.old e.old o e.new s.new) }
+    ensures { IfOk result (λ o. GivesIn
+        (spec.each_next c.now.program.now c.now.class.0 c.now.first at array.0
+        (spec.each_one c.now.program.now c.now.class.0 c.now.first at s.old.temporaries))
+        s.old e.old o e.new s.new) }
 {
     let right = one(at, c, e, s)?;
     let index = behind(array, 1)?;
@@ -258,7 +284,11 @@ pub fn moves_on(
     e: &mut Emitter,
     s: &mut State,
 ) -> Result<(), OutOfMemory>
-    ensures { OnOk result (StepsOn (moved_to at (array.0 + 1) None s.old (spec.each_next c.now.program.now c.now.class.0 c.now.first at array.0 (spec.each_one c.now.program.now c.now.class.0 c.now.first at s.old.temporaries))) e.old e.new s.new) }
+    ensures { OnOk result (StepsOn
+        (moved_to at (array.0 + 1) None s.old (spec.each_next c.now.program.now c.now.class.0
+        c.now.first at array.0
+        (spec.each_one c.now.program.now c.now.class.0 c.now.first at s.old.temporaries)))
+        e.old e.new s.new) }
 {
     let from = increased(array, at, c, e, s)?;
     let index = behind(array, 1)?;

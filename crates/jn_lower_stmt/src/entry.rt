@@ -33,7 +33,15 @@ fn register(first: usize, at: usize) -> Result<RegNo, OutOfMemory>
 }
 
 fn parameter(tree: &Parameter, reg: RegNo, base: BaseType) -> Declared
-    ensures { declared_local result ≡ record { name = tree.now.name.name.0; reg = reg.0; base = base; bound = None; fixed = local.has_final tree.now.modifiers.items; faults = [] } }
+    ensures { declared_local result
+        ≡ record {
+          name = tree.now.name.name.0;
+          reg = reg.0;
+          base = base;
+          bound = None;
+          fixed = local.has_final tree.now.modifiers.items;
+          faults = [];
+        } }
 {
     Declared {
         name: tree.name.name,
@@ -52,7 +60,8 @@ fn parameters(
     trees: &[Parameter],
     bases: &[BaseType],
 ) -> Result<Names, OutOfMemory>
-    ensures { IfOk result (λ names. names ≡ local.parameters_from first (placed_parameters trees.now) bases.now) }
+    ensures { IfOk result
+        (λ names. names ≡ local.parameters_from first (placed_parameters trees.now) bases.now) }
 {
     let mut names = Names::new(alloc);
     let mut at = trees.len().min(bases.len());
@@ -77,7 +86,8 @@ pub fn at_entry(
     method: MethodNo,
     trees: &[Parameter],
 ) -> Result<State, OutOfMemory>
-    ensures { IfOk result (λ s. s ≡ spec.at_entry program.now method.0 (placed_parameters trees.now)) }
+    ensures { IfOk result
+        (λ s. s ≡ spec.at_entry program.now method.0 (placed_parameters trees.now)) }
 {
     let first = first_parameter(program, method);
     let names = parameters(alloc, first, trees, params_of(program, method))?;

@@ -27,7 +27,8 @@ pub fn statements(
     ways: Ways,
 ) -> Result<(), OutOfMemory>
     requires few { Few c.now.program.now }
-    ensures { OnOk result (Steps (all_stated c.now s.old (placed_statements trees.now)) ways.out.0 ways.again.0 e.old e.new s.new) }
+    ensures { OnOk result (Steps (all_stated c.now s.old (placed_statements trees.now)) ways.out.0
+        ways.again.0 e.old e.new s.new) }
 {
     for tree in trees {
         statement(tree, c, e, s, ways)?;
@@ -46,7 +47,9 @@ fn block(
     ways: Ways,
 ) -> Result<(), OutOfMemory>
     requires few { Few c.now.program.now }
-    ensures { OnOk result (Steps (stated c.now s.old (PlacedBlock (placed_statements trees.now) span)) ways.out.0 ways.again.0 e.old e.new s.new) }
+    ensures { OnOk result (Steps
+        (stated c.now s.old (PlacedBlock (placed_statements trees.now) span)) ways.out.0
+        ways.again.0 e.old e.new s.new) }
 {
     let names = s.names();
     statements(trees, c, e, s, ways)?;
@@ -66,7 +69,9 @@ fn if_then(
     ways: Ways,
 ) -> Result<(), OutOfMemory>
     requires few { Few c.now.program.now }
-    ensures { OnOk result (Steps (stated c.now s.old (PlacedIf (placed_view condition.now) (placed_statement then.now) span)) ways.out.0 ways.again.0 e.old e.new s.new) }
+    ensures { OnOk result (Steps
+        (stated c.now s.old (PlacedIf (placed_view condition.now) (placed_statement then.now) span))
+        ways.out.0 ways.again.0 e.old e.new s.new) }
 {
     let outer = s.begin(c.alloc);
     let inside = label(e)?;
@@ -91,7 +96,10 @@ fn while_loop(
     ways: Ways,
 ) -> Result<(), OutOfMemory>
     requires few { Few c.now.program.now }
-    ensures { OnOk result (Steps (stated c.now s.old (PlacedWhile (placed_view condition.now) (placed_statement body.now) span)) ways.out.0 ways.again.0 e.old e.new s.new) }
+    ensures { OnOk result (Steps
+        (stated c.now s.old
+        (PlacedWhile (placed_view condition.now) (placed_statement body.now) span))
+        ways.out.0 ways.again.0 e.old e.new s.new) }
 {
     let outer = s.begin(c.alloc);
     let start = label(e)?;
@@ -123,7 +131,9 @@ fn do_loop(
     ways: Ways,
 ) -> Result<(), OutOfMemory>
     requires few { Few c.now.program.now }
-    ensures { OnOk result (Steps (stated c.now s.old (PlacedDo (placed_statement body.now) (placed_view condition.now) span)) ways.out.0 ways.again.0 e.old e.new s.new) }
+    ensures { OnOk result (Steps
+        (stated c.now s.old (PlacedDo (placed_statement body.now) (placed_view condition.now) span))
+        ways.out.0 ways.again.0 e.old e.new s.new) }
 {
     let outer = s.begin(c.alloc);
     let start = label(e)?;
@@ -156,7 +166,10 @@ fn for_loop(
     ways: Ways,
 ) -> Result<(), OutOfMemory>
     requires few { Few c.now.program.now }
-    ensures { OnOk result (Steps (stated c.now s.old (PlacedFor (placed_init start.now) (placed_optional condition.now) (placed_views update.now) (placed_statement body.now) span)) ways.out.0 ways.again.0 e.old e.new s.new) }
+    ensures { OnOk result (Steps
+        (stated c.now s.old (PlacedFor (placed_init start.now) (placed_optional condition.now)
+        (placed_views update.now) (placed_statement body.now) span))
+        ways.out.0 ways.again.0 e.old e.new s.new) }
 {
     let outer = s.begin(c.alloc);
     let test = label(e)?;
@@ -195,7 +208,11 @@ fn each_loop(
     ways: Ways,
 ) -> Result<(), OutOfMemory>
     requires few { Few c.now.program.now }
-    ensures { OnOk result ((span : Span) → Steps (stated c.now s.old (PlacedForEach modifiers.now (placed_type_use type_use.now) name (placed_view array.now) (placed_statement body.now) span)) ways.out.0 ways.again.0 e.old e.new s.new) }
+    ensures { OnOk result ((span : Span)
+        → Steps
+        (stated c.now s.old (PlacedForEach modifiers.now (placed_type_use type_use.now) name
+        (placed_view array.now) (placed_statement body.now) span))
+        ways.out.0 ways.again.0 e.old e.new s.new) }
 {
     let outer = s.begin(c.alloc);
     let test = label(e)?;
@@ -232,7 +249,8 @@ pub fn statement(
     ways: Ways,
 ) -> Result<(), OutOfMemory>
     requires few { Few c.now.program.now }
-    ensures { OnOk result (Steps (stated c.now s.old (placed_statement tree.now)) ways.out.0 ways.again.0 e.old e.new s.new) }
+    ensures { OnOk result (Steps (stated c.now s.old (placed_statement tree.now)) ways.out.0
+        ways.again.0 e.old e.new s.new) }
 {
     match tree {
         Stmt::Block { statements, span } => {

@@ -26,7 +26,9 @@ fn this_bases(
     program: &IndexedProgram,
     method: MethodNo,
 ) -> Result<Vec<BaseType>, OutOfMemory>
-    ensures { IfOk result (λ bases. bases.items ≡ cond (static_of (method_at program.now method.0)) [] (Ref (record { 0 = spec.class program.now method.0 }) ∷ [])) }
+    ensures { IfOk result (λ bases. bases.items
+        ≡ cond (static_of (method_at program.now method.0)) []
+        (Ref (record { 0 = spec.class program.now method.0 }) ∷ [])) }
 {
     let mut bases = Vec::new(alloc);
     if is_static(program, method) {

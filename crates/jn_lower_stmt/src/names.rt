@@ -56,7 +56,8 @@ fn put(rows: &mut Vec<Row>, fault: Option<Row>) -> Result<(), OutOfMemory>
 /// Adds the rows, and gives their places.
 fn put_rows(rows: &mut Vec<Row>, fault: Option<Row>) -> Result<Faults, OutOfMemory>
     ensures rows { OnOk result (rows.new.items ≡ rows.old.items ++ rows_of fault) }
-    ensures places { IfOk result (λ faults. (faults.from ≡ length rows.old.items) × (faults.to ≡ length rows.new.items)) }
+    ensures places { IfOk result
+        (λ faults. (faults.from ≡ length rows.old.items) × (faults.to ≡ length rows.new.items)) }
     ensures err { OnErr result (rows.new.items ≡ rows.old.items) }
 {
     let from = rows.len();
@@ -77,7 +78,15 @@ fn push(variables: &mut Vec<Variable>, variable: Variable) -> Result<(), OutOfMe
 
 /// The local with its rows at these places.
 fn variable(local: Declared, faults: Faults) -> Variable
-    ensures { result ≡ record { name = local.name; reg = local.reg; base = local.base; bound = local.bound; fixed = local.fixed; faults = faults } }
+    ensures { result
+        ≡ record {
+          name = local.name;
+          reg = local.reg;
+          base = local.base;
+          bound = local.bound;
+          fixed = local.fixed;
+          faults = faults;
+        } }
 {
     Variable {
         name: local.name,

@@ -46,7 +46,9 @@ pub fn effects(
     s: &mut State,
 ) -> Result<(), OutOfMemory>
     requires few { Few c.now.program.now }
-    ensures { OnOk result (StepsOn (spec.effects c.now.program.now c.now.class.0 c.now.first s.old (placed_views trees.now)) e.old e.new s.new) }
+    ensures { OnOk result (StepsOn
+        (spec.effects c.now.program.now c.now.class.0 c.now.first s.old (placed_views trees.now))
+        e.old e.new s.new) }
 {
     for tree in trees {
         evaluate(tree, c, e, s)?;
@@ -63,7 +65,10 @@ pub fn returned(
     s: &mut State,
 ) -> Result<(), OutOfMemory>
     requires few { Few c.now.program.now }
-    ensures { OnOk result (StepsOn (spec.returned c.now.program.now c.now.class.0 c.now.first span s.old (placed_optional value.now)) e.old e.new s.new) }
+    ensures { OnOk result (StepsOn
+        (spec.returned c.now.program.now c.now.class.0 c.now.first span s.old
+        (placed_optional value.now))
+        e.old e.new s.new) }
 {
     match value {
         None => {
@@ -89,7 +94,10 @@ fn initialize(
     s: &mut State,
 ) -> Result<(), OutOfMemory>
     requires few { Few c.now.program.now }
-    ensures { OnOk result (StepsOn (spec.initialized c.now.program.now c.now.class.0 c.now.first name reg.0 (bound_of kind.bound) s.old (placed_optional value.now)) e.old e.new s.new) }
+    ensures { OnOk result (StepsOn
+        (spec.initialized c.now.program.now c.now.class.0 c.now.first name reg.0
+        (bound_of kind.bound) s.old (placed_optional value.now))
+        e.old e.new s.new) }
 {
     match value {
         None => Ok(()),
@@ -122,7 +130,10 @@ fn declarator(
     s: &mut State,
 ) -> Result<(), OutOfMemory>
     requires few { Few c.now.program.now }
-    ensures { OnOk result (StepsOn (spec.declarator c.now.program.now c.now.class.0 c.now.first kind.base (bound_of kind.bound) is_final (rows_of kind.fault) s.old (placed_declarator tree.now)) e.old e.new s.new) }
+    ensures { OnOk result (StepsOn
+        (spec.declarator c.now.program.now c.now.class.0 c.now.first kind.base (bound_of kind.bound)
+        is_final (rows_of kind.fault) s.old (placed_declarator tree.now))
+        e.old e.new s.new) }
 {
     let reg = s.next()?;
     s.declare(c, tree.name.name, kind, is_final && has_value(tree))?;
@@ -139,7 +150,11 @@ fn declarators(
     s: &mut State,
 ) -> Result<(), OutOfMemory>
     requires few { Few c.now.program.now }
-    ensures { OnOk result (StepsOn (spec.declarators c.now.program.now c.now.class.0 c.now.first kind.base (bound_of kind.bound) is_final (rows_of kind.fault) s.old (placed_declarators trees.now)) e.old e.new s.new) }
+    ensures { OnOk result (StepsOn
+        (spec.declarators c.now.program.now c.now.class.0 c.now.first kind.base
+        (bound_of kind.bound) is_final (rows_of kind.fault) s.old
+        (placed_declarators trees.now))
+        e.old e.new s.new) }
 {
     for tree in trees {
         declarator(kind, is_final, tree, c, e, s)?;
@@ -155,7 +170,9 @@ pub fn declaration(
     s: &mut State,
 ) -> Result<(), OutOfMemory>
     requires few { Few c.now.program.now }
-    ensures { OnOk result (StepsOn (spec.declaration c.now.program.now c.now.class.0 c.now.first s.old (placed_local tree.now)) e.old e.new s.new) }
+    ensures { OnOk result (StepsOn
+        (spec.declaration c.now.program.now c.now.class.0 c.now.first s.old (placed_local tree.now))
+        e.old e.new s.new) }
 {
     let kind = kind_of(c.program, &tree.type_use, &tree.modifiers);
     let is_final = has_final(&tree.modifiers);
@@ -172,7 +189,9 @@ pub fn init(
     s: &mut State,
 ) -> Result<(), OutOfMemory>
     requires few { Few c.now.program.now }
-    ensures { OnOk result (StepsOn (spec.init c.now.program.now c.now.class.0 c.now.first s.old (placed_init tree.now)) e.old e.new s.new) }
+    ensures { OnOk result (StepsOn
+        (spec.init c.now.program.now c.now.class.0 c.now.first s.old (placed_init tree.now)) e.old
+        e.new s.new) }
 {
     match tree {
         ForInit::Expressions(trees) => {
@@ -196,7 +215,10 @@ pub fn optional_test(
     no: PointNo,
 ) -> Result<(), OutOfMemory>
     requires few { Few c.now.program.now }
-    ensures { OnOk result (TestsIn (spec.optional_test c.now.program.now c.now.class.0 c.now.first s.old (placed_optional tree.now)) s.old yes.0 no.0 e.old e.new s.new) }
+    ensures { OnOk result (TestsIn
+        (spec.optional_test c.now.program.now c.now.class.0 c.now.first s.old
+        (placed_optional tree.now))
+        s.old yes.0 no.0 e.old e.new s.new) }
 {
     match tree {
         None => Ok(()),
@@ -216,7 +238,8 @@ pub fn evaluated(
     s: &mut State,
 ) -> Result<(), OutOfMemory>
     requires few { Few c.now.program.now }
-    ensures { OnOk result (StepsOn (stated c.now s.old (PlacedExpression (placed_view tree.now) span)) e.old e.new s.new) }
+    ensures { OnOk result (StepsOn
+        (stated c.now s.old (PlacedExpression (placed_view tree.now) span)) e.old e.new s.new) }
 {
     let outer = s.begin(c.alloc);
     evaluate(tree, c, e, s)?;
@@ -232,7 +255,8 @@ pub fn breaks(
     e: &mut Emitter,
     ways: Ways,
 ) -> Result<(), OutOfMemory>
-    ensures { OnOk result (Steps (stated c.now s.now (PlacedBreak span)) ways.out.0 ways.again.0 e.old e.new s.now) }
+    ensures { OnOk result
+        (Steps (stated c.now s.now (PlacedBreak span)) ways.out.0 ways.again.0 e.old e.new s.now) }
 {
     jump(e, ways.out, span)?;
     Ok(())
@@ -246,7 +270,8 @@ pub fn continues(
     e: &mut Emitter,
     ways: Ways,
 ) -> Result<(), OutOfMemory>
-    ensures { OnOk result (Steps (stated c.now s.now (PlacedContinue span)) ways.out.0 ways.again.0 e.old e.new s.now) }
+    ensures { OnOk result (Steps (stated c.now s.now (PlacedContinue span)) ways.out.0 ways.again.0
+        e.old e.new s.now) }
 {
     jump(e, ways.again, span)?;
     Ok(())
@@ -261,7 +286,8 @@ pub fn returns(
     s: &mut State,
 ) -> Result<(), OutOfMemory>
     requires few { Few c.now.program.now }
-    ensures { OnOk result (StepsOn (stated c.now s.old (PlacedReturn (placed_optional value.now) span)) e.old e.new s.new) }
+    ensures { OnOk result (StepsOn
+        (stated c.now s.old (PlacedReturn (placed_optional value.now) span)) e.old e.new s.new) }
 {
     let outer = s.begin(c.alloc);
     returned(value, span, c, e, s)?;
@@ -278,7 +304,9 @@ pub fn local(
     s: &mut State,
 ) -> Result<(), OutOfMemory>
     requires few { Few c.now.program.now }
-    ensures { OnOk result (StepsOn (stated c.now s.old (PlacedLocalStatement (placed_local tree.now) span)) e.old e.new s.new) }
+    ensures { OnOk result (StepsOn
+        (stated c.now s.old (PlacedLocalStatement (placed_local tree.now) span)) e.old e.new
+        s.new) }
 {
     let outer = s.begin(c.alloc);
     declaration(tree, c, e, s)?;

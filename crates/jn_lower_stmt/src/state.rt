@@ -79,7 +79,8 @@ pub struct Outer {
 impl State {
     /// That in which a body begins, with its parameters in scope.
     pub fn new(alloc: Global, names: Names, locals: Vec<BaseType>) -> Self
-        ensures { result ≡ record { scope = names; locals = locals.items; temporaries = no_temporaries } }
+        ensures { result
+            ≡ record { scope = names; locals = locals.items; temporaries = no_temporaries } }
     {
         State {
             names,
@@ -172,7 +173,8 @@ impl State {
 
     /// Brings a local into scope, unless its name is in scope already.
     fn enter(&mut self, c: &BodyContext, local: Declared) -> Result<(), OutOfMemory>
-        ensures { OnOk result (self.new ≡ with_scope self.old (with_local self.old.scope (declared_local local))) }
+        ensures { OnOk result
+            (self.new ≡ with_scope self.old (with_local self.old.scope (declared_local local))) }
     {
         if c.has_local(&self.names, local.name) {
             return Ok(());
@@ -189,7 +191,8 @@ impl State {
         kind: LocalKind,
         fixed: bool,
     ) -> Result<(), OutOfMemory>
-        ensures { OnOk result (self.new ≡ declares self.old name.0 kind.base (bound_of kind.bound) fixed (rows_of kind.fault)) }
+        ensures { OnOk result (self.new
+            ≡ declares self.old name.0 kind.base (bound_of kind.bound) fixed (rows_of kind.fault)) }
     {
         let reg = self.next()?;
         self.enter(
@@ -215,7 +218,9 @@ impl State {
         kind: LocalKind,
         fixed: bool,
     ) -> Result<(), OutOfMemory>
-        ensures { OnOk result (self.new ≡ declares (reserves (reserves self.old array) Int) name.0 kind.base (bound_of kind.bound) fixed (rows_of kind.fault)) }
+        ensures { OnOk result (self.new
+            ≡ declares (reserves (reserves self.old array) Int) name.0 kind.base
+            (bound_of kind.bound) fixed (rows_of kind.fault)) }
     {
         self.reserve(array)?;
         self.reserve(BaseType::Int)?;
@@ -225,8 +230,10 @@ impl State {
 
     /// The register of a temporary of the type.
     pub fn temporary(&mut self, c: &BodyContext, base: BaseType) -> Result<RegNo, OutOfMemory>
-        ensures register { IfOk result (λ r. r.0 ≡ c.now.first + (take_one self.old.temporaries base).number) }
-        ensures behind { OnOk result (self.new ≡ with_temporaries self.old (take_one self.old.temporaries base).behind) }
+        ensures register { IfOk result
+            (λ r. r.0 ≡ c.now.first + (take_one self.old.temporaries base).number) }
+        ensures behind { OnOk result
+            (self.new ≡ with_temporaries self.old (take_one self.old.temporaries base).behind) }
     {
         temporary(&c.in_scope(&self.names), &mut self.temporaries, base)
     }
@@ -283,7 +290,8 @@ pub fn evaluate(
     s: &mut State,
 ) -> Result<Operand, OutOfMemory>
     requires few { Few c.now.program.now }
-    ensures { IfOk result (λ o. GivesIn (valued c.now s.old (placed_view tree.now)) s.old e.old o e.new s.new) }
+    ensures { IfOk result
+        (λ o. GivesIn (valued c.now s.old (placed_view tree.now)) s.old e.old o e.new s.new) }
 {
     let given = value(tree, &c.in_scope(&s.names), e, &mut s.temporaries)?;
     Ok(given.operand)
@@ -299,7 +307,8 @@ pub fn decide(
     no: PointNo,
 ) -> Result<(), OutOfMemory>
     requires few { Few c.now.program.now }
-    ensures { OnOk result (TestsIn (tested c.now s.old (placed_view tree.now)) s.old yes.0 no.0 e.old e.new s.new) }
+    ensures { OnOk result
+        (TestsIn (tested c.now s.old (placed_view tree.now)) s.old yes.0 no.0 e.old e.new s.new) }
 {
     condition(tree, &c.in_scope(&s.names), e, &mut s.temporaries, yes, no)?;
     Ok(())
@@ -313,7 +322,8 @@ pub fn evaluate_outside(
     s: &mut State,
 ) -> Result<Operand, OutOfMemory>
     requires few { Few c.now.program.now }
-    ensures { IfOk result (λ o. GivesIn (valued_outside c.now s.old (placed_view tree.now)) s.old e.old o e.new s.new) }
+    ensures { IfOk result (λ o.
+        GivesIn (valued_outside c.now s.old (placed_view tree.now)) s.old e.old o e.new s.new) }
 {
     let given = value(tree, &c.outside(), e, &mut s.temporaries)?;
     Ok(given.operand)
@@ -335,7 +345,8 @@ pub fn evaluate_all(
     s: &mut State,
 ) -> Result<Seq<Operand>, OutOfMemory>
     requires few { Few c.now.program.now }
-    ensures { IfOk result (λ os. GivesAllIn (all_valued c.now s.old (placed_views trees.now)) s.old e.old os e.new s.new) }
+    ensures { IfOk result (λ os.
+        GivesAllIn (all_valued c.now s.old (placed_views trees.now)) s.old e.old os e.new s.new) }
 {
     let given = operands(trees, &c.in_scope(&s.names), e, &mut s.temporaries)?;
     Ok(given)

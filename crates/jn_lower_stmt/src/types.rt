@@ -80,7 +80,9 @@ fn type_of_use(
     modifiers: &[LocalModifier],
 ) -> BaseType
     requires few { Few program.now }
-    ensures { result ≡ spec.type_of_use program.now (placed_type_use type_use.now) (local.annotations_of modifiers.now) }
+    ensures { result
+        ≡ spec.type_of_use program.now (placed_type_use type_use.now)
+        (local.annotations_of modifiers.now) }
 {
     match &type_use.array {
         Some(_) => array_type(program, &type_use.base, modifiers),
@@ -176,7 +178,9 @@ fn bound_of_brackets(annotations: &[Annotation]) -> Option<Bound>
 }
 
 fn bound_of_use(type_use: &TypeUse, modifiers: &[LocalModifier]) -> Option<Bound>
-    ensures { view.bound_of result ≡ local.bound_of (local.own_annotations (placed_type_use type_use.now).array (local.annotations_of modifiers.now)) }
+    ensures { view.bound_of result
+        ≡ local.bound_of (local.own_annotations (placed_type_use type_use.now).array
+        (local.annotations_of modifiers.now)) }
 {
     match &type_use.array {
         Some(brackets) => bound_of_brackets(brackets),
@@ -191,8 +195,12 @@ pub fn kind_of(
     modifiers: &[LocalModifier],
 ) -> LocalKind
     requires few { Few program.now }
-    ensures base { result.base ≡ spec.type_of_use program.now (placed_type_use type_use.now) (local.annotations_of modifiers.now) }
-    ensures bound { view.bound_of result.bound ≡ local.bound_of (local.own_annotations (placed_type_use type_use.now).array (local.annotations_of modifiers.now)) }
+    ensures base { result.base
+        ≡ spec.type_of_use program.now (placed_type_use type_use.now)
+        (local.annotations_of modifiers.now) }
+    ensures bound { view.bound_of result.bound
+        ≡ local.bound_of (local.own_annotations (placed_type_use type_use.now).array
+        (local.annotations_of modifiers.now)) }
     ensures fault { rows_of result.fault ≡ base_rows program.now type_use.now.base }
 {
     LocalKind {

@@ -28,7 +28,8 @@ const DEEPEST: usize = 4_096;
 
 /// The point of a body at a place.
 pub fn point_at(program: &Program, body: usize, at: usize) -> Option<&Point>
-    ensures { MatchOption result (point_at program.now body at ≡ None) (λ p. (point_at program.now body at ≡ Some p.now) × (at < 2 ^ 64 - 1)) }
+    ensures { MatchOption result (point_at program.now body at ≡ None)
+        (λ p. (point_at program.now body at ≡ Some p.now) × (at < 2 ^ 64 - 1)) }
 {
     let bodies = program.bodies.as_slice();
     let points = bodies.get(body)?.points.as_slice();
@@ -62,7 +63,8 @@ pub(crate) fn gather(
 /// The first value is taken, as what the first register holds.
 #[tactic(auto, using(crate::proofs::Pieces::pad_next))]
 fn first_of(rest: &mut VecDeque<Value>) -> Option<Value>
-    ensures { (count i : ℕ) → i < count → spec.pad rest.old.items (count - i) ≡ result ∷ spec.pad rest.new.items (count - (i + 1)) }
+    ensures { (count i : ℕ) → i < count
+        → spec.pad rest.old.items (count - i) ≡ result ∷ spec.pad rest.new.items (count - (i + 1)) }
 {
     rest.pop_front()
 }
@@ -76,7 +78,9 @@ pub(crate) fn array_of(
     values: &[Operand],
 ) -> Result<Acted, AllocError>
     requires { state.old.top.at < 2 ^ 64 - 1 }
-    ensures { IfOk result (λ acted. (out : List ℕ) → array_of (state_of state.old out) dst.0 base (gather state.old.top.regs values.now) ≡ acted_next acted state.new out) }
+    ensures { IfOk result (λ acted. (out : List ℕ)
+        → array_of (state_of state.old out) dst.0 base (gather state.old.top.regs values.now)
+        ≡ acted_next acted state.new out) }
 {
     match gather(alloc, &state.top, values, Seq::new(alloc))? {
         None => Ok(Acted::Stuck),
@@ -134,7 +138,9 @@ pub fn body_of(program: &Program, method: usize) -> Option<u32>
 
 /// The body that a call of the method enters, where that makes few enough frames.
 fn entry(program: &Program, state: &MachineState, method: usize) -> Got<u32>
-    ensures { answer_of result ≡ entry_of (ltb usual_limits.deepest (length state.now.waiting.items + 2)) (body_of (method_at program.now method)) }
+    ensures { answer_of result
+        ≡ entry_of (ltb usual_limits.deepest (length state.now.waiting.items + 2))
+        (body_of (method_at program.now method)) }
 {
     if state.waiting.len() >= DEEPEST - 1 {
         return Got::Fails(End::Deep);
@@ -156,7 +162,8 @@ fn enter(
     ensures heap { IfOk result (λ u. state.new.heap ≡ state.old.heap) }
     ensures statics { IfOk result (λ u. state.new.statics ≡ state.old.statics) }
     ensures top { IfOk result (λ u. state.new.top ≡ spec.entered program.now body values) }
-    ensures waiting { IfOk result (λ u. state.new.waiting.items ≡ state.old.top ∷ state.old.waiting.items) }
+    ensures waiting { IfOk result
+        (λ u. state.new.waiting.items ≡ state.old.top ∷ state.old.waiting.items) }
 {
     let frame = entered(alloc, program, body, values)?;
     let caller = mem::replace(&mut state.top, frame);
@@ -172,7 +179,9 @@ fn enters(
     method: usize,
     values: Seq<Value>,
 ) -> Result<Acted, AllocError>
-    ensures { IfOk result (λ acted. (out : List ℕ) → spec.enters program.now (state_of state.old out) state.old.heap.items method values ≡ acted_next acted state.new out) }
+    ensures { IfOk result (λ acted. (out : List ℕ)
+        → spec.enters program.now (state_of state.old out) state.old.heap.items method values
+        ≡ acted_next acted state.new out) }
 {
     match entry(program, state, method) {
         Got::Gives(body) => {
@@ -213,7 +222,13 @@ fn news(
     ctor: usize,
     values: Seq<Value>,
 ) -> Result<Acted, AllocError>
-    ensures { IfOk result (λ acted. (out : List ℕ) → spec.enters program.now (state_of state.old out) (state.old.heap.items ++ Object (class_of (method_at program.now ctor)) (defaults program.now.fields) ∷ []) ctor values ≡ acted_next acted state.new out) }
+    ensures { IfOk result (λ acted. (out : List ℕ)
+        → spec.enters program.now (state_of state.old out)
+        (state.old.heap.items
+        ++ Object (class_of (method_at program.now ctor)) (defaults program.now.fields)
+        ∷ [])
+        ctor values
+        ≡ acted_next acted state.new out) }
 {
     match entry(program, state, ctor) {
         Got::Gives(body) => {
@@ -245,7 +260,9 @@ pub(crate) fn new_object(
     ctor: MethodNo,
     args: &[Operand],
 ) -> Result<Acted, AllocError>
-    ensures { IfOk result (λ acted. (out : List ℕ) → spec.news program.now (state_of state.old out) ctor.0 (gather state.old.top.regs args.now) ≡ acted_next acted state.new out) }
+    ensures { IfOk result (λ acted. (out : List ℕ)
+        → spec.news program.now (state_of state.old out) ctor.0 (gather state.old.top.regs args.now)
+        ≡ acted_next acted state.new out) }
 {
     let this = one(alloc, Value::at(state.heap.len()))?;
     match gather(alloc, &state.top, args, this)? {
@@ -261,7 +278,10 @@ pub(crate) fn ctor_call(
     ctor: MethodNo,
     args: &[Operand],
 ) -> Result<Acted, AllocError>
-    ensures { IfOk result (λ acted. (out : List ℕ) → spec.ctor_calls program.now (state_of state.old out) ctor.0 (value_at state.old.top.regs 0) (gather state.old.top.regs args.now) ≡ acted_next acted state.new out) }
+    ensures { IfOk result (λ acted. (out : List ℕ)
+        → spec.ctor_calls program.now (state_of state.old out) ctor.0
+        (value_at state.old.top.regs 0) (gather state.old.top.regs args.now)
+        ≡ acted_next acted state.new out) }
 {
     let Some(this) = copied(alloc, &state.top, RegNo(0))? else {
         return Ok(Acted::Stuck);
@@ -302,7 +322,10 @@ fn call_static(
     method: MethodNo,
     args: &[Operand],
 ) -> Result<Acted, AllocError>
-    ensures { IfOk result (λ acted. (direct : Bool) (out : List ℕ) → spec.calls program.now (state_of state.old out) method.0 None direct (gather state.old.top.regs args.now) ≡ acted_next acted state.new out) }
+    ensures { IfOk result (λ acted. (direct : Bool) (out : List ℕ)
+        → spec.calls program.now (state_of state.old out) method.0 None direct
+        (gather state.old.top.regs args.now)
+        ≡ acted_next acted state.new out) }
 {
     match gather(alloc, &state.top, args, Seq::new(alloc))? {
         None => Ok(Acted::Stuck),
@@ -319,7 +342,10 @@ fn call_on(
     direct: bool,
     args: &[Operand],
 ) -> Result<Acted, AllocError>
-    ensures { IfOk result (λ acted. (out : List ℕ) → spec.calls program.now (state_of state.old out) method.0 (Some receiver) direct (gather state.old.top.regs args.now) ≡ acted_next acted state.new out) }
+    ensures { IfOk result (λ acted. (out : List ℕ)
+        → spec.calls program.now (state_of state.old out) method.0 (Some receiver) direct
+        (gather state.old.top.regs args.now)
+        ≡ acted_next acted state.new out) }
 {
     let Some(place) = state.top.object(receiver.reg) else {
         return Ok(Acted::Stuck);
@@ -343,7 +369,10 @@ pub(crate) fn call(
     direct: bool,
     args: &[Operand],
 ) -> Result<Acted, AllocError>
-    ensures { IfOk result (λ acted. (out : List ℕ) → spec.calls program.now (state_of state.old out) method.0 receiver direct (gather state.old.top.regs args.now) ≡ acted_next acted state.new out) }
+    ensures { IfOk result (λ acted. (out : List ℕ)
+        → spec.calls program.now (state_of state.old out) method.0 receiver direct
+        (gather state.old.top.regs args.now)
+        ≡ acted_next acted state.new out) }
 {
     match receiver {
         None => call_static(alloc, program, state, method, args),
@@ -353,7 +382,9 @@ pub(crate) fn call(
 
 /// The waiting frame runs again.
 fn resume(state: &mut MachineState, waiting: Frame) -> Acted
-    ensures { (st : State) → st.limits ≡ usual_limits → st.heap ≡ state.old.heap.items → st.statics ≡ state.old.statics.items → spec.resumes st waiting state.old.waiting.items ≡ acted_next result state.new st.out }
+    ensures { (st : State) → st.limits ≡ usual_limits → st.heap ≡ state.old.heap.items
+        → st.statics ≡ state.old.statics.items
+        → spec.resumes st waiting state.old.waiting.items ≡ acted_next result state.new st.out }
 {
     state.top = waiting;
     Acted::Goes
@@ -362,7 +393,10 @@ fn resume(state: &mut MachineState, waiting: Frame) -> Acted
 /// The waiting frame runs again, with the value in a register.
 fn give(state: &mut MachineState, mut waiting: Frame, dst: RegNo, value: Option<Value>) -> Acted
     requires { waiting.at < 2 ^ 64 - 1 }
-    ensures { (st : State) → st.limits ≡ usual_limits → st.heap ≡ state.old.heap.items → st.statics ≡ state.old.statics.items → spec.gives st waiting state.old.waiting.items dst.0 value ≡ acted_next result state.new st.out }
+    ensures { (st : State) → st.limits ≡ usual_limits → st.heap ≡ state.old.heap.items
+        → st.statics ≡ state.old.statics.items
+        → spec.gives st waiting state.old.waiting.items dst.0 value
+        ≡ acted_next result state.new st.out }
 {
     match value {
         None => Acted::Stuck,
@@ -381,7 +415,11 @@ fn take(
     this: Option<Value>,
     value: Option<Value>,
 ) -> Acted
-    ensures { (st : State) → st.limits ≡ usual_limits → st.heap ≡ state.old.heap.items → st.statics ≡ state.old.statics.items → spec.takes_at st waiting state.old.waiting.items this value (point_at program.now waiting.body waiting.at) ≡ acted_next result state.new st.out }
+    ensures { (st : State) → st.limits ≡ usual_limits → st.heap ≡ state.old.heap.items
+        → st.statics ≡ state.old.statics.items
+        → spec.takes_at st waiting state.old.waiting.items this value
+        (point_at program.now waiting.body waiting.at)
+        ≡ acted_next result state.new st.out }
 {
     let Some(point) = point_at(program, waiting.body(), waiting.at()) else {
         return Acted::Stuck;
@@ -404,7 +442,10 @@ pub(crate) fn returns(
     state: &mut MachineState,
     value: Option<Operand>,
 ) -> Result<Acted, AllocError>
-    ensures { IfOk result (λ acted. (out : List ℕ) → spec.returns program.now (state_of state.old out) state.old.waiting.items (value_at state.old.top.regs 0) (value_of state.old.top.regs value) ≡ acted_next acted state.new out) }
+    ensures { IfOk result (λ acted. (out : List ℕ)
+        → spec.returns program.now (state_of state.old out) state.old.waiting.items
+        (value_at state.old.top.regs 0) (value_of state.old.top.regs value)
+        ≡ acted_next acted state.new out) }
 {
     let this = copied(alloc, &state.top, RegNo(0))?;
     let given = match value {

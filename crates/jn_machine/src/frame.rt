@@ -26,7 +26,8 @@ impl Model for Frame {
 
 /// The value at a place of a list of registers.
 fn register(regs: &[Option<Value>], at: usize) -> Option<&Value>
-    ensures { MatchOption result (spec.value_at regs.now at ≡ None) (λ v. spec.value_at regs.now at ≡ Some v.now) }
+    ensures { MatchOption result (spec.value_at regs.now at ≡ None)
+        (λ v. spec.value_at regs.now at ≡ Some v.now) }
 {
     match regs.get(at) {
         None => None,
@@ -67,7 +68,8 @@ impl Frame {
 
     /// The value in a register, where it holds one.
     pub fn value(&self, reg: RegNo) -> Option<&Value>
-        ensures { MatchOption result (spec.value_at self.now.regs reg.0 ≡ None) (λ v. spec.value_at self.now.regs reg.0 ≡ Some v.now) }
+        ensures { MatchOption result (spec.value_at self.now.regs reg.0 ≡ None)
+            (λ v. spec.value_at self.now.regs reg.0 ≡ Some v.now) }
     {
         register(&self.regs, reg.0 as usize)
     }

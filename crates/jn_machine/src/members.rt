@@ -25,7 +25,9 @@ pub(crate) fn read_field(
     object: RegNo,
     field: FieldNo,
 ) -> Result<Got<Value>, AllocError>
-    ensures { IfOk result (λ g. answer_of g ≡ spec.read_field program.now state.now.heap.items (object_of (value_at state.now.top.regs object.0)) field.0) }
+    ensures { IfOk result (λ g. answer_of g
+        ≡ spec.read_field program.now state.now.heap.items
+        (object_of (value_at state.now.top.regs object.0)) field.0) }
 {
     let Some(place) = state.top.object(object) else {
         return Ok(Got::Lacks);
@@ -51,7 +53,10 @@ fn store_field(
     value: Value,
 ) -> Acted
     requires { state.old.top.at < 2 ^ 64 - 1 }
-    ensures { (out : List ℕ) → spec.put_thing (state_of state.old out) place (spec.write_in program.now (slice_get state.old.heap.items place) field.0 value) ≡ acted_next result state.new out }
+    ensures { (out : List ℕ)
+        → spec.put_thing (state_of state.old out) place
+        (spec.write_in program.now (slice_get state.old.heap.items place) field.0 value)
+        ≡ acted_next result state.new out }
 {
     if place >= state.heap.len() {
         return Acted::Stuck;
@@ -76,7 +81,11 @@ pub(crate) fn write_field(
     from: RegNo,
 ) -> Result<Acted, AllocError>
     requires { state.old.top.at < 2 ^ 64 - 1 }
-    ensures { IfOk result (λ acted. (out : List ℕ) → spec.write_field program.now (state_of state.old out) (object_of (value_at state.old.top.regs object.0)) field.0 (value_at state.old.top.regs from.0) ≡ acted_next acted state.new out) }
+    ensures { IfOk result (λ acted. (out : List ℕ)
+        → spec.write_field program.now (state_of state.old out)
+        (object_of (value_at state.old.top.regs object.0)) field.0
+        (value_at state.old.top.regs from.0)
+        ≡ acted_next acted state.new out) }
 {
     let Some(place) = state.top.object(object) else {
         return Ok(Acted::Stuck);
@@ -108,7 +117,10 @@ fn put(statics: &mut [Primitive], at: usize, prim: Primitive)
 
 pub(crate) fn write_static(state: &mut MachineState, field: FieldNo, from: RegNo) -> Acted
     requires { state.old.top.at < 2 ^ 64 - 1 }
-    ensures { (out : List ℕ) → spec.write_static (state_of state.old out) field.0 (prim_of (value_at state.old.top.regs from.0)) ≡ acted_next result state.new out }
+    ensures { (out : List ℕ)
+        → spec.write_static (state_of state.old out) field.0
+        (prim_of (value_at state.old.top.regs from.0))
+        ≡ acted_next result state.new out }
 {
     match state.top.prim(from) {
         None => Acted::Stuck,
@@ -127,7 +139,9 @@ pub(crate) fn read_elem(
     array: RegNo,
     at: RegNo,
 ) -> Result<Got<Value>, AllocError>
-    ensures { IfOk result (λ g. answer_of g ≡ spec.read_elem state.now.heap.items (object_of (value_at state.now.top.regs array.0)) (int_of (prim_of (value_at state.now.top.regs at.0)))) }
+    ensures { IfOk result (λ g. answer_of g
+        ≡ spec.read_elem state.now.heap.items (object_of (value_at state.now.top.regs array.0))
+        (int_of (prim_of (value_at state.now.top.regs at.0)))) }
 {
     let Some(place) = state.top.object(array) else {
         return Ok(Got::Lacks);
@@ -153,7 +167,9 @@ fn may_store(program: &Program, heap: &[Thing], place: usize, value: &Value) -> 
 
 /// Makes a value an element of the thing at a place, where it may hold it.
 fn set_at(heap: &mut [Thing], place: usize, at: Option<usize>, value: Value, may: bool) -> Got<()>
-    ensures { (st : State) → st.heap ≡ heap.old → spec.put_thing st place (store_as (slice_get heap.old place) at value may) ≡ put_next result st heap.new }
+    ensures { (st : State) → st.heap ≡ heap.old
+        → spec.put_thing st place (store_as (slice_get heap.old place) at value may)
+        ≡ put_next result st heap.new }
 {
     if place >= heap.len() {
         return Got::Lacks;
@@ -172,7 +188,10 @@ fn store_elem(
     value: Value,
 ) -> Acted
     requires { state.old.top.at < 2 ^ 64 - 1 }
-    ensures { (out : List ℕ) → spec.put_thing (state_of state.old out) place (spec.store_in program.now state.old.heap.items (slice_get state.old.heap.items place) at value) ≡ acted_next result state.new out }
+    ensures { (out : List ℕ)
+        → spec.put_thing (state_of state.old out) place (spec.store_in program.now
+        state.old.heap.items (slice_get state.old.heap.items place) at value)
+        ≡ acted_next result state.new out }
 {
     let may = may_store(program, &state.heap, place, &value);
     match set_at(&mut state.heap, place, at, value, may) {
@@ -194,7 +213,12 @@ pub(crate) fn write_elem(
     from: RegNo,
 ) -> Result<Acted, AllocError>
     requires { state.old.top.at < 2 ^ 64 - 1 }
-    ensures { IfOk result (λ acted. (out : List ℕ) → spec.write_elem program.now (state_of state.old out) (object_of (value_at state.old.top.regs array.0)) (int_of (prim_of (value_at state.old.top.regs at.0))) (value_at state.old.top.regs from.0) ≡ acted_next acted state.new out) }
+    ensures { IfOk result (λ acted. (out : List ℕ)
+        → spec.write_elem program.now (state_of state.old out)
+        (object_of (value_at state.old.top.regs array.0))
+        (int_of (prim_of (value_at state.old.top.regs at.0)))
+        (value_at state.old.top.regs from.0)
+        ≡ acted_next acted state.new out) }
 {
     let Some(place) = state.top.object(array) else {
         return Ok(Acted::Stuck);
@@ -210,7 +234,8 @@ pub(crate) fn write_elem(
 
 /// The length of the array that a register refers to.
 pub(crate) fn array_len(state: &MachineState, array: RegNo) -> Got<Value>
-    ensures { answer_of result ≡ spec.array_len state.now.heap.items (object_of (value_at state.now.top.regs array.0)) }
+    ensures { answer_of result
+        ≡ spec.array_len state.now.heap.items (object_of (value_at state.now.top.regs array.0)) }
 {
     match state.top.object(array) {
         None => Got::Lacks,
@@ -254,7 +279,8 @@ pub(crate) fn allocate(
     thing: Thing,
 ) -> Result<Acted, AllocError>
     requires { state.old.top.at < 2 ^ 64 - 1 }
-    ensures { IfOk result (λ acted. (out : List ℕ) → spec.allocates (state_of state.old out) dst.0 thing ≡ acted_next acted state.new out) }
+    ensures { IfOk result (λ acted. (out : List ℕ)
+        → spec.allocates (state_of state.old out) dst.0 thing ≡ acted_next acted state.new out) }
 {
     let place = state.heap.len();
     state.heap.push(thing)?;
@@ -270,7 +296,10 @@ pub(crate) fn new_array(
     length: RegNo,
 ) -> Result<Acted, AllocError>
     requires { state.old.top.at < 2 ^ 64 - 1 }
-    ensures { IfOk result (λ acted. (out : List ℕ) → spec.new_array (state_of state.old out) dst.0 base (spec.count_of usual_limits.longest (int_of (prim_of (value_at state.old.top.regs length.0)))) ≡ acted_next acted state.new out) }
+    ensures { IfOk result (λ acted. (out : List ℕ)
+        → spec.new_array (state_of state.old out) dst.0 base (spec.count_of usual_limits.longest
+        (int_of (prim_of (value_at state.old.top.regs length.0))))
+        ≡ acted_next acted state.new out) }
 {
     let Some(number) = state.top.int(length) else {
         return Ok(Acted::Stuck);
@@ -293,7 +322,9 @@ pub(crate) fn cast(
     of: RegNo,
     class: ClassNo,
 ) -> Result<Got<Value>, AllocError>
-    ensures { IfOk result (λ g. answer_of g ≡ spec.cast_of program.now state.now.heap.items (value_at state.now.top.regs of.0) class.0) }
+    ensures { IfOk result (λ g. answer_of g
+        ≡ spec.cast_of program.now state.now.heap.items (value_at state.now.top.regs of.0)
+        class.0) }
 {
     match state.top.value(of) {
         None => Ok(Got::Lacks),
@@ -310,7 +341,10 @@ pub(crate) fn test_inst(
     yes: PointNo,
     no: PointNo,
 ) -> Option<PointNo>
-    ensures { (out : List ℕ) → spec.test_inst program.now (state_of state.now out) class.0 yes.0 no.0 (value_at state.now.top.regs of.0) ≡ goes_to (state_of state.now out) result }
+    ensures { (out : List ℕ)
+        → spec.test_inst program.now (state_of state.now out) class.0 yes.0 no.0
+        (value_at state.now.top.regs of.0)
+        ≡ goes_to (state_of state.now out) result }
 {
     match state.top.value(of) {
         None => None,

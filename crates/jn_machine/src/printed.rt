@@ -34,10 +34,15 @@ pub fn step_to<K: Sink>(
     state: &mut MachineState,
     sink: &mut K,
 ) -> Result<Stepped, StepFail>
-    ensures ok { IfOk result (λ stepped. PrintsTo (λ out. spec.step program.now names.now (state_of state.old out)) stepped state.new (K.written sink.old) (K.written sink.new)) }
-    ensures prefix { result ≡ Err StepFail.WriteFault → PrintsSome (λ out. spec.step program.now names.now (state_of state.old out)) state.new (K.written sink.old) (K.written sink.new) }
+    ensures ok { IfOk result (λ stepped. PrintsTo
+        (λ out. spec.step program.now names.now (state_of state.old out)) stepped state.new
+        (K.written sink.old) (K.written sink.new)) }
+    ensures prefix { result ≡ Err StepFail.WriteFault
+        → PrintsSome (λ out. spec.step program.now names.now (state_of state.old out)) state.new
+        (K.written sink.old) (K.written sink.new) }
     ensures memory { result ≡ Err StepFail.OutOfMemory → K.written sink.new ≡ K.written sink.old }
-    ensures failed { result ≡ Err StepFail.WriteFault → Rose (K.faults sink.old) (K.faults sink.new) }
+    ensures failed { result ≡ Err StepFail.WriteFault
+        → Rose (K.faults sink.old) (K.faults sink.new) }
     ensures later { K.faults sink.old ≤ K.faults sink.new }
     ensures kept { result ≢ Err StepFail.WriteFault → K.faults sink.new ≡ K.faults sink.old }
 {
@@ -68,10 +73,19 @@ pub fn run_to<K: Sink>(
     steps: u64,
     sink: &mut K,
 ) -> Result<Stepped, StepFail>
-    ensures ok { IfOk result (λ stepped. PrintsTo (λ out. spec.run program.now names.now (Goes (state_of state.old out)) steps) stepped state.new (K.written sink.old) (K.written sink.new)) }
-    ensures prefix { result ≡ Err StepFail.WriteFault → (n : ℕ) × (n ≤ steps) × PrintsSome (λ out. spec.run program.now names.now (Goes (state_of state.old out)) n) state.new (K.written sink.old) (K.written sink.new) }
-    ensures memory { result ≡ Err StepFail.OutOfMemory → (n : ℕ) × (n < steps) × PrintsFront (λ out. spec.run program.now names.now (Goes (state_of state.old out)) n) (K.written sink.old) (K.written sink.new) }
-    ensures failed { result ≡ Err StepFail.WriteFault → Rose (K.faults sink.old) (K.faults sink.new) }
+    ensures ok { IfOk result (λ stepped. PrintsTo
+        (λ out. spec.run program.now names.now (Goes (state_of state.old out)) steps) stepped
+        state.new (K.written sink.old) (K.written sink.new)) }
+    ensures prefix { result ≡ Err StepFail.WriteFault
+        → (n : ℕ) × (n ≤ steps)
+        × PrintsSome (λ out. spec.run program.now names.now (Goes (state_of state.old out)) n)
+        state.new (K.written sink.old) (K.written sink.new) }
+    ensures memory { result ≡ Err StepFail.OutOfMemory
+        → (n : ℕ) × (n < steps)
+        × PrintsFront (λ out. spec.run program.now names.now (Goes (state_of state.old out)) n)
+        (K.written sink.old) (K.written sink.new) }
+    ensures failed { result ≡ Err StepFail.WriteFault
+        → Rose (K.faults sink.old) (K.faults sink.new) }
     ensures later { K.faults sink.old ≤ K.faults sink.new }
     ensures kept { result ≢ Err StepFail.WriteFault → K.faults sink.new ≡ K.faults sink.old }
 {

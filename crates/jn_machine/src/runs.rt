@@ -81,7 +81,8 @@ pub fn start(
     body: BodyNo,
     words: &[Text],
 ) -> Result<MachineState, OutOfMemory>
-    ensures { IfOk result (λ state. state_of state [] ≡ spec.start_state program.now usual_limits body.0 words.now) }
+    ensures { IfOk result
+        (λ state. state_of state [] ≡ spec.start_state program.now usual_limits body.0 words.now) }
 {
     let heap = first_heap(alloc, words)?;
     let statics = statics_of(alloc, program.fields.as_slice())?;
@@ -108,7 +109,9 @@ pub fn run(
     steps: u64,
     out: &mut Vec<u8>,
 ) -> Result<Stepped, OutOfMemory>
-    ensures { IfOk result (λ stepped. spec.run program.now names.now (Goes (state_of state.old out.old.items)) steps ≡ next_of stepped state.new out.new.items) }
+    ensures { IfOk result (λ stepped. spec.run program.now names.now
+        (Goes (state_of state.old out.old.items)) steps
+        ≡ next_of stepped state.new out.new.items) }
 {
     for _ in 0..steps {
         match step(alloc, program, names, state, out)? {

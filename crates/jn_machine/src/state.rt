@@ -47,7 +47,9 @@ pub enum Stepped {
 /// Puts what an operation gives into a register.
 pub(crate) fn settle(state: &mut MachineState, dst: RegNo, got: Got<Value>) -> Acted
     requires { state.old.top.at < 2 ^ 64 - 1 }
-    ensures { (out : List ℕ) → spec.got_sets (state_of state.old out) dst.0 (answer_of got) ≡ acted_next result state.new out }
+    ensures { (out : List ℕ)
+        → spec.got_sets (state_of state.old out) dst.0 (answer_of got)
+        ≡ acted_next result state.new out }
 {
     match got {
         Got::Gives(value) => {
@@ -61,7 +63,8 @@ pub(crate) fn settle(state: &mut MachineState, dst: RegNo, got: Got<Value>) -> A
 
 /// Goes to a point.
 pub(crate) fn jump(state: &mut MachineState, to: PointNo) -> Acted
-    ensures { (out : List ℕ) → spec.moves (state_of state.old out) to.0 ≡ acted_next result state.new out }
+    ensures { (out : List ℕ)
+        → spec.moves (state_of state.old out) to.0 ≡ acted_next result state.new out }
 {
     state.top.jump(to.0 as usize);
     Acted::Goes
@@ -69,7 +72,8 @@ pub(crate) fn jump(state: &mut MachineState, to: PointNo) -> Acted
 
 /// Goes to the point, if there is one.
 pub(crate) fn jump_to(state: &mut MachineState, to: Option<PointNo>) -> Acted
-    ensures { (out : List ℕ) → goes_to (state_of state.old out) to ≡ acted_next result state.new out }
+    ensures { (out : List ℕ)
+        → goes_to (state_of state.old out) to ≡ acted_next result state.new out }
 {
     match to {
         None => Acted::Stuck,

@@ -20,7 +20,9 @@ fn act(
     kind: &PointKind,
 ) -> Result<Acted, AllocError>
     requires { state.old.top.at < 2 ^ 64 - 1 }
-    ensures { IfOk result (λ acted. (out : List ℕ) → act program.now names.now (state_of state.old out) kind.now ≡ acted_next acted state.new out) }
+    ensures { IfOk result (λ acted. (out : List ℕ)
+        → act program.now names.now (state_of state.old out) kind.now
+        ≡ acted_next acted state.new out) }
 {
     match kind {
         PointKind::Const { dst, value } => {
@@ -161,7 +163,8 @@ pub(crate) fn step_once(
     names: &Names,
     state: &mut MachineState,
 ) -> Result<Acted, AllocError>
-    ensures { IfOk result (λ acted. (out : List ℕ) → step program.now names.now (state_of state.old out) ≡ acted_next acted state.new out) }
+    ensures { IfOk result (λ acted. (out : List ℕ)
+        → step program.now names.now (state_of state.old out) ≡ acted_next acted state.new out) }
 {
     match calls::point_at(program, state.top.body(), state.top.at()) {
         None => Ok(Acted::Stuck),
@@ -181,7 +184,8 @@ pub fn step(
     state: &mut MachineState,
     out: &mut Vec<u8>,
 ) -> Result<Stepped, OutOfMemory>
-    ensures { IfOk result (λ stepped. step program.now names.now (state_of state.old out.old.items) ≡ next_of stepped state.new out.new.items) }
+    ensures { IfOk result (λ stepped. step program.now names.now (state_of state.old out.old.items)
+        ≡ next_of stepped state.new out.new.items) }
 {
     match step_once(alloc, program, names, state)? {
         Acted::Goes => Ok(Stepped::Goes),

@@ -88,7 +88,9 @@ pub(crate) fn unary(frame: &Frame, negate: bool, of: RegNo) -> Got<Value>
 }
 
 pub(crate) fn binary(frame: &Frame, operator: Operator, left: RegNo, right: RegNo) -> Got<Value>
-    ensures { answer_of result ≡ spec.binary_of operator (prim_of (value_at frame.now.regs left.0)) (prim_of (value_at frame.now.regs right.0)) }
+    ensures { answer_of result
+        ≡ spec.binary_of operator (prim_of (value_at frame.now.regs left.0))
+        (prim_of (value_at frame.now.regs right.0)) }
 {
     match frame.prim(left) {
         None => Got::Lacks,
@@ -125,7 +127,9 @@ pub(crate) fn concat(
     left: RegNo,
     right: RegNo,
 ) -> Result<Got<Value>, AllocError>
-    ensures { IfOk result (λ g. answer_of g ≡ spec.concat_of usual_limits.longest (text_in (value_at frame.now.regs left.0)) (text_in (value_at frame.now.regs right.0))) }
+    ensures { IfOk result (λ g. answer_of g
+        ≡ spec.concat_of usual_limits.longest (text_in (value_at frame.now.regs left.0))
+        (text_in (value_at frame.now.regs right.0))) }
 {
     let Some(front) = shown(alloc, frame, left)? else {
         return Ok(Got::Lacks);
@@ -138,7 +142,8 @@ pub(crate) fn concat(
 }
 
 pub(crate) fn same_ref(frame: &Frame, equal: bool, left: RegNo, right: RegNo) -> Got<Value>
-    ensures { answer_of result ≡ spec.same_of equal (value_at frame.now.regs left.0) (value_at frame.now.regs right.0) }
+    ensures { answer_of result
+        ≡ spec.same_of equal (value_at frame.now.regs left.0) (value_at frame.now.regs right.0) }
 {
     match frame.value(left) {
         None => Got::Lacks,
@@ -171,7 +176,8 @@ pub(crate) fn str_op(
     of: RegNo,
     other: Option<Operand>,
 ) -> Got<Value>
-    ensures { answer_of result ≡ spec.str_op op (value_at frame.now.regs of.0) (value_of frame.now.regs other) }
+    ensures { answer_of result
+        ≡ spec.str_op op (value_at frame.now.regs of.0) (value_of frame.now.regs other) }
 {
     match frame.value(of) {
         None => Got::Lacks,
@@ -191,7 +197,9 @@ pub(crate) fn str_op(
 /// The text of a register's value and a line feed are printed.
 pub(crate) fn print(alloc: Global, state: &mut MachineState, of: RegNo) -> Result<Acted, AllocError>
     requires { state.old.top.at < 2 ^ 64 - 1 }
-    ensures { IfOk result (λ acted. (out : List ℕ) → spec.print (state_of state.old out) (text_in (value_at state.old.top.regs of.0)) ≡ acted_next acted state.new out) }
+    ensures { IfOk result (λ acted. (out : List ℕ)
+        → spec.print (state_of state.old out) (text_in (value_at state.old.top.regs of.0))
+        ≡ acted_next acted state.new out) }
 {
     let Some(text) = shown(alloc, &state.top, of)? else {
         return Ok(Acted::Stuck);
@@ -208,7 +216,8 @@ pub(crate) fn test_null(
     null: PointNo,
     non_null: PointNo,
 ) -> Option<PointNo>
-    ensures { (st : State) → spec.test_null st null.0 non_null.0 (value_at frame.now.regs of.0) ≡ goes_to st result }
+    ensures { (st : State)
+        → spec.test_null st null.0 non_null.0 (value_at frame.now.regs of.0) ≡ goes_to st result }
 {
     match frame.value(of) {
         None => None,
@@ -218,7 +227,9 @@ pub(crate) fn test_null(
 
 /// Which point a branch goes to.
 pub(crate) fn branch(frame: &Frame, of: RegNo, yes: PointNo, no: PointNo) -> Option<PointNo>
-    ensures { (st : State) → spec.branch st yes.0 no.0 (truth_of (prim_of (value_at frame.now.regs of.0))) ≡ goes_to st result }
+    ensures { (st : State)
+        → spec.branch st yes.0 no.0 (truth_of (prim_of (value_at frame.now.regs of.0)))
+        ≡ goes_to st result }
 {
     match frame.prim(of) {
         None => None,

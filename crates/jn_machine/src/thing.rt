@@ -66,7 +66,8 @@ impl Thing {
 
     /// The value of an object's field; None of an array, or where its class has no such field.
     pub fn field(&self, program: &Program, field: FieldNo) -> Option<&Value>
-        ensures { MatchOption result (field_in program.now (Some self.now) field.0 ≡ None) (λ v. field_in program.now (Some self.now) field.0 ≡ Some v.now) }
+        ensures { MatchOption result (field_in program.now (Some self.now) field.0 ≡ None)
+            (λ v. field_in program.now (Some self.now) field.0 ≡ Some v.now) }
     {
         match &self.node {
             Node::Object(class, fields) => {
@@ -83,7 +84,8 @@ impl Thing {
     /// Puts a value into an object's field. An array, or an object whose class has no such field,
     /// lacks it.
     pub fn set_field(&mut self, program: &Program, field: FieldNo, value: Value) -> Got<()>
-        ensures put { write_in program.now (Some self.old) field.0 value ≡ put_answer result self.new }
+        ensures put { write_in program.now (Some self.old) field.0 value
+            ≡ put_answer result self.new }
         ensures kept { IsKept result self.old self.new }
     {
         match &mut self.node {

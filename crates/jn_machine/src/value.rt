@@ -156,7 +156,10 @@ impl Value {
 
     /// The bytes of a String.
     pub fn as_text(&self) -> Option<&str>
-        ensures { MatchOption result ((op : StrOperation) (other : Option spec.Value) → str_op op (Some self.now) other ≡ spec.Lacks) (λ t. self.now ≡ spec.Text t.now) }
+        ensures { MatchOption result
+            ((op : StrOperation) (other : Option spec.Value)
+            → str_op op (Some self.now) other ≡ spec.Lacks)
+            (λ t. self.now ≡ spec.Text t.now) }
     {
         match &self.node {
             Node::Text(text) => Some(text.as_str()),
@@ -166,7 +169,8 @@ impl Value {
 
     /// The one point for null, the other for another reference; None of an int or a boolean.
     pub fn null_side(&self, null: PointNo, non_null: PointNo) -> Option<PointNo>
-        ensures { (st : State) → test_null st null.0 non_null.0 (Some self.now) ≡ goes_to st result }
+        ensures { (st : State)
+            → test_null st null.0 non_null.0 (Some self.now) ≡ goes_to st result }
     {
         match &self.node {
             Node::Null => Some(null),
@@ -214,7 +218,8 @@ impl Value {
         heap: &[Thing],
         class: ClassNo,
     ) -> Result<Got<Value>, AllocError>
-        ensures { IfOk result (λ g. answer_of g ≡ cast_of program.now heap.now (Some self.now) class.0) }
+        ensures { IfOk result
+            (λ g. answer_of g ≡ cast_of program.now heap.now (Some self.now) class.0) }
     {
         match &self.node {
             Node::Null => Ok(Got::Gives(Value::null())),
@@ -240,7 +245,8 @@ impl Value {
         yes: PointNo,
         no: PointNo,
     ) -> Option<PointNo>
-        ensures { (st : State) → st.heap ≡ heap.now → test_inst program.now st class.0 yes.0 no.0 (Some self.now) ≡ goes_to st result }
+        ensures { (st : State) → st.heap ≡ heap.now
+            → test_inst program.now st class.0 yes.0 no.0 (Some self.now) ≡ goes_to st result }
     {
         match &self.node {
             Node::Null => Some(no),

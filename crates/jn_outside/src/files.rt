@@ -44,7 +44,8 @@ pub trait Files {
         ensures started { OnOk result (Starts (held self.old) name.now (left self.new)) }
         ensures gave { OnOk result (gave self.new ≡ with_start (gave self.old) name.now) }
         ensures spared { OnErr result (gave self.new ≡ gave self.old) }
-        ensures steady { steady self.old → Holds (held self.old) name.now → IsOk result × steady self.new }
+        ensures steady { steady self.old → Holds (held self.old) name.now
+            → IsOk result × steady self.new }
         ensures cause { HasCause (faults self.old) (faults self.new) result };
 
     /// Puts the next bytes of the file at the buffer's front, and gives their number; none into a
@@ -53,7 +54,8 @@ pub trait Files {
         ensures held { held self.new ≡ held self.old }
         ensures bound { IfOk result (λ n. n ≤ length buf.new) }
         ensures bytes { IfOk result (λ n. Reads (left self.old) (left self.new) n buf.new) }
-        ensures gave { IfOk result (λ n. gave self.new ≡ with_read (gave self.old) (take n buf.new)) }
+        ensures gave { IfOk result
+            (λ n. gave self.new ≡ with_read (gave self.old) (take n buf.new)) }
         ensures spared { OnErr result (gave self.new ≡ gave self.old) }
         ensures steady { steady self.old → IsOk result × steady self.new }
         ensures cause { HasCause (faults self.old) (faults self.new) result };
@@ -71,15 +73,26 @@ fn read_piece<F: Files>(
     requires { 0 < room }
     ensures held { F.held files.new ≡ F.held files.old }
     ensures later { F.faults files.old ≤ F.faults files.new }
-    ensures failed { result ≡ Err (Fail.Refused ReadFail.Failed) → Rose (F.faults files.old) (F.faults files.new) }
-    ensures always { result ≢ Err (Fail.Refused ReadFail.Failed) → F.faults files.new ≡ F.faults files.old }
+    ensures failed { result ≡ Err (Fail.Refused ReadFail.Failed)
+        → Rose (F.faults files.old) (F.faults files.new) }
+    ensures always { result ≢ Err (Fail.Refused ReadFail.Failed)
+        → F.faults files.new ≡ F.faults files.old }
     ensures small { result ≢ Err (Fail.Refused ReadFail.TooLarge) }
-    ensures steady { F.steady files.old → (result ≢ Err (Fail.Refused ReadFail.Failed)) × F.steady files.new }
-    ensures gave { (added : List ℕ) × GivesBehind (F.gave files.old) (F.gave files.new) room added × OnOk result (bytes.new.items ≡ bytes.old.items ++ added) }
-    ensures more { IfOk result (λ n. (length bytes.new.items ≡ length bytes.old.items + n) × (n ≤ room)) }
-    ensures bytes { IfOk result (λ n. (held : Option Holding) (name : List ℕ) → HasRead held name bytes.old.items (F.left files.old) → HasRead held name bytes.new.items (F.left files.new)) }
-    ensures end { IfOk result (λ n. n ≡ 0 → (held : Option Holding) (name : List ℕ) → HasRead held name bytes.old.items (F.left files.old) → Gives held name bytes.new.items) }
-    ensures few { result ≢ Err (Fail.Refused ReadFail.Failed) → (held : Option Holding) (name : List ℕ) → HasRead held name bytes.old.items (F.left files.old) → HasReadAtMost held name (length bytes.old.items + room) (F.left files.new) }
+    ensures steady { F.steady files.old
+        → (result ≢ Err (Fail.Refused ReadFail.Failed)) × F.steady files.new }
+    ensures gave { (added : List ℕ) × GivesBehind (F.gave files.old) (F.gave files.new) room added
+        × OnOk result (bytes.new.items ≡ bytes.old.items ++ added) }
+    ensures more { IfOk result
+        (λ n. (length bytes.new.items ≡ length bytes.old.items + n) × (n ≤ room)) }
+    ensures bytes { IfOk result (λ n. (held : Option Holding) (name : List ℕ)
+        → HasRead held name bytes.old.items (F.left files.old)
+        → HasRead held name bytes.new.items (F.left files.new)) }
+    ensures end { IfOk result (λ n. n ≡ 0 → (held : Option Holding) (name : List ℕ)
+        → HasRead held name bytes.old.items (F.left files.old) → Gives held name bytes.new.items) }
+    ensures few { result ≢ Err (Fail.Refused ReadFail.Failed)
+        → (held : Option Holding) (name : List ℕ)
+        → HasRead held name bytes.old.items (F.left files.old)
+        → HasReadAtMost held name (length bytes.old.items + room) (F.left files.new) }
 {
     let mut buf = [0u8; 4096];
     let piece = &mut buf[..room.min(4096)];
@@ -104,18 +117,29 @@ pub fn read_whole<F: Files>(
 ) -> Result<Vec<u8>, Fail<ReadFail>>
     requires { limit < 2 ^ 32 - 1 }
     ensures held { F.held files.new ≡ F.held files.old }
-    ensures ok { IfOk result (λ bytes. Gives (F.held files.old) name.now bytes.items × (length bytes.items ≤ limit)) }
-    ensures too_large { result ≡ Err (Fail.Refused ReadFail.TooLarge) → HoldsMore (F.held files.old) name.now limit }
-    ensures larger { IsKnownToHoldMore (F.held files.old) name.now limit → result ≢ Err (Fail.Refused ReadFail.Failed) → result ≢ Err Fail.OutOfMemory → result ≡ Err (Fail.Refused ReadFail.TooLarge) }
-    ensures few { result ≢ Err (Fail.Refused ReadFail.Failed) → HasReadAtMost (F.held files.old) name.now (limit + 1) (F.left files.new) }
-    ensures gave { IfOk result (λ bytes. F.gave files.new ≡ F.gave files.old ++ given name.now bytes.items ∷ []) }
-    ensures gave_many { result ≡ Err (Fail.Refused ReadFail.TooLarge) → GivesTooMany (F.held files.old) name.now limit (F.gave files.old) (F.gave files.new) }
+    ensures ok { IfOk result
+        (λ bytes. Gives (F.held files.old) name.now bytes.items × (length bytes.items ≤ limit)) }
+    ensures too_large { result ≡ Err (Fail.Refused ReadFail.TooLarge)
+        → HoldsMore (F.held files.old) name.now limit }
+    ensures larger { IsKnownToHoldMore (F.held files.old) name.now limit
+        → result ≢ Err (Fail.Refused ReadFail.Failed) → result ≢ Err Fail.OutOfMemory
+        → result ≡ Err (Fail.Refused ReadFail.TooLarge) }
+    ensures few { result ≢ Err (Fail.Refused ReadFail.Failed)
+        → HasReadAtMost (F.held files.old) name.now (limit + 1) (F.left files.new) }
+    ensures gave { IfOk result
+        (λ bytes. F.gave files.new ≡ F.gave files.old ++ given name.now bytes.items ∷ []) }
+    ensures gave_many { result ≡ Err (Fail.Refused ReadFail.TooLarge)
+        → GivesTooMany (F.held files.old) name.now limit (F.gave files.old) (F.gave files.new) }
     ensures gave_little { GivesLittle name.now (limit + 1) (F.gave files.old) (F.gave files.new) }
     ensures later { F.faults files.old ≤ F.faults files.new }
-    ensures failed { result ≡ Err (Fail.Refused ReadFail.Failed) → Rose (F.faults files.old) (F.faults files.new) }
-    ensures always { F.faults files.old < F.faults files.new → result ≡ Err (Fail.Refused ReadFail.Failed) }
-    ensures kept { result ≢ Err (Fail.Refused ReadFail.Failed) → F.faults files.new ≡ F.faults files.old }
-    ensures steady { F.steady files.old → Holds (F.held files.old) name.now → result ≢ Err (Fail.Refused ReadFail.Failed) }
+    ensures failed { result ≡ Err (Fail.Refused ReadFail.Failed)
+        → Rose (F.faults files.old) (F.faults files.new) }
+    ensures always { F.faults files.old < F.faults files.new
+        → result ≡ Err (Fail.Refused ReadFail.Failed) }
+    ensures kept { result ≢ Err (Fail.Refused ReadFail.Failed)
+        → F.faults files.new ≡ F.faults files.old }
+    ensures steady { F.steady files.old → Holds (F.held files.old) name.now
+        → result ≢ Err (Fail.Refused ReadFail.Failed) }
     ensures stays { F.steady files.old → Holds (F.held files.old) name.now → F.steady files.new }
 {
     let most = limit as usize;

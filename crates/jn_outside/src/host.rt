@@ -56,7 +56,8 @@ impl<'a, R: rt::Files> Files for HostFiles<'a, R> {
     fn start(&mut self, name: &str) -> Result<(), Failed>
         ensures started { OnOk result (Starts None name.now None) }
         ensures steady { ⊥ → Holds None name.now → IsOk result × ⊥ }
-        ensures gave { OnOk result (self.new.gave.items ≡ spec.with_start self.old.gave.items name.now) }
+        ensures gave { OnOk result
+            (self.new.gave.items ≡ spec.with_start self.old.gave.items name.now) }
         ensures spared { OnErr result (self.new.gave.items ≡ self.old.gave.items) }
         ensures opened { OnOk result (IsSome self.new.file) }
         ensures stays { OnErr result (self.new.file ≡ self.old.file) }
@@ -80,7 +81,8 @@ impl<'a, R: rt::Files> Files for HostFiles<'a, R> {
     fn read(&mut self, buf: &mut [u8]) -> Result<usize, Failed>
         ensures bound { IfOk result (λ n. n ≤ length buf.new) }
         ensures bytes { IfOk result (λ n. Reads None None n buf.new) }
-        ensures gave { IfOk result (λ n. self.new.gave.items ≡ spec.with_read self.old.gave.items (take n buf.new)) }
+        ensures gave { IfOk result
+            (λ n. self.new.gave.items ≡ spec.with_read self.old.gave.items (take n buf.new)) }
         ensures spared { OnErr result (self.new.gave.items ≡ self.old.gave.items) }
         ensures steady { ⊥ → IsOk result × ⊥ }
         ensures cause { HasCause self.old.faults self.new.faults result }
@@ -135,9 +137,11 @@ impl<'a, R: Print> Sink for HostSink<'a, R> {
     fn write(&mut self, bytes: &[u8]) -> Result<usize, Failed>
         ensures bound { IfOk result (λ n. n ≤ length bytes.now) }
         ensures some { 0 < length bytes.now → IfOk result (λ n. 0 < n) }
-        ensures taken { IfOk result (λ n. Appends (Some self.old.taken.items) (Some self.new.taken.items) (take n bytes.now)) }
+        ensures taken { IfOk result (λ n.
+            Appends (Some self.old.taken.items) (Some self.new.taken.items) (take n bytes.now)) }
         ensures err { OnErr result (Some self.new.taken.items ≡ Some self.old.taken.items) }
-        ensures empty { length bytes.now ≡ 0 → (result ≡ Ok 0) × (Some self.new.taken.items ≡ Some self.old.taken.items) }
+        ensures empty { length bytes.now ≡ 0
+            → (result ≡ Ok 0) × (Some self.new.taken.items ≡ Some self.old.taken.items) }
         ensures nothing { length bytes.now ≡ 0 → self.new ≡ self.old }
         ensures cause { HasCause self.old.faults self.new.faults result }
         ensures counted { OnErr result (self.new.faults ≡ min (self.old.faults + 1) (2 ^ 64 - 1)) }

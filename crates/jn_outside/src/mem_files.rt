@@ -66,7 +66,8 @@ impl MemFiles {
 
     /// What is left of the file that was started last.
     fn left(&self) -> &[u8]
-        ensures { result.now ≡ spec.left_of (spec.bytes_at self.now.file self.now.files.items) self.now.place }
+        ensures { result.now
+            ≡ spec.left_of (spec.bytes_at self.now.file self.now.files.items) self.now.place }
     {
         let Some(at) = self.file else {
             return &[];
@@ -108,16 +109,22 @@ impl Files for MemFiles {
     #[tactic(auto, using(crate::proofs::Memories::memory_lemmas))]
     fn start(&mut self, name: &str) -> Result<(), Failed>
         ensures held { spec.held_by self.new ≡ spec.held_by self.old }
-        ensures started { OnOk result (Starts (spec.held_by self.old) name.now (spec.left_by self.new)) }
-        ensures gave { OnOk result (self.new.gave.items ≡ gave.with_start self.old.gave.items name.now) }
+        ensures started { OnOk result
+            (Starts (spec.held_by self.old) name.now (spec.left_by self.new)) }
+        ensures gave { OnOk result
+            (self.new.gave.items ≡ gave.with_start self.old.gave.items name.now) }
         ensures spared { OnErr result (self.new.gave.items ≡ self.old.gave.items) }
-        ensures steady { spec.IsSteadyBy self.old → Holds (spec.held_by self.old) name.now → IsOk result × spec.IsSteadyBy self.new }
+        ensures steady { spec.IsSteadyBy self.old → Holds (spec.held_by self.old) name.now
+            → IsOk result × spec.IsSteadyBy self.new }
         ensures cause { HasCause self.old.faults self.new.faults result }
         ensures files { self.new.files ≡ self.old.files }
         ensures failing { self.new.failing ≡ self.old.failing }
         ensures calls { self.new.calls ≡ min (self.old.calls + 1) (2 ^ 64 - 1) }
-        ensures fails { is_err result ≡ (is_none (spec.held_in self.old.files.items name.now) || fails_at self.old.failing.items self.new.calls) }
-        ensures stays { OnErr result ((self.new.file ≡ self.old.file) × (self.new.place ≡ self.old.place)) }
+        ensures fails { is_err result
+            ≡ (is_none (spec.held_in self.old.files.items name.now)
+            || fails_at self.old.failing.items self.new.calls) }
+        ensures stays { OnErr result
+            ((self.new.file ≡ self.old.file) × (self.new.place ≡ self.old.place)) }
         ensures counted { OnErr result (self.new.faults ≡ min (self.old.faults + 1) (2 ^ 64 - 1)) }
     {
         self.calls = count::next(self.calls);
@@ -137,8 +144,10 @@ impl Files for MemFiles {
     fn read(&mut self, buf: &mut [u8]) -> Result<usize, Failed>
         ensures held { spec.held_by self.new ≡ spec.held_by self.old }
         ensures bound { IfOk result (λ n. n ≤ length buf.new) }
-        ensures bytes { IfOk result (λ n. Reads (spec.left_by self.old) (spec.left_by self.new) n buf.new) }
-        ensures gave { IfOk result (λ n. self.new.gave.items ≡ gave.with_read self.old.gave.items (take n buf.new)) }
+        ensures bytes { IfOk result
+            (λ n. Reads (spec.left_by self.old) (spec.left_by self.new) n buf.new) }
+        ensures gave { IfOk result
+            (λ n. self.new.gave.items ≡ gave.with_read self.old.gave.items (take n buf.new)) }
         ensures spared { OnErr result (self.new.gave.items ≡ self.old.gave.items) }
         ensures steady { spec.IsSteadyBy self.old → IsOk result × spec.IsSteadyBy self.new }
         ensures cause { HasCause self.old.faults self.new.faults result }
@@ -146,7 +155,9 @@ impl Files for MemFiles {
         ensures failing { self.new.failing ≡ self.old.failing }
         ensures calls { self.new.calls ≡ min (self.old.calls + 1) (2 ^ 64 - 1) }
         ensures fails { is_err result ≡ fails_at self.old.failing.items self.new.calls }
-        ensures count { IfOk result (λ n. n ≡ min (length buf.new) (length (spec.left_of (spec.bytes_at self.old.file self.old.files.items) self.old.place))) }
+        ensures count { IfOk result (λ n. n
+            ≡ min (length buf.new) (length
+            (spec.left_of (spec.bytes_at self.old.file self.old.files.items) self.old.place))) }
         ensures unstarted { self.old.file ≡ None → IfOk result (λ n. n ≡ 0) }
         ensures file { self.new.file ≡ self.old.file }
         ensures stays { OnErr result (self.new.place ≡ self.old.place) }

@@ -71,16 +71,23 @@ impl Sink for MemSink {
     fn write(&mut self, bytes: &[u8]) -> Result<usize, Failed>
         ensures bound { IfOk result (λ n. n ≤ length bytes.now) }
         ensures some { 0 < length bytes.now → IfOk result (λ n. 0 < n) }
-        ensures taken { IfOk result (λ n. Appends (Some self.old.bytes.items) (Some self.new.bytes.items) (take n bytes.now)) }
+        ensures taken { IfOk result (λ n.
+            Appends (Some self.old.bytes.items) (Some self.new.bytes.items) (take n bytes.now)) }
         ensures err { OnErr result (Some self.new.bytes.items ≡ Some self.old.bytes.items) }
         ensures empty { length bytes.now ≡ 0 → (result ≡ Ok 0) × (self.new ≡ self.old) }
         ensures cause { HasCause self.old.faults self.new.faults result }
         ensures failing { self.new.failing ≡ self.old.failing }
         ensures most { self.new.most ≡ self.old.most }
         ensures room { self.new.room ≡ self.old.room }
-        ensures calls { 0 < length bytes.now → self.new.calls ≡ min (self.old.calls + 1) (2 ^ 64 - 1) }
-        ensures fails { 0 < length bytes.now → is_err result ≡ (nat_le self.old.room (length self.old.bytes.items) || fails_at self.old.failing.items self.new.calls) }
-        ensures count { IfOk result (λ n. n ≡ min (min self.old.most (length bytes.now)) (self.old.room - length self.old.bytes.items)) }
+        ensures calls { 0 < length bytes.now
+            → self.new.calls ≡ min (self.old.calls + 1) (2 ^ 64 - 1) }
+        ensures fails { 0 < length bytes.now
+            → is_err result
+            ≡ (nat_le self.old.room (length self.old.bytes.items)
+            || fails_at self.old.failing.items self.new.calls) }
+        ensures count { IfOk result (λ n. n
+            ≡ min (min self.old.most (length bytes.now))
+            (self.old.room - length self.old.bytes.items)) }
         ensures counted { OnErr result (self.new.faults ≡ min (self.old.faults + 1) (2 ^ 64 - 1)) }
     {
         if bytes.is_empty() {

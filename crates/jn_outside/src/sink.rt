@@ -17,9 +17,11 @@ pub trait Sink {
     fn write(&mut self, bytes: &[u8]) -> Result<usize, Failed>
         ensures bound { IfOk result (λ n. n ≤ length bytes.now) }
         ensures some { 0 < length bytes.now → IfOk result (λ n. 0 < n) }
-        ensures taken { IfOk result (λ n. Appends (written self.old) (written self.new) (take n bytes.now)) }
+        ensures taken { IfOk result
+            (λ n. Appends (written self.old) (written self.new) (take n bytes.now)) }
         ensures err { OnErr result (written self.new ≡ written self.old) }
-        ensures empty { length bytes.now ≡ 0 → (result ≡ Ok 0) × (written self.new ≡ written self.old) }
+        ensures empty { length bytes.now ≡ 0
+            → (result ≡ Ok 0) × (written self.new ≡ written self.old) }
         ensures cause { HasCause (faults self.old) (faults self.new) result };
 }
 

@@ -183,7 +183,9 @@ fn open_type(alloc: Global, head: TypeHead, from: Span) -> OpenType
 }
 
 fn field_of(field: FieldParts, span: Span) -> Member
-    ensures { member_view result ≡ FieldMember (marks field.modifiers.items) (type_use_view field.type_use) (declarator_view field.first) (declarator_views field.more.items) }
+    ensures { member_view result
+        ≡ FieldMember (marks field.modifiers.items) (type_use_view field.type_use)
+        (declarator_view field.first) (declarator_views field.more.items) }
 {
     let FieldParts {
         modifiers,
@@ -202,7 +204,9 @@ fn field_of(field: FieldParts, span: Span) -> Member
 
 /// A method without body.
 fn method_of(head: MethodHead, span: Span) -> Member
-    ensures { member_view result ≡ MethodMember (marks head.modifiers.items) (result_view head.result) head.name.name (receiver_view head.receiver) (parameter_views head.parameters.items) None }
+    ensures { member_view result
+        ≡ MethodMember (marks head.modifiers.items) (result_view head.result) head.name.name
+        (receiver_view head.receiver) (parameter_views head.parameters.items) None }
 {
     let MethodHead {
         modifiers,
@@ -223,7 +227,8 @@ fn method_of(head: MethodHead, span: Span) -> Member
 }
 
 fn with_member(inside: Option<OpenType>, member: Member) -> Result<Option<OpenType>, OutOfMemory>
-    ensures { IfOk result (λ o. inside_of o ≡ law.with_member (member_view member) (inside_of inside)) }
+    ensures { IfOk result
+        (λ o. inside_of o ≡ law.with_member (member_view member) (inside_of inside)) }
 {
     match inside {
         None => Ok(None),
@@ -277,7 +282,8 @@ fn with_statement(
     inside: Option<OpenType>,
     statement: Stmt,
 ) -> Result<Option<OpenType>, OutOfMemory>
-    ensures { IfOk result (λ o. inside_of o ≡ law.with_statement (statement_view statement) (inside_of inside)) }
+    ensures { IfOk result
+        (λ o. inside_of o ≡ law.with_statement (statement_view statement) (inside_of inside)) }
 {
     match inside {
         None => Ok(None),
@@ -298,7 +304,8 @@ fn with_statement(
 }
 
 fn longer_body(body: Option<OpenMember>, statement: Stmt) -> Result<Option<OpenMember>, OutOfMemory>
-    ensures { IfOk result (λ o. body_of o ≡ law.longer_body (statement_view statement) (body_of body)) }
+    ensures { IfOk result
+        (λ o. body_of o ≡ law.longer_body (statement_view statement) (body_of body)) }
 {
     match body {
         None => Ok(None),
@@ -309,7 +316,8 @@ fn longer_body(body: Option<OpenMember>, statement: Stmt) -> Result<Option<OpenM
 /// A member with a statement more.
 fn longer(member: OpenMember, statement: Stmt) -> Result<OpenMember, OutOfMemory>
     ensures head { IfOk result (λ o. o.head ≡ member.head) }
-    ensures statements { IfOk result (λ o. o.statements.items ≡ member.statements.items ++ statement ∷ []) }
+    ensures statements { IfOk result
+        (λ o. o.statements.items ≡ member.statements.items ++ statement ∷ []) }
 {
     let OpenMember {
         head,
@@ -356,7 +364,8 @@ fn members_with(
     body: Option<OpenMember>,
     end: Span,
 ) -> Result<Vec<Member>, OutOfMemory>
-    ensures { IfOk result (λ v. member_views v.items ≡ law.members_with (member_views members.items) (body_of body)) }
+    ensures { IfOk result
+        (λ v. member_views v.items ≡ law.members_with (member_views members.items) (body_of body)) }
 {
     match body {
         None => Ok(members),
@@ -372,7 +381,8 @@ fn members_with(
 
 #[tactic(auto, using(crate::proofs::Views::same_statements))]
 fn member_of(head: MemberHead, body: Vec<Stmt>, span: Span) -> Member
-    ensures { member_view result ≡ law.member_of (member_opening head) (map statement_view body.items) }
+    ensures { member_view result
+        ≡ law.member_of (member_opening head) (map statement_view body.items) }
 {
     match head {
         MemberHead::Method(
@@ -416,7 +426,8 @@ fn types_with(
     inside: Option<OpenType>,
     end: Span,
 ) -> Result<Vec<TypeTree>, OutOfMemory>
-    ensures { IfOk result (λ v. map type_view v.items ≡ law.types_with (map type_view types.items) (inside_of inside)) }
+    ensures { IfOk result (λ v.
+        map type_view v.items ≡ law.types_with (map type_view types.items) (inside_of inside)) }
 {
     match inside {
         None => Ok(types),

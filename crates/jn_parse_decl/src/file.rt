@@ -33,7 +33,8 @@ pub fn parse_file(
 ) -> Result<FileTree, Fail<Row>>
     requires { length tokens.now < 2 ^ 32 }
     ensures tree { IfOk result (λ tree. IsFile tokens.now (file_view tree)) }
-    ensures row { IfErr result (λ fail. IfRefused fail (λ row. IsSyntaxRow file end tokens.now row)) }
+    ensures row { IfErr result
+        (λ fail. IfRefused fail (λ row. IsSyntaxRow file end tokens.now row)) }
 {
     match too_deep(tokens) {
         Some(place) => Err(Fail::Refused(row(Code::S2, file, end, tokens, place))),

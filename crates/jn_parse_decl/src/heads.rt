@@ -30,7 +30,8 @@ fn type_behind(
     modifiers: Vec<Modifier>,
     tokens: &[Token],
 ) -> Result<Option<(Piece, &[Token])>, OutOfMemory>
-    ensures { IfOk result (λ o. seen_piece o ≡ reader.type_behind (marks modifiers.items) (kinds tokens.now)) }
+    ensures { IfOk result
+        (λ o. seen_piece o ≡ reader.type_behind (marks modifiers.items) (kinds tokens.now)) }
 {
     match expect(tokens, TokenKind::Class) {
         Some(rest) => class_head(alloc, modifiers, rest),
@@ -47,7 +48,8 @@ fn class_head(
     modifiers: Vec<Modifier>,
     tokens: &[Token],
 ) -> Result<Option<(Piece, &[Token])>, OutOfMemory>
-    ensures { IfOk result (λ o. seen_piece o ≡ reader.read_class (marks modifiers.items) (kinds tokens.now)) }
+    ensures { IfOk result
+        (λ o. seen_piece o ≡ reader.read_class (marks modifiers.items) (kinds tokens.now)) }
 {
     match identifier(tokens) {
         None => Ok(None),
@@ -67,7 +69,9 @@ fn class_end(
     interfaces: Vec<Identifier>,
     tokens: &[Token],
 ) -> Option<(Piece, &[Token])>
-    ensures { seen_piece result ≡ reader.class_end (marks modifiers.items) name.name (parent_view parent) (identifier_names interfaces.items) (kinds tokens.now) }
+    ensures { seen_piece result
+        ≡ reader.class_end (marks modifiers.items) name.name (parent_view parent)
+        (identifier_names interfaces.items) (kinds tokens.now) }
 {
     match expect(tokens, TokenKind::LeftBrace) {
         None => None,
@@ -93,7 +97,8 @@ fn interface_head(
     modifiers: Vec<Modifier>,
     tokens: &[Token],
 ) -> Result<Option<(Piece, &[Token])>, OutOfMemory>
-    ensures { IfOk result (λ o. seen_piece o ≡ reader.read_interface (marks modifiers.items) (kinds tokens.now)) }
+    ensures { IfOk result
+        (λ o. seen_piece o ≡ reader.read_interface (marks modifiers.items) (kinds tokens.now)) }
 {
     match identifier(tokens) {
         None => Ok(None),
@@ -111,7 +116,9 @@ fn interface_end(
     parents: Vec<Identifier>,
     tokens: &[Token],
 ) -> Option<(Piece, &[Token])>
-    ensures { seen_piece result ≡ reader.interface_end (marks modifiers.items) name.name (identifier_names parents.items) (kinds tokens.now) }
+    ensures { seen_piece result
+        ≡ reader.interface_end (marks modifiers.items) name.name (identifier_names parents.items)
+        (kinds tokens.now) }
 {
     match expect(tokens, TokenKind::LeftBrace) {
         None => None,

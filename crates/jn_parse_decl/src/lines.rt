@@ -36,7 +36,8 @@ fn ended_package<'t>(
     name: QualifiedName,
     tokens: &'t [Token],
 ) -> Option<(Piece, &'t [Token])>
-    ensures { seen_piece result ≡ package_end name.first.name (identifier_names name.more.items) (kinds tokens.now) }
+    ensures { seen_piece result
+        ≡ package_end name.first.name (identifier_names name.more.items) (kinds tokens.now) }
 {
     match expect(tokens, TokenKind::Semicolon) {
         None => None,
@@ -70,7 +71,8 @@ fn ended_import<'t>(
     name: QualifiedName,
     tokens: &'t [Token],
 ) -> Option<(Piece, &'t [Token])>
-    ensures { seen_piece result ≡ import_end name.first.name (identifier_names name.more.items) (kinds tokens.now) }
+    ensures { seen_piece result
+        ≡ import_end name.first.name (identifier_names name.more.items) (kinds tokens.now) }
 {
     let (all, rest) = match expect(tokens, TokenKind::Semicolon) {
         Some(rest) => (false, rest),
@@ -82,7 +84,9 @@ fn ended_import<'t>(
 
 /// What follows `.*;`.
 fn ended_star(tokens: &[Token]) -> Option<&[Token]>
-    ensures { MatchOption result ((rest : List Kind) → kinds tokens.now ≡ Kind.Dot ∷ Kind.Star ∷ Kind.Semicolon ∷ rest → ⊥) (λ r. kinds tokens.now ≡ Kind.Dot ∷ Kind.Star ∷ Kind.Semicolon ∷ kinds r.now) }
+    ensures { MatchOption result
+        ((rest : List Kind) → kinds tokens.now ≡ Kind.Dot ∷ Kind.Star ∷ Kind.Semicolon ∷ rest → ⊥)
+        (λ r. kinds tokens.now ≡ Kind.Dot ∷ Kind.Star ∷ Kind.Semicolon ∷ kinds r.now) }
 {
     let rest = expect(tokens, TokenKind::Dot)?;
     let rest = expect(rest, TokenKind::Star)?;

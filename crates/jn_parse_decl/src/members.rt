@@ -36,7 +36,9 @@ pub fn read_member(
 
 /// The name at the front and the opening parenthesis behind it, and what follows them.
 fn called(tokens: &[Token]) -> Option<(Identifier, &[Token])>
-    ensures { MatchOption result ((n : Name) (rest : List Kind) → kinds tokens.now ≡ Kind.Id n ∷ Kind.LeftParen ∷ rest → ⊥) (λ r. kinds tokens.now ≡ Kind.Id r.0.name ∷ Kind.LeftParen ∷ kinds r.1.now) }
+    ensures { MatchOption result
+        ((n : Name) (rest : List Kind) → kinds tokens.now ≡ Kind.Id n ∷ Kind.LeftParen ∷ rest → ⊥)
+        (λ r. kinds tokens.now ≡ Kind.Id r.0.name ∷ Kind.LeftParen ∷ kinds r.1.now) }
 {
     let (name, rest) = identifier(tokens)?;
     let rest = expect(rest, TokenKind::LeftParen)?;
@@ -50,7 +52,8 @@ fn member_behind(
     modifiers: Vec<Modifier>,
     tokens: &[Token],
 ) -> Result<Option<(Piece, &[Token])>, OutOfMemory>
-    ensures { IfOk result (λ o. seen_piece o ≡ reader.member_behind owner (marks modifiers.items) (kinds tokens.now)) }
+    ensures { IfOk result (λ o.
+        seen_piece o ≡ reader.member_behind owner (marks modifiers.items) (kinds tokens.now)) }
 {
     match expect(tokens, TokenKind::Void) {
         Some(rest) => {
@@ -76,7 +79,8 @@ fn void_method(
     tokens: &[Token],
 ) -> Result<Option<(Piece, &[Token])>, OutOfMemory>
     requires { result_view gives ≡ None }
-    ensures { IfOk result (λ o. seen_piece o ≡ reader.void_method owner (marks modifiers.items) (kinds tokens.now)) }
+    ensures { IfOk result
+        (λ o. seen_piece o ≡ reader.void_method owner (marks modifiers.items) (kinds tokens.now)) }
 {
     match called(tokens) {
         None => Ok(None),
@@ -92,7 +96,9 @@ fn typed_member(
     type_use: TypeUse,
     tokens: &[Token],
 ) -> Result<Option<(Piece, &[Token])>, OutOfMemory>
-    ensures { IfOk result (λ o. seen_piece o ≡ reader.typed_member owner (marks modifiers.items) (type_use_view type_use) (kinds tokens.now)) }
+    ensures { IfOk result (λ o. seen_piece o
+        ≡ reader.typed_member owner (marks modifiers.items) (type_use_view type_use)
+        (kinds tokens.now)) }
 {
     match called(tokens) {
         Some((name, rest)) => {
@@ -110,7 +116,10 @@ fn field(
     type_use: TypeUse,
     tokens: &[Token],
 ) -> Result<Option<(Piece, &[Token])>, OutOfMemory>
-    ensures { IfOk result (λ o. seen_piece o ≡ reader.after_declarators (reader.field_end (marks modifiers.items) (type_use_view type_use)) (reader.read_field_declarators (kinds tokens.now))) }
+    ensures { IfOk result (λ o. seen_piece o
+        ≡ reader.after_declarators
+        (reader.field_end (marks modifiers.items) (type_use_view type_use))
+        (reader.read_field_declarators (kinds tokens.now))) }
 {
     match field_declarators(alloc, tokens)? {
         None => Ok(None),
@@ -128,7 +137,9 @@ fn field(
 
 /// The field whose declarators stand before these tokens.
 fn field_end(parts: FieldParts, tokens: &[Token]) -> Option<(Piece, &[Token])>
-    ensures { seen_piece result ≡ reader.field_end (marks parts.modifiers.items) (type_use_view parts.type_use) (declarator_view parts.first) (declarator_views parts.more.items) (kinds tokens.now) }
+    ensures { seen_piece result
+        ≡ reader.field_end (marks parts.modifiers.items) (type_use_view parts.type_use)
+        (declarator_view parts.first) (declarator_views parts.more.items) (kinds tokens.now) }
 {
     match expect(tokens, TokenKind::Semicolon) {
         None => None,
@@ -151,7 +162,10 @@ fn method(
     name: Identifier,
     tokens: &[Token],
 ) -> Result<Option<(Piece, &[Token])>, OutOfMemory>
-    ensures { IfOk result (λ o. seen_piece o ≡ reader.after_parameters (reader.method_end owner (marks modifiers.items) (result_view gives) name.name) (reader.read_parameters (kinds tokens.now))) }
+    ensures { IfOk result (λ o. seen_piece o
+        ≡ reader.after_parameters
+        (reader.method_end owner (marks modifiers.items) (result_view gives) name.name)
+        (reader.read_parameters (kinds tokens.now))) }
 {
     match read_parameters(alloc, tokens)? {
         None => Ok(None),
@@ -174,7 +188,10 @@ fn method(
 
 /// The method whose parameters stand before these tokens.
 fn method_end(owner: Owner, head: MethodHead, tokens: &[Token]) -> Option<(Piece, &[Token])>
-    ensures { seen_piece result ≡ reader.method_end owner (marks head.modifiers.items) (result_view head.result) head.name.name (receiver_view head.receiver) (parameter_views head.parameters.items) (kinds tokens.now) }
+    ensures { seen_piece result
+        ≡ reader.method_end owner (marks head.modifiers.items) (result_view head.result)
+        head.name.name (receiver_view head.receiver) (parameter_views head.parameters.items)
+        (kinds tokens.now) }
 {
     match expect(tokens, TokenKind::LeftBrace) {
         Some(rest) => {
@@ -205,7 +222,9 @@ fn constructor(
     name: Identifier,
     tokens: &[Token],
 ) -> Result<Option<(Piece, &[Token])>, OutOfMemory>
-    ensures { IfOk result (λ o. seen_piece o ≡ reader.after_parameters (reader.constructor_end owner (marks modifiers.items) name.name) (reader.read_parameters (kinds tokens.now))) }
+    ensures { IfOk result (λ o. seen_piece o
+        ≡ reader.after_parameters (reader.constructor_end owner (marks modifiers.items) name.name)
+        (reader.read_parameters (kinds tokens.now))) }
 {
     match read_parameters(alloc, tokens)? {
         None => Ok(None),
@@ -231,7 +250,9 @@ fn constructor_end(
     receiver: Option<Receiver>,
     tokens: &[Token],
 ) -> Option<(Piece, &[Token])>
-    ensures { seen_piece result ≡ reader.constructor_end owner (marks head.modifiers.items) head.name.name (receiver_view receiver) (parameter_views head.parameters.items) (kinds tokens.now) }
+    ensures { seen_piece result
+        ≡ reader.constructor_end owner (marks head.modifiers.items) head.name.name
+        (receiver_view receiver) (parameter_views head.parameters.items) (kinds tokens.now) }
 {
     match expect(tokens, TokenKind::LeftBrace) {
         None => None,
@@ -247,7 +268,9 @@ fn constructor_end(
 
 /// Whether a method may have this head.
 fn may_method(owner: Owner, head: &MethodHead) -> bool
-    ensures { result ≡ reader.good_method_head owner (marks head.now.modifiers.items) (receiver_view head.now.receiver) (parameter_views head.now.parameters.items) }
+    ensures { result
+        ≡ reader.good_method_head owner (marks head.now.modifiers.items)
+        (receiver_view head.now.receiver) (parameter_views head.now.parameters.items) }
 {
     may_mark_method(owner.interface, &head.modifiers)
         && (may_receive(owner.name, &head.modifiers, &head.receiver)
@@ -267,7 +290,8 @@ fn may_mark_method(interface: bool, modifiers: &[Modifier]) -> bool
 
 /// Whether the receiver, if there is one, may stand in a method with these modifiers.
 fn may_receive(owner: NameNo, modifiers: &[Modifier], receiver: &Option<Receiver>) -> bool
-    ensures { result ≡ reader.good_receiver owner (marks modifiers.now) (receiver_view receiver.now) }
+    ensures { result
+        ≡ reader.good_receiver owner (marks modifiers.now) (receiver_view receiver.now) }
 {
     match receiver {
         None => true,
@@ -277,7 +301,9 @@ fn may_receive(owner: NameNo, modifiers: &[Modifier], receiver: &Option<Receiver
 
 /// Whether a constructor may have this head, and no receiver stands there.
 fn may_constructor(owner: Owner, head: &ConstructorHead, receiver: &Option<Receiver>) -> bool
-    ensures { result ≡ reader.good_constructor_head owner (marks head.now.modifiers.items) head.now.name.name (receiver_view receiver.now) (parameter_views head.now.parameters.items) }
+    ensures { result
+        ≡ reader.good_constructor_head owner (marks head.now.modifiers.items) head.now.name.name
+        (receiver_view receiver.now) (parameter_views head.now.parameters.items) }
 {
     may_all_stand(&head.modifiers, Bearer::Constructor)
         && (!owner.interface

@@ -246,7 +246,11 @@ fn word(token: &Token) -> Option<Modifier>
 
 /// The modifier at the front where no annotation is, and what follows it.
 fn word_modifier(tokens: &[Token]) -> Option<(Modifier, &[Token])>
-    ensures reads { ((n : Name) (rest : List Kind) → kinds tokens.now ≡ Kind.At ∷ Kind.Id n ∷ rest → ⊥) → MatchOption result (read_all_marks (kinds tokens.now) ≡ ([], kinds tokens.now)) (λ r. read_all_marks (kinds tokens.now) ≡ add_mark (mark r.0) (read_all_marks (kinds r.1.now))) }
+    ensures reads { ((n : Name) (rest : List Kind) → kinds tokens.now ≡ Kind.At ∷ Kind.Id n ∷ rest
+        → ⊥)
+        → MatchOption result (read_all_marks (kinds tokens.now) ≡ ([], kinds tokens.now)) (λ r. read_all_marks
+        (kinds tokens.now)
+        ≡ add_mark (mark r.0) (read_all_marks (kinds r.1.now))) }
     ensures shorter { IfSome result (λ r. length (kinds r.1.now) < length (kinds tokens.now)) }
 {
     let (first, rest) = next(tokens)?;
@@ -256,7 +260,9 @@ fn word_modifier(tokens: &[Token]) -> Option<(Modifier, &[Token])>
 
 /// The modifier at the front, and what follows it.
 fn modifier(tokens: &[Token]) -> Option<(Modifier, &[Token])>
-    ensures reads { MatchOption result (read_all_marks (kinds tokens.now) ≡ ([], kinds tokens.now)) (λ r. read_all_marks (kinds tokens.now) ≡ add_mark (mark r.0) (read_all_marks (kinds r.1.now))) }
+    ensures reads { MatchOption result (read_all_marks (kinds tokens.now) ≡ ([], kinds tokens.now))
+        (λ r. read_all_marks (kinds tokens.now)
+        ≡ add_mark (mark r.0) (read_all_marks (kinds r.1.now))) }
     ensures shorter { IfSome result (λ r. length (kinds r.1.now) < length (kinds tokens.now)) }
 {
     match behind_mark(tokens, TokenKind::At) {
@@ -276,7 +282,8 @@ pub fn read_modifiers(
     alloc: Global,
     tokens: &[Token],
 ) -> Result<(Vec<Modifier>, &[Token]), OutOfMemory>
-    ensures { IfOk result (λ r. read_all_marks (kinds tokens.now) ≡ (marks r.0.items, kinds r.1.now)) }
+    ensures { IfOk result
+        (λ r. read_all_marks (kinds tokens.now) ≡ (marks r.0.items, kinds r.1.now)) }
 {
     let mut all = Vec::new(alloc);
     let mut left = tokens;

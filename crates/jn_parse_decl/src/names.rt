@@ -15,7 +15,9 @@ use std::alloc::Global;
 
 /// The name behind this mark, and what follows it.
 pub fn behind_mark(tokens: &[Token], mark: TokenKind) -> Option<(Identifier, &[Token])>
-    ensures { MatchOption result ((n : Name) (rest : List Kind) → kinds tokens.now ≡ mark ∷ Kind.Id n ∷ rest → ⊥) (λ r. kinds tokens.now ≡ mark ∷ Kind.Id r.0.name ∷ kinds r.1.now) }
+    ensures { MatchOption result
+        ((n : Name) (rest : List Kind) → kinds tokens.now ≡ mark ∷ Kind.Id n ∷ rest → ⊥)
+        (λ r. kinds tokens.now ≡ mark ∷ Kind.Id r.0.name ∷ kinds r.1.now) }
 {
     let rest = expect(tokens, mark)?;
     identifier(rest)
@@ -26,7 +28,8 @@ pub fn dotted_names(
     alloc: Global,
     tokens: &[Token],
 ) -> Result<(Vec<Identifier>, &[Token]), OutOfMemory>
-    ensures { IfOk result (λ r. read_dots (kinds tokens.now) ≡ (identifier_names r.0.items, kinds r.1.now)) }
+    ensures { IfOk result
+        (λ r. read_dots (kinds tokens.now) ≡ (identifier_names r.0.items, kinds r.1.now)) }
 {
     let mut all = Vec::new(alloc);
     let mut left = tokens;
@@ -46,7 +49,9 @@ fn more_names(
     before: Vec<Identifier>,
     tokens: &[Token],
 ) -> Result<(Vec<Identifier>, &[Token]), OutOfMemory>
-    ensures { IfOk result (λ r. prepend (identifier_names before.items) (read_more_names (kinds tokens.now)) ≡ (identifier_names r.0.items, kinds r.1.now)) }
+    ensures { IfOk result (λ r. prepend (identifier_names before.items)
+        (read_more_names (kinds tokens.now))
+        ≡ (identifier_names r.0.items, kinds r.1.now)) }
 {
     let mut all = before;
     let mut left = tokens;
@@ -76,7 +81,8 @@ pub fn implemented(
     alloc: Global,
     tokens: &[Token],
 ) -> Result<(Vec<Identifier>, &[Token]), OutOfMemory>
-    ensures { IfOk result (λ r. read_implements (kinds tokens.now) ≡ (identifier_names r.0.items, kinds r.1.now)) }
+    ensures { IfOk result
+        (λ r. read_implements (kinds tokens.now) ≡ (identifier_names r.0.items, kinds r.1.now)) }
 {
     match behind_mark(tokens, TokenKind::Implements) {
         None => Ok((Vec::new(alloc), tokens)),
@@ -86,7 +92,8 @@ pub fn implemented(
 
 /// The names behind `extends`, where it is at the front, and what follows them.
 pub fn extended(alloc: Global, tokens: &[Token]) -> Result<(Vec<Identifier>, &[Token]), OutOfMemory>
-    ensures { IfOk result (λ r. read_extends (kinds tokens.now) ≡ (identifier_names r.0.items, kinds r.1.now)) }
+    ensures { IfOk result
+        (λ r. read_extends (kinds tokens.now) ≡ (identifier_names r.0.items, kinds r.1.now)) }
 {
     match behind_mark(tokens, TokenKind::Extends) {
         None => Ok((Vec::new(alloc), tokens)),
@@ -100,7 +107,8 @@ fn names_from(
     first: Identifier,
     tokens: &[Token],
 ) -> Result<(Vec<Identifier>, &[Token]), OutOfMemory>
-    ensures { IfOk result (λ r. add_name first.name (read_more_names (kinds tokens.now)) ≡ (identifier_names r.0.items, kinds r.1.now)) }
+    ensures { IfOk result (λ r. add_name first.name (read_more_names (kinds tokens.now))
+        ≡ (identifier_names r.0.items, kinds r.1.now)) }
 {
     let mut all = Vec::new(alloc);
     put(&mut all, first)?;

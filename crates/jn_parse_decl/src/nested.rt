@@ -20,7 +20,8 @@ pub fn field_declarators(
     alloc: Global,
     tokens: &[Token],
 ) -> Result<Option<(Declarator, Vec<Declarator>, &[Token])>, OutOfMemory>
-    ensures { IfOk result (λ o. maybe_declarators o ≡ reader.read_field_declarators (kinds tokens.now)) }
+    ensures { IfOk result
+        (λ o. maybe_declarators o ≡ reader.read_field_declarators (kinds tokens.now)) }
 {
     declarators_within(alloc, tokens, DEEPEST)
 }
@@ -31,7 +32,8 @@ fn declarators_within(
     depth: u32,
 ) -> Result<Option<(Declarator, Vec<Declarator>, &[Token])>, OutOfMemory>
     requires { depth ≡ deepest }
-    ensures { IfOk result (λ o. maybe_declarators o ≡ reader.read_field_declarators (kinds tokens.now)) }
+    ensures { IfOk result
+        (λ o. maybe_declarators o ≡ reader.read_field_declarators (kinds tokens.now)) }
 {
     read_declarators(alloc, tokens, depth)
 }
@@ -42,7 +44,8 @@ pub fn body_statement(
     tokens: &[Token],
     leading: bool,
 ) -> Result<Option<(Stmt, &[Token])>, OutOfMemory>
-    ensures { IfOk result (λ o. seen_statement o ≡ reader.read_body_statement leading (kinds tokens.now)) }
+    ensures { IfOk result
+        (λ o. seen_statement o ≡ reader.read_body_statement leading (kinds tokens.now)) }
 {
     statement_within(alloc, tokens, DEEPEST, leading)
 }
@@ -54,7 +57,8 @@ fn statement_within(
     leading: bool,
 ) -> Result<Option<(Stmt, &[Token])>, OutOfMemory>
     requires { depth ≡ deepest }
-    ensures { IfOk result (λ o. seen_statement o ≡ reader.read_body_statement leading (kinds tokens.now)) }
+    ensures { IfOk result
+        (λ o. seen_statement o ≡ reader.read_body_statement leading (kinds tokens.now)) }
 {
     statements_are_read_once();
     let context = Context {

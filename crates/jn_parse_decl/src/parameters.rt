@@ -47,7 +47,9 @@ fn some_parameters(
     alloc: Global,
     tokens: &[Token],
 ) -> Result<Option<(Parameters, &[Token])>, OutOfMemory>
-    ensures { IfOk result (λ o. seen_parameters o ≡ reader.after_type (reader.first_end (read_marks (kinds tokens.now)).0) (spec_type_use (read_marks (kinds tokens.now)).1)) }
+    ensures { IfOk result (λ o. seen_parameters o
+        ≡ reader.after_type (reader.first_end (read_marks (kinds tokens.now)).0)
+        (spec_type_use (read_marks (kinds tokens.now)).1)) }
 {
     let (modifiers, rest) = read_local_modifiers(alloc, tokens)?;
     match read_type_use(alloc, rest)? {
@@ -63,7 +65,9 @@ fn first_end(
     type_use: TypeUse,
     tokens: &[Token],
 ) -> Result<Option<(Parameters, &[Token])>, OutOfMemory>
-    ensures { IfOk result (λ o. seen_parameters o ≡ reader.first_end (local_marks modifiers.items) (type_use_view type_use) (kinds tokens.now)) }
+    ensures { IfOk result (λ o. seen_parameters o
+        ≡ reader.first_end (local_marks modifiers.items) (type_use_view type_use)
+        (kinds tokens.now)) }
 {
     match expect(tokens, TokenKind::This) {
         Some(rest) => match receiver_of(alloc, &modifiers, &type_use)? {
@@ -83,7 +87,9 @@ fn behind_receiver(
     receiver: Receiver,
     tokens: &[Token],
 ) -> Result<Option<(Parameters, &[Token])>, OutOfMemory>
-    ensures { IfOk result (λ o. seen_parameters o ≡ reader.with_receiver (receiver_view (Some receiver)) (reader.read_more_parameters (kinds tokens.now))) }
+    ensures { IfOk result (λ o. seen_parameters o
+        ≡ reader.with_receiver (receiver_view (Some receiver))
+        (reader.read_more_parameters (kinds tokens.now))) }
 {
     match more_parameters(alloc, Vec::new(alloc), tokens)? {
         None => Ok(None),
@@ -104,7 +110,9 @@ fn behind_first(
     first: Parameter,
     tokens: &[Token],
 ) -> Result<Option<(Parameters, &[Token])>, OutOfMemory>
-    ensures { IfOk result (λ o. seen_parameters o ≡ reader.without_receiver (reader.add_parameter (parameter_view first) (reader.read_more_parameters (kinds tokens.now)))) }
+    ensures { IfOk result (λ o. seen_parameters o
+        ≡ reader.without_receiver (reader.add_parameter (parameter_view first)
+        (reader.read_more_parameters (kinds tokens.now)))) }
 {
     let mut all = Vec::new(alloc);
     put(&mut all, first)?;
@@ -126,7 +134,9 @@ fn more_parameters(
     before: Vec<Parameter>,
     tokens: &[Token],
 ) -> Result<Option<(Vec<Parameter>, &[Token])>, OutOfMemory>
-    ensures { IfOk result (λ o. seen_row o ≡ prepend_parameters (parameter_views before.items) (reader.read_more_parameters (kinds tokens.now))) }
+    ensures { IfOk result (λ o. seen_row o
+        ≡ prepend_parameters (parameter_views before.items)
+        (reader.read_more_parameters (kinds tokens.now))) }
 {
     let mut all = before;
     let mut left = tokens;
@@ -164,7 +174,8 @@ fn parameter_end(
     type_use: TypeUse,
     tokens: &[Token],
 ) -> Option<(Parameter, &[Token])>
-    ensures { seen_parameter result ≡ name_behind (local_marks modifiers.items) (type_use_view type_use) (kinds tokens.now) }
+    ensures { seen_parameter result
+        ≡ name_behind (local_marks modifiers.items) (type_use_view type_use) (kinds tokens.now) }
 {
     match identifier(tokens) {
         None => None,
@@ -185,7 +196,9 @@ fn receiver_of(
     modifiers: &[LocalModifier],
     type_use: &TypeUse,
 ) -> Result<Option<Receiver>, OutOfMemory>
-    ensures { IfOk result (λ o. receiver_view o ≡ reader.receiver_of (reader.annotation_names_of (local_marks modifiers.now)) (reader.class_of (type_use_view type_use.now))) }
+    ensures { IfOk result (λ o. receiver_view o
+        ≡ reader.receiver_of (reader.annotation_names_of (local_marks modifiers.now))
+        (reader.class_of (type_use_view type_use.now))) }
 {
     match annotations_of(alloc, modifiers)? {
         None => Ok(None),
@@ -201,7 +214,8 @@ fn annotations_of(
     alloc: Global,
     modifiers: &[LocalModifier],
 ) -> Result<Option<Vec<Annotation>>, OutOfMemory>
-    ensures { IfOk result (λ o. names_seen o ≡ reader.annotation_names_of (local_marks modifiers.now)) }
+    ensures { IfOk result
+        (λ o. names_seen o ≡ reader.annotation_names_of (local_marks modifiers.now)) }
 {
     let mut all = Vec::new(alloc);
     for modifier in modifiers {

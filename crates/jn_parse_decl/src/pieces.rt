@@ -20,7 +20,8 @@ pub fn read_piece(
     tokens: &[Token],
     around: Around,
 ) -> Result<Option<(Piece, &[Token])>, OutOfMemory>
-    ensures { IfOk result (λ o. seen_piece o ≡ reader.piece_reader (around_view around) (kinds tokens.now)) }
+    ensures { IfOk result
+        (λ o. seen_piece o ≡ reader.piece_reader (around_view around) (kinds tokens.now)) }
 {
     match around {
         Around::AtStart => read_first(alloc, tokens),

@@ -22,7 +22,8 @@ fn put(all: &mut Vec<Expr>, tree: Box<Expr>) -> Result<(), AllocError>
 fn closed_arguments<'t>(
     read: Option<(Vec<Expr>, u32, &'t [Token])>,
 ) -> Option<(Vec<Expr>, u32, &'t [Token])>
-    ensures { (d : ℕ) (o : TryAll) → AllAs d read.entry o → AllAs d result (bind_items o close_arguments) }
+    ensures { (d : ℕ) (o : TryAll) → AllAs d read.entry o
+        → AllAs d result (bind_items o close_arguments) }
 {
     match read {
         None => None,
@@ -37,7 +38,8 @@ fn closed_arguments<'t>(
 fn closed_elements<'t>(
     read: Option<(Vec<Expr>, u32, &'t [Token])>,
 ) -> Option<(Vec<Expr>, u32, &'t [Token])>
-    ensures { (d : ℕ) (o : TryAll) → AllAs d read.entry o → AllAs d result (bind_items o close_elements) }
+    ensures { (d : ℕ) (o : TryAll) → AllAs d read.entry o
+        → AllAs d result (bind_items o close_elements) }
 {
     match read {
         None => None,
@@ -70,7 +72,8 @@ pub fn read_arguments_in(
     tokens: &[Token],
     depth: u32,
 ) -> Result<Option<(Vec<Expr>, u32, &[Token])>, AllocError>
-    ensures { IfOk result (λ o. AllAs depth o (arguments_in (reader depth).whole (kinds tokens.now))) }
+    ensures { IfOk result
+        (λ o. AllAs depth o (arguments_in (reader depth).whole (kinds tokens.now))) }
 {
     match expect(tokens, TokenKind::RightParen) {
         Some(rest) => Ok(Some((Vec::new(alloc), 0, rest))),
@@ -88,7 +91,8 @@ pub fn read_elements_in(
     tokens: &[Token],
     depth: u32,
 ) -> Result<Option<(Vec<Expr>, u32, &[Token])>, AllocError>
-    ensures { IfOk result (λ o. AllAs depth o (elements_in (reader depth).whole (kinds tokens.now))) }
+    ensures { IfOk result
+        (λ o. AllAs depth o (elements_in (reader depth).whole (kinds tokens.now))) }
 {
     match expect(tokens, TokenKind::RightBrace) {
         Some(rest) => Ok(Some((Vec::new(alloc), 0, rest))),

@@ -33,7 +33,10 @@ fn put(all: &mut Vec<Annotation>, annotation: Annotation) -> Result<(), AllocErr
 
 /// An annotation `@Name`.
 fn annotation(tokens: &[Token]) -> Option<(Annotation, &[Token])>
-    ensures { MatchOption result ((name : SpecName) (rest : List Kind) → kinds tokens.now ≡ Kind.At ∷ Kind.Id name ∷ rest → ⊥) (λ r. kinds tokens.now ≡ Kind.At ∷ Kind.Id r.0.name ∷ kinds r.1.now) }
+    ensures { MatchOption result
+        ((name : SpecName) (rest : List Kind) → kinds tokens.now ≡ Kind.At ∷ Kind.Id name ∷ rest
+        → ⊥)
+        (λ r. kinds tokens.now ≡ Kind.At ∷ Kind.Id r.0.name ∷ kinds r.1.now) }
 {
     match expect(tokens, TokenKind::At) {
         None => None,
@@ -52,7 +55,8 @@ fn annotation(tokens: &[Token]) -> Option<(Annotation, &[Token])>
 
 /// The annotations at the front.
 fn annotations(alloc: Global, tokens: &[Token]) -> Result<(Vec<Annotation>, &[Token]), AllocError>
-    ensures { IfOk result (λ r. annotations_of (kinds tokens.now) ≡ (annotation_names r.0.items, kinds r.1.now)) }
+    ensures { IfOk result
+        (λ r. annotations_of (kinds tokens.now) ≡ (annotation_names r.0.items, kinds r.1.now)) }
 {
     let mut all = Vec::new(alloc);
     let mut left = tokens;
@@ -114,7 +118,8 @@ fn object<'t>(
     arguments: Option<(Vec<Expr>, u32, &'t [Token])>,
 ) -> Result<Option<(Box<Expr>, u32, &'t [Token])>, AllocError>
     requires { IfSome arguments (λ r. r.1 < 2 ^ 32 - 1) }
-    ensures { IfOk result (λ r. (d e : ℕ) (o : TryAll) → d < e → AllAs d arguments.entry o → ReadAs e r (build_all (λ es. NewTree class.name es) o)) }
+    ensures { IfOk result (λ r. (d e : ℕ) (o : TryAll) → d < e → AllAs d arguments.entry o
+        → ReadAs e r (build_all (λ es. NewTree class.name es) o)) }
 {
     match arguments {
         None => Ok(None),
@@ -126,7 +131,9 @@ fn object<'t>(
 }
 
 fn new_array(element: Element, elements: Vec<Expr>, span: Span) -> Expr
-    ensures { view result ≡ ArrayOfTree (annotation_names element.annotations.items) (base_view element.base) (views elements.items) }
+    ensures { view result
+        ≡ ArrayOfTree (annotation_names element.annotations.items) (base_view element.base)
+        (views elements.items) }
 {
     let Element { annotations, base } = element;
     Expr::ArrayOf {
@@ -145,7 +152,11 @@ fn array_of<'t>(
     elements: Option<(Vec<Expr>, u32, &'t [Token])>,
 ) -> Result<Option<(Box<Expr>, u32, &'t [Token])>, AllocError>
     requires { IfSome elements (λ r. r.1 < 2 ^ 32 - 1) }
-    ensures { IfOk result (λ r. (d e : ℕ) (o : TryAll) → d < e → AllAs d elements.entry o → ReadAs e r (build_all (λ es. ArrayOfTree (annotation_names element.annotations.items) (base_view element.base) es) o)) }
+    ensures { IfOk result (λ r. (d e : ℕ) (o : TryAll) → d < e → AllAs d elements.entry o
+        → ReadAs e r (build_all
+        (λ es. ArrayOfTree (annotation_names element.annotations.items) (base_view element.base)
+        es)
+        o)) }
 {
     match elements {
         None => Ok(None),
@@ -157,7 +168,9 @@ fn array_of<'t>(
 }
 
 fn array_tree(element: Element, length: Box<Expr>, span: Span) -> Expr
-    ensures { view result ≡ NewArrayTree (annotation_names element.annotations.items) (base_view element.base) (view length.value) }
+    ensures { view result
+        ≡ NewArrayTree (annotation_names element.annotations.items) (base_view element.base)
+        (view length.value) }
 {
     let Element { annotations, base } = element;
     Expr::NewArray {
@@ -176,7 +189,9 @@ fn array_with<'t>(
     length: Option<(Box<Expr>, u32, &'t [Token])>,
 ) -> Result<Option<(Box<Expr>, u32, &'t [Token])>, AllocError>
     requires { IfSome length (λ r. r.1 < 2 ^ 32 - 1) }
-    ensures { IfOk result (λ r. (d e : ℕ) (o : Try) → d < e → ReadAs d length.entry o → ReadAs e r (bind o (close_array (annotation_names element.annotations.items) (base_view element.base)))) }
+    ensures { IfOk result (λ r. (d e : ℕ) (o : Try) → d < e → ReadAs d length.entry o
+        → ReadAs e r (bind o
+        (close_array (annotation_names element.annotations.items) (base_view element.base)))) }
 {
     match length {
         None => Ok(None),
@@ -228,7 +243,8 @@ fn read_annotated<'t>(
     depth: u32,
 ) -> Result<Option<(Box<Expr>, u32, &'t [Token])>, AllocError>
     requires { 0 < depth }
-    ensures { IfOk result (λ o. ReadAs depth o (array_from (reader (depth - 1)) (annotations_of (kinds tokens.now)).0 (annotations_of (kinds tokens.now)).1)) }
+    ensures { IfOk result (λ o. ReadAs depth o (array_from (reader (depth - 1))
+        (annotations_of (kinds tokens.now)).0 (annotations_of (kinds tokens.now)).1)) }
 {
     match read_element(alloc, tokens)? {
         None => Ok(None),
@@ -246,7 +262,8 @@ fn read_array<'t>(
     depth: u32,
 ) -> Result<Option<(Box<Expr>, u32, &'t [Token])>, AllocError>
     requires { 0 < depth }
-    ensures { IfOk result (λ o. ReadAs depth o (array_behind (reader (depth - 1)) (annotation_names element.annotations.items) (base_view element.base) (kinds tokens.now))) }
+    ensures { IfOk result (λ o. ReadAs depth o (array_behind (reader (depth - 1))
+        (annotation_names element.annotations.items) (base_view element.base) (kinds tokens.now))) }
 {
     match expect(tokens, TokenKind::LeftBracket) {
         None => Ok(None),

@@ -71,7 +71,8 @@ pub fn parse_expr(
 ) -> Result<Option<(Expr, u32)>, OutOfMemory>
     requires few { length tokens.now < 2 ^ 32 }
     requires inside { at ≤ length tokens.now }
-    ensures longest { IfOk result (λ o. IsLongest depth (drop at (kinds tokens.now)) (seen_at (kinds tokens.now) o)) }
+    ensures longest { IfOk result
+        (λ o. IsLongest depth (drop at (kinds tokens.now)) (seen_at (kinds tokens.now) o)) }
     ensures inside { IfOk result (λ o. IfSome o (λ r. (at < r.1) × (r.1 ≤ length tokens.now))) }
 {
     match read_expr(alloc, tokens_from(tokens, at), depth)? {

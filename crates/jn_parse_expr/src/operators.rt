@@ -104,7 +104,8 @@ fn grow_tail(
 ) -> Result<Option<(Tail, u32, &[Token])>, AllocError>
     requires { power < 6 }
     ensures rises { IfOk result (λ o. IfSome o (λ r. nested < r.1)) }
-    ensures gives { IfOk result (λ o. (l : Tree) → nested ≡ nesting l → TailAs depth l o (grow (reader (depth - 1)) depth power l (kinds tokens.now))) }
+    ensures gives { IfOk result (λ o. (l : Tree) → nested ≡ nesting l
+        → TailAs depth l o (grow (reader (depth - 1)) depth power l (kinds tokens.now))) }
 {
     match front(tokens) {
         None => Ok(None),
@@ -139,7 +140,9 @@ fn operand_tail(
     requires small { power < 6 }
     requires room { nested < depth }
     ensures rises { IfOk result (λ o. IfSome o (λ r. nested < r.1)) }
-    ensures gives { IfOk result (λ o. (l : Tree) → nested ≡ nesting l → TailAs depth l o (grow_by (reader (depth - 1)) power l (OperatorSign operator) (kinds tokens.now))) }
+    ensures gives { IfOk result (λ o. (l : Tree) → nested ≡ nesting l
+        → TailAs depth l o
+        (grow_by (reader (depth - 1)) power l (OperatorSign operator) (kinds tokens.now))) }
 {
     if power_of(operator) != power + 1 {
         return Ok(None);
@@ -158,7 +161,8 @@ fn operand_tail(
 fn class_tail(nested: u32, tokens: &[Token]) -> Option<(Tail, u32, &[Token])>
     requires { nested < 2 ^ 32 - 1 }
     ensures rises { IfSome result (λ r. nested < r.1) }
-    ensures gives { (l : Tree) (d : ℕ) → nested ≡ nesting l → nested < d → TailAs d l result (test l (kinds tokens.now)) }
+    ensures gives { (l : Tree) (d : ℕ) → nested ≡ nesting l → nested < d
+        → TailAs d l result (test l (kinds tokens.now)) }
 {
     let (class, rest) = identifier(tokens)?;
     Some((Tail::Class(class), nested + 1, rest))

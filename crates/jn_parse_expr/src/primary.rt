@@ -46,8 +46,10 @@ pub fn cut<'t>(
     primary: Primary<'t>,
 ) -> Result<Option<(Box<Expr>, u32, &'t [Token])>, AllocError>
     requires nests { primary.nested ≡ nesting (view primary.tree.value) }
-    requires linked { IsLinked (kinds start.now) (view primary.tree.value) primary.before (kinds primary.link.now) (kinds primary.rest.now) }
-    ensures { IfOk result (λ o. (d : ℕ) → primary.entry.nested ≤ d → ReadAs d o (trim (view primary.entry.tree.value) (kinds primary.entry.rest.now))) }
+    requires linked { IsLinked (kinds start.now) (view primary.tree.value) primary.before
+        (kinds primary.link.now) (kinds primary.rest.now) }
+    ensures { IfOk result (λ o. (d : ℕ) → primary.entry.nested ≤ d
+        → ReadAs d o (trim (view primary.entry.tree.value) (kinds primary.entry.rest.now))) }
 {
     let Primary {
         tree,
@@ -138,7 +140,8 @@ pub fn read_primary(
     depth: u32,
 ) -> Result<Option<Primary<'_>>, AllocError>
     requires { 0 < depth }
-    ensures { IfOk result (λ o. PrimaryAs (kinds tokens.now) depth o (primary (reader (depth - 1)) depth (kinds tokens.now))) }
+    ensures { IfOk result (λ o. PrimaryAs (kinds tokens.now) depth o
+        (primary (reader (depth - 1)) depth (kinds tokens.now))) }
 {
     match read_head(alloc, tokens, depth)? {
         None => Ok(None),
@@ -195,7 +198,8 @@ fn link_tail<'t>(
     requires some { 0 < depth }
     requires nests { nested ≡ nesting (view left.now) }
     ensures rises { IfOk result (λ o. IfSome o (λ r. nested < r.1)) }
-    ensures gives { IfOk result (λ o. TailAs depth (view left.now) o (link_at (reader (depth - 1)) depth (view left.now) (kinds tokens.now))) }
+    ensures gives { IfOk result (λ o. TailAs depth (view left.now) o
+        (link_at (reader (depth - 1)) depth (view left.now) (kinds tokens.now))) }
 {
     if nested >= depth {
         return Ok(None);
@@ -225,7 +229,8 @@ fn member_tail(
 ) -> Result<Option<(Tail, u32, &[Token])>, AllocError>
     requires { nested < depth }
     ensures rises { IfOk result (λ o. IfSome o (λ r. nested < r.1)) }
-    ensures gives { IfOk result (λ o. (p : Tree) → nested ≡ nesting p → TailAs depth p o (member (reader (depth - 1)) p (kinds tokens.now))) }
+    ensures gives { IfOk result (λ o. (p : Tree) → nested ≡ nesting p
+        → TailAs depth p o (member (reader (depth - 1)) p (kinds tokens.now))) }
 {
     match identifier(tokens) {
         None => Ok(None),
@@ -250,7 +255,8 @@ fn index_tail(
 ) -> Result<Option<(Tail, u32, &[Token])>, AllocError>
     requires { nested < depth }
     ensures rises { IfOk result (λ o. IfSome o (λ r. nested < r.1)) }
-    ensures gives { IfOk result (λ o. (p : Tree) → nested ≡ nesting p → TailAs depth p o (bind ((reader (depth - 1)).whole (kinds tokens.now)) (close_index p))) }
+    ensures gives { IfOk result (λ o. (p : Tree) → nested ≡ nesting p
+        → TailAs depth p o (bind ((reader (depth - 1)).whole (kinds tokens.now)) (close_index p))) }
 {
     match read_whole(alloc, tokens, depth - 1)? {
         None => Ok(None),
@@ -290,7 +296,9 @@ fn named<'t>(
     arguments: Option<(Vec<Expr>, u32, &'t [Token])>,
 ) -> Result<(Box<Expr>, u32, &'t [Token]), AllocError>
     requires { IfSome arguments (λ r. r.1 < 2 ^ 32 - 1) }
-    ensures { IfOk result (λ r. (d e : ℕ) (o : TryAll) → d < e → AllAs d arguments.entry o → ReadAs e (Some r) (Some (called (NameTree name.name) (λ es. OwnCallTree name.name es) (kinds tokens.now) o))) }
+    ensures { IfOk result (λ r. (d e : ℕ) (o : TryAll) → d < e → AllAs d arguments.entry o
+        → ReadAs e (Some r) (Some
+        (called (NameTree name.name) (λ es. OwnCallTree name.name es) (kinds tokens.now) o))) }
 {
     match arguments {
         None => {
@@ -312,7 +320,8 @@ fn super_named<'t>(
     arguments: Option<(Vec<Expr>, u32, &'t [Token])>,
 ) -> Result<Option<(Box<Expr>, u32, &'t [Token])>, AllocError>
     requires { IfSome arguments (λ r. r.1 < 2 ^ 32 - 1) }
-    ensures { IfOk result (λ r. (d e : ℕ) (o : TryAll) → d < e → AllAs d arguments.entry o → ReadAs e r (build_all (λ es. SuperCallTree name.name es) o)) }
+    ensures { IfOk result (λ r. (d e : ℕ) (o : TryAll) → d < e → AllAs d arguments.entry o
+        → ReadAs e r (build_all (λ es. SuperCallTree name.name es) o)) }
 {
     match arguments {
         None => Ok(None),
@@ -330,7 +339,8 @@ fn in_parens<'t>(
     read: Option<(Box<Expr>, u32, &'t [Token])>,
 ) -> Result<Option<(Box<Expr>, u32, &'t [Token])>, AllocError>
     requires { IfSome read (λ r. r.1 < 2 ^ 32 - 1) }
-    ensures { IfOk result (λ r. (d e : ℕ) (o : Try) → d < e → ReadAs d read.entry o → ReadAs e r (bind o close_paren)) }
+    ensures { IfOk result (λ r.
+        (d e : ℕ) (o : Try) → d < e → ReadAs d read.entry o → ReadAs e r (bind o close_paren)) }
 {
     match read {
         None => Ok(None),
@@ -347,7 +357,10 @@ fn in_parens<'t>(
 
 /// The name behind `super` and a dot.
 fn super_name(tokens: &[Token]) -> Option<(Identifier, &[Token])>
-    ensures { MatchOption result ((name : SpecName) (rest : List Kind) → kinds tokens.now ≡ Kind.Dot ∷ Kind.Id name ∷ rest → ⊥) (λ r. kinds tokens.now ≡ Kind.Dot ∷ Kind.Id r.0.name ∷ kinds r.1.now) }
+    ensures { MatchOption result
+        ((name : SpecName) (rest : List Kind) → kinds tokens.now ≡ Kind.Dot ∷ Kind.Id name ∷ rest
+        → ⊥)
+        (λ r. kinds tokens.now ≡ Kind.Dot ∷ Kind.Id r.0.name ∷ kinds r.1.now) }
 {
     match expect(tokens, TokenKind::Dot) {
         None => None,
@@ -391,7 +404,8 @@ fn read_super<'t>(
     depth: u32,
 ) -> Result<Option<(Box<Expr>, u32, &'t [Token])>, AllocError>
     requires { 0 < depth }
-    ensures { IfOk result (λ o. ReadAs depth o (super_call (reader (depth - 1)) (kinds tokens.now))) }
+    ensures { IfOk result
+        (λ o. ReadAs depth o (super_call (reader (depth - 1)) (kinds tokens.now))) }
 {
     match super_name(tokens) {
         None => Ok(None),

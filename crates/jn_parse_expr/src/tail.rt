@@ -38,7 +38,8 @@ pub enum Tail {
 
 /// What the first token is, and what follows it.
 pub fn front(tokens: &[Token]) -> Option<(TokenKind, &[Token])>
-    ensures { MatchOption result (kinds tokens.now ≡ []) (λ r. kinds tokens.now ≡ r.0 ∷ kinds r.1.now) }
+    ensures { MatchOption result (kinds tokens.now ≡ [])
+        (λ r. kinds tokens.now ≡ r.0 ∷ kinds r.1.now) }
 {
     match next(tokens) {
         None => None,
@@ -146,7 +147,9 @@ pub fn go_with<'t>(
     tail: Option<(Tail, u32, &'t [Token])>,
 ) -> Result<(Box<Expr>, u32, &'t [Token]), AllocError>
     requires { nested ≡ nesting (view left.value) }
-    ensures { IfOk result (λ r. (d : ℕ) (o : Try) → nested ≤ d → TailAs d (view left.value) tail.entry o → ReadAs d (Some r) (or_else o (Some (view left.value, kinds rest.now)))) }
+    ensures { IfOk result (λ r. (d : ℕ) (o : Try) → nested ≤ d
+        → TailAs d (view left.value) tail.entry o
+        → ReadAs d (Some r) (or_else o (Some (view left.value, kinds rest.now)))) }
 {
     match tail {
         None => Ok((left, nested, rest)),

@@ -159,7 +159,8 @@ fn signed<'t>(
     depth: u32,
 ) -> Result<Option<(Box<Expr>, u32, &'t [Token])>, AllocError>
     requires { IfSome read (λ r. r.1 < 2 ^ 32 - 1) }
-    ensures { IfOk result (λ r. (d : ℕ) (o : Try) → d < depth → ReadAs d read.entry o → ReadAs depth r (signed_by depth operator (kinds tokens.now) o)) }
+    ensures { IfOk result (λ r. (d : ℕ) (o : Try) → d < depth → ReadAs d read.entry o
+        → ReadAs depth r (signed_by depth operator (kinds tokens.now) o)) }
 {
     match read {
         None => {
@@ -190,7 +191,8 @@ fn stepped<'t>(
     read: Option<(Box<Expr>, u32, &'t [Token])>,
 ) -> Result<Option<(Box<Expr>, u32, &'t [Token])>, AllocError>
     requires { IfSome read (λ r. r.1 < 2 ^ 32 - 1) }
-    ensures { IfOk result (λ r. (d e : ℕ) (o : Try) → d < e → ReadAs d read.entry o → ReadAs e r (build (λ p. PrefixTree step p) o)) }
+    ensures { IfOk result (λ r. (d e : ℕ) (o : Try) → d < e → ReadAs d read.entry o
+        → ReadAs e r (build (λ p. PrefixTree step p) o)) }
 {
     match read {
         None => Ok(None),
@@ -210,7 +212,8 @@ pub fn read_unary(
     depth: u32,
 ) -> Result<Option<(Box<Expr>, u32, &[Token])>, AllocError>
     requires { 0 < depth }
-    ensures { IfOk result (λ o. ReadAs depth o (unary (reader (depth - 1)) depth (kinds tokens.now))) }
+    ensures { IfOk result
+        (λ o. ReadAs depth o (unary (reader (depth - 1)) depth (kinds tokens.now))) }
 {
     match read_primary(alloc, tokens, depth)? {
         None => read_prefix(alloc, tokens, depth),
@@ -239,7 +242,8 @@ fn cast_tail<'t>(
     depth: u32,
 ) -> Result<Option<(Tail, u32, &'t [Token])>, AllocError>
     requires { 0 < depth }
-    ensures { IfOk result (λ o. TailAs depth (view left.now) o (cast (reader (depth - 1)) (view left.now) (kinds tokens.now))) }
+    ensures { IfOk result (λ o. TailAs depth (view left.now) o
+        (cast (reader (depth - 1)) (view left.now) (kinds tokens.now))) }
 {
     match cast_class(left) {
         None => Ok(None),
@@ -265,7 +269,8 @@ fn read_prefix(
     depth: u32,
 ) -> Result<Option<(Box<Expr>, u32, &[Token])>, AllocError>
     requires { 0 < depth }
-    ensures { IfOk result (λ o. ReadAs depth o (prefix (reader (depth - 1)) depth (kinds tokens.now))) }
+    ensures { IfOk result
+        (λ o. ReadAs depth o (prefix (reader (depth - 1)) depth (kinds tokens.now))) }
 {
     match front(tokens) {
         None => Ok(None),

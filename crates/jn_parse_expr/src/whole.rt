@@ -68,7 +68,8 @@ fn value_tail<'t>(
     depth: u32,
 ) -> Result<Option<(Tail, u32, &'t [Token])>, AllocError>
     requires { nested ≡ nesting (view left.now) }
-    ensures { IfOk result (λ o. TailAs depth (view left.now) o (assign (reader (depth - 1)) depth (view left.now) (kinds tokens.now))) }
+    ensures { IfOk result (λ o. TailAs depth (view left.now) o
+        (assign (reader (depth - 1)) depth (view left.now) (kinds tokens.now))) }
 {
     match front(tokens) {
         None => Ok(None),
@@ -117,7 +118,8 @@ fn choice_tail(
     tokens: &[Token],
     depth: u32,
 ) -> Result<Option<(Tail, u32, &[Token])>, AllocError>
-    ensures { IfOk result (λ o. (c : Tree) → nested ≡ nesting c → TailAs depth c o (choose (reader (depth - 1)) depth c (kinds tokens.now))) }
+    ensures { IfOk result (λ o. (c : Tree) → nested ≡ nesting c
+        → TailAs depth c o (choose (reader (depth - 1)) depth c (kinds tokens.now))) }
 {
     match expect(tokens, TokenKind::Question) {
         None => Ok(None),

@@ -12,6 +12,8 @@ ghost use Rattle.jn_parse_expr_law.specs.Reader.{reader};
 pub fn expressions_are_read_once()
     ensures one_tree { (t u : Tree) → Good t → Good u → spell t ≡ spell u → t ≡ u }
     ensures longest { (d : ℕ) (ts : List TokenKind) → IsLongest d ts ((reader d).whole ts) }
-    ensures unique { (d : ℕ) (ts : List TokenKind) (a b : Try) → IsLongest d ts a → IsLongest d ts b → a ≡ b }
-    ensures reads { (d : ℕ) (t : Tree) (rest : List TokenKind) → Good t → nesting t ≤ d → Reads t rest ((reader d).whole (spell t ++ rest)) }
+    ensures unique { (d : ℕ) (ts : List TokenKind) (a b : Try) → IsLongest d ts a → IsLongest d ts b
+        → a ≡ b }
+    ensures reads { (d : ℕ) (t : Tree) (rest : List TokenKind) → Good t → nesting t ≤ d
+        → Reads t rest ((reader d).whole (spell t ++ rest)) }
 {}

@@ -33,7 +33,8 @@ pub fn read_statement(
     depth: u32,
     context: Context,
 ) -> Result<Option<(Stmt, &[Token])>, OutOfMemory>
-    ensures { IfOk result (λ o. IsLongestStatement context depth (kinds tokens.now) (seen_statement o)) }
+    ensures { IfOk result
+        (λ o. IsLongestStatement context depth (kinds tokens.now) (seen_statement o)) }
 {
     statements_are_read_once();
     match nested::statement(alloc, tokens, depth, context)? {

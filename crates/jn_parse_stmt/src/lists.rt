@@ -65,7 +65,8 @@ fn items(
     tokens: &[Token],
     depth: u32,
 ) -> Result<Option<(Vec<Expr>, &[Token])>, OutOfMemory>
-    ensures { IfOk result (λ o. all_items (reader depth).whole (kinds tokens.now) ≡ seen_as all_views o) }
+    ensures { IfOk result
+        (λ o. all_items (reader depth).whole (kinds tokens.now) ≡ seen_as all_views o) }
 {
     let mut items = Vec::new(alloc);
     let mut left = tokens;
@@ -89,7 +90,8 @@ pub fn arguments(
     tokens: &[Token],
     depth: u32,
 ) -> Result<Option<(Vec<Expr>, &[Token])>, OutOfMemory>
-    ensures { IfOk result (λ o. arguments_in (reader depth).whole (kinds tokens.now) ≡ seen_as all_views o) }
+    ensures { IfOk result
+        (λ o. arguments_in (reader depth).whole (kinds tokens.now) ≡ seen_as all_views o) }
 {
     match expect(tokens, TokenKind::RightParen) {
         Some(rest) => Ok(Some((Vec::new(alloc), rest))),
@@ -109,7 +111,8 @@ pub fn initial(
     tokens: &[Token],
     depth: u32,
 ) -> Result<Option<(Vec<Expr>, &[Token])>, OutOfMemory>
-    ensures { IfOk result (λ o. read_initial (reader depth).whole (kinds tokens.now) ≡ seen_as all_views o) }
+    ensures { IfOk result
+        (λ o. read_initial (reader depth).whole (kinds tokens.now) ≡ seen_as all_views o) }
 {
     match expect(tokens, TokenKind::Semicolon) {
         Some(rest) => Ok(Some((Vec::new(alloc), rest))),
@@ -129,7 +132,8 @@ pub fn closed(
     tokens: &[Token],
     depth: u32,
 ) -> Result<Option<(Expr, &[Token])>, OutOfMemory>
-    ensures { IfOk result (λ o. then_read ((reader depth).whole (kinds tokens.now)) closed ≡ seen o) }
+    ensures { IfOk result
+        (λ o. then_read ((reader depth).whole (kinds tokens.now)) closed ≡ seen o) }
 {
     match expression(alloc, tokens, depth)? {
         None => Ok(None),
@@ -160,7 +164,8 @@ pub fn optional(
     tokens: &[Token],
     depth: u32,
 ) -> Result<Option<(Option<Expr>, &[Token])>, OutOfMemory>
-    ensures { IfOk result (λ o. read_optional (reader depth).whole (kinds tokens.now) ≡ seen_as optional_view o) }
+    ensures { IfOk result
+        (λ o. read_optional (reader depth).whole (kinds tokens.now) ≡ seen_as optional_view o) }
 {
     match expect(tokens, TokenKind::Semicolon) {
         Some(rest) => Ok(Some((None, rest))),

@@ -37,7 +37,8 @@ pub fn loop_of(
     body: Box<Stmt>,
     span: Span,
 ) -> Result<Box<Stmt>, OutOfMemory>
-    ensures { IfOk result (λ b. statement_view b.value ≡ body_of head.value (statement_view body.value)) }
+    ensures { IfOk result
+        (λ b. statement_view b.value ≡ body_of head.value (statement_view body.value)) }
 {
     match Box::into_inner(head) {
         Head::While(condition) => boxed(
@@ -69,7 +70,8 @@ fn for_each_of(
     body: Box<Stmt>,
     span: Span,
 ) -> Result<Box<Stmt>, OutOfMemory>
-    ensures { IfOk result (λ b. statement_view b.value ≡ body_of (Head.ForEach front array) (statement_view body.value)) }
+    ensures { IfOk result (λ b.
+        statement_view b.value ≡ body_of (Head.ForEach front array) (statement_view body.value)) }
 {
     let Parameter {
         modifiers,
@@ -97,7 +99,8 @@ pub fn while_head(
     tokens: &[Token],
     depth: u32,
 ) -> Result<Option<(Box<Head>, &[Token])>, OutOfMemory>
-    ensures { IfOk result (λ o. (one : List Kind → TryStatement) → while_statement (reader depth).whole one (kinds tokens.now) ≡ with_body one o) }
+    ensures { IfOk result (λ o. (one : List Kind → TryStatement)
+        → while_statement (reader depth).whole one (kinds tokens.now) ≡ with_body one o) }
 {
     match in_parentheses(alloc, tokens, depth)? {
         None => Ok(None),
@@ -112,7 +115,8 @@ pub fn for_head(
     tokens: &[Token],
     depth: u32,
 ) -> Result<Option<(Box<Head>, &[Token])>, OutOfMemory>
-    ensures { IfOk result (λ o. (one : List Kind → TryStatement) → for_statement (reader depth).whole one (kinds tokens.now) ≡ with_body one o) }
+    ensures { IfOk result (λ o. (one : List Kind → TryStatement)
+        → for_statement (reader depth).whole one (kinds tokens.now) ≡ with_body one o) }
 {
     match expect(tokens, TokenKind::LeftParen) {
         None => Ok(None),
@@ -129,7 +133,8 @@ fn for_effects(
     tokens: &[Token],
     depth: u32,
 ) -> Result<Option<(Box<Head>, &[Token])>, OutOfMemory>
-    ensures { IfOk result (λ o. (one : List Kind → TryStatement) → for_from (reader depth).whole one (kinds tokens.now) None ≡ with_body one o) }
+    ensures { IfOk result (λ o. (one : List Kind → TryStatement)
+        → for_from (reader depth).whole one (kinds tokens.now) None ≡ with_body one o) }
 {
     match only_effects(initial(alloc, tokens, depth)?) {
         None => Ok(None),
@@ -146,7 +151,9 @@ fn for_named(
     tokens: &[Token],
     depth: u32,
 ) -> Result<Option<(Box<Head>, &[Token])>, OutOfMemory>
-    ensures { IfOk result (λ o. (one : List Kind → TryStatement) → for_named (reader depth).whole one (parameter_view front) (kinds tokens.now) ≡ with_body one o) }
+    ensures { IfOk result (λ o. (one : List Kind → TryStatement)
+        → for_named (reader depth).whole one (parameter_view front) (kinds tokens.now)
+        ≡ with_body one o) }
 {
     match expect(tokens, TokenKind::Colon) {
         Some(after) => for_each(alloc, front, after, depth),
@@ -161,7 +168,9 @@ fn for_each(
     tokens: &[Token],
     depth: u32,
 ) -> Result<Option<(Box<Head>, &[Token])>, OutOfMemory>
-    ensures { IfOk result (λ o. (one : List Kind → TryStatement) → for_each (reader depth).whole one (parameter_view front) (kinds tokens.now) ≡ with_body one o) }
+    ensures { IfOk result (λ o. (one : List Kind → TryStatement)
+        → for_each (reader depth).whole one (parameter_view front) (kinds tokens.now)
+        ≡ with_body one o) }
 {
     match closed(alloc, tokens, depth)? {
         None => Ok(None),
@@ -176,7 +185,10 @@ fn for_local(
     tokens: &[Token],
     depth: u32,
 ) -> Result<Option<(Box<Head>, &[Token])>, OutOfMemory>
-    ensures { IfOk result (λ o. (one : List Kind → TryStatement) → for_local (reader depth).whole one (local_behind (reader depth).whole (parameter_view front) (kinds tokens.now)) ≡ with_body one o) }
+    ensures { IfOk result (λ o. (one : List Kind → TryStatement)
+        → for_local (reader depth).whole one
+        (local_behind (reader depth).whole (parameter_view front) (kinds tokens.now))
+        ≡ with_body one o) }
 {
     let (declaration, after) = declaration(alloc, front, tokens, depth)?;
     match expect(after, TokenKind::Semicolon) {
@@ -195,7 +207,8 @@ fn for_rest(
     tokens: &[Token],
     depth: u32,
 ) -> Result<Option<(Box<Head>, &[Token])>, OutOfMemory>
-    ensures { IfOk result (λ o. (one : List Kind → TryStatement) → for_rest (reader depth).whole one (init_view init) (kinds tokens.now) ≡ with_body one o) }
+    ensures { IfOk result (λ o. (one : List Kind → TryStatement)
+        → for_rest (reader depth).whole one (init_view init) (kinds tokens.now) ≡ with_body one o) }
 {
     match optional(alloc, tokens, depth)? {
         None => Ok(None),

@@ -70,7 +70,8 @@ fn loop_body() -> Context
 
 #[inline(never)]
 fn block_of(alloc: Global, statements: Vec<Stmt>, span: Span) -> Result<Box<Stmt>, OutOfMemory>
-    ensures { IfOk result (λ b. statement_view b.value ≡ BlockStatement (statement_views statements.items)) }
+    ensures { IfOk result
+        (λ b. statement_view b.value ≡ BlockStatement (statement_views statements.items)) }
 {
     boxed(alloc, Stmt::Block { statements, span })
 }
@@ -82,7 +83,8 @@ fn if_of(
     then: Box<Stmt>,
     span: Span,
 ) -> Result<Box<Stmt>, OutOfMemory>
-    ensures { IfOk result (λ b. statement_view b.value ≡ IfStatement (view condition.value) (statement_view then.value)) }
+    ensures { IfOk result (λ b.
+        statement_view b.value ≡ IfStatement (view condition.value) (statement_view then.value)) }
 {
     let condition = Box::into_inner(condition);
     boxed(
@@ -103,7 +105,9 @@ fn if_else_of(
     otherwise: Box<Stmt>,
     span: Span,
 ) -> Result<Box<Stmt>, OutOfMemory>
-    ensures { IfOk result (λ b. statement_view b.value ≡ IfElseStatement (view condition.value) (statement_view then.value) (statement_view otherwise.value)) }
+    ensures { IfOk result (λ b. statement_view b.value
+        ≡ IfElseStatement (view condition.value) (statement_view then.value)
+        (statement_view otherwise.value)) }
 {
     let condition = Box::into_inner(condition);
     boxed(
@@ -132,7 +136,8 @@ fn condition(
     tokens: &[Token],
     depth: u32,
 ) -> Result<Option<(Box<Expr>, &[Token])>, OutOfMemory>
-    ensures { IfOk result (λ o. in_parens (reader depth).whole (kinds tokens.now) ≡ seen_as boxed_expression o) }
+    ensures { IfOk result
+        (λ o. in_parens (reader depth).whole (kinds tokens.now) ≡ seen_as boxed_expression o) }
 {
     match in_parentheses(alloc, tokens, depth)? {
         None => Ok(None),
@@ -185,7 +190,8 @@ fn empty_statement(
     semicolon: Token,
     rest: &[Token],
 ) -> Result<Option<(Box<Stmt>, &[Token])>, OutOfMemory>
-    ensures { IfOk result (λ o. ◌≡◌ {A = TryStatement} (Some (EmptyStatement, kinds rest.now)) (seen_as boxed_view o)) }
+    ensures { IfOk result (λ o.
+        ◌≡◌ {A = TryStatement} (Some (EmptyStatement, kinds rest.now)) (seen_as boxed_view o)) }
 {
     let span = semicolon.span;
     Ok(Some((boxed(alloc, Stmt::Empty { span })?, rest)))
@@ -200,7 +206,9 @@ fn block<'t>(
     depth: u32,
     context: Context,
 ) -> Result<Option<(Box<Stmt>, &'t [Token])>, OutOfMemory>
-    ensures { IfOk result (λ o. block_statement (read_one depth (in_block context)) (kinds after.now) ≡ seen_as boxed_view o) }
+    ensures { IfOk result (λ o. block_statement (read_one depth (in_block context))
+        (kinds after.now)
+        ≡ seen_as boxed_view o) }
 {
     match body(alloc, after, depth, in_block(context))? {
         None => Ok(None),
@@ -219,7 +227,8 @@ fn body(
     depth: u32,
     context: Context,
 ) -> Result<Option<(Vec<Stmt>, &[Token])>, OutOfMemory>
-    ensures { IfOk result (λ o. read_block (read_one depth context) (kinds tokens.now) ≡ seen_as body_views o) }
+    ensures { IfOk result
+        (λ o. read_block (read_one depth context) (kinds tokens.now) ≡ seen_as body_views o) }
 {
     // (most blocks are small, and a statement is large)
     let mut statements = Vec::with_capacity(alloc, 1)?;
@@ -247,7 +256,9 @@ fn if_statement<'t>(
     depth: u32,
     context: Context,
 ) -> Result<Option<(Box<Stmt>, &'t [Token])>, OutOfMemory>
-    ensures { IfOk result (λ o. if_statement (reader depth).whole (read_one depth (under context)) (kinds after.now) ≡ seen_as boxed_view o) }
+    ensures { IfOk result (λ o. if_statement (reader depth).whole (read_one depth (under context))
+        (kinds after.now)
+        ≡ seen_as boxed_view o) }
 {
     match condition(alloc, after, depth)? {
         None => Ok(None),
@@ -269,7 +280,9 @@ fn if_end<'t>(
     depth: u32,
     context: Context,
 ) -> Result<Option<(Box<Stmt>, &'t [Token])>, OutOfMemory>
-    ensures { IfOk result (λ o. if_end (read_one depth (under context)) (view condition.value) (statement_view then.value) (kinds rest.now) ≡ seen_as boxed_view o) }
+    ensures { IfOk result (λ o. if_end (read_one depth (under context)) (view condition.value)
+        (statement_view then.value) (kinds rest.now)
+        ≡ seen_as boxed_view o) }
 {
     match else_part(alloc, &then, rest, depth, context)? {
         None => {
@@ -292,7 +305,9 @@ fn else_part<'t>(
     depth: u32,
     context: Context,
 ) -> Result<Option<(Box<Stmt>, &'t [Token])>, OutOfMemory>
-    ensures { IfOk result (λ o. (e : Tree) → if_end (read_one depth (under context)) e (statement_view then.now) (kinds tokens.now) ≡ if_ended e (statement_view then.now) (kinds tokens.now) (seen_as boxed_view o)) }
+    ensures { IfOk result (λ o. (e : Tree)
+        → if_end (read_one depth (under context)) e (statement_view then.now) (kinds tokens.now)
+        ≡ if_ended e (statement_view then.now) (kinds tokens.now) (seen_as boxed_view o)) }
 {
     match expect(tokens, TokenKind::Else) {
         None => Ok(None),
@@ -314,7 +329,9 @@ fn while_statement<'t>(
     after: &'t [Token],
     depth: u32,
 ) -> Result<Option<(Box<Stmt>, &'t [Token])>, OutOfMemory>
-    ensures { IfOk result (λ o. while_statement (reader depth).whole (read_one depth loop_body) (kinds after.now) ≡ seen_as boxed_view o) }
+    ensures { IfOk result (λ o. while_statement (reader depth).whole (read_one depth loop_body)
+        (kinds after.now)
+        ≡ seen_as boxed_view o) }
 {
     match while_head(alloc, after, depth)? {
         None => Ok(None),
@@ -330,7 +347,9 @@ fn for_statement<'t>(
     after: &'t [Token],
     depth: u32,
 ) -> Result<Option<(Box<Stmt>, &'t [Token])>, OutOfMemory>
-    ensures { IfOk result (λ o. for_statement (reader depth).whole (read_one depth loop_body) (kinds after.now) ≡ seen_as boxed_view o) }
+    ensures { IfOk result (λ o. for_statement (reader depth).whole (read_one depth loop_body)
+        (kinds after.now)
+        ≡ seen_as boxed_view o) }
 {
     match for_head(alloc, after, depth)? {
         None => Ok(None),
@@ -347,7 +366,9 @@ fn loop_statement<'t>(
     after: &'t [Token],
     depth: u32,
 ) -> Result<Option<(Box<Stmt>, &'t [Token])>, OutOfMemory>
-    ensures { IfOk result (λ o. around (body_of head.value) (read_one depth loop_body (kinds after.now)) ≡ seen_as boxed_view o) }
+    ensures { IfOk result (λ o. around (body_of head.value)
+        (read_one depth loop_body (kinds after.now))
+        ≡ seen_as boxed_view o) }
 {
     match statement(alloc, after, depth, loop_body())? {
         None => Ok(None),
@@ -366,7 +387,9 @@ fn do_statement<'t>(
     after: &'t [Token],
     depth: u32,
 ) -> Result<Option<(Box<Stmt>, &'t [Token])>, OutOfMemory>
-    ensures { IfOk result (λ o. do_statement (reader depth).whole (read_one depth loop_body) (kinds after.now) ≡ seen_as boxed_view o) }
+    ensures { IfOk result (λ o. do_statement (reader depth).whole (read_one depth loop_body)
+        (kinds after.now)
+        ≡ seen_as boxed_view o) }
 {
     match statement(alloc, after, depth, loop_body())? {
         None => Ok(None),
@@ -383,7 +406,9 @@ fn do_end<'t>(
     after: &'t [Token],
     depth: u32,
 ) -> Result<Option<(Box<Stmt>, &'t [Token])>, OutOfMemory>
-    ensures { IfOk result (λ o. do_end (reader depth).whole (statement_view body.value) (kinds after.now) ≡ seen_as boxed_view o) }
+    ensures { IfOk result (λ o. do_end (reader depth).whole (statement_view body.value)
+        (kinds after.now)
+        ≡ seen_as boxed_view o) }
 {
     match expect(after, TokenKind::While) {
         None => Ok(None),

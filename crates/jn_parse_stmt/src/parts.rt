@@ -21,7 +21,10 @@ use std::alloc::Global;
 
 /// The annotation that comes first, and what follows it.
 fn annotation(tokens: &[Token]) -> Option<(Annotation, &[Token])>
-    ensures { MatchOption result ((name : SpecName) (rest : List Kind) → kinds tokens.now ≡ Kind.At ∷ Kind.Id name ∷ rest → ⊥) (λ r. kinds tokens.now ≡ Kind.At ∷ Kind.Id r.0.name ∷ kinds r.1.now) }
+    ensures { MatchOption result
+        ((name : SpecName) (rest : List Kind) → kinds tokens.now ≡ Kind.At ∷ Kind.Id name ∷ rest
+        → ⊥)
+        (λ r. kinds tokens.now ≡ Kind.At ∷ Kind.Id r.0.name ∷ kinds r.1.now) }
 {
     match expect(tokens, TokenKind::At) {
         None => None,
@@ -47,7 +50,8 @@ pub fn read_annotations(
     alloc: Global,
     tokens: &[Token],
 ) -> Result<(Vec<Annotation>, &[Token]), OutOfMemory>
-    ensures { IfOk result (λ r. read_annotations (kinds tokens.now) ≡ (annotation_names r.0.items, kinds r.1.now)) }
+    ensures { IfOk result
+        (λ r. read_annotations (kinds tokens.now) ≡ (annotation_names r.0.items, kinds r.1.now)) }
 {
     let mut annotations = Vec::new(alloc);
     let mut left = tokens;
@@ -64,9 +68,11 @@ pub fn read_annotations(
 
 /// The annotation or the `final` that comes first, and what follows it.
 fn local_modifier(tokens: &[Token]) -> Option<(LocalModifier, &[Token])>
-    ensures none { result ≡ None → (name : SpecName) (rest : List Kind) → kinds tokens.now ≡ Kind.At ∷ Kind.Id name ∷ rest → ⊥ }
+    ensures none { result ≡ None → (name : SpecName) (rest : List Kind)
+        → kinds tokens.now ≡ Kind.At ∷ Kind.Id name ∷ rest → ⊥ }
     ensures plain { result ≡ None → (rest : List Kind) → kinds tokens.now ≡ Kind.Final ∷ rest → ⊥ }
-    ensures some { IfSome result (λ r. kinds tokens.now ≡ mark_tokens (local_mark r.0) (kinds r.1.now)) }
+    ensures some { IfSome result
+        (λ r. kinds tokens.now ≡ mark_tokens (local_mark r.0) (kinds r.1.now)) }
 {
     match annotation(tokens) {
         Some((first, rest)) => Some((LocalModifier::Annotation(first), rest)),
@@ -86,7 +92,8 @@ pub fn read_local_modifiers(
     alloc: Global,
     tokens: &[Token],
 ) -> Result<(Vec<LocalModifier>, &[Token]), OutOfMemory>
-    ensures { IfOk result (λ r. read_marks (kinds tokens.now) ≡ (local_marks r.0.items, kinds r.1.now)) }
+    ensures { IfOk result
+        (λ r. read_marks (kinds tokens.now) ≡ (local_marks r.0.items, kinds r.1.now)) }
 {
     let mut modifiers = Vec::new(alloc);
     let mut left = tokens;
@@ -149,7 +156,9 @@ fn base(tokens: &[Token]) -> Option<(Base, &[Token])>
 
 /// What follows a pair of brackets, where one comes first.
 fn bracket_pair(tokens: &[Token]) -> Option<&[Token]>
-    ensures { MatchOption result ((rest : List Kind) → kinds tokens.now ≡ Kind.LeftBracket ∷ Kind.RightBracket ∷ rest → ⊥) (λ r. kinds tokens.now ≡ Kind.LeftBracket ∷ Kind.RightBracket ∷ kinds r.now) }
+    ensures { MatchOption result
+        ((rest : List Kind) → kinds tokens.now ≡ Kind.LeftBracket ∷ Kind.RightBracket ∷ rest → ⊥)
+        (λ r. kinds tokens.now ≡ Kind.LeftBracket ∷ Kind.RightBracket ∷ kinds r.now) }
 {
     match expect(tokens, TokenKind::LeftBracket) {
         None => None,
@@ -162,7 +171,8 @@ fn brackets(
     alloc: Global,
     tokens: &[Token],
 ) -> Result<(Option<Vec<Annotation>>, &[Token]), OutOfMemory>
-    ensures { IfOk result (λ r. read_brackets (kinds tokens.now) ≡ (brackets_view r.0, kinds r.1.now)) }
+    ensures { IfOk result
+        (λ r. read_brackets (kinds tokens.now) ≡ (brackets_view r.0, kinds r.1.now)) }
 {
     let (annotations, after) = read_annotations(alloc, tokens)?;
     match bracket_pair(after) {
@@ -219,7 +229,8 @@ fn parameter_of(
     modifiers: Vec<LocalModifier>,
     tokens: &[Token],
 ) -> Result<Option<(Parameter, &[Token])>, OutOfMemory>
-    ensures { IfOk result (λ o. parameter_from (local_marks modifiers.items) (kinds tokens.now) ≡ seen_as parameter_view o) }
+    ensures { IfOk result (λ o. parameter_from (local_marks modifiers.items) (kinds tokens.now)
+        ≡ seen_as parameter_view o) }
 {
     if !final_once(&modifiers) {
         return Ok(None);
@@ -246,7 +257,8 @@ fn value(
     tokens: &[Token],
     depth: u32,
 ) -> Result<(Option<Expr>, &[Token]), OutOfMemory>
-    ensures gives { IfOk result (λ r. read_value (reader depth).whole (kinds tokens.now) ≡ (optional_view r.0, kinds r.1.now)) }
+    ensures gives { IfOk result (λ r.
+        read_value (reader depth).whole (kinds tokens.now) ≡ (optional_view r.0, kinds r.1.now)) }
     ensures shortens { IfOk result (λ r. length r.1.now ≤ length tokens.now) }
 {
     match expect(tokens, TokenKind::Assign) {
@@ -265,7 +277,9 @@ fn declarator_of(
     tokens: &[Token],
     depth: u32,
 ) -> Result<(Declarator, &[Token]), OutOfMemory>
-    ensures gives { IfOk result (λ r. declarator_behind (reader depth).whole name.name (kinds tokens.now) ≡ (declarator_view r.0, kinds r.1.now)) }
+    ensures gives { IfOk result (λ r. declarator_behind (reader depth).whole name.name
+        (kinds tokens.now)
+        ≡ (declarator_view r.0, kinds r.1.now)) }
     ensures shortens { IfOk result (λ r. length r.1.now ≤ length tokens.now) }
 {
     let (value, rest) = value(alloc, tokens, depth)?;
@@ -274,7 +288,10 @@ fn declarator_of(
 
 /// The name behind a comma, where both come first, and what follows it.
 fn next_name(tokens: &[Token]) -> Option<(Identifier, &[Token])>
-    ensures { MatchOption result ((name : SpecName) (rest : List Kind) → kinds tokens.now ≡ Kind.Comma ∷ Kind.Id name ∷ rest → ⊥) (λ r. kinds tokens.now ≡ Kind.Comma ∷ Kind.Id r.0.name ∷ kinds r.1.now) }
+    ensures { MatchOption result
+        ((name : SpecName) (rest : List Kind) → kinds tokens.now ≡ Kind.Comma ∷ Kind.Id name ∷ rest
+        → ⊥)
+        (λ r. kinds tokens.now ≡ Kind.Comma ∷ Kind.Id r.0.name ∷ kinds r.1.now) }
 {
     match expect(tokens, TokenKind::Comma) {
         None => None,
@@ -288,7 +305,8 @@ fn more_declarators(
     tokens: &[Token],
     depth: u32,
 ) -> Result<(Vec<Declarator>, &[Token]), OutOfMemory>
-    ensures { IfOk result (λ r. all_declarators (reader depth).whole (kinds tokens.now) ≡ (declarator_views r.0.items, kinds r.1.now)) }
+    ensures { IfOk result (λ r. all_declarators (reader depth).whole (kinds tokens.now)
+        ≡ (declarator_views r.0.items, kinds r.1.now)) }
 {
     let mut declarators = Vec::new(alloc);
     let mut left = tokens;
@@ -311,7 +329,8 @@ pub fn declarators_of(
     tokens: &[Token],
     depth: u32,
 ) -> Result<(Declarator, Vec<Declarator>, &[Token]), OutOfMemory>
-    ensures { IfOk result (λ r. declarators_behind (reader depth).whole name.name (kinds tokens.now) ≡ seen_declarators r) }
+    ensures { IfOk result (λ r.
+        declarators_behind (reader depth).whole name.name (kinds tokens.now) ≡ seen_declarators r) }
 {
     let (first, after) = declarator_of(alloc, name, tokens, depth)?;
     let (more, rest) = more_declarators(alloc, after, depth)?;
@@ -328,7 +347,8 @@ pub fn read_declarators(
     tokens: &[Token],
     depth: u32,
 ) -> Result<Option<(Declarator, Vec<Declarator>, &[Token])>, OutOfMemory>
-    ensures { IfOk result (λ o. read_declarators (reader depth).whole (kinds tokens.now) ≡ maybe_declarators o) }
+    ensures { IfOk result
+        (λ o. read_declarators (reader depth).whole (kinds tokens.now) ≡ maybe_declarators o) }
 {
     match identifier(tokens) {
         None => Ok(None),

@@ -25,7 +25,8 @@ pub fn break_statement<'t>(
     after: &'t [Token],
     context: Context,
 ) -> Result<Option<(Box<Stmt>, &'t [Token])>, OutOfMemory>
-    ensures { IfOk result (λ o. loop_word context.in_loop BreakStatement (kinds after.now) ≡ seen_as boxed_view o) }
+    ensures { IfOk result
+        (λ o. loop_word context.in_loop BreakStatement (kinds after.now) ≡ seen_as boxed_view o) }
 {
     if !context.in_loop {
         return Ok(None);
@@ -47,7 +48,8 @@ pub fn continue_statement<'t>(
     after: &'t [Token],
     context: Context,
 ) -> Result<Option<(Box<Stmt>, &'t [Token])>, OutOfMemory>
-    ensures { IfOk result (λ o. loop_word context.in_loop ContinueStatement (kinds after.now) ≡ seen_as boxed_view o) }
+    ensures { IfOk result (λ o.
+        loop_word context.in_loop ContinueStatement (kinds after.now) ≡ seen_as boxed_view o) }
 {
     if !context.in_loop {
         return Ok(None);
@@ -69,7 +71,8 @@ pub fn return_statement<'t>(
     after: &'t [Token],
     depth: u32,
 ) -> Result<Option<(Box<Stmt>, &'t [Token])>, OutOfMemory>
-    ensures { IfOk result (λ o. return_statement (reader depth).whole (kinds after.now) ≡ seen_as boxed_view o) }
+    ensures { IfOk result
+        (λ o. return_statement (reader depth).whole (kinds after.now) ≡ seen_as boxed_view o) }
 {
     match optional(alloc, after, depth)? {
         None => Ok(None),
@@ -89,7 +92,9 @@ pub fn this_call<'t>(
     depth: u32,
     context: Context,
 ) -> Result<Option<(Box<Stmt>, &'t [Token])>, OutOfMemory>
-    ensures { IfOk result (λ o. constructor_call (reader depth).whole context.leading ThisCallStatement (kinds after.now) ≡ seen_as boxed_view o) }
+    ensures { IfOk result (λ o. constructor_call (reader depth).whole context.leading
+        ThisCallStatement (kinds after.now)
+        ≡ seen_as boxed_view o) }
 {
     if !context.leading {
         return Ok(None);
@@ -115,7 +120,9 @@ pub fn super_call<'t>(
     depth: u32,
     context: Context,
 ) -> Result<Option<(Box<Stmt>, &'t [Token])>, OutOfMemory>
-    ensures { IfOk result (λ o. constructor_call (reader depth).whole context.leading SuperCallStatement (kinds after.now) ≡ seen_as boxed_view o) }
+    ensures { IfOk result (λ o. constructor_call (reader depth).whole context.leading
+        SuperCallStatement (kinds after.now)
+        ≡ seen_as boxed_view o) }
 {
     if !context.leading {
         return Ok(None);
@@ -139,7 +146,8 @@ fn effect_statement<'t>(
     expression: Expr,
     after: &'t [Token],
 ) -> Result<Option<(Box<Stmt>, &'t [Token])>, OutOfMemory>
-    ensures { IfOk result (λ o. effect_statement (view expression) (kinds after.now) ≡ seen_as boxed_view o) }
+    ensures { IfOk result
+        (λ o. effect_statement (view expression) (kinds after.now) ≡ seen_as boxed_view o) }
 {
     if !is_effect(&expression) {
         return Ok(None);
@@ -160,7 +168,9 @@ pub fn declaration(
     tokens: &[Token],
     depth: u32,
 ) -> Result<(LocalDeclaration, &[Token]), OutOfMemory>
-    ensures { IfOk result (λ r. local_behind (reader depth).whole (parameter_view front) (kinds tokens.now) ≡ (local_view r.0, kinds r.1.now)) }
+    ensures { IfOk result (λ r. local_behind (reader depth).whole (parameter_view front)
+        (kinds tokens.now)
+        ≡ (local_view r.0, kinds r.1.now)) }
 {
     let Parameter {
         modifiers,
@@ -187,7 +197,9 @@ fn local_statement<'t>(
     after: &'t [Token],
     depth: u32,
 ) -> Result<Option<(Box<Stmt>, &'t [Token])>, OutOfMemory>
-    ensures { IfOk result (λ o. local_statement (local_behind (reader depth).whole (parameter_view front) (kinds after.now)) ≡ seen_as boxed_view o) }
+    ensures { IfOk result (λ o. local_statement
+        (local_behind (reader depth).whole (parameter_view front) (kinds after.now))
+        ≡ seen_as boxed_view o) }
 {
     let (declaration, after) = declaration(alloc, front, after, depth)?;
     match expect(after, TokenKind::Semicolon) {
@@ -208,7 +220,8 @@ pub fn simple_statement(
     depth: u32,
     context: Context,
 ) -> Result<Option<(Box<Stmt>, &[Token])>, OutOfMemory>
-    ensures { IfOk result (λ o. simple (reader depth).whole context.direct (kinds tokens.now) ≡ seen_as boxed_view o) }
+    ensures { IfOk result (λ o.
+        simple (reader depth).whole context.direct (kinds tokens.now) ≡ seen_as boxed_view o) }
 {
     match read_parameter(alloc, tokens)? {
         Some((front, after)) => {

@@ -9,14 +9,16 @@ use crate::program::{Class, Field, Method, Program};
 use jn_base::{ClassNo, FieldNo, MethodNo, NameNo};
 
 pub(crate) fn class_info(program: &Program, class: ClassNo) -> Option<&Class>
-    ensures { MatchOption result (class_info program.now class.0 ≡ None) (λ c. class_info program.now class.0 ≡ Some c.now) }
+    ensures { MatchOption result (class_info program.now class.0 ≡ None)
+        (λ c. class_info program.now class.0 ≡ Some c.now) }
 {
     program.classes.as_slice().get(class.0 as usize)
 }
 
 /// The method of a number, where there is one.
 pub fn method_at(program: &Program, method: usize) -> Option<&Method>
-    ensures { MatchOption result (method_at program.now method ≡ None) (λ m. method_at program.now method ≡ Some m.now) }
+    ensures { MatchOption result (method_at program.now method ≡ None)
+        (λ m. method_at program.now method ≡ Some m.now) }
 {
     program.methods.as_slice().get(method)
 }
@@ -116,7 +118,9 @@ pub(crate) fn is_named(method: &Method, name: NameNo, arity: usize) -> bool
 
 /// Whether class `d` declares the method for class `c`.
 fn declares_method(method: &Method, name: NameNo, arity: usize, c: ClassNo, d: ClassNo) -> bool
-    ensures { result ≡ (spec.is_named method.now name.0 arity && eqb method.now.owner.0 d.0 && (not method.now.is_private || eqb d.0 c.0)) }
+    ensures { result
+        ≡ (spec.is_named method.now name.0 arity && eqb method.now.owner.0 d.0
+        && (not method.now.is_private || eqb d.0 c.0)) }
 {
     is_named(method, name, arity) && method.owner.0 == d.0 && (!method.is_private || d.0 == c.0)
 }
@@ -142,7 +146,9 @@ fn declared_method(
 
 /// Whether class `d` declares the field for class `c`.
 fn declares_field(field: &Field, name: NameNo, c: ClassNo, d: ClassNo) -> bool
-    ensures { result ≡ (eqb field.now.name.0 name.0 && eqb field.now.owner.0 d.0 && (not field.now.is_private || eqb d.0 c.0)) }
+    ensures { result
+        ≡ (eqb field.now.name.0 name.0 && eqb field.now.owner.0 d.0
+        && (not field.now.is_private || eqb d.0 c.0)) }
 {
     field.name.0 == name.0 && field.owner.0 == d.0 && (!field.is_private || d.0 == c.0)
 }
@@ -181,7 +187,8 @@ fn find_along(
     c: ClassNo,
     d: ClassNo,
 ) -> Option<usize>
-    ensures is { result ≡ spec.first_some (declared program.now sought c.0) (spec.walk_by program.now steps d.0) }
+    ensures is { result
+        ≡ spec.first_some (declared program.now sought c.0) (spec.walk_by program.now steps d.0) }
     ensures inside { IfSome result (λ n. n < count_of program.now sought) }
 {
     if steps == 0 {
@@ -249,7 +256,8 @@ fn field_for(program: &Program, class: ClassNo, name: NameNo) -> Option<usize>
 /// parent's walk and those of its interfaces, where a private one counts at its own class alone.
 pub fn field_of(program: &Program, class: ClassNo, name: NameNo) -> Option<FieldNo>
     requires few { length program.now.fields < 2 ^ 32 }
-    ensures { MatchOption result (spec.field_of program.now class.0 name.0 ≡ None) (λ f. spec.field_of program.now class.0 name.0 ≡ Some f.0) }
+    ensures { MatchOption result (spec.field_of program.now class.0 name.0 ≡ None)
+        (λ f. spec.field_of program.now class.0 name.0 ≡ Some f.0) }
 {
     match field_for(program, class, name) {
         None => None,
@@ -261,7 +269,8 @@ pub fn field_of(program: &Program, class: ClassNo, name: NameNo) -> Option<Field
 /// and 8.4.8), found as a field is.
 pub fn method_of(program: &Program, class: ClassNo, name: NameNo, arity: u32) -> Option<MethodNo>
     requires few { length program.now.methods < 2 ^ 32 }
-    ensures { MatchOption result (spec.method_of program.now class.0 name.0 arity ≡ None) (λ m. spec.method_of program.now class.0 name.0 arity ≡ Some m.0) }
+    ensures { MatchOption result (spec.method_of program.now class.0 name.0 arity ≡ None)
+        (λ m. spec.method_of program.now class.0 name.0 arity ≡ Some m.0) }
 {
     match method_for(program, class, name, arity as usize) {
         None => None,
@@ -288,7 +297,8 @@ pub fn selected(program: &Program, class: ClassNo, method: MethodNo) -> Option<u
 /// none with a body.
 pub fn dispatch(program: &Program, class: ClassNo, method: MethodNo) -> Option<MethodNo>
     requires few { length program.now.methods < 2 ^ 32 }
-    ensures { MatchOption result (spec.dispatch program.now class.0 method.0 ≡ None) (λ m. spec.dispatch program.now class.0 method.0 ≡ Some m.0) }
+    ensures { MatchOption result (spec.dispatch program.now class.0 method.0 ≡ None)
+        (λ m. spec.dispatch program.now class.0 method.0 ≡ Some m.0) }
 {
     match selected(program, class, method) {
         None => None,

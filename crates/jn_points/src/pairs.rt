@@ -38,7 +38,9 @@ fn class_pair(program: &Program, m: usize, over: &Method, under: &Method, class:
 #[tactic(auto, using(crate::proofs::Below::some_below_more))]
 fn some_class_pairs(program: &Program, m: usize, over: &Method, under: &Method) -> bool
     requires few { length program.now.classes < 2 ^ 32 }
-    ensures { result ≡ spec.some_of (spec.class_pair program.now m over.now under.now) (spec.below (length program.now.classes)) }
+    ensures { result
+        ≡ spec.some_of (spec.class_pair program.now m over.now under.now)
+        (spec.below (length program.now.classes)) }
 {
     let mut some = false;
     for class in 0..program.classes.len() {

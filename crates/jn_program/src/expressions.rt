@@ -20,8 +20,10 @@ use jn_trees::Expr;
 fn is_clean(tree: &Expr, c: &Context, at: Setting, rows: &mut Seq<Row>) -> Result<bool, OutOfMemory>
     requires few { Few c.now.program.now }
     ensures rows { OnOk result (rows.new ≡ rows.old ++ rows_in c.now at (placed_view tree.now)) }
-    ensures clean { IfOk result (λ clean. clean ≡ true → rows_in c.now at (placed_view tree.now) ≡ []) }
-    ensures broken { IfOk result (λ clean. clean ≡ false → rows_in c.now at (placed_view tree.now) ≡ [] → ⊥) }
+    ensures clean { IfOk result
+        (λ clean. clean ≡ true → rows_in c.now at (placed_view tree.now) ≡ []) }
+    ensures broken { IfOk result
+        (λ clean. clean ≡ false → rows_in c.now at (placed_view tree.now) ≡ [] → ⊥) }
 {
     let mut own = Seq::new(c.alloc);
     expression(tree, c, at, &mut own)?;
@@ -43,8 +45,11 @@ pub fn lower_expr(
 ) -> Result<Option<Operand>, OutOfMemory>
     requires few { Few c.now.program.now }
     ensures rows { OnOk result (rows.new ≡ rows.old ++ rows_in c.now at (placed_view tree.now)) }
-    ensures none { IfOk result (λ o. IfNone o ((rows_in c.now at (placed_view tree.now) ≡ [] → ⊥) × (e.new ≡ e.old) × (t.new ≡ t.old))) }
-    ensures some { IfOk result (λ o. IfSome o (λ operand. (rows_in c.now at (placed_view tree.now) ≡ []) × Gives (lowered c.now t.old (placed_view tree.now)).value e.old operand e.new t.new)) }
+    ensures none { IfOk result (λ o. IfNone o
+        ((rows_in c.now at (placed_view tree.now) ≡ [] → ⊥) × (e.new ≡ e.old) × (t.new ≡ t.old))) }
+    ensures some { IfOk result (λ o. IfSome o (λ operand. (rows_in c.now at (placed_view tree.now)
+        ≡ [])
+        × Gives (lowered c.now t.old (placed_view tree.now)).value e.old operand e.new t.new)) }
 {
     if !is_clean(tree, c, at, rows)? {
         return Ok(None);
@@ -69,8 +74,12 @@ pub fn lower_cond(
 ) -> Result<bool, OutOfMemory>
     requires few { Few c.now.program.now }
     ensures rows { OnOk result (rows.new ≡ rows.old ++ rows_in c.now at (placed_view tree.now)) }
-    ensures broken { IfOk result (λ lowered_it. lowered_it ≡ false → (rows_in c.now at (placed_view tree.now) ≡ [] → ⊥) × (e.new ≡ e.old) × (t.new ≡ t.old)) }
-    ensures clean { IfOk result (λ lowered_it. lowered_it ≡ true → (rows_in c.now at (placed_view tree.now) ≡ []) × Tests (lowered c.now t.old (placed_view tree.now)).condition yes.0 no.0 e.old e.new t.new) }
+    ensures broken { IfOk result (λ lowered_it. lowered_it ≡ false
+        → (rows_in c.now at (placed_view tree.now) ≡ [] → ⊥) × (e.new ≡ e.old) × (t.new ≡ t.old)) }
+    ensures clean { IfOk result (λ lowered_it. lowered_it ≡ true
+        → (rows_in c.now at (placed_view tree.now) ≡ [])
+        × Tests (lowered c.now t.old (placed_view tree.now)).condition yes.0 no.0 e.old e.new
+        t.new) }
 {
     if !is_clean(tree, c, at, rows)? {
         return Ok(false);

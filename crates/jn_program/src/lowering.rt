@@ -68,8 +68,10 @@ fn add(
     lowered: &mut LoweredFiles,
 ) -> Result<(), OutOfMemory>
     requires few { Few program.now }
-    ensures bodies { OnOk result (lowered.new.bodies ≡ lowered.old.bodies ++ body_of_source program.now (source_of source.now) ∷ []) }
-    ensures rows { OnOk result (lowered.new.rows ≡ lowered.old.rows ++ rows_of_body program.now (source_of source.now)) }
+    ensures bodies { OnOk result (lowered.new.bodies
+        ≡ lowered.old.bodies ++ body_of_source program.now (source_of source.now) ∷ []) }
+    ensures rows { OnOk result
+        (lowered.new.rows ≡ lowered.old.rows ++ rows_of_body program.now (source_of source.now)) }
 {
     let body = lower_body(alloc, program, source)?;
     let rows = rows_of(alloc, program, source, &body)?;
@@ -86,8 +88,10 @@ fn add_all(
     lowered: &mut LoweredFiles,
 ) -> Result<(), OutOfMemory>
     requires few { Few program.now }
-    ensures bodies { OnOk result (lowered.new.bodies ≡ lowered.old.bodies ++ bodies_of program.now (sources_of sources.now)) }
-    ensures rows { OnOk result (lowered.new.rows ≡ lowered.old.rows ++ rows_of_bodies program.now (sources_of sources.now)) }
+    ensures bodies { OnOk result (lowered.new.bodies
+        ≡ lowered.old.bodies ++ bodies_of program.now (sources_of sources.now)) }
+    ensures rows { OnOk result (lowered.new.rows
+        ≡ lowered.old.rows ++ rows_of_bodies program.now (sources_of sources.now)) }
 {
     for source in sources {
         add(alloc, program, source, lowered)?;
@@ -102,7 +106,9 @@ fn lower_files(
     files: &[FileTree],
 ) -> Result<LoweredFiles, OutOfMemory>
     requires { table.now ≡ heads (map placed_file files.now) }
-    ensures bodies { IfOk result (λ l. l.bodies ≡ bodies_of (tables.table (heads (map placed_file files.now))) (sources (map placed_file files.now))) }
+    ensures bodies { IfOk result (λ l. l.bodies
+        ≡ bodies_of (tables.table (heads (map placed_file files.now)))
+        (sources (map placed_file files.now))) }
     ensures rows { IfOk result (λ l. l.rows ≡ j_rows (map placed_file files.now)) }
 {
     table.facts();
@@ -117,7 +123,14 @@ fn lower_files(
 }
 
 fn with_bodies(program: Program, bodies: Seq<Body>) -> Program
-    ensures { result ≡ record { classes = program.classes; fields = program.fields; methods = program.methods; bodies = bodies; slots = program.slots } }
+    ensures { result
+        ≡ record {
+          classes = program.classes;
+          fields = program.fields;
+          methods = program.methods;
+          bodies = bodies;
+          slots = program.slots;
+        } }
 {
     let Program {
         classes,

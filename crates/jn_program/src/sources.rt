@@ -19,7 +19,8 @@ struct Gathered<'a> {
 }
 
 fn push<'a>(sources: &mut Vec<Source<'a>>, source: Source<'a>) -> Result<(), OutOfMemory>
-    ensures { OnOk result (sources_of sources.new.items ≡ sources_of sources.old.items ++ source_of source.entry ∷ []) }
+    ensures { OnOk result (sources_of sources.new.items
+        ≡ sources_of sources.old.items ++ source_of source.entry ∷ []) }
 {
     match sources.push(source) {
         Ok(()) => Ok(()),
@@ -48,7 +49,14 @@ impl<'a> Gathered<'a> {
         body: &'a [Stmt],
         members: &'a [Member],
     ) -> Result<(), OutOfMemory>
-        ensures { OnOk result (numbered_of self.new ≡ gathered (numbered_of self.old) (Some (record { parameters = placed_parameters parameters.now; body = placed_statements body.now; members = placed_members members.now }) ∷ [])) }
+        ensures { OnOk result (numbered_of self.new
+            ≡ gathered (numbered_of self.old) (Some (record {
+              parameters = placed_parameters
+                  parameters.now;
+              body = placed_statements body.now;
+              members = placed_members members.now;
+            })
+            ∷ [])) }
     {
         let source = Source {
             method: MethodNo(self.next),
@@ -68,7 +76,9 @@ fn member<'a>(
     all: &'a [Member],
     member: &'a Member,
 ) -> Result<(), OutOfMemory>
-    ensures { OnOk result (numbered_of made.new ≡ gathered (numbered_of made.old) (spec.member_trees interface (placed_members all.now) (placed_member member.now))) }
+    ensures { OnOk result (numbered_of made.new
+        ≡ gathered (numbered_of made.old)
+        (spec.member_trees interface (placed_members all.now) (placed_member member.now))) }
 {
     match member {
         Member::Field { .. } => Ok(()),
@@ -99,7 +109,9 @@ fn members<'a>(
     interface: bool,
     all: &'a [Member],
 ) -> Result<(), OutOfMemory>
-    ensures { OnOk result (numbered_of made.new ≡ gathered (numbered_of made.old) (spec.members_trees interface (placed_members all.now) (placed_members all.now))) }
+    ensures { OnOk result (numbered_of made.new
+        ≡ gathered (numbered_of made.old)
+        (spec.members_trees interface (placed_members all.now) (placed_members all.now))) }
 {
     for declared in all {
         member(made, interface, all, declared)?;
@@ -117,7 +129,8 @@ fn is_constructor(member: &Member) -> bool
 }
 
 fn writes_constructor(members: &[Member]) -> bool
-    ensures { result ≡ has_constructor (flat_map (method_heads false) (placed_members members.now)) }
+    ensures { result
+        ≡ has_constructor (flat_map (method_heads false) (placed_members members.now)) }
 {
     for member in members {
         if is_constructor(member) {
@@ -129,7 +142,8 @@ fn writes_constructor(members: &[Member]) -> bool
 
 /// Adds the bodies of a class, that of a constructor that isn't written behind the others.
 fn class<'a>(made: &mut Gathered<'a>, all: &'a [Member]) -> Result<(), OutOfMemory>
-    ensures { OnOk result (numbered_of made.new ≡ gathered (numbered_of made.old) (class_trees (placed_members all.now))) }
+    ensures { OnOk result (numbered_of made.new
+        ≡ gathered (numbered_of made.old) (class_trees (placed_members all.now))) }
 {
     members(made, false, all)?;
     if writes_constructor(all) {
@@ -140,7 +154,8 @@ fn class<'a>(made: &mut Gathered<'a>, all: &'a [Member]) -> Result<(), OutOfMemo
 }
 
 fn declared<'a>(made: &mut Gathered<'a>, tree: &'a TypeTree) -> Result<(), OutOfMemory>
-    ensures { OnOk result (numbered_of made.new ≡ gathered (numbered_of made.old) (spec.type_trees (placed_type tree.now))) }
+    ensures { OnOk result (numbered_of made.new
+        ≡ gathered (numbered_of made.old) (spec.type_trees (placed_type tree.now))) }
 {
     match tree {
         TypeTree::Class { members: all, .. } => class(made, all),
@@ -149,7 +164,9 @@ fn declared<'a>(made: &mut Gathered<'a>, tree: &'a TypeTree) -> Result<(), OutOf
 }
 
 fn types<'a>(made: &mut Gathered<'a>, trees: &'a [TypeTree]) -> Result<(), OutOfMemory>
-    ensures { OnOk result (numbered_of made.new ≡ gathered (numbered_of made.old) (flat_map (spec.type_trees) (map placed_type trees.now))) }
+    ensures { OnOk result (numbered_of made.new
+        ≡ gathered (numbered_of made.old)
+        (flat_map (spec.type_trees) (map placed_type trees.now))) }
 {
     for tree in trees {
         declared(made, tree)?;
@@ -158,7 +175,9 @@ fn types<'a>(made: &mut Gathered<'a>, trees: &'a [TypeTree]) -> Result<(), OutOf
 }
 
 fn all_types<'a>(made: &mut Gathered<'a>, files: &'a [FileTree]) -> Result<(), OutOfMemory>
-    ensures { OnOk result (numbered_of made.new ≡ gathered (numbered_of made.old) (flat_map (spec.type_trees) (spec.types_of (map placed_file files.now)))) }
+    ensures { OnOk result (numbered_of made.new
+        ≡ gathered (numbered_of made.old)
+        (flat_map (spec.type_trees) (spec.types_of (map placed_file files.now)))) }
 {
     for file in files {
         types(made, &file.types)?;

@@ -155,7 +155,8 @@ pub fn renumber(numbers: &[NameNo], expression: &mut Expr)
 /// Renumbers the names of expressions.
 #[cycle(renumbering)]
 pub fn renumber_list(numbers: &[NameNo], expressions: &mut Vec<Expr>)
-    ensures { placed_views expressions.new.items ≡ renumbered_list numbers.now (placed_views expressions.old.items) }
+    ensures { placed_views expressions.new.items
+        ≡ renumbered_list numbers.now (placed_views expressions.old.items) }
 {
     for at in 0..expressions.len() {
         renumber(numbers, &mut expressions[at]);

@@ -22,7 +22,8 @@ fn renumber_parent(numbers: &[NameNo], parent: &mut Option<Identifier>)
 
 /// Renumbers the names of a class or an interface.
 fn renumber_type(numbers: &[NameNo], declaration: &mut TypeTree)
-    ensures { placed_type declaration.new ≡ renumbered_type numbers.now (placed_type declaration.old) }
+    ensures { placed_type declaration.new
+        ≡ renumbered_type numbers.now (placed_type declaration.old) }
 {
     match declaration {
         TypeTree::Class {
@@ -81,7 +82,8 @@ fn renumber_import(numbers: &[NameNo], import: &mut Import)
 
 /// Renumbers the names of imports.
 fn renumber_imports(numbers: &[NameNo], imports: &mut Vec<Import>)
-    ensures { map placed_import imports.new.items ≡ map (renumbered_import numbers.now) (map placed_import imports.old.items) }
+    ensures { map placed_import imports.new.items
+        ≡ map (renumbered_import numbers.now) (map placed_import imports.old.items) }
 {
     for at in 0..imports.len() {
         renumber_import(numbers, &mut imports[at]);
@@ -90,7 +92,8 @@ fn renumber_imports(numbers: &[NameNo], imports: &mut Vec<Import>)
 
 /// Renumbers the names of classes and interfaces.
 fn renumber_types(numbers: &[NameNo], types: &mut Vec<TypeTree>)
-    ensures { map placed_type types.new.items ≡ map (renumbered_type numbers.now) (map placed_type types.old.items) }
+    ensures { map placed_type types.new.items
+        ≡ map (renumbered_type numbers.now) (map placed_type types.old.items) }
 {
     for at in 0..types.len() {
         renumber_type(numbers, &mut types[at]);

@@ -10,7 +10,8 @@ use jn_trees::{Annotation, Declarator, Expr, LocalDeclaration, LocalModifier, Ty
 
 /// Renumbers the names of an expression, where there is one.
 pub fn renumber_optional(numbers: &[NameNo], expression: &mut Option<Expr>)
-    ensures { placed_optional expression.new ≡ renumbered_optional numbers.now (placed_optional expression.old) }
+    ensures { placed_optional expression.new
+        ≡ renumbered_optional numbers.now (placed_optional expression.old) }
 {
     match expression {
         None => (),
@@ -39,7 +40,8 @@ pub fn renumber_local_marks(numbers: &[NameNo], modifiers: &mut Vec<LocalModifie
 
 /// Renumbers the annotations before brackets, where there are brackets.
 fn renumber_brackets(numbers: &[NameNo], array: &mut Option<Vec<Annotation>>)
-    ensures { placed_brackets array.new ≡ renumbered_brackets numbers.now (placed_brackets array.old) }
+    ensures { placed_brackets array.new
+        ≡ renumbered_brackets numbers.now (placed_brackets array.old) }
 {
     match array {
         None => (),
@@ -49,7 +51,8 @@ fn renumber_brackets(numbers: &[NameNo], array: &mut Option<Vec<Annotation>>)
 
 /// Renumbers the names of a use of a type.
 pub fn renumber_type_use(numbers: &[NameNo], type_use: &mut TypeUse)
-    ensures { placed_type_use type_use.new ≡ renumbered_type_use numbers.now (placed_type_use type_use.old) }
+    ensures { placed_type_use type_use.new
+        ≡ renumbered_type_use numbers.now (placed_type_use type_use.old) }
 {
     renumber_base(numbers, &mut type_use.base);
     renumber_brackets(numbers, &mut type_use.array);
@@ -57,7 +60,8 @@ pub fn renumber_type_use(numbers: &[NameNo], type_use: &mut TypeUse)
 
 /// Renumbers a declared name, with those of its value if it has one.
 pub fn renumber_declarator(numbers: &[NameNo], declarator: &mut Declarator)
-    ensures { placed_declarator declarator.new ≡ renumbered_declarator numbers.now (placed_declarator declarator.old) }
+    ensures { placed_declarator declarator.new
+        ≡ renumbered_declarator numbers.now (placed_declarator declarator.old) }
 {
     renumber_name(numbers, &mut declarator.name);
     renumber_optional(numbers, &mut declarator.value);
@@ -65,7 +69,8 @@ pub fn renumber_declarator(numbers: &[NameNo], declarator: &mut Declarator)
 
 /// Renumbers declared names.
 pub fn renumber_declarators(numbers: &[NameNo], declarators: &mut Vec<Declarator>)
-    ensures { placed_declarators declarators.new.items ≡ renumbered_declarators numbers.now (placed_declarators declarators.old.items) }
+    ensures { placed_declarators declarators.new.items
+        ≡ renumbered_declarators numbers.now (placed_declarators declarators.old.items) }
 {
     for at in 0..declarators.len() {
         renumber_declarator(numbers, &mut declarators[at]);
@@ -74,7 +79,8 @@ pub fn renumber_declarators(numbers: &[NameNo], declarators: &mut Vec<Declarator
 
 /// Renumbers the names of a declaration of locals.
 pub fn renumber_local(numbers: &[NameNo], declaration: &mut LocalDeclaration)
-    ensures { placed_local declaration.new ≡ renumbered_local numbers.now (placed_local declaration.old) }
+    ensures { placed_local declaration.new
+        ≡ renumbered_local numbers.now (placed_local declaration.old) }
 {
     renumber_local_marks(numbers, &mut declaration.modifiers);
     renumber_type_use(numbers, &mut declaration.type_use);

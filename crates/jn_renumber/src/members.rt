@@ -37,7 +37,8 @@ pub fn renumber_marks(numbers: &[NameNo], modifiers: &mut Vec<Modifier>)
 
 /// Renumbers the names of a parameter.
 fn renumber_parameter(numbers: &[NameNo], parameter: &mut Parameter)
-    ensures { placed_parameter parameter.new ≡ renumbered_parameter numbers.now (placed_parameter parameter.old) }
+    ensures { placed_parameter parameter.new
+        ≡ renumbered_parameter numbers.now (placed_parameter parameter.old) }
 {
     renumber_local_marks(numbers, &mut parameter.modifiers);
     renumber_type_use(numbers, &mut parameter.type_use);
@@ -46,7 +47,8 @@ fn renumber_parameter(numbers: &[NameNo], parameter: &mut Parameter)
 
 /// Renumbers the names of parameters.
 fn renumber_parameters(numbers: &[NameNo], parameters: &mut Vec<Parameter>)
-    ensures { placed_parameters parameters.new.items ≡ renumbered_parameters numbers.now (placed_parameters parameters.old.items) }
+    ensures { placed_parameters parameters.new.items
+        ≡ renumbered_parameters numbers.now (placed_parameters parameters.old.items) }
 {
     for at in 0..parameters.len() {
         renumber_parameter(numbers, &mut parameters[at]);
@@ -55,7 +57,8 @@ fn renumber_parameters(numbers: &[NameNo], parameters: &mut Vec<Parameter>)
 
 /// Renumbers the names of a receiver, where there is one.
 fn renumber_receiver(numbers: &[NameNo], receiver: &mut Option<Receiver>)
-    ensures { placed_receiver receiver.new ≡ renumbered_receiver numbers.now (placed_receiver receiver.old) }
+    ensures { placed_receiver receiver.new
+        ≡ renumbered_receiver numbers.now (placed_receiver receiver.old) }
 {
     match receiver {
         None => (),
@@ -68,7 +71,8 @@ fn renumber_receiver(numbers: &[NameNo], receiver: &mut Option<Receiver>)
 
 /// Renumbers the names of what a method gives.
 fn renumber_result(numbers: &[NameNo], result_use: &mut ResultUse)
-    ensures { placed_result result_use.new ≡ renumbered_result numbers.now (placed_result result_use.old) }
+    ensures { placed_result result_use.new
+        ≡ renumbered_result numbers.now (placed_result result_use.old) }
 {
     match result_use {
         ResultUse::Void(_span) => (),
@@ -136,7 +140,8 @@ fn renumber_member(numbers: &[NameNo], member: &mut Member)
 
 /// Renumbers the names of members.
 pub fn renumber_members(numbers: &[NameNo], members: &mut Vec<Member>)
-    ensures { placed_members members.new.items ≡ renumbered_members numbers.now (placed_members members.old.items) }
+    ensures { placed_members members.new.items
+        ≡ renumbered_members numbers.now (placed_members members.old.items) }
 {
     for at in 0..members.len() {
         renumber_member(numbers, &mut members[at]);

@@ -22,7 +22,8 @@ fn renumber_init(numbers: &[NameNo], init: &mut ForInit)
 /// Renumbers the names of a statement.
 #[cycle(statements)]
 pub fn renumber_statement(numbers: &[NameNo], statement: &mut Stmt)
-    ensures { placed_statement statement.new ≡ renumbered_statement numbers.now (placed_statement statement.old) }
+    ensures { placed_statement statement.new
+        ≡ renumbered_statement numbers.now (placed_statement statement.old) }
 {
     match statement {
         Stmt::Block {
@@ -115,7 +116,8 @@ pub fn renumber_statement(numbers: &[NameNo], statement: &mut Stmt)
 /// Renumbers the names of statements.
 #[cycle(statements)]
 pub fn renumber_statements(numbers: &[NameNo], statements: &mut Vec<Stmt>)
-    ensures { placed_statements statements.new.items ≡ renumbered_statements numbers.now (placed_statements statements.old.items) }
+    ensures { placed_statements statements.new.items
+        ≡ renumbered_statements numbers.now (placed_statements statements.old.items) }
 {
     for at in 0..statements.len() {
         renumber_statement(numbers, &mut statements[at]);

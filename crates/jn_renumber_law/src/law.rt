@@ -16,16 +16,37 @@ ghost use Rattle.jn_renumber.specs.Tokens.{tokens_by};
 /// merged into these and its tokens renumbered by their new numbers, where all names have the known ones; and no other. All that
 /// grow from the known names have them.
 pub fn own_names_can_be_merged()
-    ensures lexed { (file : FileNo) (text : List ℕ) (known all own : List (List ℕ)) (tokens : List Token) → merged all known ≡ all → Lexed file text known tokens own → Lexed file text all (tokens_by (merged_numbers all own) tokens) (merged all own) }
-    ensures only { (file : FileNo) (text : List ℕ) (known all own new : List (List ℕ)) (tokens others : List Token) → merged all known ≡ all → Lexed file text known tokens own → Lexed file text all others new → (others ≡ tokens_by (merged_numbers all own) tokens) × (new ≡ merged all own) }
+    ensures lexed { (file : FileNo) (text : List ℕ) (known all own : List (List ℕ))
+        (tokens : List Token)
+        → merged all known ≡ all → Lexed file text known tokens own
+        → Lexed file text all (tokens_by (merged_numbers all own) tokens) (merged all own) }
+    ensures only { (file : FileNo) (text : List ℕ) (known all own new : List (List ℕ))
+        (tokens others : List Token)
+        → merged all known ≡ all → Lexed file text known tokens own → Lexed file text all others new
+        → (others ≡ tokens_by (merged_numbers all own) tokens) × (new ≡ merged all own) }
     ensures begun { merged known_names known_names ≡ known_names }
-    ensures kept { (all own known : List (List ℕ)) → merged all known ≡ all → merged (merged all own) known ≡ merged all own }
+    ensures kept { (all own known : List (List ℕ)) → merged all known ≡ all
+        → merged (merged all own) known ≡ merged all own }
 {}
 
 /// The tree that is parsed of a text's own tokens is, renumbered, that of the tokens from all names on, with its places; and the
 /// syntax row of the own tokens is theirs.
 pub fn own_trees_can_be_renumbered()
-    ensures parsed { (file : FileNo) (text : List ℕ) (known all own : List (List ℕ)) (tokens : List Token) (tree : PlacedFile) → merged all known ≡ all → Lexed file text known tokens own → IsPlacedFile tokens tree → Lexed file text all (tokens_by (merged_numbers all own) tokens) (merged all own) × IsPlacedFile (tokens_by (merged_numbers all own) tokens) (renumbered_file (merged_numbers all own) tree) }
-    ensures undone { (file : FileNo) (text : List ℕ) (known all own : List (List ℕ)) (tokens : List Token) → merged all known ≡ all → Lexed file text known tokens own → tokens_by (merged_numbers own (merged all own)) (tokens_by (merged_numbers all own) tokens) ≡ tokens }
-    ensures row { (file : FileNo) (text : List ℕ) (known all own : List (List ℕ)) (tokens : List Token) (end : ℕ) (row : Row) → merged all known ≡ all → Lexed file text known tokens own → IsSyntaxRow file end tokens row → IsSyntaxRow file end (tokens_by (merged_numbers all own) tokens) row }
+    ensures parsed { (file : FileNo) (text : List ℕ) (known all own : List (List ℕ))
+        (tokens : List Token) (tree : PlacedFile)
+        → merged all known ≡ all → Lexed file text known tokens own → IsPlacedFile tokens tree
+        → Lexed file text all (tokens_by (merged_numbers all own) tokens) (merged all own)
+        × IsPlacedFile (tokens_by (merged_numbers all own) tokens)
+        (renumbered_file (merged_numbers all own) tree) }
+    ensures undone { (file : FileNo) (text : List ℕ) (known all own : List (List ℕ))
+        (tokens : List Token)
+        → merged all known ≡ all → Lexed file text known tokens own
+        → tokens_by (merged_numbers own (merged all own))
+        (tokens_by (merged_numbers all own) tokens)
+        ≡ tokens }
+    ensures row { (file : FileNo) (text : List ℕ) (known all own : List (List ℕ))
+        (tokens : List Token) (end : ℕ) (row : Row)
+        → merged all known ≡ all → Lexed file text known tokens own
+        → IsSyntaxRow file end tokens row
+        → IsSyntaxRow file end (tokens_by (merged_numbers all own) tokens) row }
 {}

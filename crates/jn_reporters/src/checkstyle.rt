@@ -63,7 +63,8 @@ fn put_rows_behind(
     first: &RowText,
     rest: &[RowText],
 ) -> Result<(), AllocError>
-    ensures { OnOk result (out.new.items ≡ out.old.items ++ spec.rows_behind first.now.name rest.now) }
+    ensures { OnOk result
+        (out.new.items ≡ out.old.items ++ spec.rows_behind first.now.name rest.now) }
 {
     let mut last = first;
     for row in rest {
@@ -75,7 +76,8 @@ fn put_rows_behind(
 
 /// Puts the first row, with the begin of its file's element.
 fn put_first(out: &mut Vec<u8>, alloc: Global, row: &RowText) -> Result<(), AllocError>
-    ensures { OnOk result (out.new.items ≡ out.old.items ++ (spec.file_begin row.now.name ++ spec.error_element row.now)) }
+    ensures { OnOk result (out.new.items
+        ≡ out.old.items ++ (spec.file_begin row.now.name ++ spec.error_element row.now)) }
 {
     let mut text = file_begin(alloc, row.name.as_str())?;
     let element = error_element(alloc, row)?;
@@ -90,7 +92,9 @@ fn put_next(
     last: &RowText,
     row: &RowText,
 ) -> Result<(), AllocError>
-    ensures { OnOk result (out.new.items ≡ out.old.items ++ (spec.file_change last.now.name row.now.name ++ spec.error_element row.now)) }
+    ensures { OnOk result (out.new.items
+        ≡ out.old.items
+        ++ (spec.file_change last.now.name row.now.name ++ spec.error_element row.now)) }
 {
     let mut text = file_change(alloc, last.name.as_str(), row.name.as_str())?;
     let element = error_element(alloc, row)?;

@@ -52,7 +52,8 @@ pub fn verdict_line(alloc: Global, verdict: Verdict) -> Result<Vec<u8>, AllocErr
 
 /// The word, a space, the number and a line feed.
 pub fn counted(alloc: Global, word: &str, count: u64) -> Result<Vec<u8>, AllocError>
-    ensures { IfOk result (λ line. line.items ≡ word.now ++ codes " " ++ decimal count ++ codes "\n") }
+    ensures { IfOk result
+        (λ line. line.items ≡ word.now ++ codes " " ++ decimal count ++ codes "\n") }
 {
     let mut line = Vec::from_slice(alloc, word.as_bytes())?;
     line.extend_from_slice(b" ")?;

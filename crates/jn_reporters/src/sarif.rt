@@ -63,7 +63,8 @@ fn put_where_it_occurs(
     rows: &[RowText],
     code: Code,
 ) -> Result<(), AllocError>
-    ensures { OnOk result (found.new.items ≡ found.old.items ++ spec.occurring rows.now (code ∷ [])) }
+    ensures { OnOk result
+        (found.new.items ≡ found.old.items ++ spec.occurring rows.now (code ∷ [])) }
 {
     if occurs(rows, code) {
         return found.extend_from_slice(&[code]);
@@ -104,7 +105,8 @@ fn put_behind_results(out: &mut Vec<u8>) -> Result<(), AllocError>
 }
 
 fn put_rules(out: &mut Vec<u8>, alloc: Global, codes: &[Code]) -> Result<(), AllocError>
-    ensures { OnOk result (out.new.items ≡ out.old.items ++ spec.listed spec.rule_object codes.now) }
+    ensures { OnOk result
+        (out.new.items ≡ out.old.items ++ spec.listed spec.rule_object codes.now) }
 {
     let Some((first, rest)) = codes.split_first() else {
         return Ok(());
@@ -115,7 +117,8 @@ fn put_rules(out: &mut Vec<u8>, alloc: Global, codes: &[Code]) -> Result<(), All
 }
 
 fn put_further_rules(out: &mut Vec<u8>, alloc: Global, codes: &[Code]) -> Result<(), AllocError>
-    ensures { OnOk result (out.new.items ≡ out.old.items ++ spec.further spec.rule_object codes.now) }
+    ensures { OnOk result
+        (out.new.items ≡ out.old.items ++ spec.further spec.rule_object codes.now) }
 {
     for code in codes {
         put_next_rule(out, alloc, *code)?;
@@ -145,7 +148,8 @@ fn rule_object(alloc: Global, code: Code) -> Result<Vec<u8>, AllocError>
 }
 
 fn put_results(out: &mut Vec<u8>, alloc: Global, rows: &[RowText]) -> Result<(), AllocError>
-    ensures { OnOk result (out.new.items ≡ out.old.items ++ spec.listed spec.result_object rows.now) }
+    ensures { OnOk result
+        (out.new.items ≡ out.old.items ++ spec.listed spec.result_object rows.now) }
 {
     let Some((first, rest)) = rows.split_first() else {
         return Ok(());
@@ -156,7 +160,8 @@ fn put_results(out: &mut Vec<u8>, alloc: Global, rows: &[RowText]) -> Result<(),
 }
 
 fn put_further_results(out: &mut Vec<u8>, alloc: Global, rows: &[RowText]) -> Result<(), AllocError>
-    ensures { OnOk result (out.new.items ≡ out.old.items ++ spec.further spec.result_object rows.now) }
+    ensures { OnOk result
+        (out.new.items ≡ out.old.items ++ spec.further spec.result_object rows.now) }
 {
     for row in rows {
         put_next_result(out, alloc, row)?;

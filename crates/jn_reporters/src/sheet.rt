@@ -114,7 +114,8 @@ fn joined(alloc: Global, front: &[u8], back: &[u8]) -> Result<Vec<u8>, AllocErro
 /// Puts the piece into the text at this byte. On want of memory the text is as before.
 fn put_in(alloc: Global, text: &mut Vec<u8>, at: usize, piece: &[u8]) -> Result<(), AllocError>
     requires { at ≤ length text.old.items }
-    ensures ok { OnOk result (text.new.items ≡ take at text.old.items ++ piece.now ++ drop at text.old.items) }
+    ensures ok { OnOk result
+        (text.new.items ≡ take at text.old.items ++ piece.now ++ drop at text.old.items) }
     ensures err { OnErr result (text.new.items ≡ text.old.items) }
 {
     if at == text.len() {

@@ -81,7 +81,8 @@ impl Reporter for Summary {
 
 fn one_more(counts: &[u64; 49], code: Code) -> [u64; 49]
     requires { slice_index counts.now (code_place code) < 2 ^ 64 - 1 }
-    ensures more { result ≡ slice_set counts.now (code_place code) (slice_index counts.now (code_place code) + 1) }
+    ensures more { result
+        ≡ slice_set counts.now (code_place code) (slice_index counts.now (code_place code) + 1) }
     ensures within { code_place code < length counts.now }
 {
     let mut more = *counts;

@@ -76,7 +76,8 @@ fn fault_line(
     span: Span,
 ) -> Result<Vec<u8>, AllocError>
     requires fit { ReadsFit reads.now }
-    ensures { IfOk result (λ line. line.items ≡ fault_line (files_of_reads reads.now) (spec.class_name kind) span) }
+    ensures { IfOk result
+        (λ line. line.items ≡ fault_line (files_of_reads reads.now) (spec.class_name kind) span) }
 {
     let place = place_text(alloc, reads, span)?;
     let mut line = Vec::from_slice(alloc, b"fault ")?;
@@ -96,7 +97,8 @@ fn fault_output(
 ) -> Result<Output, OutOfMemory>
     requires fit { ReadsFit reads.now }
     ensures status { IfOk result (λ output. output.status ≡ Status.RunFault) }
-    ensures bytes { IfOk result (λ output. output.bytes ≡ fault_line (files_of_reads reads.now) (spec.class_name kind) span) }
+    ensures bytes { IfOk result (λ output.
+        output.bytes ≡ fault_line (files_of_reads reads.now) (spec.class_name kind) span) }
 {
     let line = fault_line(alloc, reads, kind, span)?;
     Ok(Output {
@@ -114,7 +116,8 @@ pub(crate) fn tell<K: Sink>(
     out: &mut K,
 ) -> Status
     requires fit { ReadsFit reads.now }
-    ensures { spec.Tells (K.written out.old) (K.written out.new) (K.faults out.old) (K.faults out.new) (files_of_reads reads.now) ended result }
+    ensures { spec.Tells (K.written out.old) (K.written out.new) (K.faults out.old)
+        (K.faults out.new) (files_of_reads reads.now) ended result }
 {
     match ended {
         Ended::Done => finish(out, b"done\n", Status::Ok),

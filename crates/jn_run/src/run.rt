@@ -32,7 +32,8 @@ pub fn run_files<K: Sink>(
     out: &mut K,
 ) -> Status
     requires fit { ReadsFit reads.now }
-    ensures answer { Answers (files_of_reads reads.now) accepted.now.0 names.now words.now steps (K.written out.old) (K.written out.new) result }
+    ensures answer { Answers (files_of_reads reads.now) accepted.now.0 names.now words.now steps
+        (K.written out.old) (K.written out.new) result }
     ensures write { result ≡ Status.WriteFault → Rose (K.faults out.old) (K.faults out.new) }
     ensures write_always { K.faults out.old < K.faults out.new → result ≡ Status.WriteFault }
     ensures kept { result ≢ Status.WriteFault → K.faults out.new ≡ K.faults out.old }

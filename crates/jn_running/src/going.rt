@@ -19,8 +19,10 @@ use std::alloc::Global;
 
 /// Where in the source the point stands at which the machine is.
 fn span_of(program: &Program, state: &MachineState) -> Span
-    requires { (pt : PointOf) × (point_at program.now state.now.top.body state.now.top.at ≡ Some pt) }
-    ensures { (pt : PointOf) × (point_at program.now state.now.top.body state.now.top.at ≡ Some pt) × (pt.span ≡ result) }
+    requires { (pt : PointOf)
+        × (point_at program.now state.now.top.body state.now.top.at ≡ Some pt) }
+    ensures { (pt : PointOf) × (point_at program.now state.now.top.body state.now.top.at ≡ Some pt)
+        × (pt.span ≡ result) }
 {
     match point_at(program, state.top.body(), state.top.at()) {
         None => unreachable!(),
@@ -37,8 +39,13 @@ pub(crate) fn step_on<K: Sink>(
     out: &mut K,
 ) -> Option<Ended>
     requires going { IsGoing (running accepted.now.0 names.now state.old) }
-    ensures did { MatchOption result (Comes (running accepted.now.0 names.now state.old) 1 spec.Goes (state_of state.new []) (K.written out.old) (K.written out.new)) (λ e. Answers (running accepted.now.0 names.now state.old) 1 (K.written out.old) (K.written out.new) e) }
-    ensures going { MatchOption result (IsGoing (running accepted.now.0 names.now state.new)) (λ e. e ≢ Ended.Steps) }
+    ensures did { MatchOption result
+        (Comes (running accepted.now.0 names.now state.old) 1 spec.Goes (state_of state.new [])
+        (K.written out.old) (K.written out.new))
+        (λ e. Answers (running accepted.now.0 names.now state.old) 1 (K.written out.old)
+        (K.written out.new) e) }
+    ensures going { MatchOption result (IsGoing (running accepted.now.0 names.now state.new))
+        (λ e. e ≢ Ended.Steps) }
     ensures memory { result ≡ Some Ended.OutOfMemory → K.written out.new ≡ K.written out.old }
     ensures failed { result ≡ Some Ended.WriteFault → Rose (K.faults out.old) (K.faults out.new) }
     ensures later { K.faults out.old ≤ K.faults out.new }
@@ -64,7 +71,8 @@ pub(crate) fn run_on<K: Sink>(
     out: &mut K,
 ) -> Ended
     requires going { IsGoing (running accepted.now.0 names.now state.old) }
-    ensures did { Answers (running accepted.now.0 names.now state.old) steps (K.written out.old) (K.written out.new) result }
+    ensures did { Answers (running accepted.now.0 names.now state.old) steps (K.written out.old)
+        (K.written out.new) result }
     ensures failed { result ≡ Ended.WriteFault → Rose (K.faults out.old) (K.faults out.new) }
     ensures later { K.faults out.old ≤ K.faults out.new }
     ensures kept { result ≢ Ended.WriteFault → K.faults out.new ≡ K.faults out.old }

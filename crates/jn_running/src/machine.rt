@@ -49,7 +49,13 @@ impl<'p> Machine<'p> {
         words: &[Text],
     ) -> Result<Machine<'p>, OutOfMemory>
         requires main { IsMain accepted.now.0 main.0 }
-        ensures starts { IfOk result (λ m. (b : ℕ) × MainForm accepted.now.0 main.0 b × (m ≡ record { program = accepted.now.0; names = names.now; state = start_state accepted.now.0 usual_limits b words.now })) }
+        ensures starts { IfOk result (λ m. (b : ℕ) × MainForm accepted.now.0 main.0 b
+            × (m
+            ≡ record {
+              program = accepted.now.0;
+              names = names.now;
+              state = start_state accepted.now.0 usual_limits b words.now;
+            })) }
         ensures going { IfOk result (λ m. IsGoing m) }
     {
         accepted_runs_go_on();
@@ -72,12 +78,15 @@ impl<'p> Machine<'p> {
     /// nothing.
     pub fn step<K: Sink>(&mut self, out: &mut K) -> Option<Ended>
         requires going { IsGoing self.old }
-        ensures did { MatchOption result (Comes self.old 1 Goes self.new.state (K.written out.old) (K.written out.new)) (λ e. Answers self.old 1 (K.written out.old) (K.written out.new) e) }
+        ensures did { MatchOption result
+            (Comes self.old 1 Goes self.new.state (K.written out.old) (K.written out.new))
+            (λ e. Answers self.old 1 (K.written out.old) (K.written out.new) e) }
         ensures going { MatchOption result (IsGoing self.new) (λ e. e ≢ Ended.Steps) }
         ensures program { self.new.program ≡ self.old.program }
         ensures names { self.new.names ≡ self.old.names }
         ensures memory { result ≡ Some Ended.OutOfMemory → K.written out.new ≡ K.written out.old }
-        ensures failed { result ≡ Some Ended.WriteFault → Rose (K.faults out.old) (K.faults out.new) }
+        ensures failed { result ≡ Some Ended.WriteFault
+            → Rose (K.faults out.old) (K.faults out.new) }
         ensures later { K.faults out.old ≤ K.faults out.new }
         ensures kept { result ≢ Some Ended.WriteFault → K.faults out.new ≡ K.faults out.old }
     {
@@ -118,7 +127,8 @@ pub fn run_main<K: Sink>(
 ) -> Option<Ended>
     ensures none { result ≡ None → (m : ℕ) → IsOnlyMain accepted.now.0 m → ⊥ }
     ensures nothing { result ≡ None → K.written out.new ≡ K.written out.old }
-    ensures did { IfSome result (λ e. RunsMain accepted.now.0 names.now words.now steps (K.written out.old) (K.written out.new) e) }
+    ensures did { IfSome result (λ e. RunsMain accepted.now.0 names.now words.now steps
+        (K.written out.old) (K.written out.new) e) }
     ensures failed { result ≡ Some Ended.WriteFault → Rose (K.faults out.old) (K.faults out.new) }
     ensures later { K.faults out.old ≤ K.faults out.new }
     ensures kept { result ≢ Some Ended.WriteFault → K.faults out.new ≡ K.faults out.old }

@@ -9,14 +9,16 @@ use jn_points::{BaseType, Class, Method};
 
 /// The method of a number.
 pub fn method_at(program: &IndexedProgram, method: MethodNo) -> Option<&Method>
-    ensures { MatchOption result (method_at program.now method.0 ≡ None) (λ m. method_at program.now method.0 ≡ Some m.now) }
+    ensures { MatchOption result (method_at program.now method.0 ≡ None)
+        (λ m. method_at program.now method.0 ≡ Some m.now) }
 {
     program.program().methods.as_slice().get(method.0 as usize)
 }
 
 /// The class of a number.
 pub fn class_at(program: &IndexedProgram, class: ClassNo) -> Option<&Class>
-    ensures { MatchOption result (class_info program.now class.0 ≡ None) (λ c. class_info program.now class.0 ≡ Some c.now) }
+    ensures { MatchOption result (class_info program.now class.0 ≡ None)
+        (λ c. class_info program.now class.0 ≡ Some c.now) }
 {
     program.program().classes.as_slice().get(class.0 as usize)
 }

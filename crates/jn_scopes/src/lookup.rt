@@ -14,7 +14,8 @@ use jn_trees::Expr;
 
 /// The local in scope of the name.
 pub fn local_in(c: &Context, name: NameNo) -> Option<Variable>
-    ensures { MatchOption result (spec.local_in (scope_in c.now) name.0 ≡ None) (λ v. spec.local_in (scope_in c.now) name.0 ≡ Some (local_of c.now.faults.now v)) }
+    ensures { MatchOption result (spec.local_in (scope_in c.now) name.0 ≡ None)
+        (λ v. spec.local_in (scope_in c.now) name.0 ≡ Some (local_of c.now.faults.now v)) }
 {
     let scope = c.scope;
     let mut at = scope.len();
@@ -31,7 +32,8 @@ pub fn local_in(c: &Context, name: NameNo) -> Option<Variable>
 /// What an identifier means: the local in scope of that name, else the field that the class has, else the class of that name.
 pub fn meaning(c: &Context, name: NameNo) -> Meaning
     requires few { Few c.now.program.now }
-    ensures { meaning_of c.now.faults.now result ≡ spec.meaning c.now.program.now c.now.class.0 (scope_in c.now) name.0 }
+    ensures { meaning_of c.now.faults.now result
+        ≡ spec.meaning c.now.program.now c.now.class.0 (scope_in c.now) name.0 }
 {
     if let Some(variable) = local_in(c, name) {
         return Meaning::Local(variable);
@@ -52,7 +54,9 @@ pub fn meaning(c: &Context, name: NameNo) -> Meaning
 /// What stands before a dot, where it is an identifier.
 pub fn before_dot(c: &Context, target: &Expr) -> Meaning
     requires few { Few c.now.program.now }
-    ensures { meaning_of c.now.faults.now result ≡ spec.before_dot c.now.program.now c.now.class.0 (scope_in c.now) (placed_view target.now) }
+    ensures { meaning_of c.now.faults.now result
+        ≡ spec.before_dot c.now.program.now c.now.class.0 (scope_in c.now)
+        (placed_view target.now) }
 {
     match target {
         Expr::Name { name } => meaning(c, name.name),
@@ -83,7 +87,8 @@ fn object_access(c: &Context, base: BaseType, name: NameNo) -> Access
 /// What a field access names, where what stands before the dot means this and has the type.
 pub fn access_by(c: &Context, before: Meaning, base: BaseType, name: NameNo) -> Access
     requires few { Few c.now.program.now }
-    ensures { access_of result ≡ spec.access_by c.now.program.now (meaning_of c.now.faults.now before) base name.0 }
+    ensures { access_of result
+        ≡ spec.access_by c.now.program.now (meaning_of c.now.faults.now before) base name.0 }
 {
     match before {
         Meaning::Class(class) => match field_of(c.program, class, name) {
@@ -98,14 +103,18 @@ pub fn access_by(c: &Context, before: Meaning, base: BaseType, name: NameNo) -> 
 /// What a field access names, where what stands before the dot has the type.
 pub fn access(c: &Context, target: &Expr, base: BaseType, name: NameNo) -> Access
     requires few { Few c.now.program.now }
-    ensures { access_of result ≡ spec.access c.now.program.now c.now.class.0 (scope_in c.now) (placed_view target.now) base name.0 }
+    ensures { access_of result
+        ≡ spec.access c.now.program.now c.now.class.0 (scope_in c.now) (placed_view target.now) base
+        name.0 }
 {
     access_by(c, before_dot(c, target), base, name)
 }
 
 fn is_system(c: &Context, tree: &Expr) -> bool
     requires few { Few c.now.program.now }
-    ensures { result ≡ spec.is_system (spec.before_dot c.now.program.now c.now.class.0 (scope_in c.now) (placed_view tree.now)) }
+    ensures { result
+        ≡ spec.is_system (spec.before_dot c.now.program.now c.now.class.0 (scope_in c.now)
+        (placed_view tree.now)) }
 {
     match before_dot(c, tree) {
         Meaning::System => true,
@@ -116,7 +125,8 @@ fn is_system(c: &Context, tree: &Expr) -> bool
 #[tactic(auto, using(crate::proofs::Seen::output_field))]
 fn is_output(c: &Context, target: &Expr) -> bool
     requires few { Few c.now.program.now }
-    ensures { result ≡ spec.is_output c.now.program.now c.now.class.0 (scope_in c.now) (placed_view target.now) }
+    ensures { result
+        ≡ spec.is_output c.now.program.now c.now.class.0 (scope_in c.now) (placed_view target.now) }
 {
     match target {
         Expr::Field {
@@ -131,7 +141,9 @@ fn is_output(c: &Context, target: &Expr) -> bool
 /// Whether a call with a dot is `System.out.println` of one value, where nothing else is named System.
 pub fn is_println(c: &Context, target: &Expr, name: NameNo, arity: usize) -> bool
     requires few { Few c.now.program.now }
-    ensures { result ≡ (spec.is_output c.now.program.now c.now.class.0 (scope_in c.now) (placed_view target.now) && eqb name.0 println_name && eqb arity 1) }
+    ensures { result
+        ≡ (spec.is_output c.now.program.now c.now.class.0 (scope_in c.now) (placed_view target.now)
+        && eqb name.0 println_name && eqb arity 1) }
 {
     is_output(c, target) && name.0 == PRINTLN.0 && arity == 1
 }
@@ -179,7 +191,8 @@ fn object_callee(c: &Context, base: BaseType, name: NameNo, arity: usize) -> Cal
 /// What a call with a dot names but `println`, where what stands before the dot means this and has the type.
 pub fn callee_by(c: &Context, before: Meaning, base: BaseType, name: NameNo, arity: usize) -> Callee
     requires few { Few c.now.program.now }
-    ensures { callee_of result ≡ spec.callee_by c.now.program.now (meaning_of c.now.faults.now before) base name.0 arity }
+    ensures { callee_of result
+        ≡ spec.callee_by c.now.program.now (meaning_of c.now.faults.now before) base name.0 arity }
 {
     match before {
         Meaning::Class(class) => match method_of(c.program, class, name, arity) {
@@ -194,7 +207,9 @@ pub fn callee_by(c: &Context, before: Meaning, base: BaseType, name: NameNo, ari
 /// What a call with a dot names, where what stands before the dot has the type.
 pub fn callee(c: &Context, target: &Expr, base: BaseType, name: NameNo, arity: usize) -> Callee
     requires few { Few c.now.program.now }
-    ensures { callee_of result ≡ spec.callee c.now.program.now c.now.class.0 (scope_in c.now) (placed_view target.now) base name.0 arity }
+    ensures { callee_of result
+        ≡ spec.callee c.now.program.now c.now.class.0 (scope_in c.now) (placed_view target.now) base
+        name.0 arity }
 {
     if is_println(c, target, name, arity) {
         return Callee::Println;

@@ -14,7 +14,8 @@ use jn_points::{BaseType, Field, Method, Program};
 /// The field that the class has for the name (JLS 8.2).
 pub fn field_of(program: &IndexedProgram, class: ClassNo, name: NameNo) -> Option<FieldNo>
     requires few { Few program.now }
-    ensures { MatchOption result (spec.field_of program.now class.0 name.0 ≡ None) (λ f. spec.field_of program.now class.0 name.0 ≡ Some f.0) }
+    ensures { MatchOption result (spec.field_of program.now class.0 name.0 ≡ None)
+        (λ f. spec.field_of program.now class.0 name.0 ≡ Some f.0) }
 {
     let lists = program.program();
     match program.index() {
@@ -24,7 +25,9 @@ pub fn field_of(program: &IndexedProgram, class: ClassNo, name: NameNo) -> Optio
 }
 
 fn declares(field: &Field, class: ClassNo, name: NameNo) -> bool
-    ensures { result ≡ (eqb field.now.name.0 name.0 && eqb field.now.owner.0 class.0 && (not field.now.is_private || eqb class.0 class.0)) }
+    ensures { result
+        ≡ (eqb field.now.name.0 name.0 && eqb field.now.owner.0 class.0
+        && (not field.now.is_private || eqb class.0 class.0)) }
 {
     field.name.0 == name.0 && field.owner.0 == class.0
 }
@@ -32,7 +35,8 @@ fn declares(field: &Field, class: ClassNo, name: NameNo) -> bool
 /// The field of the name that the class itself declares, by the program's lists.
 fn listed_field(program: &Program, class: ClassNo, name: NameNo) -> Option<FieldNo>
     requires few { Few program.now }
-    ensures { MatchOption result (spec.declared_field program.now class.0 name.0 class.0 ≡ None) (λ f. spec.declared_field program.now class.0 name.0 class.0 ≡ Some f.0) }
+    ensures { MatchOption result (spec.declared_field program.now class.0 name.0 class.0 ≡ None)
+        (λ f. spec.declared_field program.now class.0 name.0 class.0 ≡ Some f.0) }
 {
     let fields = program.fields.as_slice();
     for (number, field) in fields.iter().enumerate() {
@@ -46,7 +50,8 @@ fn listed_field(program: &Program, class: ClassNo, name: NameNo) -> Option<Field
 /// The field of the name that the class itself declares (JLS 8.3).
 pub fn declared_field(program: &IndexedProgram, class: ClassNo, name: NameNo) -> Option<FieldNo>
     requires few { Few program.now }
-    ensures { MatchOption result (spec.declared_field program.now class.0 name.0 class.0 ≡ None) (λ f. spec.declared_field program.now class.0 name.0 class.0 ≡ Some f.0) }
+    ensures { MatchOption result (spec.declared_field program.now class.0 name.0 class.0 ≡ None)
+        (λ f. spec.declared_field program.now class.0 name.0 class.0 ≡ Some f.0) }
 {
     let lists = program.program();
     match program.index() {
@@ -61,7 +66,8 @@ pub fn declared_field(program: &IndexedProgram, class: ClassNo, name: NameNo) ->
 /// The method of the name and so many parameters, by the program's lists.
 fn listed_method(program: &Program, class: ClassNo, name: NameNo, arity: usize) -> Option<MethodNo>
     requires few { Few program.now }
-    ensures { MatchOption result (spec.method_of program.now class.0 name.0 arity ≡ None) (λ m. spec.method_of program.now class.0 name.0 arity ≡ Some m.0) }
+    ensures { MatchOption result (spec.method_of program.now class.0 name.0 arity ≡ None)
+        (λ m. spec.method_of program.now class.0 name.0 arity ≡ Some m.0) }
 {
     if arity > 0xFFFF_FFFF {
         return None;
@@ -77,7 +83,8 @@ pub fn method_of(
     arity: usize,
 ) -> Option<MethodNo>
     requires few { Few program.now }
-    ensures { MatchOption result (spec.method_of program.now class.0 name.0 arity ≡ None) (λ m. spec.method_of program.now class.0 name.0 arity ≡ Some m.0) }
+    ensures { MatchOption result (spec.method_of program.now class.0 name.0 arity ≡ None)
+        (λ m. spec.method_of program.now class.0 name.0 arity ≡ Some m.0) }
 {
     let lists = program.program();
     match program.index() {
@@ -87,7 +94,9 @@ pub fn method_of(
 }
 
 fn constructs(method: &Method, class: ClassNo, arity: usize) -> bool
-    ensures { result ≡ (method.now.ctor && eqb method.now.owner.0 class.0 && eqb (length method.now.params) arity) }
+    ensures { result
+        ≡ (method.now.ctor && eqb method.now.owner.0 class.0
+        && eqb (length method.now.params) arity) }
 {
     method.ctor && method.owner.0 == class.0 && method.params.len() == arity
 }
@@ -95,7 +104,8 @@ fn constructs(method: &Method, class: ClassNo, arity: usize) -> bool
 /// The constructor for so many parameters, by the program's lists.
 fn listed_constructor(program: &Program, class: ClassNo, arity: usize) -> Option<MethodNo>
     requires few { Few program.now }
-    ensures { MatchOption result (spec.constructor_of program.now class.0 arity ≡ None) (λ m. spec.constructor_of program.now class.0 arity ≡ Some m.0) }
+    ensures { MatchOption result (spec.constructor_of program.now class.0 arity ≡ None)
+        (λ m. spec.constructor_of program.now class.0 arity ≡ Some m.0) }
 {
     let methods = program.methods.as_slice();
     for (number, method) in methods.iter().enumerate() {
@@ -109,7 +119,8 @@ fn listed_constructor(program: &Program, class: ClassNo, arity: usize) -> Option
 /// The constructor that the class declares for so many parameters (JLS 8.8).
 pub fn constructor_of(program: &IndexedProgram, class: ClassNo, arity: usize) -> Option<MethodNo>
     requires few { Few program.now }
-    ensures { MatchOption result (spec.constructor_of program.now class.0 arity ≡ None) (λ m. spec.constructor_of program.now class.0 arity ≡ Some m.0) }
+    ensures { MatchOption result (spec.constructor_of program.now class.0 arity ≡ None)
+        (λ m. spec.constructor_of program.now class.0 arity ≡ Some m.0) }
 {
     let lists = program.program();
     match program.index() {
@@ -121,7 +132,8 @@ pub fn constructor_of(program: &IndexedProgram, class: ClassNo, arity: usize) ->
 /// The first class of the name, by the program's lists.
 fn listed_class(program: &Program, name: NameNo) -> Option<ClassNo>
     requires few { Few program.now }
-    ensures { MatchOption result (scopes.class_named program.now name.0 ≡ None) (λ c. scopes.class_named program.now name.0 ≡ Some c.0) }
+    ensures { MatchOption result (scopes.class_named program.now name.0 ≡ None)
+        (λ c. scopes.class_named program.now name.0 ≡ Some c.0) }
 {
     let classes = program.classes.as_slice();
     for (number, class) in classes.iter().enumerate() {
@@ -135,7 +147,8 @@ fn listed_class(program: &Program, name: NameNo) -> Option<ClassNo>
 /// The first class of the name.
 pub fn class_named(program: &IndexedProgram, name: NameNo) -> Option<ClassNo>
     requires few { Few program.now }
-    ensures { MatchOption result (scopes.class_named program.now name.0 ≡ None) (λ c. scopes.class_named program.now name.0 ≡ Some c.0) }
+    ensures { MatchOption result (scopes.class_named program.now name.0 ≡ None)
+        (λ c. scopes.class_named program.now name.0 ≡ Some c.0) }
 {
     match program.index() {
         Some(index) => lookup::class_named(index, name),
@@ -156,7 +169,8 @@ pub fn class_or_object(program: &IndexedProgram, name: NameNo) -> ClassNo
 
 /// The superclass, or Object where the class has none.
 pub fn parent_or_object(program: &IndexedProgram, class: ClassNo) -> ClassNo
-    ensures { result.0 ≡ scopes.parent_class program.now (parent_of (class_info program.now class.0)) }
+    ensures { result.0
+        ≡ scopes.parent_class program.now (parent_of (class_info program.now class.0)) }
 {
     match program.program().classes.as_slice().get(class.0 as usize) {
         None => ClassNo(0),
@@ -175,7 +189,8 @@ pub fn super_method(
     arity: usize,
 ) -> Option<MethodNo>
     requires few { Few program.now }
-    ensures { MatchOption result (scopes.super_method program.now class.0 name.0 arity ≡ None) (λ m. scopes.super_method program.now class.0 name.0 arity ≡ Some m.0) }
+    ensures { MatchOption result (scopes.super_method program.now class.0 name.0 arity ≡ None)
+        (λ m. scopes.super_method program.now class.0 name.0 arity ≡ Some m.0) }
 {
     method_of(program, parent_or_object(program, class), name, arity)
 }

@@ -219,7 +219,9 @@ pub fn callee_type(c: &Context, callee: Callee) -> BaseType
 /// The type of a call of the class's method by its name alone.
 pub fn own_type(c: &Context, name: NameNo, arity: usize) -> BaseType
     requires few { Few c.now.program.now }
-    ensures { result ≡ spec.result_type c.now.program.now (members.method_of c.now.program.now c.now.class.0 name.0 arity) }
+    ensures { result
+        ≡ spec.result_type c.now.program.now
+        (members.method_of c.now.program.now c.now.class.0 name.0 arity) }
 {
     match method_of(c.program, c.class, name, arity) {
         None => BaseType::Void,
@@ -230,7 +232,9 @@ pub fn own_type(c: &Context, name: NameNo, arity: usize) -> BaseType
 /// The type of a call of the superclass's method.
 pub fn super_type(c: &Context, name: NameNo, arity: usize) -> BaseType
     requires few { Few c.now.program.now }
-    ensures { result ≡ spec.result_type c.now.program.now (scopes.super_method c.now.program.now c.now.class.0 name.0 arity) }
+    ensures { result
+        ≡ spec.result_type c.now.program.now
+        (scopes.super_method c.now.program.now c.now.class.0 name.0 arity) }
 {
     match super_method(c.program, c.class, name, arity) {
         None => BaseType::Void,
@@ -310,7 +314,8 @@ pub fn type_of_use(
 /// Whether the expression is the name of a local.
 pub fn is_local(c: &Context, tree: &Expr) -> bool
     requires few { Few c.now.program.now }
-    ensures { result ≡ spec.is_local c.now.program.now c.now.class.0 (scope_in c.now) (placed_view tree.now) }
+    ensures { result
+        ≡ spec.is_local c.now.program.now c.now.class.0 (scope_in c.now) (placed_view tree.now) }
 {
     match tree {
         Expr::Name { name } => match meaning(c, name.name) {
@@ -330,7 +335,8 @@ pub fn assign_type(
     target: BaseType,
     value: BaseType,
 ) -> BaseType
-    ensures { result ≡ spec.assign_type c.now.program.now c.now.class.0 operator local target value }
+    ensures { result
+        ≡ spec.assign_type c.now.program.now c.now.class.0 operator local target value }
 {
     if is_simple(operator) {
         if local { target } else { value }

@@ -30,7 +30,8 @@ pub fn start(alloc: Global, program: &Program) -> Result<Sig, OutOfMemory>
 fn raise_all(program: &Program, uncalled: &[bool], sig: &mut Sig)
     requires few { length program.now.slots < 2 ^ 32 }
     requires slots { length uncalled.now ≡ length program.now.slots }
-    requires flags { AreFlags uncalled.now (λ i. uncalled_from program.now i 0 program.now.methods) }
+    requires flags { AreFlags uncalled.now
+        (λ i. uncalled_from program.now i 0 program.now.methods) }
     requires empty { sig.old ≡ replicate (length program.now.slots) no_qual }
     ensures { sig.new ≡ start_signature program.now }
 {
@@ -40,7 +41,8 @@ fn raise_all(program: &Program, uncalled: &[bool], sig: &mut Sig)
 }
 
 fn start_of(info: &SlotInfo, uncalled: bool) -> Qual
-    ensures { result ≡ cond info.now.inferred (cond uncalled committed_only no_qual) info.now.start }
+    ensures { result
+        ≡ cond info.now.inferred (cond uncalled committed_only no_qual) info.now.start }
 {
     if !info.inferred {
         info.start

@@ -12,7 +12,8 @@ use std::alloc::{AllocError, Global};
 /// For each slot, whether it is of a method that no body of its class calls.
 pub fn uncalled_slots(alloc: Global, program: &Program) -> Result<Vec<bool>, AllocError>
     ensures slots { IfOk result (λ flags. length flags.items ≡ length program.now.slots) }
-    ensures flags { IfOk result (λ flags. AreFlags flags.items (λ i. uncalled_from program.now i 0 program.now.methods)) }
+    ensures flags { IfOk result
+        (λ flags. AreFlags flags.items (λ i. uncalled_from program.now i 0 program.now.methods)) }
 {
     let called = called_methods(alloc, program)?;
     let mut flags = vec![in alloc; false; program.slots.len()]?;
@@ -39,7 +40,8 @@ fn mark_called(program: &Program, flags: &mut [bool])
 }
 
 fn mark_calls(program: &Program, body: &Body, flags: &mut [bool])
-    ensures { Marked flags.old flags.new (λ m. calls_in_class program.now m (class_of (method_at program.now m)) body.now) }
+    ensures { Marked flags.old flags.new
+        (λ m. calls_in_class program.now m (class_of (method_at program.now m)) body.now) }
 {
     let class = class_of(program, body.method);
     for point in body.points.as_slice() {
@@ -48,7 +50,8 @@ fn mark_calls(program: &Program, body: &Body, flags: &mut [bool])
 }
 
 fn mark_call(program: &Program, class: u32, kind: &PointKind, flags: &mut [bool])
-    ensures { Marked flags.old flags.new (λ m. eqb class (class_of (method_at program.now m)) && calls_method m kind.now) }
+    ensures { Marked flags.old flags.new
+        (λ m. eqb class (class_of (method_at program.now m)) && calls_method m kind.now) }
 {
     if let Some(method) = called_by(kind) {
         if class == class_of(program, method) {

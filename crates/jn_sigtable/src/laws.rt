@@ -8,5 +8,6 @@ use crate::constraints::Constraints;
 /// list that has these, and a further round leaves them as they are.
 pub fn least_words_are_least<C: Constraints>(system: &C, start: &[u64])
     requires count { length start.now ≡ (C.describe system.now).words }
-    ensures least { IsLeast (C.describe system.now) start.now (least (C.describe system.now) start.now) }
+    ensures least { IsLeast (C.describe system.now) start.now
+        (least (C.describe system.now) start.now) }
 {}

@@ -95,7 +95,10 @@ impl<C: Constraints> SigTable<C> {
         requires idle { IsAtRest (C.describe (system_of self.now)) (view_of pass.old) }
         requires range { body.0 < (C.describe (system_of self.now)).bodies }
         ensures own { IsPassOf self.now pass.new }
-        ensures view { MatchOption result (view_of pass.new ≡ found_clear (described C.describe) (view_of pass.old) body.0) (λ b. (b ≡ body) × (view_of pass.new ≡ taken_up (described C.describe) (view_of pass.old) body.0)) }
+        ensures view { MatchOption result
+            (view_of pass.new ≡ found_clear (described C.describe) (view_of pass.old) body.0)
+            (λ b. (b ≡ body)
+            × (view_of pass.new ≡ taken_up (described C.describe) (view_of pass.old) body.0)) }
     {
         let Pass { seat } = pass;
         let word = self.counted.words as usize + (body.0 / 64) as usize;
@@ -110,7 +113,8 @@ impl<C: Constraints> SigTable<C> {
         requires range { word.0 < (C.describe (system_of self.now)).words }
         requires runs { MayRead (C.describe (system_of self.now)) (view_of pass.old) word.0 }
         ensures own { IsPassOf self.now pass.new }
-        ensures view { view_of pass.new ≡ after_read (described C.describe) (view_of pass.old) word.0 result }
+        ensures view { view_of pass.new
+            ≡ after_read (described C.describe) (view_of pass.old) word.0 result }
     {
         let Pass { seat } = pass;
         self.table.shared.load::<Read<C>>(seat, word.0 as usize)
@@ -121,9 +125,11 @@ impl<C: Constraints> SigTable<C> {
     pub fn raise_word(&self, pass: &mut Pass<C>, word: WordNo, bits: u64) -> u64
         requires own { IsPassOf self.now pass.old }
         requires range { word.0 < (C.describe (system_of self.now)).words }
-        requires output { MayRaise (C.describe (system_of self.now)) (view_of pass.old) word.0 bits }
+        requires output { MayRaise (C.describe (system_of self.now)) (view_of pass.old) word.0
+            bits }
         ensures own { IsPassOf self.now pass.new }
-        ensures view { view_of pass.new ≡ after_raise (described C.describe) (view_of pass.old) word.0 bits result }
+        ensures view { view_of pass.new
+            ≡ after_raise (described C.describe) (view_of pass.old) word.0 bits result }
     {
         let Pass { seat } = pass;
         self.table
@@ -138,7 +144,8 @@ impl<C: Constraints> SigTable<C> {
         requires range { dirty.0 < dirty_words (C.describe (system_of self.now)) }
         requires due { MayMark (view_of pass.old) dirty.0 bits }
         ensures own { IsPassOf self.now pass.new }
-        ensures view { view_of pass.new ≡ after_mark (described C.describe) (view_of pass.old) dirty.0 bits }
+        ensures view { view_of pass.new
+            ≡ after_mark (described C.describe) (view_of pass.old) dirty.0 bits }
     {
         let Pass { seat } = pass;
         let word = self.counted.words as usize + dirty.0 as usize;
@@ -151,7 +158,8 @@ impl<C: Constraints> SigTable<C> {
         requires range { dirty.0 < dirty_words (C.describe (system_of self.now)) }
         requires idle { IsAtRest (C.describe (system_of self.now)) (view_of pass.old) }
         ensures own { IsPassOf self.now pass.new }
-        ensures view { view_of pass.new ≡ after_scan (described C.describe) (view_of pass.old) dirty.0 result }
+        ensures view { view_of pass.new
+            ≡ after_scan (described C.describe) (view_of pass.old) dirty.0 result }
     {
         let Pass { seat } = pass;
         let word = self.counted.words as usize + dirty.0 as usize;
@@ -191,8 +199,10 @@ impl<C: Constraints> SigTable<C> {
     pub fn close(self, alloc: Global, pass: Pass<C>) -> Result<(C, Vec<u64>), OutOfMemory>
         requires own { IsPassOf self pass }
         ensures system { IfOk result (λ r. r.0 ≡ system_of self) }
-        ensures below { IfOk result (λ r. AreBetween (C.describe (system_of self)) (started_at C.describe self) r.1.items) }
-        ensures least { IfOk result (λ r. HasAll (C.describe (system_of self)) (view_of pass) → r.1.items ≡ least (C.describe (system_of self)) (started_at C.describe self)) }
+        ensures below { IfOk result
+            (λ r. AreBetween (C.describe (system_of self)) (started_at C.describe self) r.1.items) }
+        ensures least { IfOk result (λ r. HasAll (C.describe (system_of self)) (view_of pass)
+            → r.1.items ≡ least (C.describe (system_of self)) (started_at C.describe self)) }
     {
         let SigTable { table, counted } = self;
         let Pass { seat } = pass;

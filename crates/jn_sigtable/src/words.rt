@@ -26,7 +26,8 @@ fn dirty_word(bodies: u32, word: usize) -> u64
 #[tactic(auto, using(crate::proofs::OpenKept::length_opening))]
 pub fn opening(alloc: Global, start: &[u64], bodies: u32) -> Result<Vec<u64>, AllocError>
     ensures count { IfOk result (λ all. length all.items ≡ length start.now + (bodies + 63) / 64) }
-    ensures words { IfOk result (λ all. all.items ≡ start.now ++ map (dirty_bits bodies) (range_with_len 0 ((bodies + 63) / 64))) }
+    ensures words { IfOk result (λ all.
+        all.items ≡ start.now ++ map (dirty_bits bodies) (range_with_len 0 ((bodies + 63) / 64))) }
 {
     let mut all = Vec::new(alloc);
     all.extend_from_slice(start)?;
@@ -44,7 +45,9 @@ pub fn first_words(
 ) -> Result<Vec<u64>, AllocError>
     requires full { IsFull closed.now.words }
     requires count { count ≤ slots_len closed.now.words }
-    ensures { IfOk result (λ words. (length words.items ≡ count) × ((i : ℕ) → i < count → get_elem? (slots_items closed.now.words) i ≡ some (slice_index words.items i))) }
+    ensures { IfOk result (λ words. (length words.items ≡ count)
+        × ((i : ℕ) → i < count
+        → get_elem? (slots_items closed.now.words) i ≡ some (slice_index words.items i))) }
 {
     let mut words = Vec::new(alloc);
     for i in 0..count {

@@ -20,7 +20,8 @@ pub fn solved<R: Threads + Sync>(
 ) -> Result<Vec<u64>, OutOfMemory>
     requires any { 0 < net.bodies }
     requires workers { (0 < workers) × (workers ≤ 16) }
-    ensures { IfOk result (λ words. words.items ≡ least (net_of net.shape net.bodies) (replicate net.bodies 0)) }
+    ensures { IfOk result
+        (λ words. words.items ≡ least (net_of net.shape net.bodies) (replicate net.bodies 0)) }
 {
     let start = vec![in alloc; 0; net.bodies as usize]?;
     solve(rt, alloc, net, start.as_slice(), workers, &Straight)
@@ -28,7 +29,8 @@ pub fn solved<R: Threads + Sync>(
 
 /// The least words of a system above zeros, on one thread.
 pub fn drained<C: Constraints>(alloc: Global, system: &C) -> Result<Vec<u64>, OutOfMemory>
-    ensures { IfOk result (λ words. words.items ≡ least (C.describe system.now) (replicate (C.describe system.now).words 0)) }
+    ensures { IfOk result (λ words.
+        words.items ≡ least (C.describe system.now) (replicate (C.describe system.now).words 0)) }
 {
     let start = vec![in alloc; 0; system.words() as usize]?;
     let dirty = vec![in alloc; u64::MAX; (system.bodies() as usize + 63) / 64]?;

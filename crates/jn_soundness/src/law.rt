@@ -18,11 +18,21 @@ ghost use Rattle.jn_soundness.specs.ChainExample.{chain_program, chain_world};
 /// state keeps both, with the marking that comes after it; and where a state is as some marking says, its point
 /// dereferences no null.
 pub fn steps_keep_marks()
-    ensures start { (W : World) → Solved W → (m b : ℕ) → MainForm W.program m b → (limits : Limits) (words : List (List ℕ)) → Marked W (start_state W.program limits b words) start_marking }
-    ensures start_types { (W : World) → Solved W → BaseTyped W.program → (m b : ℕ) → MainForm W.program m b → (limits : Limits) (words : List (List ℕ)) → StateTyped W (start_state W.program limits b words) }
-    ensures step { (W : World) → Solved W → BaseTyped W.program → (names : List (List ℕ)) (st next : State) (mk : Marking) → Marked W st mk → StateTyped W st → step W.program names st ≡ Goes next → Marked W next (mark_after W st mk) }
-    ensures step_types { (W : World) → Solved W → BaseTyped W.program → (names : List (List ℕ)) (st next : State) → StateTyped W st → step W.program names st ≡ Goes next → StateTyped W next }
-    ensures null { (W : World) → Solved W → (st : State) (mk : Marking) → Marked W st mk → NullFault W.program st → ⊥ }
+    ensures start { (W : World) → Solved W → (m b : ℕ) → MainForm W.program m b
+        → (limits : Limits) (words : List (List ℕ))
+        → Marked W (start_state W.program limits b words) start_marking }
+    ensures start_types { (W : World) → Solved W → BaseTyped W.program → (m b : ℕ)
+        → MainForm W.program m b → (limits : Limits) (words : List (List ℕ))
+        → StateTyped W (start_state W.program limits b words) }
+    ensures step { (W : World) → Solved W → BaseTyped W.program
+        → (names : List (List ℕ)) (st next : State) (mk : Marking) → Marked W st mk
+        → StateTyped W st → step W.program names st ≡ Goes next
+        → Marked W next (mark_after W st mk) }
+    ensures step_types { (W : World) → Solved W → BaseTyped W.program
+        → (names : List (List ℕ)) (st next : State) → StateTyped W st
+        → step W.program names st ≡ Goes next → StateTyped W next }
+    ensures null { (W : World) → Solved W → (st : State) (mk : Marking) → Marked W st mk
+        → NullFault W.program st → ⊥ }
 {}
 
 /// A regular, base-typed program never dereferences null where its signature is closed, its tables

@@ -28,7 +28,9 @@ fn laid_out(
 ) -> Result<Vec<Option<Vec<Row>>>, OutOfMemory>
     requires { AreFound bodies.now.program.now bodies.now.sig.now found.items }
     ensures count { IfOk result (λ laid. length laid.items ≡ length bodies.now.program.now.bodies) }
-    ensures rows { IfOk result (λ laid. (b : ℕ) (rows : Vec Row Global) → slice_get laid.items b ≡ Some (Some rows) → rows.items ≡ least_rows bodies.now.program.now bodies.now.sig.now b) }
+    ensures rows { IfOk result (λ laid. (b : ℕ) (rows : Vec Row Global)
+        → slice_get laid.items b ≡ Some (Some rows)
+        → rows.items ≡ least_rows bodies.now.program.now bodies.now.sig.now b) }
 {
     let mut laid: Vec<Option<Vec<Row>>> = Vec::new(alloc);
     for _ in 0..bodies.program.bodies.len() {
@@ -55,8 +57,10 @@ fn rows_at<G: Gate>(
 ) -> Result<Vec<Row>, OutOfMemory>
     requires ready { AreReady bodies.now.program.now bodies.now.own.now }
     requires inside { body < length bodies.now.program.now.bodies }
-    requires slot { (rows : Vec Row Global) → slot ≡ Some rows → rows.items ≡ least_rows bodies.now.program.now bodies.now.sig.now body }
-    ensures { IfOk result (λ rows. rows.items ≡ least_rows bodies.now.program.now bodies.now.sig.now body) }
+    requires slot { (rows : Vec Row Global) → slot ≡ Some rows
+        → rows.items ≡ least_rows bodies.now.program.now bodies.now.sig.now body }
+    ensures { IfOk result
+        (λ rows. rows.items ≡ least_rows bodies.now.program.now bodies.now.sig.now body) }
 {
     match slot {
         Some(rows) => Ok(rows),
@@ -83,7 +87,9 @@ fn in_order<G: Gate>(
 ) -> Result<Vec<Row>, OutOfMemory>
     requires ready { AreReady bodies.now.program.now bodies.now.own.now }
     requires found { AreFound bodies.now.program.now bodies.now.sig.now found.items }
-    ensures { IfOk result (λ all. all.items ≡ flat_map (least_rows bodies.now.program.now bodies.now.sig.now) (below (length bodies.now.program.now.bodies))) }
+    ensures { IfOk result (λ all. all.items
+        ≡ flat_map (least_rows bodies.now.program.now bodies.now.sig.now)
+        (below (length bodies.now.program.now.bodies))) }
 {
     let mut laid = laid_out(alloc, bodies, found)?;
     let mut all = Vec::new(alloc);
@@ -105,7 +111,9 @@ fn bodies_rows<R: Threads + Sync, G: Gate + Sync>(
 ) -> Result<Vec<Row>, OutOfMemory>
     requires ready { AreReady bodies.now.program.now bodies.now.own.now }
     requires workers { 0 < workers }
-    ensures { IfOk result (λ all. all.items ≡ flat_map (least_rows bodies.now.program.now bodies.now.sig.now) (below (length bodies.now.program.now.bodies))) }
+    ensures { IfOk result (λ all. all.items
+        ≡ flat_map (least_rows bodies.now.program.now bodies.now.sig.now)
+        (below (length bodies.now.program.now.bodies))) }
 {
     let count = bodies.program.bodies.len() as u32;
     let Ok(mut deque) = Worker::new_fifo(alloc, count as usize) else {

@@ -16,7 +16,8 @@ fn is_few(count: usize) -> bool
 
 fn all_inside(program: &Program) -> bool
     requires { length program.now.bodies < 2 ^ 32 }
-    ensures { result ≡ true → (b : ℕ) → b < length program.now.bodies → StaysInside program.now b × (length (points_of (body_at program.now b)) < 2 ^ 32 - 1) }
+    ensures { result ≡ true → (b : ℕ) → b < length program.now.bodies
+        → StaysInside program.now b × (length (points_of (body_at program.now b)) < 2 ^ 32 - 1) }
 {
     for body in 0..program.bodies.len() {
         if !stays_inside(program, BodyNo(body as u32)) {

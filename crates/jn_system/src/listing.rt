@@ -65,7 +65,8 @@ fn add_kind(
     program: &Program,
     kind: &PointKind,
 ) -> Result<(), AllocError>
-    ensures { OnOk result (Adds count (kind_reads program.now kind.now) list.old.items list.new.items) }
+    ensures { OnOk result
+        (Adds count (kind_reads program.now kind.now) list.old.items list.new.items) }
 {
     match kind {
         PointKind::FieldRead { field, .. } => add_slot(list, count, field_slot(program, *field)),
@@ -81,7 +82,8 @@ fn add_points(
     program: &Program,
     points: &[Point],
 ) -> Result<(), AllocError>
-    ensures { OnOk result (Adds count (points_reads program.now points.now) list.old.items list.new.items) }
+    ensures { OnOk result
+        (Adds count (points_reads program.now points.now) list.old.items list.new.items) }
 {
     for point in points {
         add_kind(list, count, program, &point.kind)?;
@@ -91,7 +93,8 @@ fn add_points(
 
 #[tactic(auto, using(crate::proofs::ListSteps::adds_both))]
 fn add_given(list: &mut Vec<WordNo>, count: u32, method: &Method) -> Result<(), AllocError>
-    ensures { OnOk result (Adds count (given_reads (Some method.now)) list.old.items list.new.items) }
+    ensures { OnOk result
+        (Adds count (given_reads (Some method.now)) list.old.items list.new.items) }
 {
     add_slot(list, count, method.receiver)?;
     add_slots(list, count, method.param_slots.as_slice())
@@ -104,7 +107,8 @@ fn add_method(
     program: &Program,
     body: BodyNo,
 ) -> Result<(), AllocError>
-    ensures { OnOk result (Adds count (given_reads (method_in program.now body.0)) list.old.items list.new.items) }
+    ensures { OnOk result
+        (Adds count (given_reads (method_in program.now body.0)) list.old.items list.new.items) }
 {
     match program.bodies.as_slice().get(body.0 as usize) {
         None => Ok(()),

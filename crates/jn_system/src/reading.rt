@@ -100,7 +100,8 @@ fn method_reads(program: &Program, body: BodyNo, word: u32) -> bool
 }
 
 fn all_points_read(program: &Program, body: BodyNo, word: u32) -> bool
-    ensures { result ≡ has_word word (points_reads program.now (points_of (body_at program.now body.0))) }
+    ensures { result
+        ≡ has_word word (points_reads program.now (points_of (body_at program.now body.0))) }
 {
     match program.bodies.as_slice().get(body.0 as usize) {
         None => false,

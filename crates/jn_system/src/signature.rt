@@ -43,7 +43,8 @@ pub fn signature(alloc: Global, slots: u32, words: &[u64]) -> Result<Sig, OutOfM
 fn see(list: &mut Vec<u64>, slots: u32, words: &[u64], word: u32)
     requires words { length words.now ≡ words_for slots }
     requires list { length list.old.items ≡ words_for slots }
-    ensures { list.new.items ≡ slice_set list.old.items word (clean slots word (slice_index words.now word)) }
+    ensures { list.new.items
+        ≡ slice_set list.old.items word (clean slots word (slice_index words.now word)) }
 {
     let at = word as usize;
     if at < list.len() {

@@ -48,7 +48,8 @@ fn steal_all<G: Gate>(
     gate: &G,
 ) -> Result<Vec<Found>, OutOfMemory>
     requires { AreReady bodies.now.program.now bodies.now.own.now }
-    ensures { IfOk result (λ found. AreFound bodies.now.program.now bodies.now.sig.now found.items) }
+    ensures { IfOk result
+        (λ found. AreFound bodies.now.program.now bodies.now.sig.now found.items) }
 {
     let mut found = Vec::new(alloc);
     for _ in 0..limit {
@@ -75,9 +76,12 @@ fn both(
     ours: Result<Vec<Found>, OutOfMemory>,
     theirs: Result<Vec<Found>, OutOfMemory>,
 ) -> Result<Vec<Found>, OutOfMemory>
-    requires ours { IfOk ours (λ found. AreFound bodies.now.program.now bodies.now.sig.now found.items) }
-    requires theirs { IfOk theirs (λ found. AreFound bodies.now.program.now bodies.now.sig.now found.items) }
-    ensures { IfOk result (λ found. AreFound bodies.now.program.now bodies.now.sig.now found.items) }
+    requires ours { IfOk ours
+        (λ found. AreFound bodies.now.program.now bodies.now.sig.now found.items) }
+    requires theirs { IfOk theirs
+        (λ found. AreFound bodies.now.program.now bodies.now.sig.now found.items) }
+    ensures { IfOk result
+        (λ found. AreFound bodies.now.program.now bodies.now.sig.now found.items) }
 {
     let _bodies = bodies;
     let mut ours = ours?;
@@ -102,18 +106,22 @@ pub fn steal_by<R: Threads + Sync, G: Gate + Sync>(
     gate: &G,
 ) -> Result<Vec<Found>, OutOfMemory>
     requires { AreReady bodies.now.program.now bodies.now.own.now }
-    ensures { IfOk result (λ found. AreFound bodies.now.program.now bodies.now.sig.now found.items) }
+    ensures { IfOk result
+        (λ found. AreFound bodies.now.program.now bodies.now.sig.now found.items) }
 {
     if more == 0 {
         return steal_all(alloc, bodies, stealer, 0, limit, gate);
     }
     let theirs = move || -> Result<Vec<Found>, OutOfMemory>
         requires { AreReady bodies.now.program.now bodies.now.own.now }
-        ensures { IfOk result (λ found. AreFound bodies.entry.now.program.now bodies.entry.now.sig.now found.items) }
+        ensures { IfOk result
+            (λ found. AreFound bodies.entry.now.program.now bodies.entry.now.sig.now found.items) }
     { steal_all(alloc, bodies, stealer, more, limit, gate) };
     let ours = move || -> Result<Vec<Found>, OutOfMemory>
-        requires { IsSync R.row × IsSync G.row × (0 < more) × AreReady bodies.now.program.now bodies.now.own.now }
-        ensures { IfOk result (λ found. AreFound bodies.entry.now.program.now bodies.entry.now.sig.now found.items) }
+        requires { IsSync R.row × IsSync G.row × (0 < more)
+            × AreReady bodies.now.program.now bodies.now.own.now }
+        ensures { IfOk result
+            (λ found. AreFound bodies.entry.now.program.now bodies.entry.now.sig.now found.items) }
     { steal_by(rt, alloc, bodies, stealer, more - 1, limit, gate) };
     let (theirs, ours) = join(rt, theirs, ours);
     both(bodies, ours, theirs)

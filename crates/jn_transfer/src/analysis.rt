@@ -137,7 +137,8 @@ impl<'a> Analysis<'a> {
     /// The qualifier of a field that is read through a register.
     fn read_qual(&self, env: &Env, object: RegNo, field: FieldNo) -> Qual
         requires sized { EnvSized self.now.program self.now.body env.now }
-        ensures { result ≡ read_qual self.now.program self.now.sig self.now.body env.now object.0 field.0 }
+        ensures { result
+            ≡ read_qual self.now.program self.now.sig self.now.body env.now object.0 field.0 }
     {
         let read = if is_ref_field(self.program, field.0) {
             self.read_part(field, env.qual(object).without_null())
@@ -154,7 +155,9 @@ impl<'a> Analysis<'a> {
     /// A field of the object in a register is written.
     fn write(&self, env: &mut Env, object: RegNo, field: FieldNo, value: RegNo)
         requires sized { EnvSized self.now.program self.now.body env.old }
-        ensures { env.new ≡ written self.now.program self.now.body env.old object.0 field.0 value.0 (ref_field self.now.program field.0) }
+        ensures { env.new
+            ≡ written self.now.program self.now.body env.old object.0 field.0 value.0
+            (ref_field self.now.program field.0) }
     {
         if is_ref_field(self.program, field.0) {
             self.write_facts(env, object, field, value);
@@ -164,7 +167,8 @@ impl<'a> Analysis<'a> {
 
     fn write_facts(&self, env: &mut Env, object: RegNo, field: FieldNo, value: RegNo)
         requires sized { EnvSized self.now.program self.now.body env.old }
-        ensures facts { env.new.facts ≡ write_facts self.now.program self.now.body env.old object.0 field.0 value.0 }
+        ensures facts { env.new.facts
+            ≡ write_facts self.now.program self.now.body env.old object.0 field.0 value.0 }
         ensures quals { env.new.quals ≡ env.old.quals }
         ensures assigned { env.new.assigned ≡ env.old.assigned }
     {
@@ -175,8 +179,10 @@ impl<'a> Analysis<'a> {
     }
 
     fn write_assigned(&self, env: &mut Env, object: RegNo, field: FieldNo)
-        requires sized { length env.old.assigned ≡ length (own_keys self.now.program self.now.body) }
-        ensures assigned { env.new.assigned ≡ write_assigned self.now.program self.now.body env.old object.0 field.0 }
+        requires sized { length env.old.assigned
+            ≡ length (own_keys self.now.program self.now.body) }
+        ensures assigned { env.new.assigned
+            ≡ write_assigned self.now.program self.now.body env.old object.0 field.0 }
         ensures quals { env.new.quals ≡ env.old.quals }
         ensures facts { env.new.facts ≡ env.old.facts }
     {
@@ -217,7 +223,9 @@ impl<'a> Analysis<'a> {
         ctor: MethodNo,
         args: &[Operand],
     ) -> Result<Qual, OutOfMemory>
-        ensures { IfOk result (λ q. q ≡ new_qual (ref_quals env.now (slots_of (method_at self.now.program ctor.0)) args.now)) }
+        ensures { IfOk result (λ q. q
+            ≡ new_qual
+            (ref_quals env.now (slots_of (method_at self.now.program ctor.0)) args.now)) }
     {
         let quals = match self.program.methods.as_slice().get(ctor.0 as usize) {
             None => Vec::new(alloc),
@@ -236,7 +244,8 @@ impl<'a> Analysis<'a> {
         qual: Qual,
     ) -> Result<Vec<Edge>, OutOfMemory>
         requires sized { EnvSized self.now.program self.now.body env.now }
-        ensures { IfOk result (λ xs. xs.items ≡ (to, put self.now.program self.now.body env.now reg.0 qual) ∷ []) }
+        ensures { IfOk result
+            (λ xs. xs.items ≡ (to, put self.now.program self.now.body env.now reg.0 qual) ∷ []) }
     {
         let mut after = env.copy(alloc)?;
         self.put(&mut after, reg, qual);
@@ -253,7 +262,13 @@ impl<'a> Analysis<'a> {
         value: RegNo,
     ) -> Result<Vec<Edge>, OutOfMemory>
         requires sized { EnvSized self.now.program self.now.body env.now }
-        ensures { IfOk result (λ xs. xs.items ≡ (to, written self.now.program self.now.body env.now object.0 field.0 value.0 (ref_field self.now.program field.0)) ∷ []) }
+        ensures { IfOk result (λ xs. xs.items
+            ≡ (
+              to,
+              written self.now.program self.now.body env.now object.0 field.0 value.0
+                  (ref_field self.now.program field.0),
+            )
+            ∷ []) }
     {
         let mut after = env.copy(alloc)?;
         self.write(&mut after, object, field, value);
@@ -270,7 +285,15 @@ impl<'a> Analysis<'a> {
         args: &[Operand],
     ) -> Result<Vec<Edge>, OutOfMemory>
         requires sized { EnvSized self.now.program self.now.body env.now }
-        ensures { IfOk result (λ xs. xs.items ≡ (to, put self.now.program self.now.body (drop_all self.now.program self.now.body env.now) dst.0 (new_qual (ref_quals env.now (slots_of (method_at self.now.program ctor.0)) args.now))) ∷ []) }
+        ensures { IfOk result (λ xs. xs.items
+            ≡ (
+              to,
+              put self.now.program self.now.body
+                  (drop_all self.now.program self.now.body env.now) dst.0
+                  (new_qual (ref_quals env.now (slots_of (method_at self.now.program ctor.0))
+                  args.now)),
+            )
+            ∷ []) }
     {
         let qual = self.created(alloc, env, ctor, args)?;
         let mut after = env.copy(alloc)?;
@@ -287,7 +310,8 @@ impl<'a> Analysis<'a> {
         own: bool,
     ) -> Result<Vec<Edge>, OutOfMemory>
         requires sized { EnvSized self.now.program self.now.body env.now }
-        ensures { IfOk result (λ xs. xs.items ≡ (to, ctor_called self.now.program self.now.body env.now own) ∷ []) }
+        ensures { IfOk result
+            (λ xs. xs.items ≡ (to, ctor_called self.now.program self.now.body env.now own) ∷ []) }
     {
         let mut after = env.copy(alloc)?;
         self.call_ctor(&mut after, own);
@@ -303,7 +327,14 @@ impl<'a> Analysis<'a> {
         method: MethodNo,
     ) -> Result<Vec<Edge>, OutOfMemory>
         requires sized { EnvSized self.now.program self.now.body env.now }
-        ensures { IfOk result (λ xs. xs.items ≡ (to, put_to self.now.program self.now.body (drop_all self.now.program self.now.body env.now) dst (result_of self.now.sig (method_at self.now.program method.0))) ∷ []) }
+        ensures { IfOk result (λ xs. xs.items
+            ≡ (
+              to,
+              put_to self.now.program self.now.body
+                  (drop_all self.now.program self.now.body env.now) dst
+                  (result_of self.now.sig (method_at self.now.program method.0)),
+            )
+            ∷ []) }
     {
         let mut after = env.copy(alloc)?;
         self.drop_all(&mut after);
@@ -328,7 +359,10 @@ impl<'a> Analysis<'a> {
         origin: Option<Origin>,
     ) -> Result<(), OutOfMemory>
         requires sized { EnvSized self.now.program self.now.body env.now }
-        ensures { OnOk result (edges.new.items ≡ edges.old.items ++ side (is_none qual) to (learn self.now.program self.now.body origin (refine env.now reg.0 qual))) }
+        ensures { OnOk result (edges.new.items
+            ≡ edges.old.items
+            ++ side (is_none qual) to
+            (learn self.now.program self.now.body origin (refine env.now reg.0 qual))) }
     {
         if qual.is_none() {
             return Ok(());
@@ -400,7 +434,8 @@ impl<'a> Analysis<'a> {
     ) -> Result<Vec<Edge>, OutOfMemory>
         requires sized { EnvSized self.now.program self.now.body env.now }
         requires small { at + 1 < 2 ^ 32 }
-        ensures { IfOk result (λ xs. xs.items ≡ transfer self.now.program self.now.sig self.now.body kind.now at env.now) }
+        ensures { IfOk result (λ xs.
+            xs.items ≡ transfer self.now.program self.now.sig self.now.body kind.now at env.now) }
     {
         let next = at + 1;
         let plain = Qual::none();

@@ -35,7 +35,8 @@ fn least(left: usize, right: usize) -> usize
 }
 
 fn push_reference(quals: &mut Vec<Qual>, slot: Option<SlotNo>, qual: Qual) -> Result<(), AllocError>
-    ensures { OnOk result (quals.new.items ≡ quals.old.items ++ cond (has_slot slot) (qual ∷ []) []) }
+    ensures { OnOk result
+        (quals.new.items ≡ quals.old.items ++ cond (has_slot slot) (qual ∷ []) []) }
 {
     if slot.is_some() {
         quals.push(qual)?;

@@ -30,7 +30,8 @@ pub fn transfer(
     requires few { length program.now.fields < 2 ^ 32 }
     requires small { point.0 + 1 < 2 ^ 32 }
     requires sized { EnvSized program.now body.0 env.now }
-    ensures { IfOk result (λ edges. (pt : Point) → point_at program.now body.0 point.0 ≡ Some pt → numbered edges.items ≡ transfer program.now sig.now body.0 pt.kind point.0 env.now) }
+    ensures { IfOk result (λ edges. (pt : Point) → point_at program.now body.0 point.0 ≡ Some pt
+        → numbered edges.items ≡ transfer program.now sig.now body.0 pt.kind point.0 env.now) }
 {
     let keys = find_keys(alloc, program, body)?;
     let analysis = Analysis::new(program, sig, body, &keys);

@@ -10,5 +10,8 @@ ghost use Rattle.jn_transfer.specs.Covered.{Covered};
 
 /// At each kind of point each edge of an environment is covered by one of each greater environment.
 pub fn transfer_is_monotone()
-    ensures { (P : Program) (s : List Qualifier) (b : ℕ) (kind : PointKind) (p : ℕ) (e f : Env) (x : ℕ × Env) → EnvWithin e f → IsAmong x (transfer P s b kind p e) → Covered x (transfer P s b kind p f) }
+    ensures { (P : Program) (s : List Qualifier) (b : ℕ) (kind : PointKind) (p : ℕ) (e f : Env)
+        (x : ℕ × Env)
+        → EnvWithin e f → IsAmong x (transfer P s b kind p e)
+        → Covered x (transfer P s b kind p f) }
 {}

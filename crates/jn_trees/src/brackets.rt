@@ -23,7 +23,8 @@ fn opened(count: u32, kind: TokenKind) -> u32
 
 /// The number of the first token behind which more than 200 brackets, of all three kinds together, are open at once. A closing bracket where none is open counts nothing. Takes no memory.
 pub fn too_deep(tokens: &[Token]) -> Option<usize>
-    ensures { MatchOption result (Shallow (kinds tokens.now)) (λ n. IsTooDeep (kinds tokens.now) n) }
+    ensures { MatchOption result (Shallow (kinds tokens.now))
+        (λ n. IsTooDeep (kinds tokens.now) n) }
 {
     let mut count: u32 = 0;
     for (place, token) in tokens.iter().enumerate() {

@@ -20,7 +20,8 @@ pub fn next(tokens: &[Token]) -> Option<(Token, &[Token])>
 
 /// What follows this token, where it comes first.
 pub fn expect(tokens: &[Token], kind: TokenKind) -> Option<&[Token]>
-    ensures { MatchOption result ((rest : List Kind) → kinds tokens.now ≡ kind ∷ rest → ⊥) (λ r. kinds tokens.now ≡ kind ∷ kinds r.now) }
+    ensures { MatchOption result ((rest : List Kind) → kinds tokens.now ≡ kind ∷ rest → ⊥)
+        (λ r. kinds tokens.now ≡ kind ∷ kinds r.now) }
 {
     match next(tokens) {
         None => None,
@@ -30,7 +31,9 @@ pub fn expect(tokens: &[Token], kind: TokenKind) -> Option<&[Token]>
 
 /// The identifier that comes first, and what follows it.
 pub fn identifier(tokens: &[Token]) -> Option<(Identifier, &[Token])>
-    ensures { MatchOption result ((name : SpecName) (rest : List Kind) → kinds tokens.now ≡ Kind.Id name ∷ rest → ⊥) (λ r. kinds tokens.now ≡ Kind.Id r.0.name ∷ kinds r.1.now) }
+    ensures { MatchOption result
+        ((name : SpecName) (rest : List Kind) → kinds tokens.now ≡ Kind.Id name ∷ rest → ⊥)
+        (λ r. kinds tokens.now ≡ Kind.Id r.0.name ∷ kinds r.1.now) }
 {
     match next(tokens) {
         None => None,

@@ -10,7 +10,8 @@ use jn_trees::{Identifier, Member, Modifier, TokenKind, TypeTree};
 
 /// Puts the members and the closing brace of their type behind the tokens.
 fn spell_members(kinds: &mut Vec<TokenKind>, members: &[Member]) -> Result<(), OutOfMemory>
-    ensures { OnOk result (kinds.new.items ≡ kinds.old.items ++ spec_members (member_views members.now)) }
+    ensures { OnOk result
+        (kinds.new.items ≡ kinds.old.items ++ spec_members (member_views members.now)) }
 {
     for member in members {
         spell_member(kinds, member)?;
@@ -20,7 +21,8 @@ fn spell_members(kinds: &mut Vec<TokenKind>, members: &[Member]) -> Result<(), O
 
 /// Puts further names, each behind a comma, behind the tokens.
 fn spell_more_names(kinds: &mut Vec<TokenKind>, names: &[Identifier]) -> Result<(), OutOfMemory>
-    ensures { OnOk result (kinds.new.items ≡ kinds.old.items ++ spec_more_names (identifier_names names.now)) }
+    ensures { OnOk result
+        (kinds.new.items ≡ kinds.old.items ++ spec_more_names (identifier_names names.now)) }
 {
     for name in names {
         put_all(kinds, &[TokenKind::Comma, TokenKind::Id(name.name)])?;
@@ -34,7 +36,8 @@ fn spell_names(
     word: TokenKind,
     names: &[Identifier],
 ) -> Result<(), OutOfMemory>
-    ensures { OnOk result (kinds.new.items ≡ kinds.old.items ++ spec_names word (identifier_names names.now)) }
+    ensures { OnOk result
+        (kinds.new.items ≡ kinds.old.items ++ spec_names word (identifier_names names.now)) }
 {
     match names.split_first() {
         None => Ok(()),
@@ -62,7 +65,10 @@ fn spell_class_head(
     parent: Option<Identifier>,
     interfaces: &[Identifier],
 ) -> Result<(), OutOfMemory>
-    ensures { OnOk result (kinds.new.items ≡ kinds.old.items ++ spec_class_head (marks modifiers.now) name (parent_view parent) (identifier_names interfaces.now)) }
+    ensures { OnOk result (kinds.new.items
+        ≡ kinds.old.items
+        ++ spec_class_head (marks modifiers.now) name (parent_view parent)
+        (identifier_names interfaces.now)) }
 {
     spell_modifiers(kinds, modifiers)?;
     put_all(kinds, &[TokenKind::Class, TokenKind::Id(name)])?;
@@ -78,7 +84,9 @@ fn spell_interface_head(
     name: NameNo,
     parents: &[Identifier],
 ) -> Result<(), OutOfMemory>
-    ensures { OnOk result (kinds.new.items ≡ kinds.old.items ++ spec_interface_head (marks modifiers.now) name (identifier_names parents.now)) }
+    ensures { OnOk result (kinds.new.items
+        ≡ kinds.old.items
+        ++ spec_interface_head (marks modifiers.now) name (identifier_names parents.now)) }
 {
     spell_modifiers(kinds, modifiers)?;
     put_all(kinds, &[TokenKind::Interface, TokenKind::Id(name)])?;
@@ -88,7 +96,8 @@ fn spell_interface_head(
 
 /// Puts the class or interface behind the tokens.
 pub fn spell_type(kinds: &mut Vec<TokenKind>, declaration: &TypeTree) -> Result<(), OutOfMemory>
-    ensures { OnOk result (kinds.new.items ≡ kinds.old.items ++ spec_type (type_view declaration.now)) }
+    ensures { OnOk result
+        (kinds.new.items ≡ kinds.old.items ++ spec_type (type_view declaration.now)) }
 {
     match declaration {
         TypeTree::Class {

@@ -16,7 +16,8 @@ pub fn spell_annotations(
     kinds: &mut Vec<TokenKind>,
     annotations: &[Annotation],
 ) -> Result<(), OutOfMemory>
-    ensures { OnOk result (kinds.new.items ≡ kinds.old.items ++ spec_annotations (annotation_names annotations.now)) }
+    ensures { OnOk result
+        (kinds.new.items ≡ kinds.old.items ++ spec_annotations (annotation_names annotations.now)) }
 {
     for annotation in annotations {
         put_all(kinds, &[TokenKind::At, TokenKind::Id(annotation.name)])?;
@@ -197,7 +198,8 @@ pub fn spell_list(
     end: TokenKind,
     expressions: &[Expr],
 ) -> Result<(), OutOfMemory>
-    ensures { OnOk result (kinds.new.items ≡ kinds.old.items ++ spec_list end (views expressions.now)) }
+    ensures { OnOk result
+        (kinds.new.items ≡ kinds.old.items ++ spec_list end (views expressions.now)) }
 {
     for (place, expression) in expressions.iter().enumerate() {
         separate(kinds, place)?;
@@ -212,7 +214,8 @@ fn put_new(
     annotations: &[Annotation],
     base: Base,
 ) -> Result<(), OutOfMemory>
-    ensures { OnOk result (kinds.new.items ≡ kinds.old.items ++ spec_new (annotation_names annotations.now) (base_view base)) }
+    ensures { OnOk result (kinds.new.items
+        ≡ kinds.old.items ++ spec_new (annotation_names annotations.now) (base_view base)) }
 {
     put(kinds, TokenKind::New)?;
     spell_annotations(kinds, annotations)?;

@@ -11,7 +11,8 @@ use std::alloc::Global;
 
 /// Puts further names, each behind a dot, behind the tokens.
 fn spell_dots(kinds: &mut Vec<TokenKind>, names: &[Identifier]) -> Result<(), OutOfMemory>
-    ensures { OnOk result (kinds.new.items ≡ kinds.old.items ++ spec_dots (identifier_names names.now)) }
+    ensures { OnOk result
+        (kinds.new.items ≡ kinds.old.items ++ spec_dots (identifier_names names.now)) }
 {
     for name in names {
         put_all(kinds, &[TokenKind::Dot, TokenKind::Id(name.name)])?;
@@ -20,7 +21,8 @@ fn spell_dots(kinds: &mut Vec<TokenKind>, names: &[Identifier]) -> Result<(), Ou
 }
 
 fn spell_dotted(kinds: &mut Vec<TokenKind>, name: &QualifiedName) -> Result<(), OutOfMemory>
-    ensures { OnOk result (kinds.new.items ≡ kinds.old.items ++ spec_dotted (dotted_view name.now)) }
+    ensures { OnOk result
+        (kinds.new.items ≡ kinds.old.items ++ spec_dotted (dotted_view name.now)) }
 {
     put(kinds, TokenKind::Id(name.first.name))?;
     spell_dots(kinds, &name.more)
@@ -30,7 +32,8 @@ fn spell_package_line(
     kinds: &mut Vec<TokenKind>,
     package_line: &Option<PackageLine>,
 ) -> Result<(), OutOfMemory>
-    ensures { OnOk result (kinds.new.items ≡ kinds.old.items ++ spec_package_line (package_view package_line.now)) }
+    ensures { OnOk result
+        (kinds.new.items ≡ kinds.old.items ++ spec_package_line (package_view package_line.now)) }
 {
     match package_line {
         None => Ok(()),
@@ -53,7 +56,8 @@ fn spell_star(kinds: &mut Vec<TokenKind>, all: bool) -> Result<(), OutOfMemory>
 }
 
 fn spell_import(kinds: &mut Vec<TokenKind>, import: &Import) -> Result<(), OutOfMemory>
-    ensures { OnOk result (kinds.new.items ≡ kinds.old.items ++ spec_import (import_view import.now)) }
+    ensures { OnOk result
+        (kinds.new.items ≡ kinds.old.items ++ spec_import (import_view import.now)) }
 {
     put(kinds, TokenKind::Import)?;
     spell_dotted(kinds, &import.name)?;
@@ -62,7 +66,8 @@ fn spell_import(kinds: &mut Vec<TokenKind>, import: &Import) -> Result<(), OutOf
 }
 
 fn spell_imports(kinds: &mut Vec<TokenKind>, imports: &[Import]) -> Result<(), OutOfMemory>
-    ensures { OnOk result (kinds.new.items ≡ kinds.old.items ++ spec_imports (map import_view imports.now)) }
+    ensures { OnOk result
+        (kinds.new.items ≡ kinds.old.items ++ spec_imports (map import_view imports.now)) }
 {
     for import in imports {
         spell_import(kinds, import)?;
@@ -71,7 +76,8 @@ fn spell_imports(kinds: &mut Vec<TokenKind>, imports: &[Import]) -> Result<(), O
 }
 
 fn spell_types(kinds: &mut Vec<TokenKind>, types: &[TypeTree]) -> Result<(), OutOfMemory>
-    ensures { OnOk result (kinds.new.items ≡ kinds.old.items ++ spec_types (map type_view types.now)) }
+    ensures { OnOk result
+        (kinds.new.items ≡ kinds.old.items ++ spec_types (map type_view types.now)) }
 {
     for declaration in types {
         spell_type(kinds, declaration)?;

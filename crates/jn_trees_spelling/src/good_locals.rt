@@ -99,7 +99,9 @@ pub fn nesting_declarators(declarators: &[Declarator]) -> u32
 
 /// How deep the deepest initializer of a declaration is nested.
 pub fn nesting_first(first: &Declarator, more: &[Declarator]) -> u32
-    ensures { result ≡ min (spec_declarators (declarator_view first.now ∷ declarator_views more.now)) (2 ^ 32 - 1) }
+    ensures { result
+        ≡ min (spec_declarators (declarator_view first.now ∷ declarator_views more.now))
+        (2 ^ 32 - 1) }
 {
     deeper(nesting_optional(&first.value), nesting_declarators(more))
 }

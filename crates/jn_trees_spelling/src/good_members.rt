@@ -26,7 +26,8 @@ fn good_parameters(parameters: &[Parameter]) -> bool
 
 /// Whether the receiver, where there is one, stands in a method that is not static and has its type's name.
 fn good_receiver(owner: NameNo, modifiers: &[Modifier], receiver: &Option<Receiver>) -> bool
-    ensures { IsTrue result ↔ GoodReceiver owner (marks modifiers.now) (receiver_view receiver.now) }
+    ensures { IsTrue result
+        ↔ GoodReceiver owner (marks modifiers.now) (receiver_view receiver.now) }
 {
     match receiver {
         None => true,
@@ -50,7 +51,9 @@ fn good_method_head(
     receiver: &Option<Receiver>,
     parameters: &[Parameter],
 ) -> bool
-    ensures { IsTrue result ↔ GoodMethodHead owner (marks modifiers.now) (receiver_view receiver.now) (parameter_views parameters.now) }
+    ensures { IsTrue result
+        ↔ GoodMethodHead owner (marks modifiers.now) (receiver_view receiver.now)
+        (parameter_views parameters.now) }
 {
     good_method_marks(owner.interface, modifiers)
         && good_receiver(owner.name, modifiers, receiver)
@@ -64,7 +67,8 @@ fn good_constructor_head(
     name: NameNo,
     parameters: &[Parameter],
 ) -> bool
-    ensures { IsTrue result ↔ GoodConstructorHead owner (marks modifiers.now) name (parameter_views parameters.now) }
+    ensures { IsTrue result
+        ↔ GoodConstructorHead owner (marks modifiers.now) name (parameter_views parameters.now) }
 {
     good_marks(Place::Constructor, modifiers)
         && !owner.interface
@@ -73,7 +77,8 @@ fn good_constructor_head(
 }
 
 fn good_field(modifiers: &[Modifier], first: &Declarator, more: &[Declarator]) -> bool
-    ensures { IsTrue result ↔ GoodField (marks modifiers.now) (declarator_view first.now) (declarator_views more.now) }
+    ensures { IsTrue result
+        ↔ GoodField (marks modifiers.now) (declarator_view first.now) (declarator_views more.now) }
 {
     good_marks(Place::Field, modifiers)
         && (good_optional(&first.value) && good_declarators(more))

@@ -11,7 +11,8 @@ use jn_base::OutOfMemory;
 use jn_trees::{Annotation, Declarator, Expr, LocalDeclaration, LocalModifier, TokenKind, TypeUse};
 
 fn spell_local_mark(kinds: &mut Vec<TokenKind>, modifier: LocalModifier) -> Result<(), OutOfMemory>
-    ensures { OnOk result (kinds.new.items ≡ kinds.old.items ++ spec_local_mark (local_mark modifier)) }
+    ensures { OnOk result
+        (kinds.new.items ≡ kinds.old.items ++ spec_local_mark (local_mark modifier)) }
 {
     match modifier {
         LocalModifier::Annotation(annotation) => put_all(
@@ -27,7 +28,8 @@ pub fn spell_local_marks(
     kinds: &mut Vec<TokenKind>,
     modifiers: &[LocalModifier],
 ) -> Result<(), OutOfMemory>
-    ensures { OnOk result (kinds.new.items ≡ kinds.old.items ++ spec_marks (local_marks modifiers.now)) }
+    ensures { OnOk result
+        (kinds.new.items ≡ kinds.old.items ++ spec_marks (local_marks modifiers.now)) }
 {
     for modifier in modifiers {
         spell_local_mark(kinds, *modifier)?;
@@ -39,7 +41,8 @@ fn spell_brackets(
     kinds: &mut Vec<TokenKind>,
     array: &Option<Vec<Annotation>>,
 ) -> Result<(), OutOfMemory>
-    ensures { OnOk result (kinds.new.items ≡ kinds.old.items ++ spec_brackets (brackets_view array.now)) }
+    ensures { OnOk result
+        (kinds.new.items ≡ kinds.old.items ++ spec_brackets (brackets_view array.now)) }
 {
     match array {
         None => Ok(()),
@@ -52,14 +55,16 @@ fn spell_brackets(
 
 /// Puts the use of a type behind the tokens.
 pub fn spell_type_use(kinds: &mut Vec<TokenKind>, type_use: &TypeUse) -> Result<(), OutOfMemory>
-    ensures { OnOk result (kinds.new.items ≡ kinds.old.items ++ spec_type_use (type_use_view type_use.now)) }
+    ensures { OnOk result
+        (kinds.new.items ≡ kinds.old.items ++ spec_type_use (type_use_view type_use.now)) }
 {
     put(kinds, base_token(type_use.base))?;
     spell_brackets(kinds, &type_use.array)
 }
 
 fn spell_value(kinds: &mut Vec<TokenKind>, value: &Option<Expr>) -> Result<(), OutOfMemory>
-    ensures { OnOk result (kinds.new.items ≡ kinds.old.items ++ spec_value (optional_view value.now)) }
+    ensures { OnOk result
+        (kinds.new.items ≡ kinds.old.items ++ spec_value (optional_view value.now)) }
 {
     match value {
         None => Ok(()),
@@ -75,7 +80,8 @@ pub fn spell_declarator(
     kinds: &mut Vec<TokenKind>,
     declarator: &Declarator,
 ) -> Result<(), OutOfMemory>
-    ensures { OnOk result (kinds.new.items ≡ kinds.old.items ++ spec_declarator (declarator_view declarator.now)) }
+    ensures { OnOk result
+        (kinds.new.items ≡ kinds.old.items ++ spec_declarator (declarator_view declarator.now)) }
 {
     put(kinds, TokenKind::Id(declarator.name.name))?;
     spell_value(kinds, &declarator.value)
@@ -86,7 +92,8 @@ pub fn spell_more_declarators(
     kinds: &mut Vec<TokenKind>,
     declarators: &[Declarator],
 ) -> Result<(), OutOfMemory>
-    ensures { OnOk result (kinds.new.items ≡ kinds.old.items ++ spec_more_declarators (declarator_views declarators.now)) }
+    ensures { OnOk result (kinds.new.items
+        ≡ kinds.old.items ++ spec_more_declarators (declarator_views declarators.now)) }
 {
     for declarator in declarators {
         put(kinds, TokenKind::Comma)?;
@@ -100,7 +107,8 @@ pub fn spell_local(
     kinds: &mut Vec<TokenKind>,
     declaration: &LocalDeclaration,
 ) -> Result<(), OutOfMemory>
-    ensures { OnOk result (kinds.new.items ≡ kinds.old.items ++ spec_local (local_view declaration.now)) }
+    ensures { OnOk result
+        (kinds.new.items ≡ kinds.old.items ++ spec_local (local_view declaration.now)) }
 {
     spell_local_marks(kinds, &declaration.modifiers)?;
     spell_type_use(kinds, &declaration.type_use)?;

@@ -34,7 +34,8 @@ pub fn spell_modifiers(
     kinds: &mut Vec<TokenKind>,
     modifiers: &[Modifier],
 ) -> Result<(), OutOfMemory>
-    ensures { OnOk result (kinds.new.items ≡ kinds.old.items ++ spec_all_marks (marks modifiers.now)) }
+    ensures { OnOk result
+        (kinds.new.items ≡ kinds.old.items ++ spec_all_marks (marks modifiers.now)) }
 {
     for modifier in modifiers {
         spell_modifier(kinds, *modifier)?;
@@ -43,7 +44,8 @@ pub fn spell_modifiers(
 }
 
 fn spell_parameter(kinds: &mut Vec<TokenKind>, parameter: &Parameter) -> Result<(), OutOfMemory>
-    ensures { OnOk result (kinds.new.items ≡ kinds.old.items ++ spec_parameter (parameter_view parameter.now)) }
+    ensures { OnOk result
+        (kinds.new.items ≡ kinds.old.items ++ spec_parameter (parameter_view parameter.now)) }
 {
     spell_local_marks(kinds, &parameter.modifiers)?;
     spell_type_use(kinds, &parameter.type_use)?;
@@ -55,7 +57,8 @@ fn spell_more_parameters(
     kinds: &mut Vec<TokenKind>,
     parameters: &[Parameter],
 ) -> Result<(), OutOfMemory>
-    ensures { OnOk result (kinds.new.items ≡ kinds.old.items ++ spec_more_parameters (parameter_views parameters.now)) }
+    ensures { OnOk result (kinds.new.items
+        ≡ kinds.old.items ++ spec_more_parameters (parameter_views parameters.now)) }
 {
     for parameter in parameters {
         put(kinds, TokenKind::Comma)?;
@@ -69,7 +72,8 @@ fn spell_plain_parameters(
     kinds: &mut Vec<TokenKind>,
     parameters: &[Parameter],
 ) -> Result<(), OutOfMemory>
-    ensures { OnOk result (kinds.new.items ≡ kinds.old.items ++ spec_parameters None (parameter_views parameters.now)) }
+    ensures { OnOk result (kinds.new.items
+        ≡ kinds.old.items ++ spec_parameters None (parameter_views parameters.now)) }
 {
     match parameters.split_first() {
         None => put(kinds, TokenKind::RightParen),
@@ -85,7 +89,9 @@ fn spell_parameters(
     receiver: &Option<Receiver>,
     parameters: &[Parameter],
 ) -> Result<(), OutOfMemory>
-    ensures { OnOk result (kinds.new.items ≡ kinds.old.items ++ spec_parameters (receiver_view receiver.now) (parameter_views parameters.now)) }
+    ensures { OnOk result (kinds.new.items
+        ≡ kinds.old.items
+        ++ spec_parameters (receiver_view receiver.now) (parameter_views parameters.now)) }
 {
     match receiver {
         None => spell_plain_parameters(kinds, parameters),
@@ -101,7 +107,8 @@ fn spell_parameters(
 }
 
 fn spell_result(kinds: &mut Vec<TokenKind>, result_use: &ResultUse) -> Result<(), OutOfMemory>
-    ensures { OnOk result (kinds.new.items ≡ kinds.old.items ++ spec_result (result_view result_use.now)) }
+    ensures { OnOk result
+        (kinds.new.items ≡ kinds.old.items ++ spec_result (result_view result_use.now)) }
 {
     match result_use {
         ResultUse::Void(_) => put(kinds, TokenKind::Void),
@@ -118,7 +125,10 @@ fn spell_method_head(
     receiver: &Option<Receiver>,
     parameters: &[Parameter],
 ) -> Result<(), OutOfMemory>
-    ensures { OnOk result (kinds.new.items ≡ kinds.old.items ++ spec_method_head (marks modifiers.now) (result_view result_use.now) name (receiver_view receiver.now) (parameter_views parameters.now)) }
+    ensures { OnOk result (kinds.new.items
+        ≡ kinds.old.items
+        ++ spec_method_head (marks modifiers.now) (result_view result_use.now) name
+        (receiver_view receiver.now) (parameter_views parameters.now)) }
 {
     spell_modifiers(kinds, modifiers)?;
     spell_result(kinds, result_use)?;
@@ -133,7 +143,9 @@ fn spell_constructor_head(
     name: NameNo,
     parameters: &[Parameter],
 ) -> Result<(), OutOfMemory>
-    ensures { OnOk result (kinds.new.items ≡ kinds.old.items ++ spec_constructor_head (marks modifiers.now) name (parameter_views parameters.now)) }
+    ensures { OnOk result (kinds.new.items
+        ≡ kinds.old.items
+        ++ spec_constructor_head (marks modifiers.now) name (parameter_views parameters.now)) }
 {
     spell_modifiers(kinds, modifiers)?;
     put_all(kinds, &[TokenKind::Id(name), TokenKind::LeftParen])?;
@@ -144,7 +156,8 @@ fn spell_method_body(
     kinds: &mut Vec<TokenKind>,
     body: &Option<Vec<Stmt>>,
 ) -> Result<(), OutOfMemory>
-    ensures { OnOk result (kinds.new.items ≡ kinds.old.items ++ spec_method_body (body_view body.now)) }
+    ensures { OnOk result
+        (kinds.new.items ≡ kinds.old.items ++ spec_method_body (body_view body.now)) }
 {
     match body {
         None => put(kinds, TokenKind::Semicolon),
@@ -162,7 +175,10 @@ fn spell_field(
     first: &Declarator,
     more: &[Declarator],
 ) -> Result<(), OutOfMemory>
-    ensures { OnOk result (kinds.new.items ≡ kinds.old.items ++ spec_field (marks modifiers.now) (type_use_view type_use.now) (declarator_view first.now) (declarator_views more.now)) }
+    ensures { OnOk result (kinds.new.items
+        ≡ kinds.old.items
+        ++ spec_field (marks modifiers.now) (type_use_view type_use.now)
+        (declarator_view first.now) (declarator_views more.now)) }
 {
     spell_modifiers(kinds, modifiers)?;
     spell_type_use(kinds, type_use)?;
@@ -173,7 +189,8 @@ fn spell_field(
 
 /// Puts the member behind the tokens.
 pub fn spell_member(kinds: &mut Vec<TokenKind>, member: &Member) -> Result<(), OutOfMemory>
-    ensures { OnOk result (kinds.new.items ≡ kinds.old.items ++ spec_member (member_view member.now)) }
+    ensures { OnOk result
+        (kinds.new.items ≡ kinds.old.items ++ spec_member (member_view member.now)) }
 {
     match member {
         Member::Field {

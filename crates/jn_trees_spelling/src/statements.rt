@@ -11,7 +11,8 @@ use jn_base::{NameNo, OutOfMemory};
 use jn_trees::{Expr, ForInit, LocalModifier, Stmt, TokenKind, TypeUse};
 
 fn spell_optional(kinds: &mut Vec<TokenKind>, expression: &Option<Expr>) -> Result<(), OutOfMemory>
-    ensures { OnOk result (kinds.new.items ≡ kinds.old.items ++ spec_optional (optional_view expression.now)) }
+    ensures { OnOk result
+        (kinds.new.items ≡ kinds.old.items ++ spec_optional (optional_view expression.now)) }
 {
     match expression {
         None => Ok(()),
@@ -37,7 +38,8 @@ fn spell_condition(
     word: TokenKind,
     condition: &Expr,
 ) -> Result<(), OutOfMemory>
-    ensures { OnOk result (kinds.new.items ≡ kinds.old.items ++ spec_condition word (view condition.now)) }
+    ensures { OnOk result
+        (kinds.new.items ≡ kinds.old.items ++ spec_condition word (view condition.now)) }
 {
     put_all(kinds, &[word, TokenKind::LeftParen])?;
     spell(kinds, condition)?;
@@ -47,7 +49,8 @@ fn spell_condition(
 /// Puts the statement behind the tokens.
 #[cycle(statements)]
 pub fn spell_statement(kinds: &mut Vec<TokenKind>, statement: &Stmt) -> Result<(), OutOfMemory>
-    ensures { OnOk result (kinds.new.items ≡ kinds.old.items ++ spec_statement (statement_view statement.now)) }
+    ensures { OnOk result
+        (kinds.new.items ≡ kinds.old.items ++ spec_statement (statement_view statement.now)) }
 {
     match statement {
         Stmt::Block { statements, .. } => {
@@ -138,7 +141,8 @@ pub fn spell_statement(kinds: &mut Vec<TokenKind>, statement: &Stmt) -> Result<(
 /// Puts the statements of a block or body behind the tokens, through the closing brace.
 #[cycle(statements)]
 pub fn spell_body(kinds: &mut Vec<TokenKind>, statements: &[Stmt]) -> Result<(), OutOfMemory>
-    ensures { OnOk result (kinds.new.items ≡ kinds.old.items ++ spec_body (statement_views statements.now)) }
+    ensures { OnOk result
+        (kinds.new.items ≡ kinds.old.items ++ spec_body (statement_views statements.now)) }
 {
     for statement in statements {
         spell_statement(kinds, statement)?;
@@ -153,7 +157,10 @@ fn spell_for_head(
     condition: &Option<Expr>,
     update: &[Expr],
 ) -> Result<(), OutOfMemory>
-    ensures { OnOk result (kinds.new.items ≡ kinds.old.items ++ spec_for_head (init_view init.now) (optional_view condition.now) (views update.now)) }
+    ensures { OnOk result (kinds.new.items
+        ≡ kinds.old.items
+        ++ spec_for_head (init_view init.now) (optional_view condition.now)
+        (views update.now)) }
 {
     put_all(kinds, &[TokenKind::For, TokenKind::LeftParen])?;
     spell_init(kinds, init)?;
@@ -169,7 +176,9 @@ fn spell_each_head(
     type_use: &TypeUse,
     name: NameNo,
 ) -> Result<(), OutOfMemory>
-    ensures { OnOk result (kinds.new.items ≡ kinds.old.items ++ spec_each_head (local_marks modifiers.now) (type_use_view type_use.now) name) }
+    ensures { OnOk result (kinds.new.items
+        ≡ kinds.old.items
+        ++ spec_each_head (local_marks modifiers.now) (type_use_view type_use.now) name) }
 {
     put_all(kinds, &[TokenKind::For, TokenKind::LeftParen])?;
     spell_local_marks(kinds, modifiers)?;
@@ -183,7 +192,8 @@ fn spell_other_call(
     word: TokenKind,
     arguments: &[Expr],
 ) -> Result<(), OutOfMemory>
-    ensures { OnOk result (kinds.new.items ≡ kinds.old.items ++ spec_other_call word (views arguments.now)) }
+    ensures { OnOk result
+        (kinds.new.items ≡ kinds.old.items ++ spec_other_call word (views arguments.now)) }
 {
     put_all(kinds, &[word, TokenKind::LeftParen])?;
     spell_list(kinds, TokenKind::RightParen, arguments)?;

@@ -40,7 +40,8 @@ fn work_alone<C: Constraints, G: Gate>(
 ) -> (Pass<C>, Worked)
     requires ready { CanWork C.describe table.now plan.now pass }
     ensures worked { HasWorked C.describe table.now pass result.0 }
-    ensures emptied { result.1 ≡ Worked.Emptied → HasSeenAll (C.describe (system_of table.now)) (view_of result.0) }
+    ensures emptied { result.1 ≡ Worked.Emptied
+        → HasSeenAll (C.describe (system_of table.now)) (view_of result.0) }
 {
     let budget = 4 * table.system().bodies() as u64 + 64;
     let end = work(alloc, table, plan, &mut pass, worker, budget, gate);
@@ -62,7 +63,8 @@ fn spread<R: Threads + Sync, C: Constraints + Sync, G: Gate + Sync>(
     ensures own { IsPassOf table.now result.0 }
     ensures idle { IsAtRest (C.describe (system_of table.now)) (view_of result.0) }
     ensures share { WeighsAs (view_of result.0) (view_of pass) }
-    ensures emptied { result.1 ≡ Worked.Emptied → HasSeenAll (C.describe (system_of table.now)) (view_of result.0) }
+    ensures emptied { result.1 ≡ Worked.Emptied
+        → HasSeenAll (C.describe (system_of table.now)) (view_of result.0) }
 {
     if more == 0 {
         return work_alone(alloc, table, plan, pass, 0, gate);
@@ -71,14 +73,17 @@ fn spread<R: Threads + Sync, C: Constraints + Sync, G: Gate + Sync>(
     let theirs = move || -> (Pass<C>, Worked)
         requires { CanWork C.describe table.now plan.now other }
         ensures worked { HasWorked C.describe table.entry.now other result.0 }
-        ensures emptied { result.1 ≡ Worked.Emptied → HasSeenAll (C.describe (system_of table.entry.now)) (view_of result.0) }
+        ensures emptied { result.1 ≡ Worked.Emptied
+            → HasSeenAll (C.describe (system_of table.entry.now)) (view_of result.0) }
     { work_alone(alloc, table, plan, other, more, gate) };
     let ours = move || -> (Pass<C>, Worked)
-        requires { IsSync R.row × IsSync C.row × IsSync G.row × (0 < more) × CanWork C.describe table.now plan.now pass }
+        requires { IsSync R.row × IsSync C.row × IsSync G.row × (0 < more)
+            × CanWork C.describe table.now plan.now pass }
         ensures own { IsPassOf table.entry.now result.0 }
         ensures idle { IsAtRest (C.describe (system_of table.entry.now)) (view_of result.0) }
         ensures share { WeighsAs (view_of result.0) (view_of pass) }
-        ensures emptied { result.1 ≡ Worked.Emptied → HasSeenAll (C.describe (system_of table.entry.now)) (view_of result.0) }
+        ensures emptied { result.1 ≡ Worked.Emptied
+            → HasSeenAll (C.describe (system_of table.entry.now)) (view_of result.0) }
     { spread(rt, alloc, table, plan, pass, more - 1, gate) };
     let ((theirs, end), (mut ours, last)) = join(rt, theirs, ours);
     table.join_pass(&mut ours, theirs);

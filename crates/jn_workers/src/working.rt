@@ -45,8 +45,10 @@ fn try_body<C: Constraints, G: Gate>(
     requires inside { body.0 < (C.describe (system_of table.now)).bodies }
     requires left { 0 < left }
     ensures worked { HasWorked C.describe table.now pass.old pass.new }
-    ensures count { IfOk result (λ l. (l ≤ left) × ((view_of pass.new).taken + l ≡ (view_of pass.old).taken + left)) }
-    ensures clear { IfOk result (λ l. l ≡ left → (view_of pass.new).clear ≡ body.0 ∷ (view_of pass.old).clear) }
+    ensures count { IfOk result
+        (λ l. (l ≤ left) × ((view_of pass.new).taken + l ≡ (view_of pass.old).taken + left)) }
+    ensures clear { IfOk result
+        (λ l. l ≡ left → (view_of pass.new).clear ≡ body.0 ∷ (view_of pass.old).clear) }
     ensures stop { IfErr result (λ s. s ≡ Stop.OutOfMemory) }
 {
     let Some(taken) = table.take_body(pass, body) else {
@@ -75,10 +77,15 @@ fn try_place<C: Constraints, G: Gate>(
     requires ready { CanWork C.describe table.now plan.now pass.old }
     requires place { place < 64 }
     ensures worked { HasWorked C.describe table.now pass.old pass.new }
-    ensures count { IfOk result (λ l. (l ≤ left) × ((view_of pass.new).taken + l ≡ (view_of pass.old).taken + left)) }
+    ensures count { IfOk result
+        (λ l. (l ≤ left) × ((view_of pass.new).taken + l ≡ (view_of pass.old).taken + left)) }
     ensures still { IfOk result (λ l. l ≡ left → StillSeen (view_of pass.old) (view_of pass.new)) }
-    ensures seen { IfOk result (λ l. l ≡ left → SeenIn (C.describe (system_of table.now)) (view_of pass.old) dirty bits → (b : ℕ) → b < (C.describe (system_of table.now)).bodies → b / 64 ≡ dirty → b % 64 ≡ place → Has (view_of pass.new).clear b) }
-    ensures spent { IfErr result (λ s. s ≡ Stop.Spent → (view_of pass.new).taken ≡ (view_of pass.old).taken + left) }
+    ensures seen { IfOk result (λ l. l ≡ left
+        → SeenIn (C.describe (system_of table.now)) (view_of pass.old) dirty bits → (b : ℕ)
+        → b < (C.describe (system_of table.now)).bodies → b / 64 ≡ dirty → b % 64 ≡ place
+        → Has (view_of pass.new).clear b) }
+    ensures spent { IfErr result
+        (λ s. s ≡ Stop.Spent → (view_of pass.new).taken ≡ (view_of pass.old).taken + left) }
 {
     let body = 64 * dirty as u64 + place as u64;
     if (bits >> place) & 1 == 0 || body >= table.system().bodies() as u64 {
@@ -113,10 +120,15 @@ fn visit<C: Constraints, G: Gate>(
 ) -> Result<u64, Stop>
     requires ready { CanWork C.describe table.now plan.now pass.old }
     ensures worked { HasWorked C.describe table.now pass.old pass.new }
-    ensures count { IfOk result (λ l. (l ≤ budget) × ((view_of pass.new).taken + l ≡ (view_of pass.old).taken + budget)) }
-    ensures still { IfOk result (λ l. l ≡ budget → StillSeen (view_of pass.old) (view_of pass.new)) }
-    ensures seen { IfOk result (λ l. l ≡ budget → SeenIn (C.describe (system_of table.now)) (view_of pass.old) dirty bits → SeenUpTo (C.describe (system_of table.now)) (view_of pass.new) dirty 64) }
-    ensures spent { IfErr result (λ s. s ≡ Stop.Spent → (view_of pass.new).taken ≡ (view_of pass.old).taken + budget) }
+    ensures count { IfOk result
+        (λ l. (l ≤ budget) × ((view_of pass.new).taken + l ≡ (view_of pass.old).taken + budget)) }
+    ensures still { IfOk result
+        (λ l. l ≡ budget → StillSeen (view_of pass.old) (view_of pass.new)) }
+    ensures seen { IfOk result (λ l. l ≡ budget
+        → SeenIn (C.describe (system_of table.now)) (view_of pass.old) dirty bits
+        → SeenUpTo (C.describe (system_of table.now)) (view_of pass.new) dirty 64) }
+    ensures spent { IfErr result
+        (λ s. s ≡ Stop.Spent → (view_of pass.new).taken ≡ (view_of pass.old).taken + budget) }
 {
     let mut left = budget;
     for place in 0..64u32 {
@@ -139,9 +151,12 @@ fn round<C: Constraints, G: Gate>(
 ) -> Result<u64, Stop>
     requires ready { CanWork C.describe table.now plan.now pass.old }
     ensures worked { HasWorked C.describe table.now pass.old pass.new }
-    ensures count { IfOk result (λ l. (l ≤ budget) × ((view_of pass.new).taken + l ≡ (view_of pass.old).taken + budget)) }
-    ensures seen { IfOk result (λ l. l ≡ budget → HasSeenAll (C.describe (system_of table.now)) (view_of pass.new)) }
-    ensures spent { IfErr result (λ s. s ≡ Stop.Spent → (view_of pass.new).taken ≡ (view_of pass.old).taken + budget) }
+    ensures count { IfOk result
+        (λ l. (l ≤ budget) × ((view_of pass.new).taken + l ≡ (view_of pass.old).taken + budget)) }
+    ensures seen { IfOk result
+        (λ l. l ≡ budget → HasSeenAll (C.describe (system_of table.now)) (view_of pass.new)) }
+    ensures spent { IfErr result
+        (λ s. s ≡ Stop.Spent → (view_of pass.new).taken ≡ (view_of pass.old).taken + budget) }
 {
     let dirty = (table.system().bodies() as u64 + 63) / 64;
     let mut left = budget;
@@ -171,8 +186,10 @@ pub fn work<C: Constraints, G: Gate>(
     ensures own { IsPassOf table.now pass.new }
     ensures idle { IsAtRest (C.describe (system_of table.now)) (view_of pass.new) }
     ensures share { (view_of pass.new).share ≡ (view_of pass.old).share }
-    ensures emptied { result ≡ Worked.Emptied → HasSeenAll (C.describe (system_of table.now)) (view_of pass.new) }
-    ensures spent { result ≡ Worked.Spent → (view_of pass.new).taken ≡ (view_of pass.old).taken + budget }
+    ensures emptied { result ≡ Worked.Emptied
+        → HasSeenAll (C.describe (system_of table.now)) (view_of pass.new) }
+    ensures spent { result ≡ Worked.Spent
+        → (view_of pass.new).taken ≡ (view_of pass.old).taken + budget }
 {
     let mut left = budget;
     for _ in 0..budget {

@@ -16,10 +16,15 @@ fn raise(plan: &Plan, word: WordNo, bits: u64, words: &mut [u64], dirty: &mut [u
     requires word { word.0 < length words.old }
     requires plan { word.0 < length plan.now }
     requires room { (x : ℕ) → Lists (get_or plan.now word.0 []) x → x / 64 < length dirty.old }
-    ensures same { result ≡ false → (bit_or (slice_index words.old word.0) bits ≡ slice_index words.old word.0) × (words.new ≡ words.old) × (dirty.new ≡ dirty.old) }
-    ensures words { result ≡ true → words.new ≡ slice_set words.old word.0 (bit_or (slice_index words.old word.0) bits) }
-    ensures more { result ≡ true → (n : ℕ) → word.0 < n → ones_in n words.old < ones_in n words.new }
-    ensures dirty { result ≡ true → (x : ℕ) → IsDue dirty.new x ↔ (IsDue dirty.old x ⊎ Lists (get_or plan.now word.0 []) x) }
+    ensures same { result ≡ false
+        → (bit_or (slice_index words.old word.0) bits ≡ slice_index words.old word.0)
+        × (words.new ≡ words.old) × (dirty.new ≡ dirty.old) }
+    ensures words { result ≡ true
+        → words.new ≡ slice_set words.old word.0 (bit_or (slice_index words.old word.0) bits) }
+    ensures more { result ≡ true → (n : ℕ) → word.0 < n
+        → ones_in n words.old < ones_in n words.new }
+    ensures dirty { result ≡ true → (x : ℕ)
+        → IsDue dirty.new x ↔ (IsDue dirty.old x ⊎ Lists (get_or plan.now word.0 []) x) }
 {
     let old = words[word.0 as usize];
     if !is_new(old, bits) {
@@ -43,8 +48,11 @@ fn run<C: Constraints>(
     requires inside { body.0 < (C.describe system.now).bodies }
     requires count { length words.old ≡ (C.describe system.now).words }
     requires room { length dirty.old ≡ dirty_words (C.describe system.now) }
-    ensures kept { OnOk result ((start : _) → IsDrainingBut (C.describe system.now) start body.0 words.old dirty.old → IsDraining (C.describe system.now) start words.new dirty.new) }
-    ensures moved { IfOk result (λ raised. Moved raised (C.describe system.now) words.old words.new (dirty.new ≡ dirty.old)) }
+    ensures kept { OnOk result ((start : _)
+        → IsDrainingBut (C.describe system.now) start body.0 words.old dirty.old
+        → IsDraining (C.describe system.now) start words.new dirty.new) }
+    ensures moved { IfOk result (λ raised.
+        Moved raised (C.describe system.now) words.old words.new (dirty.new ≡ dirty.old)) }
 {
     let output = system.output(alloc, body, words)?;
     let mut raised = false;
@@ -69,8 +77,11 @@ fn visit<C: Constraints>(
     requires inside { body.0 < (C.describe system.now).bodies }
     requires count { length words.old ≡ (C.describe system.now).words }
     requires room { length dirty.old ≡ dirty_words (C.describe system.now) }
-    ensures kept { OnOk result ((start : _) → IsDraining (C.describe system.now) start words.old dirty.old → IsDraining (C.describe system.now) start words.new dirty.new) }
-    ensures moved { IfOk result (λ raised. Moved raised (C.describe system.now) words.old words.new ((x : ℕ) → IsDue dirty.new x → IsDue dirty.old x × (x ≢ body.0))) }
+    ensures kept { OnOk result ((start : _)
+        → IsDraining (C.describe system.now) start words.old dirty.old
+        → IsDraining (C.describe system.now) start words.new dirty.new) }
+    ensures moved { IfOk result (λ raised. Moved raised (C.describe system.now) words.old words.new
+        ((x : ℕ) → IsDue dirty.new x → IsDue dirty.old x × (x ≢ body.0))) }
 {
     if !take_body(dirty, body) {
         return Ok(false);
@@ -90,8 +101,11 @@ fn round<C: Constraints>(
     requires plan { plan.now ≡ plan_of (C.describe system.now) }
     requires count { length words.old ≡ (C.describe system.now).words }
     requires room { length dirty.old ≡ dirty_words (C.describe system.now) }
-    ensures kept { OnOk result ((start : _) → IsDraining (C.describe system.now) start words.old dirty.old → IsDraining (C.describe system.now) start words.new dirty.new) }
-    ensures moved { IfOk result (λ raised. Moved raised (C.describe system.now) words.old words.new ((x : ℕ) → x < (C.describe system.now).bodies → IsDue dirty.new x → ⊥)) }
+    ensures kept { OnOk result ((start : _)
+        → IsDraining (C.describe system.now) start words.old dirty.old
+        → IsDraining (C.describe system.now) start words.new dirty.new) }
+    ensures moved { IfOk result (λ raised. Moved raised (C.describe system.now) words.old words.new
+        ((x : ℕ) → x < (C.describe system.now).bodies → IsDue dirty.new x → ⊥)) }
 {
     let mut raised = false;
     for body in 0..system.bodies() {
@@ -113,7 +127,8 @@ fn settle<C: Constraints>(
     requires plan { plan.now ≡ plan_of (C.describe system.now) }
     requires count { length words.old ≡ (C.describe system.now).words }
     requires room { length dirty.old ≡ dirty_words (C.describe system.now) }
-    requires each { (b : ℕ) → b < (C.describe system.now).bodies → IsDirtyOrClosed (C.describe system.now) words.old dirty.old b }
+    requires each { (b : ℕ) → b < (C.describe system.now).bodies
+        → IsDirtyOrClosed (C.describe system.now) words.old dirty.old b }
     ensures words { OnOk result (words.new ≡ least (C.describe system.now) words.old) }
     ensures least { OnOk result (IsLeast (C.describe system.now) words.old words.new) }
 {
@@ -138,9 +153,12 @@ pub fn drain<C: Constraints>(
     requires plan { plan.now ≡ plan_of (C.describe system.now) }
     requires count { length words.items ≡ (C.describe system.now).words }
     requires room { length dirty.items ≡ dirty_words (C.describe system.now) }
-    requires each { (b : ℕ) → b < (C.describe system.now).bodies → IsDirtyOrClosed (C.describe system.now) words.items dirty.items b }
-    ensures words { IfOk result (λ drained. drained.items ≡ least (C.describe system.now) words.items) }
-    ensures least { IfOk result (λ drained. IsLeast (C.describe system.now) words.items drained.items) }
+    requires each { (b : ℕ) → b < (C.describe system.now).bodies
+        → IsDirtyOrClosed (C.describe system.now) words.items dirty.items b }
+    ensures words { IfOk result
+        (λ drained. drained.items ≡ least (C.describe system.now) words.items) }
+    ensures least { IfOk result
+        (λ drained. IsLeast (C.describe system.now) words.items drained.items) }
 {
     settle(alloc, system, plan, &mut words, &mut dirty)?;
     Ok(words)

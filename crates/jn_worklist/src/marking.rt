@@ -17,9 +17,11 @@ fn mark_one<C: Constraints>(
     requires own { IsPassOf table.now pass.old }
     requires inside { dirty < dirty_words (C.describe (system_of table.now)) }
     requires count { length due.now ≡ dirty_words (C.describe (system_of table.now)) }
-    requires raised { IsMarking (C.describe (system_of table.now)) body.0 (view_of pass.old) (view_of pass.old) dirty due.now }
+    requires raised { IsMarking (C.describe (system_of table.now)) body.0 (view_of pass.old)
+        (view_of pass.old) dirty due.now }
     ensures own { IsPassOf table.now pass.new }
-    ensures raised { IsMarking (C.describe (system_of table.now)) body.0 (view_of pass.old) (view_of pass.new) (dirty + 1) due.now }
+    ensures raised { IsMarking (C.describe (system_of table.now)) body.0 (view_of pass.old)
+        (view_of pass.new) (dirty + 1) due.now }
 {
     let bits = due[dirty as usize];
     if bits != 0 {
@@ -31,11 +33,13 @@ fn mark_one<C: Constraints>(
 pub fn mark_due<C: Constraints>(table: &SigTable<C>, pass: &mut Pass<C>, body: BodyNo, due: &[u64])
     requires own { IsPassOf table.now pass.old }
     requires count { length due.now ≡ dirty_words (C.describe (system_of table.now)) }
-    requires raised { IsMarking (C.describe (system_of table.now)) body.0 (view_of pass.old) (view_of pass.old) 0 due.now }
+    requires raised { IsMarking (C.describe (system_of table.now)) body.0 (view_of pass.old)
+        (view_of pass.old) 0 due.now }
     ensures own { IsPassOf table.now pass.new }
     ensures idle { IsAtRest (C.describe (system_of table.now)) (view_of pass.new) }
     ensures share { (view_of pass.new).share ≡ (view_of pass.old).share }
-    ensures run { HasRun (C.describe (system_of table.now)) body.0 (view_of pass.old) (view_of pass.new) }
+    ensures run { HasRun (C.describe (system_of table.now)) body.0 (view_of pass.old)
+        (view_of pass.new) }
 {
     let count = (table.system().bodies() as u64 + 63) / 64;
     for dirty in 0..count as u32 {

@@ -10,7 +10,8 @@ use std::alloc::{AllocError, Global};
 
 fn add_reader(readers: &mut [Seq<BodyNo>], word: WordNo, body: BodyNo) -> Result<(), AllocError>
     requires { word.0 < length readers.old }
-    ensures { OnOk result (readers.new ≡ slice_set readers.old word.0 (get_or readers.old word.0 [] ++ body ∷ [])) }
+    ensures { OnOk result
+        (readers.new ≡ slice_set readers.old word.0 (get_or readers.old word.0 [] ++ body ∷ [])) }
 {
     readers[word.0 as usize].push(body)?;
     Ok(())

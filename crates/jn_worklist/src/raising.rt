@@ -25,9 +25,11 @@ fn raise_one<C: Constraints>(
     requires count { length values.now ≡ (C.describe (system_of table.now)).words }
     requires output { output.now ≡ (C.describe (system_of table.now)).output body.0 values.now }
     requires at { at < length output.now }
-    requires raising { IsRaising (C.describe (system_of table.now)) body.0 (view_of pass.old) values.now (view_of pass.old) output.now at due.old }
+    requires raising { IsRaising (C.describe (system_of table.now)) body.0 (view_of pass.old)
+        values.now (view_of pass.old) output.now at due.old }
     ensures own { IsPassOf table.now pass.new }
-    ensures raising { IsRaising (C.describe (system_of table.now)) body.0 (view_of pass.old) values.now (view_of pass.new) output.now (at + 1) due.new }
+    ensures raising { IsRaising (C.describe (system_of table.now)) body.0 (view_of pass.old)
+        values.now (view_of pass.new) output.now (at + 1) due.new }
 {
     let (word, bits) = output[at];
     let found = table.raise_word(pass, word, bits);
@@ -51,9 +53,11 @@ pub fn raise_all<C: Constraints>(
     requires inside { body.0 < (C.describe (system_of table.now)).bodies }
     requires count { length values.now ≡ (C.describe (system_of table.now)).words }
     requires output { output.now ≡ (C.describe (system_of table.now)).output body.0 values.now }
-    requires raising { IsRaising (C.describe (system_of table.now)) body.0 (view_of pass.old) values.now (view_of pass.old) output.now 0 due.old }
+    requires raising { IsRaising (C.describe (system_of table.now)) body.0 (view_of pass.old)
+        values.now (view_of pass.old) output.now 0 due.old }
     ensures own { IsPassOf table.now pass.new }
-    ensures raising { IsRaising (C.describe (system_of table.now)) body.0 (view_of pass.old) values.now (view_of pass.new) output.now (length output.now) due.new }
+    ensures raising { IsRaising (C.describe (system_of table.now)) body.0 (view_of pass.old)
+        values.now (view_of pass.new) output.now (length output.now) due.new }
 {
     for at in 0..output.len() {
         raise_one(table, plan, pass, body, values, output, at, due);

@@ -18,9 +18,11 @@ pub fn read_all<C: Constraints>(
     requires own { IsPassOf table.now pass.old }
     requires inside { body.0 < (C.describe (system_of table.now)).bodies }
     requires list { IsReadList (C.describe (system_of table.now)) body.0 reads.now }
-    requires begun { IsReading (C.describe (system_of table.now)) body.0 (view_of pass.old) (view_of pass.old) values.items [] }
+    requires begun { IsReading (C.describe (system_of table.now)) body.0 (view_of pass.old)
+        (view_of pass.old) values.items [] }
     ensures own { IsPassOf table.now pass.new }
-    ensures read { IsReading (C.describe (system_of table.now)) body.0 (view_of pass.old) (view_of pass.new) result.items reads.now }
+    ensures read { IsReading (C.describe (system_of table.now)) body.0 (view_of pass.old)
+        (view_of pass.new) result.items reads.now }
 {
     for word in reads {
         values[word.0 as usize] = table.read_word(pass, *word);

@@ -30,7 +30,8 @@ pub fn run_body<C: Constraints>(
     ensures own { IsPassOf table.now pass.new }
     ensures idle { IsAtRest (C.describe (system_of table.now)) (view_of pass.new) }
     ensures share { (view_of pass.new).share ≡ (view_of pass.old).share }
-    ensures run { OnOk result (HasRun (C.describe (system_of table.now)) body.0 (view_of pass.old) (view_of pass.new)) }
+    ensures run { OnOk result
+        (HasRun (C.describe (system_of table.now)) body.0 (view_of pass.old) (view_of pass.new)) }
     ensures back { OnErr result (HasGivenBack (view_of pass.old) (view_of pass.new)) }
 {
     let words = table.system().words() as usize;

@@ -47,7 +47,8 @@ fn strings(alloc: Global, texts: &[Text]) -> Result<Vec<String>, AllocError>
 
 /// The program that is to be run: that of accepted files, where a run is asked for.
 fn to_run<'a>(run: bool, found: &'a Found) -> Option<&'a Accepted>
-    ensures { MatchOption result (run ≡ true → found.now.accepted ≡ None) (λ accepted. (run ≡ true) × (found.now.accepted ≡ Some accepted.now)) }
+    ensures { MatchOption result (run ≡ true → found.now.accepted ≡ None)
+        (λ accepted. (run ≡ true) × (found.now.accepted ≡ Some accepted.now)) }
 {
     if run { found.accepted.as_ref() } else { None }
 }
@@ -65,10 +66,15 @@ fn answer_checked<P: Reporter, K: Sink>(
     requires front { front.now ≡ front_of command.now.classes }
     requires fit { ReadsFit reads.now }
     requires stand { StandIn reads.now (rows_of checked.now.found.report) }
-    requires found { (files : List FileOf) → AreReads reads.now files → IsFinding files checked.now.names checked.now.found }
-    requires whole { checked.now.found.report ≡ Checked [] → (files : List FileOf) → AreReads reads.now files → files_of_reads reads.now ≡ files }
-    requires safe { checked.now.found.report ≡ Checked [] → (files : List FileOf) → AreReads reads.now files → IsSafe files }
-    ensures answer { (files : List FileOf) → AreReads reads.now files → AnswersFiles (asked command.now (shown_behind (P.rows reporter) (P.shown reporter))) files (K.written out.old) (K.written out.new) result }
+    requires found { (files : List FileOf) → AreReads reads.now files
+        → IsFinding files checked.now.names checked.now.found }
+    requires whole { checked.now.found.report ≡ Checked [] → (files : List FileOf)
+        → AreReads reads.now files → files_of_reads reads.now ≡ files }
+    requires safe { checked.now.found.report ≡ Checked [] → (files : List FileOf)
+        → AreReads reads.now files → IsSafe files }
+    ensures answer { (files : List FileOf) → AreReads reads.now files
+        → AnswersFiles (asked command.now (shown_behind (P.rows reporter) (P.shown reporter))) files
+        (K.written out.old) (K.written out.new) result }
     ensures write { result ≡ Status.WriteFault → Rose (K.faults out.old) (K.faults out.new) }
     ensures write_always { K.faults out.old < K.faults out.new → result ≡ Status.WriteFault }
 {
@@ -105,7 +111,9 @@ fn answer_reads<R: Threads + Sync, G: Gate + Sync, P: Reporter, K: Sink>(
     requires few { length reads.now ≤ most_files }
     requires fit { ReadsFit reads.now }
     requires read { (files : List FileOf) × AreReads reads.now files }
-    ensures answer { (files : List FileOf) → AreReads reads.now files → AnswersFiles (asked command.now (shown_behind (P.rows reporter) (P.shown reporter))) files (K.written out.old) (K.written out.new) result }
+    ensures answer { (files : List FileOf) → AreReads reads.now files
+        → AnswersFiles (asked command.now (shown_behind (P.rows reporter) (P.shown reporter))) files
+        (K.written out.old) (K.written out.new) result }
     ensures write { result ≡ Status.WriteFault → Rose (K.faults out.old) (K.faults out.new) }
     ensures write_always { K.faults out.old < K.faults out.new → result ≡ Status.WriteFault }
 {
@@ -139,7 +147,10 @@ fn answer_made<R: Threads + Sync, G: Gate + Sync, P: Reporter, K: Sink>(
     requires workers { (1 ≤ command.now.workers) × (command.now.workers ≤ 16) }
     requires some { 1 ≤ command.now.classes }
     requires most { command.now.classes ≤ 500 }
-    ensures answer { AnswersFiles (asked command.now (shown_behind (P.rows reporter) (P.shown reporter))) (made_file (made_text command.now.classes) ∷ []) (K.written out.old) (K.written out.new) result }
+    ensures answer { AnswersFiles
+        (asked command.now (shown_behind (P.rows reporter) (P.shown reporter)))
+        (made_file (made_text command.now.classes) ∷ []) (K.written out.old) (K.written out.new)
+        result }
     ensures write { result ≡ Status.WriteFault → Rose (K.faults out.old) (K.faults out.new) }
     ensures write_always { K.faults out.old < K.faults out.new → result ≡ Status.WriteFault }
 {
@@ -165,13 +176,19 @@ fn answer_named<R: Threads + Sync, G: Gate + Sync, P: Reporter, F: Files, K: Sin
     requires classes { command.now.classes ≡ 0 }
     requires named { map string_bytes names.now ≡ command.now.files }
     requires workers { (1 ≤ command.now.workers) × (command.now.workers ≤ 16) }
-    ensures answer { Answers (reading (F.held files.old) (F.gave files.old) (F.gave files.new)) (Some (asked command.now (shown_behind (P.rows reporter) (P.shown reporter)))) (K.written out.old) (K.written out.new) result }
+    ensures answer { Answers (reading (F.held files.old) (F.gave files.old) (F.gave files.new))
+        (Some (asked command.now (shown_behind (P.rows reporter) (P.shown reporter))))
+        (K.written out.old) (K.written out.new) result }
     ensures read { result ≡ Status.ReadFault → Rose (F.faults files.old) (F.faults files.new) }
     ensures read_always { F.faults files.old < F.faults files.new → result ≡ Status.ReadFault }
-    ensures read_steady { F.steady files.old → AllHeld (F.held files.old) (map string_bytes names.now) → result ≢ Status.ReadFault }
-    ensures read_count { F.steady files.old → AllHeld (F.held files.old) (map string_bytes names.now) → F.faults files.new ≡ F.faults files.old }
+    ensures read_steady { F.steady files.old
+        → AllHeld (F.held files.old) (map string_bytes names.now) → result ≢ Status.ReadFault }
+    ensures read_count { F.steady files.old
+        → AllHeld (F.held files.old) (map string_bytes names.now)
+        → F.faults files.new ≡ F.faults files.old }
     ensures starts { StartsOnly (map string_bytes names.now) (F.gave files.old) (F.gave files.new) }
-    ensures unread { most_files < length names.now → (F.faults files.new ≡ F.faults files.old) × (F.gave files.new ≡ F.gave files.old) }
+    ensures unread { most_files < length names.now
+        → (F.faults files.new ≡ F.faults files.old) × (F.gave files.new ≡ F.gave files.old) }
     ensures write { result ≡ Status.WriteFault → Rose (K.faults out.old) (K.faults out.new) }
     ensures write_always { K.faults out.old < K.faults out.new → result ≡ Status.WriteFault }
 {
@@ -198,13 +215,25 @@ pub fn answer_command<R: Threads + Sync, G: Gate + Sync, P: Reporter, F: Files, 
 ) -> Status
     requires workers { (1 ≤ command.now.workers) × (command.now.workers ≤ 16) }
     requires classes { command.now.classes ≤ 500 }
-    ensures answer { Answers (reading (F.held files.old) (F.gave files.old) (F.gave files.new)) (Some (asked command.now (shown_behind (P.rows reporter) (P.shown reporter)))) (K.written out.old) (K.written out.new) result }
+    ensures answer { Answers (reading (F.held files.old) (F.gave files.old) (F.gave files.new))
+        (Some (asked command.now (shown_behind (P.rows reporter) (P.shown reporter))))
+        (K.written out.old) (K.written out.new) result }
     ensures read { result ≡ Status.ReadFault → Rose (F.faults files.old) (F.faults files.new) }
     ensures read_always { F.faults files.old < F.faults files.new → result ≡ Status.ReadFault }
-    ensures read_steady { F.steady files.old → HoldsFiles (F.held files.old) (Some (asked command.now (shown_behind (P.rows reporter) (P.shown reporter)))) → result ≢ Status.ReadFault }
-    ensures read_count { F.steady files.old → HoldsFiles (F.held files.old) (Some (asked command.now (shown_behind (P.rows reporter) (P.shown reporter)))) → F.faults files.new ≡ F.faults files.old }
-    ensures starts { Starts (Some (asked command.now (shown_behind (P.rows reporter) (P.shown reporter)))) (F.gave files.old) (F.gave files.new) }
-    ensures unread { ReadsNothing (Some (asked command.now (shown_behind (P.rows reporter) (P.shown reporter)))) → (F.faults files.new ≡ F.faults files.old) × (F.gave files.new ≡ F.gave files.old) }
+    ensures read_steady { F.steady files.old
+        → HoldsFiles (F.held files.old)
+        (Some (asked command.now (shown_behind (P.rows reporter) (P.shown reporter))))
+        → result ≢ Status.ReadFault }
+    ensures read_count { F.steady files.old
+        → HoldsFiles (F.held files.old)
+        (Some (asked command.now (shown_behind (P.rows reporter) (P.shown reporter))))
+        → F.faults files.new ≡ F.faults files.old }
+    ensures starts { Starts
+        (Some (asked command.now (shown_behind (P.rows reporter) (P.shown reporter))))
+        (F.gave files.old) (F.gave files.new) }
+    ensures unread { ReadsNothing
+        (Some (asked command.now (shown_behind (P.rows reporter) (P.shown reporter))))
+        → (F.faults files.new ≡ F.faults files.old) × (F.gave files.new ≡ F.gave files.old) }
     ensures write { result ≡ Status.WriteFault → Rose (K.faults out.old) (K.faults out.new) }
     ensures write_always { K.faults out.old < K.faults out.new → result ≡ Status.WriteFault }
 {

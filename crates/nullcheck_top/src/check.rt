@@ -37,7 +37,8 @@ use std::thread::Threads;
 
 /// What is found of files that are refused by these rows, of which the list may have more room than it needs.
 fn refused(alloc: Global, rows: Vec<Row>) -> Result<Found, OutOfMemory>
-    ensures { IfOk result (λ found. (sorted : List SpecRow) × IsOrderOf rows.items sorted × (found ≡ record { report = Refused sorted; accepted = None })) }
+    ensures { IfOk result (λ found. (sorted : List SpecRow) × IsOrderOf rows.items sorted
+        × (found ≡ record { report = Refused sorted; accepted = None })) }
 {
     let mut rows = rows;
     order(&mut rows)?;
@@ -50,7 +51,8 @@ fn refused(alloc: Global, rows: Vec<Row>) -> Result<Found, OutOfMemory>
 
 /// The same of files without trees, of which no names are known.
 fn refused_texts(alloc: Global, rows: Vec<Row>) -> Result<CheckedFiles, OutOfMemory>
-    ensures { IfOk result (λ checked. (sorted : List SpecRow) × IsOrderOf rows.items sorted × (checked.found ≡ record { report = Refused sorted; accepted = None })) }
+    ensures { IfOk result (λ checked. (sorted : List SpecRow) × IsOrderOf rows.items sorted
+        × (checked.found ≡ record { report = Refused sorted; accepted = None })) }
 {
     Ok(CheckedFiles {
         found: refused(alloc, rows)?,
@@ -114,7 +116,8 @@ fn find_table<R: Threads + Sync, G: Gate + Sync>(
     table: ClassTable,
     gate: &G,
 ) -> Result<Found, OutOfMemory>
-    requires declared { (tokens : List (List SpecToken)) × AreDeclared (files_of_reads reads.now) names.now tokens (map placed_file trees.now) }
+    requires declared { (tokens : List (List SpecToken))
+        × AreDeclared (files_of_reads reads.now) names.now tokens (map placed_file trees.now) }
     requires table { table ≡ heads (map placed_file trees.now) }
     requires workers { (1 ≤ workers) × (workers ≤ 16) }
     ensures { IfOk result (λ found. IsFinding (files_of_reads reads.now) names.now found) }
@@ -136,7 +139,8 @@ fn find_trees<R: Threads + Sync, G: Gate + Sync>(
     trees: &[FileTree],
     gate: &G,
 ) -> Result<Found, OutOfMemory>
-    requires parsed { (tokens : List (List SpecToken)) × AreParsed (files_of_reads reads.now) names.now tokens (map placed_file trees.now) }
+    requires parsed { (tokens : List (List SpecToken))
+        × AreParsed (files_of_reads reads.now) names.now tokens (map placed_file trees.now) }
     requires workers { (1 ≤ workers) × (workers ≤ 16) }
     ensures { IfOk result (λ found. IsFinding (files_of_reads reads.now) names.now found) }
 {
@@ -166,8 +170,10 @@ fn find<R: Threads + Sync, G: Gate + Sync>(
     requires fit { ReadsFit reads.now }
     requires read { (files : List SpecFile) × AreReads reads.now files }
     requires workers { (1 ≤ workers) × (workers ≤ 16) }
-    ensures found { IfOk result (λ checked. (files : List SpecFile) → AreReads reads.now files → IsFinding files checked.names checked.found) }
-    ensures whole { IfOk result (λ checked. checked.found.report ≡ Checked [] → (files : List SpecFile) → AreReads reads.now files → files_of_reads reads.now ≡ files) }
+    ensures found { IfOk result (λ checked. (files : List SpecFile) → AreReads reads.now files
+        → IsFinding files checked.names checked.found) }
+    ensures whole { IfOk result (λ checked. checked.found.report ≡ Checked []
+        → (files : List SpecFile) → AreReads reads.now files → files_of_reads reads.now ≡ files) }
     ensures stand { IfOk result (λ checked. StandIn reads.now (rows_of checked.found.report)) }
 {
     let limits = limit_rows(alloc, reads)?;
@@ -209,9 +215,12 @@ pub fn check<R: Threads + Sync, G: Gate + Sync>(
     requires few { length reads.now ≤ most_files }
     requires fit { ReadsFit reads.now }
     requires read { (files : List SpecFile) × AreReads reads.now files }
-    ensures found { IfOk result (λ checked. (files : List SpecFile) → AreReads reads.now files → IsFinding files checked.names checked.found) }
-    ensures whole { IfOk result (λ checked. checked.found.report ≡ Checked [] → (files : List SpecFile) → AreReads reads.now files → files_of_reads reads.now ≡ files) }
-    ensures safe { IfOk result (λ checked. checked.found.report ≡ Checked [] → (files : List SpecFile) → AreReads reads.now files → IsSafe files) }
+    ensures found { IfOk result (λ checked. (files : List SpecFile) → AreReads reads.now files
+        → IsFinding files checked.names checked.found) }
+    ensures whole { IfOk result (λ checked. checked.found.report ≡ Checked []
+        → (files : List SpecFile) → AreReads reads.now files → files_of_reads reads.now ≡ files) }
+    ensures safe { IfOk result (λ checked. checked.found.report ≡ Checked []
+        → (files : List SpecFile) → AreReads reads.now files → IsSafe files) }
     ensures stand { IfOk result (λ checked. StandIn reads.now (rows_of checked.found.report)) }
 {
     accepted_files_are_safe();
@@ -233,7 +242,8 @@ fn number_rows(alloc: Global) -> Result<Seq<Row>, OutOfMemory>
 ///
 /// No memory was found.
 pub fn refuse_number(alloc: Global) -> Result<Report, OutOfMemory>
-    ensures report { IfOk result (λ report. (files : List SpecFile) → most_files < length files → IsReport files report) }
+    ensures report { IfOk result
+        (λ report. (files : List SpecFile) → most_files < length files → IsReport files report) }
     ensures row { IfOk result (λ report. report ≡ Refused (row_at most_files B1 ∷ [])) }
 {
     let rows = number_rows(alloc)?;

@@ -16,8 +16,10 @@ use jn_progress_law::law::{accepted_programs_never_fault, accepted_programs_neve
 
 /// No run of files whose program breaks no rule dereferences null, and none gets stuck.
 pub fn accepted_files_are_safe()
-    ensures null { (files : List SourceFile) (names : List (List ℕ)) (P : Program) → TypedProgramOf files names P → RulesGive P [] → NeverNull P }
-    ensures stuck { (files : List SourceFile) (names : List (List ℕ)) (P : Program) → TypedProgramOf files names P → RulesGive P [] → NeverStuck P }
+    ensures null { (files : List SourceFile) (names : List (List ℕ)) (P : Program)
+        → TypedProgramOf files names P → RulesGive P [] → NeverNull P }
+    ensures stuck { (files : List SourceFile) (names : List (List ℕ)) (P : Program)
+        → TypedProgramOf files names P → RulesGive P [] → NeverStuck P }
 {
     accepted_programs_never_fault();
     accepted_programs_never_stick();
@@ -25,7 +27,8 @@ pub fn accepted_files_are_safe()
 
 /// Files have at most one report: the signatures are the least ones, whatever workers found them and in which order.
 pub fn files_have_one_report()
-    ensures { (files : List SourceFile) (one other : Report) → IsReport files one → IsReport files other → one ≡ other }
+    ensures { (files : List SourceFile) (one other : Report) → IsReport files one
+        → IsReport files other → one ≡ other }
 {
     files_have_one_front();
     least_signatures_are_unique();
@@ -35,8 +38,12 @@ pub fn files_have_one_report()
 
 /// The run of files' main with these words, of at most so many steps, has one status and one text.
 pub fn files_have_one_run()
-    ensures status { (files : List SourceFile) (words : List (List ℕ)) (steps : ℕ) (one other : Status) (text more : List ℕ) → RunsTo files words steps one text → RunsTo files words steps other more → one ≡ other }
-    ensures text { (files : List SourceFile) (words : List (List ℕ)) (steps : ℕ) (one other : Status) (text more : List ℕ) → RunsTo files words steps one text → RunsTo files words steps other more → text ≡ more }
+    ensures status { (files : List SourceFile) (words : List (List ℕ)) (steps : ℕ)
+        (one other : Status) (text more : List ℕ)
+        → RunsTo files words steps one text → RunsTo files words steps other more → one ≡ other }
+    ensures text { (files : List SourceFile) (words : List (List ℕ)) (steps : ℕ)
+        (one other : Status) (text more : List ℕ)
+        → RunsTo files words steps one text → RunsTo files words steps other more → text ≡ more }
 {
     files_have_one_front();
 }

@@ -41,7 +41,10 @@ pub(crate) fn report_output<P: Reporter>(
     requires fit { ReadsFit reads.now }
     requires stand { StandIn reads.now (rows_of report.now) }
     ensures status { IfOk result (λ o. o.status ≡ status_of report.now) }
-    ensures bytes { IfOk result (λ o. (files : List FileOf) → AreReads reads.now files → o.bytes ≡ front.now ++ shown (shown_behind (P.rows reporter) (P.shown reporter)) files report.now) }
+    ensures bytes { IfOk result (λ o. (files : List FileOf) → AreReads reads.now files
+        → o.bytes
+        ≡ front.now
+        ++ shown (shown_behind (P.rows reporter) (P.shown reporter)) files report.now) }
 {
     let shower = show(alloc, reads, report, reporter)?;
     Ok(Output {
@@ -57,7 +60,8 @@ pub(crate) fn number_output<P: Reporter>(
     reporter: P,
 ) -> Result<Output, OutOfMemory>
     requires many { most_files < length names.now }
-    ensures { IfOk result (λ o. (files : List FileOf) → names_of files ≡ map string_bytes names.now → IsRefusalOf (shown_behind (P.rows reporter) (P.shown reporter)) files o.status o.bytes) }
+    ensures { IfOk result (λ o. (files : List FileOf) → names_of files ≡ map string_bytes names.now
+        → IsRefusalOf (shown_behind (P.rows reporter) (P.shown reporter)) files o.status o.bytes) }
 {
     let report = refuse_number(alloc)?;
     let shower = show_number(alloc, names[MOST_FILES].as_str(), reporter)?;
