@@ -246,10 +246,10 @@ fn word(token: &Token) -> Option<Modifier>
 
 /// The modifier at the front where no annotation is, and what follows it.
 fn word_modifier(tokens: &[Token]) -> Option<(Modifier, &[Token])>
-    ensures reads { ((n : Name) (rest : List Kind) → kinds tokens.now ≡ Kind.At ∷ Kind.Id n ∷ rest
-        → ⊥)
-        → MatchOption result (read_all_marks (kinds tokens.now) ≡ ([], kinds tokens.now)) (λ r. read_all_marks
-        (kinds tokens.now)
+    ensures reads { ((n : Name) (rest : List Kind)
+        → kinds tokens.now ≡ Kind.At ∷ Kind.Id n ∷ rest → ⊥)
+        → MatchOption result (read_all_marks (kinds tokens.now) ≡ ([], kinds tokens.now))
+        (λ r. read_all_marks (kinds tokens.now)
         ≡ add_mark (mark r.0) (read_all_marks (kinds r.1.now))) }
     ensures shorter { IfSome result (λ r. length (kinds r.1.now) < length (kinds tokens.now)) }
 {

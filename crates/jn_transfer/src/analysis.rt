@@ -384,8 +384,12 @@ impl<'a> Analysis<'a> {
         non_null: u32,
     ) -> Result<Vec<Edge>, OutOfMemory>
         requires sized { EnvSized self.now.program self.now.body env.now }
-        ensures { IfOk result (λ xs. xs.items ≡ side (is_none (null_part (qual_at env.now of.0))) null (refine env.now of.0 (null_part (qual_at env.now of.0)))
-            ++ side (is_none (without_null (qual_at env.now of.0))) non_null (learn self.now.program self.now.body origin (refine env.now of.0 (without_null (qual_at env.now of.0))))) }
+        ensures { IfOk result (λ xs. xs.items
+            ≡ side (is_none (null_part (qual_at env.now of.0))) null
+            (refine env.now of.0 (null_part (qual_at env.now of.0)))
+            ++ side (is_none (without_null (qual_at env.now of.0))) non_null
+            (learn self.now.program self.now.body origin
+            (refine env.now of.0 (without_null (qual_at env.now of.0))))) }
     {
         let qual = env.qual(of);
         let mut edges = Vec::new(alloc);
@@ -412,7 +416,10 @@ impl<'a> Analysis<'a> {
         no: u32,
     ) -> Result<Vec<Edge>, OutOfMemory>
         requires sized { EnvSized self.now.program self.now.body env.now }
-        ensures { IfOk result (λ xs. xs.items ≡ side (is_none (without_null (qual_at env.now of.0))) yes (learn self.now.program self.now.body origin (refine env.now of.0 (without_null (qual_at env.now of.0))))
+        ensures { IfOk result (λ xs. xs.items
+            ≡ side (is_none (without_null (qual_at env.now of.0))) yes
+            (learn self.now.program self.now.body origin
+            (refine env.now of.0 (without_null (qual_at env.now of.0))))
             ++ (no, env.now) ∷ []) }
     {
         let qual = env.qual(of).without_null();
