@@ -321,16 +321,72 @@ pub fn keyword(word: &[char]) -> Option<TokenKind>
     }
 }
 
+/// The operators of two characters that begin with the character, in the order of `PAIRS`.
+fn pairs_beginning(c: char) -> &'static [TokenKind]
+    ensures { result.now ≡ filter (λ kind. begins (spelling kind) (c ∷ [])) PAIRS }
+{
+    match c {
+        '=' => &[TokenKind::EqualEqual],
+        '<' => &[TokenKind::LessEqual],
+        '>' => &[TokenKind::GreaterEqual],
+        '!' => &[TokenKind::NotEqual],
+        '&' => &[TokenKind::AndAnd],
+        '|' => &[TokenKind::OrOr],
+        '+' => &[TokenKind::PlusPlus, TokenKind::PlusAssign],
+        '-' => &[TokenKind::MinusMinus, TokenKind::MinusAssign],
+        '*' => &[TokenKind::StarAssign],
+        '/' => &[TokenKind::SlashAssign],
+        '%' => &[TokenKind::PercentAssign],
+        _ => &[],
+    }
+}
+
 /// The operator of two characters at the text's front.
 pub fn pair(text: &[char]) -> Option<TokenKind>
     ensures { result ≡ find (λ kind. begins text.now (spelling kind)) PAIRS }
 {
-    kind_begun(&PAIRS, text)
+    match text {
+        [] => None,
+        [first, ..] => kind_begun(pairs_beginning(*first), text),
+    }
+}
+
+/// The separator or the operator that the character alone is.
+fn mark(c: char) -> Option<TokenKind>
+    ensures { result ≡ find (λ kind. begins (c ∷ []) (spelling kind)) SINGLES }
+{
+    match c {
+        '(' => Some(TokenKind::LeftParen),
+        ')' => Some(TokenKind::RightParen),
+        '{' => Some(TokenKind::LeftBrace),
+        '}' => Some(TokenKind::RightBrace),
+        '[' => Some(TokenKind::LeftBracket),
+        ']' => Some(TokenKind::RightBracket),
+        ';' => Some(TokenKind::Semicolon),
+        ',' => Some(TokenKind::Comma),
+        '.' => Some(TokenKind::Dot),
+        '@' => Some(TokenKind::At),
+        '=' => Some(TokenKind::Assign),
+        '>' => Some(TokenKind::Greater),
+        '<' => Some(TokenKind::Less),
+        '!' => Some(TokenKind::Not),
+        '?' => Some(TokenKind::Question),
+        ':' => Some(TokenKind::Colon),
+        '+' => Some(TokenKind::Plus),
+        '-' => Some(TokenKind::Minus),
+        '*' => Some(TokenKind::Star),
+        '/' => Some(TokenKind::Slash),
+        '%' => Some(TokenKind::Percent),
+        _ => None,
+    }
 }
 
 /// The separator or the operator of one character at the text's front.
 pub fn single(text: &[char]) -> Option<TokenKind>
     ensures { result ≡ find (λ kind. begins text.now (spelling kind)) SINGLES }
 {
-    kind_begun(&SINGLES, text)
+    match text {
+        [] => None,
+        [first, ..] => mark(*first),
+    }
 }
