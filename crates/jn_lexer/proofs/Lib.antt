@@ -2,6 +2,7 @@ pub mod Lists
 pub mod Comments
 pub mod Classes
 pub mod Tables
+pub mod Initials
 pub mod Standing
 pub mod Quotes
 pub mod Escaping

@@ -1,5 +1,5 @@
 //! The tokens that have one spelling.
-ghost use Rattle.std.specs.Prelude.{◌≡◌, find};
+ghost use Rattle.std.specs.Prelude.{◌≡◌, [], ◌∷◌, find, filter};
 ghost use Rattle.jn_lexer.specs.Spelling.{spelling};
 ghost use Rattle.jn_lexer.specs.Scan.{begins, is_spelled};
 
@@ -247,23 +247,146 @@ fn kind_spelled(kinds: &[TokenKind], word: &[char]) -> Option<TokenKind>
     None
 }
 
+/// The words that begin with the character, in the order of `WORDS`.
+fn words_beginning(c: char) -> &'static [TokenKind]
+    ensures { result.now ≡ filter (λ kind. begins (spelling kind) (c ∷ [])) WORDS }
+{
+    match c {
+        'a' => &[TokenKind::Abstract, TokenKind::Assert],
+        'b' => &[TokenKind::Boolean, TokenKind::Break, TokenKind::Byte],
+        'c' => &[
+            TokenKind::Case,
+            TokenKind::Catch,
+            TokenKind::Char,
+            TokenKind::Class,
+            TokenKind::Const,
+            TokenKind::Continue,
+        ],
+        'd' => &[TokenKind::Default, TokenKind::Do, TokenKind::Double],
+        'e' => &[TokenKind::Else, TokenKind::Enum, TokenKind::Extends],
+        'f' => &[
+            TokenKind::Final,
+            TokenKind::Finally,
+            TokenKind::Float,
+            TokenKind::For,
+            TokenKind::False,
+        ],
+        'g' => &[TokenKind::Goto],
+        'i' => &[
+            TokenKind::If,
+            TokenKind::Implements,
+            TokenKind::Import,
+            TokenKind::Instanceof,
+            TokenKind::Int,
+            TokenKind::Interface,
+        ],
+        'l' => &[TokenKind::Long],
+        'n' => &[TokenKind::Native, TokenKind::New, TokenKind::Null],
+        'p' => &[
+            TokenKind::Package,
+            TokenKind::Private,
+            TokenKind::Protected,
+            TokenKind::Public,
+        ],
+        'r' => &[TokenKind::Return],
+        's' => &[
+            TokenKind::Short,
+            TokenKind::Static,
+            TokenKind::Strictfp,
+            TokenKind::Super,
+            TokenKind::Switch,
+            TokenKind::Synchronized,
+        ],
+        't' => &[
+            TokenKind::This,
+            TokenKind::Throw,
+            TokenKind::Throws,
+            TokenKind::Transient,
+            TokenKind::Try,
+            TokenKind::True,
+        ],
+        'v' => &[TokenKind::Void, TokenKind::Volatile],
+        'w' => &[TokenKind::While],
+        _ => &[],
+    }
+}
+
 /// The keyword, or the word of a literal, that the word is.
 pub fn keyword(word: &[char]) -> Option<TokenKind>
     ensures { result ≡ find (λ kind. is_spelled word.now (spelling kind)) WORDS }
 {
-    kind_spelled(&WORDS, word)
+    match word {
+        [] => None,
+        [first, ..] => kind_spelled(words_beginning(*first), word),
+    }
+}
+
+/// The operators of two characters that begin with the character, in the order of `PAIRS`.
+fn pairs_beginning(c: char) -> &'static [TokenKind]
+    ensures { result.now ≡ filter (λ kind. begins (spelling kind) (c ∷ [])) PAIRS }
+{
+    match c {
+        '=' => &[TokenKind::EqualEqual],
+        '<' => &[TokenKind::LessEqual],
+        '>' => &[TokenKind::GreaterEqual],
+        '!' => &[TokenKind::NotEqual],
+        '&' => &[TokenKind::AndAnd],
+        '|' => &[TokenKind::OrOr],
+        '+' => &[TokenKind::PlusPlus, TokenKind::PlusAssign],
+        '-' => &[TokenKind::MinusMinus, TokenKind::MinusAssign],
+        '*' => &[TokenKind::StarAssign],
+        '/' => &[TokenKind::SlashAssign],
+        '%' => &[TokenKind::PercentAssign],
+        _ => &[],
+    }
 }
 
 /// The operator of two characters at the text's front.
 pub fn pair(text: &[char]) -> Option<TokenKind>
     ensures { result ≡ find (λ kind. begins text.now (spelling kind)) PAIRS }
 {
-    kind_begun(&PAIRS, text)
+    match text {
+        [] => None,
+        [first, ..] => kind_begun(pairs_beginning(*first), text),
+    }
+}
+
+/// The separator or the operator that the character alone is.
+fn mark(c: char) -> Option<TokenKind>
+    ensures { result ≡ find (λ kind. begins (c ∷ []) (spelling kind)) SINGLES }
+{
+    match c {
+        '(' => Some(TokenKind::LeftParen),
+        ')' => Some(TokenKind::RightParen),
+        '{' => Some(TokenKind::LeftBrace),
+        '}' => Some(TokenKind::RightBrace),
+        '[' => Some(TokenKind::LeftBracket),
+        ']' => Some(TokenKind::RightBracket),
+        ';' => Some(TokenKind::Semicolon),
+        ',' => Some(TokenKind::Comma),
+        '.' => Some(TokenKind::Dot),
+        '@' => Some(TokenKind::At),
+        '=' => Some(TokenKind::Assign),
+        '>' => Some(TokenKind::Greater),
+        '<' => Some(TokenKind::Less),
+        '!' => Some(TokenKind::Not),
+        '?' => Some(TokenKind::Question),
+        ':' => Some(TokenKind::Colon),
+        '+' => Some(TokenKind::Plus),
+        '-' => Some(TokenKind::Minus),
+        '*' => Some(TokenKind::Star),
+        '/' => Some(TokenKind::Slash),
+        '%' => Some(TokenKind::Percent),
+        _ => None,
+    }
 }
 
 /// The separator or the operator of one character at the text's front.
 pub fn single(text: &[char]) -> Option<TokenKind>
     ensures { result ≡ find (λ kind. begins text.now (spelling kind)) SINGLES }
 {
-    kind_begun(&SINGLES, text)
+    match text {
+        [] => None,
+        [first, ..] => mark(*first),
+    }
 }

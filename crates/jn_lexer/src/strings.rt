@@ -95,7 +95,7 @@ pub fn quoted_at(text: &[char]) -> Result<Found, Fault>
 pub fn text_of(alloc: Global, word: &[char]) -> Result<String, OutOfMemory>
     ensures { IfOk result (λ text. string_bytes text ≡ encode_utf8_all word.now) }
 {
-    let mut text = String::new(alloc);
+    let mut text = String::with_capacity(alloc, word.len())?;
     for c in word {
         text.push(*c)?;
     }
@@ -107,7 +107,7 @@ pub fn value_of(alloc: Global, inside: &[char]) -> Result<String, OutOfMemory>
     ensures { IfOk result
         (λ text. string_bytes text ≡ encode_utf8_all (unescaped false inside.now)) }
 {
-    let mut text = String::new(alloc);
+    let mut text = String::with_capacity(alloc, inside.len())?;
     let mut slash = false;
     for c in inside {
         if slash {
