@@ -37,7 +37,7 @@ among_more : (F : ℕ → Row → Type 0) (n : ℕ) (row : Row) → Among F n ro
 among_more F n row (inl q) = let lt : q.0 < n = q.1 in (q.0, omega arith, q.2)
 among_more F n row (inr q) = (n, omega arith, q)
 
-last_or : (k n : ℕ) → k < n + 1 → (k < n) ⊎ (k ≡ n)
+pub last_or : (k n : ℕ) → k < n + 1 → (k < n) ⊎ (k ≡ n)
 last_or zero zero lt = inr refl
 last_or zero (suc n) lt = inl (omega arith)
 last_or (suc k) zero lt = absurd (omega arith)

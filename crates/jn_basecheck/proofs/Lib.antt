@@ -1,3 +1,4 @@
 pub mod Gather
 pub mod Meant
 pub mod Few
+pub mod Ranges

@@ -30,7 +30,7 @@ module _ (P : Program) (b p : ℕ) (pt : Point) (there : point_at P b p ≡ Some
       (λ row m. record { pt = pt; there = there; reached = come; broken = m })
       (λ row q. subst (λ x. Contains (result_rows P b x.kind) row) (same_Some q.pt pt (sym q.there ∙ there)) q.broken)
 
-none_in : (row : Row) → Contains [] row → ⊥
+pub none_in : (row : Row) → Contains [] row → ⊥
 none_in row h = let lt : h.0 < 0 = h.1 in omega arith
 
 in_first : {X : Type 0} (x : X) (xs : List X) → Contains (x ∷ xs) x
@@ -56,7 +56,7 @@ register_there : (o : Option Body) (r : ℕ) → is_void (base_in o r) ≡ false
 register_there None r valued past = absurd cc
 register_there (Some x) r valued past = let void : base_in (Some x) r ≡ Void = get_or_past x.regs r Void past in let yes : is_void (base_in (Some x) r) ≡ true = ap is_void void in absurd cc
 
-below_or : (n r : ℕ) → (r < n) ⊎ (n ≤ r)
+pub below_or : (n r : ℕ) → (r < n) ⊎ (n ≤ r)
 below_or zero r = inr (omega arith)
 below_or (suc n) zero = inl (omega arith)
 below_or (suc n) (suc r) = elim (below_or n r) [ inl lt ↦ inl (omega arith) | inr le ↦ inr (omega arith) ]

@@ -1,12 +1,14 @@
 //! Base typing of a program's bodies: the rows J7 to J10.
 #![tactic(auto)]
 
+mod alone;
 mod assigned;
 mod check;
 mod lookup;
 mod operands;
 mod points;
 mod results;
+mod sharing;
 mod typed;
 mod types;
 

@@ -98,7 +98,7 @@ fn find_program<R: Threads + Sync, G: Gate + Sync>(
     requires workers { (1 ≤ workers) × (workers ≤ 16) }
     ensures { IfOk result (λ found. IsFinding (files_of_reads reads.now) names.now found) }
 {
-    match base_check(alloc, program) {
+    match base_check(rt, alloc, program, workers) {
         Ok(base) => return checked(rt, alloc, workers, reads, names, base, gate),
         Err(Fail::Refused(rows)) => return refused(alloc, rows),
         Err(Fail::OutOfMemory) => return Err(OutOfMemory),

@@ -1,7 +1,7 @@
 use Rattle.std.proofs.lemmas.Result.{on_ok_weaker}
 use Rattle.jn_basecheck.specs.Rows.{UnassignedRows, ResultRows}
 use Rattle.jn_basecheck.proofs.Gather.{adds_then}
-use Rattle.jn_basecheck.proofs.check.push_on_paths.Goals as goal
+use Rattle.jn_basecheck.proofs.alone.push_on_paths.Goals as goal
 
 pub returns : goal.returns
 returns c =

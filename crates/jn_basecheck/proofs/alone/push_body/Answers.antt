@@ -1,7 +1,7 @@
 use Rattle.std.proofs.Common.{subst}
 use Rattle.jn_basecheck.specs.Rows.{Adds, TypeRows, PathRow}
 use Rattle.jn_basecheck.proofs.Gather.{adds_then}
-use Rattle.jn_basecheck.proofs.check.push_body.Goals as goal
+use Rattle.jn_basecheck.proofs.alone.push_body.Goals as goal
 
 pub returns : goal.returns
 returns c =
