@@ -23,7 +23,7 @@ use std::{env, fs, io};
 fn main(rt: HostRuntime) -> io::Result<()> {
     for name in env::args(&rt)?.skip(1) {
         let text = fs::read(&rt, name.as_str())?;
-        match file_text(rt.alloc(), &text) {
+        match file_text(&rt, rt.alloc(), &text) {
             Ok(shown) => println!(rt; "== {name}{shown}")?,
             Err(_) => return Err(io::Error::from(AllocError)),
         }

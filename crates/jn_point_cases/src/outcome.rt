@@ -11,9 +11,13 @@ use jn_points::Program;
 use jn_program::lowering::lower;
 use jn_trees::{FileTree, Names, Token};
 use std::alloc::{AllocError, Global};
+use std::thread::Threads;
 
 /// The one file.
 const FILE: FileNo = FileNo(0);
+
+/// How many workers lower its bodies.
+const WORKERS: u32 = 2;
 
 /// The codes of rows, each with the byte at which it stands.
 fn rows_text(alloc: Global, rows: &[Row]) -> Result<String, OutOfMemory> {
@@ -41,20 +45,25 @@ fn fail_text(alloc: Global, fail: Fail<Seq<Row>>) -> Result<String, OutOfMemory>
     }
 }
 
-fn lowered(alloc: Global, files: &[FileTree]) -> Result<Program, Fail<Seq<Row>>> {
+fn lowered<R: Threads + Sync>(
+    rt: &R,
+    alloc: Global,
+    files: &[FileTree],
+) -> Result<Program, Fail<Seq<Row>>> {
     match build(alloc, files) {
-        Ok(table) => lower(alloc, table, files),
+        Ok(table) => lower(rt, alloc, table, files, WORKERS),
         Err(fail) => Err(fail),
     }
 }
 
-fn files_text(
+fn files_text<R: Threads + Sync>(
+    rt: &R,
     alloc: Global,
     names: &Names,
     text: &[u8],
     files: &[FileTree],
 ) -> Result<String, OutOfMemory> {
-    match lowered(alloc, files) {
+    match lowered(rt, alloc, files) {
         Ok(program) => program_text(alloc, names, &program, text),
         Err(fail) => fail_text(alloc, fail),
     }
@@ -66,19 +75,21 @@ fn list_of(alloc: Global, tree: FileTree) -> Result<Vec<FileTree>, AllocError> {
     Ok(files)
 }
 
-fn tree_text(
+fn tree_text<R: Threads + Sync>(
+    rt: &R,
     alloc: Global,
     names: &Names,
     text: &[u8],
     tree: FileTree,
 ) -> Result<String, OutOfMemory> {
     match list_of(alloc, tree) {
-        Ok(files) => files_text(alloc, names, text, &files),
+        Ok(files) => files_text(rt, alloc, names, text, &files),
         Err(_) => Err(OutOfMemory),
     }
 }
 
-fn tokens_text(
+fn tokens_text<R: Threads + Sync>(
+    rt: &R,
     alloc: Global,
     names: &Names,
     text: &[u8],
@@ -88,19 +99,23 @@ fn tokens_text(
         return Ok(String::from_str(alloc, " is too long")?);
     }
     match parse_placed(alloc, tokens, FILE, text.len() as u32) {
-        Ok(tree) => tree_text(alloc, names, text, tree),
+        Ok(tree) => tree_text(rt, alloc, names, text, tree),
         Err(fail) => one_row_text(alloc, fail),
     }
 }
 
 /// The bodies of the program of the file, or the rows for which it has none.
-pub fn file_text(alloc: Global, text: &[u8]) -> Result<String, OutOfMemory> {
+pub fn file_text<R: Threads + Sync>(
+    rt: &R,
+    alloc: Global,
+    text: &[u8],
+) -> Result<String, OutOfMemory> {
     let mut names = known_names(alloc)?;
     if text.len() > LIMIT || names.len() > LIMIT {
         return Ok(String::from_str(alloc, " is too long")?);
     }
     match lex(alloc, text, FILE, &mut names) {
-        Ok(tokens) => tokens_text(alloc, &names, text, &tokens),
+        Ok(tokens) => tokens_text(rt, alloc, &names, text, &tokens),
         Err(fail) => one_row_text(alloc, fail),
     }
 }

@@ -1,2 +1,4 @@
 pub mod Numbers
 pub mod Programs
+pub mod Appending
+pub mod Syncing

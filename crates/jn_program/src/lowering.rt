@@ -1,111 +1,36 @@
 //! The program of files, or its rows J1 to J6.
-ghost use Rattle.std.specs.Prelude.{◌≡◌, ◌++◌, ◌∷◌, [], map, IfErr, IfOk, OnOk};
+ghost use Rattle.std.specs.Prelude.{◌≡◌, ◌≤◌, map, IfErr, IfOk};
 ghost use Rattle.jn_classtable.specs.Extract.{heads};
-ghost use Rattle.jn_lowering.specs.Bodies.{bodies_of, body_of_source};
-ghost use Rattle.jn_lowering.specs.BodyRows.{rows_of_bodies, rows_of_body};
-ghost use Rattle.jn_lower_stmt.specs.Sources.{source_of, sources_of};
+ghost use Rattle.jn_lowering.specs.Bodies.{bodies_of};
 ghost use Rattle.jn_places.specs.PlacedView.{placed_file};
 ghost use Rattle.jn_program.specs.Lowered.{IsProgram, IsRefusedFor};
 ghost use Rattle.jn_classtable.specs.Table as tables;
 ghost use Rattle.jn_program_law.specs.FileSources.{sources};
 ghost use Rattle.jn_program_law.specs.FileProgram.{j_rows};
-ghost use Rattle.jn_scopes.specs.Views.{Few};
 
+use crate::bodies::LoweredFiles;
 use crate::rows::{is_empty, push_all};
+use crate::sharing::lower_by;
 use crate::sources::sources_of_files;
 use jn_base::{Fail, OutOfMemory, Row, Seq};
 use jn_classtable::ClassTable;
-use jn_index::indexed::IndexedProgram;
-use jn_lower_rows::bodies::body_rows;
 use jn_lower_rows::files::file_rows;
-use jn_lower_rows::limits::limit_rows;
-use jn_lower_stmt::body::Source;
-use jn_lower_stmt::lower::lower_body;
 use jn_points::{Body, Program};
 use jn_program_law::law::programs_of_tables_are_regular;
 use jn_trees::FileTree;
 use std::alloc::Global;
-
-/// The bodies so far, and the rows of files.
-#[derive(Drop)]
-struct LoweredFiles {
-    bodies: Seq<Body>,
-    rows: Seq<Row>,
-}
-
-/// The rows of a body, where this is what it is lowered to.
-fn rows_of(
-    alloc: Global,
-    program: &IndexedProgram,
-    source: &Source,
-    body: &Body,
-) -> Result<Seq<Row>, OutOfMemory>
-    requires few { Few program.now }
-    requires lowered { body.now ≡ body_of_source program.now (source_of source.now) }
-    ensures { IfOk result (λ rows. rows ≡ rows_of_body program.now (source_of source.now)) }
-{
-    let mut rows = Seq::new(alloc);
-    body_rows(
-        alloc,
-        program,
-        source.method,
-        source.parameters,
-        source.body,
-        source.members,
-        &mut rows,
-    )?;
-    if is_empty(&rows) {
-        limit_rows(alloc, program, body, &mut rows)?;
-    }
-    Ok(rows)
-}
-
-/// Adds a body, and its rows.
-fn add(
-    alloc: Global,
-    program: &IndexedProgram,
-    source: &Source,
-    lowered: &mut LoweredFiles,
-) -> Result<(), OutOfMemory>
-    requires few { Few program.now }
-    ensures bodies { OnOk result (lowered.new.bodies
-        ≡ lowered.old.bodies ++ body_of_source program.now (source_of source.now) ∷ []) }
-    ensures rows { OnOk result
-        (lowered.new.rows ≡ lowered.old.rows ++ rows_of_body program.now (source_of source.now)) }
-{
-    let body = lower_body(alloc, program, source)?;
-    let rows = rows_of(alloc, program, source, &body)?;
-    push_all(&mut lowered.rows, rows.as_slice())?;
-    lowered.bodies.push(body)?;
-    Ok(())
-}
-
-/// Adds all bodies, and their rows.
-fn add_all(
-    alloc: Global,
-    program: &IndexedProgram,
-    sources: &[Source],
-    lowered: &mut LoweredFiles,
-) -> Result<(), OutOfMemory>
-    requires few { Few program.now }
-    ensures bodies { OnOk result (lowered.new.bodies
-        ≡ lowered.old.bodies ++ bodies_of program.now (sources_of sources.now)) }
-    ensures rows { OnOk result (lowered.new.rows
-        ≡ lowered.old.rows ++ rows_of_bodies program.now (sources_of sources.now)) }
-{
-    for source in sources {
-        add(alloc, program, source, lowered)?;
-    }
-    Ok(())
-}
+use std::thread::Threads;
 
 /// The bodies and the rows of files with this class table.
-fn lower_files(
+fn lower_files<R: Threads + Sync>(
+    rt: &R,
     alloc: Global,
     table: &ClassTable,
     files: &[FileTree],
+    workers: u32,
 ) -> Result<LoweredFiles, OutOfMemory>
-    requires { table.now ≡ heads (map placed_file files.now) }
+    requires table { table.now ≡ heads (map placed_file files.now) }
+    requires workers { 1 ≤ workers }
     ensures bodies { IfOk result (λ l. l.bodies
         ≡ bodies_of (tables.table (heads (map placed_file files.now)))
         (sources (map placed_file files.now))) }
@@ -113,13 +38,14 @@ fn lower_files(
 {
     table.facts();
     let sources = sources_of_files(alloc, files)?;
-    let mut lowered = LoweredFiles {
-        bodies: Seq::new(alloc),
-        rows: Seq::new(alloc),
-    };
-    file_rows(alloc, &mut lowered.rows, files)?;
-    add_all(alloc, table.indexed(), &sources, &mut lowered)?;
-    Ok(lowered)
+    let mut rows = Seq::new(alloc);
+    file_rows(alloc, &mut rows, files)?;
+    let lowered = lower_by(rt, alloc, table.indexed(), &sources, workers - 1)?;
+    push_all(&mut rows, lowered.rows.as_slice())?;
+    Ok(LoweredFiles {
+        bodies: lowered.bodies,
+        rows,
+    })
 }
 
 fn with_bodies(program: Program, bodies: Seq<Body>) -> Program
@@ -150,20 +76,26 @@ fn with_bodies(program: Program, bodies: Seq<Body>) -> Program
 
 /// The program of files with this class table: its classes, fields, methods and slots, and the points of each body (JLS 7 to 15).
 ///
+/// The bodies are shared among as many workers as are asked for, at most one for a body, each of which takes a range of them.
+/// It goes by `join`, and so may wait for its workers.
+///
 /// `Ok` exactly where no row J1 to J6 stands, and the program is the one that the files define, and is regular. `Refused` has
 /// exactly the rows, and there is one. `OutOfMemory` comes where no memory was found, and where a body has more than 2^32 - 2
 /// points, labels or registers.
-pub fn lower(
+pub fn lower<R: Threads + Sync>(
+    rt: &R,
     alloc: Global,
     table: ClassTable,
     files: &[FileTree],
+    workers: u32,
 ) -> Result<Program, Fail<Seq<Row>>>
-    requires { table ≡ heads (map placed_file files.now) }
+    requires table { table ≡ heads (map placed_file files.now) }
+    requires workers { (1 ≤ workers) × (workers ≤ 16) }
     ensures lowered { IfOk result (λ p. IsProgram (map placed_file files.now) p) }
     ensures refused { IfErr result (λ fail. IsRefusedFor (map placed_file files.now) fail) }
 {
     programs_of_tables_are_regular(&table);
-    match lower_files(alloc, &table, files) {
+    match lower_files(rt, alloc, &table, files, workers) {
         Err(_) => Err(Fail::OutOfMemory),
         Ok(LoweredFiles { bodies, rows }) => {
             if is_empty(&rows) {

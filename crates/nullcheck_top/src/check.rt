@@ -122,7 +122,7 @@ fn find_table<R: Threads + Sync, G: Gate + Sync>(
     requires workers { (1 ≤ workers) × (workers ≤ 16) }
     ensures { IfOk result (λ found. IsFinding (files_of_reads reads.now) names.now found) }
 {
-    match lower(alloc, table, trees) {
+    match lower(rt, alloc, table, trees, workers) {
         Ok(program) => return find_program(rt, alloc, workers, reads, names, program, gate),
         Err(Fail::Refused(rows)) => return refused(alloc, rows.into_vec()),
         Err(Fail::OutOfMemory) => return Err(OutOfMemory),

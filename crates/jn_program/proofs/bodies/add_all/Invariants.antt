@@ -2,7 +2,7 @@ use Rattle.std.proofs.Common.{◌≡◌, ◌++◌, drop}
 use Rattle.jn_lowering.specs.Bodies.{bodies_of}
 use Rattle.jn_lowering.specs.BodyRows.{rows_of_bodies}
 use Rattle.jn_lower_stmt.specs.Sources.{sources_of}
-use Rattle.jn_program.proofs.lowering.add_all.Given as goal
+use Rattle.jn_program.proofs.bodies.add_all.Given as goal
 
 abbrev pub invariant-loop-source : goal.invariant-loop-source
 invariant-loop-source l =
