@@ -56,8 +56,8 @@ fn check_indexed<R: Threads + Sync>(
 /// write of it (J8), and each reached Return gives a value exactly where its method has a result
 /// (J9).
 ///
-/// The bodies are shared among as many workers as are asked for, at most one for a body, each of which takes a range of them.
-/// It goes by `join`, and so may wait for its workers.
+/// The bodies are shared among as many workers as are asked for, at most one for a body, each of
+/// which takes a range of them. It goes by `join`, and so may wait for its workers.
 ///
 /// # Errors
 /// `Refused` with all of the program's rows J7 to J10, each at its place once or more, in no order;

@@ -52,8 +52,8 @@ fn both(
     Ok(rows)
 }
 
-/// The rows of the bodies of a range: worker 0 and as many others as `more` take each a range of it, of lengths that differ by
-/// at most one.
+/// The rows of the bodies of a range: worker 0 and as many others as `more` take each a range of it,
+/// of lengths that differ by at most one.
 #[cycle(share)]
 fn rows_by<R: Threads + Sync>(
     rt: &R,
