@@ -1,8 +1,27 @@
-//! Lists of numbers, one for each number.
+//! Items put behind others, values in boxes, and lists of numbers, one for each number.
 ghost use Rattle.std.specs.Prelude.{◌≡◌, ◌<◌, ◌++◌, ◌∷◌, [], ℕ, cond, eqb, length, slice_index_or, IfOk, OnOk};
 
+use crate::refusal::OutOfMemory;
 use crate::seq::Seq;
 use std::alloc::{AllocError, Global};
+
+/// Puts the item behind the others.
+pub fn put<T: Drop>(items: &mut Vec<T>, item: T) -> Result<(), AllocError>
+    ensures { OnOk result (items.new.items ≡ items.old.items ++ item ∷ []) }
+{
+    items.push(item)?;
+    Ok(())
+}
+
+/// The value in a box of its own.
+pub fn boxed<T: Drop>(alloc: Global, value: T) -> Result<Box<T>, OutOfMemory>
+    ensures { IfOk result (λ place. place.value ≡ value) }
+{
+    match Box::new(alloc, value) {
+        Ok(place) => Ok(place),
+        Err(_) => Err(OutOfMemory),
+    }
+}
 
 /// So many lists without items.
 pub fn empty_lists(alloc: Global, count: usize) -> Result<Vec<Seq<u32>>, AllocError>

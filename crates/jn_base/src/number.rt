@@ -1,4 +1,6 @@
 //! Typed numbers of the things of a program.
+ghost use Rattle.std.specs.Prelude.{◌≡◌, max};
+
 /// A file, by its place in the list of files.
 #[derive(Clone, Copy, Debug, PartialEq, Eq, PartialOrd, Ord)]
 pub struct FileNo(pub u32);
@@ -38,3 +40,10 @@ pub struct WordNo(pub u32);
 /// A name or string text, by its place in the list of names.
 #[derive(Clone, Copy, Debug, PartialEq, Eq, PartialOrd, Ord)]
 pub struct NameNo(pub u32);
+
+/// The larger of two numbers.
+pub fn larger(one: u32, other: u32) -> u32
+    ensures { result ≡ max one other }
+{
+    one.max(other)
+}

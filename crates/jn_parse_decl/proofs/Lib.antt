@@ -1,7 +1,6 @@
 pub mod Absent
 pub mod Depth
 pub mod Found
-pub mod Marks
 pub mod Rows
 pub mod Turns
 pub mod Views

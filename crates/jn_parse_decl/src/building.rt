@@ -7,7 +7,7 @@ ghost use Rattle.jn_parse_decl_law.specs.Built as law;
 ghost use Rattle.jn_parse_decl.specs.Seen.{piece_view, built_view, inside_of, body_of, opening, member_opening};
 
 use crate::piece::{ConstructorHead, FieldParts, MethodHead, Piece, TypeHead};
-use crate::put::put;
+use jn_base::lists::put;
 use jn_base::{OutOfMemory, Span};
 use jn_trees::{FileTree, Import, Member, PackageLine, Stmt, TypeTree};
 use std::alloc::Global;
@@ -332,7 +332,7 @@ fn longer(member: OpenMember, statement: Stmt) -> Result<OpenMember, OutOfMemory
         }),
         Err(error) => {
             // A drop here would split the proof by what the head holds.
-            forget(head);
+            drop(head);
             Err(error)
         }
     }
@@ -418,9 +418,6 @@ fn member_of(head: MemberHead, body: Vec<Stmt>, span: Span) -> Member
     }
 }
 
-/// Drops what is left of something that isn't built.
-fn forget<T: Drop>(_rest: T) {}
-
 fn types_with(
     types: Vec<TypeTree>,
     inside: Option<OpenType>,
@@ -439,7 +436,7 @@ fn types_with(
                 from,
             },
         ) => {
-            forget(body);
+            drop(body);
             with(types, type_of(head, members, through(from, end)))
         }
     }

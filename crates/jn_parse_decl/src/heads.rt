@@ -5,12 +5,12 @@ ghost use Rattle.jn_trees.specs.Pieces.{kinds};
 ghost use Rattle.jn_parse_decl_law.specs.PieceReader as reader;
 ghost use Rattle.jn_parse_decl.specs.Seen.{seen_piece};
 
-use crate::modifiers::{Bearer, may_all_stand, read_modifiers};
+use crate::modifiers::{may_all_stand, read_modifiers};
 use crate::names::{extended, implemented, parent};
 use crate::piece::{Piece, TypeHead};
 use jn_base::OutOfMemory;
 use jn_trees::reading::{expect, identifier};
-use jn_trees::{Identifier, Modifier, Token, TokenKind};
+use jn_trees::{Bearer, Identifier, Modifier, Token, TokenKind};
 use std::alloc::Global;
 
 /// The head of a type at the front, well formed, and what follows it.

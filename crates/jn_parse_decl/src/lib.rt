@@ -15,6 +15,5 @@ mod nested;
 mod parameters;
 mod piece;
 mod pieces;
-mod put;
 
 pub use file::parse_file;

@@ -7,14 +7,16 @@ ghost use Rattle.jn_trees.specs.Pieces.{kinds};
 ghost use Rattle.jn_parse_decl_law.specs.PieceReader as reader;
 ghost use Rattle.jn_parse_decl.specs.Seen.{seen_piece};
 
-use crate::modifiers::{Bearer, has_static, may_all_stand, read_modifiers};
+use crate::modifiers::{may_all_stand, read_modifiers};
 use crate::nested::field_declarators;
 use crate::parameters::{Parameters, each_final_once, read_parameters};
 use crate::piece::{ConstructorHead, FieldParts, MethodHead, Piece};
 use jn_base::{NameNo, OutOfMemory};
 use jn_parse_stmt::read_type_use;
 use jn_trees::reading::{covered, expect, identifier};
-use jn_trees::{Identifier, Modifier, Owner, Receiver, ResultUse, Token, TokenKind, TypeUse};
+use jn_trees::{
+    Bearer, Identifier, Modifier, Owner, Receiver, ResultUse, Token, TokenKind, TypeUse, has_static,
+};
 use std::alloc::Global;
 
 /// The piece at the front of what stands in a type, well formed there, and what follows it.

@@ -7,8 +7,8 @@ ghost use Rattle.jn_trees.specs.Pieces.{kinds};
 ghost use Rattle.jn_parse_decl_law.specs.PieceReader.{read_dots, read_more_names, read_parent, read_implements, read_extends, add_name};
 ghost use Rattle.jn_parse_decl.specs.Front.{prepend};
 
-use crate::put::put;
 use jn_base::OutOfMemory;
+use jn_base::lists::put;
 use jn_trees::reading::{expect, identifier};
 use jn_trees::{Identifier, Token, TokenKind};
 use std::alloc::Global;

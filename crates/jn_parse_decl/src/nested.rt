@@ -9,11 +9,8 @@ ghost use Rattle.jn_parse_decl_law.specs.PieceReader as reader;
 use jn_base::OutOfMemory;
 use jn_parse_stmt::{read_declarators, read_statement};
 use jn_parse_stmt_law::law::statements_are_read_once;
-use jn_trees::{Context, Declarator, Stmt, Token};
+use jn_trees::{Context, DEEPEST, Declarator, Stmt, Token};
 use std::alloc::Global;
-
-/// The greatest nesting of an initializer or a statement.
-const DEEPEST: u32 = 500;
 
 /// The declarators of fields at the front, and what follows them.
 pub fn field_declarators(

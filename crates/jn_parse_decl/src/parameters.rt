@@ -7,12 +7,13 @@ ghost use Rattle.jn_parse_decl_law.specs.PieceReader as reader;
 ghost use Rattle.jn_parse_decl.specs.Front.{prepend_parameters, one_parameter, name_behind};
 ghost use Rattle.jn_parse_decl.specs.Seen.{seen_parameter, seen_row, seen_parameters, names_seen};
 
-use crate::put::put;
 use jn_base::OutOfMemory;
-use jn_parse_stmt::{final_once, read_local_modifiers, read_type_use};
+use jn_base::lists::put;
+use jn_parse_stmt::{read_local_modifiers, read_type_use};
 use jn_trees::reading::{expect, identifier};
 use jn_trees::{
     Annotation, Base, Identifier, LocalModifier, Parameter, Receiver, Token, TokenKind, TypeUse,
+    final_once,
 };
 use std::alloc::Global;
 

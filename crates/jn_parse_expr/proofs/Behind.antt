@@ -1,14 +1,12 @@
 -- The place behind what was read.
-use Rattle.std.proofs.Common.{◌≡◌, ℕ, ◌+◌, ◌-◌, ◌<◌, ◌≤◌, List, [], ◌∷◌, ◌++◌, length, drop, true, refl, sym, ap, ◌∙◌, subst, arith, length-append, length-drop, Option, Some, None}
+use Rattle.std.proofs.Common.{◌≡◌, ℕ, ◌+◌, ◌-◌, ◌<◌, ◌≤◌, List, [], ◌∷◌, ◌++◌, length, drop, true, sym, ap, ◌∙◌, subst, arith, length-append, length-drop, Some}
 use Rattle.std.proofs.Math.Seq.{drop-append_seam}
 use Rattle.std.proofs.lemmas.List.{drop-drop, length-map}
-use Rattle.std.specs.Borrow.{Bor}
 use Rattle.jn_trees.specs.declared.token.Token.{Token}
 use Rattle.jn_trees.specs.declared.token.TokenKind.{TokenKind}
-use Rattle.jn_trees.specs.declared.expression.Expr.{Expr}
 use Rattle.jn_trees.specs.Trees.{Tree}
 use Rattle.jn_trees.specs.Spelling.{spell}
-use Rattle.jn_trees.specs.Longest.{Try, IsLongest}
+use Rattle.jn_trees.specs.Longest.{IsLongest}
 use Rattle.jn_trees.specs.Pieces.{kinds}
 use Rattle.jn_parse_expr_law.proofs.Items.{begins, begins_tree}
 

@@ -1,5 +1,5 @@
 -- The reader by what a token is.
-use Rattle.std.proofs.Common.{◌≡◌, ℕ, zero, suc, ◌-◌, ◌<◌, arith, List, [], ◌∷◌, refl, sym, ap, ◌∙◌, Option, Some, None, true, false, cond, nat_lt, option_map}
+use Rattle.std.proofs.Common.{◌≡◌, ℕ, zero, suc, ◌-◌, ◌<◌, arith, List, [], ◌∷◌, refl, ap, ◌∙◌, Option, Some, None, true, false, cond, nat_lt, option_map}
 use Rattle.jn_base.specs.declared.number.NameNo.{NameNo}
 use Rattle.jn_trees.specs.declared.token.TokenKind.{TokenKind}
 use Rattle.jn_trees.specs.declared.token.TokenKind.TheVariants.{Id, Number, New, Super, LeftParen, PlusPlus, MinusMinus, Plus, Minus, Not, Dot}

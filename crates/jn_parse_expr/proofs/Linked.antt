@@ -1,14 +1,13 @@
 -- Where the brackets of a call begin.
-use Rattle.std.proofs.Common.{◌≡◌, ℕ, zero, suc, ◌+◌, ◌-◌, ◌<◌, ◌≤◌, List, [], ◌∷◌, ◌++◌, refl, sym, ap, ◌∙◌, subst, arith, Option, Some, None, Bool, true, false, cond, nat_lt}
+use Rattle.std.proofs.Common.{◌≡◌, ℕ, List, [], ◌∷◌, refl, ap, subst, Option, Some, None, Bool, true, false, cond, nat_lt}
 use Rattle.jn_base.specs.declared.number.NameNo.{NameNo}
 use Rattle.jn_trees.specs.declared.token.TokenKind.{TokenKind}
-use Rattle.jn_trees.specs.declared.token.TokenKind.TheVariants.{Id, Str, Number, Int, Boolean, New, Super, This, True, False, Null, LeftParen, RightParen, LeftBrace, RightBrace, LeftBracket, RightBracket, Dot, At}
+use Rattle.jn_trees.specs.declared.token.TokenKind.TheVariants.{Id, Str, Number, New, Super, This, True, False, Null, LeftParen, RightParen, LeftBrace, LeftBracket, RightBracket, Dot}
 use Rattle.jn_trees.specs.declared.expression.Literal.TheVariants.{Number as NumberLiteral}
-use Rattle.jn_trees.specs.Trees.{BaseTree, ClassBase, Tree, Trees, LiteralTree, NameTree, FieldTree, CallTree, OwnCallTree, SuperCallTree, NewTree, ArrayOfTree}
-use Rattle.jn_trees.specs.Spelling.{spell_list}
+use Rattle.jn_trees.specs.Trees.{BaseTree, ClassBase, Tree, LiteralTree, NameTree, FieldTree, CallTree, OwnCallTree, SuperCallTree, NewTree, ArrayOfTree}
 use Rattle.jn_trees.specs.WellFormed.{nesting, is_indexable}
 use Rattle.jn_trees.specs.Longest.{Try}
-use Rattle.jn_parse_expr_law.specs.Reader.{Got, TryAll, Reader, bind, build_all, close_paren, close_index, arguments_in, elements_in, arguments, called, base_of, close_array, array_elements, array_inside, array_behind, array_of, array_from, annotations, creation_of, creation, number_at, super_call, head, member, link}
+use Rattle.jn_parse_expr_law.specs.Reader.{TryAll, Reader, bind, build_all, close_paren, close_index, arguments_in, elements_in, arguments, called, base_of, close_array, array_elements, array_inside, array_behind, array_of, array_from, annotations, creation_of, creation, number_at, super_call, head, member, link}
 use Rattle.jn_parse_expr_law.proofs.Sound.{SoundReader, SoundCall, call_sound}
 use Rattle.jn_parse_expr.specs.Steps.{IsLinked}
 

@@ -1,20 +1,18 @@
 -- What the parts of the parser give, by the reader.
-use Rattle.std.specs.Prelude.{◌≡◌, ℕ, ◌+◌, ◌≤◌, ◌<◌, List, [], ◌∷◌, ◌++◌, length, Option, Some, None, Vec, Box, cond, nat_lt, option_map}
+use Rattle.std.specs.Prelude.{◌≡◌, ℕ, ◌≤◌, List, [], ◌∷◌, ◌++◌, Option, Some, None, Vec, Box, cond, nat_lt, option_map}
 use Rattle.std.specs.Borrow.{Bor}
 use Rattle.std.specs.declared.alloc.Global.{Global}
 use Rattle.jn_base.specs.declared.number.NameNo.{NameNo}
 use Rattle.jn_trees.specs.declared.token.Token.{Token}
 use Rattle.jn_trees.specs.declared.token.TokenKind.{TokenKind}
-use Rattle.jn_trees.specs.declared.token.TokenKind.TheVariants.{Id, Str, Number, This, True, False, Null, LeftParen, RightParen, Dot, PlusPlus, MinusMinus, Plus, Minus, Not}
+use Rattle.jn_trees.specs.declared.token.TokenKind.TheVariants.{Id, Str, Number, This, True, False, Null, LeftParen, RightParen, Dot, Plus, Minus, Not}
 use Rattle.jn_trees.specs.declared.expression.Expr.{Expr}
-use Rattle.jn_trees.specs.declared.expression.Annotation.{Annotation}
-use Rattle.jn_trees.specs.declared.expression.Base.{Base}
 use Rattle.jn_trees.specs.declared.expression.Literal.{Literal}
 use Rattle.jn_trees.specs.declared.expression.Literal.TheVariants.{Number as NumberLiteral, Str as StrLiteral, True as TrueLiteral, False as FalseLiteral, Null as NullLiteral}
 use Rattle.jn_trees.specs.declared.expression.UnaryOperator.{UnaryOperator}
 use Rattle.jn_trees.specs.declared.expression.UnaryOperator.TheVariants.{Plus as PlusSign, Minus as MinusSign, Not as NotSign}
 use Rattle.jn_trees.specs.declared.expression.BinaryOperator.{BinaryOperator}
-use Rattle.jn_trees.specs.Trees.{BaseTree, Tree, Trees, LiteralTree, NameTree, ThisTree, ParenTree, FieldTree, CallTree, OwnCallTree, IndexTree, PostfixTree, UnaryTree, CastTree, BinaryTree, InstanceOfTree, ConditionalTree, AssignTree, NoTrees, MoreTrees}
+use Rattle.jn_trees.specs.Trees.{Tree, Trees, LiteralTree, NameTree, ThisTree, ParenTree, FieldTree, CallTree, OwnCallTree, IndexTree, PostfixTree, UnaryTree, CastTree, BinaryTree, InstanceOfTree, ConditionalTree, AssignTree, NoTrees, MoreTrees}
 use Rattle.jn_trees.specs.Spelling.{spell_list}
 use Rattle.jn_trees.specs.WellFormed.{nesting, nesting_all}
 use Rattle.jn_trees.specs.View.{view, views, annotation_names, base_view}

@@ -1,22 +1,15 @@
 //! Lists of expressions in brackets (JLS 15.12, 10.6).
-ghost use Rattle.std.specs.Prelude.{◌≡◌, ◌++◌, ◌∷◌, [], ℕ, IfOk, OnOk};
+ghost use Rattle.std.specs.Prelude.{ℕ, IfOk};
 ghost use Rattle.jn_trees.specs.Pieces.{kinds};
 ghost use Rattle.jn_parse_expr_law.specs.Reader.{reader, TryAll, arguments, arguments_in, elements_in, all_items, bind_items, close_arguments, close_elements};
 ghost use Rattle.jn_parse_expr.specs.Steps.{AllAs};
 
-use crate::tail::larger;
 use crate::whole::read_whole;
+use jn_base::lists::put;
+use jn_base::number::larger;
 use jn_trees::reading::expect;
 use jn_trees::{Expr, Token, TokenKind};
 use std::alloc::{AllocError, Global};
-
-/// Puts the tree behind the others.
-fn put(all: &mut Vec<Expr>, tree: Box<Expr>) -> Result<(), AllocError>
-    ensures { OnOk result (all.new.items ≡ all.old.items ++ tree.value ∷ []) }
-{
-    all.push(Box::into_inner(tree))?;
-    Ok(())
-}
 
 /// The arguments with the parenthesis that closes them.
 fn closed_arguments<'t>(
@@ -119,7 +112,7 @@ fn read_items(
         match read_whole(alloc, left, depth)? {
             None => return Ok(None),
             Some((item, deeper, rest)) => {
-                put(&mut all, item)?;
+                put(&mut all, Box::into_inner(item))?;
                 nested = larger(nested, deeper);
                 match expect(rest, TokenKind::Comma) {
                     None => return Ok(Some((all, nested, rest))),

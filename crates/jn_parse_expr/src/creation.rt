@@ -12,7 +12,8 @@ ghost use Rattle.jn_parse_expr.specs.Steps.{ReadAs, AllAs, ElementAs};
 use crate::arguments::{read_arguments_in, read_elements_in};
 use crate::whole::read_whole;
 use jn_base::Span;
-use jn_trees::reading::{covered, expect, identifier, next};
+use jn_base::lists::put;
+use jn_trees::reading::{annotation, covered, expect, identifier, next};
 use jn_trees::{Annotation, Base, Expr, Identifier, Token, TokenKind};
 use std::alloc::{AllocError, Global};
 
@@ -21,36 +22,6 @@ use std::alloc::{AllocError, Global};
 pub struct Element {
     pub annotations: Vec<Annotation>,
     pub base: Base,
-}
-
-/// Puts the annotation behind the others.
-fn put(all: &mut Vec<Annotation>, annotation: Annotation) -> Result<(), AllocError>
-    ensures { OnOk result (all.new.items ≡ all.old.items ++ annotation ∷ []) }
-{
-    all.push(annotation)?;
-    Ok(())
-}
-
-/// An annotation `@Name`.
-fn annotation(tokens: &[Token]) -> Option<(Annotation, &[Token])>
-    ensures { MatchOption result
-        ((name : SpecName) (rest : List Kind) → kinds tokens.now ≡ Kind.At ∷ Kind.Id name ∷ rest
-        → ⊥)
-        (λ r. kinds tokens.now ≡ Kind.At ∷ Kind.Id r.0.name ∷ kinds r.1.now) }
-{
-    match expect(tokens, TokenKind::At) {
-        None => None,
-        Some(rest) => match identifier(rest) {
-            None => None,
-            Some((name, rest)) => Some((
-                Annotation {
-                    name: name.name,
-                    span: covered(tokens, rest),
-                },
-                rest,
-            )),
-        },
-    }
 }
 
 /// The annotations at the front.

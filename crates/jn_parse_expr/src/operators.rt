@@ -1,14 +1,15 @@
 //! Operators between two operands, and `instanceof` (JLS 15.17 to 15.24).
 ghost use Rattle.std.specs.Prelude.{◌≡◌, ◌-◌, ◌≤◌, ◌<◌, ◌^◌, ℕ, IfOk, IfSome, List, [], ◌∷◌};
 ghost use Rattle.jn_trees.specs.Trees.{Tree};
-ghost use Rattle.jn_trees.specs.WellFormed.{nesting, power as weakness};
+ghost use Rattle.jn_trees.specs.WellFormed.{nesting};
 ghost use Rattle.jn_trees.specs.View.{view};
 ghost use Rattle.jn_trees.specs.Pieces.{kinds};
 ghost use Rattle.jn_parse_expr_law.specs.Reader.{reader, sign, grow, grow_by, OperatorSign, test};
 ghost use Rattle.jn_parse_expr.specs.Steps.{ReadAs, TailAs, sign_as};
 
-use crate::tail::{Tail, attach, front, larger};
+use crate::tail::{Tail, attach, front};
 use crate::unary::read_unary;
+use jn_base::number::larger;
 use jn_trees::reading::identifier;
 use jn_trees::{BinaryOperator, Expr, Token, TokenKind};
 use std::alloc::{AllocError, Global};
@@ -32,27 +33,6 @@ fn binary_operator(kind: TokenKind) -> Option<BinaryOperator>
         TokenKind::AndAnd => Some(BinaryOperator::And),
         TokenKind::OrOr => Some(BinaryOperator::Or),
         _ => None,
-    }
-}
-
-/// How weakly an operator binds, from 1 to 6.
-fn power_of(operator: BinaryOperator) -> u32
-    ensures { result ≡ weakness operator }
-{
-    match operator {
-        BinaryOperator::Multiply => 1,
-        BinaryOperator::Divide => 1,
-        BinaryOperator::Remainder => 1,
-        BinaryOperator::Add => 2,
-        BinaryOperator::Subtract => 2,
-        BinaryOperator::Less => 3,
-        BinaryOperator::Greater => 3,
-        BinaryOperator::LessEqual => 3,
-        BinaryOperator::GreaterEqual => 3,
-        BinaryOperator::Equal => 4,
-        BinaryOperator::NotEqual => 4,
-        BinaryOperator::And => 5,
-        BinaryOperator::Or => 6,
     }
 }
 
@@ -144,7 +124,7 @@ fn operand_tail(
         → TailAs depth l o
         (grow_by (reader (depth - 1)) power l (OperatorSign operator) (kinds tokens.now))) }
 {
-    if power_of(operator) != power + 1 {
+    if operator.power() != power + 1 {
         return Ok(None);
     }
     match read_operand(alloc, tokens, power, depth - 1)? {

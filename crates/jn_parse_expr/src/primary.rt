@@ -3,7 +3,7 @@ ghost use Rattle.std.specs.Prelude.{◌≡◌, ◌-◌, ◌+◌, ◌≤◌, ◌<
 ghost use Rattle.jn_base.specs.declared.number.NameNo.{NameNo as SpecName};
 ghost use Rattle.jn_trees.specs.declared.token.TokenKind.{TokenKind as Kind};
 ghost use Rattle.jn_trees.specs.Trees.{Tree, NameTree, FieldTree, CallTree, OwnCallTree, SuperCallTree};
-ghost use Rattle.jn_trees.specs.WellFormed.{nesting, is_indexable as may_have_index};
+ghost use Rattle.jn_trees.specs.WellFormed.{nesting};
 ghost use Rattle.jn_trees.specs.View.{view, views};
 ghost use Rattle.jn_trees.specs.Longest.{Try};
 ghost use Rattle.jn_trees.specs.Pieces.{kinds};
@@ -12,9 +12,10 @@ ghost use Rattle.jn_parse_expr.specs.Steps.{ReadAs, TailAs, AllAs, PrimaryAs, Is
 
 use crate::arguments::read_arguments;
 use crate::creation::read_creation;
-use crate::tail::{Tail, attach, larger};
-use crate::whole::{can_be_assigned, read_whole};
+use crate::tail::{Tail, attach};
+use crate::whole::read_whole;
 use jn_base::Span;
+use jn_base::number::larger;
 use jn_trees::reading::{covered, expect, identifier, next};
 use jn_trees::{Expr, Identifier, Literal, Token, TokenKind};
 use std::alloc::{AllocError, Global};
@@ -28,9 +29,6 @@ pub struct Primary<'t> {
     pub before: u32,
     pub link: &'t [Token],
 }
-
-/// Drops a tree.
-fn forget_tree(_tree: Expr) {}
 
 /// A name that stands first, boxed.
 fn boxed_name(alloc: Global, name: Identifier) -> Result<Box<Expr>, AllocError>
@@ -58,7 +56,7 @@ pub fn cut<'t>(
         before,
         link,
     } = primary;
-    if can_be_assigned(&tree) {
+    if tree.is_left_side() {
         return Ok(Some((tree, nested, rest)));
     }
     match Box::into_inner(tree) {
@@ -73,7 +71,7 @@ pub fn cut<'t>(
             Ok(Some((boxed, 1, &start[1..])))
         }
         other => {
-            forget_tree(other);
+            drop(other);
             Ok(None)
         }
     }
@@ -175,17 +173,6 @@ pub fn read_primary(
     }
 }
 
-/// Whether an index may stand behind a tree: not behind a new array (JLS 15.10.3).
-fn is_indexable(tree: &Expr) -> bool
-    ensures { result ≡ may_have_index (view tree.now) }
-{
-    match tree {
-        Expr::NewArray { .. } => false,
-        Expr::ArrayOf { .. } => false,
-        _ => true,
-    }
-}
-
 /// A field, a call or an index.
 #[cycle(parser)]
 fn link_tail<'t>(
@@ -209,7 +196,7 @@ fn link_tail<'t>(
         None => match expect(tokens, TokenKind::LeftBracket) {
             None => Ok(None),
             Some(after) => {
-                if is_indexable(left) {
+                if left.is_indexable() {
                     index_tail(alloc, nested, after, depth)
                 } else {
                     Ok(None)

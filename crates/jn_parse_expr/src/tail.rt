@@ -1,5 +1,5 @@
 //! What goes on with a tree that stands to the left.
-ghost use Rattle.std.specs.Prelude.{◌≡◌, ◌≤◌, ◌∷◌, List, [], Option, Some, IfOk, MatchOption, ℕ, max};
+ghost use Rattle.std.specs.Prelude.{◌≡◌, ◌≤◌, ◌∷◌, List, [], Option, Some, IfOk, MatchOption, ℕ};
 ghost use Rattle.jn_trees.specs.declared.token.TokenKind.{TokenKind as Kind};
 ghost use Rattle.jn_trees.specs.Trees.{CallTree};
 ghost use Rattle.jn_trees.specs.WellFormed.{nesting};
@@ -47,16 +47,6 @@ pub fn front(tokens: &[Token]) -> Option<(TokenKind, &[Token])>
     }
 }
 
-/// Drops a tree.
-pub fn forget(_tree: Box<Expr>) {}
-
-/// The larger of two numbers.
-pub fn larger(a: u32, b: u32) -> u32
-    ensures { result ≡ max a b }
-{
-    if a < b { b } else { a }
-}
-
 fn with_call(target: Box<Expr>, name: Identifier, arguments: Vec<Expr>, span: Span) -> Expr
     ensures { view result ≡ CallTree (view target.value) name.name (views arguments.items) }
 {
@@ -90,7 +80,7 @@ fn joined(left: Box<Expr>, tail: Tail, span: Span) -> Expr
             span,
         },
         Tail::Cast(class, operand) => {
-            forget(left);
+            drop(left);
             Expr::Cast {
                 class,
                 operand,

@@ -13,7 +13,6 @@ ghost use Rattle.jn_parse_expr.specs.Steps.{ReadAs, TailAs, sign_before, signed_
 use crate::operators::read_operand;
 use crate::primary::{Primary, cut, read_primary};
 use crate::tail::{Tail, front, go_with};
-use crate::whole::can_be_assigned;
 use jn_trees::reading::{covered, next};
 use jn_trees::{Expr, Identifier, Literal, Step, Token, TokenKind, UnaryOperator};
 use std::alloc::{AllocError, Global};
@@ -106,7 +105,7 @@ fn step_tail<'t>(
         Some((first, rest)) => match step_of(first) {
             None => None,
             Some(step) => {
-                if nested >= depth || !can_be_assigned(left) {
+                if nested >= depth || !left.is_left_side() {
                     return None;
                 }
                 Some((Tail::Step(step), nested + 1, rest))

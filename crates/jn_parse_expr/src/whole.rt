@@ -1,14 +1,15 @@
 //! Whole expressions: assignments and conditionals (JLS 15.25, 15.26).
 ghost use Rattle.std.specs.Prelude.{◌≡◌, ◌-◌, ◌≤◌, ◌<◌, IfOk, List, [], ◌∷◌};
 ghost use Rattle.jn_trees.specs.Trees.{Tree};
-ghost use Rattle.jn_trees.specs.WellFormed.{nesting, is_left_side};
+ghost use Rattle.jn_trees.specs.WellFormed.{nesting};
 ghost use Rattle.jn_trees.specs.View.{view};
 ghost use Rattle.jn_trees.specs.Pieces.{kinds};
 ghost use Rattle.jn_parse_expr_law.specs.Reader.{reader, assign_of, assign, choose};
 ghost use Rattle.jn_parse_expr.specs.Steps.{ReadAs, TailAs};
 
 use crate::operators::read_operand;
-use crate::tail::{Tail, front, go_with, larger};
+use crate::tail::{Tail, front, go_with};
+use jn_base::number::larger;
 use jn_trees::reading::expect;
 use jn_trees::{AssignOperator, Expr, Token, TokenKind};
 use std::alloc::{AllocError, Global};
@@ -25,18 +26,6 @@ fn assign_operator(kind: TokenKind) -> Option<AssignOperator>
         TokenKind::SlashAssign => Some(AssignOperator::Divide),
         TokenKind::PercentAssign => Some(AssignOperator::Remainder),
         _ => None,
-    }
-}
-
-/// Whether a tree can be assigned to.
-pub fn can_be_assigned(tree: &Expr) -> bool
-    ensures { result ≡ is_left_side (view tree.now) }
-{
-    match tree {
-        Expr::Name { .. } => true,
-        Expr::Field { .. } => true,
-        Expr::Index { .. } => true,
-        _ => false,
     }
 }
 
@@ -76,7 +65,7 @@ fn value_tail<'t>(
         Some((first, after)) => match assign_operator(first) {
             None => Ok(None),
             Some(operator) => {
-                if nested >= depth || !can_be_assigned(left) {
+                if nested >= depth || !left.is_left_side() {
                     return Ok(None);
                 }
                 match read_whole(alloc, after, depth - 1)? {

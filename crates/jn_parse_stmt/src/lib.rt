@@ -10,15 +10,13 @@ mod lists;
 mod loops;
 mod nested;
 mod parts;
-mod put;
 mod simple;
 
 use jn_base::OutOfMemory;
 use jn_parse_stmt_law::law::statements_are_read_once;
 use jn_trees::{Context, Stmt, Token};
 pub use parts::{
-    final_once, read_annotations, read_declarators, read_local_modifiers, read_parameter,
-    read_type_use,
+    read_annotations, read_declarators, read_local_modifiers, read_parameter, read_type_use,
 };
 use std::alloc::Global;
 

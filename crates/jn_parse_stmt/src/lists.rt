@@ -3,40 +3,23 @@ ghost use Rattle.std.specs.Prelude.{◌≡◌, IfOk};
 ghost use Rattle.jn_trees.specs.Longest.{seen};
 ghost use Rattle.jn_trees.specs.Pieces.{kinds};
 ghost use Rattle.jn_trees.specs.View.{view, views, optional_view};
-ghost use Rattle.jn_trees.specs.WellFormed.{is_effect};
 ghost use Rattle.jn_parse_expr_law.specs.Reader.{reader, all_items, arguments_in};
 ghost use Rattle.jn_parse_stmt_law.specs.Parts.{then_read, closed, are_effects, if_effects, read_initial, read_optional};
 ghost use Rattle.jn_parse_stmt_law.specs.StatementReader.{in_parens};
 ghost use Rattle.jn_parse_stmt.specs.Seen.{seen_as, all_views};
 
 use crate::expression::expression;
-use crate::put::put;
 use jn_base::OutOfMemory;
+use jn_base::lists::put;
 use jn_trees::reading::expect;
 use jn_trees::{Expr, Token, TokenKind};
 use std::alloc::Global;
-
-/// Whether the expression can stand as a statement (JLS 14.8).
-pub fn is_effect(expression: &Expr) -> bool
-    ensures { result ≡ is_effect (view expression.now) }
-{
-    match expression {
-        Expr::Call { .. } => true,
-        Expr::OwnCall { .. } => true,
-        Expr::SuperCall { .. } => true,
-        Expr::New { .. } => true,
-        Expr::Postfix { .. } => true,
-        Expr::Prefix { .. } => true,
-        Expr::Assign { .. } => true,
-        _ => false,
-    }
-}
 
 fn are_effects(expressions: &[Expr]) -> bool
     ensures { result ≡ are_effects (views expressions.now) }
 {
     for expression in expressions {
-        if !is_effect(expression) {
+        if !expression.is_effect() {
             return false;
         }
     }

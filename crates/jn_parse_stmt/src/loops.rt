@@ -11,8 +11,8 @@ ghost use Rattle.jn_parse_stmt.specs.Heads.{body_of, with_body};
 
 use crate::lists::{arguments, closed, in_parentheses, initial, only_effects, optional};
 use crate::parts::read_parameter;
-use crate::put::boxed;
 use crate::simple::declaration;
+use jn_base::lists::boxed;
 use jn_base::{OutOfMemory, Span};
 use jn_trees::reading::expect;
 use jn_trees::{Expr, ForInit, Parameter, Stmt, Token, TokenKind};

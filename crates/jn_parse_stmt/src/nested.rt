@@ -4,7 +4,7 @@ ghost use Rattle.jn_trees.specs.Longest.{TryStatement};
 ghost use Rattle.jn_trees.specs.Trees.{Tree, EmptyStatement, BlockStatement, IfStatement, IfElseStatement};
 ghost use Rattle.jn_trees.specs.Pieces.{kinds};
 ghost use Rattle.jn_trees.specs.View.{view, statement_view, statement_views};
-ghost use Rattle.jn_trees.specs.WellFormed.{ends_open, under, in_block, loop_body};
+ghost use Rattle.jn_trees.specs.WellFormed.{under, in_block, loop_body};
 ghost use Rattle.jn_parse_expr_law.specs.Reader.{reader};
 ghost use Rattle.jn_parse_stmt_law.specs.StatementReader.{around, in_parens, if_end, if_statement, while_statement, for_statement, do_end, do_statement, block_statement, read_block};
 ghost use Rattle.jn_parse_stmt.specs.Seen.{seen_as, boxed_view, boxed_expression, body_views};
@@ -12,61 +12,14 @@ ghost use Rattle.jn_parse_stmt.specs.Heads.{body_of, if_ended, read_one};
 
 use crate::lists::in_parentheses;
 use crate::loops::{Head, for_head, loop_of, while_head};
-use crate::put::{boxed, put};
 use crate::simple::{
     break_statement, continue_statement, return_statement, simple_statement, super_call, this_call,
 };
+use jn_base::lists::{boxed, put};
 use jn_base::{OutOfMemory, Span};
 use jn_trees::reading::{covered, expect, next};
 use jn_trees::{Context, Expr, Stmt, Token, TokenKind};
 use std::alloc::Global;
-
-/// Whether the statement ends with an `if` that has no `else`.
-fn ends_open(statement: &Stmt) -> bool
-    ensures { result ≡ ends_open (statement_view statement.now) }
-{
-    match statement {
-        Stmt::If { .. } => true,
-        Stmt::IfElse { otherwise, .. } => ends_open(otherwise),
-        Stmt::While { body, .. } => ends_open(body),
-        Stmt::For { body, .. } => ends_open(body),
-        Stmt::ForEach { body, .. } => ends_open(body),
-        _ => false,
-    }
-}
-
-/// Where the parts of an `if` stand.
-fn under(context: Context) -> Context
-    ensures { result ≡ under context }
-{
-    Context {
-        in_loop: context.in_loop,
-        direct: false,
-        leading: false,
-    }
-}
-
-/// Where the statements of a block stand.
-fn in_block(context: Context) -> Context
-    ensures { result ≡ in_block context }
-{
-    Context {
-        in_loop: context.in_loop,
-        direct: true,
-        leading: false,
-    }
-}
-
-/// Where the body of a loop stands.
-fn loop_body() -> Context
-    ensures { result ≡ loop_body }
-{
-    Context {
-        in_loop: true,
-        direct: false,
-        leading: false,
-    }
-}
 
 #[inline(never)]
 fn block_of(alloc: Global, statements: Vec<Stmt>, span: Span) -> Result<Box<Stmt>, OutOfMemory>
@@ -126,7 +79,8 @@ fn if_else_of(
 fn put_boxed(statements: &mut Vec<Stmt>, next: Box<Stmt>) -> Result<(), OutOfMemory>
     ensures { OnOk result (statements.new.items ≡ statements.old.items ++ next.value ∷ []) }
 {
-    put(statements, Box::into_inner(next))
+    put(statements, Box::into_inner(next))?;
+    Ok(())
 }
 
 /// The expression in parentheses that comes first, and what follows them.
@@ -210,7 +164,7 @@ fn block<'t>(
         (kinds after.now)
         ≡ seen_as boxed_view o) }
 {
-    match body(alloc, after, depth, in_block(context))? {
+    match body(alloc, after, depth, context.in_block())? {
         None => Ok(None),
         Some((statements, rest)) => {
             let span = covered(tokens, rest);
@@ -262,7 +216,7 @@ fn if_statement<'t>(
 {
     match condition(alloc, after, depth)? {
         None => Ok(None),
-        Some((condition, after)) => match statement(alloc, after, depth, under(context))? {
+        Some((condition, after)) => match statement(alloc, after, depth, context.under())? {
             None => Ok(None),
             Some((then, rest)) => { if_end(alloc, tokens, condition, then, rest, depth, context) }
         },
@@ -312,10 +266,10 @@ fn else_part<'t>(
     match expect(tokens, TokenKind::Else) {
         None => Ok(None),
         Some(after) => {
-            if ends_open(then) {
+            if then.ends_open() {
                 Ok(None)
             } else {
-                statement(alloc, after, depth, under(context))
+                statement(alloc, after, depth, context.under())
             }
         }
     }
@@ -370,7 +324,7 @@ fn loop_statement<'t>(
         (read_one depth loop_body (kinds after.now))
         ≡ seen_as boxed_view o) }
 {
-    match statement(alloc, after, depth, loop_body())? {
+    match statement(alloc, after, depth, Context::loop_body())? {
         None => Ok(None),
         Some((body, rest)) => {
             let span = covered(tokens, rest);
@@ -391,7 +345,7 @@ fn do_statement<'t>(
         (kinds after.now)
         ≡ seen_as boxed_view o) }
 {
-    match statement(alloc, after, depth, loop_body())? {
+    match statement(alloc, after, depth, Context::loop_body())? {
         None => Ok(None),
         Some((body, after)) => do_end(alloc, tokens, body, after, depth),
     }

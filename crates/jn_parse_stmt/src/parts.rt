@@ -4,42 +4,19 @@ ghost use Rattle.jn_base.specs.declared.number.NameNo.{NameNo as SpecName};
 ghost use Rattle.jn_trees.specs.declared.token.TokenKind.{TokenKind as Kind};
 ghost use Rattle.jn_trees.specs.Pieces.{kinds};
 ghost use Rattle.jn_trees.specs.View.{annotation_names, base_view, brackets_view, local_mark, local_marks, type_use_view, declarator_view, declarator_views, optional_view, parameter_view};
-ghost use Rattle.jn_trees.specs.WellFormed.{final_once as final_once_of, is_final_mark};
 ghost use Rattle.jn_parse_expr_law.specs.Reader.{reader};
 ghost use Rattle.jn_parse_stmt_law.specs.Parts.{read_annotations, read_marks, read_brackets, read_type_use, read_parameter, parameter_from, read_value, declarator_behind, all_declarators, declarators_behind, read_declarators};
 ghost use Rattle.jn_parse_stmt.specs.Seen.{seen_as, mark_tokens, seen_declarators, maybe_declarators, read_base};
 
 use crate::expression::expression;
-use crate::put::put;
 use jn_base::OutOfMemory;
-use jn_trees::reading::{covered, expect, identifier, next};
+use jn_base::lists::put;
+use jn_trees::reading::{annotation, covered, expect, identifier, next};
 use jn_trees::{
     Annotation, Base, Declarator, Expr, Identifier, LocalModifier, Parameter, Token, TokenKind,
-    TypeUse,
+    TypeUse, final_once,
 };
 use std::alloc::Global;
-
-/// The annotation that comes first, and what follows it.
-fn annotation(tokens: &[Token]) -> Option<(Annotation, &[Token])>
-    ensures { MatchOption result
-        ((name : SpecName) (rest : List Kind) → kinds tokens.now ≡ Kind.At ∷ Kind.Id name ∷ rest
-        → ⊥)
-        (λ r. kinds tokens.now ≡ Kind.At ∷ Kind.Id r.0.name ∷ kinds r.1.now) }
-{
-    match expect(tokens, TokenKind::At) {
-        None => None,
-        Some(after) => match identifier(after) {
-            None => None,
-            Some((name, rest)) => Some((
-                Annotation {
-                    name: name.name,
-                    span: covered(tokens, rest),
-                },
-                rest,
-            )),
-        },
-    }
-}
 
 /// The annotations that come first, and what follows them.
 ///
@@ -106,31 +83,6 @@ pub fn read_local_modifiers(
             }
         }
     }
-}
-
-fn is_final(modifier: &LocalModifier) -> bool
-    ensures { result ≡ is_final_mark (local_mark modifier.now) }
-{
-    match modifier {
-        LocalModifier::Annotation(_) => false,
-        LocalModifier::Final(_) => true,
-    }
-}
-
-/// Whether `final` stands at most once.
-pub fn final_once(modifiers: &[LocalModifier]) -> bool
-    ensures { result ≡ final_once_of (local_marks modifiers.now) }
-{
-    let mut seen = false;
-    for modifier in modifiers {
-        if is_final(modifier) {
-            if seen {
-                return false;
-            }
-            seen = true;
-        }
-    }
-    true
 }
 
 /// The type without brackets that comes first, and what follows it.

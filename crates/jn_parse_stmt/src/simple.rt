@@ -9,10 +9,10 @@ ghost use Rattle.jn_parse_stmt_law.specs.StatementReader.{loop_word, return_stat
 ghost use Rattle.jn_parse_stmt.specs.Seen.{seen_as, boxed_view};
 
 use crate::expression::expression;
-use crate::lists::{arguments, is_effect, optional};
+use crate::lists::{arguments, optional};
 use crate::parts::{declarators_of, read_parameter};
-use crate::put::boxed;
 use jn_base::OutOfMemory;
+use jn_base::lists::boxed;
 use jn_trees::reading::{covered, expect};
 use jn_trees::{Context, Expr, LocalDeclaration, Parameter, Stmt, Token, TokenKind};
 use std::alloc::Global;
@@ -149,7 +149,7 @@ fn effect_statement<'t>(
     ensures { IfOk result
         (λ o. effect_statement (view expression) (kinds after.now) ≡ seen_as boxed_view o) }
 {
-    if !is_effect(&expression) {
+    if !expression.is_effect() {
         return Ok(None);
     }
     match expect(after, TokenKind::Semicolon) {

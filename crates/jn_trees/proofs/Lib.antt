@@ -3,3 +3,4 @@ pub mod Numbers
 pub mod SameTokens
 pub mod OpenBrackets
 pub mod Seen
+pub mod Marks

@@ -7,3 +7,5 @@ pub mod Pieces
 pub mod Covered
 pub mod Longest
 pub mod Refused
+pub mod Clear
+pub mod Bearers

@@ -15,6 +15,17 @@ pub enum Modifier {
     Abstract(Span),
 }
 
+/// What modifiers may stand before (JLS 8.1.1, 8.3.1, 8.4.3, 8.8.3, 9.1.1, 9.4).
+#[derive(Clone, Copy, Debug, PartialEq, Eq)]
+pub enum Bearer {
+    Class,
+    Interface,
+    Field,
+    Method,
+    InterfaceMethod,
+    Constructor,
+}
+
 /// A parameter (JLS 8.4.1).
 #[derive(Drop)]
 pub struct Parameter {

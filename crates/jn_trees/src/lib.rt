@@ -14,12 +14,13 @@ pub mod names;
 pub mod reading;
 pub mod statement;
 pub mod token;
+pub mod well_formed;
 
 pub use brackets::too_deep;
 pub use context::{Context, Owner};
 pub use declaration::{
-    FileTree, Import, Member, Modifier, PackageLine, Parameter, QualifiedName, Receiver, ResultUse,
-    TypeTree,
+    Bearer, FileTree, Import, Member, Modifier, PackageLine, Parameter, QualifiedName, Receiver,
+    ResultUse, TypeTree,
 };
 pub use expression::{
     Annotation, AssignOperator, Base, BinaryOperator, Expr, Identifier, Literal, Step,
@@ -28,3 +29,4 @@ pub use expression::{
 pub use names::Names;
 pub use statement::{Declarator, ForInit, LocalDeclaration, LocalModifier, Stmt, TypeUse};
 pub use token::{Token, TokenKind};
+pub use well_formed::{DEEPEST, every_may_stand, final_once, has_static, no_clash};

@@ -6,7 +6,7 @@ ghost use Rattle.jn_trees.specs.Covered.{covered, nowhere, span_of};
 ghost use Rattle.jn_trees.specs.Pieces.{kinds};
 ghost use Rattle.std.specs.Prelude.{slice_get};
 
-use crate::expression::Identifier;
+use crate::expression::{Annotation, Identifier};
 use crate::token::{Token, TokenKind};
 use jn_base::{FileNo, Span};
 
@@ -46,6 +46,28 @@ pub fn identifier(tokens: &[Token]) -> Option<(Identifier, &[Token])>
                 rest,
             )),
             _ => None,
+        },
+    }
+}
+
+/// The annotation that comes first, and what follows it (JLS 9.7).
+pub fn annotation(tokens: &[Token]) -> Option<(Annotation, &[Token])>
+    ensures { MatchOption result
+        ((name : SpecName) (rest : List Kind) → kinds tokens.now ≡ Kind.At ∷ Kind.Id name ∷ rest
+        → ⊥)
+        (λ r. kinds tokens.now ≡ Kind.At ∷ Kind.Id r.0.name ∷ kinds r.1.now) }
+{
+    match expect(tokens, TokenKind::At) {
+        None => None,
+        Some(after) => match identifier(after) {
+            None => None,
+            Some((name, rest)) => Some((
+                Annotation {
+                    name: name.name,
+                    span: covered(tokens, rest),
+                },
+                rest,
+            )),
         },
     }
 }

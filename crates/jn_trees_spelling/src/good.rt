@@ -4,7 +4,7 @@ ghost use Rattle.jn_trees.specs.WellFormed.{Good, AllGood, GoodLiteral};
 ghost use Rattle.jn_trees_spelling.specs.Parts.{is_least_signed};
 ghost use Rattle.jn_trees.specs.View.{view, views};
 
-use crate::levels::{is_castable, is_indexable, is_least_number, is_left_side, level, rank};
+use crate::levels::{is_castable, is_least_number, level, rank};
 use jn_trees::{Expr, Literal, UnaryOperator};
 
 fn good_literal(literal: Literal) -> bool
@@ -35,13 +35,13 @@ pub fn good(expression: &Expr) -> bool
         Expr::OwnCall { arguments, .. } => all_good(arguments),
         Expr::SuperCall { arguments, .. } => all_good(arguments),
         Expr::Index { array, index, .. } => {
-            good(array) && rank(array) <= 1 && is_indexable(array) && good(index)
+            good(array) && rank(array) <= 1 && array.is_indexable() && good(index)
         }
         Expr::New { arguments, .. } => all_good(arguments),
         Expr::NewArray { length, .. } => good(length),
         Expr::ArrayOf { elements, .. } => all_good(elements),
-        Expr::Postfix { target, .. } => good(target) && is_left_side(target),
-        Expr::Prefix { target, .. } => good(target) && is_left_side(target),
+        Expr::Postfix { target, .. } => good(target) && target.is_left_side(),
+        Expr::Prefix { target, .. } => good(target) && target.is_left_side(),
         Expr::Unary {
             operator,
             operand,
@@ -72,7 +72,7 @@ pub fn good(expression: &Expr) -> bool
                 && good(otherwise)
                 && rank(otherwise) <= 10
         }
-        Expr::Assign { target, value, .. } => good(target) && is_left_side(target) && good(value),
+        Expr::Assign { target, value, .. } => good(target) && target.is_left_side() && good(value),
     }
 }
 

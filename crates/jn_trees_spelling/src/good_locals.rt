@@ -1,37 +1,12 @@
 //! Which declarations of locals are well formed.
 ghost use Rattle.std.specs.Prelude.{◌≡◌, ◌↔◌, ◌-◌, ◌^◌, ◌∷◌, min, IsTrue};
-ghost use Rattle.jn_trees.specs.WellFormed.{is_final_mark as spec_is_final, final_once as spec_final_once, GoodOptional, GoodDeclarators, GoodLocal, GoodInit, GoodEffects, nesting_declarators as spec_declarators, nesting_local as spec_local, nesting_init as spec_init};
-ghost use Rattle.jn_trees.specs.View.{views, optional_view, local_mark, local_marks, declarator_view, declarator_views, local_view, init_view};
+ghost use Rattle.jn_trees.specs.WellFormed.{GoodOptional, GoodDeclarators, GoodLocal, GoodInit, GoodEffects, nesting_declarators as spec_declarators, nesting_local as spec_local, nesting_init as spec_init};
+ghost use Rattle.jn_trees.specs.View.{views, optional_view, declarator_view, declarator_views, local_view, init_view};
 
 use crate::good::good;
-use crate::levels::is_effect;
-use crate::nesting::{deeper, nesting_all, nesting_optional};
-use jn_trees::{Declarator, Expr, ForInit, LocalDeclaration, LocalModifier};
-
-fn is_final(modifier: LocalModifier) -> bool
-    ensures { result ≡ spec_is_final (local_mark modifier) }
-{
-    match modifier {
-        LocalModifier::Annotation(_) => false,
-        LocalModifier::Final(_) => true,
-    }
-}
-
-/// Whether `final` stands at most once.
-pub fn final_once(modifiers: &[LocalModifier]) -> bool
-    ensures { result ≡ spec_final_once (local_marks modifiers.now) }
-{
-    let mut seen = false;
-    for modifier in modifiers {
-        if is_final(*modifier) {
-            if seen {
-                return false;
-            }
-            seen = true;
-        }
-    }
-    true
-}
+use crate::nesting::{nesting_all, nesting_optional};
+use jn_base::number::larger;
+use jn_trees::{Declarator, Expr, ForInit, LocalDeclaration, final_once};
 
 /// Whether the expression, where there is one, is well formed.
 pub fn good_optional(expression: &Option<Expr>) -> bool
@@ -48,7 +23,7 @@ pub fn good_effects(expressions: &[Expr]) -> bool
     ensures { IsTrue result ↔ GoodEffects (views expressions.now) }
 {
     for expression in expressions {
-        if !(good(expression) && is_effect(expression)) {
+        if !(good(expression) && expression.is_effect()) {
             return false;
         }
     }
@@ -92,7 +67,7 @@ pub fn nesting_declarators(declarators: &[Declarator]) -> u32
 {
     let mut deepest: u32 = 0;
     for declarator in declarators {
-        deepest = deeper(deepest, nesting_optional(&declarator.value));
+        deepest = larger(deepest, nesting_optional(&declarator.value));
     }
     deepest
 }
@@ -103,7 +78,7 @@ pub fn nesting_first(first: &Declarator, more: &[Declarator]) -> u32
         ≡ min (spec_declarators (declarator_view first.now ∷ declarator_views more.now))
         (2 ^ 32 - 1) }
 {
-    deeper(nesting_optional(&first.value), nesting_declarators(more))
+    larger(nesting_optional(&first.value), nesting_declarators(more))
 }
 
 /// How deep the deepest initializer of a declaration of locals is nested.

@@ -4,13 +4,13 @@ ghost use Rattle.jn_base.specs.declared.number.NameNo.{NameNo as SpecName};
 ghost use Rattle.jn_trees.specs.WellFormed.{GoodParameters, GoodReceiver, GoodMethodMarks, GoodMethodHead, GoodConstructorHead, GoodField, GoodMethodBody, GoodMember, GoodMembers, GoodType, GoodTypes, GoodFile};
 ghost use Rattle.jn_trees.specs.View.{marks, parameter_views, receiver_view, declarator_view, declarator_views, body_view, member_view, member_views, type_view, file_view};
 
-use crate::good_locals::{final_once, good_declarators, good_optional, nesting_first};
-use crate::good_statements::{DEEPEST, good_body};
-use crate::marks::{good_marks, has_static};
-use crate::place::Place;
+use crate::good_locals::{good_declarators, good_optional, nesting_first};
+use crate::good_statements::good_body;
+use crate::marks::good_marks;
 use jn_base::NameNo;
 use jn_trees::{
-    Declarator, FileTree, Member, Modifier, Owner, Parameter, Receiver, Stmt, TypeTree,
+    Bearer, DEEPEST, Declarator, FileTree, Member, Modifier, Owner, Parameter, Receiver, Stmt,
+    TypeTree, final_once, has_static,
 };
 
 fn good_parameters(parameters: &[Parameter]) -> bool
@@ -39,9 +39,9 @@ fn good_method_marks(interface: bool, modifiers: &[Modifier]) -> bool
     ensures { IsTrue result ↔ GoodMethodMarks interface (marks modifiers.now) }
 {
     if interface {
-        good_marks(Place::InterfaceMethod, modifiers)
+        good_marks(Bearer::InterfaceMethod, modifiers)
     } else {
-        good_marks(Place::Method, modifiers)
+        good_marks(Bearer::Method, modifiers)
     }
 }
 
@@ -70,7 +70,7 @@ fn good_constructor_head(
     ensures { IsTrue result
         ↔ GoodConstructorHead owner (marks modifiers.now) name (parameter_views parameters.now) }
 {
-    good_marks(Place::Constructor, modifiers)
+    good_marks(Bearer::Constructor, modifiers)
         && !owner.interface
         && name == owner.name
         && good_parameters(parameters)
@@ -80,7 +80,7 @@ fn good_field(modifiers: &[Modifier], first: &Declarator, more: &[Declarator]) -
     ensures { IsTrue result
         ↔ GoodField (marks modifiers.now) (declarator_view first.now) (declarator_views more.now) }
 {
-    good_marks(Place::Field, modifiers)
+    good_marks(Bearer::Field, modifiers)
         && (good_optional(&first.value) && good_declarators(more))
         && nesting_first(first, more) <= DEEPEST
 }
@@ -152,7 +152,7 @@ fn good_type(declaration: &TypeTree) -> bool
                 interface: false,
                 name: name.name,
             };
-            good_marks(Place::Class, modifiers) && good_members(owner, members)
+            good_marks(Bearer::Class, modifiers) && good_members(owner, members)
         }
         TypeTree::Interface {
             modifiers,
@@ -164,7 +164,7 @@ fn good_type(declaration: &TypeTree) -> bool
                 interface: true,
                 name: name.name,
             };
-            good_marks(Place::Interface, modifiers) && good_members(owner, members)
+            good_marks(Bearer::Interface, modifiers) && good_members(owner, members)
         }
     }
 }

@@ -1,33 +1,16 @@
 //! How strongly expressions bind, and what may stand in which place.
 ghost use Rattle.std.specs.Prelude.{◌≡◌, ◌+◌};
-ghost use Rattle.jn_trees.specs.WellFormed.{power as spec_power, rank as spec_rank, is_left_side as spec_is_left_side, is_indexable as spec_is_indexable, is_least_literal as spec_is_least_literal, is_least_number as spec_is_least_number, is_castable as spec_is_castable, is_effect as spec_is_effect};
+ghost use Rattle.jn_trees.specs.WellFormed.{power as spec_power, rank as spec_rank, is_least_literal as spec_is_least_literal, is_least_number as spec_is_least_number, is_castable as spec_is_castable};
 ghost use Rattle.jn_trees_spelling.specs.Parts.{is_not_sign};
 ghost use Rattle.jn_trees.specs.View.{view};
 
 use jn_trees::{BinaryOperator, Expr, Literal, UnaryOperator};
 
-/// How weakly an operator binds: 1 for `*` to 6 for `||`.
-fn power(operator: BinaryOperator) -> u32
-    ensures { result ≡ spec_power operator }
-{
-    match operator {
-        BinaryOperator::Multiply | BinaryOperator::Divide | BinaryOperator::Remainder => 1,
-        BinaryOperator::Add | BinaryOperator::Subtract => 2,
-        BinaryOperator::Less
-        | BinaryOperator::Greater
-        | BinaryOperator::LessEqual
-        | BinaryOperator::GreaterEqual => 3,
-        BinaryOperator::Equal | BinaryOperator::NotEqual => 4,
-        BinaryOperator::And => 5,
-        BinaryOperator::Or => 6,
-    }
-}
-
 /// The level of an operator: 4 for `*` to 9 for `||`.
 pub fn level(operator: BinaryOperator) -> u32
     ensures { result ≡ spec_power operator + 3 }
 {
-    power(operator) + 3
+    operator.power() + 3
 }
 
 /// How weakly an expression binds: 1 for what stands by itself, 2 for a step behind, 3 for what has a sign, a step or a cast before, 4 to 9 for operators, 10 for a conditional, 11 for an assignment.
@@ -44,29 +27,6 @@ pub fn rank(expression: &Expr) -> u32
         Expr::Conditional { .. } => 10,
         Expr::Assign { .. } => 11,
         _ => 1,
-    }
-}
-
-/// Whether the expression can be assigned: a name, a field, an element.
-pub fn is_left_side(expression: &Expr) -> bool
-    ensures { result ≡ spec_is_left_side (view expression.now) }
-{
-    match expression {
-        Expr::Name { .. } => true,
-        Expr::Field { .. } => true,
-        Expr::Index { .. } => true,
-        _ => false,
-    }
-}
-
-/// Whether an index may stand behind the expression, which is so for all but a new array.
-pub fn is_indexable(expression: &Expr) -> bool
-    ensures { result ≡ spec_is_indexable (view expression.now) }
-{
-    match expression {
-        Expr::NewArray { .. } => false,
-        Expr::ArrayOf { .. } => false,
-        _ => true,
     }
 }
 
@@ -101,22 +61,6 @@ pub fn is_castable(expression: &Expr) -> bool
         Expr::Conditional { .. } => false,
         Expr::Assign { .. } => false,
         _ => true,
-    }
-}
-
-/// Whether the expression can stand as a statement: a call, a new object, a step or an assignment.
-pub fn is_effect(expression: &Expr) -> bool
-    ensures { result ≡ spec_is_effect (view expression.now) }
-{
-    match expression {
-        Expr::Call { .. } => true,
-        Expr::OwnCall { .. } => true,
-        Expr::SuperCall { .. } => true,
-        Expr::New { .. } => true,
-        Expr::Postfix { .. } => true,
-        Expr::Prefix { .. } => true,
-        Expr::Assign { .. } => true,
-        _ => false,
     }
 }
 

@@ -15,7 +15,6 @@ pub mod locals;
 pub mod marks;
 pub mod members;
 pub mod nesting;
-pub mod place;
 pub mod put;
 pub mod statements;
 pub mod words;

@@ -1,16 +1,10 @@
 //! How deep expressions are nested, or the largest `u32` where they are deeper.
-ghost use Rattle.std.specs.Prelude.{◌≡◌, ◌-◌, ◌^◌, min, max};
+ghost use Rattle.std.specs.Prelude.{◌≡◌, ◌-◌, ◌^◌, min};
 ghost use Rattle.jn_trees.specs.WellFormed.{nesting as spec_nesting, nesting_all as spec_all, nesting_optional as spec_optional};
 ghost use Rattle.jn_trees.specs.View.{view, views, optional_view};
 
+use jn_base::number::larger;
 use jn_trees::Expr;
-
-/// The greater of two numbers.
-pub fn deeper(one: u32, other: u32) -> u32
-    ensures { result ≡ max one other }
-{
-    if one < other { other } else { one }
-}
 
 /// How deep an expression is nested; each expression inside another adds one.
 #[cycle(nesting)]
@@ -27,10 +21,10 @@ pub fn nesting(expression: &Expr) -> u32
             target,
             arguments,
             ..
-        } => { deeper(nesting(target), nesting_all(arguments)).saturating_add(1) }
+        } => { larger(nesting(target), nesting_all(arguments)).saturating_add(1) }
         Expr::OwnCall { arguments, .. } => nesting_all(arguments).saturating_add(1),
         Expr::SuperCall { arguments, .. } => nesting_all(arguments).saturating_add(1),
-        Expr::Index { array, index, .. } => deeper(nesting(array), nesting(index)).saturating_add(
+        Expr::Index { array, index, .. } => larger(nesting(array), nesting(index)).saturating_add(
             1,
         ),
         Expr::New { arguments, .. } => nesting_all(arguments).saturating_add(1),
@@ -40,7 +34,7 @@ pub fn nesting(expression: &Expr) -> u32
         Expr::Prefix { target, .. } => nesting(target).saturating_add(1),
         Expr::Unary { operand, .. } => nesting(operand).saturating_add(1),
         Expr::Cast { operand, .. } => nesting(operand).saturating_add(1),
-        Expr::Binary { left, right, .. } => deeper(nesting(left), nesting(right)).saturating_add(1),
+        Expr::Binary { left, right, .. } => larger(nesting(left), nesting(right)).saturating_add(1),
         Expr::InstanceOf { operand, .. } => nesting(operand).saturating_add(1),
         Expr::Conditional {
             condition,
@@ -48,13 +42,13 @@ pub fn nesting(expression: &Expr) -> u32
             otherwise,
             ..
         } => {
-            deeper(
+            larger(
                 nesting(condition),
-                deeper(nesting(then), nesting(otherwise)),
+                larger(nesting(then), nesting(otherwise)),
             )
             .saturating_add(1)
         }
-        Expr::Assign { target, value, .. } => deeper(
+        Expr::Assign { target, value, .. } => larger(
             nesting(target),
             nesting(value),
         ).saturating_add(1),
@@ -68,7 +62,7 @@ pub fn nesting_all(expressions: &[Expr]) -> u32
 {
     let mut deepest: u32 = 0;
     for expression in expressions {
-        deepest = deeper(deepest, nesting(expression));
+        deepest = larger(deepest, nesting(expression));
     }
     deepest
 }

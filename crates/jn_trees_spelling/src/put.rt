@@ -2,17 +2,15 @@
 ghost use Rattle.jn_trees_spelling.specs.Parts.{separator};
 ghost use Rattle.std.specs.Prelude.{◌≡◌, ◌++◌, ◌∷◌, [], OnOk};
 
-use jn_base::OutOfMemory;
+use jn_base::{OutOfMemory, lists};
 use jn_trees::TokenKind;
 
 /// Puts the token behind the others.
 pub fn put(kinds: &mut Vec<TokenKind>, kind: TokenKind) -> Result<(), OutOfMemory>
     ensures { OnOk result (kinds.new.items ≡ kinds.old.items ++ kind ∷ []) }
 {
-    match kinds.push(kind) {
-        Ok(()) => Ok(()),
-        Err(_) => Err(OutOfMemory),
-    }
+    lists::put(kinds, kind)?;
+    Ok(())
 }
 
 /// Puts the tokens behind the others, in their order.

@@ -1,4 +1,4 @@
-use Rattle.std.proofs.Common.{◌≡◌, rules, ◌+◌, ◌-◌, ◌<◌, ◌≤◌, List, [], ◌∷◌, sym, subst, ap, ◌∙◌, refl, arith, length, ◌++◌, Some, None, IfOk, suc, max}
+use Rattle.std.proofs.Common.{◌≡◌, rules, ◌-◌, ◌<◌, List, [], ◌∷◌, sym, subst, ap, ◌∙◌, arith, length, ◌++◌, Some, None, IfOk, suc, max}
 use Rattle.std.proofs.lemmas.List.{length-map}
 use Rattle.jn_trees.specs.declared.token.Token.{Token}
 use Rattle.jn_trees.specs.declared.token.TokenKind.TheVariants.{Id, LeftBracket, RightBracket}
@@ -9,11 +9,11 @@ use Rattle.jn_trees.specs.View.{view, views, annotation_names, base_view}
 use Rattle.jn_trees.specs.Pieces.{kinds}
 use Rattle.jn_parse_expr_law.specs.Reader.{reader, choose, assign, grow, link, primary, trim, prefix, build, build_all, head, super_call, creation, annotations, array_behind, arguments, arguments_in, elements_in, all_items}
 use Rattle.jn_parse_expr_law.proofs.Sound.{sound}
-use Rattle.jn_parse_expr.specs.Steps.{ReadAs, TailAs, AllAs, IsLinked, signed_by, or_else}
-use Rattle.jn_parse_expr.proofs.Going.{Going, GoingAll, stopped, went}
+use Rattle.jn_parse_expr.specs.Steps.{ReadAs, TailAs, IsLinked, signed_by}
+use Rattle.jn_parse_expr.proofs.Going.{stopped, went}
 use Rattle.jn_parse_expr.proofs.Linked.{head_linked, link_linked}
 use Rattle.jn_parse_expr.proofs.Heads.{creation_is, from_none, from_some, left_is, prefix_sign, prefix_step}
-use Rattle.jn_parse_expr.proofs.Parts.{read_moves, conditional_is, whole_is, unary_is, operand_starts, operand_none, primary_starts, items_start, items_fail, items_end, items_go, read_shorter, nesting_push}
+use Rattle.jn_parse_expr.proofs.Parts.{read_moves, conditional_is, whole_is, unary_is, operand_starts, operand_none, primary_starts, items_start, items_end, items_go, read_shorter, nesting_push}
 use Rattle.jn_parse_expr.proofs.+parser.Goals as goal
 
 pub whole::read_conditional-returns-in_ok-go_with-in-Some : goal.whole::read_conditional-returns-in_ok-go_with-in-Some
@@ -179,9 +179,9 @@ pub arguments::read_items-returns-in-None-expect : goal.arguments::read_items-re
 arguments::read_items-returns-in-None-expect t c =
     let inv = c.items.invariant in
     let h = rw c.in-Some.is at c.in_ok-read_whole.ensures in
-    let more : c.put.new.all.items ≡ c.items.all.items ++ c.in-Some.item.value ∷ [] = search rules in
+    let more : c.put.new.items.items ≡ c.items.all.items ++ c.in-Some.item.value ∷ [] = search rules in
     let end = items_end (reader c.args.depth).whole c.items.all.items (kinds c.items.left.now) (all_items (reader c.args.depth).whole (kinds c.args.tokens.now)) c.in-Some.item.value (kinds c.in-Some.rest.now) inv.on h.0 c.in-None-expect.ensures in
-    let deep : c.larger-nested.result ≡ nesting_all (views c.put.new.all.items) =
+    let deep : c.larger-nested.result ≡ nesting_all (views c.put.new.items.items) =
     c.larger-nested.ensures ∙ ap (λ x. max x c.in-Some.deeper) inv.nests ∙ ap (λ x. max (nesting_all (views c.items.all.items)) x) h.1 ∙ sym (nesting_push c.items.all.items c.in-Some.item.value) ∙ ap (λ xs. nesting_all (views xs)) (sym more) in
     (end ∙ ap (λ (xs : List Expr). Some (views xs, kinds c.in-Some.rest.now)) (sym more), deep, omega (arith, c.larger-nested.ensures, inv.fits, h.2))
 
@@ -199,11 +199,11 @@ pub arguments::read_items-items-preserved : goal.arguments::read_items-items-pre
 arguments::read_items-items-preserved t c =
     let inv = c.items.invariant in
     let h = rw c.in-Some.is at c.in_ok-read_whole.ensures in
-    let more : c.put.new.all.items ≡ c.items.all.items ++ c.in-Some.item.value ∷ [] = search rules in
-    let deep : c.larger-nested.result ≡ nesting_all (views c.put.new.all.items) =
+    let more : c.put.new.items.items ≡ c.items.all.items ++ c.in-Some.item.value ∷ [] = search rules in
+    let deep : c.larger-nested.result ≡ nesting_all (views c.put.new.items.items) =
     c.larger-nested.ensures ∙ ap (λ x. max x c.in-Some.deeper) inv.nests ∙ ap (λ x. max (nesting_all (views c.items.all.items)) x) h.1 ∙ sym (nesting_push c.items.all.items c.in-Some.item.value) ∙ ap (λ xs. nesting_all (views xs)) (sym more) in
     record {
       fits = omega (arith, c.larger-nested.ensures, inv.fits, h.2);
       nests = deep;
-      on = items_go c.args.depth c.items.all.items (kinds c.items.left.now) (all_items (reader c.args.depth).whole (kinds c.args.tokens.now)) c.in-Some.item.value (kinds c.in-Some.rest.now) (kinds c.in-Some-expect.after.now) c.put.new.all.items inv.on h.0 c.in-Some-expect.ensures more;
+      on = items_go c.args.depth c.items.all.items (kinds c.items.left.now) (all_items (reader c.args.depth).whole (kinds c.args.tokens.now)) c.in-Some.item.value (kinds c.in-Some.rest.now) (kinds c.in-Some-expect.after.now) c.put.new.items.items inv.on h.0 c.in-Some-expect.ensures more;
     }

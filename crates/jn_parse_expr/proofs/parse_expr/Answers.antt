@@ -1,4 +1,4 @@
-use Rattle.std.proofs.Common.{◌≡◌, ◌-◌, ◌<◌, ◌≤◌, sym, subst, arith, drop, length, Some}
+use Rattle.std.proofs.Common.{sym, subst, arith, drop, Some}
 use Rattle.jn_trees.specs.View.{view}
 use Rattle.jn_trees.specs.Longest.{IsLongest}
 use Rattle.jn_trees.specs.Pieces.{kinds}

@@ -3,8 +3,8 @@ use Rattle.std.proofs.Common.{◌≡◌, List, [], ◌∷◌, true, ◌&&◌, re
 use Rattle.jn_base.specs.declared.number.NameNo.{NameNo}
 use Rattle.jn_trees.specs.Trees.{Mark, NoteMark, PublicMark, StaticMark, ConstantMark, AbstractMark}
 use Rattle.jn_trees.specs.WellFormed.{clashes_none, no_clash}
-use Rattle.jn_parse_decl.specs.declared.modifiers.Words.{Words}
-use Rattle.jn_parse_decl.specs.Clear.{clear, unless}
+use Rattle.jn_trees.specs.declared.well_formed.Words.{Words}
+use Rattle.jn_trees.specs.Clear.{clear, unless}
 
 note_none : (n : NameNo) (ms : List Mark) → clashes_none (NoteMark n) ms ≡ true
 note_none n [] = refl

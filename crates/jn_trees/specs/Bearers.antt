@@ -2,8 +2,8 @@
 use Rattle.std.specs.Prelude.{Bool}
 use Rattle.jn_trees.specs.Trees.{Mark}
 use Rattle.jn_trees.specs.WellFormed.{marks_type, marks_interface, marks_field, marks_method, marks_interface_method, marks_constructor}
-use Rattle.jn_parse_decl.specs.declared.modifiers.Bearer.{Bearer}
-use Rattle.jn_parse_decl.specs.declared.modifiers.Bearer.TheVariants.{Class, Interface, Field, Method, InterfaceMethod, Constructor}
+use Rattle.jn_trees.specs.declared.declaration.Bearer.{Bearer}
+use Rattle.jn_trees.specs.declared.declaration.Bearer.TheVariants.{Class, Interface, Field, Method, InterfaceMethod, Constructor}
 
 -- the modifiers that may stand before it
 abbrev pub may : Bearer → Mark → Bool

@@ -2,7 +2,7 @@
 use Rattle.std.specs.Prelude.{List, Bool, false, not, ◌&&◌, ◌||◌, Option, Some, None}
 use Rattle.jn_trees.specs.Trees.{Mark, PublicMark, StaticMark, ConstantMark, AbstractMark}
 use Rattle.jn_trees.specs.WellFormed.{clashes_none, no_clash}
-use Rattle.jn_parse_decl.specs.declared.modifiers.Words.{Words}
+use Rattle.jn_trees.specs.declared.well_formed.Words.{Words}
 
 -- none clashes with this mark, where one stands before
 abbrev pub unless : Bool → Mark → List Mark → Bool

@@ -1,8 +1,8 @@
 use Rattle.std.proofs.Common.{◌≡◌, drop}
 use Rattle.jn_trees.specs.View.{marks}
 use Rattle.jn_trees.specs.WellFormed.{every}
-use Rattle.jn_parse_decl.specs.Bearers.{may}
-use Rattle.jn_parse_decl.proofs.modifiers.all_may_stand.Given as goal
+use Rattle.jn_trees.specs.Bearers.{may}
+use Rattle.jn_trees.proofs.well_formed.every_may_stand.Given as goal
 
 abbrev pub invariant-loop-modifier : goal.invariant-loop-modifier
 invariant-loop-modifier l = every (may l.bearer) (marks (drop l.modifier-index l.modifiers)) ≡ every (may l.bearer) (marks l.modifiers)
