@@ -5,7 +5,7 @@ ghost use Rattle.jn_points.specs.Sought.{count_of, declared};
 
 use crate::lookup::{class_info, method_at};
 use crate::point::{BaseType, Elem};
-use crate::program::{Class, Field, Method, Program};
+use crate::program::{Field, Method, Program};
 use jn_base::{ClassNo, FieldNo, MethodNo, NameNo};
 
 /// Whether class `c` reaches class `d` along the supertypes that classes name, in at most so many
