@@ -14,7 +14,7 @@ pub mod refusal;
 pub mod seq;
 pub mod text;
 
-pub use choice::either;
+pub use choice::{either, least};
 pub use code::Code;
 pub use number::{
     BodyNo, ClassNo, FieldNo, FileNo, MethodNo, NameNo, PointNo, RegNo, SlotNo, WordNo,

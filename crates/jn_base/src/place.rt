@@ -42,19 +42,22 @@ pub fn place_of(text: &[u8], at: &Span) -> Place
     }
 }
 
-fn is_line_end(byte: u8) -> bool
+/// Whether the byte ends a line, or is the first of CR LF.
+pub fn is_line_end(byte: u8) -> bool
     ensures { result ≡ spec.is_line_end byte }
 {
     byte == b'\r' || byte == b'\n'
 }
 
-fn ends_line(previous: u8, byte: u8) -> bool
+/// Whether a line ends at the byte, where the byte before it is `previous`: LF of CR LF ends none once more.
+pub fn ends_line(previous: u8, byte: u8) -> bool
     ensures { result ≡ spec.ends_line previous byte }
 {
     byte == b'\r' || (byte == b'\n' && previous != b'\r')
 }
 
-fn is_continuation(byte: u8) -> bool
+/// Whether the byte goes on with a character of UTF-8.
+pub fn is_continuation(byte: u8) -> bool
     ensures { result ≡ spec.is_continuation byte }
 {
     byte / 64 == 2

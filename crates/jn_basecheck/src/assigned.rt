@@ -8,11 +8,12 @@ ghost use Rattle.jn_points.specs.Operands.{operand_if};
 ghost use Rattle.jn_basecheck.specs.Listed.{listed};
 ghost use Rattle.jn_basecheck.specs.Rows as rows_of;
 
-use crate::lookup::{body_of, method_in, point_of, reg_base};
+use crate::lookup::{body_of, point_of};
 use crate::operands::{Operands, operands_of};
 use crate::types::is_void;
 use jn_assigned::Unwritten;
 use jn_base::{Code, RegNo, Row};
+use jn_points::lookup::{method_in, reg_base};
 use jn_points::{Operand, Program};
 use std::alloc::AllocError;
 

@@ -5,12 +5,11 @@ ghost use Rattle.jn_points.specs.Lookup as spec;
 ghost use Rattle.jn_basecheck.specs.Rows as rows_of;
 ghost use Rattle.jn_basecheck.specs.Wanted.{meant};
 
-use crate::lookup::{
-    body_of, class_of, elem_base, field_base, owner, params_of, point_of, reg_base, result_base,
-};
+use crate::lookup::{body_of, point_of, result_base};
 use crate::types::{Want, is_void, push_all, push_arguments, push_operand, push_optional};
 use jn_base::{ClassNo, FieldNo, MethodNo, Row};
 use jn_index::indexed::IndexedProgram;
+use jn_points::lookup::{class_of, elem_base, field_base, owner, params_of, reg_base};
 use jn_points::{BaseType, Operand, Operator, PointKind};
 use std::alloc::AllocError;
 
@@ -102,7 +101,7 @@ fn push_object(
         (rules.Within (BaseType.Ref (record { 0 = spec.owner program.now field.0 })))
         object) }
 {
-    let class = owner(program.program(), field);
+    let class = ClassNo(owner(program.program(), field.0));
     push_operand(
         rows,
         program,

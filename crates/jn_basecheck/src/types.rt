@@ -1,14 +1,11 @@
 //! What a point wants of an operand, and the rows J7 and J10 at it (JLS 8, 5.1 to 5.3 and 15).
 ghost use Rattle.std.specs.Prelude.{◌≡◌, ◌++◌, cond, OnOk};
 ghost use Rattle.jn_points.specs.BaseRows as rules;
-ghost use Rattle.jn_points.specs.Lookup as spec;
-ghost use Rattle.jn_points.specs.Members as members;
 ghost use Rattle.jn_basecheck.specs.Wanted.{meant};
 
-use crate::lookup::reg_base;
 use jn_base::{Code, Row};
-use jn_index::fits;
 use jn_index::indexed::IndexedProgram;
+use jn_points::lookup::{is_array, is_reference, reg_base};
 use jn_points::{BaseType, Operand};
 use std::alloc::AllocError;
 
@@ -63,26 +60,6 @@ fn is_same_primitive(left: BaseType, right: BaseType) -> bool
     }
 }
 
-fn is_reference(base: BaseType) -> bool
-    ensures { result ≡ spec.is_ref_base base }
-{
-    match base {
-        BaseType::Ref(_) => true,
-        BaseType::Array(_, _) => true,
-        BaseType::Null => true,
-        _ => false,
-    }
-}
-
-fn is_array(base: BaseType) -> bool
-    ensures { result ≡ spec.is_array base }
-{
-    match base {
-        BaseType::Array(_, _) => true,
-        _ => false,
-    }
-}
-
 fn is_string(base: BaseType) -> bool
     ensures { result ≡ rules.is_string base }
 {
@@ -117,21 +94,10 @@ fn other_nullity(base: BaseType) -> BaseType
     }
 }
 
-/// Whether one type is within another (JLS 4.10).
-fn is_sub(program: &IndexedProgram, low: BaseType, high: BaseType) -> bool
-    ensures { result ≡ members.fits program.now low high }
-{
-    let lists = program.program();
-    match program.index() {
-        Some(index) => fits::is_sub(lists, index, low, high),
-        None => jn_points::is_sub(lists, low, high),
-    }
-}
-
 fn is_value_within(program: &IndexedProgram, base: BaseType, wanted: BaseType) -> bool
     ensures { result ≡ rules.suits program.now (rules.Within wanted) base }
 {
-    !is_void(base) && is_sub(program, base, wanted)
+    !is_void(base) && program.is_sub(base, wanted)
 }
 
 /// Whether a type is what is wanted; no value of type void is.

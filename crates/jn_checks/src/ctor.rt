@@ -8,9 +8,8 @@ ghost use Rattle.jn_transfer.specs.Rules.{is_unset, unset_at, unset_from, ctor_r
 ghost use Rattle.jn_env.specs.Code.{AreKeys};
 
 use crate::rules::push_if;
-use jn_base::{Code, Row};
+use jn_base::{Code, Row, either};
 use jn_env::Env;
-use jn_env::bits::either;
 use jn_points::{Body, Point, PointKind};
 use jn_transfer::Analysis;
 use jn_transfer::lookup::field_qual;

@@ -11,9 +11,9 @@ use crate::rules::{
 };
 use jn_base::{BodyNo, MethodNo, Row};
 use jn_env::Env;
+use jn_points::lookup::reg_base;
 use jn_points::{Operand, Point, PointKind, Program};
 use jn_sigs::Sig;
-use jn_transfer::lookup::reg_base;
 use std::alloc::AllocError;
 
 /// The register that a point dereferences.
@@ -74,7 +74,12 @@ fn push_kind(
             value,
         } => push_write(rows, program, sig, env, *object, *field, *value),
         PointKind::ElemWrite { array, value, .. } => {
-            push_elem(rows, env, reg_base(program, body, array.reg), *value)
+            push_elem(
+                rows,
+                env,
+                reg_base(program, body.0 as usize, array.reg),
+                *value,
+            )
         }
         PointKind::NewArray { base, .. } => push_new_array(rows, point.span, *base),
         PointKind::ArrayOf { base, values, .. } => {

@@ -1,6 +1,6 @@
 //! The rules at overriding pairs: parameters and receivers may widen, results may narrow (JLS 8, 8.4.8.3; the Checker Framework manual on
 //! overriding).
-ghost use Rattle.std.specs.Prelude.{◌≡◌, ◌<◌, ◌≤◌, ◌⊎◌, ◌^◌, ◌++◌, ◌||◌, ℕ, true, Some, flat_map, slice_index, IfOk, OnOk, length, not};
+ghost use Rattle.std.specs.Prelude.{◌≡◌, ◌<◌, ◌^◌, ◌++◌, ℕ, true, Some, flat_map, slice_index, IfOk, OnOk, length, not};
 ghost use Rattle.jn_points.specs.Lookup.{method_at};
 ghost use Rattle.jn_points.specs.Members.{below, is_pair};
 ghost use Rattle.jn_index.specs.Index.{IsIndex};
@@ -9,10 +9,10 @@ ghost use Rattle.jn_sigs.specs.Signature.{slot_quals};
 ghost use Rattle.jn_transfer.specs.Rules as spec;
 
 use crate::rules::push_if;
-use jn_base::{Code, MethodNo, OutOfMemory, Row, SlotNo};
+use jn_base::{Code, MethodNo, OutOfMemory, Row, SlotNo, either, least};
 use jn_index::index::Index;
 use jn_index::overridden::overridden;
-use jn_points::members::method_at;
+use jn_points::lookup::method_at;
 use jn_points::{Method, Program, is_pair};
 use jn_quals::Qual;
 use jn_sigs::Sig;
@@ -24,20 +24,6 @@ fn is_outside(low: Qual, high: Qual) -> bool
     ensures { result ≡ not (within low high) }
 {
     !low.within(high)
-}
-
-fn either(left: bool, right: bool) -> bool
-    ensures { result ≡ (left || right) }
-{
-    left || right
-}
-
-fn least(left: usize, right: usize) -> usize
-    ensures left { result ≤ left }
-    ensures right { result ≤ right }
-    ensures one { (left ≤ result) ⊎ (right ≤ result) }
-{
-    if left < right { left } else { right }
 }
 
 /// Whether a parameter of the overridden method takes what the overrider's doesn't.

@@ -1,10 +1,10 @@
 //! The rules one by one. Each pushes the rows of what is broken.
-ghost use Rattle.std.specs.Prelude.{◌≡◌, ◌≤◌, ◌⊎◌, ◌++◌, ◌&&◌, OnOk};
+ghost use Rattle.std.specs.Prelude.{◌≡◌, ◌++◌, ◌&&◌, OnOk};
 ghost use Rattle.jn_points.specs.Lookup.{method_at, method_in, slots_of};
 ghost use Rattle.jn_sigs.specs.Signature.{slot_quals, result_of, receiver_of};
 ghost use Rattle.jn_transfer.specs.Rules.{row_if, lacks_null, lacks_init, pass_rows, arg_rows, bound_rows, return_rows, receiver_rows, equals_rows, elem_rows, elems_rows, new_array_rows, deref_rows, write_rows};
 
-use jn_base::{BodyNo, Code, FieldNo, MethodNo, Row, SlotNo, Span};
+use jn_base::{BodyNo, Code, FieldNo, MethodNo, Row, SlotNo, Span, least};
 use jn_env::Env;
 use jn_points::{BaseType, Elem, Operand, Program, StrOperation};
 use jn_quals::Qual;
@@ -206,14 +206,6 @@ fn push_args(
         )?;
     }
     Ok(())
-}
-
-fn least(left: usize, right: usize) -> usize
-    ensures left { result ≤ left }
-    ensures right { result ≤ right }
-    ensures one { (left ≤ result) ⊎ (right ≤ result) }
-{
-    if left < right { left } else { right }
 }
 
 /// A method is called on a receiver.

@@ -3,8 +3,7 @@ ghost use Rattle.std.specs.Prelude.{◌≡◌, ◌<◌, ◌++◌, ◌∷◌, ◌
 ghost use Rattle.jn_env.specs.Order.{env_in};
 ghost use Rattle.jn_ctor.specs.Unassigned.{field_numbers, lacks, lacks_from, unassigned_at_end};
 
-use jn_base::{BodyNo, FieldNo, OutOfMemory};
-use jn_env::bits::either;
+use jn_base::{BodyNo, FieldNo, OutOfMemory, either};
 use jn_env::{Env, FlowTable, env_at, find_keys};
 use jn_points::{Point, PointKind, Program};
 use jn_sigs::Sig;

@@ -1,9 +1,10 @@
 //! Places in one text, each from the one before.
 ghost use Rattle.std.specs.Prelude.{◌≡◌, ◌≤◌, ◌<◌, ◌+◌, ◌-◌, ◌^◌, length};
-ghost use Rattle.jn_base.specs.Place.{is_line_end, ends_line, is_continuation, place_in};
+ghost use Rattle.jn_base.specs.Place.{place_in};
 ghost use Rattle.jn_diag.specs.Sweep as spec;
 ghost use Rattle.jn_diag.specs.Sweep.{IsPosition};
 
+use jn_base::place::{ends_line, is_continuation, is_line_end};
 use jn_base::{Place, Span};
 
 /// How far a sweep over a text has come: so many bytes stand before, and the line and the column, both from 1, are those of
@@ -26,24 +27,6 @@ impl Position {
             column: 1,
         }
     }
-}
-
-fn is_line_end(byte: u8) -> bool
-    ensures { result ≡ is_line_end byte }
-{
-    byte == b'\r' || byte == b'\n'
-}
-
-fn ends_line(previous: u8, byte: u8) -> bool
-    ensures { result ≡ ends_line previous byte }
-{
-    byte == b'\r' || (byte == b'\n' && previous != b'\r')
-}
-
-fn is_continuation(byte: u8) -> bool
-    ensures { result ≡ is_continuation byte }
-{
-    byte / 64 == 2
 }
 
 fn byte_before(text: &[u8], at: usize) -> u8

@@ -7,7 +7,6 @@ ghost use Rattle.jn_env.specs.Flat.{written};
 use crate::env::Env;
 use crate::keys::FieldKey;
 use crate::packed::BitList;
-pub use jn_base::either;
 use jn_base::{FieldNo, RegNo};
 
 /// Some keys of a body.

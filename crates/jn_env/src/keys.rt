@@ -1,12 +1,13 @@
 //! The keys of a body, along which its facts and assigned fields run.
 ghost use Rattle.std.specs.Prelude.{◌≡◌, ◌<◌, ◌++◌, ◌∷◌, ◌^◌, true, false, [], ◌&&◌, cond, IfOk, OnOk, MatchOption, length, filter, not, ltb};
-ghost use Rattle.jn_points.specs.Lookup.{owner, ref_field, class_of, ctor_of, method_in};
+ghost use Rattle.jn_points.specs.Lookup.{ref_field, class_of, ctor_of, method_in};
 ghost use Rattle.jn_env.specs.Keys.{is_key, kind_keys, origin_key, fact_keys, own_keys};
 ghost use Rattle.jn_env.specs.Code.{AreKeys};
 ghost use Rattle.jn_env.specs.ClassFields.{is_field_of, class_fields, AreOwnFields};
 
 use crate::owned::OwnFields;
 use jn_base::{BodyNo, FieldNo, OutOfMemory, RegNo, Seq};
+use jn_points::lookup::owner;
 use jn_points::{Origin, PointKind, Program};
 use std::alloc::{AllocError, Global};
 use std::marker::Model;
@@ -271,14 +272,4 @@ fn is_field_of(program: &Program, class: u32, field: u32) -> bool
     ensures { result ≡ is_field_of program.now class field }
 {
     owner(program, field) == class && is_ref_field(program, field)
-}
-
-/// The class that declares the field; 0 where the field is not there.
-pub fn owner(program: &Program, field: u32) -> u32
-    ensures { result ≡ owner program.now field }
-{
-    match program.fields.as_slice().get(field as usize) {
-        None => 0,
-        Some(info) => info.owner.0,
-    }
 }

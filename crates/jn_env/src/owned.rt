@@ -2,10 +2,11 @@
 ghost use Rattle.std.specs.Prelude.{◌≡◌, ◌<◌, ◌≤◌, ◌^◌, ◌++◌, ◌∷◌, [], ℕ, cond, eqb, length, slice_index_or, IfOk, OnOk, MatchOption};
 ghost use Rattle.jn_env.specs.ClassFields.{is_field_of, AreOwnFields};
 
-use crate::keys::{is_ref_field, owner};
+use crate::keys::is_ref_field;
 use jn_base::lists::{empty_lists, push_at};
 use jn_base::{OutOfMemory, Seq};
 use jn_points::Program;
+use jn_points::lookup::owner;
 use std::alloc::{AllocError, Global};
 use std::marker::Model;
 

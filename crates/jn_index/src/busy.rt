@@ -4,9 +4,9 @@ ghost use Rattle.jn_points.specs.Members as members;
 ghost use Rattle.jn_index.specs.Busy as spec;
 
 use crate::index::list_at;
-use crate::lookup::is_named;
 use jn_base::Seq;
-use jn_points::members::method_at;
+use jn_points::lookup::method_at;
+use jn_points::members::is_named;
 use jn_points::{Method, Program};
 
 /// Whether this is another method of the method's name and arity.

@@ -5,7 +5,7 @@ ghost use Rattle.jn_index.specs.Numbers.{list_at};
 
 use jn_base::Seq;
 use jn_points::Program;
-use jn_points::members::method_at;
+use jn_points::lookup::method_at;
 use std::alloc::{AllocError, Global};
 
 fn is_constructor(program: &Program, k: u32) -> bool

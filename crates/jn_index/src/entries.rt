@@ -8,10 +8,10 @@ ghost use Rattle.jn_index.specs.Entries as spec;
 
 use crate::busy::is_busy;
 use crate::index::list_at;
-use crate::lookup::is_named;
 use crate::tables::Entry;
 use jn_base::{NameNo, Seq};
-use jn_points::members::method_at;
+use jn_points::lookup::method_at;
+use jn_points::members::is_named;
 use jn_points::{Field, Method, Program};
 use std::alloc::{AllocError, Global};
 

@@ -1,9 +1,11 @@
 //! A program with an index of it.
 ghost use Rattle.std.specs.Prelude.{◌≡◌, IfOk, IfSome};
+ghost use Rattle.jn_points.specs.Members.{fits};
 ghost use Rattle.jn_index.specs.Index.{IsIndex};
 
+use crate::fits;
 use crate::index::Index;
-use jn_points::Program;
+use jn_points::{BaseType, Program};
 use std::alloc::{AllocError, Global};
 use std::marker::Model;
 
@@ -58,6 +60,16 @@ impl IndexedProgram {
         ensures { IfSome result (λ i. IsIndex self.now i.now) }
     {
         self.index.as_ref()
+    }
+
+    /// Whether one base type is within another (JLS 4.10).
+    pub fn is_sub(&self, low: BaseType, high: BaseType) -> bool
+        ensures { result ≡ fits self.now low high }
+    {
+        match &self.index {
+            Some(index) => fits::is_sub(&self.program, index, low, high),
+            None => jn_points::is_sub(&self.program, low, high),
+        }
     }
 
     /// Gives up the index.

@@ -12,6 +12,7 @@ ghost use Rattle.jn_index.specs.Tables as spec;
 
 use crate::nodes::{self, Node, collect, merge, put};
 use jn_base::{ClassNo, Seq};
+use jn_points::members::is_class;
 use jn_points::{Class, Program};
 use std::alloc::{AllocError, Global};
 use std::marker::Model;
@@ -104,15 +105,6 @@ fn put_all(
         root = put(nodes, height, root, entry.key, entry.value)?;
     }
     Ok(root)
-}
-
-fn is_class(parent: Option<ClassNo>, class: ClassNo) -> bool
-    ensures { result ≡ members.is_class parent class }
-{
-    match parent {
-        None => false,
-        Some(other) => other.0 == class.0,
-    }
 }
 
 /// Adds what the classes that aren't the parent have.

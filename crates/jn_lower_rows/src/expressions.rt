@@ -17,12 +17,13 @@ use crate::row::{push, push_if};
 use crate::setting::Setting;
 use jn_base::{Code, Row, Seq};
 use jn_points::BaseType;
+use jn_points::lookup::elem_base;
 use jn_scopes::forms::{count, span_of};
 use jn_scopes::lookup::{access_by, before_dot, is_println, meaning};
 use jn_scopes::members::class_or_object;
 use jn_scopes::types::{
-    access_type, array_type, assign_type, binary_type, elem_base, is_local, literal_type,
-    meaning_type, operator_of, own_type, super_type, type_of, unary_type, wider,
+    access_type, array_type, assign_type, binary_type, is_local, literal_type, meaning_type,
+    operator_of, own_type, super_type, type_of, unary_type, wider,
 };
 use jn_scopes::{Context, Meaning};
 use jn_trees::{Expr, Identifier};

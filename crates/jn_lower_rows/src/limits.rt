@@ -13,8 +13,9 @@ ghost use Rattle.jn_lower_rows.specs.Large.{AllNarrow, IsNarrow, code, facts_at,
 
 use crate::row::push_if;
 use jn_base::{Code, FieldNo, MethodNo, RegNo, Row, Seq};
-use jn_env::keys::{is_ref_field, owner};
+use jn_env::keys::is_ref_field;
 use jn_index::indexed::IndexedProgram;
+use jn_points::lookup::owner;
 use jn_points::{Body, Origin, PointKind};
 use jn_scopes::heads::{class_of, is_ctor, name_span};
 use std::alloc::{AllocError, Global};

@@ -12,9 +12,9 @@ use jn_base::{OutOfMemory, PointNo, RegNo, Span};
 use jn_lower_expr::emitter::Emitter;
 use jn_lower_expr::places::qualifier;
 use jn_lower_expr::values::{branch, step};
+use jn_points::lookup::elem_base;
 use jn_points::{BaseType, Literal, Operand, Operator, PointKind};
 use jn_scopes::Bound;
-use jn_scopes::types::elem_base;
 use jn_trees::Expr;
 
 /// The register so many behind the array's.

@@ -9,6 +9,7 @@ ghost use Rattle.std.specs.Prelude.{◌≡◌, ◌<◌, ◌^◌, ◌-◌, length
 ghost use Rattle.jn_points.specs.Edges.{edges_at, two};
 
 pub mod leads;
+pub mod lookup;
 pub mod members;
 pub mod pairs;
 pub mod point;

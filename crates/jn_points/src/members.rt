@@ -2,26 +2,11 @@
 ghost use Rattle.std.specs.Prelude.{◌≡◌, ◌<◌, ◌^◌, ◌&&◌, ◌||◌, not, eqb, length, IfSome, MatchOption, None, Some};
 ghost use Rattle.jn_points.specs.Members as spec;
 ghost use Rattle.jn_points.specs.Sought.{count_of, declared};
-ghost use Rattle.jn_points.specs.Lookup.{class_info, method_at, interface_of};
 
+use crate::lookup::{class_info, method_at};
 use crate::point::{BaseType, Elem};
-use crate::program::{Class, Field, Method, Program};
+use crate::program::{Field, Method, Program};
 use jn_base::{ClassNo, FieldNo, MethodNo, NameNo};
-
-pub(crate) fn class_info(program: &Program, class: ClassNo) -> Option<&Class>
-    ensures { MatchOption result (class_info program.now class.0 ≡ None)
-        (λ c. class_info program.now class.0 ≡ Some c.now) }
-{
-    program.classes.as_slice().get(class.0 as usize)
-}
-
-/// The method of a number, where there is one.
-pub fn method_at(program: &Program, method: usize) -> Option<&Method>
-    ensures { MatchOption result (method_at program.now method ≡ None)
-        (λ m. method_at program.now method ≡ Some m.now) }
-{
-    program.methods.as_slice().get(method)
-}
 
 /// Whether class `c` reaches class `d` along the supertypes that classes name, in at most so many
 /// steps.
@@ -74,7 +59,8 @@ fn elem_within(program: &Program, low: Elem, high: Elem) -> bool
     }
 }
 
-fn same_flag(left: bool, right: bool) -> bool
+/// Whether the flags are the same.
+pub fn same_flag(left: bool, right: bool) -> bool
     ensures { result ≡ spec.same_flag left right }
 {
     left == right
@@ -110,7 +96,8 @@ enum Sought {
     Method(NameNo, usize),
 }
 
-pub(crate) fn is_named(method: &Method, name: NameNo, arity: usize) -> bool
+/// Whether this is a method, and no constructor, of the name with so many parameters.
+pub fn is_named(method: &Method, name: NameNo, arity: usize) -> bool
     ensures { result ≡ spec.is_named method.now name.0 arity }
 {
     !method.ctor && method.name.0 == name.0 && method.params.len() == arity
@@ -215,7 +202,8 @@ fn find_along(
     None
 }
 
-fn is_class(parent: Option<ClassNo>, class: ClassNo) -> bool
+/// Whether the class that may be missing is this one.
+pub fn is_class(parent: Option<ClassNo>, class: ClassNo) -> bool
     ensures { result ≡ spec.is_class parent class }
 {
     match parent {

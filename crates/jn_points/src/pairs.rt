@@ -1,20 +1,11 @@
 //! Overriding pairs (JLS 8, 8.4.8 and 9.4.1).
 ghost use Rattle.std.specs.Prelude.{◌≡◌, ◌<◌, ◌^◌, ◌&&◌, not, eqb, length};
 ghost use Rattle.jn_points.specs.Members as spec;
-ghost use Rattle.jn_points.specs.Lookup.{class_info, interface_of, method_at};
 
-use crate::members::{class_info, is_named, is_subclass, method_at, method_for};
+use crate::lookup::{is_interface, method_at};
+use crate::members::{is_named, is_subclass, method_for};
 use crate::program::{Method, Program};
 use jn_base::{ClassNo, MethodNo, either};
-
-fn is_interface(program: &Program, class: ClassNo) -> bool
-    ensures { result ≡ interface_of (class_info program.now class.0) }
-{
-    match class_info(program, class) {
-        None => false,
-        Some(info) => info.interface,
-    }
-}
 
 fn is_number(found: Option<usize>, number: usize) -> bool
     ensures { result ≡ spec.is_number found number }

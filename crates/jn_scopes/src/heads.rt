@@ -5,14 +5,14 @@ ghost use Rattle.jn_lowering.specs.Bodies as bodies;
 
 use jn_base::{ClassNo, FileNo, MethodNo, Span};
 use jn_index::indexed::IndexedProgram;
-use jn_points::{BaseType, Class, Method};
+use jn_points::{BaseType, Class, Method, lookup};
 
 /// The method of a number.
 pub fn method_at(program: &IndexedProgram, method: MethodNo) -> Option<&Method>
     ensures { MatchOption result (method_at program.now method.0 ≡ None)
         (λ m. method_at program.now method.0 ≡ Some m.now) }
 {
-    program.program().methods.as_slice().get(method.0 as usize)
+    lookup::method_at(program.program(), method.0 as usize)
 }
 
 /// The class of a number.
@@ -20,17 +20,14 @@ pub fn class_at(program: &IndexedProgram, class: ClassNo) -> Option<&Class>
     ensures { MatchOption result (class_info program.now class.0 ≡ None)
         (λ c. class_info program.now class.0 ≡ Some c.now) }
 {
-    program.program().classes.as_slice().get(class.0 as usize)
+    lookup::class_info(program.program(), class)
 }
 
 /// The class that declares the method.
 pub fn class_of(program: &IndexedProgram, method: MethodNo) -> ClassNo
     ensures { result.0 ≡ bodies.class program.now method.0 }
 {
-    match method_at(program, method) {
-        None => ClassNo(0),
-        Some(head) => head.owner,
-    }
+    lookup::class_of(program.program(), method)
 }
 
 /// Where the method's name stands.
@@ -61,10 +58,7 @@ pub fn is_ctor(program: &IndexedProgram, method: MethodNo) -> bool
 pub fn params_of(program: &IndexedProgram, method: MethodNo) -> &[BaseType]
     ensures { result.now ≡ params_of (method_at program.now method.0) }
 {
-    match method_at(program, method) {
-        None => &[],
-        Some(head) => head.params.as_slice(),
-    }
+    lookup::params_of(program.program(), method)
 }
 
 /// Whether the class is Object or stands right under it: its constructors call no other class's (JLS 8.8.7).

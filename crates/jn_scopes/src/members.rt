@@ -6,6 +6,7 @@ ghost use Rattle.jn_lowering.specs.Calls as calls;
 ghost use Rattle.jn_lowering.specs.Scopes as scopes;
 ghost use Rattle.jn_scopes.specs.Views.{Few};
 
+use crate::heads::{class_at, method_at};
 use jn_base::{ClassNo, FieldNo, MethodNo, NameNo};
 use jn_index::indexed::IndexedProgram;
 use jn_index::{fields, lookup};
@@ -172,7 +173,7 @@ pub fn parent_or_object(program: &IndexedProgram, class: ClassNo) -> ClassNo
     ensures { result.0
         ≡ scopes.parent_class program.now (parent_of (class_info program.now class.0)) }
 {
-    match program.program().classes.as_slice().get(class.0 as usize) {
+    match class_at(program, class) {
         None => ClassNo(0),
         Some(info) => match info.parent {
             None => ClassNo(0),
@@ -199,17 +200,14 @@ pub fn super_method(
 pub fn field_base(program: &IndexedProgram, field: FieldNo) -> BaseType
     ensures { result ≡ field_base program.now field.0 }
 {
-    match program.program().fields.as_slice().get(field.0 as usize) {
-        None => BaseType::Void,
-        Some(info) => info.base,
-    }
+    jn_points::lookup::field_base(program.program(), field)
 }
 
 /// The type of a method's result.
 pub fn result_base(program: &IndexedProgram, method: MethodNo) -> BaseType
     ensures { result ≡ result_base_of (method_at program.now method.0) }
 {
-    match program.program().methods.as_slice().get(method.0 as usize) {
+    match method_at(program, method) {
         None => BaseType::Void,
         Some(info) => info.result,
     }
@@ -219,7 +217,7 @@ pub fn result_base(program: &IndexedProgram, method: MethodNo) -> BaseType
 pub fn is_static_field(program: &IndexedProgram, field: FieldNo) -> bool
     ensures { result ≡ calls.is_static program.now field.0 }
 {
-    match program.program().fields.as_slice().get(field.0 as usize) {
+    match jn_points::lookup::field_info(program.program(), field) {
         None => false,
         Some(info) => info.is_static,
     }
@@ -229,7 +227,7 @@ pub fn is_static_field(program: &IndexedProgram, field: FieldNo) -> bool
 pub fn is_static(program: &IndexedProgram, method: MethodNo) -> bool
     ensures { result ≡ static_of (method_at program.now method.0) }
 {
-    match program.program().methods.as_slice().get(method.0 as usize) {
+    match method_at(program, method) {
         None => true,
         Some(info) => info.is_static,
     }
@@ -239,7 +237,7 @@ pub fn is_static(program: &IndexedProgram, method: MethodNo) -> bool
 pub fn is_private(program: &IndexedProgram, method: MethodNo) -> bool
     ensures { result ≡ private_of (method_at program.now method.0) }
 {
-    match program.program().methods.as_slice().get(method.0 as usize) {
+    match method_at(program, method) {
         None => false,
         Some(info) => info.is_private,
     }

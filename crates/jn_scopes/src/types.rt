@@ -1,6 +1,5 @@
 //! The type of an expression (JLS 15).
 ghost use Rattle.std.specs.Prelude.{◌≡◌};
-ghost use Rattle.jn_points.specs.Lookup.{elem_base};
 ghost use Rattle.jn_points.specs.BaseRows as typing;
 ghost use Rattle.jn_points.specs.Members as members;
 ghost use Rattle.jn_points.specs.Regular as regular;
@@ -14,9 +13,9 @@ use crate::context::{Access, Callee, Context, Meaning};
 use crate::lookup::{access, callee, meaning};
 use crate::members::{class_or_object, field_base, method_of, result_base, super_method};
 use jn_base::{ClassNo, NameNo};
-use jn_index::fits;
 use jn_index::indexed::IndexedProgram;
 use jn_known::NULLABLE;
+use jn_points::lookup::elem_base;
 use jn_points::{BaseType, Elem, Operator, StrOperation};
 use jn_trees::{
     Annotation, AssignOperator, Base, BinaryOperator, Expr, Literal, TypeUse, UnaryOperator,
@@ -118,33 +117,11 @@ pub fn binary_type(operator: Operator, left: BaseType, right: BaseType) -> BaseT
     }
 }
 
-/// The type of an array's elements.
-pub fn elem_base(base: BaseType) -> BaseType
-    ensures { result ≡ elem_base base }
-{
-    match base {
-        BaseType::Array(Elem::Bool, _) => BaseType::Bool,
-        BaseType::Array(Elem::Ref(class), _) => BaseType::Ref(class),
-        _ => BaseType::Int,
-    }
-}
-
-/// Whether one type is within another (JLS 4.10).
-fn is_sub(program: &IndexedProgram, low: BaseType, high: BaseType) -> bool
-    ensures { result ≡ members.fits program.now low high }
-{
-    let lists = program.program();
-    match program.index() {
-        Some(index) => fits::is_sub(lists, index, low, high),
-        None => jn_points::is_sub(lists, low, high),
-    }
-}
-
 /// The wider of two types, or the first where neither is within the other.
 pub fn wider(c: &Context, left: BaseType, right: BaseType) -> BaseType
     ensures { result ≡ spec.wider c.now.program.now left right }
 {
-    if is_sub(c.program, left, right) {
+    if c.program.is_sub(left, right) {
         right
     } else {
         left

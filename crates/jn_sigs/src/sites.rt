@@ -6,6 +6,7 @@ ghost use Rattle.jn_sigs.specs.Marks.{AreFlags, Marked};
 ghost use Rattle.jn_sigs.specs.Signature.{calls_method, calls_in_class, is_method, is_slot, method_has_slot, uncalled_from, called_in_own_class};
 
 use jn_base::{MethodNo, SlotNo};
+use jn_points::lookup::class_of;
 use jn_points::{Body, Method, PointKind, Program};
 use std::alloc::{AllocError, Global};
 
@@ -43,7 +44,7 @@ fn mark_calls(program: &Program, body: &Body, flags: &mut [bool])
     ensures { Marked flags.old flags.new
         (λ m. calls_in_class program.now m (class_of (method_at program.now m)) body.now) }
 {
-    let class = class_of(program, body.method);
+    let class = class_of(program, body.method).0;
     for point in body.points.as_slice() {
         mark_call(program, class, &point.kind, flags);
     }
@@ -54,7 +55,7 @@ fn mark_call(program: &Program, class: u32, kind: &PointKind, flags: &mut [bool]
         (λ m. eqb class (class_of (method_at program.now m)) && calls_method m kind.now) }
 {
     if let Some(method) = called_by(kind) {
-        if class == class_of(program, method) {
+        if class == class_of(program, method).0 {
             mark(flags, method.0);
         }
     }
@@ -69,16 +70,6 @@ fn called_by(kind: &PointKind) -> Option<MethodNo>
         PointKind::CtorCall { ctor, .. } => Some(*ctor),
         PointKind::Call { method, .. } => Some(*method),
         _ => None,
-    }
-}
-
-/// The number of the class that declares the method; 0 where it is not there.
-fn class_of(program: &Program, method: MethodNo) -> u32
-    ensures { result ≡ class_of (method_at program.now method.0) }
-{
-    match program.methods.as_slice().get(method.0 as usize) {
-        None => 0,
-        Some(info) => info.owner.0,
     }
 }
 

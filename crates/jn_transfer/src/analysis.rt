@@ -11,12 +11,12 @@ ghost use Rattle.jn_env.specs.Keys.{own_keys};
 
 use crate::creation::{new_qual, ref_quals};
 use crate::lookup::{
-    class_of, elem_qual, field_qual, is_ctor, is_flat_field, literal_qual, locals, reg_base,
-    result_qual,
+    class_of, elem_qual, field_qual, is_ctor, is_flat_field, literal_qual, locals, result_qual,
 };
 use jn_base::{BodyNo, FieldNo, MethodNo, OutOfMemory, RegNo};
-use jn_env::keys::{is_ref_field, owner};
+use jn_env::keys::is_ref_field;
 use jn_env::{Env, Keys};
+use jn_points::lookup::{owner, reg_base};
 use jn_points::{Operand, Origin, PointKind, Program};
 use jn_quals::Qual;
 use jn_sigs::Sig;
@@ -212,7 +212,7 @@ impl<'a> Analysis<'a> {
         if env.qual(array).without_null().is_none() {
             return Qual::none();
         }
-        elem_qual(reg_base(self.program, self.body, array))
+        elem_qual(reg_base(self.program, self.body.0 as usize, array))
     }
 
     /// The qualifier of a new object.

@@ -1,11 +1,11 @@
 //! The qualifier of a new object, by its reference arguments.
-ghost use Rattle.std.specs.Prelude.{◌≡◌, ◌≤◌, ◌⊎◌, ◌++◌, ◌∷◌, [], cond, IfOk, OnOk, false};
+ghost use Rattle.std.specs.Prelude.{◌≡◌, ◌++◌, ◌∷◌, [], cond, IfOk, OnOk, false};
 ghost use Rattle.jn_points.specs.Lookup.{has_slot};
 ghost use Rattle.jn_transfer.specs.Transfer.{ref_quals, new_qual};
 
-use jn_base::SlotNo;
+use jn_base::{SlotNo, either, least};
 use jn_env::Env;
-use jn_env::bits::{either, is_set};
+use jn_env::bits::is_set;
 use jn_points::Operand;
 use jn_quals::Qual;
 use std::alloc::{AllocError, Global};
@@ -24,14 +24,6 @@ pub fn ref_quals(
         push_reference(&mut quals, slots[i], env.qual(args[i].reg))?;
     }
     Ok(quals)
-}
-
-fn least(left: usize, right: usize) -> usize
-    ensures left { result ≤ left }
-    ensures right { result ≤ right }
-    ensures one { (left ≤ result) ⊎ (right ≤ result) }
-{
-    if left < right { left } else { right }
 }
 
 fn push_reference(quals: &mut Vec<Qual>, slot: Option<SlotNo>, qual: Qual) -> Result<(), AllocError>

@@ -1,11 +1,12 @@
 //! What the analysis looks up in a program and a signature.
-ghost use Rattle.std.specs.Prelude.{◌≡◌, ◌<◌, length};
-ghost use Rattle.jn_points.specs.Lookup.{is_flat, flat_field, locals, reg_base, ctor_of, class_of, method_in, method_at, slots_of, base_in, method_of_body};
+ghost use Rattle.std.specs.Prelude.{◌≡◌};
+ghost use Rattle.jn_points.specs.Lookup.{is_flat, flat_field, locals, ctor_of, class_of, method_in, method_at};
 ghost use Rattle.jn_sigs.specs.Signature.{slot_qual, field_qual, result_of};
 ghost use Rattle.jn_transfer.specs.Transfer.{literal_qual, elem_qual};
 
-use jn_base::{BodyNo, ClassNo, MethodNo, RegNo, SlotNo};
-use jn_points::{BaseType, Elem, Literal, Method, Program};
+use jn_base::{BodyNo, ClassNo, FieldNo, MethodNo, SlotNo};
+use jn_points::lookup::{field_info, method_at, method_in};
+use jn_points::{BaseType, Elem, Literal, Program};
 use jn_quals::Qual;
 use jn_sigs::Sig;
 
@@ -38,19 +39,6 @@ pub fn elem_qual(base: BaseType) -> Qual
     }
 }
 
-/// The base type of a body's register; Void for one that is not there.
-pub fn reg_base(program: &Program, body: BodyNo, reg: RegNo) -> BaseType
-    ensures { result ≡ reg_base program.now body.0 reg.0 }
-{
-    match program.bodies.as_slice().get(body.0 as usize) {
-        None => BaseType::Void,
-        Some(info) => match info.regs.as_slice().get(reg.0 as usize) {
-            None => BaseType::Void,
-            Some(base) => *base,
-        },
-    }
-}
-
 /// How many of a body's registers are parameters or locals.
 pub fn locals(program: &Program, body: BodyNo) -> u32
     ensures { result ≡ locals program.now body.0 }
@@ -65,12 +53,9 @@ pub fn locals(program: &Program, body: BodyNo) -> u32
 pub fn is_ctor(program: &Program, body: BodyNo) -> bool
     ensures { result ≡ ctor_of (method_in program.now body.0) }
 {
-    match program.bodies.as_slice().get(body.0 as usize) {
+    match method_in(program, body.0 as usize) {
         None => false,
-        Some(info) => match program.methods.as_slice().get(info.method.0 as usize) {
-            None => false,
-            Some(method) => method.ctor,
-        },
+        Some(method) => method.ctor,
     }
 }
 
@@ -78,12 +63,9 @@ pub fn is_ctor(program: &Program, body: BodyNo) -> bool
 pub fn class_of(program: &Program, body: BodyNo) -> u32
     ensures { result ≡ class_of (method_in program.now body.0) }
 {
-    match program.bodies.as_slice().get(body.0 as usize) {
+    match method_in(program, body.0 as usize) {
         None => 0,
-        Some(info) => match program.methods.as_slice().get(info.method.0 as usize) {
-            None => 0,
-            Some(method) => method.owner.0,
-        },
+        Some(method) => method.owner.0,
     }
 }
 
@@ -91,7 +73,7 @@ pub fn class_of(program: &Program, body: BodyNo) -> u32
 pub fn is_flat_field(program: &Program, field: u32) -> bool
     ensures { result ≡ flat_field program.now field }
 {
-    match program.fields.as_slice().get(field as usize) {
+    match field_info(program, FieldNo(field)) {
         None => false,
         Some(info) => is_flat(info.base),
     }
@@ -124,7 +106,7 @@ pub fn slot_qual(sig: &Sig, slot: Option<SlotNo>) -> Qual
 pub fn field_qual(program: &Program, sig: &Sig, field: u32) -> Qual
     ensures { result ≡ field_qual program.now sig.now field }
 {
-    match program.fields.as_slice().get(field as usize) {
+    match field_info(program, FieldNo(field)) {
         None => Qual::none(),
         Some(info) => slot_qual(sig, info.slot),
     }
@@ -134,7 +116,7 @@ pub fn field_qual(program: &Program, sig: &Sig, field: u32) -> Qual
 pub fn result_qual(program: &Program, sig: &Sig, method: MethodNo) -> Qual
     ensures { result ≡ result_of sig.now (method_at program.now method.0) }
 {
-    match program.methods.as_slice().get(method.0 as usize) {
+    match method_at(program, method.0 as usize) {
         None => Qual::none(),
         Some(info) => slot_qual(sig, info.result_slot),
     }
