@@ -1,7 +1,6 @@
 //! What operators make of their operands.
 ghost use Rattle.std.specs.Prelude.{◌≡◌, IfOk, List};
 ghost use Rattle.jn_base.specs.declared.place.Row.{Row};
-ghost use Rattle.jn_points.specs.Lookup as lookup;
 ghost use Rattle.jn_points.specs.declared.point.BaseType.TheVariants.{Int, Ref};
 ghost use Rattle.jn_points.specs.declared.point.Operand.{Operand};
 ghost use Rattle.jn_points.specs.declared.point.PointKind.TheVariants.{Cast, NewArray, Unary};
@@ -16,6 +15,7 @@ use crate::places::{Place, Spot, write};
 use crate::temporaries::Temporaries;
 use crate::values::{Typed, step, temporary};
 use jn_base::{ClassNo, OutOfMemory, RegNo, Span};
+use jn_points::lookup::is_reference;
 use jn_points::{BaseType, Literal as Constant, Operand, Operator, PointKind};
 use jn_scopes::Context;
 use jn_scopes::types::{binary_type, joins};
@@ -87,17 +87,6 @@ pub fn new_array(
         operand: Operand { reg: dst, span },
         base,
     })
-}
-
-fn is_reference(base: BaseType) -> bool
-    ensures { result ≡ lookup.is_ref_base base }
-{
-    match base {
-        BaseType::Ref(_) => true,
-        BaseType::Array(_, _) => true,
-        BaseType::Null => true,
-        _ => false,
-    }
 }
 
 fn is_equal(operator: Operator) -> bool

@@ -1,6 +1,6 @@
 //! Rows of identifiers and of what is assigned: unknown names and `this` where it can't stand (J1), what can't be assigned (J4).
 ghost use Rattle.std.specs.Prelude.{◌≡◌, ◌++◌, ◌&&◌, ◌||◌, true, eqb, not, OnOk};
-ghost use Rattle.jn_points.specs.Lookup.{field_info, is_array, is_ref_base, owner};
+ghost use Rattle.jn_points.specs.Lookup.{field_info, owner};
 ghost use Rattle.jn_lowering.specs.Calls.{is_static};
 ghost use Rattle.jn_lowering.specs.Forms.{references};
 ghost use Rattle.jn_lowering.specs.Annotations as annotated;
@@ -14,6 +14,7 @@ use crate::members::{is_final, is_own, known_class};
 use crate::row::{push, push_if};
 use crate::setting::Setting;
 use jn_base::{Code, FieldNo, Row, Seq, Span};
+use jn_points::lookup::is_reference;
 use jn_points::{BaseType, Operator};
 use jn_scopes::forms::span_of;
 use jn_scopes::members::is_static_field;
@@ -213,27 +214,6 @@ pub fn array_rows(
 {
     annotation_rows(rows, NULLITY_ALONE, is_class_use(base), annotations)?;
     base_rows(rows, c, base)
-}
-
-/// Whether the type is an array's (JLS 10.1).
-pub fn is_array(base: BaseType) -> bool
-    ensures { result ≡ is_array base }
-{
-    match base {
-        BaseType::Array(_, _) => true,
-        _ => false,
-    }
-}
-
-fn is_reference(base: BaseType) -> bool
-    ensures { result ≡ is_ref_base base }
-{
-    match base {
-        BaseType::Ref(_) => true,
-        BaseType::Array(_, _) => true,
-        BaseType::Null => true,
-        _ => false,
-    }
 }
 
 fn compares_references(operator: Operator, left: BaseType, right: BaseType) -> bool

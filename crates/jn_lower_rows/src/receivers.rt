@@ -16,11 +16,12 @@ ghost use Rattle.jn_lower_rows.specs.Before.{field_behind, method_behind};
 
 use crate::calls::{class_call_rows, value_call_rows};
 use crate::members::{class_field_rows, value_field_rows};
-use crate::names::{assigned_access_rows, equality_rows, inner_span, is_array, is_this};
+use crate::names::{assigned_access_rows, equality_rows, inner_span, is_this};
 use crate::row::{push, push_if};
 use crate::setting::Setting;
 use jn_base::{ClassNo, Code, NameNo, Row, Seq, Span};
 use jn_points::BaseType;
+use jn_points::lookup::is_array;
 use jn_scopes::forms::is_null;
 use jn_scopes::lookup::callee_by;
 use jn_scopes::types::callee_type;
