@@ -17,7 +17,7 @@ use crate::straight::copied;
 use crate::thing::Thing;
 use crate::value::Value;
 use jn_base::{ClassNo, MethodNo, RegNo, Seq};
-use jn_points::lookup::method_at;
+use jn_points::lookup::{class_of, method_at};
 use jn_points::members::selected as method_selected;
 use jn_points::{BaseType, Field, Operand, Point, PointKind, Program};
 use std::alloc::{AllocError, Global};
@@ -205,33 +205,23 @@ fn defaults(alloc: Global, fields: &[Field]) -> Result<Vec<Value>, AllocError>
     Ok(values)
 }
 
-/// The class that declares a method.
-fn class_of(program: &Program, method: usize) -> ClassNo
-    ensures { result.0 ≡ class_of (method_at program.now method) }
-{
-    match method_at(program, method) {
-        None => ClassNo(0),
-        Some(info) => info.owner,
-    }
-}
-
 /// Makes an object with default fields, and calls its constructor.
 fn news(
     alloc: Global,
     program: &Program,
     state: &mut MachineState,
-    ctor: usize,
+    ctor: MethodNo,
     values: Seq<Value>,
 ) -> Result<Acted, AllocError>
     ensures { IfOk result (λ acted. (out : List ℕ)
         → spec.enters program.now (state_of state.old out)
         (state.old.heap.items
-        ++ Object (class_of (method_at program.now ctor)) (defaults program.now.fields)
+        ++ Object (class_of (method_at program.now ctor.0)) (defaults program.now.fields)
         ∷ [])
-        ctor values
+        ctor.0 values
         ≡ acted_next acted state.new out) }
 {
-    match entry(program, state, ctor) {
+    match entry(program, state, ctor.0 as usize) {
         Got::Gives(body) => {
             let fields = defaults(alloc, program.fields.as_slice())?;
             state
@@ -268,7 +258,7 @@ pub(crate) fn new_object(
     let this = one(alloc, Value::at(state.heap.len()))?;
     match gather(alloc, &state.top, args, this)? {
         None => Ok(Acted::Stuck),
-        Some(values) => news(alloc, program, state, ctor.0 as usize, values),
+        Some(values) => news(alloc, program, state, ctor, values),
     }
 }
 

@@ -11,9 +11,10 @@ ghost use Rattle.jn_machine.specs.StateView.{state_of, acted_next};
 use crate::prim::{End, Got, Primitive};
 use crate::state::{Acted, MachineState};
 use crate::straight::{LONGEST, copied};
-use crate::thing::{Thing, elem_base, index};
+use crate::thing::{Thing, index};
 use crate::value::Value;
 use jn_base::{ClassNo, FieldNo, PointNo, RegNo};
+use jn_points::lookup::elem_base;
 use jn_points::{BaseType, Program};
 use std::alloc::{AllocError, Global};
 

@@ -1,6 +1,5 @@
 //! Things on the heap.
 ghost use Rattle.std.specs.Prelude.{◌≡◌, Some, None, MatchOption, IfOk, slice_set};
-ghost use Rattle.jn_points.specs.Lookup.{elem_base};
 ghost use Rattle.jn_heap.specs.Values as spec;
 ghost use Rattle.jn_heap.specs.Steps.{field_in, write_in, thing_within, item_or_index, item_at, elem_in, length_in};
 ghost use Rattle.jn_heap.specs.Calls.{class_in};
@@ -10,8 +9,9 @@ ghost use Rattle.jn_machine.specs.Parts.{IsKept, put_answer, may_hold_in, store_
 use crate::prim::{self, End, Got};
 use crate::value::Value;
 use jn_base::{ClassNo, FieldNo};
+use jn_points::lookup::elem_base;
 use jn_points::members::{has_field, is_subclass};
-use jn_points::{BaseType, Elem, Program};
+use jn_points::{BaseType, Program};
 use std::alloc::{AllocError, Global};
 use std::marker::Model;
 
@@ -198,17 +198,5 @@ fn element_of(alloc: Global, items: &[Value], at: i32) -> Result<Got<Value>, All
             let copy = value.copy(alloc)?;
             Ok(Got::Gives(copy))
         }
-    }
-}
-
-/// The type of an array's elements.
-pub fn elem_base(base: BaseType) -> BaseType
-    ensures { result ≡ elem_base base }
-{
-    match base {
-        BaseType::Array(Elem::Int, _) => BaseType::Int,
-        BaseType::Array(Elem::Bool, _) => BaseType::Bool,
-        BaseType::Array(Elem::Ref(class), _) => BaseType::Ref(class),
-        _ => BaseType::Int,
     }
 }

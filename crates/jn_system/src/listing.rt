@@ -6,8 +6,8 @@ ghost use Rattle.jn_inference_law.specs.Inference.{inference, words_for};
 ghost use Rattle.jn_inference_law.specs.Reading.{slot_list, slot_lists, given_reads, kind_reads, points_reads, body_reads};
 ghost use Rattle.jn_system.specs.ReadLists.{Adds};
 
-use crate::reading::{either, field_slot, result_slot};
-use jn_base::{BodyNo, SlotNo, WordNo};
+use crate::reading::{field_slot, result_slot};
+use jn_base::{BodyNo, SlotNo, WordNo, either};
 use jn_points::{Method, Point, PointKind, Program};
 use std::alloc::{AllocError, Global};
 
