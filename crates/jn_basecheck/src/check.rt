@@ -13,8 +13,6 @@ use jn_points::Program;
 use std::alloc::Global;
 use std::thread::Threads;
 
-fn forget<T: Drop>(_value: T) {}
-
 /// The program, where there are no rows.
 fn judged(program: Program, rows: Vec<Row>) -> Result<BaseTyped, Fail<Vec<Row>>>
     requires regular { Regular program }
@@ -26,7 +24,7 @@ fn judged(program: Program, rows: Vec<Row>) -> Result<BaseTyped, Fail<Vec<Row>>>
     if rows.is_empty() {
         return Ok(BaseTyped::of(program));
     }
-    forget(program);
+    drop(program);
     Err(Fail::Refused(rows))
 }
 
@@ -44,7 +42,7 @@ fn check_indexed<R: Threads + Sync>(
 {
     match all_rows(rt, alloc, &indexed, workers) {
         Err(_) => {
-            forget(indexed);
+            drop(indexed);
             Err(Fail::OutOfMemory)
         }
         Ok(rows) => judged(indexed.into_program(), rows),

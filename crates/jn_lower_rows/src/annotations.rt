@@ -2,7 +2,6 @@
 ghost use Rattle.std.specs.Prelude.{◌≡◌, ◌++◌, OnOk};
 ghost use Rattle.jn_lowering.specs.Annotations as spec;
 ghost use Rattle.jn_known.specs.Known.{is_object_member};
-ghost use Rattle.jn_lowering.specs.Bases as bases;
 ghost use Rattle.jn_places.specs.PlacedView.{placed_brackets, placed_type_use};
 ghost use Rattle.jn_lower_rows.specs.Views.{allowed_of, kind_of};
 
@@ -12,7 +11,8 @@ use jn_known::{
     FIRST_MEMBER, INITIALIZED, IS_EMPTY, NON_NULL, NULLABLE, UNDER_INITIALIZATION,
     UNKNOWN_INITIALIZATION,
 };
-use jn_trees::{Annotation, Base, Identifier, TypeUse};
+use jn_scopes::types::is_class_use;
+use jn_trees::{Annotation, Identifier, TypeUse};
 use std::alloc::AllocError;
 
 /// A kind of annotations (Checker Framework manual, 3): whether a value may be null, or whether it is initialized.
@@ -121,16 +121,6 @@ pub fn annotation_rows(
     not_allowed(rows, allowed, reference, annotations)?;
     doubled(rows, Kind::Nullity, annotations)?;
     doubled(rows, Kind::Initialization, annotations)
-}
-
-/// Whether a type is a class's.
-pub fn is_class_use(base: Base) -> bool
-    ensures { result ≡ bases.is_class_use base }
-{
-    match base {
-        Base::Class(_) => true,
-        _ => false,
-    }
 }
 
 /// The annotations of a use of a type and of what stands before it (JLS 9.7.4): those before an array's type are its elements'.

@@ -7,13 +7,13 @@ ghost use Rattle.jn_lowering.specs.Locals.{has_final, parameters_from};
 ghost use Rattle.jn_scopes.specs.Views.{local_of, scope_of};
 ghost use Rattle.jn_lower_rows.specs.Standing.{AllWithin, Stands, WellKept, plain};
 
-use crate::notes::has_final;
 use crate::standing::Names;
 use jn_base::{MethodNo, RegNo};
 use jn_index::indexed::IndexedProgram;
 use jn_points::BaseType;
 use jn_scopes::heads::params_of;
 use jn_scopes::{Faults, Variable};
+use jn_scopes::types::has_final;
 use jn_trees::Parameter;
 use std::alloc::{AllocError, Global};
 

@@ -9,7 +9,7 @@ ghost use Rattle.jn_places.specs.PlacedView.{placed_view};
 ghost use Rattle.jn_scopes.specs.Views.{Few, access_of, faults_of, meaning_of};
 ghost use Rattle.jn_lower_rows.specs.Views.{setting_of};
 
-use crate::annotations::{NULLITY_ALONE, annotation_rows, is_class_use};
+use crate::annotations::{NULLITY_ALONE, annotation_rows};
 use crate::members::{is_final, is_own, known_class};
 use crate::row::{push, push_if};
 use crate::setting::Setting;
@@ -18,7 +18,7 @@ use jn_points::lookup::is_reference;
 use jn_points::{BaseType, Operator};
 use jn_scopes::forms::span_of;
 use jn_scopes::members::is_static_field;
-use jn_scopes::types::operator_of;
+use jn_scopes::types::{is_class_use, operator_of};
 use jn_scopes::{Access, Context, Faults, Meaning};
 use jn_trees::{Annotation, Base, BinaryOperator, Expr};
 use std::alloc::AllocError;

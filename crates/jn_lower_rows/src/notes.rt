@@ -1,7 +1,7 @@
 //! The annotations among modifiers.
 ghost use Rattle.std.specs.Prelude.{◌≡◌, IfOk};
 ghost use Rattle.jn_lowering.specs.FileRows.{notes_of, without_override};
-ghost use Rattle.jn_lowering.specs.Locals.{annotations_of, has_final};
+ghost use Rattle.jn_lowering.specs.Locals.{annotations_of};
 
 use jn_known::OVERRIDE;
 use jn_trees::{Annotation, LocalModifier, Modifier};
@@ -52,16 +52,4 @@ pub fn local_notes(
         }
     }
     Ok(found)
-}
-
-/// Whether `final` stands among the modifiers (JLS 4.12.4).
-pub fn has_final(modifiers: &[LocalModifier]) -> bool
-    ensures { result ≡ has_final modifiers.now }
-{
-    for modifier in modifiers {
-        if let LocalModifier::Final(_) = modifier {
-            return true;
-        }
-    }
-    false
 }

@@ -12,13 +12,13 @@ ghost use Rattle.jn_lower_rows.specs.Views.{setting_of};
 ghost use Rattle.jn_lower_rows.specs.Standing.{Walks, WellKept};
 
 use crate::expressions::{all, expression};
-use crate::notes::{has_final, local_notes};
+use crate::notes::local_notes;
 use crate::receivers::{Looked, index_rows};
 use crate::standing::{Names, Place, back_to, context, declare, declare_type, mark_of};
 use jn_base::{Row, Seq};
 use jn_points::BaseType;
 use jn_scopes::Faults;
-use jn_scopes::types::type_of_use;
+use jn_scopes::types::{has_final, type_of_use};
 use jn_trees::{Declarator, Expr, ForInit, LocalDeclaration, Stmt};
 use std::alloc::AllocError;
 

@@ -8,12 +8,12 @@ ghost use Rattle.jn_places.specs.PlacedView.{placed_parameters};
 use crate::given::given_bases;
 use crate::names::{Declared, Names};
 use crate::state::State;
-use crate::types::has_final;
 use jn_base::{MethodNo, OutOfMemory, RegNo};
 use jn_index::indexed::IndexedProgram;
 use jn_points::BaseType;
 use jn_scopes::heads::params_of;
 use jn_scopes::members::is_static;
+use jn_scopes::types::has_final;
 use jn_trees::Parameter;
 use std::alloc::Global;
 

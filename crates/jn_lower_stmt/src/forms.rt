@@ -11,10 +11,11 @@ use crate::pieces::{
     breaks, continues, effects, evaluated, init, label, local, optional_test, returns,
 };
 use crate::state::{BodyContext, State, Ways, decide, type_in};
-use crate::types::{has_final, kind_of};
+use crate::types::kind_of;
 use jn_base::{OutOfMemory, Span};
 use jn_lower_expr::emitter::{Emitter, place};
 use jn_lower_expr::values::jump;
+use jn_scopes::types::has_final;
 use jn_trees::{Expr, ForInit, Identifier, LocalModifier, Stmt, TypeUse};
 
 /// Statements one after the other (JLS 14.2).

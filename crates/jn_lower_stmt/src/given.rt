@@ -5,21 +5,13 @@ ghost use Rattle.jn_points.specs.declared.point.BaseType.TheVariants.{Ref};
 ghost use Rattle.jn_points.specs.Lookup.{method_at, static_of};
 ghost use Rattle.jn_lowering.specs.Bodies as spec;
 
+use jn_base::lists::put;
 use jn_base::{MethodNo, OutOfMemory};
 use jn_index::indexed::IndexedProgram;
 use jn_points::BaseType;
 use jn_scopes::heads::{class_of, params_of};
 use jn_scopes::members::is_static;
 use std::alloc::Global;
-
-fn push(bases: &mut Vec<BaseType>, base: BaseType) -> Result<(), OutOfMemory>
-    ensures { OnOk result (bases.new.items ≡ bases.old.items ++ base ∷ []) }
-{
-    match bases.push(base) {
-        Ok(()) => Ok(()),
-        Err(_) => Err(OutOfMemory),
-    }
-}
 
 fn this_bases(
     alloc: Global,
@@ -34,7 +26,7 @@ fn this_bases(
     if is_static(program, method) {
         return Ok(bases);
     }
-    push(&mut bases, BaseType::Ref(class_of(program, method)))?;
+    put(&mut bases, BaseType::Ref(class_of(program, method)))?;
     Ok(bases)
 }
 
@@ -49,7 +41,7 @@ pub fn given_bases(
     let mut bases = this_bases(alloc, program, method)?;
     let params = params_of(program, method);
     for base in params {
-        push(&mut bases, *base)?;
+        put(&mut bases, *base)?;
     }
     Ok(bases)
 }

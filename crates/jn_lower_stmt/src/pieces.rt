@@ -9,13 +9,14 @@ ghost use Rattle.jn_lower_stmt.specs.Views.{rows_of};
 ghost use Rattle.jn_lower_stmt.specs.Stating.{Made, Steps, StepsOn, TestsIn, stated};
 
 use crate::state::{BodyContext, LocalKind, State, Ways, decide, evaluate};
-use crate::types::{has_final, kind_of};
+use crate::types::kind_of;
 use jn_base::{OutOfMemory, PointNo, RegNo, Span};
 use jn_lower_expr::emitter::{Emitter, fresh};
 use jn_lower_expr::places::qualifier;
 use jn_lower_expr::values::{jump, step};
 use jn_points::PointKind;
 use jn_scopes::forms::span_of;
+use jn_scopes::types::has_final;
 use jn_trees::{Declarator, Expr, ForInit, LocalDeclaration};
 
 /// A new label.

@@ -15,20 +15,8 @@ use jn_known::{INITIALIZED, NON_NULL, NULLABLE, UNDER_INITIALIZATION, UNKNOWN_IN
 use jn_points::{BaseType, Elem};
 use jn_scopes::Bound;
 use jn_scopes::members::{class_named, class_or_object};
-use jn_scopes::types::simple_type;
+use jn_scopes::types::{is_class_use, simple_type};
 use jn_trees::{Annotation, Base, LocalModifier, TypeUse};
-
-/// Whether it is written `final`.
-pub fn has_final(modifiers: &[LocalModifier]) -> bool
-    ensures { result ≡ local.has_final modifiers.now }
-{
-    for modifier in modifiers {
-        if let LocalModifier::Final(_) = modifier {
-            return true;
-        }
-    }
-    false
-}
 
 fn has_annotation(name: NameNo, modifiers: &[LocalModifier]) -> bool
     ensures { result ≡ spec.has_annotation name.0 (local.annotations_of modifiers.now) }
@@ -41,15 +29,6 @@ fn has_annotation(name: NameNo, modifiers: &[LocalModifier]) -> bool
         }
     }
     false
-}
-
-fn is_class_use(base: &Base) -> bool
-    ensures { result ≡ spec.is_class_use base.now }
-{
-    match base {
-        Base::Class(_) => true,
-        _ => false,
-    }
 }
 
 fn elem_type(program: &IndexedProgram, base: &Base, modifiers: &[LocalModifier]) -> Elem
@@ -70,7 +49,7 @@ fn array_type(program: &IndexedProgram, base: &Base, modifiers: &[LocalModifier]
 {
     BaseType::Array(
         elem_type(program, base, modifiers),
-        is_class_use(base) && has_annotation(NULLABLE, modifiers),
+        is_class_use(*base) && has_annotation(NULLABLE, modifiers),
     )
 }
 

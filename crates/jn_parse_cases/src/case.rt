@@ -7,11 +7,8 @@ use crate::source::source_of;
 use crate::tokens::{names_text, tokens_text};
 use jn_base::OutOfMemory;
 use jn_lexer::lex;
-use jn_trees::{Context, Names, Token};
+use jn_trees::{Context, DEEPEST, Names, Token};
 use std::alloc::Global;
-
-/// The greatest depth of nesting.
-const DEEPEST: u32 = 500;
 
 /// What a case reads, and what is shown of it.
 #[derive(Clone, Copy)]

@@ -4,6 +4,7 @@ ghost use Rattle.jn_points.specs.BaseRows as typing;
 ghost use Rattle.jn_points.specs.Members as members;
 ghost use Rattle.jn_points.specs.Regular as regular;
 ghost use Rattle.jn_lowering.specs.Bases as spec;
+ghost use Rattle.jn_lowering.specs.Locals.{has_final};
 ghost use Rattle.jn_lowering.specs.Scopes as scopes;
 ghost use Rattle.jn_known.specs.Known.{nullable_name};
 ghost use Rattle.jn_places.specs.PlacedView.{placed_type_use, placed_view};
@@ -18,7 +19,8 @@ use jn_known::NULLABLE;
 use jn_points::lookup::elem_base;
 use jn_points::{BaseType, Elem, Operator, StrOperation};
 use jn_trees::{
-    Annotation, AssignOperator, Base, BinaryOperator, Expr, Literal, TypeUse, UnaryOperator,
+    Annotation, AssignOperator, Base, BinaryOperator, Expr, Literal, LocalModifier, TypeUse,
+    UnaryOperator,
 };
 
 /// The type of a literal (JLS 15.8.1).
@@ -230,7 +232,20 @@ fn is_nullable(annotations: &[Annotation]) -> bool
     false
 }
 
-fn is_class_use(base: Base) -> bool
+/// Whether `final` stands among the modifiers (JLS 4.12.4).
+pub fn has_final(modifiers: &[LocalModifier]) -> bool
+    ensures { result ≡ has_final modifiers.now }
+{
+    for modifier in modifiers {
+        if let LocalModifier::Final(_) = modifier {
+            return true;
+        }
+    }
+    false
+}
+
+/// Whether a type without brackets is a class's (JLS 4.3).
+pub fn is_class_use(base: Base) -> bool
     ensures { result ≡ spec.is_class_use base }
 {
     match base {
