@@ -1,5 +1,5 @@
 //! Laws of the analysis, which inference and the machine rest on.
-ghost use Rattle.std.specs.Prelude.{◌≡◌, ℕ, List, Option};
+ghost use Rattle.std.specs.Prelude.{◌≡◌, ℕ, List};
 ghost use Rattle.jn_quals.specs.Qualifier.{Qualifier};
 ghost use Rattle.jn_points.specs.declared.point.PointKind.{PointKind};
 ghost use Rattle.jn_points.specs.declared.program.Program.{Program};

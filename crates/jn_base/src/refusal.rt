@@ -1,5 +1,4 @@
 //! Answers of calls that refuse.
-ghost use Rattle.std.specs.Prelude.{◌≡◌};
 
 use std::alloc::AllocError;
 

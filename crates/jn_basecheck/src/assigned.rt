@@ -1,8 +1,7 @@
 //! The rows J8 of a body: a register read where some path comes without a write of it (JLS 8, 16).
-ghost use Rattle.std.specs.Prelude.{◌≡◌, ◌<◌, ◌++◌, ◌∷◌, ◌&&◌, [], ltb, length, not, OnOk};
+ghost use Rattle.std.specs.Prelude.{◌≡◌, ◌<◌, ◌++◌, ◌∷◌, ◌&&◌, [], ltb, length, OnOk};
 ghost use Rattle.jn_assigned.specs.Lacking.{TellsLacking};
 ghost use Rattle.jn_dataflow.specs.Problem.{slot_at};
-ghost use Rattle.jn_points.specs.Lookup.{body_at, points_of};
 ghost use Rattle.jn_points.specs.BaseRows as rules;
 ghost use Rattle.jn_points.specs.Operands.{operand_if};
 ghost use Rattle.jn_basecheck.specs.Listed.{listed};

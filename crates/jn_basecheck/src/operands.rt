@@ -1,5 +1,5 @@
 //! The operands that a point reads.
-ghost use Rattle.std.specs.Prelude.{◌≡◌, ◌++◌, [], ◌∷◌, None, Some, length, slice_get, eqb};
+ghost use Rattle.std.specs.Prelude.{◌≡◌, ◌++◌, [], ◌∷◌, None, Some, length};
 ghost use Rattle.jn_points.specs.Operands as spec;
 ghost use Rattle.jn_basecheck.specs.Listed.{listed};
 

@@ -1,6 +1,6 @@
 //! The rows J9 of a body: a Return without value in a method with result, and one with value in a
 //! void method, where they are reached (JLS 8, 8.4.7 and 14.17).
-ghost use Rattle.std.specs.Prelude.{◌≡◌, ◌<◌, ◌^◌, ◌++◌, ◌∷◌, [], true, length, OnOk};
+ghost use Rattle.std.specs.Prelude.{◌≡◌, ◌<◌, ◌++◌, ◌∷◌, [], true, length, OnOk};
 ghost use Rattle.jn_base.specs.declared.code.Code.TheVariants.{J9};
 ghost use Rattle.jn_points.specs.Lookup as spec;
 ghost use Rattle.jn_points.specs.BaseRows as rules;

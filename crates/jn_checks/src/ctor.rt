@@ -1,11 +1,9 @@
 //! A constructor's fields that are left unassigned.
 ghost use Rattle.std.specs.Prelude.{◌≡◌, ◌++◌, ◌&&◌, eqb, false, not, OnOk, length, Some};
-ghost use Rattle.jn_points.specs.Lookup.{method_of_body, body_at, points_of};
-ghost use Rattle.jn_points.specs.Members.{some_of};
+ghost use Rattle.jn_points.specs.Lookup.{method_of_body, body_at};
 ghost use Rattle.jn_sigs.specs.Signature.{field_qual};
-ghost use Rattle.jn_env.specs.Keys.{is_on, own_keys};
+ghost use Rattle.jn_env.specs.Keys.{is_on};
 ghost use Rattle.jn_transfer.specs.Rules.{is_unset, unset_at, unset_from, ctor_rows};
-ghost use Rattle.jn_env.specs.Code.{AreKeys};
 
 use crate::rules::push_if;
 use jn_base::{Code, Row, either};

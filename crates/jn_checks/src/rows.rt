@@ -1,7 +1,6 @@
 //! Rows of broken rules.
 ghost use Rattle.std.specs.Prelude.{◌≡◌, ◌<◌, ◌^◌, ◌++◌, IfOk, OnOk, length};
 ghost use Rattle.jn_points.specs.Lookup.{points_of, body_at};
-ghost use Rattle.jn_env.specs.Code.{AreKeys};
 ghost use Rattle.jn_transfer.specs.Rules.{body_rows, rows_from};
 
 use crate::ctor::push_ctor;

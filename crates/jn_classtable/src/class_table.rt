@@ -1,5 +1,5 @@
 //! A class table: the program of files before its bodies are lowered, with what holds of it.
-ghost use Rattle.std.specs.Prelude.{ℕ, ◌≡◌, ◌<◌, ◌^◌, List, [], length, IfSome};
+ghost use Rattle.std.specs.Prelude.{◌≡◌, ◌<◌, ◌^◌, List, [], length, IfSome};
 ghost use Rattle.jn_points.specs.declared.program.Body.{Body as BodyOf};
 ghost use Rattle.jn_index.specs.Index.{IsIndex};
 ghost use Rattle.jn_classtable.specs.Heads.{all_heads};

@@ -1,6 +1,6 @@
 //! The words as clap takes them.
 ghost use Rattle.std.specs.Prelude.{◌≡◌, true, false, map, string_bytes, unwrap_or, [], IfOk};
-ghost use Rattle.clap.specs.Words.{all_of, app_of, first_of, found_of, matches_of, rows_of, rule_of, with_rule};
+ghost use Rattle.clap.specs.Words.{all_of, app_of, first_of, found_of, matches_of, rows_of, rule_of};
 ghost use Rattle.jn_cli.specs.Refused.{IfRefused};
 ghost use Rattle.jn_cli.specs.Words as spec;
 

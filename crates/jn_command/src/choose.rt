@@ -1,7 +1,7 @@
 //! The reporter that a command takes.
-ghost use Rattle.std.specs.Prelude.{◌≡◌, map, MatchOption, None, Some};
+ghost use Rattle.std.specs.Prelude.{◌≡◌, map, None, Some};
 ghost use Rattle.std.specs.Option.{option_map};
-ghost use Rattle.jn_command.specs.Reporters.{Form, first_named};
+ghost use Rattle.jn_command.specs.Reporters.{first_named};
 
 use jn_base::OutOfMemory;
 use jn_diag::{RowText, Verdict};

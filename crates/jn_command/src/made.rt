@@ -1,5 +1,5 @@
 //! The program that a command makes in place of files.
-ghost use Rattle.std.specs.Prelude.{◌≡◌, ◌≤◌, IfOk};
+ghost use Rattle.std.specs.Prelude.{◌≡◌, IfOk};
 ghost use Rattle.jn_front.specs.Files.{IsReadOf};
 ghost use Rattle.jn_command.specs.Made.{made_file, made_line};
 

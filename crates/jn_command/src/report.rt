@@ -1,5 +1,5 @@
 //! What a check of files comes to.
-ghost use Rattle.std.specs.Prelude.{◌≡◌, length};
+ghost use Rattle.std.specs.Prelude.{◌≡◌};
 ghost use Rattle.jn_command.specs.Reports as spec;
 
 use crate::status::Status;

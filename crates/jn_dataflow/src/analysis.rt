@@ -1,5 +1,5 @@
 //! What a dataflow analysis gives.
-ghost use Rattle.std.specs.Prelude.{◌≡◌, ◌<◌, IfOk, IsTrue, true, false, length};
+ghost use Rattle.std.specs.Prelude.{◌≡◌, ◌<◌, IfOk, IsTrue, true, false};
 ghost use Rattle.jn_dataflow.specs.Problem.{Problem, IsLawful};
 
 use jn_base::OutOfMemory;

@@ -1,6 +1,6 @@
 //! Sweeps over the blocks that wait to be passed over, until none does.
-ghost use Rattle.std.specs.Prelude.{◌≡◌, ◌<◌, ◌^◌, [], IfOk, IsTrue, None, Some, length, cond, replicate, slice_set, true, false};
-ghost use Rattle.jn_dataflow.specs.Problem.{Problem, slot_at};
+ghost use Rattle.std.specs.Prelude.{◌≡◌, ◌<◌, [], IfOk, IsTrue, None, Some, length, cond, replicate, slice_set, true, false};
+ghost use Rattle.jn_dataflow.specs.Problem.{slot_at};
 ghost use Rattle.jn_dataflow.specs.Solution.{Solves};
 ghost use Rattle.jn_dataflow.specs.Settled.{SlotValid, Blocks, Stepped, Swept, Ended, Visited, NobodyWaits, join_slot, flow_in, edges_from};
 

@@ -1,5 +1,5 @@
 //! The reference fields of all classes, found once for the keys of all bodies.
-ghost use Rattle.std.specs.Prelude.{◌≡◌, ◌<◌, ◌≤◌, ◌^◌, ◌++◌, ◌∷◌, [], ℕ, cond, eqb, length, slice_index_or, IfOk, OnOk, MatchOption};
+ghost use Rattle.std.specs.Prelude.{◌≡◌, ◌<◌, ◌≤◌, ◌^◌, ◌++◌, ◌∷◌, [], ℕ, cond, length, slice_index_or, IfOk, OnOk, MatchOption};
 ghost use Rattle.jn_env.specs.ClassFields.{is_field_of, AreOwnFields};
 
 use crate::keys::is_ref_field;

@@ -1,5 +1,5 @@
 //! A list of bits, packed into words.
-ghost use Rattle.std.specs.Prelude.{◌≡◌, ◌<◌, ◌+◌, ◌*◌, ◌++◌, true, false, IfOk, length, take, drop, replicate, cond, slice_index_or, slice_set};
+ghost use Rattle.std.specs.Prelude.{◌≡◌, ◌<◌, ◌+◌, ◌*◌, true, false, IfOk, length, replicate, slice_index_or, slice_set};
 ghost use Rattle.jn_env.specs.Packed.{qual_in, with_qual, either_bits};
 
 use crate::words::{bit, join_words, with_bit, with_qual, words_within};

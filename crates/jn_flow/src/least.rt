@@ -1,5 +1,5 @@
 //! The least table of a body.
-ghost use Rattle.std.specs.Prelude.{◌≡◌, ◌<◌, ◌^◌, IfOk, length};
+ghost use Rattle.std.specs.Prelude.{◌<◌, ◌^◌, IfOk, length};
 ghost use Rattle.jn_points.specs.Lookup.{body_at, points_of};
 ghost use Rattle.jn_transfer.specs.Least.{IsLeastTable};
 ghost use Rattle.jn_transfer.specs.Sized.{StaysInside};

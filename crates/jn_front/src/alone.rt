@@ -1,5 +1,5 @@
 //! One file's text, lexed and parsed with names of its own.
-ghost use Rattle.std.specs.Prelude.{◌≡◌, ◌≤◌, length, IfOk};
+ghost use Rattle.std.specs.Prelude.{◌≤◌, length, IfOk};
 ghost use Rattle.jn_front.specs.Outcomes.{IsOutcome};
 
 use crate::names::known_names;

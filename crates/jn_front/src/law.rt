@@ -1,5 +1,5 @@
 //! Laws of the first phases.
-ghost use Rattle.std.specs.Prelude.{◌≡◌, List, [], ℕ};
+ghost use Rattle.std.specs.Prelude.{◌≡◌, List, ℕ};
 ghost use Rattle.jn_base.specs.declared.number.FileNo.{FileNo};
 ghost use Rattle.jn_base.specs.declared.place.Row.{Row};
 ghost use Rattle.jn_trees.specs.declared.token.Token.{Token};

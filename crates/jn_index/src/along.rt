@@ -1,9 +1,7 @@
 //! Tables of what stands along the walks of the classes.
 ghost use Rattle.std.specs.Prelude.{◌≡◌, ◌<◌, ◌^◌, ℕ, length, Some, true, MatchOption, IfOk, IfSome};
-ghost use Rattle.jn_points.specs.Members.{walk};
 ghost use Rattle.jn_points.specs.Regular.{RegularClasses};
 ghost use Rattle.jn_index.specs.Numbers.{list_at, places_of, contains};
-ghost use Rattle.jn_index.specs.Busy.{is_busy};
 ghost use Rattle.jn_index.specs.Index.{owners, field_owners};
 ghost use Rattle.jn_index.specs.Tables.{find_in};
 ghost use Rattle.jn_index.specs.Founds as spec;

@@ -1,6 +1,6 @@
 //! What classes have of themselves, at keys: a class at its number, and open members at the first member of their name
 //! and arity.
-ghost use Rattle.std.specs.Prelude.{◌≡◌, ◌<◌, ◌^◌, ◌++◌, ◌∷◌, [], ℕ, Some, None, true, length, MatchOption, IfOk, OnOk};
+ghost use Rattle.std.specs.Prelude.{◌≡◌, ◌<◌, ◌^◌, ◌++◌, Some, None, true, length, MatchOption, IfOk, OnOk};
 ghost use Rattle.jn_points.specs.Lookup.{field_info, method_at};
 ghost use Rattle.jn_index.specs.Numbers.{list_at, first_in};
 ghost use Rattle.jn_index.specs.Busy as busy;

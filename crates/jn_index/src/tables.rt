@@ -1,6 +1,6 @@
 //! For each class a table of what is found along its walk (JLS 8, 8.2): its own entries, then those of its parent, then
 //! those of its interfaces. A table keeps its parent's by reference, so that a chain of classes costs no more than its entries.
-ghost use Rattle.std.specs.Prelude.{◌≡◌, ◌<◌, ◌≤◌, ◌^◌, ◌∷◌, [], ℕ, length, Option, Some, None, true, false, MatchOption, IfOk, OnOk, IfSome, slice_index_or};
+ghost use Rattle.std.specs.Prelude.{◌≡◌, ◌<◌, ◌≤◌, ◌^◌, ◌∷◌, [], ℕ, length, Option, Some, None, true, false, MatchOption, IfOk, OnOk, IfSome};
 ghost use Rattle.jn_points.specs.Lookup.{class_info};
 ghost use Rattle.jn_points.specs.Members as members;
 ghost use Rattle.jn_points.specs.Regular.{RegularClasses};

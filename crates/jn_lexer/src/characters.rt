@@ -1,6 +1,6 @@
 //! Classes of characters.
-ghost use Rattle.std.specs.Prelude.{◌≡◌, ◌≤◌, ◌^◌, ◌<◌, length};
-ghost use Rattle.jn_lexer.specs.Characters.{is_line_end, is_in_line, is_white, is_digit, is_digit_or_low, is_start, is_part, is_plain, width};
+ghost use Rattle.std.specs.Prelude.{◌≡◌, ◌^◌, ◌<◌};
+ghost use Rattle.jn_lexer.specs.Characters.{is_line_end, is_in_line, is_white, is_digit, is_digit_or_low, is_start, is_part, width};
 
 #[tactic(auto, unfolding(crate::specs::Characters::is_line_end))]
 pub fn is_line_end(c: char) -> bool

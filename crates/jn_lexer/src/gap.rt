@@ -2,7 +2,7 @@
 ghost use Rattle.std.specs.Prelude.{◌≡◌, ◌≤◌, ◌<◌, ◌^◌, false, ◌∷◌, length, drop, IfSome, MatchResult};
 ghost use Rattle.std.specs.List.{prefix_len};
 ghost use Rattle.jn_lexer.specs.Characters.{is_in_line};
-ghost use Rattle.jn_lexer.specs.Scan.{block_len, begins_mark, begins_blank};
+ghost use Rattle.jn_lexer.specs.Scan.{block_len, begins_blank};
 ghost use Rattle.jn_lexer.specs.Faults.{IsOpenComment};
 ghost use Rattle.jn_lexer.specs.Found.{IsGapOf, IsStep, closed};
 

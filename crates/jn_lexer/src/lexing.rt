@@ -1,5 +1,5 @@
 //! Texts as tokens.
-ghost use Rattle.std.specs.Prelude.{◌≡◌, ◌+◌, ◌-◌, ◌≤◌, ◌<◌, ◌^◌, false, length, chars, IsUtf8, IfOk, IfErr, IfSome, OnOk, OnErr, MatchOption, MatchResult, take, drop, slice_get, Some, ℕ};
+ghost use Rattle.std.specs.Prelude.{◌≡◌, ◌+◌, ◌-◌, ◌≤◌, ◌<◌, ◌^◌, false, length, chars, IfOk, IfErr, IfSome, OnOk, OnErr, MatchOption, MatchResult, take, drop, slice_get, Some, ℕ};
 ghost use Rattle.jn_trees.specs.Names.{Extends};
 ghost use Rattle.jn_lexer.specs.Characters.{width};
 ghost use Rattle.jn_lexer.specs.Faults.{LexicalFault, HasNoUnicodeEscape, IsFirstEscape, IsTokenFault, IsAtCharacter};

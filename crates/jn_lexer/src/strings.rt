@@ -1,5 +1,5 @@
 //! Strings.
-ghost use Rattle.std.specs.Prelude.{◌≡◌, ◌+◌, ◌≤◌, ◌<◌, ◌^◌, true, false, length, IfOk, IfSome, MatchResult, string_bytes, encode_utf8_all};
+ghost use Rattle.std.specs.Prelude.{◌≡◌, ◌+◌, ◌<◌, ◌^◌, true, false, length, IfOk, IfSome, MatchResult, string_bytes, encode_utf8_all};
 ghost use Rattle.jn_lexer.specs.Characters.{is_line_end};
 ghost use Rattle.jn_lexer.specs.Lexemes.{escape_value};
 ghost use Rattle.jn_lexer.specs.Scan.{string_len, bad_letter, unescaped};

@@ -1,15 +1,12 @@
 //! Places that are read and assigned.
-ghost use Rattle.std.specs.Prelude.{◌≡◌, IfOk, OnOk, Some, None, Option, ℕ, Bool};
-ghost use Rattle.jn_points.specs.Lookup.{elem_base};
+ghost use Rattle.std.specs.Prelude.{◌≡◌, IfOk, OnOk, Some, None, Option};
 ghost use Rattle.jn_points.specs.declared.point.BaseType.{BaseType};
 ghost use Rattle.jn_lowering.specs.Bases as bases;
 ghost use Rattle.jn_lowering.specs.Forms as form;
 ghost use Rattle.jn_lowering.specs.Calls as call;
-ghost use Rattle.jn_lowering.specs.Scopes as scopes;
-ghost use Rattle.jn_quals.specs.Qualifier.{Qualifier};
 ghost use Rattle.jn_scopes.specs.Views.{access_of, bound_of, meaning_of};
 ghost use Rattle.jn_lower_expr.specs.declared.emitter.Emitter as emitted;
-ghost use Rattle.jn_lower_expr.specs.Lowering.{Continues, Evaluates, Finds, Runs, access_spot, spot_of};
+ghost use Rattle.jn_lower_expr.specs.Lowering.{Evaluates, Finds, Runs, access_spot, spot_of};
 ghost use Rattle.std.specs.Prelude.{List};
 ghost use Rattle.jn_base.specs.declared.place.Row.{Row};
 

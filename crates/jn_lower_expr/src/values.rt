@@ -8,7 +8,7 @@ ghost use Rattle.jn_lowering.specs.Forms as form;
 ghost use Rattle.jn_lowering.specs.Bases as bases;
 ghost use Rattle.jn_points.specs.declared.point.PointKind.TheVariants.{Branch};
 ghost use Rattle.jn_points.specs.declared.point.Literal.TheVariants.{Truth};
-ghost use Rattle.jn_lower_expr.specs.Lowering.{Adds, Continues, Evaluates, Gives, Runs, is_plain};
+ghost use Rattle.jn_lower_expr.specs.Lowering.{Adds, Continues, Evaluates, Runs, is_plain};
 
 use crate::emitter::{Emitter, put};
 use crate::temporaries::Temporaries;

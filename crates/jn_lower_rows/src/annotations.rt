@@ -2,7 +2,7 @@
 ghost use Rattle.std.specs.Prelude.{◌≡◌, ◌++◌, OnOk};
 ghost use Rattle.jn_lowering.specs.Annotations as spec;
 ghost use Rattle.jn_known.specs.Known.{is_object_member};
-ghost use Rattle.jn_places.specs.PlacedView.{placed_brackets, placed_type_use};
+ghost use Rattle.jn_places.specs.PlacedView.{placed_type_use};
 ghost use Rattle.jn_lower_rows.specs.Views.{allowed_of, kind_of};
 
 use crate::row::push_if;

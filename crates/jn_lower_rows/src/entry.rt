@@ -12,8 +12,8 @@ use jn_base::{MethodNo, RegNo};
 use jn_index::indexed::IndexedProgram;
 use jn_points::BaseType;
 use jn_scopes::heads::params_of;
-use jn_scopes::{Faults, Variable};
 use jn_scopes::types::has_final;
+use jn_scopes::{Faults, Variable};
 use jn_trees::Parameter;
 use std::alloc::{AllocError, Global};
 

@@ -1,5 +1,5 @@
 //! Rows J1 to J5 of statements (JLS 14).
-ghost use Rattle.std.specs.Prelude.{◌≡◌, ◌++◌, ◌∷◌, ◌≤◌, ◌&&◌, [], length, IfOk, OnOk, Option, Some, None};
+ghost use Rattle.std.specs.Prelude.{◌≡◌, ◌++◌, ◌≤◌, ◌&&◌, length, IfOk, OnOk, Option, Some, None};
 ghost use Rattle.jn_quals.specs.Qualifier.{Qualifier};
 ghost use Rattle.jn_lowering.specs.Bases.{type_of as type_in_scope};
 ghost use Rattle.jn_lowering.specs.ExpressionRows.{rows_of, rows_of_all};

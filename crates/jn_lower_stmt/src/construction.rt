@@ -1,10 +1,6 @@
 //! The call of another constructor with which a constructor begins, and the initializers of fields (JLS 8.8.7 and 12.5).
 ghost use Rattle.std.specs.Prelude.{◌≡◌, ℕ, option_map, OnOk, Some};
 ghost use Rattle.jn_points.specs.declared.point.PointKind.TheVariants.{FieldWrite};
-ghost use Rattle.jn_lowering.specs.Expressions as expressions;
-ghost use Rattle.jn_lowering.specs.Fragments.{does, then};
-ghost use Rattle.jn_lowering.specs.Locals.{with_temporaries};
-ghost use Rattle.jn_lowering.specs.Statements as statement;
 ghost use Rattle.jn_points.specs.declared.program.Program as program;
 ghost use Rattle.jn_lowering.specs.Bodies as spec;
 ghost use Rattle.jn_lowering.specs.Calls.{Operands};
@@ -12,7 +8,6 @@ ghost use Rattle.jn_lower_expr.specs.Lowering.{Runs};
 ghost use Rattle.jn_lower_expr.specs.declared.emitter.Emitter as emitted;
 ghost use Rattle.jn_places.specs.PlacedView.{placed_declarator, placed_declarators, placed_member, placed_members, placed_statements, placed_view, placed_views};
 ghost use Rattle.jn_scopes.specs.Views.{Few};
-ghost use Rattle.jn_lowering.specs.Calls.{this_operand};
 ghost use Rattle.jn_lower_stmt.specs.Stating.{StepsOn};
 
 use crate::pieces::through;

@@ -1,5 +1,5 @@
 //! The state in which a body begins (JLS 8.4.1 and 6.3).
-ghost use Rattle.std.specs.Prelude.{◌≡◌, ◌+◌, ◌++◌, ◌∷◌, [], None, IfOk, OnOk};
+ghost use Rattle.std.specs.Prelude.{◌≡◌, ◌+◌, [], None, IfOk};
 ghost use Rattle.jn_lowering.specs.Bodies as spec;
 ghost use Rattle.jn_lowering.specs.Locals as local;
 ghost use Rattle.jn_lower_stmt.specs.Views.{declared_local};

@@ -1,5 +1,5 @@
 //! Statements to points: a function for each form (JLS 14).
-ghost use Rattle.std.specs.Prelude.{◌≡◌, OnOk};
+ghost use Rattle.std.specs.Prelude.{OnOk};
 ghost use Rattle.jn_base.specs.declared.place.Span.{Span};
 ghost use Rattle.jn_places.specs.Placed.{PlacedBlock, PlacedDo, PlacedFor, PlacedForEach, PlacedIf, PlacedWhile};
 ghost use Rattle.jn_places.specs.PlacedView.{placed_init, placed_optional, placed_statement, placed_statements, placed_type_use, placed_view, placed_views};

@@ -1,5 +1,5 @@
 //! The types of the registers with which a method's body begins.
-ghost use Rattle.std.specs.Prelude.{◌≡◌, ◌++◌, ◌∷◌, [], cond, IfOk, OnOk};
+ghost use Rattle.std.specs.Prelude.{◌≡◌, ◌∷◌, [], cond, IfOk};
 ghost use Rattle.jn_points.specs.BaseTyping as typing;
 ghost use Rattle.jn_points.specs.declared.point.BaseType.TheVariants.{Ref};
 ghost use Rattle.jn_points.specs.Lookup.{method_at, static_of};

@@ -1,7 +1,7 @@
 //! Calls, new objects and returns.
 ghost use Rattle.std.specs.Prelude.{◌≡◌, ◌<◌, ◌+◌, ◌-◌, ◌^◌, ◌++◌, Bool, ◌∷◌, [], ℕ, List, Some, None, IfOk, MatchOption, length, ltb};
 ghost use Rattle.jn_points.specs.Lookup.{point_at, body_at, regs_of, body_of, class_of, method_at};
-ghost use Rattle.jn_heap.specs.Values.{defaults, Object, At, usual_limits};
+ghost use Rattle.jn_heap.specs.Values.{defaults, Object, usual_limits};
 ghost use Rattle.jn_heap.specs.State.{State, gather, value_at, value_of};
 ghost use Rattle.jn_heap.specs.Steps.{array_of};
 ghost use Rattle.jn_heap.specs.Calls as spec;

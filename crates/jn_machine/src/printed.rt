@@ -1,5 +1,5 @@
 //! Steps that print to a sink.
-ghost use Rattle.std.specs.Prelude.{◌≡◌, ◌≢◌, ◌≤◌, ◌<◌, ℕ, List, IfOk, Err};
+ghost use Rattle.std.specs.Prelude.{◌≡◌, ◌≢◌, ◌≤◌, ◌<◌, ℕ, IfOk, Err};
 ghost use Rattle.jn_outside.specs.Causes.{Rose};
 ghost use Rattle.jn_heap.specs.State.{Goes};
 ghost use Rattle.jn_heap.specs.Runs as spec;

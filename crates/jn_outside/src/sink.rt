@@ -1,6 +1,6 @@
 //! A sink of bytes, and a whole write by counts of faults.
-ghost use Rattle.std.specs.Prelude.{◌≡◌, ◌<◌, ◌≤◌, ℕ, List, [], length, Option, IfOk, OnOk, OnErr, Ok, take};
-ghost use Rattle.jn_outside.specs.Causes.{Rose, HasCause};
+ghost use Rattle.std.specs.Prelude.{◌≡◌, ◌<◌, ◌≤◌, ℕ, List, length, Option, IfOk, OnOk, OnErr, Ok, take};
+ghost use Rattle.jn_outside.specs.Causes.{HasCause};
 ghost use Rattle.jn_outside.specs.Sink.{Appends, AppendsPrefix};
 
 use crate::files::Failed;

@@ -1,5 +1,5 @@
 //! Parameters and receivers (JLS 8.4.1).
-ghost use Rattle.std.specs.Prelude.{◌≡◌, ◌<◌, length, IfOk, IfSome, Some};
+ghost use Rattle.std.specs.Prelude.{◌≡◌, ◌<◌, IfOk, Some};
 ghost use Rattle.jn_trees.specs.View.{local_marks, type_use_view, receiver_view, parameter_view, parameter_views, parent_view};
 ghost use Rattle.jn_trees.specs.Pieces.{kinds};
 ghost use Rattle.jn_parse_stmt_law.specs.Parts.{read_marks, read_type_use as spec_type_use};

@@ -1,5 +1,5 @@
 //! Laws of the grammar of files.
-ghost use Rattle.std.specs.Prelude.{◌≡◌, ◌-◌, ◌<◌, ◌++◌, ℕ, List, [], length, Option, Some, None};
+ghost use Rattle.std.specs.Prelude.{◌≡◌, ◌-◌, ◌<◌, ◌++◌, ℕ, List, [], length, Some, None};
 ghost use Rattle.jn_base.specs.declared.number.FileNo.{FileNo};
 ghost use Rattle.jn_base.specs.declared.place.Row.{Row};
 ghost use Rattle.jn_trees.specs.declared.token.Token.{Token};

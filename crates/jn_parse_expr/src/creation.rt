@@ -1,7 +1,5 @@
 //! New objects and arrays (JLS 15.9, 15.10).
-ghost use Rattle.std.specs.Prelude.{◌≡◌, ◌++◌, ◌∷◌, ◌-◌, ◌+◌, ◌<◌, ◌^◌, [], ℕ, List, Option, Some, None, IfOk, IfSome, OnOk, MatchOption, option_map};
-ghost use Rattle.jn_base.specs.declared.number.NameNo.{NameNo as SpecName};
-ghost use Rattle.jn_trees.specs.declared.token.TokenKind.{TokenKind as Kind};
+ghost use Rattle.std.specs.Prelude.{◌≡◌, ◌-◌, ◌+◌, ◌<◌, ◌^◌, ℕ, Option, Some, None, IfOk, IfSome, option_map};
 ghost use Rattle.jn_trees.specs.Trees.{NewTree, NewArrayTree, ArrayOfTree};
 ghost use Rattle.jn_trees.specs.View.{view, views, annotation_names, base_view};
 ghost use Rattle.jn_trees.specs.Longest.{Try};

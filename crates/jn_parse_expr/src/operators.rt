@@ -1,8 +1,7 @@
 //! Operators between two operands, and `instanceof` (JLS 15.17 to 15.24).
-ghost use Rattle.std.specs.Prelude.{◌≡◌, ◌-◌, ◌≤◌, ◌<◌, ◌^◌, ℕ, IfOk, IfSome, List, [], ◌∷◌};
+ghost use Rattle.std.specs.Prelude.{◌≡◌, ◌-◌, ◌≤◌, ◌<◌, ◌^◌, ℕ, IfOk, IfSome};
 ghost use Rattle.jn_trees.specs.Trees.{Tree};
 ghost use Rattle.jn_trees.specs.WellFormed.{nesting};
-ghost use Rattle.jn_trees.specs.View.{view};
 ghost use Rattle.jn_trees.specs.Pieces.{kinds};
 ghost use Rattle.jn_parse_expr_law.specs.Reader.{reader, sign, grow, grow_by, OperatorSign, test};
 ghost use Rattle.jn_parse_expr.specs.Steps.{ReadAs, TailAs, sign_as};

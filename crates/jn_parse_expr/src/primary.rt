@@ -1,8 +1,8 @@
 //! Primaries: what stands by itself, with its fields, calls and indices (JLS 15.8 to 15.13).
-ghost use Rattle.std.specs.Prelude.{◌≡◌, ◌-◌, ◌+◌, ◌≤◌, ◌<◌, ◌^◌, ℕ, IfOk, IfSome, MatchOption, option_map, List, [], ◌∷◌, Option, Some};
+ghost use Rattle.std.specs.Prelude.{◌≡◌, ◌-◌, ◌+◌, ◌≤◌, ◌<◌, ◌^◌, ℕ, IfOk, IfSome, MatchOption, option_map, List, ◌∷◌, Option, Some};
 ghost use Rattle.jn_base.specs.declared.number.NameNo.{NameNo as SpecName};
 ghost use Rattle.jn_trees.specs.declared.token.TokenKind.{TokenKind as Kind};
-ghost use Rattle.jn_trees.specs.Trees.{Tree, NameTree, FieldTree, CallTree, OwnCallTree, SuperCallTree};
+ghost use Rattle.jn_trees.specs.Trees.{Tree, NameTree, OwnCallTree, SuperCallTree};
 ghost use Rattle.jn_trees.specs.WellFormed.{nesting};
 ghost use Rattle.jn_trees.specs.View.{view, views};
 ghost use Rattle.jn_trees.specs.Longest.{Try};

@@ -1,6 +1,5 @@
 //! What goes on with a tree that stands to the left.
-ghost use Rattle.std.specs.Prelude.{◌≡◌, ◌≤◌, ◌∷◌, List, [], Option, Some, IfOk, MatchOption, ℕ};
-ghost use Rattle.jn_trees.specs.declared.token.TokenKind.{TokenKind as Kind};
+ghost use Rattle.std.specs.Prelude.{◌≡◌, ◌≤◌, ◌∷◌, [], Option, Some, IfOk, MatchOption, ℕ};
 ghost use Rattle.jn_trees.specs.Trees.{CallTree};
 ghost use Rattle.jn_trees.specs.WellFormed.{nesting};
 ghost use Rattle.jn_trees.specs.View.{view, views};

@@ -1,7 +1,6 @@
 //! Unary expressions: signs, steps and casts (JLS 15.14 to 15.16).
-ghost use Rattle.std.specs.Prelude.{◌≡◌, ◌-◌, ◌+◌, ◌≤◌, ◌<◌, ◌^◌, ℕ, IfOk, IfSome, List, [], ◌∷◌, Option, nat_eq, option_map};
-ghost use Rattle.jn_trees.specs.declared.expression.UnaryOperator.{UnaryOperator as Operator};
-ghost use Rattle.jn_trees.specs.Trees.{Tree, PrefixTree};
+ghost use Rattle.std.specs.Prelude.{◌≡◌, ◌-◌, ◌+◌, ◌<◌, ◌^◌, ℕ, IfOk, IfSome, [], ◌∷◌, Option, nat_eq, option_map};
+ghost use Rattle.jn_trees.specs.Trees.{PrefixTree};
 ghost use Rattle.jn_trees.specs.WellFormed.{nesting};
 ghost use Rattle.jn_trees.specs.View.{view};
 ghost use Rattle.jn_trees.specs.Longest.{Try};

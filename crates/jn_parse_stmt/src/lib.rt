@@ -1,7 +1,7 @@
 //! Statements from tokens.
 #![tactic(auto)]
 
-ghost use Rattle.std.specs.Prelude.{◌≡◌, IfOk};
+ghost use Rattle.std.specs.Prelude.{IfOk};
 ghost use Rattle.jn_trees.specs.Longest.{IsLongestStatement, seen_statement};
 ghost use Rattle.jn_trees.specs.Pieces.{kinds};
 

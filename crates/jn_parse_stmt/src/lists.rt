@@ -2,7 +2,7 @@
 ghost use Rattle.std.specs.Prelude.{◌≡◌, IfOk};
 ghost use Rattle.jn_trees.specs.Longest.{seen};
 ghost use Rattle.jn_trees.specs.Pieces.{kinds};
-ghost use Rattle.jn_trees.specs.View.{view, views, optional_view};
+ghost use Rattle.jn_trees.specs.View.{views, optional_view};
 ghost use Rattle.jn_parse_expr_law.specs.Reader.{reader, all_items, arguments_in};
 ghost use Rattle.jn_parse_stmt_law.specs.Parts.{then_read, closed, are_effects, if_effects, read_initial, read_optional};
 ghost use Rattle.jn_parse_stmt_law.specs.StatementReader.{in_parens};

@@ -1,5 +1,5 @@
 //! Laws of the grammar of statements.
-ghost use Rattle.std.specs.Prelude.{◌≡◌, ◌≤◌, ◌<◌, ◌++◌, List, ◌∷◌, ℕ, Some, true, false};
+ghost use Rattle.std.specs.Prelude.{◌≡◌, ◌≤◌, ◌++◌, List, ◌∷◌, ℕ, Some, true, false};
 ghost use Rattle.jn_base.specs.declared.number.NameNo.{NameNo};
 ghost use Rattle.jn_trees.specs.declared.context.Context.{Context};
 ghost use Rattle.jn_trees.specs.declared.token.TokenKind.{TokenKind};

@@ -1,5 +1,5 @@
 //! Overriding pairs (JLS 8, 8.4.8 and 9.4.1).
-ghost use Rattle.std.specs.Prelude.{◌≡◌, ◌<◌, ◌^◌, ◌&&◌, not, eqb, length};
+ghost use Rattle.std.specs.Prelude.{◌≡◌, ◌<◌, ◌^◌, ◌&&◌, length};
 ghost use Rattle.jn_points.specs.Members as spec;
 
 use crate::lookup::{is_interface, method_at};

@@ -1,5 +1,5 @@
 //! Texts that are written where some bytes have a meaning of their own.
-ghost use Rattle.std.specs.Prelude.{◌≡◌, ◌++◌, ◌∷◌, [], ◌<◌, OnOk};
+ghost use Rattle.std.specs.Prelude.{◌≡◌, ◌++◌, ◌<◌, OnOk};
 ghost use Rattle.jn_reporters.specs.Escapes as spec;
 
 use std::alloc::AllocError;

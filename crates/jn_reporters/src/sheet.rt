@@ -1,5 +1,5 @@
 //! What reporters keep: rows, a verdict, and the text of both.
-ghost use Rattle.std.specs.Prelude.{◌≡◌, ◌++◌, ◌∷◌, [], IfOk, OnOk, OnErr, take, drop, length, ◌≤◌, ◌<◌, ◌^◌};
+ghost use Rattle.std.specs.Prelude.{◌≡◌, ◌++◌, IfOk, OnOk, OnErr, take, drop, length, ◌≤◌, ◌<◌, ◌^◌};
 ghost use Rattle.jn_reporters.specs.Reports.{end_line};
 ghost use Rattle.jn_reporters.specs.Sheet.{nothing_lined, with_line, with_lines, with_verdict};
 

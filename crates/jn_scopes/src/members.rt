@@ -1,5 +1,5 @@
 //! Members of classes, by their names: the one place where a program is searched, by its index where there is one and else by its lists.
-ghost use Rattle.std.specs.Prelude.{◌≡◌, ◌<◌, ◌^◌, ◌&&◌, ◌||◌, eqb, not, length, MatchOption, None, Some};
+ghost use Rattle.std.specs.Prelude.{◌≡◌, ◌<◌, ◌&&◌, ◌||◌, eqb, not, length, MatchOption, None, Some};
 ghost use Rattle.jn_points.specs.Members as spec;
 ghost use Rattle.jn_points.specs.Lookup.{class_info, field_base, method_at, parent_of, private_of, result_base_of, static_of};
 ghost use Rattle.jn_lowering.specs.Calls as calls;

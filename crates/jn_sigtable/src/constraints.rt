@@ -1,5 +1,5 @@
 //! The system that is solved.
-ghost use Rattle.std.specs.Prelude.{◌≡◌, ℕ, ◌<◌, IfOk, length};
+ghost use Rattle.std.specs.Prelude.{◌≡◌, ◌<◌, IfOk, length};
 ghost use Rattle.jn_sigtable.specs.System.{System, IsLawful, IsReadList};
 
 use jn_base::{BodyNo, OutOfMemory, WordNo};

@@ -1,5 +1,5 @@
 //! The table, its passes and their steps.
-ghost use Rattle.std.specs.Prelude.{◌≡◌, ℕ, ◌+◌, ◌<◌, ◌≤◌, List, [], length, Some, MatchOption, IfOk};
+ghost use Rattle.std.specs.Prelude.{◌≡◌, ◌+◌, ◌<◌, [], length, Some, MatchOption, IfOk};
 ghost use Rattle.jn_sigtable.specs.Machine.{IsAtRest, MayRead, MayRaise, MayMark, after_read, after_raise, after_mark, after_scan, found_clear, taken_up, left_seen, right_seen, both_seen, new_seen, words_of, dirty_words, AreBetween, HasAll, described};
 ghost use Rattle.jn_sigtable.specs.System.{least};
 ghost use base.Stored.{Coded-set};

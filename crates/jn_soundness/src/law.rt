@@ -1,6 +1,5 @@
 //! Laws over the definitions.
 ghost use Rattle.std.specs.Prelude.{List, ℕ, ◌≡◌};
-ghost use Rattle.jn_points.specs.declared.program.Program.{Program as ProgramOf};
 ghost use Rattle.jn_heap.specs.Values.{Limits};
 ghost use Rattle.jn_heap.specs.State.{Goes, State};
 ghost use Rattle.jn_heap.specs.Runs.{MainForm, NeverNull, NullFault, start_state, step};

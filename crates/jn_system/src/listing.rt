@@ -1,9 +1,9 @@
 //! The words that a body reads, each once.
-ghost use Rattle.std.specs.Prelude.{◌≡◌, ◌<◌, ◌||◌, ◌==◌, [], ◌∷◌, length, IfOk, OnOk, Some};
+ghost use Rattle.std.specs.Prelude.{◌≡◌, ◌<◌, ◌==◌, [], ◌∷◌, length, IfOk, OnOk, Some};
 ghost use Rattle.jn_points.specs.Lookup.{method_in};
 ghost use Rattle.jn_sigtable.specs.System.{IsReadList, lists_word};
 ghost use Rattle.jn_inference_law.specs.Inference.{inference, words_for};
-ghost use Rattle.jn_inference_law.specs.Reading.{slot_list, slot_lists, given_reads, kind_reads, points_reads, body_reads};
+ghost use Rattle.jn_inference_law.specs.Reading.{slot_list, slot_lists, given_reads, kind_reads, points_reads};
 ghost use Rattle.jn_system.specs.ReadLists.{Adds};
 
 use crate::reading::{field_slot, result_slot};

@@ -1,5 +1,5 @@
 //! Inference over a program as a system of bodies and words.
-ghost use Rattle.std.specs.Prelude.{◌≡◌, ◌<◌, length};
+ghost use Rattle.std.specs.Prelude.{◌≡◌, ◌<◌};
 ghost use Rattle.jn_system.specs.Ready.{AreReady, ready_prop};
 
 use crate::listing::words_read;

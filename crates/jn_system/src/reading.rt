@@ -1,7 +1,7 @@
 //! Which words a body reads.
 ghost use Rattle.std.specs.Prelude.{◌≡◌, Some};
 ghost use Rattle.jn_points.specs.Lookup.{field_info, method_at, method_in, body_at, points_of};
-ghost use Rattle.jn_transfer.specs.Contributions.{field_slot_of, receiver_slot_of, result_slot_of};
+ghost use Rattle.jn_transfer.specs.Contributions.{field_slot_of, result_slot_of};
 ghost use Rattle.jn_inference_law.specs.Reading.{slot_list, slot_lists, given_reads, has_word, kind_reads, points_reads, body_reads};
 
 use jn_base::{BodyNo, FieldNo, MethodNo, SlotNo, either};

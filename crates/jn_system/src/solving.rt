@@ -1,5 +1,5 @@
 //! The least signature, by any number of workers.
-ghost use Rattle.std.specs.Prelude.{◌≡◌, ◌<◌, ◌≤◌, length, IfOk};
+ghost use Rattle.std.specs.Prelude.{◌<◌, ◌≤◌, IfOk};
 ghost use Rattle.jn_inference_law.specs.Inference.{IsInferable};
 ghost use Rattle.jn_inference_law.specs.Solution.{IsLeastSignature};
 

@@ -1,8 +1,8 @@
 //! Tokens taken one by one from the front.
-ghost use Rattle.std.specs.Prelude.{◌≡◌, ◌∷◌, ◌≤◌, List, [], MatchOption, length};
+ghost use Rattle.std.specs.Prelude.{◌≡◌, ◌∷◌, List, [], MatchOption};
 ghost use Rattle.jn_base.specs.declared.number.NameNo.{NameNo as SpecName};
 ghost use Rattle.jn_trees.specs.declared.token.TokenKind.{TokenKind as Kind};
-ghost use Rattle.jn_trees.specs.Covered.{covered, nowhere, span_of};
+ghost use Rattle.jn_trees.specs.Covered.{covered, span_of};
 ghost use Rattle.jn_trees.specs.Pieces.{kinds};
 ghost use Rattle.std.specs.Prelude.{slice_get};
 

@@ -1,6 +1,6 @@
 //! The tokens that spell files.
 ghost use Rattle.std.specs.Prelude.{◌≡◌, ◌++◌, OnOk, IfOk, map};
-ghost use Rattle.jn_trees.specs.Spelling.{spell_dots as spec_dots, spell_dotted as spec_dotted, spell_star as spec_star, spell_package as spec_package, spell_package_line as spec_package_line, spell_import as spec_import, spell_imports as spec_imports, spell_types as spec_types, spell_file as spec_file};
+ghost use Rattle.jn_trees.specs.Spelling.{spell_dots as spec_dots, spell_dotted as spec_dotted, spell_star as spec_star, spell_package_line as spec_package_line, spell_import as spec_import, spell_imports as spec_imports, spell_types as spec_types, spell_file as spec_file};
 ghost use Rattle.jn_trees.specs.View.{identifier_names, dotted_view, package_view, import_view, type_view, file_view};
 
 use crate::declarations::spell_type;

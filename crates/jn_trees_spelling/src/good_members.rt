@@ -1,6 +1,5 @@
 //! Which members, types and files are well formed.
-ghost use Rattle.std.specs.Prelude.{◌≡◌, ◌↔◌, IsTrue, map};
-ghost use Rattle.jn_base.specs.declared.number.NameNo.{NameNo as SpecName};
+ghost use Rattle.std.specs.Prelude.{◌↔◌, IsTrue, map};
 ghost use Rattle.jn_trees.specs.WellFormed.{GoodParameters, GoodReceiver, GoodMethodMarks, GoodMethodHead, GoodConstructorHead, GoodField, GoodMethodBody, GoodMember, GoodMembers, GoodType, GoodTypes, GoodFile};
 ghost use Rattle.jn_trees.specs.View.{marks, parameter_views, receiver_view, declarator_view, declarator_views, body_view, member_view, member_views, type_view, file_view};
 

@@ -1,6 +1,6 @@
 //! Which statements are well formed.
-ghost use Rattle.std.specs.Prelude.{◌≡◌, ◌↔◌, ◌-◌, ◌^◌, ◌≤◌, min, IsTrue};
-ghost use Rattle.jn_trees.specs.WellFormed.{GoodStatement, GoodStatements, GoodBody, nesting_statement as spec_nesting, nesting_body as spec_body, deepest as spec_deepest};
+ghost use Rattle.std.specs.Prelude.{◌≡◌, ◌↔◌, ◌-◌, ◌^◌, min, IsTrue};
+ghost use Rattle.jn_trees.specs.WellFormed.{GoodStatement, GoodStatements, GoodBody, nesting_statement as spec_nesting, nesting_body as spec_body};
 ghost use Rattle.jn_trees.specs.View.{statement_view, statement_views};
 
 use crate::good::{all_good, good};

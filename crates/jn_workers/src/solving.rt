@@ -1,5 +1,5 @@
 //! All workers.
-ghost use Rattle.std.specs.Prelude.{◌≡◌, ℕ, ◌+◌, ◌-◌, ◌/◌, ◌<◌, ◌≤◌, length, replicate, IfOk};
+ghost use Rattle.std.specs.Prelude.{◌≡◌, ◌+◌, ◌-◌, ◌/◌, ◌<◌, ◌≤◌, length, IfOk};
 ghost use Rattle.std.specs.Thread.{IsSync};
 ghost use Rattle.jn_sigtable.specs.System.{least};
 ghost use Rattle.jn_sigtable.specs.Machine.{IsAtRest, HasSeenAll, AreBetween};

@@ -1,6 +1,6 @@
 //! One worker.
 ghost use Rattle.std.specs.Prelude.{◌≡◌, ℕ, ◌+◌, ◌<◌, ◌≤◌, ◌/◌, ◌%◌, ◌∷◌, IfOk, IfErr};
-ghost use Rattle.jn_sigtable.specs.Machine.{Has, IsAtRest, HasSeenAll, dirty_words};
+ghost use Rattle.jn_sigtable.specs.Machine.{Has, IsAtRest, HasSeenAll};
 ghost use Rattle.jn_sigtable.specs.Words.{system_of, view_of, IsPassOf};
 ghost use Rattle.jn_worklist.specs.Plans.{plan_of};
 ghost use Rattle.jn_workers.specs.Ends.{SeenIn, SeenUpTo, StillSeen};

@@ -1,5 +1,5 @@
 //! Bits of bodies in a list of words.
-ghost use Rattle.std.specs.Prelude.{◌≡◌, ◌≢◌, ◌⊎◌, ◌↔◌, ℕ, ◌<◌, ◌/◌, Some, true, false, length, replicate, bit_or, IfOk};
+ghost use Rattle.std.specs.Prelude.{◌≡◌, ◌≢◌, ◌⊎◌, ◌↔◌, ℕ, ◌<◌, ◌/◌, true, false, length, bit_or};
 ghost use Rattle.jn_sigtable.specs.System.{ones_below};
 ghost use Rattle.jn_worklist.specs.Plans.{IsDue, Lists};
 

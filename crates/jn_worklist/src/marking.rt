@@ -1,5 +1,5 @@
 //! A body's marks.
-ghost use Rattle.std.specs.Prelude.{◌≡◌, ℕ, ◌+◌, ◌<◌, Some, [], length};
+ghost use Rattle.std.specs.Prelude.{◌≡◌, ◌+◌, ◌<◌, Some, [], length};
 ghost use Rattle.jn_sigtable.specs.Machine.{IsAtRest, dirty_words};
 ghost use Rattle.jn_sigtable.specs.Words.{system_of, view_of, IsPassOf};
 ghost use Rattle.jn_worklist.specs.Runs.{IsMarking, HasRun, HasGivenBack};

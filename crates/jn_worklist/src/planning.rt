@@ -1,5 +1,5 @@
 //! Who reads which word.
-ghost use Rattle.std.specs.Prelude.{◌≡◌, ℕ, ◌+◌, ◌<◌, ◌++◌, ◌∷◌, [], length, get_or, replicate, slice_set, IfOk, OnOk};
+ghost use Rattle.std.specs.Prelude.{◌≡◌, ◌+◌, ◌<◌, ◌++◌, ◌∷◌, [], length, get_or, replicate, slice_set, IfOk, OnOk};
 ghost use Rattle.jn_sigtable.specs.System.{IsReadList};
 ghost use Rattle.jn_worklist.specs.Plans.{ArePlanned, plan_of};
 

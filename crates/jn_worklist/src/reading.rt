@@ -1,5 +1,5 @@
 //! A body's reads.
-ghost use Rattle.std.specs.Prelude.{◌≡◌, ◌<◌, []};
+ghost use Rattle.std.specs.Prelude.{◌<◌, []};
 ghost use Rattle.jn_sigtable.specs.System.{IsReadList};
 ghost use Rattle.jn_sigtable.specs.Words.{system_of, view_of, IsPassOf};
 ghost use Rattle.jn_worklist.specs.Runs.{IsReading};
