@@ -9,10 +9,9 @@ ghost use Rattle.jn_basecheck.specs.Rows as rows_of;
 
 use crate::lookup::{body_of, point_of};
 use crate::operands::{Operands, operands_of};
-use crate::types::is_void;
 use jn_assigned::Unwritten;
 use jn_base::{Code, RegNo, Row};
-use jn_points::lookup::{method_in, reg_base};
+use jn_points::lookup::{is_void, method_in, reg_base};
 use jn_points::{Operand, Program};
 use std::alloc::AllocError;
 

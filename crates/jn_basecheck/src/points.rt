@@ -6,10 +6,10 @@ ghost use Rattle.jn_basecheck.specs.Rows as rows_of;
 ghost use Rattle.jn_basecheck.specs.Wanted.{meant};
 
 use crate::lookup::{body_of, point_of, result_base};
-use crate::types::{Want, is_void, push_all, push_arguments, push_operand, push_optional};
+use crate::types::{Want, push_all, push_arguments, push_operand, push_optional};
 use jn_base::{ClassNo, FieldNo, MethodNo, Row};
 use jn_index::indexed::IndexedProgram;
-use jn_points::lookup::{class_of, elem_base, field_base, owner, params_of, reg_base};
+use jn_points::lookup::{class_of, elem_base, field_base, is_void, owner, params_of, reg_base};
 use jn_points::{BaseType, Operand, Operator, PointKind};
 use std::alloc::AllocError;
 

@@ -9,10 +9,9 @@ ghost use Rattle.jn_assigned.specs.Lacking.{TellsLacking};
 ghost use Rattle.jn_basecheck.specs.Rows as rows_of;
 
 use crate::lookup::{body_of, point_of, result_base};
-use crate::types::is_void;
 use jn_assigned::Unwritten;
 use jn_base::{Code, Row, Span};
-use jn_points::lookup::method_in;
+use jn_points::lookup::{is_void, method_in};
 use jn_points::{Operand, PointKind, Program};
 use std::alloc::AllocError;
 

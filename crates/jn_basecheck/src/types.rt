@@ -5,7 +5,7 @@ ghost use Rattle.jn_basecheck.specs.Wanted.{meant};
 
 use jn_base::{Code, Row};
 use jn_index::indexed::IndexedProgram;
-use jn_points::lookup::{is_array, is_reference, reg_base};
+use jn_points::lookup::{is_array, is_reference, is_string, is_void, reg_base};
 use jn_points::{BaseType, Operand};
 use std::alloc::AllocError;
 
@@ -30,16 +30,6 @@ pub enum Want {
     Valued,
 }
 
-/// Whether the type is that of what gives no value.
-pub fn is_void(base: BaseType) -> bool
-    ensures { result ≡ rules.is_void base }
-{
-    match base {
-        BaseType::Void => true,
-        _ => false,
-    }
-}
-
 fn is_primitive(base: BaseType) -> bool
     ensures { result ≡ rules.is_primitive base }
 {
@@ -56,15 +46,6 @@ fn is_same_primitive(left: BaseType, right: BaseType) -> bool
     match (left, right) {
         (BaseType::Int, BaseType::Int) => true,
         (BaseType::Bool, BaseType::Bool) => true,
-        _ => false,
-    }
-}
-
-fn is_string(base: BaseType) -> bool
-    ensures { result ≡ rules.is_string base }
-{
-    match base {
-        BaseType::Ref(class) => class.0 == 1,
         _ => false,
     }
 }

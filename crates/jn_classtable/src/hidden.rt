@@ -10,10 +10,10 @@ ghost use Rattle.jn_classtable.specs.Hidden as spec;
 ghost use Rattle.jn_classtable.specs.Rows.{is_hiding};
 
 use jn_base::{ClassNo, Seq};
-use jn_index::entries::field_at;
 use jn_index::index::Index as Members;
 use jn_index::order::find_order;
 use jn_index::tables::{Entry, Tables, find_tables};
+use jn_points::lookup::field_at;
 use jn_points::{Class, Field, Program};
 use std::alloc::{AllocError, Global};
 

@@ -5,8 +5,8 @@ ghost use Rattle.jn_classtable.specs.Rows.{is_circle};
 ghost use Rattle.jn_classtable.specs.Ranks as spec;
 
 use crate::circles::mark_at;
-use crate::rows::class_at;
 use jn_base::ClassNo;
+use jn_points::lookup::class_at;
 use jn_points::{Class, Program};
 use std::alloc::{AllocError, Global};
 

@@ -1,14 +1,15 @@
 //! What a reached point sends into inferred slots.
 ghost use Rattle.std.specs.Prelude.{◌≡◌, ◌++◌, ◌∷◌, [], OnOk, cond, slice_get, slice_index_or, None};
-ghost use Rattle.jn_points.specs.Lookup.{slots_of, field_info, method_at, method_in};
+ghost use Rattle.jn_points.specs.Lookup.{slots_of, method_at, method_in};
 ghost use Rattle.jn_quals.specs.Order.{null_only};
-ghost use Rattle.jn_transfer.specs.Contributions.{is_inferred, field_slot_of, receiver_slot_of, result_slot_of, sends, arg_sends, receiver_sends, return_sends, unset_sends, kind_sends};
+ghost use Rattle.jn_transfer.specs.Contributions.{is_inferred, receiver_slot_of, result_slot_of, sends, arg_sends, receiver_sends, return_sends, unset_sends, kind_sends};
 ghost use Rattle.jn_env.specs.Keys.{own_keys};
 
-use jn_base::{BodyNo, MethodNo, SlotNo};
+use jn_base::{BodyNo, FieldNo, MethodNo, SlotNo};
 use jn_env::Env;
 use jn_points::{Operand, PointKind, Program};
 use jn_quals::Qual;
+use jn_transfer::lookup::field_slot;
 use std::alloc::AllocError;
 
 /// The number of a slot, and the qualifier that is sent to it.
@@ -100,15 +101,6 @@ fn send_call(
     send_args(program, list, env, param_slots(program, method), args)
 }
 
-fn field_slot(program: &Program, field: u32) -> Option<SlotNo>
-    ensures { result ≡ field_slot_of (field_info program.now field) }
-{
-    match program.fields.as_slice().get(field as usize) {
-        None => None,
-        Some(info) => info.slot,
-    }
-}
-
 fn receiver_slot(program: &Program, method: MethodNo) -> Option<SlotNo>
     ensures { result ≡ receiver_slot_of (method_at program.now method.0) }
 {
@@ -193,7 +185,12 @@ fn send_unset(
 {
     for field in own {
         let assigned = env.is_assigned(own, *field);
-        send_unless(program, list, assigned, field_slot(program, *field))?;
+        send_unless(
+            program,
+            list,
+            assigned,
+            field_slot(program, FieldNo(*field)),
+        )?;
     }
     Ok(())
 }
@@ -252,7 +249,7 @@ pub fn send_kind(
     match kind {
         PointKind::FieldWrite { field, value, .. } => {
             let qual = env.qual(value.reg).settle();
-            send(program, list, field_slot(program, field.0), qual)
+            send(program, list, field_slot(program, *field), qual)
         }
         PointKind::New { ctor, args, .. } => send_call(program, list, env, *ctor, args.as_slice()),
         PointKind::CtorCall { ctor, args, .. } => {

@@ -1,6 +1,6 @@
 //! What classes have of themselves, at keys: a class at its number, and open members at the first member of their name
 //! and arity.
-ghost use Rattle.std.specs.Prelude.{◌≡◌, ◌<◌, ◌^◌, ◌++◌, Some, None, true, length, MatchOption, IfOk, OnOk};
+ghost use Rattle.std.specs.Prelude.{◌≡◌, ◌<◌, ◌^◌, ◌++◌, Some, None, true, length, IfOk, OnOk};
 ghost use Rattle.jn_points.specs.Lookup.{field_info, method_at};
 ghost use Rattle.jn_index.specs.Numbers.{list_at, first_in};
 ghost use Rattle.jn_index.specs.Busy as busy;
@@ -10,18 +10,10 @@ use crate::busy::is_busy;
 use crate::index::list_at;
 use crate::tables::Entry;
 use jn_base::{NameNo, Seq};
-use jn_points::lookup::method_at;
+use jn_points::lookup::{field_at, method_at};
 use jn_points::members::is_named;
 use jn_points::{Field, Method, Program};
 use std::alloc::{AllocError, Global};
-
-/// The field of a number; none past the end.
-pub fn field_at(program: &Program, field: usize) -> Option<&Field>
-    ensures { MatchOption result (field_info program.now field ≡ None)
-        (λ f. field_info program.now field ≡ Some f.now) }
-{
-    program.fields.as_slice().get(field)
-}
 
 fn is_named_at(program: &Program, name: NameNo, arity: usize, k: u32) -> bool
     ensures { result ≡ spec.is_named_at program.now name.0 arity k }

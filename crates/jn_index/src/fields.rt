@@ -5,10 +5,11 @@ ghost use Rattle.jn_index.specs.Numbers.{first_in};
 ghost use Rattle.jn_index.specs.Index as index;
 ghost use Rattle.jn_index.specs.Index.{IsIndex};
 
-use crate::entries::{field_at, field_key};
+use crate::entries::field_key;
 use crate::index::Index;
 use crate::lookup::is_subclass;
 use jn_base::{ClassNo, FieldNo, NameNo};
+use jn_points::lookup::field_at;
 use jn_points::{Field, Program};
 
 fn declares(field: &Field, c: ClassNo, name: NameNo, d: u32) -> bool

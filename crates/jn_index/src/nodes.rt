@@ -3,7 +3,7 @@ ghost use Rattle.std.specs.Prelude.{◌≡◌, ◌<◌, ◌++◌, ◌∷◌, [],
 ghost use Rattle.jn_index.specs.Numbers.{contains};
 ghost use Rattle.jn_index.specs.Nodes as spec;
 
-use std::alloc::{AllocError, Global};
+use std::alloc::AllocError;
 
 /// A node of a tree: at height 0 a value, above it two sides.
 #[derive(Clone, Copy)]

@@ -1,7 +1,6 @@
 //! For each class a table of what is found along its walk (JLS 8, 8.2): its own entries, then those of its parent, then
 //! those of its interfaces. A table keeps its parent's by reference, so that a chain of classes costs no more than its entries.
 ghost use Rattle.std.specs.Prelude.{◌≡◌, ◌<◌, ◌≤◌, ◌^◌, ◌∷◌, [], ℕ, length, Option, Some, None, true, false, MatchOption, IfOk, OnOk, IfSome};
-ghost use Rattle.jn_points.specs.Lookup.{class_info};
 ghost use Rattle.jn_points.specs.Members as members;
 ghost use Rattle.jn_points.specs.Regular.{RegularClasses};
 ghost use Rattle.jn_index.specs.Numbers.{contains};
@@ -12,6 +11,7 @@ ghost use Rattle.jn_index.specs.Tables as spec;
 
 use crate::nodes::{self, Node, collect, merge, put};
 use jn_base::{ClassNo, Seq};
+use jn_points::lookup::class_at;
 use jn_points::members::is_class;
 use jn_points::{Class, Program};
 use std::alloc::{AllocError, Global};
@@ -217,13 +217,6 @@ fn is_ready(roots: &[Option<u32>], info: &Class) -> bool
     all_rooted(roots, supers) && names_parent(info.parent, supers)
 }
 
-fn class_info(program: &Program, class: usize) -> Option<&Class>
-    ensures { MatchOption result (class_info program.now class ≡ None)
-        (λ c. class_info program.now class ≡ Some c.now) }
-{
-    program.classes.as_slice().get(class)
-}
-
 /// Gives a class its tree, where it has none and its supertypes have theirs.
 #[tactic(auto, using(crate::proofs::Filled::roots_inside))]
 fn add_tree(
@@ -244,7 +237,7 @@ fn add_tree(
     if place >= roots.len() || has_root(roots.as_slice(), class) {
         return Ok(());
     }
-    let Some(info) = class_info(program, place) else {
+    let Some(info) = class_at(program, place) else {
         return Ok(());
     };
     if !is_ready(roots.as_slice(), info) {

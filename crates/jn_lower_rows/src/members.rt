@@ -1,6 +1,6 @@
 //! Rows of the members that names mean: none of that name (J2), static or not where it must be the other (J2), private in another class
 //! (J3).
-ghost use Rattle.std.specs.Prelude.{◌≡◌, ◌++◌, ◌||◌, ◌&&◌, not, eqb, OnOk, MatchOption, None, Some};
+ghost use Rattle.std.specs.Prelude.{◌≡◌, ◌++◌, ◌||◌, ◌&&◌, not, eqb, OnOk, None, Some};
 ghost use Rattle.jn_points.specs.Lookup.{class_info, class_of, field_info, interface_of, method_at, owner, private_of};
 ghost use Rattle.jn_points.specs.Members as members;
 ghost use Rattle.jn_lowering.specs.Annotations as annotated;
@@ -14,28 +14,21 @@ use crate::setting::Setting;
 use jn_base::{ClassNo, Code, FieldNo, MethodNo, NameNo, Row, Seq, Span};
 use jn_index::indexed::IndexedProgram;
 use jn_known::{EQUALS, IS_EMPTY, LENGTH};
-use jn_points::{BaseType, Field};
+use jn_points::BaseType;
+use jn_points::lookup::{field_info, is_string};
 use jn_scopes::Context;
 use jn_scopes::heads::{class_at, method_at};
 use jn_scopes::members::{
     class_named, constructor_of, field_of, is_static, is_static_field, method_of, super_method,
 };
-use jn_scopes::types::is_string;
 use jn_trees::Identifier;
 use std::alloc::AllocError;
-
-fn field_at(program: &IndexedProgram, field: FieldNo) -> Option<&Field>
-    ensures { MatchOption result (field_info program.now field.0 ≡ None)
-        (λ f. field_info program.now field.0 ≡ Some f.now) }
-{
-    program.program().fields.as_slice().get(field.0 as usize)
-}
 
 /// Whether a field is final (JLS 8.3.1.2).
 pub fn is_final(program: &IndexedProgram, field: FieldNo) -> bool
     ensures { result ≡ spec.final_field (field_info program.now field.0) }
 {
-    match field_at(program, field) {
+    match field_info(program.program(), field) {
         None => false,
         Some(info) => info.is_final,
     }
@@ -45,7 +38,7 @@ pub fn is_final(program: &IndexedProgram, field: FieldNo) -> bool
 pub fn is_own(c: &Context, field: FieldNo) -> bool
     ensures { result ≡ eqb (owner c.now.program.now field.0) c.now.class.0 }
 {
-    match field_at(c.program, field) {
+    match field_info(c.program.program(), field) {
         None => c.class.0 == 0,
         Some(info) => info.owner.0 == c.class.0,
     }
@@ -56,7 +49,7 @@ fn is_closed_field(c: &Context, field: FieldNo) -> bool
         ≡ (spec.private_field (field_info c.now.program.now field.0)
         && not (eqb (owner c.now.program.now field.0) c.now.class.0)) }
 {
-    match field_at(c.program, field) {
+    match field_info(c.program.program(), field) {
         None => false,
         Some(info) => info.is_private && info.owner.0 != c.class.0,
     }

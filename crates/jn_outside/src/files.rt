@@ -6,7 +6,7 @@ ghost use Rattle.jn_outside.specs.declared.given.Given.{Given as SpecGiven};
 ghost use Rattle.jn_outside.specs.Files.{Holding, Holds, Starts, Reads, HasRead, HasReadAtMost, Gives, HoldsMore, IsKnownToHoldMore};
 
 use jn_base::Fail;
-use std::alloc::{AllocError, Global};
+use std::alloc::Global;
 
 /// A call outside failed, and was counted.
 #[derive(Clone, Copy, Debug, PartialEq, Eq, Drop)]

@@ -8,7 +8,7 @@ use crate::count;
 use crate::files::Failed;
 use crate::sink::Sink;
 use jn_base::OutOfMemory;
-use std::alloc::{AllocError, Global};
+use std::alloc::Global;
 
 /// A sink in memory, which has room for so many bytes and takes memory for them when it is made.
 #[derive(Drop)]

@@ -1,5 +1,6 @@
 //! What stands where in a program's lists.
 ghost use Rattle.std.specs.Prelude.{◌≡◌, MatchOption, None, Some};
+ghost use Rattle.jn_points.specs.BaseRows as rules;
 ghost use Rattle.jn_points.specs.Lookup as spec;
 
 use crate::point::{BaseType, Elem};
@@ -28,6 +29,26 @@ pub fn is_array(base: BaseType) -> bool
     }
 }
 
+/// Whether the type is String (JLS 4.3.3).
+pub fn is_string(base: BaseType) -> bool
+    ensures { result ≡ rules.is_string base }
+{
+    match base {
+        BaseType::Ref(class) => class.0 == 1,
+        _ => false,
+    }
+}
+
+/// Whether the type is that of what gives no value (JLS 8.4.5).
+pub fn is_void(base: BaseType) -> bool
+    ensures { result ≡ rules.is_void base }
+{
+    match base {
+        BaseType::Void => true,
+        _ => false,
+    }
+}
+
 /// The type of an array's elements; int for what is no array type.
 pub fn elem_base(base: BaseType) -> BaseType
     ensures { result ≡ spec.elem_base base }
@@ -39,12 +60,20 @@ pub fn elem_base(base: BaseType) -> BaseType
     }
 }
 
+/// The class at a place, where there is one.
+pub fn class_at(program: &Program, class: usize) -> Option<&Class>
+    ensures { MatchOption result (spec.class_info program.now class ≡ None)
+        (λ c. spec.class_info program.now class ≡ Some c.now) }
+{
+    program.classes.as_slice().get(class)
+}
+
 /// The class of a number, where there is one.
 pub fn class_info(program: &Program, class: ClassNo) -> Option<&Class>
     ensures { MatchOption result (spec.class_info program.now class.0 ≡ None)
         (λ c. spec.class_info program.now class.0 ≡ Some c.now) }
 {
-    program.classes.as_slice().get(class.0 as usize)
+    class_at(program, class.0 as usize)
 }
 
 /// Whether the class is an interface.
@@ -57,12 +86,20 @@ pub fn is_interface(program: &Program, class: ClassNo) -> bool
     }
 }
 
+/// The field at a place, where there is one.
+pub fn field_at(program: &Program, field: usize) -> Option<&Field>
+    ensures { MatchOption result (spec.field_info program.now field ≡ None)
+        (λ f. spec.field_info program.now field ≡ Some f.now) }
+{
+    program.fields.as_slice().get(field)
+}
+
 /// The field of a number, where there is one.
 pub fn field_info(program: &Program, field: FieldNo) -> Option<&Field>
     ensures { MatchOption result (spec.field_info program.now field.0 ≡ None)
         (λ f. spec.field_info program.now field.0 ≡ Some f.now) }
 {
-    program.fields.as_slice().get(field.0 as usize)
+    field_at(program, field.0 as usize)
 }
 
 /// The class that declares the field; 0 where the field is not there.

@@ -6,7 +6,6 @@ use crate::document::{Document, Format};
 use crate::escapes::{Escape, put};
 use crate::reporter::Reporter;
 use itoa::{Buffer, Integer};
-use jn_base::Code;
 use jn_diag::RowText;
 use std::alloc::{AllocError, Global};
 

@@ -8,7 +8,7 @@ use crate::escapes::{Escape, put};
 use crate::reporter::Reporter;
 use crate::sheet::Sheet;
 use itoa::{Buffer, Integer};
-use jn_base::{Code, OutOfMemory};
+use jn_base::OutOfMemory;
 use jn_diag::{RowText, Verdict};
 use std::alloc::{AllocError, Global};
 use std::marker::Model;

@@ -3,7 +3,6 @@ ghost use Rattle.std.specs.Prelude.{◌≡◌, ◌++◌, codes, decimal, IfOk};
 ghost use Rattle.jn_reporters.specs.Reports as spec;
 
 use itoa::{Buffer, Integer};
-use jn_base::Code;
 use jn_diag::{RowText, Verdict};
 use std::alloc::{AllocError, Global};
 

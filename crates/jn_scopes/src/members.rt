@@ -1,5 +1,5 @@
 //! Members of classes, by their names: the one place where a program is searched, by its index where there is one and else by its lists.
-ghost use Rattle.std.specs.Prelude.{◌≡◌, ◌<◌, ◌&&◌, ◌||◌, eqb, not, length, MatchOption, None, Some};
+ghost use Rattle.std.specs.Prelude.{◌≡◌, ◌<◌, ◌&&◌, ◌||◌, eqb, not, MatchOption, None, Some};
 ghost use Rattle.jn_points.specs.Members as spec;
 ghost use Rattle.jn_points.specs.Lookup.{class_info, field_base, method_at, parent_of, private_of, result_base_of, static_of};
 ghost use Rattle.jn_lowering.specs.Calls as calls;
@@ -10,7 +10,7 @@ use crate::heads::{class_at, method_at};
 use jn_base::{ClassNo, FieldNo, MethodNo, NameNo};
 use jn_index::indexed::IndexedProgram;
 use jn_index::{fields, lookup};
-use jn_points::{BaseType, Field, Method, Program};
+use jn_points::{BaseType, Field, Program};
 
 /// The field that the class has for the name (JLS 8.2).
 pub fn field_of(program: &IndexedProgram, class: ClassNo, name: NameNo) -> Option<FieldNo>
@@ -94,14 +94,6 @@ pub fn method_of(
     }
 }
 
-fn constructs(method: &Method, class: ClassNo, arity: usize) -> bool
-    ensures { result
-        ≡ (method.now.ctor && eqb method.now.owner.0 class.0
-        && eqb (length method.now.params) arity) }
-{
-    method.ctor && method.owner.0 == class.0 && method.params.len() == arity
-}
-
 /// The constructor for so many parameters, by the program's lists.
 fn listed_constructor(program: &Program, class: ClassNo, arity: usize) -> Option<MethodNo>
     requires few { Few program.now }
@@ -110,7 +102,7 @@ fn listed_constructor(program: &Program, class: ClassNo, arity: usize) -> Option
 {
     let methods = program.methods.as_slice();
     for (number, method) in methods.iter().enumerate() {
-        if constructs(method, class, arity) {
+        if lookup::constructs(method, class, arity) {
             return Some(MethodNo(number as u32));
         }
     }

@@ -1,6 +1,5 @@
 //! The type of an expression (JLS 15).
 ghost use Rattle.std.specs.Prelude.{◌≡◌};
-ghost use Rattle.jn_points.specs.BaseRows as typing;
 ghost use Rattle.jn_points.specs.Members as members;
 ghost use Rattle.jn_points.specs.Regular as regular;
 ghost use Rattle.jn_lowering.specs.Bases as spec;
@@ -16,7 +15,7 @@ use crate::members::{class_or_object, field_base, method_of, result_base, super_
 use jn_base::{ClassNo, NameNo};
 use jn_index::indexed::IndexedProgram;
 use jn_known::NULLABLE;
-use jn_points::lookup::elem_base;
+use jn_points::lookup::{elem_base, is_string};
 use jn_points::{BaseType, Elem, Operator, StrOperation};
 use jn_trees::{
     Annotation, AssignOperator, Base, BinaryOperator, Expr, Literal, LocalModifier, TypeUse,
@@ -64,16 +63,6 @@ pub fn compound_of(operator: AssignOperator) -> Operator
         AssignOperator::Divide => Operator::Div,
         AssignOperator::Remainder => Operator::Rem,
         _ => Operator::Add,
-    }
-}
-
-/// Whether the type is String.
-pub fn is_string(base: BaseType) -> bool
-    ensures { result ≡ typing.is_string base }
-{
-    match base {
-        BaseType::Ref(class) => class.0 == 1,
-        _ => false,
     }
 }
 

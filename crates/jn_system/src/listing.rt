@@ -6,9 +6,9 @@ ghost use Rattle.jn_inference_law.specs.Inference.{inference, words_for};
 ghost use Rattle.jn_inference_law.specs.Reading.{slot_list, slot_lists, given_reads, kind_reads, points_reads};
 ghost use Rattle.jn_system.specs.ReadLists.{Adds};
 
-use crate::reading::{field_slot, result_slot};
 use jn_base::{BodyNo, SlotNo, WordNo, either};
 use jn_points::{Method, Point, PointKind, Program};
+use jn_transfer::lookup::{field_slot, result_slot};
 use std::alloc::{AllocError, Global};
 
 #[tactic(auto, using(crate::proofs::ListSteps::listed_more))]

@@ -1,11 +1,11 @@
 //! Which words a body reads.
 ghost use Rattle.std.specs.Prelude.{◌≡◌, Some};
-ghost use Rattle.jn_points.specs.Lookup.{field_info, method_at, method_in, body_at, points_of};
-ghost use Rattle.jn_transfer.specs.Contributions.{field_slot_of, result_slot_of};
+ghost use Rattle.jn_points.specs.Lookup.{method_in, body_at, points_of};
 ghost use Rattle.jn_inference_law.specs.Reading.{slot_list, slot_lists, given_reads, has_word, kind_reads, points_reads, body_reads};
 
-use jn_base::{BodyNo, FieldNo, MethodNo, SlotNo, either};
+use jn_base::{BodyNo, SlotNo, either};
 use jn_points::{Method, Point, PointKind, Program};
+use jn_transfer::lookup::{field_slot, result_slot};
 
 /// Whether the slot stands in the word.
 fn is_in(slot: Option<SlotNo>, word: u32) -> bool
@@ -27,26 +27,6 @@ fn some_in(slots: &[Option<SlotNo>], word: u32) -> bool
         some = either(some, is_in(*slot, word));
     }
     some
-}
-
-/// The slot of a field; None where it has none, or isn't there.
-pub fn field_slot(program: &Program, field: FieldNo) -> Option<SlotNo>
-    ensures { result ≡ field_slot_of (field_info program.now field.0) }
-{
-    match program.fields.as_slice().get(field.0 as usize) {
-        None => None,
-        Some(info) => info.slot,
-    }
-}
-
-/// The slot of a method's result; None where it has none, or the method isn't there.
-pub fn result_slot(program: &Program, method: MethodNo) -> Option<SlotNo>
-    ensures { result ≡ result_slot_of (method_at program.now method.0) }
-{
-    match program.methods.as_slice().get(method.0 as usize) {
-        None => None,
-        Some(info) => info.result_slot,
-    }
 }
 
 /// Whether the point reads a slot of the word.

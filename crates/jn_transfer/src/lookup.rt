@@ -1,7 +1,8 @@
 //! What the analysis looks up in a program and a signature.
 ghost use Rattle.std.specs.Prelude.{◌≡◌};
-ghost use Rattle.jn_points.specs.Lookup.{is_flat, flat_field, locals, ctor_of, class_of, method_in, method_at};
+ghost use Rattle.jn_points.specs.Lookup.{is_flat, flat_field, locals, ctor_of, class_of, field_info, method_in, method_at};
 ghost use Rattle.jn_sigs.specs.Signature.{slot_qual, field_qual, result_of};
+ghost use Rattle.jn_transfer.specs.Contributions.{field_slot_of, result_slot_of};
 ghost use Rattle.jn_transfer.specs.Transfer.{literal_qual, elem_qual};
 
 use jn_base::{BodyNo, ClassNo, FieldNo, MethodNo, SlotNo};
@@ -36,6 +37,26 @@ pub fn elem_qual(base: BaseType) -> Qual
         BaseType::Void => Qual::none(),
         BaseType::Null => Qual::none(),
         BaseType::Ref(_) => Qual::none(),
+    }
+}
+
+/// The slot of a field; None where it has none, or isn't there.
+pub fn field_slot(program: &Program, field: FieldNo) -> Option<SlotNo>
+    ensures { result ≡ field_slot_of (field_info program.now field.0) }
+{
+    match field_info(program, field) {
+        None => None,
+        Some(info) => info.slot,
+    }
+}
+
+/// The slot of a method's result; None where it has none, or the method isn't there.
+pub fn result_slot(program: &Program, method: MethodNo) -> Option<SlotNo>
+    ensures { result ≡ result_slot_of (method_at program.now method.0) }
+{
+    match method_at(program, method.0 as usize) {
+        None => None,
+        Some(info) => info.result_slot,
     }
 }
 
