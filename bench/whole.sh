@@ -8,9 +8,9 @@
 #   SECONDS  how long one run may take before it is stopped, which is shown as `over` (120)
 #   DIVISOR  divides all sizes, for a first try (1)
 #   --files  writes the programs into a folder, and times nothing
-# Prints for each program its size, and for both tools the seconds and the peak MiB at half and at whole size, and the
-# ratio of the times (2 is linear, 4 a square; of short runs it says nothing); then how nullcheck ended, with its last
-# line. The shapes:
+# Prints for each program its size, and for nullcheck with four workers (as where none are said) and with one, and for
+# javac, the seconds and the peak MiB at half and at whole size, and the ratio of the times (2 is linear, 4 a square; of
+# short runs it says nothing); then how the run of the whole ended, with its last line. The shapes:
 #   classes     N unrelated classes with seven methods each
 #   chain       N classes, each extending the one before
 #   methods     one class with N methods
@@ -22,6 +22,7 @@
 #   overloads   one class whose methods of one name have N parameters together, no two as many
 #   pairs       a chain of classes that all override one method, N overriding pairs
 #   rows        N methods that each break a rule
+#   bodies      N bodies of 48 statements in 64 files, whose classes call each other
 # javac takes each as Java 8. What the programs need of Java stands in docs/LANGUAGE.md.
 set -eu
 
@@ -114,6 +115,25 @@ write_program() {
         for (k = 0; k < n; k++) printf "  int f%d(int x) { %s x++; %s return x; }\n", k, open, shut
         print "}"
       }' >"$folder/Nested.java"
+      ;;
+    bodies)
+      awk -v n="$count" -v folder="$folder" 'BEGIN {
+        for (k = 0; k < 64; k++) {
+          file = folder "/Bodies" k ".java"
+          printf "class C%d {\n  @Nullable C%d next;\n  int size;\n", k, (k + 1) % 64 > file
+          for (m = 0; m < n / 64; m++) {
+            printf "  int f%d(@Nullable C%d c, int x) {\n    int y = x;\n", m, (k + 1) % 64 > file
+            for (i = 0; i < 12; i++) {
+              print "    y = x + size;\n    x++;" > file
+              printf "    if (c != null) { y = c.f%d(null, y); }\n", m > file
+              print "    if (next != null && next.size > y) { x = y - next.size; }" > file
+            }
+            print "    return y;\n  }" > file
+          }
+          print "}" > file
+          close(file)
+        }
+      }'
       ;;
     locals)
       awk -v n="$count" 'BEGIN {
@@ -219,7 +239,7 @@ compare() {
 
 # Shapes and sizes: each within the limits of docs/LANGUAGE.md.
 sizes=("classes 4096" "chain 4096" "methods 16384" "statements 8192" "one name 4096" "nested 2048" "files 4096"
-  "locals 900" "overloads 65536" "pairs 524288" "rows 8192")
+  "locals 900" "overloads 65536" "pairs 524288" "rows 8192" "bodies 2048")
 
 if [ $# -eq 2 ] && [ "$1" = --files ]; then
   mkdir -p "$2"
@@ -252,7 +272,10 @@ for entry in "${sizes[@]}"; do
   size=$((${entry##* } / divisor))
   write_program "$shape" $((size / 2)) "$scratch/half"
   write_program "$shape" "$size" "$scratch/program"
-  if [ "$program" != none ]; then compare "$shape" "$size" nullcheck "$program"; fi
+  if [ "$program" != none ]; then
+    compare "$shape" "$size" "4 workers" "$program" --workers 4
+    compare "$shape" "$size" "1 worker" "$program" --workers 1
+  fi
   if command -v javac >/dev/null; then
     compare "$shape" "$size" javac javac --release 8 -nowarn -Xlint:none -proc:none -d "$scratch/out"
   fi
