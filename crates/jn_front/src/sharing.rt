@@ -1,5 +1,5 @@
 //! Files shared among workers.
-ghost use Rattle.std.specs.Prelude.{◌≡◌, ◌≤◌, ◌<◌, ◌+◌, ◌++◌, ◌∷◌, [], length, take, drop, IfOk, OnOk};
+ghost use Rattle.std.specs.Prelude.{◌≡◌, ◌≤◌, ◌<◌, ◌+◌, ◌++◌, length, take, drop, IfOk};
 ghost use Rattle.std.specs.Thread.{IsSync};
 ghost use Rattle.jn_front.specs.Counted.{ReadsFit};
 ghost use Rattle.jn_front.specs.Files.{files_of_reads};
@@ -9,16 +9,10 @@ use crate::alone::outcome_of;
 use crate::outcome::Outcome;
 use crate::source::SourceRead;
 use jn_base::OutOfMemory;
+use jn_base::lists::put;
 use jn_workers::Gate;
-use std::alloc::{AllocError, Global};
+use std::alloc::Global;
 use std::thread::{Threads, join};
-
-fn put_outcome(outcomes: &mut Vec<Outcome>, outcome: Outcome) -> Result<(), AllocError>
-    ensures { OnOk result (outcomes.new.items ≡ outcomes.old.items ++ outcome ∷ []) }
-{
-    outcomes.push(outcome)?;
-    Ok(())
-}
 
 /// The outcomes of files one after another, the first of which has this number.
 fn parse_each<G: Gate>(
@@ -37,7 +31,7 @@ fn parse_each<G: Gate>(
     let mut file = first;
     'files: for read in reads {
         let outcome = outcome_of(alloc, read, file, worker, gate)?;
-        put_outcome(&mut outcomes, outcome)?;
+        put(&mut outcomes, outcome)?;
         file += 1;
     }
     Ok(outcomes)
@@ -49,10 +43,7 @@ fn append(first: Vec<Outcome>, others: Vec<Outcome>) -> Result<Vec<Outcome>, Out
 {
     let mut all = first;
     for outcome in others {
-        match all.push(outcome) {
-            Ok(()) => {}
-            Err(_) => return Err(OutOfMemory),
-        }
+        put(&mut all, outcome)?;
     }
     Ok(all)
 }

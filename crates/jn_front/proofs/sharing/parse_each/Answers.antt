@@ -15,7 +15,7 @@ files-preserved g c =
     let number = c.files.invariant.number in
     record {
       number = omega (arith, number);
-      found = one_more c.args.reads.now c.args.first c.files.read-index c.files.file c.read-item.result c.files.outcomes.items c.put_outcome.new.outcomes.items c.in_ok-outcome.outcome number c.files-test.true c.read-item.is c.files.invariant.found c.in_ok-outcome.ensures c.in_ok-put_outcome.ensures;
+      found = one_more c.args.reads.now c.args.first c.files.read-index c.files.file c.read-item.result c.files.outcomes.items c.put.new.items.items c.in_ok-outcome.outcome number c.files-test.true c.read-item.is c.files.invariant.found c.in_ok-outcome.ensures c.in_ok-put.ensures;
     }
 
 pub returns : goal.returns
