@@ -1,6 +1,6 @@
 -- One token after another.
-use Rattle.std.proofs.Common.{◌≡◌, ℕ, ◌+◌, ◌<◌, ◌≤◌, Bool, true, false, List, [], ◌∷◌, ◌++◌, length, take, drop, Option, Some, refl, sym, ap, ◌∙◌, subst, arith, length-append, append_assoc, length-drop, add-zero}
-use Rattle.std.specs.Prelude.{slice_get, encode_utf8_all, bytes_eq, cond, Result, Ok, Err, IfOk, IfErr}
+use Rattle.std.proofs.Common.{◌≡◌, ℕ, ◌+◌, ◌-◌, ◌<◌, ◌≤◌, Bool, true, false, List, [], ◌∷◌, ◌++◌, length, take, drop, Option, Some, refl, sym, ap, ◌∙◌, subst, arith, length-append, append_assoc, length-drop, add-zero}
+use Rattle.std.specs.Prelude.{slice_get, slice_range, encode_utf8_all, chars, IsUtf8, IsCharBoundary, bytes_eq, cond, Result, Ok, Err, IfOk, IfErr}
 use Rattle.jn_base.specs.declared.refusal.Fail.{Fail}
 use Rattle.jn_base.specs.declared.refusal.Fail.TheVariants.{Refused, OutOfMemory}
 use Rattle.std.specs.List.{list_any}
@@ -21,7 +21,7 @@ use Rattle.jn_lexer.specs.Lexed.{names_with, kind_of, names_after, tokens_of, Is
 use Rattle.jn_trees.specs.Refused.{IfRefused}
 use Rattle.jn_lexer.specs.Found.{IsGapOf, IsNext, IsFaultNext, IsFaultHere, IsAllGap, lexeme_of, body_of, word_of}
 use Rattle.jn_lexer.proofs.Lists.{get_at}
-use Rattle.jn_lexer.proofs.Widths.{width-split}
+use Rattle.jn_lexer.proofs.Widths.{width-split, width-append, boundary_behind, bytes_behind}
 
 -- pieces
 
@@ -99,6 +99,48 @@ module _ (file : FileNo) (text : List ℕ) (old : List (List ℕ)) (rest : List 
     fault = f.fault;
     at = f.place;
   }
+
+-- where the text's bytes are those of the next token's word
+pub record IsWordIn (bytes word : List ℕ) (s : Spelled) : Type 0 where
+  pub from : IsCharBoundary bytes s.from
+  pub to : IsCharBoundary bytes s.to
+  pub is : slice_range bytes s.from s.to ≡ encode_utf8_all word
+
+-- what has been read, and how many bytes it is
+read_width : (text : List ℕ) (at : ℕ) (ps : List Piece) (rest : List ℕ) (place : ℕ) → Behind text at ps rest place → (front : List ℕ) × (text ≡ front ++ rest) × (place ≡ at + width front)
+read_width text at [] rest place b = let a = b.1 in ([], sym b.0, omega (arith, a))
+read_width text at (p ∷ ps) rest place b =
+    let more = read_width b.0 p.to ps rest place b.2 in
+    let gap = gap_text b.1.blanks in
+    let whole : gap ++ (b.1.word ++ (more.0 ++ rest)) ≡ (gap ++ (b.1.word ++ more.0)) ++ rest = simp (append_assoc) in
+    let w = width-append gap (b.1.word ++ more.0) in
+    let v = width-append b.1.word more.0 in
+    let f = b.1.from in
+    let t = b.1.to in
+    let m = more.2 in
+    (gap ++ (b.1.word ++ more.0), b.1.is ∙ ap (λ xs. gap ++ (b.1.word ++ xs)) more.1 ∙ whole, omega (arith, w, v, f, t, m))
+
+module _ (bytes : List ℕ) (utf8 : IsUtf8 bytes) (front word after : List ℕ) (whole : chars bytes ≡ front ++ (word ++ after)) (s : Spelled) (from : s.from ≡ width front) (to : s.to ≡ s.from + width word) where
+  word_in : IsWordIn bytes word s
+  word_in =
+      let long : s.to - s.from ≡ width word = omega (arith, to) in
+      let w = width-append front word in
+      let both : s.to ≡ width (front ++ word) = omega (arith, w, from, to) in
+      record {
+        from = subst (IsCharBoundary bytes) (sym from) (boundary_behind bytes front (word ++ after) utf8 whole);
+        to = subst (IsCharBoundary bytes) (sym both) (boundary_behind bytes (front ++ word) after utf8 (whole ∙ sym (append_assoc front word after)));
+        is = ap (λ n. take n (drop s.from bytes)) long ∙ ap (λ n. take (width word) (drop n bytes)) from ∙ bytes_behind bytes front word after utf8 whole;
+      }
+
+pub next_word : (bytes text : List ℕ) → IsUtf8 bytes → text ≡ chars bytes → (ps : List Piece) (rest : List ℕ) (at : ℕ) → Behind text 0 ps rest at → (s : Spelled) → IsNext rest at s → IsWordIn bytes (word_of rest s) s
+next_word bytes text utf8 same ps rest at read s next =
+    let r = read_width text 0 ps rest at read in
+    let w = width-append r.0 (take s.gap rest) in
+    let f = next.from in
+    let a = r.2 in
+    let whole = sym same ∙ r.1 ∙ ap (λ xs. r.0 ++ xs) (sym (take-append-drop s.gap rest)) ∙ sym (append_assoc r.0 (take s.gap rest) (body_of rest s))
+    ∙ ap (λ xs. (r.0 ++ take s.gap rest) ++ xs) (sym (take-append-drop s.count (body_of rest s))) in
+    word_in bytes utf8 (r.0 ++ take s.gap rest) (word_of rest s) (drop s.count (body_of rest s)) whole s (omega (arith, w, f, a)) next.to
 
 -- names are only added
 with_extends : (names : List (List ℕ)) (text : List ℕ) → Extends names (with_name names text)

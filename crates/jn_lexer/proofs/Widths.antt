@@ -1,9 +1,9 @@
 -- How many bytes characters are.
-use Rattle.std.proofs.Common.{◌≡◌, ℕ, zero, suc, ◌+◌, ◌<◌, ◌≤◌, List, [], ◌∷◌, ◌++◌, length, take, drop, sym, ap, ◌∙◌, arith, length-append}
-use Rattle.std.specs.Prelude.{get_or, encode_utf8, encode_utf8_all, slice_get, Some, chars, IsUtf8}
+use Rattle.std.proofs.Common.{◌≡◌, ℕ, zero, suc, ◌+◌, ◌<◌, ◌≤◌, List, [], ◌∷◌, ◌++◌, length, take, drop, refl, sym, ap, ◌∙◌, subst, arith, length-append}
+use Rattle.std.specs.Prelude.{get_or, encode_utf8, encode_utf8_all, slice_get, Some, chars, IsUtf8, IsCharBoundary}
 use Rattle.std.specs.Char.{len_utf8}
-use Rattle.std.proofs.lemmas.Str.{encodes-append, length-encode, encodes-chars, length-le-encodes}
-use Rattle.std.proofs.lemmas.List.{take-append-drop}
+use Rattle.std.proofs.lemmas.Str.{encodes-append, length-encode, encodes-chars, length-le-encodes, IsUtf8-past_char, IsCharBoundary-at_seam}
+use Rattle.std.proofs.lemmas.List.{take-append-drop, append_assoc, take_at, drop_at}
 use Rattle.jn_lexer.specs.Characters.{width}
 
 pub width-append : (xs ys : List ℕ) → width (xs ++ ys) ≡ width xs + width ys
@@ -38,3 +38,23 @@ width-chars text u = ap length (encodes-chars text u)
 
 pub length-width : (xs : List ℕ) → length xs ≤ width xs
 length-width xs = length-le-encodes xs
+
+-- what stands behind characters of a text in UTF-8 is in UTF-8
+utf8_behind : (xs rest : List ℕ) → IsUtf8 (encode_utf8_all xs ++ rest) → IsUtf8 rest
+utf8_behind [] rest u = u
+utf8_behind (x ∷ xs) rest u = utf8_behind xs rest (IsUtf8-past_char (encode_utf8_all (x ∷ xs) ++ rest) (encode_utf8_all xs ++ rest) x u (append_assoc (encode_utf8 x) (encode_utf8_all xs) rest))
+
+-- a text may be cut behind any of its characters
+pub boundary_behind : (bytes xs ys : List ℕ) → IsUtf8 bytes → chars bytes ≡ xs ++ ys → IsCharBoundary bytes (width xs)
+boundary_behind bytes xs ys u e =
+    let cut : bytes ≡ encode_utf8_all xs ++ encode_utf8_all ys = sym (encodes-chars bytes u) ∙ ap encode_utf8_all e ∙ encodes-append xs ys in
+    IsCharBoundary-at_seam bytes (encode_utf8_all xs) (encode_utf8_all ys) cut (utf8_behind xs (encode_utf8_all ys) (subst IsUtf8 cut u))
+
+-- the bytes of the characters that stand behind others
+pub bytes_behind : (bytes xs ys zs : List ℕ) → IsUtf8 bytes → chars bytes ≡ xs ++ (ys ++ zs) → take (width ys) (drop (width xs) bytes) ≡ encode_utf8_all ys
+bytes_behind bytes xs ys zs u e =
+    let cut : bytes ≡ encode_utf8_all xs ++ (encode_utf8_all ys ++ encode_utf8_all zs) =
+    sym (encodes-chars bytes u) ∙ ap encode_utf8_all e ∙ encodes-append xs (ys ++ zs) ∙ ap (λ bs. encode_utf8_all xs ++ bs) (encodes-append ys zs) in
+    ap (λ bs. take (width ys) (drop (width xs) bs)) cut
+    ∙ ap (take (width ys)) (drop_at (encode_utf8_all xs) (encode_utf8_all ys ++ encode_utf8_all zs) (width xs) refl)
+    ∙ take_at (encode_utf8_all ys) (encode_utf8_all zs) (width ys) refl

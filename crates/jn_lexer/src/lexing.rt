@@ -1,5 +1,5 @@
 //! Texts as tokens.
-ghost use Rattle.std.specs.Prelude.{◌≡◌, ◌+◌, ◌-◌, ◌≤◌, ◌<◌, ◌^◌, false, length, chars, IfOk, IfErr, IfSome, OnOk, OnErr, MatchOption, MatchResult, take, drop, slice_get, Some, ℕ};
+ghost use Rattle.std.specs.Prelude.{◌≡◌, ◌+◌, ◌-◌, ◌≤◌, ◌<◌, ◌^◌, false, length, chars, encode_utf8_all, IfOk, IfErr, IfSome, OnOk, OnErr, MatchOption, MatchResult, take, drop, slice_get, Some, ℕ};
 ghost use Rattle.jn_trees.specs.Names.{Extends};
 ghost use Rattle.jn_lexer.specs.Characters.{width};
 ghost use Rattle.jn_lexer.specs.Faults.{LexicalFault, HasNoUnicodeEscape, IsFirstEscape, IsTokenFault, IsAtCharacter};
@@ -11,7 +11,7 @@ ghost use Rattle.jn_lexer.specs.Scan.{escape_at};
 use crate::characters::width;
 use crate::gap::gap_len;
 use crate::shape::{Fault, Shape, Spelled};
-use crate::strings::{text_of, value_of};
+use crate::strings::value_of;
 use crate::words::token_at;
 use jn_base::{Code, Fail, FileNo, OutOfMemory, Row, Span};
 use jn_trees::{Names, Token, TokenKind};
@@ -66,23 +66,25 @@ fn row_at(text: &[char], file: FileNo, at: u32, fault: Fault) -> Row
     }
 }
 
-/// The kind of the token that the word spells; its text is numbered in `names`. On want of memory the names are as before.
+/// The kind of the token that the word spells; its text, an identifier's as it is `spelled`, is numbered in `names`.
+/// On want of memory the names are as before.
 fn kind_of(
     alloc: Global,
     shape: Shape,
     word: &[char],
+    spelled: &str,
     names: &mut Names,
 ) -> Result<TokenKind, OutOfMemory>
     requires room { length names.old < 2 ^ 32 - 1 }
     requires quotes { HasQuotes shape word.now }
+    requires bytes { spelled.now ≡ encode_utf8_all word.now }
     ensures kind { IfOk result (λ kind. kind ≡ kind_of names.old (lexeme_of shape word.now)) }
     ensures names { OnOk result (names.new ≡ names_with names.old (lexeme_of shape word.now)) }
     ensures unchanged { OnErr result (names.new ≡ names.old) }
 {
     match shape {
         Shape::Word => {
-            let text = text_of(alloc, word)?;
-            let name = names.intern(text.as_str())?;
+            let name = names.intern(spelled)?;
             Ok(TokenKind::Id(name))
         }
         Shape::Quoted => {
@@ -149,14 +151,16 @@ fn text_behind(text: &[char], next: Spelled) -> &[char]
     &body[next.count..]
 }
 
-/// The tokens of the characters.
+/// The tokens of the characters, which are those of `decoded`.
 fn tokens_of(
     alloc: Global,
+    decoded: &str,
     text: &[char],
     file: FileNo,
     names: &mut Names,
 ) -> Result<Vec<Token>, Fail<Row>>
-    requires { length names.old + width text.now < 2 ^ 32 - 1 }
+    requires same { text.now ≡ chars decoded.now }
+    requires room { length names.old + width text.now < 2 ^ 32 - 1 }
     ensures ok { IfOk result (λ tokens. IsLexing file text.now names.old tokens.items names.new) }
     ensures refused { IfErr result
         (λ fail. IfRefused fail (λ row. IsTokenFault file text.now row)) }
@@ -171,7 +175,8 @@ fn tokens_of(
             Ok(None) => return Ok(tokens),
             Err(row) => return Err(Fail::Refused(row)),
         };
-        let kind = match kind_of(alloc, next.shape, word_of(rest, next), names) {
+        let spelled = &decoded[next.from as usize..next.to as usize];
+        let kind = match kind_of(alloc, next.shape, word_of(rest, next), spelled, names) {
             Ok(kind) => kind,
             Err(_) => return Err(Fail::OutOfMemory),
         };
@@ -226,5 +231,5 @@ pub fn lex(
         };
         return Err(Fail::Refused(row_at(&text, file, 0, escape)));
     }
-    tokens_of(alloc, &text, file, names)
+    tokens_of(alloc, decoded, &text, file, names)
 }

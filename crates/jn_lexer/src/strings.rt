@@ -91,17 +91,6 @@ pub fn quoted_at(text: &[char]) -> Result<Found, Fault>
     }
 }
 
-/// The text of characters.
-pub fn text_of(alloc: Global, word: &[char]) -> Result<String, OutOfMemory>
-    ensures { IfOk result (λ text. string_bytes text ≡ encode_utf8_all word.now) }
-{
-    let mut text = String::with_capacity(alloc, word.len())?;
-    for c in word {
-        text.push(*c)?;
-    }
-    Ok(text)
-}
-
 /// What the inside of a string stands for.
 pub fn value_of(alloc: Global, inside: &[char]) -> Result<String, OutOfMemory>
     ensures { IfOk result

@@ -1,9 +1,10 @@
 use Rattle.std.proofs.Common.{◌≡◌, ◌∙◌, ◌+◌, ◌++◌, ◌∷◌, [], sym, ap, subst, arith, drop, length}
+use Rattle.std.specs.Prelude.{encode_utf8_all}
 use Rattle.jn_lexer.specs.Characters.{width}
 use Rattle.jn_lexer.specs.Lexed.{names_with, kind_of}
 use Rattle.jn_lexer.specs.Found.{IsNext, IsNextOrEnd, lexeme_of, word_of, body_of}
 use Rattle.jn_lexer.proofs.Widths.{length-width}
-use Rattle.jn_lexer.proofs.Reading.{IsRead, read_more, after_extends, more_extends, one_more, places_more, rest_shorter, token, piece_of}
+use Rattle.jn_lexer.proofs.Reading.{IsRead, read_more, next_word, after_extends, more_extends, one_more, places_more, rest_shorter, token, piece_of}
 use Rattle.jn_lexer.proofs.lexing.tokens_of.Goals as goal
 
 pub returns-in-Ok-None-clause-extends : goal.returns-in-Ok-None-clause-extends
@@ -12,13 +13,32 @@ returns-in-Ok-None-clause-extends c = let r = c.loop-next.invariant.read in let 
 pub returns-in-Err-clause-extends : goal.returns-in-Err-clause-extends
 returns-in-Err-clause-extends c = let r = c.loop-next.invariant.read in let e = after_extends c.args.names.now r.0 in (e.0, r.3 ∙ e.1)
 
+pub range-spelled-requires-clause-start_boundary : goal.range-spelled-requires-clause-start_boundary
+range-spelled-requires-clause-start_boundary c =
+    let n : IsNext c.loop-next.rest.now c.loop-next.at c.in-Ok-Some.next = subst (IsNextOrEnd c.loop-next.rest.now c.loop-next.at) c.in-Ok-Some.field-0-is c.in-Ok-Some.ensures in
+    let r = c.loop-next.invariant.read in
+    λ some. (next_word c.args.decoded.now c.args.text.now c.utf8.decoded c.requires.same r.0 c.loop-next.rest.now c.loop-next.at r.1 c.in-Ok-Some.next n).from
+
+pub range-spelled-requires-clause-end_boundary : goal.range-spelled-requires-clause-end_boundary
+range-spelled-requires-clause-end_boundary c =
+    let n : IsNext c.loop-next.rest.now c.loop-next.at c.in-Ok-Some.next = subst (IsNextOrEnd c.loop-next.rest.now c.loop-next.at) c.in-Ok-Some.field-0-is c.in-Ok-Some.ensures in
+    let r = c.loop-next.invariant.read in
+    (next_word c.args.decoded.now c.args.text.now c.utf8.decoded c.requires.same r.0 c.loop-next.rest.now c.loop-next.at r.1 c.in-Ok-Some.next n).to
+
+pub kind_of-requires-clause-bytes : goal.kind_of-requires-clause-bytes
+kind_of-requires-clause-bytes c =
+    let n : IsNext c.loop-next.rest.now c.loop-next.at c.in-Ok-Some.next = subst (IsNextOrEnd c.loop-next.rest.now c.loop-next.at) c.in-Ok-Some.field-0-is c.in-Ok-Some.ensures in
+    let r = c.loop-next.invariant.read in
+    let w = next_word c.args.decoded.now c.args.text.now c.utf8.decoded c.requires.same r.0 c.loop-next.rest.now c.loop-next.at r.1 c.in-Ok-Some.next n in
+    c.range-spelled.ensures.value ∙ w.is ∙ ap encode_utf8_all (sym c.word_of.ensures)
+
 pub kind_of-requires-clause-room : goal.kind_of-requires-clause-room
 kind_of-requires-clause-room c =
     let n : IsNext c.loop-next.rest.now c.loop-next.at c.in-Ok-Some.next = subst (IsNextOrEnd c.loop-next.rest.now c.loop-next.at) c.in-Ok-Some.field-0-is c.in-Ok-Some.ensures in
     let l = length-width c.args.text.now in
     let s = rest_shorter c.loop-next.rest.now c.loop-next.at c.in-Ok-Some.next n in
     let r = c.loop-next.invariant.room in
-    let f = c.requires in
+    let f = c.requires.room in
     omega (arith, l, s, r, f)
 
 pub returns-in-Err-kind_of-clause-extends : goal.returns-in-Err-kind_of-clause-extends
