@@ -30,11 +30,11 @@ ascii_white c = (nat_eq c 32 || nat_eq c 9 || nat_eq c 12) || (nat_eq c 10 || na
 abbrev pub is_mark : ℕ → Bool
 is_mark c = nat_lt c 128 && (not (ascii_start c) && (not (ascii_digit c) && not (nat_eq c 34)))
 
-start_ascii : (c : ℕ) → c < 128 → is_start c ≡ ascii_start c
+pub start_ascii : (c : ℕ) → c < 128 → is_start c ≡ ascii_start c
 unfolding is_start
 start_ascii c l = ap (λ b. b || nat_eq c 95 || nat_eq c 36) (is_xid_start-ascii c l)
 
-part_ascii : (c : ℕ) → c < 128 → is_part c ≡ ascii_part c
+pub part_ascii : (c : ℕ) → c < 128 → is_part c ≡ ascii_part c
 unfolding is_part
 part_ascii c l = ap (λ b. b || nat_eq c 36) (is_xid_continue-ascii c l)
 

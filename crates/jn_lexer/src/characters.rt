@@ -37,18 +37,24 @@ pub fn is_digit_or_low(c: char) -> bool
     is_digit(c) || c == '_'
 }
 
-#[tactic(auto, unfolding(crate::specs::Characters::is_start))]
+#[tactic(auto, using(crate::proofs::Classes::start_ascii), unfolding(crate::specs::Characters::is_start))]
 pub fn is_start(c: char) -> bool
     ensures { result ≡ is_start c }
 {
-    unicode_ident::is_xid_start(c) || c == '_' || c == '$'
+    if c.is_ascii() {
+        return c.is_ascii_alphabetic() | (c == '_') | (c == '$');
+    }
+    unicode_ident::is_xid_start(c)
 }
 
-#[tactic(auto, unfolding(crate::specs::Characters::is_part))]
+#[tactic(auto, using(crate::proofs::Classes::part_ascii), unfolding(crate::specs::Characters::is_part))]
 pub fn is_part(c: char) -> bool
     ensures { result ≡ is_part c }
 {
-    unicode_ident::is_xid_continue(c) || c == '$'
+    if c.is_ascii() {
+        return c.is_ascii_alphanumeric() | (c == '_') | (c == '$');
+    }
+    unicode_ident::is_xid_continue(c)
 }
 
 /// How many bytes the characters are in UTF-8.
