@@ -3,7 +3,7 @@ use Rattle.std.proofs.Common.{◌≡◌, ℕ, zero, suc, ◌+◌, ◌<◌, ◌�
 use Rattle.std.specs.Prelude.{get_or, encode_utf8, encode_utf8_all, slice_get, Some, chars, IsUtf8, IsCharBoundary}
 use Rattle.std.specs.Char.{len_utf8}
 use Rattle.std.proofs.lemmas.Str.{encodes-append, length-encode, encodes-chars, length-le-encodes, IsUtf8-past_char, IsCharBoundary-at_seam}
-use Rattle.std.proofs.lemmas.List.{take-append-drop, append_assoc, take_at, drop_at}
+use Rattle.std.proofs.lemmas.List.{take-append-drop, length-take-le, length-drop, append_assoc, take_at, drop_at}
 use Rattle.jn_lexer.specs.Characters.{width}
 
 pub width-append : (xs ys : List ℕ) → width (xs ++ ys) ≡ width xs + width ys
@@ -38,6 +38,16 @@ width-chars text u = ap length (encodes-chars text u)
 
 pub length-width : (xs : List ℕ) → length xs ≤ width xs
 length-width xs = length-le-encodes xs
+
+-- where there are as many bytes as characters, so there are in each front
+pub width_alone : (n : ℕ) (xs : List ℕ) → n ≤ length xs → width xs ≡ length xs → n ≡ width (take n xs)
+width_alone n xs l e =
+    let s = width-split n xs in
+    let a = length-width (take n xs) in
+    let b = length-width (drop n xs) in
+    let t = length-take-le n xs l in
+    let d = length-drop n xs in
+    omega (arith, l, e, s, a, b, t, d)
 
 -- what stands behind characters of a text in UTF-8 is in UTF-8
 utf8_behind : (xs rest : List ℕ) → IsUtf8 (encode_utf8_all xs ++ rest) → IsUtf8 rest

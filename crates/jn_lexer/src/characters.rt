@@ -1,5 +1,5 @@
 //! Classes of characters.
-ghost use Rattle.std.specs.Prelude.{◌≡◌, ◌^◌, ◌<◌};
+ghost use Rattle.std.specs.Prelude.{◌≡◌, ◌≤◌, ◌^◌, ◌<◌, ◌+◌, length, take, drop};
 ghost use Rattle.jn_lexer.specs.Characters.{is_line_end, is_in_line, is_white, is_digit, is_digit_or_low, is_start, is_part, width};
 
 #[tactic(auto, unfolding(crate::specs::Characters::is_line_end))]
@@ -67,4 +67,21 @@ pub fn width(text: &[char]) -> usize
         bytes += c.len_utf8();
     }
     bytes
+}
+
+/// How many bytes the first `count` characters of a text are in UTF-8, where the whole text has so many `bytes`.
+///
+/// A text that has no more bytes than characters has one byte for each, so its characters aren't read.
+pub fn front_width(text: &[char], count: usize, bytes: usize) -> usize
+    requires within { count ≤ length text.now }
+    requires whole { bytes ≡ width text.now }
+    requires fits { bytes < 2 ^ 32 }
+    ensures value { result ≡ width (take count text.now) }
+    ensures rest { result + width (drop count text.now) ≡ bytes }
+{
+    if bytes == text.len() {
+        count
+    } else {
+        width(&text[..count])
+    }
 }

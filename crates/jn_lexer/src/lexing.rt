@@ -8,7 +8,7 @@ ghost use Rattle.jn_lexer.specs.Lexed.{Lexed, names_with, kind_of, IsLexing};
 ghost use Rattle.jn_lexer.specs.Found.{lexeme_of, body_of, word_of, HasQuotes, IsNextOrEnd, IsFaultNext};
 ghost use Rattle.jn_lexer.specs.Scan.{escape_at};
 
-use crate::characters::width;
+use crate::characters::{front_width, width};
 use crate::gap::gap_len;
 use crate::shape::{Fault, Shape, Spelled};
 use crate::strings::value_of;
@@ -97,9 +97,10 @@ fn kind_of(
     }
 }
 
-/// The next token of a text whose first byte is `at`; none at its end.
-fn next_token(text: &[char], file: FileNo, at: u32) -> Result<Option<Spelled>, Row>
-    requires { at + width text.now < 2 ^ 32 }
+/// The next token of a text of so many bytes, the first of which is `at`; none at its end.
+fn next_token(text: &[char], file: FileNo, at: u32, bytes: usize) -> Result<Option<Spelled>, Row>
+    requires whole { bytes ≡ width text.now }
+    requires fits { at + bytes < 2 ^ 32 }
     ensures { MatchResult result (λ next. IsNextOrEnd text.now at next)
         (λ row. IsFaultNext file text.now at row) }
 {
@@ -113,14 +114,15 @@ fn next_token(text: &[char], file: FileNo, at: u32) -> Result<Option<Spelled>, R
             return Err(row_at(text, file, at, open));
         }
     };
-    let from = at + width(&text[..gap]) as u32;
+    let before = front_width(text, gap, bytes);
+    let from = at + before as u32;
     let body = &text[gap..];
     if body.len() == 0 {
         return Ok(None);
     }
     match token_at(body) {
         Ok(found) => {
-            let to = from + width(&body[..found.count]) as u32;
+            let to = from + front_width(body, found.count, bytes - before) as u32;
             Ok(Some(Spelled {
                 shape: found.shape,
                 gap,
@@ -160,7 +162,7 @@ fn tokens_of(
     names: &mut Names,
 ) -> Result<Vec<Token>, Fail<Row>>
     requires same { text.now ≡ chars decoded.now }
-    requires room { length names.old + width text.now < 2 ^ 32 - 1 }
+    requires room { length names.old + length decoded.now < 2 ^ 32 - 1 }
     ensures ok { IfOk result (λ tokens. IsLexing file text.now names.old tokens.items names.new) }
     ensures refused { IfErr result
         (λ fail. IfRefused fail (λ row. IsTokenFault file text.now row)) }
@@ -170,7 +172,8 @@ fn tokens_of(
     let mut rest = text;
     let mut at = 0;
     loop {
-        let next = match next_token(rest, file, at) {
+        let bytes = decoded.len() - at as usize;
+        let next = match next_token(rest, file, at, bytes) {
             Ok(Some(next)) => next,
             Ok(None) => return Ok(tokens),
             Err(row) => return Err(Fail::Refused(row)),

@@ -16,14 +16,6 @@ row_at-requires-clause-fits c =
     let f = c.requires in
     omega (arith, w, f)
 
-pub tokens_of-requires-clause-room : goal.tokens_of-requires-clause-room
-tokens_of-requires-clause-room c =
-    let h = c.in-Ok.ensures.cases in
-    let e : c.deref-2.result.now ≡ chars c.args.text.now = c.deref-2.ensures.value ∙ c.in-Ok-characters.ensures ∙ ap chars h.0 in
-    let w = ap width e ∙ width-chars c.args.text.now h.1 in
-    let f = c.requires in
-    omega (arith, w, f)
-
 pub tokens_of-requires-clause-same : goal.tokens_of-requires-clause-same
 tokens_of-requires-clause-same c = c.deref-2.ensures.value ∙ c.in-Ok-characters.ensures
 

@@ -1,11 +1,17 @@
-use Rattle.std.proofs.Common.{◌≡◌, ◌∙◌, ◌+◌, ◌++◌, ◌∷◌, [], sym, ap, subst, arith, drop, length}
+use Rattle.std.proofs.Common.{◌≡◌, ◌∙◌, ◌+◌, ◌++◌, ◌∷◌, [], refl, sym, ap, subst, arith, drop, length}
 use Rattle.std.specs.Prelude.{encode_utf8_all}
 use Rattle.jn_lexer.specs.Characters.{width}
 use Rattle.jn_lexer.specs.Lexed.{names_with, kind_of}
 use Rattle.jn_lexer.specs.Found.{IsNext, IsNextOrEnd, lexeme_of, word_of, body_of}
-use Rattle.jn_lexer.proofs.Widths.{length-width}
+use Rattle.jn_lexer.proofs.Widths.{length-width, width-chars}
 use Rattle.jn_lexer.proofs.Reading.{IsRead, read_more, next_word, after_extends, more_extends, one_more, places_more, rest_shorter, token, piece_of}
 use Rattle.jn_lexer.proofs.lexing.tokens_of.Goals as goal
+
+pub loop-next-init : goal.loop-next-init
+loop-next-init c =
+    let w = ap width c.requires.same ∙ width-chars c.args.decoded.now c.utf8.decoded in
+    let l = length-width c.args.text.now in
+    record { read = ([], (refl, refl), c.new-tokens.ensures.items, refl); places = omega (arith, w); room = omega (arith, w, l) }
 
 pub returns-in-Ok-None-clause-extends : goal.returns-in-Ok-None-clause-extends
 returns-in-Ok-None-clause-extends c = let r = c.loop-next.invariant.read in let e = after_extends c.args.names.now r.0 in (e.0, r.3 ∙ e.1)
@@ -35,11 +41,10 @@ kind_of-requires-clause-bytes c =
 pub kind_of-requires-clause-room : goal.kind_of-requires-clause-room
 kind_of-requires-clause-room c =
     let n : IsNext c.loop-next.rest.now c.loop-next.at c.in-Ok-Some.next = subst (IsNextOrEnd c.loop-next.rest.now c.loop-next.at) c.in-Ok-Some.field-0-is c.in-Ok-Some.ensures in
-    let l = length-width c.args.text.now in
     let s = rest_shorter c.loop-next.rest.now c.loop-next.at c.in-Ok-Some.next n in
     let r = c.loop-next.invariant.room in
     let f = c.requires.room in
-    omega (arith, l, s, r, f)
+    omega (arith, s, r, f)
 
 pub returns-in-Err-kind_of-clause-extends : goal.returns-in-Err-kind_of-clause-extends
 returns-in-Err-kind_of-clause-extends c = let r = c.loop-next.invariant.read in let e = after_extends c.args.names.now r.0 in (e.0, c.in-Err-kind_of.ensures.unchanged ∙ r.3 ∙ e.1)

@@ -6,8 +6,8 @@ use Rattle.jn_lexer.proofs.lexing.tokens_of.Given as goal
 abbrev pub invariant-loop-next : goal.invariant-loop-next
 invariant-loop-next l = record {
   read : IsRead l.file l.text l.fn.names l.rest l.at l.tokens.items l.names;
-  places : l.at + width l.rest ≡ width l.text;
-  room : length l.names + length l.rest ≤ length l.fn.names + length l.text;
+  places : l.at + width l.rest ≡ length l.decoded;
+  room : length l.names + length l.rest ≤ length l.fn.names + length l.decoded;
 }
 
 abbrev pub decreases-loop-next : goal.decreases-loop-next
