@@ -1,6 +1,7 @@
 pub mod Going
 pub mod Rows
 pub mod Parts
+pub mod Levels
 pub mod Annotated
 pub mod Heads
 pub mod Behind

@@ -10,7 +10,7 @@ use Rattle.jn_trees.specs.Spelling.{spell}
 use Rattle.jn_trees.specs.WellFormed.{nesting, nesting_all}
 use Rattle.jn_trees.specs.View.{view, views}
 use Rattle.jn_trees.specs.Longest.{Try}
-use Rattle.jn_parse_expr_law.specs.Reader.{Got, TryAll, Reader, iterate, extend, go_on, bind_all, add_first, items_behind, items_from, all_items, head, link, primary, grow, choose, assign, unary, reader, operand_at}
+use Rattle.jn_parse_expr_law.specs.Reader.{Got, TryAll, Reader, extend, go_on, bind_all, add_first, items_behind, items_from, all_items, head, link, primary, choose, assign, unary, reader, operand_at}
 use Rattle.jn_parse_expr_law.proofs.Sound.{Sound, sound}
 use Rattle.jn_parse_expr.specs.Steps.{ReadAs, or_else, prepend, joined}
 use Rattle.jn_parse_expr.proofs.Going.{Going, GoingAll}
@@ -39,25 +39,8 @@ pub unary_is : (d k : ℕ) (ts : List TokenKind) → 0 < d → k ≡ 0 → unary
 unary_is zero k ts lt e = absurd (omega (arith, lt))
 unary_is (suc d) k ts lt e = ap (λ n. unary (reader n) (suc d) ts) (sym (back d)) ∙ ap (λ j. operand_at (reader d) (suc d) j ts) (sym e)
 
-pub operand_starts : (d k : ℕ) (ts : List TokenKind) (l : Tree) (rest : List TokenKind) → 0 < d → 0 < k → (reader d).operand (k - 1) ts ≡ Some (l, rest) → (deep : ℕ) → Going (grow (reader (d - 1)) d (k - 1)) d deep (l, rest) ((reader d).operand k ts)
-operand_starts zero k ts l rest lt some e deep = absurd (omega (arith, lt))
-operand_starts (suc d) zero ts l rest lt some e deep = absurd (omega (arith, some))
-operand_starts (suc d) (suc k) ts l rest lt some e deep = record {
-  n = suc d;
-  room = omega arith;
-  gives =
-      ap (λ o. go_on (grow (reader d) (suc d) k) (suc d) o) (ap (λ j. operand_at (reader d) (suc d) j ts) (back k) ∙ e)
-      ∙ ap (λ n. Some (iterate (grow (reader n) (suc d) k) (suc d) (l, rest))) (back d)
-      ∙ ap (λ j. Some (iterate (grow (reader (suc d - 1)) (suc d) j) (suc d) (l, rest))) (back k);
-}
-
 pub primary_starts : (R : Reader) (d : ℕ) (ts : List TokenKind) (l : Tree) (rest : List TokenKind) → head R ts ≡ Some (l, rest) → (deep : ℕ) → Going (link R d) d deep (l, rest) (primary R d ts)
 primary_starts R d ts l rest e deep = record { n = d; room = omega arith; gives = ap (λ o. go_on (link R d) d o) e }
-
-pub operand_none : (d k : ℕ) (ts : List TokenKind) → 0 < k → (reader d).operand (k - 1) ts ≡ None → (reader d).operand k ts ≡ None
-operand_none zero k ts some e = refl
-operand_none (suc d) zero ts some e = absurd (omega (arith, some))
-operand_none (suc d) (suc k) ts some e = ap (λ o. go_on (grow (reader d) (suc d) k) (suc d) o) (ap (λ j. operand_at (reader d) (suc d) j ts) (back k) ∙ e)
 
 -- lists
 pub items_start : (one : List TokenKind → Try) (ts : List TokenKind) (es : List Expr) → es ≡ [] → GoingAll one (views es) ts (all_items one ts)

@@ -14,11 +14,11 @@ use Rattle.jn_trees.specs.declared.expression.UnaryOperator.TheVariants.{Plus as
 use Rattle.jn_trees.specs.declared.expression.BinaryOperator.{BinaryOperator}
 use Rattle.jn_trees.specs.Trees.{Tree, Trees, LiteralTree, NameTree, ThisTree, ParenTree, FieldTree, CallTree, OwnCallTree, IndexTree, PostfixTree, UnaryTree, CastTree, BinaryTree, InstanceOfTree, ConditionalTree, AssignTree, NoTrees, MoreTrees}
 use Rattle.jn_trees.specs.Spelling.{spell_list}
-use Rattle.jn_trees.specs.WellFormed.{nesting, nesting_all}
+use Rattle.jn_trees.specs.WellFormed.{nesting, nesting_all, power}
 use Rattle.jn_trees.specs.View.{view, views, annotation_names, base_view}
 use Rattle.jn_trees.specs.Longest.{Try}
 use Rattle.jn_trees.specs.Pieces.{kinds}
-use Rattle.jn_parse_expr_law.specs.Reader.{base_of, build, or_least, TryAll, Sign, NoSign, OperatorSign, TestSign}
+use Rattle.jn_parse_expr_law.specs.Reader.{base_of, build, or_least, TryAll, Sign, sign, NoSign, OperatorSign, TestSign}
 use Rattle.jn_parse_expr.specs.declared.tail.Tail.{Tail}
 use Rattle.jn_parse_expr.specs.declared.tail.Tail.TheVariants.{Field, Call, Index, Step, Cast, Operand, Class, Choice, Value}
 use Rattle.jn_parse_expr.specs.declared.primary.Primary.{Primary}
@@ -71,6 +71,17 @@ sign_as None NoSign = Unit {0}
 sign_as None (OperatorSign o) = ⊥
 sign_as None TestSign = Unit {0}
 sign_as (Some o) s = s ≡ OperatorSign o
+
+-- how weakly an operator between operands binds; 0 where there is none
+abbrev pub sign_power : Sign → ℕ
+sign_power NoSign = 0
+sign_power (OperatorSign o) = power o
+sign_power TestSign = 3
+
+-- how weakly the operator at the front binds
+abbrev pub front_power : List TokenKind → ℕ
+front_power [] = 0
+front_power (k ∷ ts) = sign_power (sign k)
 
 -- the sign that a token is before an operand
 abbrev pub sign_before : TokenKind → Option UnaryOperator

@@ -4,7 +4,7 @@ ghost use Rattle.jn_trees.specs.Trees.{Tree};
 ghost use Rattle.jn_trees.specs.WellFormed.{nesting};
 ghost use Rattle.jn_trees.specs.Pieces.{kinds};
 ghost use Rattle.jn_parse_expr_law.specs.Reader.{reader, sign, grow, grow_by, OperatorSign, test};
-ghost use Rattle.jn_parse_expr.specs.Steps.{ReadAs, TailAs, sign_as};
+ghost use Rattle.jn_parse_expr.specs.Steps.{ReadAs, TailAs, sign_as, sign_power, front_power};
 
 use crate::tail::{Tail, attach, front};
 use crate::unary::read_unary;
@@ -35,6 +35,26 @@ fn binary_operator(kind: TokenKind) -> Option<BinaryOperator>
     }
 }
 
+/// The power of the operator that a token is, where `instanceof` is one; 0 where it is none.
+fn power_of(kind: TokenKind) -> u32
+    ensures { result ≡ sign_power (sign kind) }
+{
+    match binary_operator(kind) {
+        Some(operator) => operator.power(),
+        None => { if kind == TokenKind::Instanceof { 3 } else { 0 } }
+    }
+}
+
+/// The power of the operator at the front; 0 where none stands there.
+fn power_at(tokens: &[Token]) -> u32
+    ensures { result ≡ front_power (kinds tokens.now) }
+{
+    match front(tokens) {
+        None => 0,
+        Some((first, _)) => power_of(first),
+    }
+}
+
 /// The longest operand whose operators have at most this power; with power 0 a unary expression.
 #[cycle(parser)]
 pub fn read_operand(
@@ -52,19 +72,26 @@ pub fn read_operand(
     if power == 0 {
         return read_unary(alloc, tokens, depth);
     }
-    match read_operand(alloc, tokens, power - 1, depth)? {
+    match read_unary(alloc, tokens, depth)? {
         None => Ok(None),
         Some((first, first_nested, first_rest)) => {
             let mut left = first;
             let mut nested = first_nested;
             let mut rest = first_rest;
+            // The operators of this power and of lower ones are read.
+            let mut level = 0;
             'operators: loop {
-                match grow_tail(alloc, nested, rest, power - 1, depth)? {
+                let next = power_at(rest);
+                if next <= level || next > power {
+                    return Ok(Some((left, nested, rest)));
+                }
+                match grow_tail(alloc, nested, rest, next - 1, depth)? {
                     None => return Ok(Some((left, nested, rest))),
                     Some((tail, deeper, after)) => {
                         left = attach(alloc, tokens, left, tail, after)?;
                         nested = deeper;
                         rest = after;
+                        level = next - 1;
                     }
                 }
             }

@@ -1,4 +1,4 @@
-use Rattle.std.proofs.Common.{◌≡◌, rules, ◌-◌, ◌<◌, List, [], ◌∷◌, sym, subst, ap, ◌∙◌, arith, length, ◌++◌, Some, None, IfOk, suc, max}
+use Rattle.std.proofs.Common.{◌≡◌, refl, rules, ◌-◌, ◌<◌, List, [], ◌∷◌, sym, subst, ap, ◌∙◌, arith, length, ◌++◌, Some, None, IfOk, suc, max}
 use Rattle.std.proofs.lemmas.List.{length-map}
 use Rattle.jn_trees.specs.declared.token.Token.{Token}
 use Rattle.jn_trees.specs.declared.token.TokenKind.TheVariants.{Id, LeftBracket, RightBracket}
@@ -7,14 +7,16 @@ use Rattle.jn_trees.specs.Trees.{Tree, SuperCallTree, NewTree, ArrayOfTree, Pref
 use Rattle.jn_trees.specs.WellFormed.{nesting, nesting_all}
 use Rattle.jn_trees.specs.View.{view, views, annotation_names, base_view}
 use Rattle.jn_trees.specs.Pieces.{kinds}
-use Rattle.jn_parse_expr_law.specs.Reader.{reader, choose, assign, grow, link, primary, trim, prefix, build, build_all, head, super_call, creation, annotations, array_behind, arguments, arguments_in, elements_in, all_items}
+use Rattle.jn_parse_expr_law.specs.Reader.{Got, reader, choose, assign, grow, link, primary, trim, prefix, build, build_all, head, super_call, creation, annotations, array_behind, arguments, arguments_in, elements_in, all_items}
 use Rattle.jn_parse_expr_law.proofs.Sound.{sound}
 use Rattle.jn_parse_expr.specs.Steps.{ReadAs, TailAs, IsLinked, signed_by}
 use Rattle.jn_parse_expr.proofs.Going.{stopped, went}
 use Rattle.jn_parse_expr.proofs.Linked.{head_linked, link_linked}
 use Rattle.jn_parse_expr.proofs.Heads.{creation_is, from_none, from_some, left_is, prefix_sign, prefix_step}
-use Rattle.jn_parse_expr.proofs.Parts.{read_moves, conditional_is, whole_is, unary_is, operand_starts, operand_none, primary_starts, items_start, items_end, items_go, read_shorter, nesting_push}
+use Rattle.jn_parse_expr.proofs.Parts.{read_moves, conditional_is, whole_is, unary_is, primary_starts, items_start, items_end, items_go, read_shorter, nesting_push}
+use Rattle.jn_parse_expr.proofs.Levels.{Ended, operand_starts, operand_none, climbs, climbed, ended_above, ended_below, ended_at}
 use Rattle.jn_parse_expr.proofs.+parser.Goals as goal
+use Rattle.jn_parse_expr.proofs.+parser.Goals.{operators::read_operand-then-next-level-via-then-next-level, operators::read_operand-then-next-level-via-else-next-level+then-next-power}
 
 pub whole::read_conditional-returns-in_ok-go_with-in-Some : goal.whole::read_conditional-returns-in_ok-go_with-in-Some
 whole::read_conditional-returns-in_ok-go_with-in-Some t c =
@@ -37,38 +39,65 @@ operators::read_operand-returns-then-power-eq0 t c =
 
 pub operators::read_operand-operators-init : goal.operators::read_operand-operators-init
 operators::read_operand-operators-init t c =
-    let h = rw c.in-Some.is at c.in_ok-read_operand.ensures in
+    let h = rw c.in-Some.is at c.in_ok-read_unary.ensures in
     let deep : 0 < c.args.depth = omega (arith, c.if-depth-eq0.false) in
-    let some : 0 < c.args.power = omega (arith, c.if-power-eq0.false) in
     record {
       some_depth = deep;
-      some_power = some;
+      lower = omega (arith, c.if-power-eq0.false);
       small = c.requires;
       fits = h.2;
       nests = h.1;
-      on = operand_starts c.args.depth c.args.power (kinds c.args.tokens.now) (view c.in-Some.first.value) (kinds c.in-Some.first_rest.now) deep some h.0 c.in-Some.first_nested;
+      on = operand_starts c.args.depth 0 (kinds c.args.tokens.now) (view c.in-Some.first.value, kinds c.in-Some.first_rest.now) deep
+          (sym (unary_is c.args.depth 0 (kinds c.args.tokens.now) deep refl) ∙ h.0) c.in-Some.first_nested;
     }
 
 pub operators::read_operand-operators-preserved : goal.operators::read_operand-operators-preserved
 operators::read_operand-operators-preserved t c =
     let inv = c.operators.invariant in
+    let next = c.power_at-next.result in
+    let got : Got = (view c.operators.left.value, kinds c.operators.rest.now) in
     let h = rw c.in-Some-2.is at (c.in_ok-grow_tail-in-Some.ensures.gives (view c.operators.left.value) inv.nests) in
     let rises = rw c.in-Some-2.is at c.in_ok-grow_tail-in-Some.ensures.rises in
     let built = c.in_ok-left-in-Some-2.ensures in
     record {
       some_depth = inv.some_depth;
-      some_power = inv.some_power;
+      lower = omega (arith, c.if-next-level.false, c.if-next-power.false);
       small = inv.small;
       fits = h.2;
       nests = h.1 ∙ ap nesting (sym built);
-      on = went (grow (reader (c.args.depth - 1)) c.args.depth (c.args.power - 1)) c.args.depth c.operators.nested c.in-Some-2.deeper
-          (view c.operators.left.value, kinds c.operators.rest.now) (view c.in_ok-left-in-Some-2.left.value, kinds c.in-Some-2.after.now) ((reader c.args.depth).operand c.args.power (kinds c.args.tokens.now))
-          inv.on (h.0 ∙ ap (λ x. Some (x, kinds c.in-Some-2.after.now)) (sym built)) (omega (arith, rises, h.2)) rises;
+      on = went (grow (reader (c.args.depth - 1)) c.args.depth (next - 1)) c.args.depth c.operators.nested c.in-Some-2.deeper
+          got (view c.in_ok-left-in-Some-2.left.value, kinds c.in-Some-2.after.now) ((reader c.args.depth).operand (suc (next - 1)) (kinds c.args.tokens.now))
+          (climbs c.args.depth c.operators.nested got (kinds c.args.tokens.now) inv.some_depth c.operators.level (next - 1) (omega (arith, c.if-next-level.false))
+          inv.on (ended_above c.args.depth got c.operators.level (next - 1) next c.power_at-next.ensures (omega (arith, c.if-next-level.false))))
+          (h.0 ∙ ap (λ x. Some (x, kinds c.in-Some-2.after.now)) (sym built)) (omega (arith, rises, h.2)) rises;
     }
+
+pub operators::read_operand-returns-then-next-level : goal.operators::read_operand-returns-then-next-level
+operators::read_operand-returns-then-next-level t c =
+    let inv = c.operators.invariant in
+    let next = c.power_at-next.result in
+    let got : Got = (view c.operators.left.value, kinds c.operators.rest.now) in
+    let ended : Ended c.args.depth got c.operators.level c.args.power = elim c.then-next-level.branch [
+      | operators::read_operand-then-next-level-via-then-next-level w ↦ ended_below c.args.depth got c.operators.level c.args.power next c.power_at-next.ensures w.if-next-level.true
+      | operators::read_operand-then-next-level-via-else-next-level+then-next-power w ↦ ended_above c.args.depth got c.operators.level c.args.power next c.power_at-next.ensures w.if-next-power.true
+    ] in
+    (climbed c.args.depth c.operators.nested got (kinds c.args.tokens.now) inv.some_depth c.operators.level c.args.power inv.lower inv.on ended, inv.nests, inv.fits)
+
+pub operators::read_operand-returns-in-None-2 : goal.operators::read_operand-returns-in-None-2
+operators::read_operand-returns-in-None-2 t c =
+    let inv = c.operators.invariant in
+    let next = c.power_at-next.result in
+    let got : Got = (view c.operators.left.value, kinds c.operators.rest.now) in
+    let none = rw c.in-None-2.is at (c.in_ok-grow_tail-in-Some.ensures.gives (view c.operators.left.value) inv.nests) in (
+      climbed c.args.depth c.operators.nested got (kinds c.args.tokens.now) inv.some_depth c.operators.level c.args.power inv.lower inv.on
+          (ended_at c.args.depth got c.operators.level c.args.power next c.power_at-next.ensures (omega (arith, c.if-next-level.false)) none),
+      inv.nests,
+      inv.fits,
+    )
 
 pub operators::read_operand-returns : goal.operators::read_operand-returns
 operators::read_operand-returns t c =
-    operand_none c.args.depth c.args.power (kinds c.args.tokens.now) (omega (arith, c.if-power-eq0.false)) (rw c.in-None.is at c.in_ok-read_operand.ensures)
+    operand_none c.args.depth c.args.power (kinds c.args.tokens.now) (omega (arith, c.if-depth-eq0.false)) (rw c.in-None.is at c.in_ok-read_unary.ensures)
 
 pub primary::read_primary-links-init : goal.primary::read_primary-links-init
 primary::read_primary-links-init t c =

@@ -2,9 +2,10 @@ use Rattle.std.proofs.Common.{◌≡◌, ◌+◌, ◌-◌, ◌*◌, ◌<◌, ◌
 use Rattle.jn_trees.specs.WellFormed.{nesting, nesting_all}
 use Rattle.jn_trees.specs.View.{view, views}
 use Rattle.jn_trees.specs.Pieces.{kinds}
-use Rattle.jn_parse_expr_law.specs.Reader.{reader, grow, link, primary, all_items}
+use Rattle.jn_parse_expr_law.specs.Reader.{reader, link, primary, all_items}
 use Rattle.jn_parse_expr.specs.Steps.{IsLinked}
 use Rattle.jn_parse_expr.proofs.Going.{Going, GoingAll}
+use Rattle.jn_parse_expr.proofs.Levels.{Climbing}
 use Rattle.jn_parse_expr.proofs.+parser.Given as goal
 
 abbrev pub decreases-whole::read_whole : goal.decreases-whole::read_whole
@@ -20,7 +21,7 @@ abbrev pub decreases-whole::choice_tail : goal.decreases-whole::choice_tail
 decreases-whole::choice_tail l = 32 * l.depth + 18
 
 abbrev pub decreases-operators::read_operand : goal.decreases-operators::read_operand
-decreases-operators::read_operand l = 32 * l.depth + 11 + l.power
+decreases-operators::read_operand l = 32 * l.depth + 11
 
 abbrev pub decreases-operators::grow_tail : goal.decreases-operators::grow_tail
 decreases-operators::grow_tail l = 32 * l.depth + 3
@@ -80,11 +81,11 @@ decreases-arguments::read_items l = 32 * l.depth + 22
 abbrev pub invariant-operators::read_operand-operators : goal.invariant-operators::read_operand-operators
 invariant-operators::read_operand-operators l = record {
   some_depth : 0 < l.depth;
-  some_power : 0 < l.power;
+  lower : l.level < l.power;
   small : l.power ≤ 6;
   fits : l.nested ≤ l.depth;
   nests : l.nested ≡ nesting (view l.left.value);
-  on : Going (grow (reader (l.depth - 1)) l.depth (l.power - 1)) l.depth l.nested (view l.left.value, kinds l.rest) ((reader l.depth).operand l.power (kinds l.tokens));
+  on : Climbing l.depth l.nested (view l.left.value, kinds l.rest) (kinds l.tokens) l.level;
 }
 
 abbrev pub decreases-operators::read_operand-operators : goal.decreases-operators::read_operand-operators
