@@ -1,5 +1,5 @@
 //! Operators between two operands, and `instanceof` (JLS 15.17 to 15.24).
-ghost use Rattle.std.specs.Prelude.{◌≡◌, ◌-◌, ◌≤◌, ◌<◌, ◌^◌, ℕ, IfOk, IfSome};
+ghost use Rattle.std.specs.Prelude.{◌≡◌, ◌+◌, ◌-◌, ◌≤◌, ◌<◌, ◌^◌, ℕ, IfOk, IfSome};
 ghost use Rattle.jn_trees.specs.Trees.{Tree};
 ghost use Rattle.jn_trees.specs.WellFormed.{nesting};
 ghost use Rattle.jn_trees.specs.Pieces.{kinds};
@@ -99,7 +99,7 @@ pub fn read_operand(
     }
 }
 
-/// An operator of the next power and its right operand.
+/// The operator at the front, which is of the next power, and its right operand.
 #[cycle(parser)]
 fn grow_tail(
     alloc: Global,
@@ -108,7 +108,8 @@ fn grow_tail(
     power: u32,
     depth: u32,
 ) -> Result<Option<(Tail, u32, &[Token])>, AllocError>
-    requires { power < 6 }
+    requires small { power < 6 }
+    requires next { front_power (kinds tokens.now) ≡ power + 1 }
     ensures rises { IfOk result (λ o. IfSome o (λ r. nested < r.1)) }
     ensures gives { IfOk result (λ o. (l : Tree) → nested ≡ nesting l
         → TailAs depth l o (grow (reader (depth - 1)) depth power l (kinds tokens.now))) }
@@ -121,19 +122,13 @@ fn grow_tail(
             }
             match binary_operator(first) {
                 Some(operator) => operand_tail(alloc, operator, nested, rest, power, depth),
-                None => {
-                    if first == TokenKind::Instanceof && power == 2 {
-                        Ok(class_tail(nested, rest))
-                    } else {
-                        Ok(None)
-                    }
-                }
+                None => Ok(class_tail(nested, rest)),
             }
         }
     }
 }
 
-/// The right operand of an operator.
+/// The right operand of an operator of the next power.
 #[cycle(parser)]
 fn operand_tail(
     alloc: Global,
@@ -144,15 +139,13 @@ fn operand_tail(
     depth: u32,
 ) -> Result<Option<(Tail, u32, &[Token])>, AllocError>
     requires small { power < 6 }
+    requires next { sign_power (OperatorSign operator) ≡ power + 1 }
     requires room { nested < depth }
     ensures rises { IfOk result (λ o. IfSome o (λ r. nested < r.1)) }
     ensures gives { IfOk result (λ o. (l : Tree) → nested ≡ nesting l
         → TailAs depth l o
         (grow_by (reader (depth - 1)) power l (OperatorSign operator) (kinds tokens.now))) }
 {
-    if operator.power() != power + 1 {
-        return Ok(None);
-    }
     match read_operand(alloc, tokens, power, depth - 1)? {
         None => Ok(None),
         Some((right, deeper, rest)) => Ok(Some((
