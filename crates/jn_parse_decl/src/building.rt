@@ -1,5 +1,5 @@
 //! What has been read of a file: what is closed, and the open type and member.
-ghost use Rattle.std.specs.Prelude.{◌≡◌, ◌++◌, ◌∷◌, [], IfOk, Some, None, map, option_map};
+ghost use Rattle.std.specs.Prelude.{◌≡◌, OnOk, Some, None, map, option_map};
 ghost use Rattle.jn_trees.specs.View.{file_view, member_view, member_views, type_view, statement_view, marks, type_use_view, declarator_view, declarator_views, result_view, receiver_view, parameter_views};
 ghost use Rattle.jn_trees.specs.Trees.{FieldMember, MethodMember};
 ghost use Rattle.jn_trees.specs.Covered.{joined};
@@ -77,77 +77,41 @@ pub fn finished(built: Built) -> Option<FileTree>
     }
 }
 
-/// With one piece more, which stands at this place.
-pub fn add(alloc: Global, built: Built, piece: Piece, place: Span) -> Result<Built, OutOfMemory>
-    ensures { IfOk result (λ b. built_view b ≡ law.add (built_view built) (piece_view piece)) }
+/// Puts one piece more, which stands at this place, behind what has been read.
+pub fn add(alloc: Global, built: &mut Built, piece: Piece, place: Span) -> Result<(), OutOfMemory>
+    ensures { OnOk result (built_view built.new ≡ law.add (built_view built.old) (piece_view piece)) }
 {
-    let Built {
-        package,
-        imports,
-        types,
-        inside,
-    } = built;
     match piece {
-        Piece::Package(line) => Ok(Built {
-            package: Some(line),
-            imports,
-            types,
-            inside,
-        }),
-        Piece::Import(import) => Ok(Built {
-            package,
-            imports: with(imports, import)?,
-            types,
-            inside,
-        }),
-        Piece::TypeHead(head) => Ok(Built {
-            package,
-            imports,
-            types,
-            inside: Some(open_type(alloc, head, place)),
-        }),
-        Piece::Field(field) => Ok(Built {
-            package,
-            imports,
-            types,
-            inside: with_member(inside, field_of(field, place))?,
-        }),
-        Piece::Method(head) => Ok(Built {
-            package,
-            imports,
-            types,
-            inside: with_member(inside, method_of(head, place))?,
-        }),
-        Piece::MethodHead(head) => Ok(Built {
-            package,
-            imports,
-            types,
-            inside: open_body(alloc, inside, MemberHead::Method(head), place),
-        }),
-        Piece::ConstructorHead(head) => Ok(Built {
-            package,
-            imports,
-            types,
-            inside: open_body(alloc, inside, MemberHead::Constructor(head), place),
-        }),
-        Piece::Statement(statement) => Ok(Built {
-            package,
-            imports,
-            types,
-            inside: with_statement(inside, statement)?,
-        }),
-        Piece::BodyEnd => Ok(Built {
-            package,
-            imports,
-            types,
-            inside: close_body(inside, place)?,
-        }),
-        Piece::TypeEnd => Ok(Built {
-            package,
-            imports,
-            types: types_with(types, inside, place)?,
-            inside: None,
-        }),
+        Piece::Package(line) => {
+            built.package = Some(line);
+            Ok(())
+        }
+        Piece::Import(import) => {
+            put(&mut built.imports, import)?;
+            Ok(())
+        }
+        Piece::TypeHead(head) => {
+            built.inside = Some(open_type(alloc, head, place));
+            Ok(())
+        }
+        Piece::Field(field) => put_member(&mut built.inside, field_of(field, place)),
+        Piece::Method(head) => put_member(&mut built.inside, method_of(head, place)),
+        Piece::MethodHead(head) => {
+            open_body(alloc, &mut built.inside, MemberHead::Method(head), place);
+            Ok(())
+        }
+        Piece::ConstructorHead(head) => {
+            open_body(
+                alloc,
+                &mut built.inside,
+                MemberHead::Constructor(head),
+                place,
+            );
+            Ok(())
+        }
+        Piece::Statement(statement) => put_statement(&mut built.inside, statement),
+        Piece::BodyEnd => close_body(&mut built.inside, place),
+        Piece::TypeEnd => close_type(&mut built.types, &mut built.inside, place),
     }
 }
 
@@ -160,15 +124,6 @@ fn through(first: Span, last: Span) -> Span
         from: first.from,
         to: last.to,
     }
-}
-
-/// The items with one behind them.
-fn with<T: Drop>(items: Vec<T>, item: T) -> Result<Vec<T>, OutOfMemory>
-    ensures { IfOk result (λ v. v.items ≡ items.items ++ item ∷ []) }
-{
-    let mut all = items;
-    put(&mut all, item)?;
-    Ok(all)
 }
 
 fn open_type(alloc: Global, head: TypeHead, from: Span) -> OpenType
@@ -226,156 +181,92 @@ fn method_of(head: MethodHead, span: Span) -> Member
     }
 }
 
-fn with_member(inside: Option<OpenType>, member: Member) -> Result<Option<OpenType>, OutOfMemory>
-    ensures { IfOk result
-        (λ o. inside_of o ≡ law.with_member (member_view member) (inside_of inside)) }
+/// Puts the member behind those of the open type.
+fn put_member(inside: &mut Option<OpenType>, member: Member) -> Result<(), OutOfMemory>
+    ensures { OnOk result (inside_of inside.new
+        ≡ law.with_member (member_view member) (inside_of inside.old)) }
 {
     match inside {
-        None => Ok(None),
-        Some(
-            OpenType {
-                head,
-                members,
-                body,
-                from,
-            },
-        ) => Ok(Some(OpenType {
-            head,
-            members: with(members, member)?,
-            body,
-            from,
-        })),
-    }
-}
-
-fn open_body(
-    alloc: Global,
-    inside: Option<OpenType>,
-    member: MemberHead,
-    place: Span,
-) -> Option<OpenType>
-    ensures { inside_of result ≡ law.open_body (member_opening member) (inside_of inside) }
-{
-    match inside {
-        None => None,
-        Some(
-            OpenType {
-                head,
-                members,
-                body: _,
-                from,
-            },
-        ) => Some(OpenType {
-            head,
-            members,
-            body: Some(OpenMember {
-                head: member,
-                statements: Vec::new(alloc),
-                from: place,
-            }),
-            from,
-        }),
-    }
-}
-
-fn with_statement(
-    inside: Option<OpenType>,
-    statement: Stmt,
-) -> Result<Option<OpenType>, OutOfMemory>
-    ensures { IfOk result
-        (λ o. inside_of o ≡ law.with_statement (statement_view statement) (inside_of inside)) }
-{
-    match inside {
-        None => Ok(None),
-        Some(
-            OpenType {
-                head,
-                members,
-                body,
-                from,
-            },
-        ) => Ok(Some(OpenType {
-            head,
-            members,
-            body: longer_body(body, statement)?,
-            from,
-        })),
-    }
-}
-
-fn longer_body(body: Option<OpenMember>, statement: Stmt) -> Result<Option<OpenMember>, OutOfMemory>
-    ensures { IfOk result
-        (λ o. body_of o ≡ law.longer_body (statement_view statement) (body_of body)) }
-{
-    match body {
-        None => Ok(None),
-        Some(member) => Ok(Some(longer(member, statement)?)),
-    }
-}
-
-/// A member with a statement more.
-fn longer(member: OpenMember, statement: Stmt) -> Result<OpenMember, OutOfMemory>
-    ensures head { IfOk result (λ o. o.head ≡ member.head) }
-    ensures statements { IfOk result
-        (λ o. o.statements.items ≡ member.statements.items ++ statement ∷ []) }
-{
-    let OpenMember {
-        head,
-        statements,
-        from,
-    } = member;
-    match with(statements, statement) {
-        Ok(statements) => Ok(OpenMember {
-            head,
-            statements,
-            from,
-        }),
-        Err(error) => {
-            // A drop here would split the proof by what the head holds.
-            drop(head);
-            Err(error)
+        None => Ok(()),
+        Some(open) => {
+            put(&mut open.members, member)?;
+            Ok(())
         }
     }
 }
 
-fn close_body(inside: Option<OpenType>, end: Span) -> Result<Option<OpenType>, OutOfMemory>
-    ensures { IfOk result (λ o. inside_of o ≡ law.close_body (inside_of inside)) }
+/// Opens the body of a member of the open type.
+fn open_body(alloc: Global, inside: &mut Option<OpenType>, head: MemberHead, from: Span)
+    ensures { inside_of inside.new ≡ law.open_body (member_opening head) (inside_of inside.old) }
 {
     match inside {
-        None => Ok(None),
-        Some(
-            OpenType {
+        None => {}
+        Some(open) => {
+            open.body = Some(OpenMember {
                 head,
-                members,
-                body,
+                statements: Vec::new(alloc),
                 from,
-            },
-        ) => Ok(Some(OpenType {
-            head,
-            members: members_with(members, body, end)?,
-            body: None,
-            from,
-        })),
+            });
+        }
     }
 }
 
-fn members_with(
-    members: Vec<Member>,
-    body: Option<OpenMember>,
-    end: Span,
-) -> Result<Vec<Member>, OutOfMemory>
-    ensures { IfOk result
-        (λ v. member_views v.items ≡ law.members_with (member_views members.items) (body_of body)) }
+/// Puts the statement behind those of the open member of the open type.
+fn put_statement(inside: &mut Option<OpenType>, statement: Stmt) -> Result<(), OutOfMemory>
+    ensures { OnOk result (inside_of inside.new
+        ≡ law.with_statement (statement_view statement) (inside_of inside.old)) }
+{
+    match inside {
+        None => Ok(()),
+        Some(open) => lengthen(&mut open.body, statement),
+    }
+}
+
+/// Puts the statement behind those of the open member.
+fn lengthen(body: &mut Option<OpenMember>, statement: Stmt) -> Result<(), OutOfMemory>
+    ensures { OnOk result (body_of body.new
+        ≡ law.longer_body (statement_view statement) (body_of body.old)) }
 {
     match body {
-        None => Ok(members),
+        None => Ok(()),
+        Some(member) => {
+            put(&mut member.statements, statement)?;
+            Ok(())
+        }
+    }
+}
+
+/// Closes the open member of the open type.
+fn close_body(inside: &mut Option<OpenType>, end: Span) -> Result<(), OutOfMemory>
+    ensures { OnOk result (inside_of inside.new ≡ law.close_body (inside_of inside.old)) }
+{
+    match inside {
+        None => Ok(()),
+        Some(open) => close_member(&mut open.members, open.body.take(), end),
+    }
+}
+
+/// Puts the member whose body ends here behind the others.
+fn close_member(
+    members: &mut Vec<Member>,
+    body: Option<OpenMember>,
+    end: Span,
+) -> Result<(), OutOfMemory>
+    ensures { OnOk result (member_views members.new.items
+        ≡ law.members_with (member_views members.old.items) (body_of body)) }
+{
+    match body {
+        None => Ok(()),
         Some(
             OpenMember {
                 head,
                 statements,
                 from,
             },
-        ) => with(members, member_of(head, statements, through(from, end))),
+        ) => {
+            put(members, member_of(head, statements, through(from, end)))?;
+            Ok(())
+        }
     }
 }
 
@@ -418,16 +309,18 @@ fn member_of(head: MemberHead, body: Vec<Stmt>, span: Span) -> Member
     }
 }
 
-fn types_with(
-    types: Vec<TypeTree>,
-    inside: Option<OpenType>,
+/// Puts the type that ends here behind the others.
+fn close_type(
+    types: &mut Vec<TypeTree>,
+    inside: &mut Option<OpenType>,
     end: Span,
-) -> Result<Vec<TypeTree>, OutOfMemory>
-    ensures { IfOk result (λ v.
-        map type_view v.items ≡ law.types_with (map type_view types.items) (inside_of inside)) }
+) -> Result<(), OutOfMemory>
+    ensures types { OnOk result (map type_view types.new.items
+        ≡ law.types_with (map type_view types.old.items) (inside_of inside.old)) }
+    ensures inside { inside.new ≡ None }
 {
-    match inside {
-        None => Ok(types),
+    match inside.take() {
+        None => Ok(()),
         Some(
             OpenType {
                 head,
@@ -437,7 +330,8 @@ fn types_with(
             },
         ) => {
             drop(body);
-            with(types, type_of(head, members, through(from, end)))
+            put(types, type_of(head, members, through(from, end)))?;
+            Ok(())
         }
     }
 }

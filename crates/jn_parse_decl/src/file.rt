@@ -100,7 +100,7 @@ fn read_pieces(alloc: Global, tokens: &[Token]) -> Result<(Built, &[Token]), Out
             None => return Ok((built, left)),
             Some((piece, rest)) => {
                 around = behind(around, &piece);
-                built = add(alloc, built, piece, covered(left, rest))?;
+                add(alloc, &mut built, piece, covered(left, rest))?;
                 left = rest;
             }
         }

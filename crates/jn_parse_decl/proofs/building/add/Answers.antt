@@ -7,5 +7,5 @@ use Rattle.jn_parse_decl.proofs.building.add.Goals as goal
 
 pub returns-in-TypeHead : goal.returns-in-TypeHead
 returns-in-TypeHead c =
-    add_head (built_view c.args.built) c.in-TypeHead.head (inside_of (Some c.open_type.result)) c.open_type.ensures
-    ∙ ap (λ (p : Piece). add (built_view c.args.built) (piece_view p)) (sym c.in-TypeHead.is)
+    add_head (built_view c.args.built.now) c.in-TypeHead.head (inside_of (Some c.open_type.result)) c.open_type.ensures
+    ∙ ap (λ (p : Piece). add (built_view c.args.built.now) (piece_view p)) (sym c.in-TypeHead.is)

@@ -18,5 +18,5 @@ pieces-smaller c =
 pub pieces-preserved : goal.pieces-preserved
 pieces-preserved c =
     let read = rw c.in-Some.is at c.in_ok-read_piece.ensures in
-    moved c.pieces_are_read_in_turn.ensures.more (kinds c.args.tokens.now) (built_view c.pieces.built) (built_view c.in_ok-built-in-Some.built) (around_view c.pieces.around) (around_view c.behind-around.result) (kinds c.pieces.left.now) (kinds c.in-Some.rest.now) (piece_view c.in-Some.piece)
-    c.pieces.invariant read c.behind-around.ensures c.in_ok-built-in-Some.ensures
+    moved c.pieces_are_read_in_turn.ensures.more (kinds c.args.tokens.now) (built_view c.pieces.built) _ (around_view c.pieces.around) (around_view c.behind-around.result) (kinds c.pieces.left.now) (kinds c.in-Some.rest.now) (piece_view c.in-Some.piece)
+    c.pieces.invariant read c.behind-around.ensures c.in_ok-add-in-Some.ensures
