@@ -82,6 +82,17 @@ pub fn add(alloc: Global, built: &mut Built, piece: Piece, place: Span) -> Resul
     ensures { OnOk result (built_view built.new ≡ law.add (built_view built.old) (piece_view piece)) }
 {
     match piece {
+        Piece::Statement(statement) => put_statement(&mut built.inside, statement),
+        other => add_any(alloc, built, other, place),
+    }
+}
+
+/// Puts a piece of any kind. It stands apart, so that a statement does not pay for the locals of the other pieces.
+#[inline(never)]
+fn add_any(alloc: Global, built: &mut Built, piece: Piece, place: Span) -> Result<(), OutOfMemory>
+    ensures { OnOk result (built_view built.new ≡ law.add (built_view built.old) (piece_view piece)) }
+{
+    match piece {
         Piece::Package(line) => {
             built.package = Some(line);
             Ok(())
@@ -211,13 +222,17 @@ fn open_body(alloc: Global, inside: &mut Option<OpenType>, head: MemberHead, fro
     }
 }
 
-/// Puts the statement behind those of the open member of the open type.
+/// Puts the statement behind those of the open member of the open type. Where none is open it is dropped by a call,
+/// since a drop written out here would set up its locals for each statement.
 fn put_statement(inside: &mut Option<OpenType>, statement: Stmt) -> Result<(), OutOfMemory>
     ensures { OnOk result (inside_of inside.new
         ≡ law.with_statement (statement_view statement) (inside_of inside.old)) }
 {
     match inside {
-        None => Ok(()),
+        None => {
+            drop(statement);
+            Ok(())
+        }
         Some(open) => lengthen(&mut open.body, statement),
     }
 }
@@ -228,7 +243,10 @@ fn lengthen(body: &mut Option<OpenMember>, statement: Stmt) -> Result<(), OutOfM
         ≡ law.longer_body (statement_view statement) (body_of body.old)) }
 {
     match body {
-        None => Ok(()),
+        None => {
+            drop(statement);
+            Ok(())
+        }
         Some(member) => {
             put(&mut member.statements, statement)?;
             Ok(())
