@@ -9,12 +9,11 @@ use crate::sharing::all_rows;
 use crate::typed::BaseTyped;
 use jn_base::{Fail, Row};
 use jn_index::indexed::IndexedProgram;
-use jn_points::Program;
 use std::alloc::Global;
 use std::thread::Threads;
 
 /// The program, where there are no rows.
-fn judged(program: Program, rows: Vec<Row>) -> Result<BaseTyped, Fail<Vec<Row>>>
+fn judged(program: IndexedProgram, rows: Vec<Row>) -> Result<BaseTyped, Fail<Vec<Row>>>
     requires regular { Regular program }
     requires rows { (row : RowOf) → Contains rows.items row ↔ IsBaseRow program row }
     ensures program { IfOk result (λ typed. typed ≡ program) }
@@ -26,27 +25,6 @@ fn judged(program: Program, rows: Vec<Row>) -> Result<BaseTyped, Fail<Vec<Row>>>
     }
     drop(program);
     Err(Fail::Refused(rows))
-}
-
-/// The program back, where it is base-typed.
-fn check_indexed<R: Threads + Sync>(
-    rt: &R,
-    alloc: Global,
-    indexed: IndexedProgram,
-    workers: u32,
-) -> Result<BaseTyped, Fail<Vec<Row>>>
-    requires { Regular indexed }
-    ensures program { IfOk result (λ typed. typed ≡ indexed) }
-    ensures typed { IfOk result (λ typed. NoBaseRows indexed) }
-    ensures refused { IfErr result (λ fail. IsRefusedFor indexed fail) }
-{
-    match all_rows(rt, alloc, &indexed, workers) {
-        Err(_) => {
-            drop(indexed);
-            Err(Fail::OutOfMemory)
-        }
-        Ok(rows) => judged(indexed.into_program(), rows),
-    }
 }
 
 /// Gives the program back where it is base-typed: no operand has a type that does not fit (J7), or
@@ -63,7 +41,7 @@ fn check_indexed<R: Threads + Sync>(
 pub fn base_check<R: Threads + Sync>(
     rt: &R,
     alloc: Global,
-    program: Program,
+    program: IndexedProgram,
     workers: u32,
 ) -> Result<BaseTyped, Fail<Vec<Row>>>
     requires regular { Regular program }
@@ -72,8 +50,11 @@ pub fn base_check<R: Threads + Sync>(
     ensures typed { IfOk result (λ typed. NoBaseRows program) }
     ensures refused { IfErr result (λ fail. IsRefusedFor program fail) }
 {
-    match IndexedProgram::new(alloc, program) {
-        Err(_) => Err(Fail::OutOfMemory),
-        Ok(indexed) => check_indexed(rt, alloc, indexed, workers),
+    match all_rows(rt, alloc, &program, workers) {
+        Err(_) => {
+            drop(program);
+            Err(Fail::OutOfMemory)
+        }
+        Ok(rows) => judged(program, rows),
     }
 }

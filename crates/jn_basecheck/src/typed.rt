@@ -3,14 +3,15 @@ ghost use Rattle.std.specs.Prelude.{◌≡◌};
 ghost use Rattle.jn_points.specs.BaseRows.{NoBaseRows};
 ghost use Rattle.jn_points.specs.Regular.{Regular};
 
+use jn_index::indexed::IndexedProgram;
 use jn_points::Program;
 use std::marker::Model;
 
 /// A program that is base-typed: it has no row J7 to J10 (JLS 8, 5.1 to 5.3, 8.4.7, 14.17, 15 and
-/// 16). Contracts see the program.
+/// 16), with its index. Contracts see the program.
 #[derive(Drop)]
 pub struct BaseTyped {
-    program: Program,
+    program: IndexedProgram,
 }
 
 impl Model for BaseTyped {
@@ -27,7 +28,7 @@ impl Model for BaseTyped {
 
 impl BaseTyped {
     /// Takes a program that has no row of base typing.
-    pub(crate) fn of(program: Program) -> BaseTyped
+    pub(crate) fn of(program: IndexedProgram) -> BaseTyped
         requires regular { Regular program }
         requires typed { NoBaseRows program }
         ensures { result ≡ program }
@@ -37,6 +38,15 @@ impl BaseTyped {
 
     /// The program, which is regular, and has no row of base typing.
     pub fn program(&self) -> &Program
+        ensures is { result.now ≡ self.now }
+        ensures regular { Regular self.now }
+        ensures typed { NoBaseRows self.now }
+    {
+        self.program.program()
+    }
+
+    /// The program with its index.
+    pub fn indexed(&self) -> &IndexedProgram
         ensures is { result.now ≡ self.now }
         ensures regular { Regular self.now }
         ensures typed { NoBaseRows self.now }

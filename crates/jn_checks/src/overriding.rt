@@ -11,6 +11,7 @@ ghost use Rattle.jn_transfer.specs.Rules as spec;
 use crate::rules::push_if;
 use jn_base::{Code, MethodNo, OutOfMemory, Row, SlotNo, either, least};
 use jn_index::index::Index;
+use jn_index::indexed::IndexedProgram;
 use jn_index::overridden::overridden;
 use jn_points::lookup::method_at;
 use jn_points::{Method, Program, is_pair};
@@ -205,7 +206,7 @@ pub fn indexed_override_rows(
     Ok(rows)
 }
 
-/// The rows of all overriding pairs, where no index is found.
+/// The rows of all overriding pairs, where there is no index.
 #[tactic(auto, using(crate::proofs::Pairs::rows_more))]
 fn all_rows(alloc: Global, program: &Program, sig: &Sig) -> Result<Vec<Row>, AllocError>
     requires few { length program.now.classes < 2 ^ 32 }
@@ -223,13 +224,17 @@ fn all_rows(alloc: Global, program: &Program, sig: &Sig) -> Result<Vec<Row>, All
 ///
 /// # Errors
 /// No memory was found.
-pub fn override_rows(alloc: Global, program: &Program, sig: &Sig) -> Result<Vec<Row>, OutOfMemory>
+pub fn override_rows(
+    alloc: Global,
+    program: &IndexedProgram,
+    sig: &Sig,
+) -> Result<Vec<Row>, OutOfMemory>
     requires few { length program.now.classes < 2 ^ 32 }
     requires methods { length program.now.methods < 2 ^ 32 }
     ensures { IfOk result (λ rows. rows.items ≡ spec.pairs_rows program.now sig.now) }
 {
-    match Index::new(alloc, program)? {
-        None => Ok(all_rows(alloc, program, sig)?),
-        Some(index) => Ok(indexed_override_rows(alloc, program, &index, sig)?),
+    match program.index() {
+        None => Ok(all_rows(alloc, program.program(), sig)?),
+        Some(index) => Ok(indexed_override_rows(alloc, program.program(), index, sig)?),
     }
 }

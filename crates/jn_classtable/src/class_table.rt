@@ -60,11 +60,11 @@ impl ClassTable {
         &self.program
     }
 
-    /// Gives up the table for its program, which has no bodies yet.
-    pub fn into_program(self) -> Program
+    /// Gives up the table for its program, which has no bodies yet, with its index.
+    pub fn into_indexed(self) -> IndexedProgram
         ensures { result ≡ table self }
     {
-        self.program.into_program()
+        self.program
     }
 
     /// What the types declare, in the order of files and text.

@@ -3,9 +3,10 @@ ghost use Rattle.std.specs.Prelude.{◌≡◌, IfOk, IfSome};
 ghost use Rattle.jn_points.specs.Members.{fits};
 ghost use Rattle.jn_index.specs.Index.{IsIndex};
 
-use crate::fits;
 use crate::index::Index;
-use jn_points::{BaseType, Program};
+use crate::{fits, law};
+use jn_base::Seq;
+use jn_points::{BaseType, Body, Program};
 use std::alloc::{AllocError, Global};
 use std::marker::Model;
 
@@ -48,6 +49,24 @@ impl IndexedProgram {
         IndexedProgram { program, index }
     }
 
+    /// The program with other bodies. Its index stays.
+    pub fn with_bodies(self, bodies: Seq<Body>) -> IndexedProgram
+        ensures { result
+            ≡ record {
+              classes = self.classes;
+              fields = self.fields;
+              methods = self.methods;
+              bodies = bodies;
+              slots = self.slots;
+            } }
+    {
+        let IndexedProgram { program, index } = self;
+        IndexedProgram {
+            program: law::with_bodies(program, bodies),
+            index,
+        }
+    }
+
     /// The program.
     pub fn program(&self) -> &Program
         ensures { result.now ≡ self.now }
@@ -70,12 +89,5 @@ impl IndexedProgram {
             Some(index) => fits::is_sub(&self.program, index, low, high),
             None => jn_points::is_sub(&self.program, low, high),
         }
-    }
-
-    /// Gives up the index.
-    pub fn into_program(self) -> Program
-        ensures { result ≡ self }
-    {
-        self.program
     }
 }

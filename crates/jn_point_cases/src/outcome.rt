@@ -5,9 +5,9 @@ use crate::page::Page;
 use jn_base::{Fail, FileNo, OutOfMemory, Row, Seq};
 use jn_classtable::build;
 use jn_front::names::known_names;
+use jn_index::indexed::IndexedProgram;
 use jn_lexer::lex;
 use jn_parse_placed::parse_placed;
-use jn_points::Program;
 use jn_program::lowering::lower;
 use jn_trees::{FileTree, Names, Token};
 use std::alloc::{AllocError, Global};
@@ -49,7 +49,7 @@ fn lowered<R: Threads + Sync>(
     rt: &R,
     alloc: Global,
     files: &[FileTree],
-) -> Result<Program, Fail<Seq<Row>>> {
+) -> Result<IndexedProgram, Fail<Seq<Row>>> {
     match build(alloc, files) {
         Ok(table) => lower(rt, alloc, table, files, WORKERS),
         Err(fail) => Err(fail),
@@ -64,7 +64,7 @@ fn files_text<R: Threads + Sync>(
     files: &[FileTree],
 ) -> Result<String, OutOfMemory> {
     match lowered(rt, alloc, files) {
-        Ok(program) => program_text(alloc, names, &program, text),
+        Ok(program) => program_text(alloc, names, program.program(), text),
         Err(fail) => fail_text(alloc, fail),
     }
 }

@@ -14,8 +14,8 @@ use crate::sharing::lower_by;
 use crate::sources::sources_of_files;
 use jn_base::{Fail, OutOfMemory, Row, Seq};
 use jn_classtable::ClassTable;
+use jn_index::indexed::IndexedProgram;
 use jn_lower_rows::files::file_rows;
-use jn_points::{Body, Program};
 use jn_program_law::law::programs_of_tables_are_regular;
 use jn_trees::FileTree;
 use std::alloc::Global;
@@ -48,33 +48,8 @@ fn lower_files<R: Threads + Sync>(
     })
 }
 
-fn with_bodies(program: Program, bodies: Seq<Body>) -> Program
-    ensures { result
-        ≡ record {
-          classes = program.classes;
-          fields = program.fields;
-          methods = program.methods;
-          bodies = bodies;
-          slots = program.slots;
-        } }
-{
-    let Program {
-        classes,
-        fields,
-        methods,
-        slots,
-        ..
-    } = program;
-    Program {
-        classes,
-        fields,
-        methods,
-        bodies,
-        slots,
-    }
-}
-
-/// The program of files with this class table: its classes, fields, methods and slots, and the points of each body (JLS 7 to 15).
+/// The program of files with this class table: its classes, fields, methods and slots, and the points of each body (JLS 7 to 15). Its
+/// index is the class table's.
 ///
 /// The bodies are shared among as many workers as are asked for, at most one for a body, each of which takes a range of them.
 /// It goes by `join`, and so may wait for its workers.
@@ -88,7 +63,7 @@ pub fn lower<R: Threads + Sync>(
     table: ClassTable,
     files: &[FileTree],
     workers: u32,
-) -> Result<Program, Fail<Seq<Row>>>
+) -> Result<IndexedProgram, Fail<Seq<Row>>>
     requires table { table ≡ heads (map placed_file files.now) }
     requires workers { (1 ≤ workers) × (workers ≤ 16) }
     ensures lowered { IfOk result (λ p. IsProgram (map placed_file files.now) p) }
@@ -99,7 +74,7 @@ pub fn lower<R: Threads + Sync>(
         Err(_) => Err(Fail::OutOfMemory),
         Ok(LoweredFiles { bodies, rows }) => {
             if is_empty(&rows) {
-                Ok(with_bodies(table.into_program(), bodies))
+                Ok(table.into_indexed().with_bodies(bodies))
             } else {
                 Err(Fail::Refused(rows))
             }

@@ -3,6 +3,7 @@ ghost use Rattle.std.specs.Prelude.{◌≡◌, ℕ, ◌++◌, ◌<◌, ◌≤◌
 ghost use Rattle.std.proofs.Common.{Global};
 ghost use Rattle.jn_base.specs.declared.place.Row.{Row};
 ghost use Rattle.jn_points.specs.Members.{below};
+ghost use Rattle.jn_transfer.specs.Rules.{pairs_rows};
 ghost use Rattle.jn_inference_law.specs.Inference.{IsInferable};
 ghost use Rattle.jn_system.specs.Ready.{AreReady};
 ghost use Rattle.jn_system.specs.Rows.{least_rows, AreFound, AreBroken};
@@ -14,6 +15,7 @@ use jn_base::{OutOfMemory, Row};
 use jn_checks::override_rows;
 use jn_diag::order;
 use jn_env::OwnFields;
+use jn_index::indexed::IndexedProgram;
 use jn_points::Program;
 use jn_sigs::Sig;
 use jn_workers::Gate;
@@ -132,21 +134,19 @@ fn bodies_rows<R: Threads + Sync, G: Gate + Sync>(
     in_order(alloc, bodies, found, gate)
 }
 
-/// Exactly the rows of the broken rules of a program under the least tables of the signature, in order, found
-/// by the given number of workers, 1 to 16.
-///
-/// # Errors
-/// No memory was found.
+/// Exactly the rows of the broken rules, where these are the rows of overriding pairs.
 #[tactic(auto, using(crate::proofs::Gathering::all_broken))]
-pub fn check_all<R: Threads + Sync, G: Gate + Sync>(
+fn rows_with<R: Threads + Sync, G: Gate + Sync>(
     rt: &R,
     alloc: Global,
     program: &Program,
     sig: &Sig,
+    pairs: &[Row],
     workers: u32,
     gate: &G,
 ) -> Result<Vec<Row>, OutOfMemory>
     requires inferable { IsInferable program.now }
+    requires pairs { pairs.now ≡ pairs_rows program.now sig.now }
     requires workers { (0 < workers) × (workers ≤ 16) }
     ensures { IfOk result (λ rows. AreBroken program.now sig.now rows.items) }
 {
@@ -157,8 +157,28 @@ pub fn check_all<R: Threads + Sync, G: Gate + Sync>(
         own: &own,
     };
     let mut all = bodies_rows(rt, alloc, &bodies, workers, gate)?;
-    let pairs = override_rows(alloc, program, sig)?;
-    append(&mut all, pairs.as_slice())?;
+    append(&mut all, pairs)?;
     order(&mut all)?;
     Ok(all)
+}
+
+/// Exactly the rows of the broken rules of a program under the least tables of the signature, in order, found
+/// by the given number of workers, 1 to 16.
+///
+/// # Errors
+/// No memory was found.
+pub fn check_all<R: Threads + Sync, G: Gate + Sync>(
+    rt: &R,
+    alloc: Global,
+    program: &IndexedProgram,
+    sig: &Sig,
+    workers: u32,
+    gate: &G,
+) -> Result<Vec<Row>, OutOfMemory>
+    requires inferable { IsInferable program.now }
+    requires workers { (0 < workers) × (workers ≤ 16) }
+    ensures { IfOk result (λ rows. AreBroken program.now sig.now rows.items) }
+{
+    let pairs = override_rows(alloc, program, sig)?;
+    rows_with(rt, alloc, program.program(), sig, &pairs, workers, gate)
 }

@@ -26,8 +26,8 @@ use jn_classtable::{ClassTable, build};
 use jn_command::Report;
 use jn_diag::order;
 use jn_front::{SourceRead, limit_rows, parse_files, row_at};
+use jn_index::indexed::IndexedProgram;
 use jn_inference_law::law::regular_programs_are_inferable;
-use jn_points::Program;
 use jn_program::lowering::lower;
 use jn_system::{check_all, solve_sig};
 use jn_trees::{FileTree, Names};
@@ -76,7 +76,7 @@ fn checked<R: Threads + Sync, G: Gate + Sync>(
 {
     regular_programs_are_inferable();
     let sig = solve_sig(rt, alloc, base.program(), workers, gate)?;
-    let rows = check_all(rt, alloc, base.program(), &sig, workers, gate)?;
+    let rows = check_all(rt, alloc, base.indexed(), &sig, workers, gate)?;
     let accepted = accept(base, sig, &rows).ok();
     Ok(Found {
         report: Report::Checked(Seq::of_vec(rows)),
@@ -91,7 +91,7 @@ fn find_program<R: Threads + Sync, G: Gate + Sync>(
     workers: u32,
     reads: &[SourceRead],
     names: &Names,
-    program: Program,
+    program: IndexedProgram,
     gate: &G,
 ) -> Result<Found, OutOfMemory>
     requires program { ProgramOf (files_of_reads reads.now) names.now program }

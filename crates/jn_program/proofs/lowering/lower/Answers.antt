@@ -10,7 +10,7 @@ pub returns-then-is_empty-clause-lowered : goal.returns-then-is_empty-clause-low
 returns-then-is_empty-clause-lowered g c =
     let files = map placed_file c.args.files.now in
     let none : j_rows files ≡ [] = sym c.in-Ok.ensures.rows ∙ c.is_empty.ensures.none c.if-is_empty.true in
-    let made : c.with_bodies.result ≡ program_of_files files = program_made files c.into_program.result c.with_bodies.result c.in-Ok.field-0.bodies (c.into_program.ensures ∙ ap tables.table c.requires.table) c.in-Ok.ensures.bodies c.with_bodies.ensures in
+    let made : c.with_bodies.result ≡ program_of_files files = program_made files c.into_indexed.result c.with_bodies.result c.in-Ok.field-0.bodies (c.into_indexed.ensures ∙ ap tables.table c.requires.table) c.in-Ok.ensures.bodies c.with_bodies.ensures in
     record {
       program = made;
       rows = none;
