@@ -1,9 +1,12 @@
 -- Unicode escapes, as a scan finds them.
 use Rattle.std.proofs.Common.{◌≡◌, ℕ, suc, ◌+◌, ◌-◌, ◌<◌, ◌≤◌, ◌%◌, Bool, true, false, not, cond, ◌&&◌, ◌⊎◌, inl, inr, List, [], ◌∷◌, ◌++◌, length, take, Option, Some, None, refl, sym, ap, ◌∙◌, subst, arith, length-append, append_assoc}
-use Rattle.std.specs.Prelude.{nat_eq, option_map, slice_get}
-use Rattle.std.specs.List.{prefix_len, suffix_len}
+use Rattle.std.specs.Prelude.{nat_eq, option_map, slice_get, chars, IsUtf8, encode_utf8, encode_utf8_all}
+use Rattle.std.specs.List.{prefix_len, suffix_len, list_any}
 use Rattle.std.proofs.lemmas.Bool.{eqb-true, eq-eqb, and_parts, false≢true}
 use Rattle.std.proofs.lemmas.List.{reverse-append, take_at}
+use Rattle.std.proofs.Math.Bool.{or-true}
+use Rattle.std.proofs.lemmas.List.Folds.{list_any-append}
+use Rattle.std.proofs.lemmas.Str.{encodes-append, encodes-chars, encode_ascii}
 use Rattle.jn_lexer.specs.Faults.{is_backslash, IsEscapeBehind, HasNoUnicodeEscape, IsFirstEscape}
 use Rattle.jn_lexer.specs.Scan.{escape_at}
 use Rattle.jn_lexer.proofs.Lists.{same_front, get_at}
@@ -136,3 +139,13 @@ an_escape text n e =
       subst (λ t. slice_get t (n - 1) ≡ Some 92) (sym h.first.0.1) (get_at h.before (117 ∷ h.first.0.0) 92 (n - 1) place),
       subst (IsFirstEscape text) (sym front) h.first,
     )
+
+-- bytes without a backslash have no escape
+pub no_backslash : (bytes : List ℕ) → IsUtf8 bytes → list_any is_backslash bytes ≡ false → HasNoUnicodeEscape (chars bytes)
+no_backslash bytes u e other h =
+    let front = encode_utf8_all other in
+    let back = encode_utf8_all (117 ∷ h.0) in
+    let cut : bytes ≡ front ++ (encode_utf8 92 ++ back) = sym (encodes-chars bytes u) ∙ ap encode_utf8_all h.1 ∙ encodes-append other (92 ∷ 117 ∷ h.0) in
+    let is : bytes ≡ front ++ 92 ∷ back = cut ∙ ap (λ bs. front ++ (bs ++ back)) (encode_ascii 92 (omega arith)) in
+    let any : list_any is_backslash bytes ≡ true = ap (list_any is_backslash) is ∙ list_any-append is_backslash front (92 ∷ back) ∙ or-true (list_any is_backslash front) in
+    absurd (false≢true (sym e ∙ any))

@@ -32,11 +32,15 @@ fn escape_at(text: &[char]) -> Option<usize>
     None
 }
 
-/// Behind how many characters the first Unicode escape begins.
-fn first_escape(text: &[char]) -> Option<usize>
+/// Behind how many characters the first Unicode escape begins. The text's characters are those of `decoded`.
+fn first_escape(decoded: &str, text: &[char]) -> Option<usize>
+    requires { text.now ≡ chars decoded.now }
     ensures { MatchOption result (HasNoUnicodeEscape text.now) (λ n. (n < length text.now)
         × (slice_get text.now n ≡ Some 92) × IsFirstEscape text.now (take n text.now)) }
 {
+    if !decoded.as_bytes().contains(&b'\\') {
+        return None;
+    }
     match escape_at(text) {
         Some(letter) => Some(letter - 1),
         None => None,
@@ -227,7 +231,7 @@ pub fn lex(
         Ok(text) => text,
         Err(_) => return Err(Fail::OutOfMemory),
     };
-    if let Some(before) = first_escape(&text) {
+    if let Some(before) = first_escape(decoded, &text) {
         let escape = Fault {
             code: Code::L2,
             before,
