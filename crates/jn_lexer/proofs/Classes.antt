@@ -1,7 +1,7 @@
 -- Which classes single characters are of.
 use Rattle.std.proofs.Common.{◌≡◌, ℕ, ◌<◌, ◌≤◌, Bool, true, false, not, ◌&&◌, ◌||◌, ◌⊎◌, inl, inr, ⊎_elim, refl, sym, ap, ◌∙◌, subst, arith, lit<}
 use Rattle.std.specs.Prelude.{nat_eq, nat_le, nat_lt}
-use Rattle.std.specs.Char.{is_ascii_alphabetic, is_ascii_alphanumeric}
+use Rattle.std.specs.Char.{is_ascii_alphabetic, is_ascii_alphanumeric, is_ascii_digit}
 use Rattle.std.proofs.lemmas.Bool.{eqb-true, eq-eqb, and_parts, or_cases, ltb-true, leb-true, false≢true}
 use Rattle.unicode_ident.specs.Ident.{is_xid_continue}
 use Rattle.unicode_ident.proofs.IdentLemmas.{is_xid_start-ascii, is_xid_continue-ascii, is_xid_start-is_xid_continue}
@@ -37,6 +37,18 @@ start_ascii c l = ap (λ b. b || nat_eq c 95 || nat_eq c 36) (is_xid_start-ascii
 pub part_ascii : (c : ℕ) → c < 128 → is_part c ≡ ascii_part c
 unfolding is_part
 part_ascii c l = ap (λ b. b || nat_eq c 36) (is_xid_continue-ascii c l)
+
+-- the same, with the most frequent class first
+pub part_letter_first : (c : ℕ) → c < 128 → is_part c ≡ (is_ascii_alphabetic c || is_ascii_digit c || nat_eq c 95 || nat_eq c 36)
+part_letter_first c l = part_ascii c l ∙ ap (λ b. b || nat_eq c 95 || nat_eq c 36) (turned (is_ascii_digit c) (nat_le 65 c && nat_le c 90) (nat_le 97 c && nat_le c 122))
+  where
+    turned : (d u l : Bool) → (d || u || l) ≡ (u || l || d)
+    turned true true l = refl
+    turned true false true = refl
+    turned true false false = refl
+    turned false true l = refl
+    turned false false true = refl
+    turned false false false = refl
 
 digit_ascii : (c : ℕ) → is_digit c ≡ ascii_digit c
 unfolding is_digit

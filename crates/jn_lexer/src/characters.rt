@@ -47,12 +47,12 @@ pub fn is_start(c: char) -> bool
     unicode_ident::is_xid_start(c)
 }
 
-#[tactic(auto, using(crate::proofs::Classes::part_ascii), unfolding(crate::specs::Characters::is_part))]
+#[tactic(auto, using(crate::proofs::Classes::part_letter_first), unfolding(crate::specs::Characters::is_part))]
 pub fn is_part(c: char) -> bool
     ensures { result ≡ is_part c }
 {
     if c.is_ascii() {
-        return c.is_ascii_alphanumeric() | (c == '_') | (c == '$');
+        return c.is_ascii_alphabetic() || c.is_ascii_digit() || c == '_' || c == '$';
     }
     unicode_ident::is_xid_continue(c)
 }
