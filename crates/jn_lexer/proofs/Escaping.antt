@@ -2,6 +2,7 @@
 use Rattle.std.proofs.Common.{◌≡◌, ℕ, suc, ◌+◌, ◌-◌, ◌<◌, ◌≤◌, ◌%◌, Bool, true, false, not, cond, ◌&&◌, ◌⊎◌, inl, inr, List, [], ◌∷◌, ◌++◌, length, take, Option, Some, None, refl, sym, ap, ◌∙◌, subst, arith, length-append, append_assoc}
 use Rattle.std.specs.Prelude.{nat_eq, option_map, slice_get, chars, IsUtf8, encode_utf8, encode_utf8_all}
 use Rattle.std.specs.List.{prefix_len, suffix_len, list_any}
+use Rattle.std.specs.Str.Iter.{HasSubslice}
 use Rattle.std.proofs.lemmas.Bool.{eqb-true, eq-eqb, and_parts, false≢true}
 use Rattle.std.proofs.lemmas.List.{reverse-append, take_at}
 use Rattle.std.proofs.Math.Bool.{or-true}
@@ -140,12 +141,14 @@ an_escape text n e =
       subst (IsFirstEscape text) (sym front) h.first,
     )
 
--- bytes without a backslash have no escape
-pub no_backslash : (bytes : List ℕ) → IsUtf8 bytes → list_any is_backslash bytes ≡ false → HasNoUnicodeEscape (chars bytes)
-no_backslash bytes u e other h =
-    let front = encode_utf8_all other in
-    let back = encode_utf8_all (117 ∷ h.0) in
-    let cut : bytes ≡ front ++ (encode_utf8 92 ++ back) = sym (encodes-chars bytes u) ∙ ap encode_utf8_all h.1 ∙ encodes-append other (92 ∷ 117 ∷ h.0) in
-    let is : bytes ≡ front ++ 92 ∷ back = cut ∙ ap (λ bs. front ++ (bs ++ back)) (encode_ascii 92 (omega arith)) in
-    let any : list_any is_backslash bytes ≡ true = ap (list_any is_backslash) is ∙ list_any-append is_backslash front (92 ∷ back) ∙ or-true (list_any is_backslash front) in
-    absurd (false≢true (sym e ∙ any))
+module _ (bytes : List ℕ) (utf8 : IsUtf8 bytes) where
+  -- an escape is a backslash and `u` among the bytes, too
+  pub no_pair : (HasSubslice bytes (92 ∷ 117 ∷ []) → ⊥) → HasNoUnicodeEscape (chars bytes)
+  no_pair none other h =
+      let front = encode_utf8_all other in
+      let back = encode_utf8_all h.0 in
+      let cut : bytes ≡ front ++ (encode_utf8 92 ++ (encode_utf8 117 ++ back)) = sym (encodes-chars bytes utf8) ∙ ap encode_utf8_all h.1 ∙ encodes-append other (92 ∷ 117 ∷ h.0) in
+      none (front, back, cut ∙ ap (λ bs. front ++ (bs ++ (encode_utf8 117 ++ back))) (encode_ascii 92 (omega arith)) ∙ ap (λ bs. front ++ 92 ∷ (bs ++ back)) (encode_ascii 117 (omega arith)))
+
+  pub no_backslash : list_any is_backslash bytes ≡ false → HasNoUnicodeEscape (chars bytes)
+  no_backslash e = no_pair (λ pair. absurd (false≢true (sym e ∙ ap (list_any is_backslash) pair.2 ∙ list_any-append is_backslash pair.0 (92 ∷ 117 ∷ pair.1) ∙ or-true (list_any is_backslash pair.0))))

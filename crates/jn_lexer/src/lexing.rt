@@ -41,6 +41,9 @@ fn first_escape(decoded: &str, text: &[char]) -> Option<usize>
     if !decoded.as_bytes().contains(&b'\\') {
         return None;
     }
+    if !decoded.contains("\\u") {
+        return None;
+    }
     match escape_at(text) {
         Some(letter) => Some(letter - 1),
         None => None,
