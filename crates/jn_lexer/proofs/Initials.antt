@@ -19,12 +19,19 @@ module _ (p q : TokenKind → Bool) where
       here true e rest = ap (cond (p x) (Some x)) rest
       here false e rest = rest ∙ ap (λ b. cond b (Some x) (find p xs)) (sym (fails x (inl refl) e))
 
--- a word that begins with another character isn't the text, and doesn't stand at its front
-other_word : (c : ℕ) (cs word : List ℕ) → begins word (c ∷ []) ≡ false → is_spelled (c ∷ cs) word ≡ false
+-- whether a word begins with the character, and has so many
+abbrev pub is_like : ℕ → ℕ → List ℕ → Bool
+is_like c n word = begins word (c ∷ []) && nat_eq n (length word)
+
+-- a word that begins with another character, or has another length, isn't the text; one that begins with another doesn't stand at its front
+other_word : (c : ℕ) (cs word : List ℕ) → is_like c (length (c ∷ cs)) word ≡ false → is_spelled (c ∷ cs) word ≡ false
 other_word c cs word other = here (is_spelled (c ∷ cs) word) refl
   where
+    same : is_like c (length (c ∷ cs)) (c ∷ cs) ≡ true
+    same = ap (λ b. b && nat_eq (length (c ∷ cs)) (length (c ∷ cs))) (begins_front (c ∷ []) cs) ∙ eq-eqb (length (c ∷ cs)) (length (c ∷ cs)) refl
+
     here : (b : Bool) → is_spelled (c ∷ cs) word ≡ b → b ≡ false
-    here true e = absurd (false≢true (sym other ∙ ap (λ w. begins w (c ∷ [])) (sym (spelled_is (c ∷ cs) word e)) ∙ begins_front (c ∷ []) cs))
+    here true e = absurd (false≢true (sym other ∙ ap (is_like c (length (c ∷ cs))) (sym (spelled_is (c ∷ cs) word e)) ∙ same))
     here false e = refl
 
 other_front : (c : ℕ) (cs word : List ℕ) → 1 ≤ length word → begins word (c ∷ []) ≡ false → begins (c ∷ cs) word ≡ false
@@ -37,13 +44,13 @@ other_front c cs (f ∷ fs) some other = here (begins (c ∷ cs) (f ∷ fs)) ref
 
 -- a text with its first character
 module _ (text : List ℕ) (c : ℕ) (some : 1 ≤ length text) (first : c ≡ get_or text 0 c) where
-  -- the first of the kinds that it spells is the first of those that begin as it does
-  pub spelled_beginning : (kinds : List TokenKind) → find (λ kind. is_spelled text (spelling kind)) (filter (λ kind. begins (spelling kind) (c ∷ [])) kinds) ≡ find (λ kind. is_spelled text (spelling kind)) kinds
-  spelled_beginning kinds =
-      from_first (λ xs. find (λ kind. is_spelled xs (spelling kind)) (filter (λ kind. begins (spelling kind) (c ∷ [])) kinds) ≡ find (λ kind. is_spelled xs (spelling kind)) kinds) text c some first
-      (find-filter (λ kind. is_spelled (c ∷ drop 1 text) (spelling kind)) (λ kind. begins (spelling kind) (c ∷ [])) kinds (λ kind m. other_word c (drop 1 text) (spelling kind)))
+  -- the first of the kinds that it spells is the first of those that begin as it does and are as long
+  pub spelled_like : (kinds : List TokenKind) → find (λ kind. is_spelled text (spelling kind)) (filter (λ kind. is_like c (length text) (spelling kind)) kinds) ≡ find (λ kind. is_spelled text (spelling kind)) kinds
+  spelled_like kinds =
+      from_first (λ xs. find (λ kind. is_spelled xs (spelling kind)) (filter (λ kind. is_like c (length xs) (spelling kind)) kinds) ≡ find (λ kind. is_spelled xs (spelling kind)) kinds) text c some first
+      (find-filter (λ kind. is_spelled (c ∷ drop 1 text) (spelling kind)) (λ kind. is_like c (length (c ∷ drop 1 text)) (spelling kind)) kinds (λ kind m. other_word c (drop 1 text) (spelling kind)))
 
-  -- and so is the operator of two characters at its front
+  -- the operator of two characters at its front is the first of those that begin as it does
   pub pair_beginning : find (λ kind. begins text (spelling kind)) (filter (λ kind. begins (spelling kind) (c ∷ [])) PAIRS) ≡ find (λ kind. begins text (spelling kind)) PAIRS
   pair_beginning =
       from_first (λ xs. find (λ kind. begins xs (spelling kind)) (filter (λ kind. begins (spelling kind) (c ∷ [])) PAIRS) ≡ find (λ kind. begins xs (spelling kind)) PAIRS) text c some first

@@ -1,5 +1,5 @@
 //! The tokens that have one spelling.
-ghost use Rattle.std.specs.Prelude.{◌≡◌, [], ◌∷◌, find, filter};
+ghost use Rattle.std.specs.Prelude.{◌≡◌, ◌&&◌, [], ◌∷◌, nat_eq, length, find, filter};
 ghost use Rattle.jn_lexer.specs.Spelling.{spelling};
 ghost use Rattle.jn_lexer.specs.Scan.{begins, is_spelled};
 
@@ -247,66 +247,103 @@ fn kind_spelled(kinds: &[TokenKind], word: &[char]) -> Option<TokenKind>
     None
 }
 
-/// The words that begin with the character, in the order of `WORDS`.
-fn words_beginning(c: char) -> &'static [TokenKind]
-    ensures { result.now ≡ filter (λ kind. begins (spelling kind) (c ∷ [])) WORDS }
+/// The words of so many characters that begin with the character, in the order of `WORDS`.
+fn words_like(c: char, count: usize) -> &'static [TokenKind]
+    ensures { result.now ≡ filter
+        (λ kind. begins (spelling kind) (c ∷ []) && nat_eq count (length (spelling kind)))
+        WORDS }
 {
     match c {
-        'a' => &[TokenKind::Abstract, TokenKind::Assert],
-        'b' => &[TokenKind::Boolean, TokenKind::Break, TokenKind::Byte],
-        'c' => &[
-            TokenKind::Case,
-            TokenKind::Catch,
-            TokenKind::Char,
-            TokenKind::Class,
-            TokenKind::Const,
-            TokenKind::Continue,
-        ],
-        'd' => &[TokenKind::Default, TokenKind::Do, TokenKind::Double],
-        'e' => &[TokenKind::Else, TokenKind::Enum, TokenKind::Extends],
-        'f' => &[
-            TokenKind::Final,
-            TokenKind::Finally,
-            TokenKind::Float,
-            TokenKind::For,
-            TokenKind::False,
-        ],
-        'g' => &[TokenKind::Goto],
-        'i' => &[
-            TokenKind::If,
-            TokenKind::Implements,
-            TokenKind::Import,
-            TokenKind::Instanceof,
-            TokenKind::Int,
-            TokenKind::Interface,
-        ],
-        'l' => &[TokenKind::Long],
-        'n' => &[TokenKind::Native, TokenKind::New, TokenKind::Null],
-        'p' => &[
-            TokenKind::Package,
-            TokenKind::Private,
-            TokenKind::Protected,
-            TokenKind::Public,
-        ],
-        'r' => &[TokenKind::Return],
-        's' => &[
-            TokenKind::Short,
-            TokenKind::Static,
-            TokenKind::Strictfp,
-            TokenKind::Super,
-            TokenKind::Switch,
-            TokenKind::Synchronized,
-        ],
-        't' => &[
-            TokenKind::This,
-            TokenKind::Throw,
-            TokenKind::Throws,
-            TokenKind::Transient,
-            TokenKind::Try,
-            TokenKind::True,
-        ],
-        'v' => &[TokenKind::Void, TokenKind::Volatile],
-        'w' => &[TokenKind::While],
+        'a' => match count {
+            6 => &[TokenKind::Assert],
+            8 => &[TokenKind::Abstract],
+            _ => &[],
+        },
+        'b' => match count {
+            4 => &[TokenKind::Byte],
+            5 => &[TokenKind::Break],
+            7 => &[TokenKind::Boolean],
+            _ => &[],
+        },
+        'c' => match count {
+            4 => &[TokenKind::Case, TokenKind::Char],
+            5 => &[TokenKind::Catch, TokenKind::Class, TokenKind::Const],
+            8 => &[TokenKind::Continue],
+            _ => &[],
+        },
+        'd' => match count {
+            2 => &[TokenKind::Do],
+            6 => &[TokenKind::Double],
+            7 => &[TokenKind::Default],
+            _ => &[],
+        },
+        'e' => match count {
+            4 => &[TokenKind::Else, TokenKind::Enum],
+            7 => &[TokenKind::Extends],
+            _ => &[],
+        },
+        'f' => match count {
+            3 => &[TokenKind::For],
+            5 => &[TokenKind::Final, TokenKind::Float, TokenKind::False],
+            7 => &[TokenKind::Finally],
+            _ => &[],
+        },
+        'g' => match count {
+            4 => &[TokenKind::Goto],
+            _ => &[],
+        },
+        'i' => match count {
+            2 => &[TokenKind::If],
+            3 => &[TokenKind::Int],
+            6 => &[TokenKind::Import],
+            9 => &[TokenKind::Interface],
+            10 => &[TokenKind::Implements, TokenKind::Instanceof],
+            _ => &[],
+        },
+        'l' => match count {
+            4 => &[TokenKind::Long],
+            _ => &[],
+        },
+        'n' => match count {
+            3 => &[TokenKind::New],
+            4 => &[TokenKind::Null],
+            6 => &[TokenKind::Native],
+            _ => &[],
+        },
+        'p' => match count {
+            6 => &[TokenKind::Public],
+            7 => &[TokenKind::Package, TokenKind::Private],
+            9 => &[TokenKind::Protected],
+            _ => &[],
+        },
+        'r' => match count {
+            6 => &[TokenKind::Return],
+            _ => &[],
+        },
+        's' => match count {
+            5 => &[TokenKind::Short, TokenKind::Super],
+            6 => &[TokenKind::Static, TokenKind::Switch],
+            8 => &[TokenKind::Strictfp],
+            12 => &[TokenKind::Synchronized],
+            _ => &[],
+        },
+        't' => match count {
+            3 => &[TokenKind::Try],
+            4 => &[TokenKind::This, TokenKind::True],
+            5 => &[TokenKind::Throw],
+            6 => &[TokenKind::Throws],
+            9 => &[TokenKind::Transient],
+            _ => &[],
+        },
+        'v' => match count {
+            4 => &[TokenKind::Void],
+            8 => &[TokenKind::Volatile],
+            _ => &[],
+        },
+        'w' => match count {
+            5 => &[TokenKind::While],
+            _ => &[],
+        },
         _ => &[],
     }
 }
@@ -317,7 +354,7 @@ pub fn keyword(word: &[char]) -> Option<TokenKind>
 {
     match word {
         [] => None,
-        [first, ..] => kind_spelled(words_beginning(*first), word),
+        [first, ..] => kind_spelled(words_like(*first, word.len()), word),
     }
 }
 
