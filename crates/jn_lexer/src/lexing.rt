@@ -50,11 +50,26 @@ fn first_escape(decoded: &str, text: &[char]) -> Option<usize>
     }
 }
 
+/// The characters that ASCII's bytes are.
+fn ascii_characters(alloc: Global, bytes: &[u8]) -> Result<Vec<char>, AllocError>
+    ensures { IfOk result (λ cs. cs.items ≡ bytes.now) }
+{
+    let mut characters = Vec::with_capacity(alloc, bytes.len())?;
+    for byte in bytes {
+        characters.push_reserved(*byte as char);
+    }
+    Ok(characters)
+}
+
 /// The characters of a text.
 fn characters(alloc: Global, text: &str) -> Result<Vec<char>, AllocError>
     ensures { IfOk result (λ cs. cs.items ≡ chars text.now) }
 {
-    text.chars().collect(alloc)
+    if text.is_ascii() {
+        ascii_characters(alloc, text.as_bytes())
+    } else {
+        text.chars().collect(alloc)
+    }
 }
 
 /// The row of a fault behind so many characters of a text whose first byte is `at`.
