@@ -39,7 +39,7 @@ unfolding is_part
 part_ascii c l = ap (λ b. b || nat_eq c 36) (is_xid_continue-ascii c l)
 
 -- the same, with the most frequent class first
-pub part_letter_first : (c : ℕ) → c < 128 → is_part c ≡ (is_ascii_alphabetic c || is_ascii_digit c || nat_eq c 95 || nat_eq c 36)
+part_letter_first : (c : ℕ) → c < 128 → is_part c ≡ (is_ascii_alphabetic c || is_ascii_digit c || nat_eq c 95 || nat_eq c 36)
 part_letter_first c l = part_ascii c l ∙ ap (λ b. b || nat_eq c 95 || nat_eq c 36) (turned (is_ascii_digit c) (nat_le 65 c && nat_le c 90) (nat_le 97 c && nat_le c 122))
   where
     turned : (d u l : Bool) → (d || u || l) ≡ (u || l || d)
@@ -49,6 +49,9 @@ part_letter_first c l = part_ascii c l ∙ ap (λ b. b || nat_eq c 95 || nat_eq 
     turned false true l = refl
     turned false false true = refl
     turned false false false = refl
+
+pub part_otherwise : (c : ℕ) → c < 128 → is_ascii_alphabetic c ≡ false → is_part c ≡ (is_ascii_digit c || nat_eq c 95 || nat_eq c 36)
+part_otherwise c l e = part_letter_first c l ∙ ap (λ b. b || is_ascii_digit c || nat_eq c 95 || nat_eq c 36) e
 
 digit_ascii : (c : ℕ) → is_digit c ≡ ascii_digit c
 unfolding is_digit
@@ -86,6 +89,11 @@ in_range l h c e = let p = and_parts (nat_le l c) (nat_le c h) e in (leb-true l 
 start_cases : (c : ℕ) → ascii_start c ≡ true → (((65 ≤ c) × (c ≤ 90)) ⊎ ((97 ≤ c) × (c ≤ 122))) ⊎ ((c ≡ 95) ⊎ (c ≡ 36))
 start_cases c e =
     ⊎_elim (λ a. ⊎_elim (λ b. inl (⊎_elim (λ u. inl (in_range 65 90 c u)) (λ u. inr (in_range 97 122 c u)) (or_cases _ _ b))) (λ b. inr (inl (eqb-true c 95 b))) (or_cases _ _ a)) (λ a. inr (inr (eqb-true c 36 a))) (or_cases _ _ e)
+
+pub letter_part : (c : ℕ) → is_ascii_alphabetic c ≡ true → is_part c ≡ true
+letter_part c e =
+    let small : c < 128 = ⊎_elim (λ u. let b = in_range 65 90 c u in omega arith) (λ l. let b = in_range 97 122 c l in omega arith) (or_cases _ _ e) in
+    part_letter_first c small ∙ ap (λ b. b || is_ascii_digit c || nat_eq c 95 || nat_eq c 36) e
 
 pub digit_bounds : (c : ℕ) → is_digit c ≡ true → (48 ≤ c) × (c ≤ 57)
 digit_bounds c e = in_range 48 57 c (sym (digit_ascii c) ∙ e)

@@ -47,12 +47,15 @@ pub fn is_start(c: char) -> bool
     unicode_ident::is_xid_start(c)
 }
 
-#[tactic(auto, using(crate::proofs::Classes::part_letter_first), unfolding(crate::specs::Characters::is_part))]
+#[tactic(auto, using(crate::proofs::Classes::letter_part, crate::proofs::Classes::part_otherwise), unfolding(crate::specs::Characters::is_part))]
 pub fn is_part(c: char) -> bool
     ensures { result ≡ is_part c }
 {
+    if c.is_ascii_alphabetic() {
+        return true;
+    }
     if c.is_ascii() {
-        return c.is_ascii_alphabetic() || c.is_ascii_digit() || c == '_' || c == '$';
+        return c.is_ascii_digit() || c == '_' || c == '$';
     }
     unicode_ident::is_xid_continue(c)
 }
