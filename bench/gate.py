@@ -5,11 +5,13 @@ usage: bench/gate.py [NAME..]
 
 Runs `rt ci` with the names at the repository's top, whose output goes to standard error, and looks twice a second at the
 toolchain's processes. At the end it prints, for each crate, the processor minutes (user and system) of its proof, its tests,
-its must-fail edits and its programs, the dearest crate first, and their sum. What was kept from earlier runs isn't proved
-again and costs nothing: for the whole price, use a machine on which nothing is kept. The exit status is that of `rt ci`."""
+its must-fail edits and its programs, the dearest crate first, and their sum; then the user and system time of all that it
+started, as the operating system counts it, in which `rt` itself is too. What was kept from earlier runs isn't proved again
+and costs nothing: for the whole price, use a machine on which nothing is kept. The exit status is that of `rt ci`."""
 import collections
 import os
 import re
+import resource
 import subprocess
 import sys
 import time
@@ -71,6 +73,8 @@ def show(seen, minutes):
         for kind in KINDS:
             sums[kind] += row[kind]
     print(f"{'all':24}" + "".join(f"{sums[kind]:10.1f}" for kind in KINDS) + f"{sum(sums.values()):10.1f}")
+    used = resource.getrusage(resource.RUSAGE_CHILDREN)
+    print(f"{used.ru_utime / 60:.1f} minutes of user time and {used.ru_stime / 60:.1f} of system time")
     print(f"{minutes:.1f} minutes by the clock")
 
 

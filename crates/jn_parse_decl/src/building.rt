@@ -88,7 +88,6 @@ pub fn add(alloc: Global, built: &mut Built, piece: Piece, place: Span) -> Resul
 }
 
 /// Puts a piece of any kind. It stands apart, so that a statement does not pay for the locals of the other pieces.
-#[inline(never)]
 fn add_any(alloc: Global, built: &mut Built, piece: Piece, place: Span) -> Result<(), OutOfMemory>
     ensures { OnOk result (built_view built.new ≡ law.add (built_view built.old) (piece_view piece)) }
 {
