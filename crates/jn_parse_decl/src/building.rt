@@ -82,16 +82,6 @@ pub fn add(alloc: Global, built: &mut Built, piece: Piece, place: Span) -> Resul
     ensures { OnOk result (built_view built.new ≡ law.add (built_view built.old) (piece_view piece)) }
 {
     match piece {
-        Piece::Statement(statement) => put_statement(&mut built.inside, statement),
-        other => add_any(alloc, built, other, place),
-    }
-}
-
-/// Puts a piece of any kind. It stands apart, so that a statement does not pay for the locals of the other pieces.
-fn add_any(alloc: Global, built: &mut Built, piece: Piece, place: Span) -> Result<(), OutOfMemory>
-    ensures { OnOk result (built_view built.new ≡ law.add (built_view built.old) (piece_view piece)) }
-{
-    match piece {
         Piece::Package(line) => {
             built.package = Some(line);
             Ok(())

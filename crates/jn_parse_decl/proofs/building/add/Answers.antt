@@ -3,7 +3,7 @@ use Rattle.jn_parse_decl_law.specs.Built.{add}
 use Rattle.jn_parse_decl.specs.declared.piece.Piece.{Piece}
 use Rattle.jn_parse_decl.specs.Seen.{built_view, inside_of, piece_view}
 use Rattle.jn_parse_decl.proofs.Views.{add_head}
-use Rattle.jn_parse_decl.proofs.building.add_any.Goals as goal
+use Rattle.jn_parse_decl.proofs.building.add.Goals as goal
 
 pub returns-in-TypeHead : goal.returns-in-TypeHead
 returns-in-TypeHead c =
