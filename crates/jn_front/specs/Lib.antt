@@ -1,6 +1,5 @@
 pub mod Files
 pub mod Limits
 pub mod Phases
-pub mod Interned
 pub mod Counted
 pub mod Outcomes

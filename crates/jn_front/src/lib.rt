@@ -11,7 +11,6 @@ mod alone;
 mod gathering;
 pub mod law;
 pub mod limits;
-pub mod names;
 mod outcome;
 pub mod parsing;
 pub mod reads;

@@ -1,5 +1,5 @@
-use Rattle.jn_front.proofs.Known.{further, short}
-use Rattle.jn_front.proofs.names.intern_all.Goals as goal
+use Rattle.jn_lex_shared.proofs.Known.{further, short}
+use Rattle.jn_lex_shared.proofs.names.intern_all.Goals as goal
 
 pub intern-requires : goal.intern-requires
 intern-requires c = short c.args.names.now c.loop-text.names c.args.texts.now c.loop-text.text-index c.loop-text-test.true c.loop-text.invariant c.requires

@@ -1,6 +1,6 @@
 //! Names that have a number before any file is read.
 ghost use Rattle.std.specs.Prelude.{◌≡◌, ◌<◌, ◌+◌, ◌-◌, ◌^◌, length, IfOk, OnOk};
-ghost use Rattle.jn_front.specs.Interned.{interned};
+ghost use Rattle.jn_lex_shared.specs.Interned.{interned};
 ghost use Rattle.jn_known.specs.Known.{known_names};
 
 use jn_base::OutOfMemory;

@@ -1,0 +1,6 @@
+pub mod Feeds
+pub mod Followed
+pub mod Appending
+pub mod Known
+pub mod Parts
+pub mod Loops

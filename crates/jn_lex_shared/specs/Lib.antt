@@ -1,0 +1,3 @@
+pub mod Interned
+pub mod Moved
+pub mod Cut

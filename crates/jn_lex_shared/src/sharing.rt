@@ -1,0 +1,180 @@
+//! One text, lexed in parts.
+ghost use Rattle.std.specs.Prelude.{◌≡◌, ◌≤◌, ◌<◌, ◌-◌, ◌/◌, length, take, drop, min, IfOk, IfErr, OnOk};
+ghost use Rattle.std.specs.Thread.{IsSync};
+ghost use Rattle.jn_known.specs.Known.{known_names};
+ghost use Rattle.jn_lex_shared.specs.Cut.{IsCut};
+ghost use Rattle.jn_lexer.specs.Faults.{LexicalFault};
+ghost use Rattle.jn_lexer.specs.Lexed.{Lexed};
+ghost use Rattle.jn_trees.specs.Refused.{IfRefused};
+
+use crate::alone::lex_alone;
+use crate::cutting::line_end_from;
+use crate::moving::put_moved;
+use jn_base::{Fail, FileNo, OutOfMemory, Row};
+use jn_renumber::merge;
+use jn_trees::{Names, Token};
+use std::alloc::Global;
+use std::thread::{Threads, join};
+
+/// The fewest bytes for which a worker takes part: starting it costs about as much as lexing some thousand.
+const LEAST_SHARE: usize = 65_536;
+
+/// Makes the tokens and names of the first `cut` bytes those of the text, the other bytes of which have the others by names of
+/// their own.
+///
+/// Where no memory is found, tokens and names are perhaps some more than before.
+fn put_behind(
+    alloc: Global,
+    text: &[u8],
+    file: FileNo,
+    cut: u32,
+    tokens: &mut Vec<Token>,
+    names: &mut Names,
+    others: &[Token],
+    own: &Names,
+) -> Result<(), OutOfMemory>
+    requires bytes { length text.now ≤ 1048576 }
+    requires cut { IsCut cut text.now }
+    requires front { Lexed file (take cut text.now) known_names tokens.old.items names.old }
+    requires back { Lexed file (drop cut text.now) known_names others.now own.now }
+    ensures { OnOk result (Lexed file text.now known_names tokens.new.items names.new) }
+{
+    let (_text, _file) = (text, file);
+    let numbers = merge(alloc, names, own)?;
+    put_moved(tokens, others, numbers.as_slice(), cut)
+}
+
+/// The tokens and names of a text in place of those of a part that has none: a fault of a part may come from the cut.
+fn whole(
+    alloc: Global,
+    text: &[u8],
+    file: FileNo,
+    fail: Fail<Row>,
+) -> Result<(Vec<Token>, Names), Fail<Row>>
+    requires { length text.now ≤ 1048576 }
+    ensures ok { IfOk result (λ r. Lexed file text.now known_names r.0.items r.1) }
+    ensures refused { IfErr result
+        (λ fail. IfRefused fail (λ row. LexicalFault file text.now row)) }
+{
+    match fail {
+        Fail::Refused(_row) => lex_alone(alloc, text, file),
+        Fail::OutOfMemory => Err(Fail::OutOfMemory),
+    }
+}
+
+/// The tokens and names of a text, of which the first `cut` bytes and those behind them have these, each from the known names on.
+fn in_order(
+    alloc: Global,
+    text: &[u8],
+    file: FileNo,
+    cut: u32,
+    front: Result<(Vec<Token>, Names), Fail<Row>>,
+    back: Result<(Vec<Token>, Names), Fail<Row>>,
+) -> Result<(Vec<Token>, Names), Fail<Row>>
+    requires bytes { length text.now ≤ 1048576 }
+    requires cut { IsCut cut text.now }
+    requires front { IfOk front
+        (λ r. Lexed file (take cut text.now) known_names r.0.items r.1) }
+    requires back { IfOk back (λ r. Lexed file (drop cut text.now) known_names r.0.items r.1) }
+    ensures ok { IfOk result (λ r. Lexed file text.now known_names r.0.items r.1) }
+    ensures refused { IfErr result
+        (λ fail. IfRefused fail (λ row. LexicalFault file text.now row)) }
+{
+    let (mut tokens, mut names) = match front {
+        Ok(front) => front,
+        Err(fail) => {
+            drop(back);
+            return whole(alloc, text, file, fail);
+        }
+    };
+    let (others, own) = match back {
+        Ok(back) => back,
+        Err(fail) => return whole(alloc, text, file, fail),
+    };
+    match put_behind(
+        alloc,
+        text,
+        file,
+        cut,
+        &mut tokens,
+        &mut names,
+        others.as_slice(),
+        &own,
+    ) {
+        Ok(()) => Ok((tokens, names)),
+        Err(_) => Err(Fail::OutOfMemory),
+    }
+}
+
+/// The tokens of a text from the known names on, and the names then, by one worker and as many others as `more`: each takes a
+/// share, which ends with a line.
+#[cycle(part)]
+fn lex_parts<R: Threads + Sync>(
+    rt: &R,
+    alloc: Global,
+    text: &[u8],
+    file: FileNo,
+    more: u32,
+) -> Result<(Vec<Token>, Names), Fail<Row>>
+    requires { length text.now ≤ 1048576 }
+    ensures ok { IfOk result (λ r. Lexed file text.now known_names r.0.items r.1) }
+    ensures refused { IfErr result
+        (λ fail. IfRefused fail (λ row. LexicalFault file text.now row)) }
+{
+    if more == 0 {
+        return lex_alone(alloc, text, file);
+    }
+    let share = text.len() / (more as usize + 1);
+    let cut = match line_end_from(text, text.len() - share) {
+        Some(cut) => cut,
+        None => return lex_alone(alloc, text, file),
+    };
+    let (front, back) = text.split_at(cut);
+    let theirs = move || -> Result<(Vec<Token>, Names), Fail<Row>>
+        requires { length back.now ≤ 1048576 }
+        ensures { IfOk result (λ r. Lexed file back.entry.now known_names r.0.items r.1) }
+    { lex_alone(alloc, back, file) };
+    let ours = move || -> Result<(Vec<Token>, Names), Fail<Row>>
+        requires { IsSync R.row × (0 < more) × (length front.now ≤ 1048576) }
+        ensures { IfOk result (λ r. Lexed file front.entry.now known_names r.0.items r.1) }
+    { lex_parts(rt, alloc, front, file, more - 1) };
+    let (theirs, ours) = join(rt, theirs, ours);
+    in_order(alloc, text, file, cut as u32, ours, theirs)
+}
+
+/// How many of the others take part in a text of so many bytes: each worker has a share that is worth its start.
+fn others_for(bytes: usize, more: u32) -> u32
+    ensures { result ≡ min more (bytes / 65536 - 1) }
+{
+    let shares = bytes / LEAST_SHARE;
+    if shares == 0 {
+        0
+    } else if shares - 1 < more as usize {
+        (shares - 1) as u32
+    } else {
+        more
+    }
+}
+
+/// The tokens of a file's bytes from the known names on, and the names then, by one worker and as many others as `more`, or
+/// fewer where the text is short; they are the same for every number of workers.
+///
+/// It refuses with the row of the text's fault, as `jn_lexer::lex` says: L1 where the bytes aren't UTF-8, else L2 at the first
+/// Unicode escape, else L3 to L7 at the first place where a token should begin and none can. It starts its workers by `join` and
+/// waits for them; its time is in proportion to the bytes, also where it refuses, since a text is lexed once more only where one
+/// of its parts is refused.
+pub fn lex_shared<R: Threads + Sync>(
+    rt: &R,
+    alloc: Global,
+    text: &[u8],
+    file: FileNo,
+    more: u32,
+) -> Result<(Vec<Token>, Names), Fail<Row>>
+    requires { length text.now ≤ 1048576 }
+    ensures ok { IfOk result (λ r. Lexed file text.now known_names r.0.items r.1) }
+    ensures refused { IfErr result
+        (λ fail. IfRefused fail (λ row. LexicalFault file text.now row)) }
+{
+    let more = others_for(text.len(), more);
+    lex_parts(rt, alloc, text, file, more)
+}
