@@ -4,10 +4,10 @@ ghost use Rattle.jn_known.specs.Known.{known_names};
 ghost use Rattle.jn_places.specs.PlacedView.{placed_file};
 ghost use Rattle.jn_front.specs.Outcomes.{lexical_rows, syntax_rows, joined_names, joined_trees, HaveFewNames};
 
-use crate::names::known_names;
 use crate::outcome::Outcome;
 use crate::parsing::ParsedFiles;
 use jn_base::{OutOfMemory, Row};
+use jn_lex_shared::known_names;
 use jn_renumber::{merge, renumber_file};
 use jn_trees::{FileTree, Names};
 use std::alloc::{AllocError, Global};

@@ -1,5 +1,5 @@
 //! From the texts of files to their names and trees, or their rows, by workers.
-ghost use Rattle.std.specs.Prelude.{◌≡◌, ◌≤◌, ◌-◌, [], true, length, map, min, IfOk};
+ghost use Rattle.std.specs.Prelude.{◌≡◌, ◌≤◌, ◌<◌, ◌+◌, ◌-◌, ◌*◌, ◌/◌, [], true, length, map, min, IfOk};
 ghost use Rattle.jn_places.specs.PlacedView.{placed_file};
 ghost use Rattle.jn_front.specs.Counted.{ReadsFit};
 ghost use Rattle.jn_front.specs.Files.{files_of_reads};
@@ -100,13 +100,25 @@ fn more_workers(files: usize, workers: u32) -> u32
     }
 }
 
+/// How many others take part in each file, where as many workers as `more` says share the files with the first one: equally many
+/// in each, so that no more than all workers are at work at once.
+fn others_of_each(workers: u32, more: u32) -> u32
+    requires { more < workers }
+    ensures share { result ≡ workers / (more + 1) - 1 }
+    ensures within { (more + 1) * (result + 1) ≤ workers }
+{
+    workers / (more + 1) - 1
+}
+
 /// The tree of each file that was read (JLS 7.3) with its places and all names, or where some file has a lexical fault (JLS 3.3
 /// to 3.12), the first fault of each, else the syntax row of each file that has no tree.
 ///
 /// Names are numbered over all files, in the order in which they are first met, behind those of `jn_known`. The files are
-/// shared among as many workers as are asked for, at most one for a file, each of which takes a range of them; a worker
-/// enters the gate with the number of each file before it lexes the file. It goes by `join`, and so may wait for its workers.
-/// Takes time in proportion to the bytes.
+/// shared among as many workers as are asked for, at most one for a file, each of which takes a range of them. Where there are
+/// more workers than files, the others take part in the text and the tokens of each file, equally many in each, so that no more
+/// than all are at work at once. The worker that has taken a file enters the gate with the file's number before the file is lexed;
+/// those that take part in it enter no gate. It goes by `join`, and so may wait for its workers. Takes time in proportion to the
+/// bytes.
 ///
 /// # Errors
 ///
@@ -129,6 +141,7 @@ pub fn parse_files<R: Threads + Sync, G: Gate + Sync>(
         (λ p. (p.rows.items ≡ [] → ⊥) → (p.trees.items ≡ []) × (p.names ≡ [])) }
 {
     let more = more_workers(reads.len(), workers);
-    let outcomes = parse_by(rt, alloc, reads, 0, more, gate)?;
+    let others = others_of_each(workers, more);
+    let outcomes = parse_by(rt, alloc, reads, 0, more, others, gate)?;
     put_together(alloc, reads, outcomes)
 }

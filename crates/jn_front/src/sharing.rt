@@ -14,12 +14,15 @@ use jn_workers::Gate;
 use std::alloc::Global;
 use std::thread::{Threads, join};
 
-/// The outcomes of files one after another, the first of which has this number.
-fn parse_each<G: Gate>(
+/// The outcomes of files one after another, the first of which has this number: found by this worker, and in each file by as
+/// many others with it as `others` says.
+fn parse_each<R: Threads + Sync, G: Gate>(
+    rt: &R,
     alloc: Global,
     reads: &[SourceRead],
     first: u32,
     worker: u32,
+    others: u32,
     gate: &G,
 ) -> Result<Vec<Outcome>, OutOfMemory>
     requires few { first + length reads.now ≤ 64 }
@@ -30,7 +33,7 @@ fn parse_each<G: Gate>(
     let mut outcomes = Vec::new(alloc);
     let mut file = first;
     'files: for read in reads {
-        let outcome = outcome_of(alloc, read, file, worker, gate)?;
+        let outcome = outcome_of(rt, alloc, read, file, worker, others, gate)?;
         put(&mut outcomes, outcome)?;
         file += 1;
     }
@@ -71,8 +74,8 @@ fn in_order(
     Ok(all)
 }
 
-/// The outcomes of files, the first of which has this number: worker 0 and as many others as `more` take each a range of
-/// them, of lengths that differ by at most one.
+/// The outcomes of files, the first of which has this number: worker 0 and as many more as `more` says take each a range of
+/// them, of lengths that differ by at most one. In each file as many others take part as `others` says.
 #[cycle(share)]
 pub fn parse_by<R: Threads + Sync, G: Gate + Sync>(
     rt: &R,
@@ -80,6 +83,7 @@ pub fn parse_by<R: Threads + Sync, G: Gate + Sync>(
     reads: &[SourceRead],
     first: u32,
     more: u32,
+    others: u32,
     gate: &G,
 ) -> Result<Vec<Outcome>, OutOfMemory>
     requires few { first + length reads.now ≤ 64 }
@@ -88,22 +92,22 @@ pub fn parse_by<R: Threads + Sync, G: Gate + Sync>(
         (λ outcomes. AreOutcomes first (files_of_reads reads.now) outcomes.items) }
 {
     if more == 0 {
-        return parse_each(alloc, reads, first, 0, gate);
+        return parse_each(rt, alloc, reads, first, 0, others, gate);
     }
     let share = reads.len() / (more as usize + 1);
     let (front, back) = reads.split_at(share);
     let share = share as u32;
     let theirs = move || -> Result<Vec<Outcome>, OutOfMemory>
-        requires { (first + length front.now ≤ 64) × ReadsFit front.now }
+        requires { IsSync R.row × (first + length front.now ≤ 64) × ReadsFit front.now }
         ensures { IfOk result
             (λ outcomes. AreOutcomes first (files_of_reads front.entry.now) outcomes.items) }
-    { parse_each(alloc, front, first, more, gate) };
+    { parse_each(rt, alloc, front, first, more, others, gate) };
     let ours = move || -> Result<Vec<Outcome>, OutOfMemory>
         requires { IsSync R.row × IsSync G.row × (0 < more) × (first + share + length back.now ≤ 64)
             × ReadsFit back.now }
         ensures { IfOk result (λ outcomes.
             AreOutcomes (first + share) (files_of_reads back.entry.now) outcomes.items) }
-    { parse_by(rt, alloc, back, first + share, more - 1, gate) };
+    { parse_by(rt, alloc, back, first + share, more - 1, others, gate) };
     let (theirs, ours) = join(rt, theirs, ours);
     in_order(reads, first, share, theirs, ours)
 }

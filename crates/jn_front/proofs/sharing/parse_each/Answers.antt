@@ -4,8 +4,8 @@ use Rattle.jn_front.proofs.Loops.{fits_at}
 use Rattle.jn_front.proofs.Shares.{one_more, all_done}
 use Rattle.jn_front.proofs.sharing.parse_each.Goals as goal
 
-pub outcome_of-requires : goal.outcome_of-requires
-outcome_of-requires g c =
+pub outcome_of-requires-clause-fit : goal.outcome_of-requires-clause-fit
+outcome_of-requires-clause-fit g c κs lives =
     let fit = fits_at c.args.reads.now c.files.read-index c.read-item.result c.requires.fit c.files-test.true in
     let same = ap (λ (r : SourceRead). length r.file.bytes) c.read-item.is in
     omega (arith, fit, same)
