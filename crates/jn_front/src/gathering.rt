@@ -1,14 +1,21 @@
 //! What files have, by the outcomes of their texts.
-ghost use Rattle.std.specs.Prelude.{◌≡◌, ◌≤◌, ◌<◌, ◌+◌, ◌^◌, ◌++◌, ◌∷◌, [], length, map, IfOk, OnOk};
+ghost use Rattle.std.specs.Prelude.{◌≡◌, ◌≤◌, ◌<◌, ◌+◌, ◌^◌, ◌++◌, ◌∷◌, [], ℕ, List, length, map, IfOk, OnOk};
 ghost use Rattle.jn_known.specs.Known.{known_names};
 ghost use Rattle.jn_places.specs.PlacedView.{placed_file};
-ghost use Rattle.jn_front.specs.Outcomes.{lexical_rows, syntax_rows, joined_names, joined_trees, HaveFewNames};
+ghost use Rattle.jn_renumber.specs.Merged.{merged, merged_numbers};
+ghost use Rattle.jn_renumber.specs.Renumbered.{renumbered_file};
+ghost use Rattle.jn_front.specs.Outcomes.{IsOutcome, AreOutcomes, lexical_rows, syntax_rows, joined_names, joined_trees, HaveFewNames};
+ghost use Rattle.jn_front.specs.declared.outcome.Outcome.TheVariants.{Tree};
+ghost use Rattle.jn_front.specs.declared.source.SourceFile.{SourceFile};
 
 use crate::outcome::Outcome;
 use crate::parsing::ParsedFiles;
+use jn_base::lists::put;
 use jn_base::{OutOfMemory, Row};
 use jn_lex_shared::known_names;
+use jn_parse_placed::law::files_have_one_placed_tree;
 use jn_renumber::{merge, renumber_file};
+use jn_renumber_law::law::{own_names_can_be_merged, own_trees_can_be_renumbered};
 use jn_trees::{FileTree, Names};
 use std::alloc::{AllocError, Global};
 
@@ -42,7 +49,39 @@ pub fn syntax_rows(alloc: Global, outcomes: &[Outcome]) -> Result<Vec<Row>, Allo
     Ok(rows)
 }
 
-/// Merges a file's names into those of the files before it, and adds its tree with their new numbers.
+/// Adds a file's tree to those of the files before it, with the numbers that its names have once they are merged into theirs.
+/// The first tree and its names stay as they are, as they would where its names are merged into the known ones.
+fn join_tree(
+    alloc: Global,
+    names: &mut Names,
+    trees: &mut Vec<FileTree>,
+    own: Names,
+    tree: FileTree,
+) -> Result<(), OutOfMemory>
+    requires room { length names.old < 2 ^ 31 }
+    requires few { length own ≤ 1048601 }
+    requires found { (k : ℕ) × (file : SourceFile) × IsOutcome k file (Tree own tree) }
+    requires begun { trees.old.items ≡ [] → names.old ≡ known_names }
+    ensures names { OnOk result (names.new ≡ merged names.old own) }
+    ensures trees { OnOk result (map placed_file trees.new.items ≡ map placed_file trees.old.items
+        ++ renumbered_file (merged_numbers names.old own) (placed_file tree) ∷ []) }
+{
+    own_names_can_be_merged();
+    own_trees_can_be_renumbered();
+    files_have_one_placed_tree();
+    if trees.is_empty() {
+        *names = own;
+        put(trees, tree)?;
+        return Ok(());
+    }
+    let mut tree = tree;
+    let numbers = merge(alloc, names, &own)?;
+    renumber_file(numbers.as_slice(), &mut tree);
+    put(trees, tree)?;
+    Ok(())
+}
+
+/// Adds what a file has to the names and trees of the files before it.
 fn join_next(
     alloc: Global,
     names: &mut Names,
@@ -51,6 +90,8 @@ fn join_next(
 ) -> Result<(), OutOfMemory>
     requires room { length names.old < 2 ^ 31 }
     requires few { HaveFewNames (outcome ∷ []) }
+    requires found { (k : ℕ) × (file : SourceFile) × IsOutcome k file outcome }
+    requires begun { trees.old.items ≡ [] → names.old ≡ known_names }
     ensures names { OnOk result (names.new ≡ joined_names names.old (outcome ∷ [])) }
     ensures trees { OnOk result (map placed_file trees.new.items
         ≡ map placed_file trees.old.items ++ joined_trees names.old (outcome ∷ [])) }
@@ -58,15 +99,7 @@ fn join_next(
     match outcome {
         Outcome::Lexical(_) => Ok(()),
         Outcome::Syntax(_) => Ok(()),
-        Outcome::Tree { names: own, tree } => {
-            let mut tree = tree;
-            let numbers = merge(alloc, names, &own)?;
-            renumber_file(numbers.as_slice(), &mut tree);
-            match trees.push(tree) {
-                Ok(()) => Ok(()),
-                Err(_) => Err(OutOfMemory),
-            }
-        }
+        Outcome::Tree { names: own, tree } => join_tree(alloc, names, trees, own, tree),
     }
 }
 
@@ -74,6 +107,7 @@ fn join_next(
 pub fn join_all(alloc: Global, outcomes: Vec<Outcome>) -> Result<ParsedFiles, OutOfMemory>
     requires many { length outcomes.items ≤ 64 }
     requires few { HaveFewNames outcomes.items }
+    requires found { (files : List SourceFile) × AreOutcomes 0 files outcomes.items }
     ensures rows { IfOk result (λ p. p.rows.items ≡ []) }
     ensures names { IfOk result (λ p. p.names ≡ joined_names known_names outcomes.items) }
     ensures trees { IfOk result
