@@ -19,10 +19,10 @@ use Rattle.jn_lex_shared.proofs.Followed.{behind_on, last_gap}
 
 -- ---- pieces
 
-abbrev pub shifted_piece : ℕ → Piece → Piece
+abbrev shifted_piece : ℕ → Piece → Piece
 shifted_piece by p = record { lexeme = p.lexeme; from = by + p.from; to = by + p.to }
 
-abbrev pub shifted : ℕ → List Piece → List Piece
+abbrev shifted : ℕ → List Piece → List Piece
 shifted by [] = []
 shifted by (p ∷ ps) = shifted_piece by p ∷ shifted by ps
 

@@ -16,7 +16,7 @@ abbrev pub not_feed : ℕ → Bool
 not_feed c = not (nat_eq c 10)
 
 -- what isn't true of the line feed
-pub no_feed_where : (p : ℕ → Bool) (c : ℕ) → p 10 ≡ false → p c ≡ true → not_feed c ≡ true
+no_feed_where : (p : ℕ → Bool) (c : ℕ) → p 10 ≡ false → p c ≡ true → not_feed c ≡ true
 no_feed_where p c f h = here (nat_eq c 10) refl
   where
     here : (b : Bool) → nat_eq c 10 ≡ b → not b ≡ true

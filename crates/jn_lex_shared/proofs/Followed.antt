@@ -12,7 +12,7 @@ use Rattle.jn_lex_shared.specs.Cut.{EndsLine}
 use Rattle.jn_lex_shared.proofs.Feeds.{not_feed, all_no_feed, in_line_10, no_feed}
 
 -- the end of two texts is the end of the second, or the second is empty and it is that of the first
-pub end_of : (xs ys before : List ℕ) → xs ++ ys ≡ before ++ 10 ∷ [] → EndsLine ys ⊎ ((ys ≡ []) × EndsLine xs)
+end_of : (xs ys before : List ℕ) → xs ++ ys ≡ before ++ 10 ∷ [] → EndsLine ys ⊎ ((ys ≡ []) × EndsLine xs)
 end_of [] ys before e = inl (before, e)
 end_of (x ∷ xs) ys [] e = inr (none_behind xs ys (let t : xs ++ ys ≡ [] = cc in t), ([], let h : x ≡ 10 = cc in subst (λ l. x ∷ l ≡ 10 ∷ []) (sym (none_front xs ys (let t : xs ++ ys ≡ [] = cc in t))) (ap (λ z. z ∷ []) h)))
   where
@@ -29,23 +29,23 @@ end_of (x ∷ xs) ys (b ∷ before) e =
     ⊎_elim inl (λ r. inr (r.0, (b ∷ r.1.0, ap (λ z. z ∷ xs) head ∙ ap (λ l. b ∷ l) r.1.1))) (end_of xs ys before tail)
 
 -- what has no line feed doesn't end with one
-pub no_end : (xs : List ℕ) → AllAre not_feed xs → EndsLine xs → ⊥
+no_end : (xs : List ℕ) → AllAre not_feed xs → EndsLine xs → ⊥
 no_end xs h e = here e.0 (subst (AllAre not_feed) e.1 h)
   where
     here : (before : List ℕ) → AllAre not_feed (before ++ 10 ∷ []) → ⊥
     here [] h = false≢true h.0
     here (b ∷ before) h = here before h.1
 
-pub ends_on : (xs ys : List ℕ) → EndsLine ys → EndsLine (xs ++ ys)
+ends_on : (xs ys : List ℕ) → EndsLine ys → EndsLine (xs ++ ys)
 ends_on xs ys e = (xs ++ e.0, ap (λ l. xs ++ l) e.1 ∙ sym (append_assoc xs e.0 (10 ∷ [])))
 
 -- what the text begins with it begins with before more text
 module _ (p : ℕ → Bool) (more : List ℕ) where
-  pub begins_only_on : (text : List ℕ) → EndsLine text → BeginsOnly p text → BeginsOnly p (text ++ more)
+  begins_only_on : (text : List ℕ) → EndsLine text → BeginsOnly p text → BeginsOnly p (text ++ more)
   begins_only_on [] e h = absurd (no_end [] tt e)
   begins_only_on (c ∷ cs) e h = h
 
-  pub begins_not_on : (text : List ℕ) → EndsLine text → BeginsNot p text → BeginsNot p (text ++ more)
+  begins_not_on : (text : List ℕ) → EndsLine text → BeginsNot p text → BeginsNot p (text ++ more)
   begins_not_on [] e h = absurd (no_end [] tt e)
   begins_not_on (c ∷ cs) e h = h
 
@@ -59,7 +59,7 @@ word_before (w ∷ word) rest (b ∷ before) more e h =
     let r = word_before word rest before more tail h.1 in
     (r.0, ap (λ z. z ∷ (before ++ 10 ∷ [])) head ∙ ap (λ l. w ∷ l) r.1)
 
-pub none_longer_on : (n : ℕ) (text more : List ℕ) → EndsLine text → NoneLonger n text → NoneLonger n (text ++ more)
+none_longer_on : (n : ℕ) (text more : List ℕ) → EndsLine text → NoneLonger n text → NoneLonger n (text ++ more)
 none_longer_on n text more e h l word rest is spelled =
     let cut : e.0 ++ 10 ∷ more ≡ word ++ rest = sym (append_assoc e.0 (10 ∷ []) more) ∙ ap (λ t. t ++ more) (sym e.1) ∙ is in
     let r = word_before word rest e.0 more cut (no_feed l word spelled) in
@@ -79,16 +79,16 @@ close_before (c ∷ inside) text more (s ∷ shorter) tail e lt =
     let r = close_before inside text more shorter tail rest (omega arith) in
     (r.0, ap (λ z. z ∷ (inside ++ 42 ∷ 47 ∷ text)) head ∙ ap (λ l. s ∷ l) r.1)
 
-pub next_close_on : (inside text more : List ℕ) → IsNextClose inside text → IsNextClose inside (text ++ more)
+next_close_on : (inside text more : List ℕ) → IsNextClose inside text → IsNextClose inside (text ++ more)
 next_close_on inside text more h shorter tail is =
     ⊎_elim (λ lt. let r = close_before inside text more shorter tail is lt in h shorter r.0 r.1) (λ le. le) (cases_lt (length shorter) (length inside))
 
-pub blank_on : (b : Blank) (text more : List ℕ) → EndsLine text → IsBlank b text → IsBlank b (text ++ more)
+blank_on : (b : Blank) (text more : List ℕ) → EndsLine text → IsBlank b text → IsBlank b (text ++ more)
 blank_on (Space c) text more e h = h
 blank_on (Line inside) text more e h = (h.0, begins_only_on is_line_end more text e h.1)
 blank_on (Block inside) text more e h = next_close_on inside text more h
 
-pub gap_on : (bs : List Blank) (text more : List ℕ) → EndsLine text → IsGap bs text → IsGap bs (text ++ more)
+gap_on : (bs : List Blank) (text more : List ℕ) → EndsLine text → IsGap bs text → IsGap bs (text ++ more)
 gap_on [] text more e g = tt
 gap_on (b ∷ bs) text more e g =
     (subst (IsBlank b) (append_assoc (gap_text bs) text more) (blank_on b (gap_text bs ++ text) more (ends_on (gap_text bs) text e) g.0), gap_on bs text more e g.1)
@@ -115,7 +115,7 @@ last_gap (b ∷ bs) text e g =
     (end_of (blank_text b) (gap_text bs) e.0 e.1)
 
 -- what follows a token ends with the line feed
-pub after_ends : (text : List ℕ) (at : ℕ) (p : Piece) (after : List ℕ) → Stands text at p after → EndsLine text → EndsLine after
+after_ends : (text : List ℕ) (at : ℕ) (p : Piece) (after : List ℕ) → Stands text at p after → EndsLine text → EndsLine after
 after_ends text at p after s e =
     ⊎_elim
     (λ a. ⊎_elim (λ b. b) (λ b. absurd (no_end s.word (no_feed p.lexeme s.word s.spelled) b.1)) (end_of s.word after a.0 a.1))
@@ -126,7 +126,7 @@ after_ends text at p after s e =
     empty [] after e = refl
     empty (w ∷ word) after e = cc
 
-pub stands_on : (text more : List ℕ) (at : ℕ) (p : Piece) (after : List ℕ) → Stands text at p after → EndsLine text → Stands (text ++ more) at p (after ++ more)
+stands_on : (text more : List ℕ) (at : ℕ) (p : Piece) (after : List ℕ) → Stands text at p after → EndsLine text → Stands (text ++ more) at p (after ++ more)
 stands_on text more at p after s e =
     let ends = after_ends text at p after s e in
     let whole = ends_on s.word after ends in

@@ -6,7 +6,7 @@ use Rattle.std.specs.List.{list_any}
 use Rattle.jn_trees.specs.Names.{with_name}
 use Rattle.jn_lex_shared.specs.Interned.{interned}
 
-pub interned_more : (names : List (List ℕ)) (bs : List (Bor (List ℕ))) (b : Bor (List ℕ)) → interned names (bs ++ b ∷ []) ≡ with_name (interned names bs) b.now
+interned_more : (names : List (List ℕ)) (bs : List (Bor (List ℕ))) (b : Bor (List ℕ)) → interned names (bs ++ b ∷ []) ≡ with_name (interned names bs) b.now
 interned_more names [] b = refl
 interned_more names (a ∷ bs) b = interned_more (with_name names a.now) bs b
 
@@ -14,7 +14,7 @@ one_more : (known : Bool) (names : List (List ℕ)) (text : List ℕ) → length
 one_more true names text = omega arith
 one_more false names text = omega (arith, length-append names (text ∷ []))
 
-pub interned_length : (names : List (List ℕ)) (bs : List (Bor (List ℕ))) → length (interned names bs) ≤ length names + length bs
+interned_length : (names : List (List ℕ)) (bs : List (Bor (List ℕ))) → length (interned names bs) ≤ length names + length bs
 interned_length names [] = omega arith
 interned_length names (b ∷ bs) =
     let more = one_more (list_any (bytes_eq b.now) names) names b.now in

@@ -26,7 +26,7 @@ kept_names file text known names tokens begun l =
     subst (λ ns. merged ns known ≡ ns) (sym all) (still_known known names known begun)
 
 -- the back's tokens, further on and by the numbers that its names get, go behind the front's
-pub parts_lexed : (file : FileNo) (front back : List ℕ) (known names own : List (List ℕ)) (tokens others : List Token) → merged known known ≡ known → EndsLine front → Lexed file front known tokens names → Lexed file back known others own → Lexed file (front ++ back) known (tokens ++ moved (length front) (tokens_by (merged_numbers names own) others)) (merged names own)
+parts_lexed : (file : FileNo) (front back : List ℕ) (known names own : List (List ℕ)) (tokens others : List Token) → merged known known ≡ known → EndsLine front → Lexed file front known tokens names → Lexed file back known others own → Lexed file (front ++ back) known (tokens ++ moved (length front) (tokens_by (merged_numbers names own) others)) (merged names own)
 parts_lexed file front back known names own tokens others begun ends f b =
     lexed_append file front back known names (merged names own) tokens (tokens_by (merged_numbers names own) others) ends f
     (lexed file back known names own others (kept_names file front known names tokens begun f) b)
@@ -34,7 +34,7 @@ parts_lexed file front back known names own tokens others begun ends f b =
 begun : merged known_names known_names ≡ known_names
 begun = refl
 
-pub cut_lexed : (file : FileNo) (text : List ℕ) (cut : ℕ) (names own : List (List ℕ)) (tokens others : List Token) → IsCut cut text → Lexed file (take cut text) known_names tokens names → Lexed file (drop cut text) known_names others own → Lexed file text known_names (tokens ++ moved cut (tokens_by (merged_numbers names own) others)) (merged names own)
+cut_lexed : (file : FileNo) (text : List ℕ) (cut : ℕ) (names own : List (List ℕ)) (tokens others : List Token) → IsCut cut text → Lexed file (take cut text) known_names tokens names → Lexed file (drop cut text) known_names others own → Lexed file text known_names (tokens ++ moved cut (tokens_by (merged_numbers names own) others)) (merged names own)
 cut_lexed file text cut names own tokens others is f b =
     let whole = parts_lexed file (take cut text) (drop cut text) known_names names own tokens others begun is.1 f b in
     let long : length (take cut text) ≡ cut = length-take-le cut text is.0 in
@@ -52,7 +52,7 @@ pieces_fit file names by text_end text at (p ∷ ps) rest place b within fits =
     let to = s.to in
     (omega (arith, after, to, within, fits), omega (arith, after, within, fits), pieces_fit file (names_with names p.lexeme) by text_end b.0 p.to ps rest place b.2 (omega (arith, after, within)) fits)
 
-pub tokens_fit : (file : FileNo) (text : List ℕ) (by : ℕ) (old new : List (List ℕ)) (tokens : List Token) → Lexed file text old tokens new → by + length text < 4294967296 → FitMoved by tokens
+tokens_fit : (file : FileNo) (text : List ℕ) (by : ℕ) (old new : List (List ℕ)) (tokens : List Token) → Lexed file text old tokens new → by + length text < 4294967296 → FitMoved by tokens
 tokens_fit file text by old new tokens l fits =
     let wide = width-chars text l.utf8 in
     subst (FitMoved by) (sym l.tokens_are) (pieces_fit file old by (length text) (chars text) 0 l.pieces l.are.rest l.are.place l.are.behind (omega (arith, wide)) fits)

@@ -8,7 +8,7 @@ ghost use Rattle.jn_lexer.specs.Lexed.{Lexed};
 ghost use Rattle.jn_trees.specs.Refused.{IfRefused};
 
 use crate::alone::lex_alone;
-use crate::cutting::line_end_from;
+use crate::cutting::cut_from;
 use crate::moving::put_moved;
 use jn_base::{Fail, FileNo, OutOfMemory, Row};
 use jn_renumber::merge;
@@ -16,7 +16,7 @@ use jn_trees::{Names, Token};
 use std::alloc::Global;
 use std::thread::{Threads, join};
 
-/// The fewest bytes for which a worker takes part: starting it costs about as much as lexing some thousand.
+/// The fewest bytes for which a worker takes part, so that lexing them takes far longer than starting it and waiting for it.
 const LEAST_SHARE: usize = 65_536;
 
 /// Makes the tokens and names of the first `cut` bytes those of the text, the other bytes of which have the others by names of
@@ -44,25 +44,8 @@ fn put_behind(
     put_moved(tokens, others, numbers.as_slice(), cut)
 }
 
-/// The tokens and names of a text in place of those of a part that has none: a fault of a part may come from the cut.
-fn whole(
-    alloc: Global,
-    text: &[u8],
-    file: FileNo,
-    fail: Fail<Row>,
-) -> Result<(Vec<Token>, Names), Fail<Row>>
-    requires { length text.now ≤ 1048576 }
-    ensures ok { IfOk result (λ r. Lexed file text.now known_names r.0.items r.1) }
-    ensures refused { IfErr result
-        (λ fail. IfRefused fail (λ row. LexicalFault file text.now row)) }
-{
-    match fail {
-        Fail::Refused(_row) => lex_alone(alloc, text, file),
-        Fail::OutOfMemory => Err(Fail::OutOfMemory),
-    }
-}
-
-/// The tokens and names of a text, of which the first `cut` bytes and those behind them have these, each from the known names on.
+/// The tokens and names of a text, of which the first `cut` bytes and those behind them have these, each from the known names on;
+/// it fails where one of them does.
 fn in_order(
     alloc: Global,
     text: &[u8],
@@ -76,22 +59,11 @@ fn in_order(
     requires front { IfOk front
         (λ r. Lexed file (take cut text.now) known_names r.0.items r.1) }
     requires back { IfOk back (λ r. Lexed file (drop cut text.now) known_names r.0.items r.1) }
-    ensures ok { IfOk result (λ r. Lexed file text.now known_names r.0.items r.1) }
-    ensures refused { IfErr result
-        (λ fail. IfRefused fail (λ row. LexicalFault file text.now row)) }
+    ensures { IfOk result (λ r. Lexed file text.now known_names r.0.items r.1) }
 {
-    let (mut tokens, mut names) = match front {
-        Ok(front) => front,
-        Err(fail) => {
-            drop(back);
-            return whole(alloc, text, file, fail);
-        }
-    };
-    let (others, own) = match back {
-        Ok(back) => back,
-        Err(fail) => return whole(alloc, text, file, fail),
-    };
-    match put_behind(
+    let (mut tokens, mut names) = front?;
+    let (others, own) = back?;
+    put_behind(
         alloc,
         text,
         file,
@@ -100,14 +72,12 @@ fn in_order(
         &mut names,
         others.as_slice(),
         &own,
-    ) {
-        Ok(()) => Ok((tokens, names)),
-        Err(_) => Err(Fail::OutOfMemory),
-    }
+    )?;
+    Ok((tokens, names))
 }
 
 /// The tokens of a text from the known names on, and the names then, by one worker and as many others as `more`: each takes a
-/// share, which ends with a line.
+/// share, which ends with a line. It fails where a part is refused, which may come from the cut, as in a comment of several lines.
 #[cycle(part)]
 fn lex_parts<R: Threads + Sync>(
     rt: &R,
@@ -117,15 +87,13 @@ fn lex_parts<R: Threads + Sync>(
     more: u32,
 ) -> Result<(Vec<Token>, Names), Fail<Row>>
     requires { length text.now ≤ 1048576 }
-    ensures ok { IfOk result (λ r. Lexed file text.now known_names r.0.items r.1) }
-    ensures refused { IfErr result
-        (λ fail. IfRefused fail (λ row. LexicalFault file text.now row)) }
+    ensures { IfOk result (λ r. Lexed file text.now known_names r.0.items r.1) }
 {
     if more == 0 {
         return lex_alone(alloc, text, file);
     }
     let share = text.len() / (more as usize + 1);
-    let cut = match line_end_from(text, text.len() - share) {
+    let cut = match cut_from(text, text.len() - share) {
         Some(cut) => cut,
         None => return lex_alone(alloc, text, file),
     };
@@ -161,8 +129,7 @@ fn others_for(bytes: usize, more: u32) -> u32
 ///
 /// It refuses with the row of the text's fault, as `jn_lexer::lex` says: L1 where the bytes aren't UTF-8, else L2 at the first
 /// Unicode escape, else L3 to L7 at the first place where a token should begin and none can. It starts its workers by `join` and
-/// waits for them; its time is in proportion to the bytes, also where it refuses, since a text is lexed once more only where one
-/// of its parts is refused.
+/// waits for them. Its time is in proportion to the bytes: where a part is refused, the text is lexed once more, as a whole.
 pub fn lex_shared<R: Threads + Sync>(
     rt: &R,
     alloc: Global,
@@ -176,5 +143,12 @@ pub fn lex_shared<R: Threads + Sync>(
         (λ fail. IfRefused fail (λ row. LexicalFault file text.now row)) }
 {
     let more = others_for(text.len(), more);
-    lex_parts(rt, alloc, text, file, more)
+    if more == 0 {
+        return lex_alone(alloc, text, file);
+    }
+    match lex_parts(rt, alloc, text, file, more) {
+        Ok(lexed) => Ok(lexed),
+        Err(Fail::Refused(_row)) => lex_alone(alloc, text, file),
+        Err(Fail::OutOfMemory) => Err(Fail::OutOfMemory),
+    }
 }
