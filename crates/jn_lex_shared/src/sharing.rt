@@ -17,7 +17,7 @@ use std::alloc::Global;
 use std::thread::{Threads, join};
 
 /// The fewest bytes for which a worker takes part, so that lexing them takes far longer than starting it and waiting for it.
-const LEAST_SHARE: usize = 65_536;
+const LEAST_SHARE: usize = 32_768;
 
 /// Makes the tokens and names of the first `cut` bytes those of the text, the other bytes of which have the others by names of
 /// their own.
@@ -112,7 +112,7 @@ fn lex_parts<R: Threads + Sync>(
 
 /// How many of the others take part in a text of so many bytes: each worker has a share that is worth its start.
 fn others_for(bytes: usize, more: u32) -> u32
-    ensures { result ≡ min more (bytes / 65536 - 1) }
+    ensures { result ≡ min more (bytes / 32768 - 1) }
 {
     let shares = bytes / LEAST_SHARE;
     if shares == 0 {
