@@ -64,9 +64,7 @@ pub fn put_moved(
         return Err(OutOfMemory);
     }
     for token in others {
-        if tokens.push(moved(numbers, *token, by)).is_err() {
-            return Err(OutOfMemory);
-        }
+        tokens.push_reserved(moved(numbers, *token, by));
     }
     Ok(())
 }
