@@ -1,6 +1,8 @@
 pub mod Absent
+pub mod Ahead
 pub mod Depth
 pub mod Found
 pub mod Rows
+pub mod Sending
 pub mod Turns
 pub mod Views

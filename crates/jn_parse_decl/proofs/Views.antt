@@ -15,6 +15,13 @@ map_push f (y ∷ xs) x = ap (λ zs. f y ∷ zs) (map_push f xs x)
 pub more : {A B : Type 0} (f : A → B) (xs all : List A) (x : A) → all ≡ xs ++ x ∷ [] → map f all ≡ map f xs ++ f x ∷ []
 more f xs all x e = ap (map f) e ∙ map_push f xs x
 
+map_both : {A B : Type 0} (f : A → B) (xs ys : List A) → map f (xs ++ ys) ≡ map f xs ++ map f ys
+map_both f [] ys = refl
+map_both f (x ∷ xs) ys = ap (λ zs. f x ∷ zs) (map_both f xs ys)
+
+pub both : {A B : Type 0} (f : A → B) (xs ys all : List A) → all ≡ xs ++ ys → map f all ≡ map f xs ++ map f ys
+both f xs ys all e = ap (map f) e ∙ map_both f xs ys
+
 pub same_statements : (ss : List Stmt) → statement_views ss ≡ all_statements (map statement_view ss)
 same_statements [] = refl
 same_statements (s ∷ ss) = ap (λ us. MoreStatements (statement_view s) us) (same_statements ss)

@@ -1,3 +1,4 @@
+pub mod Ahead
 pub mod Ends
 pub mod Front
 pub mod Seen

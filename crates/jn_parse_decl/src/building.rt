@@ -137,7 +137,7 @@ fn open_type(alloc: Global, head: TypeHead, from: Span) -> OpenType
     }
 }
 
-fn field_of(field: FieldParts, span: Span) -> Member
+pub fn field_of(field: FieldParts, span: Span) -> Member
     ensures { member_view result
         ≡ FieldMember (marks field.modifiers.items) (type_use_view field.type_use)
         (declarator_view field.first) (declarator_views field.more.items) }
@@ -158,7 +158,7 @@ fn field_of(field: FieldParts, span: Span) -> Member
 }
 
 /// A method without body.
-fn method_of(head: MethodHead, span: Span) -> Member
+pub fn method_of(head: MethodHead, span: Span) -> Member
     ensures { member_view result
         ≡ MethodMember (marks head.modifiers.items) (result_view head.result) head.name.name
         (receiver_view head.receiver) (parameter_views head.parameters.items) None }
@@ -278,7 +278,7 @@ fn close_member(
 }
 
 #[tactic(auto, using(crate::proofs::Views::same_statements))]
-fn member_of(head: MemberHead, body: Vec<Stmt>, span: Span) -> Member
+pub fn member_of(head: MemberHead, body: Vec<Stmt>, span: Span) -> Member
     ensures { member_view result
         ≡ law.member_of (member_opening head) (map statement_view body.items) }
 {

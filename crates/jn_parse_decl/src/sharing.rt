@@ -1,0 +1,154 @@
+//! Members of one type shared among workers: each reads from a place at which a member seems to begin, and what was read from
+//! there counts only where the reading before it ends at that place.
+ghost use Rattle.std.specs.Prelude.{◌≡◌, ◌++◌, [], ℕ, true, drop, Some, None, IfOk};
+ghost use Rattle.std.specs.Thread.{IsSync};
+ghost use Rattle.jn_trees.specs.View.{member_views};
+ghost use Rattle.jn_trees.specs.Pieces.{kinds};
+ghost use Rattle.jn_parse_decl.specs.Ahead.{AreMembers, GoesOn};
+ghost use Rattle.jn_parse_decl.specs.Seen.{inside_of};
+
+use crate::building::OpenType;
+use crate::guess::split_places;
+use crate::whole::read_members;
+use jn_base::OutOfMemory;
+use jn_trees::{Member, Owner, Token};
+use std::alloc::Global;
+use std::thread::{Threads, join};
+
+/// The first members, and the others behind them.
+fn append(first: Vec<Member>, others: Vec<Member>) -> Result<Vec<Member>, OutOfMemory>
+    ensures { IfOk result (λ all. all.items ≡ first.items ++ others.items) }
+{
+    let mut all = first;
+    let mut others = others;
+    all.append(&mut others)?;
+    Ok(all)
+}
+
+/// The tokens of which so many are left, or all where there are fewer.
+fn last_tokens(tokens: &[Token], many: usize) -> &[Token]
+    ensures { (n : ℕ) × (result.now ≡ drop n tokens.now) }
+{
+    let before = tokens.len().saturating_sub(many);
+    &tokens[before..]
+}
+
+/// The members that were read first, and those behind them where these were read from the very place where the first ones
+/// end, and what follows.
+fn in_order<'t>(
+    tokens: &'t [Token],
+    back: &'t [Token],
+    owner: Owner,
+    first: Result<(Vec<Member>, &'t [Token]), OutOfMemory>,
+    others: Result<(Vec<Member>, &'t [Token]), OutOfMemory>,
+) -> Result<(Vec<Member>, &'t [Token]), OutOfMemory>
+    requires back { (n : ℕ) × (back.now ≡ drop n tokens.now) }
+    requires first { IfOk first
+        (λ r. AreMembers owner (kinds tokens.now) (member_views r.0.items) (kinds r.1.now)) }
+    requires others { IfOk others
+        (λ r. AreMembers owner (kinds back.now) (member_views r.0.items) (kinds r.1.now)) }
+    ensures { IfOk result
+        (λ r. AreMembers owner (kinds tokens.now) (member_views r.0.items) (kinds r.1.now)) }
+{
+    let (_tokens, _owner) = (tokens, owner);
+    let (members, rest) = first?;
+    if rest.len() != back.len() {
+        drop(others);
+        return Ok((members, rest));
+    }
+    let (others, end) = others?;
+    let all = append(members, others)?;
+    Ok((all, end))
+}
+
+/// The members at the front, in turn, until at most `stop` tokens are left or none can be read whole, and what follows them.
+/// One worker reads from the front, and one more from each of the places, which are told by the number of tokens left there.
+/// The list of the first grows by those of the others, so that each member is moved once.
+#[cycle(share)]
+fn members_from<'t, R: Threads + Sync>(
+    rt: &R,
+    alloc: Global,
+    tokens: &'t [Token],
+    owner: Owner,
+    places: &[usize],
+    stop: usize,
+) -> Result<(Vec<Member>, &'t [Token]), OutOfMemory>
+    ensures { IfOk result
+        (λ r. AreMembers owner (kinds tokens.now) (member_views r.0.items) (kinds r.1.now)) }
+{
+    match places.split_last() {
+        None => read_members(alloc, tokens, owner, stop),
+        Some((place, before)) => {
+            let place = *place;
+            let back = last_tokens(tokens, place);
+            let theirs = move || -> Result<(Vec<Member>, &[Token]), OutOfMemory>
+                ensures { IfOk result (λ r. AreMembers owner (kinds back.entry.now)
+                    (member_views r.0.items) (kinds r.1.now)) }
+            { read_members(alloc, back, owner, stop) };
+            let ours = move || -> Result<(Vec<Member>, &[Token]), OutOfMemory>
+                requires { IsSync R.row }
+                ensures { IfOk result (λ r. AreMembers owner (kinds tokens.entry.now)
+                    (member_views r.0.items) (kinds r.1.now)) }
+            { members_from(rt, alloc, tokens, owner, before, place) };
+            let (theirs, ours) = join(rt, theirs, ours);
+            in_order(tokens, back, owner, ours, theirs)
+        }
+    }
+}
+
+/// Whether nothing was read yet of this type behind its head.
+fn is_fresh(open: &OpenType) -> bool
+    ensures members { result ≡ true → open.now.members.items ≡ [] }
+    ensures body { result ≡ true → open.now.body ≡ None }
+{
+    match open.body {
+        None => open.members.is_empty(),
+        Some(_) => false,
+    }
+}
+
+/// Reads members of this type ahead, where it has just been opened and they are worth more than one worker, and gives what
+/// follows them.
+fn read_open<'t, R: Threads + Sync>(
+    rt: &R,
+    alloc: Global,
+    open: &mut OpenType,
+    owner: Owner,
+    tokens: &'t [Token],
+    more: u32,
+) -> Result<&'t [Token], OutOfMemory>
+    ensures { IfOk result (λ rest.
+        GoesOn owner (inside_of (Some open.old)) (kinds tokens.now) (inside_of (Some open.new))
+        (kinds rest.now)) }
+{
+    if !is_fresh(open) {
+        return Ok(tokens);
+    }
+    let places = split_places(alloc, tokens, more)?;
+    if places.is_empty() {
+        return Ok(tokens);
+    }
+    let (found, rest) = members_from(rt, alloc, tokens, owner, &places, 0)?;
+    open.members = found;
+    Ok(rest)
+}
+
+/// Reads members of the type inside ahead, where it has just been opened and they are worth more than one worker, and gives
+/// what follows them.
+pub fn read_ahead<'t, R: Threads + Sync>(
+    rt: &R,
+    alloc: Global,
+    inside: &mut Option<OpenType>,
+    owner: Owner,
+    tokens: &'t [Token],
+    more: u32,
+) -> Result<&'t [Token], OutOfMemory>
+    ensures { IfOk result (λ rest.
+        GoesOn owner (inside_of inside.old) (kinds tokens.now) (inside_of inside.new)
+        (kinds rest.now)) }
+{
+    match inside {
+        None => Ok(tokens),
+        Some(open) => read_open(rt, alloc, open, owner, tokens, more),
+    }
+}
