@@ -1,5 +1,5 @@
 -- Members read in turn: one behind others, one row behind another, and where a row ends.
-use Rattle.std.proofs.Common.{◌≡◌, ℕ, zero, suc, ◌<◌, ◌≤◌, List, [], ◌∷◌, ◌++◌, length, map, drop, refl, sym, ap, ◌∙◌, subst, arith, append_assoc, append-nil, length-append, Bool, true, false, Option, Some, None, Result, Ok, Err, IfOk}
+use Rattle.std.proofs.Common.{◌≡◌, ℕ, zero, suc, ◌<◌, ◌≤◌, List, [], ◌∷◌, ◌++◌, length, map, drop, refl, sym, ap, ◌∙◌, subst, arith, append_assoc, append-nil, length-append, Bool, false, Option, Some, None, Result, Ok, Err, IfOk}
 use Rattle.std.specs.Borrow.{Bor}
 use Rattle.jn_base.specs.declared.refusal.OutOfMemory.{OutOfMemory}
 use Rattle.jn_base.specs.declared.number.NameNo.{NameNo}
@@ -11,7 +11,7 @@ use Rattle.jn_trees.specs.Trees.{Statement, Mark, TypeUseTree, DeclaratorTree, R
 use Rattle.jn_trees.specs.View.{member_views}
 use Rattle.jn_trees.specs.Pieces.{Piece, FieldPiece, MethodPiece, MethodHead, ConstructorHead, StatementPiece, BodyEnd, Around, AtStart, InType, InBody, behind, pieces, spell_pieces, kinds}
 use Rattle.jn_parse_decl_law.specs.Runs.{ReadsRow}
-use Rattle.jn_parse_decl_law.specs.Built.{TypeOpening, MemberOpening, MethodOpening, ConstructorOpening, OpenMember, OpenType, Built, nothing, member_of, add, add_all}
+use Rattle.jn_parse_decl_law.specs.Built.{TypeOpening, MemberOpening, MethodOpening, ConstructorOpening, OpenType, Built, nothing, member_of, add_all}
 use Rattle.jn_parse_decl_law.specs.PieceReader.{TryPiece, piece_reader, read_member, read_in_body, read_body_statement, statement_piece}
 use Rattle.jn_parse_decl_law.specs.Progress.{IsReached}
 use Rattle.jn_parse_decl_law.proofs.Places.{row_sound, row_more}
@@ -170,11 +170,14 @@ both_members o tokens back rest end ms ns all is h k e same =
 -- ---- in the type that is open
 
 goes_on : (o : Owner) (head : TypeOpening) (from : List TokenKind) (ms : List MemberTree) (to : List TokenKind) → AreMembers o from ms to → GoesOn o (open_type head [] None) from (open_type head ms None) to
-goes_on o head from ms to k = (members_shrink o from ms to k, λ ts b h. record {
-  row = h.row ++ k.row;
-  read = rows_join AtStart ts h.row (InType o) from k.row (InType o) to h.read k.read;
-  made = sym (k.made b head []) ∙ ap (λ (c : Built). add_all c k.row) h.made ∙ sym (add_both nothing h.row k.row);
-})
+goes_on o head from ms to k = (
+  members_shrink o from ms to k,
+  λ ts b h. record {
+    row = h.row ++ k.row;
+    read = rows_join AtStart ts h.row (InType o) from k.row (InType o) to h.read k.read;
+    made = sym (k.made b head []) ∙ ap (λ (c : Built). add_all c k.row) h.made ∙ sym (add_both nothing h.row k.row);
+  },
+)
 
 -- members in place of none in a type without an open body
 pub members_ahead : (o : Owner) (t : OpenedType) (from : List TokenKind) (ms : List MemberTree) (to : List TokenKind) → t.members.items ≡ [] → t.body ≡ None → AreMembers o from ms to → GoesOn o (inside_of (Some t)) from (Some (record { head = opening t.head; members = ms; body = body_of t.body })) to

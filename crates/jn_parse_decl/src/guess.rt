@@ -90,11 +90,7 @@ fn apart(
 
 /// Places at which members seem to begin, at most `more`, which part the tokens of the type at the front into about equal
 /// shares: how many tokens are left at each, the greatest number first. None where shares would be too small.
-pub fn split_places(
-    alloc: Global,
-    tokens: &[Token],
-    more: u32,
-) -> Result<Vec<usize>, OutOfMemory> {
+pub fn split_places(alloc: Global, tokens: &[Token], more: u32) -> Result<Vec<usize>, OutOfMemory> {
     let front = tokens.len();
     if front / 2 < FEWEST {
         return Ok(Vec::new(alloc));
@@ -105,5 +101,11 @@ pub fn split_places(
     if workers < 2 {
         return Ok(Vec::new(alloc));
     }
-    apart(alloc, &guess, front, inside / workers, workers.saturating_sub(1))
+    apart(
+        alloc,
+        &guess,
+        front,
+        inside / workers,
+        workers.saturating_sub(1),
+    )
 }

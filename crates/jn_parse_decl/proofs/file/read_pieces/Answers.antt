@@ -1,4 +1,4 @@
-use Rattle.std.proofs.Common.{◌<◌, ◌≤◌, length, sym, subst, arith}
+use Rattle.std.proofs.Common.{◌<◌, length, sym, subst, arith}
 use Rattle.jn_trees.specs.Pieces.{AtStart, kinds}
 use Rattle.jn_parse_decl_law.specs.Progress.{IsReached}
 use Rattle.jn_parse_decl.specs.Seen.{built_view, around_view, piece_view}
