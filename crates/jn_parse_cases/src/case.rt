@@ -9,6 +9,7 @@ use jn_base::OutOfMemory;
 use jn_lexer::lex;
 use jn_trees::{Context, DEEPEST, Names, Token};
 use std::alloc::Global;
+use std::thread::Threads;
 
 /// What a case reads, and what is shown of it.
 #[derive(Clone, Copy)]
@@ -28,7 +29,8 @@ fn context_of(kind: &str) -> Context {
 }
 
 /// What becomes of the tokens of a text.
-fn reading_text(
+fn reading_text<R: Threads + Sync>(
+    rt: &R,
     alloc: Global,
     reading: Reading,
     names: &Names,
@@ -46,19 +48,24 @@ fn reading_text(
         "block" | "loop" | "leading" => {
             statement_text(alloc, names, tokens, depth, context_of(reading.kind), shown)
         }
-        "field" | "method" | "file" => tree_text(alloc, names, text, tokens, shown),
+        "field" | "method" | "file" => tree_text(rt, alloc, names, text, tokens, shown),
         _ => Ok(String::from_str(alloc, "no kind")?),
     }
 }
 
 /// What becomes of a text.
-fn source_text(alloc: Global, reading: Reading, text: &[u8]) -> Result<String, OutOfMemory> {
+fn source_text<R: Threads + Sync>(
+    rt: &R,
+    alloc: Global,
+    reading: Reading,
+    text: &[u8],
+) -> Result<String, OutOfMemory> {
     let mut names = Names::new(alloc);
     if text.len() > LIMIT {
         return Ok(String::from_str(alloc, "too long")?);
     }
     match lex(alloc, text, FILE, &mut names) {
-        Ok(tokens) => reading_text(alloc, reading, &names, text, &tokens),
+        Ok(tokens) => reading_text(rt, alloc, reading, &names, text, &tokens),
         Err(fail) => fail_text(alloc, text, fail),
     }
 }
@@ -76,22 +83,27 @@ fn reading_of(word: &str, shown: Shown) -> Reading {
     }
 }
 
-fn shown_answer(alloc: Global, shown: Shown, line: &str) -> Result<String, OutOfMemory> {
+fn shown_answer<R: Threads + Sync>(
+    rt: &R,
+    alloc: Global,
+    shown: Shown,
+    line: &str,
+) -> Result<String, OutOfMemory> {
     match line.split_once(' ') {
         None => Ok(String::from_str(alloc, "no case")?),
         Some((word, text)) => {
             let reading = reading_of(word, shown);
             let source = source_of(alloc, reading.kind, text)?;
-            source_text(alloc, reading, &source)
+            source_text(rt, alloc, reading, &source)
         }
     }
 }
 
-/// What becomes of the line's text.
-pub fn answer(alloc: Global, line: &str) -> Result<String, OutOfMemory> {
+/// What becomes of the line's text, with these threads.
+pub fn answer<R: Threads + Sync>(rt: &R, alloc: Global, line: &str) -> Result<String, OutOfMemory> {
     match line.split_once(' ') {
-        Some(("spans", rest)) => shown_answer(alloc, Shown::Places, rest),
-        Some(("brief", rest)) => shown_answer(alloc, Shown::Nothing, rest),
-        _ => shown_answer(alloc, Shown::Shapes, line),
+        Some(("spans", rest)) => shown_answer(rt, alloc, Shown::Places, rest),
+        Some(("brief", rest)) => shown_answer(rt, alloc, Shown::Nothing, rest),
+        _ => shown_answer(rt, alloc, Shown::Shapes, line),
     }
 }

@@ -28,7 +28,7 @@ fn files_of(line: &str) -> Option<(u32, &str, &str)> {
     Some((workers.parse().ok()?, one, other))
 }
 
-/// What becomes of the line's text, or of its files with these threads.
+/// What becomes of the line's text, or of its files, with these threads.
 fn line_answer<R: Threads + Sync>(rt: &HostRuntime, threads: &R, line: &str) -> io::Result<String> {
     let shown = match files_of(line) {
         Some((workers, one, other)) => {
@@ -36,7 +36,7 @@ fn line_answer<R: Threads + Sync>(rt: &HostRuntime, threads: &R, line: &str) -> 
             let other = fs::read(rt, other)?;
             files_text(threads, rt.alloc(), workers, one, other)
         }
-        None => answer(rt.alloc(), line),
+        None => answer(threads, rt.alloc(), line),
     };
     match shown {
         Ok(shown) => Ok(shown),

@@ -6,11 +6,15 @@ use jn_parse_decl::parse_file;
 use jn_trees::{FileTree, Names, Token, TokenKind};
 use jn_trees_spelling::{spell_file, well_formed_file};
 use std::alloc::Global;
+use std::thread::Threads;
 
 pub const FILE: FileNo = FileNo(0);
 
 /// The most bytes of a text here.
 pub const LIMIT: usize = 1000000;
+
+/// How many workers parse a file beside the first.
+const MORE: u32 = 3;
 
 /// The row as text, as in `S1 3:5`.
 fn row_text(alloc: Global, text: &[u8], row: Row) -> Result<String, OutOfMemory> {
@@ -62,19 +66,39 @@ fn checked_text(
     shape_of(alloc, names, tree, shown)
 }
 
-/// The shape of a file's tree, or its row.
-pub fn tree_text(
+/// The shape of a file's tree that so many workers beside this one make, or its row.
+fn text_by<R: Threads + Sync>(
+    rt: &R,
+    alloc: Global,
+    names: &Names,
+    text: &[u8],
+    tokens: &[Token],
+    shown: Shown,
+    more: u32,
+) -> Result<String, OutOfMemory> {
+    if text.len() > LIMIT || tokens.len() > LIMIT {
+        return Ok(String::from_str(alloc, "too long")?);
+    }
+    match parse_file(rt, alloc, tokens, FILE, text.len() as u32, more) {
+        Ok(tree) => checked_text(alloc, names, tokens, &tree, shown),
+        Err(fail) => fail_text(alloc, text, fail),
+    }
+}
+
+/// The shape of a file's tree, or its row, and whether several workers make another of it.
+pub fn tree_text<R: Threads + Sync>(
+    rt: &R,
     alloc: Global,
     names: &Names,
     text: &[u8],
     tokens: &[Token],
     shown: Shown,
 ) -> Result<String, OutOfMemory> {
-    if text.len() > LIMIT || tokens.len() > LIMIT {
-        return Ok(String::from_str(alloc, "too long")?);
-    }
-    match parse_file(alloc, tokens, FILE, text.len() as u32) {
-        Ok(tree) => checked_text(alloc, names, tokens, &tree, shown),
-        Err(fail) => fail_text(alloc, text, fail),
+    let alone = text_by(rt, alloc, names, text, tokens, shown, 0)?;
+    let shared = text_by(rt, alloc, names, text, tokens, shown, MORE)?;
+    if alone.as_bytes() == shared.as_bytes() {
+        Ok(alone)
+    } else {
+        Ok(format!(in alloc; "{alone} but by several workers {shared}")?)
     }
 }

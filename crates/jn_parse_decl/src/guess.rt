@@ -2,7 +2,7 @@
 use jn_base::OutOfMemory;
 use jn_base::lists::put;
 use jn_trees::{Token, TokenKind};
-use std::alloc::Global;
+use std::alloc::{AllocError, Global};
 
 /// The fewest tokens that are worth a worker: to start one costs some tens of microseconds, in which some hundred tokens
 /// are read.
@@ -32,57 +32,75 @@ fn may_begin(kind: TokenKind) -> bool {
 /// Where members of a type seem to begin.
 #[derive(Drop)]
 struct Guess {
-    /// How many tokens are left at each place, the greatest number first.
+    /// The places, from the front on: how many tokens stand before each.
     places: Vec<usize>,
-    /// How many are left where the type seems to end.
+    /// How many tokens stand before the place where the type seems to end.
     end: usize,
 }
 
-/// Where members seem to begin, from the front of those of a type on: behind what closes a body or a field.
-fn beginnings(alloc: Global, tokens: &[Token]) -> Result<Guess, OutOfMemory> {
-    let mut places = Vec::new(alloc);
-    let mut open = 0usize;
-    let mut is_behind = false;
-    let mut left = tokens.len();
-    let mut next = left.saturating_sub(APART);
-    for token in tokens {
-        if is_behind && left <= next && may_begin(token.kind) {
-            put(&mut places, left)?;
-            next = left.saturating_sub(APART);
+impl Guess {
+    /// Keeps the place, where it is far enough behind the last one, and a member may begin with what stands there.
+    fn note(&mut self, tokens: &[Token], place: usize) -> Result<(), AllocError> {
+        let least = self
+            .places
+            .last()
+            .copied()
+            .unwrap_or(0)
+            .saturating_add(APART);
+        if least <= place && place < tokens.len() && may_begin(tokens[place].kind) {
+            self.places.push(place)?;
         }
-        is_behind = false;
+        Ok(())
+    }
+}
+
+/// Where members seem to begin: behind each brace that closes a body, and behind each semicolon outside of bodies. Goes over
+/// the tokens in little more time than it takes to fetch them, since the other workers wait for it.
+fn beginnings(alloc: Global, tokens: &[Token]) -> Result<Guess, OutOfMemory> {
+    let mut guess = Guess {
+        places: Vec::new(alloc),
+        end: tokens.len(),
+    };
+    let mut open = 0usize;
+    for (index, token) in tokens.iter().enumerate() {
         match token.kind {
             TokenKind::LeftBrace => open = open.saturating_add(1),
             TokenKind::RightBrace => {
                 if open == 0 {
+                    guess.end = index;
                     break;
                 }
                 open = open.saturating_sub(1);
-                is_behind = open == 0;
+                if open == 0 {
+                    guess.note(tokens, index.saturating_add(1))?;
+                }
             }
-            TokenKind::Semicolon => is_behind = open == 0,
+            TokenKind::Semicolon => {
+                if open == 0 {
+                    guess.note(tokens, index.saturating_add(1))?;
+                }
+            }
             _ => {}
         }
-        left = left.saturating_sub(1);
     }
-    Ok(Guess { places, end: left })
+    Ok(guess)
 }
 
-/// Of these places at most `more`, with about `share` tokens between them, before the first of which `front` are left.
+/// Of these places at most `more`, each about `share` tokens behind the one before: how many of the tokens are left there.
 fn apart(
     alloc: Global,
+    tokens: &[Token],
     guess: &Guess,
-    front: usize,
     share: usize,
     more: usize,
 ) -> Result<Vec<usize>, OutOfMemory> {
     let mut chosen = Vec::new(alloc);
-    let mut next = front.saturating_sub(share);
-    let last = guess.end.saturating_add(share / 2);
+    let mut next = share;
+    let last = guess.end.saturating_sub(share / 2);
     for place in &guess.places {
-        if *place <= next && *place >= last && chosen.len() < more {
-            put(&mut chosen, *place)?;
-            next = place.saturating_sub(share);
+        if next <= *place && *place <= last && chosen.len() < more {
+            put(&mut chosen, tokens.len().saturating_sub(*place))?;
+            next = place.saturating_add(share);
         }
     }
     Ok(chosen)
@@ -91,21 +109,14 @@ fn apart(
 /// Places at which members seem to begin, at most `more`, which part the tokens of the type at the front into about equal
 /// shares: how many tokens are left at each, the greatest number first. None where shares would be too small.
 pub fn split_places(alloc: Global, tokens: &[Token], more: u32) -> Result<Vec<usize>, OutOfMemory> {
-    let front = tokens.len();
-    if front / 2 < FEWEST {
+    if tokens.len() / 2 < FEWEST {
         return Ok(Vec::new(alloc));
     }
     let guess = beginnings(alloc, tokens)?;
-    let inside = front.saturating_sub(guess.end);
-    let workers = (more as usize).saturating_add(1).min(inside / FEWEST);
+    let workers = (more as usize).saturating_add(1).min(guess.end / FEWEST);
     if workers < 2 {
         return Ok(Vec::new(alloc));
     }
-    apart(
-        alloc,
-        &guess,
-        front,
-        inside / workers,
-        workers.saturating_sub(1),
-    )
+    let share = guess.end / workers;
+    apart(alloc, tokens, &guess, share, workers.saturating_sub(1))
 }

@@ -98,7 +98,7 @@ fn tokens_text<R: Threads + Sync>(
     if text.len() > LIMIT || tokens.len() > LIMIT {
         return Ok(String::from_str(alloc, " is too long")?);
     }
-    match parse_placed(alloc, tokens, FILE, text.len() as u32) {
+    match parse_placed(rt, alloc, tokens, FILE, text.len() as u32, 0) {
         Ok(tree) => tree_text(rt, alloc, names, text, tree),
         Err(fail) => one_row_text(alloc, fail),
     }
