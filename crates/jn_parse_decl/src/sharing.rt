@@ -97,12 +97,12 @@ fn members_from<'t, R: Threads + Sync>(
 }
 
 /// Whether nothing was read yet of this type behind its head.
-fn is_fresh(open: &OpenType) -> bool
-    ensures members { result ≡ true → open.now.members.items ≡ [] }
-    ensures body { result ≡ true → open.now.body ≡ None }
+fn is_fresh(opened: &OpenType) -> bool
+    ensures members { result ≡ true → opened.now.members.items ≡ [] }
+    ensures body { result ≡ true → opened.now.body ≡ None }
 {
-    match open.body {
-        None => open.members.is_empty(),
+    match opened.body {
+        None => opened.members.is_empty(),
         Some(_) => false,
     }
 }
@@ -112,16 +112,16 @@ fn is_fresh(open: &OpenType) -> bool
 fn read_open<'t, R: Threads + Sync>(
     rt: &R,
     alloc: Global,
-    open: &mut OpenType,
+    opened: &mut OpenType,
     owner: Owner,
     tokens: &'t [Token],
     more: u32,
 ) -> Result<&'t [Token], OutOfMemory>
     ensures { IfOk result (λ rest.
-        GoesOn owner (inside_of (Some open.old)) (kinds tokens.now) (inside_of (Some open.new))
+        GoesOn owner (inside_of (Some opened.old)) (kinds tokens.now) (inside_of (Some opened.new))
         (kinds rest.now)) }
 {
-    if !is_fresh(open) {
+    if !is_fresh(opened) {
         return Ok(tokens);
     }
     let places = split_places(alloc, tokens, more)?;
@@ -129,7 +129,7 @@ fn read_open<'t, R: Threads + Sync>(
         return Ok(tokens);
     }
     let (found, rest) = members_from(rt, alloc, tokens, owner, &places, 0)?;
-    open.members = found;
+    opened.members = found;
     Ok(rest)
 }
 
