@@ -14,15 +14,16 @@ use Rattle.jn_points.specs.Paths.{Step, Path, Reached, Lacks, NotWritten, Avoids
 use Rattle.jn_points.specs.Shaped.{LeadsTo, IsAt, writes}
 use Rattle.jn_dataflow.specs.Problem.{IsAmong, slot_at}
 use Rattle.jn_dataflow.specs.Solution.{Arises, entered, followed, joined, Absorbs, Solves}
-use Rattle.jn_assigned.specs.Lacking.{or_bits, clear, behind, edge_to, edges_to, lacking, is_reached, is_lacking, TellsLacking}
-use Rattle.jn_assigned.specs.LackingLaws.{Goes, goes_one, from_valid}
+use Rattle.jn_env.specs.Packed.{either_bits}
+use Rattle.jn_assigned.specs.Lacking.{clear, behind, edge_to, edges_to, lacking, is_reached, is_lacking, TellsLacking}
+use Rattle.jn_assigned.specs.LackingLaws.{Goes, goes_one}
 
 or_cases : (x y : Bool) → (x || y) ≡ true → (x ≡ true) ⊎ (y ≡ true)
 or_cases true y e = inl refl
 or_cases false y e = inr e
 
-bit_cases : (xs ys : List Bool) (r : ℕ) → get_or (or_bits xs ys) r false ≡ true → (get_or xs r false ≡ true) ⊎ (get_or ys r false ≡ true)
-bit_cases [] ys r e = absurd cc
+bit_cases : (xs ys : List Bool) (r : ℕ) → get_or (either_bits xs ys) r false ≡ true → (get_or xs r false ≡ true) ⊎ (get_or ys r false ≡ true)
+bit_cases [] ys r e = inr e
 bit_cases (x ∷ xs) [] r e = inl e
 bit_cases (x ∷ xs) (y ∷ ys) zero e = or_cases x y e
 bit_cases (x ∷ xs) (y ∷ ys) (suc r) e = bit_cases xs ys r e
@@ -31,11 +32,11 @@ right_or : (x y : Bool) → y ≡ true → (x || y) ≡ true
 right_or true y e = refl
 right_or false y e = e
 
-bit_right : (xs ys : List Bool) (r : ℕ) → r < length xs → get_or ys r false ≡ true → get_or (or_bits xs ys) r false ≡ true
-bit_right [] ys r lt e = absurd (omega (arith, lt))
-bit_right (x ∷ xs) [] r lt e = absurd cc
-bit_right (x ∷ xs) (y ∷ ys) zero lt e = right_or x y e
-bit_right (x ∷ xs) (y ∷ ys) (suc r) lt e = bit_right xs ys r (omega (arith, lt)) e
+bit_right : (xs ys : List Bool) (r : ℕ) → get_or ys r false ≡ true → get_or (either_bits xs ys) r false ≡ true
+bit_right [] ys r e = e
+bit_right (x ∷ xs) [] r e = absurd cc
+bit_right (x ∷ xs) (y ∷ ys) zero e = right_or x y e
+bit_right (x ∷ xs) (y ∷ ys) (suc r) e = bit_right xs ys r e
 
 bit_all : (n r : ℕ) → r < n → get_or (replicate n true) r false ≡ true
 bit_all zero r lt = absurd (omega (arith, lt))
@@ -120,11 +121,9 @@ module _ (P : Program) (b : ℕ) where
       leads
 
   module _ (t : List (Option (List Bool))) (s : Solves (lacking P b) t) (r : ℕ) (inside : r < regs_of (body_at P b)) where
-    absorbed : (q : ℕ) (bits : List Bool) (o : Option (List Bool)) → slot_at t q ≡ o → Absorbs (lacking P b) o bits → get_or bits r false ≡ true → is_lacking o r ≡ true
-    absorbed q bits None is h on = absurd h
-    absorbed q bits (Some a) is h on =
-        let long = from_valid (length a) (regs_of (body_at P b)) (s.valid q a is) in
-        subst (λ (z : List Bool). get_or z r false ≡ true) h (bit_right a bits r (omega (arith, inside, long)) on)
+    absorbed : (bits : List Bool) (o : Option (List Bool)) → Absorbs (lacking P b) o bits → get_or bits r false ≡ true → is_lacking o r ≡ true
+    absorbed bits None h on = absurd h
+    absorbed bits (Some a) h on = subst (λ (z : List Bool). get_or z r false ≡ true) h (bit_right a bits r on)
 
     over_step : (q p : ℕ) (step : Step P b q p) → NotWritten P b r q → p < length (points_of (body_at P b)) → (o : Option (List Bool)) → slot_at t q ≡ o → is_lacking o r ≡ true → is_lacking (slot_at t p) r ≡ true
     over_step q p step free lt None is lacks = absurd cc
@@ -134,11 +133,11 @@ module _ (P : Program) (b : ℕ) where
         let after = behind (point_at P b q) e in
         let leads : LeadsTo to p = subst (λ o. LeadsTo (edges_at o q) p) (sym step.there) step.leads in
         let on : get_or after r false ≡ true = subst (λ o. get_or (behind o e) r false ≡ true) (sym step.there) (kept_on (writes step.pt.kind) e r (free step.pt step.there) lacks) in
-        absorbed p after (slot_at t p) refl (s.edges q e is (p, after) (edge_there n to after p leads lt)) on
+        absorbed after (slot_at t p) (s.edges q e is (p, after) (edge_there n to after p leads lt)) on
 
     path_lacking : (past : List ℕ) (p : ℕ) → Path P b past p → Avoids P b r past → p < length (points_of (body_at P b)) → is_lacking (slot_at t p) r ≡ true
     path_lacking [] p path free lt =
-        subst (λ q. is_lacking (slot_at t q) r ≡ true) (sym path) (absorbed 0 (replicate (regs_of (body_at P b)) true) (slot_at t 0) refl s.entry (bit_all (regs_of (body_at P b)) r inside))
+        subst (λ q. is_lacking (slot_at t q) r ≡ true) (sym path) (absorbed (replicate (regs_of (body_at P b)) true) (slot_at t 0) s.entry (bit_all (regs_of (body_at P b)) r inside))
     path_lacking (q ∷ past) p path free lt =
         let within : q < length (points_of (body_at P b)) = slice_get_within (points_of (body_at P b)) q path.0.pt path.0.there in
         over_step q p path.0 free.0 lt (slot_at t q) refl (path_lacking past q path.1 free.1 within)

@@ -1,5 +1,5 @@
 -- Definite assignment as a dataflow problem: for each register whether some path comes without a write of it (JLS 8, 14.21 and 16).
-use Rattle.std.specs.Prelude.{ℕ, ◌+◌, ◌≡◌, ◌<◌, ◌↔◌, Bool, true, false, cond, ◌||◌, eqb, ltb, List, [], ◌∷◌, ◌++◌, length, get_or, replicate, slice_set, Option, Some, None}
+use Rattle.std.specs.Prelude.{ℕ, ◌+◌, ◌≡◌, ◌<◌, ◌↔◌, Bool, true, false, cond, eqb, ltb, List, [], ◌∷◌, ◌++◌, length, get_or, replicate, slice_set, Option, Some, None}
 use Rattle.jn_base.specs.declared.number.PointNo.{PointNo}
 use Rattle.jn_points.specs.declared.leads.Edges.{Edges}
 use Rattle.jn_points.specs.declared.point.Point.{Point}
@@ -9,12 +9,7 @@ use Rattle.jn_points.specs.Lookup.{points_of, regs_of, body_at, point_at}
 use Rattle.jn_points.specs.Shaped.{writes}
 use Rattle.jn_points.specs.Paths.{Reached, Lacks}
 use Rattle.jn_dataflow.specs.Problem.{Problem, slot_at}
-
--- what lacks a write on one of two paths
-abbrev pub or_bits : List Bool → List Bool → List Bool
-or_bits [] ys = []
-or_bits (x ∷ xs) [] = x ∷ xs
-or_bits (x ∷ xs) (y ∷ ys) = (x || y) ∷ or_bits xs ys
+use Rattle.jn_env.specs.Packed.{either_bits}
 
 -- how many bits are set
 abbrev pub bits_on : List Bool → ℕ
@@ -40,13 +35,13 @@ edge_to n (Some to) bits = cond (ltb to.0 n) ((to.0, bits) ∷ []) []
 abbrev pub edges_to : ℕ → Edges → List Bool → List (ℕ × List Bool)
 edges_to n to bits = edge_to n to.first bits ++ edge_to n to.second bits
 
--- at the entry each register lacks a write
+-- at the entry each register lacks a write; where paths meet one does that lacks it on one of them
 abbrev pub lacking : Program → ℕ → Problem (List Bool)
 lacking P b = record {
   count = length (points_of (body_at P b));
   entry = replicate (regs_of (body_at P b)) true;
   edges = λ p bits. edges_to (length (points_of (body_at P b))) (edges_at (point_at P b p) p) (behind (point_at P b p) bits);
-  join = or_bits;
+  join = either_bits;
   weight = bits_on;
   top = regs_of (body_at P b);
   valid = λ bits. eqb (length bits) (regs_of (body_at P b));

@@ -5,9 +5,9 @@ ghost use Rattle.jn_dataflow.specs.Problem.{slot_at};
 ghost use Rattle.jn_assigned.specs.Lacking.{TellsLacking, is_reached, is_lacking};
 
 use crate::assignment::Assignment;
-use crate::bits::bit_at;
-use jn_base::{OutOfMemory, Seq};
+use jn_base::OutOfMemory;
 use jn_dataflow::solve;
+use jn_env::packed::BitList;
 use jn_points::Program;
 use std::alloc::Global;
 use std::marker::Model;
@@ -16,7 +16,7 @@ use std::marker::Model;
 /// without a write of it.
 #[derive(Drop)]
 pub struct Unwritten {
-    slots: Vec<Option<Seq<bool>>>,
+    slots: Vec<Option<BitList>>,
 }
 
 impl Model for Unwritten {
@@ -50,12 +50,12 @@ impl Unwritten {
     }
 }
 
-fn lacks(slot: &Option<Seq<bool>>, reg: usize) -> bool
+fn lacks(slot: &Option<BitList>, reg: usize) -> bool
     ensures { result ≡ is_lacking slot.now reg }
 {
     match slot {
         None => false,
-        Some(bits) => bit_at(bits, reg),
+        Some(bits) => bits.get(reg),
     }
 }
 
