@@ -1,5 +1,5 @@
 -- The locals in scope, as a search from the last one on sees them.
-use Rattle.std.proofs.Common.{◌≡◌, ◌<◌, ◌≤◌, ℕ, ◌+◌, ◌-◌, List, [], ◌∷◌, ◌++◌, length, take, drop, get_or, refl, sym, ap, ◌∙◌, arith}
+use Rattle.std.proofs.Common.{◌≡◌, ◌<◌, ◌≤◌, ℕ, zero, suc, ◌+◌, ◌-◌, List, [], ◌∷◌, ◌++◌, length, take, drop, get_or, refl, sym, ap, ◌∙◌, arith}
 use Rattle.std.proofs.lemmas.List.{take_more, drop-append-le, take-append-le, length-append, length-drop}
 use Rattle.std.proofs.Math.Seq.{drop-append_seam, take-length}
 use Rattle.std.proofs.lemmas.Bool.{eq-eqb, ne_eqb}
@@ -26,6 +26,23 @@ here l ls n e = ap (λ b. cond b (Some l) (local_in ls n)) (eq-eqb l.name n e)
 
 there : (l : Local) (ls : List Local) (n : ℕ) → (l.name ≡ n → ⊥) → local_in (l ∷ ls) n ≡ local_in ls n
 there l ls n ne = ap (λ b. cond b (Some l) (local_in ls n)) (ne_eqb l.name n ne)
+
+-- places that hold other names
+skip : (rows : List Row) (vs : List Variable) (n k more : ℕ) → k + more ≤ length vs → ((i : ℕ) (v : Variable) → k ≤ i → i < k + more → (get_or vs i v).name.0 ≡ n → ⊥) → local_in (scope_of rows (take (k + more) vs)) n ≡ local_in (scope_of rows (take k vs)) n
+skip rows vs n k zero within others = ap (λ m. local_in (scope_of rows (take m vs)) n) (omega arith)
+skip rows [] n k (suc more) within others = absurd (omega (within, arith))
+skip rows (v ∷ vs) n k (suc more) within others =
+    let one : k + suc more ≡ k + more + 1 = omega arith in
+    let inside : k + more < length (v ∷ vs) = omega (within, arith) in
+    ap (λ s. local_in s n) (step rows (v ∷ vs) (k + more) (k + suc more) v one inside)
+    ∙ there (local_of rows (get_or (v ∷ vs) (k + more) v)) (scope_of rows (take (k + more) (v ∷ vs))) n (others (k + more) v (omega arith) (omega arith))
+    ∙ skip rows (v ∷ vs) n k more (omega (within, arith)) (λ i u from below. others i u from (omega (below, arith)))
+
+pub skipped : (rows : List Row) (vs : List Variable) (n k at : ℕ) → k ≤ at → at ≤ length vs → ((i : ℕ) (v : Variable) → k ≤ i → i < at → (get_or vs i v).name.0 ≡ n → ⊥) → local_in (scope_of rows (take at vs)) n ≡ local_in (scope_of rows (take k vs)) n
+skipped rows vs n k at le within others =
+    let all : at ≡ k + (at - k) = omega (le, arith) in
+    ap (λ m. local_in (scope_of rows (take m vs)) n) all
+    ∙ skip rows vs n k (at - k) (omega (le, within, arith)) (λ i v from below. others i v from (omega (below, le, arith)))
 
 pub found_here : (rows : List Row) (vs : List Variable) (n i at : ℕ) (d : Variable) → at ≡ i + 1 → i < length vs → local_in (scope_of rows (take at vs)) n ≡ local_in (scope_of rows vs) n → (get_or vs i d).name.0 ≡ n → local_in (scope_of rows vs) n ≡ Some (local_of rows (get_or vs i d))
 found_here rows vs n i at d e lt same named = sym same ∙ ap (λ s. local_in s n) (step rows vs i at d e lt) ∙ here (local_of rows (get_or vs i d)) (scope_of rows (take i vs)) n named

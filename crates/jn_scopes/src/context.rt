@@ -1,4 +1,5 @@
 //! Where an expression stands, and what its names mean there.
+use crate::variables::Variables;
 use jn_base::{ClassNo, FieldNo, MethodNo, NameNo, RegNo, Row};
 use jn_index::indexed::IndexedProgram;
 use jn_points::{BaseType, StrOperation};
@@ -36,7 +37,7 @@ pub struct Variable {
 #[derive(Clone, Copy)]
 pub struct Context<'a> {
     pub program: &'a IndexedProgram,
-    pub scope: &'a [Variable],
+    pub scope: &'a Variables,
     pub faults: &'a [Row],
     pub class: ClassNo,
     pub first: u32,

@@ -10,5 +10,7 @@ pub mod heads;
 pub mod lookup;
 pub mod members;
 pub mod types;
+pub mod variables;
 
 pub use context::{Access, Bound, Callee, Context, Faults, Meaning, Variable};
+pub use variables::Variables;

@@ -17,16 +17,7 @@ pub fn local_in(c: &Context, name: NameNo) -> Option<Variable>
     ensures { MatchOption result (spec.local_in (scope_in c.now) name.0 ≡ None)
         (λ v. spec.local_in (scope_in c.now) name.0 ≡ Some (local_of c.now.faults.now v)) }
 {
-    let scope = c.scope;
-    let mut at = scope.len();
-    while at > 0 {
-        let variable = scope[at - 1];
-        if variable.name.0 == name.0 {
-            return Some(variable);
-        }
-        at -= 1;
-    }
-    None
+    c.scope.find(name)
 }
 
 /// What an identifier means: the local in scope of that name, else the field that the class has, else the class of that name.
