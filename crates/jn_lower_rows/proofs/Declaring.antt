@@ -63,14 +63,14 @@ some_plain (Some l) = refl
 
 module _ (P : Program) where
   pub declare_walks : (old new : Names) (v : Variable) (n : Identifier) (base : BaseType) (fixed : Bool) (faults : Faults) (known : Bool) (x y z : List Row) → WellKept old → faults.to ≤ length old.faults.items →
-      y ≡ x ++ name_row n.name.0 n.span → known ≡ is_some (local_in (scope_of old.faults.items old.scope.items) n.name.0) → z ≡ y ++ when known (row J1 n.span) →
-      new.faults.items ≡ old.faults.items → new.scope.items ≡ old.scope.items ++ cond known [] (v ∷ []) → v ≡ record { name = n.name; reg = record { 0 = 0 }; base = base; bound = None; fixed = fixed; faults = faults } →
+      y ≡ x ++ name_row n.name.0 n.span → known ≡ is_some (local_in (scope_of old.faults.items old.scope) n.name.0) → z ≡ y ++ when known (row J1 n.span) →
+      new.faults.items ≡ old.faults.items → new.scope ≡ old.scope ++ cond known [] (v ∷ []) → v ≡ record { name = n.name; reg = record { 0 = 0 }; base = base; bound = None; fixed = fixed; faults = faults } →
       (bound : Option Qualifier) → Walks (λ f st. spec.declared_rows st.scope n.name.0 n.span) (λ f st. declares st n.name.0 base bound fixed (faults_of old.faults.items faults)) old new x z
   declare_walks old new v n base fixed faults known x y z k l rows ke more fe se ve bound = record {
     longer = record { scope = cond known [] (v ∷ []); faults = []; scope_is = se; faults_is = fe ∙ sym (append-nil old.faults.items) };
-    kept = subst (λ m. AllWithin m new.scope.items) (ap length (sym fe)) (subst (AllWithin (length old.faults.items)) (sym se) (kept known));
+    kept = subst (λ m. AllWithin m new.scope) (ap length (sym fe)) (subst (AllWithin (length old.faults.items)) (sym se) (kept known));
     adds = λ f st s. two x (name_row n.name.0 n.span) (when (is_some (local_in st.scope n.name.0)) (row J1 n.span)) y z rows (more ∙ ap (λ b. y ++ when b (row J1 n.span)) (seen st s));
-    stands = λ f st s. moved st s (is_some (local_in st.scope n.name.0)) (seen st s) ∙ ap (λ vs. scope_of old.faults.items vs) (sym se) ∙ ap (λ rs. scope_of rs new.scope.items) (sym fe);
+    stands = λ f st s. moved st s (is_some (local_in st.scope n.name.0)) (seen st s) ∙ ap (λ vs. scope_of old.faults.items vs) (sym se) ∙ ap (λ rs. scope_of rs new.scope) (sym fe);
   }
     where
       seen : (st : State) → Stands st old → known ≡ is_some (local_in st.scope n.name.0)
@@ -79,23 +79,23 @@ module _ (P : Program) where
       within : v.faults.to ≤ length old.faults.items
       within = subst (λ w. w.faults.to ≤ length old.faults.items) (sym ve) l
 
-      kept : (b : Bool) → AllWithin (length old.faults.items) (old.scope.items ++ cond b [] (v ∷ []))
-      kept true = subst (AllWithin (length old.faults.items)) (sym (append-nil old.scope.items)) k
-      kept false = all_append (length old.faults.items) old.scope.items v k within
+      kept : (b : Bool) → AllWithin (length old.faults.items) (old.scope ++ cond b [] (v ∷ []))
+      kept true = subst (AllWithin (length old.faults.items)) (sym (append-nil old.scope)) k
+      kept false = all_append (length old.faults.items) old.scope v k within
 
-      moved : (st : State) → Stands st old → (b : Bool) → known ≡ b → plain (cond b st.scope (record { name = n.name.0; reg = length st.locals; base = base; bound = bound; fixed = fixed; faults = faults_of old.faults.items faults } ∷ st.scope)) ≡ scope_of old.faults.items (old.scope.items ++ cond known [] (v ∷ []))
-      moved st s true e = s ∙ ap (scope_of old.faults.items) (sym (append-nil old.scope.items)) ∙ sym (ap (λ b. scope_of old.faults.items (old.scope.items ++ cond b [] (v ∷ []))) e)
+      moved : (st : State) → Stands st old → (b : Bool) → known ≡ b → plain (cond b st.scope (record { name = n.name.0; reg = length st.locals; base = base; bound = bound; fixed = fixed; faults = faults_of old.faults.items faults } ∷ st.scope)) ≡ scope_of old.faults.items (old.scope ++ cond known [] (v ∷ []))
+      moved st s true e = s ∙ ap (scope_of old.faults.items) (sym (append-nil old.scope)) ∙ sym (ap (λ b. scope_of old.faults.items (old.scope ++ cond b [] (v ∷ []))) e)
       moved st s false e = ap (λ u. record { name = n.name.0; reg = 0; base = base; bound = None; fixed = fixed; faults = faults_of old.faults.items faults } ∷ u) s
-          ∙ ap (λ w. local_of old.faults.items w ∷ scope_of old.faults.items old.scope.items) (sym ve) ∙ sym (scope_last old.faults.items old.scope.items v)
-          ∙ sym (ap (λ b. scope_of old.faults.items (old.scope.items ++ cond b [] (v ∷ []))) e)
+          ∙ ap (λ w. local_of old.faults.items w ∷ scope_of old.faults.items old.scope) (sym ve) ∙ sym (scope_last old.faults.items old.scope v)
+          ∙ sym (ap (λ b. scope_of old.faults.items (old.scope ++ cond b [] (v ∷ []))) e)
 
-  pub type_walks : (old new : Names) (u : TypeUse) (notes : List Annotation) (x y z : List Row) → WellKept old → y ≡ x ++ type_rows (placed_type_use u) both_kinds notes → z ≡ y ++ base_rows P u.base → new.scope.items ≡ old.scope.items → new.faults.items ≡ old.faults.items ++ base_rows P u.base →
+  pub type_walks : (old new : Names) (u : TypeUse) (notes : List Annotation) (x y z : List Row) → WellKept old → y ≡ x ++ type_rows (placed_type_use u) both_kinds notes → z ≡ y ++ base_rows P u.base → new.scope ≡ old.scope → new.faults.items ≡ old.faults.items ++ base_rows P u.base →
       Walks (λ n st. type_rows (placed_type_use u) both_kinds notes ++ base_rows P u.base) (λ n st. st) old new x z
   type_walks old new u notes x y z k g h se fe = record {
-    longer = record { scope = []; faults = base_rows P u.base; scope_is = se ∙ sym (append-nil old.scope.items); faults_is = fe };
-    kept = subst (λ vs. AllWithin (length new.faults.items) vs) (sym se) (all_more (length old.faults.items) (length new.faults.items) old.scope.items (omega (ap length fe, length-append old.faults.items (base_rows P u.base), arith)) k);
+    longer = record { scope = []; faults = base_rows P u.base; scope_is = se ∙ sym (append-nil old.scope); faults_is = fe };
+    kept = subst (λ vs. AllWithin (length new.faults.items) vs) (sym se) (all_more (length old.faults.items) (length new.faults.items) old.scope (omega (ap length fe, length-append old.faults.items (base_rows P u.base), arith)) k);
     adds = λ f st s. two x (type_rows (placed_type_use u) both_kinds notes) (base_rows P u.base) y z g h;
-    stands = λ f st s. s ∙ sym (scope_more old.faults.items (base_rows P u.base) old.scope.items k) ∙ ap (λ rs. scope_of rs old.scope.items) (sym fe) ∙ ap (scope_of new.faults.items) (sym se);
+    stands = λ f st s. s ∙ sym (scope_more old.faults.items (base_rows P u.base) old.scope k) ∙ ap (λ rs. scope_of rs old.scope) (sym fe) ∙ ap (scope_of new.faults.items) (sym se);
   }
 
   -- the rows of a type that was declared last

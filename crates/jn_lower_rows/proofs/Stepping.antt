@@ -57,14 +57,14 @@ module _ (P : Program) (c : ℕ) (at : Setting) where
 
   -- an expression adds its rows
   abbrev pub Adds : Expr → Names → List Row → List Row → Type 0
-  Adds e names x y = y ≡ x ++ rows_of P c at (scope_of names.faults.items names.scope.items) (placed_view e)
+  Adds e names x y = y ≡ x ++ rows_of P c at (scope_of names.faults.items names.scope) (placed_view e)
 
   abbrev pub AddsAll : List Expr → Names → List Row → List Row → Type 0
-  AddsAll es names x y = y ≡ x ++ rows_of_all P c at (scope_of names.faults.items names.scope.items) (placed_views es)
+  AddsAll es names x y = y ≡ x ++ rows_of_all P c at (scope_of names.faults.items names.scope) (placed_views es)
 
   -- back to the names of before
   abbrev pub IsBack : Names → Names → Names → Type 0
-  IsBack old new back = (back.scope.items ≡ take (length old.scope.items) new.scope.items) × (back.faults.items ≡ take (length old.faults.items) new.faults.items)
+  IsBack old new back = (back.scope ≡ take (length old.scope) new.scope) × (back.faults.items ≡ take (length old.faults.items) new.faults.items)
 
   look_walks : (e : Expr) (m : ℕ → State → State) (names : Names) (x y : List Row) → WellKept names → ((f : ℕ) (st : State) → (m f st).scope ≡ st.scope) → Adds e names x y → Walks (λ f st. spec.rows_in P c f at st (placed_view e)) m names names x y
   look_walks e m names x y k same h = walk_stay (λ f st. spec.rows_in P c f at st (placed_view e)) m names x y k same (λ f st s. h ∙ ap (λ r. x ++ r) (look_rows P c at st names s (placed_view e)))
@@ -259,7 +259,7 @@ module _ (P : Program) (c : ℕ) (at : Setting) where
       (subst (λ q. WalksNames q is_final faults (bound l.type_use l.modifiers.items) (placed_declarator l.first ∷ placed_declarators l.more.items) mid new y z) (be ∙ ap (type_of_use P (placed_type_use l.type_use)) ne) (d (bound l.type_use l.modifiers.items)))))
 
   -- what a `for` goes over
-  pub array_walks : (e : Expr) (base : BaseType) (clean : Bool) (names : Names) (x y z : List Row) → WellKept names → Adds e names x y → base ≡ type_of P c (scope_of names.faults.items names.scope.items) (placed_view e) → clean ≡ eqb (length y) (length x) →
+  pub array_walks : (e : Expr) (base : BaseType) (clean : Bool) (names : Names) (x y z : List Row) → WellKept names → Adds e names x y → base ≡ type_of P c (scope_of names.faults.items names.scope) (placed_view e) → clean ≡ eqb (length y) (length x) →
       z ≡ y ++ cond clean (when (not (is_array base)) (row J2 (inner_span (placed_view e)))) [] → Walks (λ f st. spec.array_rows P c f at st (placed_view e)) (λ f st. st) names names x z
   array_walks e base clean names x y z k h t ce g = walk_stay (λ f st. spec.array_rows P c f at st (placed_view e)) (λ f st. st) names x z k (λ f st. refl) (λ f st s.
       let rows : y ≡ x ++ rows_of P c at st.scope (placed_view e) = h ∙ ap (λ r. x ++ r) (look_rows P c at st names s (placed_view e)) in

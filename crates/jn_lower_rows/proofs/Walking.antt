@@ -22,12 +22,12 @@ longer_then : (a b d : Names) → Longer a b → Longer b d → Longer a d
 longer_then a b d g h = record {
   scope = g.scope ++ h.scope;
   faults = g.faults ++ h.faults;
-  scope_is = h.scope_is ∙ ap (λ x. x ++ h.scope) g.scope_is ∙ append_assoc a.scope.items g.scope h.scope;
+  scope_is = h.scope_is ∙ ap (λ x. x ++ h.scope) g.scope_is ∙ append_assoc a.scope g.scope h.scope;
   faults_is = h.faults_is ∙ ap (λ x. x ++ h.faults) g.faults_is ∙ append_assoc a.faults.items g.faults h.faults;
 }
 
 pub longer_self : (a : Names) → Longer a a
-longer_self a = record { scope = []; faults = []; scope_is = sym (append-nil a.scope.items); faults_is = sym (append-nil a.faults.items) }
+longer_self a = record { scope = []; faults = []; scope_is = sym (append-nil a.scope); faults_is = sym (append-nil a.faults.items) }
 
 pub walk_then : (r1 r2 : ℕ → State → List Row) (b1 b2 : ℕ → State → State) (a b d : Names) (x y z : List Row) → Walks r1 b1 a b x y → Walks r2 b2 b d y z → Walks (λ f st. r1 f st ++ r2 f (b1 f st)) (λ f st. b2 f (b1 f st)) a d x z
 walk_then r1 r2 b1 b2 a b d x y z g h = record {
@@ -61,28 +61,28 @@ walk_stay r m names x y k same adds = record { longer = longer_self names; kept 
 
 -- back to the names before it
 pub walk_back : (r : ℕ → State → List Row) (b m : ℕ → State → State) (old new back : Names) (x y : List Row) → WellKept old → ((f : ℕ) (st : State) → (m f st).scope ≡ st.scope) → Walks r b old new x y →
-    back.scope.items ≡ take (length old.scope.items) new.scope.items → back.faults.items ≡ take (length old.faults.items) new.faults.items → Walks r m old back x y
+    back.scope ≡ take (length old.scope) new.scope → back.faults.items ≡ take (length old.faults.items) new.faults.items → Walks r m old back x y
 walk_back r b m old new back x y k same g e f = record {
-  longer = record { scope = []; faults = []; scope_is = scope ∙ sym (append-nil old.scope.items); faults_is = faults ∙ sym (append-nil old.faults.items) };
-  kept = subst (λ n. AllWithin n back.scope.items) (ap length (sym faults)) (subst (λ vs. AllWithin (length old.faults.items) vs) (sym scope) k);
+  longer = record { scope = []; faults = []; scope_is = scope ∙ sym (append-nil old.scope); faults_is = faults ∙ sym (append-nil old.faults.items) };
+  kept = subst (λ n. AllWithin n back.scope) (ap length (sym faults)) (subst (λ vs. AllWithin (length old.faults.items) vs) (sym scope) k);
   adds = g.adds;
-  stands = λ n st s. ap plain (same n st) ∙ s ∙ ap (λ vs. scope_of old.faults.items vs) (sym scope) ∙ ap (λ rows. scope_of rows back.scope.items) (sym faults);
+  stands = λ n st s. ap plain (same n st) ∙ s ∙ ap (λ vs. scope_of old.faults.items vs) (sym scope) ∙ ap (λ rows. scope_of rows back.scope) (sym faults);
 }
   where
-    scope : back.scope.items ≡ old.scope.items
-    scope = e ∙ ap (take (length old.scope.items)) g.longer.scope_is ∙ take-append_seam old.scope.items g.longer.scope
+    scope : back.scope ≡ old.scope
+    scope = e ∙ ap (take (length old.scope)) g.longer.scope_is ∙ take-append_seam old.scope g.longer.scope
 
     faults : back.faults.items ≡ old.faults.items
     faults = f ∙ ap (take (length old.faults.items)) g.longer.faults_is ∙ take-append_seam old.faults.items g.longer.faults
 
 module _ (P : Program) (c : ℕ) (at : Setting) (st : State) (names : Names) (s : Stands st names) where
-  pub look_rows : (e : PlacedTree) → rows_of P c at (scope_of names.faults.items names.scope.items) e ≡ rows_of P c at st.scope e
+  pub look_rows : (e : PlacedTree) → rows_of P c at (scope_of names.faults.items names.scope) e ≡ rows_of P c at st.scope e
   look_rows e = ap (λ u. rows_of P c at u e) (sym s) ∙ plain_rows P c st.scope at e
 
-  pub look_all : (es : PlacedTrees) → rows_of_all P c at (scope_of names.faults.items names.scope.items) es ≡ rows_of_all P c at st.scope es
+  pub look_all : (es : PlacedTrees) → rows_of_all P c at (scope_of names.faults.items names.scope) es ≡ rows_of_all P c at st.scope es
   look_all es = ap (λ u. rows_of_all P c at u es) (sym s) ∙ plain_all P c st.scope at es
 
-  pub look_type : (e : PlacedTree) → type_of P c (scope_of names.faults.items names.scope.items) e ≡ type_of P c st.scope e
+  pub look_type : (e : PlacedTree) → type_of P c (scope_of names.faults.items names.scope) e ≡ type_of P c st.scope e
   look_type e = ap (λ u. type_of P c u e) (sym s) ∙ plain_type P c st.scope e
 
 -- what an expression adds in the names' context

@@ -61,13 +61,13 @@ next_parameter ps bs i j p q b d vs v je lp lb pe be ve h =
 module _ (P : Program) (m : ℕ) (st : State) (names : Names) (s : Stands st names) where
   pub call_adds : (Q : Program) (c : ℕ) (at : settings.Setting) (D : Program) (d n : ℕ) (k : ℕ) (es : PlacedTrees) (span : Span) (x y z : List Row) →
       Q ≡ P → c ≡ bodies.class P m → at ≡ record { this_stands = false; own_fields = false } → D ≡ Q → d ≡ c → n ≡ count es →
-      y ≡ x ++ rows_of_all Q c (setting_of at) (scope_of names.faults.items names.scope.items) es → z ≡ y ++ ctor_rows D d (constructor_of D k n) span → z ≡ x ++ spec.ctor_call_rows P m st k es span
+      y ≡ x ++ rows_of_all Q c (setting_of at) (scope_of names.faults.items names.scope) es → z ≡ y ++ ctor_rows D d (constructor_of D k n) span → z ≡ x ++ spec.ctor_call_rows P m st k es span
   call_adds Q c at D d n k es span x y z qe ce ae de ee ne g h =
       two x (rows_of_all P (bodies.class P m) spec.no_this st.scope es) (ctor_rows P (bodies.class P m) (constructor_of P k (count es)) span) y z
       (g ∙ ap (λ r. x ++ r) (
-      ap (λ Q. rows_of_all Q c (setting_of at) (scope_of names.faults.items names.scope.items) es) qe
-      ∙ ap (λ c. rows_of_all P c (setting_of at) (scope_of names.faults.items names.scope.items) es) ce
-      ∙ ap (λ at. rows_of_all P (bodies.class P m) (setting_of at) (scope_of names.faults.items names.scope.items) es) ae
+      ap (λ Q. rows_of_all Q c (setting_of at) (scope_of names.faults.items names.scope) es) qe
+      ∙ ap (λ c. rows_of_all P c (setting_of at) (scope_of names.faults.items names.scope) es) ce
+      ∙ ap (λ at. rows_of_all P (bodies.class P m) (setting_of at) (scope_of names.faults.items names.scope) es) ae
       ∙ look_all P (bodies.class P m) spec.no_this st names s es))
       (h ∙ ap (λ r. y ++ r) (
       ap (λ D. ctor_rows D d (constructor_of D k n) span) (de ∙ qe)
@@ -76,13 +76,13 @@ module _ (P : Program) (m : ℕ) (st : State) (names : Names) (s : Stands st nam
 
 -- an initializer
 
-pub value_adds : (P : Program) (m f : ℕ) (none : Names) (Q : Program) (c : ℕ) (at : settings.Setting) (e : PlacedTree) (x y : List Row) → none.scope.items ≡ [] → Q ≡ P → c ≡ bodies.class P m → at ≡ record { this_stands = true; own_fields = false } → is_static P f ≡ false →
-    y ≡ x ++ rows_of Q c (setting_of at) (scope_of none.faults.items none.scope.items) e → y ≡ x ++ when (not (is_static P f)) (rows_of P (bodies.class P m) spec.in_initializer [] e)
+pub value_adds : (P : Program) (m f : ℕ) (none : Names) (Q : Program) (c : ℕ) (at : settings.Setting) (e : PlacedTree) (x y : List Row) → none.scope ≡ [] → Q ≡ P → c ≡ bodies.class P m → at ≡ record { this_stands = true; own_fields = false } → is_static P f ≡ false →
+    y ≡ x ++ rows_of Q c (setting_of at) (scope_of none.faults.items none.scope) e → y ≡ x ++ when (not (is_static P f)) (rows_of P (bodies.class P m) spec.in_initializer [] e)
 value_adds P m f none Q c at e x y ne qe ce ae se g =
     g ∙ ap (λ r. x ++ r) (
-    ap (λ Q. rows_of Q c (setting_of at) (scope_of none.faults.items none.scope.items) e) qe
-    ∙ ap (λ c. rows_of P c (setting_of at) (scope_of none.faults.items none.scope.items) e) ce
-    ∙ ap (λ at. rows_of P (bodies.class P m) (setting_of at) (scope_of none.faults.items none.scope.items) e) ae
+    ap (λ Q. rows_of Q c (setting_of at) (scope_of none.faults.items none.scope) e) qe
+    ∙ ap (λ c. rows_of P c (setting_of at) (scope_of none.faults.items none.scope) e) ce
+    ∙ ap (λ at. rows_of P (bodies.class P m) (setting_of at) (scope_of none.faults.items none.scope) e) ae
     ∙ ap (λ vs. rows_of P (bodies.class P m) spec.in_initializer (scope_of none.faults.items vs) e) ne
     ∙ sym (ap (λ b. when (not b) (rows_of P (bodies.class P m) spec.in_initializer [] e)) se))
 

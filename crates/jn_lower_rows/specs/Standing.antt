@@ -21,16 +21,16 @@ AllWithin n (v ∷ vs) = (v.faults.to ≤ n) × AllWithin n vs
 
 -- the state's names are these
 abbrev pub Stands : State → Names → Type 0
-Stands st names = plain st.scope ≡ scope_of names.faults.items names.scope.items
+Stands st names = plain st.scope ≡ scope_of names.faults.items names.scope
 
 abbrev pub WellKept : Names → Type 0
-WellKept names = AllWithin (length names.faults.items) names.scope.items
+WellKept names = AllWithin (length names.faults.items) names.scope
 
 -- names are added at the end
 pub record Longer (old new : Names) : Type 0 where
   pub scope : List Variable
   pub faults : List Row
-  pub scope_is : new.scope.items ≡ old.scope.items ++ scope
+  pub scope_is : new.scope ≡ old.scope ++ scope
   pub faults_is : new.faults.items ≡ old.faults.items ++ faults
 
 -- from the one place to the other: exactly these rows are added, whatever registers and temporaries there are, and the names are those of the state behind

@@ -7,13 +7,13 @@ ghost use Rattle.jn_lowering.specs.Locals.{has_final, parameters_from};
 ghost use Rattle.jn_scopes.specs.Views.{local_of, scope_of};
 ghost use Rattle.jn_lower_rows.specs.Standing.{AllWithin, Stands, WellKept, plain};
 
-use crate::standing::Names;
+use crate::standing::{Names, put};
 use jn_base::{MethodNo, RegNo};
 use jn_index::indexed::IndexedProgram;
 use jn_points::BaseType;
 use jn_scopes::heads::params_of;
 use jn_scopes::types::has_final;
-use jn_scopes::{Faults, Variable};
+use jn_scopes::{Faults, Variable, Variables};
 use jn_trees::Parameter;
 use std::alloc::{AllocError, Global};
 
@@ -27,10 +27,10 @@ pub struct Whole<'a> {
 
 /// No names.
 pub fn no_names(alloc: Global) -> Names
-    ensures { (result.scope.items ≡ []) × (result.faults.items ≡ []) }
+    ensures { (result.scope ≡ []) × (result.faults.items ≡ []) }
 {
     Names {
-        scope: Vec::new(alloc),
+        scope: Variables::new(alloc),
         faults: Vec::new(alloc),
     }
 }
@@ -77,25 +77,25 @@ fn parameter_scope(
     alloc: Global,
     parameters: &[Parameter],
     bases: &[BaseType],
-) -> Result<Vec<Variable>, AllocError>
-    ensures { IfOk result (λ vs. (scope_of [] vs.items
+) -> Result<Variables, AllocError>
+    ensures { IfOk result (λ vs. (scope_of [] vs
         ≡ plain (parameters_from 0 (placed_parameters parameters.now) bases.now))
-        × AllWithin 0 vs.items) }
+        × AllWithin 0 vs) }
 {
-    let mut scope = Vec::new(alloc);
+    let mut scope = Variables::new(alloc);
     let mut left = typed(parameters, bases);
     while left > 0 {
         left -= 1;
-        scope.push(parameter_of(&parameters[left], bases[left]))?;
+        put(&mut scope, parameter_of(&parameters[left], bases[left]))?;
     }
     Ok(scope)
 }
 
-fn entry_scope(whole: &Whole, parameters: &[Parameter]) -> Result<Vec<Variable>, AllocError>
-    ensures { IfOk result (λ vs. (scope_of [] vs.items
+fn entry_scope(whole: &Whole, parameters: &[Parameter]) -> Result<Variables, AllocError>
+    ensures { IfOk result (λ vs. (scope_of [] vs
         ≡ plain (parameters_from 0 (placed_parameters parameters.now)
         (params_of (method_at whole.now.program.now whole.now.method.0))))
-        × AllWithin 0 vs.items) }
+        × AllWithin 0 vs) }
 {
     let bases = params_of(whole.program, whole.method);
     parameter_scope(whole.alloc, parameters, bases)

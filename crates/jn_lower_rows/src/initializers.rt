@@ -41,7 +41,7 @@ fn field_rows(
     rows: &mut Seq<Row>,
 ) -> Result<(), AllocError>
     requires few { Few whole.now.program.now }
-    requires none { none.now.scope.items ≡ [] }
+    requires none { none.now.scope ≡ [] }
     ensures { OnOk result (rows.new
         ≡ rows.old
         ++ annotated.when (not (is_static whole.now.program.now field.0)) (rows_of
@@ -63,7 +63,7 @@ fn value_rows(
     rows: &mut Seq<Row>,
 ) -> Result<(), AllocError>
     requires few { Few whole.now.program.now }
-    requires none { none.now.scope.items ≡ [] }
+    requires none { none.now.scope ≡ [] }
     ensures { OnOk result (rows.new
         ≡ rows.old
         ++ spec.initializer_rows whole.now.program.now whole.now.method.0 name.0
@@ -84,7 +84,7 @@ fn initializer(
     rows: &mut Seq<Row>,
 ) -> Result<(), AllocError>
     requires few { Few whole.now.program.now }
-    requires none { none.now.scope.items ≡ [] }
+    requires none { none.now.scope ≡ [] }
     ensures { OnOk result (rows.new
         ≡ rows.old
         ++ spec.initializer_rows whole.now.program.now whole.now.method.0
@@ -103,7 +103,7 @@ fn initializers(
     rows: &mut Seq<Row>,
 ) -> Result<(), AllocError>
     requires few { Few whole.now.program.now }
-    requires none { none.now.scope.items ≡ [] }
+    requires none { none.now.scope ≡ [] }
     ensures { OnOk result (rows.new
         ≡ rows.old
         ++ spec.initializers_rows whole.now.program.now whole.now.method.0
@@ -122,7 +122,7 @@ fn member_initializers(
     rows: &mut Seq<Row>,
 ) -> Result<(), AllocError>
     requires few { Few whole.now.program.now }
-    requires none { none.now.scope.items ≡ [] }
+    requires none { none.now.scope ≡ [] }
     ensures { OnOk result (rows.new
         ≡ rows.old
         ++ spec.initializers_rows whole.now.program.now whole.now.method.0
@@ -146,7 +146,7 @@ pub fn all_initializers(
     rows: &mut Seq<Row>,
 ) -> Result<(), AllocError>
     requires few { Few whole.now.program.now }
-    requires none { none.now.scope.items ≡ [] }
+    requires none { none.now.scope ≡ [] }
     ensures { OnOk result (rows.new
         ≡ rows.old
         ++ spec.member_rows whole.now.program.now whole.now.method.0

@@ -18,7 +18,7 @@ use jn_index::indexed::IndexedProgram;
 use jn_points::BaseType;
 use jn_scopes::lookup::local_in;
 use jn_scopes::members::class_named;
-use jn_scopes::{Context, Faults, Variable};
+use jn_scopes::{Context, Faults, Variable, Variables};
 use jn_trees::{Annotation, Base, Identifier, TypeUse};
 use std::alloc::{AllocError, Global};
 
@@ -34,7 +34,7 @@ pub struct Place<'a> {
 /// The names in scope, the last declared one last, and the rows of their declared types.
 #[derive(Drop)]
 pub struct Names {
-    pub scope: Vec<Variable>,
+    pub scope: Variables,
     pub faults: Vec<Row>,
 }
 
@@ -48,7 +48,7 @@ pub struct Mark {
 /// Where the expressions of a statement stand. Rows have no use for registers.
 pub fn context<'a>(place: &Place<'a>, names: &'a Names) -> Context<'a>
     ensures { (result.program.now ≡ place.now.program.now) × (result.class ≡ place.now.class)
-        × (result.scope.now ≡ names.now.scope.items)
+        × (result.scope.now ≡ names.now.scope)
         × (result.faults.now ≡ names.now.faults.items) }
 {
     Context {
@@ -63,7 +63,7 @@ pub fn context<'a>(place: &Place<'a>, names: &'a Names) -> Context<'a>
 
 /// Where the names end.
 pub fn mark_of(names: &Names) -> Mark
-    ensures { (result.scope ≡ length names.now.scope.items)
+    ensures { (result.scope ≡ length names.now.scope)
         × (result.faults ≡ length names.now.faults.items) }
 {
     Mark {
@@ -74,7 +74,7 @@ pub fn mark_of(names: &Names) -> Mark
 
 /// The names that were declared since then are in scope no more.
 pub fn back_to(names: &mut Names, mark: Mark)
-    ensures { (names.new.scope.items ≡ take mark.scope names.old.scope.items)
+    ensures { (names.new.scope ≡ take mark.scope names.old.scope)
         × (names.new.faults.items ≡ take mark.faults names.old.faults.items) }
 {
     names.scope.truncate(mark.scope);
@@ -109,17 +109,27 @@ fn add_faults(
 /// Whether a local of the name is in scope.
 fn is_known(place: &Place, names: &Names, name: Identifier) -> bool
     ensures { result
-        ≡ is_some (found_in (scope_of names.now.faults.items names.now.scope.items) name.name.0) }
+        ≡ is_some (found_in (scope_of names.now.faults.items names.now.scope) name.name.0) }
 {
     local_in(&context(place, names), name.name).is_some()
 }
 
+/// Brings a local into scope.
+pub(crate) fn put(scope: &mut Variables, variable: Variable) -> Result<(), AllocError>
+    ensures { OnOk result (scope.new ≡ scope.old ++ variable ∷ []) }
+{
+    match scope.push(variable) {
+        Ok(()) => Ok(()),
+        Err(_) => Err(AllocError),
+    }
+}
+
 fn add(names: &mut Names, known: bool, variable: Variable) -> Result<(), AllocError>
     ensures { OnOk result ((names.new.faults.items ≡ names.old.faults.items)
-        × (names.new.scope.items ≡ names.old.scope.items ++ cond known [] (variable ∷ []))) }
+        × (names.new.scope ≡ names.old.scope ++ cond known [] (variable ∷ []))) }
 {
     if !known {
-        names.scope.push(variable)?;
+        put(&mut names.scope, variable)?;
     }
     Ok(())
 }

@@ -32,11 +32,11 @@ pub fn look(
     requires few { Few place.now.program.now }
     ensures { IfOk result (λ base. (base
         ≡ type_in_scope place.now.program.now place.now.class.0
-        (scope_of names.now.faults.items names.now.scope.items) (placed_view tree.now))
+        (scope_of names.now.faults.items names.now.scope) (placed_view tree.now))
         × (rows.new
         ≡ rows.old
         ++ rows_of place.now.program.now place.now.class.0 (setting_of place.now.at)
-        (scope_of names.now.faults.items names.now.scope.items)
+        (scope_of names.now.faults.items names.now.scope)
         (placed_view tree.now))) }
 {
     let base = expression(tree, &context(place, names), place.at, rows)?;
@@ -54,7 +54,7 @@ pub fn look_all(
     ensures { OnOk result (rows.new
         ≡ rows.old
         ++ rows_of_all place.now.program.now place.now.class.0 (setting_of place.now.at)
-        (scope_of names.now.faults.items names.now.scope.items) (placed_views trees.now)) }
+        (scope_of names.now.faults.items names.now.scope) (placed_views trees.now)) }
 {
     all(trees, &context(place, names), place.at, rows)?;
     Ok(())

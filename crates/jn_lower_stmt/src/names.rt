@@ -4,7 +4,7 @@ ghost use Rattle.jn_lower_stmt.specs.Views.{declared_local, rows_of};
 
 use jn_base::{NameNo, OutOfMemory, RegNo, Row};
 use jn_points::BaseType;
-use jn_scopes::{Bound, Faults, Variable};
+use jn_scopes::{Bound, Faults, Variable, Variables};
 use std::alloc::Global;
 use std::marker::Model;
 
@@ -23,7 +23,7 @@ pub struct Declared {
 /// The names in scope with the last declared one last, and the rows of all declared types so far.
 #[derive(Drop)]
 pub struct Names {
-    pub(crate) variables: Vec<Variable>,
+    pub(crate) variables: Variables,
     pub(crate) rows: Vec<Row>,
 }
 
@@ -35,9 +35,9 @@ impl Model for Names {
 
     ghost Value = { Scope };
 
-    ghost view = { λ n. scope_of n.rows.items n.variables.items };
+    ghost view = { λ n. scope_of n.rows.items n.variables };
 
-    ghost invariant = { λ n. Within (length n.rows.items) n.variables.items };
+    ghost invariant = { λ n. Within (length n.rows.items) n.variables };
 }
 
 fn put(rows: &mut Vec<Row>, fault: Option<Row>) -> Result<(), OutOfMemory>
@@ -64,16 +64,6 @@ fn put_rows(rows: &mut Vec<Row>, fault: Option<Row>) -> Result<Faults, OutOfMemo
     put(rows, fault)?;
     let to = rows.len();
     Ok(Faults { from, to })
-}
-
-fn push(variables: &mut Vec<Variable>, variable: Variable) -> Result<(), OutOfMemory>
-    ensures ok { OnOk result (variables.new.items ≡ variables.old.items ++ variable ∷ []) }
-    ensures err { OnErr result (variables.new.items ≡ variables.old.items) }
-{
-    match variables.push(variable) {
-        Ok(()) => Ok(()),
-        Err(_) => Err(OutOfMemory),
-    }
 }
 
 /// The local with its rows at these places.
@@ -104,7 +94,7 @@ impl Names {
         ensures { result ≡ [] }
     {
         Names {
-            variables: Vec::new(alloc),
+            variables: Variables::new(alloc),
             rows: Vec::new(alloc),
         }
     }
@@ -129,7 +119,7 @@ impl Names {
         ensures { OnOk result (self.new ≡ declared_local local ∷ self.old) }
     {
         let faults = put_rows(&mut self.rows, local.fault)?;
-        push(&mut self.variables, variable(local, faults))?;
+        self.variables.push(variable(local, faults))?;
         Ok(())
     }
 }

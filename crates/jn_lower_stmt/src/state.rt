@@ -22,7 +22,7 @@ use jn_lower_expr::values::temporary;
 use jn_points::{BaseType, Operand};
 use jn_scopes::lookup::local_in;
 use jn_scopes::types::type_of;
-use jn_scopes::{Bound, Context};
+use jn_scopes::{Bound, Context, Variables};
 use jn_trees::Expr;
 use std::alloc::Global;
 use std::marker::Model;
@@ -258,7 +258,8 @@ impl BodyContext<'_> {
     }
 
     /// Where an expression with no local in scope stands.
-    fn outside(&self) -> Context<'_>
+    fn outside<'a>(&'a self, none: &'a Variables) -> Context<'a>
+        requires none { none.now ≡ [] }
         ensures program { result.program.now ≡ self.now.program.now }
         ensures scope { scope_in result ≡ [] }
         ensures class { result.class ≡ self.now.class }
@@ -266,7 +267,7 @@ impl BodyContext<'_> {
     {
         Context {
             program: self.program,
-            scope: &[],
+            scope: none,
             faults: &[],
             class: self.class,
             first: self.first,
@@ -325,7 +326,8 @@ pub fn evaluate_outside(
     ensures { IfOk result (λ o.
         GivesIn (valued_outside c.now s.old (placed_view tree.now)) s.old e.old o e.new s.new) }
 {
-    let given = value(tree, &c.outside(), e, &mut s.temporaries)?;
+    let none = Variables::new(c.alloc);
+    let given = value(tree, &c.outside(&none), e, &mut s.temporaries)?;
     Ok(given.operand)
 }
 

@@ -2,7 +2,7 @@
 use Rattle.std.proofs.Common.{◌≡◌, ◌<◌, ◌≤◌, ℕ, ◌+◌, ◌-◌, ◌%◌, List, length, take, get_or, refl, sym, ap, ◌∙◌, subst, arith}
 use Rattle.std.proofs.Math.Seq.{take-length}
 use Rattle.std.proofs.lemmas.List.{get_or_default}
-use Rattle.std.specs.Prelude.{None, Some}
+use Rattle.std.specs.Prelude.{Some}
 use Rattle.jn_base.specs.declared.place.Row.{Row}
 use Rattle.jn_lowering.specs.Scopes.{local_in}
 use Rattle.jn_scopes.specs.declared.context.Variable.{Variable}
@@ -48,6 +48,3 @@ module _ (vs : List Variable) (n : ℕ) where
 
       pub moved : (v.name.0 ≡ n → ⊥) → Looking vs n k
       moved other = move (at - 1) (group_of (get_or vs (at - 1) v)) k (looking.1 v some) (omega (inside, arith)) (λ rows. passed rows vs n (at - 1) at v one inside (looking.2 rows) (λ named. other (ap (λ u. u.name.0) is_v ∙ named))) before
-
-  pub missing : (at : ℕ) → at ≡ 0 → Looking vs n at → (rows : List Row) → local_in (scope_of rows vs) n ≡ None
-  missing at e looking rows = sym (looking.2 rows) ∙ ap (λ k. local_in (scope_of rows (take k vs)) n) e

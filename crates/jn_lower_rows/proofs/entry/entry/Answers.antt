@@ -11,6 +11,6 @@ pub returns : goal.returns
 returns c = (
   plain_from (first_parameter c.args.whole.now.program.now c.args.whole.now.method.0) 0 (placed_parameters c.args.parameters.now) (params_of (method_at c.args.whole.now.program.now c.args.whole.now.method.0))
       ∙ sym c.in_ok-entry_scope.ensures.0
-      ∙ sym (ap (λ rows. scope_of rows c.in_ok-entry_scope.field-0.items) c.new.ensures.items),
-  subst (λ rows. AllWithin (length rows) c.in_ok-entry_scope.field-0.items) (sym c.new.ensures.items) c.in_ok-entry_scope.ensures.1,
+      ∙ sym (ap (λ rows. scope_of rows c.in_ok-entry_scope.field-0) c.new.ensures.items),
+  subst (λ rows. AllWithin (length rows) c.in_ok-entry_scope.field-0) (sym c.new.ensures.items) c.in_ok-entry_scope.ensures.1,
 )

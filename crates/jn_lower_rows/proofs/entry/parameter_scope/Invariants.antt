@@ -6,7 +6,7 @@ use Rattle.jn_lower_rows.specs.Standing.{AllWithin, plain}
 use Rattle.jn_lower_rows.proofs.entry.parameter_scope.Given as goal
 
 abbrev pub invariant-loop-left : goal.invariant-loop-left
-invariant-loop-left l = (l.left ≤ length l.parameters) × (l.left ≤ length l.bases) × (scope_of [] l.scope.items ≡ plain (parameters_from 0 (placed_parameters (drop l.left l.parameters)) (drop l.left l.bases))) × AllWithin 0 l.scope.items
+invariant-loop-left l = (l.left ≤ length l.parameters) × (l.left ≤ length l.bases) × (scope_of [] l.scope ≡ plain (parameters_from 0 (placed_parameters (drop l.left l.parameters)) (drop l.left l.bases))) × AllWithin 0 l.scope
 
 abbrev pub decreases-loop-left : goal.decreases-loop-left
 decreases-loop-left l = l.left

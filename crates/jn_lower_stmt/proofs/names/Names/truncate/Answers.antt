@@ -5,10 +5,10 @@ use Rattle.jn_lower_stmt.proofs.Scoping.{scope_taken, within_taken}
 use Rattle.jn_lower_stmt.proofs.names.Names.truncate.Goals as goal
 
 pub invariant_of-self : goal.invariant_of-self
-invariant_of-self c = rw c.truncate.ensures.items (within_taken _ c.args.names _ c.self.invariant)
+invariant_of-self c = rw c.truncate.ensures (within_taken _ c.args.names _ c.self.invariant)
 
 pub returns : goal.returns
 returns c =
-    ap (scope_of c.self.inside.rows.items) c.truncate.ensures.items
-    ∙ scope_taken c.self.inside.rows.items c.self.inside.variables.items c.args.names
+    ap (scope_of c.self.inside.rows.items) c.truncate.ensures
+    ∙ scope_taken c.self.inside.rows.items c.self.inside.variables c.args.names
     ∙ ap (λ (s : Scope). drop (length s - c.args.names) s) c.self.view_is
