@@ -60,7 +60,7 @@ fn is_truth_start(tree: &Expr) -> bool
     }
 }
 
-fn starts(base: Base, value: &Option<Expr>) -> bool
+fn starts(base: Base, value: &Option<Box<Expr>>) -> bool
     ensures { result ≡ spec.starts base (placed_optional value.now) }
 {
     match value {

@@ -62,7 +62,7 @@ pub fn look_all(
 
 /// An expression that may be absent.
 fn optional(
-    tree: &Option<Expr>,
+    tree: &Option<Box<Expr>>,
     place: &Place,
     names: &Names,
     rows: &mut Seq<Row>,
@@ -320,41 +320,33 @@ pub fn statement(
             back_to(names, before);
             Ok(())
         }
-        Stmt::For {
-            init: start,
-            condition,
-            update,
-            body,
-            ..
-        } => {
+        Stmt::For { head, body, .. } => {
             let before = mark_of(names);
-            init(start, place, names, rows)?;
-            optional(condition, place, names, rows)?;
+            init(&head.init, place, names, rows)?;
+            optional(&head.condition, place, names, rows)?;
             statement(body, place, names, rows)?;
-            look_all(update, place, names, rows)?;
+            look_all(&head.update, place, names, rows)?;
             back_to(names, before);
             Ok(())
         }
         Stmt::ForEach {
-            modifiers,
-            type_use,
-            name,
+            variable,
             array: over,
             body,
             ..
         } => {
             let before = mark_of(names);
-            let notes = local_notes(place.alloc, modifiers)?;
-            let faults = declare_type(names, place, rows, type_use, &notes)?;
+            let notes = local_notes(place.alloc, &variable.modifiers)?;
+            let faults = declare_type(names, place, rows, &variable.type_use, &notes)?;
             array(over, place, names, rows)?;
-            let base = type_of_use(place.program, type_use, &notes);
+            let base = type_of_use(place.program, &variable.type_use, &notes);
             declare(
                 names,
                 place,
                 rows,
-                *name,
+                variable.name,
                 base,
-                has_final(modifiers),
+                has_final(&variable.modifiers),
                 faults,
             )?;
             statement(body, place, names, rows)?;

@@ -16,7 +16,7 @@ use jn_base::{OutOfMemory, Span};
 use jn_lower_expr::emitter::{Emitter, place};
 use jn_lower_expr::values::jump;
 use jn_scopes::types::has_final;
-use jn_trees::{Expr, ForInit, Identifier, LocalModifier, Stmt, TypeUse};
+use jn_trees::{Expr, ForHead, Parameter, Stmt};
 
 /// Statements one after the other (JLS 14.2).
 #[cycle(statements)]
@@ -157,9 +157,7 @@ fn do_loop(
 #[cycle(statements)]
 fn for_loop(
     body: &Stmt,
-    start: &ForInit,
-    condition: &Option<Expr>,
-    update: &[Expr],
+    head: &ForHead,
     span: Span,
     c: &BodyContext,
     e: &mut Emitter,
@@ -168,8 +166,8 @@ fn for_loop(
 ) -> Result<(), OutOfMemory>
     requires few { Few c.now.program.now }
     ensures { OnOk result (Steps
-        (stated c.now s.old (PlacedFor (placed_init start.now) (placed_optional condition.now)
-        (placed_views update.now) (placed_statement body.now) span))
+        (stated c.now s.old (PlacedFor (placed_init head.now.init) (placed_optional head.now.condition)
+        (placed_views head.now.update.items) (placed_statement body.now) span))
         ways.out.0 ways.again.0 e.old e.new s.new) }
 {
     let outer = s.begin(c.alloc);
@@ -177,9 +175,9 @@ fn for_loop(
     let inside = label(e)?;
     let next = label(e)?;
     let end = label(e)?;
-    init(start, c, e, s)?;
+    init(&head.init, c, e, s)?;
     place(e, test)?;
-    optional_test(condition, c, e, s, inside, end)?;
+    optional_test(&head.condition, c, e, s, inside, end)?;
     place(e, inside)?;
     let inner = Ways {
         out: end,
@@ -187,7 +185,7 @@ fn for_loop(
     };
     statement(body, c, e, s, inner)?;
     place(e, next)?;
-    effects(update, c, e, s)?;
+    effects(&head.update, c, e, s)?;
     jump(e, test, span)?;
     place(e, end)?;
     s.end(outer);
@@ -199,9 +197,7 @@ fn for_loop(
 #[cycle(statements)]
 fn each_loop(
     body: &Stmt,
-    modifiers: &[LocalModifier],
-    type_use: &TypeUse,
-    name: Identifier,
+    variable: &Parameter,
     array: &Expr,
     c: &BodyContext,
     e: &mut Emitter,
@@ -211,8 +207,8 @@ fn each_loop(
     requires few { Few c.now.program.now }
     ensures { OnOk result ((span : Span)
         → Steps
-        (stated c.now s.old (PlacedForEach modifiers.now (placed_type_use type_use.now) name
-        (placed_view array.now) (placed_statement body.now) span))
+        (stated c.now s.old (PlacedForEach variable.now.modifiers.items
+        (placed_type_use variable.now.type_use) variable.now.name (placed_view array.now) (placed_statement body.now) span))
         ways.out.0 ways.again.0 e.old e.new s.new) }
 {
     let outer = s.begin(c.alloc);
@@ -226,10 +222,10 @@ fn each_loop(
     place(e, test)?;
     each::goes_on(reg, at, c, e, s, inside, end)?;
     place(e, inside)?;
-    let kind = kind_of(c.program, type_use, modifiers);
-    let fixed = has_final(modifiers);
+    let kind = kind_of(c.program, &variable.type_use, &variable.modifiers);
+    let fixed = has_final(&variable.modifiers);
     each::item(reg, at, base, kind.bound, c, e, s)?;
-    s.declare_each(c, base, name.name, kind, fixed)?;
+    s.declare_each(c, base, variable.name.name, kind, fixed)?;
     let inner = Ways { out: end, again };
     statement(body, c, e, s, inner)?;
     place(e, again)?;
@@ -323,27 +319,19 @@ pub fn statement(
             do_loop(body, condition, *span, c, e, s, ways)?;
             Ok(())
         }
-        Stmt::For {
-            init,
-            condition,
-            update,
-            body,
-            span,
-        } => {
-            for_loop(body, init, condition, update, *span, c, e, s, ways)?;
+        Stmt::For { head, body, span } => {
+            for_loop(body, head, *span, c, e, s, ways)?;
             Ok(())
         }
         Stmt::ThisCall { .. } => Ok(()),
         Stmt::SuperCall { .. } => Ok(()),
         Stmt::ForEach {
-            modifiers,
-            type_use,
-            name,
+            variable,
             array,
             body,
             ..
         } => {
-            each_loop(body, modifiers, type_use, *name, array, c, e, s, ways)?;
+            each_loop(body, variable, array, c, e, s, ways)?;
             Ok(())
         }
     }

@@ -59,7 +59,7 @@ pub fn effects(
 
 /// A return (JLS 14.17).
 pub fn returned(
-    value: &Option<Expr>,
+    value: &Option<Box<Expr>>,
     span: Span,
     c: &BodyContext,
     e: &mut Emitter,
@@ -89,7 +89,7 @@ fn initialize(
     name: Span,
     reg: RegNo,
     kind: LocalKind,
-    value: &Option<Expr>,
+    value: &Option<Box<Expr>>,
     c: &BodyContext,
     e: &mut Emitter,
     s: &mut State,
@@ -208,7 +208,7 @@ pub fn init(
 
 /// A condition that need not be written; where it isn't, the loop goes on (JLS 14.14.1).
 pub fn optional_test(
-    tree: &Option<Expr>,
+    tree: &Option<Box<Expr>>,
     c: &BodyContext,
     e: &mut Emitter,
     s: &mut State,
@@ -280,7 +280,7 @@ pub fn continues(
 
 /// `return` as a statement (JLS 14.17).
 pub fn returns(
-    value: &Option<Expr>,
+    value: &Option<Box<Expr>>,
     span: Span,
     c: &BodyContext,
     e: &mut Emitter,

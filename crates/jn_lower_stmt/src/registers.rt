@@ -64,8 +64,8 @@ fn declared(tree: &Stmt) -> Result<usize, OutOfMemory>
             let inside = declared(body)?;
             Ok(inside)
         }
-        Stmt::For { init, body, .. } => {
-            let before = declared_first(init)?;
+        Stmt::For { head, body, .. } => {
+            let before = declared_first(&head.init)?;
             let inside = declared(body)?;
             let all = sum(before, inside)?;
             Ok(all)

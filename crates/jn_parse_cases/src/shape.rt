@@ -173,7 +173,7 @@ fn write_local(page: &mut Page, names: &Names, declaration: &LocalDeclaration) {
     )
 }
 
-fn write_optional(page: &mut Page, names: &Names, expression: &Option<Expr>) {
+fn write_optional(page: &mut Page, names: &Names, expression: &Option<Box<Expr>>) {
     match expression {
         None => (),
         Some(expression) => write_expression(page, names, expression),
@@ -263,31 +263,25 @@ fn write_statement(page: &mut Page, names: &Names, statement: &Stmt) {
             write_statement(page, names, body);
             page.put(&[")"])
         }
-        Stmt::For {
-            init,
-            condition,
-            update,
-            body,
-            ..
-        } => {
+        Stmt::For { head, body, .. } => {
             page.put(&["(for "]);
-            write_init(page, names, init);
+            write_init(page, names, &head.init);
             page.put(&["; "]);
-            write_optional(page, names, condition);
+            write_optional(page, names, &head.condition);
             page.put(&["; "]);
-            write_list(page, names, update);
+            write_list(page, names, &head.update);
             page.put(&[" "]);
             write_statement(page, names, body);
             page.put(&[")"])
         }
         Stmt::ForEach {
-            name,
+            variable,
             array,
             body,
             ..
         } => {
             page.put(&["(each "]);
-            write_identifier(page, names, *name);
+            write_identifier(page, names, variable.name);
             page.put(&[" "]);
             write_expression(page, names, array);
             page.put(&[" "]);

@@ -22,7 +22,7 @@ use std::alloc::Global;
 
 /// The longest well-formed expression of nesting at most `depth` that the front of the tokens spells, and what follows it; None exactly where there is none.
 ///
-/// Time is linear in the tokens, and the stack that it takes in `depth`.
+/// Time is linear in the tokens, and the stack that it takes in `depth`. The tree comes in the box in which it was read.
 ///
 /// # Errors
 ///
@@ -31,13 +31,13 @@ pub fn read_expr(
     alloc: Global,
     tokens: &[Token],
     depth: u32,
-) -> Result<Option<(Expr, &[Token])>, OutOfMemory>
+) -> Result<Option<(Box<Expr>, &[Token])>, OutOfMemory>
     ensures { IfOk result (λ o. IsLongest depth (kinds tokens.now) (seen o)) }
 {
     expressions_are_read_once();
     match read_whole(alloc, tokens, depth)? {
         None => Ok(None),
-        Some((tree, _, rest)) => Ok(Some((Box::into_inner(tree), rest))),
+        Some((tree, _, rest)) => Ok(Some((tree, rest))),
     }
 }
 
@@ -77,6 +77,9 @@ pub fn parse_expr(
 {
     match read_expr(alloc, tokens_from(tokens, at), depth)? {
         None => Ok(None),
-        Some((tree, rest)) => Ok(Some((tree, place_before(tokens, rest)))),
+        Some((tree, rest)) => {
+            let place = place_before(tokens, rest);
+            Ok(Some((Box::into_inner(tree), place)))
+        }
     }
 }

@@ -1,7 +1,6 @@
 -- Statements from their parts.
 use Rattle.std.specs.Prelude.{ℕ, List, Option, Some, None}
 use Rattle.std.specs.Borrow.{Bor}
-use Rattle.std.specs.Global.{Box}
 use Rattle.jn_trees.specs.declared.token.Token.{Token}
 use Rattle.jn_trees.specs.declared.token.TokenKind.{TokenKind}
 use Rattle.jn_trees.specs.declared.context.Context.{Context}
@@ -15,14 +14,14 @@ use Rattle.jn_parse_stmt.specs.declared.loops.Head.TheVariants.{While, For, ForE
 
 -- the loop with this head around its body
 abbrev pub body_of : Head → Statement → Statement
-body_of (While c) s = WhileStatement (view c) s
-body_of (For i c us) s = ForStatement (init_view i) (optional_view c) (views us.items) s
-body_of (ForEach p a) s = ForEachStatement (local_marks p.modifiers.items) (type_use_view p.type_use) p.name.name (view a) s
+body_of (While c) s = WhileStatement (view c.value) s
+body_of (For h) s = ForStatement (init_view h.value.init) (optional_view h.value.condition) (views h.value.update.items) s
+body_of (ForEach v a) s = ForEachStatement (local_marks v.value.modifiers.items) (type_use_view v.value.type_use) v.value.name.name (view a.value) s
 
 -- the loop whose head was read, with the body behind it
-abbrev pub with_body : (List TokenKind → TryStatement) → Option (Box Head × Bor (List Token)) → TryStatement
+abbrev pub with_body : (List TokenKind → TryStatement) → Option (Head × Bor (List Token)) → TryStatement
 with_body one None = None
-with_body one (Some r) = around (body_of r.0.value) (one (kinds r.1.now))
+with_body one (Some r) = around (body_of r.0) (one (kinds r.1.now))
 
 -- the `if` with what was read behind `else`, or alone
 abbrev pub if_ended : Tree → Statement → List TokenKind → TryStatement → TryStatement

@@ -26,9 +26,6 @@ all_views v = views v.items
 abbrev pub boxed_view : Box Stmt → Statement
 boxed_view b = statement_view b.value
 
-abbrev pub boxed_expression : Box Expr → Tree
-boxed_expression b = view b.value
-
 abbrev pub body_views : Vec Stmt Global → Statements
 body_views v = statement_views v.items
 

@@ -10,12 +10,12 @@ use jn_parse_expr_law::law::expressions_are_read_once;
 use jn_trees::{Expr, Token};
 use std::alloc::Global;
 
-/// The expression of nesting at most `depth` that comes first, and what follows it.
+/// The expression of nesting at most `depth` that comes first, in a box, and what follows it.
 pub fn expression(
     alloc: Global,
     tokens: &[Token],
     depth: u32,
-) -> Result<Option<(Expr, &[Token])>, OutOfMemory>
+) -> Result<Option<(Box<Expr>, &[Token])>, OutOfMemory>
     ensures gives { IfOk result (λ o. (reader depth).whole (kinds tokens.now) ≡ seen o) }
     ensures shortens { IfOk result (λ o. IfSome o (λ r. length r.1.now ≤ length tokens.now)) }
 {

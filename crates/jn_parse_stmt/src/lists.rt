@@ -57,7 +57,7 @@ fn items(
         match expression(alloc, left, depth)? {
             None => return Ok(None),
             Some((item, rest)) => {
-                put(&mut items, item)?;
+                put(&mut items, Box::into_inner(item))?;
                 match expect(rest, TokenKind::Comma) {
                     None => return Ok(Some((items, rest))),
                     Some(after) => left = after,
@@ -114,7 +114,7 @@ pub fn closed(
     alloc: Global,
     tokens: &[Token],
     depth: u32,
-) -> Result<Option<(Expr, &[Token])>, OutOfMemory>
+) -> Result<Option<(Box<Expr>, &[Token])>, OutOfMemory>
     ensures { IfOk result
         (λ o. then_read ((reader depth).whole (kinds tokens.now)) closed ≡ seen o) }
 {
@@ -132,7 +132,7 @@ pub fn in_parentheses(
     alloc: Global,
     tokens: &[Token],
     depth: u32,
-) -> Result<Option<(Expr, &[Token])>, OutOfMemory>
+) -> Result<Option<(Box<Expr>, &[Token])>, OutOfMemory>
     ensures { IfOk result (λ o. in_parens (reader depth).whole (kinds tokens.now) ≡ seen o) }
 {
     match expect(tokens, TokenKind::LeftParen) {
@@ -146,7 +146,7 @@ pub fn optional(
     alloc: Global,
     tokens: &[Token],
     depth: u32,
-) -> Result<Option<(Option<Expr>, &[Token])>, OutOfMemory>
+) -> Result<Option<(Option<Box<Expr>>, &[Token])>, OutOfMemory>
     ensures { IfOk result
         (λ o. read_optional (reader depth).whole (kinds tokens.now) ≡ seen_as optional_view o) }
 {

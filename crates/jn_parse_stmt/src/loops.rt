@@ -15,81 +15,46 @@ use crate::simple::declaration;
 use jn_base::lists::boxed;
 use jn_base::{OutOfMemory, Span};
 use jn_trees::reading::expect;
-use jn_trees::{Expr, ForInit, Parameter, Stmt, Token, TokenKind};
+use jn_trees::{Expr, ForHead, ForInit, Parameter, Stmt, Token, TokenKind};
 use std::alloc::Global;
 
 /// What stands before the body of a loop.
 #[derive(Drop)]
 pub enum Head {
     /// `while (c)`
-    While(Expr),
+    While(Box<Expr>),
     /// `for (i; c; u)`
-    For(ForInit, Option<Expr>, Vec<Expr>),
+    For(Box<ForHead>),
     /// `for (T x : a)`
-    ForEach(Parameter, Expr),
+    ForEach(Box<Parameter>, Box<Expr>),
 }
 
 /// The loop with this head and this body.
 #[inline(never)]
 pub fn loop_of(
     alloc: Global,
-    head: Box<Head>,
+    head: Head,
     body: Box<Stmt>,
     span: Span,
 ) -> Result<Box<Stmt>, OutOfMemory>
     ensures { IfOk result
-        (λ b. statement_view b.value ≡ body_of head.value (statement_view body.value)) }
+        (λ b. statement_view b.value ≡ body_of head (statement_view body.value)) }
 {
-    match Box::into_inner(head) {
-        Head::While(condition) => boxed(
-            alloc,
-            Stmt::While {
-                condition,
-                body,
-                span,
-            },
-        ),
-        Head::For(init, condition, update) => boxed(
-            alloc,
-            Stmt::For {
-                init,
-                condition,
-                update,
-                body,
-                span,
-            },
-        ),
-        Head::ForEach(front, array) => for_each_of(alloc, front, array, body, span),
-    }
-}
-
-fn for_each_of(
-    alloc: Global,
-    front: Parameter,
-    array: Expr,
-    body: Box<Stmt>,
-    span: Span,
-) -> Result<Box<Stmt>, OutOfMemory>
-    ensures { IfOk result (λ b.
-        statement_view b.value ≡ body_of (Head.ForEach front array) (statement_view body.value)) }
-{
-    let Parameter {
-        modifiers,
-        type_use,
-        name,
-    } = front;
-    let type_use = boxed(alloc, type_use)?;
-    boxed(
-        alloc,
-        Stmt::ForEach {
-            modifiers,
-            type_use,
-            name,
+    let loop_statement = match head {
+        Head::While(condition) => Stmt::While {
+            condition,
+            body,
+            span,
+        },
+        Head::For(head) => Stmt::For { head, body, span },
+        Head::ForEach(variable, array) => Stmt::ForEach {
+            variable,
             array,
             body,
             span,
         },
-    )
+    };
+    boxed(alloc, loop_statement)
 }
 
 /// `while (c)` behind its word.
@@ -98,13 +63,13 @@ pub fn while_head(
     alloc: Global,
     tokens: &[Token],
     depth: u32,
-) -> Result<Option<(Box<Head>, &[Token])>, OutOfMemory>
+) -> Result<Option<(Head, &[Token])>, OutOfMemory>
     ensures { IfOk result (λ o. (one : List Kind → TryStatement)
         → while_statement (reader depth).whole one (kinds tokens.now) ≡ with_body one o) }
 {
     match in_parentheses(alloc, tokens, depth)? {
         None => Ok(None),
-        Some((condition, rest)) => Ok(Some((boxed(alloc, Head::While(condition))?, rest))),
+        Some((condition, rest)) => Ok(Some((Head::While(condition), rest))),
     }
 }
 
@@ -114,7 +79,7 @@ pub fn for_head(
     alloc: Global,
     tokens: &[Token],
     depth: u32,
-) -> Result<Option<(Box<Head>, &[Token])>, OutOfMemory>
+) -> Result<Option<(Head, &[Token])>, OutOfMemory>
     ensures { IfOk result (λ o. (one : List Kind → TryStatement)
         → for_statement (reader depth).whole one (kinds tokens.now) ≡ with_body one o) }
 {
@@ -132,7 +97,7 @@ fn for_effects(
     alloc: Global,
     tokens: &[Token],
     depth: u32,
-) -> Result<Option<(Box<Head>, &[Token])>, OutOfMemory>
+) -> Result<Option<(Head, &[Token])>, OutOfMemory>
     ensures { IfOk result (λ o. (one : List Kind → TryStatement)
         → for_from (reader depth).whole one (kinds tokens.now) None ≡ with_body one o) }
 {
@@ -150,7 +115,7 @@ fn for_named(
     front: Parameter,
     tokens: &[Token],
     depth: u32,
-) -> Result<Option<(Box<Head>, &[Token])>, OutOfMemory>
+) -> Result<Option<(Head, &[Token])>, OutOfMemory>
     ensures { IfOk result (λ o. (one : List Kind → TryStatement)
         → for_named (reader depth).whole one (parameter_view front) (kinds tokens.now)
         ≡ with_body one o) }
@@ -167,14 +132,17 @@ fn for_each(
     front: Parameter,
     tokens: &[Token],
     depth: u32,
-) -> Result<Option<(Box<Head>, &[Token])>, OutOfMemory>
+) -> Result<Option<(Head, &[Token])>, OutOfMemory>
     ensures { IfOk result (λ o. (one : List Kind → TryStatement)
         → for_each (reader depth).whole one (parameter_view front) (kinds tokens.now)
         ≡ with_body one o) }
 {
     match closed(alloc, tokens, depth)? {
         None => Ok(None),
-        Some((array, rest)) => Ok(Some((boxed(alloc, Head::ForEach(front, array))?, rest))),
+        Some((array, rest)) => {
+            let variable = boxed(alloc, front)?;
+            Ok(Some((Head::ForEach(variable, array), rest)))
+        }
     }
 }
 
@@ -184,7 +152,7 @@ fn for_local(
     front: Parameter,
     tokens: &[Token],
     depth: u32,
-) -> Result<Option<(Box<Head>, &[Token])>, OutOfMemory>
+) -> Result<Option<(Head, &[Token])>, OutOfMemory>
     ensures { IfOk result (λ o. (one : List Kind → TryStatement)
         → for_local (reader depth).whole one
         (local_behind (reader depth).whole (parameter_view front) (kinds tokens.now))
@@ -206,7 +174,7 @@ fn for_rest(
     init: ForInit,
     tokens: &[Token],
     depth: u32,
-) -> Result<Option<(Box<Head>, &[Token])>, OutOfMemory>
+) -> Result<Option<(Head, &[Token])>, OutOfMemory>
     ensures { IfOk result (λ o. (one : List Kind → TryStatement)
         → for_rest (reader depth).whole one (init_view init) (kinds tokens.now) ≡ with_body one o) }
 {
@@ -215,7 +183,12 @@ fn for_rest(
         Some((condition, after)) => match only_effects(arguments(alloc, after, depth)?) {
             None => Ok(None),
             Some((update, rest)) => {
-                Ok(Some((boxed(alloc, Head::For(init, condition, update))?, rest)))
+                let head = ForHead {
+                    init,
+                    condition,
+                    update,
+                };
+                Ok(Some((Head::For(boxed(alloc, head)?), rest)))
             }
         },
     }

@@ -6,8 +6,8 @@ ghost use Rattle.jn_trees.specs.Pieces.{kinds};
 ghost use Rattle.jn_trees.specs.View.{view, statement_view, statement_views};
 ghost use Rattle.jn_trees.specs.WellFormed.{under, in_block, loop_body};
 ghost use Rattle.jn_parse_expr_law.specs.Reader.{reader};
-ghost use Rattle.jn_parse_stmt_law.specs.StatementReader.{around, in_parens, if_end, if_statement, while_statement, for_statement, do_end, do_statement, block_statement, read_block};
-ghost use Rattle.jn_parse_stmt.specs.Seen.{seen_as, boxed_view, boxed_expression, body_views};
+ghost use Rattle.jn_parse_stmt_law.specs.StatementReader.{around, if_end, if_statement, while_statement, for_statement, do_end, do_statement, block_statement, read_block};
+ghost use Rattle.jn_parse_stmt.specs.Seen.{seen_as, boxed_view, body_views};
 ghost use Rattle.jn_parse_stmt.specs.Heads.{body_of, if_ended, read_one};
 
 use crate::lists::in_parentheses;
@@ -39,7 +39,6 @@ fn if_of(
     ensures { IfOk result (λ b.
         statement_view b.value ≡ IfStatement (view condition.value) (statement_view then.value)) }
 {
-    let condition = Box::into_inner(condition);
     boxed(
         alloc,
         Stmt::If {
@@ -62,7 +61,6 @@ fn if_else_of(
         ≡ IfElseStatement (view condition.value) (statement_view then.value)
         (statement_view otherwise.value)) }
 {
-    let condition = Box::into_inner(condition);
     boxed(
         alloc,
         Stmt::IfElse {
@@ -81,22 +79,6 @@ fn put_boxed(statements: &mut Vec<Stmt>, next: Box<Stmt>) -> Result<(), OutOfMem
 {
     put(statements, Box::into_inner(next))?;
     Ok(())
-}
-
-/// The expression in parentheses that comes first, and what follows them.
-#[inline(never)]
-fn condition(
-    alloc: Global,
-    tokens: &[Token],
-    depth: u32,
-) -> Result<Option<(Box<Expr>, &[Token])>, OutOfMemory>
-    ensures { IfOk result
-        (λ o. in_parens (reader depth).whole (kinds tokens.now) ≡ seen_as boxed_expression o) }
-{
-    match in_parentheses(alloc, tokens, depth)? {
-        None => Ok(None),
-        Some((condition, rest)) => Ok(Some((boxed(alloc, condition)?, rest))),
-    }
 }
 
 /// The statement that comes first, of nesting at most `depth`, and what follows it.
@@ -184,7 +166,7 @@ fn body(
     ensures { IfOk result
         (λ o. read_block (read_one depth context) (kinds tokens.now) ≡ seen_as body_views o) }
 {
-    // (most blocks are small, and a statement is large)
+    // (most blocks are small)
     let mut statements = Vec::with_capacity(alloc, 1)?;
     let mut left = tokens;
     'statements: loop {
@@ -214,7 +196,7 @@ fn if_statement<'t>(
         (kinds after.now)
         ≡ seen_as boxed_view o) }
 {
-    match condition(alloc, after, depth)? {
+    match in_parentheses(alloc, after, depth)? {
         None => Ok(None),
         Some((condition, after)) => match statement(alloc, after, depth, context.under())? {
             None => Ok(None),
@@ -316,11 +298,11 @@ fn for_statement<'t>(
 fn loop_statement<'t>(
     alloc: Global,
     tokens: &'t [Token],
-    head: Box<Head>,
+    head: Head,
     after: &'t [Token],
     depth: u32,
 ) -> Result<Option<(Box<Stmt>, &'t [Token])>, OutOfMemory>
-    ensures { IfOk result (λ o. around (body_of head.value)
+    ensures { IfOk result (λ o. around (body_of head)
         (read_one depth loop_body (kinds after.now))
         ≡ seen_as boxed_view o) }
 {

@@ -208,7 +208,7 @@ fn value(
     alloc: Global,
     tokens: &[Token],
     depth: u32,
-) -> Result<(Option<Expr>, &[Token]), OutOfMemory>
+) -> Result<(Option<Box<Expr>>, &[Token]), OutOfMemory>
     ensures gives { IfOk result (λ r.
         read_value (reader depth).whole (kinds tokens.now) ≡ (optional_view r.0, kinds r.1.now)) }
     ensures shortens { IfOk result (λ r. length r.1.now ≤ length tokens.now) }

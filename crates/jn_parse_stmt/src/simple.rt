@@ -143,11 +143,11 @@ pub fn super_call<'t>(
 fn effect_statement<'t>(
     alloc: Global,
     tokens: &'t [Token],
-    expression: Expr,
+    expression: Box<Expr>,
     after: &'t [Token],
 ) -> Result<Option<(Box<Stmt>, &'t [Token])>, OutOfMemory>
     ensures { IfOk result
-        (λ o. effect_statement (view expression) (kinds after.now) ≡ seen_as boxed_view o) }
+        (λ o. effect_statement (view expression.value) (kinds after.now) ≡ seen_as boxed_view o) }
 {
     if !expression.is_effect() {
         return Ok(None);

@@ -9,7 +9,7 @@ use jn_base::NameNo;
 use jn_trees::{Annotation, Declarator, Expr, LocalDeclaration, LocalModifier, TypeUse};
 
 /// Renumbers the names of an expression, where there is one.
-pub fn renumber_optional(numbers: &[NameNo], expression: &mut Option<Expr>)
+pub fn renumber_optional(numbers: &[NameNo], expression: &mut Option<Box<Expr>>)
     ensures { placed_optional expression.new
         ≡ renumbered_optional numbers.now (placed_optional expression.old) }
 {

@@ -77,28 +77,24 @@ pub fn renumber_statement(numbers: &[NameNo], statement: &mut Stmt)
             renumber(numbers, condition);
         }
         Stmt::For {
-            init,
-            condition,
-            update,
+            head,
             body,
             span: _span,
         } => {
-            renumber_init(numbers, init);
-            renumber_optional(numbers, condition);
-            renumber_list(numbers, update);
+            renumber_init(numbers, &mut head.init);
+            renumber_optional(numbers, &mut head.condition);
+            renumber_list(numbers, &mut head.update);
             renumber_statement(numbers, body);
         }
         Stmt::ForEach {
-            modifiers,
-            type_use,
-            name,
+            variable,
             array,
             body,
             span: _span,
         } => {
-            renumber_local_marks(numbers, modifiers);
-            renumber_type_use(numbers, type_use);
-            renumber_name(numbers, name);
+            renumber_local_marks(numbers, &mut variable.modifiers);
+            renumber_type_use(numbers, &mut variable.type_use);
+            renumber_name(numbers, &mut variable.name);
             renumber(numbers, array);
             renumber_statement(numbers, body);
         }

@@ -1,6 +1,7 @@
 -- The longest expression and the longest statement that the front of tokens spells.
 use Rattle.std.specs.Prelude.{◌≡◌, ℕ, ◌≤◌, List, ◌++◌, length, Option, Some, None}
 use Rattle.std.specs.Borrow.{Bor}
+use Rattle.std.specs.Global.{Box}
 use Rattle.jn_trees.specs.declared.token.Token.{Token}
 use Rattle.jn_trees.specs.declared.token.TokenKind.{TokenKind}
 use Rattle.jn_trees.specs.declared.context.Context.{Context}
@@ -37,9 +38,9 @@ IsLongestStatement c d ts None = (s : Statement) (rest : List TokenKind) → Sta
 IsLongestStatement c d ts (Some r) = StatementFront c d ts r × ((s : Statement) (rest : List TokenKind) → StatementFront c d ts (s, rest) → length r.1 ≤ length rest)
 
 -- what was read, and what follows it
-abbrev pub seen : Option (Expr × Bor (List Token)) → Try
+abbrev pub seen : Option (Box Expr × Bor (List Token)) → Try
 seen None = None
-seen (Some r) = Some (view r.0, kinds r.1.now)
+seen (Some r) = Some (view r.0.value, kinds r.1.now)
 
 abbrev pub seen_statement : Option (Stmt × Bor (List Token)) → TryStatement
 seen_statement None = None

@@ -1,6 +1,7 @@
 -- The tree of what lies in memory, without its places.
 use Rattle.std.specs.Prelude.{List, [], ◌∷◌, map, Option, Some, None, Vec}
 use Rattle.std.specs.declared.alloc.Global.{Global}
+use Rattle.std.specs.Global.{Box}
 use Rattle.jn_base.specs.declared.number.NameNo.{NameNo}
 use Rattle.jn_trees.specs.declared.expression.Annotation.{Annotation}
 use Rattle.jn_trees.specs.declared.expression.Identifier.{Identifier}
@@ -14,6 +15,7 @@ use Rattle.jn_trees.specs.declared.statement.Declarator.{Declarator}
 use Rattle.jn_trees.specs.declared.statement.LocalDeclaration.{LocalDeclaration}
 use Rattle.jn_trees.specs.declared.statement.ForInit.{ForInit}
 use Rattle.jn_trees.specs.declared.statement.ForInit.TheVariants.{Expressions, Declaration}
+use Rattle.jn_trees.specs.declared.statement.ForHead.{ForHead}
 use Rattle.jn_trees.specs.declared.statement.Stmt.{Stmt, Block', Empty, Expression, Break, Continue, Return, Local, If', IfElse', While', Do', For', ForEach', ThisCall, SuperCall, Row_of-Stmt, end_of-Stmt, more_of-Stmt}
 use Rattle.jn_trees.specs.declared.declaration.Modifier.{Modifier}
 use Rattle.jn_trees.specs.declared.declaration.Modifier.TheVariants.{Annotation as NoteOf, Public, Protected, Private, Static, Final, Abstract}
@@ -74,9 +76,9 @@ abbrev pub views : List Expr → Trees
 views [] = NoTrees
 views (e ∷ es) = MoreTrees (view e) (views es)
 
-abbrev pub optional_view : Option Expr → Option Tree
+abbrev pub optional_view : Option (Box Expr) → Option Tree
 optional_view None = None
-optional_view (Some e) = Some (view e)
+optional_view (Some e) = Some (view e.value)
 
 abbrev pub local_mark : LocalModifier → LocalMark
 local_mark (LocalAnnotation a) = AnnotationMark a.name
@@ -110,17 +112,17 @@ abbrev mutual
   pub statement_view : Stmt → Statement
   statement_view (Block' shape ss s) = BlockStatement (statement_row ss)
   statement_view (Empty s) = EmptyStatement
-  statement_view (Expression e s) = ExpressionStatement (view e)
+  statement_view (Expression e s) = ExpressionStatement (view e.value)
   statement_view (Break s) = BreakStatement
   statement_view (Continue s) = ContinueStatement
   statement_view (Return e s) = ReturnStatement (optional_view e)
   statement_view (Local l s) = LocalStatement (local_view l.value)
-  statement_view (If' c p b s) = IfStatement (view c) (statement_view b)
-  statement_view (IfElse' c p b q o s) = IfElseStatement (view c) (statement_view b) (statement_view o)
-  statement_view (While' c p b s) = WhileStatement (view c) (statement_view b)
-  statement_view (Do' p b c s) = DoStatement (statement_view b) (view c)
-  statement_view (For' i c us p b s) = ForStatement (init_view i) (optional_view c) (views us.items) (statement_view b)
-  statement_view (ForEach' ms u n e p b s) = ForEachStatement (local_marks ms.items) (type_use_view u.value) n.name (view e) (statement_view b)
+  statement_view (If' c p b s) = IfStatement (view c.value) (statement_view b)
+  statement_view (IfElse' c p b q o s) = IfElseStatement (view c.value) (statement_view b) (statement_view o)
+  statement_view (While' c p b s) = WhileStatement (view c.value) (statement_view b)
+  statement_view (Do' p b c s) = DoStatement (statement_view b) (view c.value)
+  statement_view (For' h p b s) = ForStatement (init_view h.value.init) (optional_view h.value.condition) (views h.value.update.items) (statement_view b)
+  statement_view (ForEach' v e p b s) = ForEachStatement (local_marks v.value.modifiers.items) (type_use_view v.value.type_use) v.value.name.name (view e.value) (statement_view b)
   statement_view (ThisCall es s) = ThisCallStatement (views es.items)
   statement_view (SuperCall es s) = SuperCallStatement (views es.items)
 

@@ -26,7 +26,7 @@ pub enum Bearer {
     Constructor,
 }
 
-/// A parameter (JLS 8.4.1).
+/// A parameter (JLS 8.4.1), or the variable of an enhanced `for` (JLS 14.14.2).
 #[derive(Drop)]
 pub struct Parameter {
     pub modifiers: Vec<LocalModifier>,

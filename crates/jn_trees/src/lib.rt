@@ -27,6 +27,6 @@ pub use expression::{
     UnaryOperator,
 };
 pub use names::Names;
-pub use statement::{Declarator, ForInit, LocalDeclaration, LocalModifier, Stmt, TypeUse};
+pub use statement::{Declarator, ForHead, ForInit, LocalDeclaration, LocalModifier, Stmt, TypeUse};
 pub use token::{Token, TokenKind};
 pub use well_formed::{DEEPEST, every_may_stand, final_once, has_static, no_clash};

@@ -1,4 +1,6 @@
-//! Trees of statements (JLS 14).
+//! Trees of statements (JLS 14). What a statement holds beside other statements stands in boxes of its own, so that a statement
+//! takes 40 bytes, whichever it is: a file can have a statement for each of its bytes.
+use crate::declaration::Parameter;
 use crate::expression::{Annotation, Base, Expr, Identifier};
 use jn_base::Span;
 
@@ -21,7 +23,7 @@ pub struct TypeUse {
 #[derive(Drop)]
 pub struct Declarator {
     pub name: Identifier,
-    pub value: Option<Expr>,
+    pub value: Option<Box<Expr>>,
 }
 
 /// A declaration of locals, without the semicolon (JLS 14.4).
@@ -40,6 +42,15 @@ pub enum ForInit {
     Declaration(Box<LocalDeclaration>),
 }
 
+/// What stands in the parentheses of a basic `for` (JLS 14.14.1): what it begins with, its condition, if it has one, and its
+/// updates.
+#[derive(Drop)]
+pub struct ForHead {
+    pub init: ForInit,
+    pub condition: Option<Box<Expr>>,
+    pub update: Vec<Expr>,
+}
+
 /// A statement (JLS 14). Each span goes from the statement's first token through its last.
 #[derive(Drop)]
 pub enum Stmt {
@@ -54,7 +65,7 @@ pub enum Stmt {
     },
     /// `e;`
     Expression {
-        expression: Expr,
+        expression: Box<Expr>,
         span: Span,
     },
     /// `break;`
@@ -67,7 +78,7 @@ pub enum Stmt {
     },
     /// `return e;`
     Return {
-        value: Option<Expr>,
+        value: Option<Box<Expr>>,
         span: Span,
     },
     /// `T x = e;`
@@ -77,43 +88,39 @@ pub enum Stmt {
     },
     /// `if (c) s`
     If {
-        condition: Expr,
+        condition: Box<Expr>,
         then: Box<Stmt>,
         span: Span,
     },
     /// `if (c) s else s`
     IfElse {
-        condition: Expr,
+        condition: Box<Expr>,
         then: Box<Stmt>,
         otherwise: Box<Stmt>,
         span: Span,
     },
     /// `while (c) s`
     While {
-        condition: Expr,
+        condition: Box<Expr>,
         body: Box<Stmt>,
         span: Span,
     },
     /// `do s while (c);`
     Do {
         body: Box<Stmt>,
-        condition: Expr,
+        condition: Box<Expr>,
         span: Span,
     },
     /// `for (i; c; u) s`
     For {
-        init: ForInit,
-        condition: Option<Expr>,
-        update: Vec<Expr>,
+        head: Box<ForHead>,
         body: Box<Stmt>,
         span: Span,
     },
     /// `for (T x : a) s`
     ForEach {
-        modifiers: Vec<LocalModifier>,
-        type_use: Box<TypeUse>,
-        name: Identifier,
-        array: Expr,
+        variable: Box<Parameter>,
+        array: Box<Expr>,
         body: Box<Stmt>,
         span: Span,
     },

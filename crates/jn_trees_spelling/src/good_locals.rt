@@ -9,7 +9,7 @@ use jn_base::number::larger;
 use jn_trees::{Declarator, Expr, ForInit, LocalDeclaration, final_once};
 
 /// Whether the expression, where there is one, is well formed.
-pub fn good_optional(expression: &Option<Expr>) -> bool
+pub fn good_optional(expression: &Option<Box<Expr>>) -> bool
     ensures { IsTrue result ↔ GoodOptional (optional_view expression.now) }
 {
     match expression {

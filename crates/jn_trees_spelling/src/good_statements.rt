@@ -50,24 +50,22 @@ pub fn good_statement(context: Context, statement: &Stmt) -> bool
             condition,
             ..
         } => good_statement(Context::loop_body(), body) && good(condition),
-        Stmt::For {
-            init,
-            condition,
-            update,
-            body,
-            ..
-        } => {
-            good_init(init)
-                && good_optional(condition)
-                && good_effects(update)
+        Stmt::For { head, body, .. } => {
+            good_init(&head.init)
+                && good_optional(&head.condition)
+                && good_effects(&head.update)
                 && good_statement(Context::loop_body(), body)
         }
         Stmt::ForEach {
-            modifiers,
+            variable,
             array,
             body,
             ..
-        } => { final_once(modifiers) && good(array) && good_statement(Context::loop_body(), body) }
+        } => {
+            final_once(&variable.modifiers)
+                && good(array)
+                && good_statement(Context::loop_body(), body)
+        }
         Stmt::ThisCall { arguments, .. } => all_good(arguments) && context.leading,
         Stmt::SuperCall { arguments, .. } => all_good(arguments) && context.leading,
     }
@@ -126,16 +124,10 @@ pub fn nesting_statement(statement: &Stmt) -> u32
             condition,
             ..
         } => { larger(nesting_statement(body), nesting(condition)).saturating_add(1) }
-        Stmt::For {
-            init,
-            condition,
-            update,
-            body,
-            ..
-        } => {
+        Stmt::For { head, body, .. } => {
             larger(
-                larger(nesting_init(init), nesting_optional(condition)),
-                larger(nesting_all(update), nesting_statement(body)),
+                larger(nesting_init(&head.init), nesting_optional(&head.condition)),
+                larger(nesting_all(&head.update), nesting_statement(body)),
             )
             .saturating_add(1)
         }

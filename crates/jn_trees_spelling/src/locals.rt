@@ -62,7 +62,7 @@ pub fn spell_type_use(kinds: &mut Vec<TokenKind>, type_use: &TypeUse) -> Result<
     spell_brackets(kinds, &type_use.array)
 }
 
-fn spell_value(kinds: &mut Vec<TokenKind>, value: &Option<Expr>) -> Result<(), OutOfMemory>
+fn spell_value(kinds: &mut Vec<TokenKind>, value: &Option<Box<Expr>>) -> Result<(), OutOfMemory>
     ensures { OnOk result
         (kinds.new.items ≡ kinds.old.items ++ spec_value (optional_view value.now)) }
 {

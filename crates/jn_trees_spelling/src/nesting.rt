@@ -68,7 +68,7 @@ pub fn nesting_all(expressions: &[Expr]) -> u32
 }
 
 /// How deep the expression is nested; 0 where there is none.
-pub fn nesting_optional(expression: &Option<Expr>) -> u32
+pub fn nesting_optional(expression: &Option<Box<Expr>>) -> u32
     ensures { result ≡ min (spec_optional (optional_view expression.now)) (2 ^ 32 - 1) }
 {
     match expression {

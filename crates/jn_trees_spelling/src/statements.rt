@@ -7,10 +7,13 @@ ghost use Rattle.jn_trees.specs.View.{view, views, local_marks, type_use_view, s
 use crate::expressions::{spell, spell_list};
 use crate::locals::{spell_local, spell_local_marks, spell_type_use};
 use crate::put::{put, put_all};
-use jn_base::{NameNo, OutOfMemory};
-use jn_trees::{Expr, ForInit, LocalModifier, Stmt, TokenKind, TypeUse};
+use jn_base::OutOfMemory;
+use jn_trees::{Expr, ForHead, ForInit, Parameter, Stmt, TokenKind};
 
-fn spell_optional(kinds: &mut Vec<TokenKind>, expression: &Option<Expr>) -> Result<(), OutOfMemory>
+fn spell_optional(
+    kinds: &mut Vec<TokenKind>,
+    expression: &Option<Box<Expr>>,
+) -> Result<(), OutOfMemory>
     ensures { OnOk result
         (kinds.new.items ≡ kinds.old.items ++ spec_optional (optional_view expression.now)) }
 {
@@ -110,25 +113,17 @@ pub fn spell_statement(kinds: &mut Vec<TokenKind>, statement: &Stmt) -> Result<(
             spell_condition(kinds, TokenKind::While, condition)?;
             put(kinds, TokenKind::Semicolon)
         }
-        Stmt::For {
-            init,
-            condition,
-            update,
-            body,
-            ..
-        } => {
-            spell_for_head(kinds, init, condition, update)?;
+        Stmt::For { head, body, .. } => {
+            spell_for_head(kinds, head)?;
             spell_statement(kinds, body)
         }
         Stmt::ForEach {
-            modifiers,
-            type_use,
-            name,
+            variable,
             array,
             body,
             ..
         } => {
-            spell_each_head(kinds, modifiers, type_use, name.name)?;
+            spell_each_head(kinds, variable)?;
             spell(kinds, array)?;
             put(kinds, TokenKind::RightParen)?;
             spell_statement(kinds, body)
@@ -151,39 +146,33 @@ pub fn spell_body(kinds: &mut Vec<TokenKind>, statements: &[Stmt]) -> Result<(),
 }
 
 /// Puts a `for` through its closing parenthesis behind the tokens.
-fn spell_for_head(
-    kinds: &mut Vec<TokenKind>,
-    init: &ForInit,
-    condition: &Option<Expr>,
-    update: &[Expr],
-) -> Result<(), OutOfMemory>
+fn spell_for_head(kinds: &mut Vec<TokenKind>, head: &ForHead) -> Result<(), OutOfMemory>
     ensures { OnOk result (kinds.new.items
         ≡ kinds.old.items
-        ++ spec_for_head (init_view init.now) (optional_view condition.now)
-        (views update.now)) }
+        ++ spec_for_head (init_view head.now.init) (optional_view head.now.condition)
+        (views head.now.update.items)) }
 {
     put_all(kinds, &[TokenKind::For, TokenKind::LeftParen])?;
-    spell_init(kinds, init)?;
-    spell_optional(kinds, condition)?;
+    spell_init(kinds, &head.init)?;
+    spell_optional(kinds, &head.condition)?;
     put(kinds, TokenKind::Semicolon)?;
-    spell_list(kinds, TokenKind::RightParen, update)
+    spell_list(kinds, TokenKind::RightParen, &head.update)
 }
 
 /// Puts a `for` over an array through its colon behind the tokens.
-fn spell_each_head(
-    kinds: &mut Vec<TokenKind>,
-    modifiers: &[LocalModifier],
-    type_use: &TypeUse,
-    name: NameNo,
-) -> Result<(), OutOfMemory>
+fn spell_each_head(kinds: &mut Vec<TokenKind>, variable: &Parameter) -> Result<(), OutOfMemory>
     ensures { OnOk result (kinds.new.items
         ≡ kinds.old.items
-        ++ spec_each_head (local_marks modifiers.now) (type_use_view type_use.now) name) }
+        ++ spec_each_head (local_marks variable.now.modifiers.items)
+        (type_use_view variable.now.type_use) variable.now.name.name) }
 {
     put_all(kinds, &[TokenKind::For, TokenKind::LeftParen])?;
-    spell_local_marks(kinds, modifiers)?;
-    spell_type_use(kinds, type_use)?;
-    put_all(kinds, &[TokenKind::Id(name), TokenKind::Colon])
+    spell_local_marks(kinds, &variable.modifiers)?;
+    spell_type_use(kinds, &variable.type_use)?;
+    put_all(
+        kinds,
+        &[TokenKind::Id(variable.name.name), TokenKind::Colon],
+    )
 }
 
 /// Puts a call of another constructor behind the tokens.

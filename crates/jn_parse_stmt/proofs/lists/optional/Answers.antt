@@ -20,10 +20,10 @@ pub returns-in-None-expect : goal.returns-in-None-expect
 returns-in-None-expect c =
     not_absent (reader c.args.depth).whole (kinds c.args.tokens.now) c.in-None.ensures
     ∙ ap (λ (o : Try). then_read o (λ e us. ended {A = Option Tree} (Some e) us)) (rw c.in-Some-2.is at c.in_ok-expression-in-None.ensures.gives)
-    ∙ none_ends {A = Option Tree} (Some (view c.in-Some-2.expression)) (kinds c.in-Some-2.after.now) c.in-None-expect.ensures
+    ∙ none_ends {A = Option Tree} (Some (view c.in-Some-2.expression.value)) (kinds c.in-Some-2.after.now) c.in-None-expect.ensures
 
 pub returns-in-Some-expect : goal.returns-in-Some-expect
 returns-in-Some-expect c =
     not_absent (reader c.args.depth).whole (kinds c.args.tokens.now) c.in-None.ensures
     ∙ ap (λ (o : Try). then_read o (λ e us. ended {A = Option Tree} (Some e) us)) (rw c.in-Some-2.is at c.in_ok-expression-in-None.ensures.gives)
-    ∙ ap (λ ts. ended {A = Option Tree} (Some (view c.in-Some-2.expression)) ts) c.in-Some-expect.ensures
+    ∙ ap (λ ts. ended {A = Option Tree} (Some (view c.in-Some-2.expression.value)) ts) c.in-Some-expect.ensures

@@ -8,7 +8,7 @@ use Rattle.jn_trees.specs.WellFormed.{under, in_block, loop_body}
 use Rattle.jn_parse_expr_law.specs.Reader.{reader}
 use Rattle.jn_parse_stmt_law.specs.Parts.{Read, then_read}
 use Rattle.jn_parse_stmt_law.specs.StatementReader.{around, read_block, block_statement, if_statement, if_end, do_statement, do_end, simple}
-use Rattle.jn_parse_stmt.specs.Seen.{seen_as, boxed_view, boxed_expression}
+use Rattle.jn_parse_stmt.specs.Seen.{seen_as, boxed_view}
 use Rattle.jn_parse_stmt.specs.Heads.{read_one, body_of, if_ended}
 use Rattle.jn_parse_stmt.proofs.Runs.{as_many}
 use Rattle.jn_parse_stmt.proofs.Blocks.{Blocking, blocking_starts, blocking_ends, blocking_fails, blocking_goes, one_shorter}
