@@ -9,6 +9,7 @@ pub mod Escaping
 pub mod Values
 pub mod Widths
 pub mod Reading
+pub mod Onto
 pub mod OneGap
 pub mod OneToken
 pub mod OneList

@@ -1,6 +1,6 @@
 -- One token after another.
 use Rattle.std.proofs.Common.{◌≡◌, ℕ, ◌+◌, ◌-◌, ◌<◌, ◌≤◌, Bool, true, false, List, [], ◌∷◌, ◌++◌, length, take, drop, Option, Some, refl, sym, ap, ◌∙◌, subst, arith, length-append, append_assoc, length-drop, add-zero}
-use Rattle.std.specs.Prelude.{slice_get, slice_range, encode_utf8_all, chars, IsUtf8, IsCharBoundary, bytes_eq, cond, Result, Ok, Err, IfOk, IfErr}
+use Rattle.std.specs.Prelude.{slice_get, slice_range, encode_utf8_all, chars, IsUtf8, IsCharBoundary, bytes_eq, cond, Result, Ok, Err, IfErr}
 use Rattle.jn_base.specs.declared.refusal.Fail.{Fail}
 use Rattle.jn_base.specs.declared.refusal.Fail.TheVariants.{Refused, OutOfMemory}
 use Rattle.std.specs.List.{list_any}
@@ -238,11 +238,7 @@ more_extends old names l e =
     let a = lexeme_extends names l in
     (e.0 ++ a.0, a.1 ∙ ap (λ ns. ns ++ a.0) e.1 ∙ append_assoc old e.0 a.0)
 
--- answers that go over to another meaning
-pub if_ok : {A E : Type 0} (P Q : A → Type 0) → ((a : A) → P a → Q a) → (r : Result A E) → IfOk r P → IfOk r Q
-if_ok P Q f (Ok a) h = f a h
-if_ok P Q f (Err e) h = h
-
+-- a refusal that goes over to another meaning
 pub if_refused : {A : Type 0} (P Q : Row → Type 0) → ((row : Row) → P row → Q row) → (r : Result A (Fail Row)) → IfErr r (λ fail. IfRefused fail P) → IfErr r (λ fail. IfRefused fail Q)
 if_refused P Q f (Ok a) h = h
 if_refused P Q f (Err (Refused row)) h = f row h

@@ -5,5 +5,6 @@ pub mod Lexemes
 pub mod Pieces
 pub mod Faults
 pub mod Lexed
+pub mod Moved
 pub mod Scan
 pub mod Found

@@ -4,7 +4,8 @@ ghost use Rattle.jn_trees.specs.Names.{Extends};
 ghost use Rattle.jn_lexer.specs.Characters.{width};
 ghost use Rattle.jn_lexer.specs.Faults.{LexicalFault, HasNoUnicodeEscape, IsFirstEscape, IsTokenFault, IsAtCharacter};
 ghost use Rattle.jn_trees.specs.Refused.{IfRefused};
-ghost use Rattle.jn_lexer.specs.Lexed.{Lexed, names_with, kind_of, IsLexing};
+ghost use Rattle.jn_lexer.specs.Lexed.{Lexed, names_with, kind_of};
+ghost use Rattle.jn_lexer.specs.Moved.{LexedOnto, IsLexingOnto};
 ghost use Rattle.jn_lexer.specs.Found.{lexeme_of, body_of, word_of, HasQuotes, IsNextOrEnd, IsFaultNext};
 ghost use Rattle.jn_lexer.specs.Scan.{escape_at};
 
@@ -175,29 +176,32 @@ fn text_behind(text: &[char], next: Spelled) -> &[char]
     &body[next.count..]
 }
 
-/// The tokens of the characters, which are those of `decoded`.
-fn tokens_of(
+/// Puts the tokens of the characters, which are those of `decoded`, behind the others, their spans so many bytes further on.
+fn tokens_onto(
     alloc: Global,
     decoded: &str,
     text: &[char],
     file: FileNo,
+    by: u32,
     names: &mut Names,
-) -> Result<Vec<Token>, Fail<Row>>
+    tokens: &mut Vec<Token>,
+) -> Result<(), Fail<Row>>
     requires same { text.now ≡ chars decoded.now }
     requires room { length names.old + length decoded.now < 2 ^ 32 - 1 }
-    ensures ok { IfOk result (λ tokens. IsLexing file text.now names.old tokens.items names.new) }
+    requires fits { by + length decoded.now < 2 ^ 32 }
+    ensures ok { OnOk result
+        (IsLexingOnto file text.now by names.old tokens.old.items names.new tokens.new.items) }
     ensures refused { IfErr result
         (λ fail. IfRefused fail (λ row. IsTokenFault file text.now row)) }
     ensures extends { Extends names.old names.new }
 {
-    let mut tokens = Vec::new(alloc);
     let mut rest = text;
     let mut at = 0;
     loop {
         let bytes = decoded.len() - at as usize;
         let next = match next_token(rest, file, at, bytes) {
             Ok(Some(next)) => next,
-            Ok(None) => return Ok(tokens),
+            Ok(None) => return Ok(()),
             Err(row) => return Err(Fail::Refused(row)),
         };
         let spelled = &decoded[next.from as usize..next.to as usize];
@@ -207,8 +211,8 @@ fn tokens_of(
         };
         let span = Span {
             file,
-            from: next.from,
-            to: next.to,
+            from: by + next.from,
+            to: by + next.to,
         };
         if let Err(_) = tokens.push(Token { kind, span }) {
             return Err(Fail::OutOfMemory);
@@ -218,18 +222,24 @@ fn tokens_of(
     }
 }
 
-/// The tokens of a file's bytes; the texts of identifiers and strings are numbered in `names`, in the order of the tokens.
+/// Puts the tokens of a piece of a file's bytes behind the others; the texts of identifiers and strings are numbered in `names`,
+/// in the order of the tokens. The piece's first byte is the file's byte `at`, from which on the tokens' spans are counted.
 ///
-/// It refuses with the row of the text's fault: L1 where the bytes aren't UTF-8, else L2 at the first Unicode escape, else L3 to L7 at the first place where a token should begin and none can.
-/// After a refusal or want of memory `names` has perhaps some names more, behind the old ones.
-pub fn lex(
+/// It refuses with the row of the piece's fault, as [`lex`] says: the piece is lexed as a whole text, and the row is counted within
+/// it, from 0 on. After a refusal or want of memory `tokens` and `names` have perhaps some more, behind the old ones. While it runs
+/// it holds the piece's characters, of 4 bytes each.
+pub fn lex_onto(
     alloc: Global,
     text: &[u8],
     file: FileNo,
+    at: u32,
     names: &mut Names,
-) -> Result<Vec<Token>, Fail<Row>>
-    requires { length names.old + length text.now < 2 ^ 32 - 1 }
-    ensures ok { IfOk result (λ tokens. Lexed file text.now names.old tokens.items names.new) }
+    tokens: &mut Vec<Token>,
+) -> Result<(), Fail<Row>>
+    requires names { length names.old + length text.now < 2 ^ 32 - 1 }
+    requires spans { at + length text.now < 2 ^ 32 }
+    ensures ok { OnOk result
+        (LexedOnto file text.now at names.old tokens.old.items names.new tokens.new.items) }
     ensures refused { IfErr result
         (λ fail. IfRefused fail (λ row. LexicalFault file text.now row)) }
     ensures extends { Extends names.old names.new }
@@ -256,5 +266,28 @@ pub fn lex(
         };
         return Err(Fail::Refused(row_at(&text, file, 0, escape)));
     }
-    tokens_of(alloc, decoded, &text, file, names)
+    tokens_onto(alloc, decoded, &text, file, at, names, tokens)
+}
+
+/// The tokens of a file's bytes; the texts of identifiers and strings are numbered in `names`, in the order of the tokens.
+///
+/// It refuses with the row of the text's fault: L1 where the bytes aren't UTF-8, else L2 at the first Unicode escape, else L3 to L7 at the first place where a token should begin and none can.
+/// After a refusal or want of memory `names` has perhaps some names more, behind the old ones.
+pub fn lex(
+    alloc: Global,
+    text: &[u8],
+    file: FileNo,
+    names: &mut Names,
+) -> Result<Vec<Token>, Fail<Row>>
+    requires { length names.old + length text.now < 2 ^ 32 - 1 }
+    ensures ok { IfOk result (λ tokens. Lexed file text.now names.old tokens.items names.new) }
+    ensures refused { IfErr result
+        (λ fail. IfRefused fail (λ row. LexicalFault file text.now row)) }
+    ensures extends { Extends names.old names.new }
+{
+    let mut tokens = Vec::new(alloc);
+    match lex_onto(alloc, text, file, 0, names, &mut tokens) {
+        Ok(()) => Ok(tokens),
+        Err(fail) => Err(fail),
+    }
 }

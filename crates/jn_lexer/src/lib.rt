@@ -1,7 +1,8 @@
 //! Texts as tokens.
 //!
 //! [`lex`] gives the one list of tokens of a text (JLS 3.3 to 3.12) and interns its names, or the row of its first lexical fault.
-//! `specs/Lexed.antt` and `specs/Faults.antt` say what these are; [`law`] that there is one of the two, and one alone.
+//! [`lex_onto`] does so for a piece of a text, and puts its tokens behind those before it.
+//! `specs/Lexed.antt`, `specs/Moved.antt` and `specs/Faults.antt` say what these are; [`law`] that there is one of the two, and one alone.
 #![tactic(auto)]
 
 mod characters;
@@ -14,4 +15,4 @@ mod spelling;
 mod strings;
 mod words;
 
-pub use lexing::lex;
+pub use lexing::{lex, lex_onto};

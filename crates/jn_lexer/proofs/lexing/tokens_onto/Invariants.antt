@@ -1,11 +1,11 @@
 use Rattle.std.proofs.Common.{◌≡◌, ◌≤◌, ◌+◌, length}
 use Rattle.jn_lexer.specs.Characters.{width}
-use Rattle.jn_lexer.proofs.Reading.{IsRead}
-use Rattle.jn_lexer.proofs.lexing.tokens_of.Given as goal
+use Rattle.jn_lexer.proofs.Onto.{IsReadOnto}
+use Rattle.jn_lexer.proofs.lexing.tokens_onto.Given as goal
 
 abbrev pub invariant-loop-next : goal.invariant-loop-next
 invariant-loop-next l = record {
-  read : IsRead l.file l.text l.fn.names l.rest l.at l.tokens.items l.names;
+  read : IsReadOnto l.file l.text l.by l.fn.names l.fn.tokens.items l.rest l.at l.tokens.items l.names;
   places : l.at + width l.rest ≡ length l.decoded;
   room : length l.names + length l.rest ≤ length l.fn.names + length l.decoded;
 }
