@@ -17,3 +17,4 @@ mod statements;
 
 pub use files::renumber_file;
 pub use merging::merge;
+pub use names::entry;

@@ -7,7 +7,7 @@ use jn_base::NameNo;
 use jn_trees::{Annotation, Base, Identifier, Literal};
 
 /// The entry of a number; one that has none stays as it is.
-fn entry(numbers: &[NameNo], name: NameNo) -> NameNo
+pub fn entry(numbers: &[NameNo], name: NameNo) -> NameNo
     ensures { result ≡ spec_entry numbers.now name }
 {
     let at = name.0 as usize;
