@@ -9,10 +9,10 @@ pub returns-in-Some-clause-longest : goal.returns-in-Some-clause-longest
 returns-in-Some-clause-longest c =
     let h = rw c.in-Some.is at c.in_ok-read_expr.ensures in
     let b = is_behind c.args.at c.args.depth c.args.tokens.now c.in-Some.rest.now (view c.in-Some.tree.value) c.requires.inside (subst (λ x. IsLongest c.args.depth x (Some (view c.in-Some.tree.value, kinds c.in-Some.rest.now))) c.tokens_from.ensures h) in
-    subst (λ n. IsLongest c.args.depth (drop c.args.at (kinds c.args.tokens.now)) (Some (view c.in-Some.tree.value, drop n (kinds c.args.tokens.now)))) (sym c.place_before.ensures) b.longest
+    subst (λ n. IsLongest c.args.depth (drop c.args.at (kinds c.args.tokens.now)) (Some (view c.in-Some.tree.value, drop n (kinds c.args.tokens.now)))) (sym c.place_before-place.ensures) b.longest
 
 pub returns-in-Some-clause-inside : goal.returns-in-Some-clause-inside
 returns-in-Some-clause-inside c =
     let h = rw c.in-Some.is at c.in_ok-read_expr.ensures in
     let b = is_behind c.args.at c.args.depth c.args.tokens.now c.in-Some.rest.now (view c.in-Some.tree.value) c.requires.inside (subst (λ x. IsLongest c.args.depth x (Some (view c.in-Some.tree.value, kinds c.in-Some.rest.now))) c.tokens_from.ensures h) in
-    (omega (arith, c.place_before.ensures, b.later), omega (arith, c.place_before.ensures))
+    (omega (arith, c.place_before-place.ensures, b.later), omega (arith, c.place_before-place.ensures))
