@@ -1,9 +1,10 @@
 -- From one stage of a body to the next.
-use Rattle.std.proofs.Common.{◌≡◌, ℕ, ◌-◌, ◌/◌, ◌%◌, ◌==◌, ◌&&◌, Bool, true, false, if◌then◌else◌, Option, Some, None, List, [], length, replicate, filter, not, sym, refl, ap, ◌∙◌, subst, inl, inr, arith, eq-eqb}
+use Rattle.std.proofs.Common.{◌≡◌, ℕ, ◌-◌, ◌/◌, ◌%◌, ◌==◌, ◌&&◌, Bool, true, false, if◌then◌else◌, Option, Some, None, List, [], ◌++◌, length, take, replicate, filter, not, sym, refl, ap, ◌∙◌, subst, inl, inr, arith, eq-eqb}
 use mathlib.Core.Logic.{dite}
 use native.Mathlib.Decide.{ℕ_discrete}
 use Rattle.std.specs.Prelude.{slice_index}
 use Rattle.std.specs.Int.{bit_at}
+use Rattle.std.proofs.Math.Seq.{take-append_seam}
 use Rattle.std.proofs.lemmas.Bool.{eqb-true}
 use Rattle.std.proofs.lemmas.List.{length-replicate}
 use Rattle.std.proofs.lemmas.Nat.Bits.{bit_at-zero}
@@ -17,6 +18,16 @@ use Rattle.jn_sigtable.proofs.Keeping.{both_true, none_has}
 use Rattle.jn_worklist.specs.Plans.{IsDue}
 use Rattle.jn_worklist.specs.Runs.{IsFresh, IsReading, IsRaising, IsMarking, HasGivenBack}
 use Rattle.jn_worklist.proofs.RaiseSteps.{take_whole}
+
+-- zeros that were lent as a slice are what was written there, where the slice keeps its length
+pub written_back : (count n : ℕ) (lent seen written rest : List ℕ) → length lent ≡ n → lent ≡ replicate count 0 → length written ≡ count → seen ≡ take n (written ++ rest) → seen ≡ written
+written_back count n lent seen written rest long zeros kept is =
+    let room : n ≡ length written = sym long ∙ (ap (λ (l : List ℕ). length l) zeros ∙ (length-replicate {A = ℕ} count 0 ∙ sym kept)) in
+    is ∙ (ap (λ (k : ℕ). take k (written ++ rest)) room ∙ take-append_seam written rest)
+
+-- the outputs that the system told are those of the table's system
+pub output_is : {C : Type 0} (describe : C → System) (told it : C) (b : ℕ) (seen outputs : List (WordNo × ℕ)) (lent values : List ℕ) → told ≡ it → seen ≡ outputs → outputs ≡ (describe told).output b lent → lent ≡ values → seen ≡ (describe it).output b values
+output_is describe told it b seen outputs lent values same e is f = e ∙ (is ∙ (ap (λ x. (describe x).output b lent) same ∙ ap (λ (l : List ℕ). (describe it).output b l) f))
 
 none_some : (b : ℕ) → None ≡ Some b → ⊥
 none_some b e = cc
