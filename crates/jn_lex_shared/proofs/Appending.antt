@@ -13,7 +13,7 @@ use Rattle.jn_lexer.specs.Pieces.{Piece, Stands, Behind, ArePieces}
 use Rattle.jn_lexer.specs.Faults.{is_backslash, HasNoUnicodeEscape}
 use Rattle.jn_lexer.specs.Lexed.{names_with, names_after, tokens_of, Lexed}
 use Rattle.jn_lexer.proofs.Widths.{width-append, width-chars}
-use Rattle.jn_lex_shared.specs.Moved.{moved}
+use Rattle.jn_lexer.specs.Moved.{moved}
 use Rattle.jn_lex_shared.specs.Cut.{EndsLine}
 use Rattle.jn_lex_shared.proofs.Followed.{behind_on, last_gap}
 
@@ -99,7 +99,7 @@ all_behind text at (p ∷ ps) qs rest place b h =
     record { rest = r.rest; place = r.place; behind = (b.0, b.1, r.behind); blanks = r.blanks; is = r.is; gap = r.gap }
 
 -- where what is behind the pieces begins
-pub rest_place : (text : List ℕ) (at : ℕ) (ps : List Piece) (rest : List ℕ) (place : ℕ) → Behind text at ps rest place → place + width rest ≡ at + width text
+rest_place : (text : List ℕ) (at : ℕ) (ps : List Piece) (rest : List ℕ) (place : ℕ) → Behind text at ps rest place → place + width rest ≡ at + width text
 rest_place text at [] rest place b = let w = ap width b.0 in let p = b.1 in omega (arith, w, p)
 rest_place text at (p ∷ ps) rest place b =
     let s = b.1 in

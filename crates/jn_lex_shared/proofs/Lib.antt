@@ -1,6 +1,7 @@
 pub mod Feeds
 pub mod Followed
 pub mod Appending
+pub mod Further
 pub mod Known
 pub mod Parts
-pub mod Loops
+pub mod Windows

@@ -1,23 +1,21 @@
 -- The tokens and names of a text that is lexed in two parts, each with names of its own.
-use Rattle.std.proofs.Common.{◌≡◌, ℕ, ◌+◌, ◌<◌, ◌≤◌, List, [], ◌∷◌, ◌++◌, length, take, drop, refl, sym, ap, ◌∙◌, subst, arith}
-use Rattle.std.specs.Prelude.{chars, Result, Ok, Err, OnOk}
-use Rattle.std.proofs.lemmas.List.{take-append-drop, length-take-le, length-drop}
+use Rattle.std.proofs.Common.{◌≡◌, ℕ, List, [], ◌++◌, length, take, drop, refl, sym, ap, ◌∙◌, subst}
+use Rattle.std.specs.Prelude.{Result, Ok, Err, OnOk}
+use Rattle.std.proofs.lemmas.List.{take-append-drop, length-take-le}
 use Rattle.jn_base.specs.declared.number.FileNo.{FileNo}
 use Rattle.jn_base.specs.declared.number.NameNo.{NameNo}
 use Rattle.jn_base.specs.declared.refusal.OutOfMemory.{OutOfMemory}
 use Rattle.jn_known.specs.Known.{known_names}
 use Rattle.jn_trees.specs.declared.token.Token.{Token}
-use Rattle.jn_lexer.specs.Characters.{width}
-use Rattle.jn_lexer.specs.Pieces.{Piece, Behind}
-use Rattle.jn_lexer.specs.Lexed.{names_with, tokens_of, Lexed}
-use Rattle.jn_lexer.proofs.Widths.{width-chars}
+use Rattle.jn_lexer.specs.Lexed.{Lexed}
+use Rattle.jn_lexer.specs.Moved.{moved, LexedOnto}
 use Rattle.jn_renumber.specs.Merged.{merged, merged_numbers}
 use Rattle.jn_renumber.specs.Tokens.{tokens_by}
 use Rattle.jn_renumber.proofs.Entries.{still_known}
 use Rattle.jn_renumber_law.proofs.Lexing.{lexed, only_lexed}
 use Rattle.jn_lex_shared.specs.Cut.{EndsLine, IsCut}
-use Rattle.jn_lex_shared.specs.Moved.{moved, FitMoved}
-use Rattle.jn_lex_shared.proofs.Appending.{lexed_append, rest_place}
+use Rattle.jn_lex_shared.proofs.Appending.{lexed_append}
+use Rattle.jn_lex_shared.proofs.Further.{renumbered_moved}
 
 -- names that a text has from the known ones on have the known ones
 kept_names : (file : FileNo) (text : List ℕ) (known names : List (List ℕ)) (tokens : List Token) → merged known known ≡ known → Lexed file text known tokens names → merged names known ≡ names
@@ -41,30 +39,11 @@ cut_lexed file text cut names own tokens others is f b =
     subst (λ n. Lexed file text known_names (tokens ++ moved n (tokens_by (merged_numbers names own) others)) (merged names own)) long
     (subst (λ t. Lexed file t known_names (tokens ++ moved (length (take cut text)) (tokens_by (merged_numbers names own) others)) (merged names own)) (take-append-drop cut text) whole)
 
--- ---- spans
-
--- no token stands behind the text's end
-pieces_fit : (file : FileNo) (names : List (List ℕ)) (by text_end : ℕ) (text : List ℕ) (at : ℕ) (ps : List Piece) (rest : List ℕ) (place : ℕ) → Behind text at ps rest place → at + width text ≤ text_end → by + text_end < 4294967296 → FitMoved by (tokens_of file names ps)
-pieces_fit file names by text_end text at [] rest place b within fits = tt
-pieces_fit file names by text_end text at (p ∷ ps) rest place b within fits =
-    let s = b.1 in
-    let after : p.to + width b.0 ≡ at + width text = rest_place text at (p ∷ []) b.0 p.to (b.0, b.1, (refl, refl)) in
-    let to = s.to in
-    (omega (arith, after, to, within, fits), omega (arith, after, within, fits), pieces_fit file (names_with names p.lexeme) by text_end b.0 p.to ps rest place b.2 (omega (arith, after, within)) fits)
-
-tokens_fit : (file : FileNo) (text : List ℕ) (by : ℕ) (old new : List (List ℕ)) (tokens : List Token) → Lexed file text old tokens new → by + length text < 4294967296 → FitMoved by tokens
-tokens_fit file text by old new tokens l fits =
-    let wide = width-chars text l.utf8 in
-    subst (FitMoved by) (sym l.tokens_are) (pieces_fit file old by (length text) (chars text) 0 l.pieces l.are.rest l.are.place l.are.behind (omega (arith, wide)) fits)
-
-pub back_fits : (file : FileNo) (text : List ℕ) (cut : ℕ) (old new : List (List ℕ)) (tokens : List Token) → cut ≤ length text → length text ≤ 1048576 → Lexed file (drop cut text) old tokens new → FitMoved cut tokens
-back_fits file text cut old new tokens within bytes l =
-    let left = length-drop cut text in
-    tokens_fit file (drop cut text) cut old new tokens l (omega (arith, left, within, bytes))
-
--- where the back's tokens were put, they are those of the text
-pub if_put : (file : FileNo) (text : List ℕ) (cut : ℕ) (names own new : List (List ℕ)) (tokens others all : List Token) (numbers : List NameNo) → numbers ≡ merged_numbers names own → new ≡ merged names own → IsCut cut text → Lexed file (take cut text) known_names tokens names → Lexed file (drop cut text) known_names others own → (result : Result Unit OutOfMemory) → OnOk result (all ≡ tokens ++ moved cut (tokens_by numbers others)) → OnOk result (Lexed file text known_names all new)
+-- where the back's tokens, which stand at their places in the text, were put by their numbers, they are those of the text
+pub if_put : (file : FileNo) (text : List ℕ) (cut : ℕ) (names own new : List (List ℕ)) (tokens others all : List Token) (numbers : List NameNo) → numbers ≡ merged_numbers names own → new ≡ merged names own → IsCut cut text → Lexed file (take cut text) known_names tokens names → LexedOnto file (drop cut text) cut known_names [] own others → (result : Result Unit OutOfMemory) → OnOk result (all ≡ tokens ++ tokens_by numbers others) → OnOk result (Lexed file text known_names all new)
 if_put file text cut names own new tokens others all numbers ns new_is is f b (Ok u) put =
-    let here : all ≡ tokens ++ moved cut (tokens_by (merged_numbers names own) others) = put ∙ ap (λ n. tokens ++ moved cut (tokens_by n others)) ns in
-    subst (λ ts. Lexed file text known_names ts new) (sym here) (subst (λ n. Lexed file text known_names (tokens ++ moved cut (tokens_by (merged_numbers names own) others)) n) (sym new_is) (cut_lexed file text cut names own tokens others is f b))
+    let mine = merged_numbers names own in
+    let here : all ≡ tokens ++ moved cut (tokens_by (merged_numbers names own) b.own) =
+    put ∙ ap (λ n. tokens ++ tokens_by n others) ns ∙ ap (λ ts. tokens ++ tokens_by mine ts) b.put ∙ ap (λ ts. tokens ++ ts) (renumbered_moved mine cut b.own) in
+    subst (λ ts. Lexed file text known_names ts new) (sym here) (subst (λ n. Lexed file text known_names (tokens ++ moved cut (tokens_by (merged_numbers names own) b.own)) n) (sym new_is) (cut_lexed file text cut names own tokens b.own is f b.lexed))
 if_put file text cut names own new tokens others all numbers ns new_is is f b (Err e) put = tt

@@ -1,3 +1,2 @@
 pub mod Interned
-pub mod Moved
 pub mod Cut

@@ -1,15 +1,16 @@
 //! One text, lexed in parts.
-ghost use Rattle.std.specs.Prelude.{◌≡◌, ◌≤◌, ◌<◌, ◌-◌, ◌/◌, length, take, drop, min, IfOk, IfErr, OnOk};
+ghost use Rattle.std.specs.Prelude.{◌≡◌, ◌≤◌, ◌<◌, ◌-◌, ◌/◌, ◌+◌, [], length, take, drop, min, IfOk, IfErr, OnOk};
 ghost use Rattle.std.specs.Thread.{IsSync};
 ghost use Rattle.jn_known.specs.Known.{known_names};
 ghost use Rattle.jn_lex_shared.specs.Cut.{IsCut};
 ghost use Rattle.jn_lexer.specs.Faults.{LexicalFault};
 ghost use Rattle.jn_lexer.specs.Lexed.{Lexed};
+ghost use Rattle.jn_lexer.specs.Moved.{LexedOnto};
 ghost use Rattle.jn_trees.specs.Refused.{IfRefused};
 
-use crate::alone::lex_alone;
+use crate::alone::{lex_alone, lex_part};
 use crate::cutting::cut_from;
-use crate::moving::put_moved;
+use crate::renumbering::put_renumbered;
 use jn_base::{Fail, FileNo, OutOfMemory, Row};
 use jn_renumber::merge;
 use jn_trees::{Names, Token};
@@ -19,10 +20,10 @@ use std::thread::{Threads, join};
 /// The fewest bytes for which a worker takes part, so that lexing them takes far longer than starting it and waiting for it.
 const LEAST_SHARE: usize = 32_768;
 
-/// Makes the tokens and names of the first `cut` bytes those of the text, the other bytes of which have the others by names of
-/// their own.
+/// Makes the tokens and names of the first `cut` bytes those of the text, the other bytes of which have the others, at their places
+/// in the text, by names of their own.
 ///
-/// Where no memory is found, tokens and names are perhaps some more than before.
+/// Where no memory is found, the names are perhaps some more than before, and the others have perhaps their numbers among them.
 fn put_behind(
     alloc: Global,
     text: &[u8],
@@ -30,22 +31,23 @@ fn put_behind(
     cut: u32,
     tokens: &mut Vec<Token>,
     names: &mut Names,
-    others: &[Token],
+    others: &mut Vec<Token>,
     own: &Names,
 ) -> Result<(), OutOfMemory>
     requires bytes { length text.now ≤ 1048576 }
     requires cut { IsCut cut text.now }
     requires front { Lexed file (take cut text.now) known_names tokens.old.items names.old }
-    requires back { Lexed file (drop cut text.now) known_names others.now own.now }
+    requires back { LexedOnto file (drop cut text.now) cut known_names [] own.now
+        others.old.items }
     ensures { OnOk result (Lexed file text.now known_names tokens.new.items names.new) }
 {
-    let (_text, _file) = (text, file);
+    let (_text, _file, _cut) = (text, file, cut);
     let numbers = merge(alloc, names, own)?;
-    put_moved(tokens, others, numbers.as_slice(), cut)
+    put_renumbered(tokens, others, numbers.as_slice())
 }
 
-/// The tokens and names of a text, of which the first `cut` bytes and those behind them have these, each from the known names on;
-/// it fails where one of them does.
+/// The tokens and names of a text, of which the first `cut` bytes and those behind them have these, each from the known names on
+/// and at their places in the text; it fails where one of them does.
 fn in_order(
     alloc: Global,
     text: &[u8],
@@ -58,11 +60,12 @@ fn in_order(
     requires cut { IsCut cut text.now }
     requires front { IfOk front
         (λ r. Lexed file (take cut text.now) known_names r.0.items r.1) }
-    requires back { IfOk back (λ r. Lexed file (drop cut text.now) known_names r.0.items r.1) }
+    requires back { IfOk back
+        (λ r. LexedOnto file (drop cut text.now) cut known_names [] r.1 r.0.items) }
     ensures { IfOk result (λ r. Lexed file text.now known_names r.0.items r.1) }
 {
     let (mut tokens, mut names) = front?;
-    let (others, own) = back?;
+    let (mut others, own) = back?;
     put_behind(
         alloc,
         text,
@@ -70,7 +73,7 @@ fn in_order(
         cut,
         &mut tokens,
         &mut names,
-        others.as_slice(),
+        &mut others,
         &own,
     )?;
     Ok((tokens, names))
@@ -98,16 +101,18 @@ fn lex_parts<R: Threads + Sync>(
         None => return lex_alone(alloc, text, file),
     };
     let (front, back) = text.split_at(cut);
+    let at = cut as u32;
     let theirs = move || -> Result<(Vec<Token>, Names), Fail<Row>>
-        requires { length back.now ≤ 1048576 }
-        ensures { IfOk result (λ r. Lexed file back.entry.now known_names r.0.items r.1) }
-    { lex_alone(alloc, back, file) };
+        requires { at + length back.now ≤ 1048576 }
+        ensures { IfOk result
+            (λ r. LexedOnto file back.entry.now at known_names [] r.1 r.0.items) }
+    { lex_part(alloc, back, file, at) };
     let ours = move || -> Result<(Vec<Token>, Names), Fail<Row>>
         requires { IsSync R.row × (0 < more) × (length front.now ≤ 1048576) }
         ensures { IfOk result (λ r. Lexed file front.entry.now known_names r.0.items r.1) }
     { lex_parts(rt, alloc, front, file, more - 1) };
     let (theirs, ours) = join(rt, theirs, ours);
-    in_order(alloc, text, file, cut as u32, ours, theirs)
+    in_order(alloc, text, file, at, ours, theirs)
 }
 
 /// How many of the others take part in a text of so many bytes: each worker has a share that is worth its start.
@@ -129,7 +134,10 @@ fn others_for(bytes: usize, more: u32) -> u32
 ///
 /// It refuses with the row of the text's fault, as `jn_lexer::lex` says: L1 where the bytes aren't UTF-8, else L2 at the first
 /// Unicode escape, else L3 to L7 at the first place where a token should begin and none can. It starts its workers by `join` and
-/// waits for them. Its time is in proportion to the bytes: where a part is refused, the text is lexed once more, as a whole.
+/// waits for them. Its time is in proportion to the bytes: where a part is refused, the text is lexed once more, by one worker.
+///
+/// Besides tokens and names each worker takes some 64 KiB, for the characters of one window. A part with a window that is refused takes
+/// 4 bytes for each of its characters, as does the text where it has a fault.
 pub fn lex_shared<R: Threads + Sync>(
     rt: &R,
     alloc: Global,

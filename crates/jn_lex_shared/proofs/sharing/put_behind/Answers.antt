@@ -2,22 +2,19 @@ use Rattle.std.proofs.Common.{◌+◌, ◌≤◌, ◌∙◌, length, take, drop,
 use Rattle.std.proofs.lemmas.List.{length-take-le, length-drop}
 use Rattle.jn_known.specs.Known.{known_names}
 use Rattle.jn_lexer.proofs.Few.{few_names}
-use Rattle.jn_lex_shared.proofs.Parts.{back_fits, if_put}
+use Rattle.jn_lex_shared.proofs.Parts.{if_put}
 use Rattle.jn_lex_shared.proofs.sharing.put_behind.Goals as goal
 
 pub merge-requires : goal.merge-requires
 merge-requires c =
     let front : length c.args.names.now ≤ 25 + length (take c.args.cut c.args.text.now) = few_names c.args.file _ known_names _ _ c.requires.front in
-    let back : length c.args.own.now ≤ 25 + length (drop c.args.cut c.args.text.now) = few_names c.args.file _ known_names _ _ c.requires.back in
+    let back : length c.args.own.now ≤ 25 + length (drop c.args.cut c.args.text.now) = few_names c.args.file _ known_names _ _ c.requires.back.lexed in
     let taken = length-take-le c.args.cut c.args.text.now c.requires.cut.0 in
     let left = length-drop c.args.cut c.args.text.now in
     let few = c.requires.bytes in
     omega (arith, front, back, taken, left, few)
 
-pub put_moved-requires : goal.put_moved-requires
-put_moved-requires c = back_fits c.args.file c.args.text.now c.args.cut known_names c.args.own.now c.args.others.now c.requires.cut.0 c.requires.bytes c.requires.back
-
 pub returns : goal.returns
 returns c =
     let numbers = c.as_slice.ensures.value ∙ c.in_ok-numbers.ensures.numbers in
-    if_put c.args.file c.args.text.now c.args.cut c.args.names.now c.args.own.now c.merge.new.names c.args.tokens.now.items c.args.others.now c.put_moved.new.tokens.items c.as_slice.result.now numbers c.in_ok-numbers.ensures.names c.requires.cut c.requires.front c.requires.back c.put_moved.result c.put_moved.ensures
+    if_put c.args.file c.args.text.now c.args.cut c.args.names.now c.args.own.now c.merge.new.names c.args.tokens.now.items c.args.others.now.items c.put_renumbered.new.tokens.items c.as_slice.result.now numbers c.in_ok-numbers.ensures.names c.requires.cut c.requires.front c.requires.back c.put_renumbered.result c.put_renumbered.ensures
