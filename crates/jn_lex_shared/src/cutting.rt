@@ -12,7 +12,7 @@ const WINDOW: usize = 16_384;
 enum Line {
     /// It is white space so far.
     Blank,
-    /// It begins with `*`, as lines of a comment do, or its begin isn't known.
+    /// It begins with `/` or `*`, as lines of a comment do, or its begin isn't known.
     Comment,
     /// It ends with `;`, `{` or `}`, as lines of code do, and perhaps white space.
     Code,
@@ -28,7 +28,7 @@ fn line_with(line: Line, byte: u8) -> Line {
     match byte {
         b' ' | b'\t' | b'\r' => line,
         b';' | b'{' | b'}' => Line::Code,
-        b'*' if line == Line::Blank => Line::Comment,
+        b'/' | b'*' if line == Line::Blank => Line::Comment,
         _ => Line::Other,
     }
 }
