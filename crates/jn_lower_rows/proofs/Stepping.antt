@@ -9,7 +9,9 @@ use Rattle.jn_quals.specs.Qualifier.{Qualifier}
 use Rattle.jn_trees.specs.declared.expression.Annotation.{Annotation}
 use Rattle.jn_trees.specs.declared.expression.Expr.{Expr}
 use Rattle.jn_trees.specs.declared.expression.Identifier.{Identifier}
+use Rattle.jn_trees.specs.declared.declaration.Parameter.{Parameter}
 use Rattle.jn_trees.specs.declared.statement.Declarator.{Declarator}
+use Rattle.jn_trees.specs.declared.statement.ForHead.{ForHead}
 use Rattle.jn_trees.specs.declared.statement.ForInit.{ForInit}
 use Rattle.jn_trees.specs.declared.statement.ForInit.TheVariants.{Expressions, Declaration}
 use Rattle.jn_trees.specs.declared.statement.LocalDeclaration.{LocalDeclaration}
@@ -22,7 +24,7 @@ use Rattle.jn_points.specs.declared.point.BaseType.{BaseType}
 use Rattle.jn_points.specs.declared.point.BaseType.TheVariants.{Int}
 use Rattle.jn_points.specs.declared.program.Program.{Program}
 use Rattle.jn_points.specs.Lookup.{elem_base, is_array}
-use Rattle.jn_places.specs.Placed.{PlacedStatement, PlacedStatements, MorePlacedStatements, PlacedBlock, PlacedTree, PlacedTrees, NoPlacedTrees, MorePlacedTrees, PlacedDeclarator}
+use Rattle.jn_places.specs.Placed.{PlacedStatement, PlacedStatements, MorePlacedStatements, PlacedBlock, PlacedFor, PlacedForEach, PlacedTree, PlacedTrees, NoPlacedTrees, MorePlacedTrees, PlacedDeclarator}
 use Rattle.jn_places.specs.PlacedView.{placed_declarator, placed_declarators, placed_init, placed_local, placed_optional, placed_statement, placed_statement_row, placed_statements, placed_type_use, placed_view, placed_views}
 use Rattle.jn_lowering.specs.Annotations.{base_rows, both_kinds, row, type_rows, unless, when}
 use Rattle.jn_lowering.specs.Bases.{type_of, type_of_use}
@@ -46,6 +48,12 @@ block_views v = row_statements _ (hidden-the_row-Stmt-0 v) ∙ ap placed_stateme
 
 pub seen_block : (e : Stmt) (v : Vec Stmt Global) (s : Span) (ss : List Stmt) → e ≡ Block v s → ss ≡ v.items → placed_statement e ≡ PlacedBlock (placed_statements ss) s
 seen_block e v s ss is b = ap placed_statement is ∙ ap (λ x. PlacedBlock x s) (block_views v ∙ ap placed_statements (sym b))
+
+pub seen_for : (e : Stmt) (q : Box ForHead Global) (p : Box Stmt Global) (s : Span) (i : ForInit) (o : Option (Box Expr Global)) (t : Stmt) (es : List Expr) → e ≡ For q p s → i ≡ q.value.init → o ≡ q.value.condition → t ≡ p.value → es ≡ q.value.update.items → placed_statement e ≡ PlacedFor (placed_init i) (placed_optional o) (placed_views es) (placed_statement t) s
+seen_for e q p s i o t es is ie oe te ue = ap placed_statement is ∙ cc (ie, oe, te, ue)
+
+pub seen_each : (e : Stmt) (q : Box Parameter Global) (r : Box Expr Global) (p : Box Stmt Global) (s : Span) (ms : List LocalModifier) (u : TypeUse) (n : Identifier) (a : Expr) (t : Stmt) → e ≡ ForEach q r p s → ms ≡ q.value.modifiers.items → u ≡ q.value.type_use → n ≡ q.value.name → a ≡ r.value → t ≡ p.value → placed_statement e ≡ PlacedForEach ms (placed_type_use u) n (placed_view a) (placed_statement t) s
+seen_each e q r p s ms u n a t is me ue ne ae te = ap placed_statement is ∙ cc (me, ue, ne, ae, te)
 
 module _ (P : Program) (c : ℕ) (at : Setting) where
   -- a statement, and statements one after the other
@@ -72,20 +80,20 @@ module _ (P : Program) (c : ℕ) (at : Setting) where
   pub still_walks : (t : PlacedStatement) (names : Names) (x : List Row) → WellKept names → ((f : ℕ) (st : State) → spec.statement_rows P c f at st t ≡ []) → ((f : ℕ) (st : State) → (lowered.statement P c f st t).behind.scope ≡ st.scope) → WalksOne t names names x x
   still_walks t names x k none same = walk_stay (λ f st. spec.statement_rows P c f at st t) (λ f st. (lowered.statement P c f st t).behind) names x x k same (λ f st s. sym (ap (λ r. x ++ r) (none f st) ∙ append-nil x))
 
-  pub optional_walks : (e : Expr) (o : Option Expr) (names : Names) (x y : List Row) → o ≡ Some e → WellKept names → Adds e names x y → Walks (λ f st. spec.optional_rows P c f at st (placed_optional o)) (λ f st. st) names names x y
-  optional_walks e o names x y is k h = subst (λ o. Walks (λ f st. spec.optional_rows P c f at st (placed_optional o)) (λ f st. st) names names x y) (sym is) (look_walks e (λ f st. st) names x y k (λ f st. refl) h)
+  pub optional_walks : (q : Box Expr Global) (e : Expr) (o : Option (Box Expr Global)) (names : Names) (x y : List Row) → o ≡ Some q → e ≡ q.value → WellKept names → Adds e names x y → Walks (λ f st. spec.optional_rows P c f at st (placed_optional o)) (λ f st. st) names names x y
+  optional_walks q e o names x y is ee k h = subst (λ o. Walks (λ f st. spec.optional_rows P c f at st (placed_optional o)) (λ f st. st) names names x y) (sym is) (look_walks q.value (λ f st. st) names x y k (λ f st. refl) (subst (λ e. Adds e names x y) ee h))
 
-  pub none_walks : (o : Option Expr) (names : Names) (x : List Row) → o ≡ None → WellKept names → Walks (λ f st. spec.optional_rows P c f at st (placed_optional o)) (λ f st. st) names names x x
+  pub none_walks : (o : Option (Box Expr Global)) (names : Names) (x : List Row) → o ≡ None → WellKept names → Walks (λ f st. spec.optional_rows P c f at st (placed_optional o)) (λ f st. st) names names x x
   none_walks o names x is k = subst (λ o. Walks (λ f st. spec.optional_rows P c f at st (placed_optional o)) (λ f st. st) names names x x) (sym is) (walk_stay (λ f st. []) (λ f st. st) names x x k (λ f st. refl) (λ f st s. sym (append-nil x)))
 
   pub block_walks : (e : Stmt) (v : Vec Stmt Global) (s : Span) (ss : List Stmt) (old new back : Names) (x y : List Row) → e ≡ Block v s → ss ≡ v.items → WellKept old → WalksAll (placed_statements ss) old new x y → IsBack old new back → WalksOne (placed_statement e) old back x y
   block_walks e v s ss old new back x y is b k g h = subst (λ t. WalksOne t old back x y) (sym (seen_block e v s ss is b))
       (walk_back (λ f st. spec.all_rows P c f at st (placed_statements ss)) (λ f st. (lowered.statements P c f st (placed_statements ss)).behind) (λ f st. (lowered.statement P c f st (PlacedBlock (placed_statements ss) s)).behind) old new back x y k (λ f st. refl) g h.0 h.1)
 
-  pub expression_walks : (e : Stmt) (q : Expr) (s : Span) (names : Names) (x y : List Row) → e ≡ Expression q s → WellKept names → Adds q names x y → WalksOne (placed_statement e) names names x y
-  expression_walks e q s names x y is k h = subst (λ e. WalksOne (placed_statement e) names names x y) (sym is) (look_walks q (λ f st. (lowered.statement P c f st (placed_statement (Expression q s))).behind) names x y k (λ f st. refl) h)
+  pub expression_walks : (e : Stmt) (q : Box Expr Global) (a : Expr) (s : Span) (names : Names) (x y : List Row) → e ≡ Expression q s → a ≡ q.value → WellKept names → Adds a names x y → WalksOne (placed_statement e) names names x y
+  expression_walks e q a s names x y is ae k h = subst (λ e. WalksOne (placed_statement e) names names x y) (sym is) (look_walks q.value (λ f st. (lowered.statement P c f st (placed_statement (Expression q s))).behind) names x y k (λ f st. refl) (subst (λ a. Adds a names x y) ae h))
 
-  pub return_walks : (e : Stmt) (o : Option Expr) (s : Span) (names : Names) (x y : List Row) → e ≡ Return o s → Walks (λ f st. spec.optional_rows P c f at st (placed_optional o)) (λ f st. st) names names x y → WalksOne (placed_statement e) names names x y
+  pub return_walks : (e : Stmt) (o : Option (Box Expr Global)) (s : Span) (names : Names) (x y : List Row) → e ≡ Return o s → Walks (λ f st. spec.optional_rows P c f at st (placed_optional o)) (λ f st. st) names names x y → WalksOne (placed_statement e) names names x y
   return_walks e o s names x y is g = subst (λ e. WalksOne (placed_statement e) names names x y) (sym is) (walk_behind (λ f st. spec.optional_rows P c f at st (placed_optional o)) (λ f st. st) (λ f st. (lowered.statement P c f st (placed_statement (Return o s))).behind) names names x y (λ f st. refl) g)
 
   pub local_walks : (e : Stmt) (q : Box LocalDeclaration Global) (l : LocalDeclaration) (s : Span) (old new : Names) (x y : List Row) → e ≡ Local q s → l ≡ q.value → Walks (λ f st. spec.declaration_rows P c f at st (placed_local l)) (λ f st. (lowered.declaration P c f st (placed_local l)).behind) old new x y → WalksOne (placed_statement e) old new x y
@@ -101,28 +109,28 @@ module _ (P : Program) (c : ℕ) (at : Setting) where
       Walks (λ f st. spec.rows_in P c f at st (placed_view q) ++ spec.statement_rows P c f at (tested q f st) (placed_statement t)) (λ f st. (lowered.statement P c f (tested q f st) (placed_statement t)).behind) old new x z
   guarded q t old new x y z k h g = walk_then (λ f st. spec.rows_in P c f at st (placed_view q)) (λ f st. spec.statement_rows P c f at st (placed_statement t)) (tested q) (λ f st. (lowered.statement P c f st (placed_statement t)).behind) old old new x y z (look_walks q (tested q) old x y k (λ f st. refl) h) g
 
-  pub if_walks : (e : Stmt) (q : Expr) (p : Box Stmt Global) (s : Span) (t : Stmt) (old new back : Names) (x y z : List Row) → e ≡ If q p s → t ≡ p.value → WellKept old → Adds q old x y → WalksOne (placed_statement t) old new y z → IsBack old new back → WalksOne (placed_statement e) old back x z
-  if_walks e q p s t old new back x y z is te k h g b = subst (λ e. WalksOne (placed_statement e) old back x z) (sym is)
-      (walk_back _ _ (λ f st. (lowered.statement P c f st (placed_statement (If q p s))).behind) old new back x z k (λ f st. refl) (guarded q p.value old new x y z k h (subst (λ t. WalksOne (placed_statement t) old new y z) te g)) b.0 b.1)
+  pub if_walks : (e : Stmt) (q : Box Expr Global) (p : Box Stmt Global) (s : Span) (a : Expr) (t : Stmt) (old new back : Names) (x y z : List Row) → e ≡ If q p s → a ≡ q.value → t ≡ p.value → WellKept old → Adds a old x y → WalksOne (placed_statement t) old new y z → IsBack old new back → WalksOne (placed_statement e) old back x z
+  if_walks e q p s a t old new back x y z is ae te k h g b = subst (λ e. WalksOne (placed_statement e) old back x z) (sym is)
+      (walk_back _ _ (λ f st. (lowered.statement P c f st (placed_statement (If q p s))).behind) old new back x z k (λ f st. refl) (guarded q.value p.value old new x y z k (subst (λ a. Adds a old x y) ae h) (subst (λ t. WalksOne (placed_statement t) old new y z) te g)) b.0 b.1)
 
-  pub while_walks : (e : Stmt) (q : Expr) (p : Box Stmt Global) (s : Span) (t : Stmt) (old new back : Names) (x y z : List Row) → e ≡ While q p s → t ≡ p.value → WellKept old → Adds q old x y → WalksOne (placed_statement t) old new y z → IsBack old new back → WalksOne (placed_statement e) old back x z
-  while_walks e q p s t old new back x y z is te k h g b = subst (λ e. WalksOne (placed_statement e) old back x z) (sym is)
-      (walk_back _ _ (λ f st. (lowered.statement P c f st (placed_statement (While q p s))).behind) old new back x z k (λ f st. refl) (guarded q p.value old new x y z k h (subst (λ t. WalksOne (placed_statement t) old new y z) te g)) b.0 b.1)
+  pub while_walks : (e : Stmt) (q : Box Expr Global) (p : Box Stmt Global) (s : Span) (a : Expr) (t : Stmt) (old new back : Names) (x y z : List Row) → e ≡ While q p s → a ≡ q.value → t ≡ p.value → WellKept old → Adds a old x y → WalksOne (placed_statement t) old new y z → IsBack old new back → WalksOne (placed_statement e) old back x z
+  while_walks e q p s a t old new back x y z is ae te k h g b = subst (λ e. WalksOne (placed_statement e) old back x z) (sym is)
+      (walk_back _ _ (λ f st. (lowered.statement P c f st (placed_statement (While q p s))).behind) old new back x z k (λ f st. refl) (guarded q.value p.value old new x y z k (subst (λ a. Adds a old x y) ae h) (subst (λ t. WalksOne (placed_statement t) old new y z) te g)) b.0 b.1)
 
-  pub else_walks : (e : Stmt) (q : Expr) (p r : Box Stmt Global) (s : Span) (t u : Stmt) (old new last back : Names) (x y z w : List Row) → e ≡ IfElse q p r s → t ≡ p.value → u ≡ r.value → WellKept old → Adds q old x y → WalksOne (placed_statement t) old new y z → WalksOne (placed_statement u) new last z w → IsBack old last back → WalksOne (placed_statement e) old back x w
-  else_walks e q p r s t u old new last back x y z w is te ue k h g i b = subst (λ e. WalksOne (placed_statement e) old back x w) (sym is)
+  pub else_walks : (e : Stmt) (q : Box Expr Global) (p r : Box Stmt Global) (s : Span) (a : Expr) (t u : Stmt) (old new last back : Names) (x y z w : List Row) → e ≡ IfElse q p r s → a ≡ q.value → t ≡ p.value → u ≡ r.value → WellKept old → Adds a old x y → WalksOne (placed_statement t) old new y z → WalksOne (placed_statement u) new last z w → IsBack old last back → WalksOne (placed_statement e) old back x w
+  else_walks e q p r s a t u old new last back x y z w is ae te ue k h g i b = subst (λ e. WalksOne (placed_statement e) old back x w) (sym is)
       (walk_back _ _ (λ f st. (lowered.statement P c f st (placed_statement (IfElse q p r s))).behind) old last back x w k (λ f st. refl)
-      (walk_then (λ f st. spec.rows_in P c f at st (placed_view q)) (λ f st. spec.statement_rows P c f at st (placed_statement p.value) ++ spec.statement_rows P c f at (lowered.statement P c f st (placed_statement p.value)).behind (placed_statement r.value)) (tested q) (λ f st. (lowered.statement P c f (lowered.statement P c f st (placed_statement p.value)).behind (placed_statement r.value)).behind) old old last x y w
-      (look_walks q (tested q) old x y k (λ f st. refl) h)
+      (walk_then (λ f st. spec.rows_in P c f at st (placed_view q.value)) (λ f st. spec.statement_rows P c f at st (placed_statement p.value) ++ spec.statement_rows P c f at (lowered.statement P c f st (placed_statement p.value)).behind (placed_statement r.value)) (tested q.value) (λ f st. (lowered.statement P c f (lowered.statement P c f st (placed_statement p.value)).behind (placed_statement r.value)).behind) old old last x y w
+      (look_walks q.value (tested q.value) old x y k (λ f st. refl) (subst (λ a. Adds a old x y) ae h))
       (walk_then (λ f st. spec.statement_rows P c f at st (placed_statement p.value)) (λ f st. spec.statement_rows P c f at st (placed_statement r.value)) (λ f st. (lowered.statement P c f st (placed_statement p.value)).behind) (λ f st. (lowered.statement P c f st (placed_statement r.value)).behind) old new last y z w
       (subst (λ t. WalksOne (placed_statement t) old new y z) te g) (subst (λ t. WalksOne (placed_statement t) new last z w) ue i))) b.0 b.1)
 
-  pub do_walks : (e : Stmt) (q : Expr) (p : Box Stmt Global) (s : Span) (t : Stmt) (old new back : Names) (x y z : List Row) → e ≡ Do p q s → t ≡ p.value → WellKept old → WalksOne (placed_statement t) old new x y → Adds q new y z → IsBack old new back → WalksOne (placed_statement e) old back x z
-  do_walks e q p s t old new back x y z is te k g h b = subst (λ e. WalksOne (placed_statement e) old back x z) (sym is)
+  pub do_walks : (e : Stmt) (q : Box Expr Global) (p : Box Stmt Global) (s : Span) (a : Expr) (t : Stmt) (old new back : Names) (x y z : List Row) → e ≡ Do p q s → a ≡ q.value → t ≡ p.value → WellKept old → WalksOne (placed_statement t) old new x y → Adds a new y z → IsBack old new back → WalksOne (placed_statement e) old back x z
+  do_walks e q p s a t old new back x y z is ae te k g h b = subst (λ e. WalksOne (placed_statement e) old back x z) (sym is)
       (walk_back _ _ (λ f st. (lowered.statement P c f st (placed_statement (Do p q s))).behind) old new back x z k (λ f st. refl)
-      (walk_on (λ f st. spec.statement_rows P c f at st (placed_statement p.value) ++ spec.rows_in P c f at (lowered.statement P c f st (placed_statement p.value)).behind (placed_view q)) (λ f st. (lowered.statement P c f st (placed_statement p.value)).behind) (λ f st. lowered.fresh st) old new x z (λ f st. refl)
-      (walk_then (λ f st. spec.statement_rows P c f at st (placed_statement p.value)) (λ f st. spec.rows_in P c f at st (placed_view q)) (λ f st. (lowered.statement P c f st (placed_statement p.value)).behind) (λ f st. st) old new new x y z
-      (subst (λ t. WalksOne (placed_statement t) old new x y) te g) (look_walks q (λ f st. st) new y z g.kept (λ f st. refl) h))) b.0 b.1)
+      (walk_on (λ f st. spec.statement_rows P c f at st (placed_statement p.value) ++ spec.rows_in P c f at (lowered.statement P c f st (placed_statement p.value)).behind (placed_view q.value)) (λ f st. (lowered.statement P c f st (placed_statement p.value)).behind) (λ f st. lowered.fresh st) old new x z (λ f st. refl)
+      (walk_then (λ f st. spec.statement_rows P c f at st (placed_statement p.value)) (λ f st. spec.rows_in P c f at st (placed_view q.value)) (λ f st. (lowered.statement P c f st (placed_statement p.value)).behind) (λ f st. st) old new new x y z
+      (subst (λ t. WalksOne (placed_statement t) old new x y) te g) (look_walks q.value (λ f st. st) new y z g.kept (λ f st. refl) (subst (λ a. Adds a new y z) ae h)))) b.0 b.1)
 
   effects_scope : (f : ℕ) (st : State) (es : PlacedTrees) → (lowered.effects P c f st es).behind.scope ≡ st.scope
   effects_scope f st NoPlacedTrees = refl
@@ -132,29 +140,35 @@ module _ (P : Program) (c : ℕ) (at : Setting) where
   effect_walks es names x y k h = walk_stay (λ f st. spec.effect_rows P c f at st (placed_views es)) (λ f st. (lowered.effects P c f st (placed_views es)).behind) names x y k (λ f st. effects_scope f st (placed_views es)) (λ f st s. h ∙ ap (λ r. x ++ r) (look_all P c at st names s (placed_views es)))
 
   -- a condition that may be absent
-  abbrev gone : Option Expr → ℕ → State → State
+  abbrev gone : Option (Box Expr Global) → ℕ → State → State
   gone o f st = with_temporaries st (lowered.optional_test P c f st (placed_optional o)).behind
 
-  abbrev more : Option Expr → Stmt → List Expr → ℕ → State → List Row
+  abbrev more : Option (Box Expr Global) → Stmt → List Expr → ℕ → State → List Row
   more o t es f st = spec.statement_rows P c f at st (placed_statement t) ++ spec.effect_rows P c f at (lowered.statement P c f st (placed_statement t)).behind (placed_views es)
 
-  abbrev rest : Option Expr → Stmt → List Expr → ℕ → State → List Row
+  abbrev rest : Option (Box Expr Global) → Stmt → List Expr → ℕ → State → List Row
   rest o t es f st = spec.optional_rows P c f at st (placed_optional o) ++ more o t es f (gone o f st)
 
-  abbrev last : Option Expr → Stmt → ℕ → State → State
+  abbrev last : Option (Box Expr Global) → Stmt → ℕ → State → State
   last o t f st = (lowered.statement P c f (gone o f st) (placed_statement t)).behind
 
-  pub for_walks : (e : Stmt) (i : ForInit) (o : Option Expr) (us : Vec Expr Global) (p : Box Stmt Global) (s : Span) (t : Stmt) (es : List Expr) (old mid new back : Names) (x y z w v : List Row) → e ≡ For i o us p s → t ≡ p.value → es ≡ us.items → WellKept old →
+  for_placed : (i : ForInit) (o : Option (Box Expr Global)) (es : List Expr) (t : Stmt) (s : Span) (old mid new back : Names) (x y z w v : List Row) → WellKept old →
+      Walks (λ f st. spec.init_rows P c f at st (placed_init i)) (λ f st. (lowered.init P c f st (placed_init i)).behind) old mid x y →
+      Walks (λ f st. spec.optional_rows P c f at st (placed_optional o)) (λ f st. st) mid mid y z → WalksOne (placed_statement t) mid new z w → AddsAll es new w v → IsBack old new back →
+      WalksOne (PlacedFor (placed_init i) (placed_optional o) (placed_views es) (placed_statement t) s) old back x v
+  for_placed i o es t s old mid new back x y z w v k g h b u back_is =
+      walk_back (λ f st. spec.init_rows P c f at (lowered.fresh st) (placed_init i) ++ rest o t es f (lowered.init P c f (lowered.fresh st) (placed_init i)).behind) (λ f st. last o t f (lowered.init P c f (lowered.fresh st) (placed_init i)).behind) (λ f st. (lowered.statement P c f st (PlacedFor (placed_init i) (placed_optional o) (placed_views es) (placed_statement t) s)).behind) old new back x v k (λ f st. refl)
+      (walk_on (λ f st. spec.init_rows P c f at st (placed_init i) ++ rest o t es f (lowered.init P c f st (placed_init i)).behind) (λ f st. last o t f (lowered.init P c f st (placed_init i)).behind) (λ f st. lowered.fresh st) old new x v (λ f st. refl)
+      (walk_then (λ f st. spec.init_rows P c f at st (placed_init i)) (rest o t es) (λ f st. (lowered.init P c f st (placed_init i)).behind) (last o t) old mid new x y v g
+      (walk_then (λ f st. spec.optional_rows P c f at st (placed_optional o)) (more o t es) (gone o) (λ f st. (lowered.statement P c f st (placed_statement t)).behind) mid mid new y z v (walk_behind (λ f st. spec.optional_rows P c f at st (placed_optional o)) (λ f st. st) (gone o) mid mid y z (λ f st. refl) h)
+      (walk_then (λ f st. spec.statement_rows P c f at st (placed_statement t)) (λ f st. spec.effect_rows P c f at st (placed_views es)) (λ f st. (lowered.statement P c f st (placed_statement t)).behind) (λ f st. st) mid new new z w v b
+      (walk_behind (λ f st. spec.effect_rows P c f at st (placed_views es)) (λ f st. (lowered.effects P c f st (placed_views es)).behind) (λ f st. st) new new w v (λ f st. sym (effects_scope f st (placed_views es))) (effect_walks es new w v b.kept u)))))) back_is.0 back_is.1
+
+  pub for_walks : (e : Stmt) (q : Box ForHead Global) (p : Box Stmt Global) (s : Span) (i : ForInit) (o : Option (Box Expr Global)) (t : Stmt) (es : List Expr) (old mid new back : Names) (x y z w v : List Row) → e ≡ For q p s → i ≡ q.value.init → o ≡ q.value.condition → t ≡ p.value → es ≡ q.value.update.items → WellKept old →
       Walks (λ f st. spec.init_rows P c f at st (placed_init i)) (λ f st. (lowered.init P c f st (placed_init i)).behind) old mid x y →
       Walks (λ f st. spec.optional_rows P c f at st (placed_optional o)) (λ f st. st) mid mid y z → WalksOne (placed_statement t) mid new z w → AddsAll es new w v → IsBack old new back → WalksOne (placed_statement e) old back x v
-  for_walks e i o us p s t es old mid new back x y z w v is te ue k g h b u back_is = subst (λ e. WalksOne (placed_statement e) old back x v) (sym is)
-      (walk_back (λ f st. spec.init_rows P c f at (lowered.fresh st) (placed_init i) ++ rest o p.value us.items f (lowered.init P c f (lowered.fresh st) (placed_init i)).behind) (λ f st. last o p.value f (lowered.init P c f (lowered.fresh st) (placed_init i)).behind) (λ f st. (lowered.statement P c f st (placed_statement (For i o us p s))).behind) old new back x v k (λ f st. refl)
-      (walk_on (λ f st. spec.init_rows P c f at st (placed_init i) ++ rest o p.value us.items f (lowered.init P c f st (placed_init i)).behind) (λ f st. last o p.value f (lowered.init P c f st (placed_init i)).behind) (λ f st. lowered.fresh st) old new x v (λ f st. refl)
-      (walk_then (λ f st. spec.init_rows P c f at st (placed_init i)) (rest o p.value us.items) (λ f st. (lowered.init P c f st (placed_init i)).behind) (last o p.value) old mid new x y v g
-      (walk_then (λ f st. spec.optional_rows P c f at st (placed_optional o)) (more o p.value us.items) (gone o) (λ f st. (lowered.statement P c f st (placed_statement p.value)).behind) mid mid new y z v (walk_behind (λ f st. spec.optional_rows P c f at st (placed_optional o)) (λ f st. st) (gone o) mid mid y z (λ f st. refl) h)
-      (walk_then (λ f st. spec.statement_rows P c f at st (placed_statement p.value)) (λ f st. spec.effect_rows P c f at st (placed_views us.items)) (λ f st. (lowered.statement P c f st (placed_statement p.value)).behind) (λ f st. st) mid new new z w v
-      (subst (λ t. WalksOne (placed_statement t) mid new z w) te b)
-      (walk_behind (λ f st. spec.effect_rows P c f at st (placed_views us.items)) (λ f st. (lowered.effects P c f st (placed_views us.items)).behind) (λ f st. st) new new w v (λ f st. sym (effects_scope f st (placed_views us.items))) (effect_walks us.items new w v b.kept (subst (λ es. AddsAll es new w v) ue u))))))) back_is.0 back_is.1)
+  for_walks e q p s i o t es old mid new back x y z w v is ie oe te ue k g h b u back_is =
+      subst (λ r. WalksOne r old back x v) (sym (seen_for e q p s i o t es is ie oe te ue)) (for_placed i o es t s old mid new back x y z w v k g h b u back_is)
 
   -- a `for` over an array: the state in which its local is declared
   abbrev ready : Expr → ℕ → State → State
@@ -174,28 +188,33 @@ module _ (P : Program) (c : ℕ) (at : Setting) where
   abbrev declared_behind : Identifier → BaseType → Option Qualifier → Bool → List Row → Stmt → ℕ → State → State
   declared_behind n base b fixed faults t f st = (lowered.statement P c f (declares st n.name.0 base b fixed faults) (placed_statement t)).behind
 
-  -- the use of a type that is read out of its box
-  pub unboxed_type : (q : Box TypeUse Global) (u : TypeUse) (notes : List Annotation) (old mid : Names) (x y : List Row) → u ≡ q.value → Walks (λ f st. type_rows (placed_type_use u) both_kinds notes ++ base_rows P u.base) (λ f st. st) old mid x y → Walks (λ f st. type_rows (placed_type_use q.value) both_kinds notes ++ base_rows P q.value.base) (λ f st. st) old mid x y
-  unboxed_type q u notes old mid x y e g = subst (λ u. Walks (λ f st. type_rows (placed_type_use u) both_kinds notes ++ base_rows P u.base) (λ f st. st) old mid x y) e g
-
-  pub each_walks : (e : Stmt) (ms : Vec LocalModifier Global) (u : Box TypeUse Global) (n : Identifier) (a : Expr) (p : Box Stmt Global) (s : Span) (t : Stmt) (notes : List Annotation) (base : BaseType) (fixed : Bool) (faults : List Row) (old mid new last back : Names) (x y z w v : List Row) → e ≡ ForEach ms u n a p s → t ≡ p.value →
-      notes ≡ annotations_of ms.items → base ≡ type_of_use P (placed_type_use u.value) notes → fixed ≡ has_final ms.items → faults ≡ base_rows P u.value.base → WellKept old →
-      Walks (λ f st. type_rows (placed_type_use u.value) both_kinds notes ++ base_rows P u.value.base) (λ f st. st) old mid x y → Walks (λ f st. spec.array_rows P c f at st (placed_view a)) (λ f st. st) mid mid y z →
-      ((b : Option Qualifier) → Walks (λ f st. spec.declared_rows st.scope n.name.0 n.span) (λ f st. declares st n.name.0 base b fixed faults) mid new z w) → WalksOne (placed_statement t) new last w v → IsBack old last back → WalksOne (placed_statement e) old back x v
-  each_walks e ms u n a p s t notes base fixed faults old mid new last back x y z w v is te ne be fe he k g h d b back_is = subst (λ e. WalksOne (placed_statement e) old back x v) (sym is)
-      (walk_back (λ f st. (type_rows (placed_type_use u.value) both_kinds (annotations_of ms.items) ++ base_rows P u.value.base) ++ (spec.array_rows P c f at st (placed_view a) ++ declared_then n (type_of_use P (placed_type_use u.value) (annotations_of ms.items)) (bound u.value ms.items) (has_final ms.items) (base_rows P u.value.base) p.value f (ready a f st))) (λ f st. declared_behind n (type_of_use P (placed_type_use u.value) (annotations_of ms.items)) (bound u.value ms.items) (has_final ms.items) (base_rows P u.value.base) p.value f (ready a f st)) (λ f st. (lowered.statement P c f st (placed_statement (ForEach ms u n a p s))).behind) old last back x v k (λ f st. refl)
-      (walk_then (λ f st. type_rows (placed_type_use u.value) both_kinds (annotations_of ms.items) ++ base_rows P u.value.base) (λ f st. spec.array_rows P c f at st (placed_view a) ++ declared_then n (type_of_use P (placed_type_use u.value) (annotations_of ms.items)) (bound u.value ms.items) (has_final ms.items) (base_rows P u.value.base) p.value f (ready a f st)) (λ f st. st) (λ f st. declared_behind n (type_of_use P (placed_type_use u.value) (annotations_of ms.items)) (bound u.value ms.items) (has_final ms.items) (base_rows P u.value.base) p.value f (ready a f st)) old mid last x y v
-      (subst (λ ns. Walks (λ f st. type_rows (placed_type_use u.value) both_kinds ns ++ base_rows P u.value.base) (λ f st. st) old mid x y) ne g)
-      (walk_then (λ f st. spec.array_rows P c f at st (placed_view a)) (λ f st. declared_then n (type_of_use P (placed_type_use u.value) (annotations_of ms.items)) (bound u.value ms.items) (has_final ms.items) (base_rows P u.value.base) p.value f (ready a f st)) (λ f st. st) (λ f st. declared_behind n (type_of_use P (placed_type_use u.value) (annotations_of ms.items)) (bound u.value ms.items) (has_final ms.items) (base_rows P u.value.base) p.value f (ready a f st)) mid mid last y z v h
-      (walk_on (declared_then n (type_of_use P (placed_type_use u.value) (annotations_of ms.items)) (bound u.value ms.items) (has_final ms.items) (base_rows P u.value.base) p.value) (declared_behind n (type_of_use P (placed_type_use u.value) (annotations_of ms.items)) (bound u.value ms.items) (has_final ms.items) (base_rows P u.value.base) p.value) (ready a) mid last z v (λ f st. refl)
-      (walk_then (λ f st. spec.declared_rows st.scope n.name.0 n.span) (λ f st. spec.statement_rows P c f at st (placed_statement p.value)) (λ f st. declares st n.name.0 (type_of_use P (placed_type_use u.value) (annotations_of ms.items)) (bound u.value ms.items) (has_final ms.items) (base_rows P u.value.base)) (λ f st. (lowered.statement P c f st (placed_statement p.value)).behind) mid new last z w v declared
-      (subst (λ t. WalksOne (placed_statement t) new last w v) te b))))) back_is.0 back_is.1)
+  each_placed : (ms : List LocalModifier) (u : TypeUse) (n : Identifier) (a : Expr) (t : Stmt) (s : Span) (notes : List Annotation) (base : BaseType) (fixed : Bool) (faults : List Row) (old mid new last back : Names) (x y z w v : List Row) →
+      notes ≡ annotations_of ms → base ≡ type_of_use P (placed_type_use u) notes → fixed ≡ has_final ms → faults ≡ base_rows P u.base → WellKept old →
+      Walks (λ f st. type_rows (placed_type_use u) both_kinds notes ++ base_rows P u.base) (λ f st. st) old mid x y → Walks (λ f st. spec.array_rows P c f at st (placed_view a)) (λ f st. st) mid mid y z →
+      ((b : Option Qualifier) → Walks (λ f st. spec.declared_rows st.scope n.name.0 n.span) (λ f st. declares st n.name.0 base b fixed faults) mid new z w) → WalksOne (placed_statement t) new last w v → IsBack old last back →
+      WalksOne (PlacedForEach ms (placed_type_use u) n (placed_view a) (placed_statement t) s) old back x v
+  each_placed ms u n a t s notes base fixed faults old mid new last back x y z w v ne be fe he k g h d b back_is =
+      walk_back (λ f st. (type_rows (placed_type_use u) both_kinds (annotations_of ms) ++ base_rows P u.base) ++ (spec.array_rows P c f at st (placed_view a) ++ declared_then n (type_of_use P (placed_type_use u) (annotations_of ms)) (bound u ms) (has_final ms) (base_rows P u.base) t f (ready a f st))) (λ f st. declared_behind n (type_of_use P (placed_type_use u) (annotations_of ms)) (bound u ms) (has_final ms) (base_rows P u.base) t f (ready a f st)) (λ f st. (lowered.statement P c f st (PlacedForEach ms (placed_type_use u) n (placed_view a) (placed_statement t) s)).behind) old last back x v k (λ f st. refl)
+      (walk_then (λ f st. type_rows (placed_type_use u) both_kinds (annotations_of ms) ++ base_rows P u.base) (λ f st. spec.array_rows P c f at st (placed_view a) ++ declared_then n (type_of_use P (placed_type_use u) (annotations_of ms)) (bound u ms) (has_final ms) (base_rows P u.base) t f (ready a f st)) (λ f st. st) (λ f st. declared_behind n (type_of_use P (placed_type_use u) (annotations_of ms)) (bound u ms) (has_final ms) (base_rows P u.base) t f (ready a f st)) old mid last x y v
+      (subst (λ ns. Walks (λ f st. type_rows (placed_type_use u) both_kinds ns ++ base_rows P u.base) (λ f st. st) old mid x y) ne g)
+      (walk_then (λ f st. spec.array_rows P c f at st (placed_view a)) (λ f st. declared_then n (type_of_use P (placed_type_use u) (annotations_of ms)) (bound u ms) (has_final ms) (base_rows P u.base) t f (ready a f st)) (λ f st. st) (λ f st. declared_behind n (type_of_use P (placed_type_use u) (annotations_of ms)) (bound u ms) (has_final ms) (base_rows P u.base) t f (ready a f st)) mid mid last y z v h
+      (walk_on (declared_then n (type_of_use P (placed_type_use u) (annotations_of ms)) (bound u ms) (has_final ms) (base_rows P u.base) t) (declared_behind n (type_of_use P (placed_type_use u) (annotations_of ms)) (bound u ms) (has_final ms) (base_rows P u.base) t) (ready a) mid last z v (λ f st. refl)
+      (walk_then (λ f st. spec.declared_rows st.scope n.name.0 n.span) (λ f st. spec.statement_rows P c f at st (placed_statement t)) (λ f st. declares st n.name.0 (type_of_use P (placed_type_use u) (annotations_of ms)) (bound u ms) (has_final ms) (base_rows P u.base)) (λ f st. (lowered.statement P c f st (placed_statement t)).behind) mid new last z w v declared
+      b)))) back_is.0 back_is.1
     where
-      declared : Walks (λ f st. spec.declared_rows st.scope n.name.0 n.span) (λ f st. declares st n.name.0 (type_of_use P (placed_type_use u.value) (annotations_of ms.items)) (bound u.value ms.items) (has_final ms.items) (base_rows P u.value.base)) mid new z w
+      declared : Walks (λ f st. spec.declared_rows st.scope n.name.0 n.span) (λ f st. declares st n.name.0 (type_of_use P (placed_type_use u) (annotations_of ms)) (bound u ms) (has_final ms) (base_rows P u.base)) mid new z w
       declared =
-          subst (λ q. Walks (λ f st. spec.declared_rows st.scope n.name.0 n.span) (λ f st. declares st n.name.0 (type_of_use P (placed_type_use u.value) (annotations_of ms.items)) (bound u.value ms.items) (has_final ms.items) q) mid new z w) he
-          (subst (λ q. Walks (λ f st. spec.declared_rows st.scope n.name.0 n.span) (λ f st. declares st n.name.0 (type_of_use P (placed_type_use u.value) (annotations_of ms.items)) (bound u.value ms.items) q faults) mid new z w) fe
-          (subst (λ q. Walks (λ f st. spec.declared_rows st.scope n.name.0 n.span) (λ f st. declares st n.name.0 q (bound u.value ms.items) fixed faults) mid new z w) (be ∙ ap (type_of_use P (placed_type_use u.value)) ne) (d (bound u.value ms.items))))
+          subst (λ q. Walks (λ f st. spec.declared_rows st.scope n.name.0 n.span) (λ f st. declares st n.name.0 (type_of_use P (placed_type_use u) (annotations_of ms)) (bound u ms) (has_final ms) q) mid new z w) he
+          (subst (λ q. Walks (λ f st. spec.declared_rows st.scope n.name.0 n.span) (λ f st. declares st n.name.0 (type_of_use P (placed_type_use u) (annotations_of ms)) (bound u ms) q faults) mid new z w) fe
+          (subst (λ q. Walks (λ f st. spec.declared_rows st.scope n.name.0 n.span) (λ f st. declares st n.name.0 q (bound u ms) fixed faults) mid new z w) (be ∙ ap (type_of_use P (placed_type_use u)) ne) (d (bound u ms))))
+
+  pub each_walks : (e : Stmt) (q : Box Parameter Global) (r : Box Expr Global) (p : Box Stmt Global) (s : Span) (ms : List LocalModifier) (u : TypeUse) (n : Identifier) (a : Expr) (t : Stmt) (notes : List Annotation) (base : BaseType) (fixed : Bool) (faults : List Row) (old mid new last back : Names) (x y z w v : List Row) → e ≡ ForEach q r p s →
+      ms ≡ q.value.modifiers.items → u ≡ q.value.type_use → n ≡ q.value.name → a ≡ r.value → t ≡ p.value →
+      notes ≡ annotations_of ms → base ≡ type_of_use P (placed_type_use u) notes → fixed ≡ has_final ms → faults ≡ base_rows P u.base → WellKept old →
+      Walks (λ f st. type_rows (placed_type_use u) both_kinds notes ++ base_rows P u.base) (λ f st. st) old mid x y → Walks (λ f st. spec.array_rows P c f at st (placed_view a)) (λ f st. st) mid mid y z →
+      ((b : Option Qualifier) → Walks (λ f st. spec.declared_rows st.scope n.name.0 n.span) (λ f st. declares st n.name.0 base b fixed faults) mid new z w) → WalksOne (placed_statement t) new last w v → IsBack old last back → WalksOne (placed_statement e) old back x v
+  each_walks e q r p s ms u n a t notes base fixed faults old mid new last back x y z w v is me ue name ae te ne be fe he k g h d b back_is =
+      subst (λ o. WalksOne o old back x v) (sym (seen_each e q r p s ms u n a t is me ue name ae te)) (each_placed ms u n a t s notes base fixed faults old mid new last back x y z w v ne be fe he k g h d b back_is)
 
   -- statements one after the other, from the i-th one on
 
