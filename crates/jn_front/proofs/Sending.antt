@@ -15,7 +15,7 @@ use Rattle.jn_trees.proofs.declaration.Modifier.TheSendSync as Modifier-crosses
 use Rattle.jn_trees.proofs.declaration.Import.TheSendSync as Import-crosses
 use Rattle.jn_trees.proofs.declaration.PackageLine.TheSendSync as PackageLine-crosses
 use Rattle.jn_trees.proofs.declaration.QualifiedName.TheSendSync as QualifiedName-crosses
-use Rattle.jn_parse_decl.proofs.Sending.{member_sends}
+use Rattle.jn_places.proofs.Sending.{member_sends}
 
 ruleset parts = (Span-crosses.the_send, Span-crosses.the_field_send, NameNo-crosses.the_send, NameNo-crosses.the_field_send, Annotation-crosses.the_send, Annotation-crosses.the_field_send, Identifier-crosses.the_send, Identifier-crosses.the_field_send, Modifier-crosses.the_send, Modifier-crosses.the_field_send, Import-crosses.the_send, Import-crosses.the_field_send, PackageLine-crosses.the_send, PackageLine-crosses.the_field_send, QualifiedName-crosses.the_send, QualifiedName-crosses.the_field_send)
 

@@ -3,6 +3,5 @@ pub mod Ahead
 pub mod Depth
 pub mod Found
 pub mod Rows
-pub mod Sending
 pub mod Turns
 pub mod Views
