@@ -1,12 +1,14 @@
-use Rattle.std.proofs.Common.{◌≡◌, sym, subst, drop, length, ◌+◌, List, [], None, arith}
+use Rattle.std.proofs.Common.{◌≡◌, ◌∙◌, ap, sym, subst, drop, length, ◌+◌, List, [], None, arith}
+use Rattle.jn_trees.specs.declared.declaration.Parameter.{Parameter}
+use Rattle.jn_trees.specs.declared.expression.Expr.{Expr}
+use Rattle.jn_trees.specs.declared.statement.ForHead.{ForHead}
 use Rattle.jn_trees.specs.declared.statement.Stmt.{Stmt}
-use Rattle.jn_places.specs.Placed.{PlacedStatements, PlacedBlock, PlacedExpression, PlacedForEach, PlacedReturn, PlacedLocalStatement}
+use Rattle.jn_places.specs.Placed.{PlacedStatements, PlacedBlock, PlacedDo, PlacedExpression, PlacedFor, PlacedForEach, PlacedIf, PlacedReturn, PlacedLocalStatement, PlacedWhile}
 use Rattle.jn_places.specs.PlacedView.{placed_init, placed_local, placed_optional, placed_statement, placed_statements, placed_type_use, placed_view, placed_views}
 use Rattle.jn_places.proofs.Rows.{statements_placed}
 use Rattle.jn_lowering.specs.Locals.{State}
 use Rattle.jn_trees.specs.declared.statement.LocalDeclaration.{LocalDeclaration}
 use Rattle.jn_trees.specs.declared.statement.LocalModifier.{LocalModifier}
-use Rattle.jn_trees.specs.declared.statement.TypeUse.{TypeUse}
 use Rattle.jn_lowering.specs.Bases.{type_of}
 use Rattle.jn_lowering.specs.Annotations.{base_rows}
 use Rattle.jn_lowering.specs.Forms.{Value}
@@ -74,13 +76,15 @@ for_loop-place-requires-4 t c = record { there = (c.in_ok-jump.ensures 0).kept _
 
 pub for_loop-returns : goal.for_loop-returns
 for_loop-returns t c =
-    for_done (init c.args.c.now.program.now c.args.c.now.class.0 c.args.c.now.first (fresh c.args.s.now) (placed_init c.args.start.now)) (λ u. optional_test c.args.c.now.program.now c.args.c.now.class.0 c.args.c.now.first u (placed_optional c.args.condition.now)) (λ u. stated c.args.c.now u (placed_statement c.args.body.now)) (λ u. effects c.args.c.now.program.now c.args.c.now.class.0 c.args.c.now.first u (placed_views c.args.update.now)) c.args.span
+    for_done (init c.args.c.now.program.now c.args.c.now.class.0 c.args.c.now.first (fresh c.args.s.now) (placed_init c.args.head.now.init)) (λ u. optional_test c.args.c.now.program.now c.args.c.now.class.0 c.args.c.now.first u (placed_optional c.args.head.now.condition)) (λ u. stated c.args.c.now u (placed_statement c.args.body.now)) (λ u. effects c.args.c.now.program.now c.args.c.now.class.0 c.args.c.now.first u (placed_views c.args.head.now.update.items)) c.args.span
     c.args.s.now c.init.new.s c.optional_test.new.s c.statement.new.s c.effects.new.s c.end.new.self c.args.ways.out.0 c.args.ways.again.0 c.in_ok-test.test.0 c.in_ok-inside.inside.0 c.in_ok-next.next.0 c.in_ok-end.end.0
     c.args.e.now c.label.new.e c.label-2.new.e c.label-3.new.e c.label-4.new.e c.init.new.e c.place.new.e c.optional_test.new.e c.place-2.new.e c.statement.new.e c.place-3.new.e c.effects.new.e c.jump.new.e c.place-4.new.e
     c.in_ok-test.ensures c.in_ok-inside.ensures c.in_ok-next.ensures c.in_ok-end.ensures
-    (subst (λ (st : State). StepsOn (init c.args.c.now.program.now c.args.c.now.class.0 c.args.c.now.first st (placed_init c.args.start.now)) c.label-4.new.e c.init.new.e c.init.new.s) c.begin-outer.ensures.begun c.in_ok-init.ensures)
-    c.in_ok-place.ensures c.in_ok-optional_test.ensures c.in_ok-place-2.ensures c.in_ok-statement.ensures c.in_ok-place-3.ensures c.in_ok-effects.ensures c.in_ok-jump.ensures c.in_ok-place-4.ensures
-    (init_extends c.args.c.now.program.now c.args.c.now.class.0 c.args.c.now.first (fresh c.args.s.now) (placed_init c.args.start.now)) (λ u. statement_extends c.args.c.now.program.now c.args.c.now.class.0 c.args.c.now.first u (placed_statement c.args.body.now)) (λ u. ([], effects_extends c.args.c.now.program.now c.args.c.now.class.0 c.args.c.now.first u (placed_views c.args.update.now))) (put_back c.args.s.now c.effects.new.s c.end.new.self c.begin-outer.result.names c.begin-outer.result.held c.begin-outer.ensures.names c.begin-outer.ensures.held c.end.ensures)
+    (subst (λ (st : State). StepsOn (init c.args.c.now.program.now c.args.c.now.class.0 c.args.c.now.first st (placed_init c.args.head.now.init)) c.label-4.new.e c.init.new.e c.init.new.s) c.begin-outer.ensures.begun c.in_ok-init.ensures)
+    c.in_ok-place.ensures c.in_ok-optional_test.ensures c.in_ok-place-2.ensures c.in_ok-statement.ensures c.in_ok-place-3.ensures
+    (subst (λ (es : List Expr). StepsOn (effects c.args.c.now.program.now c.args.c.now.class.0 c.args.c.now.first c.statement.new.s (placed_views es)) c.place-3.new.e c.effects.new.e c.effects.new.s) c.deref.ensures.value c.in_ok-effects.ensures)
+    c.in_ok-jump.ensures c.in_ok-place-4.ensures
+    (init_extends c.args.c.now.program.now c.args.c.now.class.0 c.args.c.now.first (fresh c.args.s.now) (placed_init c.args.head.now.init)) (λ u. statement_extends c.args.c.now.program.now c.args.c.now.class.0 c.args.c.now.first u (placed_statement c.args.body.now)) (λ u. ([], effects_extends c.args.c.now.program.now c.args.c.now.class.0 c.args.c.now.first u (placed_views c.args.head.now.update.items))) (put_back c.args.s.now c.effects.new.s c.end.new.self c.begin-outer.result.names c.begin-outer.result.held c.begin-outer.ensures.names c.begin-outer.ensures.held c.end.ensures)
 
 pub statement-returns-in_ok-block-in-Block : goal.statement-returns-in_ok-block-in-Block
 statement-returns-in_ok-block-in-Block t c =
@@ -91,7 +95,8 @@ statement-returns-in_ok-block-in-Block t c =
 pub statement-returns-in_ok-evaluated-in-Expression : goal.statement-returns-in_ok-evaluated-in-Expression
 statement-returns-in_ok-evaluated-in-Expression t c =
     subst (λ (x : Stmt). Steps (stated c.args.c.now c.args.s.now (placed_statement x)) c.args.ways.out.0 c.args.ways.again.0 c.args.e.now c.evaluated.new.e c.evaluated.new.s) (sym c.in-Expression.is)
-    (any_way (stated c.args.c.now c.args.s.now (PlacedExpression (placed_view c.in-Expression.expression) c.in-Expression.span)) c.args.ways.out.0 c.args.ways.again.0 c.args.e.now c.evaluated.new.e c.evaluated.new.s c.in_ok-evaluated-in-Expression.ensures)
+    (any_way (stated c.args.c.now c.args.s.now (PlacedExpression (placed_view c.in-Expression.expression.value) c.in-Expression.span)) c.args.ways.out.0 c.args.ways.again.0 c.args.e.now c.evaluated.new.e c.evaluated.new.s
+    (subst (λ (x : Expr). StepsOn (stated c.args.c.now c.args.s.now (PlacedExpression (placed_view x) c.in-Expression.span)) c.args.e.now c.evaluated.new.e c.evaluated.new.s) c.deref-in-Expression.ensures c.in_ok-evaluated-in-Expression.ensures))
 
 pub statement-returns-in_ok-returns-in-Return : goal.statement-returns-in_ok-returns-in-Return
 statement-returns-in_ok-returns-in-Return t c =
@@ -113,15 +118,16 @@ statement-place-requires-in-IfElse-2 t c = record { there = c.in_ok-statement-in
 pub statement-returns-in_ok-place-in-IfElse-3 : goal.statement-returns-in_ok-place-in-IfElse-3
 statement-returns-in_ok-place-in-IfElse-3 t c =
     subst (λ (x : Stmt). Steps (stated c.args.c.now c.args.s.now (placed_statement x)) c.args.ways.out.0 c.args.ways.again.0 c.args.e.now c.place-in-IfElse-2.new.e c.end.new.self) (sym c.in-IfElse.is)
-    (if_else_done (tested c.args.c.now (fresh c.args.s.now) (placed_view c.in-IfElse.condition)) (λ u. stated c.args.c.now u (placed_statement c.in-IfElse.then.value)) (λ u. stated c.args.c.now u (placed_statement c.in-IfElse.otherwise.value)) c.in-IfElse.span
+    (if_else_done (tested c.args.c.now (fresh c.args.s.now) (placed_view c.in-IfElse.condition.value)) (λ u. stated c.args.c.now u (placed_statement c.in-IfElse.then.value)) (λ u. stated c.args.c.now u (placed_statement c.in-IfElse.otherwise.value)) c.in-IfElse.span
     c.args.s.now c.decide.new.s c.statement.new.s c.statement-in-IfElse.new.s c.end.new.self c.args.ways.out.0 c.args.ways.again.0 c.in_ok-first-in-IfElse.first.0 c.in_ok-second-in-IfElse.second.0 c.in_ok-end-in-IfElse.end.0
     c.args.e.now c.label.new.e c.label-in-IfElse.new.e c.label-in-IfElse-2.new.e c.decide.new.e c.place.new.e c.statement.new.e c.jump.new.e c.place-in-IfElse.new.e c.statement-in-IfElse.new.e c.place-in-IfElse-2.new.e
     c.in_ok-first-in-IfElse.ensures c.in_ok-second-in-IfElse.ensures c.in_ok-end-in-IfElse.ensures
-    (subst (λ (st : State). TestsIn (tested c.args.c.now st (placed_view c.in-IfElse.condition)) st c.in_ok-first-in-IfElse.first.0 c.in_ok-second-in-IfElse.second.0 c.label-in-IfElse-2.new.e c.decide.new.e c.decide.new.s) c.begin-outer.ensures.begun c.in_ok-decide-in-IfElse.ensures)
+    (subst (λ (x : Expr). TestsIn (tested c.args.c.now (fresh c.args.s.now) (placed_view x)) (fresh c.args.s.now) c.in_ok-first-in-IfElse.first.0 c.in_ok-second-in-IfElse.second.0 c.label-in-IfElse-2.new.e c.decide.new.e c.decide.new.s) c.deref-in-IfElse.ensures
+    (subst (λ (st : State). TestsIn (tested c.args.c.now st (placed_view c.deref-in-IfElse.result.now)) st c.in_ok-first-in-IfElse.first.0 c.in_ok-second-in-IfElse.second.0 c.label-in-IfElse-2.new.e c.decide.new.e c.decide.new.s) c.begin-outer.ensures.begun c.in_ok-decide-in-IfElse.ensures))
     c.in_ok-place-in-IfElse.ensures
-    (subst (λ (x : Stmt). Steps (stated c.args.c.now c.decide.new.s (placed_statement x)) c.args.ways.out.0 c.args.ways.again.0 c.place.new.e c.statement.new.e c.statement.new.s) c.deref-in-IfElse.ensures c.in_ok-statement-in-IfElse.ensures)
+    (subst (λ (x : Stmt). Steps (stated c.args.c.now c.decide.new.s (placed_statement x)) c.args.ways.out.0 c.args.ways.again.0 c.place.new.e c.statement.new.e c.statement.new.s) c.deref-in-IfElse-2.ensures c.in_ok-statement-in-IfElse.ensures)
     c.in_ok-jump-in-IfElse.ensures c.in_ok-place-in-IfElse-2.ensures
-    (subst (λ (x : Stmt). Steps (stated c.args.c.now c.statement.new.s (placed_statement x)) c.args.ways.out.0 c.args.ways.again.0 c.place-in-IfElse.new.e c.statement-in-IfElse.new.e c.statement-in-IfElse.new.s) c.deref-in-IfElse-2.ensures c.in_ok-statement-in-IfElse-2.ensures)
+    (subst (λ (x : Stmt). Steps (stated c.args.c.now c.statement.new.s (placed_statement x)) c.args.ways.out.0 c.args.ways.again.0 c.place-in-IfElse.new.e c.statement-in-IfElse.new.e c.statement-in-IfElse.new.s) c.deref-in-IfElse-3.ensures c.in_ok-statement-in-IfElse-2.ensures)
     c.in_ok-place-in-IfElse-3.ensures (λ u. statement_extends c.args.c.now.program.now c.args.c.now.class.0 c.args.c.now.first u (placed_statement c.in-IfElse.then.value)) (λ u. statement_extends c.args.c.now.program.now c.args.c.now.class.0 c.args.c.now.first u (placed_statement c.in-IfElse.otherwise.value)) (put_back c.args.s.now c.statement-in-IfElse.new.s c.end.new.self c.begin-outer.result.names c.begin-outer.result.held c.begin-outer.ensures.names c.begin-outer.ensures.held c.end.ensures))
 
 pub each_loop-place-requires : goal.each_loop-place-requires
@@ -142,13 +148,15 @@ each_loop-returns t c = λ span.
     let v : Value = valued c.args.c.now (fresh c.args.s.now) (placed_view c.args.array.now) in
     let f : State → Step = λ u. stated c.args.c.now u (placed_statement c.args.body.now) in
     subst (λ (x : Step). Steps x c.args.ways.out.0 c.args.ways.again.0 c.args.e.now c.place-4.new.e c.end.new.self)
-    (each_same c.args.c.now.program.now c.args.c.now.class.0 c.args.c.now.first f c.args.s.now v c.args.name.name.0 c.in_ok-at.at v.operand.span c.in_ok-reg.reg.0 (length c.args.s.now.locals) c.type_in-base.result (type_of c.args.c.now.program.now c.args.c.now.class.0 c.args.s.now.scope (placed_view c.args.array.now))
-    c.kind_of-kind.result.base (local_type c.args.c.now.program.now c.args.c.now.class.0 c.args.c.now.first c.args.modifiers.now (placed_type_use c.args.type_use.now)) (bound_of c.kind_of-kind.result.bound) (local_bound c.args.c.now.program.now c.args.c.now.class.0 c.args.c.now.first c.args.modifiers.now (placed_type_use c.args.type_use.now)) c.has_final-fixed.result (has_final c.args.modifiers.now) (rows_of c.kind_of-kind.result.fault) (base_rows c.args.c.now.program.now c.args.type_use.now.base)
+    (each_same c.args.c.now.program.now c.args.c.now.class.0 c.args.c.now.first f c.args.s.now v c.args.variable.now.name.name.0 c.in_ok-at.at v.operand.span c.in_ok-reg.reg.0 (length c.args.s.now.locals) c.type_in-base.result (type_of c.args.c.now.program.now c.args.c.now.class.0 c.args.s.now.scope (placed_view c.args.array.now))
+    c.kind_of-kind.result.base (local_type c.args.c.now.program.now c.args.c.now.class.0 c.args.c.now.first c.args.variable.now.modifiers.items (placed_type_use c.args.variable.now.type_use)) (bound_of c.kind_of-kind.result.bound) (local_bound c.args.c.now.program.now c.args.c.now.class.0 c.args.c.now.first c.args.variable.now.modifiers.items (placed_type_use c.args.variable.now.type_use)) c.has_final-fixed.result (has_final c.args.variable.now.modifiers.items) (rows_of c.kind_of-kind.result.fault) (base_rows c.args.c.now.program.now c.args.variable.now.type_use.base)
     (in_state (λ (s : State). (valued c.args.c.now s (placed_view c.args.array.now)).operand.span) c.in_ok-at.at _ (fresh c.args.s.now) c.in_ok-at.ensures.0 begun)
     (in_state (λ (s : State). length s.locals) c.in_ok-reg.reg.0 _ (fresh c.args.s.now) c.in_ok-reg.ensures begun)
     (in_state (λ (s : State). type_of c.args.c.now.program.now c.args.c.now.class.0 s.scope (placed_view c.args.array.now)) c.type_in-base.result _ (fresh c.args.s.now) c.type_in-base.ensures begun)
-    c.kind_of-kind.ensures.base c.kind_of-kind.ensures.bound c.has_final-fixed.ensures c.kind_of-kind.ensures.fault)
-    (each_done c.args.c.now.program.now c.args.c.now.class.0 c.args.c.now.first f c.args.s.now v c.args.name.name.0 c.in_ok-at.at c.in_ok-reg.reg.0 c.type_in-base.result c.kind_of-kind.result.base (bound_of c.kind_of-kind.result.bound) c.has_final-fixed.result (rows_of c.kind_of-kind.result.fault)
+    (c.kind_of-kind.ensures.base ∙ ap (λ (ms : List LocalModifier). local_type c.args.c.now.program.now c.args.c.now.class.0 c.args.c.now.first ms (placed_type_use c.args.variable.now.type_use)) c.deref.ensures.value)
+    (c.kind_of-kind.ensures.bound ∙ ap (λ (ms : List LocalModifier). local_bound c.args.c.now.program.now c.args.c.now.class.0 c.args.c.now.first ms (placed_type_use c.args.variable.now.type_use)) c.deref.ensures.value)
+    (c.has_final-fixed.ensures ∙ ap has_final c.deref-2.ensures.value) c.kind_of-kind.ensures.fault)
+    (each_done c.args.c.now.program.now c.args.c.now.class.0 c.args.c.now.first f c.args.s.now v c.args.variable.now.name.name.0 c.in_ok-at.at c.in_ok-reg.reg.0 c.type_in-base.result c.kind_of-kind.result.base (bound_of c.kind_of-kind.result.bound) c.has_final-fixed.result (rows_of c.kind_of-kind.result.fault)
     c.start_with.new.s c.goes_on.new.s c.item.new.s c.declare_each.new.self c.statement.new.s c.moves_on.new.s c.end.new.self c.args.ways.out.0 c.args.ways.again.0 c.in_ok-test.test.0 c.in_ok-inside.inside.0 c.in_ok-again.again.0 c.in_ok-end.end.0
     c.args.e.now c.label.new.e c.label-2.new.e c.label-3.new.e c.label-4.new.e c.start_with.new.e c.place.new.e c.goes_on.new.e c.place-2.new.e c.item.new.e c.statement.new.e c.place-3.new.e c.moves_on.new.e c.jump.new.e c.place-4.new.e
     c.in_ok-test.ensures c.in_ok-inside.ensures c.in_ok-again.ensures c.in_ok-end.ensures
@@ -156,9 +164,33 @@ each_loop-returns t c = λ span.
     c.in_ok-place.ensures c.in_ok-goes_on.ensures c.in_ok-place-2.ensures c.in_ok-item.ensures c.in_ok-declare_each.ensures c.in_ok-statement.ensures c.in_ok-place-3.ensures c.in_ok-moves_on.ensures c.in_ok-jump.ensures c.in_ok-place-4.ensures
     (λ u. statement_extends c.args.c.now.program.now c.args.c.now.class.0 c.args.c.now.first u (placed_statement c.args.body.now)) (put_back c.args.s.now c.moves_on.new.s c.end.new.self c.begin-outer.result.names c.begin-outer.result.held c.begin-outer.ensures.names c.begin-outer.ensures.held c.end.ensures))
 
+pub statement-returns-in_ok-if_then-in-If : goal.statement-returns-in_ok-if_then-in-If
+statement-returns-in_ok-if_then-in-If t c =
+    subst (λ (x : Stmt). Steps (stated c.args.c.now c.args.s.now (placed_statement x)) c.args.ways.out.0 c.args.ways.again.0 c.args.e.now c.if_then.new.e c.if_then.new.s) (sym c.in-If.is)
+    (subst (λ (b : Stmt). Steps (stated c.args.c.now c.args.s.now (PlacedIf (placed_view c.in-If.condition.value) (placed_statement b) c.in-If.span)) c.args.ways.out.0 c.args.ways.again.0 c.args.e.now c.if_then.new.e c.if_then.new.s) c.deref-in-If.ensures
+    (subst (λ (q : Expr). Steps (stated c.args.c.now c.args.s.now (PlacedIf (placed_view q) (placed_statement c.deref-in-If.result.now) c.in-If.span)) c.args.ways.out.0 c.args.ways.again.0 c.args.e.now c.if_then.new.e c.if_then.new.s) c.deref-in-If-2.ensures c.in_ok-if_then-in-If.ensures))
+
+pub statement-returns-in_ok-while_loop-in-While : goal.statement-returns-in_ok-while_loop-in-While
+statement-returns-in_ok-while_loop-in-While t c =
+    subst (λ (x : Stmt). Steps (stated c.args.c.now c.args.s.now (placed_statement x)) c.args.ways.out.0 c.args.ways.again.0 c.args.e.now c.while_loop.new.e c.while_loop.new.s) (sym c.in-While.is)
+    (subst (λ (b : Stmt). Steps (stated c.args.c.now c.args.s.now (PlacedWhile (placed_view c.in-While.condition.value) (placed_statement b) c.in-While.span)) c.args.ways.out.0 c.args.ways.again.0 c.args.e.now c.while_loop.new.e c.while_loop.new.s) c.deref-in-While.ensures
+    (subst (λ (q : Expr). Steps (stated c.args.c.now c.args.s.now (PlacedWhile (placed_view q) (placed_statement c.deref-in-While.result.now) c.in-While.span)) c.args.ways.out.0 c.args.ways.again.0 c.args.e.now c.while_loop.new.e c.while_loop.new.s) c.deref-in-While-2.ensures c.in_ok-while_loop-in-While.ensures))
+
+pub statement-returns-in_ok-do_loop-in-Do : goal.statement-returns-in_ok-do_loop-in-Do
+statement-returns-in_ok-do_loop-in-Do t c =
+    subst (λ (x : Stmt). Steps (stated c.args.c.now c.args.s.now (placed_statement x)) c.args.ways.out.0 c.args.ways.again.0 c.args.e.now c.do_loop.new.e c.do_loop.new.s) (sym c.in-Do.is)
+    (subst (λ (b : Stmt). Steps (stated c.args.c.now c.args.s.now (PlacedDo (placed_statement b) (placed_view c.in-Do.condition.value) c.in-Do.span)) c.args.ways.out.0 c.args.ways.again.0 c.args.e.now c.do_loop.new.e c.do_loop.new.s) c.deref-in-Do.ensures
+    (subst (λ (q : Expr). Steps (stated c.args.c.now c.args.s.now (PlacedDo (placed_statement c.deref-in-Do.result.now) (placed_view q) c.in-Do.span)) c.args.ways.out.0 c.args.ways.again.0 c.args.e.now c.do_loop.new.e c.do_loop.new.s) c.deref-in-Do-2.ensures c.in_ok-do_loop-in-Do.ensures))
+
+pub statement-returns-in_ok-for_loop-in-For : goal.statement-returns-in_ok-for_loop-in-For
+statement-returns-in_ok-for_loop-in-For t c =
+    subst (λ (x : Stmt). Steps (stated c.args.c.now c.args.s.now (placed_statement x)) c.args.ways.out.0 c.args.ways.again.0 c.args.e.now c.for_loop.new.e c.for_loop.new.s) (sym c.in-For.is)
+    (subst (λ (b : Stmt). Steps (stated c.args.c.now c.args.s.now (PlacedFor (placed_init c.in-For.head.value.init) (placed_optional c.in-For.head.value.condition) (placed_views c.in-For.head.value.update.items) (placed_statement b) c.in-For.span)) c.args.ways.out.0 c.args.ways.again.0 c.args.e.now c.for_loop.new.e c.for_loop.new.s) c.deref-in-For.ensures
+    (subst (λ (h : ForHead). Steps (stated c.args.c.now c.args.s.now (PlacedFor (placed_init h.init) (placed_optional h.condition) (placed_views h.update.items) (placed_statement c.deref-in-For.result.now) c.in-For.span)) c.args.ways.out.0 c.args.ways.again.0 c.args.e.now c.for_loop.new.e c.for_loop.new.s) c.deref-in-For-2.ensures c.in_ok-for_loop-in-For.ensures))
+
 pub statement-returns-in_ok-each_loop-in-ForEach : goal.statement-returns-in_ok-each_loop-in-ForEach
 statement-returns-in_ok-each_loop-in-ForEach t c =
     subst (λ (x : Stmt). Steps (stated c.args.c.now c.args.s.now (placed_statement x)) c.args.ways.out.0 c.args.ways.again.0 c.args.e.now c.each_loop.new.e c.each_loop.new.s) (sym c.in-ForEach.is)
-    (subst (λ (b : Stmt). Steps (stated c.args.c.now c.args.s.now (PlacedForEach c.in-ForEach.modifiers.items (placed_type_use c.in-ForEach.type_use.value) c.in-ForEach.name (placed_view c.in-ForEach.array) (placed_statement b) c.in-ForEach.span)) c.args.ways.out.0 c.args.ways.again.0 c.args.e.now c.each_loop.new.e c.each_loop.new.s) c.deref-in-ForEach.ensures
-    (subst (λ (ms : List LocalModifier). Steps (stated c.args.c.now c.args.s.now (PlacedForEach ms (placed_type_use c.in-ForEach.type_use.value) c.in-ForEach.name (placed_view c.in-ForEach.array) (placed_statement c.deref-in-ForEach.result.now) c.in-ForEach.span)) c.args.ways.out.0 c.args.ways.again.0 c.args.e.now c.each_loop.new.e c.each_loop.new.s) c.deref-in-ForEach-2.ensures.value
-    (subst (λ (u : TypeUse). Steps (stated c.args.c.now c.args.s.now (PlacedForEach c.deref-in-ForEach-2.result.now (placed_type_use u) c.in-ForEach.name (placed_view c.in-ForEach.array) (placed_statement c.deref-in-ForEach.result.now) c.in-ForEach.span)) c.args.ways.out.0 c.args.ways.again.0 c.args.e.now c.each_loop.new.e c.each_loop.new.s) c.deref-in-ForEach-3.ensures (c.in_ok-each_loop-in-ForEach.ensures c.in-ForEach.span))))
+    (subst (λ (b : Stmt). Steps (stated c.args.c.now c.args.s.now (PlacedForEach c.in-ForEach.variable.value.modifiers.items (placed_type_use c.in-ForEach.variable.value.type_use) c.in-ForEach.variable.value.name (placed_view c.in-ForEach.array.value) (placed_statement b) c.in-ForEach.span)) c.args.ways.out.0 c.args.ways.again.0 c.args.e.now c.each_loop.new.e c.each_loop.new.s) c.deref-in-ForEach.ensures
+    (subst (λ (p : Parameter). Steps (stated c.args.c.now c.args.s.now (PlacedForEach p.modifiers.items (placed_type_use p.type_use) p.name (placed_view c.in-ForEach.array.value) (placed_statement c.deref-in-ForEach.result.now) c.in-ForEach.span)) c.args.ways.out.0 c.args.ways.again.0 c.args.e.now c.each_loop.new.e c.each_loop.new.s) c.deref-in-ForEach-2.ensures
+    (subst (λ (a : Expr). Steps (stated c.args.c.now c.args.s.now (PlacedForEach c.deref-in-ForEach-2.result.now.modifiers.items (placed_type_use c.deref-in-ForEach-2.result.now.type_use) c.deref-in-ForEach-2.result.now.name (placed_view a) (placed_statement c.deref-in-ForEach.result.now) c.in-ForEach.span)) c.args.ways.out.0 c.args.ways.again.0 c.args.e.now c.each_loop.new.e c.each_loop.new.s) c.deref-in-ForEach-3.ensures (c.in_ok-each_loop-in-ForEach.ensures c.in-ForEach.span))))
