@@ -10,7 +10,9 @@ use Rattle.jn_trees.specs.contracts.expression.Expr as Expr
 use Rattle.jn_trees.specs.contracts.statement.Declarator as Declarator
 use Rattle.jn_trees.specs.contracts.statement.LocalDeclaration as LocalDeclaration
 use Rattle.jn_trees.specs.contracts.statement.ForInit as ForInit
+use Rattle.jn_trees.specs.contracts.statement.ForHead as ForHead
 use Rattle.jn_trees.specs.contracts.statement.Stmt as Stmt
+use Rattle.jn_trees.specs.contracts.declaration.Parameter as Parameter
 use Rattle.jn_trees.specs.contracts.declaration.Member as Member
 use Rattle.jn_base.proofs.place.Span.TheSendSync as Span-crosses
 use Rattle.jn_base.proofs.number.NameNo.TheSendSync as NameNo-crosses
@@ -36,32 +38,44 @@ ruleset parts = (Span-crosses.the_sync, Span-crosses.the_field_sync, NameNo-cros
 expr_syncs : IsSync Expr.the_row
 expr_syncs = search (sendable, crosses, sync-Expr, parts) depth 20
 
-expr_field : IsSync (Expr.the_field).row
-expr_field = search (sendable, crosses, sync-Expr, parts) depth 20
+expr_field : IsSync (Box.the_field Expr.the_row Global.the_row ghosts).row
+expr_field = search (sendable, crosses, expr_syncs) depth 20
 
-expr_option_field : IsSync (Option.the_field Expr.the_row).row
-expr_option_field = search (sendable, crosses, expr_syncs) depth 20
+expr_boxes : IsSync (Box.the_row Expr.the_row Global.the_row ghosts)
+expr_boxes = search (sendable, crosses, expr_syncs) depth 20
+
+expr_option_field : IsSync (Option.the_field (Box.the_row Expr.the_row Global.the_row ghosts)).row
+expr_option_field = search (sendable, crosses, expr_boxes) depth 20
 
 exprs_field : IsSync (Vec.the_field Expr.the_row Global.the_row ghosts).row
 exprs_field = search (sendable, crosses, expr_syncs) depth 20
 
 declarator_syncs : IsSync Declarator.the_row
-declarator_syncs = search (sendable, crosses, expr_syncs, parts) depth 20
+declarator_syncs = search (sendable, crosses, expr_boxes, parts) depth 20
 
 declarator_field : IsSync (Declarator.the_field).row
 declarator_field = search (sendable, crosses, expr_option_field, parts) depth 20
 
 local_syncs : IsSync LocalDeclaration.the_row
-local_syncs = search (sendable, crosses, declarator_syncs, expr_syncs, parts) depth 20
+local_syncs = search (sendable, crosses, declarator_syncs, expr_boxes, parts) depth 20
 
-boxed_local_field : IsSync (Box.the_field LocalDeclaration.the_row Global.the_row ghosts).row
-boxed_local_field = search (sendable, crosses, local_syncs) depth 20
+local_field : IsSync (Box.the_field LocalDeclaration.the_row Global.the_row ghosts).row
+local_field = search (sendable, crosses, local_syncs) depth 20
 
 init_field : IsSync (ForInit.the_field).row
-init_field = search (sendable, crosses, boxed_local_field, exprs_field, parts) depth 20
+init_field = search (sendable, crosses, local_field, exprs_field, parts) depth 20
+
+head_syncs : IsSync ForHead.the_row
+head_syncs = search (sendable, crosses, init_field, expr_option_field, exprs_field) depth 20
+
+head_field : IsSync (Box.the_field ForHead.the_row Global.the_row ghosts).row
+head_field = search (sendable, crosses, head_syncs) depth 20
+
+parameter_field : IsSync (Box.the_field Parameter.the_row Global.the_row ghosts).row
+parameter_field = search (sendable, crosses, parts) depth 20
 
 pub statement_syncs : IsSync Stmt.the_row
-statement_syncs = search (sendable, crosses, sync-Stmt, init_field, boxed_local_field, expr_field, expr_option_field, exprs_field, parts) depth 20
+statement_syncs = search (sendable, crosses, sync-Stmt, head_field, local_field, parameter_field, expr_field, expr_option_field, exprs_field, parts) depth 20
 
 statements_field : IsSync (Vec.the_field Stmt.the_row Global.the_row ghosts).row
 statements_field = search (sendable, crosses, statement_syncs) depth 20
