@@ -8,13 +8,15 @@ ghost use Rattle.jn_parse_decl.specs.Ahead.{IsBehind};
 ghost use Rattle.jn_parse_decl.specs.Seen.{built_view, around_view};
 
 use crate::building::{Built, add, finished, nothing};
+use crate::guess::Guess;
 use crate::piece::{Around, behind};
 use crate::pieces::read_piece;
+use crate::scanning::scan;
 use crate::sharing::read_ahead;
 use jn_base::{Code, Fail, FileNo, OutOfMemory, Row, Span};
 use jn_parse_decl_law::law::{pieces_are_read_in_turn, pieces_build_files};
 use jn_trees::reading::covered;
-use jn_trees::{FileTree, Token, too_deep};
+use jn_trees::{FileTree, Token};
 use std::alloc::Global;
 use std::thread::Threads;
 
@@ -43,9 +45,13 @@ pub fn parse_file<R: Threads + Sync>(
     ensures row { IfErr result
         (λ fail. IfRefused fail (λ row. IsSyntaxRow file end tokens.now row)) }
 {
-    match too_deep(tokens) {
+    let (deep, guess) = match scan(rt, alloc, tokens, more) {
+        Ok(found) => found,
+        Err(_) => return Err(Fail::OutOfMemory),
+    };
+    match deep {
         Some(place) => Err(Fail::Refused(row(Code::S2, file, end, tokens, place))),
-        None => match read_file(rt, alloc, tokens, more) {
+        None => match read_file(rt, alloc, tokens, &guess, more) {
             Ok(tree) => Ok(tree),
             Err(fail) => Err(syntax_row(fail, file, end, tokens)),
         },
@@ -69,12 +75,13 @@ fn read_file<R: Threads + Sync>(
     rt: &R,
     alloc: Global,
     tokens: &[Token],
+    guess: &Guess,
     more: u32,
 ) -> Result<FileTree, Fail<usize>>
     ensures tree { IfOk result (λ tree. IsWhole (kinds tokens.now) (file_view tree)) }
     ensures place { IfErr result (λ fail. NoFileAt (kinds tokens.now) fail) }
 {
-    match read_pieces(rt, alloc, tokens, more) {
+    match read_pieces(rt, alloc, tokens, guess, more) {
         Err(_) => Err(Fail::OutOfMemory),
         Ok((built, left)) => file_of(tokens, built, left),
     }
@@ -104,6 +111,7 @@ fn read_pieces<'t, R: Threads + Sync>(
     rt: &R,
     alloc: Global,
     tokens: &'t [Token],
+    guess: &Guess,
     more: u32,
 ) -> Result<(Built, &'t [Token]), OutOfMemory>
     ensures { IfOk result (λ r. EndsAt (kinds tokens.now) (built_view r.0) (kinds r.1.now)) }
@@ -118,7 +126,7 @@ fn read_pieces<'t, R: Threads + Sync>(
             Some((piece, rest)) => {
                 around = behind(around, &piece);
                 add(alloc, &mut built, piece, covered(left, rest))?;
-                left = behind_members(rt, alloc, &mut built, around, rest, more)?;
+                left = behind_members(rt, alloc, &mut built, around, rest, guess, more)?;
             }
         }
     }
@@ -131,6 +139,7 @@ fn behind_members<'t, R: Threads + Sync>(
     built: &mut Built,
     around: Around,
     tokens: &'t [Token],
+    guess: &Guess,
     more: u32,
 ) -> Result<&'t [Token], OutOfMemory>
     ensures { IfOk result (λ rest. IsBehind (around_view around) (built_view built.old)
@@ -140,7 +149,9 @@ fn behind_members<'t, R: Threads + Sync>(
         return Ok(tokens);
     }
     match around {
-        Around::InType(owner) => read_ahead(rt, alloc, &mut built.inside, owner, tokens, more),
+        Around::InType(owner) => {
+            read_ahead(rt, alloc, &mut built.inside, owner, tokens, guess, more)
+        }
         _ => Ok(tokens),
     }
 }

@@ -1,4 +1,4 @@
-//! Where members of a type seem to begin. Nothing is claimed of it: what reads from a wrong place is dropped.
+//! Where members of types seem to begin. Nothing is claimed of it: what reads from a wrong place is dropped.
 use jn_base::OutOfMemory;
 use jn_base::lists::put;
 use jn_trees::{Token, TokenKind};
@@ -29,54 +29,58 @@ fn may_begin(kind: TokenKind) -> bool {
     )
 }
 
-/// Where members of a type seem to begin.
+/// Where members of a file's types seem to begin, and where the types seem to end: how many tokens are left there.
 #[derive(Drop)]
-struct Guess {
-    /// The places, from the front on: how many tokens stand before each.
+pub struct Guess {
+    /// Where members seem to begin, from the front on.
     places: Vec<usize>,
-    /// How many tokens stand before the place where the type seems to end.
-    end: usize,
+    /// Where the brace seems to stand that closes a type, from the front on.
+    ends: Vec<usize>,
 }
 
 impl Guess {
-    /// Keeps the place, where it is far enough behind the last one, and a member may begin with what stands there.
+    /// No place.
+    pub fn none(alloc: Global) -> Guess {
+        Guess {
+            places: Vec::new(alloc),
+            ends: Vec::new(alloc),
+        }
+    }
+
+    /// Keeps the place behind so many tokens, where it is far enough behind the last one, and a member may begin with what
+    /// stands there.
     fn note(&mut self, tokens: &[Token], place: usize) -> Result<(), AllocError> {
-        let least = self
-            .places
-            .last()
-            .copied()
-            .unwrap_or(0)
-            .saturating_add(APART);
-        if least <= place && place < tokens.len() && may_begin(tokens[place].kind) {
-            self.places.push(place)?;
+        let left = tokens.len().saturating_sub(place);
+        let last = self.places.last().copied().unwrap_or(tokens.len());
+        if left.saturating_add(APART) <= last && left > 0 && may_begin(tokens[place].kind) {
+            self.places.push(left)?;
         }
         Ok(())
     }
 }
 
-/// Where members seem to begin: behind each brace that closes a body, and behind each semicolon outside of bodies. Goes over
-/// the tokens in little more time than it takes to fetch them, since the other workers wait for it.
-fn beginnings(alloc: Global, tokens: &[Token]) -> Result<Guess, OutOfMemory> {
-    let mut guess = Guess {
-        places: Vec::new(alloc),
-        end: tokens.len(),
-    };
+/// Where members seem to begin: behind each brace that closes a body, and behind each semicolon outside of bodies. None where
+/// there are too few tokens for two workers. Goes over the tokens in little more time than it takes to fetch them, since the
+/// other workers wait for it.
+pub fn beginnings(alloc: Global, tokens: &[Token]) -> Result<Guess, OutOfMemory> {
+    let mut guess = Guess::none(alloc);
+    if tokens.len() / 2 < FEWEST {
+        return Ok(guess);
+    }
     let mut open = 0usize;
     for (index, token) in tokens.iter().enumerate() {
         match token.kind {
             TokenKind::LeftBrace => open = open.saturating_add(1),
             TokenKind::RightBrace => {
-                if open == 0 {
-                    guess.end = index;
-                    break;
-                }
                 open = open.saturating_sub(1);
-                if open == 0 {
+                if open == 1 {
                     guess.note(tokens, index.saturating_add(1))?;
+                } else if open == 0 {
+                    put(&mut guess.ends, tokens.len().saturating_sub(index))?;
                 }
             }
             TokenKind::Semicolon => {
-                if open == 0 {
+                if open == 1 {
                     guess.note(tokens, index.saturating_add(1))?;
                 }
             }
@@ -86,37 +90,55 @@ fn beginnings(alloc: Global, tokens: &[Token]) -> Result<Guess, OutOfMemory> {
     Ok(guess)
 }
 
-/// Of these places at most `more`, each about `share` tokens behind the one before: how many of the tokens are left there.
+/// Of these places at most `more`, each about `share` tokens behind the one before, the first behind the place where `from`
+/// tokens are left, and none where fewer than `least` are.
 fn apart(
     alloc: Global,
-    tokens: &[Token],
-    guess: &Guess,
+    places: &[usize],
+    from: usize,
+    least: usize,
     share: usize,
     more: usize,
 ) -> Result<Vec<usize>, OutOfMemory> {
     let mut chosen = Vec::new(alloc);
-    let mut next = share;
-    let last = guess.end.saturating_sub(share / 2);
-    for place in &guess.places {
-        if next <= *place && *place <= last && chosen.len() < more {
-            put(&mut chosen, tokens.len().saturating_sub(*place))?;
-            next = place.saturating_add(share);
+    let mut next = from.saturating_sub(share);
+    for place in places {
+        if *place < least || chosen.len() >= more {
+            break;
+        }
+        if *place <= next {
+            put(&mut chosen, *place)?;
+            next = place.saturating_sub(share);
         }
     }
     Ok(chosen)
 }
 
-/// Places at which members seem to begin, at most `more`, which part the tokens of the type at the front into about equal
-/// shares: how many tokens are left at each, the greatest number first. None where shares would be too small.
-pub fn split_places(alloc: Global, tokens: &[Token], more: u32) -> Result<Vec<usize>, OutOfMemory> {
-    if tokens.len() / 2 < FEWEST {
-        return Ok(Vec::new(alloc));
-    }
-    let guess = beginnings(alloc, tokens)?;
-    let workers = (more as usize).saturating_add(1).min(guess.end / FEWEST);
+/// Places of the guess at which members seem to begin, at most `more`, which part the tokens of the type at the front into
+/// about equal shares: how many tokens are left at each, the greatest number first. None where shares would be too small.
+pub fn split_places(
+    alloc: Global,
+    guess: &Guess,
+    tokens: &[Token],
+    more: u32,
+) -> Result<Vec<usize>, OutOfMemory> {
+    let from = tokens.len();
+    let ended = guess.ends.partition_point(|left| *left > from);
+    let end = guess.ends.get(ended).copied().unwrap_or(0);
+    let size = from.saturating_sub(end);
+    let workers = (more as usize).saturating_add(1).min(size / FEWEST);
     if workers < 2 {
         return Ok(Vec::new(alloc));
     }
-    let share = guess.end / workers;
-    apart(alloc, tokens, &guess, share, workers.saturating_sub(1))
+    let share = size / workers;
+    let first = guess.places.partition_point(|left| *left >= from);
+    let least = end.saturating_add(share / 2);
+    apart(
+        alloc,
+        &guess.places[first..],
+        from,
+        least,
+        share,
+        workers.saturating_sub(1),
+    )
 }

@@ -16,6 +16,7 @@ mod nested;
 mod parameters;
 mod piece;
 mod pieces;
+mod scanning;
 mod sharing;
 mod whole;
 

@@ -8,19 +8,25 @@ ghost use Rattle.jn_parse_decl.specs.Ahead.{AreMembers, GoesOn};
 ghost use Rattle.jn_parse_decl.specs.Seen.{inside_of};
 
 use crate::building::OpenType;
-use crate::guess::split_places;
+use crate::guess::{Guess, split_places};
 use crate::whole::read_members;
 use jn_base::OutOfMemory;
 use jn_trees::{Member, Owner, Token};
 use std::alloc::Global;
 use std::thread::{Threads, join};
 
-/// The first members, and the others behind them.
-fn append(first: Vec<Member>, others: Vec<Member>) -> Result<Vec<Member>, OutOfMemory>
+/// The first members, and the others behind them, with room for as many again for each share that is still to come.
+fn append(
+    first: Vec<Member>,
+    others: Vec<Member>,
+    further: usize,
+) -> Result<Vec<Member>, OutOfMemory>
     ensures { IfOk result (λ all. all.items ≡ first.items ++ others.items) }
 {
     let mut all = first;
     let mut others = others;
+    let shares = further.saturating_add(1);
+    all.reserve(others.len().saturating_mul(shares))?;
     all.append(&mut others)?;
     Ok(all)
 }
@@ -41,6 +47,7 @@ fn in_order<'t>(
     owner: Owner,
     first: Result<(Vec<Member>, &'t [Token]), OutOfMemory>,
     others: Result<(Vec<Member>, &'t [Token]), OutOfMemory>,
+    further: usize,
 ) -> Result<(Vec<Member>, &'t [Token]), OutOfMemory>
     requires back { (n : ℕ) × (back.now ≡ drop n tokens.now) }
     requires first { IfOk first
@@ -57,13 +64,14 @@ fn in_order<'t>(
         return Ok((members, rest));
     }
     let (others, end) = others?;
-    let all = append(members, others)?;
+    let all = append(members, others, further)?;
     Ok((all, end))
 }
 
 /// The members at the front, in turn, until at most `stop` tokens are left or none can be read whole, and what follows them.
 /// One worker reads from the front, and one more from each of the places, which are told by the number of tokens left there.
-/// The list of the first grows by those of the others, so that each member is moved once.
+/// The list of the first grows by those of the others, so that each member is moved once; as many shares as `further` come
+/// behind these.
 #[cycle(share)]
 fn members_from<'t, R: Threads + Sync>(
     rt: &R,
@@ -72,6 +80,7 @@ fn members_from<'t, R: Threads + Sync>(
     owner: Owner,
     places: &[usize],
     stop: usize,
+    further: usize,
 ) -> Result<(Vec<Member>, &'t [Token]), OutOfMemory>
     ensures { IfOk result
         (λ r. AreMembers owner (kinds tokens.now) (member_views r.0.items) (kinds r.1.now)) }
@@ -89,9 +98,19 @@ fn members_from<'t, R: Threads + Sync>(
                 requires { IsSync R.row }
                 ensures { IfOk result (λ r. AreMembers owner (kinds tokens.entry.now)
                     (member_views r.0.items) (kinds r.1.now)) }
-            { members_from(rt, alloc, tokens, owner, before, place) };
+            {
+                members_from(
+                    rt,
+                    alloc,
+                    tokens,
+                    owner,
+                    before,
+                    place,
+                    further.saturating_add(1),
+                )
+            };
             let (theirs, ours) = join(rt, theirs, ours);
-            in_order(tokens, back, owner, ours, theirs)
+            in_order(tokens, back, owner, ours, theirs, further)
         }
     }
 }
@@ -115,6 +134,7 @@ fn read_open<'t, R: Threads + Sync>(
     opened: &mut OpenType,
     owner: Owner,
     tokens: &'t [Token],
+    guess: &Guess,
     more: u32,
 ) -> Result<&'t [Token], OutOfMemory>
     ensures { IfOk result (λ rest.
@@ -124,11 +144,11 @@ fn read_open<'t, R: Threads + Sync>(
     if !is_fresh(opened) {
         return Ok(tokens);
     }
-    let places = split_places(alloc, tokens, more)?;
+    let places = split_places(alloc, guess, tokens, more)?;
     if places.is_empty() {
         return Ok(tokens);
     }
-    let (found, rest) = members_from(rt, alloc, tokens, owner, &places, 0)?;
+    let (found, rest) = members_from(rt, alloc, tokens, owner, &places, 0, 0)?;
     opened.members = found;
     Ok(rest)
 }
@@ -141,6 +161,7 @@ pub fn read_ahead<'t, R: Threads + Sync>(
     inside: &mut Option<OpenType>,
     owner: Owner,
     tokens: &'t [Token],
+    guess: &Guess,
     more: u32,
 ) -> Result<&'t [Token], OutOfMemory>
     ensures { IfOk result (λ rest.
@@ -149,6 +170,6 @@ pub fn read_ahead<'t, R: Threads + Sync>(
 {
     match inside {
         None => Ok(tokens),
-        Some(open) => read_open(rt, alloc, open, owner, tokens, more),
+        Some(open) => read_open(rt, alloc, open, owner, tokens, guess, more),
     }
 }
