@@ -12,11 +12,6 @@ use std::thread::{Threads, join};
 /// thousand tokens are looked at.
 const FEWEST: usize = 32_768;
 
-/// Whether more than one worker is to look at so many tokens.
-fn is_shared(count: usize, more: u32) -> bool {
-    more > 0 && count >= FEWEST
-}
-
 /// The number of the first token behind which too many brackets are open, and, where other workers may take part, where
 /// members seem to begin. Where there are many tokens, one of the others looks for the former.
 pub fn scan<R: Threads + Sync>(
@@ -31,7 +26,7 @@ pub fn scan<R: Threads + Sync>(
     if more == 0 {
         return Ok((too_deep(tokens), Guess::none(alloc)));
     }
-    if !is_shared(tokens.len(), more) {
+    if tokens.len() < FEWEST {
         let guess = beginnings(alloc, tokens)?;
         return Ok((too_deep(tokens), guess));
     }
