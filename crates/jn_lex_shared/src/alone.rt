@@ -57,6 +57,7 @@ fn in_windows(
         Err(_) => return Err(Fail::OutOfMemory),
     };
     let mut tokens = Vec::new(alloc);
+    let _asked = tokens.reserve(text.len() / 2);
     match put_windows(alloc, text, file, at, &mut names, &mut tokens) {
         Ok(()) => Ok((tokens, names)),
         Err(fail) => Err(fail),

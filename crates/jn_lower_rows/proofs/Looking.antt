@@ -4,7 +4,7 @@ use Rattle.jn_base.specs.declared.code.Code.TheVariants.{J1, J5}
 use Rattle.jn_base.specs.declared.place.Row.{Row}
 use Rattle.jn_base.specs.declared.place.Span.{Span}
 use Rattle.jn_trees.specs.declared.expression.Annotation.{Annotation}
-use Rattle.jn_trees.specs.declared.expression.Base.{Base}
+use Rattle.jn_trees.specs.declared.expression.ElementType.{ElementType}
 use Rattle.jn_trees.specs.declared.expression.BinaryOperator.{BinaryOperator}
 use Rattle.jn_trees.specs.declared.expression.Identifier.{Identifier}
 use Rattle.jn_trees.specs.declared.expression.Expr.{Expr}
@@ -120,10 +120,10 @@ module _ (c : Context) (at : Setting) where
   pub argument_looks : (e : Expr) (p : Box Expr Global) (n : Identifier) (v : Vec Expr Global) (s : Span) (es : List Expr) (old new : List Row) → e ≡ Call p n v s → es ≡ v.items → new ≡ old ++ all_in c at (placed_views es) → new ≡ old ++ argument_rows c at (placed_view e)
   argument_looks e p n v s es old new is b h = h ∙ sym (ap (λ x. old ++ argument_rows c at x) (seen_call e p n v s es is b))
 
-  pub array_looks : (e : Expr) (ns : Vec Annotation Global) (b : Base) (v : Vec Expr Global) (s : Span) (es : List Expr) (notes : List Annotation) (base : BaseType) (old r1 r2 : List Row) → e ≡ ArrayOf ns b v s → es ≡ v.items → notes ≡ ns.items →
-      base ≡ array_type P b notes → r1 ≡ old ++ spec.array_rows P b notes → r2 ≡ r1 ++ all_in c at (placed_views es) → Looks (placed_view e) base old r2
-  array_looks e ns b v s es notes base old r1 r2 is q ne t f g = subst (λ x. Looks x base old r2) (sym (seen_array_of e ns b v s es is q))
-      (t ∙ ap (array_type P b) ne, two old (spec.array_rows P b ns.items) (all_in c at (placed_views es)) r1 r2 (f ∙ ap (λ a. old ++ spec.array_rows P b a) ne) g)
+  pub array_looks : (e : Expr) (w : Box ElementType Global) (v : Vec Expr Global) (s : Span) (es : List Expr) (notes : List Annotation) (base : BaseType) (old r1 r2 : List Row) → e ≡ ArrayOf w v s → es ≡ v.items → notes ≡ w.value.annotations.items →
+      base ≡ array_type P w.value.base notes → r1 ≡ old ++ spec.array_rows P w.value.base notes → r2 ≡ r1 ++ all_in c at (placed_views es) → Looks (placed_view e) base old r2
+  array_looks e w v s es notes base old r1 r2 is q ne t f g = subst (λ x. Looks x base old r2) (sym (seen_array_of e w v s es is q))
+      (t ∙ ap (array_type P w.value.base) ne, two old (spec.array_rows P w.value.base w.value.annotations.items) (all_in c at (placed_views es)) r1 r2 (f ∙ ap (λ a. old ++ spec.array_rows P w.value.base a) ne) g)
 
   -- calls with a dot
 

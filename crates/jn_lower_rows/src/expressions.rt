@@ -110,24 +110,22 @@ pub fn expression(
             Ok(BaseType::Ref(class_or_object(c.program, class.name)))
         }
         Expr::NewArray {
-            annotations,
-            base,
+            element,
             length,
             ..
         } => {
-            array_rows(rows, c, *base, annotations)?;
+            array_rows(rows, c, element.base, &element.annotations)?;
             expression(length, c, at, rows)?;
-            Ok(array_type(c.program, *base, annotations))
+            Ok(array_type(c.program, element.base, &element.annotations))
         }
         Expr::ArrayOf {
-            annotations,
-            base,
+            element,
             elements,
             ..
         } => {
-            array_rows(rows, c, *base, annotations)?;
+            array_rows(rows, c, element.base, &element.annotations)?;
             all(elements, c, at, rows)?;
-            Ok(array_type(c.program, *base, annotations))
+            Ok(array_type(c.program, element.base, &element.annotations))
         }
         Expr::Postfix { target, .. } => assigned(target, c, at, rows),
         Expr::Prefix { target, .. } => {

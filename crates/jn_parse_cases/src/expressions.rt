@@ -148,16 +148,24 @@ pub fn write_expression(page: &mut Page, names: &Names, expression: &Expr) {
             write_list(page, names, arguments);
             page.put(&["))"])
         }
-        Expr::NewArray { base, length, .. } => {
+        Expr::NewArray {
+            element,
+            length,
+            ..
+        } => {
             page.put(&["(new "]);
-            write_base(page, names, base);
+            write_base(page, names, &element.base);
             page.put(&["["]);
             write_expression(page, names, length);
             page.put(&["])"])
         }
-        Expr::ArrayOf { base, elements, .. } => {
+        Expr::ArrayOf {
+            element,
+            elements,
+            ..
+        } => {
             page.put(&["(new "]);
-            write_base(page, names, base);
+            write_base(page, names, &element.base);
             page.put(&["[]{"]);
             write_list(page, names, elements);
             page.put(&["})"])

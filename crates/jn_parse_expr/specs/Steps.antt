@@ -22,7 +22,7 @@ use Rattle.jn_parse_expr_law.specs.Reader.{base_of, build, or_least, TryAll, Sig
 use Rattle.jn_parse_expr.specs.declared.tail.Tail.{Tail}
 use Rattle.jn_parse_expr.specs.declared.tail.Tail.TheVariants.{Field, Call, Index, Step, Cast, Operand, Class, Choice, Value}
 use Rattle.jn_parse_expr.specs.declared.primary.Primary.{Primary}
-use Rattle.jn_parse_expr.specs.declared.creation.Element.{Element}
+use Rattle.jn_trees.specs.declared.expression.ElementType.{ElementType}
 
 -- the tree on the left with what goes on with it
 abbrev pub attached : Tree → Tail → Tree
@@ -134,6 +134,6 @@ prepend ts None = None
 prepend ts (Some r) = Some (joined ts r.0, r.1)
 
 -- the type of an array's elements, where one stands behind the annotations
-abbrev pub ElementAs : Option (Element × Bor (List Token)) → List NameNo × List TokenKind → Type 0
+abbrev pub ElementAs : Option (Box ElementType Global × Bor (List Token)) → List NameNo × List TokenKind → Type 0
 ElementAs None a = (k : TokenKind) (ts : List TokenKind) → a.1 ≡ k ∷ ts → base_of k ≡ None
-ElementAs (Some r) a = (a.0 ≡ annotation_names r.0.annotations.items) × ((k : TokenKind) × (a.1 ≡ k ∷ kinds r.1.now) × (base_of k ≡ Some (base_view r.0.base)))
+ElementAs (Some r) a = (a.0 ≡ annotation_names r.0.value.annotations.items) × ((k : TokenKind) × (a.1 ≡ k ∷ kinds r.1.now) × (base_of k ≡ Some (base_view r.0.value.base)))

@@ -12,15 +12,8 @@ use crate::whole::read_whole;
 use jn_base::Span;
 use jn_base::lists::put;
 use jn_trees::reading::{annotation, covered, expect, identifier, next};
-use jn_trees::{Annotation, Base, Expr, Identifier, Token, TokenKind};
+use jn_trees::{Annotation, Base, ElementType, Expr, Identifier, Token, TokenKind};
 use std::alloc::{AllocError, Global};
-
-/// The type of an array's elements, with the annotations before it.
-#[derive(Drop)]
-pub struct Element {
-    pub annotations: Vec<Annotation>,
-    pub base: Base,
-}
 
 /// The annotations at the front.
 fn annotations(alloc: Global, tokens: &[Token]) -> Result<(Vec<Annotation>, &[Token]), AllocError>
@@ -56,7 +49,10 @@ fn base_at(token: Token) -> Option<Base>
 }
 
 /// The type of a new array's elements.
-fn read_element(alloc: Global, tokens: &[Token]) -> Result<Option<(Element, &[Token])>, AllocError>
+fn read_element(
+    alloc: Global,
+    tokens: &[Token],
+) -> Result<Option<(Box<ElementType>, &[Token])>, AllocError>
     ensures { IfOk result (λ o. ElementAs o (annotations_of (kinds tokens.now))) }
 {
     let (annotations, rest) = annotations(alloc, tokens)?;
@@ -64,7 +60,10 @@ fn read_element(alloc: Global, tokens: &[Token]) -> Result<Option<(Element, &[To
         None => Ok(None),
         Some((first, rest)) => match base_at(first) {
             None => Ok(None),
-            Some(base) => Ok(Some((Element { annotations, base }, rest))),
+            Some(base) => {
+                let element = Box::new(alloc, ElementType { annotations, base })?;
+                Ok(Some((element, rest)))
+            }
         },
     }
 }
@@ -99,15 +98,13 @@ fn object<'t>(
     }
 }
 
-fn new_array(element: Element, elements: Vec<Expr>, span: Span) -> Expr
+fn new_array(element: Box<ElementType>, elements: Vec<Expr>, span: Span) -> Expr
     ensures { view result
-        ≡ ArrayOfTree (annotation_names element.annotations.items) (base_view element.base)
+        ≡ ArrayOfTree (annotation_names element.value.annotations.items) (base_view element.value.base)
         (views elements.items) }
 {
-    let Element { annotations, base } = element;
     Expr::ArrayOf {
-        annotations,
-        base,
+        element,
         elements,
         span,
     }
@@ -117,13 +114,13 @@ fn new_array(element: Element, elements: Vec<Expr>, span: Span) -> Expr
 fn array_of<'t>(
     alloc: Global,
     start: &[Token],
-    element: Element,
+    element: Box<ElementType>,
     elements: Option<(Vec<Expr>, u32, &'t [Token])>,
 ) -> Result<Option<(Box<Expr>, u32, &'t [Token])>, AllocError>
     requires { IfSome elements (λ r. r.1 < 2 ^ 32 - 1) }
     ensures { IfOk result (λ r. (d e : ℕ) (o : TryAll) → d < e → AllAs d elements.entry o
         → ReadAs e r (build_all
-        (λ es. ArrayOfTree (annotation_names element.annotations.items) (base_view element.base)
+        (λ es. ArrayOfTree (annotation_names element.value.annotations.items) (base_view element.value.base)
         es)
         o)) }
 {
@@ -136,15 +133,13 @@ fn array_of<'t>(
     }
 }
 
-fn array_tree(element: Element, length: Box<Expr>, span: Span) -> Expr
+fn array_tree(element: Box<ElementType>, length: Box<Expr>, span: Span) -> Expr
     ensures { view result
-        ≡ NewArrayTree (annotation_names element.annotations.items) (base_view element.base)
+        ≡ NewArrayTree (annotation_names element.value.annotations.items) (base_view element.value.base)
         (view length.value) }
 {
-    let Element { annotations, base } = element;
     Expr::NewArray {
-        annotations,
-        base,
+        element,
         length,
         span,
     }
@@ -154,13 +149,13 @@ fn array_tree(element: Element, length: Box<Expr>, span: Span) -> Expr
 fn array_with<'t>(
     alloc: Global,
     start: &[Token],
-    element: Element,
+    element: Box<ElementType>,
     length: Option<(Box<Expr>, u32, &'t [Token])>,
 ) -> Result<Option<(Box<Expr>, u32, &'t [Token])>, AllocError>
     requires { IfSome length (λ r. r.1 < 2 ^ 32 - 1) }
     ensures { IfOk result (λ r. (d e : ℕ) (o : Try) → d < e → ReadAs d length.entry o
         → ReadAs e r (bind o
-        (close_array (annotation_names element.annotations.items) (base_view element.base)))) }
+        (close_array (annotation_names element.value.annotations.items) (base_view element.value.base)))) }
 {
     match length {
         None => Ok(None),
@@ -192,10 +187,13 @@ pub fn read_creation<'t>(
                 Ok(object(alloc, start, class, arguments)?)
             }
             None => {
-                let element = Element {
-                    annotations: Vec::new(alloc),
-                    base: Base::Class(class),
-                };
+                let element = Box::new(
+                    alloc,
+                    ElementType {
+                        annotations: Vec::new(alloc),
+                        base: Base::Class(class),
+                    },
+                )?;
                 read_array(alloc, start, element, rest, depth)
             }
         },
@@ -226,13 +224,13 @@ fn read_annotated<'t>(
 fn read_array<'t>(
     alloc: Global,
     start: &[Token],
-    element: Element,
+    element: Box<ElementType>,
     tokens: &'t [Token],
     depth: u32,
 ) -> Result<Option<(Box<Expr>, u32, &'t [Token])>, AllocError>
     requires { 0 < depth }
     ensures { IfOk result (λ o. ReadAs depth o (array_behind (reader (depth - 1))
-        (annotation_names element.annotations.items) (base_view element.base) (kinds tokens.now))) }
+        (annotation_names element.value.annotations.items) (base_view element.value.base) (kinds tokens.now))) }
 {
     match expect(tokens, TokenKind::LeftBracket) {
         None => Ok(None),

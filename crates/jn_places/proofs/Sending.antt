@@ -6,6 +6,7 @@ use Rattle.std.specs.contracts.vec.Vec as Vec
 use Rattle.std.specs.contracts.boxed.Box as Box
 use Rattle.std.specs.contracts.alloc.Global as Global
 use Rattle.std.specs.contracts.impls.GlobalAllocator.TheImpl.{ghosts}
+use Rattle.jn_trees.specs.contracts.expression.ElementType as ElementType
 use Rattle.jn_trees.specs.contracts.expression.Expr as Expr
 use Rattle.jn_trees.specs.contracts.statement.Declarator as Declarator
 use Rattle.jn_trees.specs.contracts.statement.LocalDeclaration as LocalDeclaration
@@ -20,6 +21,7 @@ use Rattle.jn_trees.proofs.expression.Annotation.TheSendSync as Annotation-cross
 use Rattle.jn_trees.proofs.expression.AssignOperator.TheSendSync as AssignOperator-crosses
 use Rattle.jn_trees.proofs.expression.Base.TheSendSync as Base-crosses
 use Rattle.jn_trees.proofs.expression.BinaryOperator.TheSendSync as BinaryOperator-crosses
+use Rattle.jn_trees.proofs.expression.ElementType.TheSendSync as ElementType-crosses
 use Rattle.jn_trees.proofs.expression.Identifier.TheSendSync as Identifier-crosses
 use Rattle.jn_trees.proofs.expression.Literal.TheSendSync as Literal-crosses
 use Rattle.jn_trees.proofs.expression.Step.TheSendSync as Step-crosses
@@ -35,8 +37,11 @@ use Rattle.jn_trees.proofs.statement.Stmt.TheLaws.TheKnot.{send-Stmt}
 
 ruleset parts = (Span-crosses.the_send, Span-crosses.the_field_send, NameNo-crosses.the_send, NameNo-crosses.the_field_send, Annotation-crosses.the_send, Annotation-crosses.the_field_send, AssignOperator-crosses.the_send, AssignOperator-crosses.the_field_send, Base-crosses.the_send, Base-crosses.the_field_send, BinaryOperator-crosses.the_send, BinaryOperator-crosses.the_field_send, Identifier-crosses.the_send, Identifier-crosses.the_field_send, Literal-crosses.the_send, Literal-crosses.the_field_send, Step-crosses.the_send, Step-crosses.the_field_send, UnaryOperator-crosses.the_send, UnaryOperator-crosses.the_field_send, LocalModifier-crosses.the_send, LocalModifier-crosses.the_field_send, TypeUse-crosses.the_send, TypeUse-crosses.the_field_send, Modifier-crosses.the_send, Modifier-crosses.the_field_send, Parameter-crosses.the_send, Parameter-crosses.the_field_send, Receiver-crosses.the_send, Receiver-crosses.the_field_send, ResultUse-crosses.the_send, ResultUse-crosses.the_field_send)
 
+element_field : IsSend (Box.the_field ElementType.the_row Global.the_row ghosts).row
+element_field = search (sendable, crosses, ElementType-crosses.the_send, parts) depth 20
+
 expr_sends : IsSend Expr.the_row
-expr_sends = search (sendable, crosses, send-Expr, parts) depth 20
+expr_sends = search (sendable, crosses, send-Expr, element_field, parts) depth 20
 
 expr_field : IsSend (Box.the_field Expr.the_row Global.the_row ghosts).row
 expr_field = search (sendable, crosses, expr_sends) depth 20

@@ -6,6 +6,7 @@ use Rattle.std.specs.contracts.vec.Vec as Vec
 use Rattle.std.specs.contracts.boxed.Box as Box
 use Rattle.std.specs.contracts.alloc.Global as Global
 use Rattle.std.specs.contracts.impls.GlobalAllocator.TheImpl.{ghosts}
+use Rattle.jn_trees.specs.contracts.expression.ElementType as ElementType
 use Rattle.jn_trees.specs.contracts.expression.Expr as Expr
 use Rattle.jn_trees.specs.contracts.statement.Declarator as Declarator
 use Rattle.jn_trees.specs.contracts.statement.LocalDeclaration as LocalDeclaration
@@ -20,6 +21,7 @@ use Rattle.jn_trees.proofs.expression.Annotation.TheSendSync as Annotation-cross
 use Rattle.jn_trees.proofs.expression.AssignOperator.TheSendSync as AssignOperator-crosses
 use Rattle.jn_trees.proofs.expression.Base.TheSendSync as Base-crosses
 use Rattle.jn_trees.proofs.expression.BinaryOperator.TheSendSync as BinaryOperator-crosses
+use Rattle.jn_trees.proofs.expression.ElementType.TheSendSync as ElementType-crosses
 use Rattle.jn_trees.proofs.expression.Identifier.TheSendSync as Identifier-crosses
 use Rattle.jn_trees.proofs.expression.Literal.TheSendSync as Literal-crosses
 use Rattle.jn_trees.proofs.expression.Step.TheSendSync as Step-crosses
@@ -35,8 +37,11 @@ use Rattle.jn_trees.proofs.statement.Stmt.TheLaws.TheKnot.{sync-Stmt}
 
 ruleset parts = (Span-crosses.the_sync, Span-crosses.the_field_sync, NameNo-crosses.the_sync, NameNo-crosses.the_field_sync, Annotation-crosses.the_sync, Annotation-crosses.the_field_sync, AssignOperator-crosses.the_sync, AssignOperator-crosses.the_field_sync, Base-crosses.the_sync, Base-crosses.the_field_sync, BinaryOperator-crosses.the_sync, BinaryOperator-crosses.the_field_sync, Identifier-crosses.the_sync, Identifier-crosses.the_field_sync, Literal-crosses.the_sync, Literal-crosses.the_field_sync, Step-crosses.the_sync, Step-crosses.the_field_sync, UnaryOperator-crosses.the_sync, UnaryOperator-crosses.the_field_sync, LocalModifier-crosses.the_sync, LocalModifier-crosses.the_field_sync, TypeUse-crosses.the_sync, TypeUse-crosses.the_field_sync, Modifier-crosses.the_sync, Modifier-crosses.the_field_sync, Parameter-crosses.the_sync, Parameter-crosses.the_field_sync, Receiver-crosses.the_sync, Receiver-crosses.the_field_sync, ResultUse-crosses.the_sync, ResultUse-crosses.the_field_sync)
 
+element_field : IsSync (Box.the_field ElementType.the_row Global.the_row ghosts).row
+element_field = search (sendable, crosses, ElementType-crosses.the_sync, parts) depth 20
+
 expr_syncs : IsSync Expr.the_row
-expr_syncs = search (sendable, crosses, sync-Expr, parts) depth 20
+expr_syncs = search (sendable, crosses, sync-Expr, element_field, parts) depth 20
 
 expr_field : IsSync (Box.the_field Expr.the_row Global.the_row ghosts).row
 expr_field = search (sendable, crosses, expr_syncs) depth 20

@@ -71,23 +71,21 @@ pub fn renumber(numbers: &[NameNo], expression: &mut Expr)
             renumber_list(numbers, arguments);
         }
         Expr::NewArray {
-            annotations,
-            base,
+            element,
             length,
             span: _span,
         } => {
-            renumber_annotations(numbers, annotations);
-            renumber_base(numbers, base);
+            renumber_annotations(numbers, &mut element.annotations);
+            renumber_base(numbers, &mut element.base);
             renumber(numbers, length);
         }
         Expr::ArrayOf {
-            annotations,
-            base,
+            element,
             elements,
             span: _span,
         } => {
-            renumber_annotations(numbers, annotations);
-            renumber_base(numbers, base);
+            renumber_annotations(numbers, &mut element.annotations);
+            renumber_base(numbers, &mut element.base);
             renumber_list(numbers, elements);
         }
         Expr::Postfix {

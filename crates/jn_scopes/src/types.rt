@@ -362,16 +362,8 @@ pub fn type_of(tree: &Expr, c: &Context) -> BaseType
         } => super_type(c, name.name, arguments.len()),
         Expr::Index { array, .. } => elem_base(type_of(array, c)),
         Expr::New { class, .. } => BaseType::Ref(class_or_object(c.program, class.name)),
-        Expr::NewArray {
-            annotations,
-            base,
-            ..
-        } => array_type(c.program, *base, annotations),
-        Expr::ArrayOf {
-            annotations,
-            base,
-            ..
-        } => array_type(c.program, *base, annotations),
+        Expr::NewArray { element, .. } => array_type(c.program, element.base, &element.annotations),
+        Expr::ArrayOf { element, .. } => array_type(c.program, element.base, &element.annotations),
         Expr::Postfix { target, .. } => type_of(target, c),
         Expr::Prefix { .. } => BaseType::Int,
         Expr::Unary { operator, .. } => unary_type(*operator),

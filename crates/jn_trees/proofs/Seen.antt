@@ -4,8 +4,7 @@ use Rattle.std.proofs.lemmas.List.{drop_more}
 use Rattle.std.proofs.Math.ListN.{drop_of_length-le}
 use Rattle.jn_base.specs.declared.place.Span.{Span}
 use Rattle.jn_trees.specs.declared.expression.Identifier.{Identifier}
-use Rattle.jn_trees.specs.declared.expression.Annotation.{Annotation}
-use Rattle.jn_trees.specs.declared.expression.Base.{Base}
+use Rattle.jn_trees.specs.declared.expression.ElementType.{ElementType}
 use Rattle.jn_trees.specs.declared.expression.Expr.{Expr, Row_of-Expr, end_of-Expr, more_of-Expr, items-the_row-Expr}
 use Rattle.jn_trees.specs.declared.expression.Expr.TheBlock.{hidden-the_row-Expr-0, items_hidden-the_row-Expr-0}
 use Rattle.jn_trees.specs.declared.expression.Expr.TheVariants.{Call, OwnCall, SuperCall, New, ArrayOf}
@@ -34,8 +33,8 @@ seen_super_call e n v s es is b = ap view is ∙ ap (λ ts. SuperCallTree n.name
 pub seen_new : (e : Expr) (n : Identifier) (v : Vec Expr Global) (s : Span) (es : List Expr) → e ≡ New n v s → es ≡ v.items → view e ≡ NewTree n.name (views es)
 seen_new e n v s es is b = ap view is ∙ ap (λ ts. NewTree n.name ts) (vec_views v ∙ ap views (sym b))
 
-pub seen_array_of : (e : Expr) (ns : Vec Annotation Global) (b : Base) (v : Vec Expr Global) (s : Span) (es : List Expr) → e ≡ ArrayOf ns b v s → es ≡ v.items → view e ≡ ArrayOfTree (annotation_names ns.items) (base_view b) (views es)
-seen_array_of e ns b v s es is q = ap view is ∙ ap (λ ts. ArrayOfTree (annotation_names ns.items) (base_view b) ts) (vec_views v ∙ ap views (sym q))
+pub seen_array_of : (e : Expr) (t : Box ElementType Global) (v : Vec Expr Global) (s : Span) (es : List Expr) → e ≡ ArrayOf t v s → es ≡ v.items → view e ≡ ArrayOfTree (annotation_names t.value.annotations.items) (base_view t.value.base) (views es)
+seen_array_of e t v s es is q = ap view is ∙ ap (λ ts. ArrayOfTree (annotation_names t.value.annotations.items) (base_view t.value.base) ts) (vec_views v ∙ ap views (sym q))
 
 statement_row_views : (n : _) (k : Row_of-Stmt n) → statement_row k ≡ statement_views (items-the_row-Stmt n k)
 statement_row_views n end_of-Stmt = refl

@@ -7,6 +7,7 @@ use Rattle.jn_trees.specs.declared.expression.Annotation.{Annotation}
 use Rattle.jn_trees.specs.declared.expression.Identifier.{Identifier}
 use Rattle.jn_trees.specs.declared.expression.Base.{Base}
 use Rattle.jn_trees.specs.declared.expression.Base.TheVariants.{Class as ClassUse, Int as IntUse, Boolean as BooleanUse}
+use Rattle.jn_trees.specs.declared.expression.ElementType.{ElementType}
 use Rattle.jn_trees.specs.declared.expression.Expr.{Expr, Literal, Name, This, Paren', Field', Call', OwnCall', SuperCall', Index', New', NewArray', ArrayOf', Postfix', Prefix', Unary', Cast', Binary', InstanceOf', Conditional', Assign', Row_of-Expr, end_of-Expr, more_of-Expr}
 use Rattle.jn_trees.specs.declared.statement.LocalModifier.{LocalModifier}
 use Rattle.jn_trees.specs.declared.statement.LocalModifier.TheVariants.{Annotation as LocalAnnotation, Final as LocalFinal}
@@ -57,8 +58,8 @@ abbrev mutual
   view (SuperCall' n shape es s) = SuperCallTree n.name (view_row es)
   view (Index' p a q b s) = IndexTree (view a) (view b)
   view (New' n shape es s) = NewTree n.name (view_row es)
-  view (NewArray' ns b p e s) = NewArrayTree (annotation_names ns.items) (base_view b) (view e)
-  view (ArrayOf' ns b shape es s) = ArrayOfTree (annotation_names ns.items) (base_view b) (view_row es)
+  view (NewArray' t p e s) = NewArrayTree (annotation_names t.value.annotations.items) (base_view t.value.base) (view e)
+  view (ArrayOf' t shape es s) = ArrayOfTree (annotation_names t.value.annotations.items) (base_view t.value.base) (view_row es)
   view (Postfix' p e step s) = PostfixTree (view e) step
   view (Prefix' step p e s) = PrefixTree step (view e)
   view (Unary' o p e s) = UnaryTree o (view e)

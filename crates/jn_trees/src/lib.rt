@@ -23,7 +23,7 @@ pub use declaration::{
     ResultUse, TypeTree,
 };
 pub use expression::{
-    Annotation, AssignOperator, Base, BinaryOperator, Expr, Identifier, Literal, Step,
+    Annotation, AssignOperator, Base, BinaryOperator, ElementType, Expr, Identifier, Literal, Step,
     UnaryOperator,
 };
 pub use names::Names;

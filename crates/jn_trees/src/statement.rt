@@ -1,5 +1,5 @@
 //! Trees of statements (JLS 14). What a statement holds beside other statements stands in boxes of its own, so that a statement
-//! takes 40 bytes, whichever it is: a file can have a statement for each of its bytes.
+//! takes 48 bytes, whichever it is: a file can have a statement for each of its bytes.
 use crate::declaration::Parameter;
 use crate::expression::{Annotation, Base, Expr, Identifier};
 use jn_base::Span;

@@ -106,22 +106,20 @@ pub fn spell(kinds: &mut Vec<TokenKind>, expression: &Expr) -> Result<(), OutOfM
             spell_list(kinds, TokenKind::RightParen, arguments)
         }
         Expr::NewArray {
-            annotations,
-            base,
+            element,
             length,
             ..
         } => {
-            put_new(kinds, annotations, *base)?;
+            put_new(kinds, &element.annotations, element.base)?;
             spell(kinds, length)?;
             put(kinds, TokenKind::RightBracket)
         }
         Expr::ArrayOf {
-            annotations,
-            base,
+            element,
             elements,
             ..
         } => {
-            put_new(kinds, annotations, *base)?;
+            put_new(kinds, &element.annotations, element.base)?;
             put_all(kinds, &[TokenKind::RightBracket, TokenKind::LeftBrace])?;
             spell_list(kinds, TokenKind::RightBrace, elements)
         }

@@ -167,13 +167,13 @@ pub creation::read_annotated-returns-in-Some : goal.creation::read_annotated-ret
 creation::read_annotated-returns-in-Some t c =
     let h = rw c.in-Some.is at c.in_ok-read_element.ensures in
     subst (λ o. IfOk c.read_array.result (λ r. ReadAs c.args.depth r o))
-    (sym (from_some (reader (c.args.depth - 1)) (annotations (kinds c.args.tokens.now)).0 (annotation_names c.in-Some.element.annotations.items) (annotations (kinds c.args.tokens.now)).1 (base_view c.in-Some.element.base) (kinds c.in-Some.rest.now) h.0 h.1))
+    (sym (from_some (reader (c.args.depth - 1)) (annotations (kinds c.args.tokens.now)).0 (annotation_names c.in-Some.element.value.annotations.items) (annotations (kinds c.args.tokens.now)).1 (base_view c.in-Some.element.value.base) (kinds c.in-Some.rest.now) h.0 h.1))
     c.read_array.ensures
 
 pub creation::read_array-returns-in_ok-array_of-in-Some-expect-2 : goal.creation::read_array-returns-in_ok-array_of-in-Some-expect-2
 creation::read_array-returns-in_ok-array_of-in-Some-expect-2 t c =
-    read_moves c.args.depth c.in_ok-array_of-in-Some-expect-2.field-0 (build_all (λ es. ArrayOfTree (annotation_names c.args.element.annotations.items) (base_view c.args.element.base) es) (elements_in (reader (c.args.depth - 1)).whole (kinds c.in-Some-expect-2.inside.now))) (array_behind (reader (c.args.depth - 1)) (annotation_names c.args.element.annotations.items) (base_view c.args.element.base) (kinds c.args.tokens.now))
-    (ap (λ x. array_behind (reader (c.args.depth - 1)) (annotation_names c.args.element.annotations.items) (base_view c.args.element.base) x) (c.in-Some.ensures ∙ ap (λ x. LeftBracket ∷ x) (c.in-Some-expect.ensures ∙ ap (λ x. RightBracket ∷ x) c.in-Some-expect-2.ensures)))
+    read_moves c.args.depth c.in_ok-array_of-in-Some-expect-2.field-0 (build_all (λ es. ArrayOfTree (annotation_names c.args.element.value.annotations.items) (base_view c.args.element.value.base) es) (elements_in (reader (c.args.depth - 1)).whole (kinds c.in-Some-expect-2.inside.now))) (array_behind (reader (c.args.depth - 1)) (annotation_names c.args.element.value.annotations.items) (base_view c.args.element.value.base) (kinds c.args.tokens.now))
+    (ap (λ x. array_behind (reader (c.args.depth - 1)) (annotation_names c.args.element.value.annotations.items) (base_view c.args.element.value.base) x) (c.in-Some.ensures ∙ ap (λ x. LeftBracket ∷ x) (c.in-Some-expect.ensures ∙ ap (λ x. RightBracket ∷ x) c.in-Some-expect-2.ensures)))
     (c.in_ok-array_of-in-Some-expect-2.ensures (c.args.depth - 1) c.args.depth (elements_in (reader (c.args.depth - 1)).whole (kinds c.in-Some-expect-2.inside.now)) (omega (arith, c.requires)) c.in_ok-elements-in-Some-expect-2.ensures)
 
 pub unary::read_left_side-returns-in_ok-cut-in-Some : goal.unary::read_left_side-returns-in_ok-cut-in-Some

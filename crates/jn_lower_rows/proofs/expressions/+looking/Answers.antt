@@ -21,8 +21,8 @@ pub expression-returns-in_ok-new_rows-in-New : goal.expression-returns-in_ok-new
 expression-returns-in_ok-new_rows-in-New t c = new_looks c.args.c.now c.args.at _ c.in-New.class c.in-New.arguments _ _ _ _ _ _ _ c.in-New.is c.deref-listed-in-New.ensures.value c.count.ensures (ap ref c.class_or_object.ensures) c.in_ok-all-in-New.ensures c.in_ok-new_rows-in-New.ensures
 
 pub expression-returns-in_ok-all-in-ArrayOf : goal.expression-returns-in_ok-all-in-ArrayOf
-expression-returns-in_ok-all-in-ArrayOf t c = array_looks c.args.c.now c.args.at _ c.in-ArrayOf.annotations c.in-ArrayOf.base c.in-ArrayOf.elements _ _ c.deref-in-ArrayOf.result.now _ _ _ _ c.in-ArrayOf.is c.deref-in-ArrayOf-2.ensures.value c.deref-in-ArrayOf.ensures.value
-    (c.array_type-in-ArrayOf.ensures ∙ ap (array_type c.args.c.now.program.now c.in-ArrayOf.base) (c.deref-in-ArrayOf-3.ensures.value ∙ sym c.deref-in-ArrayOf.ensures.value)) c.in_ok-array_rows-in-ArrayOf.ensures c.in_ok-all-in-ArrayOf.ensures
+expression-returns-in_ok-all-in-ArrayOf t c = array_looks c.args.c.now c.args.at _ c.in-ArrayOf.element c.in-ArrayOf.elements _ _ c.deref-in-ArrayOf.result.now _ _ _ _ c.in-ArrayOf.is c.deref-in-ArrayOf-2.ensures.value c.deref-in-ArrayOf.ensures.value
+    (c.array_type-in-ArrayOf.ensures ∙ ap (array_type c.args.c.now.program.now c.in-ArrayOf.element.value.base) (c.deref-in-ArrayOf-3.ensures.value ∙ sym c.deref-in-ArrayOf.ensures.value)) c.in_ok-array_rows-in-ArrayOf.ensures c.in_ok-all-in-ArrayOf.ensures
 
 pub expression-returns-in_ok-both_rows-in-Binary : goal.expression-returns-in_ok-both_rows-in-Binary
 expression-returns-in_ok-both_rows-in-Binary t c = binary_looks c.args.c.now c.args.at _ c.deref-in-Binary.result.now c.deref-in-Binary-2.result.now c.in-Binary.left c.in-Binary.operator c.in-Binary.right c.in-Binary.span _ _ _ _ _ _ _ _ _ _ c.in-Binary.is c.deref-in-Binary.ensures c.deref-in-Binary-2.ensures

@@ -22,7 +22,7 @@ renumber-returns-in-New t c =
 
 pub renumber-returns-in-ArrayOf : goal.renumber-returns-in-ArrayOf
 renumber-returns-in-ArrayOf t c =
-    array_of_placed c.renumber_annotations-in-ArrayOf.new.annotations _ _ _ _ (rw (c.in-ArrayOf.is, vec_placed) (grind arith))
+    array_of_placed _ _ _ _ _ (rw (c.in-ArrayOf.is, vec_placed) (grind arith))
 
 pub renumber_list-loop-at-preserved : goal.renumber_list-loop-at-preserved
 renumber_list-loop-at-preserved t c =

@@ -23,4 +23,4 @@ pub assigns-returns-in-New : goal.assigns-returns-in-New
 assigns-returns-in-New t c = c.assigns_any-in-New.ensures ∙ sym (ap (spec.assigns c.args.c.now.program.now c.args.c.now.class.0 (scope_in c.args.c.now) c.args.reg) (seen_new _ c.in-New.class c.in-New.arguments c.in-New.span c.deref-in-New.result.now c.in-New.is c.deref-in-New.ensures.value))
 
 pub assigns-returns-in-ArrayOf : goal.assigns-returns-in-ArrayOf
-assigns-returns-in-ArrayOf t c = c.assigns_any-in-ArrayOf.ensures ∙ sym (ap (spec.assigns c.args.c.now.program.now c.args.c.now.class.0 (scope_in c.args.c.now) c.args.reg) (seen_array_of _ c.in-ArrayOf.annotations c.in-ArrayOf.base c.in-ArrayOf.elements c.in-ArrayOf.span c.deref-in-ArrayOf.result.now c.in-ArrayOf.is c.deref-in-ArrayOf.ensures.value))
+assigns-returns-in-ArrayOf t c = c.assigns_any-in-ArrayOf.ensures ∙ sym (ap (spec.assigns c.args.c.now.program.now c.args.c.now.class.0 (scope_in c.args.c.now) c.args.reg) (seen_array_of _ c.in-ArrayOf.element c.in-ArrayOf.elements c.in-ArrayOf.span c.deref-in-ArrayOf.result.now c.in-ArrayOf.is c.deref-in-ArrayOf.ensures.value))

@@ -40,5 +40,5 @@ spell_list-returns t c =
 
 pub spell-returns-in_ok-put_all-in-ArrayOf : goal.spell-returns-in_ok-put_all-in-ArrayOf
 spell-returns-in_ok-put_all-in-ArrayOf t c =
-    let e = ap spell (seen_array_of _ c.in-ArrayOf.annotations c.in-ArrayOf.base c.in-ArrayOf.elements c.in-ArrayOf.span c.deref-in-ArrayOf-2.result.now c.in-ArrayOf.is c.deref-in-ArrayOf-2.ensures.value) in
+    let e = ap spell (seen_array_of _ c.in-ArrayOf.element c.in-ArrayOf.elements c.in-ArrayOf.span c.deref-in-ArrayOf-4.result.now c.in-ArrayOf.is c.deref-in-ArrayOf-4.ensures.value) in
     search (rules, IfOk-equal, append_assoc)

@@ -27,7 +27,7 @@ good-returns-in-New t c =
 pub good-returns-in-ArrayOf : goal.good-returns-in-ArrayOf
 good-returns-in-ArrayOf t c =
     let P : Tree → Type 0 = λ v. IsTrue c.all_good-in-ArrayOf.result ↔ Good v in
-    subst P (sym (seen_array_of _ c.in-ArrayOf.annotations c.in-ArrayOf.base c.in-ArrayOf.elements c.in-ArrayOf.span c.deref-in-ArrayOf.result.now c.in-ArrayOf.is c.deref-in-ArrayOf.ensures.value)) c.all_good-in-ArrayOf.ensures
+    subst P (sym (seen_array_of _ c.in-ArrayOf.element c.in-ArrayOf.elements c.in-ArrayOf.span c.deref-in-ArrayOf.result.now c.in-ArrayOf.is c.deref-in-ArrayOf.ensures.value)) c.all_good-in-ArrayOf.ensures
 
 pub good-returns-then-rank-le1 : goal.good-returns-then-rank-le1
 good-returns-then-rank-le1 t c =

@@ -27,5 +27,5 @@ nesting-returns-in-New t c =
 
 pub nesting-returns-in-ArrayOf : goal.nesting-returns-in-ArrayOf
 nesting-returns-in-ArrayOf t c =
-    let e = ap nesting (seen_array_of _ c.in-ArrayOf.annotations c.in-ArrayOf.base c.in-ArrayOf.elements c.in-ArrayOf.span c.deref-in-ArrayOf.result.now c.in-ArrayOf.is c.deref-in-ArrayOf.ensures.value) in
+    let e = ap nesting (seen_array_of _ c.in-ArrayOf.element c.in-ArrayOf.elements c.in-ArrayOf.span c.deref-in-ArrayOf.result.now c.in-ArrayOf.is c.deref-in-ArrayOf.ensures.value) in
     omega arith
