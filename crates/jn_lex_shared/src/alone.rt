@@ -48,6 +48,7 @@ fn in_windows(
     text: &[u8],
     file: FileNo,
     at: u32,
+    ahead: usize,
 ) -> Result<(Vec<Token>, Names), Fail<Row>>
     requires { at + length text.now ≤ 1048576 }
     ensures { IfOk result (λ r. LexedOnto file text.now at known_names [] r.1 r.0.items) }
@@ -57,7 +58,7 @@ fn in_windows(
         Err(_) => return Err(Fail::OutOfMemory),
     };
     let mut tokens = Vec::new(alloc);
-    let _asked = tokens.reserve(text.len() / 2);
+    let _asked = tokens.reserve(ahead / 2);
     match put_windows(alloc, text, file, at, &mut names, &mut tokens) {
         Ok(()) => Ok((tokens, names)),
         Err(fail) => Err(fail),
@@ -90,6 +91,10 @@ fn as_whole(
 /// The tokens of a part of a text, whose first byte is the text's byte `at`, from the known names on, and the names then; it
 /// refuses with the row of the part's fault, counted within the part.
 ///
+/// It asks for room for the tokens of `ahead` bytes, a token for every two of them, and goes on without where there isn't as much: a
+/// list that has room needn't be moved while it grows, nor where others are put behind it, and room that isn't written to takes no
+/// memory.
+///
 /// Besides tokens and names it takes memory for the characters of one window, some 64 KiB where no line is long. Only where a window
 /// is refused, for a fault or because its cut stands in a comment of several lines, the part is lexed once more, from its begin and
 /// by the characters of all of it, of 4 bytes each; what the windows gave is freed before. So each byte is lexed at most twice.
@@ -98,13 +103,14 @@ pub fn lex_part(
     text: &[u8],
     file: FileNo,
     at: u32,
+    ahead: usize,
 ) -> Result<(Vec<Token>, Names), Fail<Row>>
     requires { at + length text.now ≤ 1048576 }
     ensures ok { IfOk result (λ r. LexedOnto file text.now at known_names [] r.1 r.0.items) }
     ensures refused { IfErr result
         (λ fail. IfRefused fail (λ row. LexicalFault file text.now row)) }
 {
-    match in_windows(alloc, text, file, at) {
+    match in_windows(alloc, text, file, at, ahead) {
         Ok(lexed) => Ok(lexed),
         Err(Fail::Refused(_row)) => as_whole(alloc, text, file, at),
         Err(Fail::OutOfMemory) => Err(Fail::OutOfMemory),
@@ -113,11 +119,16 @@ pub fn lex_part(
 
 /// The tokens of a text from the known names on, and the names then; it refuses with the row of the text's fault. It takes the
 /// memory that [`lex_part`] takes.
-pub fn lex_alone(alloc: Global, text: &[u8], file: FileNo) -> Result<(Vec<Token>, Names), Fail<Row>>
+pub fn lex_alone(
+    alloc: Global,
+    text: &[u8],
+    file: FileNo,
+    ahead: usize,
+) -> Result<(Vec<Token>, Names), Fail<Row>>
     requires { length text.now ≤ 1048576 }
     ensures ok { IfOk result (λ r. Lexed file text.now known_names r.0.items r.1) }
     ensures refused { IfErr result
         (λ fail. IfRefused fail (λ row. LexicalFault file text.now row)) }
 {
-    lex_part(alloc, text, file, 0)
+    lex_part(alloc, text, file, 0, ahead)
 }

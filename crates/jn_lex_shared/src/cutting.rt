@@ -65,15 +65,6 @@ fn line_end_from(text: &[u8], at: usize) -> Option<usize>
     None
 }
 
-/// How many bytes of a text each of the others takes, where as many as `more` take part beside the first worker. For each of them
-/// the first one takes a quarter of that less, down to a quarter, since meanwhile it makes room for their tokens: the system
-/// takes about a quarter of the time of lexing to hand out memory for these.
-pub fn share_of(bytes: usize, more: u32) -> usize {
-    let quarters = (more as usize).saturating_mul(4).saturating_add(4);
-    let less = (more as usize).min(3);
-    bytes.saturating_mul(4) / quarters.saturating_sub(less).max(1)
-}
-
 /// Where a text is cut between two workers: behind a line's end from the byte `at` on, rather not in a comment; none where no line
 /// ends there.
 pub fn cut_from(text: &[u8], at: usize) -> Option<usize>

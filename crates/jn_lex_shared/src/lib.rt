@@ -6,7 +6,6 @@
 //! numbers that `jn_renumber::merge` gives its names.
 #![tactic(auto)]
 
-mod ahead;
 mod alone;
 mod cutting;
 mod names;

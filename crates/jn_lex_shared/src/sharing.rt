@@ -8,9 +8,8 @@ ghost use Rattle.jn_lexer.specs.Lexed.{Lexed};
 ghost use Rattle.jn_lexer.specs.Moved.{LexedOnto};
 ghost use Rattle.jn_trees.specs.Refused.{IfRefused};
 
-use crate::ahead::{as_dense, write_ahead};
 use crate::alone::{lex_alone, lex_part};
-use crate::cutting::{cut_from, share_of};
+use crate::cutting::cut_from;
 use crate::renumbering::put_renumbered;
 use jn_base::{Fail, FileNo, OutOfMemory, Row};
 use jn_renumber::merge;
@@ -80,26 +79,11 @@ fn in_order(
     Ok((tokens, names))
 }
 
-/// The tokens of the text at the front of a longer one, and the names then, while others lex the `further` bytes behind it: the list
-/// is made ready for the tokens that these seem to have.
-fn lex_first(
-    alloc: Global,
-    text: &[u8],
-    file: FileNo,
-    further: usize,
-) -> Result<(Vec<Token>, Names), Fail<Row>>
-    requires { length text.now ≤ 1048576 }
-    ensures { IfOk result (λ r. Lexed file text.now known_names r.0.items r.1) }
-{
-    let (mut tokens, names) = lex_alone(alloc, text, file)?;
-    let many = as_dense(tokens.len(), text.len(), further);
-    write_ahead(&mut tokens, many);
-    Ok((tokens, names))
-}
-
-/// The tokens of a text from the known names on, and the names then, by one worker and as many others as `more`: each of these takes
-/// some `share` bytes, up to a line's end, and the first the rest. It fails where a part is refused, which may come from the cut, as
-/// in a comment of several lines. Others lex the `further` bytes that follow the text.
+/// The tokens of a text from the known names on, and the names then, by one worker and as many others as `more`: each takes a
+/// share, which ends with a line. Those behind the second are larger, each by about a third, since the tokens before them are put
+/// together while they are lexed. It fails where a part is refused, which may come from the cut, as in a comment of several lines.
+///
+/// The list has room for the tokens of `ahead` bytes ([`lex_part`]): of the text and of what others lex behind it.
 #[cycle(part)]
 fn lex_parts<R: Threads + Sync>(
     rt: &R,
@@ -107,31 +91,30 @@ fn lex_parts<R: Threads + Sync>(
     text: &[u8],
     file: FileNo,
     more: u32,
-    share: usize,
-    further: usize,
+    ahead: usize,
 ) -> Result<(Vec<Token>, Names), Fail<Row>>
     requires { length text.now ≤ 1048576 }
     ensures { IfOk result (λ r. Lexed file text.now known_names r.0.items r.1) }
 {
     if more == 0 {
-        return lex_first(alloc, text, file, further);
+        return lex_alone(alloc, text, file, ahead);
     }
+    let share = 2 * text.len() / (more as usize + 3);
     let cut = match cut_from(text, text.len().saturating_sub(share)) {
         Some(cut) => cut,
-        None => return lex_alone(alloc, text, file),
+        None => return lex_alone(alloc, text, file, ahead),
     };
     let (front, back) = text.split_at(cut);
     let at = cut as u32;
-    let behind = further.saturating_add(back.len());
     let theirs = move || -> Result<(Vec<Token>, Names), Fail<Row>>
         requires { at + length back.now ≤ 1048576 }
         ensures { IfOk result
             (λ r. LexedOnto file back.entry.now at known_names [] r.1 r.0.items) }
-    { lex_part(alloc, back, file, at) };
+    { lex_part(alloc, back, file, at, back.len()) };
     let ours = move || -> Result<(Vec<Token>, Names), Fail<Row>>
         requires { IsSync R.row × (0 < more) × (length front.now ≤ 1048576) }
         ensures { IfOk result (λ r. Lexed file front.entry.now known_names r.0.items r.1) }
-    { lex_parts(rt, alloc, front, file, more - 1, share, behind) };
+    { lex_parts(rt, alloc, front, file, more - 1, ahead) };
     let (theirs, ours) = join(rt, theirs, ours);
     in_order(alloc, text, file, at, ours, theirs)
 }
@@ -173,12 +156,11 @@ pub fn lex_shared<R: Threads + Sync>(
 {
     let more = others_for(text.len(), more);
     if more == 0 {
-        return lex_alone(alloc, text, file);
+        return lex_alone(alloc, text, file, text.len());
     }
-    let share = share_of(text.len(), more);
-    match lex_parts(rt, alloc, text, file, more, share, 0) {
+    match lex_parts(rt, alloc, text, file, more, text.len()) {
         Ok(lexed) => Ok(lexed),
-        Err(Fail::Refused(_row)) => lex_alone(alloc, text, file),
+        Err(Fail::Refused(_row)) => lex_alone(alloc, text, file, text.len()),
         Err(Fail::OutOfMemory) => Err(Fail::OutOfMemory),
     }
 }

@@ -1,8 +1,9 @@
 use Rattle.std.proofs.Common.{◌≡◌, ◌∙◌, ◌||◌, ◌++◌, [], cond, eqb, length, ap, subst, sym}
+use Rattle.jn_trees.specs.declared.expression.ElementType.{ElementType}
 use Rattle.jn_places.specs.PlacedView.{placed_view}
 use Rattle.jn_lowering.specs.Bases.{array_type, binary_type, ref}
 use Rattle.jn_lowering.specs.Expressions.{is_null}
-use Rattle.jn_lowering.specs.ExpressionRows.{assigned_access_rows, is_this}
+use Rattle.jn_lowering.specs.ExpressionRows.{array_rows, assigned_access_rows, is_this}
 use Rattle.jn_scopes.specs.Views.{access_of}
 use Rattle.jn_lower_rows.specs.Views.{setting_of}
 use Rattle.jn_lower_rows.proofs.Looking.{argument_looks, array_looks, assigned_field, binary_looks, dotted_looks, field_found, new_looks, own_looks, super_looks}
@@ -21,8 +22,12 @@ pub expression-returns-in_ok-new_rows-in-New : goal.expression-returns-in_ok-new
 expression-returns-in_ok-new_rows-in-New t c = new_looks c.args.c.now c.args.at _ c.in-New.class c.in-New.arguments _ _ _ _ _ _ _ c.in-New.is c.deref-listed-in-New.ensures.value c.count.ensures (ap ref c.class_or_object.ensures) c.in_ok-all-in-New.ensures c.in_ok-new_rows-in-New.ensures
 
 pub expression-returns-in_ok-all-in-ArrayOf : goal.expression-returns-in_ok-all-in-ArrayOf
-expression-returns-in_ok-all-in-ArrayOf t c = array_looks c.args.c.now c.args.at _ c.in-ArrayOf.element c.in-ArrayOf.elements _ _ c.deref-in-ArrayOf.result.now _ _ _ _ c.in-ArrayOf.is c.deref-in-ArrayOf-2.ensures.value c.deref-in-ArrayOf.ensures.value
-    (c.array_type-in-ArrayOf.ensures ∙ ap (array_type c.args.c.now.program.now c.in-ArrayOf.element.value.base) (c.deref-in-ArrayOf-3.ensures.value ∙ sym c.deref-in-ArrayOf.ensures.value)) c.in_ok-array_rows-in-ArrayOf.ensures c.in_ok-all-in-ArrayOf.ensures
+expression-returns-in_ok-all-in-ArrayOf t c =
+    let P = c.args.c.now.program.now in
+    let notes : c.deref-in-ArrayOf-3.result.now ≡ c.in-ArrayOf.element.value.annotations.items = c.deref-in-ArrayOf-3.ensures.value ∙ ap (λ (w : ElementType). w.annotations.items) c.deref-in-ArrayOf-2.ensures in
+    array_looks c.args.c.now c.args.at _ c.in-ArrayOf.element c.in-ArrayOf.elements _ _ c.deref-in-ArrayOf-3.result.now _ _ _ _ c.in-ArrayOf.is c.deref-in-ArrayOf-4.ensures.value notes
+    (c.array_type-in-ArrayOf.ensures ∙ (ap (λ (w : ElementType). array_type P w.base c.deref-in-ArrayOf-7.result.now) c.deref-in-ArrayOf-5.ensures ∙ ap (array_type P c.in-ArrayOf.element.value.base) (c.deref-in-ArrayOf-7.ensures.value ∙ (ap (λ (w : ElementType). w.annotations.items) c.deref-in-ArrayOf-6.ensures ∙ sym notes))))
+    (c.in_ok-array_rows-in-ArrayOf.ensures ∙ ap (λ (w : ElementType). c.args.rows.now ++ array_rows P w.base c.deref-in-ArrayOf-3.result.now) c.deref-in-ArrayOf.ensures) c.in_ok-all-in-ArrayOf.ensures
 
 pub expression-returns-in_ok-both_rows-in-Binary : goal.expression-returns-in_ok-both_rows-in-Binary
 expression-returns-in_ok-both_rows-in-Binary t c = binary_looks c.args.c.now c.args.at _ c.deref-in-Binary.result.now c.deref-in-Binary-2.result.now c.in-Binary.left c.in-Binary.operator c.in-Binary.right c.in-Binary.span _ _ _ _ _ _ _ _ _ _ c.in-Binary.is c.deref-in-Binary.ensures c.deref-in-Binary-2.ensures
