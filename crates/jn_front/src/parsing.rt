@@ -13,7 +13,6 @@ use crate::source::SourceRead;
 use jn_base::{OutOfMemory, Row};
 use jn_lexer::law::{texts_have_few_tokens, texts_have_one_reading};
 use jn_renumber_law::law::{own_names_can_be_merged, own_trees_can_be_renumbered};
-use jn_room::keep_pieces;
 use jn_trees::{FileTree, Names};
 use jn_workers::Gate;
 use std::alloc::Global;
@@ -141,7 +140,6 @@ pub fn parse_files<R: Threads + Sync, G: Gate + Sync>(
     ensures none { IfOk result
         (λ p. (p.rows.items ≡ [] → ⊥) → (p.trees.items ≡ []) × (p.names ≡ [])) }
 {
-    keep_pieces(alloc);
     let more = more_workers(reads.len(), workers);
     let others = others_of_each(workers, more);
     let outcomes = parse_by(rt, alloc, reads, 0, more, others, gate)?;

@@ -10,12 +10,13 @@ use crate::outcome::Outcome;
 use crate::source::SourceRead;
 use jn_base::OutOfMemory;
 use jn_base::lists::put;
+use jn_room::keep_pieces;
 use jn_workers::Gate;
 use std::alloc::Global;
 use std::thread::{Threads, join};
 
 /// The outcomes of files one after another, the first of which has this number: found by this worker, and in each file by as
-/// many others with it as `others` says.
+/// many others with it as `others` says. The worker asks for memory ahead once.
 fn parse_each<R: Threads + Sync, G: Gate>(
     rt: &R,
     alloc: Global,
@@ -30,6 +31,7 @@ fn parse_each<R: Threads + Sync, G: Gate>(
     ensures { IfOk result
         (λ outcomes. AreOutcomes first (files_of_reads reads.now) outcomes.items) }
 {
+    keep_pieces(alloc);
     let mut outcomes = Vec::new(alloc);
     let mut file = first;
     'files: for read in reads {

@@ -11,6 +11,7 @@ use jn_base::{OutOfMemory, Seq};
 use jn_index::indexed::IndexedProgram;
 use jn_lower_stmt::body::Source;
 use jn_points::Body;
+use jn_room::keep_pieces;
 use std::alloc::Global;
 use std::thread::{Threads, join};
 
@@ -82,7 +83,10 @@ pub fn lower_by<R: Threads + Sync>(
         requires { Few program.now }
         ensures { IfOk result
             (λ lowered. IsLowered program.entry.now (sources_of front.entry.now) lowered) }
-    { lower_each(alloc, program, front) };
+    {
+        keep_pieces(alloc);
+        lower_each(alloc, program, front)
+    };
     let ours = move || -> Result<LoweredFiles, OutOfMemory>
         requires { IsSync R.row × (0 < more) × Few program.now }
         ensures { IfOk result
