@@ -58,7 +58,7 @@ fn in_windows(
         Err(_) => return Err(Fail::OutOfMemory),
     };
     let mut tokens = Vec::new(alloc);
-    let _asked = tokens.reserve(ahead / 2);
+    let _asked = tokens.reserve(ahead);
     match put_windows(alloc, text, file, at, &mut names, &mut tokens) {
         Ok(()) => Ok((tokens, names)),
         Err(fail) => Err(fail),
@@ -91,9 +91,8 @@ fn as_whole(
 /// The tokens of a part of a text, whose first byte is the text's byte `at`, from the known names on, and the names then; it
 /// refuses with the row of the part's fault, counted within the part.
 ///
-/// It asks for room for the tokens of `ahead` bytes, a token for every two of them, and goes on without where there isn't as much: a
-/// list that has room needn't be moved while it grows, nor where others are put behind it, and room that isn't written to takes no
-/// memory.
+/// It asks for room for as many tokens as `ahead` bytes can have, one for each, and goes on without where there isn't as much: a list
+/// that has room needn't be moved while it grows, nor where others are put behind it, and room that isn't written to takes no memory.
 ///
 /// Besides tokens and names it takes memory for the characters of one window, some 64 KiB where no line is long. Only where a window
 /// is refused, for a fault or because its cut stands in a comment of several lines, the part is lexed once more, from its begin and
