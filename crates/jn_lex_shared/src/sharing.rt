@@ -140,8 +140,10 @@ fn others_for(bytes: usize, more: u32) -> u32
 /// Unicode escape, else L3 to L7 at the first place where a token should begin and none can. It starts its workers by `join` and
 /// waits for them. Its time is in proportion to the bytes: where a part is refused, the text is lexed once more, by one worker.
 ///
-/// Besides tokens and names each worker takes some 64 KiB, for the characters of one window. A part with a window that is refused takes
-/// 4 bytes for each of its characters, as does the text where it has a fault.
+/// The list of tokens has room for one for each byte, of 20 bytes each, of which only what is written to takes memory; another
+/// worker's list has it for each byte of the worker's part. Besides tokens and names each worker takes some 64 KiB, for the characters
+/// of one window. A part with a window that is refused takes 4 bytes for each of its characters, as does the text where it has a
+/// fault.
 pub fn lex_shared<R: Threads + Sync>(
     rt: &R,
     alloc: Global,

@@ -11,13 +11,9 @@ use crate::building::OpenType;
 use crate::guess::{Guess, split_places};
 use crate::whole::read_members;
 use jn_base::OutOfMemory;
-use jn_room::make_room;
 use jn_trees::{Member, Owner, Token};
 use std::alloc::Global;
 use std::thread::{Threads, join};
-
-/// How many bytes the trees of members take for each of their tokens, rather more than most do.
-const TREE_BYTES: usize = 64;
 
 /// The first members, and the others behind them, with room for as many again for each share that is still to come.
 fn append(
@@ -72,21 +68,6 @@ fn in_order<'t>(
     Ok((all, end))
 }
 
-/// As [`read_members`], for one of several workers, which asks for the memory of its members' trees in one piece.
-fn read_share(
-    alloc: Global,
-    tokens: &[Token],
-    owner: Owner,
-    stop: usize,
-) -> Result<(Vec<Member>, &[Token]), OutOfMemory>
-    ensures { IfOk result
-        (λ r. AreMembers owner (kinds tokens.now) (member_views r.0.items) (kinds r.1.now)) }
-{
-    let share = tokens.len().saturating_sub(stop);
-    make_room(alloc, share.saturating_mul(TREE_BYTES));
-    read_members(alloc, tokens, owner, stop)
-}
-
 /// The members at the front, in turn, until at most `stop` tokens are left or none can be read whole, and what follows them.
 /// One worker reads from the front, and one more from each of the places, which are told by the number of tokens left there.
 /// The list of the first grows by those of the others, so that each member is moved once; as many shares as `further` come
@@ -105,14 +86,14 @@ fn members_from<'t, R: Threads + Sync>(
         (λ r. AreMembers owner (kinds tokens.now) (member_views r.0.items) (kinds r.1.now)) }
 {
     match places.split_last() {
-        None => read_share(alloc, tokens, owner, stop),
+        None => read_members(alloc, tokens, owner, stop),
         Some((place, before)) => {
             let place = *place;
             let back = last_tokens(tokens, place);
             let theirs = move || -> Result<(Vec<Member>, &[Token]), OutOfMemory>
                 ensures { IfOk result (λ r. AreMembers owner (kinds back.entry.now)
                     (member_views r.0.items) (kinds r.1.now)) }
-            { read_share(alloc, back, owner, stop) };
+            { read_members(alloc, back, owner, stop) };
             let ours = move || -> Result<(Vec<Member>, &[Token]), OutOfMemory>
                 requires { IsSync R.row }
                 ensures { IfOk result (λ r. AreMembers owner (kinds tokens.entry.now)

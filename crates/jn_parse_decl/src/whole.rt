@@ -11,11 +11,17 @@ use crate::nested::body_statement;
 use crate::piece::Piece;
 use jn_base::OutOfMemory;
 use jn_base::lists::put;
+use jn_room::make_room;
 use jn_trees::reading::{covered, expect};
 use jn_trees::{Member, Owner, Stmt, Token, TokenKind};
 use std::alloc::Global;
 
+/// How many bytes the trees of members take for each of their tokens, rather more than most do.
+const TREE_BYTES: usize = 64;
+
 /// The members at the front, in turn, until at most `stop` tokens are left or none can be read whole, and what follows them.
+///
+/// The memory of their trees is asked for in one piece first, so that several workers that read don't wait for each other there.
 pub fn read_members(
     alloc: Global,
     tokens: &[Token],
@@ -25,6 +31,8 @@ pub fn read_members(
     ensures { IfOk result
         (λ r. AreMembers owner (kinds tokens.now) (member_views r.0.items) (kinds r.1.now)) }
 {
+    let share = tokens.len().saturating_sub(stop);
+    make_room(alloc, share.saturating_mul(TREE_BYTES));
     let mut members = Vec::new(alloc);
     let mut left = tokens;
     'members: loop {

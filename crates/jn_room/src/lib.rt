@@ -1,4 +1,4 @@
-//! Memory asked of the system ahead, so that workers that build trees don't wait for each other there.
+//! Memory asked of the system ahead, so that workers that build trees or bodies don't wait for each other there.
 //!
 //! Where several threads take memory bit by bit, the C library's heap asks the system for each page of theirs, and no two of a
 //! process's threads are served at once; and what is given back in large pieces goes to the system, which clears it before it

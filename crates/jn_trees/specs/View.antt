@@ -7,7 +7,6 @@ use Rattle.jn_trees.specs.declared.expression.Annotation.{Annotation}
 use Rattle.jn_trees.specs.declared.expression.Identifier.{Identifier}
 use Rattle.jn_trees.specs.declared.expression.Base.{Base}
 use Rattle.jn_trees.specs.declared.expression.Base.TheVariants.{Class as ClassUse, Int as IntUse, Boolean as BooleanUse}
-use Rattle.jn_trees.specs.declared.expression.ElementType.{ElementType}
 use Rattle.jn_trees.specs.declared.expression.Expr.{Expr, Literal, Name, This, Paren', Field', Call', OwnCall', SuperCall', Index', New', NewArray', ArrayOf', Postfix', Prefix', Unary', Cast', Binary', InstanceOf', Conditional', Assign', Row_of-Expr, end_of-Expr, more_of-Expr}
 use Rattle.jn_trees.specs.declared.statement.LocalModifier.{LocalModifier}
 use Rattle.jn_trees.specs.declared.statement.LocalModifier.TheVariants.{Annotation as LocalAnnotation, Final as LocalFinal}
