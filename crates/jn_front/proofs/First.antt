@@ -14,6 +14,8 @@ use Rattle.jn_renumber.specs.Tokens.{tokens_by}
 use Rattle.jn_front.specs.declared.source.SourceFile.{SourceFile}
 use Rattle.jn_front.specs.declared.outcome.Outcome.{Outcome}
 use Rattle.jn_front.specs.declared.outcome.Outcome.TheVariants.{Lexical, Syntax, Tree}
+use Rattle.jn_front.specs.declared.renumbering.Numbered.{Numbered}
+use Rattle.jn_front.specs.Numbered.{numbered_tree}
 use Rattle.jn_front.specs.Phases.{file_no}
 use Rattle.jn_front.specs.Outcomes.{IsOutcome, AreOutcomes, joined_names, joined_trees}
 
@@ -41,9 +43,9 @@ some_tree : (tree : PlacedFile) (trees : List PlacedFile) → [] ≡ tree ∷ tr
 some_tree tree trees e = cc
 
 -- while there is no tree, the names are the known ones
-pub begun_step : (names now : List (List ℕ)) (outcome : Outcome) (trees more : List FileTree) → (trees ≡ [] → names ≡ known_names) → now ≡ joined_names names (outcome ∷ []) → map placed_file more ≡ map placed_file trees ++ joined_trees names (outcome ∷ []) → more ≡ [] → now ≡ known_names
+pub begun_step : (names now : List (List ℕ)) (outcome : Outcome) (trees more : List Numbered) → (trees ≡ [] → names ≡ known_names) → now ≡ joined_names names (outcome ∷ []) → map numbered_tree more ≡ map numbered_tree trees ++ joined_trees names (outcome ∷ []) → more ≡ [] → now ≡ known_names
 begun_step names now (Lexical row) [] more begun new put none = new ∙ begun refl
 begun_step names now (Syntax row) [] more begun new put none = new ∙ begun refl
-begun_step names now (Lexical row) (tree ∷ trees) more begun new put none = absurd (some_tree (placed_file tree) (map placed_file trees ++ []) (ap (map placed_file) (sym none) ∙ put))
-begun_step names now (Syntax row) (tree ∷ trees) more begun new put none = absurd (some_tree (placed_file tree) (map placed_file trees ++ []) (ap (map placed_file) (sym none) ∙ put))
-begun_step names now (Tree own tree) trees more begun new put none = absurd (not_put (map placed_file trees) (renumbered_file (merged_numbers names own) (placed_file tree)) (ap (map placed_file) (sym none) ∙ put))
+begun_step names now (Lexical row) (tree ∷ trees) more begun new put none = absurd (some_tree (numbered_tree tree) (map numbered_tree trees ++ []) (ap (map numbered_tree) (sym none) ∙ put))
+begun_step names now (Syntax row) (tree ∷ trees) more begun new put none = absurd (some_tree (numbered_tree tree) (map numbered_tree trees ++ []) (ap (map numbered_tree) (sym none) ∙ put))
+begun_step names now (Tree own tree) trees more begun new put none = absurd (not_put (map numbered_tree trees) (renumbered_file (merged_numbers names own) (placed_file tree)) (ap (map numbered_tree) (sym none) ∙ put))

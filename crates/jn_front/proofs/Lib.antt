@@ -5,4 +5,5 @@ pub mod Shares
 pub mod Joining
 pub mod First
 pub mod Sending
+pub mod Numbering
 pub mod Reading

@@ -4,6 +4,8 @@ use Rattle.std.proofs.Crossing.{crosses}
 use Rattle.jn_trees.specs.contracts.declaration.TypeTree as TypeTree
 use Rattle.jn_trees.specs.contracts.declaration.FileTree as FileTree
 use Rattle.jn_front.specs.contracts.outcome.Outcome as Outcome
+use Rattle.jn_front.specs.contracts.outcome.Parsed as Parsed
+use Rattle.jn_front.specs.contracts.renumbering.Numbered as Numbered
 use Rattle.jn_trees.specs.contracts.names.Names as Names
 use Rattle.jn_base.proofs.place.Span.TheSendSync as Span-crosses
 use Rattle.jn_base.proofs.place.Row.TheSendSync as Row-crosses
@@ -25,8 +27,14 @@ type_sends = search (sendable, crosses, member_sends, parts) depth 20
 file_field : IsSend (FileTree.the_field).row
 file_field = search (sendable, crosses, type_sends, parts) depth 20
 
+pub numbered_sends : IsSend Numbered.the_row
+numbered_sends = search (sendable, crosses, file_field, NameNo-crosses.the_send) depth 20
+
 names_field : IsSend (Names.the_field).row
 names_field = search (sendable, crosses, Names-crosses.the_send) depth 20
 
-pub outcome_sends : IsSend Outcome.the_row
-outcome_sends = search (sendable, crosses, file_field, names_field, Row-crosses.the_field_send) depth 20
+outcome_field : IsSend (Outcome.the_field).row
+outcome_field = search (sendable, crosses, file_field, names_field, Row-crosses.the_field_send) depth 20
+
+pub parsed_sends : IsSend Parsed.the_row
+parsed_sends = search (sendable, crosses, outcome_field) depth 20

@@ -3,3 +3,4 @@ pub mod Limits
 pub mod Phases
 pub mod Counted
 pub mod Outcomes
+pub mod Numbered

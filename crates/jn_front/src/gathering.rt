@@ -5,19 +5,22 @@ ghost use Rattle.jn_places.specs.PlacedView.{placed_file};
 ghost use Rattle.jn_renumber.specs.Merged.{merged, merged_numbers};
 ghost use Rattle.jn_renumber.specs.Renumbered.{renumbered_file};
 ghost use Rattle.jn_front.specs.Outcomes.{IsOutcome, AreOutcomes, lexical_rows, syntax_rows, joined_names, joined_trees, HaveFewNames};
+ghost use Rattle.jn_front.specs.Numbered.{numbered_tree};
 ghost use Rattle.jn_front.specs.declared.outcome.Outcome.TheVariants.{Tree};
 ghost use Rattle.jn_front.specs.declared.source.SourceFile.{SourceFile};
 
 use crate::outcome::Outcome;
 use crate::parsing::ParsedFiles;
+use crate::renumbering::{Numbered, renumber_by};
 use jn_base::lists::put;
 use jn_base::{OutOfMemory, Row};
 use jn_lex_shared::known_names;
 use jn_parse_placed::law::files_have_one_placed_tree;
-use jn_renumber::{merge, renumber_file};
+use jn_renumber::merge;
 use jn_renumber_law::law::{own_names_can_be_merged, own_trees_can_be_renumbered};
 use jn_trees::{FileTree, Names};
 use std::alloc::{AllocError, Global};
+use std::thread::Threads;
 
 /// The lexical faults, in the files' order.
 pub fn lexical_rows(alloc: Global, outcomes: &[Outcome]) -> Result<Vec<Row>, AllocError>
@@ -49,12 +52,12 @@ pub fn syntax_rows(alloc: Global, outcomes: &[Outcome]) -> Result<Vec<Row>, Allo
     Ok(rows)
 }
 
-/// Adds a file's tree to those of the files before it, with the numbers that its names have once they are merged into theirs.
+/// Adds a file's tree to those of the files before it, with the numbers that its names are to have once they are merged into theirs.
 /// The first tree and its names stay as they are, as they would where its names are merged into the known ones.
 fn join_tree(
     alloc: Global,
     names: &mut Names,
-    trees: &mut Vec<FileTree>,
+    trees: &mut Vec<Numbered>,
     own: Names,
     tree: FileTree,
 ) -> Result<(), OutOfMemory>
@@ -63,7 +66,8 @@ fn join_tree(
     requires found { (k : ℕ) × (file : SourceFile) × IsOutcome k file (Tree own tree) }
     requires begun { trees.old.items ≡ [] → names.old ≡ known_names }
     ensures names { OnOk result (names.new ≡ merged names.old own) }
-    ensures trees { OnOk result (map placed_file trees.new.items ≡ map placed_file trees.old.items
+    ensures trees { OnOk result (map numbered_tree trees.new.items
+        ≡ map numbered_tree trees.old.items
         ++ renumbered_file (merged_numbers names.old own) (placed_file tree) ∷ []) }
 {
     own_names_can_be_merged();
@@ -71,13 +75,12 @@ fn join_tree(
     files_have_one_placed_tree();
     if trees.is_empty() {
         *names = own;
-        put(trees, tree)?;
+        let numbers = None;
+        put(trees, Numbered { tree, numbers })?;
         return Ok(());
     }
-    let mut tree = tree;
-    let numbers = merge(alloc, names, &own)?;
-    renumber_file(numbers.as_slice(), &mut tree);
-    put(trees, tree)?;
+    let numbers = Some(merge(alloc, names, &own)?);
+    put(trees, Numbered { tree, numbers })?;
     Ok(())
 }
 
@@ -85,7 +88,7 @@ fn join_tree(
 fn join_next(
     alloc: Global,
     names: &mut Names,
-    trees: &mut Vec<FileTree>,
+    trees: &mut Vec<Numbered>,
     outcome: Outcome,
 ) -> Result<(), OutOfMemory>
     requires room { length names.old < 2 ^ 31 }
@@ -93,8 +96,8 @@ fn join_next(
     requires found { (k : ℕ) × (file : SourceFile) × IsOutcome k file outcome }
     requires begun { trees.old.items ≡ [] → names.old ≡ known_names }
     ensures names { OnOk result (names.new ≡ joined_names names.old (outcome ∷ [])) }
-    ensures trees { OnOk result (map placed_file trees.new.items
-        ≡ map placed_file trees.old.items ++ joined_trees names.old (outcome ∷ [])) }
+    ensures trees { OnOk result (map numbered_tree trees.new.items
+        ≡ map numbered_tree trees.old.items ++ joined_trees names.old (outcome ∷ [])) }
 {
     match outcome {
         Outcome::Lexical(_) => Ok(()),
@@ -103,8 +106,30 @@ fn join_next(
     }
 }
 
-/// The names and trees of all files.
-pub fn join_all(alloc: Global, outcomes: Vec<Outcome>) -> Result<ParsedFiles, OutOfMemory>
+/// The names of all files, and their trees with the numbers that their names are to have.
+fn merge_all(alloc: Global, outcomes: Vec<Outcome>) -> Result<(Names, Vec<Numbered>), OutOfMemory>
+    requires many { length outcomes.items ≤ 64 }
+    requires few { HaveFewNames outcomes.items }
+    requires found { (files : List SourceFile) × AreOutcomes 0 files outcomes.items }
+    ensures names { IfOk result (λ r. r.0 ≡ joined_names known_names outcomes.items) }
+    ensures trees { IfOk result
+        (λ r. map numbered_tree r.1.items ≡ joined_trees known_names outcomes.items) }
+{
+    let mut names = known_names(alloc)?;
+    let mut trees = Vec::new(alloc);
+    for outcome in outcomes {
+        join_next(alloc, &mut names, &mut trees, outcome)?;
+    }
+    Ok((names, trees))
+}
+
+/// The names and trees of all files; one worker and as many others as `more` number the trees' names anew.
+pub fn join_all<R: Threads + Sync>(
+    rt: &R,
+    alloc: Global,
+    outcomes: Vec<Outcome>,
+    more: u32,
+) -> Result<ParsedFiles, OutOfMemory>
     requires many { length outcomes.items ≤ 64 }
     requires few { HaveFewNames outcomes.items }
     requires found { (files : List SourceFile) × AreOutcomes 0 files outcomes.items }
@@ -113,11 +138,8 @@ pub fn join_all(alloc: Global, outcomes: Vec<Outcome>) -> Result<ParsedFiles, Ou
     ensures trees { IfOk result
         (λ p. map placed_file p.trees.items ≡ joined_trees known_names outcomes.items) }
 {
-    let mut names = known_names(alloc)?;
-    let mut trees = Vec::new(alloc);
-    for outcome in outcomes {
-        join_next(alloc, &mut names, &mut trees, outcome)?;
-    }
+    let (names, numbered) = merge_all(alloc, outcomes)?;
+    let trees = renumber_by(rt, alloc, numbered, more as usize + 1)?;
     Ok(ParsedFiles {
         trees,
         names,

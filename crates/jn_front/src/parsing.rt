@@ -54,11 +54,14 @@ fn is_empty(rows: &[Row]) -> bool
     }
 }
 
-/// The rows, or the names and trees, of files with these outcomes.
-fn put_together(
+/// The rows, or the names and trees, of files with these outcomes; one worker and as many others as `more` number the trees' names
+/// anew.
+fn put_together<R: Threads + Sync>(
+    rt: &R,
     alloc: Global,
     reads: &[SourceRead],
     outcomes: Vec<Outcome>,
+    more: u32,
 ) -> Result<ParsedFiles, OutOfMemory>
     requires few { length reads.now ≤ 64 }
     requires fit { ReadsFit reads.now }
@@ -83,7 +86,7 @@ fn put_together(
     if !is_empty(rows.as_slice()) {
         return Ok(refused(alloc, rows));
     }
-    let parsed = join_all(alloc, outcomes)?;
+    let parsed = join_all(rt, alloc, outcomes, more)?;
     Ok(parsed)
 }
 
@@ -114,9 +117,9 @@ fn others_of_each(workers: u32, more: u32) -> u32
 /// to 3.12), the first fault of each, else the syntax row of each file that has no tree.
 ///
 /// Names are numbered over all files, in the order in which they are first met, behind those of `jn_known`. The files are
-/// shared among as many workers as are asked for, at most one for a file, each of which takes a range of them. Where there are
-/// more workers than files, the others take part in the text and the tokens of each file, equally many in each, so that no more
-/// than all are at work at once. The worker that has taken a file enters the gate with the file's number before the file is lexed;
+/// shared among as many workers as are asked for, at most one for a file, each of which takes one after the other, and so are their
+/// trees, once the names have their numbers. Where there are more workers than files, the others take part in the text and the tokens
+/// of each file, equally many in each, so that no more than all are at work at once. The worker that has taken a file enters the gate with the file's number before the file is lexed;
 /// those that take part in it enter no gate. It goes by `join`, and so may wait for its workers. Takes time in proportion to the
 /// bytes.
 ///
@@ -142,6 +145,6 @@ pub fn parse_files<R: Threads + Sync, G: Gate + Sync>(
 {
     let more = more_workers(reads.len(), workers);
     let others = others_of_each(workers, more);
-    let outcomes = parse_by(rt, alloc, reads, 0, more, others, gate)?;
-    put_together(alloc, reads, outcomes)
+    let outcomes = parse_by(rt, alloc, reads, more, others, gate)?;
+    put_together(rt, alloc, reads, outcomes, more)
 }

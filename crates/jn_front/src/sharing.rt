@@ -1,13 +1,14 @@
-//! Files shared among workers.
-ghost use Rattle.std.specs.Prelude.{◌≡◌, ◌≤◌, ◌<◌, ◌+◌, ◌++◌, length, take, drop, IfOk};
+//! Files shared among workers, which steal their numbers from one deque.
+ghost use Rattle.std.specs.Prelude.{◌≤◌, ◌<◌, length, IfOk, IfSome};
 ghost use Rattle.std.specs.Thread.{IsSync};
 ghost use Rattle.jn_front.specs.Counted.{ReadsFit};
 ghost use Rattle.jn_front.specs.Files.{files_of_reads};
-ghost use Rattle.jn_front.specs.Outcomes.{AreOutcomes};
+ghost use Rattle.jn_front.specs.Outcomes.{AreFound, AreOutcomes, IsOutcomeOf};
 
 use crate::alone::outcome_of;
-use crate::outcome::Outcome;
+use crate::outcome::{Outcome, Parsed};
 use crate::source::SourceRead;
+use crossbeam_deque::{Steal, Stealer, Worker};
 use jn_base::OutOfMemory;
 use jn_base::lists::put;
 use jn_room::keep_pieces;
@@ -15,101 +16,187 @@ use jn_workers::Gate;
 use std::alloc::Global;
 use std::thread::{Threads, join};
 
-/// The outcomes of files one after another, the first of which has this number: found by this worker, and in each file by as
-/// many others with it as `others` says. The worker asks for memory ahead once.
-fn parse_each<R: Threads + Sync, G: Gate>(
+/// The outcomes of files whose numbers are stolen, until a steal finds the deque empty, or after so many steals: found by this
+/// worker, and in each file by as many others with it as `others` says. The worker asks for memory ahead once.
+fn steal_all<R: Threads + Sync, G: Gate>(
     rt: &R,
     alloc: Global,
     reads: &[SourceRead],
-    first: u32,
+    stealer: &Stealer<u32>,
     worker: u32,
+    others: u32,
+    limit: u64,
+    gate: &G,
+) -> Result<Vec<Parsed>, OutOfMemory>
+    requires { ReadsFit reads.now }
+    ensures { IfOk result (λ found. AreFound reads.now found.items) }
+{
+    keep_pieces(alloc);
+    let mut found = Vec::new(alloc);
+    for _ in 0..limit {
+        match stealer.steal() {
+            Steal::Empty => {
+                break;
+            }
+            Steal::Retry => {}
+            Steal::Success(file) => {
+                if (file as usize) < reads.len() {
+                    let read = &reads[file as usize];
+                    let outcome = outcome_of(rt, alloc, read, file, worker, others, gate)?;
+                    put(&mut found, Parsed { file, outcome })?;
+                }
+            }
+        }
+    }
+    Ok(found)
+}
+
+/// What one worker found, and the others.
+fn both(
+    reads: &[SourceRead],
+    ours: Result<Vec<Parsed>, OutOfMemory>,
+    theirs: Result<Vec<Parsed>, OutOfMemory>,
+) -> Result<Vec<Parsed>, OutOfMemory>
+    requires ours { IfOk ours (λ found. AreFound reads.now found.items) }
+    requires theirs { IfOk theirs (λ found. AreFound reads.now found.items) }
+    ensures { IfOk result (λ found. AreFound reads.now found.items) }
+{
+    let _reads = reads;
+    let mut ours = ours?;
+    let mut theirs = theirs?;
+    ours.append(&mut theirs)?;
+    Ok(ours)
+}
+
+/// Worker 0 and as many others as `more` steal until the deque is empty. In each file as many others take part as `others` says.
+#[cycle(steal)]
+fn steal_by<R: Threads + Sync, G: Gate + Sync>(
+    rt: &R,
+    alloc: Global,
+    reads: &[SourceRead],
+    stealer: &Stealer<u32>,
+    more: u32,
+    others: u32,
+    limit: u64,
+    gate: &G,
+) -> Result<Vec<Parsed>, OutOfMemory>
+    requires { ReadsFit reads.now }
+    ensures { IfOk result (λ found. AreFound reads.now found.items) }
+{
+    if more == 0 {
+        return steal_all(rt, alloc, reads, stealer, 0, others, limit, gate);
+    }
+    let theirs = move || -> Result<Vec<Parsed>, OutOfMemory>
+        requires { IsSync R.row × ReadsFit reads.now }
+        ensures { IfOk result (λ found. AreFound reads.entry.now found.items) }
+    { steal_all(rt, alloc, reads, stealer, more, others, limit, gate) };
+    let ours = move || -> Result<Vec<Parsed>, OutOfMemory>
+        requires { IsSync R.row × IsSync G.row × (0 < more) × ReadsFit reads.now }
+        ensures { IfOk result (λ found. AreFound reads.entry.now found.items) }
+    { steal_by(rt, alloc, reads, stealer, more - 1, others, limit, gate) };
+    let (theirs, ours) = join(rt, theirs, ours);
+    both(reads, ours, theirs)
+}
+
+/// The outcome of the file of this number, where it is among these, which then have it no more.
+fn taken(reads: &[SourceRead], found: &mut Vec<Parsed>, file: u32) -> Option<Outcome>
+    requires { AreFound reads.now found.old.items }
+    ensures left { AreFound reads.now found.new.items }
+    ensures outcome { IfSome result (λ outcome. IsOutcomeOf reads.now file outcome) }
+{
+    let _reads = reads;
+    for at in 0..found.len() {
+        if found[at].file == file {
+            let Parsed { outcome, .. } = found.swap_remove(at);
+            return Some(outcome);
+        }
+    }
+    None
+}
+
+/// The outcome of the file of this number: that which was found, or else what is found now.
+fn outcome_at<R: Threads + Sync, G: Gate>(
+    rt: &R,
+    alloc: Global,
+    reads: &[SourceRead],
+    found: &mut Vec<Parsed>,
+    file: u32,
+    others: u32,
+    gate: &G,
+) -> Result<Outcome, OutOfMemory>
+    requires fit { ReadsFit reads.now }
+    requires inside { file < length reads.now }
+    requires found { AreFound reads.now found.old.items }
+    ensures left { AreFound reads.now found.new.items }
+    ensures outcome { IfOk result (λ outcome. IsOutcomeOf reads.now file outcome) }
+{
+    match taken(reads, found, file) {
+        Some(outcome) => Ok(outcome),
+        None => {
+            let outcome = outcome_of(rt, alloc, &reads[file as usize], file, 0, others, gate)?;
+            Ok(outcome)
+        }
+    }
+}
+
+/// The outcomes of all files in their order, of which these were found.
+fn in_order<R: Threads + Sync, G: Gate>(
+    rt: &R,
+    alloc: Global,
+    reads: &[SourceRead],
+    found: Vec<Parsed>,
     others: u32,
     gate: &G,
 ) -> Result<Vec<Outcome>, OutOfMemory>
-    requires few { first + length reads.now ≤ 64 }
+    requires few { length reads.now ≤ 64 }
     requires fit { ReadsFit reads.now }
+    requires found { AreFound reads.now found.items }
     ensures { IfOk result
-        (λ outcomes. AreOutcomes first (files_of_reads reads.now) outcomes.items) }
+        (λ outcomes. AreOutcomes 0 (files_of_reads reads.now) outcomes.items) }
 {
-    keep_pieces(alloc);
+    let mut found = found;
     let mut outcomes = Vec::new(alloc);
-    let mut file = first;
-    'files: for read in reads {
-        let outcome = outcome_of(rt, alloc, read, file, worker, others, gate)?;
+    for file in 0..reads.len() {
+        let outcome = outcome_at(rt, alloc, reads, &mut found, file as u32, others, gate)?;
         put(&mut outcomes, outcome)?;
-        file += 1;
     }
     Ok(outcomes)
 }
 
-/// The first outcomes, and the others behind them.
-fn append(first: Vec<Outcome>, others: Vec<Outcome>) -> Result<Vec<Outcome>, OutOfMemory>
-    ensures { IfOk result (λ all. all.items ≡ first.items ++ others.items) }
-{
-    let mut all = first;
-    for outcome in others {
-        put(&mut all, outcome)?;
+/// A deque of the numbers below `count`.
+fn numbers(alloc: Global, count: u32) -> Result<Worker<u32>, OutOfMemory> {
+    let Ok(mut deque) = Worker::new_fifo(alloc, count as usize) else {
+        return Err(OutOfMemory);
+    };
+    for number in 0..count {
+        if deque.push(number).is_err() {
+            return Err(OutOfMemory);
+        }
     }
-    Ok(all)
+    Ok(deque)
 }
 
-/// The outcomes of files, of which the first ones and those behind them have these.
-fn in_order(
-    reads: &[SourceRead],
-    first: u32,
-    share: u32,
-    front: Result<Vec<Outcome>, OutOfMemory>,
-    back: Result<Vec<Outcome>, OutOfMemory>,
-) -> Result<Vec<Outcome>, OutOfMemory>
-    requires share { share ≤ length reads.now }
-    requires front { IfOk front
-        (λ outcomes. AreOutcomes first (files_of_reads (take share reads.now)) outcomes.items) }
-    requires back { IfOk back (λ outcomes.
-        AreOutcomes (first + share) (files_of_reads (drop share reads.now)) outcomes.items) }
-    ensures { IfOk result
-        (λ outcomes. AreOutcomes first (files_of_reads reads.now) outcomes.items) }
-{
-    let (_reads, _first, _share) = (reads, first, share);
-    let front = front?;
-    let back = back?;
-    let all = append(front, back)?;
-    Ok(all)
-}
-
-/// The outcomes of files, the first of which has this number: worker 0 and as many more as `more` says take each a range of
-/// them, of lengths that differ by at most one. In each file as many others take part as `others` says.
-#[cycle(share)]
+/// The outcomes of files: worker 0 and as many more as `more` says take one after the other. In each file as many others take
+/// part as `others` says.
 pub fn parse_by<R: Threads + Sync, G: Gate + Sync>(
     rt: &R,
     alloc: Global,
     reads: &[SourceRead],
-    first: u32,
     more: u32,
     others: u32,
     gate: &G,
 ) -> Result<Vec<Outcome>, OutOfMemory>
-    requires few { first + length reads.now ≤ 64 }
+    requires few { length reads.now ≤ 64 }
     requires fit { ReadsFit reads.now }
     ensures { IfOk result
-        (λ outcomes. AreOutcomes first (files_of_reads reads.now) outcomes.items) }
+        (λ outcomes. AreOutcomes 0 (files_of_reads reads.now) outcomes.items) }
 {
-    if more == 0 {
-        return parse_each(rt, alloc, reads, first, 0, others, gate);
-    }
-    let share = reads.len() / (more as usize + 1);
-    let (front, back) = reads.split_at(share);
-    let share = share as u32;
-    let theirs = move || -> Result<Vec<Outcome>, OutOfMemory>
-        requires { IsSync R.row × (first + length front.now ≤ 64) × ReadsFit front.now }
-        ensures { IfOk result
-            (λ outcomes. AreOutcomes first (files_of_reads front.entry.now) outcomes.items) }
-    { parse_each(rt, alloc, front, first, more, others, gate) };
-    let ours = move || -> Result<Vec<Outcome>, OutOfMemory>
-        requires { IsSync R.row × IsSync G.row × (0 < more) × (first + share + length back.now ≤ 64)
-            × ReadsFit back.now }
-        ensures { IfOk result (λ outcomes.
-            AreOutcomes (first + share) (files_of_reads back.entry.now) outcomes.items) }
-    { parse_by(rt, alloc, back, first + share, more - 1, others, gate) };
-    let (theirs, ours) = join(rt, theirs, ours);
-    in_order(reads, first, share, theirs, ours)
+    let count = reads.len() as u32;
+    let deque = numbers(alloc, count)?;
+    let Ok(stealer) = deque.stealer() else {
+        return Err(OutOfMemory);
+    };
+    let limit = 2 * count as u64 + 64;
+    let found = steal_by(rt, alloc, reads, &stealer, more, others, limit, gate)?;
+    in_order(rt, alloc, reads, found, others, gate)
 }

@@ -1,5 +1,5 @@
 -- What is written answers the command, by the files that are checked.
-use Rattle.std.proofs.Common.{◌≡◌, ℕ, zero, suc, ◌<◌, ◌≤◌, true, List, [], ◌∷◌, ◌++◌, length, Result, Ok as Made, Err, refl, sym, ap, ◌∙◌, subst, arith}
+use Rattle.std.proofs.Common.{◌≡◌, ℕ, zero, suc, ◌<◌, List, [], ◌∷◌, ◌++◌, length, Result, Ok as Made, Err, refl, sym, ap, ◌∙◌, subst, arith}
 use Rattle.std.specs.Prelude.{IfOk, Option}
 use Rattle.std.proofs.lemmas.Result.{IfOk-weaker}
 use Rattle.jn_base.specs.declared.refusal.OutOfMemory.{OutOfMemory as NoMemory}
@@ -10,7 +10,6 @@ use Rattle.jn_front.specs.Files.{names_of, most_files, ReadFrom}
 use Rattle.jn_outside.specs.declared.given.Given.{Given}
 use Rattle.jn_outside.specs.Files.{Holding}
 use Rattle.jn_command.specs.declared.output.Output.{Output}
-use Rattle.jn_command.specs.declared.report.Report.{Report}
 use Rattle.jn_command.specs.declared.report.Report.TheVariants.{Refused, Checked}
 use Rattle.jn_command.specs.declared.status.Status.{Status}
 use Rattle.jn_command.specs.Asked.{Asked}

@@ -4,28 +4,25 @@ use Rattle.std.specs.Prelude.{map, IfOk, string_bytes}
 use Rattle.std.specs.declared.string.String.{String}
 use Rattle.std.specs.declared.alloc.Global.{Global}
 use Rattle.jn_base.specs.declared.refusal.OutOfMemory.{OutOfMemory as NoMemory}
-use Rattle.jn_base.specs.declared.place.Row.{Row}
 use Rattle.jn_outside.specs.Causes.{Rose}
 use Rattle.jn_outside.specs.declared.given.Given.{Given}
 use Rattle.jn_outside.specs.Files.{Holding}
 use Rattle.jn_outside.specs.Sink.{Appends}
-use Rattle.jn_diag.specs.declared.shown.RowText.{RowText}
-use Rattle.jn_diag.specs.declared.shown.Verdict.{Verdict}
 use Rattle.jn_front.specs.declared.source.SourceFile.{SourceFile}
 use Rattle.jn_front.specs.declared.source.SourceRead.{SourceRead}
-use Rattle.jn_front.specs.Files.{names_of, most_files, file_limit, ReadFrom, StartsOnly, AllHeld, AreReads, IsReadOf}
+use Rattle.jn_front.specs.Files.{names_of, most_files, ReadFrom, StartsOnly, AllHeld, AreReads, IsReadOf}
 use Rattle.jn_front.specs.Counted.{ReadsFit}
 use Rattle.jn_command.specs.declared.status.Status.{Status}
 use Rattle.jn_command.specs.declared.status.Status.TheVariants.{Ok, Rejected, Refused as RefusedStatus, RunFault, Stopped, ReadFault, WriteFault, OutOfMemory, Usage}
 use Rattle.jn_command.specs.declared.output.Output.{Output}
 use Rattle.jn_command.specs.Asked.{Asked, usage_line}
-use Rattle.jn_command.specs.Made.{front_of, made_file, made_line, made_text}
+use Rattle.jn_command.specs.Made.{front_of, made_line, made_text}
 use Rattle.jn_command.specs.declared.report.Report.{Report}
 use Rattle.jn_command.specs.declared.report.Report.TheVariants.{Refused, Checked}
 use Rattle.jn_command.specs.Reports.{status_of}
 use Rattle.jn_command.specs.Status.{IsAcceptance}
 use Rattle.jn_command.specs.Shown.{shown}
-use Rattle.jn_command.specs.Answer.{Reading, reading, AreFiles, AreChecked, ReadsFew, ReadsFiles, ReadsNone, ReadsNothing, HoldsFiles, Starts, names_read, IsReportOfFiles, IsRunOfFiles, IsOutputBy, IsOutputOfFiles, IsOutputOf, Defines, Answers, AnswersFiles, Completes, Safe, IsSafeOf, Finished}
+use Rattle.jn_command.specs.Answer.{Reading, AreChecked, ReadsFew, ReadsFiles, ReadsNone, ReadsNothing, HoldsFiles, Starts, names_read, IsReportOfFiles, IsOutputBy, IsOutputOfFiles, IsOutputOf, Defines, Answers, AnswersFiles, Completes, Safe, Finished}
 use Rattle.jn_command.specs.Outputs.{IfMade}
 
 -- statuses behind which a report was written whole

@@ -57,6 +57,7 @@ fn refused_texts(alloc: Global, rows: Vec<Row>) -> Result<CheckedFiles, OutOfMem
     Ok(CheckedFiles {
         found: refused(alloc, rows)?,
         names: Names::new(alloc),
+        trees: Vec::new(alloc),
     })
 }
 
@@ -196,6 +197,7 @@ fn find<R: Threads + Sync, G: Gate + Sync>(
     Ok(CheckedFiles {
         found,
         names: parsed.names,
+        trees: parsed.trees,
     })
 }
 

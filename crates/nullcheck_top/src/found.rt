@@ -2,7 +2,7 @@
 
 use jn_accept::Accepted;
 use jn_command::Report;
-use jn_trees::Names;
+use jn_trees::{FileTree, Names};
 
 /// The report of files, and their program where they are accepted.
 #[derive(Drop)]
@@ -11,9 +11,13 @@ pub struct Found {
     pub accepted: Option<Accepted>,
 }
 
-/// What is found of files, and the texts of their names and strings, by number; none where the files have no trees.
+/// What is found of files, and what was read off their texts on the way, of which the trees are needed no more: whoever has the files
+/// checked gives them back, or leaves them to the process's end.
 #[derive(Drop)]
 pub struct CheckedFiles {
     pub found: Found,
+    /// The texts of their names and strings, by number; none where the files have no trees.
     pub names: Names,
+    /// The trees of the files; none where some file has none.
+    pub trees: Vec<FileTree>,
 }

@@ -26,6 +26,8 @@ const USAGE: &str =
 ///
 /// `rt` gives the threads of as many workers as the words say, which lex and parse files, infer qualifiers and check bodies; each
 /// calls `gate` when it takes a file or a body.
+///
+/// The memory of a check is left to the end of the process: a program that calls this often keeps that of every call.
 pub fn nullcheck<R: Threads + Sync, F: Files, K: Sink, G: Gate + Sync>(
     rt: &R,
     alloc: Global,

@@ -1,8 +1,10 @@
-use Rattle.std.proofs.Common.{rules, ◌≡◌, [], ◌∷◌, ◌++◌, length, map, sym, ap, ◌∙◌}
+use Rattle.std.proofs.Common.{rules, ◌≡◌, None, [], ◌∷◌, ◌++◌, length, map, sym, ap, ◌∙◌}
 use Rattle.std.proofs.lemmas.List.{map-append, nil_from_length}
 use Rattle.jn_places.specs.PlacedView.{placed_file}
 use Rattle.jn_renumber.specs.Merged.{merged, merged_numbers}
 use Rattle.jn_renumber.specs.Renumbered.{renumbered_file}
+use Rattle.jn_front.specs.declared.renumbering.Numbered.{Numbered}
+use Rattle.jn_front.specs.Numbered.{numbered_tree}
 use Rattle.jn_front.proofs.First.{first_stays}
 use Rattle.jn_front.proofs.gathering.join_tree.Goals as goal
 
@@ -22,5 +24,6 @@ returns-then-is_empty-clause-trees c =
     let stays = first_stays merging.only c.own_trees_can_be_renumbered.ensures.parsed c.files_have_one_placed_tree.ensures merging.begun c.requires.found.0 c.requires.found.1 c.args.own c.args.tree c.requires.found.2 in
     let trees = c.args.trees.now.items in
     let same = stays.1 ∙ ap (λ ns. renumbered_file (merged_numbers ns c.args.own) (placed_file c.args.tree)) (sym known) in
-    let put : c.put.new.items.items ≡ trees ++ c.args.tree ∷ [] = c.in_ok-put.ensures in
-    ap (map placed_file) put ∙ map-append placed_file trees (c.args.tree ∷ []) ∙ ap (λ tree. map placed_file trees ++ tree ∷ []) same
+    let kept : Numbered = record { tree = c.args.tree; numbers = None } in
+    let put : c.put.new.items.items ≡ trees ++ kept ∷ [] = c.in_ok-put.ensures in
+    ap (map numbered_tree) put ∙ map-append numbered_tree trees (kept ∷ []) ∙ ap (λ tree. map numbered_tree trees ++ tree ∷ []) same

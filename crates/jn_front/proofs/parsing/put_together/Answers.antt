@@ -9,13 +9,13 @@ use Rattle.jn_front.proofs.Joining.{as_many, few_names, faults_are, rows_are, ar
 use Rattle.jn_front.proofs.parsing.put_together.Goals as goal
 
 pub returns-then-not-is_empty-clause-rows : goal.returns-then-not-is_empty-clause-rows
-returns-then-not-is_empty-clause-rows c some =
+returns-then-not-is_empty-clause-rows g c some =
     let files = files_of_reads c.args.reads.now in
     let are : c.refused.result.rows.items ≡ lexical_rows c.args.outcomes.items = c.refused.ensures.rows ∙ c.in_ok-faults.ensures ∙ ap lexical_rows c.as_slice.ensures.value in
     inl (subst (λ rows. FaultRows 0 files rows) (sym are) (faults_are c.texts_have_one_reading.ensures.faultless 0 files c.args.outcomes.items c.requires.found))
 
 pub returns-then-not-is_empty-2-clause-rows : goal.returns-then-not-is_empty-2-clause-rows
-returns-then-not-is_empty-2-clause-rows c some =
+returns-then-not-is_empty-2-clause-rows g c some =
     let files = files_of_reads c.args.reads.now in
     let outcomes = c.args.outcomes.items in
     let names = c.own_names_can_be_merged.ensures in
@@ -29,13 +29,13 @@ returns-then-not-is_empty-2-clause-rows c some =
     inr (of.0, of.1, of.2, subst (λ rows. SyntaxRows 0 files of.1 rows) (sym are) of.3)
 
 pub join_all-requires-clause-many : goal.join_all-requires-clause-many
-join_all-requires-clause-many c = let many = as_many 0 c.args.reads.now c.args.outcomes.items c.requires.found in omega (arith, many, c.requires.few)
+join_all-requires-clause-many g c κs within = let many = as_many 0 c.args.reads.now c.args.outcomes.items c.requires.found in omega (arith, many, c.requires.few)
 
 pub join_all-requires-clause-few : goal.join_all-requires-clause-few
-join_all-requires-clause-few c = few_names c.texts_have_few_tokens.ensures.names 0 c.args.reads.now c.args.outcomes.items c.requires.fit c.requires.found
+join_all-requires-clause-few g c κs within = few_names c.texts_have_few_tokens.ensures.names 0 c.args.reads.now c.args.outcomes.items c.requires.fit c.requires.found
 
 pub returns-clause-trees : goal.returns-clause-trees
-returns-clause-trees c empty =
+returns-clause-trees g c empty =
     let files = files_of_reads c.args.reads.now in
     let outcomes = c.args.outcomes.items in
     let names = c.own_names_can_be_merged.ensures in

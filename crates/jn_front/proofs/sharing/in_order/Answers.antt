@@ -1,11 +1,13 @@
-use Rattle.std.proofs.Common.{sym, subst}
-use Rattle.jn_front.specs.Files.{files_of_reads}
-use Rattle.jn_front.specs.Outcomes.{AreOutcomes}
-use Rattle.jn_front.proofs.Shares.{behind_each_other}
+use Rattle.jn_front.proofs.Shares.{one_more, all_done}
 use Rattle.jn_front.proofs.sharing.in_order.Goals as goal
 
+pub loop-file-preserved : goal.loop-file-preserved
+loop-file-preserved g c =
+    let loop = c.loop-file in
+    record {
+      found = c.in_ok-outcome.ensures.left;
+      outcomes = one_more c.args.reads.now loop.file loop.outcomes.items c.put.new.items.items c.in_ok-outcome.outcome loop.invariant.outcomes c.in_ok-outcome.ensures.outcome c.in_ok-put.ensures;
+    }
+
 pub returns : goal.returns
-returns c =
-    let front = rw c.in_ok-front.was at c.requires.front in
-    let back = rw c.in_ok-back.was at c.requires.back in
-    subst (λ outcomes. AreOutcomes c.args.first (files_of_reads c.args.reads.now) outcomes) (sym c.in_ok-all.ensures) (behind_each_other c.args.share c.args.first c.args.reads.now c.in_ok-front.front.items c.in_ok-back.back.items front back)
+returns g c = all_done c.args.reads.now c.loop-file.file c.loop-file.outcomes.items c.loop-file-test.false c.loop-file.invariant.outcomes

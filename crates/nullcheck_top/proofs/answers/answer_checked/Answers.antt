@@ -1,4 +1,4 @@
-use Rattle.std.proofs.Common.{[], sym, subst, ◌∙◌}
+use Rattle.std.proofs.Common.{subst}
 use Rattle.jn_command.specs.Asked.{asked}
 use Rattle.jn_command.specs.Reporters.{shown_behind}
 use Rattle.jn_run.specs.Main.{Answers as RunAnswers}

@@ -1,4 +1,4 @@
-use Rattle.std.proofs.Common.{◌≡◌, [], List, sym, subst}
+use Rattle.std.proofs.Common.{◌≡◌, [], sym, subst}
 use Rattle.std.specs.Prelude.{IfErr, IfOk}
 use Rattle.std.specs.Result.{result_ok}
 use Rattle.jn_accept.specs.Accepting.{AreRowsOf}

@@ -1,4 +1,4 @@
-use Rattle.std.proofs.Common.{[], ◌∷◌, map, length, ap, sym, ◌∙◌, ◌++◌, subst, arith}
+use Rattle.std.proofs.Common.{[], ◌∷◌, map, length, ap, ◌∙◌, subst, arith}
 use Rattle.std.specs.Prelude.{string_bytes}
 use Rattle.jn_base.specs.declared.code.Code.TheVariants.{B1}
 use Rattle.jn_front.specs.Files.{most_files}

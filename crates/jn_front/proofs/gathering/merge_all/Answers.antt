@@ -1,9 +1,9 @@
 use Rattle.jn_front.proofs.Joining.{names_step, trees_step, few_step}
 use Rattle.std.proofs.Common.{◌+◌, map, subst}
-use Rattle.jn_places.specs.PlacedView.{placed_file}
+use Rattle.jn_front.specs.Numbered.{numbered_tree}
 use Rattle.jn_front.specs.Outcomes.{AreOutcomes}
 use Rattle.jn_front.proofs.First.{first_found, begun_step}
-use Rattle.jn_front.proofs.gathering.join_all.Goals as goal
+use Rattle.jn_front.proofs.gathering.merge_all.Goals as goal
 
 pub join_next-requires-clause-found : goal.join_next-requires-clause-found
 join_next-requires-clause-found c =
@@ -25,7 +25,7 @@ loop-outcome-preserved c =
       next = tt;
       finite = tt;
       names = names_step loop.names c.join_next.new.names _ c.in-Some.outcome rest next is c.in_ok-join_next.ensures.names loop.invariant.names;
-      trees = trees_step loop.names c.join_next.new.names c.in-Some.outcome rest next (map placed_file loop.trees.items) (map placed_file c.join_next.new.trees.items) _ is c.in_ok-join_next.ensures.names c.in_ok-join_next.ensures.trees loop.invariant.trees;
+      trees = trees_step loop.names c.join_next.new.names c.in-Some.outcome rest next (map numbered_tree loop.trees.items) (map numbered_tree c.join_next.new.trees.items) _ is c.in_ok-join_next.ensures.names c.in_ok-join_next.ensures.trees loop.invariant.trees;
       few = few.0;
       found = (found.0 + 1, first.1.0, first.1.1);
       begun = begun_step loop.names c.join_next.new.names c.in-Some.outcome loop.trees.items c.join_next.new.trees.items loop.invariant.begun c.in_ok-join_next.ensures.names c.in_ok-join_next.ensures.trees;
