@@ -4,7 +4,6 @@ use Rattle.std.proofs.Crossing.{crosses}
 use Rattle.jn_trees.specs.contracts.declaration.TypeTree as TypeTree
 use Rattle.jn_trees.specs.contracts.declaration.FileTree as FileTree
 use Rattle.jn_front.specs.contracts.outcome.Outcome as Outcome
-use Rattle.jn_front.specs.contracts.outcome.Parsed as Parsed
 use Rattle.jn_front.specs.contracts.renumbering.Numbered as Numbered
 use Rattle.jn_trees.specs.contracts.names.Names as Names
 use Rattle.jn_base.proofs.place.Span.TheSendSync as Span-crosses
@@ -33,8 +32,5 @@ numbered_sends = search (sendable, crosses, file_field, NameNo-crosses.the_send)
 names_field : IsSend (Names.the_field).row
 names_field = search (sendable, crosses, Names-crosses.the_send) depth 20
 
-outcome_field : IsSend (Outcome.the_field).row
-outcome_field = search (sendable, crosses, file_field, names_field, Row-crosses.the_field_send) depth 20
-
-pub parsed_sends : IsSend Parsed.the_row
-parsed_sends = search (sendable, crosses, outcome_field) depth 20
+pub outcome_sends : IsSend Outcome.the_row
+outcome_sends = search (sendable, crosses, file_field, names_field, Row-crosses.the_field_send) depth 20

@@ -1,5 +1,5 @@
 -- What becomes of the text of each file, with names of its own, and what all files have of it: rows, or names and trees.
-use Rattle.std.specs.Prelude.{ℕ, ◌≡◌, ◌+◌, ◌≤◌, List, [], ◌∷◌, length, All, Some, slice_get}
+use Rattle.std.specs.Prelude.{ℕ, ◌≡◌, ◌+◌, ◌≤◌, List, [], ◌∷◌, length, Some, slice_get}
 use Rattle.jn_base.specs.declared.place.Row.{Row}
 use Rattle.jn_trees.specs.declared.token.Token.{Token}
 use Rattle.jn_trees.specs.Pieces.{IsSyntaxRow}
@@ -15,7 +15,6 @@ use Rattle.jn_front.specs.declared.source.SourceFile.{SourceFile}
 use Rattle.jn_front.specs.declared.source.SourceRead.{SourceRead}
 use Rattle.jn_front.specs.declared.outcome.Outcome.{Outcome}
 use Rattle.jn_front.specs.declared.outcome.Outcome.TheVariants.{Lexical, Syntax, Tree}
-use Rattle.jn_front.specs.declared.outcome.Parsed.{Parsed}
 use Rattle.jn_front.specs.Phases.{file_no}
 
 -- the text of the k-th file has this outcome
@@ -34,10 +33,6 @@ AreOutcomes k (file ∷ files) (outcome ∷ outcomes) = IsOutcome k file outcome
 -- the text of the k-th of the files that were read has this outcome
 abbrev pub IsOutcomeOf : List SourceRead → ℕ → Outcome → Type 0
 IsOutcomeOf reads k outcome = (read : SourceRead) × (slice_get reads k ≡ Some read) × IsOutcome k read.file outcome
-
--- these were found, in any order
-abbrev pub AreFound : List SourceRead → List Parsed → Type 0
-AreFound reads found = All (λ (p : Parsed). IsOutcomeOf reads p.file p.outcome) found
 
 -- the lexical faults
 abbrev pub lexical_rows : List Outcome → List Row

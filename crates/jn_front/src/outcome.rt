@@ -12,11 +12,3 @@ pub enum Outcome {
     /// Its names in the order of their numbers, and its tree with their numbers.
     Tree { names: Names, tree: FileTree },
 }
-
-/// What became of the text of one of several files.
-#[derive(Drop)]
-pub struct Parsed {
-    /// The file's number.
-    pub file: u32,
-    pub outcome: Outcome,
-}

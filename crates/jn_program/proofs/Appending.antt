@@ -1,37 +1,23 @@
--- Bodies and rows of sources, one range behind the other.
-use Rattle.std.proofs.Common.{◌≡◌, ◌∙◌, ℕ, zero, suc, List, [], ◌∷◌, ◌++◌, take, drop, refl, ap, sym, append_assoc}
+-- Bodies and rows of sources, one behind the other.
+use Rattle.std.proofs.Common.{◌≡◌, ℕ, suc, ◌<◌, Some, List, [], ◌∷◌, ◌++◌, length, get_or, map, flat_map, refl, sym, subst, arith}
 use Rattle.jn_points.specs.declared.program.Program.{Program}
-use Rattle.jn_lowering.specs.Bodies as spec
-use Rattle.jn_lowering.specs.Bodies.{bodies_of, body_of_source}
-use Rattle.jn_lowering.specs.BodyRows.{rows_of_bodies, rows_of_body}
+use Rattle.jn_lowering.specs.Bodies.{bodies_of}
+use Rattle.jn_lowering.specs.BodyRows.{rows_of_bodies}
 use Rattle.jn_lower_stmt.specs.declared.body.Source.{Source}
 use Rattle.jn_lower_stmt.specs.Sources.{source_of, sources_of}
-use Rattle.jn_program.specs.declared.bodies.LoweredFiles.{LoweredFiles}
-use Rattle.jn_program.specs.Ranges.{IsLowered}
+use Rattle.jn_program.specs.declared.bodies.LoweredBody.{LoweredBody}
+use Rattle.jn_program.specs.Ranges.{IsLoweredAt, IsLoweredBody, body_of, rows_in}
 
-bodies_append : (P : Program) (ss ts : List spec.Source) → bodies_of P (ss ++ ts) ≡ bodies_of P ss ++ bodies_of P ts
-bodies_append P [] ts = refl
-bodies_append P (s ∷ ss) ts = ap (λ bs. body_of_source P s ∷ bs) (bodies_append P ss ts)
+same_source : (one other : Source) → Some one ≡ Some other → one ≡ other
+same_source one other e = cc
 
-rows_append : (P : Program) (ss ts : List spec.Source) → rows_of_bodies P (ss ++ ts) ≡ rows_of_bodies P ss ++ rows_of_bodies P ts
-rows_append P [] ts = refl
-rows_append P (s ∷ ss) ts =
-    ap (λ rs. rows_of_body P s ++ rs) (rows_append P ss ts)
-    ∙ sym (append_assoc (rows_of_body P s) (rows_of_bodies P ss) (rows_of_bodies P ts))
-
-sources_split : (n : ℕ) (ss : List Source) → sources_of (take n ss) ++ sources_of (drop n ss) ≡ sources_of ss
-sources_split zero ss = refl
-sources_split (suc n) [] = refl
-sources_split (suc n) (s ∷ ss) = ap (λ us. source_of s ∷ us) (sources_split n ss)
-
--- two ranges
-pub behind_each_other : (n : ℕ) (P : Program) (ss : List Source) (front back all : LoweredFiles) → IsLowered P (sources_of (take n ss)) front → IsLowered P (sources_of (drop n ss)) back → all.bodies ≡ front.bodies ++ back.bodies → all.rows ≡ front.rows ++ back.rows → IsLowered P (sources_of ss) all
-behind_each_other n P ss front back all first others bodies rows =
-    let us = sources_of (take n ss) in
-    let vs = sources_of (drop n ss) in
-    record {
-      bodies = bodies ∙ ap (λ bs. bs ++ back.bodies) first.bodies ∙ ap (λ bs. bodies_of P us ++ bs) others.bodies
-          ∙ sym (bodies_append P us vs) ∙ ap (bodies_of P) (sources_split n ss);
-      rows = rows ∙ ap (λ rs. rs ++ back.rows) first.rows ∙ ap (λ rs. rows_of_bodies P us ++ rs) others.rows
-          ∙ sym (rows_append P us vs) ∙ ap (rows_of_bodies P) (sources_split n ss);
-    }
+-- sources that are lowered one by one are all lowered
+pub all_lowered : (P : Program) (sources : List Source) (lowered : List LoweredBody) → length lowered ≡ length sources → ((n : ℕ) (d : LoweredBody) → n < length sources → IsLoweredAt P sources n (get_or lowered n d)) → (map body_of lowered ≡ bodies_of P (sources_of sources)) × (flat_map rows_in lowered ≡ rows_of_bodies P (sources_of sources))
+all_lowered P [] [] many each = (refl, refl)
+all_lowered P [] (one ∷ lowered) many each = absurd (omega (arith, many))
+all_lowered P (source ∷ sources) [] many each = absurd (omega (arith, many))
+all_lowered P (source ∷ sources) (one ∷ lowered) many each =
+    let first = each 0 one (omega arith) in
+    let is : IsLoweredBody P (source_of source) one = subst (λ (s : Source). IsLoweredBody P (source_of s) one) (sym (same_source source first.0 first.1)) first.2 in
+    let rest = all_lowered P sources lowered (omega (arith, many)) (λ n d lt. each (suc n) d (omega (arith, lt))) in
+    (λ i. is.body i ∷ rest.0 i, λ i. is.rows i ++ rest.1 i)

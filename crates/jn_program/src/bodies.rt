@@ -1,9 +1,9 @@
-//! Bodies one behind the other, and their rows J1 to J6.
-ghost use Rattle.std.specs.Prelude.{◌≡◌, ◌++◌, ◌∷◌, [], IfOk, OnOk};
-ghost use Rattle.jn_lowering.specs.Bodies.{bodies_of, body_of_source};
-ghost use Rattle.jn_lowering.specs.BodyRows.{rows_of_bodies, rows_of_body};
-ghost use Rattle.jn_lower_stmt.specs.Sources.{source_of, sources_of};
-ghost use Rattle.jn_program.specs.Ranges.{IsLowered};
+//! Bodies, and their rows J1 to J6.
+ghost use Rattle.std.specs.Prelude.{◌≡◌, flat_map, map, IfOk};
+ghost use Rattle.jn_lowering.specs.Bodies.{body_of_source};
+ghost use Rattle.jn_lowering.specs.BodyRows.{rows_of_body};
+ghost use Rattle.jn_lower_stmt.specs.Sources.{source_of};
+ghost use Rattle.jn_program.specs.Ranges.{IsLoweredBody, body_of, rows_in};
 ghost use Rattle.jn_scopes.specs.Views.{Few};
 
 use crate::rows::{is_empty, push_all};
@@ -15,6 +15,13 @@ use jn_lower_stmt::body::Source;
 use jn_lower_stmt::lower::lower_body;
 use jn_points::Body;
 use std::alloc::Global;
+
+/// A body, and its rows J1 to J6.
+#[derive(Drop)]
+pub struct LoweredBody {
+    pub body: Body,
+    pub rows: Seq<Row>,
+}
 
 /// Bodies, and rows J1 to J6.
 #[derive(Drop)]
@@ -50,58 +57,31 @@ fn rows_of(
     Ok(rows)
 }
 
-/// Adds a body, and its rows.
-fn add(
+/// What a source is lowered to, and its rows.
+pub fn lower_one(
     alloc: Global,
     program: &IndexedProgram,
     source: &Source,
-    lowered: &mut LoweredFiles,
-) -> Result<(), OutOfMemory>
+) -> Result<LoweredBody, OutOfMemory>
     requires few { Few program.now }
-    ensures bodies { OnOk result (lowered.new.bodies
-        ≡ lowered.old.bodies ++ body_of_source program.now (source_of source.now) ∷ []) }
-    ensures rows { OnOk result
-        (lowered.new.rows ≡ lowered.old.rows ++ rows_of_body program.now (source_of source.now)) }
+    ensures { IfOk result (λ lowered. IsLoweredBody program.now (source_of source.now) lowered) }
 {
     let body = lower_body(alloc, program, source)?;
     let rows = rows_of(alloc, program, source, &body)?;
-    push_all(&mut lowered.rows, rows.as_slice())?;
-    lowered.bodies.push(body)?;
-    Ok(())
+    Ok(LoweredBody { body, rows })
 }
 
-/// Adds all bodies, and their rows.
-fn add_all(
-    alloc: Global,
-    program: &IndexedProgram,
-    sources: &[Source],
-    lowered: &mut LoweredFiles,
-) -> Result<(), OutOfMemory>
-    requires few { Few program.now }
-    ensures bodies { OnOk result (lowered.new.bodies
-        ≡ lowered.old.bodies ++ bodies_of program.now (sources_of sources.now)) }
-    ensures rows { OnOk result (lowered.new.rows
-        ≡ lowered.old.rows ++ rows_of_bodies program.now (sources_of sources.now)) }
+/// The bodies in their order, and their rows.
+pub fn put_together(alloc: Global, lowered: Vec<LoweredBody>) -> Result<LoweredFiles, OutOfMemory>
+    ensures bodies { IfOk result (λ all. all.bodies ≡ map body_of lowered.items) }
+    ensures rows { IfOk result (λ all. all.rows ≡ flat_map rows_in lowered.items) }
 {
-    for source in sources {
-        add(alloc, program, source, lowered)?;
+    let mut bodies = Seq::new(alloc);
+    let mut rows = Seq::new(alloc);
+    for one in lowered {
+        push_all(&mut rows, one.rows.as_slice())?;
+        let LoweredBody { body, .. } = one;
+        bodies.push(body)?;
     }
-    Ok(())
-}
-
-/// The bodies of sources in their order, and their rows.
-pub fn lower_each(
-    alloc: Global,
-    program: &IndexedProgram,
-    sources: &[Source],
-) -> Result<LoweredFiles, OutOfMemory>
-    requires few { Few program.now }
-    ensures { IfOk result (λ lowered. IsLowered program.now (sources_of sources.now) lowered) }
-{
-    let mut lowered = LoweredFiles {
-        bodies: Seq::new(alloc),
-        rows: Seq::new(alloc),
-    };
-    add_all(alloc, program, sources, &mut lowered)?;
-    Ok(lowered)
+    Ok(LoweredFiles { bodies, rows })
 }

@@ -1,8 +1,6 @@
 -- Rows of bodies, laid out and put together.
-use Rattle.std.proofs.Common.{◌≡◌, ◌≢◌, ℕ, zero, suc, ◌+◌, ◌<◌, List, [], ◌∷◌, ◌++◌, length, set, flat_map, Option, Some, None, refl, sym, ap, ◌∙◌, subst, arith, append_assoc, append-nil}
-use Rattle.std.specs.Prelude.{slice_get, slice_index_or}
-use mathlib.Core.Logic.{dite}
-use native.Mathlib.Decide.{ℕ_discrete}
+use Rattle.std.proofs.Common.{◌≡◌, ℕ, zero, suc, ◌+◌, ◌<◌, List, [], ◌∷◌, ◌++◌, length, flat_map, refl, sym, ap, ◌∙◌, arith, append_assoc, append-nil}
+use Rattle.std.specs.Prelude.{slice_index_or}
 use Rattle.jn_base.specs.declared.place.Row.{Row}
 use Rattle.jn_quals.specs.Qualifier.{Qualifier}
 use Rattle.jn_points.specs.declared.program.Program.{Program}
@@ -63,35 +61,3 @@ module _ (P : Program) (s : List Qualifier) (can : IsInferable P) where
     };
     ordered = o;
   }
-
--- rows that are laid out by their bodies
-get_same : {X : Type 0} (xs : List X) (i : ℕ) (x y : X) → slice_get (set xs i x) i ≡ Some y → x ≡ y
-get_same [] i x y e = absurd cc
-get_same (z ∷ xs) zero x y e = cc
-get_same (z ∷ xs) (suc i) x y e = get_same xs i x y e
-
-get_else : {X : Type 0} (xs : List X) (i b : ℕ) (x y : X) → b ≢ i → slice_get (set xs i x) b ≡ Some y → slice_get xs b ≡ Some y
-get_else [] i b x y ne e = e
-get_else (z ∷ xs) zero zero x y ne e = absurd (ne refl)
-get_else (z ∷ xs) zero (suc b) x y ne e = e
-get_else (z ∷ xs) (suc i) zero x y ne e = e
-get_else (z ∷ xs) (suc i) (suc b) x y ne e = get_else xs i b x y (λ s. ne (ap suc s)) e
-
-module _ {X : Type 0} (F : ℕ → X → Type 0) (xs : List (Option X)) (old : (b : ℕ) (r : X) → slice_get xs b ≡ Some (Some r) → F b r) where
-  pub laid_some : (i : ℕ) (x : X) → F i x → (b : ℕ) (r : X) → slice_get (set xs i (Some x)) b ≡ Some (Some r) → F b r
-  laid_some i x p b r e = dite (ℕ_discrete b i)
-      (λ s.
-      let q : Some x ≡ Some r = get_same xs i (Some x) (Some r) (subst (λ y. slice_get (set xs i (Some x)) y ≡ Some (Some r)) s e) in
-      subst (λ y. F y r) (sym s) (subst (F i) (one x r q) p))
-      (λ ne. old b r (get_else xs i b (Some x) (Some r) ne e))
-    where
-      one : (x r : X) → Some x ≡ Some r → x ≡ r
-      one x r e = cc
-
-  pub laid_none : (i : ℕ) (b : ℕ) (r : X) → slice_get (set xs i None) b ≡ Some (Some r) → F b r
-  laid_none i b r e = dite (ℕ_discrete b i)
-      (λ s. absurd (gone r (get_same xs i None (Some r) (subst (λ y. slice_get (set xs i None) y ≡ Some (Some r)) s e))))
-      (λ ne. old b r (get_else xs i b None (Some r) ne e))
-    where
-      gone : (r : X) → None ≡ Some r → ⊥
-      gone r e = cc

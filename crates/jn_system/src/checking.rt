@@ -1,76 +1,49 @@
 //! The rows of all bodies and overriding pairs, by any number of workers.
-ghost use Rattle.std.specs.Prelude.{◌≡◌, ℕ, ◌++◌, ◌<◌, ◌≤◌, length, flat_map, slice_get, IfOk, OnOk, Some, Vec};
+ghost use Rattle.std.specs.Prelude.{◌≡◌, ℕ, ◌++◌, ◌<◌, ◌≤◌, length, flat_map, slice_index_or, IfOk, OnOk, Vec};
 ghost use Rattle.std.proofs.Common.{Global};
-ghost use Rattle.jn_base.specs.declared.place.Row.{Row};
+ghost use Rattle.jn_base.specs.declared.place.Row.{Row as RowOf};
 ghost use Rattle.jn_points.specs.Members.{below};
 ghost use Rattle.jn_transfer.specs.Rules.{pairs_rows};
 ghost use Rattle.jn_inference_law.specs.Inference.{IsInferable};
 ghost use Rattle.jn_system.specs.Ready.{AreReady};
-ghost use Rattle.jn_system.specs.Rows.{least_rows, AreFound, AreBroken};
+ghost use Rattle.jn_system.specs.Rows.{least_rows, AreBroken};
 
-use crate::found::{Bodies, Found};
-use crate::stealing::{rows_of, steal_by};
-use crossbeam_deque::Worker;
-use jn_base::{OutOfMemory, Row};
-use jn_checks::override_rows;
+use crate::bodies::Bodies;
+use jn_base::{BodyNo, OutOfMemory, Row};
+use jn_checks::{checks_by, override_rows};
 use jn_diag::order;
-use jn_env::OwnFields;
+use jn_env::{OwnFields, find_keys_by};
+use jn_flow::flow_by;
 use jn_index::indexed::IndexedProgram;
 use jn_points::Program;
+use jn_sharing::share_out;
 use jn_sigs::Sig;
+use jn_transfer::Analysis;
 use jn_workers::Gate;
 use std::alloc::{AllocError, Global};
 use std::thread::Threads;
 
-/// The rows that were found, by body. A second result for a body takes the place of the first.
-fn laid_out(
+/// One body's rows under its least table. The worker enters the gate with the body's number first.
+#[tactic(auto, using(crate::proofs::Gathering::table_long, crate::proofs::Gathering::rows_are))]
+fn rows_of<G: Gate>(
     alloc: Global,
     bodies: &Bodies,
-    mut found: Vec<Found>,
-) -> Result<Vec<Option<Vec<Row>>>, OutOfMemory>
-    requires { AreFound bodies.now.program.now bodies.now.sig.now found.items }
-    ensures count { IfOk result (λ laid. length laid.items ≡ length bodies.now.program.now.bodies) }
-    ensures rows { IfOk result (λ laid. (b : ℕ) (rows : Vec Row Global)
-        → slice_get laid.items b ≡ Some (Some rows)
-        → rows.items ≡ least_rows bodies.now.program.now bodies.now.sig.now b) }
-{
-    let mut laid: Vec<Option<Vec<Row>>> = Vec::new(alloc);
-    for _ in 0..bodies.program.bodies.len() {
-        if laid.push(None).is_err() {
-            return Err(OutOfMemory);
-        }
-    }
-    while let Some(one) = found.pop() {
-        let Found { body, rows } = one;
-        if (body as usize) < laid.len() {
-            laid[body as usize] = Some(rows);
-        }
-    }
-    Ok(laid)
-}
-
-/// One body's rows: those that were found, or else made now.
-fn rows_at<G: Gate>(
-    alloc: Global,
-    bodies: &Bodies,
-    slot: Option<Vec<Row>>,
     body: u32,
+    worker: u32,
     gate: &G,
 ) -> Result<Vec<Row>, OutOfMemory>
     requires ready { AreReady bodies.now.program.now bodies.now.own.now }
     requires inside { body < length bodies.now.program.now.bodies }
-    requires slot { (rows : Vec Row Global) → slot ≡ Some rows
-        → rows.items ≡ least_rows bodies.now.program.now bodies.now.sig.now body }
     ensures { IfOk result
         (λ rows. rows.items ≡ least_rows bodies.now.program.now bodies.now.sig.now body) }
 {
-    match slot {
-        Some(rows) => Ok(rows),
-        None => {
-            let found = rows_of(alloc, bodies, body, 0, gate)?;
-            Ok(found.rows)
-        }
-    }
+    let Bodies { program, sig, own } = *bodies;
+    gate.enter(worker, BodyNo(body));
+    let keys = find_keys_by(alloc, program, own, BodyNo(body))?;
+    let analysis = Analysis::new(program, sig, BodyNo(body), &keys);
+    let table = flow_by(alloc, &analysis)?;
+    let rows = checks_by(alloc, &analysis, &table)?;
+    Ok(rows)
 }
 
 fn append(all: &mut Vec<Row>, rows: &[Row]) -> Result<(), AllocError>
@@ -80,30 +53,24 @@ fn append(all: &mut Vec<Row>, rows: &[Row]) -> Result<(), AllocError>
     Ok(())
 }
 
-/// The rows of all bodies, in their order.
-fn in_order<G: Gate>(
-    alloc: Global,
-    bodies: &Bodies,
-    found: Vec<Found>,
-    gate: &G,
-) -> Result<Vec<Row>, OutOfMemory>
-    requires ready { AreReady bodies.now.program.now bodies.now.own.now }
-    requires found { AreFound bodies.now.program.now bodies.now.sig.now found.items }
+/// The rows of all bodies in their order, of which each has these.
+fn in_order(alloc: Global, bodies: &Bodies, found: &[Vec<Row>]) -> Result<Vec<Row>, OutOfMemory>
+    requires { (b : ℕ) (d : Vec RowOf Global) → b < length found.now
+        → (slice_index_or found.now b d).items
+        ≡ least_rows bodies.now.program.now bodies.now.sig.now b }
     ensures { IfOk result (λ all. all.items
         ≡ flat_map (least_rows bodies.now.program.now bodies.now.sig.now)
-        (below (length bodies.now.program.now.bodies))) }
+        (below (length found.now))) }
 {
-    let mut laid = laid_out(alloc, bodies, found)?;
+    let _bodies = bodies;
     let mut all = Vec::new(alloc);
-    for body in 0..bodies.program.bodies.len() {
-        let slot = laid[body].take();
-        let rows = rows_at(alloc, bodies, slot, body as u32, gate)?;
-        append(&mut all, rows.as_slice())?;
+    for body in 0..found.len() {
+        append(&mut all, found[body].as_slice())?;
     }
     Ok(all)
 }
 
-/// The rows of all bodies: their numbers are shared out by one deque, from which each worker steals.
+/// The rows of all bodies: workers take one after the other.
 fn bodies_rows<R: Threads + Sync, G: Gate + Sync>(
     rt: &R,
     alloc: Global,
@@ -117,21 +84,16 @@ fn bodies_rows<R: Threads + Sync, G: Gate + Sync>(
         ≡ flat_map (least_rows bodies.now.program.now bodies.now.sig.now)
         (below (length bodies.now.program.now.bodies))) }
 {
-    let count = bodies.program.bodies.len() as u32;
-    let Ok(mut deque) = Worker::new_fifo(alloc, count as usize) else {
-        return Err(OutOfMemory);
-    };
-    for body in 0..count {
-        if deque.push(body).is_err() {
-            return Err(OutOfMemory);
-        }
-    }
-    let Ok(stealer) = deque.stealer() else {
-        return Err(OutOfMemory);
-    };
-    let limit = 2 * count as u64 + 64;
-    let found = steal_by(rt, alloc, bodies, &stealer, workers - 1, limit, gate)?;
-    in_order(alloc, bodies, found, gate)
+    let count = bodies.program.bodies.len();
+    let rows = |body: usize, worker: u32| -> Result<Vec<Row>, OutOfMemory>
+        requires { AreReady bodies.now.program.now bodies.now.own.now
+            × (body < length bodies.now.program.now.bodies) }
+        ensures { IfOk result (λ rows. rows.items
+            ≡ least_rows bodies.entry.now.program.now bodies.entry.now.sig.now body) }
+    { rows_of(alloc, bodies, body as u32, worker, gate) };
+    let found = share_out(rt, alloc, count, workers - 1, &rows)?;
+    let all = in_order(alloc, bodies, &found)?;
+    Ok(all)
 }
 
 /// Exactly the rows of the broken rules, where these are the rows of overriding pairs.

@@ -1,8 +1,8 @@
 //! Inference as a system that workers solve, and checks of all bodies by workers.
 #![tactic(auto)]
 
+pub mod bodies;
 pub mod checking;
-pub mod found;
 pub mod inferable;
 pub mod listing;
 pub mod nullness;
@@ -10,7 +10,6 @@ pub mod packing;
 pub mod reading;
 pub mod signature;
 pub mod solving;
-pub mod stealing;
 
 pub use checking::check_all;
 pub use inferable::is_inferable;
