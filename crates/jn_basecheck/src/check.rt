@@ -33,7 +33,7 @@ fn judged(program: IndexedProgram, rows: Vec<Row>) -> Result<BaseTyped, Fail<Vec
 /// (J9).
 ///
 /// The bodies are shared among as many workers as are asked for, at most one for a body, each of
-/// which takes a range of them. It goes by `join`, and so may wait for its workers.
+/// which takes one after the other. It goes by `join`, and so may wait for its workers.
 ///
 /// # Errors
 /// `Refused` with all of the program's rows J7 to J10, each at its place once or more, in no order;

@@ -1,5 +1,5 @@
 //! Bodies shared among workers.
-ghost use Rattle.std.specs.Prelude.{◌↔◌, ◌≤◌, ◌<◌, ◌+◌, ℕ, length, slice_index_or, Contains, IfOk, Vec as ListOf};
+ghost use Rattle.std.specs.Prelude.{◌↔◌, ◌<◌, ◌+◌, ℕ, length, slice_index_or, Contains, IfOk, Vec as ListOf};
 ghost use Rattle.std.proofs.Common.{Global};
 ghost use Rattle.jn_base.specs.declared.place.Row.{Row as RowOf};
 ghost use Rattle.jn_points.specs.BaseRows.{IsBaseRow};
@@ -13,26 +13,19 @@ use jn_sharing::share_out;
 use std::alloc::Global;
 use std::thread::Threads;
 
-/// The rows of the bodies of a range, one after another.
+/// The rows of a body.
 #[tactic(auto, using(crate::proofs::Few::few_points, crate::proofs::Few::some_points))]
-fn rows_between(
-    alloc: Global,
-    program: &IndexedProgram,
-    from: usize,
-    to: usize,
-) -> Result<Vec<Row>, OutOfMemory>
+fn rows_of(alloc: Global, program: &IndexedProgram, body: usize) -> Result<Vec<Row>, OutOfMemory>
     requires regular { Regular program.now }
-    requires range { (from ≤ to) × (to ≤ length program.now.bodies) }
-    ensures { IfOk result (λ rows. AreRowsOf program.now from to rows.items) }
+    requires inside { body < length program.now.bodies }
+    ensures { IfOk result (λ rows. AreRowsOf program.now body (body + 1) rows.items) }
 {
     let mut rows = Vec::new(alloc);
-    for body in from..to {
-        push_body(alloc, &mut rows, program, body)?;
-    }
+    push_body(alloc, &mut rows, program, body)?;
     Ok(rows)
 }
 
-/// The rows of bodies, where each has these.
+/// The rows of all bodies, of which each has these.
 fn put_together(
     alloc: Global,
     program: &IndexedProgram,
@@ -63,11 +56,11 @@ pub fn all_rows<R: Threads + Sync>(
 {
     let bodies = program.program().bodies.len();
     let more = bodies.min(workers as usize).saturating_sub(1) as u32;
-    let rows_of = |body: usize, _worker: u32| -> Result<Vec<Row>, OutOfMemory>
+    let check = |body: usize, _worker: u32| -> Result<Vec<Row>, OutOfMemory>
         requires { Regular program.now × (body < length program.now.bodies) }
         ensures { IfOk result (λ rows. AreRowsOf program.entry.now body (body + 1) rows.items) }
-    { rows_between(alloc, program, body, body + 1) };
-    let found = share_out(rt, alloc, bodies, more, &rows_of)?;
+    { rows_of(alloc, program, body) };
+    let found = share_out(rt, alloc, bodies, more, &check)?;
     let rows = put_together(alloc, program, &found)?;
     Ok(rows)
 }

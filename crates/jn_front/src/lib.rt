@@ -3,8 +3,9 @@
 //! [`read_all`] reads the files, [`limit_rows`] gives the rows of the limits, and [`parse_files`] the names and the trees with
 //! their places, or the lexical faults, or the syntax rows: workers share the files, and take part in each other's where there
 //! are more of them than files; each file is lexed and parsed with names of its own (`specs/Outcomes.antt`), which are then merged
-//! into one list, by whose numbers workers number the trees' names anew. `specs/Phases.antt` says what all this is of files: `FrontRows` the rows of the first phase that has any,
-//! `AreParsed` names, tokens and trees where none has; and [`law`], that files have one of the two, in one way.
+//! into one list, and the trees are given the numbers of that list. `specs/Phases.antt` says what all this is of files:
+//! `FrontRows` the rows of the first phase that has any, `AreParsed` names, tokens and trees where none has; and [`law`], that
+//! files have one of the two, in one way.
 #![tactic(auto)]
 
 mod alone;

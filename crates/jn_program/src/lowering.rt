@@ -51,8 +51,8 @@ fn lower_files<R: Threads + Sync>(
 /// The program of files with this class table: its classes, fields, methods and slots, and the points of each body (JLS 7 to 15). Its
 /// index is the class table's.
 ///
-/// The bodies are shared among as many workers as are asked for, at most one for a body, each of which takes a range of them.
-/// It goes by `join`, and so may wait for its workers.
+/// The bodies are shared among as many workers as are asked for, at most one for a body, each of which takes one after the other. It
+/// goes by `join`, and so may wait for its workers.
 ///
 /// `Ok` exactly where no row J1 to J6 stands, and the program is the one that the files define, and is regular. `Refused` has
 /// exactly the rows, and there is one. `OutOfMemory` comes where no memory was found, and where a body has more than 2^32 - 2
