@@ -2,10 +2,11 @@
 ghost use Rattle.std.specs.Prelude.{◌≡◌, ◌++◌, ◌&&◌, OnOk};
 ghost use Rattle.jn_points.specs.Lookup.{method_at, method_in, slots_of};
 ghost use Rattle.jn_sigs.specs.Signature.{slot_quals, result_of, receiver_of};
-ghost use Rattle.jn_transfer.specs.Rules.{row_if, lacks_null, lacks_init, pass_rows, arg_rows, bound_rows, return_rows, receiver_rows, equals_rows, elem_rows, elems_rows, new_array_rows, deref_rows, write_rows};
+ghost use Rattle.jn_transfer.specs.Rules.{row_if, lacks_null, lacks_init, pass_rows, arg_rows, bound_rows, return_rows, receiver_rows, equals_rows, elem_rows, elems_rows, new_array_rows, deref_rows, writes_null, write_rows};
 
 use jn_base::{BodyNo, Code, FieldNo, MethodNo, Row, SlotNo, Span, least};
 use jn_env::Env;
+use jn_points::lookup::is_monotonic;
 use jn_points::{BaseType, Elem, Operand, Program, StrOperation};
 use jn_quals::Qual;
 use jn_sigs::Sig;
@@ -83,6 +84,14 @@ pub fn push_bound(
     }
 }
 
+/// Whether null is written where the slot has none, or to a monotonic field.
+fn writes_null(program: &Program, sig: &Sig, value: Qual, field: FieldNo) -> bool
+    ensures { result ≡ writes_null program.now sig.now value field.0 }
+{
+    let is_wrong = !field_qual(program, sig, field.0).has_null() || is_monotonic(program, field.0);
+    value.has_null() && is_wrong
+}
+
 /// A field is given a value.
 pub fn push_write(
     rows: &mut Vec<Row>,
@@ -97,8 +106,12 @@ pub fn push_write(
         ≡ rows.old.items ++ write_rows program.now sig.now env.now object field.0 value) }
 {
     let qual = env.qual(value.reg);
-    let slot = field_qual(program, sig, field.0);
-    push_if(rows, lacks_null(qual, slot), value.span, Code::Field)?;
+    push_if(
+        rows,
+        writes_null(program, sig, qual, field),
+        value.span,
+        Code::Field,
+    )?;
     push_if(
         rows,
         is_early(qual, env.qual(object.reg)),

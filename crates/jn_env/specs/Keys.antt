@@ -7,7 +7,7 @@ use Rattle.jn_points.specs.declared.point.PointKind.{PointKind}
 use Rattle.jn_points.specs.declared.point.PointKind.TheVariants.{FieldRead, FieldWrite, TestInst, TestNull}
 use Rattle.jn_points.specs.declared.program.Method.{Method}
 use Rattle.jn_points.specs.declared.program.Program.{Program}
-use Rattle.jn_points.specs.Lookup.{points_of, class_of, ctor_of, body_at, locals, owner, ref_field, method_in}
+use Rattle.jn_points.specs.Lookup.{points_of, class_of, ctor_of, body_at, locals, monotonic, owner, ref_field, method_in}
 use Rattle.jn_points.specs.Members.{below}
 
 -- a field of the object in a register
@@ -48,6 +48,10 @@ module _ (P : Program) where
   -- reference fields read, tested or written through a parameter or local by a point of the body
   abbrev pub fact_keys : ℕ → List Key
   fact_keys b = distinct (filter (λ k. ltb k.reg (locals P b) && ref_field P k.field) (flat_map (λ pt. kind_keys pt.kind) (points_of (body_at P b))))
+
+  -- a fact that survives calls: one on a monotonic field
+  abbrev pub is_kept : Key → Bool
+  is_kept k = monotonic P k.field
 
   -- a constructor's method, and a reference field of its class
   abbrev pub is_own : Option Method → ℕ → Bool

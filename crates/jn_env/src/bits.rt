@@ -8,28 +8,33 @@ use crate::env::Env;
 use crate::keys::FieldKey;
 use crate::packed::BitList;
 use jn_base::{FieldNo, RegNo};
+use jn_points::Program;
+use jn_points::lookup::is_monotonic;
 
 /// Some keys of a body.
 #[derive(Clone, Copy)]
-pub enum Which {
+pub enum Which<'a> {
     /// Those of a register.
     OfReg(RegNo),
     /// Those of a field.
     OfField(FieldNo),
     /// The one of the register and the field.
     Exactly(RegNo, FieldNo),
+    /// Those of fields that aren't monotonic.
+    Fleeting(&'a Program),
     /// All.
     Each,
 }
 
 /// Whether the key is among them.
 fn picks(which: Which, key: FieldKey) -> bool
-    ensures { result ≡ picks which key }
+    ensures { result ≡ picks which.entry key }
 {
     match which {
         Which::OfReg(reg) => key.reg() == reg.0,
         Which::OfField(field) => key.field() == field.0,
         Which::Exactly(reg, field) => key.is(reg, field),
+        Which::Fleeting(program) => !is_monotonic(program, key.field()),
         Which::Each => true,
     }
 }
@@ -39,7 +44,7 @@ pub fn write_keys(keys: &[FieldKey], bits: &mut BitList, first: usize, which: Wh
     requires inside { first + length keys.now ≤ length bits.old }
     requires few { first + length keys.now < 2 ^ 64 }
     ensures { bits.new
-        ≡ take first bits.old ++ written (picks which) wanted keys.now (drop first bits.old) }
+        ≡ take first bits.old ++ written (picks which.entry) wanted keys.now (drop first bits.old) }
 {
     for i in 0..keys.len() {
         write_if(bits, first + i, picks(which, keys[i]), wanted);

@@ -44,8 +44,8 @@ impl Model for Env {
 }
 
 impl Env {
-    ghost use Rattle.jn_env.specs.Code.{picks, is_fact_on, is_field};
-    ghost use Rattle.jn_env.specs.Keys.{mask, also, is_on, is_key, has_reg, no_bits};
+    ghost use Rattle.jn_env.specs.Code.{picks, is_field};
+    ghost use Rattle.jn_env.specs.Keys.{mask, also, is_on, is_key, has_reg, has_key_field, is_kept, no_bits};
     ghost use Rattle.jn_env.specs.Flat.{marked};
     ghost use Rattle.jn_env.specs.Order.{qual_at, EnvWithin, join_env};
     ghost use Rattle.jn_env.specs.Size.{SameSize};
@@ -223,7 +223,7 @@ impl Env {
     /// Lets the facts of these keys be known, or forgets them.
     fn write_facts(&mut self, keys: &[FieldKey], which: Which, known: bool)
         requires { length keys.now ≡ length self.old.facts }
-        ensures facts { self.new.facts ≡ marked known (picks which) keys.now self.old.facts }
+        ensures facts { self.new.facts ≡ marked known (picks which.entry) keys.now self.old.facts }
         ensures quals { self.new.quals ≡ self.old.quals }
         ensures assigned { self.new.assigned ≡ self.old.assigned }
     {
@@ -231,19 +231,25 @@ impl Env {
         write_keys(keys, &mut self.may, first, which, !known);
     }
 
-    /// Forgets what is known of the field, in objects of all registers; with None all facts.
-    pub fn drop_facts(&mut self, keys: &Keys, field: Option<FieldNo>)
+    /// Forgets what is known of the field, in objects of all registers.
+    pub fn drop_facts(&mut self, keys: &Keys, field: FieldNo)
         requires { length keys.now.facts ≡ length self.old.facts }
         ensures facts { self.new.facts
-            ≡ mask (λ k. not (is_fact_on field k)) keys.now.facts self.old.facts }
+            ≡ mask (λ k. not (has_key_field field.0 k)) keys.now.facts self.old.facts }
         ensures quals { self.new.quals ≡ self.old.quals }
         ensures assigned { self.new.assigned ≡ self.old.assigned }
     {
-        let facts = keys.facts.as_slice();
-        match field {
-            None => self.write_facts(facts, Which::Each, false),
-            Some(field) => self.write_facts(facts, Which::OfField(field), false),
-        }
+        self.write_facts(keys.facts.as_slice(), Which::OfField(field), false);
+    }
+
+    /// Forgets what calls can change: facts on fields that aren't monotonic.
+    pub fn keep_facts(&mut self, keys: &Keys, program: &Program)
+        requires { length keys.now.facts ≡ length self.old.facts }
+        ensures facts { self.new.facts ≡ mask (is_kept program.now) keys.now.facts self.old.facts }
+        ensures quals { self.new.quals ≡ self.old.quals }
+        ensures assigned { self.new.assigned ≡ self.old.assigned }
+    {
+        self.write_facts(keys.facts.as_slice(), Which::Fleeting(program), false);
     }
 
     /// Whether the own field at a place is assigned; not where there is none.

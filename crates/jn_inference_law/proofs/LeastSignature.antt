@@ -58,7 +58,7 @@ sent_within [] words x h m = absurd m
 sent_within (y ∷ xs) words x h (inl e) = subst (λ (z : ℕ × Qualifier). IsTrue (within z.1 (at_slot words z.0))) (sym e) (within_packed (y.0 % 21) (slice_index words (y.0 / 21)) y.1 h.0)
 sent_within (y ∷ xs) words x h (inr m) = sent_within xs words x h.1 m
 
-within_sent : (xs : List (ℕ × Qualifier)) (words : List ℕ) → ((x : ℕ × Qualifier) → IsSent x xs → IsTrue (within x.1 (at_slot words x.0))) → SendsWithin xs (slice_index words)
+pub within_sent : (xs : List (ℕ × Qualifier)) (words : List ℕ) → ((x : ℕ × Qualifier) → IsSent x xs → IsTrue (within x.1 (at_slot words x.0))) → SendsWithin xs (slice_index words)
 within_sent [] words h = tt
 within_sent (x ∷ xs) words h = (packed_within (x.0 % 21) (slice_index words (x.0 / 21)) x.1 (h x (inl refl)), within_sent xs words (λ y m. h y (inr m)))
 
@@ -155,7 +155,7 @@ module _ (P : Program) (can : IsInferable P) where
     }
 
   module _ (start : List ℕ) (packed_start : ArePacked start (length P.slots)) (starts : unpacked start (length P.slots) ≡ start_signature P) where
-    start_covered : (t : List Qualifier) → length t ≡ length P.slots → QualsWithin (start_signature P) t → Covers (words_for (length P.slots)) start (words_of t)
+    pub start_covered : (t : List Qualifier) → length t ≡ length P.slots → QualsWithin (start_signature P) t → Covers (words_for (length P.slots)) start (words_of t)
     start_covered t long w v lt = word_within (slice_index start v) (slice_index (words_of t) v) (packed_start.top v) (λ j low. at_index j low)
       where
         slot_within : (i : ℕ) → IsTrue (within (at_slot start i) (at_slot (words_of t) i))

@@ -5,3 +5,4 @@ pub mod WordsOf
 pub mod LeastSignature
 pub mod Inferring
 pub mod OneFact
+pub mod FewBits

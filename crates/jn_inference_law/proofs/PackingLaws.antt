@@ -150,7 +150,7 @@ third_bit false false true = refl
 third_bit false false false = refl
 
 -- a packed qualifier has its bits at its index alone
-packed_low : (j i : ℕ) (q : Qualifier) → i < 3 * j → bit_at (pack 0 j q) i ≡ 0
+pub packed_low : (j i : ℕ) (q : Qualifier) → i < 3 * j → bit_at (pack 0 j q) i ≡ 0
 packed_low j i q lt =
     let a = bit_at_or 0 (to_bits q * 2 ^ (3 * j)) i in
     let z = bit_at-zero i in

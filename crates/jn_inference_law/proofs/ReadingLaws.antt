@@ -22,7 +22,7 @@ use Rattle.jn_env.specs.Keys.{is_key, is_on, fact_keys, own_keys, no_bits}
 use Rattle.jn_env.specs.Order.{Table, env_in, qual_at}
 use Rattle.jn_transfer.specs.Contributions.{field_slot_of, receiver_slot_of, result_slot_of}
 use Rattle.jn_transfer.specs.Least.{all_edges, edges_from, flow_all, round, start_table}
-use Rattle.jn_transfer.specs.Transfer.{drop_all, given_quals, less_null, pad_quals, put, put_to, transfer}
+use Rattle.jn_transfer.specs.Transfer.{drop_facts, given_quals, less_null, pad_quals, put, put_to, transfer}
 use Rattle.jn_fixpoint.specs.Climb.{rounds}
 use Rattle.jn_flow.specs.Size.{height}
 use Rattle.jn_contrib.specs.Sends.{body_sends}
@@ -90,7 +90,7 @@ module _ (s t : List Qualifier) where
     edge_same (ArrayOf dst base xs) p e h = refl
     edge_same (New dst m args) p e h = refl
     edge_same (CtorCall m args own) p e h = refl
-    edge_same (Call dst m r direct args) p e h = ap (λ (q : Qualifier). (p + 1, put_to P b (drop_all P b e) dst q) ∷ []) (result_same (method_at P m.0) h)
+    edge_same (Call dst m r direct args) p e h = ap (λ (q : Qualifier). (p + 1, put_to P b (drop_facts P b e) dst q) ∷ []) (result_same (method_at P m.0) h)
     edge_same (StrOp dst op of other) p e h = refl
     edge_same (Print of) p e h = refl
     edge_same (Cast dst of c) p e h = refl

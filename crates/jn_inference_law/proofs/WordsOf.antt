@@ -20,7 +20,7 @@ use Rattle.jn_inference_law.specs.Inference.{words_for}
 use Rattle.jn_inference_law.proofs.PackingLaws.{packed_within, packed_high, word_bit}
 
 -- the first n of these qualifiers in one word
-unfoldable laid : (ℕ → Qualifier) → ℕ → ℕ
+unfoldable pub laid : (ℕ → Qualifier) → ℕ → ℕ
 laid q zero = 0
 laid q (suc n) = pack (laid q n) n (q n)
 
@@ -56,6 +56,10 @@ module _ (t : List Qualifier) where
   pub length-words_of : length words_of ≡ words_for (length t)
   unfolding words_of
   length-words_of = length-map-range_with_len word_of 0 (words_for (length t))
+
+  pub words_of-word : (w : ℕ) → w < words_for (length t) → get_or words_of w 0 ≡ laid (λ j. get_or t (21 * w + j) no_qual) 21
+  unfolding words_of word_of
+  words_of-word w lt = get_or-map-range_with_len word_of 0 (words_for (length t)) w w 0 lt (omega arith)
 
   pub words_of-at : (i : ℕ) → i < length t → at_slot words_of i ≡ get_or t i no_qual
   unfolding words_of word_of

@@ -1,11 +1,13 @@
 //! Laws of inference.
-ghost use Rattle.std.specs.Prelude.{◌≡◌, ℕ, true, List, slice_get};
+ghost use Rattle.std.specs.Prelude.{◌≡◌, ◌≤◌, ◌+◌, ◌*◌, ℕ, true, List, length, slice_get};
 ghost use Rattle.jn_quals.specs.Qualifier.{Qualifier};
 ghost use Rattle.jn_points.specs.declared.program.Program.{Program};
 ghost use Rattle.jn_points.specs.Regular.{Regular};
 ghost use Rattle.jn_contrib.specs.Sends.{body_sends};
 ghost use Rattle.jn_env.specs.Order.{Table};
-ghost use Rattle.jn_sigtable.specs.System.{IsLawful};
+ghost use Rattle.jn_sigs.specs.Packed.{ArePacked, unpacked};
+ghost use Rattle.jn_sigs.specs.Signature.{start_signature};
+ghost use Rattle.jn_sigtable.specs.System.{IsLawful, limit_of};
 ghost use Rattle.jn_transfer.specs.Contributions.{IsSent, is_inferred};
 ghost use Rattle.jn_transfer.specs.Least.{IsLeastTable};
 ghost use Rattle.jn_inference_law.specs.Inference.{IsInferable, inference, least_sends};
@@ -23,6 +25,13 @@ pub fn outputs_are_contributions()
         → IsLeastTable P s b t → least_sends P s b ≡ body_sends P b t }
     ensures inferred { (P : Program) (s : List Qualifier) (b : ℕ) (x : ℕ × Qualifier)
         → IsSent x (least_sends P s b) → is_inferred (slice_get P.slots x.0) ≡ true }
+{}
+
+/// Workers on a program take each body once at the start, and at most once more for each of the three bits of each slot.
+pub fn limits_are_small()
+    ensures { (P : Program) (start : List ℕ) → IsInferable P → ArePacked start (length P.slots)
+        → unpacked start (length P.slots) ≡ start_signature P
+        → limit_of (inference P) start ≤ length P.bodies * (1 + 3 * length P.slots) }
 {}
 
 /// A program has at most one least signature, so what is found of it doesn't depend on who found it.

@@ -6,7 +6,7 @@ known_names =
     codes "String" ∷ codes "System" ∷ codes "out" ∷ codes "println" ∷ codes "length" ∷ codes "main" ∷ codes "Object"
     ∷ codes "clone" ∷ codes "equals" ∷ codes "finalize" ∷ codes "getClass" ∷ codes "hashCode" ∷ codes "notify" ∷ codes "notifyAll" ∷ codes "toString" ∷ codes "wait"
     ∷ codes "isEmpty" ∷ codes "NonNull" ∷ codes "Nullable" ∷ codes "Initialized" ∷ codes "UnderInitialization" ∷ codes "UnknownInitialization"
-    ∷ codes "Override" ∷ codes "org" ∷ codes "checkerframework" ∷ []
+    ∷ codes "Override" ∷ codes "org" ∷ codes "checkerframework" ∷ codes "MonotonicNonNull" ∷ []
 
 -- their numbers
 
@@ -60,6 +60,9 @@ org_name = 23
 
 abbrev pub checkerframework_name : ℕ
 checkerframework_name = 24
+
+abbrev pub monotonic_name : ℕ
+monotonic_name = 25
 
 -- the members of Object (JLS 4.3.2), from `clone` to `wait`
 abbrev pub is_object_member : ℕ → Bool

@@ -9,7 +9,7 @@ use jn_base::NameNo;
 
 /// The texts that are numbered first, in the order of their numbers: words of the library, the members of Object, the
 /// annotations of the Checker Framework that are known, and the parts of its package's name.
-pub const KNOWN_NAMES: [&str; 25] = [
+pub const KNOWN_NAMES: [&str; 26] = [
     "String",
     "System",
     "out",
@@ -35,6 +35,7 @@ pub const KNOWN_NAMES: [&str; 25] = [
     "Override",
     "org",
     "checkerframework",
+    "MonotonicNonNull",
 ];
 
 pub const STRING: NameNo = NameNo(0);
@@ -74,3 +75,5 @@ pub const OVERRIDE: NameNo = NameNo(22);
 pub const ORG: NameNo = NameNo(23);
 
 pub const CHECKERFRAMEWORK: NameNo = NameNo(24);
+
+pub const MONOTONIC_NON_NULL: NameNo = NameNo(25);

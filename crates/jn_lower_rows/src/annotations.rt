@@ -8,8 +8,8 @@ ghost use Rattle.jn_lower_rows.specs.Views.{allowed_of, kind_of};
 use crate::row::push_if;
 use jn_base::{Code, NameNo, Row, Seq};
 use jn_known::{
-    FIRST_MEMBER, INITIALIZED, IS_EMPTY, NON_NULL, NULLABLE, UNDER_INITIALIZATION,
-    UNKNOWN_INITIALIZATION,
+    FIRST_MEMBER, INITIALIZED, IS_EMPTY, MONOTONIC_NON_NULL, NON_NULL, NULLABLE,
+    UNDER_INITIALIZATION, UNKNOWN_INITIALIZATION,
 };
 use jn_scopes::types::is_class_use;
 use jn_trees::{Annotation, Identifier, TypeUse};
@@ -20,6 +20,9 @@ use std::alloc::AllocError;
 pub enum Kind {
     Nullity,
     Initialization,
+    Monotonic,
+    /// Nullity, and monotonic.
+    AnyNullity,
 }
 
 /// The kinds that may stand at a place.
@@ -27,24 +30,35 @@ pub enum Kind {
 pub struct Allowed {
     pub nullity: bool,
     pub initialization: bool,
+    pub monotonic: bool,
 }
 
 /// At a parameter, a result and a local.
 pub const BOTH_KINDS: Allowed = Allowed {
     nullity: true,
     initialization: true,
+    monotonic: false,
 };
 
-/// At a field and an array's elements.
+/// At an array's elements.
 pub const NULLITY_ALONE: Allowed = Allowed {
     nullity: true,
     initialization: false,
+    monotonic: false,
+};
+
+/// At a field.
+pub const OF_FIELD: Allowed = Allowed {
+    nullity: true,
+    initialization: false,
+    monotonic: true,
 };
 
 /// At a receiver.
 pub const INITIALIZATION_ALONE: Allowed = Allowed {
     nullity: false,
     initialization: true,
+    monotonic: false,
 };
 
 fn is_kind(kind: Kind, name: NameNo) -> bool
@@ -57,6 +71,10 @@ fn is_kind(kind: Kind, name: NameNo) -> bool
                 || name.0 == UNDER_INITIALIZATION.0
                 || name.0 == UNKNOWN_INITIALIZATION.0
         }
+        Kind::Monotonic => name.0 == MONOTONIC_NON_NULL.0,
+        Kind::AnyNullity => {
+            name.0 == NON_NULL.0 || name.0 == NULLABLE.0 || name.0 == MONOTONIC_NON_NULL.0
+        }
     }
 }
 
@@ -65,7 +83,8 @@ fn is_allowed(allowed: Allowed, reference: bool, name: NameNo) -> bool
 {
     reference
         && ((is_kind(Kind::Nullity, name) && allowed.nullity)
-            || (is_kind(Kind::Initialization, name) && allowed.initialization))
+            || (is_kind(Kind::Initialization, name) && allowed.initialization)
+            || (is_kind(Kind::Monotonic, name) && allowed.monotonic))
 }
 
 fn some_of(kind: Kind, annotations: &[Annotation]) -> bool
@@ -119,7 +138,7 @@ pub fn annotation_rows(
         ≡ rows.old ++ spec.annotation_rows (allowed_of allowed) reference annotations.now) }
 {
     not_allowed(rows, allowed, reference, annotations)?;
-    doubled(rows, Kind::Nullity, annotations)?;
+    doubled(rows, Kind::AnyNullity, annotations)?;
     doubled(rows, Kind::Initialization, annotations)
 }
 

@@ -7,7 +7,7 @@ ghost use Rattle.jn_places.specs.PlacedView.{placed_declarator, placed_declarato
 ghost use Rattle.jn_lower_rows.specs.Views.{first_package};
 
 use crate::annotations::{
-    BOTH_KINDS, INITIALIZATION_ALONE, NULLITY_ALONE, annotation_rows, name_row, type_rows,
+    BOTH_KINDS, INITIALIZATION_ALONE, OF_FIELD, annotation_rows, name_row, type_rows,
 };
 use crate::notes::{local_notes, notes, notes_but_override};
 use crate::row::{push, push_if};
@@ -200,11 +200,11 @@ fn field_type_rows(
 ) -> Result<(), AllocError>
     ensures { OnOk result (rows.new
         ≡ rows.old
-        ++ annotated.type_rows (placed_type_use type_use.now) annotated.nullity_alone
+        ++ annotated.type_rows (placed_type_use type_use.now) annotated.of_field
         (spec.notes_of modifiers.now)) }
 {
     let notes = notes(alloc, modifiers)?;
-    type_rows(rows, type_use, NULLITY_ALONE, &notes)
+    type_rows(rows, type_use, OF_FIELD, &notes)
 }
 
 /// The rows of a member's head: its annotations, the names that it declares, and how its fields start.

@@ -9,7 +9,7 @@ use Rattle.jn_trees.specs.declared.expression.Base.{Base}
 use Rattle.jn_trees.specs.declared.expression.Base.TheVariants.{Class as ClassUse}
 use Rattle.jn_points.specs.declared.program.Program.{Program}
 use Rattle.jn_places.specs.Placed.{PlacedTypeUse}
-use Rattle.jn_known.specs.Known.{non_null_name, nullable_name, initialized_name, under_name, unknown_name, is_object_member}
+use Rattle.jn_known.specs.Known.{non_null_name, nullable_name, initialized_name, under_name, unknown_name, monotonic_name, is_object_member}
 use Rattle.jn_lowering.specs.Scopes.{class_named}
 use Rattle.jn_lowering.specs.Bases.{is_class_use}
 
@@ -35,22 +35,34 @@ is_nullity n = eqb n non_null_name || eqb n nullable_name
 abbrev pub is_initialization : ℕ → Bool
 is_initialization n = eqb n initialized_name || (eqb n under_name || eqb n unknown_name)
 
+-- `@MonotonicNonNull` (Checker Framework manual, 3.2.1), which is of the nullity kind too
+abbrev pub is_monotonic : ℕ → Bool
+is_monotonic n = eqb n monotonic_name
+
+abbrev pub is_of_nullity : ℕ → Bool
+is_of_nullity n = is_nullity n || is_monotonic n
+
 -- what may stand at a place
 pub record Allowed : Type 0 where
   pub nullity : Bool
   pub initialization : Bool
+  pub monotonic : Bool
 
 -- at a parameter, a result and a local
 abbrev pub both_kinds : Allowed
-both_kinds = record { nullity = true; initialization = true }
+both_kinds = record { nullity = true; initialization = true; monotonic = false }
 
--- at a field and an array's elements, which are always initialized
+-- at an array's elements, which are always initialized
 abbrev pub nullity_alone : Allowed
-nullity_alone = record { nullity = true; initialization = false }
+nullity_alone = record { nullity = true; initialization = false; monotonic = false }
+
+-- at a field, which is always initialized too
+abbrev pub of_field : Allowed
+of_field = record { nullity = true; initialization = false; monotonic = true }
 
 -- an annotation that has a meaning there, on a reference type
 abbrev pub is_allowed : Allowed → Bool → ℕ → Bool
-is_allowed allowed reference n = reference && ((is_nullity n && allowed.nullity) || (is_initialization n && allowed.initialization))
+is_allowed allowed reference n = reference && ((is_nullity n && allowed.nullity) || ((is_initialization n && allowed.initialization) || (is_monotonic n && allowed.monotonic)))
 
 -- one of the annotations is of the kind
 abbrev pub some_named : (ℕ → Bool) → List Annotation → Bool
@@ -69,7 +81,7 @@ not_allowed allowed reference (a ∷ as') = when (not (is_allowed allowed refere
 
 -- the rows of a place's annotations
 abbrev pub annotation_rows : Allowed → Bool → List Annotation → List Row
-annotation_rows allowed reference annotations = not_allowed allowed reference annotations ++ (doubled is_nullity annotations ++ doubled is_initialization annotations)
+annotation_rows allowed reference annotations = not_allowed allowed reference annotations ++ (doubled is_of_nullity annotations ++ doubled is_initialization annotations)
 
 -- those before an array's type are its elements', those before its brackets are its own (JLS 8, 9.7.4)
 abbrev pub typed_rows : Base → Option (List Annotation) → Allowed → List Annotation → List Row

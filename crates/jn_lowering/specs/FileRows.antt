@@ -13,12 +13,12 @@ use Rattle.jn_trees.specs.declared.expression.Literal.TheVariants.{Number, True,
 use Rattle.jn_trees.specs.declared.expression.UnaryOperator.TheVariants.{Minus}
 use Rattle.jn_places.specs.Placed.{PlacedTree, PlacedLiteral, PlacedUnary, PlacedClass, PlacedConstructor, PlacedDeclarator, PlacedDotted, PlacedFieldMember, PlacedFile, PlacedImport, PlacedInterface, PlacedMember, PlacedMethod, PlacedPackage, PlacedParameter, PlacedReceiver, PlacedResult, PlacedType, PlacedTypeUse, PlacedValue, PlacedVoid}
 use Rattle.jn_known.specs.Known.{checkerframework_name, org_name, override_name}
-use Rattle.jn_lowering.specs.Annotations.{Allowed, annotation_rows, both_kinds, name_row, nullity_alone, row, type_rows, when}
+use Rattle.jn_lowering.specs.Annotations.{Allowed, annotation_rows, both_kinds, name_row, of_field, row, type_rows, when}
 use Rattle.jn_lowering.specs.Locals.{annotations_of}
 
 -- at a receiver
 abbrev pub initialization_alone : Allowed
-initialization_alone = record { nullity = false; initialization = true }
+initialization_alone = record { nullity = false; initialization = true; monotonic = false }
 
 -- the annotations among the modifiers
 abbrev pub notes_of : List Modifier → List Annotation
@@ -118,7 +118,7 @@ receiver_rows (Some r) = annotation_rows initialization_alone true r.annotations
 -- in a class, or in an interface
 abbrev pub head_rows : Bool → PlacedMember → List Row
 head_rows interface (PlacedFieldMember marks u d ds span) =
-    type_rows u nullity_alone (notes_of marks) ++ (names_rows (d ∷ ds)
+    type_rows u of_field (notes_of marks) ++ (names_rows (d ∷ ds)
     ++ cond interface (row J5 span) (when (has_static marks && not (is_static_start u (d ∷ ds))) (row J5 span)))
 head_rows interface (PlacedMethod marks result name receiver parameters body span) =
     name_row name.name.0 name.span ++ (result_rows result (without_override (notes_of marks)) ++ (receiver_rows receiver ++ parameter_rows parameters))

@@ -163,6 +163,7 @@ field_regular f name is_private is = record {
   slot = refl;
   slot_there = tt;
   slot_committed = λ n info h is w. absurd (no_slot n h);
+  monotonic = λ h. absurd (never_true h);
   names = λ g y there s e. one_field f g (field_in name is_private) y is there e;
 }
   where

@@ -61,6 +61,7 @@ field_in name is_private = record {
   is_static = false;
   is_final = false;
   is_private = is_private;
+  is_monotonic = false;
   first = pos 0;
   slot = None;
 }

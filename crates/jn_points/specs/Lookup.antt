@@ -84,6 +84,10 @@ abbrev pub ref_of : Option Field → Bool
 ref_of None = false
 ref_of (Some f) = has_slot f.slot
 
+abbrev pub monotonic_of : Option Field → Bool
+monotonic_of None = false
+monotonic_of (Some f) = f.is_monotonic
+
 abbrev pub flat_of : Option Field → Bool
 flat_of None = false
 flat_of (Some f) = is_flat f.base
@@ -166,6 +170,10 @@ module _ (P : Program) where
   -- a field of reference type
   abbrev pub ref_field : ℕ → Bool
   ref_field f = ref_of (field_info f)
+
+  -- a field that takes no null, so that a fact on it survives calls
+  abbrev pub monotonic : ℕ → Bool
+  monotonic f = monotonic_of (field_info f)
 
   -- a field of String or array type
   abbrev pub flat_field : ℕ → Bool

@@ -4,6 +4,7 @@ use Rattle.jn_base.specs.declared.number.BodyNo.{BodyNo}
 use Rattle.jn_base.specs.declared.number.ClassNo.{ClassNo}
 use Rattle.jn_base.specs.declared.number.PointNo.{PointNo}
 use Rattle.jn_base.specs.declared.number.SlotNo.{SlotNo}
+use Rattle.jn_quals.specs.Order.{null_or_committed}
 use Rattle.jn_points.specs.declared.point.Operand.{Operand}
 use Rattle.jn_points.specs.declared.point.Operator.{Operator}
 use Rattle.jn_points.specs.declared.point.Operator.TheVariants.{Add, Sub, Mul, Div, Rem}
@@ -141,6 +142,20 @@ module _ (P : Program) where
     -- one declared class of a name, and none named as Object or String (7.6)
     pub names : (c d : ℕ) (x y : Class) → class_info P c ≡ Some x → class_info P d ≡ Some y → 1 < d → x.name ≡ y.name → c ≡ d
 
+  -- a field's slot is written, and is {N, C}
+  pub record StartsNull (slot : SlotNo) : Type 0 where
+    pub info : SlotInfo
+    pub there : slice_get P.slots slot.0 ≡ Some info
+    pub written : info.inferred ≡ false
+    pub start : info.start ≡ null_or_committed
+
+  -- a monotonic field is an object's reference, and may start null
+  pub record MonotonicField (x : Field) : Type 0 where
+    pub instance : x.is_static ≡ false
+    pub slot : SlotNo
+    pub there : x.slot ≡ Some slot
+    pub starts : StartsNull slot
+
   pub record RegularField (f : ℕ) (x : Field) : Type 0 where
     pub owner : x.owner.0 < length P.classes
     pub no_interface : interface_of (class_info P x.owner.0) ≡ false
@@ -151,6 +166,7 @@ module _ (P : Program) where
     pub slot_there : SlotBelow (length P.slots) x.slot
     -- a field's slot that isn't inferred has C, and no F
     pub slot_committed : (n : SlotNo) (info : SlotInfo) → x.slot ≡ Some n → slice_get P.slots n.0 ≡ Some info → info.inferred ≡ false → (info.start.committed ≡ true) × (info.start.free ≡ false)
+    pub monotonic : x.is_monotonic ≡ true → MonotonicField x
     -- one field of a name along the supertypes of a class (8.3)
     pub names : (g : ℕ) (y : Field) → field_info P g ≡ Some y → sub P x.owner.0 y.owner.0 ≡ true → x.name ≡ y.name → f ≡ g
 

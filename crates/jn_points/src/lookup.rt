@@ -112,6 +112,16 @@ pub fn owner(program: &Program, field: u32) -> u32
     }
 }
 
+/// Whether the field is there and monotonic.
+pub fn is_monotonic(program: &Program, field: u32) -> bool
+    ensures { result ≡ spec.monotonic program.now field }
+{
+    match program.fields.as_slice().get(field as usize) {
+        None => false,
+        Some(info) => info.is_monotonic,
+    }
+}
+
 /// The base type of a field; Void for one that is not there.
 pub fn field_base(program: &Program, field: FieldNo) -> BaseType
     ensures { result ≡ spec.field_base program.now field.0 }

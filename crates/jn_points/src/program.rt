@@ -23,6 +23,8 @@ pub struct Field {
     pub is_static: bool,
     pub is_final: bool,
     pub is_private: bool,
+    /// May start null, and takes no null: facts on it survive calls.
+    pub is_monotonic: bool,
     pub first: i32,
     pub slot: Option<SlotNo>,
 }

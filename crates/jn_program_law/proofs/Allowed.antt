@@ -31,7 +31,7 @@ use Rattle.jn_classtable.proofs.Tests.{and_true}
 use Rattle.jn_classtable.proofs.Lists.{append_at, append_empty, map_at}
 use Rattle.jn_classtable.proofs.Classes.{head_interface}
 use Rattle.jn_classtable.proofs.Numbering.{FieldFrom, fields_from_at}
-use Rattle.jn_lowering.specs.Annotations.{annotation_rows, both_kinds, name_row, nullity_alone, row, type_rows, when}
+use Rattle.jn_lowering.specs.Annotations.{annotation_rows, both_kinds, name_row, of_field, row, type_rows, when}
 use Rattle.jn_lowering.specs.FileRows.{all_start, declared_type_rows, files_rows, has_static, head_rows, heads_rows, import_rows, is_plain, is_primitive_base, is_static_mark, is_static_start, is_truth_literal, is_truth_start, names_rows, notes_of, outside_rows, package_behind, package_row, starts, types_rows}
 
 -- what a field's head must be
@@ -106,8 +106,8 @@ module _ (hs : List ClassHead) where
           starting u.base u.array d.value (modifier_notes ms) b.0 b.1 (each_starts u.base ds j d a.1 at)
 
   -- a member's rows
-  last_empty : (marks : List Modifier) (u : PlacedTypeUse) (ds : List PlacedDeclarator) (rest : List Row) → type_rows u nullity_alone (notes_of marks) ++ (names_rows ds ++ rest) ≡ [] → rest ≡ []
-  last_empty marks u ds rest h = (append_empty (names_rows ds) rest (append_empty (type_rows u nullity_alone (notes_of marks)) (names_rows ds ++ rest) h).1).1
+  last_empty : (marks : List Modifier) (u : PlacedTypeUse) (ds : List PlacedDeclarator) (rest : List Row) → type_rows u of_field (notes_of marks) ++ (names_rows ds ++ rest) ≡ [] → rest ≡ []
+  last_empty marks u ds rest h = (append_empty (names_rows ds) rest (append_empty (type_rows u of_field (notes_of marks)) (names_rows ds ++ rest) h).1).1
 
   class_member : (x : PlacedMember) → head_rows false x ≡ [] → (j : ℕ) (f : FieldHead) → slice_get (field_heads x) j ≡ Some f → AllowedField hs f
   class_member (PlacedFieldMember marks u d ds span) h j f at =

@@ -123,6 +123,7 @@ chain_fields = each_at (λ f x. RegularField chain_program f x) chain_program.fi
     slot = refl;
     slot_there = omega arith;
     slot_committed = committed_slot 0 refl;
+    monotonic = λ h. cc;
     names = λ g y there s e. one_field 0 g _ y refl there e;
   },
   (
@@ -135,6 +136,7 @@ chain_fields = each_at (λ f x. RegularField chain_program f x) chain_program.fi
       slot = refl;
       slot_there = omega arith;
       slot_committed = committed_slot 1 refl;
+      monotonic = λ h. cc;
       names = λ g y there s e. one_field 1 g _ y refl there e;
     },
     tt,

@@ -139,6 +139,7 @@ dispatch_fields = each_at (λ f x. RegularField dispatch_program f x) dispatch_p
     slot = refl;
     slot_there = omega arith;
     slot_committed = λ n info h is w. committed_slot n.0 info is;
+    monotonic = λ h. cc;
     names = λ g y there s e. one_field 0 g next_field y refl there e;
   },
   (
@@ -151,6 +152,7 @@ dispatch_fields = each_at (λ f x. RegularField dispatch_program f x) dispatch_p
       slot = refl;
       slot_there = tt;
       slot_committed = λ n info h is w. cc;
+      monotonic = λ h. cc;
       names = λ g y there s e. one_field 1 g seen_field y refl there e;
     },
     tt,

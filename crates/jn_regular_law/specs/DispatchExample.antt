@@ -25,10 +25,10 @@ abbrev pub link_class : Class
 link_class = record { name = record { 0 = 3 }; span = no_span; interface = false; is_abstract = false; is_final = false; parent = Some (record { 0 = 0 }); supers = record { 0 = 0 } ∷ record { 0 = 2 } ∷ [] }
 
 abbrev pub next_field : Field
-next_field = record { name = record { 0 = 5 }; span = no_span; owner = record { 0 = 3 }; base = ref 3; is_static = false; is_final = false; is_private = false; first = pos 0; slot = Some (record { 0 = 0 }) }
+next_field = record { name = record { 0 = 5 }; span = no_span; owner = record { 0 = 3 }; base = ref 3; is_static = false; is_final = false; is_private = false; is_monotonic = false; first = pos 0; slot = Some (record { 0 = 0 }) }
 
 abbrev pub seen_field : Field
-seen_field = record { name = record { 0 = 6 }; span = no_span; owner = record { 0 = 3 }; base = BoolBase; is_static = true; is_final = false; is_private = false; first = pos 0; slot = None }
+seen_field = record { name = record { 0 = 6 }; span = no_span; owner = record { 0 = 3 }; base = BoolBase; is_static = true; is_final = false; is_private = false; is_monotonic = false; first = pos 0; slot = None }
 
 -- `String name()` of a class, with the slots of its receiver and its result
 abbrev pub name_method : ℕ → Option BodyNo → Bool → ℕ → ℕ → Method

@@ -17,6 +17,7 @@ use Rattle.std.proofs.lemmas.List.Sums.{sum_by-set, sum_by-cons}
 use Rattle.std.proofs.lemmas.Nat.Bits.{same_from_bits}
 use Rattle.jn_sigtable.proofs.LeastWords.{rounds_within}
 use Rattle.jn_sigtable.proofs.Frames.{get_of}
+use Rattle.jn_sigtable.proofs.Counting.{part_of}
 use Rattle.jn_sigtable.specs.Machine.{start_of, AreBetween, HasAll, dirty_words, IsClosedFor, IsCurrent, IsAtRest, IsLive, IsFine, AddUp, IsWhole, Has, Holds, weight}
 use Rattle.jn_sigtable.proofs.Keeping.{none_has}
 
@@ -39,11 +40,6 @@ module _ {C : Type 0} where
       fine_step : (x : View C) (xs : List (View C)) (a b f : ℕ) → max a b ≤ f → ((d : ℕ) → Has x.share d → d ≤ a) → IsFine f xs → (i : ℕ) (v : View C) → get_elem? (x ∷ xs) i ≡ some v → (d : ℕ) → Has v.share d → d ≤ f
       fine_step x xs a b f le mine rest zero v at d h = let p = mine d (subst (λ (y : View C). Has y.share d) (sym (some-injective x v at)) h) in omega arith
       fine_step x xs a b f le mine rest (suc i) v at d h = rest i v at d h
-
-  part_of : (f : View C → ℕ) (views : List (View C)) (i : ℕ) (v : View C) → get_elem? views i ≡ some v → f v ≤ sum_by f views
-  part_of f [] i v at = absurd (some-ne-none v (sym at))
-  part_of f (x ∷ xs) zero v at = let p = sum_by-cons f x xs in let q : f x ≡ f v = ap f (some-injective x v at) in omega arith
-  part_of f (x ∷ xs) (suc i) v at = let p = sum_by-cons f x xs in let q = part_of f xs i v at in omega arith
 
   live_weighs : (e : ℕ) (v : View C) → IsLive v → 0 < weight e v
   live_weighs e v live = go v.share live

@@ -1,17 +1,18 @@
 -- What a step that changes one view and one word has to show.
-use Rattle.std.proofs.Common.{◌≡◌, ◌⊎◌, ℕ, zero, suc, ◌+◌, ◌<◌, ◌≤◌, ◌&&◌, cond, Bool, true, false, List, [], ◌∷◌, ◌++◌, length, set, filter, Some, Option, sym, refl, ap, ◌∙◌, subst, inl, inr, ⊎_elim, arith, length-set, true≢false}
+use Rattle.std.proofs.Common.{◌≡◌, ◌⊎◌, ℕ, zero, suc, ◌+◌, ◌<◌, ◌≤◌, ◌==◌, ◌&&◌, ◌||◌, cond, Bool, true, false, List, [], ◌∷◌, ◌++◌, length, set, filter, Some, Option, sym, refl, ap, ◌∙◌, subst, inl, inr, ⊎_elim, arith, length-set, true≢false}
 use mathlib.Core.Option.{some}
 use mathlib.Core.Logic.{dite}
 use native.Mathlib.Decide.{ℕ_discrete}
 use lib.ListN.{get_elem?}
 use Rattle.std.specs.Prelude.{slice_index}
 use Rattle.std.specs.List.{range_with_len}
+use Rattle.std.proofs.lemmas.Bool.{eqb-true}
 use Rattle.std.proofs.lemmas.List.{set-get_or}
 use Rattle.atomic_table.specs.Table.{State, keeps, stepped}
 use Rattle.jn_sigtable.specs.declared.view.View.{View}
 use Rattle.jn_sigtable.specs.declared.view.Setting.{Setting}
 use Rattle.jn_sigtable.specs.System.{System, IsLawful, Covers, least, limit_of}
-use Rattle.jn_sigtable.specs.Machine.{start_of, IsCovered, IsBelow, IsDirty, IsUnseen, IsLive, Has, Holds, bodies_where, described}
+use Rattle.jn_sigtable.specs.Machine.{start_of, IsCovered, IsCounted, IsBelow, IsDirty, IsUnseen, IsLive, Has, has, Holds, bodies_where, described}
 use Rattle.jn_sigtable.proofs.Bits.{within_trans, within_refl}
 use Rattle.jn_sigtable.proofs.Frames.{each_set, shares_kept}
 
@@ -55,6 +56,14 @@ range_has a (suc n) x low high = dite (ℕ_discrete a x) (λ e. inl e) (λ ne. i
 pub bodies_have : (sys : System) (p : ℕ → Bool) (b : ℕ) → b < sys.bodies → p b ≡ true → Has (bodies_where sys p) b
 bodies_have sys p b inside e = has_filter p (range_with_len 0 sys.bodies) b e (range_has 0 sys.bodies b (omega arith) (omega arith))
 
+either_has : (t : Bool) (y x : ℕ) (xs : List ℕ) (rest : Bool) → (t ≡ true → y ≡ x) → (rest ≡ true → Has xs x) → (t || rest) ≡ true → (y ≡ x) ⊎ Has xs x
+either_has true y x xs rest f g h = inl (f refl)
+either_has false y x xs rest f g h = inr (g h)
+
+pub list_any_has : (xs : List ℕ) (x : ℕ) → has xs x ≡ true → Has xs x
+list_any_has [] x e = absurd (true≢false (sym e))
+list_any_has (y ∷ xs) x e = either_has (y == x) y x xs (has xs x) (λ t. eqb-true y x t) (λ t. list_any_has xs x t) e
+
 pub none_has : (xs : List ℕ) (x : ℕ) → xs ≡ [] → Has xs x → ⊥
 none_has xs x e h = subst (λ ys. Has ys x) e h
 
@@ -75,8 +84,9 @@ module _ {C : Type 0} (describe : C → System) (k : Setting C) where
       → IsBelow (describe k.system) (set s.words i n) w
       → ((b : ℕ) → b < (describe k.system).bodies → IsCovered (describe k.system) (set s.words i n) (set s.views id w) b)
       → ((b : ℕ) → b < (describe k.system).bodies → IsDirty (describe k.system) (set s.words i n) b → IsUnseen (set s.views id w) b)
+      → IsCounted (describe k.system) (start_of describe k) (set s.words i n) (set s.views id w)
       → Holds describe k (stepped s i n id c w keeps)
-  kept s i n id v c w h at same room share rises below fit cover scanned =
+  kept s i n id v c w h at same room share rises below fit cover scanned counted =
       let sys : System = describe k.system in
       let after : List ℕ = set s.words i n in
       record {
@@ -97,6 +107,7 @@ module _ {C : Type 0} (describe : C → System) (k : Setting C) where
         cover = cover;
         scanned = scanned;
         shares = shares_kept s.views id v w at share h.shares;
+        counted = counted;
       }
 
   -- a load changes no word
@@ -105,8 +116,9 @@ module _ {C : Type 0} (describe : C → System) (k : Setting C) where
       → IsBelow (describe k.system) s.words w
       → ((b : ℕ) → b < (describe k.system).bodies → IsCovered (describe k.system) s.words (set s.views id w) b)
       → ((b : ℕ) → b < (describe k.system).bodies → IsDirty (describe k.system) s.words b → IsUnseen (set s.views id w) b)
+      → IsCounted (describe k.system) (start_of describe k) s.words (set s.views id w)
       → Holds describe k (stepped s i (slice_index s.words i) id c w keeps)
-  loaded s i id v c w h at same room share fit cover scanned =
+  loaded s i id v c w h at same room share fit cover scanned counted =
       let sys : System = describe k.system in
       let e : s.words ≡ set s.words i (slice_index s.words i) = sym (set-get_or s.words i 0) in
       kept s i (slice_index s.words i) id v c w h at same room share
@@ -115,6 +127,7 @@ module _ {C : Type 0} (describe : C → System) (k : Setting C) where
       (subst (λ x. IsBelow sys x w) e fit)
       (subst (λ x. (b : ℕ) → b < sys.bodies → IsCovered sys x (set s.views id w) b) e cover)
       (subst (λ x. (b : ℕ) → b < sys.bodies → IsDirty sys x b → IsUnseen (set s.views id w) b) e scanned)
+      (subst (λ x. IsCounted sys (start_of describe k) x (set s.views id w)) e counted)
 
 -- the laws at an optional system
 pub lawful_at : {C : Type 0} (describe : C → System) (it : C) (x : Option C) → x ≡ Some it → IsLawful (describe it) → IsLawful (described describe x)

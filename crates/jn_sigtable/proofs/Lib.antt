@@ -2,6 +2,7 @@ pub mod Bits
 pub mod LeastWords
 pub mod Frames
 pub mod Keeping
+pub mod Counting
 pub mod TakeKept
 pub mod ReadKept
 pub mod RaiseKept

@@ -1,5 +1,5 @@
 -- A mark keeps the rule, and a scan.
-use Rattle.std.proofs.Common.{◌≡◌, ◌≢◌, ℕ, ◌+◌, ◌/◌, ◌%◌, ◌<◌, ◌≤◌, ◌==◌, ◌&&◌, not, Bool, true, false, List, length, set, Some, None, if◌then◌else◌, Option, sym, refl, ap, ◌∙◌, subst, ⊎_elim, arith, bit_or, get_or-set_same, get_or-set_other}
+use Rattle.std.proofs.Common.{◌≡◌, ◌≢◌, ℕ, ◌+◌, ◌-◌, ◌*◌, ◌/◌, ◌%◌, ◌<◌, ◌≤◌, ◌==◌, ◌&&◌, not, Bool, true, false, List, length, set, Some, None, if◌then◌else◌, Option, sym, refl, ap, ◌∙◌, subst, ⊎_elim, arith, bit_or, get_or-set_same, get_or-set_other}
 use mathlib.Core.Option.{none, some}
 use mathlib.Core.Logic.{dite}
 use native.Mathlib.Decide.{ℕ_discrete}
@@ -10,13 +10,14 @@ use Rattle.std.proofs.lemmas.Bool.{eqb-true}
 use Rattle.atomic_table.specs.Table.{State, step, keeps, stepped, Allows}
 use Rattle.jn_sigtable.specs.declared.view.View.{View}
 use Rattle.jn_sigtable.specs.declared.view.Setting.{Setting}
-use Rattle.jn_sigtable.specs.System.{System, IsLawful, Within, least}
+use Rattle.jn_sigtable.specs.System.{System, IsLawful, Within, least, ones_in, risen}
 use Rattle.jn_sigtable.specs.Machine.IsCovered.{closed, dirty, owed, run}
 use Rattle.jn_sigtable.proofs.Frames.{at_before, at_after, closed_kept, finished_closed, unseen_kept}
 use Rattle.std.proofs.lemmas.Nat.Bits.{bit_at-lt}
 use Rattle.std.specs.List.{range_with_len}
-use Rattle.jn_sigtable.specs.Machine.{start_of, IsCovered, IsCurrent, IsAtRest, IsIdle, IsDirty, IsLive, Has, Holds, Marks, Scans, after_mark, after_scan, is_marked, own_marked, dirty_words}
+use Rattle.jn_sigtable.specs.Machine.{start_of, IsCovered, IsCurrent, IsAtRest, IsIdle, IsDirty, IsLive, Has, Holds, Marks, MayMark, Scans, after_mark, after_scan, is_marked, own_marked, dirty_words}
 use Rattle.jn_sigtable.proofs.Bits.{within_trans, within_refl, within_or_l, within_or_r}
+use Rattle.jn_sigtable.proofs.Counting.{bounded, counted_set, dirty_more, mark_runs, marked_more, marks_held, ones_in_as}
 use Rattle.jn_sigtable.proofs.Keeping.{kept, loaded, none_has, both_true, has_filter, filter_has, has_either}
 
 none_some : (d : ℕ) → None ≡ Some d → ⊥
@@ -39,9 +40,9 @@ module _ {C : Type 0} where
 module _ {C : Type 0} (describe : C → System) (k : Setting C) where
   module _ (law : IsLawful (describe k.system)) where
     mark_kept : (s : State ℕ (View C)) (id d ones : ℕ) (v : View C) (c : List (ℕ × ℕ))
-        → d < dirty_words (describe k.system) → Holds describe k s → get_elem? s.views id ≡ some v → IsLive v
+        → d < dirty_words (describe k.system) → Holds describe k s → get_elem? s.views id ≡ some v → IsLive v → MayMark v d ones
         → Holds describe k (stepped s ((describe k.system).words + d) (bit_or (slice_index s.words ((describe k.system).words + d)) ones) id c (after_mark describe v d ones) keeps)
-    mark_kept s id d ones v c inside h at live =
+    mark_kept s id d ones v c inside h at live due =
         let sys : System = describe k.system in
         let i : ℕ = sys.words + d in
         let n : ℕ = slice_index s.words i in
@@ -93,15 +94,22 @@ module _ {C : Type 0} (describe : C → System) (k : Setting C) where
         }
         cover
         (λ e less is. (id, w, here, live, λ has. has))
+        (counted_set sys (start_of describe k) s.words after s.views id v w at h.counted
+        (let p = dirty_more sys s.words after (is_marked d ones) sys.bodies (λ e. marked_more n ones d e (slice_index after (sys.words + e / 64)) (slice_index s.words (sys.words + e / 64)) (λ here'. let place = ap (λ (x : ℕ). sys.words + x) here' in (new (sys.words + e / 64) place, ap (λ x. slice_index s.words x) place)) (λ apart. old (sys.words + e / 64) (λ e'. apart (omega arith)))) in
+        let q = marks_held v d ones sys.bodies due (h.counted.runs id v at live) in
+        let r : risen sys (start_of describe k) s.words ≡ risen sys (start_of describe k) after = ap (λ (x : ℕ). x - ones_in sys.words (start_of describe k)) (ones_in_as sys.words s.words after (λ u less. sym (sig u less))) in
+        let t : sys.bodies * risen sys (start_of describe k) s.words ≡ sys.bodies * risen sys (start_of describe k) after = ap (λ (x : ℕ). sys.bodies * x) r in
+        omega arith)
+        (λ b e. mark_runs v d ones b (h.counted.runs id v at live) e))
 
-    pub mark_allowed : (slots id i d ones : ℕ) (v : View C) (c : List (ℕ × ℕ)) → IsLive v → d < dirty_words (describe k.system) → i ≡ (describe k.system).words + d
+    pub mark_allowed : (slots id i d ones : ℕ) (v : View C) (c : List (ℕ × ℕ)) → IsLive v → MayMark v d ones → d < dirty_words (describe k.system) → i ≡ (describe k.system).words + d
         → Allows (Holds describe k) slots id (v, c) i (λ n. bit_or n ones) (Marks describe (step slots i ones 0 none) (v, c))
-    mark_allowed slots id i d ones v c live inside is s h homes at small =
+    mark_allowed slots id i d ones v c live due inside is s h homes at small =
         let same : v.system ≡ k.system = h.fixed id v at live in (
           after_mark describe v d ones,
           keeps,
           tt,
-          subst (λ (x : ℕ). Holds describe k (stepped s x (bit_or (slice_index s.words x) ones) id c (after_mark describe v d ones) keeps)) (sym is) (mark_kept s id d ones v c inside h at live),
+          subst (λ (x : ℕ). Holds describe k (stepped s x (bit_or (slice_index s.words x) ones) id c (after_mark describe v d ones) keeps)) (sym is) (mark_kept s id d ones v c inside h at live due),
           λ e word. let p : (describe k.system).words + d ≡ (describe k.system).words + e = sym is ∙ (word ∙ ap (λ (x : C). (describe x).words + e) same) in
               let q : d ≡ e = omega arith in ap (λ (x : ℕ). (after_mark describe v x ones, c)) q,
         )
@@ -139,16 +147,22 @@ module _ {C : Type 0} (describe : C → System) (k : Setting C) where
         absurd (omega arith))
         (has_either v.clear _ e has))
         (h.scanned e less is))
+        (counted_set sys (start_of describe k) s.words s.words s.views id v w at h.counted (omega arith) (λ b e. absurd (none_some b e)))
 
     pub scan_allowed : (slots id i d : ℕ) (v : View C) (c : List (ℕ × ℕ)) → IsLive v → i ≡ (describe k.system).words + d → IsIdle describe v
         → Allows (Holds describe k) slots id (v, c) i (λ n. n) (Scans describe (step slots i 0 0 none) (v, c))
     scan_allowed slots id i d v c live is idle s h homes at small =
         let same : v.system ≡ k.system = h.fixed id v at live in
-        let rest : IsAtRest (describe k.system) v = subst (λ (x : C). IsAtRest (describe x) v) same idle in (
-          after_scan describe v d (slice_index s.words i),
+        let rest : IsAtRest (describe k.system) v = subst (λ (x : C). IsAtRest (describe x) v) same idle in
+        let w : View C = after_scan describe v d (slice_index s.words i) in
+        let kept : Holds describe k (stepped s i (slice_index s.words i) id c w keeps) = subst (λ (x : ℕ). Holds describe k (stepped s x (slice_index s.words x) id c (after_scan describe v d (slice_index s.words x)) keeps)) (sym is) (scan_kept s id d v c h at live rest) in (
+          w,
           keeps,
           tt,
-          subst (λ (x : ℕ). Holds describe k (stepped s x (slice_index s.words x) id c (after_scan describe v d (slice_index s.words x)) keeps)) (sym is) (scan_kept s id d v c h at live rest),
-          λ e word. let p : (describe k.system).words + d ≡ (describe k.system).words + e = sym is ∙ (word ∙ ap (λ (x : C). (describe x).words + e) same) in
-              let q : d ≡ e = omega arith in ap (λ (x : ℕ). (after_scan describe v x (slice_index s.words i), c)) q,
+          kept,
+          (
+            (λ e word. let p : (describe k.system).words + d ≡ (describe k.system).words + e = sym is ∙ (word ∙ ap (λ (x : C). (describe x).words + e) same) in
+                let q : d ≡ e = omega arith in ap (λ (x : ℕ). (after_scan describe v x (slice_index s.words i), c)) q),
+            bounded describe k (stepped s i (slice_index s.words i) id c w keeps) id w kept (at_after s.views id v w at) live,
+          ),
         )

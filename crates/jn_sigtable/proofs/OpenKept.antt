@@ -17,6 +17,7 @@ use Rattle.jn_sigtable.specs.Machine.{start_of, IsBelow, IsDirty, IsLive, Holds,
 use Rattle.std.specs.List.{range_with_len}
 use Rattle.std.proofs.Common.{min, map}
 use Rattle.jn_sigtable.proofs.Bits.{within_refl, zero_within, place_below}
+use Rattle.jn_sigtable.proofs.Counting.{dirty_most}
 use Rattle.jn_sigtable.proofs.TakeKept.{at_replicate}
 use Rattle.jn_sigtable.proofs.LeastWords.{rounds_more}
 
@@ -71,6 +72,10 @@ module _ {C : Type 0} (describe : C → System) (k : Setting C) (law : IsLawful 
         cover = λ b inside. dirty (is_dirty start b size inside);
         scanned = λ b inside is. (0, v, refl, omega arith, λ has. has);
         shares = λ e fine. let z : e - 0 ≡ e = omega arith in let q : 2 ^ (e - 0) ≡ 2 ^ e = ap (λ (x : ℕ). 2 ^ x) z in omega arith;
+        counted = record {
+          most = let p = dirty_most sys (start ++ ones) sys.bodies in omega arith;
+          runs = only (λ u. IsLive u → (b : ℕ) → u.body ≡ Some b → 0 < u.taken) (λ _ b e. absurd (none_some b e));
+        };
       }
     where
       one_view : {v : View C} (P : View C → Type 0) → P v → (i : ℕ) (u : View C) → get_elem? (v ∷ []) i ≡ some u → P u

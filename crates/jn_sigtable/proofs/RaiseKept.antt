@@ -1,5 +1,5 @@
 -- A raise keeps the rule.
-use Rattle.std.proofs.Common.{◌≡◌, ◌≢◌, ◌⊎◌, ℕ, ◌+◌, ◌/◌, ◌%◌, ◌<◌, ◌≤◌, ◌==◌, Bool, true, false, List, ◌∷◌, ◌++◌, length, set, Some, if◌then◌else◌, sym, refl, ap, ◌∙◌, subst, inl, inr, ⊎_elim, arith, bit_or, get_or-set_same, get_or-set_other, true≢false}
+use Rattle.std.proofs.Common.{◌≡◌, ◌≢◌, ◌⊎◌, ℕ, ◌+◌, ◌/◌, ◌%◌, ◌<◌, ◌≤◌, ◌==◌, Bool, true, false, List, ◌∷◌, ◌++◌, length, set, Some, if◌then◌else◌, sym, refl, ap, ◌∙◌, subst, inl, inr, ⊎_elim, arith, bit_or, get_or-set_same, get_or-set_other, true≢false, eq-eqb, ◌^◌}
 use mathlib.Core.Option.{none, some}
 use mathlib.Core.Logic.{dite}
 use native.Mathlib.Decide.{ℕ_discrete}
@@ -10,12 +10,14 @@ use Rattle.std.proofs.lemmas.Bool.{eqb-true}
 use Rattle.atomic_table.specs.Table.{State, step, keeps, stepped, Allows}
 use Rattle.jn_sigtable.specs.declared.view.View.{View}
 use Rattle.jn_sigtable.specs.declared.view.Setting.{Setting}
-use Rattle.jn_sigtable.specs.System.{System, IsLawful, Within, Covers, bits_for, least}
+use Rattle.jn_sigtable.specs.System.{System, IsLawful, Within, Covers, bits_for, least, risen}
 use Rattle.jn_base.specs.declared.number.WordNo.{WordNo}
 use Rattle.jn_sigtable.specs.Machine.IsCovered.{closed, dirty, owed, run}
 use Rattle.jn_sigtable.proofs.Frames.{at_before, at_after, closed_kept, unseen_kept}
 use Rattle.jn_sigtable.specs.Machine.{start_of, IsCovered, IsCurrent, IsLive, Has, Holds, Raises, after_raise, bodies_where}
 use Rattle.jn_sigtable.proofs.Bits.{within_trans, within_refl, within_or_l, within_or_r, or_within}
+use Rattle.std.proofs.lemmas.Nat.{or_lt}
+use Rattle.jn_sigtable.proofs.Counting.{bodies_most, counted_set, dirty_as, raise_held, risen_le, risen_more}
 use Rattle.jn_sigtable.proofs.Keeping.{kept, has_left, has_right, bodies_have}
 
 -- whether a body reads the word and a bit there was new
@@ -42,9 +44,9 @@ raised_more i ones old u n here before = go (i == u) refl
 module _ {C : Type 0} (describe : C → System) (k : Setting C) (law : IsLawful (describe k.system)) where
   raise_kept : (s : State ℕ (View C)) (id i b ones : ℕ) (v : View C) (c : List (ℕ × ℕ))
       → i < (describe k.system).words → Holds describe k s → get_elem? s.views id ≡ some v → IsLive v
-      → v.body ≡ Some b → Within ones (bits_for ((describe k.system).output b v.values) i)
+      → v.body ≡ Some b → Within ones (bits_for ((describe k.system).output b v.values) i) → slice_index s.words i < 2 ^ 64 → ones < 2 ^ 64
       → Holds describe k (stepped s i (bit_or (slice_index s.words i) ones) id c (after_raise describe v i ones (slice_index s.words i)) keeps)
-  raise_kept s id i b ones v c inside h at live runs bits =
+  raise_kept s id i b ones v c inside h at live runs bits small narrow =
       let sys : System = describe k.system in
       let n : ℕ = slice_index s.words i in
       let m : ℕ = bit_or n ones in
@@ -100,9 +102,16 @@ module _ {C : Type 0} (describe : C → System) (k : Setting C) (law : IsLawful 
       }
       cover
       (λ d less is. unseen_kept s.views id v w d at refl (λ x. x) (h.scanned d less (ap (λ (y : ℕ). bit_at y (d % 64)) (sym (other d)) ∙ is)))
+      (counted_set sys (start_of describe k) s.words after s.views id v w at h.counted
+      (let p = dirty_as sys s.words after sys.bodies (λ d. ap (λ (y : ℕ). bit_at y (d % 64)) (other d)) in
+      let q : length (bodies_where (describe v.system) (λ x. (describe v.system).reads x i)) ≤ sys.bodies = subst (λ (x : C). length (bodies_where (describe v.system) (λ y. (describe v.system).reads y i)) ≤ (describe x).bodies) same (bodies_most (describe v.system) (λ x. (describe v.system).reads x i)) in
+      let r = raise_held (m == n) v.owed (bodies_where (describe v.system) (λ x. (describe v.system).reads x i)) sys.bodies (risen sys (start_of describe k) s.words) (risen sys (start_of describe k) after) q (risen_le sys (start_of describe k) s.words after rises)
+      (λ fresh. risen_more sys (start_of describe k) s.words after i inside h.start rises small (subst (λ (x : ℕ). x < 2 ^ 64) (sym (new i refl)) (or_lt 64 n ones small narrow)) (λ e. absurd (true≢false (sym (eq-eqb m n (sym (new i refl) ∙ e)) ∙ fresh)))) in
+      omega arith)
+      (h.counted.runs id v at live))
 
   pub raise_allowed : (slots id i b ones : ℕ) (v : View C) (c : List (ℕ × ℕ)) → IsLive v → i < (describe k.system).words
-      → v.body ≡ Some b → v.system ≡ k.system → Within ones (bits_for ((describe v.system).output b v.values) i)
+      → v.body ≡ Some b → v.system ≡ k.system → Within ones (bits_for ((describe v.system).output b v.values) i) → ones < 2 ^ 64
       → Allows (Holds describe k) slots id (v, c) i (λ n. bit_or n ones) (Raises describe (step slots i ones 0 none) (v, c))
-  raise_allowed slots id i b ones v c live inside runs same bits s h homes at small =
-      (after_raise describe v i ones (slice_index s.words i), keeps, tt, raise_kept s id i b ones v c inside h at live runs (subst (λ (x : C). Within ones (bits_for ((describe x).output b v.values) i)) same bits), refl)
+  raise_allowed slots id i b ones v c live inside runs same bits narrow s h homes at small =
+      (after_raise describe v i ones (slice_index s.words i), keeps, tt, raise_kept s id i b ones v c inside h at live runs (subst (λ (x : C). Within ones (bits_for ((describe x).output b v.values) i)) same bits) small narrow, refl)

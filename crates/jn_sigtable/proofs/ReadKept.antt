@@ -11,9 +11,10 @@ use Rattle.jn_sigtable.specs.declared.view.Setting.{Setting}
 use Rattle.jn_sigtable.specs.System.{System, Within}
 use Rattle.jn_sigtable.specs.Machine.IsCovered.{closed, dirty, owed, run}
 use Rattle.jn_sigtable.proofs.Frames.{at_before, at_after, unseen_kept}
-use Rattle.jn_sigtable.specs.Machine.{IsCovered, IsCurrent, IsLive, Has, Holds, Reads, after_read}
+use Rattle.jn_sigtable.specs.Machine.{start_of, IsCovered, IsCurrent, IsLive, Has, Holds, Reads, after_read}
 use Rattle.jn_sigtable.proofs.Bits.{within_refl}
 use Rattle.jn_sigtable.proofs.Keeping.{loaded}
+use Rattle.jn_sigtable.proofs.Counting.{counted_set}
 
 module _ {C : Type 0} (describe : C → System) (k : Setting C) where
   read_kept : (s : State ℕ (View C)) (id i : ℕ) (v : View C) (c : List (ℕ × ℕ))
@@ -48,6 +49,7 @@ module _ {C : Type 0} (describe : C → System) (k : Setting C) where
       }
       cover
       (λ d less is. unseen_kept s.views id v w d at refl (λ x. x) (h.scanned d less is))
+      (counted_set sys (start_of describe k) s.words s.words s.views id v w at h.counted (omega arith) (h.counted.runs id v at live))
 
   pub read_allowed : (slots id i : ℕ) (v : View C) (c : List (ℕ × ℕ)) → IsLive v → i < (describe k.system).words
       → Allows (Holds describe k) slots id (v, c) i (λ n. n) (Reads describe (step slots i 0 0 none) (v, c))

@@ -1,24 +1,23 @@
 -- A split and a join keep the rule.
-use Rattle.std.proofs.Common.{◌≡◌, ◌≢◌, ◌⊎◌, ℕ, suc, ◌+◌, ◌-◌, ◌<◌, ◌≤◌, ◌==◌, Bool, true, false, List, [], ◌∷◌, ◌++◌, length, set, get_or, Some, None, sym, refl, ap, ◌∙◌, subst, inl, inr, ⊎_elim, arith, true≢false}
+use Rattle.std.proofs.Common.{◌≡◌, ◌≢◌, ◌⊎◌, ℕ, suc, ◌+◌, ◌-◌, ◌<◌, ◌≤◌, List, [], ◌∷◌, ◌++◌, length, set, get_or, Some, None, sym, refl, ap, ◌∙◌, subst, inl, inr, ⊎_elim, arith}
 use mathlib.Core.Option.{some, some-injective}
 use mathlib.Core.Logic.{dite}
 use native.Mathlib.Decide.{ℕ_discrete}
 use lib.ListN.{get_elem?}
 use Rattle.std.specs.Prelude.{slice_index}
-use Rattle.std.proofs.lemmas.Bool.{eqb-true}
 use Rattle.jn_sigtable.specs.declared.view.View.{View}
 use Rattle.jn_sigtable.specs.declared.view.Setting.{Setting}
 use Rattle.jn_sigtable.specs.System.{System, IsLawful, Within, limit_of}
 use Rattle.jn_sigtable.specs.Machine.IsCovered.{closed, dirty, owed, run}
 use Rattle.jn_sigtable.proofs.Frames.{at_below, at_before, at_after, each_set, finished_closed}
-use Rattle.std.proofs.Common.{◌*◌, ◌^◌, ◌||◌, sum_by, pow-suc}
+use Rattle.std.proofs.Common.{◌*◌, ◌^◌, sum_by, pow-suc}
 use Rattle.std.proofs.lemmas.List.Sums.{sum_by-append, sum_by-set, sum_by-cons}
 use Rattle.atomic_table.specs.Table.{Splits, Joins}
 use Rattle.atomic_table.proofs.Lists.{at_longer, at_last, at_snoc, set_else}
 use Rattle.jn_sigtable.proofs.Frames.{get_of}
-use Rattle.jn_sigtable.specs.Machine.{start_of, IsCurrent, IsBelow, IsAtRest, IsIdle, IsLive, IsFine, Has, has, Holds, weight, last_of, raised_last, left_of, right_of, both_of}
+use Rattle.jn_sigtable.specs.Machine.{start_of, IsCurrent, IsBelow, IsAtRest, IsIdle, IsLive, IsFine, Has, has, Holds, held, weight, last_of, raised_last, left_of, right_of, both_of}
 use Rattle.jn_sigtable.proofs.Bits.{zero_within}
-use Rattle.jn_sigtable.proofs.Keeping.{none_has, has_left, has_right, filter_has}
+use Rattle.jn_sigtable.proofs.Keeping.{none_has, has_left, has_right, filter_has, list_any_has}
 use Rattle.jn_sigtable.proofs.TakeKept.{at_replicate}
 use Rattle.std.proofs.lemmas.List.{length-replicate}
 
@@ -129,18 +128,20 @@ module _ {C : Type 0} (describe : C → System) (k : Setting C) where
             let c = cut v.share e live last in
             let t = h.shares e fine' in
             omega arith;
+        counted = record {
+          most =
+              let p = sum_by-set held s.views id l v (at_below s.views id v at) in
+              let old : held (get_or s.views id v) ≡ held v = ap held (get_of s.views id v at) in
+              let q = sum_by-append held mid (r ∷ []) in
+              let t = h.counted.most in
+              omega arith;
+          runs = let mine = h.counted.runs id v at live in
+              each (λ u. IsLive u → (b : ℕ) → u.body ≡ Some b → 0 < u.taken) h.counted.runs (λ _. mine) (λ _ b e. absurd (none_some b e));
+        };
       }
 
-either_has : (t : Bool) (y x : ℕ) (xs : List ℕ) (rest : Bool) → (t ≡ true → y ≡ x) → (rest ≡ true → Has xs x) → (t || rest) ≡ true → (y ≡ x) ⊎ Has xs x
-either_has true y x xs rest f g h = inl (f refl)
-either_has false y x xs rest f g h = inr (g h)
-
-pub list_any_has : (xs : List ℕ) (x : ℕ) → has xs x ≡ true → Has xs x
-list_any_has [] x e = absurd (true≢false (sym e))
-list_any_has (y ∷ xs) x e = either_has (y == x) y x xs (has xs x) (λ t. eqb-true y x t) (λ t. list_any_has xs x t) e
-
 -- the other pass's view is taken in, and the other is spent
-module _ {C : Type 0} (describe : C → System) (k : Setting C) (law : IsLawful (describe k.system)) (gone : View C) (none_owed : gone.owed ≡ []) (none_run : gone.body ≡ None) (no_share : gone.share ≡ []) where
+module _ {C : Type 0} (describe : C → System) (k : Setting C) (law : IsLawful (describe k.system)) (gone : View C) (none_owed : gone.owed ≡ []) (none_run : gone.body ≡ None) (no_share : gone.share ≡ []) (none_taken : gone.taken ≡ 0) where
   pub join_allowed : (id other : ℕ) (v u : View C) → IsLive v → IsLive u → IsIdle describe u → Joins (Holds describe k) id v other u (both_of describe v u) gone
   join_allowed id other v u live live' idle s h at apart there =
       let sys : System = describe k.system in
@@ -207,4 +208,18 @@ module _ {C : Type 0} (describe : C → System) (k : Setting C) (law : IsLawful 
             let a : weight e b ≡ weight e v + weight e u = sum_by-append (λ d. 2 ^ (e - d)) v.share u.share in
             let t = h.shares e fine' in
             omega arith;
+        counted = record {
+          most =
+              let p = sum_by-set held s.views id b v (at_below s.views id v at) in
+              let old : held (get_or s.views id v) ≡ held v = ap held (get_of s.views id v at) in
+              let q = sum_by-set held mid other gone u (at_below mid other u there) in
+              let old' : held (get_or mid other u) ≡ held u = ap held (get_of mid other u there) in
+              let g : length gone.owed ≡ 0 = ap (λ (xs : List ℕ). length xs) none_owed in
+              let g' = none_taken in
+              let o : length u.owed ≡ 0 = ap (λ (xs : List ℕ). length xs) rest.0 in
+              let t = h.counted.most in
+              omega arith;
+          runs = let mine = h.counted.runs id v at live in
+              each (λ x. IsLive x → (e : ℕ) → x.body ≡ Some e → 0 < x.taken) h.counted.runs (λ _ e is. let m = mine e is in omega arith) (λ l. absurd (gone_spent l));
+        };
       }

@@ -1,5 +1,5 @@
 -- The raise machine: the words of a table, what each pass knows, and the rule that holds between any two steps.
-use Rattle.std.specs.Prelude.{◌≡◌, ℕ, ◌+◌, ◌-◌, ◌*◌, ◌/◌, ◌%◌, ◌^◌, min, ◌<◌, ◌≤◌, ◌==◌, ◌&&◌, not, Bool, true, false, if◌then◌else◌, Option, Some, None, ◌⊎◌, List, [], ◌∷◌, ◌++◌, length, map, replicate, filter, slice_index, slice_set, bit_or, sum_by, take}
+use Rattle.std.specs.Prelude.{◌≡◌, ℕ, zero, suc, ◌+◌, ◌-◌, ◌*◌, ◌/◌, ◌%◌, ◌^◌, min, ◌<◌, ◌≤◌, ◌==◌, ◌&&◌, not, Bool, true, false, if◌then◌else◌, Option, Some, None, ◌⊎◌, List, [], ◌∷◌, ◌++◌, length, map, replicate, filter, slice_index, slice_set, bit_or, sum_by, take}
 use Rattle.std.specs.List.{range_with_len, list_any}
 use Rattle.std.specs.Int.{bit_at, bit_not}
 use mir.Syntax.{w64}
@@ -11,7 +11,7 @@ use Rattle.atomic_table.specs.Seated.{TableId}
 use Rattle.atomic_table.specs.declared.shared.Seat.{Seat}
 use Rattle.jn_sigtable.specs.declared.view.View.{View}
 use Rattle.jn_sigtable.specs.declared.view.Setting.{Setting}
-use Rattle.jn_sigtable.specs.System.{System, IsClosed, Within, bits_for, Covers, least, limit_of}
+use Rattle.jn_sigtable.specs.System.{System, IsClosed, Within, bits_for, Covers, least, limit_of, risen}
 
 abbrev pub Has : List ℕ → ℕ → Type 0
 Has [] x = ⊥
@@ -41,6 +41,11 @@ dirty_bits bodies d = 2 ^ min 64 (bodies - d * 64) - 1
 
 abbrev pub IsDirty : System → List ℕ → ℕ → Type 0
 IsDirty sys words b = bit_at (slice_index words (sys.words + b / 64)) (b % 64) ≡ 1
+
+-- how many of the first n bodies are dirty
+unfoldable pub dirty_below : System → List ℕ → ℕ → ℕ
+dirty_below sys words zero = 0
+dirty_below sys words (suc n) = dirty_below sys words n + bit_at (slice_index words (sys.words + n / 64)) (n % 64)
 
 abbrev pub bodies_where : System → (ℕ → Bool) → List ℕ
 bodies_where sys test = filter test (range_with_len 0 sys.bodies)
@@ -120,6 +125,20 @@ module _ {C : Type 0} where
   abbrev pub IsWhole : View C → Type 0
   IsWhole v = (e : ℕ) → ((d : ℕ) → Has v.share d → d ≤ e) → weight e v ≡ 2 ^ e
 
+  -- the bodies that a pass has taken and not given back
+  abbrev pub taken_in : View C → ℕ
+  taken_in v = v.taken
+
+  -- these, and the marks that it owes
+  abbrev pub held : View C → ℕ
+  held v = v.taken + length v.owed
+
+  -- what all passes hold and the dirty bits are together at most one for each body, and one more for each body and each bit above the start.
+  -- A pass that runs a body has taken one
+  pub record IsCounted (sys : System) (start words : List ℕ) (views : List (View C)) : Type 0 where
+    pub most : sum_by held views + dirty_below sys words sys.bodies ≤ sys.bodies + sys.bodies * risen sys start words
+    pub runs : (i : ℕ) (v : View C) → get_elem? views i ≡ some v → IsLive v → (b : ℕ) → v.body ≡ Some b → 0 < v.taken
+
   -- what a view says of the words
   pub record IsBelow (sys : System) (words : List ℕ) (v : View C) : Type 0 where
     pub count : length v.values ≡ sys.words
@@ -127,9 +146,13 @@ module _ {C : Type 0} where
     pub raised : (w : ℕ) → w < sys.words → Within (bits_for v.raised w) (slice_index words w)
     pub inside : (b : ℕ) → v.body ≡ Some b → b < sys.bodies
 
--- a seat of this table, whose view has its system
-abbrev pub IsSeatOf : {C : Type 0} → TableId → C → Seat ℕ (View C) → Type 0
-IsSeatOf table it seat = (seat.table_id ≡ table) × (seat.me.0.system ≡ it)
+-- a seat of this table, whose view has its system and the most bodies that its passes may take
+abbrev pub IsSeatOf : {C : Type 0} → TableId → C → ℕ → Seat ℕ (View C) → Type 0
+IsSeatOf table it most seat = (seat.table_id ≡ table) × (seat.me.0.system ≡ it) × (seat.me.0.limit ≡ most)
+
+-- the pass has taken, and not given back, no more bodies than all passes together may
+abbrev pub IsBounded : {C : Type 0} → View C → Type 0
+IsBounded v = v.taken ≤ v.limit
 
 -- the bits that may be marked: those that are owed, and the running body's own
 abbrev pub MayMark : {C : Type 0} → View C → ℕ → ℕ → Type 0
@@ -200,10 +223,11 @@ module _ {C : Type 0} (describe : C → System) where
     pub cover : (b : ℕ) → b < (describe k.system).bodies → IsCovered (describe k.system) s.words s.views b
     pub scanned : (b : ℕ) → b < (describe k.system).bodies → IsDirty (describe k.system) s.words b → IsUnseen s.views b
     pub shares : AddUp s.views
+    pub counted : IsCounted (describe k.system) (start_of k) s.words s.views
 
   -- ---- what each step tells
   abbrev pub Takes : Step ℕ → Me ℕ (View C) → ℕ → Me ℕ (View C) → Type 0
-  Takes s me n after = (b : ℕ) → s.word ≡ (sys_of me.0).words + b / 64 → s.first ≡ all_but (b % 64) → after ≡ (after_take me.0 b n, me.1)
+  Takes s me n after = ((b : ℕ) → s.word ≡ (sys_of me.0).words + b / 64 → s.first ≡ all_but (b % 64) → after ≡ (after_take me.0 b n, me.1)) × IsBounded after.0
 
   abbrev pub Reads : Step ℕ → Me ℕ (View C) → ℕ → Me ℕ (View C) → Type 0
   Reads s me n after = after ≡ (after_read me.0 s.word n, me.1)
@@ -215,7 +239,7 @@ module _ {C : Type 0} (describe : C → System) where
   Marks s me n after = (d : ℕ) → s.word ≡ (sys_of me.0).words + d → after ≡ (after_mark me.0 d s.first, me.1)
 
   abbrev pub Scans : Step ℕ → Me ℕ (View C) → ℕ → Me ℕ (View C) → Type 0
-  Scans s me n after = (d : ℕ) → s.word ≡ (sys_of me.0).words + d → after ≡ (after_scan me.0 d n, me.1)
+  Scans s me n after = ((d : ℕ) → s.word ≡ (sys_of me.0).words + d → after ≡ (after_scan me.0 d n, me.1)) × IsBounded after.0
 
   -- ---- split and join
   abbrev pub left_of : View C → View C

@@ -101,6 +101,10 @@ unfoldable pub ones_in : ℕ → List ℕ → ℕ
 ones_in zero words = 0
 ones_in (suc n) words = ones_in n words + ones_below 64 (slice_index words n)
 
+-- how many bits the words have above the start
+abbrev pub risen : System → List ℕ → List ℕ → ℕ
+risen sys start words = ones_in sys.words words - ones_in sys.words start
+
 -- each body is taken at the start, and at most once more for each bit that can be raised
 abbrev pub limit_of : System → List ℕ → ℕ
-limit_of sys start = sys.bodies * (1 + (ones_in sys.words (least sys start) - ones_in sys.words start))
+limit_of sys start = sys.bodies * (1 + risen sys start (least sys start))

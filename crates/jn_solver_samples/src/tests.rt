@@ -1,6 +1,6 @@
 ghost use Rattle.std.specs.Prelude.{◌<◌, ◌≤◌};
 
-use crate::{Meet, Net, Pair, Shape, drained, solved};
+use crate::{Meet, Net, Pair, Shape, Starved, drained, solved};
 use jn_base::{BodyNo, OutOfMemory};
 use jn_sigtable::SigTable;
 use jn_workers::{Straight, solve};
@@ -47,6 +47,35 @@ fn a_body_that_was_run_is_clear(rt: HostRuntime) -> Result<(), Fail> {
         panic!(rt; "no memory")
     };
     assert!(rt; words.len() == 1 && words[0] == 2);
+    Ok(())
+}
+
+#[test]
+fn a_body_without_memory_is_dirty_again(rt: HostRuntime) -> Result<(), Fail> {
+    let Ok(readers) = plan(rt.alloc(), &Starved) else {
+        panic!(rt; "no memory")
+    };
+    let Ok((table, mut pass)) = SigTable::new(rt.alloc(), Starved, &[0]) else {
+        panic!(rt; "no memory")
+    };
+    let Some(body) = table.take_body(&mut pass, BodyNo(0)) else {
+        panic!(rt; "not dirty at the start")
+    };
+    let run = run_body(rt.alloc(), &table, &readers, &mut pass, body);
+    assert!(rt; run.is_err());
+    assert!(rt; table.take_body(&mut pass, BodyNo(0)) == Some(BodyNo(0)));
+    let Ok((_, words)) = table.close(rt.alloc(), pass) else {
+        panic!(rt; "no memory")
+    };
+    assert!(rt; words.len() == 1 && words[0] == 0);
+    Ok(())
+}
+
+#[test]
+fn workers_without_memory(rt: HostRuntime) -> Result<(), Fail> {
+    for workers in [1, 2] {
+        assert!(rt; solve(&rt, rt.alloc(), Starved, &[0], workers, &Straight).is_err());
+    }
     Ok(())
 }
 

@@ -58,6 +58,7 @@ module _ (W : World) (m : Marks) (heap : List Thing) (o e d : ℕ) (ended : List
     free = λ p l h. freed_by a p l (eqb_cases p o) h;
     class = λ p c h. h;
     set = λ p f l h s. s;
+    kept = λ p f n k z. z;
   }
 
   committed_by : (p : ℕ) → (p ≡ o) ⊎ (p ≡ o → ⊥) → m p ≡ Committed → ended_marks p ≡ Committed
@@ -151,6 +152,7 @@ module _ (W : World) (m : Marks) (heap : List Thing) (e : ℕ) where
     free = λ o l h. record { now = l; is = ap (λ k. commit_mark e k) h ∙ commit_other a l (eqb a e) refl n; more = λ c x. x };
     class = λ o c h. h;
     set = λ o f l h s. s;
+    kept = λ o f n k z. z;
   }
 
   settle_mark : (a : ℕ) (q : Qualifier) (k : ObjMark) → a ≡ e → MarkFits a q k → commit_mark e k ≡ Committed

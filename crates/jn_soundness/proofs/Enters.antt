@@ -31,7 +31,7 @@ use Rattle.jn_quals.specs.Order.{free_only, is_none, no_qual, within}
 use Rattle.jn_env.specs.Order.{qual_at}
 use Rattle.jn_soundness.proofs.Basics.{true_false, within_free, describes_within, describes_era, described_at, AllDescribed, described_pad, all_within, on_none, within_refl}
 use Rattle.jn_soundness.proofs.Tops.{object_is, arrives, no_test}
-use Rattle.jn_soundness.proofs.Laters.{Later, describes_later, stands_later, all_later, waiting_later}
+use Rattle.jn_soundness.proofs.Laters.{Later, describes_later, frame_later, top_waits, all_later, waiting_later}
 use Rattle.jn_soundness.proofs.Writes.{or_free, cond_is}
 use Rattle.jn_soundness.proofs.Grows.{FitsMark, thing_later, grown_marks, grown_later, grown_heap, mark_same, append_last}
 use Rattle.jn_soundness.specs.Asked.{ArgsRef, Overrides, Typed}
@@ -194,7 +194,7 @@ module _ (W : World) (checked : Checked W) where
 
   module _ (st : State) (mk : Marking) (good : Marked W st mk) (pt : Point) (point : point_at W.program st.top.body st.top.at ≡ Some pt) where
     waits_same : (b : ℕ) (g : FrameMark) → Waits W b g mk.top good.top.env pt.kind → EraStep g mk.top → Waiting W mk.marks st.heap b g (st.top ∷ st.waiting) (mk.top ∷ mk.waiting)
-    waits_same b g w e = (record { frame = record { env = good.top.env; reached = good.top.reached; stands = good.top.stands }; pt = pt; point = point; waits = w; era = e }, good.waiting)
+    waits_same b g w e = (record { frame = top_waits W mk.marks st.heap mk.marks st.heap st.top mk.top good.top; pt = pt; point = point; waits = w; era = e }, good.waiting)
 
     same_step : (g : FrameMark) → g.opened ≡ false → g.era ≡ mk.top.era → EraStep g mk.top
     same_step g o e = record { opened = λ h. true_false g.opened h o; same = λ h. e }
@@ -368,7 +368,7 @@ module _ (W : World) (checked : Checked W) where
                   });
               waiting = (
                 record {
-                  frame = record { env = good.top.env; reached = good.top.reached; stands = stands_later W mk.marks st.heap marks' heap' st.top mk.top good.top.env (later mk.top.era) good.top.stands };
+                  frame = frame_later W mk.marks st.heap marks' heap' st.top mk.top (later mk.top.era) (top_waits W mk.marks st.heap marks' heap' st.top mk.top good.top);
                   pt = pt;
                   point = point;
                   waits = subst (λ y. Waits W b g' mk.top good.top.env y) (sym is) (record { ctor = inside; made = refl; opens = q_opens; opened = q_opened; shared = q_shared });

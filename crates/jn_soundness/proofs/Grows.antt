@@ -16,7 +16,7 @@ use Rattle.jn_sigs.specs.Signature.{field_qual}
 use Rattle.jn_points.specs.Lookup.{owner, ref_field}
 use Rattle.jn_env.specs.Order.{qual_at}
 use Rattle.jn_soundness.proofs.Basics.{described_at, on_map, eqb_cases}
-use Rattle.jn_soundness.proofs.Laters.{Later, stands_later}
+use Rattle.jn_soundness.proofs.Laters.{Later, fits_born, stands_later}
 use Rattle.jn_soundness.proofs.Writes.{set_same, set_there, set_other}
 use Rattle.jn_soundness.proofs.Tops.{no_test}
 use Rattle.jn_soundness.specs.Heaps.{Building, BuiltOk, Describes, FieldOk, HeapOk, MarkFits, Settled, ThingOk, free_qual}
@@ -88,6 +88,7 @@ module _ (W : World) (heap : List Thing) (o : ℕ) (b : BaseType) (xs : List Val
     free = λ p ended h. record { now = ended; is = h; more = λ x y. y };
     class = λ p k h. class_by p (eqb_cases o p) ∙ h;
     set = λ p g ended h s z. s (sym (elems_field p g) ∙ z);
+    kept = λ p g n k z. sym (elems_field p g) ∙ z;
   }
 
   item_by : (m : Marks) (j : ℕ) (w : Value) → ((j : ℕ) (w : Value) → slice_get xs j ≡ Some w → Settled m (elem_qual b) w) → Settled m (elem_qual b) v → (i ≡ j) ⊎ (i ≡ j → ⊥) → slice_get (slice_set xs i v) j ≡ Some w → Settled m (elem_qual b) w
@@ -102,9 +103,6 @@ module _ (W : World) (heap : List Thing) (o : ℕ) (b : BaseType) (xs : List Val
 
   pub elems_heap : (m : Marks) (gs : List FrameMark) → HeapOk W m gs heap → Settled m (elem_qual b) v → HeapOk W m gs elems_after
   elems_heap m gs h s p = heap_by m gs h s p (eqb_cases o p)
-
-fits_born : (a : ℕ) (q : Qualifier) (t : ObjMark) → MarkFits a q t → t ≡ Unborn → ⊥
-fits_born a q t h e = subst (λ t. MarkFits a q t) e h
 
 -- one more thing
 mark_by : (m : Marks) (i j : ℕ) (k : ObjMark) (t : Bool) → eqb j i ≡ t → (j ≡ i → ⊥) → cond t k (m j) ≡ m j
@@ -168,6 +166,7 @@ module _ (W : World) (m : Marks) (gs : List FrameMark) (heap : List Thing) (ok :
     free = λ o ended h. record { now = ended; is = same_mark o (Free a ended) (not_unborn a ended) h; more = λ c y. y };
     class = λ o c h. ap class_in (append_other heap x o (some_born o c class_in refl h)) ∙ h;
     set = λ o g ended h s z. s (sym (field_grown o g (λ u. not_unborn a ended (sym h ∙ u))) ∙ z);
+    kept = λ o g n k z. sym (field_grown o g n) ∙ z;
   }
 
   pub committed_grown : (o : ℕ) → m o ≡ Committed → grown_marks o ≡ Committed

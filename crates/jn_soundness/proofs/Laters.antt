@@ -1,17 +1,19 @@
 -- Frames stay good under a later heap and marking.
-use Rattle.std.proofs.Common.{◌≡◌, ℕ, Bool, ◌⊎◌, inl, inr, List, [], ◌∷◌, Option, Some, None}
+use Rattle.std.proofs.Common.{◌≡◌, ℕ, Bool, ◌⊎◌, inl, inr, List, [], ◌∷◌, Option, Some, None, subst}
 use Rattle.jn_quals.specs.Qualifier.{Qualifier}
 use Rattle.jn_heap.specs.Values.{At, NullRef, Plain, Text, Thing, Value}
 use Rattle.jn_env.specs.Environment.{Env}
-use Rattle.jn_heap.specs.State.{Frame, Regs}
+use Rattle.jn_heap.specs.State.{Frame, Regs, value_at}
+use Rattle.jn_heap.specs.Steps.{field_at}
 use Rattle.jn_heap.specs.Calls.{class_at}
 use Rattle.jn_soundness.specs.World.{World}
 use Rattle.jn_points.specs.Lookup.{class_of, method_in}
-use Rattle.jn_env.specs.Keys.{own_keys}
-use Rattle.jn_soundness.proofs.Basics.{on_map}
-use Rattle.jn_soundness.specs.Frames.{AssignedOk, CtorOk, Described, FieldSet, Stands, SupersEnded}
+use Rattle.jn_env.specs.Keys.{Key, fact_keys, own_keys}
+use Rattle.jn_env.specs.Order.{qual_at}
+use Rattle.jn_soundness.proofs.Basics.{described_at, on_map}
+use Rattle.jn_soundness.specs.Frames.{AllOn, AssignedOk, CtorOk, Described, FactOk, FieldSet, GoodFrame, GoodTop, Kept, KeptOk, Stands, SupersEnded}
 use Rattle.jn_soundness.specs.Heaps.{Describes, IsMember, MarkFits}
-use Rattle.jn_soundness.specs.Marks.{FrameMark, Free, Marks, ObjMark}
+use Rattle.jn_soundness.specs.Marks.{FrameMark, Free, Marks, ObjMark, Unborn}
 use Rattle.jn_soundness.specs.Calls.{Waiting}
 
 pub record Freed (m : ℕ → ObjMark) (a o : ℕ) (ended : List ℕ) : Type 0 where
@@ -25,6 +27,11 @@ pub record Later (W : World) (a : ℕ) (m : ℕ → ObjMark) (heap : List Thing)
   pub free : (o : ℕ) (ended : List ℕ) → m o ≡ Free a ended → Freed n a o ended
   pub class : (o c : ℕ) → class_at heap o ≡ Some c → class_at heap' o ≡ Some c
   pub set : (o f : ℕ) (ended : List ℕ) → m o ≡ Free a ended → FieldSet W heap o f → FieldSet W heap' o f
+  -- null is new in no field whose facts are kept
+  pub kept : (o f : ℕ) → (m o ≡ Unborn → ⊥) → Kept W f → field_at W.program heap' o f ≡ Some NullRef → field_at W.program heap o f ≡ Some NullRef
+
+pub fits_born : (a : ℕ) (q : Qualifier) (t : ObjMark) → MarkFits a q t → t ≡ Unborn → ⊥
+fits_born a q t h e = subst (λ t. MarkFits a q t) e h
 
 module _ (W : World) (m : Marks) (heap : List Thing) (n : Marks) (heap' : List Thing) where
   pub describes_later : (a : ℕ) (l : Later W a m heap n heap') (q : Qualifier) (v : Option Value) → Describes m a q v → Describes n a q v
@@ -65,6 +72,20 @@ module _ (W : World) (m : Marks) (heap : List Thing) (n : Marks) (heap' : List T
     ctor = ctor_later f g l g.built s.ctor;
   }
 
+  -- a register holds nothing unborn
+  pub held_born : (f : Frame) (g : FrameMark) (e : Env) → Described m g.era e.quals f.regs → (k : Key) (o : ℕ) → value_at f.regs k.reg ≡ Some (At o) → m o ≡ Unborn → ⊥
+  held_born f g e d k o is = fits_born g.era (qual_at e k.reg) (m o) (subst (λ v. Describes m g.era (qual_at e k.reg) v) is (described_at m g.era e.quals f.regs k.reg d))
+
+  pub kept_later : (f : Frame) (g : FrameMark) (e : Env) (l : Later W g.era m heap n heap') → Described m g.era e.quals f.regs → AllOn (KeptOk W heap f.regs) (fact_keys W.program f.body) e.facts → AllOn (KeptOk W heap' f.regs) (fact_keys W.program f.body) e.facts
+  kept_later f g e l d h = on_map (KeptOk W heap f.regs) (KeptOk W heap' f.regs) (fact_keys W.program f.body) e.facts (λ k x y o is z. x y o is (l.kept o k.field (held_born f g e d k o is) y z)) h
+
+  abbrev pub frame_later : (f : Frame) (g : FrameMark) → Later W g.era m heap n heap' → GoodFrame W m heap f g → GoodFrame W n heap' f g
+  frame_later f g l x = record { env = x.env; reached = x.reached; stands = stands_later f g x.env l x.stands; kept = kept_later f g x.env l x.stands.quals x.kept }
+
+  -- the running frame begins to wait
+  abbrev pub top_waits : (f : Frame) (g : FrameMark) → GoodTop W m heap f g → GoodFrame W m heap f g
+  top_waits f g t = record { env = t.env; reached = t.reached; stands = t.stands; kept = on_map (FactOk W heap f.regs) (KeptOk W heap f.regs) (fact_keys W.program f.body) t.env.facts (λ k x y. x) t.facts }
+
   abbrev pub AllLater : List FrameMark → Type 0
   AllLater [] = Unit {0}
   AllLater (h ∷ hs) = Later W h.era m heap n heap' × AllLater hs
@@ -80,7 +101,7 @@ module _ (W : World) (m : Marks) (heap : List Thing) (n : Marks) (heap' : List T
   waiting_later b g (f ∷ ws) (h ∷ hs) l w =
       let x = w.0 in (
         record {
-          frame = record { env = x.frame.env; reached = x.frame.reached; stands = stands_later f h x.frame.env l.0 x.frame.stands };
+          frame = frame_later f h l.0 x.frame;
           pt = x.pt;
           point = x.point;
           waits = x.waits;

@@ -17,19 +17,19 @@ use Rattle.jn_heap.specs.Calls.{gives, gives_to, resumes, returns, takes, takes_
 use Rattle.jn_heap.specs.Runs.{step}
 use Rattle.jn_soundness.specs.World.{World}
 use Rattle.jn_points.specs.Lookup.{class_of, ctor_of, method_at, method_in, owner, point_at, slots_of}
-use Rattle.jn_transfer.specs.Transfer.{ctor_called, drop_all, new_qual, put, ref_quals}
-use Rattle.jn_env.specs.Keys.{fact_keys, mask, own_keys}
+use Rattle.jn_transfer.specs.Transfer.{ctor_called, drop_facts, new_qual, put, ref_quals}
+use Rattle.jn_env.specs.Keys.{fact_keys, is_kept, mask, own_keys}
 use Rattle.jn_points.specs.Members.{has_field}
 use Rattle.jn_env.specs.Order.{qual_at}
 use Rattle.jn_sigs.specs.Signature.{result_of}
 use Rattle.jn_soundness.proofs.Keys.{keys_own}
-use Rattle.jn_soundness.proofs.Basics.{true_false, describes_within, described_at, described_set, value_zero, on_cleared}
+use Rattle.jn_soundness.proofs.Basics.{true_false, describes_within, described_at, described_set, value_zero, on_mask}
 use Rattle.jn_soundness.proofs.Tops.{Step, plain_step, goes_top, facts_set, some_zero, arrives, no_test}
 use Rattle.jn_soundness.proofs.Laters.{Later, stands_later, waiting_later, all_later, AllLater}
 use Rattle.jn_soundness.proofs.Grows.{mark_same}
 use Rattle.jn_soundness.proofs.Enters.{heap_frames}
 use Rattle.jn_soundness.proofs.Commits.{ended_marks, ended_later, ended_heap, committed_marks, commit_later, committed_heap, AllBelow, era_below, all_below, not_building, class_set}
-use Rattle.jn_soundness.specs.Frames.{AllOn, AssignedOk, Ctor, CtorOk, Described, FactOk, FieldSet, GoodTop, Stands, SupersEnded}
+use Rattle.jn_soundness.specs.Frames.{AllOn, AssignedOk, Ctor, CtorOk, Described, FactOk, FieldSet, GoodTop, KeptOk, Stands, SupersEnded}
 use Rattle.jn_soundness.specs.Heaps.{Building, Describes, HeapOk, IsMember, MarkFits, IsEra}
 use Rattle.jn_soundness.specs.Calls.{CallWaits, CtorWaits, NewWaits, Waiting, WaitingFrame, Waits}
 use Rattle.jn_soundness.specs.Marks.{Committed, FrameMark, Free, Marking, Marks, commit_mark, with_mark, ended_mark, end_on, close_era, resumes_with, mark_by}
@@ -37,15 +37,19 @@ use Rattle.jn_soundness.specs.Marked.{Marked, MarkedNext}
 use Rattle.jn_soundness.proofs.Eras.{grown_eras, left_eras}
 
 module _ (W : World) (checked : Checked W) where
-  -- a waiting frame goes on
-  module _ (m : Marks) (heap : List Thing) (w : Frame) (h : FrameMark) (e : Env) (s : Stands W m heap w h e) where
-    drop_top : Step W w.body w.at (w.at + 1, drop_all W.program w.body e) → GoodTop W m heap (moves_to w (w.at + 1)) h
-    drop_top step = goes_top W m heap w h (w.at + 1) w.regs (drop_all W.program w.body e) s.ctor step s.quals s.assigned (on_cleared (FactOk W heap w.regs) (fact_keys W.program w.body) e.facts) (λ c. refl)
+  -- facts that survive the call hold behind it
+  kept_facts : (heap : List Thing) (w : Frame) (bits : List Bool) → AllOn (KeptOk W heap w.regs) (fact_keys W.program w.body) bits → AllOn (FactOk W heap w.regs) (fact_keys W.program w.body) (mask (is_kept W.program) (fact_keys W.program w.body) bits)
+  kept_facts heap w bits h = on_mask (KeptOk W heap w.regs) (FactOk W heap w.regs) (is_kept W.program) (fact_keys W.program w.body) bits h (λ k x y. y x)
 
-    give_top : (dst : ℕ) (q : Qualifier) (v : Value) → Step W w.body w.at (w.at + 1, put W.program w.body (drop_all W.program w.body e) dst q) → (ctor_of (method_in W.program w.body) ≡ true → Some dst ≡ Some 0 → ⊥) → Describes m h.era q (Some v) → GoodTop W m heap (holds_at w dst v) h
-    give_top dst q v step kept d = goes_top W m heap w h (w.at + 1) (slice_set w.regs dst (Some v)) (put W.program w.body (drop_all W.program w.body e) dst q) s.ctor step
+  -- a waiting frame goes on
+  module _ (m : Marks) (heap : List Thing) (w : Frame) (h : FrameMark) (e : Env) (s : Stands W m heap w h e) (k : AllOn (KeptOk W heap w.regs) (fact_keys W.program w.body) e.facts) where
+    drop_top : Step W w.body w.at (w.at + 1, drop_facts W.program w.body e) → GoodTop W m heap (moves_to w (w.at + 1)) h
+    drop_top step = goes_top W m heap w h (w.at + 1) w.regs (drop_facts W.program w.body e) s.ctor step s.quals s.assigned (kept_facts heap w e.facts k) (λ c. refl)
+
+    give_top : (dst : ℕ) (q : Qualifier) (v : Value) → Step W w.body w.at (w.at + 1, put W.program w.body (drop_facts W.program w.body e) dst q) → (ctor_of (method_in W.program w.body) ≡ true → Some dst ≡ Some 0 → ⊥) → Describes m h.era q (Some v) → GoodTop W m heap (holds_at w dst v) h
+    give_top dst q v step kept d = goes_top W m heap w h (w.at + 1) (slice_set w.regs dst (Some v)) (put W.program w.body (drop_facts W.program w.body e) dst q) s.ctor step
         (described_set m h.era e.quals w.regs dst q v d s.quals) s.assigned
-        (facts_set W m heap w.body w.regs dst (Some v) (mask (λ k. false) (fact_keys W.program w.body) e.facts) (on_cleared (FactOk W heap w.regs) (fact_keys W.program w.body) e.facts))
+        (facts_set W m heap w.body w.regs dst (Some v) (mask (is_kept W.program) (fact_keys W.program w.body) e.facts) (kept_facts heap w e.facts k))
         (λ c. value_zero w.regs dst (Some v) (some_zero W m heap dst (kept c)))
 
   all_own : (heap : List Thing) (o c : ℕ) (keys : List ℕ) (bits : List Bool) → AllOwn W c keys → ((f : ℕ) → owner W.program f ≡ c → FieldSet W heap o f) → AllOn (FieldSet W heap o) keys bits
@@ -106,16 +110,16 @@ module _ (W : World) (checked : Checked W) where
         eras = λ o a l e. below_era (x.era.same shared) (eras_ok o a l e);
       }
 
-      call_value : (dst m : ℕ) → CallWaits W st.top.body mk.top h (method_at W.program m) → Step W w.body w.at (w.at + 1, put W.program w.body (drop_all W.program w.body x.frame.env) dst (result_of W.sig (method_at W.program m))) → (ctor_of (method_in W.program w.body) ≡ true → Some dst ≡ Some 0 → ⊥) → (v : Option Value) → Describes mk.marks mk.top.era (result_of W.sig (method_in W.program st.top.body)) v → MarkedNext W (after mk.marks) (gives st w ws dst v)
+      call_value : (dst m : ℕ) → CallWaits W st.top.body mk.top h (method_at W.program m) → Step W w.body w.at (w.at + 1, put W.program w.body (drop_facts W.program w.body x.frame.env) dst (result_of W.sig (method_at W.program m))) → (ctor_of (method_in W.program w.body) ≡ true → Some dst ≡ Some 0 → ⊥) → (v : Option Value) → Describes mk.marks mk.top.era (result_of W.sig (method_in W.program st.top.body)) v → MarkedNext W (after mk.marks) (gives st w ws dst v)
       call_value dst m c step kept None d = tt
       call_value dst m c step kept (Some v) d =
           let q = result_of W.sig (method_at W.program m) in
           let here : Describes mk.marks mk.top.era q (Some v) = describes_within mk.marks mk.top.era (result_of W.sig (method_in W.program st.top.body)) q (Some v) c.result d in
           let there : Describes mk.marks h.era q (Some v) = subst (λ a. Describes mk.marks a q (Some v)) (x.era.same c.shared) here in
-          plain_resumed c.method (holds_at w dst v) refl c.shared (give_top mk.marks st.heap w h x.frame.env x.frame.stands dst q v step kept there)
+          plain_resumed c.method (holds_at w dst v) refl c.shared (give_top mk.marks st.heap w h x.frame.env x.frame.stands x.frame.kept dst q v step kept there)
 
       call_return : (dst : Option RegNo) (m : MethodNo) (r : Option Operand) (direct : Bool) (args : List Operand) → CallWaits W st.top.body mk.top h (method_at W.program m.0) → PointOk W w.body w.at x.frame.env (Call dst m r direct args) → MarkedNext W (after mk.marks) (gives_to st w ws dst result)
-      call_return None m r direct args c p = plain_resumed c.method (moves_to w (w.at + 1)) refl c.shared (drop_top mk.marks st.heap w h x.frame.env x.frame.stands (plain_step W _ _ _ _ tt tt (p.edges _ (inl refl))))
+      call_return None m r direct args c p = plain_resumed c.method (moves_to w (w.at + 1)) refl c.shared (drop_top mk.marks st.heap w h x.frame.env x.frame.stands x.frame.kept (plain_step W _ _ _ _ tt tt (p.edges _ (inl refl))))
       call_return (Some dst) m r direct args c p = call_value dst.0 m.0 c (plain_step W _ _ _ _ tt tt (p.edges _ (inl refl))) p.this_kept result (result_fits vo ok.rules.0)
 
       -- a constructor's frame
@@ -174,7 +178,7 @@ module _ (W : World) (checked : Checked W) where
         lesser [] b = tt
         lesser (g ∷ gs) b = (commit_later W m1 st.heap mk.top.era g.era (λ e. let y = b.0 in absurd (omega arith)), lesser gs b.1)
 
-        opened_resumed : mk.top.opened ≡ true → (dst : ℕ) (q : Qualifier) → q.committed ≡ true → Step W w.body w.at (w.at + 1, put W.program w.body (drop_all W.program w.body x.frame.env) dst q) → (ctor_of (method_in W.program w.body) ≡ true → Some dst ≡ Some 0 → ⊥) → Resumed m2 (holds_at w dst (At o))
+        opened_resumed : mk.top.opened ≡ true → (dst : ℕ) (q : Qualifier) → q.committed ≡ true → Step W w.body w.at (w.at + 1, put W.program w.body (drop_facts W.program w.body x.frame.env) dst q) → (ctor_of (method_in W.program w.body) ≡ true → Some dst ≡ Some 0 → ⊥) → Resumed m2 (holds_at w dst (At o))
         opened_resumed op dst q qc step kept =
             let less : h.era < mk.top.era = x.era.opened op in
             let all : AllBelow mk.top.era hs = all_below W mk.marks st.heap w.body h ws hs mk.top.era less rest in
@@ -182,7 +186,7 @@ module _ (W : World) (checked : Checked W) where
             let now : m2 o ≡ Committed = ap (λ k. commit_mark mk.top.era k) mark1 ∙ era_same mk.top.era (d ∷ c.ended) in
             record {
               heap = committed_heap W m1 st.heap mk.top.era (h ∷ hs) (not_building W mk.marks st.heap mk.top.era (h ∷ hs) (less, all)) heap1;
-              top = give_top m2 st.heap w h x.frame.env stands2 dst q (At o) step kept (subst (λ k. MarkFits h.era q k) (sym now) qc);
+              top = give_top m2 st.heap w h x.frame.env stands2 x.frame.kept dst q (At o) step kept (subst (λ k. MarkFits h.era q k) (sym now) qc);
               waiting = waiting_later W m1 st.heap m2 st.heap w.body h ws hs (lesser hs all) rest1;
               below = below;
               eras = left_eras m1 mk.top (h ∷ hs) eras1;
@@ -191,11 +195,11 @@ module _ (W : World) (checked : Checked W) where
             era_same : (e : ℕ) (l : List ℕ) → commit_mark e (Free e l) ≡ Committed
             era_same e l = ap (λ t. cond t Committed (Free e l)) (eq-eqb e e refl)
 
-        new_by : (dst : ℕ) (q : Qualifier) (t : Bool) → mk.top.opened ≡ t → (mk.top.opened ≡ true → q.committed ≡ true) → (mk.top.opened ≡ false → q.free ≡ true) → Step W w.body w.at (w.at + 1, put W.program w.body (drop_all W.program w.body x.frame.env) dst q) → (ctor_of (method_in W.program w.body) ≡ true → Some dst ≡ Some 0 → ⊥) → Resumed (close_era m1 mk.top.era t) (holds_at w dst (At o))
+        new_by : (dst : ℕ) (q : Qualifier) (t : Bool) → mk.top.opened ≡ t → (mk.top.opened ≡ true → q.committed ≡ true) → (mk.top.opened ≡ false → q.free ≡ true) → Step W w.body w.at (w.at + 1, put W.program w.body (drop_facts W.program w.body x.frame.env) dst q) → (ctor_of (method_in W.program w.body) ≡ true → Some dst ≡ Some 0 → ⊥) → Resumed (close_era m1 mk.top.era t) (holds_at w dst (At o))
         new_by dst q true op y n step kept = opened_resumed op dst q (y op) step kept
         new_by dst q false op y n step kept =
             let here : MarkFits h.era q (m1 o) = subst (λ k. MarkFits h.era q k) (sym mark1) (n op, x.era.same op) in
-            ended_resumed (holds_at w dst (At o)) refl op (give_top m1 st.heap w h x.frame.env stands1 dst q (At o) step kept here)
+            ended_resumed (holds_at w dst (At o)) refl op (give_top m1 st.heap w h x.frame.env stands1 x.frame.kept dst q (At o) step kept here)
 
         ends : end_on mk.marks mk.top.built d ≡ m1
         ends = ap (λ y. end_on mk.marks y d) built ∙ ap (λ k. with_mark mk.marks o (ended_mark d k)) c.free
@@ -243,8 +247,8 @@ module _ (W : World) (checked : Checked W) where
           caller_assigned true s = all_own st.heap o (class_of (method_in W.program w.body)) (own_keys W.program w.body) (ctor_called W.program w.body x.frame.env true).assigned (keys_own W w.body) (λ f y. set assigned f (y ∙ (sym (p.names.same s) ∙ sym n.class)))
 
           caller_facts : (t : Bool) → AllOn (FactOk W st.heap w.regs) (fact_keys W.program w.body) (ctor_called W.program w.body x.frame.env t).facts
-          caller_facts false = on_cleared (FactOk W st.heap w.regs) (fact_keys W.program w.body) x.frame.env.facts
-          caller_facts true = on_cleared (FactOk W st.heap w.regs) (fact_keys W.program w.body) x.frame.env.facts
+          caller_facts false = kept_facts st.heap w x.frame.env.facts x.frame.kept
+          caller_facts true = kept_facts st.heap w x.frame.env.facts x.frame.kept
 
           caller_quals : (t : Bool) → Described m1 h.era (ctor_called W.program w.body x.frame.env t).quals w.regs
           caller_quals false = stands1.quals

@@ -34,7 +34,7 @@ use Rattle.jn_soundness.specs.Marks.{Committed, Marking, Marks, births, mark_by}
 use Rattle.jn_soundness.specs.Heaps.{Describes, HoldsRef, MarkFits, Settled, FieldOk}
 use Rattle.jn_soundness.specs.Asked.{ElemsFit, Typed, HoldsPlain, AllPlain}
 use Rattle.jn_soundness.specs.Marked.{Marked, MarkedNext}
-use Rattle.jn_soundness.specs.Frames.{GoodTop, TestOk}
+use Rattle.jn_soundness.specs.Frames.{GoodTop, Kept, TestOk}
 use Rattle.jn_soundness.proofs.Eras.{committed_eras}
 
 elem_settled : (b : BaseType) → (elem_qual b).free ≡ false
@@ -190,18 +190,22 @@ module _ (W : World) (st : State) (mk : Marking) (good : Marked W st mk) where
     null_qual : (v : Value) → value_at st.top.regs s ≡ Some v → v ≡ NullRef → (qual_at good.top.env s).null ≡ true
     null_qual v is n = described_is s (Some NullRef) (is ∙ ap (λ x. Some x) n)
 
+    -- no null goes into a field whose facts are kept
+    null_kept : (v : Value) → value_at st.top.regs s ≡ Some v → v ≡ NullRef → Kept W f → ⊥
+    null_kept v is n k = true_false (qual_at good.top.env s).null (null_qual v is n) (u.kept k)
+
     module _ (o c : ℕ) (fs : List Value) (v : Value) (at' : value_at st.top.regs r ≡ Some (At o)) (is : value_at st.top.regs s ≡ Some v) (thing : slice_get st.heap o ≡ Some (Object c fs)) where
       write_top : (t : Bool) → ref_field W.program f ≡ t → Step W st.top.body st.top.at (st.top.at + 1, written W.program st.top.body good.top.env r f s t) → GoodTop W mk.marks (slice_set st.heap o (Object c (slice_set fs f v))) (moves_to st.top (st.top.at + 1)) mk.top
       write_top true ir step =
           goes_top W mk.marks (slice_set st.heap o (Object c (slice_set fs f v))) st.top mk.top (st.top.at + 1) st.top.regs (written W.program st.top.body good.top.env r f s true)
-          (ctor_later W mk.marks st.heap mk.marks (slice_set st.heap o (Object c (slice_set fs f v))) st.top mk.top (later_after W st.heap o c fs f v thing mk.marks mk.top.era (null_slot v is)) mk.top.built good.top.stands.ctor)
+          (ctor_later W mk.marks st.heap mk.marks (slice_set st.heap o (Object c (slice_set fs f v))) st.top mk.top (later_after W st.heap o c fs f v thing mk.marks mk.top.era (null_slot v is) (null_kept v is)) mk.top.built good.top.stands.ctor)
           step good.top.stands.quals
           (assigned_after W st.heap o c fs f v thing st.top.body good.top.env st.top.regs r s at' (null_qual v is) mk.marks st.top mk.top mk.top.built refl good.top.stands.ctor (null_slot v is) good.top.stands.assigned)
-          (facts_after W st.heap o c fs f v thing st.top.body good.top.env st.top.regs r s at' (null_qual v is) good.top.facts)
+          (facts_after W st.heap o c fs f v thing st.top.body good.top.env st.top.regs r s at' (null_qual v is) (null_kept v is) good.top.facts)
           (λ c. refl)
       write_top false ir step =
           goes_top W mk.marks (slice_set st.heap o (Object c (slice_set fs f v))) st.top mk.top (st.top.at + 1) st.top.regs good.top.env
-          (ctor_later W mk.marks st.heap mk.marks (slice_set st.heap o (Object c (slice_set fs f v))) st.top mk.top (later_after W st.heap o c fs f v thing mk.marks mk.top.era (null_slot v is)) mk.top.built good.top.stands.ctor)
+          (ctor_later W mk.marks st.heap mk.marks (slice_set st.heap o (Object c (slice_set fs f v))) st.top mk.top (later_after W st.heap o c fs f v thing mk.marks mk.top.era (null_slot v is) (null_kept v is)) mk.top.built good.top.stands.ctor)
           step good.top.stands.quals
           (assigned_kept W st.heap o c fs f v thing st.top.body good.top.env st.top.regs r s at' (null_qual v is) mk.top.built (null_slot v is) good.top.stands.assigned)
           (facts_same W st.heap o c fs f v thing st.top.body good.top.env st.top.regs r s at' (null_qual v is) (λ n. true_false (ref_field W.program f) (null_is_ref W (slice_get W.program.fields f) (null_slot v is n)) ir) good.top.facts)
@@ -217,7 +221,7 @@ module _ (W : World) (st : State) (mk : Marking) (good : Marked W st mk) where
             (written_fits (ref_field W.program f) refl);
         top = write_top (ref_field W.program f) refl step;
         waiting = waiting_later W mk.marks st.heap mk.marks (slice_set st.heap o (Object c (slice_set fs f v))) st.top.body mk.top st.waiting mk.waiting
-            (all_later W mk.marks st.heap mk.marks (slice_set st.heap o (Object c (slice_set fs f v))) (λ a. later_after W st.heap o c fs f v thing mk.marks a (null_slot v is)) mk.waiting)
+            (all_later W mk.marks st.heap mk.marks (slice_set st.heap o (Object c (slice_set fs f v))) (λ a. later_after W st.heap o c fs f v thing mk.marks a (null_slot v is) (null_kept v is)) mk.waiting)
             good.waiting;
         below = good.below;
         eras = good.eras;

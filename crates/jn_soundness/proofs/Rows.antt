@@ -18,7 +18,7 @@ use Rattle.jn_points.specs.declared.point.PointKind.{PointKind}
 use Rattle.jn_points.specs.declared.point.PointKind.TheVariants.{FieldRead, FieldWrite, ElemRead, ElemWrite, ArrayLen, NewArray, ArrayOf, New, CtorCall, Call, StrOp, Return}
 use Rattle.jn_points.specs.declared.program.Field.{Field}
 use Rattle.jn_points.specs.declared.program.Method.{Method}
-use Rattle.jn_points.specs.Lookup.{points_of, ref_of, ctor_of, class_of, slots_of, dereferences, body_at, point_at, owner, ref_field, reg_base, method_at, method_in}
+use Rattle.jn_points.specs.Lookup.{points_of, ref_of, ctor_of, class_of, slots_of, dereferences, body_at, point_at, monotonic, owner, ref_field, reg_base, method_at, method_in}
 use Rattle.jn_points.specs.Members.{some_of, below}
 use Rattle.jn_points.specs.Shaped.{Passes, ReceiverMatches}
 use Rattle.jn_sigs.specs.Signature.{slot_quals, result_of, receiver_of, field_qual}
@@ -26,7 +26,7 @@ use Rattle.jn_env.specs.Environment.{Env}
 use Rattle.jn_env.specs.Order.{Table, env_in, qual_at}
 use Rattle.jn_env.specs.Keys.{is_on, is_own, own_keys}
 use Rattle.jn_transfer.specs.Transfer.{elem_qual}
-use Rattle.jn_transfer.specs.Rules.{row_if, lacks_null, lacks_init, pass_rows, arg_rows, return_rows, receiver_rows, elem_rows, elems_rows, new_array_rows, deref_rows, write_rows, kind_rows, rows_at, rows_from, is_unset, unset_at, unset_from, ctor_rows, body_rows, bodies_rows, pairs_rows, rows}
+use Rattle.jn_transfer.specs.Rules.{row_if, lacks_null, lacks_init, pass_rows, arg_rows, return_rows, receiver_rows, elem_rows, elems_rows, new_array_rows, deref_rows, writes_null, write_rows, kind_rows, rows_at, rows_from, is_unset, unset_at, unset_from, ctor_rows, body_rows, bodies_rows, pairs_rows, rows}
 use Rattle.jn_soundness.specs.World.{World, env_at, table_at, param_quals}
 use Rattle.jn_soundness.specs.Checked.{ArgsPass, AllWithin, NotNull, ref_elems, NewArrayPasses, ReceiverPasses, ResultPasses, AllAssigned, Unbroken}
 use Rattle.jn_soundness.specs.Accepted.{FieldSettles}
@@ -175,15 +175,29 @@ module _ (W : World) where
     write_none r v f d h s =
         let q = qual_at e v.reg.0 in
         let slot = field_qual W.program W.sig f in
-        let init : (q.free && (qual_at e r.reg.0).committed) ≡ false = row_none (q.free && (qual_at e r.reg.0).committed) v.span _ (no_right (row_if (lacks_null q slot) v.span _) (row_if (q.free && (qual_at e r.reg.0).committed) v.span _) h) in
+        let bad = writes_null W.program W.sig q f in
+        let late = q.free && (qual_at e r.reg.0).committed in
+        let nulls : bad ≡ false = row_none bad v.span _ (no_left (row_if bad v.span _) (row_if late v.span _) h) in
+        let init : late ≡ false = row_none late v.span _ (no_right (row_if bad v.span _) (row_if late v.span _) h) in
         record {
           not_null = d;
           value = λ ir. all_three (not q.null || slot.null) (not (q.committed || q.free) || slot.committed) (not false || slot.free)
-              (implies q.null slot.null (row_none (lacks_null q slot) v.span _ (no_left (row_if (lacks_null q slot) v.span _) (row_if (q.free && (qual_at e r.reg.0).committed) v.span _) h)))
+              (in_slot q.null slot.null (monotonic W.program f) nulls)
               (holds (q.committed || q.free) slot.committed (s ir)) refl;
           init = λ x y. not_both q.free (qual_at e r.reg.0).committed init x y;
+          kept = not_null q.null slot.null (monotonic W.program f) nulls;
         }
       where
+        in_slot : (a x k : Bool) → (a && (not x || k)) ≡ false → (not a || x) ≡ true
+        in_slot false x k h = refl
+        in_slot true true k h = refl
+        in_slot true false k h = cc
+
+        not_null : (a x k : Bool) → (a && (not x || k)) ≡ false → k ≡ true → a ≡ false
+        not_null false x k h e = refl
+        not_null true true k h e = absurd (let bad : true ≡ false = sym e ∙ h in cc)
+        not_null true false k h e = cc
+
         holds : (a x : Bool) → (a ≡ true → x ≡ true) → (not a || x) ≡ true
         holds false x k = refl
         holds true x k = k refl

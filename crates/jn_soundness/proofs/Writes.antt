@@ -13,15 +13,15 @@ use Rattle.jn_heap.specs.Calls.{class_at, class_in}
 use Rattle.jn_env.specs.Keys.{Key, also, fact_keys, has_key_field, is_key, mask, own_keys}
 use Rattle.jn_soundness.specs.World.{World}
 use Rattle.jn_soundness.specs.Checked.{WritePasses}
-use Rattle.jn_points.specs.Lookup.{class_of, ctor_of, locals, method_in, owner, ref_field, ref_of, has_slot}
+use Rattle.jn_points.specs.Lookup.{class_of, ctor_of, locals, method_in, monotonic, owner, ref_field, ref_of, has_slot}
 use Rattle.jn_sigs.specs.Signature.{field_qual, field_qual_of, slot_qual}
 use Rattle.jn_points.specs.Members.{has_field}
 use Rattle.jn_env.specs.Order.{qual_at}
 use Rattle.jn_quals.specs.Order.{settle}
-use Rattle.jn_transfer.specs.Transfer.{write_assigned, write_facts}
+use Rattle.jn_transfer.specs.Transfer.{facts_but, write_assigned, write_facts}
 use Rattle.jn_soundness.proofs.Basics.{true_false, within_null, within_committed, settled_of, settled_within, on_mask, on_also, on_map, eqb_cases}
 use Rattle.jn_soundness.proofs.Laters.{Later}
-use Rattle.jn_soundness.specs.Frames.{AllOn, AssignedOk, CtorOk, FactOk, FieldSet}
+use Rattle.jn_soundness.specs.Frames.{AllOn, AssignedOk, CtorOk, FactOk, FieldSet, Kept}
 use Rattle.jn_soundness.specs.Marks.{Committed, FrameMark, Free, Marks, ObjMark, Unborn}
 use Rattle.jn_soundness.specs.Heaps.{Describes, FieldOk, HeapOk, HoldsRef, MarkFits, ObjectOk, ThingOk, free_qual}
 use Rattle.jn_soundness.specs.Asked.{HoldsPlain}
@@ -149,13 +149,18 @@ module _ (W : World) (heap : List Thing) (o c : ℕ) (fs : List Value) (f : ℕ)
       by (inl x) = subst (λ y. (field_qual W.program W.sig y).null ≡ true) x.1 (null x.2)
       by (inr x) = s x.1
 
-  pub later_after : (m : Marks) (a : ℕ) → (v ≡ NullRef → (field_qual W.program W.sig f).null ≡ true) → Later W a m heap m heap_after
-  later_after m a null = record {
+  pub later_after : (m : Marks) (a : ℕ) → (v ≡ NullRef → (field_qual W.program W.sig f).null ≡ true) → (v ≡ NullRef → Kept W f → ⊥) → Later W a m heap m heap_after
+  later_after m a null clean = record {
     fits = λ p q h. h;
     free = λ p ended h. record { now = ended; is = h; more = λ x y. y };
     class = λ p k h. class_by p k (eqb_cases o p) h;
     set = λ p g ended h s. set_after null p g s;
+    kept = λ p g n k z. still p g k (written_field p g NullRef z);
   }
+    where
+      still : (p g : ℕ) → Kept W g → Written p g NullRef → field_at W.program heap p g ≡ Some NullRef
+      still p g k (inl x) = absurd (clean x.2 (subst (λ y. Kept W y) (sym x.1) k))
+      still p g k (inr x) = x.1
 
   heap_by : (m : Marks) (gs : List FrameMark) → HeapOk W m gs heap → FieldOk m (m o) (owner W.program f) (ref_field W.program f) (field_qual W.program W.sig f) v → (p : ℕ) → (o ≡ p) ⊎ (o ≡ p → ⊥) → ThingOk W m gs p (m p) (slice_get heap_after p)
   heap_by m gs h ok p (inr n) = subst (λ t. ThingOk W m gs p (m p) t) (sym (set_other heap o p (Object c (slice_set fs f v)) n)) (h p)
@@ -193,23 +198,27 @@ module _ (W : World) (heap : List Thing) (o c : ℕ) (fs : List Value) (f : ℕ)
             let same : o ≡ p = cc in
             x.0 (same, same_field)
 
-    facts_by : (t : Bool) → (ltb r (locals W.program b) && not (qual_at e s).null) ≡ t → AllOn (FactOk W heap regs) (fact_keys W.program b) e.facts → AllOn (FactOk W heap_after regs) (fact_keys W.program b) (cond t (also (is_key r f) (fact_keys W.program b) (mask (λ k. not (has_key_field f k)) (fact_keys W.program b) e.facts)) (mask (λ k. not (has_key_field f k)) (fact_keys W.program b) e.facts))
-    facts_by false t h = on_mask (FactOk W heap regs) (FactOk W heap_after regs) (λ k. not (has_key_field f k)) (fact_keys W.program b) e.facts h fact_dropped
-    facts_by true t h =
-        on_also (FactOk W heap_after regs) (FactOk W heap_after regs) (is_key r f) (fact_keys W.program b) (mask (λ k. not (has_key_field f k)) (fact_keys W.program b) e.facts)
-        (on_mask (FactOk W heap regs) (FactOk W heap_after regs) (λ k. not (has_key_field f k)) (fact_keys W.program b) e.facts h fact_dropped)
-        (λ k x. x) (λ k x. fact_added (not-true (qual_at e s).null (and_parts (ltb r (locals W.program b)) (not (qual_at e s).null) t).1) k x)
-
-    pub facts_after : AllOn (FactOk W heap regs) (fact_keys W.program b) e.facts → AllOn (FactOk W heap_after regs) (fact_keys W.program b) (write_facts W.program b e r f s)
-    facts_after h = facts_by (ltb r (locals W.program b) && not (qual_at e s).null) refl h
-
-    -- a primitive field
+    -- facts where no null is written
     pub facts_same : (v ≡ NullRef → ⊥) → AllOn (FactOk W heap regs) (fact_keys W.program b) e.facts → AllOn (FactOk W heap_after regs) (fact_keys W.program b) e.facts
     facts_same n h = on_map (FactOk W heap regs) (FactOk W heap_after regs) (fact_keys W.program b) e.facts (λ k x p is' z. by k p x is' (written_field p k.field NullRef z)) h
       where
         by : (k : Key) (p : ℕ) → FactOk W heap regs k → value_at regs k.reg ≡ Some (At p) → Written p k.field NullRef → ⊥
         by k p x is' (inl y) = n y.2
         by k p x is' (inr y) = x p is' y.1
+
+    module _ (clean : v ≡ NullRef → Kept W f → ⊥) (h : AllOn (FactOk W heap regs) (fact_keys W.program b) e.facts) where
+      facts_left : (t : Bool) → monotonic W.program f ≡ t → AllOn (FactOk W heap_after regs) (fact_keys W.program b) (cond t e.facts (mask (λ k. not (has_key_field f k)) (fact_keys W.program b) e.facts))
+      facts_left true t = facts_same (λ n. clean n t) h
+      facts_left false t = on_mask (FactOk W heap regs) (FactOk W heap_after regs) (λ k. not (has_key_field f k)) (fact_keys W.program b) e.facts h fact_dropped
+
+      facts_by : (t : Bool) → (ltb r (locals W.program b) && not (qual_at e s).null) ≡ t → AllOn (FactOk W heap_after regs) (fact_keys W.program b) (cond t (also (is_key r f) (fact_keys W.program b) (facts_but W.program b e f)) (facts_but W.program b e f))
+      facts_by false t = facts_left (monotonic W.program f) refl
+      facts_by true t =
+          on_also (FactOk W heap_after regs) (FactOk W heap_after regs) (is_key r f) (fact_keys W.program b) (facts_but W.program b e f) (facts_left (monotonic W.program f) refl)
+          (λ k x. x) (λ k x. fact_added (not-true (qual_at e s).null (and_parts (ltb r (locals W.program b)) (not (qual_at e s).null) t).1) k x)
+
+      pub facts_after : AllOn (FactOk W heap_after regs) (fact_keys W.program b) (write_facts W.program b e r f s)
+      facts_after = facts_by (ltb r (locals W.program b) && not (qual_at e s).null) refl
 
     assigned_by : (t : Bool) (p : ℕ) → (ctor_of (method_in W.program b) && eqb r 0 && eqb (owner W.program f) (class_of (method_in W.program b))) ≡ t → value_at regs 0 ≡ Some (At p) → (v ≡ NullRef → (field_qual W.program W.sig f).null ≡ true) → AllOn (FieldSet W heap p) (own_keys W.program b) e.assigned → AllOn (FieldSet W heap_after p) (own_keys W.program b) (cond t (also (λ k. eqb k f) (own_keys W.program b) e.assigned) e.assigned)
     assigned_by false p t this fq h = on_map (FieldSet W heap p) (FieldSet W heap_after p) (own_keys W.program b) e.assigned (λ k x. set_after fq p k x) h

@@ -23,7 +23,7 @@ abbrev pub ref : ℕ → BaseType
 ref c = Ref (record { 0 = c })
 
 abbrev pub field_in_class : ℕ → ℕ → ℕ → ℕ → Field
-field_in_class name class type slot = record { name = record { 0 = name }; span = no_span; owner = record { 0 = class }; base = ref type; is_static = false; is_final = false; is_private = false; first = pos 0; slot = Some (record { 0 = slot }) }
+field_in_class name class type slot = record { name = record { 0 = name }; span = no_span; owner = record { 0 = class }; base = ref type; is_static = false; is_final = false; is_private = false; is_monotonic = false; first = pos 0; slot = Some (record { 0 = slot }) }
 
 abbrev pub ctor_in : ℕ → List BaseType → List (Option SlotNo) → ℕ → Method
 ctor_in class params slots body = record {

@@ -16,7 +16,7 @@ use Rattle.jn_env.specs.Environment.{Env}
 use Rattle.jn_transfer.specs.Transfer.{IsAmong, elem_qual, entry_env, transfer}
 use Rattle.jn_env.specs.Order.{SlotWithin, qual_at}
 use Rattle.jn_soundness.specs.World.{World, env_at, param_quals}
-use Rattle.jn_points.specs.Lookup.{body_at, body_of, class_of, ctor_of, is_ref_base, method_at, method_in, owner, point_at, ref_field, reg_base, regs_of, static_of}
+use Rattle.jn_points.specs.Lookup.{body_at, body_of, class_of, ctor_of, is_ref_base, method_at, method_in, monotonic, owner, point_at, ref_field, reg_base, regs_of, static_of}
 use Rattle.jn_sigs.specs.Signature.{field_qual, receiver_of, result_of}
 use Rattle.jn_points.specs.Members.{has_field}
 use Rattle.jn_env.specs.Keys.{is_on, own_keys}
@@ -62,6 +62,7 @@ module _ (W : World) where
     pub not_null : (qual_at e r).null ≡ false
     pub value : ref_field W.program f ≡ true → IsTrue (within (settle (qual_at e s)) (field_qual W.program W.sig f))
     pub init : (qual_at e s).free ≡ true → (qual_at e r).committed ≡ true → ⊥
+    pub kept : monotonic W.program f ≡ true → (qual_at e s).null ≡ false
 
   -- no rule is broken at a point of body b
   abbrev pub Unbroken : ℕ → Env → PointKind → Type 0

@@ -3,7 +3,7 @@ use Rattle.std.specs.Prelude.{ℕ, ◌≡◌, true, false, [], Some, List, ◌�
 use Rattle.jn_sigs.specs.Signature.{field_qual}
 use Rattle.jn_env.specs.Environment.{Env}
 use Rattle.jn_soundness.specs.World.{World, env_at}
-use Rattle.jn_points.specs.Lookup.{ctor_of, method_in, class_of, owner}
+use Rattle.jn_points.specs.Lookup.{ctor_of, method_in, class_of, monotonic, owner}
 use Rattle.jn_quals.specs.Qualifier.{Qualifier}
 use Rattle.jn_heap.specs.Values.{At, NullRef, Value, Thing}
 use Rattle.jn_heap.specs.State.{Regs, value_at, Frame}
@@ -41,6 +41,14 @@ module _ (W : World) where
   abbrev pub FactOk : List Thing → Regs → Key → Type 0
   FactOk heap regs k = (o : ℕ) → value_at regs k.reg ≡ Some (At o) → field_at W.program heap o k.field ≡ Some NullRef → ⊥
 
+  -- facts on the field survive calls: it takes no null
+  abbrev pub Kept : ℕ → Type 0
+  Kept f = monotonic W.program f ≡ true
+
+  -- the same, of a fact that survives calls
+  abbrev pub KeptOk : List Thing → Regs → Key → Type 0
+  KeptOk heap regs k = Kept k.field → FactOk heap regs k
+
   -- the assigned fields of the object that a constructor builds are null only where their slots have it
   abbrev pub AssignedOk : List Thing → Option ℕ → ℕ → List Bool → Type 0
   AssignedOk heap None b bits = Unit {0}
@@ -66,11 +74,12 @@ module _ (W : World) where
     pub assigned : AssignedOk heap g.built f.body e.assigned
     pub ctor : CtorOk m heap f g g.built
 
-  -- a frame at a point that its table reaches
+  -- a frame that waits at a point that its table reaches
   pub record GoodFrame (m : ℕ → ObjMark) (heap : List Thing) (f : Frame) (g : FrameMark) : Type 0 where
     pub env : Env
     pub reached : env_at W f.body f.at ≡ Some env
     pub stands : Stands m heap f g env
+    pub kept : AllOn (KeptOk heap f.regs) (fact_keys W.program f.body) env.facts
 
   -- the register holds an object, and the tested one what its field holds
   pub record Tested (heap : List Thing) (regs : Regs) (t : Test) : Type 0 where

@@ -243,6 +243,7 @@ impl Hand {
             is_static: false,
             is_final: false,
             is_private: is_inferred(typed.slot),
+            is_monotonic: false,
             first: 0,
             slot,
         };

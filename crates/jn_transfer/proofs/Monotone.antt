@@ -12,13 +12,13 @@ use Rattle.jn_points.specs.declared.point.Origin.{Origin}
 use Rattle.jn_points.specs.declared.point.PointKind.{PointKind}
 use Rattle.jn_points.specs.declared.point.PointKind.TheVariants.{Const, Move, Unary, Binary, Concat, SameRef, FieldRead, FieldWrite, StaticRead, StaticWrite, ElemRead, ElemWrite, ArrayLen, NewArray, ArrayOf, New, CtorCall, Call, StrOp, Print, Cast, TestInst, TestNull, Branch, Goto, Return}
 use Rattle.jn_points.specs.declared.program.Program.{Program}
-use Rattle.jn_points.specs.Lookup.{slots_of, class_of, ctor_of, locals, owner, ref_field, flat_field, method_at, method_in, reg_base}
+use Rattle.jn_points.specs.Lookup.{slots_of, class_of, ctor_of, locals, monotonic, owner, ref_field, flat_field, method_at, method_in, reg_base}
 use Rattle.jn_sigs.specs.Signature.{result_of, field_qual}
 use Rattle.jn_env.specs.Environment.{Env}
 use Rattle.jn_env.specs.Order.{qual_at, QualsWithin, EnvWithin, BitsAbove}
 use Rattle.jn_env.proofs.Order.{quals_set, env_qual}
-use Rattle.jn_env.specs.Keys.{is_key, has_key_field, also, is_on, fact_keys, own_keys}
-use Rattle.jn_transfer.specs.Transfer.{literal_qual, elem_qual, refine, side, any_empty, any_free, all_settled, ref_quals, new_qual, less_null, put, drop_all, put_to, learn, written, ctor_called, elem_read, read_part, read_qual, transfer, IsAmong}
+use Rattle.jn_env.specs.Keys.{is_key, has_key_field, mask, also, is_on, fact_keys, own_keys}
+use Rattle.jn_transfer.specs.Transfer.{literal_qual, elem_qual, refine, side, any_empty, any_free, all_settled, ref_quals, new_qual, less_null, put, drop_facts, put_to, learn, written, ctor_called, elem_read, read_part, read_qual, transfer, IsAmong}
 use Rattle.jn_transfer.specs.Covered.{Covered}
 use Rattle.jn_env.proofs.BitOrder.{mask_above, also_above, also_left, is_on_above}
 
@@ -111,7 +111,7 @@ module _ (P : Program) (s : List Qualifier) (b : ℕ) where
   put_above : (e f : Env) (d : ℕ) (p q : Qualifier) → IsTrue (within p q) → EnvWithin e f → EnvWithin (put P b e d p) (put P b f d q)
   put_above e f d p q v w = record { quals = quals_set e.quals f.quals d p q v w.quals; facts = mask_above _ (fact_keys P b) e.facts f.facts w.facts; assigned = w.assigned }
 
-  drop_above : (e f : Env) → EnvWithin e f → EnvWithin (drop_all P b e) (drop_all P b f)
+  drop_above : (e f : Env) → EnvWithin e f → EnvWithin (drop_facts P b e) (drop_facts P b f)
   drop_above e f w = record { quals = w.quals; facts = mask_above _ (fact_keys P b) e.facts f.facts w.facts; assigned = w.assigned }
 
   put_to_above : (e f : Env) (dst : Option RegNo) (q : Qualifier) → EnvWithin e f → EnvWithin (put_to P b e dst q) (put_to P b f dst q)
@@ -133,10 +133,14 @@ module _ (P : Program) (s : List Qualifier) (b : ℕ) where
   assigned_above true f as' bs w = also_above _ (own_keys P b) as' bs w
   assigned_above false f as' bs w = w
 
+  facts_but_above : (e g : Env) (f : ℕ) (kept : Bool) → EnvWithin e g → BitsAbove (cond kept e.facts (mask (λ k. not (has_key_field f k)) (fact_keys P b) e.facts)) (cond kept g.facts (mask (λ k. not (has_key_field f k)) (fact_keys P b) g.facts))
+  facts_but_above e g f true w = w.facts
+  facts_but_above e g f false w = mask_above (λ k. not (has_key_field f k)) (fact_keys P b) e.facts g.facts w.facts
+
   written_above : (e g : Env) (r f v : ℕ) (ref : Bool) → EnvWithin e g → EnvWithin (written P b e r f v ref) (written P b g r f v ref)
   written_above e g r f v false w = w
   written_above e g r f v true w =
-      let a = mask_above (λ k. not (has_key_field f k)) (fact_keys P b) e.facts g.facts w.facts in
+      let a = facts_but_above e g f (monotonic P f) w in
       record {
         quals = w.quals;
         facts = fact_bits_above (ltb r (locals P b)) (qual_at e v).null (qual_at g v).null r f _ _ (included (qual_at e v) (qual_at g v) (env_qual e g v w)).null a;
@@ -196,9 +200,9 @@ module _ (P : Program) (s : List Qualifier) (b : ℕ) where
   edge_above (ArrayOf dst base xs) p e f x w m = one_above _ _ _ x (put_above e f dst.0 _ _ (within_refl committed_only) w) m
   edge_above (New dst ctor args) p e f x w m =
       let slots = slots_of (method_at P ctor.0) in
-      one_above _ _ _ x (put_above (drop_all P b e) (drop_all P b f) dst.0 _ _ (new_above (ref_quals e slots args) (ref_quals f slots args) (ref_quals_above e f slots args w)) (drop_above e f w)) m
+      one_above _ _ _ x (put_above (drop_facts P b e) (drop_facts P b f) dst.0 _ _ (new_above (ref_quals e slots args) (ref_quals f slots args) (ref_quals_above e f slots args w)) (drop_above e f w)) m
   edge_above (CtorCall ctor args own) p e f x w m = one_above _ _ _ x (ctor_called_above e f own w) m
-  edge_above (Call dst method r direct args) p e f x w m = one_above _ _ _ x (put_to_above (drop_all P b e) (drop_all P b f) dst (result_of s (method_at P method.0)) (drop_above e f w)) m
+  edge_above (Call dst method r direct args) p e f x w m = one_above _ _ _ x (put_to_above (drop_facts P b e) (drop_facts P b f) dst (result_of s (method_at P method.0)) (drop_above e f w)) m
   edge_above (StrOp dst op of other) p e f x w m = one_above _ _ _ x (put_above e f dst.0 _ _ (within_refl no_qual) w) m
   edge_above (Print of) p e f x w m = one_above _ e f x w m
   edge_above (Cast dst of c) p e f x w m = one_above _ _ _ x (put_above e f dst.0 _ _ (env_qual e f of.reg.0 w) w) m

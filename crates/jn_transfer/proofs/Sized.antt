@@ -9,11 +9,11 @@ use Rattle.jn_points.specs.declared.point.PointKind.{PointKind}
 use Rattle.jn_points.specs.declared.point.PointKind.TheVariants.{Const, Move, Unary, Binary, Concat, SameRef, FieldRead, FieldWrite, StaticRead, StaticWrite, ElemRead, ElemWrite, ArrayLen, NewArray, ArrayOf, New, CtorCall, Call, StrOp, Print, Cast, TestInst, TestNull, Branch, Goto, Return}
 use Rattle.jn_points.specs.declared.program.Program.{Program}
 use Rattle.jn_points.specs.Edges.{edges_of}
-use Rattle.jn_points.specs.Lookup.{regs_of, body_at, class_of, ctor_of, locals, owner, ref_field, method_in}
+use Rattle.jn_points.specs.Lookup.{regs_of, body_at, class_of, ctor_of, locals, monotonic, owner, ref_field, method_in}
 use Rattle.jn_env.specs.Environment.{Env}
 use Rattle.jn_env.specs.Order.{qual_at}
 use Rattle.jn_env.specs.Keys.{is_key, has_key_field, mask, also, fact_keys, own_keys}
-use Rattle.jn_transfer.specs.Transfer.{refine, side, pad_quals, given_quals, put, drop_all, put_to, learn, written, ctor_called, transfer, entry_env, IsAmong}
+use Rattle.jn_transfer.specs.Transfer.{refine, side, pad_quals, given_quals, put, drop_facts, put_to, learn, facts_but, written, ctor_called, transfer, entry_env, IsAmong}
 use Rattle.jn_env.specs.Sized.{EnvSized}
 use Rattle.jn_transfer.specs.Sized.{Below}
 use Rattle.jn_env.proofs.BitOrder.{length-mask, length-also, length-no_bits}
@@ -38,7 +38,7 @@ module _ (P : Program) (s : List Qualifier) (b n : ℕ) where
   put_sized : (e : Env) (r : ℕ) (q : Qualifier) → EnvSized P b e → EnvSized P b (put P b e r q)
   put_sized e r q l = record { quals = length-set e.quals r q ∙ l.quals; facts = length-mask _ (fact_keys P b) e.facts ∙ l.facts; assigned = l.assigned }
 
-  pub drop_sized : (e : Env) → EnvSized P b e → EnvSized P b (drop_all P b e)
+  pub drop_sized : (e : Env) → EnvSized P b e → EnvSized P b (drop_facts P b e)
   drop_sized e l = record { quals = l.quals; facts = length-mask _ (fact_keys P b) e.facts ∙ l.facts; assigned = l.assigned }
 
   put_to_sized : (e : Env) (dst : Option RegNo) (q : Qualifier) → EnvSized P b e → EnvSized P b (put_to P b e dst q)
@@ -53,13 +53,20 @@ module _ (P : Program) (s : List Qualifier) (b n : ℕ) where
   length-cond true as' bs e = e
   length-cond false as' bs e = refl
 
+  pub length-facts_but : (e : Env) (f : ℕ) → length (facts_but P b e f) ≡ length e.facts
+  length-facts_but e f = by (monotonic P f)
+    where
+      by : (kept : Bool) → length (cond kept e.facts (mask (λ k. not (has_key_field f k)) (fact_keys P b) e.facts)) ≡ length e.facts
+      by true = refl
+      by false = length-mask _ (fact_keys P b) e.facts
+
   written_sized : (e : Env) (r f v : ℕ) (ref : Bool) → EnvSized P b e → EnvSized P b (written P b e r f v ref)
   written_sized e r f v false l = l
   written_sized e r f v true l =
-      let dropped = mask (λ k. not (has_key_field f k)) (fact_keys P b) e.facts in
+      let dropped = facts_but P b e f in
       record {
         quals = l.quals;
-        facts = length-cond (ltb r (locals P b) && not (qual_at e v).null) (also (is_key r f) (fact_keys P b) dropped) dropped (length-also (is_key r f) (fact_keys P b) dropped) ∙ length-mask _ (fact_keys P b) e.facts ∙ l.facts;
+        facts = length-cond (ltb r (locals P b) && not (qual_at e v).null) (also (is_key r f) (fact_keys P b) dropped) dropped (length-also (is_key r f) (fact_keys P b) dropped) ∙ length-facts_but e f ∙ l.facts;
         assigned = length-cond (ctor_of (method_in P b) && eqb r 0 && eqb (owner P f) (class_of (method_in P b))) (also (λ k. eqb k f) (own_keys P b) e.assigned) e.assigned (length-also _ (own_keys P b) e.assigned) ∙ l.assigned;
       }
 
@@ -94,9 +101,9 @@ module _ (P : Program) (s : List Qualifier) (b n : ℕ) where
   edge_fine (ArrayLen dst r) p e x h l m = one_fine _ _ x h.0 (put_sized e dst.0 _ l) m
   edge_fine (NewArray dst base k) p e x h l m = one_fine _ _ x h.0 (put_sized e dst.0 _ l) m
   edge_fine (ArrayOf dst base xs) p e x h l m = one_fine _ _ x h.0 (put_sized e dst.0 _ l) m
-  edge_fine (New dst ctor args) p e x h l m = one_fine _ _ x h.0 (put_sized (drop_all P b e) dst.0 _ (drop_sized e l)) m
+  edge_fine (New dst ctor args) p e x h l m = one_fine _ _ x h.0 (put_sized (drop_facts P b e) dst.0 _ (drop_sized e l)) m
   edge_fine (CtorCall ctor args own) p e x h l m = one_fine _ _ x h.0 (ctor_called_sized e own l) m
-  edge_fine (Call dst method r direct args) p e x h l m = one_fine _ _ x h.0 (put_to_sized (drop_all P b e) dst _ (drop_sized e l)) m
+  edge_fine (Call dst method r direct args) p e x h l m = one_fine _ _ x h.0 (put_to_sized (drop_facts P b e) dst _ (drop_sized e l)) m
   edge_fine (StrOp dst op of other) p e x h l m = one_fine _ _ x h.0 (put_sized e dst.0 _ l) m
   edge_fine (Print of) p e x h l m = one_fine _ e x h.0 l m
   edge_fine (Cast dst of c) p e x h l m = one_fine _ _ x h.0 (put_sized e dst.0 _ l) m

@@ -17,7 +17,7 @@ use Rattle.jn_points.specs.declared.point.PointKind.{PointKind}
 use Rattle.jn_points.specs.declared.point.PointKind.TheVariants.{Move, FieldWrite, ElemWrite, NewArray, ArrayOf, New, CtorCall, Call, StrOp, Return}
 use Rattle.jn_points.specs.declared.program.Method.{Method}
 use Rattle.jn_points.specs.declared.program.Program.{Program}
-use Rattle.jn_points.specs.Lookup.{points_of, slots_of, dereferences, body_at, reg_base, method_at, method_in}
+use Rattle.jn_points.specs.Lookup.{points_of, slots_of, dereferences, monotonic, body_at, reg_base, method_at, method_in}
 use Rattle.jn_points.specs.Members.{some_of, below, is_pair}
 use Rattle.jn_sigs.specs.Signature.{slot_quals, result_of, receiver_of, field_qual}
 use Rattle.jn_env.specs.Environment.{Env}
@@ -93,9 +93,13 @@ module _ (s : List Qualifier) where
       ++ row_if (not (within (result_of s (Some over)) (result_of s under))) over.span OvrResult
 
 module _ (P : Program) (s : List Qualifier) where
+  -- null is written where the slot has none, or to a monotonic field
+  abbrev pub writes_null : Qualifier → ℕ → Bool
+  writes_null q f = q.null && (not (field_qual P s f).null || monotonic P f)
+
   -- FIELD and FIELD-INIT
   abbrev pub write_rows : Env → Operand → ℕ → Operand → List Row
-  write_rows e r f v = row_if (lacks_null (qual_at e v.reg.0) (field_qual P s f)) v.span FieldCode ++ row_if ((qual_at e v.reg.0).free && (qual_at e r.reg.0).committed) v.span FieldInit
+  write_rows e r f v = row_if (writes_null (qual_at e v.reg.0) f) v.span FieldCode ++ row_if ((qual_at e v.reg.0).free && (qual_at e r.reg.0).committed) v.span FieldInit
 
   -- rows of a point of body b but for its dereference
   abbrev pub kind_rows : ℕ → Env → Span → PointKind → List Row

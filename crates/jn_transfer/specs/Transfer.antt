@@ -15,11 +15,11 @@ use Rattle.jn_points.specs.declared.point.PointKind.{PointKind}
 use Rattle.jn_points.specs.declared.point.PointKind.TheVariants.{Const, Move, Unary, Binary, Concat, SameRef, FieldRead, FieldWrite, StaticRead, StaticWrite, ElemRead, ElemWrite, ArrayLen, NewArray, ArrayOf, New, CtorCall, Call, StrOp, Print, Cast, TestInst, TestNull, Branch, Goto, Return}
 use Rattle.jn_points.specs.declared.program.Method.{Method}
 use Rattle.jn_points.specs.declared.program.Program.{Program}
-use Rattle.jn_points.specs.Lookup.{regs_of, slots_of, class_of, ctor_of, static_of, body_at, reg_base, locals, owner, ref_field, flat_field, method_at, method_in}
+use Rattle.jn_points.specs.Lookup.{regs_of, slots_of, class_of, ctor_of, static_of, body_at, reg_base, locals, monotonic, owner, ref_field, flat_field, method_at, method_in}
 use Rattle.jn_sigs.specs.Signature.{slot_quals, result_of, receiver_of, field_qual}
 use Rattle.jn_env.specs.Environment.{Env}
 use Rattle.jn_env.specs.Order.{qual_at}
-use Rattle.jn_env.specs.Keys.{has_reg, has_key_field, is_key, mask, also, is_on, no_bits, fact_keys, own_keys}
+use Rattle.jn_env.specs.Keys.{has_reg, has_key_field, is_key, is_kept, mask, also, is_on, no_bits, fact_keys, own_keys}
 
 abbrev pub literal_qual : Literal → Qualifier
 literal_qual (Int i) = no_qual
@@ -85,9 +85,9 @@ module _ (P : Program) where
   abbrev pub put : ℕ → Env → ℕ → Qualifier → Env
   put b e dst q = record { quals = slice_set e.quals dst q; facts = mask (λ k. not (has_reg dst k)) (fact_keys P b) e.facts; assigned = e.assigned }
 
-  -- all facts go
-  abbrev pub drop_all : ℕ → Env → Env
-  drop_all b e = record { quals = e.quals; facts = mask (λ k. false) (fact_keys P b) e.facts; assigned = e.assigned }
+  -- facts on fields that aren't monotonic go
+  abbrev pub drop_facts : ℕ → Env → Env
+  drop_facts b e = record { quals = e.quals; facts = mask (is_kept P) (fact_keys P b) e.facts; assigned = e.assigned }
 
   abbrev pub put_to : ℕ → Env → Option RegNo → Qualifier → Env
   put_to b e None q = e
@@ -98,9 +98,13 @@ module _ (P : Program) where
   learn b None e = e
   learn b (Some og) e = record { quals = e.quals; facts = also (is_key og.reg.0 og.field.0) (fact_keys P b) e.facts; assigned = e.assigned }
 
+  -- facts on the field that is written go, unless it takes no null
+  abbrev pub facts_but : ℕ → Env → ℕ → List Bool
+  facts_but b e f = cond (monotonic P f) e.facts (mask (λ k. not (has_key_field f k)) (fact_keys P b) e.facts)
+
   abbrev pub write_facts : ℕ → Env → ℕ → ℕ → ℕ → List Bool
   write_facts b e r f s =
-      let dropped = mask (λ k. not (has_key_field f k)) (fact_keys P b) e.facts in
+      let dropped = facts_but b e f in
       cond (ltb r (locals P b) && not (qual_at e s).null) (also (is_key r f) (fact_keys P b) dropped) dropped
 
   abbrev pub write_assigned : ℕ → Env → ℕ → ℕ → List Bool
@@ -111,8 +115,8 @@ module _ (P : Program) where
   written b e r f s true = record { quals = e.quals; facts = write_facts b e r f s; assigned = write_assigned b e r f }
 
   abbrev pub ctor_called : ℕ → Env → Bool → Env
-  ctor_called b e false = drop_all b e
-  ctor_called b e true = record { quals = e.quals; facts = mask (λ k. false) (fact_keys P b) e.facts; assigned = also (λ k. true) (own_keys P b) e.assigned }
+  ctor_called b e false = drop_facts b e
+  ctor_called b e true = record { quals = e.quals; facts = mask (is_kept P) (fact_keys P b) e.facts; assigned = also (λ k. true) (own_keys P b) e.assigned }
 
   abbrev pub elem_read : ℕ → Env → ℕ → Qualifier
   elem_read b e r = cond (is_none (without_null (qual_at e r))) no_qual (elem_qual (reg_base P b r))
@@ -142,9 +146,9 @@ module _ (P : Program) (s : List Qualifier) where
   transfer b (ArrayLen dst r) p e = (p + 1, put P b e dst.0 no_qual) ∷ []
   transfer b (NewArray dst base n) p e = (p + 1, put P b e dst.0 committed_only) ∷ []
   transfer b (ArrayOf dst base xs) p e = (p + 1, put P b e dst.0 committed_only) ∷ []
-  transfer b (New dst m args) p e = (p + 1, put P b (drop_all P b e) dst.0 (new_qual (ref_quals e (slots_of (method_at P m.0)) args))) ∷ []
+  transfer b (New dst m args) p e = (p + 1, put P b (drop_facts P b e) dst.0 (new_qual (ref_quals e (slots_of (method_at P m.0)) args))) ∷ []
   transfer b (CtorCall m args own) p e = (p + 1, ctor_called P b e own) ∷ []
-  transfer b (Call dst m r direct args) p e = (p + 1, put_to P b (drop_all P b e) dst (result_of s (method_at P m.0))) ∷ []
+  transfer b (Call dst m r direct args) p e = (p + 1, put_to P b (drop_facts P b e) dst (result_of s (method_at P m.0))) ∷ []
   transfer b (StrOp dst op of other) p e = (p + 1, put P b e dst.0 no_qual) ∷ []
   transfer b (Print of) p e = (p + 1, e) ∷ []
   transfer b (Cast dst of c) p e = (p + 1, put P b e dst.0 (qual_at e of.reg.0)) ∷ []

@@ -4,7 +4,7 @@ ghost use Rattle.jn_quals.specs.Order.{is_none, null_part, without_null};
 ghost use Rattle.jn_env.specs.Order.{qual_at};
 ghost use Rattle.jn_points.specs.Lookup.{slots_of, method_at, ref_field};
 ghost use Rattle.jn_sigs.specs.Signature.{result_of};
-ghost use Rattle.jn_transfer.specs.Transfer.{put, drop_all, put_to, learn, refine, side, written, write_facts, write_assigned, ctor_called, elem_read, read_part, read_qual, transfer, ref_quals, new_qual};
+ghost use Rattle.jn_transfer.specs.Transfer.{put, drop_facts, put_to, learn, refine, side, written, facts_but, write_facts, write_assigned, ctor_called, elem_read, read_part, read_qual, transfer, ref_quals, new_qual};
 ghost use Rattle.jn_env.specs.Sized.{EnvSized};
 ghost use Rattle.jn_env.specs.Code.{AreKeys};
 ghost use Rattle.jn_env.specs.Keys.{own_keys};
@@ -16,7 +16,7 @@ use crate::lookup::{
 use jn_base::{BodyNo, FieldNo, MethodNo, OutOfMemory, RegNo};
 use jn_env::keys::is_ref_field;
 use jn_env::{Env, Keys};
-use jn_points::lookup::{owner, reg_base};
+use jn_points::lookup::{is_monotonic, owner, reg_base};
 use jn_points::{Operand, Origin, PointKind, Program};
 use jn_quals::Qual;
 use jn_sigs::Sig;
@@ -98,12 +98,12 @@ impl<'a> Analysis<'a> {
         env.set(self.keys(), reg, qual);
     }
 
-    /// All facts go.
-    fn drop_all(&self, env: &mut Env)
+    /// Facts on fields that aren't monotonic go.
+    fn drop_facts(&self, env: &mut Env)
         requires sized { EnvSized self.now.program self.now.body env.old }
-        ensures { env.new ≡ drop_all self.now.program self.now.body env.old }
+        ensures { env.new ≡ drop_facts self.now.program self.now.body env.old }
     {
-        env.drop_facts(self.keys(), None);
+        env.keep_facts(self.keys(), self.program);
     }
 
     /// A test's origin is a fact.
@@ -165,6 +165,18 @@ impl<'a> Analysis<'a> {
         }
     }
 
+    /// Facts on a field that is written go, unless it takes no null.
+    fn drop_facts_on(&self, env: &mut Env, field: FieldNo)
+        requires sized { EnvSized self.now.program self.now.body env.old }
+        ensures facts { env.new.facts ≡ facts_but self.now.program self.now.body env.old field.0 }
+        ensures quals { env.new.quals ≡ env.old.quals }
+        ensures assigned { env.new.assigned ≡ env.old.assigned }
+    {
+        if !is_monotonic(self.program, field.0) {
+            env.drop_facts(self.keys(), field);
+        }
+    }
+
     fn write_facts(&self, env: &mut Env, object: RegNo, field: FieldNo, value: RegNo)
         requires sized { EnvSized self.now.program self.now.body env.old }
         ensures facts { env.new.facts
@@ -172,7 +184,7 @@ impl<'a> Analysis<'a> {
         ensures quals { env.new.quals ≡ env.old.quals }
         ensures assigned { env.new.assigned ≡ env.old.assigned }
     {
-        env.drop_facts(self.keys(), Some(field));
+        self.drop_facts_on(env, field);
         if object.0 < locals(self.program, self.body) && !env.qual(value).has_null() {
             env.add_fact(self.keys(), object, field);
         }
@@ -199,7 +211,7 @@ impl<'a> Analysis<'a> {
         requires sized { EnvSized self.now.program self.now.body env.old }
         ensures { env.new ≡ ctor_called self.now.program self.now.body env.old own }
     {
-        self.drop_all(env);
+        self.drop_facts(env);
         if own {
             env.assign(self.keys(), None);
         }
@@ -289,7 +301,7 @@ impl<'a> Analysis<'a> {
             ≡ (
               to,
               put self.now.program self.now.body
-                  (drop_all self.now.program self.now.body env.now) dst.0
+                  (drop_facts self.now.program self.now.body env.now) dst.0
                   (new_qual (ref_quals env.now (slots_of (method_at self.now.program ctor.0))
                   args.now)),
             )
@@ -297,7 +309,7 @@ impl<'a> Analysis<'a> {
     {
         let qual = self.created(alloc, env, ctor, args)?;
         let mut after = env.copy(alloc)?;
-        self.drop_all(&mut after);
+        self.drop_facts(&mut after);
         self.put(&mut after, dst, qual);
         one_edge(alloc, to, after)
     }
@@ -331,13 +343,13 @@ impl<'a> Analysis<'a> {
             ≡ (
               to,
               put_to self.now.program self.now.body
-                  (drop_all self.now.program self.now.body env.now) dst
+                  (drop_facts self.now.program self.now.body env.now) dst
                   (result_of self.now.sig (method_at self.now.program method.0)),
             )
             ∷ []) }
     {
         let mut after = env.copy(alloc)?;
-        self.drop_all(&mut after);
+        self.drop_facts(&mut after);
         match dst {
             None => {}
             Some(dst) => {

@@ -1,20 +1,15 @@
 -- What a worker knows after a scan.
-use Rattle.std.proofs.Common.{◌≡◌, ℕ, ◌+◌, ◌/◌, ◌%◌, ◌<◌, ◌≤◌, ◌==◌, ◌&&◌, Bool, Option, Some, None, List, [], ◌++◌, length, sym, refl, ap, ◌∙◌, subst, arith, eq-eqb, ◌∷◌, ◌^◌, ◌-◌, sum_by, add-zero, zero, suc}
+use Rattle.std.proofs.Common.{◌≡◌, ℕ, ◌+◌, ◌/◌, ◌%◌, ◌<◌, ◌≤◌, ◌==◌, ◌&&◌, ◌||◌, Bool, true, false, Option, Some, None, List, [], ◌++◌, length, sym, ap, ◌∙◌, subst, arith, eq-eqb, ◌∷◌, ◌^◌, ◌-◌, sum_by, add-zero}
 use Rattle.std.proofs.lemmas.List.Sums.{sum_by-append, sum_by-cons}
 use Rattle.jn_sigtable.proofs.SplitKept.{bound_of, last_bound, cut}
-use Rattle.jn_workers.specs.Ends.{WeighsAs, SeenBelow, SeenIn, SeenUpTo, StillSeen}
+use Rattle.jn_workers.specs.Ends.{WeighsAs, SeenBelow, SeenIn, SeenUpTo, StillSeen, Took}
 use mathlib.Core.Logic.{dite}
 use native.Mathlib.Decide.{ℕ_discrete}
 use Rattle.std.specs.Int.{bit_at}
-use Rattle.std.proofs.lemmas.Nat.Bits.{bit_at_ones}
 use Rattle.jn_sigtable.specs.declared.view.View.{View}
-use Rattle.jn_sigtable.specs.System.{System, IsLawful, IsLeast, Covers, least}
-use Rattle.jn_sigtable.specs.Machine.{Has, has, IsWhole, HasSeenAll, last_of, raised_last, both_seen, left_seen, right_seen, IsAtRest, after_scan, described, AreBetween}
-use Rattle.std.specs.Prelude.{slice_index}
-use Rattle.std.proofs.Common.{mod-lt, replicate, ext_get_or}
-use Rattle.jn_sigtable.proofs.Bits.{within_trans}
-use Rattle.jn_sigtable.proofs.Closing.{within_same}
-use Rattle.jn_worklist.specs.Plans.{IsDue}
+use Rattle.jn_sigtable.specs.System.{System}
+use Rattle.jn_sigtable.specs.Machine.{Has, has, IsWhole, HasSeenAll, last_of, raised_last, both_seen, left_seen, right_seen, IsAtRest, after_scan, described}
+use Rattle.std.proofs.Common.{mod-lt}
 use Rattle.jn_worklist.proofs.RunSteps.{has_true}
 use Rattle.jn_sigtable.proofs.Keeping.{has_left, has_right, bodies_have, has_filter}
 
@@ -80,22 +75,18 @@ whole_back w v first back e fine =
     let z : e - 0 ≡ e = omega arith in
     b.1 ∙ p ∙ ap (λ (x : ℕ). 2 ^ x) z
 
--- words that lie between the start and the least words have the same least words above them
-module _ (sys : System) (law : IsLawful sys) where
-  pub same_least : (start words out : List ℕ) → length start ≡ sys.words → IsLeast sys start (least sys start) → AreBetween sys start words → IsLeast sys words out → out ≡ least sys start
-  same_least start words out count is between mine =
-      let covers : Covers sys.words start out = λ w less. within_trans _ (slice_index words w) _ (between.1 w less) (mine.above w less) in
-      ext_get_or 0 out (least sys start) (mine.closed.count ∙ sym is.closed.count)
-      (λ i less. let low : i < sys.words = let e = mine.closed.count in omega arith in
-      within_same (slice_index out i) (slice_index (least sys start) i) (mine.below (least sys start) is.closed between.2 i low) (is.below out mine.closed covers i low))
+-- ---- bodies taken
+module _ {C : Type 0} where
+  pub took_with : (t : Bool) (v w : View C) (A B : Type 0) → (A → B) → Took t v w A → Took t v w B
+  took_with true v w A B f m = m
+  took_with false v w A B f m = (m.0, f m.1)
 
-pub at_ones : (n k i : ℕ) → i < n → slice_index (replicate n k) i ≡ k
-at_ones zero k i h = absurd (omega arith)
-at_ones (suc n) k zero h = refl
-at_ones (suc n) k (suc i) h = at_ones n k i (omega arith)
+  took_most : (t : Bool) (v w : View C) (A : Type 0) → Took t v w A → v.taken ≤ w.taken
+  took_most true v w A m = omega (arith, m)
+  took_most false v w A m = let e = m.0 in omega arith
 
--- with all bits set every body is due
-pub all_due : (dirty : List ℕ) (bodies : ℕ) → dirty ≡ replicate ((bodies + 63) / 64) 18446744073709551615 → (b : ℕ) → b < bodies → IsDue dirty b
-all_due dirty bodies e b inside =
-    let there : slice_index dirty (b / 64) ≡ 18446744073709551615 = ap (λ (l : List ℕ). slice_index l (b / 64)) e ∙ at_ones ((bodies + 63) / 64) 18446744073709551615 (b / 64) (omega arith) in
-    ap (λ (y : ℕ). bit_at y (b % 64)) there ∙ bit_at_ones 64 (b % 64) (mod-lt b (omega arith))
+  -- one part of the work after another, and a step between that takes no body
+  pub took_on : (s t : Bool) (u v x w : View C) (A B D : Type 0) → Took s u v A → x.taken ≡ v.taken → Took t x w B → (A → B → D) → Took (s || t) u w D
+  took_on true t u v x w A B D m e n f = let p = took_most t x w B n in omega (arith, m, e)
+  took_on false true u v x w A B D m e n f = let p = m.0 in omega (arith, n, e)
+  took_on false false u v x w A B D m e n f = (n.0 ∙ (e ∙ m.0), f m.1 n.1)

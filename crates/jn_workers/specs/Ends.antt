@@ -1,5 +1,5 @@
 -- What a worker has seen, and what shares weigh.
-use Rattle.std.specs.Prelude.{◌≡◌, ℕ, ◌/◌, ◌%◌, ◌<◌, ◌≤◌}
+use Rattle.std.specs.Prelude.{◌≡◌, ℕ, Bool, true, false, ◌/◌, ◌%◌, ◌<◌, ◌≤◌}
 use Rattle.std.specs.Int.{bit_at}
 use Rattle.jn_sigtable.specs.declared.view.View.{View}
 use Rattle.jn_sigtable.specs.System.{System}
@@ -21,6 +21,11 @@ module _ {C : Type 0} where
   -- what was seen clear still is
   abbrev pub StillSeen : View C → View C → Type 0
   StillSeen v w = (b : ℕ) → Has v.clear b → Has w.clear b
+
+  -- whether a body was taken: the count of bodies rose, or is as it was and the fact holds
+  abbrev pub Took : Bool → View C → View C → Type 0 → Type 0
+  Took true v w fact = v.taken < w.taken
+  Took false v w fact = (w.taken ≡ v.taken) × fact
 
   -- no number of the share is above e
   abbrev pub IsFineAt : ℕ → View C → Type 0

@@ -1,8 +1,8 @@
 //! All workers.
-ghost use Rattle.std.specs.Prelude.{◌≡◌, ◌+◌, ◌-◌, ◌/◌, ◌<◌, ◌≤◌, length, IfOk};
+ghost use Rattle.std.specs.Prelude.{◌≡◌, ◌-◌, ◌<◌, ◌≤◌, length, IfOk};
 ghost use Rattle.std.specs.Thread.{IsSync};
 ghost use Rattle.jn_sigtable.specs.System.{least};
-ghost use Rattle.jn_sigtable.specs.Machine.{IsAtRest, HasSeenAll, AreBetween};
+ghost use Rattle.jn_sigtable.specs.Machine.{IsAtRest, HasSeenAll};
 ghost use Rattle.jn_sigtable.specs.Words.{system_of, view_of, IsPassOf};
 ghost use Rattle.jn_worklist.specs.Plans.{plan_of};
 ghost use Rattle.jn_workers.specs.Ends.{WeighsAs};
@@ -12,7 +12,7 @@ use crate::gate::Gate;
 use crate::working::{Worked, work};
 use jn_base::OutOfMemory;
 use jn_sigtable::{Constraints, Pass, SigTable};
-use jn_worklist::{Plan, drain, plan};
+use jn_worklist::{Plan, plan};
 use std::alloc::Global;
 use std::thread::{Threads, join};
 
@@ -22,10 +22,6 @@ fn worse(a: Worked, b: Worked) -> Worked
 {
     match a {
         Worked::Emptied => b,
-        Worked::Spent => match b {
-            Worked::OutOfMemory => Worked::OutOfMemory,
-            _ => Worked::Spent,
-        },
         Worked::OutOfMemory => Worked::OutOfMemory,
     }
 }
@@ -43,8 +39,7 @@ fn work_alone<C: Constraints, G: Gate>(
     ensures emptied { result.1 ≡ Worked.Emptied
         → HasSeenAll (C.describe (system_of table.now)) (view_of result.0) }
 {
-    let budget = 4 * table.system().bodies() as u64 + 64;
-    let end = work(alloc, table, plan, &mut pass, worker, budget, gate);
+    let end = work(alloc, table, plan, &mut pass, worker, gate);
     (pass, end)
 }
 
@@ -60,7 +55,7 @@ fn spread<R: Threads + Sync, C: Constraints + Sync, G: Gate + Sync>(
     gate: &G,
 ) -> (Pass<C>, Worked)
     requires ready { CanWork C.describe table.now plan.now pass }
-    ensures own { IsPassOf table.now result.0 }
+    ensures own { IsPassOf C.describe table.now result.0 }
     ensures idle { IsAtRest (C.describe (system_of table.now)) (view_of result.0) }
     ensures share { WeighsAs (view_of result.0) (view_of pass) }
     ensures emptied { result.1 ≡ Worked.Emptied
@@ -79,7 +74,7 @@ fn spread<R: Threads + Sync, C: Constraints + Sync, G: Gate + Sync>(
     let ours = move || -> (Pass<C>, Worked)
         requires { IsSync R.row × IsSync C.row × IsSync G.row × (0 < more)
             × CanWork C.describe table.now plan.now pass }
-        ensures own { IsPassOf table.entry.now result.0 }
+        ensures own { IsPassOf C.describe table.entry.now result.0 }
         ensures idle { IsAtRest (C.describe (system_of table.entry.now)) (view_of result.0) }
         ensures share { WeighsAs (view_of result.0) (view_of pass) }
         ensures emptied { result.1 ≡ Worked.Emptied
@@ -90,28 +85,9 @@ fn spread<R: Threads + Sync, C: Constraints + Sync, G: Gate + Sync>(
     (ours, worse(end, last))
 }
 
-// Drains words that workers left between the start and the least words.
-fn drain_rest<C: Constraints>(
-    alloc: Global,
-    system: &C,
-    plan: &Plan,
-    start: &[u64],
-    words: Vec<u64>,
-) -> Result<Vec<u64>, OutOfMemory>
-    requires plan { plan.now ≡ plan_of (C.describe system.now) }
-    requires count { length start.now ≡ (C.describe system.now).words }
-    requires between { AreBetween (C.describe system.now) start.now words.items }
-    ensures { IfOk result (λ drained. drained.items ≡ least (C.describe system.now) start.now) }
-{
-    let dirty = vec![in alloc; u64::MAX; (system.bodies() as usize + 63) / 64]?;
-    let drained = drain(alloc, system, plan, words, dirty)?;
-    Ok(drained)
-}
-
 /// The least words above the start, found by the given number of workers, 1 to 16, on one table.
 /// The first works on the caller's thread or another, each further one on a pass of its own. It
-/// goes by `join`, and so may wait for its workers. Where a worker was spent, the rest is drained
-/// on one thread.
+/// goes by `join`, and so may wait for its workers.
 pub fn solve<R: Threads + Sync, C: Constraints + Sync, G: Gate + Sync>(
     rt: &R,
     alloc: Global,
@@ -128,10 +104,9 @@ pub fn solve<R: Threads + Sync, C: Constraints + Sync, G: Gate + Sync>(
     let plan = plan(alloc, &system)?;
     let (table, pass) = SigTable::new(alloc, system, start)?;
     let (pass, end) = spread(rt, alloc, &table, &plan, pass, workers - 1, gate);
-    let (system, words) = table.close(alloc, pass)?;
+    let (_, words) = table.close(alloc, pass)?;
     match end {
         Worked::Emptied => Ok(words),
-        Worked::Spent => drain_rest(alloc, &system, &plan, start, words),
         Worked::OutOfMemory => Err(OutOfMemory),
     }
 }

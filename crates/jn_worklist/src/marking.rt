@@ -14,12 +14,12 @@ fn mark_one<C: Constraints>(
     dirty: u32,
     due: &[u64],
 )
-    requires own { IsPassOf table.now pass.old }
+    requires own { IsPassOf C.describe table.now pass.old }
     requires inside { dirty < dirty_words (C.describe (system_of table.now)) }
     requires count { length due.now ≡ dirty_words (C.describe (system_of table.now)) }
     requires raised { IsMarking (C.describe (system_of table.now)) body.0 (view_of pass.old)
         (view_of pass.old) dirty due.now }
-    ensures own { IsPassOf table.now pass.new }
+    ensures own { IsPassOf C.describe table.now pass.new }
     ensures raised { IsMarking (C.describe (system_of table.now)) body.0 (view_of pass.old)
         (view_of pass.new) (dirty + 1) due.now }
 {
@@ -31,11 +31,11 @@ fn mark_one<C: Constraints>(
 
 // Marks all bodies that are due.
 pub fn mark_due<C: Constraints>(table: &SigTable<C>, pass: &mut Pass<C>, body: BodyNo, due: &[u64])
-    requires own { IsPassOf table.now pass.old }
+    requires own { IsPassOf C.describe table.now pass.old }
     requires count { length due.now ≡ dirty_words (C.describe (system_of table.now)) }
     requires raised { IsMarking (C.describe (system_of table.now)) body.0 (view_of pass.old)
         (view_of pass.old) 0 due.now }
-    ensures own { IsPassOf table.now pass.new }
+    ensures own { IsPassOf C.describe table.now pass.new }
     ensures idle { IsAtRest (C.describe (system_of table.now)) (view_of pass.new) }
     ensures share { (view_of pass.new).share ≡ (view_of pass.old).share }
     ensures run { HasRun (C.describe (system_of table.now)) body.0 (view_of pass.old)
@@ -49,11 +49,11 @@ pub fn mark_due<C: Constraints>(table: &SigTable<C>, pass: &mut Pass<C>, body: B
 
 // The body is dirty again, and the pass runs none.
 pub fn mark_again<C: Constraints>(table: &SigTable<C>, pass: &mut Pass<C>, body: BodyNo)
-    requires own { IsPassOf table.now pass.old }
+    requires own { IsPassOf C.describe table.now pass.old }
     requires inside { body.0 < (C.describe (system_of table.now)).bodies }
     requires runs { (view_of pass.old).body ≡ Some body.0 }
     requires owed { (view_of pass.old).owed ≡ [] }
-    ensures own { IsPassOf table.now pass.new }
+    ensures own { IsPassOf C.describe table.now pass.new }
     ensures idle { IsAtRest (C.describe (system_of table.now)) (view_of pass.new) }
     ensures share { (view_of pass.new).share ≡ (view_of pass.old).share }
     ensures back { HasGivenBack (view_of pass.old) (view_of pass.new) }

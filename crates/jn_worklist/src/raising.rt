@@ -19,7 +19,7 @@ fn raise_one<C: Constraints>(
     at: usize,
     due: &mut [u64],
 )
-    requires own { IsPassOf table.now pass.old }
+    requires own { IsPassOf C.describe table.now pass.old }
     requires plan { plan.now ≡ plan_of (C.describe (system_of table.now)) }
     requires inside { body.0 < (C.describe (system_of table.now)).bodies }
     requires count { length values.now ≡ (C.describe (system_of table.now)).words }
@@ -27,7 +27,7 @@ fn raise_one<C: Constraints>(
     requires at { at < length output.now }
     requires raising { IsRaising (C.describe (system_of table.now)) body.0 (view_of pass.old)
         values.now (view_of pass.old) output.now at due.old }
-    ensures own { IsPassOf table.now pass.new }
+    ensures own { IsPassOf C.describe table.now pass.new }
     ensures raising { IsRaising (C.describe (system_of table.now)) body.0 (view_of pass.old)
         values.now (view_of pass.new) output.now (at + 1) due.new }
 {
@@ -48,14 +48,14 @@ pub fn raise_all<C: Constraints>(
     output: &[(WordNo, u64)],
     due: &mut [u64],
 )
-    requires own { IsPassOf table.now pass.old }
+    requires own { IsPassOf C.describe table.now pass.old }
     requires plan { plan.now ≡ plan_of (C.describe (system_of table.now)) }
     requires inside { body.0 < (C.describe (system_of table.now)).bodies }
     requires count { length values.now ≡ (C.describe (system_of table.now)).words }
     requires output { output.now ≡ (C.describe (system_of table.now)).output body.0 values.now }
     requires raising { IsRaising (C.describe (system_of table.now)) body.0 (view_of pass.old)
         values.now (view_of pass.old) output.now 0 due.old }
-    ensures own { IsPassOf table.now pass.new }
+    ensures own { IsPassOf C.describe table.now pass.new }
     ensures raising { IsRaising (C.describe (system_of table.now)) body.0 (view_of pass.old)
         values.now (view_of pass.new) output.now (length output.now) due.new }
 {

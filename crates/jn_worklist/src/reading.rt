@@ -15,12 +15,12 @@ pub fn read_all<C: Constraints>(
     reads: &[WordNo],
     mut values: Vec<u64>,
 ) -> Vec<u64>
-    requires own { IsPassOf table.now pass.old }
+    requires own { IsPassOf C.describe table.now pass.old }
     requires inside { body.0 < (C.describe (system_of table.now)).bodies }
     requires list { IsReadList (C.describe (system_of table.now)) body.0 reads.now }
     requires begun { IsReading (C.describe (system_of table.now)) body.0 (view_of pass.old)
         (view_of pass.old) values.items [] }
-    ensures own { IsPassOf table.now pass.new }
+    ensures own { IsPassOf C.describe table.now pass.new }
     ensures read { IsReading (C.describe (system_of table.now)) body.0 (view_of pass.old)
         (view_of pass.new) result.items reads.now }
 {

@@ -55,11 +55,11 @@ pub fn run_body<C: Constraints>(
     pass: &mut Pass<C>,
     body: BodyNo,
 ) -> Result<(), OutOfMemory>
-    requires own { IsPassOf table.now pass.old }
+    requires own { IsPassOf C.describe table.now pass.old }
     requires plan { plan.now ≡ plan_of (C.describe (system_of table.now)) }
     requires inside { body.0 < (C.describe (system_of table.now)).bodies }
     requires taken { IsFresh (C.describe (system_of table.now)) body.0 (view_of pass.old) }
-    ensures own { IsPassOf table.now pass.new }
+    ensures own { IsPassOf C.describe table.now pass.new }
     ensures idle { IsAtRest (C.describe (system_of table.now)) (view_of pass.new) }
     ensures share { (view_of pass.new).share ≡ (view_of pass.old).share }
     ensures run { OnOk result
@@ -82,7 +82,7 @@ fn run_in<C: Constraints>(
     body: BodyNo,
     room: Room,
 ) -> Result<(), OutOfMemory>
-    requires own { IsPassOf table.now pass.old }
+    requires own { IsPassOf C.describe table.now pass.old }
     requires plan { plan.now ≡ plan_of (C.describe (system_of table.now)) }
     requires inside { body.0 < (C.describe (system_of table.now)).bodies }
     requires reads { IsReadList (C.describe (system_of table.now)) body.0 room.reads.items }
@@ -91,7 +91,7 @@ fn run_in<C: Constraints>(
     requires due { room.due.items
         ≡ replicate (dirty_words (C.describe (system_of table.now))) 0 }
     requires taken { IsFresh (C.describe (system_of table.now)) body.0 (view_of pass.old) }
-    ensures own { IsPassOf table.now pass.new }
+    ensures own { IsPassOf C.describe table.now pass.new }
     ensures idle { IsAtRest (C.describe (system_of table.now)) (view_of pass.new) }
     ensures share { (view_of pass.new).share ≡ (view_of pass.old).share }
     ensures run { OnOk result

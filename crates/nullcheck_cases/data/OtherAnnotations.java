@@ -1,5 +1,5 @@
 @Deprecated class A {
-  @MonotonicNonNull String s;
+  @KeyFor String s;
   @Override String t;
   @Override A(@Owned A z) { }
   @Deprecated @Override void f(@Pure A this, @Override A x, String @Owned [] y, @Each String[] z) {

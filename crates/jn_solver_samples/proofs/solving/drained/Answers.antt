@@ -1,5 +1,5 @@
 use Rattle.std.proofs.Common.{inl, arith}
-use Rattle.jn_workers.proofs.ScanFacts.{all_due}
+use Rattle.jn_solver_samples.proofs.AllDue.{all_due}
 use Rattle.jn_solver_samples.proofs.solving.drained.Goals as goal
 
 pub drain-requires-clause-each : goal.drain-requires-clause-each

@@ -9,7 +9,7 @@ returns-in-Emptied g c =
     let d = g.C.Constraints.describe in
     let n = c.in_ok-table.ensures in
     let s = c.spread-pass.ensures in
-    let e = c.in_ok-system.ensures in
+    let e = c.in_ok-words.ensures in
     let share : c.in_ok-table.pass.seat.me.0.share ≡ 0 ∷ [] = ap (λ x. x.share) n.view in
     let whole = whole_back c.spread-pass.result.0.seat.me.0 c.in_ok-table.pass.seat.me.0 share s.share in
     e.least (whole, s.idle, s.emptied c.in-Emptied.is)

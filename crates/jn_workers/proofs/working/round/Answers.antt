@@ -1,6 +1,16 @@
-use Rattle.std.proofs.Common.{◌≡◌, ap, ◌∙◌, arith}
-use Rattle.jn_workers.proofs.ScanFacts.{scan_sees, seen_more}
+use Rattle.std.proofs.Common.{◌+◌, refl, ap, ◌∙◌, arith}
+use Rattle.jn_workers.specs.Ends.{SeenBelow, SeenIn, SeenUpTo, StillSeen}
+use Rattle.jn_workers.proofs.ScanFacts.{scan_sees, seen_more, took_on}
 use Rattle.jn_workers.proofs.working.round.Goals as goal
+
+pub loop-word-init : goal.loop-word-init
+loop-word-init g c = record {
+  own = c.requires.ready.own;
+  idle = c.requires.ready.idle;
+  share = refl;
+  bound = λ less. absurd (omega arith);
+  took = (refl, λ b inside low. absurd (omega arith));
+}
 
 pub loop-word-preserved : goal.loop-word-preserved
 loop-word-preserved g c =
@@ -8,16 +18,17 @@ loop-word-preserved g c =
     let it = c.args.table.now.counted.system in
     let i = c.loop-word.invariant in
     let s = c.scan-bits.ensures in
-    let e = c.in_ok-left.ensures in
-    let o = scan_sees d it c.loop-word.pass.seat.me.0 i.own.1 c.loop-word.word c.scan-bits.result c.scan-bits.new.pass.seat.me.0 s.view in
-    let taken : c.scan-bits.new.pass.seat.me.0.taken ≡ c.loop-word.pass.seat.me.0.taken = ap (λ x. x.taken) s.view in
-    let low = i.low in
-    let less = e.count.0 in
+    let e = c.in_ok-more.ensures in
+    let before = c.loop-word.pass.seat.me.0 in
+    let seen = c.scan-bits.new.pass.seat.me.0 in
+    let after = c.visit.new.pass.seat.me.0 in
+    let o = scan_sees d it before i.own.1 c.loop-word.word c.scan-bits.result seen s.view in
     record {
       own = e.worked.own;
       idle = e.worked.idle;
       share = e.worked.share ∙ (ap (λ x. x.share) s.view ∙ i.share);
-      low = omega arith;
-      count = let a = i.count in let b = e.count.1 in omega arith;
-      seen = λ same. seen_more (d it) c.loop-word.pass.seat.me.0 c.scan-bits.new.pass.seat.me.0 c.visit.new.pass.seat.me.0 c.loop-word.word (i.seen (omega arith)) o.0 (e.still (omega arith)) (e.seen (omega arith) o.1);
+      bound = λ _. e.worked.bound;
+      took = took_on c.loop-word.took c.in_ok-more.more c.args.pass.now.seat.me.0 before seen after
+          (SeenBelow (d it) before c.loop-word.word) (StillSeen seen after × (SeenIn (d it) seen c.loop-word.word c.scan-bits.result → SeenUpTo (d it) after c.loop-word.word 64)) (SeenBelow (d it) after (c.loop-word.word + 1))
+          i.took (ap (λ x. x.taken) s.view) e.took (λ below kept. seen_more (d it) before seen after c.loop-word.word below o.0 kept.0 (kept.1 o.1));
     }

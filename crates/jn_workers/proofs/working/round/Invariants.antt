@@ -1,15 +1,14 @@
-use Rattle.std.proofs.Common.{◌≡◌, ◌+◌, ◌≤◌}
+use Rattle.std.proofs.Common.{◌≡◌, ◌<◌, ◌≤◌}
 use Rattle.jn_sigtable.specs.Machine.{IsAtRest}
-use Rattle.jn_sigtable.specs.Words.{view_of, system_of, IsPassOf}
-use Rattle.jn_workers.specs.Ends.{SeenBelow}
+use Rattle.jn_sigtable.specs.Words.{view_of, system_of, bound_of, IsPassOf}
+use Rattle.jn_workers.specs.Ends.{SeenBelow, Took}
 use Rattle.jn_workers.proofs.working.round.Given as goal
 
 abbrev pub invariant-loop-word : goal.invariant-loop-word
 invariant-loop-word g l = record {
-  own : IsPassOf l.table l.pass;
+  own : IsPassOf g.C.Constraints.describe l.table l.pass;
   idle : IsAtRest (g.C.Constraints.describe (system_of l.table)) (view_of l.pass);
   share : (view_of l.pass).share ≡ (view_of l.fn.pass).share;
-  low : l.left ≤ l.fn.budget;
-  count : (view_of l.pass).taken + l.left ≡ (view_of l.fn.pass).taken + l.fn.budget;
-  seen : l.left ≡ l.fn.budget → SeenBelow (g.C.Constraints.describe (system_of l.table)) (view_of l.pass) l.word;
+  bound : 0 < l.word → (view_of l.pass).taken ≤ bound_of g.C.Constraints.describe l.table;
+  took : Took l.took (view_of l.fn.pass) (view_of l.pass) (SeenBelow (g.C.Constraints.describe (system_of l.table)) (view_of l.pass) l.word);
 }

@@ -1,13 +1,14 @@
-use Rattle.std.proofs.Common.{◌≡◌, ◌+◌, ◌≤◌}
+use Rattle.std.proofs.Common.{◌≡◌, ◌-◌}
 use Rattle.jn_sigtable.specs.Machine.{IsAtRest}
-use Rattle.jn_sigtable.specs.Words.{view_of, system_of, IsPassOf}
+use Rattle.jn_sigtable.specs.Words.{view_of, system_of, bound_of, IsPassOf}
 use Rattle.jn_workers.proofs.working.work.Given as goal
 
 abbrev pub invariant-loop : goal.invariant-loop
 invariant-loop g l = record {
-  own : IsPassOf l.table l.pass;
+  own : IsPassOf g.C.Constraints.describe l.table l.pass;
   idle : IsAtRest (g.C.Constraints.describe (system_of l.table)) (view_of l.pass);
   share : (view_of l.pass).share ≡ (view_of l.fn.pass).share;
-  low : l.left + l.counter ≤ l.fn.budget;
-  count : (view_of l.pass).taken + l.left ≡ (view_of l.fn.pass).taken + l.fn.budget;
 }
+
+abbrev pub decreases-loop : goal.decreases-loop
+decreases-loop g l = bound_of g.C.Constraints.describe l.table - (view_of l.pass).taken

@@ -4,5 +4,5 @@ use Rattle.jn_worklist.proofs.raising.raise_all.Given as goal
 
 abbrev pub invariant-loop-at : goal.invariant-loop-at
 invariant-loop-at g l =
-    IsPassOf l.table l.pass
+    IsPassOf g.C.Constraints.describe l.table l.pass
     × IsRaising (g.C.Constraints.describe (system_of l.table)) l.body.0 (view_of l.fn.pass) l.values (view_of l.pass) l.output l.at l.due

@@ -20,5 +20,5 @@ join_seat-requires g c =
       c.requires.other.0,
       c.args.other.empty,
       omega arith,
-      join_allowed d h.table.shared.key law spent refl refl refl c.args.pass.now.seat.id c.args.other.seat.id c.args.pass.now.seat.me.0 c.args.other.seat.me.0 c.args.pass.now.live c.args.other.live (subst (λ x. IsAtRest (d x) c.args.other.seat.me.0) (sym c.requires.other.1) c.requires.idle),
+      join_allowed d h.table.shared.key law spent refl refl refl refl c.args.pass.now.seat.id c.args.other.seat.id c.args.pass.now.seat.me.0 c.args.other.seat.me.0 c.args.pass.now.live c.args.other.live (subst (λ x. IsAtRest (d x) c.args.other.seat.me.0) (sym c.requires.other.1) c.requires.idle),
     )

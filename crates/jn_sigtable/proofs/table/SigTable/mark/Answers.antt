@@ -17,7 +17,7 @@ fetch_or-requires g c =
     let r = c.requires.range in (
       c.requires.own.0,
       omega arith,
-      mark_allowed d h.table.shared.key law h.table.shared.table_id.slots c.args.pass.now.seat.id (h.counted.words + c.args.dirty.0) c.args.dirty.0 c.args.bits c.args.pass.now.seat.me.0 c.args.pass.now.seat.me.1 c.args.pass.now.live
+      mark_allowed d h.table.shared.key law h.table.shared.table_id.slots c.args.pass.now.seat.id (h.counted.words + c.args.dirty.0) c.args.dirty.0 c.args.bits c.args.pass.now.seat.me.0 c.args.pass.now.seat.me.1 c.args.pass.now.live c.requires.due
           (subst (λ x. c.args.dirty.0 < dirty_words (d x)) (sym h.same) r) (ap (λ x. x + c.args.dirty.0) is),
     )
 
@@ -29,7 +29,7 @@ invariant_of-pass g c =
 pub returns-clause-own : goal.returns-clause-own
 returns-clause-own g c =
     let t = c.fetch_or.ensures.2 c.args.dirty.0 (ap (λ x. x + c.args.dirty.0) (c.args.self.now.counted.words_is ∙ ap (λ x. (described g.C.Constraints.describe x).words) (sym c.requires.own.1))) in
-    (c.fetch_or.ensures.0 ∙ c.requires.own.0, ap (λ x. x.0.system) t ∙ c.requires.own.1)
+    (c.fetch_or.ensures.0 ∙ c.requires.own.0, ap (λ x. x.0.system) t ∙ c.requires.own.1, ap (λ x. x.0.limit) t ∙ c.requires.own.2)
 
 pub returns-clause-view : goal.returns-clause-view
 returns-clause-view g c =

@@ -20,5 +20,5 @@ fetch_or-requires g c =
       c.requires.own.0,
       omega arith,
       raise_allowed d h.table.shared.key law h.table.shared.table_id.slots c.args.pass.now.seat.id c.args.word.0 o.0 c.args.bits c.args.pass.now.seat.me.0 c.args.pass.now.seat.me.1 c.args.pass.now.live (subst (λ x. c.args.word.0 < x) (sym e) r)
-          o.1 (c.requires.own.1 ∙ sym h.same) (subst (λ x. Within c.args.bits (bits_for ((d x).output o.0 c.args.pass.now.seat.me.0.values) c.args.word.0)) (sym c.requires.own.1) o.3),
+          o.1 (c.requires.own.1 ∙ sym h.same) (subst (λ x. Within c.args.bits (bits_for ((d x).output o.0 c.args.pass.now.seat.me.0.values) c.args.word.0)) (sym c.requires.own.1) o.3) (omega arith),
     )

@@ -1,6 +1,7 @@
-use Rattle.std.proofs.Common.{◌≡◌, ℕ, ◌+◌, ◌<◌, length, sym, ap, ◌∙◌, subst, arith}
+use Rattle.std.proofs.Common.{◌≡◌, ℕ, ◌+◌, ◌<◌, ◌≤◌, length, sym, ap, ◌∙◌, subst, arith}
 use Rattle.jn_sigtable.specs.Machine.{described, dirty_words, IsAtRest}
 use Rattle.jn_sigtable.proofs.Keeping.{lawful_at}
+use Rattle.jn_sigtable.specs.Words.{bound_of}
 use Rattle.jn_sigtable.proofs.MarkKept.{scan_allowed}
 use Rattle.jn_sigtable.proofs.table.SigTable.scan.Goals as goal
 
@@ -23,14 +24,20 @@ load-requires g c =
 
 pub invariant_of-pass : goal.invariant_of-pass
 invariant_of-pass g c =
-    let t = c.load.ensures.2 c.args.dirty.0 (ap (λ x. x + c.args.dirty.0) (c.args.self.now.counted.words_is ∙ ap (λ x. (described g.C.Constraints.describe x).words) (sym c.requires.own.1))) in
+    let t = c.load.ensures.2.0 c.args.dirty.0 (ap (λ x. x + c.args.dirty.0) (c.args.self.now.counted.words_is ∙ ap (λ x. (described g.C.Constraints.describe x).words) (sym c.requires.own.1))) in
     record { empty = ap (λ x. x.1) t ∙ c.args.pass.now.empty; live = subst (λ x. 0 < length x) (sym (ap (λ x. x.0.share) t)) c.args.pass.now.live }
 
 pub returns-clause-own : goal.returns-clause-own
 returns-clause-own g c =
-    let t = c.load.ensures.2 c.args.dirty.0 (ap (λ x. x + c.args.dirty.0) (c.args.self.now.counted.words_is ∙ ap (λ x. (described g.C.Constraints.describe x).words) (sym c.requires.own.1))) in
-    (c.load.ensures.0 ∙ c.requires.own.0, ap (λ x. x.0.system) t ∙ c.requires.own.1)
+    let t = c.load.ensures.2.0 c.args.dirty.0 (ap (λ x. x + c.args.dirty.0) (c.args.self.now.counted.words_is ∙ ap (λ x. (described g.C.Constraints.describe x).words) (sym c.requires.own.1))) in
+    (c.load.ensures.0 ∙ c.requires.own.0, ap (λ x. x.0.system) t ∙ c.requires.own.1, ap (λ x. x.0.limit) t ∙ c.requires.own.2)
 
 pub returns-clause-view : goal.returns-clause-view
 returns-clause-view g c =
-    let t = c.load.ensures.2 c.args.dirty.0 (ap (λ x. x + c.args.dirty.0) (c.args.self.now.counted.words_is ∙ ap (λ x. (described g.C.Constraints.describe x).words) (sym c.requires.own.1))) in ap (λ x. x.0) t
+    let t = c.load.ensures.2.0 c.args.dirty.0 (ap (λ x. x + c.args.dirty.0) (c.args.self.now.counted.words_is ∙ ap (λ x. (described g.C.Constraints.describe x).words) (sym c.requires.own.1))) in ap (λ x. x.0) t
+
+pub returns-clause-bound : goal.returns-clause-bound
+returns-clause-bound g c =
+    let t = c.load.ensures.2.0 c.args.dirty.0 (ap (λ x. x + c.args.dirty.0) (c.args.self.now.counted.words_is ∙ ap (λ x. (described g.C.Constraints.describe x).words) (sym c.requires.own.1))) in
+    let limit : c.load.new.seat.me.0.limit ≡ bound_of g.C.Constraints.describe c.args.self.now = ap (λ x. x.0.limit) t ∙ c.requires.own.2 in
+    subst (λ (n : ℕ). c.load.new.seat.me.0.taken ≤ n) limit c.load.ensures.2.1

@@ -1,0 +1,8 @@
+class L {
+  @MonotonicNonNull L f;
+  void m() { }
+  void reset() { }
+  void t(L a) {
+    if (a.f != null) { reset(); a.f.m(); }
+  }
+}
