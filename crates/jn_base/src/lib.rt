@@ -7,7 +7,9 @@
 
 pub mod choice;
 pub mod code;
+pub mod infer;
 pub mod lists;
+pub mod message;
 pub mod number;
 pub mod place;
 pub mod refusal;
@@ -16,6 +18,7 @@ pub mod text;
 
 pub use choice::{either, least};
 pub use code::Code;
+pub use infer::Infer;
 pub use number::{
     BodyNo, ClassNo, FieldNo, FileNo, MethodNo, NameNo, PointNo, RegNo, SlotNo, WordNo,
 };

@@ -10,7 +10,7 @@ use Rattle.jn_points.specs.declared.point.Operand.{Operand}
 use Rattle.jn_points.specs.declared.point.PointKind.{PointKind}
 use Rattle.jn_points.specs.declared.point.PointKind.TheVariants.{Const, Move, Unary, Binary, Concat, SameRef, FieldRead, FieldWrite, StaticRead, StaticWrite, ElemRead, ElemWrite, ArrayLen, NewArray, ArrayOf, New, CtorCall, Call, StrOp, Print, Cast, TestInst, TestNull, Branch, Goto, Return}
 use Rattle.jn_points.specs.declared.point.Point.{Point}
-use Rattle.std.proofs.lemmas.Bool.{cases_lt}
+use Rattle.std.proofs.lemmas.Bool.{cases_lt, ltb-true}
 use Rattle.jn_points.specs.declared.program.Body.{Body}
 use Rattle.jn_points.specs.declared.program.SlotInfo.{SlotInfo}
 use Rattle.jn_points.specs.declared.program.Program.{Program}
@@ -33,9 +33,11 @@ use Rattle.jn_analysis_law.proofs.Tables.{tables_above}
 use Rattle.jn_sigtable.specs.System.{IsLawful, Within, Covers, bits_for}
 use Rattle.jn_inference_law.specs.Packing.{packed}
 use Rattle.jn_inference_law.proofs.PackingLaws.{SendsWithin, SentBelow, packed_has, packed_sends, within_packed, packed_within, words_within, packed_small, packed_once, packed_named}
-use Rattle.jn_inference_law.specs.Reading.{body_reads}
+use Rattle.jn_inference_law.specs.Reading.{body_reads, pair_reads, has_word}
 use Rattle.jn_inference_law.proofs.ReadingLaws.{sends_same, words_agree}
-use Rattle.jn_inference_law.specs.Inference.{least_table, least_sends, words_for, inference, IsInferable}
+use Rattle.jn_pairs.specs.Pairs.{pair_sends}
+use Rattle.jn_inference_law.proofs.PairLaws.{pairs_grow, pairs_same, pairs_below}
+use Rattle.jn_inference_law.specs.Inference.{least_table, least_sends, words_for, is_body_task, task_method, task_reads, task_sends, inference, IsInferable}
 
 -- the least table is one
 pub least_is : (P : Program) (s : List Qualifier) (b : ℕ) → StaysInside P b → IsLeastTable P s b (least_table P s b)
@@ -203,17 +205,49 @@ module _ (P : Program) (can : IsInferable P) where
       let inside = can.inside b lt in
       sent_above P b (least_table P s b) (least_table P t b) (tables_above P s t b w (least_table P s b) (least_table P t b) inside (least_is P s b inside) (least_is P t b inside)) x m
 
+  module _ (t : ℕ) where
+    -- a task below the number of bodies is a body
+    low : is_body_task P t ≡ true → t < length P.bodies
+    low e = ltb-true t (length P.bodies) e
+
+    below_words : (s : List Qualifier) → SentBelow (words_for (length P.slots)) (task_sends P s t)
+    below_words s = by (is_body_task P t)
+      where
+        by : (c : Bool) → SentBelow (words_for (length P.slots)) (cond c (least_sends P s t) (pair_sends P s (task_method P t)))
+        by true = sent_below P s t
+        by false = pairs_below P s (task_method P t)
+
+    task_grows : (s u : List Qualifier) → QualsWithin s u → (x : ℕ × Qualifier) → IsSent x (task_sends P s t) → CoveredSend x (task_sends P u t)
+    task_grows s u w x = by (is_body_task P t) refl
+      where
+        by : (c : Bool) → is_body_task P t ≡ c → IsSent x (cond c (least_sends P s t) (pair_sends P s (task_method P t))) → CoveredSend x (cond c (least_sends P u t) (pair_sends P u (task_method P t)))
+        by true e m = sends_grow s u t (low e) w x m
+        by false e m = pairs_grow P s u w x (task_method P t) m
+
+    task_same : (xs ys : List ℕ) → ((w : ℕ) → w < words_for (length P.slots) → has_word w (task_reads P t) ≡ true → slice_index xs w ≡ slice_index ys w) → task_sends P (unpacked xs (length P.slots)) t ≡ task_sends P (unpacked ys (length P.slots)) t
+    task_same xs ys = by (is_body_task P t)
+      where
+        s : List Qualifier
+        s = unpacked xs (length P.slots)
+
+        u : List Qualifier
+        u = unpacked ys (length P.slots)
+
+        by : (c : Bool) → ((w : ℕ) → w < words_for (length P.slots) → has_word w (cond c (body_reads P t) (pair_reads P (task_method P t))) ≡ true → slice_index xs w ≡ slice_index ys w) → cond c (least_sends P s t) (pair_sends P s (task_method P t)) ≡ cond c (least_sends P u t) (pair_sends P u (task_method P t))
+        by true h = sends_same s u P t (words_agree xs ys (length P.slots) (body_reads P t) h)
+        by false h = pairs_same P s u (task_method P t) (words_agree xs ys (length P.slots) (pair_reads P (task_method P t)) h)
+
   pub inference_lawful : IsLawful (inference P)
   inference_lawful = record {
-    monotone = λ b xs ys lt lx ly h w _.
+    monotone = λ t xs ys lt lx ly h w _.
         let s = unpacked xs (length P.slots) in
-        let t = unpacked ys (length P.slots) in
-        packed_has (least_sends P s b) (bits_for (packed (least_sends P t b)))
-        (covered_within (least_sends P s b) (least_sends P t b) (bits_for (packed (least_sends P t b)))
-        (sends_grow s t b lt (quals_within xs ys (length P.slots) h))
-        (packed_sends (least_sends P t b) (bits_for (packed (least_sends P t b))) (λ v i. omega arith))) w;
-    reads_only = λ b xs ys lt lx ly h. ap packed (sends_same (unpacked xs (length P.slots)) (unpacked ys (length P.slots)) P b (words_agree xs ys (length P.slots) (body_reads P b) h));
-    named = λ b xs lt lx. packed_named (words_for (length P.slots)) (least_sends P (unpacked xs (length P.slots)) b) (sent_below P (unpacked xs (length P.slots)) b);
-    once = λ b xs lt lx. packed_once (least_sends P (unpacked xs (length P.slots)) b);
-    bounded = λ b xs lt lx small w. let h = packed_small (least_sends P (unpacked xs (length P.slots)) b) w in omega (arith, h);
+        let u = unpacked ys (length P.slots) in
+        packed_has (task_sends P s t) (bits_for (packed (task_sends P u t)))
+        (covered_within (task_sends P s t) (task_sends P u t) (bits_for (packed (task_sends P u t)))
+        (task_grows t s u (quals_within xs ys (length P.slots) h))
+        (packed_sends (task_sends P u t) (bits_for (packed (task_sends P u t))) (λ v i. omega arith))) w;
+    reads_only = λ t xs ys lt lx ly h. ap packed (task_same t xs ys h);
+    named = λ t xs lt lx. packed_named (words_for (length P.slots)) (task_sends P (unpacked xs (length P.slots)) t) (below_words t (unpacked xs (length P.slots)));
+    once = λ t xs lt lx. packed_once (task_sends P (unpacked xs (length P.slots)) t);
+    bounded = λ t xs lt lx small w. let h = packed_small (task_sends P (unpacked xs (length P.slots)) t) w in omega (arith, h);
   }

@@ -1,8 +1,8 @@
 -- The least words hold the least signature.
-use Rattle.std.proofs.Common.{◌≡◌, ◌⊎◌, inl, inr, ⊎_elim, ℕ, zero, suc, ◌+◌, ◌*◌, ◌/◌, ◌%◌, ◌<◌, ◌≤◌, List, [], ◌∷◌, length, map, get_or, Some, None, refl, sym, ap, ◌∙◌, subst, arith}
+use Rattle.std.proofs.Common.{◌≡◌, ◌⊎◌, inl, inr, ⊎_elim, Bool, true, false, cond, ℕ, zero, suc, ◌+◌, ◌*◌, ◌/◌, ◌%◌, ◌<◌, ◌≤◌, List, [], ◌∷◌, length, map, get_or, Some, None, refl, sym, ap, ◌∙◌, subst, arith}
 use Rattle.std.specs.Prelude.{IsTrue, replicate, slice_get, slice_index, slice_index_or, slice_set}
 use Rattle.std.specs.List.{range_with_len}
-use Rattle.std.proofs.lemmas.Bool.{cases_lt}
+use Rattle.std.proofs.lemmas.Bool.{cases_lt, ltb-true}
 use Rattle.std.proofs.lemmas.List.{get_or_past}
 use Rattle.std.proofs.lemmas.List.FromFn.{get_or-map-range_with_len, length-map-range_with_len}
 use Rattle.jn_quals.specs.Qualifier.{Qualifier}
@@ -15,7 +15,8 @@ use Rattle.jn_points.specs.declared.program.SlotInfo.{SlotInfo}
 use Rattle.jn_points.specs.declared.program.Program.{Program}
 use Rattle.jn_points.specs.Lookup.{body_at, points_of}
 use Rattle.jn_sigs.specs.Packed.{ArePacked, at_slot, unpacked}
-use Rattle.jn_sigs.specs.Signature.{start_signature, starts_from}
+use Rattle.jn_task_start.specs.Start.{start_signature, starts_from}
+use Rattle.jn_task_start.proofs.Starts.{length-starts_from}
 use Rattle.jn_sigs.proofs.Slots.{length-unpacked, unpacked-at}
 use Rattle.jn_env.specs.Order.{QualsWithin, Table, env_in}
 use Rattle.jn_env.proofs.Order.{quals_at, quals_refl}
@@ -27,9 +28,12 @@ use Rattle.jn_sigtable.specs.System.{IsClosed as IsClosedWords, Within, Covers, 
 use Rattle.jn_sigtable.proofs.LeastWords.{least_is_least}
 use Rattle.jn_inference_law.specs.Packing.{packed}
 use Rattle.jn_inference_law.proofs.PackingLaws.{SendsWithin, SentBelow, packed_has, packed_sends, packed_within, within_packed}
-use Rattle.jn_inference_law.specs.Inference.{inference, least_sends, least_table, words_for, IsInferable}
+use Rattle.jn_inference_law.specs.Inference.{inference, least_sends, least_table, words_for, task_count, task_method, is_body_task, task_sends, IsInferable}
+use Rattle.jn_inference_law.proofs.PairLaws.{pairs_below, pairs_inside}
+use Rattle.jn_inference_law.proofs.TaskNumbers.{body_task, pair_task, task_of}
 use Rattle.jn_inference_law.proofs.InferenceLaws.{inference_lawful, least_is, least_sends_is, past_points, quals_within, sent_below, sent_inside}
-use Rattle.jn_transfer.specs.Closing.{IsClosed}
+use Rattle.jn_pairs.specs.Pairs.{pair_sends}
+use Rattle.jn_pairs.specs.Closing.{IsTaskClosed}
 use Rattle.jn_inference_law.specs.Solution.{IsLeastSignature}
 use Rattle.jn_inference_law.proofs.WordsOf.{words_of, length-words_of, words_of-at, words_of-unpacked, word_within}
 
@@ -86,10 +90,13 @@ quals_antisym (p ∷ s) (q ∷ t) v w =
 pub least_unique : (P : Program) (s t : List Qualifier) → IsLeastSignature P s → IsLeastSignature P t → s ≡ t
 least_unique P s t is it = quals_antisym s t (is.least t it.closed it.starts) (it.least s is.closed is.starts)
 
--- where there are no bodies it is the start
-pub least_start : (P : Program) (s : List Qualifier) → length P.bodies ≡ 0 → s ≡ start_signature P → IsLeastSignature P s
+-- where there are no tasks it is the start
+pub least_start : (P : Program) (s : List Qualifier) → task_count P ≡ 0 → s ≡ start_signature P → IsLeastSignature P s
 least_start P s none e = record {
-  closed = λ tables tl b p pt e at reached x m. let lt = body_inside b p P.bodies pt at in absurd (omega (arith, lt, none));
+  closed = record {
+    bodies = λ tables tl b p pt env at reached x m. let lt = body_inside b p P.bodies pt at in absurd (omega (arith, lt, none));
+    pairs = λ m x sent. let t = task_of P s m x sent in let lt = t.inside in absurd (omega (arith, lt, none));
+  };
   starts = subst (QualsWithin (start_signature P)) (sym e) (quals_refl (start_signature P));
   least = λ t closed w. subst (λ (u : List Qualifier). QualsWithin u t) (sym e) w;
 }
@@ -122,37 +129,62 @@ module _ (P : Program) (can : IsInferable P) where
         past le = get_or_past (map (least_table P t) (range_with_len 0 (length P.bodies))) b [] (let l = length-map-range_with_len (least_table P t) 0 (length P.bodies) in omega (arith, le, l))
 
   -- closed words hold a closed signature
-  closed_signature : (words : List ℕ) → IsClosedWords (inference P) words → IsClosed P (unpacked words (length P.slots))
-  closed_signature words is tables tl b p pt e at reached x m =
-      let s = unpacked words (length P.slots) in
-      let lt = body_inside b p P.bodies pt at in
-      let T = slice_index_or tables b [] in
-      let sent = of_the_body P b T x (record { place = p; point = pt; env = e; there = at; reached = reached; sent = m }) in
-      let mine = subst (IsSent x) (sym (least_sends_is P s b T (can.inside b lt) (tl b))) sent in
-      let all = sends_of (words_for (length P.slots)) (least_sends P s b) (slice_index words) (sent_below P s b) (is.closed b lt) in
-      let h = sent_within (least_sends P s b) words x all mine in
-      subst (λ (q : Qualifier). IsTrue (within x.1 q)) (sym (unpacked-at words (length P.slots) x.0 (sent_inside P s b x mine))) h
+  module _ (words : List ℕ) (is : IsClosedWords (inference P) words) where
+    abbrev held : List Qualifier
+    held = unpacked words (length P.slots)
+
+    sent_stands : (t : ℕ) → t < task_count P → (xs : List (ℕ × Qualifier)) → task_sends P held t ≡ xs → SentBelow (words_for (length P.slots)) xs → (x : ℕ × Qualifier) → x.0 < length P.slots → IsSent x xs → IsTrue (within x.1 (slice_index_or held x.0 no_qual))
+    sent_stands t lt xs same low x inside m =
+        let all = sends_of (words_for (length P.slots)) xs (slice_index words) low (subst (λ (ys : List (ℕ × Qualifier)). (v : ℕ) → v < words_for (length P.slots) → Within (bits_for (packed ys) v) (slice_index words v)) same (is.closed t lt)) in
+        let h = sent_within xs words x all m in
+        subst (λ (q : Qualifier). IsTrue (within x.1 q)) (sym (unpacked-at words (length P.slots) x.0 inside)) h
+
+    closed_signature : IsTaskClosed P held
+    closed_signature = record {
+      bodies = λ tables tl b p pt e at reached x m.
+          let lt = body_inside b p P.bodies pt at in
+          let T = slice_index_or tables b [] in
+          let sent = of_the_body P b T x (record { place = p; point = pt; env = e; there = at; reached = reached; sent = m }) in
+          let mine = subst (IsSent x) (sym (least_sends_is P held b T (can.inside b lt) (tl b))) sent in
+          sent_stands b (omega (arith, lt)) (least_sends P held b) (body_task P held b lt) (sent_below P held b) x (sent_inside P held b x mine) mine;
+      pairs = λ m x sent.
+          let t = task_of P held m x sent in
+          sent_stands t.task t.inside (pair_sends P held m) (pair_task P held t.task t.behind ∙ ap (pair_sends P held) t.method) (pairs_below P held m) x (pairs_inside P held m x sent) sent;
+    }
 
   -- and a closed signature stands in closed words
   module _ (t : List Qualifier) (long : length t ≡ length P.slots) where
     view : unpacked (words_of t) (length P.slots) ≡ t
     view = ap (unpacked (words_of t)) (sym long) ∙ words_of-unpacked t
 
-    closed_send : IsClosed P t → (b : ℕ) → b < length P.bodies → (x : ℕ × Qualifier) → IsSent x (least_sends P t b) → IsTrue (within x.1 (at_slot (words_of t) x.0))
-    closed_send c b lt x m =
-        let T = least_table P t b in
-        let h = of_a_point P b T x (subst (IsSent x) (least_sends_is P t b T (can.inside b lt) (least_is P t b (can.inside b lt))) m) in
-        let reached : env_in (slice_index_or (tables_of t) b []) h.place ≡ Some h.env = ap (λ (u : Table). env_in u h.place) (table_of-at t b lt) ∙ h.reached in
-        let k : IsTrue (within x.1 (slice_index_or t x.0 no_qual)) = c (tables_of t) (tables_least t) b h.place h.point h.env h.there reached x h.sent in
-        let there : x.0 < length t = let i = sent_inside P t b x m in omega (arith, i, long) in
-        subst (λ (q : Qualifier). IsTrue (within x.1 q)) (sym (words_of-at t x.0 there)) k
+    module _ (c : IsTaskClosed P t) where
+      closed_send : (b : ℕ) → b < length P.bodies → (x : ℕ × Qualifier) → IsSent x (least_sends P t b) → IsTrue (within x.1 (at_slot (words_of t) x.0))
+      closed_send b lt x m =
+          let T = least_table P t b in
+          let h = of_a_point P b T x (subst (IsSent x) (least_sends_is P t b T (can.inside b lt) (least_is P t b (can.inside b lt))) m) in
+          let reached : env_in (slice_index_or (tables_of t) b []) h.place ≡ Some h.env = ap (λ (u : Table). env_in u h.place) (table_of-at t b lt) ∙ h.reached in
+          let k : IsTrue (within x.1 (slice_index_or t x.0 no_qual)) = c.bodies (tables_of t) (tables_least t) b h.place h.point h.env h.there reached x h.sent in
+          let there : x.0 < length t = let i = sent_inside P t b x m in omega (arith, i, long) in
+          subst (λ (q : Qualifier). IsTrue (within x.1 q)) (sym (words_of-at t x.0 there)) k
 
-    closed_words : IsClosed P t → IsClosedWords (inference P) (words_of t)
-    closed_words c = record {
-      count = length-words_of t ∙ ap words_for long;
-      closed = λ b lt w _. subst (λ (u : List Qualifier). Within (bits_for (packed (least_sends P u b)) w) (slice_index (words_of t) w)) (sym view)
-          (packed_has (least_sends P t b) (slice_index (words_of t)) (within_sent (least_sends P t b) (words_of t) (closed_send c b lt)) w);
-    }
+      closed_pair : (m : ℕ) (x : ℕ × Qualifier) → IsSent x (pair_sends P t m) → IsTrue (within x.1 (at_slot (words_of t) x.0))
+      closed_pair m x h =
+          let there : x.0 < length t = let i = pairs_inside P t m x h in omega (arith, i, long) in
+          subst (λ (q : Qualifier). IsTrue (within x.1 q)) (sym (words_of-at t x.0 there)) (c.pairs m x h)
+
+      closed_task : (n : ℕ) (x : ℕ × Qualifier) → IsSent x (task_sends P t n) → IsTrue (within x.1 (at_slot (words_of t) x.0))
+      closed_task n x = by (is_body_task P n) refl
+        where
+          by : (d : Bool) → is_body_task P n ≡ d → IsSent x (cond d (least_sends P t n) (pair_sends P t (task_method P n))) → IsTrue (within x.1 (at_slot (words_of t) x.0))
+          by true e m = closed_send n (ltb-true n (length P.bodies) e) x m
+          by false e m = closed_pair (task_method P n) x m
+
+      closed_words : IsClosedWords (inference P) (words_of t)
+      closed_words = record {
+        count = length-words_of t ∙ ap words_for long;
+        closed = λ n lt w _. subst (λ (u : List Qualifier). Within (bits_for (packed (task_sends P u n)) w) (slice_index (words_of t) w)) (sym view)
+            (packed_has (task_sends P t n) (slice_index (words_of t)) (within_sent (task_sends P t n) (words_of t) (closed_task n)) w);
+      }
 
   module _ (start : List ℕ) (packed_start : ArePacked start (length P.slots)) (starts : unpacked start (length P.slots) ≡ start_signature P) where
     pub start_covered : (t : List Qualifier) → length t ≡ length P.slots → QualsWithin (start_signature P) t → Covers (words_for (length P.slots)) start (words_of t)
@@ -196,10 +228,6 @@ module _ (P : Program) (can : IsInferable P) where
     -- and a signature that holds them is the least one
     pub found_signature : (Q : Program) (words : List ℕ) (sig : List Qualifier) → Q ≡ P → words ≡ least (inference Q) start → sig ≡ unpacked words (length P.slots) → IsLeastSignature P sig
     found_signature Q words sig e f g = subst (IsLeastSignature P) (sym (g ∙ ap (λ (ws : List ℕ). unpacked ws (length P.slots)) (f ∙ ap (λ (R : Program). least (inference R) start) e))) least_signature
-
-length-starts_from : (P : Program) (i : ℕ) (xs : List SlotInfo) → length (starts_from P i xs) ≡ length xs
-length-starts_from P i [] = refl
-length-starts_from P i (x ∷ xs) = ap suc (length-starts_from P (i + 1) xs)
 
 pub length-start : (P : Program) → length (start_signature P) ≡ length P.slots
 length-start P = length-starts_from P 0 P.slots

@@ -6,3 +6,6 @@ pub mod LeastSignature
 pub mod Inferring
 pub mod OneFact
 pub mod FewBits
+pub mod PairLaws
+pub mod TaskNumbers
+mod BodiesAlone

@@ -26,20 +26,15 @@ use Rattle.jn_transfer.specs.Transfer.{drop_facts, given_quals, less_null, pad_q
 use Rattle.jn_fixpoint.specs.Climb.{rounds}
 use Rattle.jn_flow.specs.Size.{height}
 use Rattle.jn_contrib.specs.Sends.{body_sends}
-use Rattle.jn_inference_law.specs.Reading.{slot_list, slot_lists, given_reads, has_word, kind_reads, points_reads, body_reads}
+use Rattle.jn_inference_law.specs.Reading.{Agree, slot_list, slot_lists, given_reads, has_word, kind_reads, points_reads, body_reads}
 use Rattle.jn_inference_law.specs.Inference.{least_table, least_sends, words_for}
 
--- two signatures agree on these slots
-abbrev pub Agree : List Qualifier → List Qualifier → List ℕ → Type 0
-Agree s t [] = Unit {0}
-Agree s t (i ∷ is) = (slice_index_or s i no_qual ≡ slice_index_or t i no_qual) × Agree s t is
-
 module _ (s t : List Qualifier) where
-  agree_left : (xs ys : List ℕ) → Agree s t (xs ++ ys) → Agree s t xs
+  pub agree_left : (xs ys : List ℕ) → Agree s t (xs ++ ys) → Agree s t xs
   agree_left [] ys h = tt
   agree_left (x ∷ xs) ys h = (h.0, agree_left xs ys h.1)
 
-  agree_right : (xs ys : List ℕ) → Agree s t (xs ++ ys) → Agree s t ys
+  pub agree_right : (xs ys : List ℕ) → Agree s t (xs ++ ys) → Agree s t ys
   agree_right [] ys h = h
   agree_right (x ∷ xs) ys h = agree_right xs ys h.1
 

@@ -2,3 +2,4 @@ pub mod Packing
 pub mod Reading
 pub mod Inference
 pub mod Solution
+pub mod BodiesAlone

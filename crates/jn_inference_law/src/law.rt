@@ -10,7 +10,14 @@ ghost use Rattle.jn_sigs.specs.Signature.{start_signature};
 ghost use Rattle.jn_sigtable.specs.System.{IsLawful, limit_of};
 ghost use Rattle.jn_transfer.specs.Contributions.{IsSent, is_inferred};
 ghost use Rattle.jn_transfer.specs.Least.{IsLeastTable};
+ghost use Rattle.jn_env.specs.Order.{QualsWithin, Table};
+ghost use Rattle.jn_analysis_law.specs.CoveredSend.{CoveredSend};
+ghost use Rattle.jn_task_start.specs.Start.{OnlyPrivateInferred};
+ghost use Rattle.jn_pairs.specs.Pairs.{pair_sends};
+ghost use Rattle.jn_pairs.specs.Closing.{NoPrivatePairs};
+ghost use Rattle.jn_inference_law.specs.BodiesAlone.{IsLeastOfBodies};
 ghost use Rattle.jn_inference_law.specs.Inference.{IsInferable, inference, least_sends};
+ghost use Rattle.jn_inference_law.specs.Reading.{Agree, pair_reads};
 ghost use Rattle.jn_inference_law.specs.Solution.{IsLeastSignature};
 
 /// Each regular program can be inferred, and its system keeps the laws of a system.
@@ -19,12 +26,31 @@ pub fn regular_programs_are_inferable()
     ensures lawful { (P : Program) → IsInferable P → IsLawful (inference P) }
 {}
 
-/// What the system's bodies output is what they send under their least tables, and it goes to inferred slots alone.
+/// What the system's bodies output is what they send under their least tables, what its other tasks output is what overriding methods send,
+/// and all of it goes to inferred slots alone.
 pub fn outputs_are_contributions()
     ensures sends { (P : Program) (s : List Qualifier) (b : ℕ) (t : Table) → IsInferable P
         → IsLeastTable P s b t → least_sends P s b ≡ body_sends P b t }
     ensures inferred { (P : Program) (s : List Qualifier) (b : ℕ) (x : ℕ × Qualifier)
         → IsSent x (least_sends P s b) → is_inferred (slice_get P.slots x.0) ≡ true }
+    ensures pairs { (P : Program) (s : List Qualifier) (m : ℕ) (x : ℕ × Qualifier)
+        → IsSent x (pair_sends P s m) → is_inferred (slice_get P.slots x.0) ≡ true }
+{}
+
+/// An overriding method sends at least as much under a greater signature, and the same under one that agrees on the slots that it reads.
+pub fn pair_contributions_are_monotone()
+    ensures grow { (P : Program) (s t : List Qualifier) (m : ℕ) (x : ℕ × Qualifier) → QualsWithin s t
+        → IsSent x (pair_sends P s m) → CoveredSend x (pair_sends P t m) }
+    ensures same { (P : Program) (s t : List Qualifier) (m : ℕ) → Agree s t (pair_reads P m)
+        → pair_sends P s m ≡ pair_sends P t m }
+{}
+
+/// Where private members alone are inferred, and none of them is of an overriding pair, the least signature is that of bodies alone.
+pub fn private_inference_is_of_bodies_alone()
+    ensures tasks { (P : Program) (s : List Qualifier) → OnlyPrivateInferred P → NoPrivatePairs P
+        → IsLeastOfBodies P s → IsLeastSignature P s }
+    ensures bodies { (P : Program) (s : List Qualifier) → OnlyPrivateInferred P → NoPrivatePairs P
+        → IsLeastSignature P s → IsLeastOfBodies P s }
 {}
 
 /// Workers on a program take each body once at the start, and at most once more for each of the three bits of each slot.

@@ -10,7 +10,7 @@ use Rattle.jn_points.specs.BaseRows.{NoBaseRows}
 use Rattle.jn_points.specs.BaseTyping.{BaseTyped}
 use Rattle.jn_points.specs.Regular.{Regular}
 use Rattle.jn_points.specs.Shaped.{Shaped}
-use Rattle.jn_sigs.specs.Signature.{uncalled_from, start_of, starts_from}
+use Rattle.jn_task_start.specs.Start.{uncalled_from, start_of, starts_from}
 use Rattle.jn_env.specs.Environment.{Env}
 use Rattle.jn_env.specs.Order.{QualsWithin}
 use Rattle.jn_transfer.specs.Contributions.{FieldSlots}
@@ -42,7 +42,7 @@ module _ (respects : (P : Program) (s : List Qualifier) (b : ℕ) (t : List (Opt
         slots = slots P A.regular;
         starts = λ n info is h. starts_there P 0 P.slots s n info A.starts is h;
         respects = λ b x is. respects P s b (slice_index_or tables b []) (inside P A.regular b (slice_get_within P.bodies b x is)) (A.unbroken.least b);
-        closed = A.closed tables A.unbroken.least;
+        closed = A.closed.bodies tables A.unbroken.least;
         none = sym A.unbroken.all;
       }
 

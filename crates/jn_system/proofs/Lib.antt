@@ -4,3 +4,4 @@ pub mod ReadSteps
 pub mod Gathering
 pub mod ListSteps
 pub mod Seen
+pub mod TaskSteps

@@ -8,10 +8,10 @@ use Rattle.jn_base.specs.declared.number.WordNo.{WordNo}
 use Rattle.jn_points.specs.declared.point.Point.{Point}
 use Rattle.jn_points.specs.declared.program.Body.{Body}
 use Rattle.jn_points.specs.declared.program.Program.{Program}
-use Rattle.jn_points.specs.Lookup.{body_at, method_in, points_of}
+use Rattle.jn_points.specs.Lookup.{body_at, method_at, method_in, points_of}
 use Rattle.jn_sigtable.specs.System.{IsReadList, WordsOnce, lists_word}
-use Rattle.jn_inference_law.specs.Inference.{inference, words_for}
-use Rattle.jn_inference_law.specs.Reading.{slot_list, slot_lists, given_reads, has_word, kind_reads, points_reads, body_reads}
+use Rattle.jn_inference_law.specs.Inference.{inference, words_for, task_reads}
+use Rattle.jn_inference_law.specs.Reading.{slot_list, slot_lists, given_reads, methods_reads, has_word, kind_reads, points_reads, body_reads}
 use Rattle.jn_system.specs.ReadLists.{Adds}
 use Rattle.jn_system.proofs.ReadSteps.{has_word-append}
 
@@ -37,6 +37,16 @@ listed_more ws w i d found more all lt e h =
     ∙ sym (or_next found ((slice_index_or ws i d).0 == w) (lists_word (drop (i + 1) ws) w))
     ∙ ap (λ (t : Bool). found || t) (sym (at_drop_more (λ (vs : List WordNo). lists_word vs w) ws i d lt))
     ∙ h
+
+-- a word that stands at some place is listed
+pub at_listed : (ws : List WordNo) (w i : ℕ) (d : WordNo) → i < length ws → ((slice_index_or ws i d).0 == w) ≡ true → lists_word ws w ≡ true
+at_listed [] w i d lt e = absurd (omega (arith, lt))
+at_listed (x ∷ ws) w zero d lt e = ap (λ (t : Bool). t || lists_word ws w) e
+at_listed (x ∷ ws) w (suc i) d lt e = behind (x.0 == w) (at_listed ws w i d (omega (arith, lt)) e)
+  where
+    behind : (t : Bool) → lists_word ws w ≡ true → (t || lists_word ws w) ≡ true
+    behind true h = refl
+    behind false h = h
 
 pub adds_none : (n : ℕ) (list : List WordNo) → Adds n [] list list
 adds_none n list = record { words = λ w. sym (ap (λ (t : Bool). lists_word list w || t) (and_none (ltb w n)) ∙ or_none (lists_word list w)); once = λ h. h }
@@ -133,17 +143,29 @@ pub adds_points : (P : Program) (n : ℕ) (pts : List Point) (i : ℕ) (d : Poin
 adds_points P n pts i d first list next more lt a h k =
     h more (subst (λ (is : List ℕ). Adds n is list more) (sym (at_drop_more (points_reads P) pts i d lt)) (adds_both n (kind_reads P (slice_index_or pts i d).kind) (points_reads P (drop (i + 1) pts)) list next more a k))
 
-pub read_list : (P : Program) (n b : ℕ) (given list : List WordNo) (pts : List Point) → n ≡ words_for (length P.slots) → points_of (body_at P b) ≡ pts → Adds n (given_reads (method_in P b)) [] given → Adds n (points_reads P pts) given list → IsReadList (inference P) b list
-read_list P n b given list pts e at h k = record {
-  only = λ w is.
-      let p = and_parts (ltb w n) (has_word w reads) (sym (all.words w) ∙ is) in
+pub adds_methods : (P : Program) (n : ℕ) (ks : List ℕ) (i d : ℕ) (first list next more : List WordNo) → i < length ks → Adds n (given_reads (method_at P (slice_index_or ks i d))) list next → ((last : List WordNo) → Adds n (methods_reads P (drop i ks)) list last → Adds n (methods_reads P ks) first last) → Adds n (methods_reads P (drop (i + 1) ks)) next more → Adds n (methods_reads P ks) first more
+adds_methods P n ks i d first list next more lt a h k =
+    h more (subst (λ (is : List ℕ). Adds n is list more) (sym (at_drop_more (methods_reads P) ks i d lt)) (adds_both n (given_reads (method_at P (slice_index_or ks i d))) (methods_reads P (drop (i + 1) ks)) list next more a k))
+
+pub methods_end : (P : Program) (n : ℕ) (ks : List ℕ) (i : ℕ) (list : List WordNo) → length ks ≤ i → Adds n (methods_reads P (drop i ks)) list list
+methods_end P n [] zero list le = adds_none n list
+methods_end P n [] (suc i) list le = adds_none n list
+methods_end P n (x ∷ ks) zero list le = absurd (omega (arith, le))
+methods_end P n (x ∷ ks) (suc i) list le = methods_end P n ks i list (omega (arith, le))
+
+-- the words of a body that is there
+pub body_list : (P : Program) (n b : ℕ) (given list : List WordNo) (pts : List Point) → points_of (body_at P b) ≡ pts → Adds n (given_reads (method_in P b)) [] given → Adds n (points_reads P pts) given list → Adds n (body_reads P b) [] list
+body_list P n b given list pts at h k = adds_both n (given_reads (method_in P b)) (points_reads P (points_of (body_at P b))) [] given list h (subst (λ (ps : List Point). Adds n (points_reads P ps) given list) (sym at) k)
+
+-- a list of a task's words
+pub task_list : (P : Program) (n t : ℕ) (list : List WordNo) (slots : List ℕ) → n ≡ words_for (length P.slots) → task_reads P t ≡ slots → Adds n slots [] list → IsReadList (inference P) t list
+task_list P n t list slots e is h = record {
+  only = λ w there.
+      let p = and_parts (ltb w n) (has_word w (task_reads P t)) (sym (all.words w) ∙ there) in
       (let lt = ltb_below w n p.0 in omega (arith, lt, e), p.1);
-  all = λ w lt is. all.words w ∙ and_from (ltb w n) (has_word w reads) (below_ltb w n (omega (arith, lt, e))) is;
+  all = λ w lt there. all.words w ∙ and_from (ltb w n) (has_word w (task_reads P t)) (below_ltb w n (omega (arith, lt, e))) there;
   once = all.once tt;
 }
   where
-    reads : List ℕ
-    reads = body_reads P b
-
-    all : Adds n (body_reads P b) [] list
-    all = adds_both n (given_reads (method_in P b)) (points_reads P (points_of (body_at P b))) [] given list h (subst (λ (ps : List Point). Adds n (points_reads P ps) given list) (sym at) k)
+    all : Adds n (task_reads P t) [] list
+    all = subst (λ (is : List ℕ). Adds n is [] list) (sym is) h

@@ -10,7 +10,7 @@ use Rattle.jn_env.specs.Order.{Table}
 use Rattle.jn_transfer.specs.Least.{IsLeastTable}
 use Rattle.jn_contrib.specs.Sends.{body_sends, slot_numbers}
 use Rattle.jn_inference_law.specs.Packing.{word_no, add_bits, packed}
-use Rattle.jn_inference_law.specs.Inference.{IsInferable, inference, words_for, least_sends}
+use Rattle.jn_inference_law.specs.Inference.{IsInferable, inference, words_for, task_count, task_sends, least_sends}
 use Rattle.jn_inference_law.proofs.InferenceLaws.{least_sends_is}
 use Rattle.jn_system.specs.Cleaning.{IsSignatureOf}
 use Rattle.jn_system.proofs.Seen.{same_output}
@@ -45,9 +45,13 @@ module _ (w bits : ℕ) where
       ∙ sym (ap (λ (t : Bool). if t then ((o.0, bit_or o.1 bits) ∷ os) else (o ∷ add_bits w bits os)) h.0)
 
 -- the packed sends are the output
-pub output_is : (P : Program) (b n : ℕ) (s : List Qualifier) (words : List ℕ) (listed : List WordNo) (T : Table) (sends slice : List (SlotNo × Qualifier)) (outputs : List (WordNo × ℕ)) → IsInferable P → b < length P.bodies → length words ≡ words_for (length P.slots) → n ≡ length P.slots → IsReadList (inference P) b listed → IsSignatureOf n words listed s → IsLeastTable P s b T → slot_numbers sends ≡ body_sends P b T → slice ≡ sends → outputs ≡ packed (slot_numbers slice) → outputs ≡ packed (least_sends P (unpacked words (length P.slots)) b)
-output_is P b n s words listed T sends slice outputs can lt long count reads sees table sent same out =
+pub output_is : (P : Program) (b n : ℕ) (s : List Qualifier) (words : List ℕ) (listed : List WordNo) (sends slice : List (SlotNo × Qualifier)) (outputs : List (WordNo × ℕ)) → IsInferable P → b < task_count P → length words ≡ words_for (length P.slots) → n ≡ length P.slots → IsReadList (inference P) b listed → IsSignatureOf n words listed s → slot_numbers sends ≡ task_sends P s b → slice ≡ sends → outputs ≡ packed (slot_numbers slice) → outputs ≡ packed (task_sends P (unpacked words (length P.slots)) b)
+output_is P b n s words listed sends slice outputs can lt long count reads sees sent same out =
     out
     ∙ ap (λ (l : List (SlotNo × Qualifier)). packed (slot_numbers l)) same
-    ∙ ap packed (sent ∙ sym (least_sends_is P s b T (can.inside b lt) table))
+    ∙ ap packed sent
     ∙ same_output P b words listed s can lt long reads (subst (λ m. IsSignatureOf m words listed s) count sees)
+
+-- what a body sends under its least table
+pub least_sent : (P : Program) (b : ℕ) (s : List Qualifier) (T : Table) (sends : List (SlotNo × Qualifier)) → IsInferable P → b < length P.bodies → IsLeastTable P s b T → slot_numbers sends ≡ body_sends P b T → slot_numbers sends ≡ least_sends P s b
+least_sent P b s T sends can lt table sent = sent ∙ sym (least_sends_is P s b T (can.inside b lt) table)

@@ -5,7 +5,8 @@ use Rattle.std.proofs.lemmas.List.{at_drop_more}
 use Rattle.jn_base.specs.declared.number.SlotNo.{SlotNo}
 use Rattle.jn_points.specs.declared.point.Point.{Point}
 use Rattle.jn_points.specs.declared.program.Program.{Program}
-use Rattle.jn_inference_law.specs.Reading.{slot_list, slot_lists, has_word, kind_reads, points_reads}
+use Rattle.jn_points.specs.Lookup.{method_at}
+use Rattle.jn_inference_law.specs.Reading.{slot_list, slot_lists, given_reads, methods_reads, has_word, kind_reads, points_reads}
 
 or_next : (a b c : Bool) → (a || (b || c)) ≡ ((a || b) || c)
 or_next true b c = refl
@@ -35,3 +36,7 @@ slots_more w xs i d some more all lt e h = more_of w (slot_list (slice_index_or 
 
 pub points_more : (P : Program) (w : ℕ) (pts : List Point) (i : ℕ) (d : Point) (some more all : Bool) → i < length pts → more ≡ (some || has_word w (kind_reads P (slice_index_or pts i d).kind)) → (some || has_word w (points_reads P (drop i pts))) ≡ all → (more || has_word w (points_reads P (drop (i + 1) pts))) ≡ all
 points_more P w pts i d some more all lt e h = more_of w (kind_reads P (slice_index_or pts i d).kind) (points_reads P (drop (i + 1) pts)) (points_reads P (drop i pts)) some more all e (at_drop_more (λ ys. has_word w (points_reads P ys)) pts i d lt) h
+
+-- one method more
+pub methods_more : (P : Program) (w : ℕ) (ks : List ℕ) (i d : ℕ) (some more all : Bool) → i < length ks → more ≡ (some || has_word w (given_reads (method_at P (slice_index_or ks i d)))) → (some || has_word w (methods_reads P (drop i ks))) ≡ all → (more || has_word w (methods_reads P (drop (i + 1) ks))) ≡ all
+methods_more P w ks i d some more all lt e h = more_of w (given_reads (method_at P (slice_index_or ks i d))) (methods_reads P (drop (i + 1) ks)) (methods_reads P (drop i ks)) some more all e (at_drop_more (λ ys. has_word w (methods_reads P ys)) ks i d lt) h

@@ -11,7 +11,7 @@ use Rattle.jn_quals.specs.Qualifier.{Qualifier}
 use Rattle.jn_points.specs.declared.program.Program.{Program}
 use Rattle.jn_sigs.specs.Packed.{ArePacked, unpacked}
 use Rattle.jn_sigtable.specs.System.{IsReadList, lists_word}
-use Rattle.jn_inference_law.specs.Inference.{IsInferable, inference, least_sends, words_for}
+use Rattle.jn_inference_law.specs.Inference.{IsInferable, inference, task_count, task_sends, words_for}
 use Rattle.jn_inference_law.specs.Packing.{packed}
 use Rattle.jn_inference_law.proofs.InferenceLaws.{inference_lawful}
 use Rattle.jn_system.specs.Cleaning.{clean, cleaned, AreSeen, IsSignatureOf}
@@ -97,11 +97,11 @@ module _ (slots : ℕ) (words : List ℕ) where
         settled w (inl e) = e
         settled w (inr e) = absurd cc
 
--- what a body puts out doesn't depend on words that it doesn't read
-pub same_output : (P : Program) (b : ℕ) (words : List ℕ) (listed : List WordNo) (s : List Qualifier) → IsInferable P → b < length P.bodies → length words ≡ words_for (length P.slots) → IsReadList (inference P) b listed → IsSignatureOf (length P.slots) words listed s
-    → packed (least_sends P s b) ≡ packed (least_sends P (unpacked words (length P.slots)) b)
+-- what a task puts out doesn't depend on words that it doesn't read
+pub same_output : (P : Program) (b : ℕ) (words : List ℕ) (listed : List WordNo) (s : List Qualifier) → IsInferable P → b < task_count P → length words ≡ words_for (length P.slots) → IsReadList (inference P) b listed → IsSignatureOf (length P.slots) words listed s
+    → packed (task_sends P s b) ≡ packed (task_sends P (unpacked words (length P.slots)) b)
 same_output P b words listed s can lt count reads sees =
     let n = length P.slots in
-    ap (λ (t : List Qualifier). packed (least_sends P t b)) sees.is
+    ap (λ (t : List Qualifier). packed (task_sends P t b)) sees.is
     ∙ (inference_lawful P can).reads_only b sees.seen (cleaned n words) lt sees.count (length-cleaned n words) (λ w below read. sees.same w below (reads.all w below read))
-    ∙ ap (λ (t : List Qualifier). packed (least_sends P t b)) (cleaned_unpacked n words)
+    ∙ ap (λ (t : List Qualifier). packed (task_sends P t b)) (cleaned_unpacked n words)

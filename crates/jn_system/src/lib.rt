@@ -10,6 +10,7 @@ pub mod packing;
 pub mod reading;
 pub mod signature;
 pub mod solving;
+pub mod tasks;
 
 pub use checking::check_all;
 pub use inferable::is_inferable;

@@ -1,36 +1,42 @@
-//! Inference over a program as a system of bodies and words.
+//! Inference over a program as a system of tasks and words.
 ghost use Rattle.std.specs.Prelude.{◌≡◌, ◌<◌};
-ghost use Rattle.jn_system.specs.Ready.{AreReady, ready_prop};
+ghost use Rattle.jn_system.specs.Ready.{AreTasks, tasks_prop};
 
-use crate::listing::words_read;
 use crate::packing::pack_sends;
-use crate::reading::body_reads;
 use crate::signature::signature_of;
+use crate::tasks::{task_contrib, task_reads, task_words};
 use jn_base::{BodyNo, OutOfMemory, WordNo};
-use jn_contrib::contrib_by;
-use jn_env::{OwnFields, find_keys_by};
-use jn_flow::flow_by;
+use jn_env::OwnFields;
+use jn_pairs::Overrider;
 use jn_points::Program;
 use jn_sigtable::Constraints;
-use jn_transfer::Analysis;
 use std::alloc::Global;
 
-/// The system of a program: its bodies, the packed words of its signature, and what each body sends into
-/// inferred slots under its least table.
+/// The system of a program: its tasks, the packed words of its signature, and what each task sends into inferred slots. A body does so
+/// under its least table; a task behind the bodies is a method that overrides.
 #[derive(Drop)]
 pub struct Nullness<'p> {
     pub program: &'p Program,
     own: &'p OwnFields,
-    ghost ready: { AreReady program.now own.now } by { ready_prop program.now own.now },
+    overriders: &'p [Overrider],
+    ghost ready: { AreTasks program.now own.now overriders.now } by { tasks_prop program.now own.now overriders.now },
 }
 
 impl<'p> Nullness<'p> {
-    /// The system of a program with the reference fields of its classes.
-    pub fn new(program: &'p Program, own: &'p OwnFields) -> Nullness<'p>
-        requires { AreReady program.now own.now }
+    /// The system of a program with the reference fields of its classes, and its methods that override.
+    pub fn new(
+        program: &'p Program,
+        own: &'p OwnFields,
+        overriders: &'p [Overrider],
+    ) -> Nullness<'p>
+        requires { AreTasks program.now own.now overriders.now }
         ensures { result.program.now ≡ program.now }
     {
-        Nullness { program, own }
+        Nullness {
+            program,
+            own,
+            overriders,
+        }
     }
 }
 
@@ -41,7 +47,7 @@ impl<'p> Constraints for Nullness<'p> {
     ghost describe = { λ it. inference it.program.now };
 
     fn bodies(&self) -> u32 {
-        self.program.bodies.len() as u32
+        (self.program.bodies.len() + self.overriders.len()) as u32
     }
 
     fn words(&self) -> u32 {
@@ -49,11 +55,11 @@ impl<'p> Constraints for Nullness<'p> {
     }
 
     fn reads(&self, body: BodyNo, word: WordNo) -> bool {
-        body_reads(self.program, body, word.0)
+        task_reads(self.program, self.overriders, body, word.0)
     }
 
     fn words_read(&self, alloc: Global, body: BodyNo) -> Result<Vec<WordNo>, OutOfMemory> {
-        let words = words_read(alloc, self.program, self.words(), body)?;
+        let words = task_words(alloc, self.program, self.overriders, self.words(), body)?;
         Ok(words)
     }
 
@@ -63,16 +69,13 @@ impl<'p> Constraints for Nullness<'p> {
         body: BodyNo,
         words: &[u64],
     ) -> Result<Vec<(WordNo, u64)>, OutOfMemory> {
-        let reads = words_read(alloc, self.program, self.words(), body)?;
+        let reads = task_words(alloc, self.program, self.overriders, self.words(), body)?;
         let slots = self.program.slots.len() as u32;
         let sig = signature_of(alloc, slots, words, reads.as_slice())?;
-        let keys = find_keys_by(alloc, self.program, self.own, body)?;
-        let analysis = Analysis::new(self.program, &sig, body, &keys);
-        let table = flow_by(alloc, &analysis)?;
-        let sends = contrib_by(alloc, self.program, &keys, body, &table)?;
+        let sends = task_contrib(alloc, self.program, self.own, self.overriders, &sig, body)?;
         let outputs = pack_sends(alloc, sends.as_slice())?;
         Ok(outputs)
     }
 
-    ghost laws = { λ it. inference_lawful it.program.now it.ready.inferable };
+    ghost laws = { λ it. inference_lawful it.program.now it.ready.ready.inferable };
 }

@@ -1,9 +1,12 @@
-//! Which words a body reads.
+//! Which words a task reads.
 ghost use Rattle.std.specs.Prelude.{◌≡◌, Some};
-ghost use Rattle.jn_points.specs.Lookup.{method_in, body_at, points_of};
-ghost use Rattle.jn_inference_law.specs.Reading.{slot_list, slot_lists, given_reads, has_word, kind_reads, points_reads, body_reads};
+ghost use Rattle.jn_points.specs.Lookup.{method_at, method_in, body_at, points_of};
+ghost use Rattle.jn_pairs.specs.Pairs.{under};
+ghost use Rattle.jn_inference_law.specs.Reading.{slot_list, slot_lists, given_reads, methods_reads, has_word, kind_reads, points_reads, body_reads, pair_reads};
 
-use jn_base::{BodyNo, SlotNo, either};
+use jn_base::{BodyNo, MethodNo, SlotNo, either};
+use jn_pairs::Overrider;
+use jn_points::lookup::method_at;
 use jn_points::{Method, Point, PointKind, Program};
 use jn_transfer::lookup::{field_slot, result_slot};
 
@@ -89,4 +92,37 @@ pub fn body_reads(program: &Program, body: BodyNo, word: u32) -> bool
     let given = method_reads(program, body, word);
     let points = all_points_read(program, body, word);
     either(given, points)
+}
+
+/// Whether a method is given a slot of the word.
+fn method_given(program: &Program, method: u32, word: u32) -> bool
+    ensures { result ≡ has_word word (given_reads (method_at program.now method)) }
+{
+    match method_at(program, method as usize) {
+        None => false,
+        Some(info) => given_in(info, word),
+    }
+}
+
+/// Whether one of some methods is given a slot of the word.
+#[tactic(auto, using(crate::proofs::ReadSteps::methods_more))]
+fn some_given(program: &Program, methods: &[u32], word: u32) -> bool
+    ensures { result
+        ≡ has_word word (methods_reads program.now methods.now) }
+{
+    let mut some = false;
+    for method in methods {
+        some = either(some, method_given(program, *method, word));
+    }
+    some
+}
+
+/// Whether an overriding method reads a slot of the word.
+pub fn pair_reads(program: &Program, overrider: &Overrider, word: u32) -> bool
+    requires under { overrider.now.under ≡ under program.now overrider.now.method }
+    ensures { result ≡ has_word word (pair_reads program.now overrider.now.method) }
+{
+    let result = is_in(result_slot(program, MethodNo(overrider.method)), word);
+    let given = some_given(program, overrider.under.as_slice(), word);
+    either(result, given)
 }

@@ -4,7 +4,6 @@ ghost use Rattle.std.specs.Prelude.{◌<◌, ◌≤◌};
 use crate::programs::round_of_calls;
 use jn_base::{Code, Row, SlotNo};
 use jn_index::indexed::IndexedProgram;
-use jn_points::Program;
 use jn_sigs::Sig;
 use jn_solver_samples::Meet;
 use jn_system::{check_all, is_inferable, solve_sig};
@@ -28,13 +27,13 @@ fn program(rt: &impl Abort, alloc: Global) -> IndexedProgram {
 fn solved<R: Threads + Abort + Sync, G: Gate + Sync>(
     rt: &R,
     alloc: Global,
-    program: &Program,
+    program: &IndexedProgram,
     workers: u32,
     gate: &G,
 ) -> Sig
     requires { (0 < workers) × (workers ≤ 16) }
 {
-    assert!(rt; is_inferable(program));
+    assert!(rt; is_inferable(program.program()));
     let Ok(sig) = solve_sig(rt, alloc, program, workers, gate) else {
         panic!(rt; "no memory")
     };
@@ -64,7 +63,7 @@ fn expect_found<R: Threads + Abort + Sync>(rt: &R, alloc: Global, workers: u32)
     requires { (0 < workers) × (workers ≤ 16) }
 {
     let program = program(rt, alloc);
-    let sig = solved(rt, alloc, program.program(), workers, &Straight);
+    let sig = solved(rt, alloc, &program, workers, &Straight);
     for (slot, bits) in [(0, 3), (1, 2), (2, 3), (3, 2), (4, 3), (5, 2)].as_slice() {
         assert_eq!(rt; sig.get(SlotNo(*slot)).bits(), *bits, "slot {slot}");
     }
@@ -91,7 +90,7 @@ fn sixteen_workers(rt: HostRuntime) {
 fn two_workers_meet_where_they_solve(rt: HostRuntime) {
     let program = program(&rt, rt.alloc());
     let gate = Meet::new(1);
-    let sig = solved(&rt, rt.alloc(), program.program(), 2, &gate);
+    let sig = solved(&rt, rt.alloc(), &program, 2, &gate);
     assert_eq!(rt; sig.get(SlotNo(0)).bits(), 3);
     assert!(rt; gate.met());
 }
@@ -100,7 +99,7 @@ fn two_workers_meet_where_they_solve(rt: HostRuntime) {
 #[test]
 fn two_workers_meet_where_they_check(rt: HostRuntime) {
     let program = program(&rt, rt.alloc());
-    let sig = solved(&rt, rt.alloc(), program.program(), 1, &Straight);
+    let sig = solved(&rt, rt.alloc(), &program, 1, &Straight);
     let gate = Meet::new(1);
     let rows = checked(&rt, rt.alloc(), &program, &sig, 2, &gate);
     assert_eq!(rt; rows.len(), 1);

@@ -76,7 +76,7 @@ fn checked<R: Threads + Sync, G: Gate + Sync>(
     ensures { IfOk result (λ found. IsFinding (files_of_reads reads.now) names.now found) }
 {
     regular_programs_are_inferable();
-    let sig = solve_sig(rt, alloc, base.program(), workers, gate)?;
+    let sig = solve_sig(rt, alloc, base.indexed(), workers, gate)?;
     let rows = check_all(rt, alloc, base.indexed(), &sig, workers, gate)?;
     let accepted = accept(base, sig, &rows).ok();
     Ok(Found {

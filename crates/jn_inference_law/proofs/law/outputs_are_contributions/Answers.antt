@@ -1,5 +1,6 @@
 use Rattle.jn_inference_law.proofs.InferenceLaws.{inferred_sent, sends_are}
+use Rattle.jn_inference_law.proofs.PairLaws.{pairs_inferred}
 use Rattle.jn_inference_law.proofs.law.outputs_are_contributions.Goals as goal
 
 pub returns : goal.returns
-returns c = record { sends = sends_are; inferred = inferred_sent }
+returns c = record { sends = sends_are; inferred = inferred_sent; pairs = pairs_inferred }

@@ -11,19 +11,22 @@ use Rattle.nullcheck_top.specs.Found.{IsFinding}
 use Rattle.nullcheck_top.proofs.Reporting.{checked_finding, rows_of_rules}
 use Rattle.nullcheck_top.proofs.check.checked.Goals as goal
 
+pub solve_sig-requires-clause-inferable : goal.solve_sig-requires-clause-inferable
+solve_sig-requires-clause-inferable g c κs lives = subst IsInferable (sym c.indexed.ensures.is) (c.regular_programs_are_inferable.ensures.inferable c.args.base c.requires.program.of_files.regular)
+
 pub check_all-requires-clause-inferable : goal.check_all-requires-clause-inferable
-check_all-requires-clause-inferable g c κs lives = subst IsInferable (sym c.indexed.ensures.is) (c.regular_programs_are_inferable.ensures.inferable c.args.base c.requires.program.of_files.regular)
+check_all-requires-clause-inferable g c κs lives = subst IsInferable (sym c.indexed-2.ensures.is) (c.regular_programs_are_inferable.ensures.inferable c.args.base c.requires.program.of_files.regular)
 
 pub accept-requires-clause-closed : goal.accept-requires-clause-closed
-accept-requires-clause-closed g c = (subst (λ P. IsLeastSignature P c.in_ok-sig.sig) c.program.ensures.is c.in_ok-sig.ensures).closed
+accept-requires-clause-closed g c = (subst (λ P. IsLeastSignature P c.in_ok-sig.sig) c.indexed.ensures.is c.in_ok-sig.ensures).closed
 
 pub accept-requires-clause-starts : goal.accept-requires-clause-starts
-accept-requires-clause-starts g c = (subst (λ P. IsLeastSignature P c.in_ok-sig.sig) c.program.ensures.is c.in_ok-sig.ensures).starts
+accept-requires-clause-starts g c = (subst (λ P. IsLeastSignature P c.in_ok-sig.sig) c.indexed.ensures.is c.in_ok-sig.ensures).starts
 
 pub accept-requires-clause-broken : goal.accept-requires-clause-broken
 accept-requires-clause-broken g c =
     let sig = c.in_ok-sig.sig in
-    let broken = subst (λ P. AreBroken P sig c.in_ok-rows.rows.items) c.indexed.ensures.is c.in_ok-rows.ensures in
+    let broken = subst (λ P. AreBroken P sig c.in_ok-rows.rows.items) c.indexed-2.ensures.is c.in_ok-rows.ensures in
     subst (λ rs. AreRowsOf c.args.base sig rs) (sym c.deref.ensures.value) (rows_of_rules c.args.base sig c.in_ok-rows.rows.items broken)
 
 pub returns : goal.returns
@@ -31,8 +34,8 @@ returns g c =
     let files = files_of_reads c.args.reads.now in
     let sig = c.in_ok-sig.sig in
     let rows = c.in_ok-rows.rows.items in
-    let least = subst (λ P. IsLeastSignature P sig) c.program.ensures.is c.in_ok-sig.ensures in
-    let broken = subst (λ P. AreBroken P sig rows) c.indexed.ensures.is c.in_ok-rows.ensures in
+    let least = subst (λ P. IsLeastSignature P sig) c.indexed.ensures.is c.in_ok-sig.ensures in
+    let broken = subst (λ P. AreBroken P sig rows) c.indexed-2.ensures.is c.in_ok-rows.ensures in
     let taken = subst (λ rs. IfOk c.accept.result (λ a. (rs ≡ []) × (a ≡ (c.args.base, sig)))) c.deref.ensures.value c.accept.ensures.accepted in
     let refused = subst (λ rs. IfErr c.accept.result (λ r. (rs ≡ [] → ⊥) × (r.0 ≡ c.args.base) × (r.1 ≡ sig))) c.deref.ensures.value c.accept.ensures.refused in
     subst (λ a. IsFinding files c.args.names.now (record { report = Checked c.of_vec.result; accepted = a })) (sym c.ok-accepted.ensures.value)

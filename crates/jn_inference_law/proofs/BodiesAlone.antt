@@ -1,0 +1,32 @@
+-- Where private members alone are inferred, and none of them is of a pair, the least signature is that of the bodies.
+use Rattle.std.proofs.Common.{List, sym, subst}
+use Rattle.jn_quals.specs.Qualifier.{Qualifier}
+use Rattle.jn_points.specs.declared.program.Program.{Program}
+use Rattle.jn_env.specs.Order.{QualsWithin}
+use Rattle.jn_task_start.specs.Start.{OnlyPrivateInferred}
+use Rattle.jn_task_start.proofs.Landed.{private_start}
+use Rattle.jn_pairs.specs.Closing.{NoPrivatePairs}
+use Rattle.jn_pairs.proofs.Targets.{bodies_close, private_targets}
+use Rattle.jn_inference_law.specs.BodiesAlone.{IsLeastOfBodies}
+use Rattle.jn_inference_law.specs.Solution.{IsLeastSignature}
+
+module _ (P : Program) (s : List Qualifier) (only : OnlyPrivateInferred P) (none : NoPrivatePairs P) where
+  pub tasks_least : IsLeastOfBodies P s → IsLeastSignature P s
+  tasks_least is =
+      let targets = private_targets P only none in
+      let e = private_start P only in
+      record {
+        closed = bodies_close P s targets is.closed;
+        starts = subst (λ (q : List Qualifier). QualsWithin q s) (sym e) is.starts;
+        least = λ t c w. is.least t c.bodies (subst (λ (q : List Qualifier). QualsWithin q t) e w);
+      }
+
+  pub bodies_least : IsLeastSignature P s → IsLeastOfBodies P s
+  bodies_least is =
+      let targets = private_targets P only none in
+      let e = private_start P only in
+      record {
+        closed = is.closed.bodies;
+        starts = subst (λ (q : List Qualifier). QualsWithin q s) e is.starts;
+        least = λ t c w. is.least t (bodies_close P t targets c) (subst (λ (q : List Qualifier). QualsWithin q t) (sym e) w);
+      }
