@@ -7,6 +7,8 @@ use Rattle.std.specs.Str.{bytes_eq}
 use Rattle.clap.specs.Words.{App, Kinds, Row, Rule, fault_of, first_of, all_of, matches_of, new_app, new_rule, with_rule}
 use Rattle.clap.specs.Simple.{on_top}
 use Rattle.clap.specs.declared.builder.ArgAction.TheVariants.{Append, SetTrue}
+use Rattle.jn_base.specs.declared.infer.Infer.{Infer}
+use Rattle.jn_base.specs.declared.infer.Infer.TheVariants.{Private, Package}
 use Rattle.jn_cli.specs.declared.command.Command.{Command}
 use Rattle.jn_cli.specs.declared.options.Options.{Options}
 
@@ -27,8 +29,8 @@ bare_app = on_top (λ s. record s { no_binary_name = true; disable_help_flag = t
 
 unfoldable pub nullcheck_app : App
 nullcheck_app =
-    with_rule (with_rule (with_rule (with_rule (with_rule (with_rule (with_rule bare_app
-    (single (codes "workers"))) (single (codes "report"))) run_flag)
+    with_rule (with_rule (with_rule (with_rule (with_rule (with_rule (with_rule (with_rule bare_app
+    (single (codes "workers"))) (single (codes "report"))) (single (codes "infer"))) run_flag)
     (single (codes "steps"))) (single (codes "words"))) (single (codes "gen"))) file_rule
 
 abbrev pub no_fault : Kinds → Bool
@@ -46,6 +48,7 @@ abbrev pub options_in : List Row → Options
 options_in rows = record {
   workers = first_of (codes "workers") rows;
   report = first_of (codes "report") rows;
+  infer = first_of (codes "infer") rows;
   run = is_on (first_of (codes "run") rows);
   steps = first_of (codes "steps") rows;
   words = first_of (codes "words") rows;
@@ -89,6 +92,15 @@ is_empty xs = length xs == 0
 abbrev pub is_report : List ℕ → Bool
 is_report name = not (is_empty name)
 
+-- a name of members that are inferred
+abbrev pub is_infer : List ℕ → Bool
+is_infer name = bytes_eq name (codes "private") || bytes_eq name (codes "package")
+
+-- the members that are inferred; private ones where nothing is said
+abbrev pub infer_of : Option (List ℕ) → Infer
+infer_of None = Private
+infer_of (Some name) = if bytes_eq name (codes "package") then Package else Private
+
 -- a value is not one that its option takes
 abbrev pub has_bad_value : Options → Bool
 has_bad_value o =
@@ -96,6 +108,7 @@ has_bad_value o =
     || not (fits 1 1000000000 o.steps)
     || not (fits 1 500 o.classes)
     || not (option_map_or is_report o.report true)
+    || not (option_map_or is_infer o.infer true)
 
 -- neither a FILE nor --gen; --gen with a FILE or with --run; --steps or --words without --run
 abbrev pub is_bad_mix : Options → Bool
@@ -120,6 +133,7 @@ unfoldable pub command_of : Options → Command
 command_of o = record {
   workers = number_or 4 o.workers;
   report = unwrap_or o.report (codes "plain");
+  infer = infer_of o.infer;
   run = o.run;
   steps = number_or 1000000 o.steps;
   args = pieces_of (unwrap_or o.words []);

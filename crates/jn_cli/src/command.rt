@@ -8,6 +8,7 @@ use crate::number::number_or;
 use crate::options::{Options, are_refused};
 use crate::parse::read_options;
 use jn_base::{Fail, OutOfMemory, Seq, Text};
+use jn_base::Infer;
 use std::alloc::{AllocError, Global};
 
 /// What the program is to do.
@@ -17,6 +18,8 @@ pub struct Command {
     pub workers: u32,
     /// The name of the reporter that shows the report, not empty; `plain` where none is given.
     pub report: Text,
+    /// The members that are inferred where nothing is written; private ones where nothing is said.
+    pub infer: Infer,
     pub run: bool,
     /// 1 to 1,000,000,000.
     pub steps: u64,
@@ -66,12 +69,28 @@ fn command_from(alloc: Global, options: Options) -> Result<Command, OutOfMemory>
     Ok(Command {
         workers: number_or(&options.workers, 4) as u32,
         report,
+        infer: infer_of(&options.infer),
         run: options.run,
         steps: number_or(&options.steps, 1_000_000),
         args: pieces(alloc, words.as_str())?,
         classes: number_or(&options.classes, 0) as u32,
         files: options.files,
     })
+}
+
+fn infer_of(name: &Option<Text>) -> Infer
+    ensures { result ≡ spec.infer_of name.now }
+{
+    match name {
+        None => Infer::Private,
+        Some(name) => {
+            if name.as_str() == "package" {
+                Infer::Package
+            } else {
+                Infer::Private
+            }
+        }
+    }
 }
 
 fn text_or(alloc: Global, text: &Option<Text>, default: &str) -> Result<Text, AllocError>

@@ -10,6 +10,7 @@ use jn_base::{Seq, Text};
 pub struct Options {
     pub workers: Option<Text>,
     pub report: Option<Text>,
+    pub infer: Option<Text>,
     pub run: bool,
     pub steps: Option<Text>,
     pub words: Option<Text>,
@@ -24,6 +25,13 @@ fn is_report(name: &str) -> bool
     name.len() != 0
 }
 
+/// Whether members that are inferred have the name.
+fn is_infer(name: &str) -> bool
+    ensures { result ≡ spec.is_infer name.now }
+{
+    name == "private" || name == "package"
+}
+
 fn has_bad_value(options: &Options) -> bool
     ensures { result ≡ spec.has_bad_value options.now }
 {
@@ -31,10 +39,15 @@ fn has_bad_value(options: &Options) -> bool
         None => true,
         Some(name) => is_report(name.as_str()),
     };
+    let is_chosen = match &options.infer {
+        None => true,
+        Some(name) => is_infer(name.as_str()),
+    };
     !fits(&options.workers, 1, 16)
         || !fits(&options.steps, 1, 1_000_000_000)
         || !fits(&options.classes, 1, 500)
         || !is_named
+        || !is_chosen
 }
 
 fn is_bad_mix(options: &Options) -> bool

@@ -53,6 +53,7 @@ fn command<'a>(alloc: Global) -> Result<Command<'a>, AllocError>
         .disable_help_flag(true);
     let command = command.arg(single(alloc, "workers"))?;
     let command = command.arg(single(alloc, "report"))?;
+    let command = command.arg(single(alloc, "infer"))?;
     let command = command.arg(run_flag(alloc))?;
     let command = command.arg(single(alloc, "steps"))?;
     let command = command.arg(single(alloc, "words"))?;
@@ -87,6 +88,7 @@ fn options_in(alloc: Global, matches: &ArgMatches) -> Result<Options, OutOfMemor
     Ok(Options {
         workers: text_of(alloc, matches, "workers")?,
         report: text_of(alloc, matches, "report")?,
+        infer: text_of(alloc, matches, "infer")?,
         run: is_on(matches, "run"),
         steps: text_of(alloc, matches, "steps")?,
         words: text_of(alloc, matches, "words")?,

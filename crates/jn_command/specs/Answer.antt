@@ -9,6 +9,7 @@ use Rattle.jn_command.specs.declared.status.Status.TheVariants.{Ok, Rejected, Re
 use Rattle.jn_cli.specs.declared.command.Command.{Command}
 use Rattle.jn_diag.specs.declared.shown.RowText.{RowText}
 use Rattle.jn_diag.specs.declared.shown.Verdict.{Verdict}
+use Rattle.jn_base.specs.declared.infer.Infer.{Infer}
 use Rattle.jn_command.specs.Asked.{Asked, usage_line}
 use Rattle.jn_command.specs.Made.{front_of, made_file, made_text}
 use Rattle.jn_front.specs.declared.source.SourceFile.{SourceFile}
@@ -96,22 +97,22 @@ module _ (Defined : Status → List ℕ → Type 0) (Part Unread : Type 0) (old 
   AnswersBy OutOfMemory = (new ≡ old) ⊎ Part
   AnswersBy Usage = Writes Usage
 
--- by what a report of files is, what is promised of files that are accepted, what a run of so many steps of their main with these words comes to, and what it prints
-module _ (IsReport : List SourceFile → Report → Type 0) (IsSafe : List SourceFile → Type 0) (RunsTo : List SourceFile → List (List ℕ) → ℕ → Status → List ℕ → Type 0) (Prints : List SourceFile → List (List ℕ) → ℕ → List ℕ → Type 0) where
+-- by what, for a choice of members that are inferred, a report of files is, what is promised of files that are accepted, what a run of so many steps of their main with these words comes to, and what it prints
+module _ (IsReport : Infer → List SourceFile → Report → Type 0) (IsSafe : Infer → List SourceFile → Type 0) (RunsTo : Infer → List SourceFile → List (List ℕ) → ℕ → Status → List ℕ → Type 0) (Prints : Infer → List SourceFile → List (List ℕ) → ℕ → List ℕ → Type 0) where
   module _ (a : Asked) (files : List SourceFile) where
     -- status and bytes are those of the report of the files, behind the line of a program that is made; the files are safe where the status is that of acceptance
     pub record IsReportOfFiles (status : Status) (bytes : List ℕ) : Type 0 where
       pub report : Report
-      pub is : IsReport files report
+      pub is : IsReport a.command.infer files report
       pub ends : status ≡ status_of report
       pub shows : bytes ≡ front_of a.command.classes ++ shown a.show files report
-      pub safe : status ≡ Ok → IsSafe files
+      pub safe : status ≡ Ok → IsSafe a.command.infer files
 
     -- they are those of the run of accepted files, which are safe
     pub record IsRunOfFiles (status : Status) (bytes : List ℕ) : Type 0 where
-      pub accepted : IsReport files (Checked [])
-      pub safe : IsSafe files
-      pub runs : RunsTo files a.command.args a.command.steps status bytes
+      pub accepted : IsReport a.command.infer files (Checked [])
+      pub safe : IsSafe a.command.infer files
+      pub runs : RunsTo a.command.infer files a.command.args a.command.steps status bytes
 
     -- where a run is asked for, accepted files are run, and of others the report is shown
     abbrev pub IsOutputBy : Bool → Status → List ℕ → Type 0
@@ -124,12 +125,12 @@ module _ (IsReport : List SourceFile → Report → Type 0) (IsSafe : List Sourc
     -- of the run that is asked for, the text of some of the steps was written
     pub record WritesSteps (old new : Option (List ℕ)) : Type 0 where
       pub run : a.command.run ≡ true
-      pub accepted : IsReport files (Checked [])
-      pub safe : IsSafe files
+      pub accepted : IsReport a.command.infer files (Checked [])
+      pub safe : IsSafe a.command.infer files
       pub steps : ℕ
       pub most : steps ≤ a.command.steps
       pub text : List ℕ
-      pub prints : Prints files a.command.args steps text
+      pub prints : Prints a.command.infer files a.command.args steps text
       pub taken : Appends old new text
 
     -- what stands behind each status, of files that were read
@@ -169,7 +170,7 @@ module _ (IsReport : List SourceFile → Report → Type 0) (IsSafe : List Sourc
   pub record IsSafeOf (read : Reading) (a : Asked) : Type 0 where
     pub files : List SourceFile
     pub are : AreChecked read a.command.classes a.command.files files
-    pub safe : IsSafe files
+    pub safe : IsSafe a.command.infer files
 
   abbrev pub Safe : Reading → Option Asked → Type 0
   Safe read None = ⊥

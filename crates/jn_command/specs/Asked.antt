@@ -27,4 +27,4 @@ unfoldable pub asked_of : List Form → List (List ℕ) → Option Asked
 asked_of forms words = if is_usage words then None else asked_by forms (command_of (options_of words))
 
 abbrev pub usage_line : List ℕ
-usage_line = codes "usage: nullcheck [--workers N] [--report NAME] [--run] [--steps N] [--words TEXT] [--gen N] FILE..\n"
+usage_line = codes "usage: nullcheck [--workers N] [--report NAME] [--infer NAME] [--run] [--steps N] [--words TEXT] [--gen N] FILE..\n"

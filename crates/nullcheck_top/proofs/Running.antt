@@ -10,6 +10,7 @@ use Rattle.jn_front.specs.declared.source.SourceFile.{SourceFile}
 use Rattle.jn_command.specs.declared.report.Report.TheVariants.{Checked}
 use Rattle.jn_command.specs.declared.status.Status.{Status}
 use Rattle.jn_command.specs.declared.status.Status.TheVariants.{Ok, Rejected, Refused, RunFault, Stopped, ReadFault, WriteFault, OutOfMemory, Usage}
+use Rattle.jn_base.specs.declared.infer.Infer.{Infer}
 use Rattle.jn_command.specs.Asked.{Asked}
 use Rattle.jn_command.specs.Answer.{IsOutputBy, IsOutputOfFiles}
 use Rattle.jn_run.specs.Line.{end_line}
@@ -18,7 +19,7 @@ use Rattle.nullcheck_top.specs.Answers.{AnswersFiles}
 use Rattle.nullcheck_top.specs.Report.{IsReport, IsSafe, RunsTo, Prints, TypedProgramOf}
 use Rattle.nullcheck_top.proofs.Laws.{OneReading, one_program}
 
-module _ (a : Asked) (files : List SourceFile) (names : List (List ℕ)) (P : Program) (asked_to : a.command.run ≡ true) (accepted : IsReport files (Checked [])) (safe : IsSafe files) (of_files : TypedProgramOf files names P) where
+module _ (a : Asked) (files : List SourceFile) (names : List (List ℕ)) (P : Program) (asked_to : a.command.run ≡ true) (accepted : IsReport a.command.infer files (Checked [])) (safe : IsSafe a.command.infer files) (of_files : TypedProgramOf a.command.infer files names P) where
   output : (status : Status) (bytes : List ℕ) → ProgramRunsTo files P names a.command.args a.command.steps status bytes → IsOutputOfFiles IsReport IsSafe RunsTo Prints a files status bytes
   output status bytes r =
       subst (λ b. IsOutputBy IsReport IsSafe RunsTo Prints a files b status bytes) (sym asked_to)
@@ -69,9 +70,9 @@ module _ (files : List SourceFile) (P : Program) (names words : List (List ℕ))
   runs_once (inr x) (inl y) = absurd (x.none y.method y.only)
   runs_once (inr x) (inr y) = (x.refused ∙ sym y.refused, x.line ∙ sym y.line)
 
-pub one_run : OneReading → (files : List SourceFile) (words : List (List ℕ)) (steps : ℕ) (one other : Status) (text more : List ℕ) → RunsTo files words steps one text → RunsTo files words steps other more → (one ≡ other) × (text ≡ more)
-one_run parsed files words steps one other text more x y =
-    let same = one_program parsed files x.names y.names x.P y.P x.of_files.of_files y.of_files.of_files in
+pub one_run : (infer : Infer) → OneReading → (files : List SourceFile) (words : List (List ℕ)) (steps : ℕ) (one other : Status) (text more : List ℕ) → RunsTo infer files words steps one text → RunsTo infer files words steps other more → (one ≡ other) × (text ≡ more)
+one_run infer parsed files words steps one other text more x y =
+    let same = one_program infer parsed files x.names y.names x.P y.P x.of_files.of_files y.of_files.of_files in
     runs_once files y.P y.names words steps one other text more
     (subst (λ P. ProgramRunsTo files P y.names words steps one text) same.1 (subst (λ ns. ProgramRunsTo files x.P ns words steps one text) same.0 x.runs))
     y.runs

@@ -1,4 +1,4 @@
--- What files are found to be: the rows of the first phase that has any, those of the rules, or safe; and what their main does.
+-- What files are found to be, by the members that are inferred: the rows of the first phase that has any, those of the rules, or safe; and what their main does.
 use Rattle.std.specs.Prelude.{ℕ, ◌≡◌, ◌⊎◌, ◌↔◌, List, [], Contains}
 use Rattle.jn_base.specs.declared.place.Row.{Row}
 use Rattle.jn_trees.specs.declared.token.Token.{Token}
@@ -8,7 +8,9 @@ use Rattle.jn_classtable.specs.Rows.{t_rows}
 use Rattle.jn_points.specs.declared.program.Program.{Program}
 use Rattle.jn_points.specs.BaseRows.{IsBaseRow, NoBaseRows}
 use Rattle.jn_points.specs.Regular.{Regular}
-use Rattle.jn_program_law.specs.FileProgram.{j_rows, program_of_files}
+use Rattle.jn_program_law.specs.FileProgram.{j_rows}
+use Rattle.jn_base.specs.declared.infer.Infer.{Infer}
+use Rattle.jn_open_members.specs.Inferred.{inferring}
 use Rattle.jn_quals.specs.Qualifier.{Qualifier}
 use Rattle.jn_command.specs.declared.report.Report.{Report}
 use Rattle.jn_command.specs.declared.status.Status.{Status}
@@ -40,17 +42,17 @@ pub record AreLowered (files : List SourceFile) (names : List (List ℕ)) (token
   pub declared : AreDeclared files names tokens trees
   pub rowless : lowering_rows trees ≡ []
 
--- the program of files that have no row so far, and the texts of its names and strings
-pub record ProgramOf (files : List SourceFile) (names : List (List ℕ)) (P : Program) : Type 0 where
+-- the program of files that have no row so far, whose slots go by the members that are inferred, and the texts of its names and strings
+pub record ProgramOf (infer : Infer) (files : List SourceFile) (names : List (List ℕ)) (P : Program) : Type 0 where
   pub tokens : List (List Token)
   pub trees : List PlacedFile
   pub lowered : AreLowered files names tokens trees
-  pub is : P ≡ program_of_files trees
+  pub is : P ≡ inferring infer trees
   pub regular : Regular P
 
 -- each value has a type that fits where it is used, each register that is read is written before, each method returns what it declares
-pub record TypedProgramOf (files : List SourceFile) (names : List (List ℕ)) (P : Program) : Type 0 where
-  pub of_files : ProgramOf files names P
+pub record TypedProgramOf (infer : Infer) (files : List SourceFile) (names : List (List ℕ)) (P : Program) : Type 0 where
+  pub of_files : ProgramOf infer files names P
   pub typed : NoBaseRows P
 
 -- the rules are those under the least signature
@@ -61,10 +63,10 @@ pub record RulesGive (P : Program) (rows : List Row) : Type 0 where
   pub breaks : Breaks P signature broken
   pub order : IsOrderOf broken rows
 
-pub record IsCheckedBy (files : List SourceFile) (rows : List Row) : Type 0 where
+pub record IsCheckedBy (infer : Infer) (files : List SourceFile) (rows : List Row) : Type 0 where
   pub names : List (List ℕ)
   pub P : Program
-  pub of_files : TypedProgramOf files names P
+  pub of_files : TypedProgramOf infer files names P
   pub rules : RulesGive P rows
 
 -- the rows of classes and members, of files that have trees
@@ -86,52 +88,52 @@ pub record LoweringRows (files : List SourceFile) (rows : List Row) : Type 0 whe
   pub some : rows ≡ [] → ⊥
 
 -- the rows J7 to J10 of types, of files that have a program; in no order
-pub record TypeRows (files : List SourceFile) (rows : List Row) : Type 0 where
+pub record TypeRows (infer : Infer) (files : List SourceFile) (rows : List Row) : Type 0 where
   pub names : List (List ℕ)
   pub P : Program
-  pub of_files : ProgramOf files names P
+  pub of_files : ProgramOf infer files names P
   pub are : (row : Row) → Contains rows row ↔ IsBaseRow P row
   pub some : rows ≡ [] → ⊥
 
 -- the rows of the first phase that has any: limits, tokens and syntax, then classes and members, then bodies, then types
-abbrev pub ProgramRows : List SourceFile → List Row → Type 0
-ProgramRows files rows = LoweringRows files rows ⊎ TypeRows files rows
+abbrev pub ProgramRows : Infer → List SourceFile → List Row → Type 0
+ProgramRows infer files rows = LoweringRows files rows ⊎ TypeRows infer files rows
 
-abbrev pub TreeRows : List SourceFile → List Row → Type 0
-TreeRows files rows = TableRows files rows ⊎ ProgramRows files rows
+abbrev pub TreeRows : Infer → List SourceFile → List Row → Type 0
+TreeRows infer files rows = TableRows files rows ⊎ ProgramRows infer files rows
 
-abbrev pub PhaseRows : List SourceFile → List Row → Type 0
-PhaseRows files rows = FrontRows files rows ⊎ TreeRows files rows
+abbrev pub PhaseRows : Infer → List SourceFile → List Row → Type 0
+PhaseRows infer files rows = FrontRows files rows ⊎ TreeRows infer files rows
 
 -- they are in order
-pub record IsPhase (files : List SourceFile) (rows : List Row) : Type 0 where
+pub record IsPhase (infer : Infer) (files : List SourceFile) (rows : List Row) : Type 0 where
   pub broken : List Row
-  pub phase : PhaseRows files broken
+  pub phase : PhaseRows infer files broken
   pub order : IsOrderOf broken rows
 
 -- files are refused by the rows of the first phase that has any, or checked by the rules; the rows are in order
-abbrev pub IsReport : List SourceFile → Report → Type 0
-IsReport files (Refused rows) = IsPhase files rows
-IsReport files (Checked rows) = IsCheckedBy files rows
+abbrev pub IsReport : Infer → List SourceFile → Report → Type 0
+IsReport infer files (Refused rows) = IsPhase infer files rows
+IsReport infer files (Checked rows) = IsCheckedBy infer files rows
 
 -- the files' own program has no null fault in any run, and no run gets stuck
-pub record IsSafe (files : List SourceFile) : Type 0 where
+pub record IsSafe (infer : Infer) (files : List SourceFile) : Type 0 where
   pub names : List (List ℕ)
   pub P : Program
-  pub of_files : TypedProgramOf files names P
+  pub of_files : TypedProgramOf infer files names P
   pub never_null : NeverNull P
   pub never_stuck : NeverStuck P
 
 -- so many steps of the files' one main with these words come to the status, and write the bytes
-pub record RunsTo (files : List SourceFile) (words : List (List ℕ)) (steps : ℕ) (status : Status) (bytes : List ℕ) : Type 0 where
+pub record RunsTo (infer : Infer) (files : List SourceFile) (words : List (List ℕ)) (steps : ℕ) (status : Status) (bytes : List ℕ) : Type 0 where
   pub names : List (List ℕ)
   pub P : Program
-  pub of_files : TypedProgramOf files names P
+  pub of_files : TypedProgramOf infer files names P
   pub runs : ProgramRunsTo files P names words steps status bytes
 
 -- so many steps of it print the text
-pub record Prints (files : List SourceFile) (words : List (List ℕ)) (steps : ℕ) (text : List ℕ) : Type 0 where
+pub record Prints (infer : Infer) (files : List SourceFile) (words : List (List ℕ)) (steps : ℕ) (text : List ℕ) : Type 0 where
   pub names : List (List ℕ)
   pub P : Program
-  pub of_files : TypedProgramOf files names P
+  pub of_files : TypedProgramOf infer files names P
   pub prints : ProgramPrints P names words steps text

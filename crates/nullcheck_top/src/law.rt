@@ -1,6 +1,7 @@
 //! Laws of reports.
 ghost use Rattle.std.specs.Prelude.{◌≡◌, List, [], ℕ};
 ghost use Rattle.jn_points.specs.declared.program.Program.{Program};
+ghost use Rattle.jn_base.specs.declared.infer.Infer.{Infer};
 ghost use Rattle.jn_heap.specs.Runs.{NeverNull};
 ghost use Rattle.jn_progress_law.specs.Progress.{NeverStuck};
 ghost use Rattle.jn_front.specs.declared.source.SourceFile.{SourceFile};
@@ -16,10 +17,10 @@ use jn_progress_law::law::{accepted_programs_never_fault, accepted_programs_neve
 
 /// No run of files whose program breaks no rule dereferences null, and none gets stuck.
 pub fn accepted_files_are_safe()
-    ensures null { (files : List SourceFile) (names : List (List ℕ)) (P : Program)
-        → TypedProgramOf files names P → RulesGive P [] → NeverNull P }
-    ensures stuck { (files : List SourceFile) (names : List (List ℕ)) (P : Program)
-        → TypedProgramOf files names P → RulesGive P [] → NeverStuck P }
+    ensures null { (infer : Infer) (files : List SourceFile) (names : List (List ℕ)) (P : Program)
+        → TypedProgramOf infer files names P → RulesGive P [] → NeverNull P }
+    ensures stuck { (infer : Infer) (files : List SourceFile) (names : List (List ℕ)) (P : Program)
+        → TypedProgramOf infer files names P → RulesGive P [] → NeverStuck P }
 {
     accepted_programs_never_fault();
     accepted_programs_never_stick();
@@ -27,8 +28,8 @@ pub fn accepted_files_are_safe()
 
 /// Files have at most one report: the signatures are the least ones, whatever workers found them and in which order.
 pub fn files_have_one_report()
-    ensures { (files : List SourceFile) (one other : Report) → IsReport files one
-        → IsReport files other → one ≡ other }
+    ensures { (infer : Infer) (files : List SourceFile) (one other : Report) → IsReport infer files one
+        → IsReport infer files other → one ≡ other }
 {
     files_have_one_front();
     least_signatures_are_unique();
@@ -38,12 +39,12 @@ pub fn files_have_one_report()
 
 /// The run of files' main with these words, of at most so many steps, has one status and one text.
 pub fn files_have_one_run()
-    ensures status { (files : List SourceFile) (words : List (List ℕ)) (steps : ℕ)
+    ensures status { (infer : Infer) (files : List SourceFile) (words : List (List ℕ)) (steps : ℕ)
         (one other : Status) (text more : List ℕ)
-        → RunsTo files words steps one text → RunsTo files words steps other more → one ≡ other }
-    ensures text { (files : List SourceFile) (words : List (List ℕ)) (steps : ℕ)
+        → RunsTo infer files words steps one text → RunsTo infer files words steps other more → one ≡ other }
+    ensures text { (infer : Infer) (files : List SourceFile) (words : List (List ℕ)) (steps : ℕ)
         (one other : Status) (text more : List ℕ)
-        → RunsTo files words steps one text → RunsTo files words steps other more → text ≡ more }
+        → RunsTo infer files words steps one text → RunsTo infer files words steps other more → text ≡ more }
 {
     files_have_one_front();
 }

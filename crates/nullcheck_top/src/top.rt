@@ -19,7 +19,7 @@ use std::alloc::Global;
 use std::thread::Threads;
 
 const USAGE: &str =
-    "usage: nullcheck [--workers N] [--report NAME] [--run] [--steps N] [--words TEXT] [--gen N] FILE..\n";
+    "usage: nullcheck [--workers N] [--report NAME] [--infer NAME] [--run] [--steps N] [--words TEXT] [--gen N] FILE..\n";
 
 /// Checks what the words ask for, and writes the report by the first of these reporters that has the name; or runs the main of
 /// accepted files where a run is asked for.

@@ -14,13 +14,15 @@ returns c =
     (ap app_of_fields c.no_binary_name.ensures ∙ ap (on_top (λ s. record s { no_binary_name = true })) c.new.ensures.app) in
     let r1 : rule_of c.single.result ≡ single (codes "workers") = search rules in
     let r2 : rule_of c.single-2.result ≡ single (codes "report") = search rules in
-    let r3 : rule_of c.single-3.result ≡ single (codes "steps") = search rules in
-    let r4 : rule_of c.single-4.result ≡ single (codes "words") = search rules in
-    let r5 : rule_of c.single-5.result ≡ single (codes "gen") = search rules in
+    let r3 : rule_of c.single-3.result ≡ single (codes "infer") = search rules in
+    let r4 : rule_of c.single-4.result ≡ single (codes "steps") = search rules in
+    let r5 : rule_of c.single-5.result ≡ single (codes "words") = search rules in
+    let r6 : rule_of c.single-6.result ≡ single (codes "gen") = search rules in
     let s1 = added _ _ _ _ _ c.in_ok-command.ensures c.single.ensures.local bare r1 in
     let s2 = added _ _ _ _ _ c.in_ok-command-2.ensures c.single-2.ensures.local s1 r2 in
-    let s3 = added _ _ _ _ _ c.in_ok-command-3.ensures c.run_flag.ensures.local s2 c.run_flag.ensures.rule in
-    let s4 = added _ _ _ _ _ c.in_ok-command-4.ensures c.single-3.ensures.local s3 r3 in
+    let s3 = added _ _ _ _ _ c.in_ok-command-3.ensures c.single-3.ensures.local s2 r3 in
+    let s4 = added _ _ _ _ _ c.in_ok-command-4.ensures c.run_flag.ensures.local s3 c.run_flag.ensures.rule in
     let s5 = added _ _ _ _ _ c.in_ok-command-5.ensures c.single-4.ensures.local s4 r4 in
     let s6 = added _ _ _ _ _ c.in_ok-command-6.ensures c.single-5.ensures.local s5 r5 in
-    IfOk-weaker c.arg-7.result _ _ (λ r h. added _ _ _ _ _ h c.file.ensures.local s6 c.file.ensures.rule) c.arg-7.ensures
+    let s7 = added _ _ _ _ _ c.in_ok-command-7.ensures c.single-6.ensures.local s6 r6 in
+    IfOk-weaker c.arg-8.result _ _ (λ r h. added _ _ _ _ _ h c.file.ensures.local s7 c.file.ensures.rule) c.arg-8.ensures

@@ -2,7 +2,7 @@ use Rattle.nullcheck_top.proofs.Laws.{accepted}
 use Rattle.nullcheck_top.proofs.law.accepted_files_are_safe.Goals as goal
 
 pub returns-clause-null : goal.returns-clause-null
-returns-clause-null c files names P of_files rules = c.accepted_programs_never_fault.ensures P rules.signature (accepted files names P of_files rules)
+returns-clause-null c infer files names P of_files rules = c.accepted_programs_never_fault.ensures P rules.signature (accepted infer files names P of_files rules)
 
 pub returns-clause-stuck : goal.returns-clause-stuck
-returns-clause-stuck c files names P of_files rules = c.accepted_programs_never_stick.ensures P rules.signature (accepted files names P of_files rules)
+returns-clause-stuck c infer files names P of_files rules = c.accepted_programs_never_stick.ensures P rules.signature (accepted infer files names P of_files rules)
