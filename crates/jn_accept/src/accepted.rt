@@ -35,15 +35,15 @@ impl Accepted {
     ghost use Rattle.std.specs.Prelude.{[], ◌<◌, ◌^◌, length, ℕ, MatchOption};
     ghost use Rattle.jn_heap.specs.Runs.{NeverNull};
     ghost use Rattle.jn_transfer.specs.Rules.{Breaks};
-    ghost use Rattle.jn_pairs.specs.Closing.{IsTaskClosed, IsNotBelowTaskStart};
+    ghost use Rattle.jn_transfer.specs.Closing.{IsClosed, IsNotBelowStart};
     ghost use Rattle.jn_soundness.specs.Accepting.{IsAccepted};
     ghost use Rattle.jn_progress_law.specs.Progress.{NeverStuck};
     ghost use Rattle.jn_accept.specs.Mains.{IsOnlyMain};
 
     /// Takes a program of which no rule is broken.
     pub(crate) fn of(base: BaseTyped, sig: Sig) -> Accepted
-        requires closed { IsTaskClosed base sig }
-        requires starts { IsNotBelowTaskStart base sig }
+        requires closed { IsClosed base sig }
+        requires starts { IsNotBelowStart base sig }
         requires broken { Breaks base sig [] }
         ensures { result ≡ (base, sig) }
     {

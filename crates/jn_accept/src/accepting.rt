@@ -1,7 +1,7 @@
 //! Accepting a program.
 ghost use Rattle.std.specs.Prelude.{◌≡◌, [], IfOk, IfErr};
 ghost use Rattle.jn_accept.specs.Accepting.{AreRowsOf};
-ghost use Rattle.jn_pairs.specs.Closing.{IsTaskClosed, IsNotBelowTaskStart};
+ghost use Rattle.jn_transfer.specs.Closing.{IsClosed, IsNotBelowStart};
 
 use crate::accepted::Accepted;
 use jn_base::Row;
@@ -16,8 +16,8 @@ use jn_sigs::Sig;
 ///
 /// The program and its signature, where a rule is broken.
 pub fn accept(base: BaseTyped, sig: Sig, rows: &[Row]) -> Result<Accepted, (BaseTyped, Sig)>
-    requires closed { IsTaskClosed base sig }
-    requires starts { IsNotBelowTaskStart base sig }
+    requires closed { IsClosed base sig }
+    requires starts { IsNotBelowStart base sig }
     requires broken { AreRowsOf base sig rows.now }
     ensures accepted { IfOk result (λ a. (rows.now ≡ []) × (a ≡ (base, sig))) }
     ensures refused { IfErr result (λ r. (rows.now ≡ [] → ⊥) × (r.0 ≡ base) × (r.1 ≡ sig)) }

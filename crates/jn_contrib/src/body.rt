@@ -96,7 +96,8 @@ fn send_point(
     }
 }
 
-fn with_slots(alloc: Global, list: Vec<Send>) -> Result<Vec<(SlotNo, Qual)>, AllocError>
+/// The same with typed numbers of slots.
+pub(crate) fn with_slots(alloc: Global, list: Vec<Send>) -> Result<Vec<(SlotNo, Qual)>, AllocError>
     ensures { IfOk result (λ xs. slot_numbers xs.items ≡ list.items) }
 {
     let mut numbered = Vec::new(alloc);

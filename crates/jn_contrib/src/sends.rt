@@ -35,7 +35,7 @@ fn push_if(list: &mut Vec<Send>, wanted: bool, item: Send) -> Result<(), AllocEr
 }
 
 /// To an inferred slot alone.
-fn send(
+pub(crate) fn send(
     program: &Program,
     list: &mut Vec<Send>,
     slot: Option<SlotNo>,
@@ -50,7 +50,7 @@ fn send(
 }
 
 /// The slot at a place; None where there is none.
-fn slot_at(slots: &[Option<SlotNo>], i: usize) -> Option<SlotNo>
+pub(crate) fn slot_at(slots: &[Option<SlotNo>], i: usize) -> Option<SlotNo>
     ensures { result ≡ slice_index_or slots.now i None }
 {
     match slots.get(i) {

@@ -3,10 +3,10 @@ use Rattle.std.proofs.Common.{List, sym, subst}
 use Rattle.jn_quals.specs.Qualifier.{Qualifier}
 use Rattle.jn_points.specs.declared.program.Program.{Program}
 use Rattle.jn_env.specs.Order.{QualsWithin}
-use Rattle.jn_task_start.specs.Start.{OnlyPrivateInferred}
-use Rattle.jn_task_start.proofs.Landed.{private_start}
-use Rattle.jn_pairs.specs.Closing.{NoPrivatePairs}
-use Rattle.jn_pairs.proofs.Targets.{bodies_close, private_targets}
+use Rattle.jn_sigs.specs.Signature.{OnlyPrivateInferred}
+use Rattle.jn_sigs.proofs.Landed.{private_start}
+use Rattle.jn_transfer.specs.Closing.{NoPrivatePairs}
+use Rattle.jn_contrib.proofs.Targets.{bodies_close, private_targets}
 use Rattle.jn_inference_law.specs.BodiesAlone.{IsLeastOfBodies}
 use Rattle.jn_inference_law.specs.Solution.{IsLeastSignature}
 

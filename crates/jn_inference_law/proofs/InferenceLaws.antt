@@ -35,7 +35,7 @@ use Rattle.jn_inference_law.specs.Packing.{packed}
 use Rattle.jn_inference_law.proofs.PackingLaws.{SendsWithin, SentBelow, packed_has, packed_sends, within_packed, packed_within, words_within, packed_small, packed_once, packed_named}
 use Rattle.jn_inference_law.specs.Reading.{body_reads, pair_reads, has_word}
 use Rattle.jn_inference_law.proofs.ReadingLaws.{sends_same, words_agree}
-use Rattle.jn_pairs.specs.Pairs.{pair_sends}
+use Rattle.jn_transfer.specs.Pairs.{pair_sends}
 use Rattle.jn_inference_law.proofs.PairLaws.{pairs_grow, pairs_same, pairs_below}
 use Rattle.jn_inference_law.specs.Inference.{least_table, least_sends, words_for, is_body_task, task_method, task_reads, task_sends, inference, IsInferable}
 

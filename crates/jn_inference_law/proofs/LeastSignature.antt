@@ -15,8 +15,8 @@ use Rattle.jn_points.specs.declared.program.SlotInfo.{SlotInfo}
 use Rattle.jn_points.specs.declared.program.Program.{Program}
 use Rattle.jn_points.specs.Lookup.{body_at, points_of}
 use Rattle.jn_sigs.specs.Packed.{ArePacked, at_slot, unpacked}
-use Rattle.jn_task_start.specs.Start.{start_signature, starts_from}
-use Rattle.jn_task_start.proofs.Starts.{length-starts_from}
+use Rattle.jn_sigs.specs.Signature.{start_signature, starts_from}
+use Rattle.jn_sigs.proofs.Starts.{length-starts_from}
 use Rattle.jn_sigs.proofs.Slots.{length-unpacked, unpacked-at}
 use Rattle.jn_env.specs.Order.{QualsWithin, Table, env_in}
 use Rattle.jn_env.proofs.Order.{quals_at, quals_refl}
@@ -32,8 +32,8 @@ use Rattle.jn_inference_law.specs.Inference.{inference, least_sends, least_table
 use Rattle.jn_inference_law.proofs.PairLaws.{pairs_below, pairs_inside}
 use Rattle.jn_inference_law.proofs.TaskNumbers.{body_task, pair_task, task_of}
 use Rattle.jn_inference_law.proofs.InferenceLaws.{inference_lawful, least_is, least_sends_is, past_points, quals_within, sent_below, sent_inside}
-use Rattle.jn_pairs.specs.Pairs.{pair_sends}
-use Rattle.jn_pairs.specs.Closing.{IsTaskClosed}
+use Rattle.jn_transfer.specs.Pairs.{pair_sends}
+use Rattle.jn_transfer.specs.Closing.{IsClosed}
 use Rattle.jn_inference_law.specs.Solution.{IsLeastSignature}
 use Rattle.jn_inference_law.proofs.WordsOf.{words_of, length-words_of, words_of-at, words_of-unpacked, word_within}
 
@@ -139,7 +139,7 @@ module _ (P : Program) (can : IsInferable P) where
         let h = sent_within xs words x all m in
         subst (λ (q : Qualifier). IsTrue (within x.1 q)) (sym (unpacked-at words (length P.slots) x.0 inside)) h
 
-    closed_signature : IsTaskClosed P held
+    closed_signature : IsClosed P held
     closed_signature = record {
       bodies = λ tables tl b p pt e at reached x m.
           let lt = body_inside b p P.bodies pt at in
@@ -157,7 +157,7 @@ module _ (P : Program) (can : IsInferable P) where
     view : unpacked (words_of t) (length P.slots) ≡ t
     view = ap (unpacked (words_of t)) (sym long) ∙ words_of-unpacked t
 
-    module _ (c : IsTaskClosed P t) where
+    module _ (c : IsClosed P t) where
       closed_send : (b : ℕ) → b < length P.bodies → (x : ℕ × Qualifier) → IsSent x (least_sends P t b) → IsTrue (within x.1 (at_slot (words_of t) x.0))
       closed_send b lt x m =
           let T = least_table P t b in

@@ -3,10 +3,10 @@ use Rattle.std.specs.Prelude.{List}
 use Rattle.jn_quals.specs.Qualifier.{Qualifier}
 use Rattle.jn_points.specs.declared.program.Program.{Program}
 use Rattle.jn_env.specs.Order.{QualsWithin}
-use Rattle.jn_transfer.specs.Closing.{IsClosed, IsNotBelowStart}
+use Rattle.jn_transfer.specs.Closing.{IsClosedUnderBodies, IsNotBelowStart}
 
 -- closed under the bodies, not below the start of private inference, and within every signature that is both
 pub record IsLeastOfBodies (P : Program) (s : List Qualifier) : Type 0 where
-  pub closed : IsClosed P s
+  pub closed : IsClosedUnderBodies P s
   pub starts : IsNotBelowStart P s
-  pub least : (t : List Qualifier) → IsClosed P t → IsNotBelowStart P t → QualsWithin s t
+  pub least : (t : List Qualifier) → IsClosedUnderBodies P t → IsNotBelowStart P t → QualsWithin s t

@@ -11,7 +11,7 @@ use Rattle.jn_transfer.specs.Least.{round, start_table}
 use Rattle.jn_transfer.specs.Sized.{StaysInside}
 use Rattle.jn_flow.specs.Size.{height}
 use Rattle.jn_contrib.specs.Sends.{body_sends}
-use Rattle.jn_pairs.specs.Pairs.{overriders, pair_sends}
+use Rattle.jn_transfer.specs.Pairs.{overriders, pair_sends}
 use Rattle.jn_sigtable.specs.System.{System}
 use Rattle.jn_inference_law.specs.Packing.{packed}
 use Rattle.jn_inference_law.specs.Reading.{body_reads, pair_reads, has_word}

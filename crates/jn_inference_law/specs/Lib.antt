@@ -3,3 +3,4 @@ pub mod Reading
 pub mod Inference
 pub mod Solution
 pub mod BodiesAlone
+pub mod OpenExamples

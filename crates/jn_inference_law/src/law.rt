@@ -1,24 +1,24 @@
 //! Laws of inference.
-ghost use Rattle.std.specs.Prelude.{◌≡◌, ◌≤◌, ◌+◌, ◌*◌, ℕ, true, List, length, slice_get};
-ghost use Rattle.jn_quals.specs.Qualifier.{Qualifier};
-ghost use Rattle.jn_points.specs.declared.program.Program.{Program};
-ghost use Rattle.jn_points.specs.Regular.{Regular};
-ghost use Rattle.jn_contrib.specs.Sends.{body_sends};
-ghost use Rattle.jn_env.specs.Order.{Table};
-ghost use Rattle.jn_sigs.specs.Packed.{ArePacked, unpacked};
-ghost use Rattle.jn_sigs.specs.Signature.{start_signature};
-ghost use Rattle.jn_sigtable.specs.System.{IsLawful, limit_of};
-ghost use Rattle.jn_transfer.specs.Contributions.{IsSent, is_inferred};
-ghost use Rattle.jn_transfer.specs.Least.{IsLeastTable};
-ghost use Rattle.jn_env.specs.Order.{QualsWithin, Table};
+ghost use Rattle.std.specs.Prelude.{◌≡◌, ◌≤◌, ◌+◌, ◌*◌, ℕ, true, List, length, slice_get, [], ◌∷◌};
 ghost use Rattle.jn_analysis_law.specs.CoveredSend.{CoveredSend};
-ghost use Rattle.jn_task_start.specs.Start.{OnlyPrivateInferred};
-ghost use Rattle.jn_pairs.specs.Pairs.{pair_sends};
-ghost use Rattle.jn_pairs.specs.Closing.{NoPrivatePairs};
+ghost use Rattle.jn_contrib.specs.Sends.{body_sends};
+ghost use Rattle.jn_env.specs.Order.{Table, QualsWithin};
 ghost use Rattle.jn_inference_law.specs.BodiesAlone.{IsLeastOfBodies};
 ghost use Rattle.jn_inference_law.specs.Inference.{IsInferable, inference, least_sends};
+ghost use Rattle.jn_inference_law.specs.OpenExamples.{widened, escaping};
 ghost use Rattle.jn_inference_law.specs.Reading.{Agree, pair_reads};
 ghost use Rattle.jn_inference_law.specs.Solution.{IsLeastSignature};
+ghost use Rattle.jn_points.specs.Regular.{Regular};
+ghost use Rattle.jn_points.specs.declared.program.Program.{Program};
+ghost use Rattle.jn_quals.specs.Order.{no_qual, committed_only, free_only, null_or_committed};
+ghost use Rattle.jn_quals.specs.Qualifier.{Qualifier};
+ghost use Rattle.jn_sigs.specs.Packed.{ArePacked, unpacked};
+ghost use Rattle.jn_sigs.specs.Signature.{start_signature, OnlyPrivateInferred};
+ghost use Rattle.jn_sigtable.specs.System.{IsLawful, limit_of};
+ghost use Rattle.jn_transfer.specs.Closing.{NoPrivatePairs};
+ghost use Rattle.jn_transfer.specs.Contributions.{IsSent, is_inferred};
+ghost use Rattle.jn_transfer.specs.Least.{IsLeastTable};
+ghost use Rattle.jn_transfer.specs.Pairs.{pair_sends, overriders};
 
 /// Each regular program can be inferred, and its system keeps the laws of a system.
 pub fn regular_programs_are_inferable()
@@ -64,4 +64,23 @@ pub fn limits_are_small()
 pub fn least_signatures_are_unique()
     ensures { (P : Program) (s t : List Qualifier) → IsLeastSignature P s → IsLeastSignature P t
         → s ≡ t }
+{}
+
+/// Where a parameter that may be null is overridden by one that isn't annotated, the latter may be null, too. Both methods are called
+/// nowhere, so what is inferred of them starts as committed.
+pub fn an_unwritten_parameter_takes_what_it_overrides()
+    ensures overriders { overriders widened ≡ 3 ∷ [] }
+    ensures start { start_signature widened
+        ≡ committed_only ∷ null_or_committed ∷ committed_only ∷ committed_only ∷ [] }
+    ensures sends { pair_sends widened (start_signature widened) 3
+        ≡ (3, null_or_committed) ∷ (2, committed_only) ∷ [] }
+{}
+
+/// Where a constructor calls a method of its own that a subclass overrides, the overrider's receiver may be free: it starts as committed, since no
+/// point names it, and takes what the overridden one's has.
+pub fn an_escaping_receiver_reaches_the_overrider()
+    ensures overriders { overriders escaping ≡ 3 ∷ [] }
+    ensures start { start_signature escaping ≡ no_qual ∷ committed_only ∷ [] }
+    ensures sends { pair_sends escaping (free_only ∷ committed_only ∷ []) 3
+        ≡ (1, free_only) ∷ [] }
 {}

@@ -5,3 +5,5 @@ pub mod Sourced
 pub mod Allowed
 pub mod Program
 mod Examples
+pub mod SameSlots
+pub mod Marks

@@ -1,9 +1,11 @@
 -- The program of files, and the rows for which there is none.
 use Rattle.std.specs.Prelude.{cond, List, ◌++◌}
+use Rattle.jn_base.specs.declared.infer.Infer.{Infer}
 use Rattle.jn_base.specs.declared.place.Row.{Row}
 use Rattle.jn_points.specs.declared.program.Program.{Program}
 use Rattle.jn_places.specs.Placed.{PlacedFile}
 use Rattle.jn_classtable.specs.Extract.{heads}
+use Rattle.jn_classtable.specs.Inferred.{slots_by}
 use Rattle.jn_classtable.specs.Table.{table}
 use Rattle.jn_classtable.specs.Rows.{no_rows, t_rows}
 use Rattle.jn_lowering.specs.Bodies.{with_bodies}
@@ -14,6 +16,10 @@ use Rattle.jn_program_law.specs.FileSources.{sources}
 -- the class table with the bodies that lowering gives
 abbrev pub program_of_files : List PlacedFile → Program
 program_of_files files = with_bodies (table (heads files)) (sources files)
+
+-- the program of files by a choice of members that are inferred: the slots alone depend on it
+abbrev pub inferring : Infer → List PlacedFile → Program
+inferring infer files = record (program_of_files files) { slots = slots_by infer files }
 
 -- rows J1 to J6
 abbrev pub j_rows : List PlacedFile → List Row

@@ -1,11 +1,14 @@
-//! The law on the program of files.
+//! Laws on the program of files.
 
 ghost use Rattle.std.specs.Prelude.{◌≡◌, ◌<◌, ◌^◌, [], List, length};
+ghost use Rattle.jn_base.specs.declared.infer.Infer.{Infer};
+ghost use Rattle.jn_base.specs.declared.infer.Infer.TheVariants.{Private, Package};
+ghost use Rattle.jn_classtable.specs.Extract.{heads};
+ghost use Rattle.jn_classtable.specs.Inferred.{Opens, slots_by};
+ghost use Rattle.jn_classtable.specs.Table.{table};
 ghost use Rattle.jn_places.specs.Placed.{PlacedFile};
 ghost use Rattle.jn_points.specs.Regular.{Regular};
-ghost use Rattle.jn_classtable.specs.Extract.{heads};
-ghost use Rattle.jn_classtable.specs.Table.{table};
-ghost use Rattle.jn_program_law.specs.FileProgram.{j_rows, program_of_files, rows_of_files};
+ghost use Rattle.jn_program_law.specs.FileProgram.{j_rows, program_of_files, rows_of_files, inferring};
 
 use jn_classtable::ClassTable;
 
@@ -24,3 +27,18 @@ pub fn programs_of_tables_are_regular(table: &ClassTable)
 {
     table.facts();
 }
+
+/// With private members alone it is the program of files as it was; with those without an access word, too, each slot is as it was, or inferred
+/// and empty.
+pub fn more_members_are_inferred()
+    ensures private_ones { (files : List PlacedFile)
+        → inferring Private files ≡ program_of_files files }
+    ensures open_ones { (files : List PlacedFile)
+        → Opens (slots_by Private files) (slots_by Package files) }
+{}
+
+/// Where the program of files is regular, it is so by either choice: nothing but a field's slot that isn't inferred is asked of slots.
+pub fn inferring_programs_are_regular()
+    ensures { (infer : Infer) (files : List PlacedFile) → Regular (program_of_files files)
+        → Regular (inferring infer files) }
+{}

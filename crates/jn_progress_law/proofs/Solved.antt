@@ -10,7 +10,7 @@ use Rattle.jn_points.specs.BaseRows.{NoBaseRows}
 use Rattle.jn_points.specs.BaseTyping.{BaseTyped}
 use Rattle.jn_points.specs.Regular.{Regular}
 use Rattle.jn_points.specs.Shaped.{Shaped}
-use Rattle.jn_task_start.specs.Start.{uncalled_from, start_of, starts_from}
+use Rattle.jn_sigs.specs.Signature.{uncalled_from, start_of, starts_from}
 use Rattle.jn_env.specs.Environment.{Env}
 use Rattle.jn_env.specs.Order.{QualsWithin}
 use Rattle.jn_transfer.specs.Contributions.{FieldSlots}

@@ -2,3 +2,4 @@ pub mod Slots
 pub mod Unique
 pub mod Uncalled
 pub mod Starts
+pub mod Calling

@@ -9,7 +9,7 @@ use Rattle.jn_quals.specs.Order.{no_qual, join}
 use Rattle.jn_sigs.specs.Packed.{raised}
 use Rattle.jn_sigs.specs.Signature.{start_of, starts_from, start_signature}
 
-length-starts_from : (P : Program) (i : ℕ) (xs : List SlotInfo) → length (starts_from P i xs) ≡ length xs
+pub length-starts_from : (P : Program) (i : ℕ) (xs : List SlotInfo) → length (starts_from P i xs) ≡ length xs
 length-starts_from P i [] = refl
 length-starts_from P i (x ∷ xs) = ap suc (length-starts_from P (i + 1) xs)
 

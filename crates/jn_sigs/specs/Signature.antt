@@ -1,5 +1,5 @@
 -- Signatures, that is a qualifier for each slot, and the one from which inference starts.
-use Rattle.std.specs.Prelude.{ℕ, ◌+◌, Bool, false, cond, not, ◌&&◌, ◌||◌, eqb, List, [], ◌∷◌, Option, Some, None, slice_get, slice_index_or}
+use Rattle.std.specs.Prelude.{ℕ, ◌+◌, ◌≡◌, Bool, true, false, cond, not, ◌&&◌, ◌||◌, eqb, List, [], ◌∷◌, Option, Some, None, slice_get, slice_index_or}
 use Rattle.jn_base.specs.declared.number.MethodNo.{MethodNo}
 use Rattle.jn_base.specs.declared.number.SlotNo.{SlotNo}
 use Rattle.jn_quals.specs.Qualifier.{Qualifier}
@@ -11,7 +11,7 @@ use Rattle.jn_points.specs.declared.program.Method.{Method}
 use Rattle.jn_points.specs.declared.program.Body.{Body}
 use Rattle.jn_points.specs.declared.program.SlotInfo.{SlotInfo}
 use Rattle.jn_points.specs.declared.program.Program.{Program}
-use Rattle.jn_points.specs.Lookup.{class_of, method_at}
+use Rattle.jn_points.specs.Lookup.{class_of, private_of, method_at}
 use Rattle.jn_points.specs.Members.{some_of}
 
 -- the methods that a point calls by name
@@ -34,18 +34,22 @@ abbrev pub method_has_slot : ℕ → Method → Bool
 method_has_slot i m = is_slot i m.receiver || is_slot i m.result_slot || some_of (is_slot i) m.param_slots
 
 module _ (P : Program) where
-  -- a body of the class calls method m
-  abbrev pub calls_in_class : ℕ → ℕ → Body → Bool
-  calls_in_class m c body = eqb (class_of (method_at P body.method.0)) c && some_of (λ pt. calls_method m pt.kind) body.points
+  -- calls in a body count for a method: of a private one those in the bodies of its class, of another one all
+  abbrev pub counts_for : Bool → ℕ → Body → Bool
+  counts_for is_private c body = not is_private || eqb (class_of (method_at P body.method.0)) c
+
+  -- a body has a call site of method m that counts
+  abbrev pub calls_from : ℕ → Bool → ℕ → Body → Bool
+  calls_from m is_private c body = counts_for is_private c body && some_of (λ pt. calls_method m pt.kind) body.points
 
   abbrev pub has_call_site : ℕ → Method → Bool
-  has_call_site m info = some_of (calls_in_class m info.owner.0) P.bodies
+  has_call_site m info = some_of (calls_from m info.is_private info.owner.0) P.bodies
 
-  -- a body of the method's class calls it
-  abbrev pub called_in_own_class : ℕ → Bool
-  called_in_own_class m = some_of (calls_in_class m (class_of (method_at P m))) P.bodies
+  -- some body calls the method, of a private one some body of its class
+  abbrev pub is_called : ℕ → Bool
+  is_called m = some_of (calls_from m (private_of (method_at P m)) (class_of (method_at P m))) P.bodies
 
-  -- the slot is of a method, from number m on, that has no call site in its class
+  -- the slot is of a method, from number m on, that has no call site that counts
   abbrev pub uncalled_from : ℕ → ℕ → List Method → Bool
   uncalled_from i m [] = false
   uncalled_from i m (x ∷ xs) = (method_has_slot i x && not (has_call_site m x)) || uncalled_from i (m + 1) xs
@@ -57,9 +61,14 @@ module _ (P : Program) where
   starts_from i [] = []
   starts_from i (x ∷ xs) = start_of i x ∷ starts_from (i + 1) xs
 
-  -- written and default slots have their bits; an inferred one is empty, or {C} where its method has no call site in its class
+  -- written and default slots have their bits; an inferred one is empty, or {C} where it is of a private method with no call site in its class,
+  -- or of another method with no call site in the program
   abbrev pub start_signature : List Qualifier
   start_signature = starts_from 0 P.slots
+
+  -- no method but a private one has an inferred slot
+  abbrev pub OnlyPrivateInferred : Type 0
+  OnlyPrivateInferred = (m i : ℕ) (x : Method) (info : SlotInfo) → method_at P m ≡ Some x → method_has_slot i x ≡ true → slice_get P.slots i ≡ Some info → info.inferred ≡ true → x.is_private ≡ true
 
 module _ (s : List Qualifier) where
   abbrev pub slot_qual : Option SlotNo → Qualifier

@@ -12,7 +12,7 @@ use jn_quals::Qual;
 use std::alloc::Global;
 
 /// The signature from which inference starts: written and default slots have their qualifiers; an inferred one is
-/// empty, or committed where its method has no call site in its class.
+/// empty, or committed where its method has no call site: a private one none in its class, another one none in the program.
 ///
 /// # Errors
 ///

@@ -1,16 +1,17 @@
-//! Methods that a body of their class calls.
-ghost use Rattle.std.specs.Prelude.{◌≡◌, ℕ, ◌&&◌, eqb, length, IfOk};
-ghost use Rattle.jn_points.specs.Lookup.{class_of, method_at};
+//! Methods that a body calls.
+ghost use Rattle.std.specs.Prelude.{◌≡◌, ℕ, ◌&&◌, ◌||◌, not, eqb, length, IfOk};
+ghost use Rattle.jn_points.specs.Lookup.{class_of, private_of, method_at};
 ghost use Rattle.jn_points.specs.Members.{some_of};
 ghost use Rattle.jn_sigs.specs.Marks.{AreFlags, Marked};
-ghost use Rattle.jn_sigs.specs.Signature.{calls_method, calls_in_class, is_method, is_slot, method_has_slot, uncalled_from, called_in_own_class};
+ghost use Rattle.jn_sigs.specs.Signature.{calls_method, is_method, is_slot, method_has_slot};
+ghost use Rattle.jn_sigs.specs.Signature.{calls_from, is_called, uncalled_from};
 
 use jn_base::{MethodNo, SlotNo};
-use jn_points::lookup::class_of;
+use jn_points::lookup::{class_of, method_at};
 use jn_points::{Body, Method, PointKind, Program};
 use std::alloc::{AllocError, Global};
 
-/// For each slot, whether it is of a method that no body of its class calls.
+/// For each slot, whether it is of a method without a call site that counts.
 pub fn uncalled_slots(alloc: Global, program: &Program) -> Result<Vec<bool>, AllocError>
     ensures slots { IfOk result (λ flags. length flags.items ≡ length program.now.slots) }
     ensures flags { IfOk result
@@ -22,10 +23,10 @@ pub fn uncalled_slots(alloc: Global, program: &Program) -> Result<Vec<bool>, All
     Ok(flags)
 }
 
-/// For each method, whether a body of its class calls it.
+/// For each method, whether a body calls it, of a private one whether a body of its class does.
 fn called_methods(alloc: Global, program: &Program) -> Result<Vec<bool>, AllocError>
     ensures methods { IfOk result (λ flags. length flags.items ≡ length program.now.methods) }
-    ensures flags { IfOk result (λ flags. AreFlags flags.items (called_in_own_class program.now)) }
+    ensures flags { IfOk result (λ flags. AreFlags flags.items (is_called program.now)) }
 {
     let mut flags = vec![in alloc; false; program.methods.len()]?;
     mark_called(program, &mut flags);
@@ -33,7 +34,7 @@ fn called_methods(alloc: Global, program: &Program) -> Result<Vec<bool>, AllocEr
 }
 
 fn mark_called(program: &Program, flags: &mut [bool])
-    ensures { Marked flags.old flags.new (called_in_own_class program.now) }
+    ensures { Marked flags.old flags.new (is_called program.now) }
 {
     for body in program.bodies.as_slice() {
         mark_calls(program, body, flags);
@@ -42,7 +43,8 @@ fn mark_called(program: &Program, flags: &mut [bool])
 
 fn mark_calls(program: &Program, body: &Body, flags: &mut [bool])
     ensures { Marked flags.old flags.new
-        (λ m. calls_in_class program.now m (class_of (method_at program.now m)) body.now) }
+        (λ m. calls_from program.now m (private_of (method_at program.now m))
+        (class_of (method_at program.now m)) body.now) }
 {
     let class = class_of(program, body.method).0;
     for point in body.points.as_slice() {
@@ -52,12 +54,32 @@ fn mark_calls(program: &Program, body: &Body, flags: &mut [bool])
 
 fn mark_call(program: &Program, class: u32, kind: &PointKind, flags: &mut [bool])
     ensures { Marked flags.old flags.new
-        (λ m. eqb class (class_of (method_at program.now m)) && calls_method m kind.now) }
+        (λ m. (not (private_of (method_at program.now m))
+        || eqb class (class_of (method_at program.now m))) && calls_method m kind.now) }
 {
     if let Some(method) = called_by(kind) {
-        if class == class_of(program, method).0 {
+        if counts(program, class, method) {
             mark(flags, method.0);
         }
+    }
+}
+
+/// Whether a call in a class's body counts for the method.
+fn counts(program: &Program, class: u32, method: MethodNo) -> bool
+    ensures { result
+        ≡ (not (private_of (method_at program.now method.0))
+        || eqb class (class_of (method_at program.now method.0))) }
+{
+    !is_private(program, method) || class == class_of(program, method).0
+}
+
+/// Whether the method is private.
+fn is_private(program: &Program, method: MethodNo) -> bool
+    ensures { result ≡ private_of (method_at program.now method.0) }
+{
+    match method_at(program, method.0 as usize) {
+        None => false,
+        Some(info) => info.is_private,
     }
 }
 
@@ -75,7 +97,7 @@ fn called_by(kind: &PointKind) -> Option<MethodNo>
 
 fn mark_uncalled(program: &Program, called: &[bool], flags: &mut [bool])
     requires methods { length called.now ≡ length program.now.methods }
-    requires called { AreFlags called.now (called_in_own_class program.now) }
+    requires called { AreFlags called.now (is_called program.now) }
     ensures { Marked flags.old flags.new (λ i. uncalled_from program.now i 0 program.now.methods) }
 {
     for (i, method) in program.methods.as_slice().iter().enumerate() {

@@ -7,9 +7,9 @@ use Rattle.jn_base.specs.declared.number.WordNo.{WordNo}
 use Rattle.jn_quals.specs.Qualifier.{Qualifier}
 use Rattle.jn_points.specs.declared.program.Program.{Program}
 use Rattle.jn_contrib.specs.Sends.{slot_numbers}
-use Rattle.jn_pairs.specs.declared.listed.Overrider.{Overrider}
-use Rattle.jn_pairs.specs.Pairs.{overriders, pair_sends}
-use Rattle.jn_pairs.specs.Entries.{AreOverriders}
+use Rattle.jn_contrib.specs.declared.listed.Overrider.{Overrider}
+use Rattle.jn_transfer.specs.Pairs.{overriders, pair_sends}
+use Rattle.jn_contrib.specs.Entries.{AreOverriders}
 use Rattle.jn_sigtable.specs.System.{IsReadList}
 use Rattle.jn_inference_law.specs.Inference.{inference, is_body_task, least_sends, task_count, task_method, task_reads, task_sends, words_for}
 use Rattle.jn_inference_law.specs.Reading.{body_reads, pair_reads, has_word}

@@ -5,9 +5,9 @@ use Rattle.std.specs.Coded.{coded_ℕ, coded_list, le_prop}
 use base.Stored.{Coded-set}
 use Rattle.jn_points.specs.declared.program.Program.{Program}
 use Rattle.jn_env.specs.ClassFields.{AreOwnFields}
-use Rattle.jn_pairs.specs.declared.listed.Overrider.{Overrider}
-use Rattle.jn_pairs.specs.Pairs.{under}
-use Rattle.jn_pairs.specs.Entries.{AreOverriders}
+use Rattle.jn_contrib.specs.declared.listed.Overrider.{Overrider}
+use Rattle.jn_transfer.specs.Pairs.{under}
+use Rattle.jn_contrib.specs.Entries.{AreOverriders}
 use Rattle.jn_inference_law.specs.Inference.{IsInferable, task_count, task_method, is_body_task}
 use Rattle.jn_inference_law.proofs.OneFact.{inferable_prop}
 

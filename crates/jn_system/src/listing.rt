@@ -2,12 +2,12 @@
 ghost use Rattle.std.specs.Prelude.{◌≡◌, ◌<◌, ◌==◌, [], ◌∷◌, length, true, IfOk, OnOk, Some};
 ghost use Rattle.jn_points.specs.Lookup.{method_at, method_in};
 ghost use Rattle.jn_sigtable.specs.System.{lists_word};
-ghost use Rattle.jn_pairs.specs.Pairs.{under};
+ghost use Rattle.jn_transfer.specs.Pairs.{under};
 ghost use Rattle.jn_inference_law.specs.Reading.{slot_list, slot_lists, given_reads, methods_reads, kind_reads, points_reads, body_reads, pair_reads};
 ghost use Rattle.jn_system.specs.ReadLists.{Adds};
 
 use jn_base::{BodyNo, MethodNo, SlotNo, WordNo, either};
-use jn_pairs::Overrider;
+use jn_contrib::Overrider;
 use jn_points::lookup::method_at;
 use jn_points::{Method, Point, PointKind, Program};
 use jn_transfer::lookup::{field_slot, result_slot};

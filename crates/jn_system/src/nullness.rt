@@ -7,7 +7,7 @@ use crate::signature::signature_of;
 use crate::tasks::{task_contrib, task_reads, task_words};
 use jn_base::{BodyNo, OutOfMemory, WordNo};
 use jn_env::OwnFields;
-use jn_pairs::Overrider;
+use jn_contrib::Overrider;
 use jn_points::Program;
 use jn_sigtable::Constraints;
 use std::alloc::Global;

@@ -1,11 +1,11 @@
 //! Which words a task reads.
 ghost use Rattle.std.specs.Prelude.{◌≡◌, Some};
 ghost use Rattle.jn_points.specs.Lookup.{method_at, method_in, body_at, points_of};
-ghost use Rattle.jn_pairs.specs.Pairs.{under};
+ghost use Rattle.jn_transfer.specs.Pairs.{under};
 ghost use Rattle.jn_inference_law.specs.Reading.{slot_list, slot_lists, given_reads, methods_reads, has_word, kind_reads, points_reads, body_reads, pair_reads};
 
 use jn_base::{BodyNo, MethodNo, SlotNo, either};
-use jn_pairs::Overrider;
+use jn_contrib::Overrider;
 use jn_points::lookup::method_at;
 use jn_points::{Method, Point, PointKind, Program};
 use jn_transfer::lookup::{field_slot, result_slot};

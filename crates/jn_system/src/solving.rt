@@ -1,6 +1,6 @@
 //! The least signature, by any number of workers.
 ghost use Rattle.std.specs.Prelude.{◌≡◌, ◌<◌, ◌≤◌, ◌+◌, ◌^◌, IfOk, true, false};
-ghost use Rattle.jn_pairs.specs.Entries.{AreOverriders};
+ghost use Rattle.jn_contrib.specs.Entries.{AreOverriders};
 ghost use Rattle.jn_inference_law.specs.Inference.{IsInferable};
 ghost use Rattle.jn_inference_law.specs.Solution.{IsLeastSignature};
 
@@ -9,10 +9,10 @@ use crate::signature::signature;
 use jn_base::OutOfMemory;
 use jn_env::OwnFields;
 use jn_index::indexed::IndexedProgram;
-use jn_pairs::{Overrider, overriders};
+use jn_contrib::{Overrider, overriders};
 use jn_points::Program;
 use jn_sigs::Sig;
-use jn_task_start::start;
+use jn_sigs::start;
 use jn_workers::{Gate, solve};
 use std::alloc::Global;
 use std::thread::Threads;

@@ -1,7 +1,7 @@
 //! Tasks: the bodies of a program, and behind them its methods that override.
 ghost use Rattle.std.specs.Prelude.{◌≡◌, ◌<◌, IfOk, MatchOption, length, true};
 ghost use Rattle.jn_contrib.specs.Sends.{slot_numbers};
-ghost use Rattle.jn_pairs.specs.Entries.{AreOverriders};
+ghost use Rattle.jn_contrib.specs.Entries.{AreOverriders};
 ghost use Rattle.jn_sigtable.specs.System.{IsReadList};
 ghost use Rattle.jn_inference_law.specs.Inference.{inference, is_body_task, least_sends, task_count, task_reads, task_sends, words_for};
 ghost use Rattle.jn_inference_law.specs.Reading.{has_word};
@@ -13,7 +13,7 @@ use jn_base::{BodyNo, MethodNo, OutOfMemory, SlotNo, WordNo};
 use jn_contrib::contrib_by;
 use jn_env::{OwnFields, find_keys_by};
 use jn_flow::flow_by;
-use jn_pairs::{Overrider, pair_contrib_by};
+use jn_contrib::{Overrider, pair_contrib_by};
 use jn_points::Program;
 use jn_quals::Qual;
 use jn_sigs::Sig;

@@ -6,3 +6,4 @@ pub mod Sized
 pub mod Covered
 pub mod Closing
 pub mod Subject
+pub mod Pairs

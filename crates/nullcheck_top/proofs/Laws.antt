@@ -9,7 +9,7 @@ use Rattle.jn_points.specs.declared.program.Program.{Program}
 use Rattle.jn_points.specs.BaseRows.{IsBaseRow}
 use Rattle.jn_env.specs.Environment.{Env}
 use Rattle.jn_base.specs.declared.infer.Infer.{Infer}
-use Rattle.jn_open_members.specs.Inferred.{inferring}
+use Rattle.jn_program_law.specs.FileProgram.{inferring}
 use Rattle.jn_transfer.specs.Least.{IsLeastTable}
 use Rattle.jn_transfer.specs.Rules.{Breaks}
 use Rattle.jn_soundness.specs.Accepting.{IsAccepted}

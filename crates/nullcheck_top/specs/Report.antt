@@ -10,7 +10,7 @@ use Rattle.jn_points.specs.BaseRows.{IsBaseRow, NoBaseRows}
 use Rattle.jn_points.specs.Regular.{Regular}
 use Rattle.jn_program_law.specs.FileProgram.{j_rows}
 use Rattle.jn_base.specs.declared.infer.Infer.{Infer}
-use Rattle.jn_open_members.specs.Inferred.{inferring}
+use Rattle.jn_program_law.specs.FileProgram.{inferring}
 use Rattle.jn_quals.specs.Qualifier.{Qualifier}
 use Rattle.jn_command.specs.declared.report.Report.{Report}
 use Rattle.jn_command.specs.declared.status.Status.{Status}

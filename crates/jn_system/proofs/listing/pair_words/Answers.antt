@@ -4,7 +4,7 @@ use Rattle.jn_base.specs.declared.number.SlotNo.{SlotNo}
 use Rattle.jn_base.specs.declared.number.WordNo.{WordNo}
 use Rattle.jn_points.specs.Lookup.{method_at}
 use Rattle.jn_transfer.specs.Contributions.{result_slot_of}
-use Rattle.jn_pairs.specs.Pairs.{under}
+use Rattle.jn_transfer.specs.Pairs.{under}
 use Rattle.jn_inference_law.specs.Reading.{slot_list, methods_reads}
 use Rattle.jn_system.specs.ReadLists.{Adds}
 use Rattle.jn_system.proofs.ListSteps.{adds_both}

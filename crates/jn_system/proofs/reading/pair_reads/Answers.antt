@@ -1,7 +1,7 @@
 use Rattle.std.proofs.Common.{◌≡◌, ◌||◌, ◌∙◌, sym, ap, List, ℕ}
 use Rattle.jn_points.specs.Lookup.{method_at}
 use Rattle.jn_transfer.specs.Contributions.{result_slot_of}
-use Rattle.jn_pairs.specs.Pairs.{under}
+use Rattle.jn_transfer.specs.Pairs.{under}
 use Rattle.jn_inference_law.specs.Reading.{slot_list, methods_reads, has_word}
 use Rattle.jn_system.proofs.ReadSteps.{has_word-append}
 use Rattle.jn_system.proofs.reading.pair_reads.Goals as goal

@@ -2,8 +2,8 @@ use Rattle.std.proofs.Common.{◌≡◌, ℕ, List, length, ap, ◌∙◌, refl,
 use Rattle.jn_points.specs.declared.program.Program.{Program}
 use Rattle.jn_quals.specs.Qualifier.{Qualifier}
 use Rattle.jn_sigs.specs.Packed.{ArePacked, unpacked}
-use Rattle.jn_task_start.specs.Start.{start_signature}
-use Rattle.jn_pairs.specs.Entries.{AreOverriders}
+use Rattle.jn_sigs.specs.Signature.{start_signature}
+use Rattle.jn_contrib.specs.Entries.{AreOverriders}
 use Rattle.jn_system.proofs.TaskSteps.{no_tasks}
 use Rattle.jn_inference_law.specs.Inference.{words_for}
 use Rattle.jn_inference_law.proofs.LeastSignature.{found_count, found_signature, least_start, length-start}
