@@ -1,4 +1,5 @@
-//! Reads the tables that the words name, and prints each case with what becomes of its text.
+//! Reads the tables that the words name, and prints each case with what becomes of its text; of a file of Java it prints the bodies of its program
+//! with their points.
 #![tactic(auto)]
 
 mod case;
@@ -7,12 +8,14 @@ mod files;
 mod outcome;
 mod page;
 mod places;
+mod points;
 mod shape;
 mod source;
 mod tokens;
 
 use case::answer;
 use files::files_text;
+use points::outcome::file_text;
 use std::alloc::AllocError;
 use std::thread::Threads;
 use std::{env, fs, io};
@@ -44,12 +47,31 @@ fn line_answer<R: Threads + Sync>(rt: &HostRuntime, threads: &R, line: &str) -> 
     }
 }
 
+/// Prints each case of a table with its answer.
+fn show_table(rt: &HostRuntime, table: &str) -> io::Result<()> {
+    let text = fs::read_to_string(rt, table)?;
+    for line in text.lines() {
+        let shown = line_answer(rt, rt, line)?;
+        println!(rt; "{line} => {shown}")?;
+    }
+    Ok(())
+}
+
+/// Prints the bodies of a file's program.
+fn show_points(rt: &HostRuntime, name: &str) -> io::Result<()> {
+    let text = fs::read(rt, name)?;
+    match file_text(rt, rt.alloc(), &text) {
+        Ok(shown) => println!(rt; "== {name}{shown}"),
+        Err(_) => Err(io::Error::from(AllocError)),
+    }
+}
+
 fn main(rt: HostRuntime) -> io::Result<()> {
-    for table in env::args(&rt)?.skip(1) {
-        let text = fs::read_to_string(&rt, table.as_str())?;
-        for line in text.lines() {
-            let shown = line_answer(&rt, &rt, line)?;
-            println!(rt; "{line} => {shown}")?;
+    for name in env::args(&rt)?.skip(1) {
+        if name.ends_with(".java") {
+            show_points(&rt, name.as_str())?;
+        } else {
+            show_table(&rt, name.as_str())?;
         }
     }
     Ok(())

@@ -1,5 +1,5 @@
-//! Tests of small libraries by their public names: places and lists, names, words of a command, order of rows, reporters, the generated
-//! program, sources and sinks.
+//! Tests of libraries by their public names: places and lists, names, words of a command, order of rows, reporters, the generated program, sources
+//! and sinks, sets of qualifiers by their bits and how they are packed, and the machine over small programs.
 #![tactic(auto)]
 
 #[cfg(test)]
@@ -7,10 +7,16 @@ mod faults;
 #[cfg(test)]
 mod generated;
 #[cfg(test)]
+mod machine;
+#[cfg(test)]
 mod places;
+#[cfg(test)]
+mod quals;
 #[cfg(test)]
 mod reports;
 #[cfg(test)]
 mod rows;
+#[cfg(test)]
+mod sigs;
 #[cfg(test)]
 mod words;

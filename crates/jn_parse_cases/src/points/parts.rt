@@ -1,8 +1,8 @@
 //! The parts of a point as text.
-use crate::known::{write_base, write_class, write_field, write_method, write_name};
-use crate::line::Part;
-use crate::page::Page;
-use crate::places::write_span;
+use crate::points::known::{write_base, write_class, write_field, write_method, write_name};
+use crate::points::line::Part;
+use crate::points::page::Page;
+use crate::points::places::write_span;
 use jn_base::RegNo;
 use jn_points::{Literal, Operand, Program};
 use jn_trees::Names;

@@ -1,7 +1,7 @@
 //! What becomes of a file: the bodies of its program, or its rows.
-use crate::body::program_text;
-use crate::known::LIMIT;
-use crate::page::Page;
+use crate::points::body::program_text;
+use crate::points::known::LIMIT;
+use crate::points::page::Page;
 use jn_base::{Fail, FileNo, OutOfMemory, Row, Seq};
 use jn_classtable::build;
 use jn_index::indexed::IndexedProgram;

@@ -1,10 +1,10 @@
 //! A body as text.
-use crate::known::{write_base, write_method};
-use crate::line::{Line, Part};
-use crate::page::Page;
-use crate::parts::write_parts;
-use crate::places::write_span;
-use crate::point::put_kind;
+use crate::points::known::{write_base, write_method};
+use crate::points::line::{Line, Part};
+use crate::points::page::Page;
+use crate::points::parts::write_parts;
+use crate::points::places::write_span;
+use crate::points::point::put_kind;
 use jn_base::OutOfMemory;
 use jn_points::{BaseType, Body, Point, PointKind, Program};
 use jn_trees::Names;

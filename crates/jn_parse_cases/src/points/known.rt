@@ -1,5 +1,5 @@
 //! What numbers stand for: names of classes, fields and methods, and types.
-use crate::page::Page;
+use crate::points::page::Page;
 use jn_base::{ClassNo, FieldNo, MethodNo, NameNo};
 use jn_points::{BaseType, Class, Elem, Field, Method, Program};
 use jn_trees::Names;

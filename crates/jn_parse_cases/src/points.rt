@@ -1,32 +1,16 @@
-//! Shows the points of bodies: for each file that the words name, the bodies of its program.
+//! Shows the points of bodies: of a file of Java the bodies of its program.
 //!
 //! A body is a line with its class, name and number of parameters and the types of its registers (those of `this`, parameters
 //! and locals, then `|`, then those of temporaries), and below it a line for each point: its number, its kind, what the kind has
 //! (a register to which it writes; a value as register@place; `->` and the point to which it goes; `-` where something is
 //! absent), and behind `@` its own place. A place is line:column-column, from the first character to the one behind the last, or
 //! line:column-line:column where it ends on another line.
-#![tactic(auto)]
 
 mod body;
 mod known;
 mod line;
-mod outcome;
+pub mod outcome;
 mod page;
 mod parts;
 mod places;
 mod point;
-
-use outcome::file_text;
-use std::alloc::AllocError;
-use std::{env, fs, io};
-
-fn main(rt: HostRuntime) -> io::Result<()> {
-    for name in env::args(&rt)?.skip(1) {
-        let text = fs::read(&rt, name.as_str())?;
-        match file_text(&rt, rt.alloc(), &text) {
-            Ok(shown) => println!(rt; "== {name}{shown}")?,
-            Err(_) => return Err(io::Error::from(AllocError)),
-        }
-    }
-    Ok(())
-}

@@ -1,6 +1,6 @@
 //! Places as text.
-use crate::known::LIMIT;
-use crate::page::Page;
+use crate::points::known::LIMIT;
+use crate::points::page::Page;
 use jn_base::{Place, Span, place_of};
 
 /// The place of a byte, or of the text's end where it isn't within the text.

@@ -1,5 +1,5 @@
 //! A point part by part.
-use crate::line::{Line, Part};
+use crate::points::line::{Line, Part};
 use jn_points::{Operator, PointKind, StrOperation};
 
 fn operator_word(operator: Operator) -> &'static str {
