@@ -1,4 +1,4 @@
-//! Methods that a body calls.
+//! Methods that bodies call.
 ghost use Rattle.std.specs.Prelude.{◌≡◌, ℕ, ◌&&◌, ◌||◌, not, eqb, length, IfOk};
 ghost use Rattle.jn_points.specs.Lookup.{class_of, private_of, method_at};
 ghost use Rattle.jn_points.specs.Members.{some_of};
