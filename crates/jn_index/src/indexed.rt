@@ -6,7 +6,7 @@ ghost use Rattle.jn_index.specs.Index.{IsIndex};
 use crate::index::Index;
 use crate::{fits, law};
 use jn_base::Seq;
-use jn_points::{BaseType, Body, Program};
+use jn_points::{BaseType, Body, Program, SlotInfo};
 use std::alloc::{AllocError, Global};
 use std::marker::Model;
 
@@ -63,6 +63,24 @@ impl IndexedProgram {
         let IndexedProgram { program, index } = self;
         IndexedProgram {
             program: law::with_bodies(program, bodies),
+            index,
+        }
+    }
+
+    /// The program with other slots. Its index stays.
+    pub fn with_slots(self, slots: Seq<SlotInfo>) -> IndexedProgram
+        ensures { result
+            ≡ record {
+              classes = self.classes;
+              fields = self.fields;
+              methods = self.methods;
+              bodies = self.bodies;
+              slots = slots;
+            } }
+    {
+        let IndexedProgram { program, index } = self;
+        IndexedProgram {
+            program: law::with_slots(program, slots),
             index,
         }
     }

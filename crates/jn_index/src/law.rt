@@ -4,7 +4,7 @@ ghost use Rattle.jn_index.specs.Index.{Lists, IsIndex};
 
 use crate::index::Index;
 use jn_base::Seq;
-use jn_points::{Body, Program};
+use jn_points::{Body, Program, SlotInfo};
 
 /// An index of a program is one of each program with the same classes, fields and methods, whatever
 /// its bodies and slots.
@@ -33,5 +33,24 @@ pub fn with_bodies(program: Program, bodies: Seq<Body>) -> Program
         methods: program.methods,
         bodies,
         slots: program.slots,
+    }
+}
+
+/// The program with other slots; what was its index is the result's.
+#[tactic(auto, using(crate::proofs::Same::same_index))]
+pub fn with_slots(program: Program, slots: Seq<SlotInfo>) -> Program
+    ensures bodies { result.bodies ≡ program.bodies }
+    ensures classes { result.classes ≡ program.classes }
+    ensures fields { result.fields ≡ program.fields }
+    ensures methods { result.methods ≡ program.methods }
+    ensures slots { result.slots ≡ slots }
+    ensures index { (x : Lists) → IsIndex program x → IsIndex result x }
+{
+    Program {
+        classes: program.classes,
+        fields: program.fields,
+        methods: program.methods,
+        bodies: program.bodies,
+        slots,
     }
 }
