@@ -1,10 +1,10 @@
 -- Texts that are numbered one after another.
 use Rattle.std.proofs.lemmas.List.{take_more}
-use Rattle.std.proofs.Common.{◌≡◌, ℕ, ◌+◌, ◌<◌, ◌≤◌, take, get_or, length-take, Bool, true, false, List, [], ◌∷◌, ◌++◌, length, Bor, refl, sym, ap, ◌∙◌, arith, length-append}
-use Rattle.std.specs.Prelude.{bytes_eq, if◌then◌else◌}
+use Rattle.std.proofs.Common.{◌≡◌, ℕ, ◌+◌, ◌<◌, ◌≤◌, take, map, get_or, length-take, Bool, true, false, List, [], ◌∷◌, ◌++◌, length, Bor, refl, sym, ap, ◌∙◌, arith, length-append, append_assoc, append-nil}
+use Rattle.std.specs.Prelude.{bytes_eq, not, ◌&&◌, if◌then◌else◌}
 use Rattle.std.specs.List.{list_any}
 use Rattle.jn_trees.specs.Names.{with_name}
-use Rattle.jn_lex_shared.specs.Interned.{interned}
+use Rattle.jn_lex_shared.specs.Interned.{all_new, interned}
 
 interned_more : (names : List (List ℕ)) (bs : List (Bor (List ℕ))) (b : Bor (List ℕ)) → interned names (bs ++ b ∷ []) ≡ with_name (interned names bs) b.now
 interned_more names [] b = refl
@@ -30,3 +30,19 @@ short old names texts i lt is fits =
     let h = interned_length old (take i texts) in
     let e : length names ≡ length (interned old (take i texts)) = ap length is in
     omega (arith, h, e, length-take {A = Bor (List ℕ)})
+
+new_and : (known rest : Bool) → (not known && rest) ≡ true → (known ≡ false) × (rest ≡ true)
+new_and true rest e = absurd (no_flag e)
+  where
+    no_flag : false ≡ true → ⊥
+    no_flag e = cc
+new_and false rest e = (refl, e)
+
+-- texts of which each is new are numbered as they stand
+pub as_they_stand : (names : List (List ℕ)) (bs : List (Bor (List ℕ))) → all_new names bs ≡ true → interned names bs ≡ names ++ map (λ b. b.now) bs
+as_they_stand names [] e = sym (append-nil names)
+as_they_stand names (b ∷ bs) e =
+    let first = new_and (list_any (bytes_eq b.now) names) (all_new (names ++ b.now ∷ []) bs) e in
+    ap (λ known. interned (if known then names else names ++ b.now ∷ []) bs) first.0
+    ∙ as_they_stand (names ++ b.now ∷ []) bs first.1
+    ∙ append_assoc names (b.now ∷ []) (map (λ b. b.now) bs)

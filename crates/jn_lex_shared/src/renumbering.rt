@@ -1,5 +1,5 @@
 //! Tokens with other numbers for their names.
-ghost use Rattle.std.specs.Prelude.{◌≡◌, ◌++◌, OnOk};
+ghost use Rattle.std.specs.Prelude.{◌≡◌, ◌++◌, OnOk, OnErr};
 ghost use Rattle.jn_renumber.specs.Tokens.{token_by, tokens_by};
 
 use jn_base::{NameNo, OutOfMemory};
@@ -28,14 +28,15 @@ fn renumber_tokens(numbers: &[NameNo], tokens: &mut Vec<Token>)
 
 /// Moves the others behind the tokens, with the entries of their names' numbers.
 ///
-/// Where no memory is found, the tokens are as before.
+/// Where no memory is found, the tokens are as before, and the others have the entries of their names' numbers.
 pub fn put_renumbered(
     tokens: &mut Vec<Token>,
     others: &mut Vec<Token>,
     numbers: &[NameNo],
 ) -> Result<(), OutOfMemory>
-    ensures { OnOk result
+    ensures ok { OnOk result
         (tokens.new.items ≡ tokens.old.items ++ tokens_by numbers.now others.old.items) }
+    ensures err { OnErr result (tokens.new.items ≡ tokens.old.items) }
 {
     renumber_tokens(numbers, others);
     tokens.append(others)?;
