@@ -1,7 +1,8 @@
--- Rows behind a row, one row more.
+-- Rows behind a row, one row more, and bytes behind two bytes, one byte more.
 use Rattle.std.proofs.Common.{◌≡◌, ◌<◌, ℕ, ◌+◌, List, ◌∷◌, ◌++◌, length, get_or, drop, append_assoc, sym, ap, ◌∙◌}
 use Rattle.std.proofs.lemmas.List.{drop_more}
 use Rattle.jn_diag.specs.declared.shown.RowText.{RowText}
+use Rattle.jn_reporters.specs.Escapes.{xml_behind, xml_from}
 use Rattle.jn_reporters.specs.Checkstyle.{error_element, file_change, rows_behind}
 
 regrouped : (new out piece left rest whole : List ℕ) → new ≡ out ++ piece → left ≡ piece ++ rest → out ++ left ≡ whole → new ++ rest ≡ whole
@@ -15,3 +16,10 @@ pub row_more : (new out whole name : List ℕ) (rows : List RowText) (i : ℕ) (
 row_more new out whole name rows i row within at is all =
     let next : drop i rows ≡ row ∷ drop (i + 1) rows = drop_more rows i row within ∙ ap (λ x. x ∷ drop (i + 1) rows) (sym at) in
     regrouped new out (file_change name row.name ++ error_element row) (rows_behind name (drop i rows)) (rows_behind row.name (drop (i + 1) rows)) whole is (ap (rows_behind name) next) all
+
+-- the next byte is put behind these two
+pub byte_more : (new out whole : List ℕ) (second last : ℕ) (text : List ℕ) (i d : ℕ) → i < length text
+    → new ≡ out ++ xml_behind second last (get_or text i d) → out ++ xml_from second last (drop i text) ≡ whole
+    → new ++ xml_from last (get_or text i d) (drop (i + 1) text) ≡ whole
+byte_more new out whole second last text i d within is all =
+    regrouped new out (xml_behind second last (get_or text i d)) (xml_from second last (drop i text)) (xml_from last (get_or text i d) (drop (i + 1) text)) whole is (ap (xml_from second last) (drop_more text i d within)) all

@@ -3,9 +3,8 @@ use Rattle.std.specs.Prelude.{ℕ, ◌++◌, List, [], ◌∷◌, Option, codes,
 use Rattle.jn_base.specs.Codes.{code_name, code_text}
 use Rattle.jn_diag.specs.declared.shown.RowText.{RowText}
 use Rattle.jn_diag.specs.declared.shown.Verdict.{Verdict}
-use Rattle.jn_reporters.specs.Escapes.{escaped}
+use Rattle.jn_reporters.specs.Escapes.{xml_text}
 use Rattle.jn_reporters.specs.Sheet.{document_shown}
-use Rattle.jn_reporters.specs.declared.escapes.Escape.TheVariants.{Xml}
 
 -- the element of a row: where it stands, and what it says
 abbrev pub error_place : RowText → List ℕ
@@ -13,7 +12,7 @@ error_place row = codes "    <error line=\"" ++ decimal row.line ++ codes "\" co
 
 abbrev pub error_meaning : RowText → List ℕ
 error_meaning row =
-    codes " severity=\"error\" message=\"" ++ code_name row.code ++ codes ": " ++ escaped Xml (code_text row.code)
+    codes " severity=\"error\" message=\"" ++ code_name row.code ++ codes ": " ++ xml_text (code_text row.code)
     ++ codes "\" source=\"nullcheck." ++ code_name row.code ++ codes "\"/>\n"
 
 abbrev pub error_element : RowText → List ℕ
@@ -21,7 +20,7 @@ error_element row = error_place row ++ error_meaning row
 
 -- the begin and the end of the element of a file
 abbrev pub file_begin : List ℕ → List ℕ
-file_begin name = codes "  <file name=\"" ++ escaped Xml name ++ codes "\">\n"
+file_begin name = codes "  <file name=\"" ++ xml_text name ++ codes "\">\n"
 
 abbrev pub file_end : List ℕ
 file_end = codes "  </file>\n"

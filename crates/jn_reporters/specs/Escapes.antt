@@ -1,9 +1,9 @@
 -- How bytes are written where some have a meaning of their own.
-use Rattle.std.specs.Prelude.{ℕ, ◌+◌, ◌/◌, ◌%◌, ◌==◌, ◌||◌, nat_lt, Bool, List, [], ◌∷◌, ◌++◌, codes, if◌then◌else◌}
+use Rattle.std.specs.Prelude.{ℕ, ◌+◌, ◌/◌, ◌%◌, ◌==◌, ◌&&◌, ◌||◌, nat_lt, Bool, List, [], ◌∷◌, ◌++◌, codes, if◌then◌else◌}
 use Rattle.std.specs.Char.{is_ascii_alphanumeric}
 use Rattle.std.specs.List.{flat_map}
 use Rattle.jn_reporters.specs.declared.escapes.Escape.{Escape}
-use Rattle.jn_reporters.specs.declared.escapes.Escape.TheVariants.{Message, Property, Xml, Json, Uri}
+use Rattle.jn_reporters.specs.declared.escapes.Escape.TheVariants.{Message, Property, Json, Uri}
 
 -- the hexadecimal digit, in upper case, of a number below 16
 abbrev pub hex_digit : ℕ → ℕ
@@ -25,7 +25,7 @@ property_byte byte = if byte == 58 then codes "%3A" else if byte == 44 then code
 abbrev pub xml_control : ℕ → List ℕ
 xml_control byte = if byte == 9 then codes "&#9;" else if byte == 10 then codes "&#10;" else if byte == 13 then codes "&#13;" else 239 ∷ 191 ∷ 189 ∷ []
 
--- the value of an attribute (XML 1.0, 2.4)
+-- the value of an attribute (XML 1.0, 2.4), byte by byte
 abbrev pub xml_byte : ℕ → List ℕ
 xml_byte byte =
     if byte == 38 then codes "&amp;"
@@ -35,6 +35,22 @@ xml_byte byte =
     else if byte == 39 then codes "&apos;"
     else if nat_lt byte 32 then xml_control byte
     else byte ∷ []
+
+-- U+FFFE and U+FFFF, which XML can't hold either (XML 1.0, 2.2), by their bytes in UTF-8
+abbrev pub ends_unfit : ℕ → ℕ → ℕ → Bool
+ends_unfit second last byte = second == 239 && last == 191 && (byte == 190 || byte == 191)
+
+-- a byte behind these two: of the last byte of U+FFFE or U+FFFF that of U+FFFD is made, whose first two bytes are theirs
+abbrev pub xml_behind : ℕ → ℕ → ℕ → List ℕ
+xml_behind second last byte = if ends_unfit second last byte then 189 ∷ [] else xml_byte byte
+
+abbrev pub xml_from : ℕ → ℕ → List ℕ → List ℕ
+xml_from second last [] = []
+xml_from second last (byte ∷ rest) = xml_behind second last byte ++ xml_from last byte rest
+
+-- the value of an attribute
+abbrev pub xml_text : List ℕ → List ℕ
+xml_text text = xml_from 0 0 text
 
 -- a string (RFC 8259, 7)
 abbrev pub json_byte : ℕ → List ℕ
@@ -55,7 +71,6 @@ uri_byte byte = if stands_in_uri byte then byte ∷ [] else codes "%" ++ hex_pai
 abbrev pub escaped_byte : Escape → ℕ → List ℕ
 escaped_byte Message byte = message_byte byte
 escaped_byte Property byte = property_byte byte
-escaped_byte Xml byte = xml_byte byte
 escaped_byte Json byte = json_byte byte
 escaped_byte Uri byte = uri_byte byte
 

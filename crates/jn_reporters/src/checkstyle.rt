@@ -1,9 +1,9 @@
 //! The report as the XML of Checkstyle.
-ghost use Rattle.std.specs.Prelude.{◌≡◌, ◌++◌, IfOk, OnOk};
+ghost use Rattle.std.specs.Prelude.{◌≡◌, ◌++◌, true, IfOk, OnOk};
 ghost use Rattle.jn_reporters.specs.Checkstyle as spec;
 
+use crate::attribute::put_value;
 use crate::document::{Document, Format};
-use crate::escapes::{Escape, put};
 use crate::reporter::Reporter;
 use itoa::{Buffer, Integer};
 use jn_diag::RowText;
@@ -12,9 +12,10 @@ use std::alloc::{AllocError, Global};
 /// Shows the XML of Checkstyle.
 pub type Checkstyle = Document<CheckstyleXml>;
 
-/// What it shows of rows and a verdict is `checkstyle_shown`.
+/// What it shows of rows and a verdict is `checkstyle_shown`, one document.
 pub fn checkstyle_shows(reporter: &Checkstyle)
-    ensures { ⟦<Checkstyle as Reporter>⟧.shown reporter.now ≡ spec.checkstyle_shown }
+    ensures shown { ⟦<Checkstyle as Reporter>⟧.shown reporter.now ≡ spec.checkstyle_shown }
+    ensures document { ⟦<Checkstyle as Reporter>⟧.document reporter.now ≡ true }
 {}
 
 /// The XML of Checkstyle: an element for each run of rows of one file, and in it one for each row.
@@ -117,7 +118,7 @@ fn file_begin(alloc: Global, name: &str) -> Result<Vec<u8>, AllocError>
     ensures { IfOk result (λ text. text.items ≡ spec.file_begin name.now) }
 {
     let mut text = Vec::from_slice(alloc, b"  <file name=\"")?;
-    put(&mut text, Escape::Xml, name.as_bytes())?;
+    put_value(&mut text, name.as_bytes())?;
     text.extend_from_slice(b"\">\n")?;
     Ok(text)
 }
@@ -148,7 +149,7 @@ fn error_meaning(alloc: Global, row: &RowText) -> Result<Vec<u8>, AllocError>
     let mut text = Vec::from_slice(alloc, b" severity=\"error\" message=\"")?;
     text.extend_from_slice(row.code.name().as_bytes())?;
     text.extend_from_slice(b": ")?;
-    put(&mut text, Escape::Xml, row.code.text().as_bytes())?;
+    put_value(&mut text, row.code.text().as_bytes())?;
     text.extend_from_slice(b"\" source=\"nullcheck.")?;
     text.extend_from_slice(row.code.name().as_bytes())?;
     text.extend_from_slice(b"\"/>\n")?;

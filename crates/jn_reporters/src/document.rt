@@ -65,6 +65,7 @@ impl<F: Format> Document<F> {
 }
 
 impl<F: Format> Reporter for Document<F> {
+    ghost use Rattle.std.specs.Prelude.{true};
     ghost use Rattle.jn_reporters.specs.Sheet.{document_shown};
 
     ghost rows = { λ a. a.rows };
@@ -73,10 +74,16 @@ impl<F: Format> Reporter for Document<F> {
 
     ghost title = { λ a. F.title };
 
+    ghost document = { λ a. true };
+
     ghost shown = { λ a. document_shown F.written };
 
     fn name(&self) -> &str {
         F::name()
+    }
+
+    fn is_document(&self) -> bool {
+        true
     }
 
     fn take(&mut self, row: &RowText) -> Result<(), OutOfMemory> {

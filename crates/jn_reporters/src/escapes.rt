@@ -11,8 +11,6 @@ pub enum Escape {
     Message,
     /// A property of a workflow command of GitHub.
     Property,
-    /// An attribute's value, between double quotes.
-    Xml,
     /// A string, between double quotes.
     Json,
     /// The path of a URI.
@@ -35,7 +33,6 @@ fn put_byte(out: &mut Vec<u8>, escape: Escape, byte: u8) -> Result<(), AllocErro
     match escape {
         Escape::Message => put_message(out, byte),
         Escape::Property => put_property(out, byte),
-        Escape::Xml => put_xml(out, byte),
         Escape::Json => put_json(out, byte),
         Escape::Uri => put_uri(out, byte),
     }
@@ -59,31 +56,6 @@ fn put_property(out: &mut Vec<u8>, byte: u8) -> Result<(), AllocError>
         b':' => out.extend_from_slice(b"%3A"),
         b',' => out.extend_from_slice(b"%2C"),
         _ => put_message(out, byte),
-    }
-}
-
-fn put_xml(out: &mut Vec<u8>, byte: u8) -> Result<(), AllocError>
-    ensures { OnOk result (out.new.items ≡ out.old.items ++ spec.xml_byte byte) }
-{
-    match byte {
-        b'&' => out.extend_from_slice(b"&amp;"),
-        b'<' => out.extend_from_slice(b"&lt;"),
-        b'>' => out.extend_from_slice(b"&gt;"),
-        b'"' => out.extend_from_slice(b"&quot;"),
-        b'\'' => out.extend_from_slice(b"&apos;"),
-        _ if byte < b' ' => put_xml_control(out, byte),
-        _ => out.extend_from_slice(&[byte]),
-    }
-}
-
-fn put_xml_control(out: &mut Vec<u8>, byte: u8) -> Result<(), AllocError>
-    ensures { OnOk result (out.new.items ≡ out.old.items ++ spec.xml_control byte) }
-{
-    match byte {
-        b'\t' => out.extend_from_slice(b"&#9;"),
-        b'\n' => out.extend_from_slice(b"&#10;"),
-        b'\r' => out.extend_from_slice(b"&#13;"),
-        _ => out.extend_from_slice(&[0xEF, 0xBF, 0xBD]),
     }
 }
 

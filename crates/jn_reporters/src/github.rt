@@ -43,7 +43,7 @@ impl Github {
 }
 
 impl Reporter for Github {
-    ghost use Rattle.std.specs.Prelude.{codes};
+    ghost use Rattle.std.specs.Prelude.{codes, false};
     ghost use Rattle.jn_reporters.specs.Github.{github_shown};
 
     ghost rows = { λ a. a.rows };
@@ -52,10 +52,16 @@ impl Reporter for Github {
 
     ghost title = { λ a. codes "github" };
 
+    ghost document = { λ a. false };
+
     ghost shown = { λ a. github_shown };
 
     fn name(&self) -> &str {
         "github"
+    }
+
+    fn is_document(&self) -> bool {
+        false
     }
 
     fn take(&mut self, row: &RowText) -> Result<(), OutOfMemory> {

@@ -4,6 +4,7 @@
 //! [`Plain`], [`Tabbed`], [`Summary`], [`Github`], [`Checkstyle`] and [`Sarif`]. `docs/HOWTO.md` says how to add one.
 #![tactic(auto)]
 
+mod attribute;
 pub mod checkstyle;
 mod codes;
 pub mod document;

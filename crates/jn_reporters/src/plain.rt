@@ -41,7 +41,7 @@ impl Plain {
 }
 
 impl Reporter for Plain {
-    ghost use Rattle.std.specs.Prelude.{codes};
+    ghost use Rattle.std.specs.Prelude.{codes, false};
     ghost use Rattle.jn_reporters.specs.Reports.{plain_shown};
 
     ghost rows = { λ a. a.rows };
@@ -50,10 +50,16 @@ impl Reporter for Plain {
 
     ghost title = { λ a. codes "plain" };
 
+    ghost document = { λ a. false };
+
     ghost shown = { λ a. plain_shown };
 
     fn name(&self) -> &str {
         "plain"
+    }
+
+    fn is_document(&self) -> bool {
+        false
     }
 
     fn take(&mut self, row: &RowText) -> Result<(), OutOfMemory> {

@@ -1,5 +1,5 @@
 //! What a reporter is.
-ghost use Rattle.std.specs.Prelude.{◌≡◌, ◌++◌, ◌∷◌, [], ℕ, List, Option, Some, OnOk, OnErr};
+ghost use Rattle.std.specs.Prelude.{◌≡◌, ◌++◌, ◌∷◌, [], ℕ, Bool, List, Option, Some, OnOk, OnErr};
 ghost use Rattle.jn_diag.specs.declared.shown.RowText.{RowText};
 ghost use Rattle.jn_diag.specs.declared.shown.Verdict.{Verdict};
 
@@ -17,6 +17,9 @@ pub trait Reporter: Drop {
     /// The name by which the reporter is chosen.
     ghost title: { Self → List ℕ };
 
+    /// Whether the bytes are one document, before which no line can stand.
+    ghost document: { Self → Bool };
+
     /// The bytes that the reporter makes of rows and a verdict.
     ghost shown: { Self → List RowText → Option Verdict → List ℕ };
 
@@ -24,12 +27,17 @@ pub trait Reporter: Drop {
     fn name(&self) -> &str
         ensures { result.now ≡ title self.now };
 
+    /// Whether the bytes are one document, before which no line can stand.
+    fn is_document(&self) -> bool
+        ensures { result ≡ document self.now };
+
     /// Takes the row behind the others. On want of memory the reporter is as before.
     fn take(&mut self, row: &RowText) -> Result<(), OutOfMemory>
         ensures ok { OnOk result (rows self.new ≡ rows self.old ++ row.now ∷ []) }
         ensures err { OnErr result (self.new ≡ self.old) }
         ensures given { given self.new ≡ given self.old }
         ensures title { title self.new ≡ title self.old }
+        ensures document { document self.new ≡ document self.old }
         ensures shown { shown self.new ≡ shown self.old };
 
     /// Gives the verdict, in place of an earlier one. On want of memory the reporter is as before.
@@ -38,6 +46,7 @@ pub trait Reporter: Drop {
         ensures err { OnErr result (self.new ≡ self.old) }
         ensures rows { rows self.new ≡ rows self.old }
         ensures title { title self.new ≡ title self.old }
+        ensures document { document self.new ≡ document self.old }
         ensures shown { shown self.new ≡ shown self.old };
 
     /// The bytes of the rows and the verdict so far.

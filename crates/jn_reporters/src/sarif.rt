@@ -1,5 +1,5 @@
 //! The report in SARIF.
-ghost use Rattle.std.specs.Prelude.{◌≡◌, ◌++◌, ◌∷◌, [], IfOk, OnOk};
+ghost use Rattle.std.specs.Prelude.{◌≡◌, ◌++◌, ◌∷◌, [], true, IfOk, OnOk};
 ghost use Rattle.jn_reporters.specs.Sarif as spec;
 
 use crate::codes::{all, place};
@@ -14,9 +14,10 @@ use std::alloc::{AllocError, Global};
 /// Shows a log of one run in SARIF 2.1.0.
 pub type Sarif = Document<SarifLog>;
 
-/// What it shows of rows and a verdict is `sarif_shown`.
+/// What it shows of rows and a verdict is `sarif_shown`, one document.
 pub fn sarif_shows(reporter: &Sarif)
-    ensures { ⟦<Sarif as Reporter>⟧.shown reporter.now ≡ spec.sarif_shown }
+    ensures shown { ⟦<Sarif as Reporter>⟧.shown reporter.now ≡ spec.sarif_shown }
+    ensures document { ⟦<Sarif as Reporter>⟧.document reporter.now ≡ true }
 {}
 
 /// A log of one run in SARIF 2.1.0: a rule for each code that occurs, and a result for each row.

@@ -47,7 +47,7 @@ impl Summary {
 }
 
 impl Reporter for Summary {
-    ghost use Rattle.std.specs.Prelude.{codes};
+    ghost use Rattle.std.specs.Prelude.{codes, false};
     ghost use Rattle.jn_reporters.specs.Reports.{summary_shown};
 
     ghost rows = { λ a. a.rows };
@@ -56,10 +56,16 @@ impl Reporter for Summary {
 
     ghost title = { λ a. codes "summary" };
 
+    ghost document = { λ a. false };
+
     ghost shown = { λ a. summary_shown };
 
     fn name(&self) -> &str {
         "summary"
+    }
+
+    fn is_document(&self) -> bool {
+        false
     }
 
     fn take(&mut self, row: &RowText) -> Result<(), OutOfMemory> {

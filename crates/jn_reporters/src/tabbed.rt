@@ -41,7 +41,7 @@ impl Tabbed {
 }
 
 impl Reporter for Tabbed {
-    ghost use Rattle.std.specs.Prelude.{codes};
+    ghost use Rattle.std.specs.Prelude.{codes, false};
     ghost use Rattle.jn_reporters.specs.Reports.{tabbed_shown};
 
     ghost rows = { λ a. a.rows };
@@ -50,10 +50,16 @@ impl Reporter for Tabbed {
 
     ghost title = { λ a. codes "tabbed" };
 
+    ghost document = { λ a. false };
+
     ghost shown = { λ a. tabbed_shown };
 
     fn name(&self) -> &str {
         "tabbed"
+    }
+
+    fn is_document(&self) -> bool {
+        false
     }
 
     fn take(&mut self, row: &RowText) -> Result<(), OutOfMemory> {

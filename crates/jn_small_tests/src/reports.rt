@@ -122,11 +122,21 @@ fn checkstyle_has_an_element_for_each_run_of_a_file(rt: HostRuntime) {
         rt.alloc(),
         &mut checkstyle,
         &[
-            ("&<>\"'\t\u{1}\u{e9}.java", 3, 18, Code::NewArray),
-            ("&<>\"'\t\u{1}\u{e9}.java", 5, 5, Code::Deref),
+            (
+                "&<>\"'\t\u{1}\u{fffe}\u{ffff}\u{ffbe}\u{e9}.java",
+                3,
+                18,
+                Code::NewArray,
+            ),
+            (
+                "&<>\"'\t\u{1}\u{fffe}\u{ffff}\u{ffbe}\u{e9}.java",
+                5,
+                5,
+                Code::Deref,
+            ),
             ("V.java", 1, 1, Code::L1),
         ],
-        "<?xml version=\"1.0\" encoding=\"UTF-8\"?>\n<checkstyle version=\"4.3\">\n  <file name=\"&amp;&lt;&gt;&quot;&apos;&#9;\u{fffd}\u{e9}.java\">\n    <error line=\"3\" column=\"18\" severity=\"error\" message=\"NEW-ARRAY: new-array\" source=\"nullcheck.NEW-ARRAY\"/>\n    <error line=\"5\" column=\"5\" severity=\"error\" message=\"DEREF: deref\" source=\"nullcheck.DEREF\"/>\n  </file>\n  <file name=\"V.java\">\n    <error line=\"1\" column=\"1\" severity=\"error\" message=\"L1: not UTF-8\" source=\"nullcheck.L1\"/>\n  </file>\n</checkstyle>\n",
+        "<?xml version=\"1.0\" encoding=\"UTF-8\"?>\n<checkstyle version=\"4.3\">\n  <file name=\"&amp;&lt;&gt;&quot;&apos;&#9;\u{fffd}\u{fffd}\u{fffd}\u{ffbe}\u{e9}.java\">\n    <error line=\"3\" column=\"18\" severity=\"error\" message=\"NEW-ARRAY: new-array\" source=\"nullcheck.NEW-ARRAY\"/>\n    <error line=\"5\" column=\"5\" severity=\"error\" message=\"DEREF: deref\" source=\"nullcheck.DEREF\"/>\n  </file>\n  <file name=\"V.java\">\n    <error line=\"1\" column=\"1\" severity=\"error\" message=\"L1: not UTF-8\" source=\"nullcheck.L1\"/>\n  </file>\n</checkstyle>\n",
     );
 }
 
