@@ -100,12 +100,12 @@ module _ (Defined : Status → List ℕ → Type 0) (Part Unread : Type 0) (old 
 -- by what, for a choice of members that are inferred, a report of files is, what is promised of files that are accepted, what a run of so many steps of their main with these words comes to, and what it prints
 module _ (IsReport : Infer → List SourceFile → Report → Type 0) (IsSafe : Infer → List SourceFile → Type 0) (RunsTo : Infer → List SourceFile → List (List ℕ) → ℕ → Status → List ℕ → Type 0) (Prints : Infer → List SourceFile → List (List ℕ) → ℕ → List ℕ → Type 0) where
   module _ (a : Asked) (files : List SourceFile) where
-    -- status and bytes are those of the report of the files, behind the line of a program that is made; the files are safe where the status is that of acceptance
+    -- status and bytes are those of the report of the files, behind the line of a program that is made, which no document takes; the files are safe where the status is that of acceptance
     pub record IsReportOfFiles (status : Status) (bytes : List ℕ) : Type 0 where
       pub report : Report
       pub is : IsReport a.command.infer files report
       pub ends : status ≡ status_of report
-      pub shows : bytes ≡ front_of a.command.classes ++ shown a.show files report
+      pub shows : bytes ≡ front_of a.document a.command.classes ++ shown a.show files report
       pub safe : status ≡ Ok → IsSafe a.command.infer files
 
     -- they are those of the run of accepted files, which are safe

@@ -1,5 +1,5 @@
 -- The program that a command makes in place of files.
-use Rattle.std.specs.Prelude.{◌≡◌, ℕ, zero, suc, ◌++◌, List, [], ◌∷◌, length, codes, decimal}
+use Rattle.std.specs.Prelude.{◌≡◌, ℕ, Bool, zero, suc, ◌++◌, List, [], ◌∷◌, length, codes, decimal, if◌then◌else◌}
 use Rattle.jn_gen.specs.Generated.{program_lines, text_of}
 use Rattle.jn_front.specs.declared.source.SourceFile.{SourceFile}
 
@@ -9,10 +9,14 @@ made_text classes = text_of (program_lines classes)
 abbrev pub made_file : List ℕ → SourceFile
 made_file text = record { name = codes "Gen.java"; bytes = text }
 
-abbrev pub made_line : ℕ → ℕ → List ℕ
-made_line classes size = codes "generated " ++ decimal classes ++ codes " classes, " ++ decimal size ++ codes " bytes\n"
+abbrev pub size_line : ℕ → ℕ → List ℕ
+size_line classes size = codes "generated " ++ decimal classes ++ codes " classes, " ++ decimal size ++ codes " bytes\n"
+
+-- before a report that is one document no line stands
+abbrev pub made_line : Bool → ℕ → ℕ → List ℕ
+made_line document classes size = if document then [] else size_line classes size
 
 -- what stands before a report: nothing, or how large the program is that was made
-abbrev pub front_of : ℕ → List ℕ
-front_of zero = []
-front_of (suc n) = made_line (suc n) (length (made_text (suc n)))
+abbrev pub front_of : Bool → ℕ → List ℕ
+front_of document zero = []
+front_of document (suc n) = made_line document (suc n) (length (made_text (suc n)))

@@ -1,12 +1,13 @@
 -- Reporters as a command sees them, and which of them it takes.
-use Rattle.std.specs.Prelude.{ℕ, List, [], ◌∷◌, ◌++◌, Option, Some, None, if◌then◌else◌}
+use Rattle.std.specs.Prelude.{ℕ, Bool, List, [], ◌∷◌, ◌++◌, Option, Some, None, if◌then◌else◌}
 use Rattle.std.specs.Str.{bytes_eq}
 use Rattle.jn_diag.specs.declared.shown.RowText.{RowText}
 use Rattle.jn_diag.specs.declared.shown.Verdict.{Verdict}
 
--- a reporter: its name, the rows that it took so far, and the bytes that it makes of rows and a verdict
+-- a reporter: its name, whether its bytes are one document, the rows that it took so far, and the bytes that it makes of rows and a verdict
 pub record Form : Type 0 where
   pub title : List ℕ
+  pub document : Bool
   pub rows : List RowText
   pub shown : List RowText → Option Verdict → List ℕ
 

@@ -29,12 +29,16 @@ pub fn read_asked(
     reporters: Vec<Box<dyn Reporter>>,
 ) -> Result<Asked, Fail<Usage>>
     ensures asked { IfOk result (λ a. asked_of
-        (map (λ b. record { title = title b; rows = rows b; shown = shown b }) reporters.items)
+        (map
+        (λ b. record { title = title b; document = document b; rows = rows b; shown = shown b })
+        reporters.items)
         (map string_bytes words.now)
-        ≡ Some (asked a.command
+        ≡ Some (asked a.command (document a.reporter.reporter)
         (shown_behind (rows a.reporter.reporter) (shown a.reporter.reporter)))) }
     ensures usage { IfRefused result (asked_of
-        (map (λ b. record { title = title b; rows = rows b; shown = shown b }) reporters.items)
+        (map
+        (λ b. record { title = title b; document = document b; rows = rows b; shown = shown b })
+        reporters.items)
         (map string_bytes words.now)
         ≡ None) }
     ensures workers { IfOk result (λ a. (1 ≤ a.command.workers) × (a.command.workers ≤ 16)) }

@@ -20,10 +20,16 @@ impl Reporter for Chosen {
 
     ghost title = { λ a. (Reporter-box a.reporter).title a.reporter.value };
 
+    ghost document = { λ a. (Reporter-box a.reporter).document a.reporter.value };
+
     ghost shown = { λ a. (Reporter-box a.reporter).shown a.reporter.value };
 
     fn name(&self) -> &str {
         self.reporter.name()
+    }
+
+    fn is_document(&self) -> bool {
+        self.reporter.is_document()
     }
 
     fn take(&mut self, row: &RowText) -> Result<(), OutOfMemory> {
@@ -42,10 +48,16 @@ impl Reporter for Chosen {
 /// The first reporter of the list that has the name.
 pub fn choose(reporters: Vec<Box<dyn Reporter>>, name: &str) -> Option<Chosen>
     ensures { first_named name.now
-        (map (λ b. record { title = title b; rows = rows b; shown = shown b }) reporters.items)
+        (map
+        (λ b. record { title = title b; document = document b; rows = rows b; shown = shown b })
+        reporters.items)
         ≡ option_map
-        (λ a. record
-        { title = title a.reporter; rows = rows a.reporter; shown = shown a.reporter })
+        (λ a. record {
+          title = title a.reporter;
+          document = document a.reporter;
+          rows = rows a.reporter;
+          shown = shown a.reporter;
+        })
         result }
 {
     for reporter in reporters {

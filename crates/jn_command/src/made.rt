@@ -11,10 +11,18 @@ use std::alloc::{AllocError, Global};
 /// The greatest number of bytes of a file that is checked.
 const LIMIT: usize = 1_048_576;
 
-/// The line that tells how large the program is.
-pub fn made_line(alloc: Global, classes: u32, size: usize) -> Result<Vec<u8>, AllocError>
-    ensures { IfOk result (λ line. line.items ≡ made_line classes size) }
+/// The line that tells how large the program is; nothing before a report that is one document.
+pub fn made_line(
+    alloc: Global,
+    document: bool,
+    classes: u32,
+    size: usize,
+) -> Result<Vec<u8>, AllocError>
+    ensures { IfOk result (λ line. line.items ≡ made_line document classes size) }
 {
+    if document {
+        return Ok(Vec::new(alloc));
+    }
     let mut line = Vec::from_slice(alloc, b"generated ")?;
     line.extend_from_slice(Buffer::new().format(classes).as_bytes())?;
     line.extend_from_slice(b" classes, ")?;
