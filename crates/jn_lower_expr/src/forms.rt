@@ -7,6 +7,7 @@ ghost use Rattle.jn_lower_expr.specs.Lowering as spec;
 use jn_base::{FieldNo, MethodNo, NameNo};
 use jn_scopes::forms::is_null;
 use jn_scopes::members::{field_of, method_of};
+use jn_scopes::types::is_equality;
 use jn_scopes::{Context, Meaning};
 use jn_trees::{BinaryOperator, Expr, Literal, UnaryOperator};
 
@@ -66,17 +67,6 @@ pub fn is_tested(tree: &Expr) -> bool
         Expr::Literal { literal, .. } => !is_constant(*literal),
         Expr::Paren { .. } => false,
         _ => !is_connective(tree),
-    }
-}
-
-/// Whether the operator is `==` or `!=`.
-pub fn is_equality(operator: BinaryOperator) -> bool
-    ensures { result ≡ spec.is_equality operator }
-{
-    match operator {
-        BinaryOperator::Equal => true,
-        BinaryOperator::NotEqual => true,
-        _ => false,
     }
 }
 

@@ -11,7 +11,7 @@ use crate::annotations::{
 };
 use crate::notes::{local_notes, notes, notes_but_override};
 use crate::row::{push, push_if};
-use jn_base::{Code, Row, Seq};
+use jn_base::{Code, Row, Seq, Span};
 use jn_known::{CHECKERFRAMEWORK, ORG};
 use jn_trees::{
     Base, Declarator, Expr, FileTree, Identifier, Import, Literal, Member, Modifier, PackageLine,
@@ -207,6 +207,40 @@ fn field_type_rows(
     type_rows(rows, type_use, OF_FIELD, &notes)
 }
 
+fn mark_span(modifier: Modifier) -> Span
+    ensures { result ≡ spec.mark_span modifier }
+{
+    match modifier {
+        Modifier::Annotation(annotation) => annotation.span,
+        Modifier::Public(span) => span,
+        Modifier::Protected(span) => span,
+        Modifier::Private(span) => span,
+        Modifier::Static(span) => span,
+        Modifier::Final(span) => span,
+        Modifier::Abstract(span) => span,
+    }
+}
+
+fn base_span(base: Base) -> Span
+    ensures { result ≡ spec.base_span base }
+{
+    match base {
+        Base::Class(name) => name.span,
+        Base::Int(span) => span,
+        Base::Boolean(span) => span,
+    }
+}
+
+/// The first token of a field's declaration, where an annotation counts as one.
+fn first_mark(modifiers: &[Modifier], type_use: &TypeUse) -> Span
+    ensures { result ≡ spec.first_mark modifiers.now (placed_type_use type_use.now) }
+{
+    match modifiers {
+        [] => base_span(type_use.base),
+        [first, ..] => mark_span(*first),
+    }
+}
+
 /// The rows of a member's head: its annotations, the names that it declares, and how its fields start.
 fn head_rows(
     alloc: Global,
@@ -223,16 +257,17 @@ fn head_rows(
             type_use,
             first,
             more,
-            span,
+            ..
         } => {
             field_type_rows(alloc, rows, type_use, modifiers)?;
             name_row(rows, first.name)?;
             names_rows(rows, more)?;
+            let at = first_mark(modifiers, type_use);
             if interface {
-                push(rows, Code::J5, *span)
+                push(rows, Code::J5, at)
             } else {
                 let wrong = has_static(modifiers) && !is_static_start(type_use, first, more);
-                push_if(rows, wrong, Code::J5, *span)
+                push_if(rows, wrong, Code::J5, at)
             }
         }
         Member::Method {

@@ -2,7 +2,6 @@
 ghost use Rattle.std.specs.Prelude.{◌≡◌, ◌++◌, ◌&&◌, ◌||◌, true, eqb, not, OnOk};
 ghost use Rattle.jn_points.specs.Lookup.{field_info, owner};
 ghost use Rattle.jn_lowering.specs.Calls.{is_static};
-ghost use Rattle.jn_lowering.specs.Forms.{references};
 ghost use Rattle.jn_lowering.specs.Annotations as annotated;
 ghost use Rattle.jn_lowering.specs.ExpressionRows as spec;
 ghost use Rattle.jn_places.specs.PlacedView.{placed_view};
@@ -14,11 +13,11 @@ use crate::members::{is_final, is_own, known_class};
 use crate::row::{push, push_if};
 use crate::setting::Setting;
 use jn_base::{Code, FieldNo, Row, Seq, Span};
+use jn_points::BaseType;
 use jn_points::lookup::is_reference;
-use jn_points::{BaseType, Operator};
 use jn_scopes::forms::span_of;
 use jn_scopes::members::is_static_field;
-use jn_scopes::types::{is_class_use, operator_of};
+use jn_scopes::types::{is_class_use, is_equality};
 use jn_scopes::{Access, Context, Faults, Meaning};
 use jn_trees::{Annotation, Base, BinaryOperator, Expr};
 use std::alloc::AllocError;
@@ -216,16 +215,6 @@ pub fn array_rows(
     base_rows(rows, c, base)
 }
 
-fn compares_references(operator: Operator, left: BaseType, right: BaseType) -> bool
-    ensures { result ≡ references operator left right }
-{
-    match operator {
-        Operator::Equal => is_reference(left) && is_reference(right),
-        Operator::NotEqual => is_reference(left) && is_reference(right),
-        _ => false,
-    }
-}
-
 fn is_wide(c: &Context, base: BaseType) -> bool
     ensures { result ≡ spec.is_wide c.now.program.now base }
 {
@@ -233,6 +222,12 @@ fn is_wide(c: &Context, base: BaseType) -> bool
         BaseType::Ref(class) => class.0 == 0 || class.0 == 1,
         _ => false,
     }
+}
+
+fn are_wide_references(c: &Context, left: BaseType, right: BaseType) -> bool
+    ensures { result ≡ spec.wide_references c.now.program.now left right }
+{
+    is_reference(left) && is_reference(right) && (is_wide(c, left) || is_wide(c, right))
 }
 
 /// J5: references are compared of which one may be a String (JLS 15.21.3), but not with `null`.
@@ -248,8 +243,6 @@ pub fn equality_rows(
     ensures { OnOk result (rows.new
         ≡ rows.old ++ spec.equality_rows c.now.program.now operator null left right span) }
 {
-    let wrong = !null
-        && compares_references(operator_of(operator), left, right)
-        && (is_wide(c, left) || is_wide(c, right));
+    let wrong = is_equality(operator) && (!null && are_wide_references(c, left, right));
     push_if(rows, wrong, Code::J5, span)
 }

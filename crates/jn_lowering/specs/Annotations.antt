@@ -13,6 +13,8 @@ use Rattle.jn_known.specs.Known.{non_null_name, nullable_name, initialized_name,
 use Rattle.jn_lowering.specs.Scopes.{class_named}
 use Rattle.jn_lowering.specs.Bases.{is_class_use}
 
+-- A row J5 has the span of what is not taken: an annotation, a name, an import, a package line or an equality. For a field's declaration as a whole it is that of its first token, where an annotation counts as one. So what isn't taken for two reasons has one row: rows equal in span and code stand once.
+
 -- one row
 abbrev pub row : Code → Span → List Row
 row code span = record { span = span; code = code } ∷ []

@@ -8,7 +8,7 @@ use Rattle.jn_trees.specs.declared.expression.Literal.TheVariants.{Number, Str a
 use Rattle.jn_trees.specs.declared.expression.UnaryOperator.{UnaryOperator}
 use Rattle.jn_trees.specs.declared.expression.UnaryOperator.TheVariants.{Not}
 use Rattle.jn_trees.specs.declared.expression.BinaryOperator.{BinaryOperator}
-use Rattle.jn_trees.specs.declared.expression.BinaryOperator.TheVariants.{Multiply, Divide, Remainder, Add, Subtract, Less, Greater, LessEqual, GreaterEqual, NotEqual}
+use Rattle.jn_trees.specs.declared.expression.BinaryOperator.TheVariants.{Multiply, Divide, Remainder, Add, Subtract, Less, Greater, LessEqual, GreaterEqual, Equal, NotEqual, And, Or}
 use Rattle.jn_trees.specs.declared.expression.AssignOperator.{AssignOperator}
 use Rattle.jn_trees.specs.declared.expression.AssignOperator.TheVariants.{Assign, Subtract as SubtractFrom, Multiply as MultiplyBy, Divide as DivideBy, Remainder as RemainderBy}
 use Rattle.jn_points.specs.declared.point.Operator.{Operator}
@@ -37,7 +37,13 @@ literal_type (Text n) = string_base
 literal_type NullLiteral = Null
 literal_type l = BoolBase
 
--- the operator of a point for a tree's; `&&` and `||` have none of their own
+-- `==` and `!=` (JLS 8, 15.21)
+abbrev pub is_equality : BinaryOperator → Bool
+is_equality Equal = true
+is_equality NotEqual = true
+is_equality o = false
+
+-- the operator of a point for a tree's; `&&` and `||` are in no point, and of theirs the type alone is asked, which is that of `==`
 abbrev pub operator_of : BinaryOperator → Operator
 operator_of Multiply = Product
 operator_of Divide = Quotient
@@ -49,7 +55,9 @@ operator_of Greater = Above
 operator_of LessEqual = AtMost
 operator_of GreaterEqual = AtLeast
 operator_of NotEqual = Other
-operator_of o = Same
+operator_of Equal = Same
+operator_of And = Same
+operator_of Or = Same
 
 -- the operator of a compound assignment; a simple one has none
 abbrev pub compound_of : AssignOperator → Operator

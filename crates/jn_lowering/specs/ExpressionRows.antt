@@ -13,13 +13,12 @@ use Rattle.jn_points.specs.declared.program.Field.{Field}
 use Rattle.jn_points.specs.declared.program.Method.{Method}
 use Rattle.jn_points.specs.declared.program.Program.{Program}
 use Rattle.jn_points.specs.BaseRows.{is_string}
-use Rattle.jn_points.specs.Lookup.{is_array, class_info, class_of, field_info, interface_of, method_at, owner, private_of, static_of}
+use Rattle.jn_points.specs.Lookup.{is_array, is_ref_base, class_info, class_of, field_info, interface_of, method_at, owner, private_of, static_of}
 use Rattle.jn_points.specs.Members.{constructor_of, field_of, method_of}
 use Rattle.jn_places.specs.Placed.{PlacedTree, PlacedTrees, NoPlacedTrees, MorePlacedTrees, PlacedLiteral, PlacedName, PlacedThis, PlacedParen, PlacedField, PlacedCall, PlacedOwnCall, PlacedSuperCall, PlacedIndex, PlacedNew, PlacedNewArray, PlacedArrayOf, PlacedPostfix, PlacedPrefix, PlacedUnary, PlacedCast, PlacedBinary, PlacedInstanceOf, PlacedConditional, PlacedAssign}
 use Rattle.jn_known.specs.Known.{equals_name, length_name, is_object_member}
 use Rattle.jn_lowering.specs.Scopes.{Scope, Meaning, LocalMeant, FieldMeant, ClassMeant, SystemMeant, Access, ClassField, ObjectField, ArrayLength, NoField, Callee, Println, OfText, access, before_dot, callee, class_named, count, meaning, super_method, text_callee}
-use Rattle.jn_lowering.specs.Bases.{is_class_use, operator_of, type_of}
-use Rattle.jn_lowering.specs.Forms.{references}
+use Rattle.jn_lowering.specs.Bases.{is_class_use, is_equality, type_of}
 use Rattle.jn_lowering.specs.Calls.{is_static}
 use Rattle.jn_lowering.specs.Expressions.{is_null, span_of}
 use Rattle.jn_lowering.specs.Annotations.{annotation_rows, base_rows, known_class, nullity_alone, row, unless, when}
@@ -162,14 +161,18 @@ module _ (P : Program) where
   abbrev pub array_rows : Base → List Annotation → List Row
   array_rows base annotations = annotation_rows nullity_alone (is_class_use base) annotations ++ base_rows P base
 
-  -- equality of references of which one is an Object or a String
+  -- Object or String
   abbrev pub is_wide : BaseType → Bool
   is_wide (Ref k) = eqb k.0 0 || eqb k.0 1
   is_wide base = false
 
-  -- J5: such an equality, but with `null`
+  -- references of which one is an Object or a String
+  abbrev pub wide_references : BaseType → BaseType → Bool
+  wide_references a b = (is_ref_base a && is_ref_base b) && (is_wide a || is_wide b)
+
+  -- J5: `==` or `!=` of such (JLS 8, 15.21.3), but with `null`
   abbrev pub equality_rows : BinaryOperator → Bool → BaseType → BaseType → Span → List Row
-  equality_rows o null a b span = when (not null && (references (operator_of o) a b && (is_wide a || is_wide b))) (row J5 span)
+  equality_rows o null a b span = when (is_equality o && (not null && wide_references a b)) (row J5 span)
 
   module _ (c : ℕ) (at : Setting) where
     -- an implicit `this` must stand (JLS 8, 8.3.3 and 8.8.7.1)

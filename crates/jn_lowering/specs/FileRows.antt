@@ -2,8 +2,9 @@
 use Rattle.std.specs.Prelude.{Bool, true, false, cond, not, ◌&&◌, ◌||◌, eqb, List, [], ◌∷◌, ◌++◌, Option, Some, None}
 use Rattle.jn_base.specs.declared.code.Code.TheVariants.{J5}
 use Rattle.jn_base.specs.declared.place.Row.{Row}
+use Rattle.jn_base.specs.declared.place.Span.{Span}
 use Rattle.jn_trees.specs.declared.declaration.Modifier.{Modifier}
-use Rattle.jn_trees.specs.declared.declaration.Modifier.TheVariants.{Annotation as NoteOf, Static}
+use Rattle.jn_trees.specs.declared.declaration.Modifier.TheVariants.{Annotation as NoteOf, Public, Protected, Private, Static, Final, Abstract}
 use Rattle.jn_trees.specs.declared.expression.Annotation.{Annotation}
 use Rattle.jn_trees.specs.declared.expression.Base.{Base}
 use Rattle.jn_trees.specs.declared.expression.Base.TheVariants.{Class as ClassUse, Int as IntUse, Boolean as BooleanUse}
@@ -95,6 +96,27 @@ is_plain (Some brackets) = false
 abbrev pub is_static_start : PlacedTypeUse → List PlacedDeclarator → Bool
 is_static_start u ds = is_primitive_base u.base && is_plain u.array && all_start u.base ds
 
+-- where a modifier stands; an annotation counts as one token
+abbrev pub mark_span : Modifier → Span
+mark_span (NoteOf a) = a.span
+mark_span (Public span) = span
+mark_span (Protected span) = span
+mark_span (Private span) = span
+mark_span (Static span) = span
+mark_span (Final span) = span
+mark_span (Abstract span) = span
+
+-- where a type's name stands
+abbrev pub base_span : Base → Span
+base_span (ClassUse n) = n.span
+base_span (IntUse span) = span
+base_span (BooleanUse span) = span
+
+-- the first token of a field's declaration
+abbrev pub first_mark : List Modifier → PlacedTypeUse → Span
+first_mark [] u = base_span u.base
+first_mark (m ∷ ms) u = mark_span m
+
 -- declared fields' names
 abbrev pub names_rows : List PlacedDeclarator → List Row
 names_rows [] = []
@@ -119,7 +141,7 @@ receiver_rows (Some r) = annotation_rows initialization_alone true r.annotations
 abbrev pub head_rows : Bool → PlacedMember → List Row
 head_rows interface (PlacedFieldMember marks u d ds span) =
     type_rows u of_field (notes_of marks) ++ (names_rows (d ∷ ds)
-    ++ cond interface (row J5 span) (when (has_static marks && not (is_static_start u (d ∷ ds))) (row J5 span)))
+    ++ cond interface (row J5 (first_mark marks u)) (when (has_static marks && not (is_static_start u (d ∷ ds))) (row J5 (first_mark marks u))))
 head_rows interface (PlacedMethod marks result name receiver parameters body span) =
     name_row name.name.0 name.span ++ (result_rows result (without_override (notes_of marks)) ++ (receiver_rows receiver ++ parameter_rows parameters))
 head_rows interface (PlacedConstructor marks name parameters body span) = annotation_rows both_kinds true (notes_of marks) ++ parameter_rows parameters

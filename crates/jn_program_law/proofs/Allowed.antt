@@ -32,7 +32,7 @@ use Rattle.jn_classtable.proofs.Lists.{append_at, append_empty, map_at}
 use Rattle.jn_classtable.proofs.Classes.{head_interface}
 use Rattle.jn_classtable.proofs.Numbering.{FieldFrom, fields_from_at}
 use Rattle.jn_lowering.specs.Annotations.{annotation_rows, both_kinds, name_row, of_field, row, type_rows, when}
-use Rattle.jn_lowering.specs.FileRows.{all_start, declared_type_rows, files_rows, has_static, head_rows, heads_rows, import_rows, is_plain, is_primitive_base, is_static_mark, is_static_start, is_truth_literal, is_truth_start, names_rows, notes_of, outside_rows, package_behind, package_row, starts, types_rows}
+use Rattle.jn_lowering.specs.FileRows.{all_start, declared_type_rows, files_rows, first_mark, has_static, head_rows, heads_rows, import_rows, is_plain, is_primitive_base, is_static_mark, is_static_start, is_truth_literal, is_truth_start, names_rows, notes_of, outside_rows, package_behind, package_row, starts, types_rows}
 
 -- what a field's head must be
 pub record AllowedField (hs : List ClassHead) (f : FieldHead) : Type 0 where
@@ -112,7 +112,7 @@ module _ (hs : List ClassHead) where
   class_member : (x : PlacedMember) → head_rows false x ≡ [] → (j : ℕ) (f : FieldHead) → slice_get (field_heads x) j ≡ Some f → AllowedField hs f
   class_member (PlacedFieldMember marks u d ds span) h j f at =
       let m = map_at (field_head marks u) (d ∷ ds) j f at in
-      let e : (has_static marks && not (is_static_start u (d ∷ ds))) ≡ false = when_empty (has_static marks && not (is_static_start u (d ∷ ds))) span (last_empty marks u (d ∷ ds) (when (has_static marks && not (is_static_start u (d ∷ ds))) (row J5 span)) h) in
+      let e : (has_static marks && not (is_static_start u (d ∷ ds))) ≡ false = when_empty (has_static marks && not (is_static_start u (d ∷ ds))) (first_mark marks u) (last_empty marks u (d ∷ ds) (when (has_static marks && not (is_static_start u (d ∷ ds))) (row J5 (first_mark marks u))) h) in
       subst (AllowedField hs) (sym m.2) (started marks u (d ∷ ds) j m.0 e m.1)
   class_member (PlacedMethod ms result n receiver ps body s) h j f at = cc
   class_member (PlacedConstructor ms n ps body s) h j f at = cc
@@ -121,7 +121,7 @@ module _ (hs : List ClassHead) where
   no_rows s h = cc
 
   interface_member : (x : PlacedMember) → head_rows true x ≡ [] → (j : ℕ) (f : FieldHead) → slice_get (field_heads x) j ≡ Some f → ⊥
-  interface_member (PlacedFieldMember marks u d ds span) h j f at = no_rows span (last_empty marks u (d ∷ ds) (row J5 span) h)
+  interface_member (PlacedFieldMember marks u d ds span) h j f at = no_rows (first_mark marks u) (last_empty marks u (d ∷ ds) (row J5 (first_mark marks u)) h)
   interface_member (PlacedMethod ms result n receiver ps body s) h j f at = cc
   interface_member (PlacedConstructor ms n ps body s) h j f at = cc
 

@@ -34,7 +34,18 @@ pub fn literal_type(literal: Literal) -> BaseType
     }
 }
 
-/// The operator of a point for a tree's; `&&` and `||` have none of their own.
+/// Whether the operator is `==` or `!=` (JLS 15.21).
+pub fn is_equality(operator: BinaryOperator) -> bool
+    ensures { result ≡ spec.is_equality operator }
+{
+    match operator {
+        BinaryOperator::Equal => true,
+        BinaryOperator::NotEqual => true,
+        _ => false,
+    }
+}
+
+/// The operator of a point for a tree's; `&&` and `||` are in no point.
 pub fn operator_of(operator: BinaryOperator) -> Operator
     ensures { result ≡ spec.operator_of operator }
 {
@@ -49,7 +60,9 @@ pub fn operator_of(operator: BinaryOperator) -> Operator
         BinaryOperator::LessEqual => Operator::LessEqual,
         BinaryOperator::GreaterEqual => Operator::GreaterEqual,
         BinaryOperator::NotEqual => Operator::NotEqual,
-        _ => Operator::Equal,
+        BinaryOperator::Equal => Operator::Equal,
+        BinaryOperator::And => Operator::Equal,
+        BinaryOperator::Or => Operator::Equal,
     }
 }
 
