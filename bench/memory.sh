@@ -92,7 +92,7 @@ for file in "$root"/examples/*.java; do
   cases+=("${file##*/}")
 done
 cases+=(
-  "Stack.java LinkedTexts.java Orders.java Outline.java Calculator.java"
+  "Stack.java Twice.java Later.java Greeting.java"
   "Lexical.java"
   "Syntax.java Lexical.java"
   "Circle.java"

@@ -7,7 +7,8 @@ Usage: bench/shapes.py PROGRAM [NAME..]
 
 Each shape is one piece of text that grows with a number, and as many copies of it as it takes until a run of one worker
 needs 0.05 s of a processor, user and system time together. Then the number alone is halved, and the best of five runs of
-both is taken (of up to fifteen where the ratio is too large). Where the limits of the subset (docs/LANGUAGE.md) come
+both is taken (of up to fifteen where the ratio is too large). Where the bytes are more than doubled with the number, the
+ratio is that of doubled bytes. Where the limits of the subset (docs/LANGUAGE.md) come
 first, the shape is too short to be judged, and its ratio stands in parentheses.
 
 Prints for each shape its number, its copies, its bytes, the seconds of the half and of the whole, their ratio, what 1
@@ -15,6 +16,7 @@ MiB of it takes in multiples of 1 MiB of members, and the last line of the repor
 than 2.3, a multiple greater than 20, a run ended by a signal or took more than 60 s, or a report isn't the one that the
 shape is made for."""
 
+import math
 import os
 import resource
 import signal
@@ -58,27 +60,27 @@ def _(n, k):
 
 
 # Values that are needed at once, and such as come one after the other.
-@shape("array of numbers", 500, 21000)
+@shape("array of numbers", 500, 16000)
 def _(n, k):
     return method(k, "", "    int[] a = new int[] { " + times(n, lambda i: str(i), ", ") + " };")
 
 
-@shape("array of texts", 500, 21000)
+@shape("array of texts", 500, 16000)
 def _(n, k):
     return method(k, "", "    String[] a = new String[] { " + times(n, lambda i: f'"t{i}"', ", ") + " };")
 
 
-@shape("array of nulls", 500, 21000)
+@shape("array of nulls", 500, 16000)
 def _(n, k):
     return method(k, "", "    @Nullable String[] a = new @Nullable String[] { " + times(n, lambda i: "null", ", ") + " };")
 
 
-@shape("array of objects", 500, 8000)
+@shape("array of objects", 500, 4000)
 def _(n, k):
     return method(k, "", f"    C{k}[] a = new C{k}[] {{ " + times(n, lambda i: f"new C{k}()", ", ") + " };")
 
 
-@shape("array of calls", 500, 8000)
+@shape("array of calls", 500, 4000)
 def _(n, k):
     return f"class C{k} {{\n  int g(int x) {{ return x; }}\n  int[] f() {{ return new int[] {{ " + times(n, lambda i: f"g({i})", ", ") + " }; }\n}\n"
 
@@ -193,9 +195,9 @@ def _(n, k):
     return method(k, "Object o", "    Object x = " + f"(C{k}) " * n + "o;")
 
 
-@shape("casts, one by one", 500)
+@shape("casts, one by one", 500, 16000)
 def _(n, k):
-    return method(k, "Object o", f"    C{k} x;\n" + f"    x = (C{k}) o;\n" * n) if n <= 20000 else method(k, "", "")
+    return method(k, "Object o", f"    C{k} x;\n" + f"    x = (C{k}) o;\n" * n)
 
 
 @shape("assignments in one", 60, 480)
@@ -203,18 +205,18 @@ def _(n, k):
     return method(k, "int x", "    " + "x = " * n + "1;")
 
 
-@shape("updates", 60, 20000)
+@shape("updates", 60, 16000)
 def _(n, k):
     return method(k, "int x", "    for (; x < 1; " + times(n, lambda i: "x++", ", ") + ") { }")
 
 
-@shape("first expressions", 60, 20000)
+@shape("first expressions", 60, 16000)
 def _(n, k):
     return method(k, "int x", "    for (" + times(n, lambda i: f"x = {i}", ", ") + "; x < 1; ) { }")
 
 
 # Declarations.
-@shape("declarators", 60, 1000)
+@shape("declarators", 60, 500)
 def _(n, k):
     return method(k, "", "    int " + times(n, lambda i: f"a{i} = {i}", ", ") + ";")
 
@@ -229,7 +231,7 @@ def _(n, k):
     return method(k, "int a0", times(n, lambda i: f"    int a{i + 1} = a{i};\n"))
 
 
-@shape("locals of a for", 60, 1000)
+@shape("locals of a for", 60, 500)
 def _(n, k):
     return method(k, "", "    for (int " + times(n, lambda i: f"a{i} = {i}", ", ") + "; ; ) { }") .replace("\n    return 0;", "")
 
@@ -488,8 +490,8 @@ def _(n, k):
 
 @shape("constructors along a chain", 64, 4000, copies=1)
 def _(n, k):
-    return ("class A0 { String s; A0() { s = \"\"; } }\n"
-            + times(n - 1, lambda i: f"class A{i + 1} extends A{i} {{ String s{i}; A{i + 1}() {{ super(); s{i} = s; }} }}\n"))
+    return ("class A0 { String s; A0(String x) { s = x; } }\n"
+            + times(n - 1, lambda i: f"class A{i + 1} extends A{i} {{ String s{i}; A{i + 1}(String x) {{ super(x); s{i} = x; }} }}\n"))
 
 
 # Statements.
@@ -528,12 +530,12 @@ def _(n, k):
     return method(k, "", times(n, lambda i: f"{{ int a{i} = {i}; ") + "}" * n)
 
 
-@shape("blocks one by one", 500, 16000)
+@shape("blocks one by one", 60, 1000)
 def _(n, k):
     return method(k, "", "    { int a = 1; }\n" * n)
 
 
-@shape("locals that shadow none", 500, 16000)
+@shape("locals that shadow none", 60, 1000)
 def _(n, k):
     return method(k, "", times(n, lambda i: f"    {{ int a{i} = 1; }}\n"))
 
@@ -640,9 +642,9 @@ def _(n, k):
     return f"class C{k} {{\n{fields}  void f(C{k} a) {{\n" + times(n, lambda i: f"    if (a.g{i} == null) return;\n") + "  }\n}\n"
 
 
-@shape("bodies that break a rule", 250, 16000)
+@shape("bodies that break a rule", 250, 16000, says="rejected")
 def _(n, k):
-    return f"class C{k} {{\n" + times(n, lambda i: f"  int f{i}(@Nullable String s) {{ return s.length(); }}\n") + "}\n"  # rejected
+    return f"class C{k} {{\n" + times(n, lambda i: f"  int f{i}(@Nullable String s) {{ return s.length(); }}\n") + "}\n"
 
 
 @shape("rows in one line", 250, 16000, says="rejected")
@@ -919,6 +921,13 @@ def whole_of(program, shape):
         n, copies = larger
 
 
+def growth(half, whole):
+    """How much more time is needed where the bytes double: some shapes have more than twice the text at twice the number."""
+    ratio = whole.best / half.best
+    more = whole.made[1] / half.made[1]
+    return ratio ** (1 / math.log2(more)) if more > 2.2 else ratio
+
+
 def main():
     words = sys.argv[1:]
     if not words or not os.access(words[0], os.X_OK):
@@ -955,7 +964,7 @@ def main():
                 break
             half.time(RUNS)
             whole.time(RUNS)
-            ratio = whole.best / half.best
+            ratio = growth(half, whole)
             if ratio <= MOST_RATIO:
                 break
         wrong = []
