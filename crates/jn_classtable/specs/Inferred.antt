@@ -37,13 +37,19 @@ modifiers_of (PlacedFieldMember ms u d ds s) = ms
 modifiers_of (PlacedMethod ms result n receiver ps body s) = ms
 modifiers_of (PlacedConstructor ms n ps body s) = ms
 
+-- heads in which a member counts as private where it is inferred, which is all that its slots depend on
+abbrev pub mark_field : Bool → FieldHead → FieldHead
+mark_field inferred h = record h { is_private = inferred }
+
+abbrev pub mark_method : Bool → MethodHead → MethodHead
+mark_method inferred h = record h { is_private = inferred }
+
 module _ (infer : Infer) where
-  -- heads in which a member counts as private where it is inferred, which is all that its slots depend on
   abbrev pub field_marks : Bool → PlacedMember → List FieldHead
-  field_marks interface m = map (λ (h : FieldHead). record h { is_private = infers infer interface (modifiers_of m) }) (field_heads m)
+  field_marks interface m = map (mark_field (infers infer interface (modifiers_of m))) (field_heads m)
 
   abbrev pub method_marks : Bool → PlacedMember → List MethodHead
-  method_marks interface m = map (λ (h : MethodHead). record h { is_private = infers infer interface (modifiers_of m) }) (method_heads interface m)
+  method_marks interface m = map (mark_method (infers infer interface (modifiers_of m))) (method_heads interface m)
 
   abbrev pub class_marks : PlacedType → ClassHead
   class_marks (PlacedClass ms n parent interfaces members s) = record (class_head (PlacedClass ms n parent interfaces members s)) {
@@ -61,6 +67,14 @@ module _ (infer : Infer) where
   -- the slots of files
   abbrev pub slots_by : List PlacedFile → List SlotInfo
   slots_by files = slots_of_all (heads files) (all_heads (marks files))
+
+-- what a class table gives: the heads of files, and their slots by the choice
+pub record Tabled : Type 0 where
+  pub heads : List ClassHead
+  pub slots : List SlotInfo
+
+abbrev pub tabled : Infer → List PlacedFile → Tabled
+tabled infer files = record { heads = heads files; slots = slots_by infer files }
 
 -- each slot is as it was, or inferred and empty
 abbrev pub Opens : List SlotInfo → List SlotInfo → Type 0

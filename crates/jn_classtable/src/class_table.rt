@@ -10,66 +10,74 @@ ghost use Rattle.jn_classtable.specs.Built.{IsTable};
 
 use crate::declarations::Declarations;
 use crate::head::ClassHead;
+use jn_base::Seq;
 use jn_index::index::Index;
 use jn_index::indexed::IndexedProgram;
-use jn_points::Program;
+use jn_points::{Program, SlotInfo};
 use std::marker::Model;
 
-/// The class table of files without rows T1 to T10. Contracts see the list of its heads; its program is their `table`.
+/// The class table of files without rows T1 to T10. Contracts see the list of its heads, whose `table` is its program, and the slots by
+/// the choice of members that are inferred.
 #[derive(Drop)]
 pub struct ClassTable {
     declared: Declarations,
     program: IndexedProgram,
+    slots: Seq<SlotInfo>,
 }
 
 impl Model for ClassTable {
-    ghost use Rattle.std.specs.Prelude.{List};
-    ghost use Rattle.jn_classtable.specs.declared.head.ClassHead.{ClassHead};
+    ghost use Rattle.jn_classtable.specs.Inferred.{Tabled};
     ghost use Rattle.jn_classtable.specs.Built.{IsTable};
 
-    ghost Value = { List ClassHead };
+    ghost Value = { Tabled };
 
-    ghost view = { λ t. t.declared };
+    ghost view = { λ t. record { heads = t.declared; slots = t.slots } };
 
     ghost invariant = { λ t. IsTable t.declared t.program };
 }
 
 impl ClassTable {
-    pub(crate) fn new(declared: Declarations, program: Program, index: Option<Index>) -> ClassTable
+    pub(crate) fn new(
+        declared: Declarations,
+        program: Program,
+        index: Option<Index>,
+        slots: Seq<SlotInfo>,
+    ) -> ClassTable
         requires table { IsTable declared program }
         requires index { IfSome index (λ i. IsIndex (table declared) i) }
-        ensures { result ≡ declared }
+        ensures { result ≡ record { heads = declared; slots = slots } }
     {
         ClassTable {
             declared,
             program: IndexedProgram::of(program, index),
+            slots,
         }
     }
 
-    /// The program without bodies.
+    /// The program without bodies, with the slots where private members alone are inferred.
     pub fn program(&self) -> &Program
-        ensures { result.now ≡ table self.now }
+        ensures { result.now ≡ table self.now.heads }
     {
         self.program.program()
     }
 
-    /// The program without bodies, with its index.
+    /// The same with its index.
     pub fn indexed(&self) -> &IndexedProgram
-        ensures { result.now ≡ table self.now }
+        ensures { result.now ≡ table self.now.heads }
     {
         &self.program
     }
 
-    /// Gives up the table for its program, which has no bodies yet, with its index.
+    /// Gives up the table for its program, which has no bodies yet, with the slots by the choice and its index.
     pub fn into_indexed(self) -> IndexedProgram
-        ensures { result ≡ table self }
+        ensures { result ≡ record (table self.heads) { slots = self.slots } }
     {
-        self.program
+        self.program.with_slots(self.slots)
     }
 
     /// What the types declare, in the order of files and text.
     pub fn heads(&self) -> &[ClassHead]
-        ensures { result.now ≡ self.now }
+        ensures { result.now ≡ self.now.heads }
     {
         self.declared.heads()
     }
@@ -77,7 +85,7 @@ impl ClassTable {
     /// The index of the program's members. That there is one isn't proved: where there is none, members are looked up in the
     /// program's lists.
     pub fn index(&self) -> Option<&Index>
-        ensures { IfSome result (λ i. IsIndex (table self.now) i.now) }
+        ensures { IfSome result (λ i. IsIndex (table self.now.heads) i.now) }
     {
         self.program.index()
     }
@@ -85,14 +93,14 @@ impl ClassTable {
     /// What holds of every class table: it has no row, its classes, fields, methods and parameters have numbers of 32 bits, and
     /// whatever bodies are added, as many as methods have one, the parts of a regular program that don't speak of bodies hold.
     pub fn facts(&self)
-        ensures rows { t_rows self.now ≡ [] }
-        ensures classes { length (table self.now).classes < 2 ^ 32 }
-        ensures fields { length (table self.now).fields < 2 ^ 32 }
-        ensures methods { length (table self.now).methods < 2 ^ 32 }
-        ensures parameters { ParamsFit (table self.now) }
+        ensures rows { t_rows self.now.heads ≡ [] }
+        ensures classes { length (table self.now.heads).classes < 2 ^ 32 }
+        ensures fields { length (table self.now.heads).fields < 2 ^ 32 }
+        ensures methods { length (table self.now.heads).methods < 2 ^ 32 }
+        ensures parameters { ParamsFit (table self.now.heads) }
         ensures regular { (bodies : List BodyOf)
-            → length bodies ≡ bodies_of_all (all_heads self.now)
-            → RegularTable (program_with self.now bodies) (called self.now) }
+            → length bodies ≡ bodies_of_all (all_heads self.now.heads)
+            → RegularTable (program_with self.now.heads bodies) (called self.now.heads) }
     {
         let _program = &self.program;
     }

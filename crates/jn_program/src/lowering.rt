@@ -1,6 +1,8 @@
 //! The program of files, or its rows J1 to J6.
 ghost use Rattle.std.specs.Prelude.{◌≡◌, ◌≤◌, map, IfErr, IfOk};
+ghost use Rattle.jn_base.specs.declared.infer.Infer.{Infer};
 ghost use Rattle.jn_classtable.specs.Extract.{heads};
+ghost use Rattle.jn_classtable.specs.Inferred.{slots_by};
 ghost use Rattle.jn_lowering.specs.Bodies.{bodies_of};
 ghost use Rattle.jn_places.specs.PlacedView.{placed_file};
 ghost use Rattle.jn_program.specs.Lowered.{IsProgram, IsRefusedFor};
@@ -16,7 +18,7 @@ use jn_base::{Fail, OutOfMemory, Row, Seq};
 use jn_classtable::ClassTable;
 use jn_index::indexed::IndexedProgram;
 use jn_lower_rows::files::file_rows;
-use jn_program_law::law::programs_of_tables_are_regular;
+use jn_program_law::law::{inferring_programs_are_regular, programs_of_tables_are_regular};
 use jn_trees::FileTree;
 use std::alloc::Global;
 use std::thread::Threads;
@@ -29,7 +31,7 @@ fn lower_files<R: Threads + Sync>(
     files: &[FileTree],
     workers: u32,
 ) -> Result<LoweredFiles, OutOfMemory>
-    requires table { table.now ≡ heads (map placed_file files.now) }
+    requires table { table.now.heads ≡ heads (map placed_file files.now) }
     requires workers { 1 ≤ workers }
     ensures bodies { IfOk result (λ l. l.bodies
         ≡ bodies_of (tables.table (heads (map placed_file files.now)))
@@ -49,7 +51,7 @@ fn lower_files<R: Threads + Sync>(
 }
 
 /// The program of files with this class table: its classes, fields, methods and slots, and the points of each body (JLS 7 to 15). Its
-/// index is the class table's.
+/// index is the class table's, and so is the choice of members that are inferred, on which its slots alone depend.
 ///
 /// The bodies are shared among as many workers as are asked for, at most one for a body, each of which takes one after the other. It
 /// goes by `join`, and so may wait for its workers.
@@ -64,12 +66,15 @@ pub fn lower<R: Threads + Sync>(
     files: &[FileTree],
     workers: u32,
 ) -> Result<IndexedProgram, Fail<Seq<Row>>>
-    requires table { table ≡ heads (map placed_file files.now) }
+    requires table { table.heads ≡ heads (map placed_file files.now) }
     requires workers { (1 ≤ workers) × (workers ≤ 16) }
-    ensures lowered { IfOk result (λ p. IsProgram (map placed_file files.now) p) }
+    ensures lowered { IfOk result (λ p. (infer : Infer)
+        → table.slots ≡ slots_by infer (map placed_file files.now)
+        → IsProgram infer (map placed_file files.now) p) }
     ensures refused { IfErr result (λ fail. IsRefusedFor (map placed_file files.now) fail) }
 {
     programs_of_tables_are_regular(&table);
+    inferring_programs_are_regular();
     match lower_files(rt, alloc, &table, files, workers) {
         Err(_) => Err(Fail::OutOfMemory),
         Ok(LoweredFiles { bodies, rows }) => {

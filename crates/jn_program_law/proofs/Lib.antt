@@ -7,3 +7,4 @@ pub mod Program
 mod Examples
 pub mod SameSlots
 pub mod Marks
+pub mod SameRows

@@ -1,12 +1,14 @@
 //! Laws on the program of files.
 
-ghost use Rattle.std.specs.Prelude.{◌≡◌, ◌<◌, ◌^◌, [], List, length};
+ghost use Rattle.std.specs.Prelude.{◌≡◌, ◌↔◌, ◌<◌, ◌^◌, [], List, length};
 ghost use Rattle.jn_base.specs.declared.infer.Infer.{Infer};
+ghost use Rattle.jn_base.specs.declared.place.Row.{Row};
 ghost use Rattle.jn_base.specs.declared.infer.Infer.TheVariants.{Private, Package};
 ghost use Rattle.jn_classtable.specs.Extract.{heads};
-ghost use Rattle.jn_classtable.specs.Inferred.{Opens, slots_by};
+ghost use Rattle.jn_classtable.specs.Inferred.{Opens, slots_by, tabled};
 ghost use Rattle.jn_classtable.specs.Table.{table};
 ghost use Rattle.jn_places.specs.Placed.{PlacedFile};
+ghost use Rattle.jn_points.specs.BaseRows.{IsBaseRow, NoBaseRows};
 ghost use Rattle.jn_points.specs.Regular.{Regular};
 ghost use Rattle.jn_program_law.specs.FileProgram.{j_rows, program_of_files, rows_of_files, inferring};
 
@@ -22,7 +24,7 @@ pub fn programs_of_files_are_regular()
 
 /// The class table of files without rows J1 to J6 becomes a regular program; no premise is left.
 pub fn programs_of_tables_are_regular(table: &ClassTable)
-    ensures { (files : List PlacedFile) → table.now ≡ heads files → j_rows files ≡ []
+    ensures { (files : List PlacedFile) → table.now.heads ≡ heads files → j_rows files ≡ []
         → Regular (program_of_files files) }
 {
     table.facts();
@@ -41,4 +43,15 @@ pub fn more_members_are_inferred()
 pub fn inferring_programs_are_regular()
     ensures { (infer : Infer) (files : List PlacedFile) → Regular (program_of_files files)
         → Regular (inferring infer files) }
+{}
+
+/// No choice changes what refuses files: classes and members, of which rows T1 to T10 and J1 to J6 are made (`rows_of_files`), are the
+/// same, and so are the rows of types, J7 to J10.
+pub fn choices_refuse_alike()
+    ensures heads { (one other : Infer) (files : List PlacedFile)
+        → (tabled one files).heads ≡ (tabled other files).heads }
+    ensures rows { (infer : Infer) (files : List PlacedFile) (row : Row)
+        → IsBaseRow (inferring infer files) row ↔ IsBaseRow (program_of_files files) row }
+    ensures typed { (infer : Infer) (files : List PlacedFile)
+        → NoBaseRows (inferring infer files) ↔ NoBaseRows (program_of_files files) }
 {}

@@ -2,6 +2,7 @@
 use Rattle.std.proofs.Common.{◌≡◌, ℕ, zero, suc, ◌<◌, List, [], ◌∷◌, ◌++◌, length, Result, Ok as Made, Err, refl, sym, ap, ◌∙◌, subst, arith}
 use Rattle.std.specs.Prelude.{IfOk, Option}
 use Rattle.std.proofs.lemmas.Result.{IfOk-weaker}
+use Rattle.jn_base.specs.declared.infer.Infer.{Infer}
 use Rattle.jn_base.specs.declared.refusal.OutOfMemory.{OutOfMemory as NoMemory}
 use Rattle.jn_base.specs.declared.place.Row.{Row}
 use Rattle.jn_front.specs.declared.source.SourceFile.{SourceFile}
@@ -26,22 +27,22 @@ never_checked : (rows others : List Row) → Refused rows ≡ Checked others →
 never_checked rows others e = cc
 
 -- files that are refused, with no line before their report
-refusal_made : (a : Asked) (files : List SourceFile) (made : Result Output NoMemory) → a.command.classes ≡ 0 → IfOk made (λ o. IsRefusalOf a.show files o.status o.bytes) → MadeFor IsReport IsSafe RunsTo Prints a files made
+refusal_made : (a : Asked) (files : List SourceFile) (made : Result Output NoMemory) → a.command.classes ≡ 0 → IfOk made (λ o. IsRefusalOf a.show a.command.infer files o.status o.bytes) → MadeFor IsReport IsSafe RunsTo Prints a files made
 refusal_made a files (Made o) none r =
     report_shown IsReport IsSafe RunsTo Prints a files (Refused r.rows) o.status o.bytes r.is r.ends
     (r.shows ∙ ap (λ n. front_of n ++ shown a.show files (Refused r.rows)) (sym none)) (λ e. absurd (never_checked r.rows [] e)) (λ run e. never_checked r.rows [] e)
 refusal_made a files (Err e) none r = tt
 
-refusal_written : (a : Asked) (files : List SourceFile) (made : Result Output NoMemory) → IfOk made (λ o. IsRefusalOf a.show files o.status o.bytes) → IfMade made (λ status bytes. Written status) (Unit {0})
+refusal_written : (a : Asked) (files : List SourceFile) (made : Result Output NoMemory) → IfOk made (λ o. IsRefusalOf a.show a.command.infer files o.status o.bytes) → IfMade made (λ status bytes. Written status) (Unit {0})
 refusal_written a files (Made o) r = subst Written (sym r.ends) tt
 refusal_written a files (Err e) r = tt
 
 -- the output of more files than there may be
 abbrev IsMany : Asked → List (List ℕ) → Result Output NoMemory → Type 0
-IsMany a names made = IfOk made (λ o. (files : List SourceFile) → names_of files ≡ names → IsRefusalOf a.show files o.status o.bytes)
+IsMany a names made = IfOk made (λ o. (infer : Infer) (files : List SourceFile) → names_of files ≡ names → IsRefusalOf a.show infer files o.status o.bytes)
 
-many_refused : (a : Asked) (names : List (List ℕ)) (made : Result Output NoMemory) → IsMany a names made → IfOk made (λ o. IsRefusalOf a.show (files_named names) o.status o.bytes)
-many_refused a names made many = IfOk-weaker made _ _ (λ o h. h (files_named names) (named_are names)) many
+many_refused : (a : Asked) (names : List (List ℕ)) (made : Result Output NoMemory) → IsMany a names made → IfOk made (λ o. IsRefusalOf a.show a.command.infer (files_named names) o.status o.bytes)
+many_refused a names made many = IfOk-weaker made _ _ (λ o h. h a.command.infer (files_named names) (named_are names)) many
 
 pub many_written : (a : Asked) (names : List (List ℕ)) (made : Result Output NoMemory) → IsMany a names made → IfMade made (λ status bytes. Written status) (Unit {0})
 many_written a names made many = refusal_written a (files_named names) made (many_refused a names made many)

@@ -5,6 +5,7 @@ use Rattle.std.specs.Result.{result_ok}
 use Rattle.std.specs.List.Sorted.{IsStrictlySortedBy}
 use Rattle.std.proofs.Math.Nat.{min-eq_right}
 use Rattle.std.proofs.lemmas.Bool.{lt-ltb}
+use Rattle.jn_base.specs.declared.infer.Infer.{Infer}
 use Rattle.jn_base.specs.declared.refusal.OutOfMemory.{OutOfMemory}
 use Rattle.jn_base.specs.declared.place.Row.{Row}
 use Rattle.jn_base.specs.declared.code.Code.{Code}
@@ -36,8 +37,8 @@ use Rattle.nullcheck_top.specs.Found.{IsFinding}
 use Rattle.nullcheck_top.specs.Report.{AreDeclared, IsReport, IsSafe, PhaseRows, ProgramOf, RulesGive, TypedProgramOf, lowering_rows, table_rows}
 
 -- files that a phase refuses
-refused_report : (files : List SourceFile) (broken sorted : List Row) (report : Report) → PhaseRows files broken → IsOrderOf broken sorted → report ≡ Refused sorted → IsReport files report
-refused_report files broken sorted report phase order is = subst (IsReport files) (sym is) (record { broken = broken; phase = phase; order = order })
+refused_report : (infer : Infer) → (files : List SourceFile) (broken sorted : List Row) (report : Report) → PhaseRows infer files broken → IsOrderOf broken sorted → report ≡ Refused sorted → IsReport infer files report
+refused_report infer files broken sorted report phase order is = subst (IsReport infer files) (sym is) (record { broken = broken; phase = phase; order = order })
 
 never_checked : (rows others : List Row) → Refused rows ≡ Checked others → ⊥
 never_checked rows others e = cc
@@ -45,17 +46,17 @@ never_checked rows others e = cc
 abbrev refused_found : List Row → Found
 refused_found rows = record { report = Refused rows; accepted = None }
 
-refused_finding : (files : List SourceFile) (names : List (List ℕ)) (broken sorted : List Row) (found : Found) → PhaseRows files broken → IsOrderOf broken sorted → found ≡ refused_found sorted → IsFinding files names found
-refused_finding files names broken sorted found phase order is = subst (IsFinding files names) (sym is) (record { report = refused_report files broken sorted (Refused sorted) phase order refl; accepted = never_checked sorted [] })
+refused_finding : (infer : Infer) → (files : List SourceFile) (names : List (List ℕ)) (broken sorted : List Row) (found : Found) → PhaseRows infer files broken → IsOrderOf broken sorted → found ≡ refused_found sorted → IsFinding infer files names found
+refused_finding infer files names broken sorted found phase order is = subst (IsFinding infer files names) (sym is) (record { report = refused_report infer files broken sorted (Refused sorted) phase order refl; accepted = never_checked sorted [] })
 
 -- files that are checked by the rules
-module _ (files : List SourceFile) (names : List (List ℕ)) (P : Program) (s : List Qualifier) (rows : List Row) (of_files : TypedProgramOf files names P) (least : IsLeastSignature P s) (broken : AreBroken P s rows) where
-  checked_report : IsReport files (Checked rows)
+module _ (infer : Infer) (files : List SourceFile) (names : List (List ℕ)) (P : Program) (s : List Qualifier) (rows : List Row) (of_files : TypedProgramOf infer files names P) (least : IsLeastSignature P s) (broken : AreBroken P s rows) where
+  checked_report : IsReport infer files (Checked rows)
   checked_report = record { names = names; P = P; of_files = of_files; rules = record { signature = s; least = least; broken = broken.all; breaks = broken.broken; order = broken.ordered } }
 
   -- accepted exactly where there is no row
-  pub checked_finding : (made : Result (Program × List Qualifier) (Program × List Qualifier)) → IfOk made (λ a. (rows ≡ []) × (a ≡ (P, s))) → IfErr made (λ r. (rows ≡ [] → ⊥) × (r.0 ≡ P) × (r.1 ≡ s)) → IsFinding files names (record { report = Checked rows; accepted = result_ok made })
-  checked_finding (Ok a) taken refused = record { report = checked_report; accepted = (ap Checked taken.0, subst (λ (x : Program × List Qualifier). TypedProgramOf files names x.0) (sym taken.1) of_files) }
+  pub checked_finding : (made : Result (Program × List Qualifier) (Program × List Qualifier)) → IfOk made (λ a. (rows ≡ []) × (a ≡ (P, s))) → IfErr made (λ r. (rows ≡ [] → ⊥) × (r.0 ≡ P) × (r.1 ≡ s)) → IsFinding infer files names (record { report = Checked rows; accepted = result_ok made })
+  checked_finding (Ok a) taken refused = record { report = checked_report; accepted = (ap Checked taken.0, subst (λ (x : Program × List Qualifier). TypedProgramOf infer files names x.0) (sym taken.1) of_files) }
   checked_finding (Err e) taken refused = record { report = checked_report; accepted = λ none. refused.0 (no_rows none) }
     where
       no_rows : Checked rows ≡ Checked [] → rows ≡ []
@@ -205,15 +206,15 @@ Made = Result CheckedFiles OutOfMemory
 abbrev pub RefusesBy : List Row → Made → Type 0
 RefusesBy rows made = IfOk made (λ checked. (sorted : List Row) × IsOrderOf rows sorted × (checked.found ≡ record { report = Refused sorted; accepted = None }))
 
-abbrev pub ReportsAll : List SourceRead → Made → Type 0
-ReportsAll reads made = IfOk made (λ checked. (files : List SourceFile) → AreReads reads files → IsFinding files checked.names checked.found)
+abbrev pub ReportsAll : Infer → List SourceRead → Made → Type 0
+ReportsAll infer reads made = IfOk made (λ checked. (files : List SourceFile) → AreReads reads files → IsFinding infer files checked.names checked.found)
 
 abbrev pub Stand : List SourceRead → Made → Type 0
 Stand reads made = IfOk made (λ checked. StandIn reads (rows_of checked.found.report))
 
-pub limited_made : (reads : List SourceRead) (limits : List Row) (made : Made) → Limited reads limits → (limits ≡ [] → ⊥) → RefusesBy limits made → ReportsAll reads made
-limited_made reads limits (Ok r) limited some by = λ files are. refused_finding files r.names limits by.0 r.found (inl (inl (record { are = limited files are; some = some }))) by.1 by.2
-limited_made reads limits (Err e) limited some by = tt
+pub limited_made : (infer : Infer) → (reads : List SourceRead) (limits : List Row) (made : Made) → Limited reads limits → (limits ≡ [] → ⊥) → RefusesBy limits made → ReportsAll infer reads made
+limited_made infer reads limits (Ok r) limited some by = λ files are. refused_finding infer files r.names limits by.0 r.found (inl (inl (record { are = limited files are; some = some }))) by.1 by.2
+limited_made infer reads limits (Err e) limited some by = tt
 
 pub limited_stand : (reads : List SourceRead) (limits : List Row) (made : Made) → Limited reads limits → ((files : List SourceFile) × AreReads reads files) → RefusesBy limits made → Stand reads made
 limited_stand reads limits (Ok r) limited some by =
@@ -228,21 +229,21 @@ pub whole_stand : (reads : List SourceRead) (limits : List Row) (made : Made) �
 whole_stand reads limits (Ok r) limited none some = all_stand reads limits (rows_of r.found.report) limited none some
 whole_stand reads limits (Err e) limited none some = tt
 
-lexical_made : (reads : List SourceRead) (limits faults : List Row) (made : Made) → Limited reads limits → limits ≡ [] → FaultRows 0 (files_of_reads reads) faults → (faults ≡ [] → ⊥) → RefusesBy faults made → ReportsAll reads made
-lexical_made reads limits faults (Ok r) limited none faulty some by = λ files are.
+lexical_made : (infer : Infer) → (reads : List SourceRead) (limits faults : List Row) (made : Made) → Limited reads limits → limits ≡ [] → FaultRows 0 (files_of_reads reads) faults → (faults ≡ [] → ⊥) → RefusesBy faults made → ReportsAll infer reads made
+lexical_made infer reads limits faults (Ok r) limited none faulty some by = λ files are.
     let w = within_limits reads limits limited none files are in
-    refused_finding files r.names faults by.0 r.found (inl (inr (inl (record { within = w.1; are = subst (λ fs. FaultRows 0 fs faults) w.0 faulty; some = some })))) by.1 by.2
-lexical_made reads limits faults (Err e) limited none faulty some by = tt
+    refused_finding infer files r.names faults by.0 r.found (inl (inr (inl (record { within = w.1; are = subst (λ fs. FaultRows 0 fs faults) w.0 faulty; some = some })))) by.1 by.2
+lexical_made infer reads limits faults (Err e) limited none faulty some by = tt
 
-grammar_made : (reads : List SourceRead) (limits rows : List Row) (names : List (List ℕ)) (tokens : List (List Token)) (made : Made) → Limited reads limits → limits ≡ [] → LexedFrom 0 known_names (files_of_reads reads) tokens names → SyntaxRows 0 (files_of_reads reads) tokens rows → (rows ≡ [] → ⊥) → RefusesBy rows made → ReportsAll reads made
-grammar_made reads limits rows names tokens (Ok r) limited none lexed syntax some by = λ files are.
+grammar_made : (infer : Infer) → (reads : List SourceRead) (limits rows : List Row) (names : List (List ℕ)) (tokens : List (List Token)) (made : Made) → Limited reads limits → limits ≡ [] → LexedFrom 0 known_names (files_of_reads reads) tokens names → SyntaxRows 0 (files_of_reads reads) tokens rows → (rows ≡ [] → ⊥) → RefusesBy rows made → ReportsAll infer reads made
+grammar_made infer reads limits rows names tokens (Ok r) limited none lexed syntax some by = λ files are.
     let w = within_limits reads limits limited none files are in
-    refused_finding files r.names rows by.0 r.found (inl (inr (inr (record { within = w.1; names = names; tokens = tokens; lexed = subst (λ fs. LexedFrom 0 known_names fs tokens names) w.0 lexed; are = subst (λ fs. SyntaxRows 0 fs tokens rows) w.0 syntax; some = some })))) by.1 by.2
-grammar_made reads limits rows names tokens (Err e) limited none lexed syntax some by = tt
+    refused_finding infer files r.names rows by.0 r.found (inl (inr (inr (record { within = w.1; names = names; tokens = tokens; lexed = subst (λ fs. LexedFrom 0 known_names fs tokens names) w.0 lexed; are = subst (λ fs. SyntaxRows 0 fs tokens rows) w.0 syntax; some = some })))) by.1 by.2
+grammar_made infer reads limits rows names tokens (Err e) limited none lexed syntax some by = tt
 
-pub text_made : (reads : List SourceRead) (limits rows : List Row) (made : Made) → Limited reads limits → limits ≡ [] → TextRows (files_of_reads reads) rows → (rows ≡ [] → ⊥) → RefusesBy rows made → ReportsAll reads made
-text_made reads limits rows made limited none (inl faulty) some by = lexical_made reads limits rows made limited none faulty some by
-text_made reads limits rows made limited none (inr g) some by = grammar_made reads limits rows g.0 g.1 made limited none g.2 g.3 some by
+pub text_made : (infer : Infer) → (reads : List SourceRead) (limits rows : List Row) (made : Made) → Limited reads limits → limits ≡ [] → TextRows (files_of_reads reads) rows → (rows ≡ [] → ⊥) → RefusesBy rows made → ReportsAll infer reads made
+text_made infer reads limits rows made limited none (inl faulty) some by = lexical_made infer reads limits rows made limited none faulty some by
+text_made infer reads limits rows made limited none (inr g) some by = grammar_made infer reads limits rows g.0 g.1 made limited none g.2 g.3 some by
 
 pub are_parsed : (reads : List SourceRead) (limits : List Row) → Limited reads limits → limits ≡ [] → (names : List (List ℕ)) (tokens : List (List Token)) (trees : List PlacedFile) → ((files : List SourceFile) × AreReads reads files) → LexedFrom 0 known_names (files_of_reads reads) tokens names → ArePlaced tokens trees → AreParsed (files_of_reads reads) names tokens trees
 are_parsed reads limits limited none names tokens trees some lexed placed =
@@ -250,8 +251,8 @@ are_parsed reads limits limited none names tokens trees some lexed placed =
     record { within = ap limit_rows w.0 ∙ w.1; lexed = lexed; parsed = placed }
 
 -- what is found of what was read is found of the files
-pub found_all : (reads : List SourceRead) (limits : List Row) (names : List (List ℕ)) (found : Found) → Limited reads limits → limits ≡ [] → IsFinding (files_of_reads reads) names found → (files : List SourceFile) → AreReads reads files → IsFinding files names found
-found_all reads limits names found limited none finding files are = subst (λ fs. IsFinding fs names found) (within_limits reads limits limited none files are).0 finding
+pub found_all : (infer : Infer) → (reads : List SourceRead) (limits : List Row) (names : List (List ℕ)) (found : Found) → Limited reads limits → limits ≡ [] → IsFinding infer (files_of_reads reads) names found → (files : List SourceFile) → AreReads reads files → IsFinding infer files names found
+found_all infer reads limits names found limited none finding files are = subst (λ fs. IsFinding infer fs names found) (within_limits reads limits limited none files are).0 finding
 
 pub found_whole : (reads : List SourceRead) (limits : List Row) → Limited reads limits → limits ≡ [] → (files : List SourceFile) → AreReads reads files → files_of_reads reads ≡ files
 found_whole reads limits limited none files are = (within_limits reads limits limited none files are).0
@@ -265,22 +266,22 @@ abbrev pub RefusesFound : List Row → MadeFound → Type 0
 RefusesFound rows made = IfOk made (λ found. (sorted : List Row) × IsOrderOf rows sorted × (found ≡ record { report = Refused sorted; accepted = None }))
 
 -- rows of classes and members
-pub table_made : (files : List SourceFile) (names : List (List ℕ)) (tokens : List (List Token)) (trees : List PlacedFile) (rows : List Row) (made : MadeFound) → AreParsed files names tokens trees → rows ≡ table_rows trees → (table_rows trees ≡ [] → ⊥) → RefusesFound rows made → IfOk made (λ found. IsFinding files names found)
-table_made files names tokens trees rows (Ok r) parsed are some by =
-    refused_finding files names rows by.0 r (inr (inl (record { names = names; tokens = tokens; trees = trees; parsed = parsed; are = are; some = λ none. some (sym are ∙ none) }))) by.1 by.2
-table_made files names tokens trees rows (Err e) parsed are some by = tt
+pub table_made : (infer : Infer) → (files : List SourceFile) (names : List (List ℕ)) (tokens : List (List Token)) (trees : List PlacedFile) (rows : List Row) (made : MadeFound) → AreParsed files names tokens trees → rows ≡ table_rows trees → (table_rows trees ≡ [] → ⊥) → RefusesFound rows made → IfOk made (λ found. IsFinding infer files names found)
+table_made infer files names tokens trees rows (Ok r) parsed are some by =
+    refused_finding infer files names rows by.0 r (inr (inl (record { names = names; tokens = tokens; trees = trees; parsed = parsed; are = are; some = λ none. some (sym are ∙ none) }))) by.1 by.2
+table_made infer files names tokens trees rows (Err e) parsed are some by = tt
 
 -- rows of bodies and of what stands around them
-pub lowering_made : (files : List SourceFile) (names : List (List ℕ)) (tokens : List (List Token)) (trees : List PlacedFile) (rows : List Row) (made : MadeFound) → AreDeclared files names tokens trees → rows ≡ lowering_rows trees → (lowering_rows trees ≡ [] → ⊥) → RefusesFound rows made → IfOk made (λ found. IsFinding files names found)
-lowering_made files names tokens trees rows (Ok r) declared are some by =
-    refused_finding files names rows by.0 r (inr (inr (inl (record { names = names; tokens = tokens; trees = trees; declared = declared; are = are; some = λ none. some (sym are ∙ none) })))) by.1 by.2
-lowering_made files names tokens trees rows (Err e) declared are some by = tt
+pub lowering_made : (infer : Infer) → (files : List SourceFile) (names : List (List ℕ)) (tokens : List (List Token)) (trees : List PlacedFile) (rows : List Row) (made : MadeFound) → AreDeclared files names tokens trees → rows ≡ lowering_rows trees → (lowering_rows trees ≡ [] → ⊥) → RefusesFound rows made → IfOk made (λ found. IsFinding infer files names found)
+lowering_made infer files names tokens trees rows (Ok r) declared are some by =
+    refused_finding infer files names rows by.0 r (inr (inr (inl (record { names = names; tokens = tokens; trees = trees; declared = declared; are = are; some = λ none. some (sym are ∙ none) })))) by.1 by.2
+lowering_made infer files names tokens trees rows (Err e) declared are some by = tt
 
 -- rows of types
-pub types_made : (files : List SourceFile) (names : List (List ℕ)) (P : Program) (rows : List Row) (made : MadeFound) → ProgramOf files names P → ((row : Row) → Contains rows row ↔ IsBaseRow P row) → (rows ≡ [] → ⊥) → RefusesFound rows made → IfOk made (λ found. IsFinding files names found)
-types_made files names P rows (Ok r) of_files are some by =
-    refused_finding files names rows by.0 r (inr (inr (inr (record { names = names; P = P; of_files = of_files; are = are; some = some })))) by.1 by.2
-types_made files names P rows (Err e) of_files are some by = tt
+pub types_made : (infer : Infer) → (files : List SourceFile) (names : List (List ℕ)) (P : Program) (rows : List Row) (made : MadeFound) → ProgramOf infer files names P → ((row : Row) → Contains rows row ↔ IsBaseRow P row) → (rows ≡ [] → ⊥) → RefusesFound rows made → IfOk made (λ found. IsFinding infer files names found)
+types_made infer files names P rows (Ok r) of_files are some by =
+    refused_finding infer files names rows by.0 r (inr (inr (inr (record { names = names; P = P; of_files = of_files; are = are; some = some })))) by.1 by.2
+types_made infer files names P rows (Err e) of_files are some by = tt
 
 -- ---- more files than there may be
 
@@ -288,9 +289,9 @@ one_sorted : (row : Row) → IsStrictlySortedBy row_cmp (row ∷ [])
 unfolding IsStrictlySortedBy
 one_sorted row = (tt, tt)
 
-pub too_many_report : (files : List SourceFile) (report : Report) → most_files < length files → report ≡ Refused (row_at most_files B1 ∷ []) → IsReport files report
-too_many_report files report many is =
-    refused_report files (row_at most_files B1 ∷ []) (row_at most_files B1 ∷ []) report (inl (inl (record { are = limit_is; some = no_rows }))) (record { sorted = one_sorted (row_at most_files B1); same = λ row. (λ h. h, λ h. h) }) is
+pub too_many_report : (infer : Infer) → (files : List SourceFile) (report : Report) → most_files < length files → report ≡ Refused (row_at most_files B1 ∷ []) → IsReport infer files report
+too_many_report infer files report many is =
+    refused_report infer files (row_at most_files B1 ∷ []) (row_at most_files B1 ∷ []) report (inl (inl (record { are = limit_is; some = no_rows }))) (record { sorted = one_sorted (row_at most_files B1); same = λ row. (λ h. h, λ h. h) }) is
   where
     limit_is : row_at most_files B1 ∷ [] ≡ limit_rows files
     limit_is = ap (λ b. cond b (row_at most_files B1 ∷ []) (size_rows 0 0 (map counted files))) (sym (lt-ltb most_files (length files) many))
@@ -309,15 +310,15 @@ refused_whole reads rows (Err e) by = tt
 
 -- ---- accepted files are safe
 
-abbrev Keeps : (Program → Type 0) → Type 0
-Keeps Kept = (files : List SourceFile) (names : List (List ℕ)) (P : Program) → TypedProgramOf files names P → RulesGive P [] → Kept P
+abbrev Keeps : Infer → (Program → Type 0) → Type 0
+Keeps infer Kept = (files : List SourceFile) (names : List (List ℕ)) (P : Program) → TypedProgramOf infer files names P → RulesGive P [] → Kept P
 
-safe_report : Keeps NeverNull → Keeps NeverStuck → (files : List SourceFile) (report : Report) → report ≡ Checked [] → IsReport files report → IsSafe files
-safe_report null stuck files report none is = accepted (subst (IsReport files) none is)
+safe_report : (infer : Infer) → Keeps infer NeverNull → Keeps infer NeverStuck → (files : List SourceFile) (report : Report) → report ≡ Checked [] → IsReport infer files report → IsSafe infer files
+safe_report infer null stuck files report none is = accepted (subst (IsReport infer files) none is)
   where
-    accepted : IsReport files (Checked []) → IsSafe files
+    accepted : IsReport infer files (Checked []) → IsSafe infer files
     accepted by = record { names = by.names; P = by.P; of_files = by.of_files; never_null = null files by.names by.P by.of_files by.rules; never_stuck = stuck files by.names by.P by.of_files by.rules }
 
-pub safe_made : Keeps NeverNull → Keeps NeverStuck → (reads : List SourceRead) (made : Made) → ReportsAll reads made → IfOk made (λ checked. checked.found.report ≡ Checked [] → (files : List SourceFile) → AreReads reads files → IsSafe files)
-safe_made null stuck reads (Ok r) all = λ none files are. safe_report null stuck files r.found.report none (all files are).report
-safe_made null stuck reads (Err e) all = tt
+pub safe_made : (infer : Infer) → Keeps infer NeverNull → Keeps infer NeverStuck → (reads : List SourceRead) (made : Made) → ReportsAll infer reads made → IfOk made (λ checked. checked.found.report ≡ Checked [] → (files : List SourceFile) → AreReads reads files → IsSafe infer files)
+safe_made infer null stuck reads (Ok r) all = λ none files are. safe_report infer null stuck files r.found.report none (all files are).report
+safe_made infer null stuck reads (Err e) all = tt

@@ -3,6 +3,7 @@ use Rattle.std.proofs.Common.{◌≡◌, ℕ, zero, suc, ◌<◌, ◌≤◌, inl
 use Rattle.std.specs.Prelude.{map, IfOk, string_bytes}
 use Rattle.std.specs.declared.string.String.{String}
 use Rattle.std.specs.declared.alloc.Global.{Global}
+use Rattle.jn_base.specs.declared.infer.Infer.{Infer}
 use Rattle.jn_base.specs.declared.refusal.OutOfMemory.{OutOfMemory as NoMemory}
 use Rattle.jn_outside.specs.Causes.{Rose}
 use Rattle.jn_outside.specs.declared.given.Given.{Given}
@@ -24,6 +25,7 @@ use Rattle.jn_command.specs.Status.{IsAcceptance}
 use Rattle.jn_command.specs.Shown.{shown}
 use Rattle.jn_command.specs.Answer.{Reading, AreChecked, ReadsFew, ReadsFiles, ReadsNone, ReadsNothing, HoldsFiles, Starts, names_read, IsReportOfFiles, IsOutputBy, IsOutputOfFiles, IsOutputOf, Defines, Answers, AnswersFiles, Completes, Safe, Finished}
 use Rattle.jn_command.specs.Outputs.{IfMade}
+use Rattle.nullcheck_top.specs.Answers.{AsksRun}
 
 -- statuses behind which a report was written whole
 abbrev pub Written : Status → Type 0
@@ -74,7 +76,7 @@ unfolding files_named
 named_are [] = refl
 named_are (name ∷ names) = ap (λ ns. name ∷ ns) (named_are names)
 
-module _ (IsReport : List SourceFile → Report → Type 0) (IsSafe : List SourceFile → Type 0) (RunsTo : List SourceFile → List (List ℕ) → ℕ → Status → List ℕ → Type 0) (Prints : List SourceFile → List (List ℕ) → ℕ → List ℕ → Type 0) where
+module _ (IsReport : Infer → List SourceFile → Report → Type 0) (IsSafe : Infer → List SourceFile → Type 0) (RunsTo : Infer → List SourceFile → List (List ℕ) → ℕ → Status → List ℕ → Type 0) (Prints : Infer → List SourceFile → List (List ℕ) → ℕ → List ℕ → Type 0) where
   abbrev Answer : Reading → Option Asked → Option (List ℕ) → Option (List ℕ) → Status → Type 0
   Answer = Answers IsReport IsSafe RunsTo Prints
 
@@ -129,7 +131,7 @@ module _ (IsReport : List SourceFile → Report → Type 0) (IsSafe : List Sourc
   answers_files a files old new before now result (Made o) m (inr p) = subst (λ r. FilesAnswer a files old new r) (sym p.0) (o.status, o.bytes, m.1, p.1)
   answers_files a files old new before now result (Err e) m f = subst (λ r. FilesAnswer a files old new r) (sym f.0) (inl f.1)
 
-  module _ (a : Asked) (files : List SourceFile) (report : Report) (status : Status) (bytes : List ℕ) (is : IsReport files report) (ends : status ≡ status_of report) (shows : bytes ≡ front_of a.command.classes ++ shown a.show files report) (safe : report ≡ Checked [] → IsSafe files) where
+  module _ (a : Asked) (files : List SourceFile) (report : Report) (status : Status) (bytes : List ℕ) (is : IsReport a.command.infer files report) (ends : status ≡ status_of report) (shows : bytes ≡ front_of a.command.classes ++ shown a.show files report) (safe : report ≡ Checked [] → IsSafe a.command.infer files) where
     shown_by : (b : Bool) → (b ≡ true → report ≡ Checked [] → ⊥) → OutputBy a files b status bytes
     shown_by false apart = record { report = report; is = is; ends = ends; shows = shows; safe = λ ok. safe (accepted_rows report (sym ends ∙ ok)) }
     shown_by true apart = inl (record { report = report; is = is; ends = ends; shows = shows; safe = λ ok. safe (accepted_rows report (sym ends ∙ ok)) }, λ ok. apart refl (accepted_rows report (sym ends ∙ ok)))
@@ -138,7 +140,7 @@ module _ (IsReport : List SourceFile → Report → Type 0) (IsSafe : List Sourc
     pub report_shown : (a.command.run ≡ true → report ≡ Checked [] → ⊥) → Written status × FilesOutput a files status bytes
     report_shown apart = (subst Written (sym ends) (report_written report), shown_by a.command.run apart)
 
-  pub shown_made : (a : Asked) (files : List SourceFile) (reads : List SourceRead) (report : Report) (front : List ℕ) (made : Result Output NoMemory) → AreReads reads files → front ≡ front_of a.command.classes → IsReport files report → (report ≡ Checked [] → IsSafe files) → (a.command.run ≡ true → report ≡ Checked [] → ⊥) → IfOk made (λ o. o.status ≡ status_of report) → IfOk made (λ o. (files : List SourceFile) → AreReads reads files → o.bytes ≡ front ++ shown a.show files report) → MadeFor a files made
+  pub shown_made : (a : Asked) (files : List SourceFile) (reads : List SourceRead) (report : Report) (front : List ℕ) (made : Result Output NoMemory) → AreReads reads files → front ≡ front_of a.command.classes → IsReport a.command.infer files report → (report ≡ Checked [] → IsSafe a.command.infer files) → (a.command.run ≡ true → report ≡ Checked [] → ⊥) → IfOk made (λ o. o.status ≡ status_of report) → IfOk made (λ o. (files : List SourceFile) → AreReads reads files → o.bytes ≡ front ++ shown a.show files report) → MadeFor a files made
   shown_made a files reads report front (Made o) are same is safe apart status bytes =
       report_shown a files report o.status o.bytes is status (bytes files are ∙ ap (λ xs. xs ++ shown a.show files report) same) safe apart
   shown_made a files reads report front (Err e) are same is safe apart status bytes = tt
@@ -165,10 +167,20 @@ module _ (IsReport : List SourceFile → Report → Type 0) (IsSafe : List Sourc
   completes read (Some a) old new WriteFault w reads writes = absurd (writes refl)
   completes read (Some a) old new OutOfMemory w reads writes = inl refl
 
-  report_safe : (a : Asked) (files : List SourceFile) (status : Status) (bytes : List ℕ) → IsAcceptance status → IsReportOfFiles IsReport IsSafe RunsTo Prints a files status bytes → IsSafe files
+  -- where no run is asked for, nothing was written behind want of memory
+  pub nothing : (read : Reading) (asked : Option Asked) (old new : Option (List ℕ)) (result : Status) → Answer read asked old new result → result ≡ OutOfMemory → (AsksRun asked → ⊥) → new ≡ old
+  nothing read asked old new result w e no_run = by asked (subst (λ r. Answer read asked old new r) e w) no_run
+    where
+      by : (asked : Option Asked) → Answer read asked old new OutOfMemory → (AsksRun asked → ⊥) → new ≡ old
+      by None (inl same) no_run = same
+      by None (inr part) no_run = absurd part
+      by (Some a) (inl same) no_run = same
+      by (Some a) (inr part) no_run = absurd (no_run part.steps.run)
+
+  report_safe : (a : Asked) (files : List SourceFile) (status : Status) (bytes : List ℕ) → IsAcceptance status → IsReportOfFiles IsReport IsSafe RunsTo Prints a files status bytes → IsSafe a.command.infer files
   report_safe a files status bytes accepts r = r.safe (r.ends ∙ accepting r.report (subst IsAcceptance r.ends accepts))
 
-  output_safe : (a : Asked) (files : List SourceFile) (b : Bool) (status : Status) (bytes : List ℕ) → IsAcceptance status → OutputBy a files b status bytes → IsSafe files
+  output_safe : (a : Asked) (files : List SourceFile) (b : Bool) (status : Status) (bytes : List ℕ) → IsAcceptance status → OutputBy a files b status bytes → IsSafe a.command.infer files
   output_safe a files false status bytes accepts r = report_safe a files status bytes accepts r
   output_safe a files true status bytes accepts (inl r) = report_safe a files status bytes accepts r.0
   output_safe a files true status bytes accepts (inr r) = r.safe

@@ -1,5 +1,5 @@
 -- What an answer says, by the report, the safety and the runs of files.
-use Rattle.std.specs.Prelude.{ℕ, List, Option}
+use Rattle.std.specs.Prelude.{ℕ, ◌≡◌, true, List, Option, Some, None}
 use Rattle.jn_command.specs.declared.status.Status.{Status}
 use Rattle.jn_command.specs.Asked.{Asked}
 use Rattle.jn_command.specs.Answer.{Reading, Answers as CommandAnswers, AnswersFiles as CommandAnswersFiles, Completes as CommandCompletes, Safe as CommandSafe}
@@ -17,3 +17,8 @@ Completes = CommandCompletes IsReport IsSafe RunsTo Prints
 
 abbrev pub Safe : Reading → Option Asked → Type 0
 Safe = CommandSafe IsReport IsSafe RunsTo Prints
+
+-- the words ask for a run
+abbrev pub AsksRun : Option Asked → Type 0
+AsksRun None = ⊥
+AsksRun (Some a) = a.command.run ≡ true

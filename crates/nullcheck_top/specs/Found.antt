@@ -1,5 +1,6 @@
 -- What a check of files finds, and the output of more files than there may be.
 use Rattle.std.specs.Prelude.{ℕ, ◌≡◌, [], List, Option, Some, None}
+use Rattle.jn_base.specs.declared.infer.Infer.{Infer}
 use Rattle.jn_base.specs.declared.place.Row.{Row}
 use Rattle.jn_diag.specs.declared.shown.RowText.{RowText}
 use Rattle.jn_diag.specs.declared.shown.Verdict.{Verdict}
@@ -15,17 +16,17 @@ use Rattle.nullcheck_top.specs.declared.found.Found.{Found}
 use Rattle.nullcheck_top.specs.Report.{IsReport, TypedProgramOf}
 
 -- the program of accepted files is at hand, and none where they aren't accepted
-abbrev pub IsAtHand : List SourceFile → List (List ℕ) → Report → Option (Program × List Qualifier) → Type 0
-IsAtHand files names report None = report ≡ Checked [] → ⊥
-IsAtHand files names report (Some accepted) = (report ≡ Checked []) × TypedProgramOf files names accepted.0
+abbrev pub IsAtHand : Infer → List SourceFile → List (List ℕ) → Report → Option (Program × List Qualifier) → Type 0
+IsAtHand infer files names report None = report ≡ Checked [] → ⊥
+IsAtHand infer files names report (Some accepted) = (report ≡ Checked []) × TypedProgramOf infer files names accepted.0
 
-pub record IsFinding (files : List SourceFile) (names : List (List ℕ)) (found : Found) : Type 0 where
-  pub report : IsReport files found.report
-  pub accepted : IsAtHand files names found.report found.accepted
+pub record IsFinding (infer : Infer) (files : List SourceFile) (names : List (List ℕ)) (found : Found) : Type 0 where
+  pub report : IsReport infer files found.report
+  pub accepted : IsAtHand infer files names found.report found.accepted
 
 -- files that are refused, and their report shown so
-pub record IsRefusalOf (show : List RowText → Option Verdict → List ℕ) (files : List SourceFile) (status : Status) (bytes : List ℕ) : Type 0 where
+pub record IsRefusalOf (show : List RowText → Option Verdict → List ℕ) (infer : Infer) (files : List SourceFile) (status : Status) (bytes : List ℕ) : Type 0 where
   pub rows : List Row
-  pub is : IsReport files (Refused rows)
+  pub is : IsReport infer files (Refused rows)
   pub ends : status ≡ RefusedStatus
   pub shows : bytes ≡ shown show files (Refused rows)

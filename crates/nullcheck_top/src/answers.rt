@@ -68,11 +68,11 @@ fn answer_checked<P: Reporter, K: Sink>(
     requires fit { ReadsFit reads.now }
     requires stand { StandIn reads.now (rows_of checked.now.found.report) }
     requires found { (files : List FileOf) → AreReads reads.now files
-        → IsFinding files checked.now.names checked.now.found }
+        → IsFinding command.now.infer files checked.now.names checked.now.found }
     requires whole { checked.now.found.report ≡ Checked [] → (files : List FileOf)
         → AreReads reads.now files → files_of_reads reads.now ≡ files }
     requires safe { checked.now.found.report ≡ Checked [] → (files : List FileOf)
-        → AreReads reads.now files → IsSafe files }
+        → AreReads reads.now files → IsSafe command.now.infer files }
     ensures answer { (files : List FileOf) → AreReads reads.now files
         → AnswersFiles (asked command.now (shown_behind (P.rows reporter) (P.shown reporter))) files
         (K.written out.old) (K.written out.new) result }
@@ -122,7 +122,7 @@ fn answer_reads<R: Threads + Sync, G: Gate + Sync, P: Reporter, K: Sink>(
     ensures write { result ≡ Status.WriteFault → Rose (K.faults out.old) (K.faults out.new) }
     ensures write_always { K.faults out.old < K.faults out.new → result ≡ Status.WriteFault }
 {
-    match check(rt, gate, alloc, command.workers, reads) {
+    match check(rt, gate, alloc, command.workers, command.infer, reads) {
         Ok(mut checked) => {
             if command.run {
                 checked.trees.clear();

@@ -4,7 +4,8 @@ ghost use Rattle.jn_base.specs.declared.place.Row.{Row as SpecRow};
 ghost use Rattle.jn_base.specs.declared.code.Code.TheVariants.{B1};
 ghost use Rattle.jn_trees.specs.declared.token.Token.{Token as SpecToken};
 ghost use Rattle.jn_places.specs.PlacedView.{placed_file};
-ghost use Rattle.jn_classtable.specs.Extract.{heads};
+ghost use Rattle.jn_base.specs.declared.infer.Infer.{Infer as SpecInfer};
+ghost use Rattle.jn_classtable.specs.Inferred.{tabled};
 ghost use Rattle.jn_diag.specs.Order.{IsOrderOf};
 ghost use Rattle.jn_front.specs.Counted.{ReadsFit};
 ghost use Rattle.jn_front.specs.declared.source.SourceFile.{SourceFile as SpecFile};
@@ -20,7 +21,7 @@ ghost use Rattle.nullcheck_top.specs.Report.{AreDeclared, IsReport, IsSafe, Prog
 use crate::found::{CheckedFiles, Found};
 use crate::law::accepted_files_are_safe;
 use jn_accept::accept;
-use jn_base::{Code, Fail, OutOfMemory, Row, Seq};
+use jn_base::{Code, Fail, Infer, OutOfMemory, Row, Seq};
 use jn_basecheck::{BaseTyped, base_check};
 use jn_classtable::{ClassTable, build};
 use jn_command::Report;
@@ -66,14 +67,15 @@ fn checked<R: Threads + Sync, G: Gate + Sync>(
     rt: &R,
     alloc: Global,
     workers: u32,
+    infer: Infer,
     reads: &[SourceRead],
     names: &Names,
     base: BaseTyped,
     gate: &G,
 ) -> Result<Found, OutOfMemory>
-    requires program { TypedProgramOf (files_of_reads reads.now) names.now base }
+    requires program { TypedProgramOf infer (files_of_reads reads.now) names.now base }
     requires workers { (1 ≤ workers) × (workers ≤ 16) }
-    ensures { IfOk result (λ found. IsFinding (files_of_reads reads.now) names.now found) }
+    ensures { IfOk result (λ found. IsFinding infer (files_of_reads reads.now) names.now found) }
 {
     regular_programs_are_inferable();
     let sig = solve_sig(rt, alloc, base.indexed(), workers, gate)?;
@@ -90,17 +92,18 @@ fn find_program<R: Threads + Sync, G: Gate + Sync>(
     rt: &R,
     alloc: Global,
     workers: u32,
+    infer: Infer,
     reads: &[SourceRead],
     names: &Names,
     program: IndexedProgram,
     gate: &G,
 ) -> Result<Found, OutOfMemory>
-    requires program { ProgramOf (files_of_reads reads.now) names.now program }
+    requires program { ProgramOf infer (files_of_reads reads.now) names.now program }
     requires workers { (1 ≤ workers) × (workers ≤ 16) }
-    ensures { IfOk result (λ found. IsFinding (files_of_reads reads.now) names.now found) }
+    ensures { IfOk result (λ found. IsFinding infer (files_of_reads reads.now) names.now found) }
 {
     match base_check(rt, alloc, program, workers) {
-        Ok(base) => return checked(rt, alloc, workers, reads, names, base, gate),
+        Ok(base) => return checked(rt, alloc, workers, infer, reads, names, base, gate),
         Err(Fail::Refused(rows)) => return refused(alloc, rows),
         Err(Fail::OutOfMemory) => return Err(OutOfMemory),
     }
@@ -111,6 +114,7 @@ fn find_table<R: Threads + Sync, G: Gate + Sync>(
     rt: &R,
     alloc: Global,
     workers: u32,
+    infer: Infer,
     reads: &[SourceRead],
     names: &Names,
     trees: &[FileTree],
@@ -119,12 +123,14 @@ fn find_table<R: Threads + Sync, G: Gate + Sync>(
 ) -> Result<Found, OutOfMemory>
     requires declared { (tokens : List (List SpecToken))
         × AreDeclared (files_of_reads reads.now) names.now tokens (map placed_file trees.now) }
-    requires table { table ≡ heads (map placed_file trees.now) }
+    requires table { table ≡ tabled infer (map placed_file trees.now) }
     requires workers { (1 ≤ workers) × (workers ≤ 16) }
-    ensures { IfOk result (λ found. IsFinding (files_of_reads reads.now) names.now found) }
+    ensures { IfOk result (λ found. IsFinding infer (files_of_reads reads.now) names.now found) }
 {
     match lower(rt, alloc, table, trees, workers) {
-        Ok(program) => return find_program(rt, alloc, workers, reads, names, program, gate),
+        Ok(program) => {
+            return find_program(rt, alloc, workers, infer, reads, names, program, gate);
+        }
         Err(Fail::Refused(rows)) => return refused(alloc, rows.into_vec()),
         Err(Fail::OutOfMemory) => return Err(OutOfMemory),
     }
@@ -135,6 +141,7 @@ fn find_trees<R: Threads + Sync, G: Gate + Sync>(
     rt: &R,
     alloc: Global,
     workers: u32,
+    infer: Infer,
     reads: &[SourceRead],
     names: &Names,
     trees: &[FileTree],
@@ -143,10 +150,12 @@ fn find_trees<R: Threads + Sync, G: Gate + Sync>(
     requires parsed { (tokens : List (List SpecToken))
         × AreParsed (files_of_reads reads.now) names.now tokens (map placed_file trees.now) }
     requires workers { (1 ≤ workers) × (workers ≤ 16) }
-    ensures { IfOk result (λ found. IsFinding (files_of_reads reads.now) names.now found) }
+    ensures { IfOk result (λ found. IsFinding infer (files_of_reads reads.now) names.now found) }
 {
-    match build(alloc, trees) {
-        Ok(table) => return find_table(rt, alloc, workers, reads, names, trees, table, gate),
+    match build(alloc, trees, infer) {
+        Ok(table) => {
+            return find_table(rt, alloc, workers, infer, reads, names, trees, table, gate);
+        }
         Err(Fail::Refused(rows)) => return refused(alloc, rows.into_vec()),
         Err(Fail::OutOfMemory) => return Err(OutOfMemory),
     }
@@ -164,6 +173,7 @@ fn find<R: Threads + Sync, G: Gate + Sync>(
     rt: &R,
     alloc: Global,
     workers: u32,
+    infer: Infer,
     reads: &[SourceRead],
     gate: &G,
 ) -> Result<CheckedFiles, OutOfMemory>
@@ -172,7 +182,7 @@ fn find<R: Threads + Sync, G: Gate + Sync>(
     requires read { (files : List SpecFile) × AreReads reads.now files }
     requires workers { (1 ≤ workers) × (workers ≤ 16) }
     ensures found { IfOk result (λ checked. (files : List SpecFile) → AreReads reads.now files
-        → IsFinding files checked.names checked.found) }
+        → IsFinding infer files checked.names checked.found) }
     ensures whole { IfOk result (λ checked. checked.found.report ≡ Checked []
         → (files : List SpecFile) → AreReads reads.now files → files_of_reads reads.now ≡ files) }
     ensures stand { IfOk result (λ checked. StandIn reads.now (rows_of checked.found.report)) }
@@ -189,6 +199,7 @@ fn find<R: Threads + Sync, G: Gate + Sync>(
         rt,
         alloc,
         workers,
+        infer,
         reads,
         &parsed.names,
         &parsed.trees,
@@ -201,7 +212,8 @@ fn find<R: Threads + Sync, G: Gate + Sync>(
     })
 }
 
-/// What is found of files that were read, at most 64, by so many workers; it is safe to accept them where no row is.
+/// What is found of files that were read, at most 64, by so many workers, with the choice of members that are inferred; it is safe to
+/// accept them where no row is.
 ///
 /// # Errors
 ///
@@ -211,6 +223,7 @@ pub fn check<R: Threads + Sync, G: Gate + Sync>(
     gate: &G,
     alloc: Global,
     workers: u32,
+    infer: Infer,
     reads: &[SourceRead],
 ) -> Result<CheckedFiles, OutOfMemory>
     requires workers { (1 ≤ workers) × (workers ≤ 16) }
@@ -218,15 +231,15 @@ pub fn check<R: Threads + Sync, G: Gate + Sync>(
     requires fit { ReadsFit reads.now }
     requires read { (files : List SpecFile) × AreReads reads.now files }
     ensures found { IfOk result (λ checked. (files : List SpecFile) → AreReads reads.now files
-        → IsFinding files checked.names checked.found) }
+        → IsFinding infer files checked.names checked.found) }
     ensures whole { IfOk result (λ checked. checked.found.report ≡ Checked []
         → (files : List SpecFile) → AreReads reads.now files → files_of_reads reads.now ≡ files) }
     ensures safe { IfOk result (λ checked. checked.found.report ≡ Checked []
-        → (files : List SpecFile) → AreReads reads.now files → IsSafe files) }
+        → (files : List SpecFile) → AreReads reads.now files → IsSafe infer files) }
     ensures stand { IfOk result (λ checked. StandIn reads.now (rows_of checked.found.report)) }
 {
     accepted_files_are_safe();
-    find(rt, alloc, workers, reads, gate)
+    find(rt, alloc, workers, infer, reads, gate)
 }
 
 /// The one row of more files than there may be.
@@ -245,7 +258,8 @@ fn number_rows(alloc: Global) -> Result<Seq<Row>, OutOfMemory>
 /// No memory was found.
 pub fn refuse_number(alloc: Global) -> Result<Report, OutOfMemory>
     ensures report { IfOk result
-        (λ report. (files : List SpecFile) → most_files < length files → IsReport files report) }
+        (λ report. (infer : SpecInfer) (files : List SpecFile) → most_files < length files
+        → IsReport infer files report) }
     ensures row { IfOk result (λ report. report ≡ Refused (row_at most_files B1 ∷ [])) }
 {
     let rows = number_rows(alloc)?;

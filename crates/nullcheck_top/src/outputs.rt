@@ -1,6 +1,7 @@
 //! The output of a report: of files that were read, and of too many files.
 ghost use Rattle.std.specs.Prelude.{◌≡◌, ◌<◌, ◌++◌, [], List, IfOk, map, length};
 ghost use Rattle.std.specs.String.{string_bytes};
+ghost use Rattle.jn_base.specs.declared.infer.Infer.{Infer};
 ghost use Rattle.jn_command.specs.Reporters.{shown_behind};
 ghost use Rattle.jn_command.specs.Reports.{rows_of, status_of};
 ghost use Rattle.jn_command.specs.Shown.{shown};
@@ -60,8 +61,10 @@ pub(crate) fn number_output<P: Reporter>(
     reporter: P,
 ) -> Result<Output, OutOfMemory>
     requires many { most_files < length names.now }
-    ensures { IfOk result (λ o. (files : List FileOf) → names_of files ≡ map string_bytes names.now
-        → IsRefusalOf (shown_behind (P.rows reporter) (P.shown reporter)) files o.status o.bytes) }
+    ensures { IfOk result (λ o. (infer : Infer) (files : List FileOf)
+        → names_of files ≡ map string_bytes names.now
+        → IsRefusalOf (shown_behind (P.rows reporter) (P.shown reporter)) infer files o.status
+        o.bytes) }
 {
     let report = refuse_number(alloc)?;
     let shower = show_number(alloc, names[MOST_FILES].as_str(), reporter)?;

@@ -5,7 +5,7 @@ ghost use Rattle.jn_outside.specs.Causes.{Rose};
 ghost use Rattle.jn_command.specs.Asked.{asked_of};
 ghost use Rattle.jn_command.specs.Answer.{reading, HoldsFiles, ReadsNothing, Starts};
 ghost use Rattle.jn_command.specs.Status.{IsAcceptance};
-ghost use Rattle.nullcheck_top.specs.Answers.{Answers, Completes, Safe};
+ghost use Rattle.nullcheck_top.specs.Answers.{Answers, AsksRun, Completes, Safe};
 
 use crate::answers::answer_command;
 use jn_base::Fail;
@@ -61,6 +61,13 @@ pub fn nullcheck<R: Threads + Sync, F: Files, K: Sink, G: Gate + Sync>(
         reporters.items)
         (map string_bytes words.now))
         (K.written out.old) (K.written out.new) result }
+    // A report is whole before its first byte goes out: where no run is asked for, nothing was written behind want of memory.
+    ensures nothing { result ≡ Status.OutOfMemory
+        → (AsksRun (asked_of
+        (map (λ b. record { title = title b; rows = rows b; shown = shown b })
+        reporters.items)
+        (map string_bytes words.now)) → ⊥)
+        → K.written out.new ≡ K.written out.old }
     ensures read { result ≡ Status.ReadFault → Rose (F.faults files.old) (F.faults files.new) }
     ensures read_always { F.faults files.old < F.faults files.new → result ≡ Status.ReadFault }
     ensures read_steady { F.steady files.old

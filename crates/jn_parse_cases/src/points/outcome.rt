@@ -2,7 +2,7 @@
 use crate::points::body::program_text;
 use crate::points::known::LIMIT;
 use crate::points::page::Page;
-use jn_base::{Fail, FileNo, OutOfMemory, Row, Seq};
+use jn_base::{Fail, FileNo, Infer, OutOfMemory, Row, Seq};
 use jn_classtable::build;
 use jn_index::indexed::IndexedProgram;
 use jn_lex_shared::known_names;
@@ -50,7 +50,7 @@ fn lowered<R: Threads + Sync>(
     alloc: Global,
     files: &[FileTree],
 ) -> Result<IndexedProgram, Fail<Seq<Row>>> {
-    match build(alloc, files) {
+    match build(alloc, files, Infer::Private) {
         Ok(table) => lower(rt, alloc, table, files, WORKERS),
         Err(fail) => Err(fail),
     }

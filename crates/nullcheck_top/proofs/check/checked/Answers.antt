@@ -38,6 +38,6 @@ returns g c =
     let broken = subst (λ P. AreBroken P sig rows) c.indexed-2.ensures.is c.in_ok-rows.ensures in
     let taken = subst (λ rs. IfOk c.accept.result (λ a. (rs ≡ []) × (a ≡ (c.args.base, sig)))) c.deref.ensures.value c.accept.ensures.accepted in
     let refused = subst (λ rs. IfErr c.accept.result (λ r. (rs ≡ [] → ⊥) × (r.0 ≡ c.args.base) × (r.1 ≡ sig))) c.deref.ensures.value c.accept.ensures.refused in
-    subst (λ a. IsFinding files c.args.names.now (record { report = Checked c.of_vec.result; accepted = a })) (sym c.ok-accepted.ensures.value)
-    (subst (λ rs. IsFinding files c.args.names.now (record { report = Checked rs; accepted = result_ok c.accept.result })) (sym c.of_vec.ensures)
-    (checked_finding files c.args.names.now c.args.base sig rows c.requires.program least broken c.accept.result taken refused))
+    subst (λ a. IsFinding c.args.infer files c.args.names.now (record { report = Checked c.of_vec.result; accepted = a })) (sym c.ok-accepted.ensures.value)
+    (subst (λ rs. IsFinding c.args.infer files c.args.names.now (record { report = Checked rs; accepted = result_ok c.accept.result })) (sym c.of_vec.ensures)
+    (checked_finding c.args.infer files c.args.names.now c.args.base sig rows c.requires.program least broken c.accept.result taken refused))

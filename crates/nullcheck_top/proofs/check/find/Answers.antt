@@ -8,13 +8,13 @@ use Rattle.nullcheck_top.proofs.Reporting.{limited_made, text_made, found_all, a
 use Rattle.nullcheck_top.proofs.check.find.Goals as goal
 
 pub returns-then-not-no_rows-clause-found : goal.returns-then-not-no_rows-clause-found
-returns-then-not-no_rows-clause-found g c = limited_made c.args.reads.now c.in_ok-limits.limits.items c.refused_texts.result c.in_ok-limits.ensures (c.no_rows.ensures.some c.if-not-no_rows.true) c.refused_texts.ensures
+returns-then-not-no_rows-clause-found g c = limited_made c.args.infer c.args.reads.now c.in_ok-limits.limits.items c.refused_texts.result c.in_ok-limits.ensures (c.no_rows.ensures.some c.if-not-no_rows.true) c.refused_texts.ensures
 
 pub returns-then-not-no_rows-2-clause-found : goal.returns-then-not-no_rows-2-clause-found
 returns-then-not-no_rows-2-clause-found g c =
     let r = c.refused_texts-then-not-no_rows-2 in
     let some = c.no_rows-2.ensures.some c.if-not-no_rows-2.true in
-    text_made c.args.reads.now c.in_ok-limits.limits.items c.in_ok-parsed.parsed.rows.items r.result c.in_ok-limits.ensures (c.no_rows.ensures.none c.if-not-no_rows.false) (c.in_ok-parsed.ensures.rows some) some r.ensures
+    text_made c.args.infer c.args.reads.now c.in_ok-limits.limits.items c.in_ok-parsed.parsed.rows.items r.result c.in_ok-limits.ensures (c.no_rows.ensures.none c.if-not-no_rows.false) (c.in_ok-parsed.ensures.rows some) some r.ensures
 
 pub find_trees-requires-clause-parsed : goal.find_trees-requires-clause-parsed
 find_trees-requires-clause-parsed g c κs lives =
@@ -26,7 +26,7 @@ find_trees-requires-clause-parsed g c κs lives =
     (made.0, subst (λ (ts : List FileTree). AreParsed (files_of_reads reads) names made.0 (map placed_file ts)) (sym c.deref.ensures.value) parsed)
 
 pub returns-clause-found : goal.returns-clause-found
-returns-clause-found g c = found_all c.args.reads.now c.in_ok-limits.limits.items c.in_ok-parsed.parsed.names c.in_ok-found.found c.in_ok-limits.ensures (c.no_rows.ensures.none c.if-not-no_rows.false) c.in_ok-found.ensures
+returns-clause-found g c = found_all c.args.infer c.args.reads.now c.in_ok-limits.limits.items c.in_ok-parsed.parsed.names c.in_ok-found.found c.in_ok-limits.ensures (c.no_rows.ensures.none c.if-not-no_rows.false) c.in_ok-found.ensures
 
 pub returns-then-not-no_rows-clause-stand : goal.returns-then-not-no_rows-clause-stand
 returns-then-not-no_rows-clause-stand g c = limited_stand c.args.reads.now c.in_ok-limits.limits.items c.refused_texts.result c.in_ok-limits.ensures c.requires.read c.refused_texts.ensures

@@ -1,5 +1,6 @@
-use Rattle.std.proofs.Common.{map, ◌∙◌, subst}
+use Rattle.std.proofs.Common.{map, ◌∙◌, ap, subst}
 use Rattle.jn_places.specs.PlacedView.{placed_file}
+use Rattle.jn_classtable.specs.Inferred.{Tabled}
 use Rattle.jn_front.specs.Files.{files_of_reads}
 use Rattle.jn_program.specs.Lowered.{IsRefusedFor}
 use Rattle.nullcheck_top.proofs.Reporting.{lowering_made}
@@ -8,7 +9,7 @@ use Rattle.nullcheck_top.proofs.check.find_table.Goals as goal
 pub find_program-requires-clause-program : goal.find_program-requires-clause-program
 find_program-requires-clause-program g c κs lives =
     let declared = c.requires.declared in
-    let made = c.in-Ok.ensures.lowered in
+    let made = c.in-Ok.ensures.lowered c.args.infer (ap (λ (t : Tabled). t.slots) c.requires.table) in
     record {
       tokens = declared.0;
       trees = map placed_file c.args.trees.now;
@@ -22,4 +23,4 @@ returns-in-Err-Refused g c =
     let trees = map placed_file c.args.trees.now in
     let declared = c.requires.declared in
     let are = subst (λ fail. IsRefusedFor trees fail) c.in-Err-Refused.field-0-is c.in-Err-Refused.ensures.refused in
-    lowering_made (files_of_reads c.args.reads.now) c.args.names.now declared.0 trees c.into_vec.result.items c.refused.result declared.1 (c.into_vec.ensures ∙ are.0) are.1 c.refused.ensures
+    lowering_made c.args.infer (files_of_reads c.args.reads.now) c.args.names.now declared.0 trees c.into_vec.result.items c.refused.result declared.1 (c.into_vec.ensures ∙ are.0) are.1 c.refused.ensures

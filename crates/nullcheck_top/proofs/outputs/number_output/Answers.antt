@@ -12,7 +12,7 @@ use Rattle.nullcheck_top.specs.Report.{IsReport}
 use Rattle.nullcheck_top.proofs.outputs.number_output.Goals as goal
 
 pub returns : goal.returns
-returns g c files named =
+returns g c infer files named =
     let report = c.in_ok-report.report in
     let found = c.in_ok-report.ensures in
     let shower = c.in_ok-shower.shower in
@@ -25,7 +25,7 @@ returns g c files named =
     let text = number_text (g.P.Reporter.shown c.args.reporter) (g.P.Reporter.shown shower) taken files names c.as_str.result.now report (g.P.Reporter.rows shower) (g.P.Reporter.given shower) c.in_ok-shower.ensures.shown named there found.row c.in_ok-shower.ensures.rows c.in_ok-shower.ensures.verdict in
     record {
       rows = row_at most_files B1 ∷ [];
-      is = subst (IsReport files) found.row (found.report files (omega (arith, c.requires.many, long, long_names, long_words)));
+      is = subst (IsReport infer files) found.row (found.report infer files (omega (arith, c.requires.many, long, long_names, long_words)));
       ends = c.status.ensures ∙ ap status_of found.row;
       shows = c.in_ok-joined.ensures ∙ (c.bytes.ensures ∙ (text ∙ ap (shown (shown_behind taken (g.P.Reporter.shown c.args.reporter)) files) found.row));
     }

@@ -1,6 +1,6 @@
 use Rattle.std.proofs.Common.{◌≡◌, ◌<◌, ◌^◌, List, length, subst, arith}
 use Rattle.jn_points.specs.declared.program.Body.{Body}
-use Rattle.jn_classtable.specs.declared.head.ClassHead.{ClassHead}
+use Rattle.jn_classtable.specs.Inferred.{Tabled}
 use Rattle.jn_classtable.specs.Heads.{all_heads}
 use Rattle.jn_classtable.specs.Table.{bodies_of_all, program_with, table}
 use Rattle.jn_classtable.specs.Rows.{called}
@@ -12,15 +12,15 @@ use Rattle.jn_classtable.proofs.class_table.ClassTable.facts.Goals as goal
 pub returns-clause-regular : goal.returns-clause-regular
 returns-clause-regular c =
     let i = c.self.invariant in
-    subst (λ (hs : List ClassHead). (bodies : List Body) → length bodies ≡ bodies_of_all (all_heads hs) → RegularTable (program_with hs bodies) (called hs)) c.self.view_is
+    subst (λ (t : Tabled). (bodies : List Body) → length bodies ≡ bodies_of_all (all_heads t.heads) → RegularTable (program_with t.heads bodies) (called t.heads)) c.self.view_is
     (λ bodies many. table_regular c.self.inside.declared bodies i.fit i.rows many i.small.fields i.small.methods)
 
 pub returns-clause-classes : goal.returns-clause-classes
 returns-clause-classes c =
     let few = c.self.invariant.small.heads in
     let size = size_is c.self.inside.declared in
-    subst (λ (hs : List ClassHead). length (table hs).classes < 2 ^ 32) c.self.view_is (omega (few, size, arith))
+    subst (λ (t : Tabled). length (table t.heads).classes < 2 ^ 32) c.self.view_is (omega (few, size, arith))
 
 pub returns-clause-parameters : goal.returns-clause-parameters
 returns-clause-parameters c =
-    subst (λ (hs : List ClassHead). ParamsFit (table hs)) c.self.view_is c.self.invariant.small.params
+    subst (λ (t : Tabled). ParamsFit (table t.heads)) c.self.view_is c.self.invariant.small.params
