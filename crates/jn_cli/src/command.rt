@@ -7,8 +7,7 @@ ghost use Rattle.jn_cli.specs.Words as spec;
 use crate::number::number_or;
 use crate::options::{Options, are_refused};
 use crate::parse::read_options;
-use jn_base::{Fail, OutOfMemory, Seq, Text};
-use jn_base::Infer;
+use jn_base::{Fail, Infer, OutOfMemory, Seq, Text};
 use std::alloc::{AllocError, Global};
 
 /// What the program is to do.
