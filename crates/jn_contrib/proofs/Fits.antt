@@ -13,7 +13,7 @@ use Rattle.jn_points.specs.declared.program.Program.{Program}
 use Rattle.jn_points.specs.Lookup.{slots_of, method_at}
 use Rattle.jn_points.specs.Members.{below, is_pair, pairs_of}
 use Rattle.jn_sigs.specs.Signature.{slot_qual, slot_quals, receiver_of, result_of}
-use Rattle.jn_transfer.specs.Contributions.{IsSent, is_inferred, receiver_slot_of, result_slot_of, sends}
+use Rattle.jn_transfer.specs.Contributions.{IsSent, receiver_slot_of, result_slot_of}
 use Rattle.jn_transfer.specs.Rules.{row_if, some_outside, override_rows, pair_rows}
 use Rattle.jn_transfer.specs.Pairs.{under, slot_sends, slots_sends, override_sends, pair_sends}
 use Rattle.jn_transfer.specs.Closing.{IsClosed, InferredAt, IsTarget, PairFits, AllTargetsInferred}

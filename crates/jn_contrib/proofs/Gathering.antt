@@ -3,13 +3,10 @@ use Rattle.std.proofs.Common.{◌≡◌, ℕ, zero, suc, ◌+◌, ◌<◌, ◌�
 use Rattle.std.specs.Prelude.{filter, flat_map, slice_get, slice_index_or}
 use Rattle.jn_base.specs.declared.number.SlotNo.{SlotNo}
 use Rattle.jn_quals.specs.Qualifier.{Qualifier}
-use Rattle.jn_quals.specs.Order.{no_qual}
 use Rattle.jn_points.specs.declared.program.Method.{Method}
 use Rattle.jn_points.specs.declared.program.Program.{Program}
-use Rattle.jn_points.specs.Lookup.{method_at, slots_of}
+use Rattle.jn_points.specs.Lookup.{method_at}
 use Rattle.jn_points.specs.Members.{below}
-use Rattle.jn_transfer.specs.Contributions.{receiver_slot_of, result_slot_of}
-use Rattle.jn_contrib.specs.Sends.{slot_numbers}
 use Rattle.jn_contrib.specs.declared.listed.Overrider.{Overrider}
 use Rattle.jn_transfer.specs.Pairs.{under, slot_sends, slots_sends, override_sends, pair_sends}
 

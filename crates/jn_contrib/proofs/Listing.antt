@@ -6,7 +6,7 @@ use Rattle.jn_points.specs.declared.program.Program.{Program}
 use Rattle.jn_points.specs.Lookup.{method_at}
 use Rattle.jn_points.specs.Members.{some_of, below, is_pair, pairs_of}
 use Rattle.jn_contrib.specs.declared.listed.Overrider.{Overrider}
-use Rattle.jn_transfer.specs.Pairs.{under, overrides, overriders}
+use Rattle.jn_transfer.specs.Pairs.{under, overrides}
 use Rattle.jn_contrib.specs.Entries.{AreOverriders, entry_if, all_overriders}
 use Rattle.jn_contrib.proofs.Fits.{there_below}
 

@@ -9,12 +9,10 @@ use Rattle.jn_points.specs.declared.program.SlotInfo.{SlotInfo}
 use Rattle.jn_points.specs.declared.program.Program.{Program}
 use Rattle.jn_points.specs.Lookup.{slots_of, private_of, method_at}
 use Rattle.jn_points.specs.Members.{some_of, below, is_pair}
-use Rattle.jn_sigs.specs.Signature.{is_slot, method_has_slot}
+use Rattle.jn_sigs.specs.Signature.{OnlyPrivateInferred, is_slot, method_has_slot}
 use Rattle.jn_transfer.specs.Contributions.{IsSent, is_inferred, receiver_slot_of, result_slot_of, sends}
-use Rattle.jn_transfer.specs.Closing.{IsClosedUnderBodies}
-use Rattle.jn_sigs.specs.Signature.{OnlyPrivateInferred}
+use Rattle.jn_transfer.specs.Closing.{IsClosed, IsClosedUnderBodies, InferredAt, HasNoTargets, NoPrivatePairs}
 use Rattle.jn_transfer.specs.Pairs.{slot_sends, slots_sends, override_sends, pair_sends}
-use Rattle.jn_transfer.specs.Closing.{IsClosed, InferredAt, HasNoTargets, NoPrivatePairs}
 
 none_flat : (f : ℕ → List (ℕ × Qualifier)) (p : ℕ → Bool) → ((k : ℕ) → p k ≡ true → f k ≡ []) → (xs : List ℕ) → flat_map f (filter p xs) ≡ []
 none_flat f p h [] = refl

@@ -1,7 +1,7 @@
 //! What a method that overrides sends.
 ghost use Rattle.std.specs.Prelude.{◌≡◌, ◌<◌, ◌^◌, ◌++◌, ◌∷◌, [], IfOk, OnOk, Some, None, cond, flat_map, length, slice_get, slice_index_or};
 ghost use Rattle.jn_points.specs.Lookup.{method_at};
-ghost use Rattle.jn_transfer.specs.Contributions.{is_inferred, sends};
+ghost use Rattle.jn_transfer.specs.Contributions.{sends};
 ghost use Rattle.jn_contrib.specs.Sends.{slot_numbers};
 ghost use Rattle.jn_transfer.specs.Pairs.{under, slot_sends, slots_sends, override_sends, pair_sends};
 

@@ -1,10 +1,8 @@
 -- Where private members alone are inferred, and none of them is of a pair, the least signature is that of the bodies.
-use Rattle.std.proofs.Common.{List, sym, subst}
+use Rattle.std.proofs.Common.{List}
 use Rattle.jn_quals.specs.Qualifier.{Qualifier}
 use Rattle.jn_points.specs.declared.program.Program.{Program}
-use Rattle.jn_env.specs.Order.{QualsWithin}
 use Rattle.jn_sigs.specs.Signature.{OnlyPrivateInferred}
-use Rattle.jn_sigs.proofs.Landed.{private_start}
 use Rattle.jn_transfer.specs.Closing.{NoPrivatePairs}
 use Rattle.jn_contrib.proofs.Targets.{bodies_close, private_targets}
 use Rattle.jn_inference_law.specs.BodiesAlone.{IsLeastOfBodies}
@@ -12,21 +10,15 @@ use Rattle.jn_inference_law.specs.Solution.{IsLeastSignature}
 
 module _ (P : Program) (s : List Qualifier) (only : OnlyPrivateInferred P) (none : NoPrivatePairs P) where
   pub tasks_least : IsLeastOfBodies P s → IsLeastSignature P s
-  tasks_least is =
-      let targets = private_targets P only none in
-      let e = private_start P only in
-      record {
-        closed = bodies_close P s targets is.closed;
-        starts = subst (λ (q : List Qualifier). QualsWithin q s) (sym e) is.starts;
-        least = λ t c w. is.least t c.bodies (subst (λ (q : List Qualifier). QualsWithin q t) e w);
-      }
+  tasks_least is = record {
+    closed = bodies_close P s (private_targets P only none) is.closed;
+    starts = is.starts;
+    least = λ t c w. is.least t c.bodies w;
+  }
 
   pub bodies_least : IsLeastSignature P s → IsLeastOfBodies P s
-  bodies_least is =
-      let targets = private_targets P only none in
-      let e = private_start P only in
-      record {
-        closed = is.closed.bodies;
-        starts = subst (λ (q : List Qualifier). QualsWithin q s) e is.starts;
-        least = λ t c w. is.least t (bodies_close P t targets c) (subst (λ (q : List Qualifier). QualsWithin q t) (sym e) w);
-      }
+  bodies_least is = record {
+    closed = is.closed.bodies;
+    starts = is.starts;
+    least = λ t c w. is.least t (bodies_close P t (private_targets P only none) c) w;
+  }

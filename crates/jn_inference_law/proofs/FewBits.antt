@@ -1,5 +1,5 @@
 -- Words of signatures have at most three bits for each slot, and so has what workers can raise.
-use Rattle.std.proofs.Common.{◌≡◌, ⊎_elim, ℕ, zero, suc, ◌+◌, ◌-◌, ◌*◌, ◌^◌, ◌<◌, ◌≤◌, min, List, [], ◌∷◌, length, get_or, refl, sym, ap, ◌∙◌, subst, arith, mul-le-mul_left, zero-mul}
+use Rattle.std.proofs.Common.{◌≡◌, ⊎_elim, Bool, true, false, cond, ℕ, zero, suc, ◌+◌, ◌-◌, ◌*◌, ◌^◌, ◌<◌, ◌≤◌, min, List, [], ◌∷◌, length, get_or, refl, sym, ap, ◌∙◌, subst, arith, mul-le-mul_left, zero-mul}
 use Rattle.std.specs.Prelude.{IsTrue, replicate, slice_index}
 use Rattle.std.specs.Int.{bit_at}
 use Rattle.std.proofs.lemmas.Bool.{cases_lt}
@@ -17,7 +17,10 @@ use Rattle.jn_sigs.specs.Signature.{start_signature}
 use Rattle.jn_env.specs.Order.{QualsWithin}
 use Rattle.jn_sigtable.specs.System.{IsClosed as IsClosedWords, least, limit_of, ones_below, ones_in, risen}
 use Rattle.jn_sigtable.proofs.LeastWords.{least_is_least, ones_in_le}
-use Rattle.jn_inference_law.specs.Inference.{inference, least_sends, words_for, IsInferable}
+use Rattle.jn_transfer.specs.Contributions.{IsSent}
+use Rattle.jn_transfer.specs.Pairs.{pair_sends}
+use Rattle.jn_inference_law.specs.Inference.{inference, is_body_task, least_sends, task_count, task_method, task_sends, words_for, IsInferable}
+use Rattle.jn_inference_law.proofs.PairLaws.{pairs_inside}
 use Rattle.jn_inference_law.specs.Packing.{packed}
 use Rattle.jn_inference_law.proofs.PackingLaws.{packed_has, packed_low}
 use Rattle.jn_inference_law.proofs.InferenceLaws.{inference_lawful, sent_inside}
@@ -111,20 +114,28 @@ full_has [] = tt
 full_has (q ∷ s) = (within_all q, full_has s)
 
 module _ (P : Program) (can : IsInferable P) where
+  -- what a task sends goes to slots that are there
+  task_inside : (s : List Qualifier) (t : ℕ) (x : ℕ × Qualifier) → IsSent x (task_sends P s t) → x.0 < length P.slots
+  task_inside s t x = by (is_body_task P t)
+    where
+      by : (d : Bool) → IsSent x (cond d (least_sends P s t) (pair_sends P s (task_method P t))) → x.0 < length P.slots
+      by true m = sent_inside P s t x m
+      by false m = pairs_inside P s (task_method P t) x m
+
   full_closed : IsClosedWords (inference P) (words_of (full (length P.slots)))
   full_closed =
       let n : ℕ = length P.slots in
       let t : List Qualifier = full n in
-      let sends : ℕ → List (ℕ × Qualifier) = λ b. least_sends P (unpacked (words_of t) n) b in
+      let sends : ℕ → List (ℕ × Qualifier) = λ b. task_sends P (unpacked (words_of t) n) b in
       record {
         count = length-words_of t ∙ ap words_for (full_length n);
         closed = λ b lt w _. packed_has (sends b) (slice_index (words_of t)) (within_sent (sends b) (words_of t) (λ x m.
-            let there : x.0 < n = sent_inside P (unpacked (words_of t) n) b x m in
+            let there : x.0 < n = task_inside (unpacked (words_of t) n) b x m in
             let is : at_slot (words_of t) x.0 ≡ all_quals = words_of-at t x.0 (let l = full_length n in omega arith) ∙ full_at n x.0 there in
             subst (λ (q : Qualifier). IsTrue (within x.1 q)) (sym is) (within_all x.1))) w;
       }
 
-  pub limit_is_small : (start : List ℕ) → ArePacked start (length P.slots) → unpacked start (length P.slots) ≡ start_signature P → limit_of (inference P) start ≤ length P.bodies * (1 + 3 * length P.slots)
+  pub limit_is_small : (start : List ℕ) → ArePacked start (length P.slots) → unpacked start (length P.slots) ≡ start_signature P → limit_of (inference P) start ≤ task_count P * (1 + 3 * length P.slots)
   limit_is_small start packed starts =
       let n : ℕ = length P.slots in
       let t : List Qualifier = full n in
@@ -135,4 +146,4 @@ module _ (P : Program) (can : IsInferable P) where
       let e : words_for (length t) ≡ words_for n = ap words_for long in
       let q = words_ones t (words_for n) (omega arith) in
       let few : risen (inference P) start (least (inference P) start) ≤ 3 * n = omega arith in
-      mul-le-mul_left (length P.bodies) (omega arith)
+      mul-le-mul_left (task_count P) (omega arith)

@@ -15,7 +15,7 @@ use Rattle.jn_points.specs.declared.program.SlotInfo.{SlotInfo}
 use Rattle.jn_points.specs.declared.program.Program.{Program}
 use Rattle.jn_points.specs.Lookup.{body_at, points_of}
 use Rattle.jn_sigs.specs.Packed.{ArePacked, at_slot, unpacked}
-use Rattle.jn_sigs.specs.Signature.{start_signature, starts_from}
+use Rattle.jn_sigs.specs.Signature.{start_signature}
 use Rattle.jn_sigs.proofs.Starts.{length-starts_from}
 use Rattle.jn_sigs.proofs.Slots.{length-unpacked, unpacked-at}
 use Rattle.jn_env.specs.Order.{QualsWithin, Table, env_in}

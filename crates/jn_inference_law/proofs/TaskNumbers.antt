@@ -8,7 +8,7 @@ use Rattle.jn_points.specs.declared.program.Program.{Program}
 use Rattle.jn_points.specs.Lookup.{method_at}
 use Rattle.jn_points.specs.Members.{some_of, below, is_pair, pairs_of}
 use Rattle.jn_transfer.specs.Contributions.{IsSent}
-use Rattle.jn_transfer.specs.Pairs.{under, overrides, overriders, override_sends, pair_sends}
+use Rattle.jn_transfer.specs.Pairs.{overrides, overriders, override_sends, pair_sends}
 use Rattle.jn_contrib.proofs.Fits.{Among, among_below, among_filter, there_below}
 use Rattle.jn_inference_law.specs.Inference.{task_count, is_body_task, task_method, task_sends, least_sends}
 

@@ -4,7 +4,7 @@ ghost use Rattle.jn_analysis_law.specs.CoveredSend.{CoveredSend};
 ghost use Rattle.jn_contrib.specs.Sends.{body_sends};
 ghost use Rattle.jn_env.specs.Order.{Table, QualsWithin};
 ghost use Rattle.jn_inference_law.specs.BodiesAlone.{IsLeastOfBodies};
-ghost use Rattle.jn_inference_law.specs.Inference.{IsInferable, inference, least_sends};
+ghost use Rattle.jn_inference_law.specs.Inference.{IsInferable, inference, least_sends, task_count};
 ghost use Rattle.jn_inference_law.specs.OpenExamples.{widened, escaping};
 ghost use Rattle.jn_inference_law.specs.Reading.{Agree, pair_reads};
 ghost use Rattle.jn_inference_law.specs.Solution.{IsLeastSignature};
@@ -53,11 +53,12 @@ pub fn private_inference_is_of_bodies_alone()
         → IsLeastSignature P s → IsLeastOfBodies P s }
 {}
 
-/// Workers on a program take each body once at the start, and at most once more for each of the three bits of each slot.
+/// Workers on a program take each body, and each method that overrides, once at the start, and at most once more for each of the three
+/// bits of each slot.
 pub fn limits_are_small()
     ensures { (P : Program) (start : List ℕ) → IsInferable P → ArePacked start (length P.slots)
         → unpacked start (length P.slots) ≡ start_signature P
-        → limit_of (inference P) start ≤ length P.bodies * (1 + 3 * length P.slots) }
+        → limit_of (inference P) start ≤ task_count P * (1 + 3 * length P.slots) }
 {}
 
 /// A program has at most one least signature, so what is found of it doesn't depend on who found it.

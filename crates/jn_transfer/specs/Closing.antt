@@ -21,7 +21,7 @@ module _ (P : Program) (s : List Qualifier) where
 
   -- what the bodies send under their least tables, and what methods that override send, is within the signature
   pub record IsClosed : Type 0 where
-    pub bodies : IsClosedUnderBodies P s
+    pub bodies : IsClosedUnderBodies
     pub pairs : (m : ℕ) (x : ℕ × Qualifier) → IsSent x (pair_sends P s m) → IsTrue (within x.1 (slice_index_or s x.0 no_qual))
 
   -- there is a qualifier for each slot, and it has all with which the slot starts

@@ -3,7 +3,6 @@ use Rattle.jn_points.specs.declared.program.Program.{Program}
 use Rattle.jn_quals.specs.Qualifier.{Qualifier}
 use Rattle.jn_sigs.specs.Packed.{ArePacked, unpacked}
 use Rattle.jn_sigs.specs.Signature.{start_signature}
-use Rattle.jn_contrib.specs.Entries.{AreOverriders}
 use Rattle.jn_system.proofs.TaskSteps.{no_tasks}
 use Rattle.jn_inference_law.specs.Inference.{words_for}
 use Rattle.jn_inference_law.proofs.LeastSignature.{found_count, found_signature, least_start, length-start}
