@@ -80,7 +80,11 @@ module _ (W : World)
     run_good x g zero = g
     run_good x g (suc n) = next_good (run W.program names x n) (run_good x g n)
 
+  -- each state that a run comes to is good
+  pub good_run : (m b : ℕ) → MainForm W.program m b → (limits : Limits) (names words : List (List ℕ)) (n : ℕ) (st : State) → run W.program names (Goes (start_state W.program limits b words)) n ≡ Goes st → (mk : Marking) × Good W st mk
+  good_run m b main limits names words n st is = subst SomeGood is (run_good names (Goes (start_state W.program limits b words)) (start_marking, start m b main limits words) n)
+
   pub good_never_null : NeverNull W.program
   good_never_null m b main limits names words n st is fault =
-      let g : SomeGood (Goes st) = subst SomeGood is (run_good names (Goes (start_state W.program limits b words)) (start_marking, start m b main limits words) n) in
+      let g = good_run m b main limits names words n st is in
       safe st g.0 g.1 fault

@@ -1,4 +1,4 @@
--- Accepted programs: regular, with tables that respect the edges under a signature, and without a row of the rules.
+-- Accepted programs: of the shapes that each regular one has, with tables that respect the edges under a signature, and without a row of the rules.
 use Rattle.std.specs.Prelude.{ℕ, ◌≡◌, true, false, IsTrue, [], Some, slice_get, slice_index_or}
 use Rattle.jn_quals.specs.Order.{no_qual, settle, within}
 use Rattle.jn_points.specs.declared.point.Point.{Point}

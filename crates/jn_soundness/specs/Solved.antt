@@ -10,7 +10,8 @@ use Rattle.jn_transfer.specs.Rules.{rows}
 use Rattle.jn_transfer.specs.Contributions.{Closed, FieldSlots}
 use Rattle.jn_soundness.specs.World.{World, table_at}
 
--- a regular program, a signature that is closed and not below the start, tables that respect the edges, and no row of the rules
+-- a program of the shapes that each regular one has (`Shaped`) whose fields' slots are there, a signature that is closed and has what slots that aren't inferred
+-- start with, tables that respect the edges, and no row of the rules
 pub record Solved (W : World) : Type 0 where
   pub shaped : Shaped W.program
   pub slots : FieldSlots W.program

@@ -12,8 +12,8 @@ ghost use Rattle.jn_points.specs.BaseTyping.{BaseTyped};
 ghost use Rattle.jn_soundness.specs.Accepted.{Accepted};
 ghost use Rattle.jn_soundness.specs.ChainExample.{chain_program, chain_world};
 
-/// In a regular, base-typed program whose signature is closed, whose tables respect the edges, and of which no rule has a
-/// row: the start of a main is as the start marking says, and its values are of their base types; a step that gives a
+/// In a base-typed program of the shapes that each regular one has, whose signature is closed, whose tables respect the edges, and of
+/// which no rule has a row: the start of a main is as the start marking says, and its values are of their base types; a step that gives a
 /// state keeps both, with the marking that comes after it; and where a state is as some marking says, its point
 /// dereferences no null.
 pub fn steps_keep_marks()
@@ -34,8 +34,8 @@ pub fn steps_keep_marks()
         → NullFault W.program st → ⊥ }
 {}
 
-/// A regular, base-typed program never dereferences null where its signature is closed, its tables
-/// respect the edges, and no rule has a row.
+/// A base-typed program of the shapes that each regular one has never dereferences null where its signature is closed, its
+/// tables respect the edges, and no rule has a row.
 pub fn solved_programs_never_fault()
     ensures { (W : World) → Solved W → BaseTyped W.program → NeverNull W.program }
 {}

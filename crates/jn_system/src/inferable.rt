@@ -9,15 +9,19 @@ use jn_flow::stays_inside;
 use jn_points::Program;
 
 fn is_few(count: usize) -> bool
-    ensures { result ≡ true → count < 2 ^ 32 }
+    ensures few { result ≡ true → count < 2 ^ 32 }
+    ensures taken { count < 2 ^ 32 → result ≡ true }
 {
     count <= u32::MAX as usize
 }
 
 fn all_inside(program: &Program) -> bool
     requires { length program.now.bodies < 2 ^ 32 }
-    ensures { result ≡ true → (b : ℕ) → b < length program.now.bodies
+    ensures inside { result ≡ true → (b : ℕ) → b < length program.now.bodies
         → StaysInside program.now b × (length (points_of (body_at program.now b)) < 2 ^ 32 - 1) }
+    ensures taken { ((b : ℕ) → b < length program.now.bodies
+        → StaysInside program.now b × (length (points_of (body_at program.now b)) < 2 ^ 32 - 1))
+        → result ≡ true }
 {
     for body in 0..program.bodies.len() {
         if !stays_inside(program, BodyNo(body as u32)) {
@@ -27,11 +31,15 @@ fn all_inside(program: &Program) -> bool
     true
 }
 
-/// Whether inference takes the program: its lists have fewer than 2^32 items, and the edges of each body stay in it. So
-/// it is of each regular program; a caller that knows this needs no test.
+/// Whether inference takes the program: its lists have fewer than 2^32 items, and each body has a point, fewer than 2^32 - 1 of them, and
+/// edges that stay in it. A body of a regular program may have one point more; a caller that knows of a regular program needs no test.
 #[tactic(auto, using(jn_inference_law::proofs::Inferring::tested_inferable))]
 pub fn is_inferable(program: &Program) -> bool
-    ensures { result ≡ true → IsInferable program.now }
+    ensures inferable { result ≡ true → IsInferable program.now }
+    ensures taken { IsInferable program.now
+        → ((b : ℕ) → b < length program.now.bodies
+        → length (points_of (body_at program.now b)) < 2 ^ 32 - 1)
+        → result ≡ true }
 {
     let few = is_few(program.classes.len())
         && is_few(program.fields.len())
