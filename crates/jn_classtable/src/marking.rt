@@ -10,9 +10,7 @@ use crate::declarations::Declarations;
 use crate::extract;
 use crate::head::{FieldHead, MethodHead, ParamHead, TypeHead};
 use crate::notes::{Word, has_word};
-use crate::types::{
-    field_qual, has_receiver, is_position, receiver_qual, slot_of, written_qual,
-};
+use crate::types::{field_qual, has_receiver, is_position, receiver_qual, slot_of, written_qual};
 use jn_base::{Infer, Seq};
 use jn_points::SlotInfo;
 use jn_trees::{FileTree, Member, Modifier, TypeTree};
@@ -195,11 +193,7 @@ fn push_result(
     }
 }
 
-fn push_receiver(
-    slots: &mut Seq<SlotInfo>,
-    mark: bool,
-    head: &MethodHead,
-) -> Result<(), AllocError>
+fn push_receiver(slots: &mut Seq<SlotInfo>, mark: bool, head: &MethodHead) -> Result<(), AllocError>
     ensures { OnOk result
         (slots.new ≡ slots.old ++ types.receiver_slots (spec.mark_method mark head.now)) }
 {
