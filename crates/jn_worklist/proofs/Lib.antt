@@ -4,3 +4,4 @@ pub mod RaiseSteps
 pub mod RunEnds
 pub mod DrainSteps
 pub mod PlanSteps
+pub mod DueBy

@@ -71,7 +71,7 @@ lists_step (y ∷ bs) (suc i) b x h e =
       (λ r. ⊎_elim (λ l. ⊎_elim (λ s. inl s) (λ q. inr (rest.1 (inl q))) l) (λ q. inr (rest.1 (inr q))) r),
     )
 
-lists_more : (bs : List BodyNo) (i : ℕ) (b : BodyNo) (x : ℕ) → i < length bs → b ≡ get_or bs i b → Lists (take (i + 1) bs) x ↔ (Lists (take i bs) x ⊎ (x ≡ b.0))
+pub lists_more : (bs : List BodyNo) (i : ℕ) (b : BodyNo) (x : ℕ) → i < length bs → b ≡ get_or bs i b → Lists (take (i + 1) bs) x ↔ (Lists (take i bs) x ⊎ (x ≡ b.0))
 lists_more bs i b x h e = subst (λ (k : ℕ). Lists (take k bs) x ↔ (Lists (take i bs) x ⊎ (x ≡ b.0))) (sym (add-one i)) (lists_step bs i b x h e)
 
 -- one body more of a list is due

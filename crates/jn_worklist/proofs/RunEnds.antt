@@ -1,13 +1,11 @@
 -- From one stage of a body to the next.
-use Rattle.std.proofs.Common.{◌≡◌, ℕ, ◌-◌, ◌/◌, ◌%◌, ◌==◌, ◌&&◌, Bool, true, false, if◌then◌else◌, Option, Some, None, List, [], ◌++◌, length, take, replicate, filter, not, sym, refl, ap, ◌∙◌, subst, inl, inr, arith, eq-eqb}
+use Rattle.std.proofs.Common.{◌≡◌, ℕ, ◌-◌, ◌/◌, ◌%◌, ◌==◌, ◌&&◌, Bool, true, false, if◌then◌else◌, Option, Some, None, List, [], length, replicate, filter, not, sym, refl, ap, ◌∙◌, subst, inl, inr, arith, eq-eqb}
 use mathlib.Core.Logic.{dite}
 use native.Mathlib.Decide.{ℕ_discrete}
 use Rattle.std.specs.Prelude.{slice_index}
 use Rattle.std.specs.Int.{bit_at}
-use Rattle.std.proofs.Math.Seq.{take-append_seam}
 use Rattle.std.proofs.lemmas.Bool.{eqb-true}
 use Rattle.std.proofs.lemmas.List.{length-replicate}
-use Rattle.std.proofs.lemmas.Nat.Bits.{bit_at-zero}
 use Rattle.jn_sigtable.specs.declared.view.View.{View}
 use Rattle.jn_base.specs.declared.number.WordNo.{WordNo}
 use Rattle.jn_sigtable.specs.System.{System, Within, bits_for, IsReadList}
@@ -15,15 +13,9 @@ use Rattle.jn_sigtable.specs.Machine.{IsAtRest, MayMark, is_marked, own_marked, 
 use Rattle.jn_sigtable.proofs.Bits.{one_same, one_other, same_number, zero_within}
 use Rattle.jn_sigtable.proofs.TakeKept.{at_replicate}
 use Rattle.jn_sigtable.proofs.Keeping.{both_true, none_has}
-use Rattle.jn_worklist.specs.Plans.{IsDue}
+use Rattle.jn_worklist.specs.Plans.{IsNoneDue}
 use Rattle.jn_worklist.specs.Runs.{IsFresh, IsReading, IsRaising, IsMarking, HasGivenBack}
 use Rattle.jn_worklist.proofs.RaiseSteps.{take_whole}
-
--- zeros that were lent as a slice are what was written there, where the slice keeps its length
-pub written_back : (count n : ℕ) (lent seen written rest : List ℕ) → length lent ≡ n → lent ≡ replicate count 0 → length written ≡ count → seen ≡ take n (written ++ rest) → seen ≡ written
-written_back count n lent seen written rest long zeros kept is =
-    let room : n ≡ length written = sym long ∙ (ap (λ (l : List ℕ). length l) zeros ∙ (length-replicate {A = ℕ} count 0 ∙ sym kept)) in
-    is ∙ (ap (λ (k : ℕ). take k (written ++ rest)) room ∙ take-append_seam written rest)
 
 -- the outputs that the system told are those of the table's system
 pub output_is : {C : Type 0} (describe : C → System) (told it : C) (b : ℕ) (seen outputs : List (WordNo × ℕ)) (lent values : List ℕ) → told ≡ it → seen ≡ outputs → outputs ≡ (describe told).output b lent → lent ≡ values → seen ≡ (describe it).output b values
@@ -43,35 +35,30 @@ module _ {C : Type 0} where
     are = h.are ∙ sym e;
     count = ap (λ (l : List ℕ). length l) h.are ∙ length-replicate {A = ℕ} sys.words 0;
     read = λ u m. absurd cc;
+    rest = λ u. inl (ap (λ (l : List ℕ). slice_index l u) e ∙ at_replicate sys.words u);
   }
 
-  pub begins_raising : (sys : System) (b : ℕ) (from v : View C) (values : List ℕ) (os : List (WordNo × ℕ)) (due : List ℕ) (reads : List WordNo) → IsReadList sys b reads → IsReading sys b from v values reads → due ≡ replicate (dirty_words sys) 0 → IsRaising sys b v values v os 0 due
-  begins_raising sys b from v values os due reads list h e = record {
+  pub begins_raising : (sys : System) (b : ℕ) (from v : View C) (values : List ℕ) (os : List (WordNo × ℕ)) (due : List ℕ) (reads : List WordNo) → IsReadList sys b reads → IsReading sys b from v values reads → length due ≡ dirty_words sys → IsNoneDue due → IsRaising sys b v values v os 0 due
+  begins_raising sys b from v values os due reads list h size none = record {
     body = h.body;
     same_share = refl;
     same_taken = refl;
     are = h.are;
     read = λ w lt r. h.read w (list.all w lt r);
     raised = λ w. zero_within (bits_for v.raised w);
-    count = ap (λ (l : List ℕ). length l) e ∙ length-replicate {A = ℕ} (dirty_words sys) 0;
-    owes = λ x. ((λ has. absurd (none_has v.owed x h.owed has)), (λ is. absurd (none_due x is)));
-    own = λ is. absurd (none_due b is);
+    count = size;
+    owes = λ x. ((λ has. absurd (none_has v.owed x h.owed has)), (λ is. absurd (none x is)));
+    own = λ is. absurd (none b is);
   }
-    where
-      none_due : (x : ℕ) → IsDue due x → ⊥
-      none_due x is =
-          let z : slice_index due (x / 64) ≡ 0 = ap (λ (l : List ℕ). slice_index l (x / 64)) e ∙ at_replicate (dirty_words sys) (x / 64) in
-          let o = bit_at-zero (x % 64) in let p : bit_at 0 (x % 64) ≡ 1 = ap (λ (y : ℕ). bit_at y (x % 64)) (sym z) ∙ is in absurd (omega arith)
 
-  pub begins_marking : (sys : System) (b : ℕ) (from : View C) (values : List ℕ) (v : View C) (os : List (WordNo × ℕ)) (n : ℕ) (due : List ℕ) → IsRaising sys b from values v os n due → n ≡ length os → os ≡ sys.output b values → IsMarking sys b v v 0 due
+  pub begins_marking : (sys : System) (b : ℕ) (from : View C) (values : List ℕ) (v : View C) (os : List (WordNo × ℕ)) (n : ℕ) (due : List ℕ) → IsRaising sys b from values v os n due → n ≡ length os → os ≡ sys.output b values → IsMarking sys b v v due
   begins_marking sys b from values v os n due h e out = record {
     same_share = refl;
     same_taken = refl;
     body = inl h.body;
     read = h.read;
     raised = λ w below. subst (λ (l : List (WordNo × ℕ)). Within (bits_for l w) (bits_for v.raised w)) (take_whole os n e ∙ (out ∙ ap (λ (l : List ℕ). sys.output b l) (sym h.are))) (h.raised w);
-    owes = λ x has. ((h.owes x).0 has, omega arith);
-    left = λ x low is. (h.owes x).1 is;
+    owes = h.owes;
     own = h.own;
   }
 

@@ -1,5 +1,5 @@
 -- What a pass knows between the steps of one body, and when the body has been run.
-use Rattle.std.specs.Prelude.{◌≡◌, ◌⊎◌, ◌↔◌, ℕ, ◌-◌, ◌/◌, ◌<◌, ◌≤◌, true, Some, None, List, [], ◌∷◌, take, length, replicate}
+use Rattle.std.specs.Prelude.{◌≡◌, ◌⊎◌, ◌↔◌, ℕ, ◌-◌, true, Some, None, List, [], ◌∷◌, take, length, replicate, slice_index}
 use Rattle.jn_base.specs.declared.number.WordNo.{WordNo}
 use Rattle.jn_sigtable.specs.declared.view.View.{View}
 use Rattle.jn_sigtable.specs.System.{System, Within, bits_for, lists_word}
@@ -43,6 +43,7 @@ module _ {C : Type 0} where
     pub are : v.values ≡ values
     pub count : length v.values ≡ sys.words
     pub read : (u : ℕ) → lists_word done u ≡ true → Has v.read u
+    pub rest : (u : ℕ) → (slice_index values u ≡ 0) ⊎ (lists_word done u ≡ true)
 
   -- the body has raised the first outputs, and the marks that it owes are those in `due`
   pub record IsRaising (sys : System) (b : ℕ) (from : View C) (values : List ℕ) (v : View C) (os : List (WordNo × ℕ)) (done : ℕ) (due : List ℕ) : Type 0 where
@@ -56,13 +57,12 @@ module _ {C : Type 0} where
     pub owes : (x : ℕ) → Has v.owed x ↔ IsDue due x
     pub own : IsDue due b → RaisedOwn sys v b
 
-  -- the marks below the dirty word d are set
-  pub record IsMarking (sys : System) (b : ℕ) (from v : View C) (d : ℕ) (due : List ℕ) : Type 0 where
+  -- the body has raised all its output, and the marks that it still owes are those in `due`
+  pub record IsMarking (sys : System) (b : ℕ) (from v : View C) (due : List ℕ) : Type 0 where
     pub same_share : v.share ≡ from.share
     pub same_taken : v.taken ≡ from.taken
     pub body : (v.body ≡ Some b) ⊎ ((v.body ≡ None) × RaisedOwn sys v b)
     pub read : HasReadAll sys v b
     pub raised : HasRaisedAll sys v b
-    pub owes : (x : ℕ) → Has v.owed x → IsDue due x × (d ≤ x / 64)
-    pub left : (x : ℕ) → d ≤ x / 64 → IsDue due x → Has v.owed x
+    pub owes : (x : ℕ) → Has v.owed x ↔ IsDue due x
     pub own : IsDue due b → RaisedOwn sys v b

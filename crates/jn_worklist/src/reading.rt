@@ -1,31 +1,42 @@
 //! A body's reads.
-ghost use Rattle.std.specs.Prelude.{◌<◌, []};
-ghost use Rattle.jn_sigtable.specs.System.{IsReadList};
+ghost use Rattle.std.specs.Prelude.{◌≡◌, ◌⊎◌, ℕ, ◌<◌, true, [], length, replicate, slice_index};
+ghost use Rattle.jn_sigtable.specs.System.{IsReadList, lists_word};
 ghost use Rattle.jn_sigtable.specs.Words.{system_of, view_of, IsPassOf};
 ghost use Rattle.jn_worklist.specs.Runs.{IsReading};
 
 use jn_base::{BodyNo, WordNo};
 use jn_sigtable::{Constraints, Pass, SigTable};
 
-// The values of the words that the body reads, written over zeros.
+// Writes the values of the words that the body reads over zeros.
 pub fn read_all<C: Constraints>(
     table: &SigTable<C>,
     pass: &mut Pass<C>,
     body: BodyNo,
     reads: &[WordNo],
-    mut values: Vec<u64>,
-) -> Vec<u64>
+    values: &mut [u64],
+)
     requires own { IsPassOf C.describe table.now pass.old }
     requires inside { body.0 < (C.describe (system_of table.now)).bodies }
     requires list { IsReadList (C.describe (system_of table.now)) body.0 reads.now }
     requires begun { IsReading (C.describe (system_of table.now)) body.0 (view_of pass.old)
-        (view_of pass.old) values.items [] }
+        (view_of pass.old) values.old [] }
     ensures own { IsPassOf C.describe table.now pass.new }
     ensures read { IsReading (C.describe (system_of table.now)) body.0 (view_of pass.old)
-        (view_of pass.new) result.items reads.now }
+        (view_of pass.new) values.new reads.now }
 {
     for word in reads {
         values[word.0 as usize] = table.read_word(pass, *word);
     }
-    values
+}
+
+// Zeros where the words were written.
+pub fn clear_read(reads: &[WordNo], values: &mut [u64])
+    requires inside { (u : ℕ) → lists_word reads.now u ≡ true → u < length values.old }
+    requires rest { (u : ℕ)
+        → (slice_index values.old u ≡ 0) ⊎ (lists_word reads.now u ≡ true) }
+    ensures { values.new ≡ replicate (length values.new) 0 }
+{
+    for word in reads {
+        values[word.0 as usize] = 0;
+    }
 }

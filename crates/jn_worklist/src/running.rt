@@ -1,53 +1,43 @@
 //! One body, from its take to its last mark.
-ghost use Rattle.std.specs.Prelude.{◌≡◌, ◌<◌, IfOk, OnOk, OnErr, replicate};
+ghost use Rattle.std.specs.Prelude.{◌≡◌, ◌<◌, IfOk, OnOk, OnErr, length, replicate};
 ghost use Rattle.jn_sigtable.specs.Machine.{IsAtRest, dirty_words};
 ghost use Rattle.jn_sigtable.specs.System.{IsReadList};
 ghost use Rattle.jn_sigtable.specs.Words.{system_of, view_of, IsPassOf};
-ghost use Rattle.jn_worklist.specs.Plans.{plan_of};
-ghost use Rattle.jn_worklist.specs.Runs.{IsFresh, HasRun, HasGivenBack};
+ghost use Rattle.jn_worklist.specs.Plans.{plan_of, IsNoneDue};
+ghost use Rattle.jn_worklist.specs.Runs.{IsFresh, IsReading, IsRaising, HasRun, HasGivenBack};
 
 use crate::marking::{mark_again, mark_due};
 use crate::raising::raise_all;
 use crate::readers::Plan;
-use crate::reading::read_all;
+use crate::reading::{clear_read, read_all};
+use crate::room::Room;
 use jn_base::{BodyNo, OutOfMemory, WordNo};
 use jn_sigtable::{Constraints, Pass, SigTable};
 use std::alloc::Global;
 
-// What a body is run in, before its first read: the words that it reads, a zero for each word of the
-// table, and a zero for each word of dirty bits, since no body is due a mark yet.
-#[derive(Drop)]
-struct Room {
-    reads: Vec<WordNo>,
-    values: Vec<u64>,
-    due: Vec<u64>,
-}
-
-fn room_for<C: Constraints>(
+// The words that the body reads, with the room fit for the table.
+fn prepare<C: Constraints>(
     alloc: Global,
     table: &SigTable<C>,
     body: BodyNo,
-) -> Result<Room, OutOfMemory>
+    room: &mut Room,
+) -> Result<Vec<WordNo>, OutOfMemory>
     requires inside { body.0 < (C.describe (system_of table.now)).bodies }
     ensures reads { IfOk result
-        (λ r. IsReadList (C.describe (system_of table.now)) body.0 r.reads.items) }
-    ensures values { IfOk result
-        (λ r. r.values.items ≡ replicate (C.describe (system_of table.now)).words 0) }
-    ensures due { IfOk result
-        (λ r. r.due.items ≡ replicate (dirty_words (C.describe (system_of table.now))) 0) }
+        (λ reads. IsReadList (C.describe (system_of table.now)) body.0 reads.items) }
+    ensures values { OnOk result
+        (length room.new.values.items ≡ (C.describe (system_of table.now)).words) }
+    ensures due { OnOk result
+        (length room.new.due.items ≡ dirty_words (C.describe (system_of table.now))) }
 {
     let words = table.system().words() as usize;
     let dirty = (table.system().bodies() as usize + 63) / 64;
-    Ok(Room {
-        reads: table.system().words_read(alloc, body)?,
-        values: vec![in alloc; 0; words]?,
-        due: vec![in alloc; 0; dirty]?,
-    })
+    room.fit(alloc, words, dirty)?;
+    let reads = table.system().words_read(alloc, body)?;
+    Ok(reads)
 }
 
-/// Runs the body that the pass has just taken: reads the words that it reads, raises its output on
-/// them and marks the readers of each word in which a bit was new. The pass is idle after it. On
-/// want of memory the body is marked again, by one step that takes no memory.
+/// Runs the body that the pass has just taken, as [`run_body_in`] does, in room of its own.
 pub fn run_body<C: Constraints>(
     alloc: Global,
     table: &SigTable<C>,
@@ -66,30 +56,25 @@ pub fn run_body<C: Constraints>(
         (HasRun (C.describe (system_of table.now)) body.0 (view_of pass.old) (view_of pass.new)) }
     ensures back { OnErr result (HasGivenBack (view_of pass.old) (view_of pass.new)) }
 {
-    let Ok(room) = room_for(alloc, table, body) else {
-        mark_again(table, pass, body);
-        return Err(OutOfMemory);
-    };
-    run_in(alloc, table, plan, pass, body, room)
+    let mut room = Room::new(alloc);
+    run_body_in(alloc, table, plan, pass, body, &mut room)
 }
 
-// Runs the body in this room.
-fn run_in<C: Constraints>(
+/// Runs the body that the pass has just taken: reads the words that it reads, raises its output on
+/// them and marks the readers of each word in which a bit was new. The pass is idle after it. On
+/// want of memory the body is marked again, by one step that takes no memory. The first run in a
+/// room takes memory for it; each run costs what its body reads, sends and marks.
+pub fn run_body_in<C: Constraints>(
     alloc: Global,
     table: &SigTable<C>,
     plan: &Plan,
     pass: &mut Pass<C>,
     body: BodyNo,
-    room: Room,
+    room: &mut Room,
 ) -> Result<(), OutOfMemory>
     requires own { IsPassOf C.describe table.now pass.old }
     requires plan { plan.now ≡ plan_of (C.describe (system_of table.now)) }
     requires inside { body.0 < (C.describe (system_of table.now)).bodies }
-    requires reads { IsReadList (C.describe (system_of table.now)) body.0 room.reads.items }
-    requires values { room.values.items
-        ≡ replicate (C.describe (system_of table.now)).words 0 }
-    requires due { room.due.items
-        ≡ replicate (dirty_words (C.describe (system_of table.now))) 0 }
     requires taken { IsFresh (C.describe (system_of table.now)) body.0 (view_of pass.old) }
     ensures own { IsPassOf C.describe table.now pass.new }
     ensures idle { IsAtRest (C.describe (system_of table.now)) (view_of pass.new) }
@@ -98,17 +83,116 @@ fn run_in<C: Constraints>(
         (HasRun (C.describe (system_of table.now)) body.0 (view_of pass.old) (view_of pass.new)) }
     ensures back { OnErr result (HasGivenBack (view_of pass.old) (view_of pass.new)) }
 {
-    let Room {
-        reads,
-        values,
-        mut due,
-    } = room;
-    let values = read_all(table, pass, body, &reads, values);
-    let Ok(output) = table.system().output(alloc, body, values.as_slice()) else {
+    let Ok(reads) = prepare(alloc, table, body, room) else {
         mark_again(table, pass, body);
         return Err(OutOfMemory);
     };
-    raise_all(table, plan, pass, body, &values, &output, &mut due);
-    mark_due(table, pass, body, &due);
+    let Room { values, due } = room;
+    run_in(alloc, table, plan, pass, body, &reads, values, due)
+}
+
+// Runs the body in zeros, which are zeros again after it.
+fn run_in<C: Constraints>(
+    alloc: Global,
+    table: &SigTable<C>,
+    plan: &Plan,
+    pass: &mut Pass<C>,
+    body: BodyNo,
+    reads: &[WordNo],
+    values: &mut [u64],
+    due: &mut [u64],
+) -> Result<(), OutOfMemory>
+    requires own { IsPassOf C.describe table.now pass.old }
+    requires plan { plan.now ≡ plan_of (C.describe (system_of table.now)) }
+    requires inside { body.0 < (C.describe (system_of table.now)).bodies }
+    requires reads { IsReadList (C.describe (system_of table.now)) body.0 reads.now }
+    requires zeros { values.old ≡ replicate (length values.old) 0 }
+    requires words { length values.old ≡ (C.describe (system_of table.now)).words }
+    requires dirty { length due.old ≡ dirty_words (C.describe (system_of table.now)) }
+    requires none { IsNoneDue due.old }
+    requires taken { IsFresh (C.describe (system_of table.now)) body.0 (view_of pass.old) }
+    ensures own { IsPassOf C.describe table.now pass.new }
+    ensures idle { IsAtRest (C.describe (system_of table.now)) (view_of pass.new) }
+    ensures share { (view_of pass.new).share ≡ (view_of pass.old).share }
+    ensures run { OnOk result
+        (HasRun (C.describe (system_of table.now)) body.0 (view_of pass.old) (view_of pass.new)) }
+    ensures back { OnErr result (HasGivenBack (view_of pass.old) (view_of pass.new)) }
+    ensures zeros { values.new ≡ replicate (length values.new) 0 }
+    ensures none { IsNoneDue due.new }
+{
+    read_all(table, pass, body, reads, values);
+    let sent = send_all(alloc, table, plan, pass, body, reads, values, due);
+    clear_read(reads, values);
+    sent
+}
+
+// Raises the output of the body, which has read its words, and marks those that are due then.
+fn send_all<C: Constraints>(
+    alloc: Global,
+    table: &SigTable<C>,
+    plan: &Plan,
+    pass: &mut Pass<C>,
+    body: BodyNo,
+    reads: &[WordNo],
+    values: &[u64],
+    due: &mut [u64],
+) -> Result<(), OutOfMemory>
+    requires own { IsPassOf C.describe table.now pass.old }
+    requires plan { plan.now ≡ plan_of (C.describe (system_of table.now)) }
+    requires inside { body.0 < (C.describe (system_of table.now)).bodies }
+    requires reads { IsReadList (C.describe (system_of table.now)) body.0 reads.now }
+    requires read { IsReading (C.describe (system_of table.now)) body.0 (view_of pass.old)
+        (view_of pass.old) values.now reads.now }
+    requires dirty { length due.old ≡ dirty_words (C.describe (system_of table.now)) }
+    requires none { IsNoneDue due.old }
+    ensures own { IsPassOf C.describe table.now pass.new }
+    ensures idle { IsAtRest (C.describe (system_of table.now)) (view_of pass.new) }
+    ensures share { (view_of pass.new).share ≡ (view_of pass.old).share }
+    ensures run { OnOk result
+        (HasRun (C.describe (system_of table.now)) body.0 (view_of pass.old) (view_of pass.new)) }
+    ensures back { OnErr result (HasGivenBack (view_of pass.old) (view_of pass.new)) }
+    ensures none { IsNoneDue due.new }
+{
+    let _reads = reads;
+    let Ok(output) = table.system().output(alloc, body, values) else {
+        mark_again(table, pass, body);
+        return Err(OutOfMemory);
+    };
+    let Ok(mut new) = vec![in alloc; false; output.len()] else {
+        mark_again(table, pass, body);
+        return Err(OutOfMemory);
+    };
+    send(table, plan, pass, body, values, &output, &mut new, due);
     Ok(())
+}
+
+// Raises this output of the body, with a flag for each of its words, and marks those that are due.
+fn send<C: Constraints>(
+    table: &SigTable<C>,
+    plan: &Plan,
+    pass: &mut Pass<C>,
+    body: BodyNo,
+    values: &[u64],
+    output: &[(WordNo, u64)],
+    new: &mut [bool],
+    due: &mut [u64],
+)
+    requires own { IsPassOf C.describe table.now pass.old }
+    requires plan { plan.now ≡ plan_of (C.describe (system_of table.now)) }
+    requires inside { body.0 < (C.describe (system_of table.now)).bodies }
+    requires count { length values.now ≡ (C.describe (system_of table.now)).words }
+    requires output { output.now ≡ (C.describe (system_of table.now)).output body.0 values.now }
+    requires raising { IsRaising (C.describe (system_of table.now)) body.0 (view_of pass.old)
+        values.now (view_of pass.old) output.now 0 due.old }
+    requires flags { length new.old ≡ length output.now }
+    requires none { IsNoneDue due.old }
+    ensures own { IsPassOf C.describe table.now pass.new }
+    ensures idle { IsAtRest (C.describe (system_of table.now)) (view_of pass.new) }
+    ensures share { (view_of pass.new).share ≡ (view_of pass.old).share }
+    ensures run { HasRun (C.describe (system_of table.now)) body.0 (view_of pass.old)
+        (view_of pass.new) }
+    ensures none { IsNoneDue due.new }
+{
+    raise_all(table, plan, pass, body, values, output, new, due);
+    mark_due(table, plan, pass, body, output, new, due);
 }

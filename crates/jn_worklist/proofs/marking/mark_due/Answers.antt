@@ -1,21 +1,12 @@
-use Rattle.std.proofs.Common.{◌≡◌, ℕ, ◌+◌, ◌/◌, length, sym, ap, ◌∙◌, arith}
-use Rattle.jn_worklist.proofs.RunSteps.{marks_rest, marks_run}
+use Rattle.std.proofs.Common.{◌≤◌, length, arith}
+use Rattle.jn_worklist.specs.Plans.{IsNoneDue}
+use Rattle.jn_worklist.proofs.DueBy.{all_marked}
+use Rattle.jn_worklist.proofs.RunSteps.{marks_rest}
 use Rattle.jn_worklist.proofs.marking.mark_due.Goals as goal
 
 pub returns-clause-idle : goal.returns-clause-idle
 returns-clause-idle g c =
     let d = g.C.Constraints.describe in
-    let n : c.bodies.result ≡ (d c.args.table.now.counted.system).bodies = c.bodies.ensures ∙ ap (λ x. (d x).bodies) c.system.ensures in
-    let e : (c.bodies.result + 63) / 64 ≡ length c.args.due.now = ap (λ (x : ℕ). (x + 63) / 64) n ∙ sym c.requires.count in
-    let lo = c.loop-dirty-test.false in
-    let hi = c.loop-dirty.auto.dirty-end in
-    marks_rest d (d c.args.table.now.counted.system) c.args.body.0 c.args.pass.now.seat.me.0 c.loop-dirty.pass.seat.me.0 c.loop-dirty.dirty c.args.due.now c.loop-dirty.invariant.1 (omega arith)
-
-pub returns-clause-run : goal.returns-clause-run
-returns-clause-run g c =
-    let d = g.C.Constraints.describe in
-    let n : c.bodies.result ≡ (d c.args.table.now.counted.system).bodies = c.bodies.ensures ∙ ap (λ x. (d x).bodies) c.system.ensures in
-    let e : (c.bodies.result + 63) / 64 ≡ length c.args.due.now = ap (λ (x : ℕ). (x + 63) / 64) n ∙ sym c.requires.count in
-    let lo = c.loop-dirty-test.false in
-    let hi = c.loop-dirty.auto.dirty-end in
-    marks_run d (d c.args.table.now.counted.system) c.args.body.0 c.args.pass.now.seat.me.0 c.loop-dirty.pass.seat.me.0 c.loop-dirty.dirty c.args.due.now c.loop-dirty.invariant.1 (omega arith)
+    let past : length c.args.new.now ≤ c.loop-at.at = let lo = c.loop-at-test.false in let hi = c.loop-at.auto.at-end in let f = c.requires.flags in omega arith in
+    let none : IsNoneDue c.loop-at.due = all_marked c.args.plan.now c.args.output.now c.args.new.now c.loop-at.due c.loop-at.at past c.loop-at.invariant.from in
+    marks_rest d (d c.args.table.now.counted.system) c.args.body.0 c.args.pass.now.seat.me.0 c.loop-at.pass.seat.me.0 c.loop-at.due c.loop-at.invariant.marking none

@@ -1,4 +1,4 @@
-use Rattle.std.proofs.Common.{◌≡◌, [], get_or, arith}
+use Rattle.std.proofs.Common.{get_or}
 use Rattle.std.proofs.lemmas.List.{get_or_default}
 use Rattle.jn_base.specs.declared.number.WordNo.{WordNo}
 use Rattle.jn_worklist.proofs.PlanSteps.{planned_body, planned_more, word_inside}

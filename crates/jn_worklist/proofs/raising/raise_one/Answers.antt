@@ -1,10 +1,11 @@
-use Rattle.std.proofs.Common.{◌≡◌, ℕ, bit_or, get_or, length, sym, ap, ◌∙◌, subst, refl, arith, eq-eqb, true≢false}
+use Rattle.std.proofs.Common.{◌≡◌, ◌<◌, ℕ, bit_or, get_or, length, sym, ap, ◌∙◌, subst, refl, arith, eq-eqb, true≢false}
 use Rattle.std.proofs.lemmas.Bool.{eqb-true}
 use mathlib.Core.Option.{some}
 use lib.ListN.{get_elem?}
 use Rattle.jn_base.specs.declared.number.WordNo.{WordNo}
 use Rattle.jn_sigtable.specs.System.{Within, bits_for}
 use Rattle.jn_worklist.proofs.PlanFacts.{entry_at, plan_length, readers_fit, readers_due}
+use Rattle.jn_worklist.proofs.DueBy.{due_by_more}
 use Rattle.jn_worklist.proofs.RaiseSteps.{raises_on, entry_within}
 use Rattle.jn_worklist.proofs.raising.raise_one.Goals as goal
 
@@ -68,3 +69,8 @@ returns-else-found-bits-clause-raising g c =
     raises_on d it c.args.body.0 c.args.pass.now.seat.me.0 c.args.values.now c.args.pass.now.seat.me.0 c.raise_word-found.new.pass.seat.me.0 c.args.output.now c.args.at c.raise_word-found.result o c.args.due.now c.args.due.now
     c.requires.own.1 c.requires.raising at c.raise_word-found.ensures.view c.requires.raising.count (λ _. refl)
     (λ e. absurd (true≢false (sym (eq-eqb (bit_or c.raise_word-found.result o.1) c.raise_word-found.result t) ∙ e)))
+
+pub returns-then-found-bits-clause-from : goal.returns-then-found-bits-clause-from
+returns-then-found-bits-clause-from g c =
+    let inside : c.args.at < length c.args.new.now = let p = c.requires.at in let q = c.requires.flags in omega arith in
+    due_by_more c.args.plan.now c.args.output.now c.args.new.now c.args.due.now c.add_bodies.new.due c.args.at c.readers.result.now inside c.readers.ensures c.add_bodies.ensures.bits c.requires.from

@@ -1,4 +1,4 @@
-use Rattle.std.proofs.Common.{◌≡◌, ◌<◌, get_or, length, sym, ap, arith}
+use Rattle.std.proofs.Common.{get_or, length, ap, arith}
 use Rattle.std.proofs.lemmas.List.{get_or_default}
 use Rattle.jn_base.specs.declared.number.WordNo.{WordNo}
 use Rattle.jn_sigtable.specs.Words.{system_of, view_of}
@@ -19,8 +19,8 @@ read_word-requires-clause-runs g c =
     let x : WordNo = get_or ws i (record { 0 = 0 }) in
     (c.args.body.0, c.loop-word.invariant.1.body, (word_read (g.C.Constraints.describe (system_of c.args.table.now)) c.args.body.0 ws i x c.loop-word-test.true (get_or_default ws i (record { 0 = 0 }) x c.loop-word-test.true) c.requires.list).1)
 
-pub index_mut-requires : goal.index_mut-requires
-index_mut-requires g c =
+pub bounds-values-word : goal.bounds-values-word
+bounds-values-word g c =
     let i = c.loop-word.word-index in
     let ws = c.args.reads.now in
     let x : WordNo = get_or ws i (record { 0 = 0 }) in
@@ -35,5 +35,5 @@ loop-word-preserved g c =
     let ws = c.args.reads.now in
     let x : WordNo = get_or ws i (record { 0 = 0 }) in (
       c.read_word.ensures.own,
-      reads_more g.C.Constraints.describe (g.C.Constraints.describe (system_of c.args.table.now)) c.args.body.0 (view_of c.args.pass.now) (view_of c.loop-word.pass) (view_of c.read_word.new.pass) c.loop-word.values.items ws i x c.read_word.result c.loop-word-test.true (get_or_default ws i (record { 0 = 0 }) x c.loop-word-test.true) c.loop-word.invariant.1 c.read_word.ensures.view,
+      reads_more g.C.Constraints.describe (g.C.Constraints.describe (system_of c.args.table.now)) c.args.body.0 (view_of c.args.pass.now) (view_of c.loop-word.pass) (view_of c.read_word.new.pass) c.loop-word.values ws i x c.read_word.result c.loop-word-test.true (get_or_default ws i (record { 0 = 0 }) x c.loop-word-test.true) c.loop-word.invariant.1 c.read_word.ensures.view,
     )

@@ -6,4 +6,4 @@ use Rattle.jn_worklist.proofs.reading.read_all.Given as goal
 abbrev pub invariant-loop-word : goal.invariant-loop-word
 invariant-loop-word g l =
     IsPassOf g.C.Constraints.describe l.table l.pass
-    × IsReading (g.C.Constraints.describe (system_of l.table)) l.fn.body.0 (view_of l.fn.pass) (view_of l.pass) l.values.items (take l.word-index l.reads)
+    × IsReading (g.C.Constraints.describe (system_of l.table)) l.fn.body.0 (view_of l.fn.pass) (view_of l.pass) l.values (take l.word-index l.reads)
