@@ -9,7 +9,7 @@ ghost use Rattle.jn_workers.specs.Passes.{CanWork, HasWorked};
 use crate::gate::Gate;
 use jn_base::{BodyNo, OutOfMemory, WordNo};
 use jn_sigtable::{Constraints, Pass, SigTable};
-use jn_worklist::{Plan, run_body};
+use jn_worklist::{Plan, Room, run_body_in};
 use std::alloc::Global;
 
 /// How a worker ended.
@@ -30,6 +30,7 @@ fn try_body<C: Constraints, G: Gate>(
     worker: u32,
     body: BodyNo,
     gate: &G,
+    room: &mut Room,
 ) -> Result<bool, OutOfMemory>
     requires ready { CanWork C.describe table.now plan.now pass.old }
     requires inside { body.0 < (C.describe (system_of table.now)).bodies }
@@ -41,7 +42,7 @@ fn try_body<C: Constraints, G: Gate>(
         return Ok(false);
     };
     gate.enter(worker, taken);
-    match run_body(alloc, table, plan, pass, body) {
+    match run_body_in(alloc, table, plan, pass, body, room) {
         Ok(()) => Ok(true),
         Err(_) => Err(OutOfMemory),
     }
@@ -59,6 +60,7 @@ fn try_place<C: Constraints, G: Gate>(
     bits: u64,
     place: u32,
     gate: &G,
+    room: &mut Room,
 ) -> Result<bool, OutOfMemory>
     requires ready { CanWork C.describe table.now plan.now pass.old }
     requires bound { (view_of pass.old).taken ≤ bound_of C.describe table.now }
@@ -74,7 +76,16 @@ fn try_place<C: Constraints, G: Gate>(
     if (bits >> place) & 1 == 0 || body >= table.system().bodies() as u64 {
         return Ok(false);
     }
-    try_body(alloc, table, plan, pass, worker, BodyNo(body as u32), gate)
+    try_body(
+        alloc,
+        table,
+        plan,
+        pass,
+        worker,
+        BodyNo(body as u32),
+        gate,
+        room,
+    )
 }
 
 // Takes and runs the bodies of one dirty word that were found dirty; whether one was taken.
@@ -87,6 +98,7 @@ fn visit<C: Constraints, G: Gate>(
     dirty: u32,
     bits: u64,
     gate: &G,
+    room: &mut Room,
 ) -> Result<bool, OutOfMemory>
     requires ready { CanWork C.describe table.now plan.now pass.old }
     requires bound { (view_of pass.old).taken ≤ bound_of C.describe table.now }
@@ -98,7 +110,9 @@ fn visit<C: Constraints, G: Gate>(
 {
     let mut took = false;
     for place in 0..64u32 {
-        let more = try_place(alloc, table, plan, pass, worker, dirty, bits, place, gate)?;
+        let more = try_place(
+            alloc, table, plan, pass, worker, dirty, bits, place, gate, room,
+        )?;
         took = took | more;
     }
     Ok(took)
@@ -112,6 +126,7 @@ fn round<C: Constraints, G: Gate>(
     pass: &mut Pass<C>,
     worker: u32,
     gate: &G,
+    room: &mut Room,
 ) -> Result<bool, OutOfMemory>
     requires ready { CanWork C.describe table.now plan.now pass.old }
     ensures worked { HasWorked C.describe table.now pass.old pass.new }
@@ -122,7 +137,7 @@ fn round<C: Constraints, G: Gate>(
     let mut took = false;
     for word in 0..dirty as u32 {
         let bits = table.scan(pass, WordNo(word));
-        let more = visit(alloc, table, plan, pass, worker, word, bits, gate)?;
+        let more = visit(alloc, table, plan, pass, worker, word, bits, gate, room)?;
         took = took | more;
     }
     Ok(took)
@@ -131,7 +146,7 @@ fn round<C: Constraints, G: Gate>(
 /// Takes and runs dirty bodies in rounds over all dirty bits, until a round finds none or no memory
 /// is found. It waits for nobody: another round needs a body that this pass took, and all passes
 /// together take no more than the table's bound. The gate is entered once after each taken body. The
-/// pass is idle, and its share stays as it was.
+/// pass is idle, and its share stays as it was. All bodies are run in the same room.
 pub fn work<C: Constraints, G: Gate>(
     alloc: Global,
     table: &SigTable<C>,
@@ -150,8 +165,9 @@ pub fn work<C: Constraints, G: Gate>(
         → HasSeenAll (C.describe (system_of table.now)) (view_of pass.new) }
     ensures bound { (view_of pass.new).taken ≤ bound_of C.describe table.now }
 {
+    let mut room = Room::new(alloc);
     loop {
-        match round(alloc, table, plan, pass, worker, gate) {
+        match round(alloc, table, plan, pass, worker, gate, &mut room) {
             Ok(true) => {}
             Ok(false) => return Worked::Emptied,
             Err(_) => return Worked::OutOfMemory,
