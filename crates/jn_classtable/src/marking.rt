@@ -89,7 +89,7 @@ fn push_field(
     )
 }
 
-#[tactic(auto, using(crate::proofs::Marking::field_more))]
+#[tactic(auto, using(crate::proofs::SlotLoops::field_more))]
 fn push_fields(
     declared: &Declarations,
     slots: &mut Seq<SlotInfo>,
@@ -126,7 +126,7 @@ fn member_fields(
     push_fields(declared, slots, mark, heads.as_slice())
 }
 
-#[tactic(auto, using(crate::proofs::Marking::fields_more))]
+#[tactic(auto, using(crate::proofs::SlotLoops::fields_more))]
 fn members_fields(
     alloc: Global,
     declared: &Declarations,
@@ -163,7 +163,7 @@ fn push_value(
     )
 }
 
-#[tactic(auto, using(crate::proofs::Marking::param_more))]
+#[tactic(auto, using(crate::proofs::SlotLoops::param_more))]
 fn push_params(
     declared: &Declarations,
     slots: &mut Seq<SlotInfo>,
@@ -206,7 +206,7 @@ fn push_receiver(slots: &mut Seq<SlotInfo>, mark: bool, head: &MethodHead) -> Re
 }
 
 /// Adds the slots of a method that is inferred, or not: receiver, parameters, result.
-#[tactic(auto, using(crate::proofs::Marking::method_more))]
+#[tactic(auto, using(crate::proofs::SlotLoops::method_more))]
 fn push_method(
     declared: &Declarations,
     slots: &mut Seq<SlotInfo>,
@@ -221,7 +221,7 @@ fn push_method(
     push_result(declared, slots, mark, head.result)
 }
 
-#[tactic(auto, using(crate::proofs::Marking::methods_next))]
+#[tactic(auto, using(crate::proofs::SlotLoops::methods_next))]
 fn push_methods(
     declared: &Declarations,
     slots: &mut Seq<SlotInfo>,
@@ -258,7 +258,7 @@ fn member_methods(
     push_methods(declared, slots, mark, heads.as_slice())
 }
 
-#[tactic(auto, using(crate::proofs::Marking::methods_more))]
+#[tactic(auto, using(crate::proofs::SlotLoops::methods_more))]
 fn members_methods(
     alloc: Global,
     declared: &Declarations,
@@ -298,7 +298,7 @@ fn push_members(
 }
 
 /// Adds the slots of a type. A constructor that isn't written has none.
-#[tactic(auto, using(crate::proofs::Marking::no_constructor))]
+#[tactic(auto, using(crate::proofs::SlotLoops::no_constructor))]
 fn push_type(
     alloc: Global,
     declared: &Declarations,
@@ -320,7 +320,7 @@ fn push_type(
     }
 }
 
-#[tactic(auto, using(crate::proofs::Marking::type_more))]
+#[tactic(auto, using(crate::proofs::SlotLoops::type_more))]
 fn push_types(
     alloc: Global,
     declared: &Declarations,
@@ -340,7 +340,7 @@ fn push_types(
 }
 
 /// The slots of the files by the choice, where these are the files' declarations.
-#[tactic(auto, using(crate::proofs::Marking::file_more))]
+#[tactic(auto, using(crate::proofs::SlotLoops::file_more))]
 pub fn slots_by(
     alloc: Global,
     declared: &Declarations,
