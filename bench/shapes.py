@@ -60,27 +60,27 @@ def _(n, k):
 
 
 # Values that are needed at once, and such as come one after the other.
-@shape("array of numbers", 500, 16000)
+@shape("array of numbers", 60, 1000)
 def _(n, k):
     return method(k, "", "    int[] a = new int[] { " + times(n, lambda i: str(i), ", ") + " };")
 
 
-@shape("array of texts", 500, 16000)
+@shape("array of texts", 60, 1000)
 def _(n, k):
     return method(k, "", "    String[] a = new String[] { " + times(n, lambda i: f'"t{i}"', ", ") + " };")
 
 
-@shape("array of nulls", 500, 16000)
+@shape("array of nulls", 60, 1000)
 def _(n, k):
     return method(k, "", "    @Nullable String[] a = new @Nullable String[] { " + times(n, lambda i: "null", ", ") + " };")
 
 
-@shape("array of objects", 500, 4000)
+@shape("array of objects", 60, 1000)
 def _(n, k):
     return method(k, "", f"    C{k}[] a = new C{k}[] {{ " + times(n, lambda i: f"new C{k}()", ", ") + " };")
 
 
-@shape("array of calls", 500, 4000)
+@shape("array of calls", 60, 500)
 def _(n, k):
     return f"class C{k} {{\n  int g(int x) {{ return x; }}\n  int[] f() {{ return new int[] {{ " + times(n, lambda i: f"g({i})", ", ") + " }; }\n}\n"
 
@@ -88,6 +88,26 @@ def _(n, k):
 @shape("array of nullable", 500, 8000, says="rejected")
 def _(n, k):
     return method(k, "@Nullable String s", "    String[] a = new String[] { " + times(n, lambda i: "s", ", ") + " };")
+
+
+@shape("too many numbers", 500, says="refused")
+def _(n, k):
+    return method(k, "", "    int[] a = new int[] { " + times(n, lambda i: str(i), ", ") + " };")
+
+
+@shape("too many calls", 500, says="refused")
+def _(n, k):
+    return f"class C{k} {{\n  int g(int x) {{ return x; }}\n  int[] f() {{ return new int[] {{ " + times(n, lambda i: f"g({i})", ", ") + " }; }\n}\n"
+
+
+@shape("too many objects", 500, says="refused")
+def _(n, k):
+    return method(k, "", f"    C{k}[] a = new C{k}[] {{ " + times(n, lambda i: f"new C{k}()", ", ") + " };")
+
+
+@shape("too many updates", 500, says="refused")
+def _(n, k):
+    return method(k, "int x", "    for (; x < 1; " + times(n, lambda i: "x++", ", ") + ") { }")
 
 
 @shape("arguments", 60, 960)
@@ -205,12 +225,12 @@ def _(n, k):
     return method(k, "int x", "    " + "x = " * n + "1;")
 
 
-@shape("updates", 60, 16000)
+@shape("updates", 60, 500)
 def _(n, k):
     return method(k, "int x", "    for (; x < 1; " + times(n, lambda i: "x++", ", ") + ") { }")
 
 
-@shape("first expressions", 60, 16000)
+@shape("first expressions", 60, 1000)
 def _(n, k):
     return method(k, "int x", "    for (" + times(n, lambda i: f"x = {i}", ", ") + "; x < 1; ) { }")
 
@@ -256,7 +276,7 @@ def _(n, k):
     return f"class C{k} {{\n" + times(n, lambda i: f"  int a{i} = {i};\n") + "}\n"
 
 
-@shape("fields of texts", 250, 4000, copies=16)
+@shape("fields of texts", 250, 2000, copies=16)
 def _(n, k):
     return f"class C{k} {{\n" + times(n, lambda i: f'  String a{i} = "{i}";\n') + "}\n"
 
@@ -267,26 +287,31 @@ def _(n, k):
     return f"class C{k} {{\n" + times(n, lambda i: f'  String a{i} = "{i}";\n') + constructors + "}\n"
 
 
-@shape("fields set by constructor", 250, 4000, copies=16)
+@shape("fields set by constructor", 250, 2000, copies=16)
 def _(n, k):
     return f"class C{k} {{\n" + times(n, lambda i: f"  String a{i};\n") + f"  C{k}(String s) {{\n" + times(n, lambda i: f"    a{i} = s;\n") + "  }\n}\n"
 
 
-@shape("fields set and read", 250, 4000, copies=16)
+@shape("fields set and read", 250, 2000, copies=16)
 def _(n, k):
     return (f"class C{k} {{\n" + times(n, lambda i: f"  String a{i};\n") + f"  C{k}(String s) {{\n"
             + times(n, lambda i: f"    a{i} = s; s = a{i};\n") + "  }\n}\n")
 
 
-@shape("fields not set", 250, 4000, copies=16, says="rejected")
+@shape("fields not set", 250, 2000, copies=16, says="rejected")
 def _(n, k):
     return f"class C{k} {{\n" + times(n, lambda i: f"  String a{i};\n") + f"  C{k}() {{ }}\n}}\n"
 
 
-@shape("fields set on two ways", 250, 4000, copies=16)
+@shape("fields set on two ways", 250, 2000, copies=16)
 def _(n, k):
     return (f"class C{k} {{\n" + times(n, lambda i: f"  String a{i};\n") + f"  C{k}(boolean b, String s) {{\n"
             + times(n, lambda i: f"    if (b) a{i} = s; else a{i} = s;\n") + "  }\n}\n")
+
+
+@shape("too many fields", 4500, copies=16, says="refused")
+def _(n, k):
+    return f"class C{k} {{\n" + times(n, lambda i: f'  String a{i} = "{i}";\n') + "}\n"
 
 
 @shape("constructors", 60, 500)
@@ -344,13 +369,13 @@ def _(n, k):
             + times(n, lambda i: f"    f{i}(s);\n") + "  }\n}\n")
 
 
-@shape("inferred fields", 500, 8000)
+@shape("inferred fields", 250, 2000, copies=16)
 def _(n, k):
     return (f"class C{k} {{\n" + times(n, lambda i: f"  private String a{i};\n") + f"  C{k}() {{\n"
             + times(n, lambda i: f"    a{i} = null;\n") + "  }\n}\n")
 
 
-@shape("inferred fields, a chain", 500, 8000)
+@shape("inferred fields, a chain", 250, 2000, copies=16)
 def _(n, k):
     return (f"class C{k} {{\n" + times(n, lambda i: f"  private String a{i} = \"\";\n")
             + times(n - 1, lambda i: f"  void f{i}() {{ a{i + 1} = a{i}; }}\n") + "  void go() { a0 = null; }\n}\n")
