@@ -16,7 +16,7 @@ state_of m out = record { limits = usual_limits; heap = m.heap.items; statics = 
 -- what a point did that left the machine so, where the text printed before it is out
 abbrev pub acted_next : Acted → MachineState → List ℕ → Next
 acted_next HasGone m out = Goes (state_of m out)
-acted_next (HasPrinted line) m out = Goes (state_of m (out ++ line))
+acted_next (HasPrinted line) m out = Goes (state_of m (out ++ line.value))
 acted_next (HasEnded e) m out = Ends (end_of e) (state_of m out)
 acted_next IsStuck m out = Stuck
 

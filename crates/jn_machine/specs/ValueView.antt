@@ -5,6 +5,6 @@ use Rattle.jn_heap.specs.Values.{Value, NullRef, Text, Plain, At}
 
 abbrev pub value_view : Node → Value
 value_view Null = NullRef
-value_view (TextNode t) = Text t
+value_view (TextNode t) = Text t.value
 value_view (PlainNode p) = Plain p
 value_view (AtNode o) = At o

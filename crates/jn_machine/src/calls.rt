@@ -44,7 +44,6 @@ pub fn point_at(program: &Program, body: usize, at: usize) -> Option<&Point>
 /// Puts the values of all operands behind those given; None where a register holds none.
 #[tactic(auto, using(crate::proofs::Pieces::prepended_more))]
 pub(crate) fn gather(
-    alloc: Global,
     frame: &Frame,
     args: &[Operand],
     front: Seq<Value>,
@@ -53,7 +52,7 @@ pub(crate) fn gather(
 {
     let mut values = front;
     for operand in args {
-        match copied(alloc, frame, operand.reg)? {
+        match copied(frame, operand.reg)? {
             None => return Ok(None),
             Some(value) => values.push(value)?,
         }
@@ -83,7 +82,7 @@ pub(crate) fn array_of(
         → array_of (state_of state.old out) dst.0 base (gather state.old.top.regs values.now)
         ≡ acted_next acted state.new out) }
 {
-    match gather(alloc, &state.top, values, Seq::new(alloc))? {
+    match gather(&state.top, values, Seq::new(alloc))? {
         None => Ok(Acted::Stuck),
         Some(items) => allocate(state, dst, Thing::array(base, items.into_vec())),
     }
@@ -256,7 +255,7 @@ pub(crate) fn new_object(
         ≡ acted_next acted state.new out) }
 {
     let this = one(alloc, Value::at(state.heap.len()))?;
-    match gather(alloc, &state.top, args, this)? {
+    match gather(&state.top, args, this)? {
         None => Ok(Acted::Stuck),
         Some(values) => news(alloc, program, state, ctor, values),
     }
@@ -274,11 +273,11 @@ pub(crate) fn ctor_call(
         (value_at state.old.top.regs 0) (gather state.old.top.regs args.now)
         ≡ acted_next acted state.new out) }
 {
-    let Some(this) = copied(alloc, &state.top, RegNo(0))? else {
+    let Some(this) = copied(&state.top, RegNo(0))? else {
         return Ok(Acted::Stuck);
     };
     let front = one(alloc, this)?;
-    match gather(alloc, &state.top, args, front)? {
+    match gather(&state.top, args, front)? {
         None => Ok(Acted::Stuck),
         Some(values) => enters(alloc, program, state, ctor.0 as usize, values),
     }
@@ -318,7 +317,7 @@ fn call_static(
         (gather state.old.top.regs args.now)
         ≡ acted_next acted state.new out) }
 {
-    match gather(alloc, &state.top, args, Seq::new(alloc))? {
+    match gather(&state.top, args, Seq::new(alloc))? {
         None => Ok(Acted::Stuck),
         Some(values) => enters(alloc, program, state, method.0 as usize, values),
     }
@@ -342,7 +341,7 @@ fn call_on(
         return Ok(Acted::Stuck);
     };
     let this = one(alloc, Value::at(place))?;
-    let Some(values) = gather(alloc, &state.top, args, this)? else {
+    let Some(values) = gather(&state.top, args, this)? else {
         return Ok(Acted::Stuck);
     };
     match selected(program, &state.heap, place, method, direct) {
@@ -428,7 +427,6 @@ fn take(
 
 /// The frame that runs gives a value to the one that waits for it; `main`'s frame is the last.
 pub(crate) fn returns(
-    alloc: Global,
     program: &Program,
     state: &mut MachineState,
     value: Option<Operand>,
@@ -438,10 +436,10 @@ pub(crate) fn returns(
         (value_at state.old.top.regs 0) (value_of state.old.top.regs value)
         ≡ acted_next acted state.new out) }
 {
-    let this = copied(alloc, &state.top, RegNo(0))?;
+    let this = copied(&state.top, RegNo(0))?;
     let given = match value {
         None => None,
-        Some(operand) => copied(alloc, &state.top, operand.reg)?,
+        Some(operand) => copied(&state.top, operand.reg)?,
     };
     match state.waiting.pop_front() {
         None => Ok(Acted::Ends(End::Done)),

@@ -4,6 +4,7 @@
 //! [`step_to`] and [`run_to`] print to a sink on the way.
 #![tactic(auto)]
 
+mod arms;
 mod calls;
 pub mod frame;
 mod members;

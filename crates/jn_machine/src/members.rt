@@ -20,7 +20,6 @@ use std::alloc::{AllocError, Global};
 
 /// A field of the object that a register refers to.
 pub(crate) fn read_field(
-    alloc: Global,
     program: &Program,
     state: &MachineState,
     object: RegNo,
@@ -39,7 +38,7 @@ pub(crate) fn read_field(
     match thing.field(program, field) {
         None => Ok(Got::Lacks),
         Some(value) => {
-            let copy = value.copy(alloc)?;
+            let copy = value.copy()?;
             Ok(Got::Gives(copy))
         }
     }
@@ -74,7 +73,6 @@ fn store_field(
 }
 
 pub(crate) fn write_field(
-    alloc: Global,
     program: &Program,
     state: &mut MachineState,
     object: RegNo,
@@ -91,7 +89,7 @@ pub(crate) fn write_field(
     let Some(place) = state.top.object(object) else {
         return Ok(Acted::Stuck);
     };
-    let Some(value) = copied(alloc, &state.top, from)? else {
+    let Some(value) = copied(&state.top, from)? else {
         return Ok(Acted::Stuck);
     };
     Ok(store_field(program, state, place, field, value))
@@ -135,7 +133,6 @@ pub(crate) fn write_static(state: &mut MachineState, field: FieldNo, from: RegNo
 
 /// An element of the array that a register refers to.
 pub(crate) fn read_elem(
-    alloc: Global,
     state: &MachineState,
     array: RegNo,
     at: RegNo,
@@ -152,7 +149,7 @@ pub(crate) fn read_elem(
     };
     match state.heap.get(place) {
         None => Ok(Got::Lacks),
-        Some(thing) => thing.element(alloc, number),
+        Some(thing) => thing.element(number),
     }
 }
 
@@ -206,7 +203,6 @@ fn store_elem(
 }
 
 pub(crate) fn write_elem(
-    alloc: Global,
     program: &Program,
     state: &mut MachineState,
     array: RegNo,
@@ -227,7 +223,7 @@ pub(crate) fn write_elem(
     let Some(number) = state.top.int(at) else {
         return Ok(Acted::Stuck);
     };
-    let Some(value) = copied(alloc, &state.top, from)? else {
+    let Some(value) = copied(&state.top, from)? else {
         return Ok(Acted::Stuck);
     };
     Ok(store_elem(program, state, place, index(number), value))
@@ -317,7 +313,6 @@ pub(crate) fn new_array(
 
 /// A register's value, where it is null or of the class.
 pub(crate) fn cast(
-    alloc: Global,
     program: &Program,
     state: &MachineState,
     of: RegNo,
@@ -329,7 +324,7 @@ pub(crate) fn cast(
 {
     match state.top.value(of) {
         None => Ok(Got::Lacks),
-        Some(value) => value.cast(alloc, program, &state.heap, class),
+        Some(value) => value.cast(program, &state.heap, class),
     }
 }
 

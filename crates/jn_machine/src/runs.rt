@@ -1,6 +1,6 @@
 //! Start states and runs.
 ghost use Rattle.std.specs.Prelude.{◌≡◌, ◌∷◌, [], IfOk};
-ghost use Rattle.jn_heap.specs.Values.{At, Elems, first_of, statics_of, usual_limits};
+ghost use Rattle.jn_heap.specs.Values.{At, Elems, Text as TextValue, first_of, statics_of, usual_limits};
 ghost use Rattle.jn_heap.specs.State.{Goes};
 ghost use Rattle.jn_heap.specs.Calls.{entered};
 ghost use Rattle.jn_heap.specs.Runs as spec;
@@ -40,13 +40,21 @@ fn statics_of(alloc: Global, fields: &[Field]) -> Result<Vec<Primitive>, AllocEr
     Ok(statics)
 }
 
+/// A word as a String.
+fn text_value(alloc: Global, word: &Text) -> Result<Value, AllocError>
+    ensures { IfOk result (λ v. v ≡ TextValue word.now) }
+{
+    let text = word.copy(alloc)?;
+    Value::text(alloc, text)
+}
+
 /// Each word as a String.
 fn texts(alloc: Global, words: &[Text]) -> Result<Vec<Value>, AllocError>
     ensures { IfOk result (λ v. v.items ≡ spec.texts words.now) }
 {
     let mut values = Vec::new(alloc);
     for word in words {
-        values.push(Value::text(word.copy(alloc)?))?;
+        values.push(text_value(alloc, word)?)?;
     }
     Ok(values)
 }

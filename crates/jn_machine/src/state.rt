@@ -26,8 +26,8 @@ pub struct MachineState {
 #[derive(Drop)]
 pub(crate) enum Acted {
     Goes,
-    /// It goes on, and prints this.
-    Prints(Text),
+    /// It goes on, and prints this, which is boxed so that what a step hands on is small.
+    Prints(Box<Text>),
     Ends(End),
     /// A value, register, field or body that it needs isn't there.
     Stuck,

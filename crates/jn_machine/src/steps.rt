@@ -3,9 +3,8 @@ ghost use Rattle.std.specs.Prelude.{◌≡◌, ◌<◌, ◌-◌, ◌^◌, ℕ, L
 ghost use Rattle.jn_heap.specs.Runs.{act, step};
 ghost use Rattle.jn_machine.specs.StateView.{state_of, acted_next, next_of};
 
-use crate::prim::Got;
-use crate::state::{Acted, MachineState, Stepped, jump, jump_to, settle};
-use crate::{calls, members, straight};
+use crate::state::{Acted, MachineState, Stepped, jump};
+use crate::{arms, calls, members, straight};
 use jn_base::OutOfMemory;
 use jn_points::{PointKind, Program};
 use jn_trees::Names;
@@ -25,73 +24,49 @@ fn act(
         ≡ acted_next acted state.new out) }
 {
     match kind {
-        PointKind::Const { dst, value } => {
-            let made = straight::literal(alloc, names, *value)?;
-            Ok(settle(state, *dst, Got::Gives(made)))
-        }
+        PointKind::Const { dst, value } => arms::literal(alloc, names, state, *dst, *value),
         PointKind::Move {
             dst,
             from,
             bound: _,
-        } => {
-            let got = straight::moved(alloc, &state.top, from.reg)?;
-            Ok(settle(state, *dst, got))
-        }
-        PointKind::Unary { dst, negate, of } => {
-            let got = straight::unary(&state.top, *negate, of.reg);
-            Ok(settle(state, *dst, got))
-        }
+        } => arms::copies(state, *dst, from.reg),
+        PointKind::Unary { dst, negate, of } => Ok(arms::unary(state, *dst, *negate, of.reg)),
         PointKind::Binary {
             dst,
             operator,
             left,
             right,
-        } => {
-            let got = straight::binary(&state.top, *operator, left.reg, right.reg);
-            Ok(settle(state, *dst, got))
-        }
+        } => Ok(arms::binary(state, *dst, *operator, left.reg, right.reg)),
         PointKind::Concat { dst, left, right } => {
-            let got = straight::concat(alloc, &state.top, left.reg, right.reg)?;
-            Ok(settle(state, *dst, got))
+            arms::concat(alloc, state, *dst, left.reg, right.reg)
         }
         PointKind::SameRef {
             dst,
             equal,
             left,
             right,
-        } => {
-            let got = straight::same_ref(&state.top, *equal, left.reg, right.reg);
-            Ok(settle(state, *dst, got))
-        }
+        } => Ok(arms::same_ref(state, *dst, *equal, left.reg, right.reg)),
         PointKind::FieldRead { dst, object, field } => {
-            let got = members::read_field(alloc, program, state, object.reg, *field)?;
-            Ok(settle(state, *dst, got))
+            arms::read_field(program, state, *dst, object.reg, *field)
         }
         PointKind::FieldWrite {
             object,
             field,
             value,
-        } => members::write_field(alloc, program, state, object.reg, *field, value.reg),
-        PointKind::StaticRead { dst, field } => {
-            let got = members::read_static(state, *field);
-            Ok(settle(state, *dst, got))
-        }
+        } => members::write_field(program, state, object.reg, *field, value.reg),
+        PointKind::StaticRead { dst, field } => Ok(arms::read_static(state, *dst, *field)),
         PointKind::StaticWrite { field, value } => {
             Ok(members::write_static(state, *field, value.reg))
         }
         PointKind::ElemRead { dst, array, index } => {
-            let got = members::read_elem(alloc, state, array.reg, index.reg)?;
-            Ok(settle(state, *dst, got))
+            arms::read_elem(state, *dst, array.reg, index.reg)
         }
         PointKind::ElemWrite {
             array,
             index,
             value,
-        } => members::write_elem(alloc, program, state, array.reg, index.reg, value.reg),
-        PointKind::ArrayLen { dst, array } => {
-            let got = members::array_len(state, array.reg);
-            Ok(settle(state, *dst, got))
-        }
+        } => members::write_elem(program, state, array.reg, index.reg, value.reg),
+        PointKind::ArrayLen { dst, array } => Ok(arms::array_len(state, *dst, array.reg)),
         PointKind::NewArray { dst, base, length } => {
             members::new_array(alloc, state, *dst, *base, length.reg)
         }
@@ -120,39 +95,26 @@ fn act(
             args.as_slice(),
         ),
         PointKind::StrOp { dst, op, of, other } => {
-            let got = straight::str_op(&state.top, *op, of.reg, *other);
-            Ok(settle(state, *dst, got))
+            Ok(arms::str_op(state, *dst, *op, of.reg, *other))
         }
         PointKind::Print { of } => straight::print(alloc, state, of.reg),
-        PointKind::Cast { dst, of, class } => {
-            let got = members::cast(alloc, program, state, of.reg, *class)?;
-            Ok(settle(state, *dst, got))
-        }
+        PointKind::Cast { dst, of, class } => arms::cast(program, state, *dst, of.reg, *class),
         PointKind::TestInst {
             of,
             class,
             origin: _,
             yes,
             no,
-        } => {
-            let to = members::test_inst(program, state, of.reg, *class, *yes, *no);
-            Ok(jump_to(state, to))
-        }
+        } => Ok(arms::test_inst(program, state, of.reg, *class, *yes, *no)),
         PointKind::TestNull {
             of,
             origin: _,
             null,
             non_null,
-        } => {
-            let to = straight::test_null(&state.top, of.reg, *null, *non_null);
-            Ok(jump_to(state, to))
-        }
-        PointKind::Branch { of, yes, no } => {
-            let to = straight::branch(&state.top, of.reg, *yes, *no);
-            Ok(jump_to(state, to))
-        }
+        } => Ok(arms::test_null(state, of.reg, *null, *non_null)),
+        PointKind::Branch { of, yes, no } => Ok(arms::branch(state, of.reg, *yes, *no)),
         PointKind::Goto { to } => Ok(jump(state, *to)),
-        PointKind::Return { value } => calls::returns(alloc, program, state, *value),
+        PointKind::Return { value } => calls::returns(program, state, *value),
     }
 }
 

@@ -1,6 +1,6 @@
 //! The points of straight code: constants, moves, operators, texts, tests of null, branches.
 ghost use Rattle.std.specs.Prelude.{◌≡◌, ◌<◌, ◌-◌, ◌^◌, [], ℕ, List, IfOk, ltb, slice_index_or};
-ghost use Rattle.jn_heap.specs.Values.{units, text_equals, usual_limits};
+ghost use Rattle.jn_heap.specs.Values.{Text as TextValue, units, text_equals, usual_limits};
 ghost use Rattle.jn_heap.specs.State.{State, got_of, got_plain, prim_of, text_in, truth_of, value_at, value_of};
 ghost use Rattle.jn_heap.specs.Steps as spec;
 ghost use Rattle.jn_machine.specs.Ends.{answer_of};
@@ -31,37 +31,43 @@ fn name_at(alloc: Global, names: &Names, name: NameNo) -> Result<Text, AllocErro
     }
 }
 
+/// The String of a name.
+#[inline(never)]
+fn text_of(alloc: Global, names: &Names, name: NameNo) -> Result<Value, AllocError>
+    ensures { IfOk result (λ v. v ≡ TextValue (slice_index_or names.now name.0 [])) }
+{
+    let text = name_at(alloc, names, name)?;
+    Value::text(alloc, text)
+}
+
 pub(crate) fn literal(alloc: Global, names: &Names, value: Literal) -> Result<Value, AllocError>
     ensures { IfOk result (λ v. v ≡ spec.literal_value names.now value) }
 {
     match value {
         Literal::Int(number) => Ok(Value::plain(Primitive::int(number))),
         Literal::Truth(truth) => Ok(Value::plain(Primitive::bool(truth))),
-        Literal::Str(name) => {
-            let text = name_at(alloc, names, name)?;
-            Ok(Value::text(text))
-        }
+        Literal::Str(name) => text_of(alloc, names, name),
         Literal::Null => Ok(Value::null()),
     }
 }
 
 /// The value of a register, copied; None where it holds none.
-pub(crate) fn copied(alloc: Global, frame: &Frame, reg: RegNo) -> Result<Option<Value>, AllocError>
+pub(crate) fn copied(frame: &Frame, reg: RegNo) -> Result<Option<Value>, AllocError>
     ensures { IfOk result (λ v. v ≡ value_at frame.now.regs reg.0) }
 {
     match frame.value(reg) {
         None => Ok(None),
         Some(value) => {
-            let copy = value.copy(alloc)?;
+            let copy = value.copy()?;
             Ok(Some(copy))
         }
     }
 }
 
-pub(crate) fn moved(alloc: Global, frame: &Frame, from: RegNo) -> Result<Got<Value>, AllocError>
+pub(crate) fn moved(frame: &Frame, from: RegNo) -> Result<Got<Value>, AllocError>
     ensures { IfOk result (λ g. answer_of g ≡ got_of (value_at frame.now.regs from.0)) }
 {
-    match copied(alloc, frame, from)? {
+    match copied(frame, from)? {
         None => Ok(Got::Lacks),
         Some(value) => Ok(Got::Gives(value)),
     }
@@ -111,13 +117,15 @@ fn shown(alloc: Global, frame: &Frame, of: RegNo) -> Result<Option<Text>, AllocE
     }
 }
 
-fn within_length(text: Text) -> Got<Value>
-    ensures { answer_of result ≡ spec.text_or_long text (ltb usual_limits.longest (units text)) }
+fn within_length(alloc: Global, text: Text) -> Result<Got<Value>, AllocError>
+    ensures { IfOk result (λ g. answer_of g
+        ≡ spec.text_or_long text (ltb usual_limits.longest (units text))) }
 {
     if text::units(text.as_str()) > LONGEST {
-        Got::Fails(End::Long)
+        Ok(Got::Fails(End::Long))
     } else {
-        Got::Gives(Value::text(text))
+        let value = Value::text(alloc, text)?;
+        Ok(Got::Gives(value))
     }
 }
 
@@ -138,7 +146,7 @@ pub(crate) fn concat(
         return Ok(Got::Lacks);
     };
     let both = text::joined(alloc, front.as_str(), rest.as_str())?;
-    Ok(within_length(both))
+    within_length(alloc, both)
 }
 
 pub(crate) fn same_ref(frame: &Frame, equal: bool, left: RegNo, right: RegNo) -> Got<Value>
@@ -206,7 +214,10 @@ pub(crate) fn print(alloc: Global, state: &mut MachineState, of: RegNo) -> Resul
     };
     let line = text::joined(alloc, text.as_str(), "\n")?;
     state.top.advance();
-    Ok(Acted::Prints(line))
+    match Box::new(alloc, line) {
+        Ok(boxed) => Ok(Acted::Prints(boxed)),
+        Err(_) => Err(AllocError),
+    }
 }
 
 /// Which point a test of null goes to.

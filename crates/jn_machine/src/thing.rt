@@ -12,7 +12,7 @@ use jn_base::{ClassNo, FieldNo};
 use jn_points::lookup::elem_base;
 use jn_points::members::{has_field, is_subclass};
 use jn_points::{BaseType, Program};
-use std::alloc::{AllocError, Global};
+use std::alloc::AllocError;
 use std::marker::Model;
 
 #[derive(Drop)]
@@ -122,12 +122,12 @@ impl Thing {
     }
 
     /// An array's element. Out of bounds the run ends.
-    pub fn element(&self, alloc: Global, at: i32) -> Result<Got<Value>, AllocError>
+    pub fn element(&self, at: i32) -> Result<Got<Value>, AllocError>
         ensures { IfOk result (λ g. answer_of g ≡ elem_in (Some self.now) (spec.index at)) }
     {
         match &self.node {
             Node::Object(..) => Ok(Got::Lacks),
-            Node::Elems(_, items) => element_of(alloc, items, at),
+            Node::Elems(_, items) => element_of(items, at),
         }
     }
 
@@ -186,7 +186,7 @@ pub(crate) fn index(at: i32) -> Option<usize>
     }
 }
 
-fn element_of(alloc: Global, items: &[Value], at: i32) -> Result<Got<Value>, AllocError>
+fn element_of(items: &[Value], at: i32) -> Result<Got<Value>, AllocError>
     ensures { IfOk result (λ g. answer_of g ≡ item_or_index (item_at items.now (spec.index at))) }
 {
     let Some(place) = index(at) else {
@@ -195,7 +195,7 @@ fn element_of(alloc: Global, items: &[Value], at: i32) -> Result<Got<Value>, All
     match items.get(place) {
         None => Ok(Got::Fails(End::Index)),
         Some(value) => {
-            let copy = value.copy(alloc)?;
+            let copy = value.copy()?;
             Ok(Got::Gives(copy))
         }
     }

@@ -14,17 +14,18 @@ use jn_points::members::is_subclass;
 use jn_points::{BaseType, Program, StrOperation};
 use std::alloc::{AllocError, Global};
 use std::marker::Model;
+use std::rc::Rc;
 
 #[derive(Drop)]
 pub(crate) enum Node {
     Null,
-    Text(Text),
+    Text(Rc<Text>),
     Plain(Primitive),
     At(usize),
 }
 
 /// A value: null, a String, an int or a boolean, or the place of a thing on the heap; contracts
-/// see the definition's.
+/// see the definition's. Copies of a String share its text.
 #[derive(Drop)]
 pub struct Value {
     node: Node,
@@ -46,11 +47,14 @@ impl Value {
         Value { node: Node::Null }
     }
 
-    pub fn text(text: Text) -> Value
-        ensures { result ≡ spec.Text text }
+    pub fn text(alloc: Global, text: Text) -> Result<Value, AllocError>
+        ensures { IfOk result (λ v. v ≡ spec.Text text) }
     {
-        Value {
-            node: Node::Text(text),
+        match Rc::new(alloc, text) {
+            Ok(shared) => Ok(Value {
+                node: Node::Text(shared),
+            }),
+            Err(_) => Err(AllocError),
         }
     }
 
@@ -82,14 +86,16 @@ impl Value {
         }
     }
 
-    pub fn copy(&self, alloc: Global) -> Result<Value, AllocError>
+    pub fn copy(&self) -> Result<Value, AllocError>
         ensures { IfOk result (λ v. v ≡ self.now) }
     {
         match &self.node {
             Node::Null => Ok(Value::null()),
             Node::Text(text) => {
-                let copied = text.copy(alloc)?;
-                Ok(Value::text(copied))
+                let shared = text.clone()?;
+                Ok(Value {
+                    node: Node::Text(shared),
+                })
             }
             Node::Plain(prim) => Ok(Value::plain(prim.copy())),
             Node::At(place) => Ok(Value::at(*place)),
@@ -213,7 +219,6 @@ impl Value {
     /// The value, where it is null or of the class; another reference ends the run.
     pub fn cast(
         &self,
-        alloc: Global,
         program: &Program,
         heap: &[Thing],
         class: ClassNo,
@@ -226,7 +231,7 @@ impl Value {
             Node::Plain(_) => Ok(Got::Lacks),
             Node::Text(_) | Node::At(_) => {
                 if self.is_within(program, heap, class) {
-                    let copy = self.copy(alloc)?;
+                    let copy = self.copy()?;
                     Ok(Got::Gives(copy))
                 } else {
                     Ok(Got::Fails(End::ClassCast))
