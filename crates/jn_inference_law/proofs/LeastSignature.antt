@@ -11,7 +11,6 @@ use Rattle.jn_quals.specs.Word.{unpack, pack}
 use Rattle.jn_quals.proofs.Order.{nothing_within, within_antisym}
 use Rattle.jn_points.specs.declared.point.Point.{Point}
 use Rattle.jn_points.specs.declared.program.Body.{Body}
-use Rattle.jn_points.specs.declared.program.SlotInfo.{SlotInfo}
 use Rattle.jn_points.specs.declared.program.Program.{Program}
 use Rattle.jn_points.specs.Lookup.{body_at, points_of}
 use Rattle.jn_sigs.specs.Packed.{ArePacked, at_slot, unpacked}
