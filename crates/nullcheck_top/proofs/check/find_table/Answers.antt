@@ -6,6 +6,9 @@ use Rattle.jn_program.specs.Lowered.{IsRefusedFor}
 use Rattle.nullcheck_top.proofs.Reporting.{lowering_made}
 use Rattle.nullcheck_top.proofs.check.find_table.Goals as goal
 
+pub lower-requires-clause-table : goal.lower-requires-clause-table
+lower-requires-clause-table g c κs lives = ap (λ (t : Tabled). t.heads) c.requires.table
+
 pub find_program-requires-clause-program : goal.find_program-requires-clause-program
 find_program-requires-clause-program g c κs lives =
     let declared = c.requires.declared in
