@@ -69,7 +69,7 @@ impl Drop for Counted {
 }
 
 impl Reporter for Counted {
-    ghost use Rattle.std.specs.Prelude.{codes};
+    ghost use Rattle.std.specs.Prelude.{codes, false};
     ghost use Rattle.jn_reporters.specs.Reports.{plain_shown};
 
     ghost rows = { λ a. a.plain.rows };
@@ -78,10 +78,16 @@ impl Reporter for Counted {
 
     ghost title = { λ a. codes "plain" };
 
+    ghost document = { λ a. false };
+
     ghost shown = { λ a. plain_shown };
 
     fn name(&self) -> &str {
         self.plain.name()
+    }
+
+    fn is_document(&self) -> bool {
+        self.plain.is_document()
     }
 
     fn take(&mut self, row: &RowText) -> Result<(), OutOfMemory> {

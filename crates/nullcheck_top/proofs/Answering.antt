@@ -30,7 +30,7 @@ never_checked rows others e = cc
 refusal_made : (a : Asked) (files : List SourceFile) (made : Result Output NoMemory) → a.command.classes ≡ 0 → IfOk made (λ o. IsRefusalOf a.show a.command.infer files o.status o.bytes) → MadeFor IsReport IsSafe RunsTo Prints a files made
 refusal_made a files (Made o) none r =
     report_shown IsReport IsSafe RunsTo Prints a files (Refused r.rows) o.status o.bytes r.is r.ends
-    (r.shows ∙ ap (λ n. front_of n ++ shown a.show files (Refused r.rows)) (sym none)) (λ e. absurd (never_checked r.rows [] e)) (λ run e. never_checked r.rows [] e)
+    (r.shows ∙ ap (λ n. front_of a.document n ++ shown a.show files (Refused r.rows)) (sym none)) (λ e. absurd (never_checked r.rows [] e)) (λ run e. never_checked r.rows [] e)
 refusal_made a files (Err e) none r = tt
 
 refusal_written : (a : Asked) (files : List SourceFile) (made : Result Output NoMemory) → IfOk made (λ o. IsRefusalOf a.show a.command.infer files o.status o.bytes) → IfMade made (λ status bytes. Written status) (Unit {0})

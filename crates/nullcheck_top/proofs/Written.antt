@@ -131,7 +131,7 @@ module _ (IsReport : Infer → List SourceFile → Report → Type 0) (IsSafe : 
   answers_files a files old new before now result (Made o) m (inr p) = subst (λ r. FilesAnswer a files old new r) (sym p.0) (o.status, o.bytes, m.1, p.1)
   answers_files a files old new before now result (Err e) m f = subst (λ r. FilesAnswer a files old new r) (sym f.0) (inl f.1)
 
-  module _ (a : Asked) (files : List SourceFile) (report : Report) (status : Status) (bytes : List ℕ) (is : IsReport a.command.infer files report) (ends : status ≡ status_of report) (shows : bytes ≡ front_of a.command.classes ++ shown a.show files report) (safe : report ≡ Checked [] → IsSafe a.command.infer files) where
+  module _ (a : Asked) (files : List SourceFile) (report : Report) (status : Status) (bytes : List ℕ) (is : IsReport a.command.infer files report) (ends : status ≡ status_of report) (shows : bytes ≡ front_of a.document a.command.classes ++ shown a.show files report) (safe : report ≡ Checked [] → IsSafe a.command.infer files) where
     shown_by : (b : Bool) → (b ≡ true → report ≡ Checked [] → ⊥) → OutputBy a files b status bytes
     shown_by false apart = record { report = report; is = is; ends = ends; shows = shows; safe = λ ok. safe (accepted_rows report (sym ends ∙ ok)) }
     shown_by true apart = inl (record { report = report; is = is; ends = ends; shows = shows; safe = λ ok. safe (accepted_rows report (sym ends ∙ ok)) }, λ ok. apart refl (accepted_rows report (sym ends ∙ ok)))
@@ -140,7 +140,7 @@ module _ (IsReport : Infer → List SourceFile → Report → Type 0) (IsSafe : 
     pub report_shown : (a.command.run ≡ true → report ≡ Checked [] → ⊥) → Written status × FilesOutput a files status bytes
     report_shown apart = (subst Written (sym ends) (report_written report), shown_by a.command.run apart)
 
-  pub shown_made : (a : Asked) (files : List SourceFile) (reads : List SourceRead) (report : Report) (front : List ℕ) (made : Result Output NoMemory) → AreReads reads files → front ≡ front_of a.command.classes → IsReport a.command.infer files report → (report ≡ Checked [] → IsSafe a.command.infer files) → (a.command.run ≡ true → report ≡ Checked [] → ⊥) → IfOk made (λ o. o.status ≡ status_of report) → IfOk made (λ o. (files : List SourceFile) → AreReads reads files → o.bytes ≡ front ++ shown a.show files report) → MadeFor a files made
+  pub shown_made : (a : Asked) (files : List SourceFile) (reads : List SourceRead) (report : Report) (front : List ℕ) (made : Result Output NoMemory) → AreReads reads files → front ≡ front_of a.document a.command.classes → IsReport a.command.infer files report → (report ≡ Checked [] → IsSafe a.command.infer files) → (a.command.run ≡ true → report ≡ Checked [] → ⊥) → IfOk made (λ o. o.status ≡ status_of report) → IfOk made (λ o. (files : List SourceFile) → AreReads reads files → o.bytes ≡ front ++ shown a.show files report) → MadeFor a files made
   shown_made a files reads report front (Made o) are same is safe apart status bytes =
       report_shown a files report o.status o.bytes is status (bytes files are ∙ ap (λ xs. xs ++ shown a.show files report) same) safe apart
   shown_made a files reads report front (Err e) are same is safe apart status bytes = tt
@@ -277,6 +277,6 @@ starts_made a before some = by_cases a.command.classes some
     by_cases (suc n) some = starts_none [] before before refl
 
 -- the line before the report of a program
-pub made_front : (n size : ℕ) (text front : List ℕ) → 1 ≤ n → text ≡ made_text n → size ≡ length text → front ≡ made_line n size → front ≡ front_of n
-made_front zero size text front some is long line = absurd (omega (arith, some))
-made_front (suc n) size text front some is long line = line ∙ ap (λ k. made_line (suc n) k) (long ∙ ap length is)
+pub made_front : (document : Bool) (n size : ℕ) (text front : List ℕ) → 1 ≤ n → text ≡ made_text n → size ≡ length text → front ≡ made_line document n size → front ≡ front_of document n
+made_front document zero size text front some is long line = absurd (omega (arith, some))
+made_front document (suc n) size text front some is long line = line ∙ ap (λ k. made_line document (suc n) k) (long ∙ ap length is)

@@ -43,28 +43,34 @@ pub fn nullcheck<R: Threads + Sync, F: Files, K: Sink, G: Gate + Sync>(
     // some of the run's steps. Accepted files are safe.
     ensures answer { Answers (reading (F.held files.old) (F.gave files.old) (F.gave files.new))
         (asked_of
-        (map (λ b. record { title = title b; rows = rows b; shown = shown b }) reporters.items)
+        (map
+        (λ b. record { title = title b; document = document b; rows = rows b; shown = shown b })
+        reporters.items)
         (map string_bytes words.now))
         (K.written out.old) (K.written out.new) result }
     // So no run of accepted files dereferences null or gets stuck, with any words and any number of steps, the one that was asked for
     // among them.
     ensures safe { IsAcceptance result
         → Safe (reading (F.held files.old) (F.gave files.old) (F.gave files.new)) (asked_of
-        (map (λ b. record { title = title b; rows = rows b; shown = shown b }) reporters.items)
+        (map
+        (λ b. record { title = title b; document = document b; rows = rows b; shown = shown b })
+        reporters.items)
         (map string_bytes words.now)) }
     // Where the words are a command's and no fault is counted, all is written, or no memory was found.
     ensures complete { (Rose (F.faults files.old) (F.faults files.new) → ⊥)
         → (Rose (K.faults out.old) (K.faults out.new) → ⊥)
         → Completes (reading (F.held files.old) (F.gave files.old) (F.gave files.new))
         (asked_of
-        (map (λ b. record { title = title b; rows = rows b; shown = shown b })
+        (map
+        (λ b. record { title = title b; document = document b; rows = rows b; shown = shown b })
         reporters.items)
         (map string_bytes words.now))
         (K.written out.old) (K.written out.new) result }
     // A report is whole before its first byte goes out: where no run is asked for, nothing was written behind want of memory.
     ensures nothing { result ≡ Status.OutOfMemory
         → (AsksRun (asked_of
-        (map (λ b. record { title = title b; rows = rows b; shown = shown b })
+        (map
+        (λ b. record { title = title b; document = document b; rows = rows b; shown = shown b })
         reporters.items)
         (map string_bytes words.now)) → ⊥)
         → K.written out.new ≡ K.written out.old }
@@ -72,23 +78,31 @@ pub fn nullcheck<R: Threads + Sync, F: Files, K: Sink, G: Gate + Sync>(
     ensures read_always { F.faults files.old < F.faults files.new → result ≡ Status.ReadFault }
     ensures read_steady { F.steady files.old
         → HoldsFiles (F.held files.old) (asked_of
-        (map (λ b. record { title = title b; rows = rows b; shown = shown b }) reporters.items)
+        (map
+        (λ b. record { title = title b; document = document b; rows = rows b; shown = shown b })
+        reporters.items)
         (map string_bytes words.now))
         → result ≢ Status.ReadFault }
     ensures read_count { F.steady files.old
         → HoldsFiles (F.held files.old) (asked_of
-        (map (λ b. record { title = title b; rows = rows b; shown = shown b }) reporters.items)
+        (map
+        (λ b. record { title = title b; document = document b; rows = rows b; shown = shown b })
+        reporters.items)
         (map string_bytes words.now))
         → F.faults files.new ≡ F.faults files.old }
     // No file is started but those that the words name, in their order, whatever comes of it.
     ensures starts { Starts
         (asked_of
-        (map (λ b. record { title = title b; rows = rows b; shown = shown b }) reporters.items)
+        (map
+        (λ b. record { title = title b; document = document b; rows = rows b; shown = shown b })
+        reporters.items)
         (map string_bytes words.now))
         (F.gave files.old) (F.gave files.new) }
     // Nothing is read where the words are no command's, name too many files, or ask for a program.
     ensures unread { ReadsNothing (asked_of
-        (map (λ b. record { title = title b; rows = rows b; shown = shown b }) reporters.items)
+        (map
+        (λ b. record { title = title b; document = document b; rows = rows b; shown = shown b })
+        reporters.items)
         (map string_bytes words.now))
         → (F.faults files.new ≡ F.faults files.old) × (F.gave files.new ≡ F.gave files.old) }
     ensures write { result ≡ Status.WriteFault → Rose (K.faults out.old) (K.faults out.new) }
