@@ -7,7 +7,7 @@ Usage: bench/shapes.py PROGRAM [NAME..]
 
 Each shape is one piece of text that grows with a number, and as many copies of it as it takes until a run of one worker
 needs 0.05 s of a processor, user and system time together. Then the number alone is halved, and the best of five runs of
-both is taken (of up to fifteen where the ratio is too large). Where the bytes are more than doubled with the number, the
+both is taken (of up to thirty where the ratio is too large). Where the bytes are more than doubled with the number, the
 ratio is that of doubled bytes. Where the limits of the subset (docs/LANGUAGE.md) come
 first, the shape is too short to be judged, and its ratio stands in parentheses.
 
@@ -26,11 +26,12 @@ import tempfile
 
 FLOOR = 0.05
 MOST_RATIO = 2.3
+CLEAR_RATIO = 2.8
 MOST_TIMES = 20
 SECONDS = 60
 MIB = 1048576
 RUNS = 5
-ROUNDS = 3
+ROUNDS = 6
 
 SHAPES = []
 
@@ -254,6 +255,11 @@ def _(n, k):
 @shape("locals of a for", 60, 500)
 def _(n, k):
     return method(k, "", "    for (int " + times(n, lambda i: f"a{i} = {i}", ", ") + "; ; ) { }") .replace("\n    return 0;", "")
+
+
+@shape("uses of a far local", 60, 960)
+def _(n, k):
+    return method(k, "int a", times(n, lambda i: f"    int a{i} = a;\n") + "    a = a;\n" * (8 * n))
 
 
 @shape("parameters", 60, 1000)
@@ -580,6 +586,11 @@ def _(n, k):
     return method(k, "int[] a", "    " + times(n, lambda i: f"for (int x{i} : a) {{") + "}" * n)
 
 
+@shape("loops over arrays, no braces", 40, 330)
+def _(n, k):
+    return method(k, "int[] a", "    " + times(n, lambda i: f"for (int x{i} : a) ") + ";")
+
+
 @shape("loops one by one", 500, 8000)
 def _(n, k):
     return method(k, "boolean b", "    while (b) { }\n" * n)
@@ -759,6 +770,11 @@ def _(n, k):
 
 
 # Tokens.
+@shape("names", 500, copies=1)
+def _(n, k):
+    return "class A {\n" + times(n, lambda i: f"  int name{i * 7919 % 1000003};\n") + "}\n"
+
+
 @shape("literals", 500)
 def _(n, k):
     return f"class C{k} {{\n" + times(n, lambda i: f"  int f{i}() {{ return {1000000 + i}; }}\n") + "}\n"
@@ -916,6 +932,8 @@ def whole_of(program, shape):
     found = Sized(program, shape, n, copies)
     while True:
         seconds = found.time()
+        if found.status >= 0 and seconds >= FLOOR * 1.1:
+            seconds = found.time(RUNS - 1)
         if found.status < 0 or seconds >= FLOOR * 1.1:
             return found, n, copies
         times_more = 2 if seconds > FLOOR / 3 else 4 if seconds > FLOOR / 8 else 8
@@ -984,13 +1002,13 @@ def main():
         whole, n, copies = whole_of(program, it)
         half = Sized(program, it, n // 2, copies)
         ratio = None
-        for _ in range(ROUNDS):
+        for done in range(ROUNDS):
             if whole.status is not None and whole.status < 0:
                 break
             half.time(RUNS)
             whole.time(RUNS)
             ratio = growth(half, whole)
-            if ratio <= MOST_RATIO:
+            if ratio <= MOST_RATIO or (done > 0 and ratio > CLEAR_RATIO):
                 break
         wrong = []
         for one in (half, whole):
