@@ -226,7 +226,7 @@ def _(n, k):
     return method(k, "int x", "    " + "x = " * n + "1;")
 
 
-@shape("updates", 60, 500)
+@shape("updates", 60, 300)
 def _(n, k):
     return method(k, "int x", "    for (; x < 1; " + times(n, lambda i: "x++", ", ") + ") { }")
 
