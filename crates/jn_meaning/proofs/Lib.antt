@@ -1,0 +1,37 @@
+pub mod Valuing
+pub mod Proper
+pub mod Placing
+pub mod Running
+pub mod Following
+pub mod Laws
+pub mod Reading
+pub mod Writing
+pub mod Choosing
+pub mod Calculating
+pub mod Assigning
+pub mod Calling
+pub mod Naming
+pub mod Evaluating
+pub mod Effects
+pub mod Looping
+pub mod Forming
+pub mod Eaching
+pub mod Standings
+pub mod Executing
+pub mod Bodying
+pub mod Entering
+pub mod Agreeing
+pub mod Rows
+mod Instance
+mod Words
+pub mod Fitted
+pub mod Unrowed
+pub mod Bodiless
+pub mod BodilessForms
+pub mod BodilessBodies
+pub mod BodilessRows
+pub mod Clearing
+pub mod Reaching
+pub mod Worth
+pub mod WorthStatements
+pub mod WorthBodies
