@@ -26,10 +26,10 @@ mod Instance
 mod Words
 pub mod Fitted
 pub mod Unrowed
-pub mod Bodiless
-pub mod BodilessForms
-pub mod BodilessBodies
-pub mod BodilessRows
+pub mod SameNames
+pub mod SameForms
+pub mod SameBodies
+pub mod SameRows
 pub mod Clearing
 pub mod Reaching
 pub mod Worth
