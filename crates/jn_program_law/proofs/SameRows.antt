@@ -7,7 +7,7 @@ use Rattle.jn_base.specs.declared.code.Code.TheVariants.{J7, J10}
 use Rattle.jn_base.specs.declared.infer.Infer.{Infer}
 use Rattle.jn_places.specs.Placed.{PlacedFile}
 use Rattle.jn_points.specs.declared.point.BaseType.{BaseType}
-use Rattle.jn_points.specs.declared.point.BaseType.TheVariants.{Int}
+use Rattle.jn_points.specs.declared.point.BaseType.TheVariants.{Int, Bool as BoolBase, Ref}
 use Rattle.jn_points.specs.declared.point.Operand.{Operand}
 use Rattle.jn_points.specs.declared.point.Operator.{Operator}
 use Rattle.jn_points.specs.declared.point.Operator.TheVariants.{Equal, NotEqual}
@@ -15,9 +15,9 @@ use Rattle.jn_points.specs.declared.point.PointKind.{PointKind}
 use Rattle.jn_points.specs.declared.point.PointKind.TheVariants.{Const, Move, Unary, Binary, Concat, SameRef, FieldRead, FieldWrite, StaticRead, StaticWrite, ElemRead, ElemWrite, ArrayLen, NewArray, ArrayOf, New, CtorCall, Call, StrOp, Print, Cast, TestInst, TestNull, Branch, Goto, Return}
 use Rattle.jn_points.specs.declared.program.SlotInfo.{SlotInfo}
 use Rattle.jn_points.specs.declared.program.Program.{Program}
-use Rattle.jn_points.specs.Lookup.{reg_base}
+use Rattle.jn_points.specs.Lookup.{class_of, elem_base, field_base, method_at, owner, params_of, reg_base}
 use Rattle.jn_points.specs.Paths.{Avoids, Lacks, Path, Reached, Step}
-use Rattle.jn_points.specs.BaseRows.{Want, Within, Primitive, Same, Reference, Elements, Joinable, Printable, Valued, is_void, other_nullity, suits, operand_rows, all_rows, argument_rows, optional_rows, binary_rows, type_rows, result_rows, IsUnassigned, TypeRow, UnassignedRow, ResultRow, IsBaseRow, NoBaseRows}
+use Rattle.jn_points.specs.BaseRows.{Want, Within, Primitive, Same, Reference, Elements, Joinable, Printable, Valued, is_void, other_nullity, returned, string_base, suits, operand_rows, all_rows, argument_rows, optional_rows, binary_rows, type_rows, result_rows, IsUnassigned, TypeRow, UnassignedRow, ResultRow, IsBaseRow, NoBaseRows}
 use Rattle.jn_classtable.specs.Inferred.{slots_by}
 use Rattle.jn_program_law.specs.FileProgram.{inferring, program_of_files}
 use Rattle.jn_program_law.proofs.SameSlots.{fits_same, other}
@@ -69,33 +69,45 @@ module _ (P : Program) (slots : List SlotInfo) where
   binary_same b NotEqual l r = two b Primitive l (Same (reg_base P b l.reg.0)) r
   binary_same b op l r = two b (Within Int) l (Within Int) r
 
+  abbrev object_of : ℕ → Want
+  object_of f = Within (Ref (record { 0 = owner P f }))
+
+  optional_arguments : (b : ℕ) (w : Want) (o : Option Operand) (ts : List BaseType) (xs : List Operand) → optional_rows Q b w o ++ argument_rows Q b ts xs ≡ optional_rows P b w o ++ argument_rows P b ts xs
+  optional_arguments b w o ts xs = both (optional_rows Q b w o) (optional_rows P b w o) (argument_rows Q b ts xs) (argument_rows P b ts xs) (optional_same b w o) (arguments_same b ts xs)
+
+  one_optional : (b : ℕ) (w : Want) (a : Operand) (v : Want) (o : Option Operand) → operand_rows Q b w a ++ optional_rows Q b v o ≡ operand_rows P b w a ++ optional_rows P b v o
+  one_optional b w a v o = both (operand_rows Q b w a) (operand_rows P b w a) (optional_rows Q b v o) (optional_rows P b v o) (one b w a) (optional_same b v o)
+
+  three : (b : ℕ) (w : Want) (a : Operand) (v : Want) (c : Operand) (u : Want) (d : Operand) → operand_rows Q b w a ++ operand_rows Q b v c ++ operand_rows Q b u d ≡ operand_rows P b w a ++ operand_rows P b v c ++ operand_rows P b u d
+  three b w a v c u d = both (operand_rows Q b w a ++ operand_rows Q b v c) (operand_rows P b w a ++ operand_rows P b v c) (operand_rows Q b u d) (operand_rows P b u d) (two b w a v c) (one b u d)
+
   types_same : (b : ℕ) (k : PointKind) → type_rows Q b k ≡ type_rows P b k
   types_same b (Const dst value) = refl
-  types_same b (Move dst from bound) = one b _ from
-  types_same b (Unary dst negate of) = one b _ of
+  types_same b (Move dst from bound) = one b (Within (reg_base P b dst.0)) from
+  types_same b (Unary dst negate of) = one b (Within Int) of
   types_same b (Binary dst op l r) = binary_same b op l r
-  types_same b (Concat dst l r) = two b _ l _ r
-  types_same b (SameRef dst equal l r) = two b _ l _ r
-  types_same b (FieldRead dst object field) = one b _ object
-  types_same b (FieldWrite object field value) = two b _ object _ value
+  types_same b (Concat dst l r) = two b Joinable l Joinable r
+  types_same b (SameRef dst equal l r) = two b Reference l Reference r
+  types_same b (FieldRead dst object field) = one b (object_of field.0) object
+  types_same b (FieldWrite object field value) = two b (object_of field.0) object (Within (field_base P field.0)) value
   types_same b (StaticRead dst field) = refl
-  types_same b (StaticWrite field value) = one b _ value
-  types_same b (ElemRead dst array index) = two b _ array _ index
-  types_same b (ElemWrite array index value) = both _ _ _ _ (two b _ array _ index) (one b _ value)
-  types_same b (ArrayLen dst array) = one b _ array
-  types_same b (NewArray dst base count) = one b _ count
-  types_same b (ArrayOf dst base values) = all_same b _ values
-  types_same b (New dst ctor args) = arguments_same b _ args
-  types_same b (CtorCall ctor args own) = arguments_same b _ args
-  types_same b (Call dst method receiver direct args) = both _ _ _ _ (optional_same b _ receiver) (arguments_same b _ args)
-  types_same b (StrOp dst op of more) = both _ _ _ _ (one b _ of) (optional_same b _ more)
-  types_same b (Print of) = one b _ of
-  types_same b (Cast dst of class) = one b _ of
-  types_same b (TestInst of class origin at_yes at_no) = one b _ of
-  types_same b (TestNull of origin at_null at_value) = one b _ of
-  types_same b (Branch of at_yes at_no) = one b _ of
+  types_same b (StaticWrite field value) = one b (Within (field_base P field.0)) value
+  types_same b (ElemRead dst array index) = two b Elements array (Within Int) index
+  types_same b (ElemWrite array index value) = three b Elements array (Within Int) index (Within (elem_base (reg_base P b array.reg.0))) value
+  types_same b (ArrayLen dst array) = one b Elements array
+  types_same b (NewArray dst base count) = one b (Within Int) count
+  types_same b (ArrayOf dst base values) = all_same b (Within (elem_base base)) values
+  types_same b (New dst ctor args) = arguments_same b (params_of (method_at P ctor.0)) args
+  types_same b (CtorCall ctor args own) = arguments_same b (params_of (method_at P ctor.0)) args
+  types_same b (Call dst method receiver direct args) = optional_arguments b (Within (Ref (record { 0 = class_of (method_at P method.0) }))) receiver (params_of (method_at P method.0)) args
+  types_same b (StrOp dst op of more) = one_optional b (Within string_base) of Reference more
+  types_same b (Print of) = one b Printable of
+  types_same b (Cast dst of class) = one b Reference of
+  types_same b (TestInst of class origin at_yes at_no) = one b Reference of
+  types_same b (TestNull of origin at_null at_value) = one b Reference of
+  types_same b (Branch of at_yes at_no) = one b (Within BoolBase) of
   types_same b (Goto to) = refl
-  types_same b (Return value) = optional_same b _ value
+  types_same b (Return value) = optional_same b (returned P b) value
 
   results_same : (b : ℕ) (k : PointKind) → result_rows Q b k ≡ result_rows P b k
   results_same b (Const dst value) = refl
