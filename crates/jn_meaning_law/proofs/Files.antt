@@ -1,5 +1,5 @@
 -- The bodies of a program of files are those of its sources, which have no row, by either choice of members that are inferred.
-use Rattle.std.proofs.Common.{◌≡◌, ◌<◌, ◌≤◌, ◌^◌, ◌⊎◌, inl, inr, ℕ, cond, List, [], ◌∷◌, length, Option, Some, None, refl, sym, ◌∙◌, subst, arith}
+use Rattle.std.proofs.Common.{◌≡◌, ◌<◌, ◌≤◌, ◌⊎◌, inl, inr, ℕ, cond, List, [], ◌∷◌, length, Option, Some, None, refl, sym, ◌∙◌, subst, arith}
 use Rattle.std.specs.Prelude.{get_or, slice_get}
 use Rattle.std.proofs.lemmas.Option.{slice_get_cases}
 use Rattle.jn_base.specs.declared.infer.Infer.{Infer}
@@ -26,8 +26,6 @@ use Rattle.jn_lowering.specs.FileRows.{outside_rows}
 use Rattle.jn_lowering.proofs.HeadsFacts.{length_bodies}
 use Rattle.jn_program_law.specs.FileProgram.{inferring, j_rows, rows_of_files}
 use Rattle.jn_program_law.specs.FileSources.{sources}
-use Rattle.jn_program_law.proofs.Marks.{inferring_regular}
-use Rattle.jn_program_law.proofs.Program.{program_regular}
 use Rattle.jn_program_law.proofs.Sourced.{as_many, is_source}
 use Rattle.jn_meaning.specs.Agreement.{Sourced}
 use Rattle.jn_meaning.proofs.SameRows.{source_rows_same}
@@ -42,7 +40,7 @@ no_table_rows : (ts js : List Row) → cond (no_rows ts) js ts ≡ [] → ts ≡
 no_table_rows [] js h = refl
 no_table_rows (t ∷ ts) js h = cc
 
-module _ (files : List PlacedFile) (none : rows_of_files files ≡ []) (few_fields : length (table (heads files)).fields < 2 ^ 32) (few_methods : length (table (heads files)).methods < 2 ^ 32) where
+module _ (infer : Infer) (files : List PlacedFile) (none : rows_of_files files ≡ []) (whole : Regular (inferring infer files)) where
   abbrev hs : List ClassHead
   hs = heads files
 
@@ -56,7 +54,7 @@ module _ (files : List PlacedFile) (none : rows_of_files files ≡ []) (few_fiel
   B = bodies_of P ss
 
   regular : RegularTable (program_with hs B) (called hs)
-  regular = table_regular hs B (heads_fit files) (no_table_rows (t_rows hs) (j_rows files) none) (length_bodies P ss ∙ as_many files) few_fields few_methods
+  regular = table_regular hs B (heads_fit files) (no_table_rows (t_rows hs) (j_rows files) none) (length_bodies P ss ∙ as_many files) whole.few.fields whole.few.methods
 
   below : (m b : ℕ) → body_of (method_at P m) ≡ Some b → b < length ss
   below m b e = by (method_at P m) refl e
@@ -76,12 +74,9 @@ module _ (files : List PlacedFile) (none : rows_of_files files ≡ []) (few_fiel
       by (inl h) = (h.0, h.2, (let r = is_source files B regular b h.0 h.2 in sym (r.its_own m e)))
       by (inr h) = absurd (let a = h.0 in let d = below m b e in omega (a, d, arith))
 
-  module _ (infer : Infer) where
-    pub files_sourced : Sourced (inferring infer files) (sources files)
-    files_sourced = with_bodies_sourced P ss (slots_by infer files) has
+  pub files_sourced : Sourced (inferring infer files) (sources files)
+  files_sourced = with_bodies_sourced P ss (slots_by infer files) has
 
-    pub files_unrowed : (b : ℕ) (s : Source) → slice_get (sources files) b ≡ Some s → rows_of_source (inferring infer files) s ≡ []
-    files_unrowed b s there = source_rows_same P (inferring infer files) s ∙ none_of P ss b s there (append_empty (outside_rows files) (rows_of_bodies P ss) (no_body_rows (t_rows hs) (j_rows files) none)).1
-
-    pub files_regular : Regular (inferring infer files)
-    files_regular = inferring_regular infer files (program_regular files none few_fields few_methods)
+  -- and they have no rows
+  pub files_unrowed : (b : ℕ) (s : Source) → slice_get (sources files) b ≡ Some s → rows_of_source (inferring infer files) s ≡ []
+  files_unrowed b s there = source_rows_same P (inferring infer files) s ∙ none_of P ss b s there (append_empty (outside_rows files) (rows_of_bodies P ss) (no_body_rows (t_rows hs) (j_rows files) none)).1

@@ -1,13 +1,11 @@
 //! The law of a meaning over trees, for base-typed programs.
 
-ghost use Rattle.std.specs.Prelude.{◌<◌, ◌≡◌, ◌^◌, List, [], length, ℕ};
+ghost use Rattle.std.specs.Prelude.{◌<◌, ◌≡◌, List, [], ℕ};
 ghost use Rattle.jn_base.specs.declared.infer.Infer.{Infer};
 ghost use Rattle.jn_points.specs.BaseRows.{NoBaseRows};
 ghost use Rattle.jn_points.specs.Regular.{Regular};
 ghost use Rattle.jn_points.specs.declared.program.Program.{Program};
 ghost use Rattle.jn_places.specs.Placed.{PlacedFile};
-ghost use Rattle.jn_classtable.specs.Extract.{heads};
-ghost use Rattle.jn_classtable.specs.Table.{table};
 ghost use Rattle.jn_program_law.specs.FileProgram.{inferring, rows_of_files};
 ghost use Rattle.jn_program_law.specs.FileSources.{sources as sources_of};
 ghost use Rattle.jn_lowering.specs.Bodies.{Source};
@@ -34,13 +32,12 @@ pub fn base_typed_programs_mean_what_they_do()
 }
 
 /// So it does for each main of files without rows T1 to T10, J1 to J6 and of base typing, by either choice of members that are
-/// inferred: their sources are read off the trees, and the machine runs what lowering gives for them.
+/// inferred: their sources are read off the trees, and the machine runs what lowering gives for them. That their program is regular
+/// is a law wherever a class table was built (`jn_program_law`).
 pub fn files_mean_what_they_do()
     ensures { (infer : Infer) (files : List PlacedFile) (names : List (List ℕ)) (m b : ℕ)
         (limits : Limits) (words : List (List ℕ))
-        → rows_of_files files ≡ []
-        → length (table (heads files)).fields < 2 ^ 32
-        → length (table (heads files)).methods < 2 ^ 32
+        → rows_of_files files ≡ [] → Regular (inferring infer files)
         → NoBaseRows (inferring infer files) → MainForm (inferring infer files) m b
         → most_frames < limits.deepest
         → Agrees (inferring infer files) names (sources_of files) m b limits words }
