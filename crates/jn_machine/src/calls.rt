@@ -93,7 +93,7 @@ fn padded(alloc: Global, values: Seq<Value>, count: usize) -> Result<Vec<Option<
     ensures { IfOk result (λ regs. regs.items ≡ spec.pad values count) }
 {
     let mut rest = VecDeque::from_vec(values.into_vec());
-    let mut regs = Vec::new(alloc);
+    let mut regs = Vec::with_capacity(alloc, count)?;
     for _ in 0..count {
         regs.push(first_of(&mut rest))?;
     }
@@ -197,7 +197,7 @@ fn enters(
 fn defaults(alloc: Global, fields: &[Field]) -> Result<Vec<Value>, AllocError>
     ensures { IfOk result (λ v. v.items ≡ defaults fields.now) }
 {
-    let mut values = Vec::new(alloc);
+    let mut values = Vec::with_capacity(alloc, fields.len())?;
     for field in fields {
         values.push(Value::default_of(field.base))?;
     }

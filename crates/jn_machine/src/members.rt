@@ -262,7 +262,7 @@ fn count(length: i32) -> Got<usize>
 fn repeated(alloc: Global, number: usize, base: BaseType) -> Result<Vec<Value>, AllocError>
     ensures { IfOk result (λ v. v.items ≡ replicate number (default_of base)) }
 {
-    let mut items = Vec::new(alloc);
+    let mut items = Vec::with_capacity(alloc, number)?;
     for _ in 0..number {
         items.push(Value::default_of(base))?;
     }

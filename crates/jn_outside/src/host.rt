@@ -11,8 +11,37 @@ use crate::files::{Failed, Files};
 use crate::given::{Given, with_read, with_start};
 use crate::sink::Sink;
 use crate::told::{Told, with_bytes};
-use std::io::{Read, Write};
-use std::{fs, rt};
+use std::io::{ErrorKind, Read, Write};
+use std::{fs, io, rt};
+
+/// How often in a row a call is made that is interrupted each time.
+const TRIES: u32 = 1_000_000;
+
+/// Reads from the file; where the call was interrupted it is made again.
+fn read_on<F: Read>(file: &mut F, buf: &mut [u8]) -> io::Result<usize>
+    ensures { IfOk result (λ n. n ≤ length buf.new) }
+{
+    for _ in 0..TRIES {
+        match file.read(buf) {
+            Err(error) if error.kind() == ErrorKind::Interrupted => {}
+            result => return result,
+        }
+    }
+    Err(io::Error::from(ErrorKind::Interrupted))
+}
+
+/// Writes to the output; where the call was interrupted it is made again.
+fn write_on<R: Print>(rt: &R, bytes: &[u8]) -> io::Result<usize>
+    ensures { IfOk result (λ n. n ≤ length bytes.now) }
+{
+    for _ in 0..TRIES {
+        match io::writer(rt).write(bytes) {
+            Err(error) if error.kind() == ErrorKind::Interrupted => {}
+            result => return result,
+        }
+    }
+    Err(io::Error::from(ErrorKind::Interrupted))
+}
 
 /// The files of the host. It is never steady, and its count of faults rises at each `Err`.
 #[derive(Drop)]
@@ -91,7 +120,7 @@ impl<'a, R: rt::Files> Files for HostFiles<'a, R> {
     {
         let result = match &mut self.file {
             None => return Ok(0),
-            Some(file) => file.read(buf),
+            Some(file) => read_on(file, buf),
         };
         match result {
             Ok(count) => {
@@ -149,7 +178,7 @@ impl<'a, R: Print> Sink for HostSink<'a, R> {
         if bytes.is_empty() {
             return Ok(0);
         }
-        match std::io::writer(self.rt).write(bytes) {
+        match write_on(self.rt, bytes) {
             Ok(count) if count > 0 => {
                 self.taken = with_bytes(&self.taken, &bytes[..count]);
                 Ok(count)
