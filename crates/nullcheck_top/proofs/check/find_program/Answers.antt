@@ -3,7 +3,7 @@ use Rattle.jn_points.specs.BaseRows.{NoBaseRows}
 use Rattle.jn_front.specs.Files.{files_of_reads}
 use Rattle.nullcheck_top.specs.Report.{ProgramOf}
 use Rattle.jn_basecheck.specs.Refusal.{IsRefusedFor}
-use Rattle.nullcheck_top.proofs.Reporting.{types_made}
+use Rattle.nullcheck_top.proofs.Reporting.{RefusesFound, types_made}
 use Rattle.nullcheck_top.proofs.check.find_program.Goals as goal
 
 pub checked-requires-clause-program : goal.checked-requires-clause-program
@@ -17,4 +17,4 @@ checked-requires-clause-program g c κs lives =
 pub returns-in-Err-Refused : goal.returns-in-Err-Refused
 returns-in-Err-Refused g c =
     let are = subst (λ fail. IsRefusedFor c.args.program fail) c.in-Err-Refused.field-0-is c.in-Err-Refused.ensures.refused in
-    types_made c.args.infer (files_of_reads c.args.reads.now) c.args.names.now c.args.program c.in-Err-Refused.rows.items c.refused.result c.requires.program are.1 are.0 c.refused.ensures
+    types_made c.args.infer (files_of_reads c.args.reads.now) c.args.names.now c.args.program c.in-Err-Refused.rows.items c.refused.result c.requires.program are.1 are.0 (subst (λ rows. RefusesFound rows.items c.refused.result) c.in-Err-Refused.rows-is c.refused.ensures)

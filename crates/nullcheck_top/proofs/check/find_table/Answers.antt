@@ -26,4 +26,4 @@ returns-in-Err-Refused g c =
     let trees = map placed_file c.args.trees.now in
     let declared = c.requires.declared in
     let are = subst (λ fail. IsRefusedFor trees fail) c.in-Err-Refused.field-0-is c.in-Err-Refused.ensures.refused in
-    lowering_made c.args.infer (files_of_reads c.args.reads.now) c.args.names.now declared.0 trees c.into_vec.result.items c.refused.result declared.1 (c.into_vec.ensures ∙ are.0) are.1 c.refused.ensures
+    lowering_made c.args.infer (files_of_reads c.args.reads.now) c.args.names.now declared.0 trees c.into_vec.result.items c.refused.result declared.1 (c.into_vec.ensures ∙ c.in-Err-Refused.rows-is ∙ are.0) are.1 c.refused.ensures

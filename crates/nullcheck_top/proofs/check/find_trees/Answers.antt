@@ -16,4 +16,4 @@ returns-in-Err-Refused g c =
     let trees = map placed_file c.args.trees.now in
     let parsed = c.requires.parsed in
     let are = subst (λ fail. IsRefusedFor (heads trees) fail) c.in-Err-Refused.field-0-is c.in-Err-Refused.ensures.refused in
-    table_made c.args.infer (files_of_reads c.args.reads.now) c.args.names.now parsed.0 trees c.into_vec.result.items c.refused.result parsed.1 (c.into_vec.ensures ∙ are.0) are.1 c.refused.ensures
+    table_made c.args.infer (files_of_reads c.args.reads.now) c.args.names.now parsed.0 trees c.into_vec.result.items c.refused.result parsed.1 (c.into_vec.ensures ∙ c.in-Err-Refused.rows-is ∙ are.0) are.1 c.refused.ensures
