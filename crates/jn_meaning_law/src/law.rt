@@ -1,7 +1,8 @@
-//! The law of a meaning over trees, for base-typed programs.
+//! Laws of a meaning over trees: of base-typed programs, of files, and of accepted files.
 
 ghost use Rattle.std.specs.Prelude.{◌<◌, ◌≡◌, List, [], ℕ};
 ghost use Rattle.jn_base.specs.declared.infer.Infer.{Infer};
+ghost use Rattle.jn_quals.specs.Qualifier.{Qualifier};
 ghost use Rattle.jn_points.specs.BaseRows.{NoBaseRows};
 ghost use Rattle.jn_points.specs.Regular.{Regular};
 ghost use Rattle.jn_points.specs.declared.program.Program.{Program};
@@ -12,10 +13,13 @@ ghost use Rattle.jn_lowering.specs.Bodies.{Source};
 ghost use Rattle.jn_lowering.specs.BodyRows.{rows_of_bodies};
 ghost use Rattle.jn_heap.specs.Values.{Limits};
 ghost use Rattle.jn_heap.specs.Runs.{MainForm};
+ghost use Rattle.jn_soundness.specs.Accepting.{IsAccepted};
 ghost use Rattle.jn_meaning.specs.Agreement.{Agrees, Sourced};
 ghost use Rattle.jn_meaning.specs.Bodies.{most_frames};
+ghost use Rattle.jn_meaning_law.specs.Safety.{NeverNullByTrees, NeverStuckByTrees};
 
 use jn_meaning::law::trees_agree_with_the_machine;
+use jn_progress_law::law::accepted_programs_never_fault;
 use jn_regular_law::law::regular_programs_are_typed;
 
 /// A meaning over trees agrees with the machine, in both directions, on text and end of each main of a regular program without
@@ -44,4 +48,19 @@ pub fn files_mean_what_they_do()
 {
     trees_agree_with_the_machine();
     regular_programs_are_typed();
+}
+
+/// The trees of accepted files never come to a null, with any words, any texts of strings, any longest length and any fuel; those of
+/// files without rows T1 to T10, J1 to J6 and of base typing, accepted or not, always have a meaning.
+pub fn accepted_files_are_safe_by_trees()
+    ensures null { (infer : Infer) (files : List PlacedFile) (signature : List Qualifier)
+        → rows_of_files files ≡ [] → IsAccepted (inferring infer files) signature
+        → NeverNullByTrees (inferring infer files) (sources_of files) }
+    ensures stuck { (infer : Infer) (files : List PlacedFile)
+        → rows_of_files files ≡ [] → Regular (inferring infer files)
+        → NoBaseRows (inferring infer files)
+        → NeverStuckByTrees (inferring infer files) (sources_of files) }
+{
+    files_mean_what_they_do();
+    accepted_programs_never_fault();
 }
