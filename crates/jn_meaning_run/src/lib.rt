@@ -1,0 +1,4 @@
+//! What `--run` writes of files is what their trees mean.
+#![tactic(auto)]
+
+pub mod law;
