@@ -1,0 +1,12 @@
+mod Bits
+pub mod Sendings
+mod Greater
+mod Choosing
+mod Behind
+mod Sent
+mod InBody
+mod Pairs
+mod Signatures
+mod Reasons
+mod Searching
+mod Standing
