@@ -1,0 +1,3 @@
+mod Refs
+mod Passed
+mod Overridden
