@@ -2,7 +2,7 @@
 use jn_base::OutOfMemory;
 use jn_diag::{RowText, Verdict};
 use jn_reporters::{Plain, Reporter};
-use std::alloc::Global;
+use std::alloc::{AllocError, Global};
 use std::sync::Arc;
 use std::sync::atomic::{AtomicU64, Ordering};
 
@@ -37,6 +37,15 @@ impl Counts {
     fn end(&self) {
         self.drops.fetch_add(1, Ordering::SeqCst);
     }
+}
+
+/// The counts of so many reporters, none of which was called yet.
+pub fn counts_of(alloc: Global, boxes: u32) -> Result<Vec<Arc<Counts>>, AllocError> {
+    let mut counts = Vec::new(alloc);
+    for _ in 0..boxes {
+        counts.push(Arc::new(alloc, Counts::new())?)?;
+    }
+    Ok(counts)
 }
 
 /// The plain report, by a reporter that counts its calls, and finds no memory at the call of one number.
