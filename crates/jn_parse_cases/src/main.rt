@@ -48,19 +48,19 @@ fn line_answer<R: Threads + Sync>(rt: &HostRuntime, threads: &R, line: &str) -> 
 }
 
 /// Prints each case of a table with its answer.
-fn show_table(rt: &HostRuntime, table: &str) -> io::Result<()> {
+fn show_table<R: Threads + Sync>(rt: &HostRuntime, threads: &R, table: &str) -> io::Result<()> {
     let text = fs::read_to_string(rt, table)?;
     for line in text.lines() {
-        let shown = line_answer(rt, rt, line)?;
+        let shown = line_answer(rt, threads, line)?;
         println!(rt; "{line} => {shown}")?;
     }
     Ok(())
 }
 
 /// Prints the bodies of a file's program.
-fn show_points(rt: &HostRuntime, name: &str) -> io::Result<()> {
+fn show_points<R: Threads + Sync>(rt: &HostRuntime, threads: &R, name: &str) -> io::Result<()> {
     let text = fs::read(rt, name)?;
-    match file_text(rt, rt.alloc(), &text) {
+    match file_text(threads, rt.alloc(), &text) {
         Ok(shown) => println!(rt; "== {name}{shown}"),
         Err(_) => Err(io::Error::from(AllocError)),
     }
@@ -69,9 +69,9 @@ fn show_points(rt: &HostRuntime, name: &str) -> io::Result<()> {
 fn main(rt: HostRuntime) -> io::Result<()> {
     for name in env::args(&rt)?.skip(1) {
         if name.ends_with(".java") {
-            show_points(&rt, name.as_str())?;
+            show_points(&rt, &rt, name.as_str())?;
         } else {
-            show_table(&rt, name.as_str())?;
+            show_table(&rt, &rt, name.as_str())?;
         }
     }
     Ok(())
