@@ -1,3 +1,4 @@
 mod Refs
 mod Passed
 mod Overridden
+mod Listing

@@ -9,4 +9,5 @@ mod Pairs
 mod Signatures
 mod Reasons
 mod Searching
+mod Walking
 mod Standing

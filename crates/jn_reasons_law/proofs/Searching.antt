@@ -14,18 +14,19 @@ use Rattle.jn_reasons_law.specs.declared.item.Place.TheVariants.{OfSlot, OfMetho
 use Rattle.jn_reasons_law.specs.declared.item.Step.{Step}
 use Rattle.jn_reasons_law.specs.Items.{Stands}
 use Rattle.jn_reasons_law.specs.Chains.{IsCause, IsChain, HasChain}
-use Rattle.jn_reasons_law.specs.Choice.{bit_no, place_numbers, item_numbers, step_numbers, is_before, is_same, comes_before, IsFirstChain}
+use Rattle.jn_reasons_law.specs.Choice.{bit_no, item_list, place_numbers, item_numbers, step_numbers, is_before, is_same, comes_before, IsFirstChain}
 use Rattle.jn_reasons_law.proofs.Bits.{never}
 
-module _ (P : Program) (s : List Qualifier) (tables : List Table) (V : Item → Bool) where
-  stands_first : (x : Step) (xs : List Step) → IsChain P s tables (x ∷ xs) → Stands s tables x.item
+module _ (P : Program) (s : List Qualifier) (tables : List Table) where
+  pub stands_first : (x : Step) (xs : List Step) → IsChain P s tables (x ∷ xs) → Stands s tables x.item
   stands_first x [] c = c.0
   stands_first x (y ∷ ys) c = c.0
 
+module _ (P : Program) (s : List Qualifier) (tables : List Table) (V : Item → Bool) where
   module _ (closed : (x y : Item) (p : Place) → V x ≡ true → IsCause P s tables x p (Some y) → Stands s tables y → V y ≡ true) (endless : (x : Item) (p : Place) → V x ≡ true → IsCause P s tables x p None → ⊥) where
     no_chain : (x : Step) (xs : List Step) → V x.item ≡ true → IsChain P s tables (x ∷ xs) → ⊥
     no_chain x [] v c = endless x.item x.place v c.1
-    no_chain x (y ∷ ys) v c = no_chain y ys (closed x.item y.item x.place v c.1 (stands_first y ys c.2)) c.2
+    no_chain x (y ∷ ys) v c = no_chain y ys (closed x.item y.item x.place v c.1 (stands_first P s tables y ys c.2)) c.2
 
     pub no_end : (x : Item) → V x ≡ true → HasChain P s tables x → ⊥
     no_end x v h = no_chain (record { item = x; place = h.place }) h.more v h.chain
@@ -52,7 +53,7 @@ at zero (x ∷ xs) = x
 at (suc n) (x ∷ xs) = at n xs
 
 abbrev step_from : List ℕ → Step
-step_from xs = record { item = item_from (at 3 xs) (at 4 xs) (at 5 xs) (at 6 xs) (at 7 xs); place = place_from (at 0 xs) (at 1 xs) (at 2 xs) }
+step_from xs = record { item = item_from (at 0 xs) (at 1 xs) (at 2 xs) (at 3 xs) (at 4 xs); place = place_from (at 5 xs) (at 6 xs) (at 7 xs) }
 
 bit_back : (bit : Bit) → bit_from (bit_no bit) ≡ bit
 unfolding bit_from
@@ -71,6 +72,9 @@ place_back (OfSlot k) = refl
 place_back (OfMethod m) = refl
 place_back (OfBody b) = refl
 place_back (OfPoint b p) = refl
+
+pub same_item : (x y : Item) → item_list x ≡ item_list y → x ≡ y
+same_item x y e = sym (item_back x) ∙ ap (λ (xs : List ℕ). item_from (at 0 xs) (at 1 xs) (at 2 xs) (at 3 xs) (at 4 xs)) e ∙ item_back y
 
 step_back : (x : Step) → step_from (step_numbers x) ≡ x
 step_back x j = record { item = item_back x.item j; place = place_back x.place j }

@@ -1,5 +1,5 @@
 -- Which of several chains is shown, and what of it: a function of the program alone.
-use Rattle.std.specs.Prelude.{ℕ, ◌≡◌, ◌≤◌, Bool, false, ◌&&◌, ◌||◌, eqb, ltb, List, [], ◌∷◌, length}
+use Rattle.std.specs.Prelude.{ℕ, ◌≡◌, ◌≤◌, Bool, false, ◌&&◌, ◌||◌, eqb, ltb, List, [], ◌∷◌, ◌++◌, length}
 use Rattle.jn_quals.specs.Qualifier.{Qualifier}
 use Rattle.jn_points.specs.declared.program.Program.{Program}
 use Rattle.jn_env.specs.Order.{Table}
@@ -27,12 +27,16 @@ abbrev pub item_numbers : Item → ℕ × ℕ × ℕ × ℕ × ℕ
 item_numbers (AtSlot k bit) = (0, k, 0, 0, bit_no bit)
 item_numbers (AtRegister b p r bit) = (1, b, p, r, bit_no bit)
 
--- a step as numbers: declarations before overriders' names before bodies' heads before points, these by body and point; then what the item is
+abbrev pub item_list : Item → List ℕ
+item_list x = let i = item_numbers x in i.0 ∷ i.1 ∷ i.2 ∷ i.3 ∷ i.4 ∷ []
+
+abbrev pub place_list : Place → List ℕ
+place_list p = let n = place_numbers p in n.0 ∷ n.1 ∷ n.2 ∷ []
+
+-- a step as numbers: what the item is; then its place, declarations before overriders' names before bodies' heads before points, these by body and
+-- point. So of the shortest chains from an item the first has at each step the least place, and there the least item
 abbrev pub step_numbers : Step → List ℕ
-step_numbers x =
-    let p = place_numbers x.place in
-    let i = item_numbers x.item in
-    p.0 ∷ p.1 ∷ p.2 ∷ i.0 ∷ i.1 ∷ i.2 ∷ i.3 ∷ i.4 ∷ []
+step_numbers x = item_list x.item ++ place_list x.place
 
 -- in the order of words in a dictionary
 abbrev pub is_before : List ℕ → List ℕ → Bool
