@@ -36,11 +36,12 @@ use Rattle.jn_reasons_law.proofs.Bits.{on_within}
 use Rattle.jn_reasons_law.proofs.Choosing.{link}
 use Rattle.jn_reasons_law.proofs.Behind.{Supports}
 use Rattle.jn_reasons_law.proofs.Sendings.{kinds_above}
+use Rattle.jn_reasons_law.proofs.Greater.{TransferGrows}
 use Rattle.jn_reasons_law.proofs.InBody.{table_explained, send_explained}
 use Rattle.jn_reasons_law.proofs.Pairs.{pair_explained}
 use Rattle.jn_reasons_law.proofs.Signatures.{first_sends, more, SentByOne, by_one, raise_all_least, raise_all_each, last_stage, last_starts, last_closed}
 
-module _ (P : Program) (s : List Qualifier) (tables : List Table) (can : IsInferable P) (is : IsLeastSignature P s) (final : (b : ℕ) → IsLeastTable P s b (slice_index_or tables b [])) where
+module _ (grows : TransferGrows) (P : Program) (s : List Qualifier) (tables : List Table) (can : IsInferable P) (is : IsLeastSignature P s) (final : (b : ℕ) → IsLeastTable P s b (slice_index_or tables b [])) where
   abbrev U : ℕ → Table
   U b = slice_index_or tables b []
 
@@ -70,7 +71,7 @@ module _ (P : Program) (s : List Qualifier) (tables : List Table) (can : IsInfer
     point_within : (b : ℕ) (x : ℕ × Qualifier) (y : IsSentBy P b (least_table P t b) x) (o : Option Env) → env_in (U b) y.place ≡ o → SlotWithin (Some y.env) o → IsTrue (within x.1 (slice_index_or s x.0 no_qual))
     point_within b x y None e v = absurd v
     point_within b x y (Some E) e v =
-        let c = kinds_above P y.env E v x b y.point.kind y.sent in
+        let c = kinds_above P b y.place y.point y.env E y.there v x y.sent in
         within_trans x.1 c.qual (slice_index_or s x.0 no_qual) c.above (is.closed.bodies tables final b y.place y.point E y.there e (x.0, c.qual) c.there)
 
     body_within : (x : ℕ × Qualifier) → SentByBody x → IsTrue (within x.1 (slice_index_or s x.0 no_qual))
@@ -97,7 +98,7 @@ module _ (P : Program) (s : List Qualifier) (tables : List Table) (can : IsInfer
         by_body : (x : ℕ × Qualifier) → SentByBody x → (bit : Bit) → on bit x.1 ≡ true → HasChain P s tables (AtSlot x.0 bit)
         by_body x h bit o =
             let inside = can.inside h.body h.below in
-            send_explained P s tables h.body inside (final h.body) t w sup (least_table P t h.body) (least_is P t h.body inside) x.0 x.1 (by_point x h) bit o
+            send_explained grows P s tables h.body inside (final h.body) t w sup (least_table P t h.body) (least_is P t h.body inside) x.0 x.1 (by_point x h) bit o
             (on_within bit x.1 (slice_index_or s x.0 no_qual) (body_within x h) o)
 
         by_pair : (x : ℕ × Qualifier) → SentByPair x → (bit : Bit) → on bit x.1 ≡ true → HasChain P s tables (AtSlot x.0 bit)
@@ -140,6 +141,6 @@ module _ (P : Program) (s : List Qualifier) (tables : List Table) (can : IsInfer
   pub each_has_chain : (x : Item) → Stands s tables x → HasChain P s tables x
   each_has_chain (AtSlot k bit) h = slots_supported k bit h
   each_has_chain (AtRegister b p r bit) h = ⊎_elim
-      (λ lt. table_explained P s tables b (can.inside b lt) (final b) s (quals_refl s) slots_supported (U b) (final b) p h.env h.reached r bit h.has)
+      (λ lt. table_explained grows P s tables b (can.inside b lt) (final b) s (quals_refl s) slots_supported (U b) (final b) p h.env h.reached r bit h.has)
       (λ le. none_stands b p r bit le h)
       (cases_lt b (length P.bodies))

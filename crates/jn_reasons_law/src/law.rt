@@ -20,12 +20,16 @@ ghost use Rattle.jn_transfer.specs.Pairs.{pair_sends};
 ghost use Rattle.jn_reasons_law.specs.Choice.{BeginsAt, IsFirstChain};
 ghost use Rattle.jn_reasons_law.specs.Walk.{IsWalk};
 
+use jn_analysis_law::law::transfer_is_monotone;
+
 /// Each bit that stands in the least signature, or in a least table under it, has a chain of causes that ends.
 pub fn each_bit_has_a_chain()
     ensures { (P : Program) (s : List Qualifier) (tables : List Table) → IsInferable P
         → IsLeastSignature P s → ((b : ℕ) → IsLeastTable P s b (slice_index_or tables b []))
         → (x : Item) → Stands s tables x → HasChain P s tables x }
-{}
+{
+    transfer_is_monotone();
+}
 
 /// A search that follows all causes and meets no end has met no bit that has a chain: so a search from a bit that stands meets an end.
 pub fn searches_meet_an_end()
