@@ -112,52 +112,52 @@ module _ (P : Program) (s : List Qualifier) (tables : List Table) where
 
   module _ (b p r : ℕ) (bit : Bit) where
     -- each cause of a register is listed
-    edges_in : (q : ℕ) (kind : PointKind) (e : Env) (z : Option Item) (after : Env) (xs : List (ℕ × Env)) → IsAmong (p, after) xs → on bit (qual_at after r) ≡ true → IsOneOf z (behind b q P e kind r bit) → IsListed (cause_at (OfPoint b q) z) (over_edges P s b (T b) p r bit q kind e xs)
+    edges_in : (q : ℕ) (kind : PointKind) (e : Env) (z : Option Item) (after : Env) (xs : List (ℕ × Env)) → IsAmong (p, after) xs → on bit (qual_at after r) ≡ true → IsOneOf z (behind b q P e kind r bit) → IsListed (cause_at (OfPoint b q) z) (over_edges P b p r bit q kind e xs)
     edges_in q kind e z after [] m h i = absurd m
     edges_in q kind e z after (x ∷ xs) (inl j) h i =
-        left (cause_at (OfPoint b q) z) (over_edge P s b (T b) p r bit q kind e x) (over_edges P s b (T b) p r bit q kind e xs)
+        left (cause_at (OfPoint b q) z) (over_edge P b p r bit q kind e x) (over_edges P b p r bit q kind e xs)
         (cond_in (cause_at (OfPoint b q) z) (eqb x.0 p && on bit (qual_at x.1 r)) (placed (OfPoint b q) (behind b q P e kind r bit))
         (subst (λ (y : ℕ × Env). (eqb y.0 p && on bit (qual_at y.1 r)) ≡ true) j (and_from (eqb p p) (on bit (qual_at after r)) (eq-eqb p p refl) h))
         (placed_in (OfPoint b q) z (behind b q P e kind r bit) i))
     edges_in q kind e z after (x ∷ xs) (inr m) h i =
-        right (cause_at (OfPoint b q) z) (over_edge P s b (T b) p r bit q kind e x) (over_edges P s b (T b) p r bit q kind e xs) (edges_in q kind e z after xs m h i)
+        right (cause_at (OfPoint b q) z) (over_edge P b p r bit q kind e x) (over_edges P b p r bit q kind e xs) (edges_in q kind e z after xs m h i)
 
     carried_in : (q : ℕ) (z : Option Item) → IsCarrier P s tables b q p r bit z → IsListed (cause_at (OfPoint b q) z) (carried P s b (T b) p r bit q)
     carried_in q z c =
         let one = edges_in q c.point.kind c.env z c.after (transfer P s b c.point.kind q c.env) c.edge c.has c.source in
-        let two = subst (λ (o : Option Env). IsListed (cause_at (OfPoint b q) z) (over_point P s b (T b) p r bit q (Some c.point) o)) (sym c.reached) one in
-        subst (λ (o : Option Point). IsListed (cause_at (OfPoint b q) z) (over_point P s b (T b) p r bit q o (env_in (T b) q))) (sym c.there) two
+        let two = subst (λ (o : Option Env). IsListed (cause_at (OfPoint b q) z) (over_point P s b p r bit q (Some c.point) o)) (sym c.reached) one in
+        subst (λ (o : Option Point). IsListed (cause_at (OfPoint b q) z) (over_point P s b p r bit q o (env_in (T b) q))) (sym c.there) two
 
     carrier_in : (q : ℕ) (z : Option Item) → IsCarrier P s tables b q p r bit z → IsListed (cause_at (OfPoint b q) z) (register_causes P s b (T b) p r bit)
     carrier_in q z c =
-        right (cause_at (OfPoint b q) z) (entered P s b (T b) p r bit) (firsts (carried P s b (T b) p r bit) (length (points_of (body_at P b))))
+        right (cause_at (OfPoint b q) z) (entered P s b p r bit) (firsts (carried P s b (T b) p r bit) (length (points_of (body_at P b))))
         (firsts_in (cause_at (OfPoint b q) z) (carried P s b (T b) p r bit) (length (points_of (body_at P b))) q (there_below Point (points_of (body_at P b)) q c.point c.there) (carried_in q z c))
 
     -- what is listed is a cause
     abbrev OfRegister : Cause → Type 0
     OfRegister c = IsCause P s tables (AtRegister b p r bit) c.place c.source
 
-    edges_all : (q : ℕ) (pt : Point) (e : Env) → point_at P b q ≡ Some pt → env_in (T b) q ≡ Some e → (xs : List (ℕ × Env)) → ((x : ℕ × Env) → IsAmong x xs → IsAmong x (transfer P s b pt.kind q e)) → All OfRegister (over_edges P s b (T b) p r bit q pt.kind e xs)
+    edges_all : (q : ℕ) (pt : Point) (e : Env) → point_at P b q ≡ Some pt → env_in (T b) q ≡ Some e → (xs : List (ℕ × Env)) → ((x : ℕ × Env) → IsAmong x xs → IsAmong x (transfer P s b pt.kind q e)) → All OfRegister (over_edges P b p r bit q pt.kind e xs)
     edges_all q pt e there reached [] f = none_all OfRegister
-    edges_all q pt e there reached (x ∷ xs) f = both_all OfRegister (over_edge P s b (T b) p r bit q pt.kind e x) (over_edges P s b (T b) p r bit q pt.kind e xs)
+    edges_all q pt e there reached (x ∷ xs) f = both_all OfRegister (over_edge P b p r bit q pt.kind e x) (over_edges P b p r bit q pt.kind e xs)
         (cond_all OfRegister (eqb x.0 p && on bit (qual_at x.1 r)) (placed (OfPoint b q) (behind b q P e pt.kind r bit))
         (λ t. placed_all OfRegister (OfPoint b q) (behind b q P e pt.kind r bit) (λ z i.
         let a = and_parts (eqb x.0 p) (on bit (qual_at x.1 r)) t in
         carries b q p r bit z (record { point = pt; env = e; after = x.1; there = there; reached = reached; edge = subst (λ (n : ℕ). IsAmong (n, x.1) (transfer P s b pt.kind q e)) (eqb-true x.0 p a.0) (f x (inl refl)); has = a.1; source = i }))))
         (edges_all q pt e there reached xs (λ y m. f y (inr m)))
 
-    point_all : (q : ℕ) (o : Option Point) (v : Option Env) → point_at P b q ≡ o → env_in (T b) q ≡ v → All OfRegister (over_point P s b (T b) p r bit q o v)
+    point_all : (q : ℕ) (o : Option Point) (v : Option Env) → point_at P b q ≡ o → env_in (T b) q ≡ v → All OfRegister (over_point P s b p r bit q o v)
     point_all q None v i j = none_all OfRegister
     point_all q (Some pt) None i j = none_all OfRegister
     point_all q (Some pt) (Some e) i j = edges_all q pt e i j (transfer P s b pt.kind q e) (λ x m. m)
 
-  entered_all : (b p r : ℕ) (bit : Bit) → All (OfRegister b p r bit) (entered P s b (T b) p r bit)
+  entered_all : (b p r : ℕ) (bit : Bit) → All (OfRegister b p r bit) (entered P s b p r bit)
   entered_all b zero r bit = cond_all (OfRegister b 0 r bit) (on bit (qual_at (entry_env P s b) r)) (placed (OfBody b) (at_entry (method_in P b) r bit))
       (λ h. placed_all (OfRegister b 0 r bit) (OfBody b) (at_entry (method_in P b) r bit) (λ z i. enters b r bit z (record { has = h; source = i })))
   entered_all b (suc p) r bit = none_all (OfRegister b (suc p) r bit)
 
   register_all : (b p r : ℕ) (bit : Bit) → All (OfRegister b p r bit) (register_causes P s b (T b) p r bit)
-  register_all b p r bit = both_all (OfRegister b p r bit) (entered P s b (T b) p r bit) (firsts (carried P s b (T b) p r bit) (length (points_of (body_at P b))))
+  register_all b p r bit = both_all (OfRegister b p r bit) (entered P s b p r bit) (firsts (carried P s b (T b) p r bit) (length (points_of (body_at P b))))
       (entered_all b p r bit)
       (firsts_all (OfRegister b p r bit) (carried P s b (T b) p r bit) (λ q. point_all b p r bit q (point_at P b q) (env_in (T b) q) refl refl) (length (points_of (body_at P b))))
 
@@ -166,15 +166,15 @@ module _ (P : Program) (s : List Qualifier) (tables : List Table) where
     OfSlotBit c = IsCause P s tables (AtSlot k bit) c.place c.source
 
     -- what a body sends
-    sender_in : (b q : ℕ) (z : Option Item) → IsSender P s tables b q k bit z → IsListed (cause_at (OfPoint b q) z) (body_causes P s b (T b) k bit)
+    sender_in : (b q : ℕ) (z : Option Item) → IsSender P s tables b q k bit z → IsListed (cause_at (OfPoint b q) z) (body_causes P b (T b) k bit)
     sender_in b q z c =
         let sent = sent_true k bit (kind_sends P b c.env c.point.kind) (record { qual = c.qual; there = c.sent; has = c.has }) in
         let one = cond_in (cause_at (OfPoint b q) z) (is_sent k bit (kind_sends P b c.env c.point.kind)) (placed (OfPoint b q) (sent_from b q P c.env k c.point.kind bit)) sent (placed_in (OfPoint b q) z (sent_from b q P c.env k c.point.kind bit) c.source) in
-        let two = subst (λ (o : Option Env). IsListed (cause_at (OfPoint b q) z) (sent_at P s b (T b) k bit q (Some c.point) o)) (sym c.reached) one in
-        let three = subst (λ (o : Option Point). IsListed (cause_at (OfPoint b q) z) (sent_at P s b (T b) k bit q o (env_in (T b) q))) (sym c.there) two in
-        firsts_in (cause_at (OfPoint b q) z) (sent_by P s b (T b) k bit) (length (points_of (body_at P b))) q (there_below Point (points_of (body_at P b)) q c.point c.there) three
+        let two = subst (λ (o : Option Env). IsListed (cause_at (OfPoint b q) z) (sent_at P b k bit q (Some c.point) o)) (sym c.reached) one in
+        let three = subst (λ (o : Option Point). IsListed (cause_at (OfPoint b q) z) (sent_at P b k bit q o (env_in (T b) q))) (sym c.there) two in
+        firsts_in (cause_at (OfPoint b q) z) (sent_by P b (T b) k bit) (length (points_of (body_at P b))) q (there_below Point (points_of (body_at P b)) q c.point c.there) three
 
-    sent_all : (b q : ℕ) (o : Option Point) (v : Option Env) → point_at P b q ≡ o → env_in (T b) q ≡ v → All OfSlotBit (sent_at P s b (T b) k bit q o v)
+    sent_all : (b q : ℕ) (o : Option Point) (v : Option Env) → point_at P b q ≡ o → env_in (T b) q ≡ v → All OfSlotBit (sent_at P b k bit q o v)
     sent_all b q None v i j = none_all OfSlotBit
     sent_all b q (Some pt) None i j = none_all OfSlotBit
     sent_all b q (Some pt) (Some e) i j = cond_all OfSlotBit (is_sent k bit (kind_sends P b e pt.kind)) (placed (OfPoint b q) (sent_from b q P e k pt.kind bit))
@@ -182,8 +182,8 @@ module _ (P : Program) (s : List Qualifier) (tables : List Table) where
         let h = true_sent k bit (kind_sends P b e pt.kind) t in
         sends b q k bit z (record { point = pt; env = e; qual = h.qual; there = i; reached = j; sent = h.there; has = h.has; source = m })))
 
-    body_all : (b : ℕ) → All OfSlotBit (body_causes P s b (T b) k bit)
-    body_all b = firsts_all OfSlotBit (sent_by P s b (T b) k bit) (λ q. sent_all b q (point_at P b q) (env_in (T b) q) refl refl) (length (points_of (body_at P b)))
+    body_all : (b : ℕ) → All OfSlotBit (body_causes P b (T b) k bit)
+    body_all b = firsts_all OfSlotBit (sent_by P b (T b) k bit) (λ q. sent_all b q (point_at P b q) (env_in (T b) q) refl refl) (length (points_of (body_at P b)))
 
     -- what a method that overrides sends
     pair_in : (m : ℕ) (z : Option Item) → IsPairSender P s tables m k bit z → IsListed (cause_at (OfMethod m) z) (pair_causes P s k bit m)
@@ -198,23 +198,23 @@ module _ (P : Program) (s : List Qualifier) (tables : List Table) where
         overrides m k bit z (record { qual = h.qual; sent = h.there; has = h.has; source = i })))
 
     -- task by task
-    body_task_in : (c : Cause) (b : ℕ) → b < length P.bodies → IsListed c (body_causes P s b (T b) k bit) → IsListed c (task_causes P s tables k bit b)
-    body_task_in c b lt h = subst (λ (t : Bool). IsListed c (cond t (body_causes P s b (T b) k bit) (pair_causes P s k bit (task_method P b)))) (sym (lt-ltb b (length P.bodies) lt)) h
+    body_task_in : (c : Cause) (b : ℕ) → b < length P.bodies → IsListed c (body_causes P b (T b) k bit) → IsListed c (task_causes P s tables k bit b)
+    body_task_in c b lt h = subst (λ (t : Bool). IsListed c (cond t (body_causes P b (T b) k bit) (pair_causes P s k bit (task_method P b)))) (sym (lt-ltb b (length P.bodies) lt)) h
 
     pair_task_in : (c : Cause) (m : ℕ) (n : TaskOf P m) → IsListed c (pair_causes P s k bit m) → IsListed c (task_causes P s tables k bit n.task)
     pair_task_in c m n h =
         let mine = subst (λ (j : ℕ). IsListed c (pair_causes P s k bit j)) (sym n.method) h in
-        subst (λ (t : Bool). IsListed c (cond t (body_causes P s n.task (T n.task) k bit) (pair_causes P s k bit (task_method P n.task)))) (sym n.behind) mine
+        subst (λ (t : Bool). IsListed c (cond t (body_causes P n.task (T n.task) k bit) (pair_causes P s k bit (task_method P n.task)))) (sym n.behind) mine
 
     task_all : (n : ℕ) → All OfSlotBit (task_causes P s tables k bit n)
     task_all n = by (is_body_task P n)
       where
-        by : (t : Bool) → All OfSlotBit (cond t (body_causes P s n (T n) k bit) (pair_causes P s k bit (task_method P n)))
+        by : (t : Bool) → All OfSlotBit (cond t (body_causes P n (T n) k bit) (pair_causes P s k bit (task_method P n)))
         by true = body_all n
         by false = pair_all (task_method P n)
 
     in_tasks : (c : Cause) (n : ℕ) → n < task_count P → IsListed c (task_causes P s tables k bit n) → IsListed c (causes P s tables (AtSlot k bit))
-    in_tasks c n lt h = right c (started P s k bit) (firsts (task_causes P s tables k bit) (task_count P)) (firsts_in c (task_causes P s tables k bit) (task_count P) n lt h)
+    in_tasks c n lt h = right c (started P k bit) (firsts (task_causes P s tables k bit) (task_count P)) (firsts_in c (task_causes P s tables k bit) (task_count P) n lt h)
 
     body_there : (b q : ℕ) (bodies : List Body) (pt : Point) → slice_get (points_of (slice_get bodies b)) q ≡ Some pt → b < length bodies
     body_there b q [] pt e = absurd cc
@@ -222,7 +222,7 @@ module _ (P : Program) (s : List Qualifier) (tables : List Table) where
     body_there (suc b) q (x ∷ bodies) pt e = let h = body_there b q bodies pt e in omega (arith, h)
 
     slot_all : All OfSlotBit (causes P s tables (AtSlot k bit))
-    slot_all = both_all OfSlotBit (started P s k bit) (firsts (task_causes P s tables k bit) (task_count P))
+    slot_all = both_all OfSlotBit (started P k bit) (firsts (task_causes P s tables k bit) (task_count P))
         (cond_all OfSlotBit (on bit (slice_index_or (start_signature P) k no_qual)) (placed (OfSlot k) the_text) (λ h. placed_all OfSlotBit (OfSlot k) the_text (text_only h)))
         (firsts_all OfSlotBit (task_causes P s tables k bit) task_all (task_count P))
       where
@@ -232,7 +232,7 @@ module _ (P : Program) (s : List Qualifier) (tables : List Table) where
 
   pub all_listed : (x : Item) (p : Place) (z : Option Item) → IsCause P s tables x p z → IsListed (cause_at p z) (causes P s tables x)
   all_listed x p z (starts k bit h) =
-      left (cause_at (OfSlot k) None) (started P s k bit) (firsts (task_causes P s tables k bit) (task_count P))
+      left (cause_at (OfSlot k) None) (started P k bit) (firsts (task_causes P s tables k bit) (task_count P))
       (cond_in (cause_at (OfSlot k) None) (on bit (slice_index_or (start_signature P) k no_qual)) (placed (OfSlot k) the_text) h (inl refl))
   all_listed x p z (sends b q k bit y c) =
       let lt = body_there k bit b q P.bodies c.point c.there in
@@ -241,7 +241,7 @@ module _ (P : Program) (s : List Qualifier) (tables : List Table) where
       let n = task_of P s m (k, c.qual) c.sent in
       in_tasks k bit (cause_at (OfMethod m) y) n.task n.inside (pair_task_in k bit (cause_at (OfMethod m) y) m n (pair_in k bit m y c))
   all_listed x p z (enters b r bit y c) =
-      left (cause_at (OfBody b) y) (entered P s b (T b) 0 r bit) (firsts (carried P s b (T b) 0 r bit) (length (points_of (body_at P b))))
+      left (cause_at (OfBody b) y) (entered P s b 0 r bit) (firsts (carried P s b (T b) 0 r bit) (length (points_of (body_at P b))))
       (cond_in (cause_at (OfBody b) y) (on bit (qual_at (entry_env P s b) r)) (placed (OfBody b) (at_entry (method_in P b) r bit)) c.has (placed_in (OfBody b) y (at_entry (method_in P b) r bit) c.source))
   all_listed x p z (carries b q to r bit y c) = carrier_in b to r bit q y c
 
