@@ -1,5 +1,5 @@
 -- Least tables are parts of a certificate, and those of an accepted program hold.
-use Rattle.std.proofs.Common.{◌≡◌, ℕ, suc, ◌<◌, List, [], ◌∷◌, length, Option, refl, ap, ◌∙◌}
+use Rattle.std.proofs.Common.{◌≡◌, ℕ, ◌<◌, List, [], length, Option, refl, ◌∙◌}
 use Rattle.std.specs.Prelude.{slice_index_or}
 use Rattle.jn_quals.specs.Qualifier.{Qualifier}
 use Rattle.jn_points.specs.BaseRows.{NoBaseRows}
@@ -8,7 +8,6 @@ use Rattle.jn_points.specs.declared.program.Program.{Program}
 use Rattle.jn_sigs.specs.Signature.{start_signature}
 use Rattle.jn_sigs.proofs.Starts.{length-starts_from}
 use Rattle.jn_env.specs.Environment.{Env}
-use Rattle.jn_env.specs.Order.{QualsWithin}
 use Rattle.jn_transfer.specs.Closing.{IsClosed, IsNotBelowStart}
 use Rattle.jn_transfer.specs.Least.{IsLeastTable}
 use Rattle.jn_transfer.specs.Rules.{Breaks}
@@ -19,13 +18,9 @@ use Rattle.jn_cert_form.specs.Form.{ArePlain, AreParts, cert_bytes}
 use Rattle.jn_cert_law.specs.Certificate.{CertHolds}
 use Rattle.jn_cert_law.specs.Holds.{KeepsWritten}
 use Rattle.jn_cert_law.proofs.Accepting.{least_holds}
+use Rattle.jn_inference_law.specs.Solution.{IsLeastSignature}
 use Rattle.jn_plain_law.proofs.Plain.{entry_plain, least_plain}
-
-length-within : (xs ys : List Qualifier) → QualsWithin xs ys → length ys ≡ length xs
-length-within [] [] w = refl
-length-within [] (y ∷ ys) w = absurd w
-length-within (x ∷ xs) [] w = absurd w
-length-within (x ∷ xs) (y ∷ ys) w = ap suc (length-within xs ys w.1)
+use Rattle.jn_plain_law.proofs.Written.{keeps_written, length-within}
 
 module _ (P : Program) (s : List Qualifier) where
   pub table_plain : (b : ℕ) (t : List (Option Env)) → Regular P → NoBaseRows P → b < length P.bodies → IsLeastTable P s b t → ArePlain P b t
@@ -50,3 +45,6 @@ module _ (P : Program) (s : List Qualifier) where
     form = record { parts = are_parts tables R N (length-within (start_signature P) s starts ∙ length-starts_from P 0 P.slots) bodies least; text = refl };
     holds = least_holds P (regular_inferable P R) s tables bodies least closed starts written breaks;
   }
+
+  pub solved_certified : (tables : List (List (Option Env))) → Regular P → NoBaseRows P → length tables ≡ length P.bodies → ((b : ℕ) → b < length P.bodies → IsLeastTable P s b (slice_index_or tables b [])) → IsLeastSignature P s → Breaks P s [] → CertHolds P (cert_bytes P s tables)
+  solved_certified tables R N bodies least is breaks = certified tables R N bodies least is.closed is.starts (keeps_written P R s is) breaks
