@@ -27,10 +27,11 @@ import javax.tools.JavaFileObject;
 import javax.tools.StandardJavaFileManager;
 import javax.tools.ToolProvider;
 
-/** Files of a folder, compiled as Java 8, with the five annotations as stubs. */
+/** Files of a folder, compiled as Java 8, with the six annotations as stubs. */
 final class JavaFiles {
   private static final List<String> ANNOTATIONS =
-      Arrays.asList("Nullable", "NonNull", "Initialized", "UnderInitialization", "UnknownInitialization");
+      Arrays.asList(
+          "Nullable", "NonNull", "MonotonicNonNull", "Initialized", "UnderInitialization", "UnknownInitialization");
 
   private static final List<String> DEFAULTS = Arrays.asList("NonNull", "Initialized");
 

@@ -1,7 +1,7 @@
 #!/usr/bin/env bash
 # Compares the stored answers of the Java cases (crates/nullcheck_cases) with a Java compiler and machine, where they
 # are on the PATH: the files of each case that names files alone, or runs accepted files, are compiled as Java 8, with
-# the five annotations made as stubs; each main of accepted or rejected ones is run, without words and with two; and
+# the six annotations made as stubs; each main of accepted or rejected ones is run, without words and with two; and
 # what a case with `--run` answers is held against Java's run of the same main with the same words. It isn't part of
 # the gate. A file is compiled under the name of its public type, which needn't be its own.
 # Usage: bench/against-java.sh [SECONDS [PROGRAM]]
