@@ -15,9 +15,9 @@ final class StoredCase {
   private static final Pattern STATUS = Pattern.compile("-- (\\d+)$");
 
   /** A word that sets what lies around the command. */
-  private static final Pattern AROUND = Pattern.compile("(read|room|times|spaces|meet)=\\d+");
+  private static final Pattern AROUND = Pattern.compile("(read|write|most|room|times|spaces|meet|cuts|boxes|refused)=\\d+");
 
-  private static final List<String> VALUED = Arrays.asList("--workers", "--report", "--steps", "--words", "--gen");
+  private static final List<String> VALUED = Arrays.asList("--workers", "--infer", "--report", "--steps", "--words", "--gen");
 
   private static final String WORDS = "--words";
 
