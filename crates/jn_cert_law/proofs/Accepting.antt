@@ -1,10 +1,8 @@
 -- What holds of a program by some tables holds by the least ones.
-use Rattle.std.proofs.Common.{◌≡◌, ⊎_elim, ℕ, ◌<◌, List, [], length, map, replicate, Option, Some, None, sym, ap, subst, arith}
+use Rattle.std.proofs.Common.{◌≡◌, ⊎_elim, ℕ, ◌<◌, List, [], length, replicate, Option, Some, None, sym, ap, subst, arith}
 use Rattle.std.specs.Prelude.{slice_index_or, slice_set}
-use Rattle.std.specs.List.{range_with_len}
 use Rattle.std.proofs.lemmas.Bool.{cases_lt}
 use Rattle.std.proofs.lemmas.List.{get_or_past}
-use Rattle.std.proofs.lemmas.List.FromFn.{get_or-map-range_with_len, length-map-range_with_len}
 use Rattle.jn_quals.specs.Qualifier.{Qualifier}
 use Rattle.jn_quals.specs.Order.{no_qual}
 use Rattle.jn_quals.proofs.Order.{within_trans}
@@ -22,17 +20,15 @@ use Rattle.jn_transfer.specs.Rules.{Breaks, bodies_rows, pairs_rows}
 use Rattle.jn_flow.proofs.Climbing.{least_least, least_respects, least_unique}
 use Rattle.jn_contrib.proofs.Sent.{of_a_point, of_the_body}
 use Rattle.jn_analysis_law.proofs.Sends.{sent_above}
-use Rattle.jn_inference_law.specs.Inference.{IsInferable, least_table}
-use Rattle.jn_inference_law.proofs.InferenceLaws.{least_is, past_points}
+use Rattle.jn_inference_law.specs.Inference.{IsInferable}
+use Rattle.jn_inference_law.proofs.InferenceLaws.{past_points}
+use Rattle.jn_inference_law.proofs.LeastSignature.{tables_least, tables_of}
 use Rattle.jn_cert_law.specs.Holds.{Holds, KeepsWritten}
 use Rattle.jn_cert_form.specs.Form.{AreParts}
 use Rattle.jn_cert_law.proofs.Shrink.{bodies_below, no_left, no_right, none_both}
 
--- the least tables of all bodies
-module _ (P : Program) (can : IsInferable P) (s : List Qualifier) where
-  tables_of : List Table
-  tables_of = map (least_table P s) (range_with_len 0 (length P.bodies))
-
+-- the table of a body that isn't there
+module _ (P : Program) (s : List Qualifier) where
   empty_is : (b : ℕ) → points_of (body_at P b) ≡ [] → IsLeastTable P s b []
   empty_is b e = record {
     turns = 0;
@@ -40,22 +36,13 @@ module _ (P : Program) (can : IsInferable P) (s : List Qualifier) where
     stable = ap (λ (pts : List Point). flow_all (all_edges P s b pts 0 []) []) e;
   }
 
-  tables_least : (b : ℕ) → IsLeastTable P s b (slice_index_or tables_of b [])
-  unfolding tables_of
-  tables_least b = ⊎_elim
-      (λ lt. subst (IsLeastTable P s b) (sym (get_or-map-range_with_len (least_table P s) 0 (length P.bodies) b b [] lt (omega arith))) (least_is P s b (can.inside b lt)))
-      (λ le.
-      let past : slice_index_or tables_of b [] ≡ [] = get_or_past (map (least_table P s) (range_with_len 0 (length P.bodies))) b [] (let l = length-map-range_with_len (least_table P s) 0 (length P.bodies) in omega (arith, le, l)) in
-      subst (IsLeastTable P s b) (sym past) (empty_is b (past_points b P.bodies le)))
-      (cases_lt b (length P.bodies))
-
 module _ (P : Program) (can : IsInferable P) (s : List Qualifier) (tables : List (List (Option Env))) (parts : AreParts P s tables) (h : Holds P s tables) where
   -- the least table of each body is within the one given
   pub least_within : (b : ℕ) (t : Table) → IsLeastTable P s b t → TableWithin t (slice_index_or tables b [])
   least_within b t is = ⊎_elim
       (λ lt. least_least P s b (can.inside b lt) t (slice_index_or tables b []) is (parts.each b lt).long (h.respects b lt))
       (λ le.
-      let mine : t ≡ [] = least_unique P s b t [] is (empty_is P can s b (past_points b P.bodies le)) in
+      let mine : t ≡ [] = least_unique P s b t [] is (empty_is P s b (past_points b P.bodies le)) in
       let given : slice_index_or tables b [] ≡ [] = get_or_past tables b [] (let n = parts.bodies in omega (arith, le, n)) in
       subst (λ u. TableWithin t u) (sym given) (subst (λ u. TableWithin u []) (sym mine) tt))
       (cases_lt b (length P.bodies))
@@ -90,7 +77,7 @@ module _ (P : Program) (can : IsInferable P) (s : List Qualifier) (tables : List
       (λ lt. least b lt)
       (λ le.
       let past : slice_index_or tables b [] ≡ [] = get_or_past tables b [] (omega (arith, le, count)) in
-      subst (IsLeastTable P s b) (sym past) (empty_is P can s b (past_points b P.bodies le)))
+      subst (IsLeastTable P s b) (sym past) (empty_is P s b (past_points b P.bodies le)))
       (cases_lt b (length P.bodies))
 
   pub least_holds : IsClosed P s → IsNotBelowStart P s → KeepsWritten P s → Breaks P s [] → Holds P s tables
