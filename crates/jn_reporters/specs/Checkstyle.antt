@@ -1,18 +1,24 @@
 -- The report as the XML of Checkstyle (its XMLLogger).
 use Rattle.std.specs.Prelude.{ℕ, ◌++◌, List, [], ◌∷◌, Option, codes, decimal, bytes_eq, if◌then◌else◌}
-use Rattle.jn_base.specs.Codes.{code_name, code_text}
+use Rattle.jn_base.specs.Codes.{code_name}
+use Rattle.jn_base.specs.declared.code.Code.{Code}
 use Rattle.jn_diag.specs.declared.shown.RowText.{RowText}
 use Rattle.jn_diag.specs.declared.shown.Verdict.{Verdict}
 use Rattle.jn_reporters.specs.Escapes.{xml_text}
 use Rattle.jn_reporters.specs.Sheet.{document_shown}
+use Rattle.jn_reporters.specs.Words.{told}
 
 -- the element of a row: where it stands, and what it says
 abbrev pub error_place : RowText → List ℕ
 error_place row = codes "    <error line=\"" ++ decimal row.line ++ codes "\" column=\"" ++ decimal row.col ++ codes "\""
 
+-- what is wrong and what to do about it, as an attribute's value
+unfoldable pub error_words : Code → List ℕ
+error_words code = xml_text (told code)
+
 abbrev pub error_meaning : RowText → List ℕ
 error_meaning row =
-    codes " severity=\"error\" message=\"" ++ code_name row.code ++ codes ": " ++ xml_text (code_text row.code)
+    codes " severity=\"error\" message=\"" ++ code_name row.code ++ codes ": " ++ error_words row.code
     ++ codes "\" source=\"nullcheck." ++ code_name row.code ++ codes "\"/>\n"
 
 abbrev pub error_element : RowText → List ℕ

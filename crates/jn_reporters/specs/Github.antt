@@ -1,18 +1,19 @@
 -- The report as workflow commands of GitHub Actions.
 use Rattle.std.specs.Prelude.{ℕ, ◌++◌, List, Option, codes, decimal}
 use Rattle.std.specs.List.{flat_map}
-use Rattle.jn_base.specs.Codes.{code_name, code_text}
+use Rattle.jn_base.specs.Codes.{code_name}
 use Rattle.jn_diag.specs.declared.shown.RowText.{RowText}
 use Rattle.jn_diag.specs.declared.shown.Verdict.{Verdict}
 use Rattle.jn_reporters.specs.Escapes.{escaped}
 use Rattle.jn_reporters.specs.Reports.{end_line}
+use Rattle.jn_reporters.specs.Words.{told}
 use Rattle.jn_reporters.specs.declared.escapes.Escape.TheVariants.{Message, Property}
 
--- a command that shows the row beside its line: ::error file=FILE,line=LINE,col=COL::CODE TEXT
+-- a command that shows the row beside its line: ::error file=FILE,line=LINE,col=COL::CODE MESSAGE; cure: CURE
 abbrev pub github_line : RowText → List ℕ
 github_line row =
     codes "::error file=" ++ escaped Property row.name ++ codes ",line=" ++ decimal row.line ++ codes ",col=" ++ decimal row.col
-    ++ codes "::" ++ code_name row.code ++ codes " " ++ escaped Message (code_text row.code) ++ codes "\n"
+    ++ codes "::" ++ code_name row.code ++ codes " " ++ escaped Message (told row.code) ++ codes "\n"
 
 abbrev pub github_shown : List RowText → Option Verdict → List ℕ
 github_shown rows verdict = flat_map github_line rows ++ end_line verdict

@@ -5,3 +5,4 @@ pub mod Github
 pub mod Reports
 pub mod Sarif
 pub mod Sheet
+pub mod Words

@@ -1,7 +1,8 @@
 -- The report as a log of one run in SARIF (Static Analysis Results Interchange Format, version 2.1.0, OASIS).
 use Rattle.std.specs.Prelude.{ℕ, ◌==◌, ◌++◌, Bool, List, [], ◌∷◌, Option, codes, decimal, filter}
 use Rattle.std.specs.List.{flat_map, list_any}
-use Rattle.jn_base.specs.Codes.{code_name, code_text}
+use Rattle.jn_base.specs.Codes.{code_name}
+use Rattle.jn_base.specs.Messages.{code_cure, code_message}
 use Rattle.jn_base.specs.declared.code.Code.{Code}
 use Rattle.jn_diag.specs.Order.{code_place}
 use Rattle.jn_diag.specs.declared.shown.RowText.{RowText}
@@ -10,6 +11,7 @@ use Rattle.jn_reporters.specs.Escapes.{escaped}
 use Rattle.jn_reporters.specs.Reports.{all_codes}
 use Rattle.jn_reporters.specs.declared.escapes.Escape.TheVariants.{Json, Uri}
 use Rattle.jn_reporters.specs.Sheet.{document_shown}
+use Rattle.jn_reporters.specs.Words.{told}
 
 -- an item of an array behind another, and all items behind the first
 unfoldable pub next : {A : Type 0} → (A → List ℕ) → A → List ℕ
@@ -31,17 +33,26 @@ occurs rows code = list_any (λ (row : RowText). code_place row.code == code_pla
 abbrev pub occurring : List RowText → List Code → List Code
 occurring rows codes = filter (occurs rows) codes
 
--- a reportingDescriptor (3.49)
-abbrev pub rule_object : Code → List ℕ
-rule_object code =
+-- a reportingDescriptor (3.49): what is wrong, the same with its cure, and the cure alone
+abbrev pub rule_short : Code → List ℕ
+rule_short code =
     codes "            {\"id\": \"" ++ code_name code ++ codes "\", \"shortDescription\": {\"text\": \""
-    ++ escaped Json (code_text code) ++ codes "\"}}"
+    ++ escaped Json (code_message code) ++ codes "\"}, "
+
+abbrev pub rule_full : Code → List ℕ
+rule_full code = codes "\"fullDescription\": {\"text\": \"" ++ escaped Json (told code) ++ codes "\"}, "
+
+abbrev pub rule_help : Code → List ℕ
+rule_help code = codes "\"help\": {\"text\": \"" ++ escaped Json (code_cure code) ++ codes "\"}}"
+
+abbrev pub rule_object : Code → List ℕ
+rule_object code = rule_short code ++ rule_full code ++ rule_help code
 
 -- a result (3.27): its rule and its message, and its one location (3.28), a file and a region, whose lines and columns are from 1
 abbrev pub result_meaning : RowText → List ℕ
 result_meaning row =
     codes "        {\"ruleId\": \"" ++ code_name row.code ++ codes "\", \"level\": \"error\", \"message\": {\"text\": \""
-    ++ escaped Json (code_text row.code) ++ codes "\"}, "
+    ++ escaped Json (told row.code) ++ codes "\"}, "
 
 abbrev pub result_file : RowText → List ℕ
 result_file row = codes "\"locations\": [{\"physicalLocation\": {\"artifactLocation\": {\"uri\": \"" ++ escaped Uri row.name ++ codes "\"}, "

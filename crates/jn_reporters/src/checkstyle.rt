@@ -5,7 +5,9 @@ ghost use Rattle.jn_reporters.specs.Checkstyle as spec;
 use crate::attribute::put_value;
 use crate::document::{Document, Format};
 use crate::reporter::Reporter;
+use crate::telling::told;
 use itoa::{Buffer, Integer};
+use jn_base::Code;
 use jn_diag::RowText;
 use std::alloc::{AllocError, Global};
 
@@ -143,13 +145,24 @@ fn error_place(alloc: Global, row: &RowText) -> Result<Vec<u8>, AllocError>
     Ok(text)
 }
 
+#[tactic(auto, unfolding(crate::specs::Checkstyle::error_words))]
+fn error_words(alloc: Global, code: Code) -> Result<Vec<u8>, AllocError>
+    ensures { IfOk result (λ text. text.items ≡ spec.error_words code) }
+{
+    let words = told(alloc, code)?;
+    let mut text = Vec::new(alloc);
+    put_value(&mut text, &words)?;
+    Ok(text)
+}
+
 fn error_meaning(alloc: Global, row: &RowText) -> Result<Vec<u8>, AllocError>
     ensures { IfOk result (λ text. text.items ≡ spec.error_meaning row.now) }
 {
+    let words = error_words(alloc, row.code)?;
     let mut text = Vec::from_slice(alloc, b" severity=\"error\" message=\"")?;
     text.extend_from_slice(row.code.name().as_bytes())?;
     text.extend_from_slice(b": ")?;
-    put_value(&mut text, row.code.text().as_bytes())?;
+    text.extend_from_slice(&words)?;
     text.extend_from_slice(b"\" source=\"nullcheck.")?;
     text.extend_from_slice(row.code.name().as_bytes())?;
     text.extend_from_slice(b"\"/>\n")?;

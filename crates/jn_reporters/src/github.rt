@@ -7,6 +7,7 @@ ghost use Rattle.jn_reporters.specs.Sheet.{nothing_taken};
 use crate::escapes::{Escape, put};
 use crate::reporter::Reporter;
 use crate::sheet::Sheet;
+use crate::telling::told;
 use itoa::{Buffer, Integer};
 use jn_base::OutOfMemory;
 use jn_diag::{RowText, Verdict};
@@ -78,10 +79,11 @@ impl Reporter for Github {
     }
 }
 
-/// `::error file=FILE,line=LINE,col=COL::CODE TEXT` and a line feed.
+/// `::error file=FILE,line=LINE,col=COL::CODE MESSAGE; cure: CURE` and a line feed.
 fn github_line(alloc: Global, row: &RowText) -> Result<Vec<u8>, AllocError>
     ensures { IfOk result (λ line. line.items ≡ spec.github_line row.now) }
 {
+    let words = told(alloc, row.code)?;
     let mut line = Vec::from_slice(alloc, b"::error file=")?;
     put(&mut line, Escape::Property, row.name.as_str().as_bytes())?;
     line.extend_from_slice(b",line=")?;
@@ -91,7 +93,7 @@ fn github_line(alloc: Global, row: &RowText) -> Result<Vec<u8>, AllocError>
     line.extend_from_slice(b"::")?;
     line.extend_from_slice(row.code.name().as_bytes())?;
     line.extend_from_slice(b" ")?;
-    put(&mut line, Escape::Message, row.code.text().as_bytes())?;
+    put(&mut line, Escape::Message, &words)?;
     line.extend_from_slice(b"\n")?;
     Ok(line)
 }

@@ -18,6 +18,7 @@ pub mod sarif;
 mod sheet;
 pub mod summary;
 pub mod tabbed;
+mod telling;
 
 pub use checkstyle::Checkstyle;
 pub use document::{Document, Format};

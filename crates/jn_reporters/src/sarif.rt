@@ -6,6 +6,7 @@ use crate::codes::{all, place};
 use crate::document::{Document, Format};
 use crate::escapes::{Escape, put};
 use crate::reporter::Reporter;
+use crate::telling::told;
 use itoa::{Buffer, Integer};
 use jn_base::Code;
 use jn_diag::RowText;
@@ -140,10 +141,40 @@ fn put_next_rule(out: &mut Vec<u8>, alloc: Global, code: Code) -> Result<(), All
 fn rule_object(alloc: Global, code: Code) -> Result<Vec<u8>, AllocError>
     ensures { IfOk result (λ text. text.items ≡ spec.rule_object code) }
 {
+    let mut text = rule_short(alloc, code)?;
+    let full = rule_full(alloc, code)?;
+    text.extend_from_slice(&full)?;
+    let help = rule_help(alloc, code)?;
+    text.extend_from_slice(&help)?;
+    Ok(text)
+}
+
+fn rule_short(alloc: Global, code: Code) -> Result<Vec<u8>, AllocError>
+    ensures { IfOk result (λ text. text.items ≡ spec.rule_short code) }
+{
     let mut text = Vec::from_slice(alloc, b"            {\"id\": \"")?;
     text.extend_from_slice(code.name().as_bytes())?;
     text.extend_from_slice(b"\", \"shortDescription\": {\"text\": \"")?;
-    put(&mut text, Escape::Json, code.text().as_bytes())?;
+    put(&mut text, Escape::Json, code.message().as_bytes())?;
+    text.extend_from_slice(b"\"}, ")?;
+    Ok(text)
+}
+
+fn rule_full(alloc: Global, code: Code) -> Result<Vec<u8>, AllocError>
+    ensures { IfOk result (λ text. text.items ≡ spec.rule_full code) }
+{
+    let words = told(alloc, code)?;
+    let mut text = Vec::from_slice(alloc, b"\"fullDescription\": {\"text\": \"")?;
+    put(&mut text, Escape::Json, &words)?;
+    text.extend_from_slice(b"\"}, ")?;
+    Ok(text)
+}
+
+fn rule_help(alloc: Global, code: Code) -> Result<Vec<u8>, AllocError>
+    ensures { IfOk result (λ text. text.items ≡ spec.rule_help code) }
+{
+    let mut text = Vec::from_slice(alloc, b"\"help\": {\"text\": \"")?;
+    put(&mut text, Escape::Json, code.cure().as_bytes())?;
     text.extend_from_slice(b"\"}}")?;
     Ok(text)
 }
@@ -194,10 +225,11 @@ fn result_object(alloc: Global, row: &RowText) -> Result<Vec<u8>, AllocError>
 fn result_meaning(alloc: Global, row: &RowText) -> Result<Vec<u8>, AllocError>
     ensures { IfOk result (λ text. text.items ≡ spec.result_meaning row.now) }
 {
+    let words = told(alloc, row.code)?;
     let mut text = Vec::from_slice(alloc, b"        {\"ruleId\": \"")?;
     text.extend_from_slice(row.code.name().as_bytes())?;
     text.extend_from_slice(b"\", \"level\": \"error\", \"message\": {\"text\": \"")?;
-    put(&mut text, Escape::Json, row.code.text().as_bytes())?;
+    put(&mut text, Escape::Json, &words)?;
     text.extend_from_slice(b"\"}, ")?;
     Ok(text)
 }
