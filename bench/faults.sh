@@ -4,7 +4,7 @@
 # Usage: bench/faults.sh PROGRAM
 #   PROGRAM  a built nullcheck: crates/nullcheck/out/nullcheck, as `rt ci` or bin/nullcheck leaves it
 # bench/faults.c, compiled by `cc` and preloaded, has the k-th call of `open`, `read` or `write` fail or give one byte, for
-# every k that the run makes. What has to come of it (README.md):
+# every k that the run makes. What has to come of it (docs/TESTED.md):
 #   EINTR and one byte at a read or a write     change nothing
 #   another error of `open` or `read`           5, nothing written
 #   another error of `write`                    6, a prefix of what is written without it

@@ -6,9 +6,9 @@ ghost use Rattle.jn_points.specs.Regular.{Regular};
 ghost use Rattle.jn_basecheck.specs.Refusal.{IsRefusedFor};
 
 use crate::sharing::all_rows;
-use crate::typed::BaseTyped;
 use jn_base::{Fail, Row};
 use jn_index::indexed::IndexedProgram;
+use jn_typed::BaseTyped;
 use std::alloc::Global;
 use std::thread::Threads;
 

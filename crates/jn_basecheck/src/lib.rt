@@ -9,8 +9,6 @@ mod operands;
 mod points;
 mod results;
 mod sharing;
-mod typed;
 mod types;
 
 pub use check::base_check;
-pub use typed::BaseTyped;

@@ -21,7 +21,7 @@ use Rattle.jn_transfer.specs.Pairs.{overriders, pair_sends}
 use Rattle.jn_transfer.specs.Rules.{ctor_rows, pairs_rows, rows_at}
 use Rattle.jn_contrib.specs.Sends.{body_sends}
 use Rattle.jn_contrib.proofs.Sent.{of_a_point, of_the_body}
-use Rattle.jn_inference_law.proofs.TaskNumbers.{TaskOf, task_of}
+use Rattle.jn_tables_law.proofs.TaskNumbers.{TaskOf, task_of}
 use Rattle.jn_diag.specs.Order.{IsOrderOf}
 use Rattle.jn_cert_form.specs.Form.{AreParts}
 use Rattle.jn_cert_judge.specs.declared.fault.CertFault.{CertFault}

@@ -2,7 +2,6 @@
 #![tactic(auto)]
 
 pub mod bodies;
-pub mod entry;
 pub mod fault;
 pub mod judging;
 pub mod overriding;

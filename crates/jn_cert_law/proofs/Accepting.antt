@@ -17,12 +17,12 @@ use Rattle.jn_transfer.specs.Closing.{IsClosed, IsClosedUnderBodies, IsNotBelowS
 use Rattle.jn_transfer.specs.Least.{IsLeastTable, all_edges, flow_all}
 use Rattle.jn_transfer.specs.Transfer.{entry_env}
 use Rattle.jn_transfer.specs.Rules.{Breaks, bodies_rows, pairs_rows}
-use Rattle.jn_flow.proofs.Climbing.{least_least, least_respects, least_unique}
+use Rattle.jn_tables_law.proofs.Climbing.{least_least, least_respects, least_unique}
 use Rattle.jn_contrib.proofs.Sent.{of_a_point, of_the_body}
-use Rattle.jn_analysis_law.proofs.Sends.{sent_above}
-use Rattle.jn_inference_law.specs.Inference.{IsInferable}
-use Rattle.jn_inference_law.proofs.InferenceLaws.{past_points}
-use Rattle.jn_inference_law.proofs.LeastSignature.{tables_least, tables_of}
+use Rattle.jn_tables_law.proofs.Sends.{sent_above}
+use Rattle.jn_tables_law.specs.Inferable.{IsInferable}
+use Rattle.jn_tables_law.proofs.LeastTables.{past_points}
+use Rattle.jn_tables_law.proofs.LeastTables.{tables_least, tables_of}
 use Rattle.jn_cert_law.specs.Holds.{Holds, KeepsWritten}
 use Rattle.jn_cert_form.specs.Form.{AreParts}
 use Rattle.jn_cert_law.proofs.Shrink.{bodies_below, no_left, no_right, none_both}

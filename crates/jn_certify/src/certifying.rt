@@ -11,12 +11,13 @@ ghost use Rattle.jn_certify.specs.Certifying.{IsFound, IsProgramOf, IsTypedOf};
 use crate::found::CertFound;
 use jn_accept::Accepted;
 use jn_base::{Fail, Infer, OutOfMemory, Seq};
-use jn_basecheck::{BaseTyped, base_check};
+use jn_basecheck::base_check;
 use jn_cert::check_cert;
 use jn_classtable::{ClassTable, build};
 use jn_index::indexed::IndexedProgram;
 use jn_program::lowering::lower;
 use jn_trees::FileTree;
+use jn_typed::BaseTyped;
 use std::alloc::Global;
 use std::thread::Threads;
 

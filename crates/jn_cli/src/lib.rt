@@ -7,5 +7,7 @@ pub mod command;
 mod number;
 mod options;
 mod parse;
+mod reason;
 
 pub use command::{Command, Usage, read_words};
+pub use reason::usage_reason;

@@ -45,7 +45,7 @@ fn read_matches<'a>(alloc: Global, words: &'a [String]) -> Result<ArgMatches<'a>
     }
 }
 
-fn command<'a>(alloc: Global) -> Result<Command<'a>, AllocError>
+pub fn command<'a>(alloc: Global) -> Result<Command<'a>, AllocError>
     ensures { IfOk result (λ c. app_of c ≡ spec.nullcheck_app) }
 {
     let command = Command::new(alloc, "nullcheck")
@@ -82,7 +82,7 @@ fn file<'a>(alloc: Global) -> Arg<'a>
     Arg::new(alloc, "FILE").action(ArgAction::Append)
 }
 
-fn options_in(alloc: Global, matches: &ArgMatches) -> Result<Options, OutOfMemory>
+pub fn options_in(alloc: Global, matches: &ArgMatches) -> Result<Options, OutOfMemory>
     ensures { IfOk result (λ o. o ≡ spec.options_in (rows_of (found_of matches.now))) }
 {
     Ok(Options {

@@ -16,10 +16,10 @@ use Rattle.jn_transfer.specs.Sized.{StaysInside}
 use Rattle.jn_transfer.proofs.Monotone.{edge_above}
 use Rattle.jn_dataflow.specs.Problem.{IsAmong}
 use Rattle.jn_dataflow.specs.Solution.{Arises, entered, followed, joined, Absorbs, Solves}
-use Rattle.jn_flow.specs.Size.{height}
+use Rattle.jn_tables_law.specs.Size.{height}
 use Rattle.jn_flow.specs.Quals.{is_sized, edges_after, qualifiers}
 use Rattle.jn_flow.specs.QualsLaws.{to_edge, from_edge, like, qualifiers_lawful}
-use Rattle.jn_flow.proofs.Climbing.{least_exists, least_is_table, least_least, least_respects}
+use Rattle.jn_tables_law.proofs.Climbing.{least_exists, least_is_table, least_least, least_respects}
 
 -- tables by their slots
 by_slots : (t u : Table) → length t ≡ length u → ((p : ℕ) → SlotWithin (env_in t p) (env_in u p)) → TableWithin t u

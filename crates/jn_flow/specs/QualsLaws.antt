@@ -23,16 +23,8 @@ use Rattle.std.proofs.Props.{props}
 use Rattle.std.proofs.Math.Path.{fun_ext}
 use Rattle.jn_transfer.proofs.Sized.{Fine, edge_fine, entry_sized}
 use Rattle.jn_dataflow.specs.Problem.{IsLawful, IsAmong}
+use Rattle.jn_tables_law.proofs.Sizes.{same_size, join_sized}
 use Rattle.jn_flow.specs.Quals.{is_sized, edges_after, qualifiers}
-
--- environments of one body
-pub same_size : (P : Program) (b : ℕ) (e f : Env) → EnvSized P b e → EnvSized P b f → SameSize e f
-same_size P b e f l m = record { quals = l.quals ∙ sym m.quals; facts = l.facts ∙ sym m.facts; assigned = l.assigned ∙ sym m.assigned }
-
-pub join_sized : (P : Program) (b : ℕ) (e f : Env) → EnvSized P b e → EnvSized P b f → EnvSized P b (join_env e f)
-join_sized P b e f l m =
-    let s = same_size P b e f l m in
-    record { quals = length-join_quals e.quals f.quals s.quals ∙ m.quals; facts = length-meet_bits e.facts f.facts s.facts ∙ m.facts; assigned = length-meet_bits e.assigned f.assigned s.assigned ∙ m.assigned }
 
 -- that all edges stay inside has one proof
 below_prop : (n : ℕ) (o : Option PointNo) → IsProp (Below n o)

@@ -1,9 +1,7 @@
 //! The least table of a body, as the solution of a dataflow problem.
 #![tactic(auto)]
 
-mod initial;
 mod inside;
-pub mod law;
 mod least;
 mod qualifiers;
 

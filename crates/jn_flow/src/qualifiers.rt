@@ -5,10 +5,10 @@ ghost use Rattle.jn_env.specs.Sized.{EnvSized};
 ghost use Rattle.jn_flow.specs.Quals.{edges_after};
 ghost use Rattle.jn_flow.specs.QualsLaws.{EdgesStay, edges_stay_prop};
 
-use crate::initial::entry;
 use jn_base::OutOfMemory;
 use jn_dataflow::Dataflow;
 use jn_env::Env;
+use jn_transfer::entry::entry;
 use jn_transfer::{Analysis, Edge};
 use std::alloc::Global;
 

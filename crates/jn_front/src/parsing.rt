@@ -11,10 +11,10 @@ use crate::outcome::Outcome;
 use crate::sharing::parse_by;
 use crate::source::SourceRead;
 use jn_base::{OutOfMemory, Row};
+use jn_gate::Gate;
 use jn_lexer::law::{texts_have_few_tokens, texts_have_one_reading};
 use jn_renumber_law::law::{own_names_can_be_merged, own_trees_can_be_renumbered};
 use jn_trees::{FileTree, Names};
-use jn_workers::Gate;
 use std::alloc::Global;
 use std::thread::Threads;
 

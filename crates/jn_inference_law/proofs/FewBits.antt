@@ -19,7 +19,9 @@ use Rattle.jn_sigtable.specs.System.{IsClosed as IsClosedWords, least, limit_of,
 use Rattle.jn_sigtable.proofs.LeastWords.{least_is_least, ones_in_le}
 use Rattle.jn_transfer.specs.Contributions.{IsSent}
 use Rattle.jn_transfer.specs.Pairs.{pair_sends}
-use Rattle.jn_inference_law.specs.Inference.{inference, is_body_task, least_sends, task_count, task_method, task_sends, words_for, IsInferable}
+use Rattle.jn_inference_law.specs.Inference.{inference, words_for}
+use Rattle.jn_tables_law.specs.Tasks.{is_body_task, task_count, task_method, task_sends}
+use Rattle.jn_tables_law.specs.Inferable.{least_sends, IsInferable}
 use Rattle.jn_inference_law.proofs.PairLaws.{pairs_inside}
 use Rattle.jn_inference_law.specs.Packing.{packed}
 use Rattle.jn_inference_law.proofs.PackingLaws.{packed_has, packed_low}

@@ -23,13 +23,11 @@ use Rattle.jn_env.specs.Weight.{weight}
 use Rattle.jn_transfer.specs.Contributions.{IsSent, arg_sends, field_slot_of, is_inferred, kind_sends, receiver_sends, receiver_slot_of, result_slot_of, return_sends, sends, unset_sends}
 use Rattle.jn_transfer.specs.Least.{IsLeastTable, round, start_table}
 use Rattle.jn_transfer.specs.Sized.{StaysInside}
-use Rattle.jn_fixpoint.proofs.Fixpoint.{exists}
-use Rattle.jn_flow.specs.Size.{IsTableOf, height}
-use Rattle.jn_flow.proofs.Climbing.{climb, fixpoint_is, least_unique, start_is_table}
+use Rattle.jn_tables_law.proofs.LeastTables.{least_is}
 use Rattle.jn_contrib.specs.Sends.{body_sends, point_sends, sends_from}
-use Rattle.jn_analysis_law.specs.CoveredSend.{CoveredSend}
-use Rattle.jn_analysis_law.proofs.Sends.{sent_above}
-use Rattle.jn_analysis_law.proofs.Tables.{tables_above}
+use Rattle.jn_tables_law.specs.CoveredSend.{CoveredSend}
+use Rattle.jn_tables_law.proofs.Sends.{sent_above}
+use Rattle.jn_tables_law.proofs.Tables.{tables_above}
 use Rattle.jn_sigtable.specs.System.{IsLawful, Within, Covers, bits_for}
 use Rattle.jn_inference_law.specs.Packing.{packed}
 use Rattle.jn_inference_law.proofs.PackingLaws.{SendsWithin, SentBelow, packed_has, packed_sends, within_packed, packed_within, words_within, packed_small, packed_once, packed_named}
@@ -37,16 +35,9 @@ use Rattle.jn_inference_law.specs.Reading.{body_reads, pair_reads, has_word}
 use Rattle.jn_inference_law.proofs.ReadingLaws.{sends_same, words_agree}
 use Rattle.jn_transfer.specs.Pairs.{pair_sends}
 use Rattle.jn_inference_law.proofs.PairLaws.{pairs_grow, pairs_same, pairs_below}
-use Rattle.jn_inference_law.specs.Inference.{least_table, least_sends, words_for, is_body_task, task_method, task_reads, task_sends, inference, IsInferable}
-
--- the least table is one
-pub least_is : (P : Program) (s : List Qualifier) (b : ℕ) → StaysInside P b → IsLeastTable P s b (least_table P s b)
-unfolding least_table
-least_is P s b inside = fixpoint_is P s b (least_table P s b) (exists (IsTableOf P b) TableWithin weight (height P b) (round P s b) (climb P s b inside) (start_table P s b) (start_is_table P s b inside))
-
-pub least_sends_is : (P : Program) (s : List Qualifier) (b : ℕ) (T : Table) → StaysInside P b → IsLeastTable P s b T → least_sends P s b ≡ body_sends P b T
-unfolding least_sends
-least_sends_is P s b T inside is = ap (body_sends P b) (least_unique P s b (least_table P s b) T (least_is P s b inside) is)
+use Rattle.jn_tables_law.specs.Inferable.{least_table, least_sends, IsInferable}
+use Rattle.jn_inference_law.specs.Inference.{words_for, task_reads, inference}
+use Rattle.jn_tables_law.specs.Tasks.{is_body_task, task_method, task_sends}
 
 -- what is sent goes to inferred slots
 module _ (P : Program) where
@@ -163,19 +154,6 @@ module _ (P : Program) where
 
   pub inferred_sent : (s : List Qualifier) (b : ℕ) (x : ℕ × Qualifier) → IsSent x (least_sends P s b) → is_inferred (slice_get P.slots x.0) ≡ true
   inferred_sent s b x m = inferred_among (least_sends P s b) x (sent_inferred s b) m
-
--- bodies that are not there have no points, so nothing is sent
-pub past_points : (b : ℕ) (bodies : List Body) → length bodies ≤ b → points_of (slice_get bodies b) ≡ []
-past_points b [] le = refl
-past_points zero (x ∷ bodies) le = absurd (omega (arith, le))
-past_points (suc b) (x ∷ bodies) le = past_points b bodies (omega (arith, le))
-
-pub sends_are : (P : Program) (s : List Qualifier) (b : ℕ) (T : Table) → IsInferable P → IsLeastTable P s b T → least_sends P s b ≡ body_sends P b T
-unfolding least_sends
-sends_are P s b T can is = ⊎_elim
-    (λ lt. least_sends_is P s b T (can.inside b lt) is)
-    (λ le. let e = past_points b P.bodies le in ap (λ (pts : List Point). sends_from P b pts 0 (least_table P s b)) e ∙ sym (ap (λ (pts : List Point). sends_from P b pts 0 T) e))
-    (cases_lt b (length P.bodies))
 
 -- greater words hold a greater signature
 quals_from_within : (xs ys : List ℕ) (i n : ℕ) → ((k : ℕ) → k < i + n → IsTrue (within (at_slot xs k) (at_slot ys k))) → QualsWithin (qualifiers_from xs i n) (qualifiers_from ys i n)

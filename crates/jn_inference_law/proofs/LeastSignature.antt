@@ -27,10 +27,13 @@ use Rattle.jn_sigtable.specs.System.{IsClosed as IsClosedWords, Within, Covers, 
 use Rattle.jn_sigtable.proofs.LeastWords.{least_is_least}
 use Rattle.jn_inference_law.specs.Packing.{packed}
 use Rattle.jn_inference_law.proofs.PackingLaws.{SendsWithin, SentBelow, packed_has, packed_sends, packed_within, within_packed}
-use Rattle.jn_inference_law.specs.Inference.{inference, least_sends, least_table, words_for, task_count, task_method, is_body_task, task_sends, IsInferable}
+use Rattle.jn_inference_law.specs.Inference.{inference, words_for}
+use Rattle.jn_tables_law.specs.Inferable.{least_sends, least_table, IsInferable}
+use Rattle.jn_tables_law.specs.Tasks.{task_count, task_method, is_body_task, task_sends}
 use Rattle.jn_inference_law.proofs.PairLaws.{pairs_below, pairs_inside}
-use Rattle.jn_inference_law.proofs.TaskNumbers.{body_task, pair_task, task_of}
-use Rattle.jn_inference_law.proofs.InferenceLaws.{inference_lawful, least_is, least_sends_is, past_points, quals_within, sent_below, sent_inside}
+use Rattle.jn_tables_law.proofs.TaskNumbers.{body_task, pair_task, task_of}
+use Rattle.jn_inference_law.proofs.InferenceLaws.{inference_lawful, quals_within, sent_below, sent_inside}
+use Rattle.jn_tables_law.proofs.LeastTables.{least_is, least_sends_is, table_of-at, tables_least, tables_of}
 use Rattle.jn_transfer.specs.Pairs.{pair_sends}
 use Rattle.jn_transfer.specs.Closing.{IsClosed}
 use Rattle.jn_inference_law.specs.Solution.{IsLeastSignature}
@@ -101,32 +104,6 @@ least_start P s none e = record {
 }
 
 module _ (P : Program) (can : IsInferable P) where
-  -- tables of all bodies
-  module _ (t : List Qualifier) where
-    pub tables_of : List Table
-    tables_of = map (least_table P t) (range_with_len 0 (length P.bodies))
-
-    pub table_of-at : (b : ℕ) → b < length P.bodies → slice_index_or tables_of b [] ≡ least_table P t b
-    unfolding tables_of
-    table_of-at b lt = get_or-map-range_with_len (least_table P t) 0 (length P.bodies) b b [] lt (omega arith)
-
-    empty_is : (b : ℕ) → points_of (body_at P b) ≡ [] → IsLeastTable P t b []
-    empty_is b e = record {
-      turns = 0;
-      made = sym (ap (λ (pts : List Point). slice_set (replicate (length pts) None) 0 (Some (entry_env P t b))) e);
-      stable = ap (λ (pts : List Point). flow_all (all_edges P t b pts 0 []) []) e;
-    }
-
-    pub tables_least : (b : ℕ) → IsLeastTable P t b (slice_index_or tables_of b [])
-    unfolding tables_of
-    tables_least b = ⊎_elim
-        (λ lt. subst (IsLeastTable P t b) (sym (table_of-at b lt)) (least_is P t b (can.inside b lt)))
-        (λ le. subst (IsLeastTable P t b) (sym (past le)) (empty_is b (past_points b P.bodies le)))
-        (cases_lt b (length P.bodies))
-      where
-        past : length P.bodies ≤ b → slice_index_or tables_of b [] ≡ []
-        past le = get_or_past (map (least_table P t) (range_with_len 0 (length P.bodies))) b [] (let l = length-map-range_with_len (least_table P t) 0 (length P.bodies) in omega (arith, le, l))
-
   -- closed words hold a closed signature
   module _ (words : List ℕ) (is : IsClosedWords (inference P) words) where
     abbrev held : List Qualifier
@@ -161,8 +138,8 @@ module _ (P : Program) (can : IsInferable P) where
       closed_send b lt x m =
           let T = least_table P t b in
           let h = of_a_point P b T x (subst (IsSent x) (least_sends_is P t b T (can.inside b lt) (least_is P t b (can.inside b lt))) m) in
-          let reached : env_in (slice_index_or (tables_of t) b []) h.place ≡ Some h.env = ap (λ (u : Table). env_in u h.place) (table_of-at t b lt) ∙ h.reached in
-          let k : IsTrue (within x.1 (slice_index_or t x.0 no_qual)) = c.bodies (tables_of t) (tables_least t) b h.place h.point h.env h.there reached x h.sent in
+          let reached : env_in (slice_index_or (tables_of P can t) b []) h.place ≡ Some h.env = ap (λ (u : Table). env_in u h.place) (table_of-at P can t b lt) ∙ h.reached in
+          let k : IsTrue (within x.1 (slice_index_or t x.0 no_qual)) = c.bodies (tables_of P can t) (tables_least P can t) b h.place h.point h.env h.there reached x h.sent in
           let there : x.0 < length t = let i = sent_inside P t b x m in omega (arith, i, long) in
           subst (λ (q : Qualifier). IsTrue (within x.1 q)) (sym (words_of-at t x.0 there)) k
 

@@ -3,9 +3,7 @@ pub mod ReadingLaws
 pub mod InferenceLaws
 pub mod WordsOf
 pub mod LeastSignature
-pub mod Inferring
 pub mod OneFact
 pub mod FewBits
 pub mod PairLaws
-pub mod TaskNumbers
 mod BodiesAlone

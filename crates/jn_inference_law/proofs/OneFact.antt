@@ -4,7 +4,7 @@ use Rattle.std.specs.Coded.{Unit-prop, le_prop}
 use Rattle.jn_base.specs.declared.number.PointNo.{PointNo}
 use Rattle.jn_points.specs.declared.program.Program.{Program}
 use Rattle.jn_transfer.specs.Sized.{Below}
-use Rattle.jn_inference_law.specs.Inference.{IsInferable}
+use Rattle.jn_tables_law.specs.Inferable.{IsInferable}
 
 below_prop : (n : ℕ) (o : Option PointNo) → IsProp (Below n o)
 below_prop n None = Unit-prop

@@ -11,7 +11,7 @@ use Rattle.jn_points.specs.Lookup.{method_at, slots_of}
 use Rattle.jn_env.specs.Order.{QualsWithin}
 use Rattle.jn_env.proofs.Order.{quals_at}
 use Rattle.jn_transfer.specs.Contributions.{IsSent, is_inferred, receiver_slot_of, result_slot_of, sends}
-use Rattle.jn_analysis_law.specs.CoveredSend.{CoveredSend}
+use Rattle.jn_tables_law.specs.CoveredSend.{CoveredSend}
 use Rattle.jn_transfer.specs.Pairs.{under, slot_sends, slots_sends, override_sends, pair_sends}
 use Rattle.jn_inference_law.specs.Inference.{words_for}
 use Rattle.jn_inference_law.specs.Reading.{Agree, slot_list, slot_lists, given_reads, methods_reads, pair_reads}

@@ -24,10 +24,11 @@ use Rattle.jn_transfer.specs.Contributions.{field_slot_of, receiver_slot_of, res
 use Rattle.jn_transfer.specs.Least.{all_edges, edges_from, flow_all, round, start_table}
 use Rattle.jn_transfer.specs.Transfer.{drop_facts, given_quals, less_null, pad_quals, put, put_to, transfer}
 use Rattle.jn_fixpoint.specs.Climb.{rounds}
-use Rattle.jn_flow.specs.Size.{height}
+use Rattle.jn_tables_law.specs.Size.{height}
 use Rattle.jn_contrib.specs.Sends.{body_sends}
 use Rattle.jn_inference_law.specs.Reading.{Agree, slot_list, slot_lists, given_reads, has_word, kind_reads, points_reads, body_reads}
-use Rattle.jn_inference_law.specs.Inference.{least_table, least_sends, words_for}
+use Rattle.jn_tables_law.specs.Inferable.{least_table, least_sends}
+use Rattle.jn_inference_law.specs.Inference.{words_for}
 
 module _ (s t : List Qualifier) where
   pub agree_left : (xs ys : List ℕ) → Agree s t (xs ++ ys) → Agree s t xs

@@ -1,10 +1,12 @@
 //! Laws of inference.
 ghost use Rattle.std.specs.Prelude.{◌≡◌, ◌≤◌, ◌+◌, ◌*◌, ℕ, true, List, length, slice_get, [], ◌∷◌};
-ghost use Rattle.jn_analysis_law.specs.CoveredSend.{CoveredSend};
+ghost use Rattle.jn_tables_law.specs.CoveredSend.{CoveredSend};
 ghost use Rattle.jn_contrib.specs.Sends.{body_sends};
 ghost use Rattle.jn_env.specs.Order.{Table, QualsWithin};
 ghost use Rattle.jn_inference_law.specs.BodiesAlone.{IsLeastOfBodies};
-ghost use Rattle.jn_inference_law.specs.Inference.{IsInferable, inference, least_sends, task_count};
+ghost use Rattle.jn_tables_law.specs.Inferable.{IsInferable, least_sends};
+ghost use Rattle.jn_inference_law.specs.Inference.{inference};
+ghost use Rattle.jn_tables_law.specs.Tasks.{task_count};
 ghost use Rattle.jn_inference_law.specs.OpenExamples.{widened, escaping};
 ghost use Rattle.jn_inference_law.specs.Reading.{Agree, pair_reads};
 ghost use Rattle.jn_inference_law.specs.Solution.{IsLeastSignature};

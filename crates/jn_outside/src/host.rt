@@ -11,6 +11,7 @@ use crate::files::{Failed, Files};
 use crate::given::{Given, with_read, with_start};
 use crate::sink::Sink;
 use crate::told::{Told, with_bytes};
+use std::alloc::Global;
 use std::io::{ErrorKind, Read, Write};
 use std::{fs, io, rt};
 
@@ -43,29 +44,56 @@ fn write_on<R: Print>(rt: &R, bytes: &[u8]) -> io::Result<usize>
     Err(io::Error::from(ErrorKind::Interrupted))
 }
 
+/// What the host's files failed at last, for a message to a person; no clause speaks of it.
+#[derive(Drop)]
+pub struct HostFault {
+    /// The file's name, where memory was found for it.
+    pub name: Option<String>,
+    /// Whether the file couldn't be opened; else it couldn't be read.
+    pub opening: bool,
+    /// The operating system's reason.
+    pub reason: io::Error,
+}
+
 /// The files of the host. It is never steady, and its count of faults rises at each `Err`.
 #[derive(Drop)]
 pub struct HostFiles<'a, R: rt::Files> {
     rt: &'a R,
+    alloc: Global,
     file: Option<R::File>,
+    name: Option<String>,
+    fault: Option<HostFault>,
     faults: u64,
     gave: Told<Given>,
 }
 
 impl<'a, R: rt::Files> HostFiles<'a, R> {
     /// A source with no file started and no fault counted.
-    pub fn new(rt: &'a R) -> HostFiles<'a, R>
+    pub fn new(rt: &'a R, alloc: Global) -> HostFiles<'a, R>
         ensures unstarted { result.file ≡ None }
         ensures faults { result.faults ≡ 0 }
         ensures gave { result.gave.items ≡ [] }
     {
         HostFiles {
             rt,
+            alloc,
             file: None,
+            name: None,
+            fault: None,
             faults: 0,
             gave: Told::none(),
         }
     }
+
+    /// What failed last.
+    pub fn fault(&self) -> Option<&HostFault> {
+        self.fault.as_ref()
+    }
+}
+
+/// A copy of the text, where memory is found for it.
+fn copied(alloc: Global, text: &str) -> Option<String> {
+    String::from_str(alloc, text).ok()
 }
 
 impl<'a, R: rt::Files> Files for HostFiles<'a, R> {
@@ -96,10 +124,16 @@ impl<'a, R: rt::Files> Files for HostFiles<'a, R> {
         match fs::open(self.rt, name) {
             Ok(file) => {
                 self.file = Some(file);
+                self.name = copied(self.alloc, name);
                 self.gave = with_start(&self.gave, name);
                 Ok(())
             }
-            Err(_) => {
+            Err(reason) => {
+                self.fault = Some(HostFault {
+                    name: copied(self.alloc, name),
+                    opening: true,
+                    reason,
+                });
                 self.faults = count::next(self.faults);
                 Err(Failed)
             }
@@ -127,7 +161,12 @@ impl<'a, R: rt::Files> Files for HostFiles<'a, R> {
                 self.gave = with_read(&self.gave, &buf[..count]);
                 Ok(count)
             }
-            Err(_) => {
+            Err(reason) => {
+                self.fault = Some(HostFault {
+                    name: self.name.take(),
+                    opening: false,
+                    reason,
+                });
                 self.faults = count::next(self.faults);
                 Err(Failed)
             }
@@ -140,6 +179,7 @@ impl<'a, R: rt::Files> Files for HostFiles<'a, R> {
 #[derive(Drop)]
 pub struct HostSink<'a, R: Print> {
     rt: &'a R,
+    fault: Option<io::Error>,
     faults: u64,
     taken: Told<u8>,
 }
@@ -152,9 +192,15 @@ impl<'a, R: Print> HostSink<'a, R> {
     {
         HostSink {
             rt,
+            fault: None,
             faults: 0,
             taken: Told::none(),
         }
+    }
+
+    /// The operating system's reason for what failed last, where it gave one; no clause speaks of it.
+    pub fn fault(&self) -> Option<io::Error> {
+        self.fault
     }
 }
 
@@ -183,7 +229,8 @@ impl<'a, R: Print> Sink for HostSink<'a, R> {
                 self.taken = with_bytes(&self.taken, &bytes[..count]);
                 Ok(count)
             }
-            _ => {
+            result => {
+                self.fault = result.err();
                 self.faults = count::next(self.faults);
                 Err(Failed)
             }

@@ -16,7 +16,7 @@ pub mod told;
 
 pub use files::{Failed, Files, ReadFail, read_whole};
 pub use given::Given;
-pub use host::{HostFiles, HostSink};
+pub use host::{HostFault, HostFiles, HostSink};
 pub use mem_files::{MemFile, MemFiles};
 pub use mem_sink::MemSink;
 pub use sink::{Sink, write_whole};

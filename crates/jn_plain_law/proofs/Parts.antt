@@ -11,9 +11,9 @@ use Rattle.jn_env.specs.Environment.{Env}
 use Rattle.jn_transfer.specs.Closing.{IsClosed, IsNotBelowStart}
 use Rattle.jn_transfer.specs.Least.{IsLeastTable}
 use Rattle.jn_transfer.specs.Rules.{Breaks}
-use Rattle.jn_flow.proofs.Climbing.{least_is_table}
+use Rattle.jn_tables_law.proofs.Climbing.{least_is_table}
 use Rattle.jn_regular_law.proofs.Whole.{point_regular, regular_typed}
-use Rattle.jn_inference_law.proofs.Inferring.{regular_inferable}
+use Rattle.jn_tables_law.proofs.Inferring.{regular_inferable}
 use Rattle.jn_cert_form.specs.Form.{ArePlain, AreParts, cert_bytes}
 use Rattle.jn_cert_law.specs.Certificate.{CertHolds}
 use Rattle.jn_cert_law.specs.Holds.{KeepsWritten}

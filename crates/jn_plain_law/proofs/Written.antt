@@ -17,13 +17,14 @@ use Rattle.jn_env.proofs.Order.{quals_at}
 use Rattle.jn_transfer.specs.Closing.{IsClosed, IsClosedUnderBodies}
 use Rattle.jn_transfer.specs.Contributions.{IsSent, is_inferred}
 use Rattle.jn_contrib.proofs.Sent.{of_a_point, of_the_body}
-use Rattle.jn_analysis_law.proofs.Sends.{sent_above}
-use Rattle.jn_analysis_law.proofs.Tables.{tables_above}
-use Rattle.jn_inference_law.specs.Inference.{least_table}
+use Rattle.jn_tables_law.proofs.Sends.{sent_above}
+use Rattle.jn_tables_law.proofs.Tables.{tables_above}
+use Rattle.jn_tables_law.specs.Inferable.{least_table}
 use Rattle.jn_inference_law.specs.Solution.{IsLeastSignature}
-use Rattle.jn_inference_law.proofs.InferenceLaws.{inferred_sent, least_is, least_sends_is}
-use Rattle.jn_inference_law.proofs.Inferring.{regular_inferable}
-use Rattle.jn_inference_law.proofs.LeastSignature.{table_of-at, tables_least, tables_of}
+use Rattle.jn_inference_law.proofs.InferenceLaws.{inferred_sent}
+use Rattle.jn_tables_law.proofs.LeastTables.{least_is, least_sends_is}
+use Rattle.jn_tables_law.proofs.Inferring.{regular_inferable}
+use Rattle.jn_tables_law.proofs.LeastTables.{table_of-at, tables_least, tables_of}
 use Rattle.jn_inference_law.proofs.PairLaws.{pairs_grow, pairs_inferred}
 use Rattle.jn_cert_law.specs.Holds.{KeepsWritten}
 

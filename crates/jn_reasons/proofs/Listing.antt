@@ -16,8 +16,8 @@ use Rattle.jn_transfer.specs.Contributions.{IsSent, kind_sends}
 use Rattle.jn_transfer.specs.Pairs.{pair_sends}
 use Rattle.jn_transfer.specs.Transfer.{transfer, entry_env, IsAmong}
 use Rattle.jn_contrib.proofs.Fits.{there_below}
-use Rattle.jn_inference_law.specs.Inference.{task_count, task_method, is_body_task}
-use Rattle.jn_inference_law.proofs.TaskNumbers.{TaskOf, task_of}
+use Rattle.jn_tables_law.specs.Tasks.{task_count, task_method, is_body_task}
+use Rattle.jn_tables_law.proofs.TaskNumbers.{TaskOf, task_of}
 use Rattle.jn_reasons_law.specs.declared.item.Bit.{Bit}
 use Rattle.jn_reasons_law.specs.declared.item.Item.{Item}
 use Rattle.jn_reasons_law.specs.declared.item.Item.TheVariants.{AtSlot, AtRegister}

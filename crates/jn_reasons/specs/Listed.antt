@@ -12,7 +12,7 @@ use Rattle.jn_env.specs.Order.{Table, env_in, qual_at}
 use Rattle.jn_transfer.specs.Contributions.{kind_sends}
 use Rattle.jn_transfer.specs.Pairs.{pair_sends}
 use Rattle.jn_transfer.specs.Transfer.{transfer, entry_env}
-use Rattle.jn_inference_law.specs.Inference.{task_count, task_method, is_body_task}
+use Rattle.jn_tables_law.specs.Tasks.{task_count, task_method, is_body_task}
 use Rattle.jn_reasons_law.specs.declared.item.Bit.{Bit}
 use Rattle.jn_reasons_law.specs.declared.item.Item.{Item}
 use Rattle.jn_reasons_law.specs.declared.item.Item.TheVariants.{AtSlot, AtRegister}

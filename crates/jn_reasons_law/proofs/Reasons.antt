@@ -17,15 +17,16 @@ use Rattle.jn_transfer.specs.Contributions.{IsSent}
 use Rattle.jn_transfer.specs.Pairs.{pair_sends}
 use Rattle.jn_transfer.specs.Least.{IsLeastTable, all_edges, flow_all}
 use Rattle.jn_transfer.specs.Transfer.{entry_env}
-use Rattle.jn_flow.proofs.Climbing.{least_unique}
+use Rattle.jn_tables_law.proofs.Climbing.{least_unique}
 use Rattle.jn_contrib.specs.SentBy.{IsSentBy}
 use Rattle.jn_contrib.proofs.Sent.{of_a_point}
-use Rattle.jn_analysis_law.proofs.Tables.{tables_above}
-use Rattle.jn_inference_law.specs.Inference.{IsInferable, least_sends, least_table, task_count, task_method, is_body_task}
+use Rattle.jn_tables_law.proofs.Tables.{tables_above}
+use Rattle.jn_tables_law.specs.Inferable.{IsInferable, least_sends, least_table}
+use Rattle.jn_tables_law.specs.Tasks.{task_count, task_method, is_body_task}
 use Rattle.jn_inference_law.specs.Solution.{IsLeastSignature}
-use Rattle.jn_inference_law.proofs.InferenceLaws.{least_is, least_sends_is, past_points}
+use Rattle.jn_tables_law.proofs.LeastTables.{least_is, least_sends_is, past_points}
 use Rattle.jn_inference_law.proofs.PairLaws.{pairs_grow}
-use Rattle.jn_inference_law.proofs.TaskNumbers.{body_task, pair_task}
+use Rattle.jn_tables_law.proofs.TaskNumbers.{body_task, pair_task}
 use Rattle.jn_reasons_law.specs.declared.item.Bit.{Bit}
 use Rattle.jn_reasons_law.specs.declared.item.Item.{Item}
 use Rattle.jn_reasons_law.specs.declared.item.Item.TheVariants.{AtSlot, AtRegister}

@@ -22,10 +22,12 @@ use Rattle.jn_transfer.specs.Closing.{IsClosed, IsClosedUnderBodies}
 use Rattle.jn_transfer.specs.Contributions.{IsSent}
 use Rattle.jn_transfer.specs.Pairs.{pair_sends}
 use Rattle.jn_contrib.proofs.Sent.{of_the_body}
-use Rattle.jn_inference_law.specs.Inference.{IsInferable, task_count, task_sends}
-use Rattle.jn_inference_law.proofs.InferenceLaws.{sends_are, sent_inside}
+use Rattle.jn_tables_law.specs.Inferable.{IsInferable}
+use Rattle.jn_tables_law.specs.Tasks.{task_count, task_sends}
+use Rattle.jn_tables_law.proofs.LeastTables.{sends_are}
+use Rattle.jn_inference_law.proofs.InferenceLaws.{sent_inside}
 use Rattle.jn_inference_law.proofs.PairLaws.{pairs_inside}
-use Rattle.jn_inference_law.proofs.TaskNumbers.{body_task, pair_task, task_of}
+use Rattle.jn_tables_law.proofs.TaskNumbers.{body_task, pair_task, task_of}
 use Rattle.jn_reasons_law.specs.declared.item.Bit.{Bit}
 use Rattle.jn_reasons_law.specs.Items.{on}
 use Rattle.jn_reasons_law.proofs.Bits.{on_join, on_set}

@@ -5,7 +5,7 @@ ghost use Rattle.jn_points.specs.declared.program.Program.{Program};
 ghost use Rattle.jn_env.specs.Environment.{Env};
 ghost use Rattle.jn_env.specs.Order.{Table};
 ghost use Rattle.jn_transfer.specs.Least.{IsLeastTable};
-ghost use Rattle.jn_inference_law.specs.Inference.{IsInferable};
+ghost use Rattle.jn_tables_law.specs.Inferable.{IsInferable};
 ghost use Rattle.jn_inference_law.specs.Solution.{IsLeastSignature};
 ghost use Rattle.jn_reasons_law.specs.declared.item.Item.{Item};
 ghost use Rattle.jn_reasons_law.specs.declared.item.Place.{Place};
@@ -20,7 +20,7 @@ ghost use Rattle.jn_transfer.specs.Pairs.{pair_sends};
 ghost use Rattle.jn_reasons_law.specs.Choice.{BeginsAt, IsFirstChain};
 ghost use Rattle.jn_reasons_law.specs.Walk.{IsWalk};
 
-use jn_analysis_law::law::transfer_is_monotone;
+use jn_tables_law::law::transfer_is_monotone;
 
 /// Each bit that stands in the least signature, or in a least table under it, has a chain of causes that ends.
 pub fn each_bit_has_a_chain()

@@ -175,7 +175,7 @@ fn writes_all_or_a_prefix(rt: HostRuntime) {
 
 #[test]
 fn reads_and_writes_the_host(rt: HostRuntime) {
-    let mut files = HostFiles::new(&rt);
+    let mut files = HostFiles::new(&rt, rt.alloc());
     let mut buf = [0u8; 4];
     assert_eq!(rt; files.read(&mut buf), Ok(0));
     let absent = read_whole(rt.alloc(), &mut files, "no/such/file", 9);

@@ -24,3 +24,4 @@ pub mod ChainShape
 pub mod ChainTyping
 pub mod ChainTables
 pub mod Solves
+pub mod KeptTypes

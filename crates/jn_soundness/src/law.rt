@@ -2,7 +2,7 @@
 ghost use Rattle.std.specs.Prelude.{List, ℕ, ◌≡◌};
 ghost use Rattle.jn_heap.specs.Values.{Limits};
 ghost use Rattle.jn_heap.specs.State.{Goes, State};
-ghost use Rattle.jn_heap.specs.Runs.{MainForm, NeverNull, NullFault, start_state, step};
+ghost use Rattle.jn_heap.specs.Runs.{MainForm, NeverNull, NullFault, run, start_state, step};
 ghost use Rattle.jn_soundness.specs.Solved.{Solved};
 ghost use Rattle.jn_soundness.specs.World.{World};
 ghost use Rattle.jn_soundness.specs.Marks.{Marking, mark_after, start_marking};
@@ -32,6 +32,14 @@ pub fn steps_keep_marks()
         → step W.program names st ≡ Goes next → StateTyped W next }
     ensures null { (W : World) → Solved W → (st : State) (mk : Marking) → Marked W st mk
         → NullFault W.program st → ⊥ }
+{}
+
+/// In a regular, base-typed program without a row of the rules each step keeps base types: where every register, field and
+/// element that holds a value holds one of its type, it does after any number of steps.
+pub fn steps_keep_base_types()
+    ensures { (W : World) → Solved W → BaseTyped W.program
+        → (names : List (List ℕ)) (n : ℕ) (one next : State) → StateTyped W one
+        → run W.program names (Goes one) n ≡ Goes next → StateTyped W next }
 {}
 
 /// A base-typed program of the shapes that each regular one has never dereferences null where its signature is closed, its

@@ -10,11 +10,11 @@ use Rattle.jn_diag.specs.Order.{IsOrderOf}
 use Rattle.jn_env.specs.Order.{Table}
 use Rattle.jn_transfer.specs.Least.{IsLeastTable}
 use Rattle.jn_transfer.specs.Rules.{body_rows, bodies_rows, pairs_rows}
-use Rattle.jn_flow.proofs.Climbing.{least_is_table, least_unique}
-use Rattle.jn_inference_law.specs.Inference.{IsInferable, least_table}
-use Rattle.jn_inference_law.proofs.InferenceLaws.{least_is}
+use Rattle.jn_tables_law.proofs.Climbing.{least_is_table, least_unique}
+use Rattle.jn_tables_law.specs.Inferable.{IsInferable, least_table}
+use Rattle.jn_tables_law.proofs.LeastTables.{least_is}
 use Rattle.jn_system.specs.Rows.{least_rows, AreBroken}
-use Rattle.jn_inference_law.proofs.LeastSignature.{tables_of, table_of-at, tables_least}
+use Rattle.jn_tables_law.proofs.LeastTables.{tables_of, table_of-at, tables_least}
 
 -- a least table has a place for each point
 pub table_long : (P : Program) (s : List Qualifier) (b : ℕ) (T : Table) → IsInferable P → b < length P.bodies → IsLeastTable P s b T → length T ≡ length (points_of (body_at P b))

@@ -10,8 +10,10 @@ use Rattle.jn_env.specs.Order.{Table}
 use Rattle.jn_transfer.specs.Least.{IsLeastTable}
 use Rattle.jn_contrib.specs.Sends.{body_sends, slot_numbers}
 use Rattle.jn_inference_law.specs.Packing.{word_no, add_bits, packed}
-use Rattle.jn_inference_law.specs.Inference.{IsInferable, inference, words_for, task_count, task_sends, least_sends}
-use Rattle.jn_inference_law.proofs.InferenceLaws.{least_sends_is}
+use Rattle.jn_tables_law.specs.Inferable.{IsInferable, least_sends}
+use Rattle.jn_inference_law.specs.Inference.{inference, words_for}
+use Rattle.jn_tables_law.specs.Tasks.{task_count, task_sends}
+use Rattle.jn_tables_law.proofs.LeastTables.{least_sends_is}
 use Rattle.jn_system.specs.Cleaning.{IsSignatureOf}
 use Rattle.jn_system.proofs.Seen.{same_output}
 

@@ -11,7 +11,9 @@ use Rattle.jn_quals.specs.Qualifier.{Qualifier}
 use Rattle.jn_points.specs.declared.program.Program.{Program}
 use Rattle.jn_sigs.specs.Packed.{ArePacked, unpacked}
 use Rattle.jn_sigtable.specs.System.{IsReadList, lists_word}
-use Rattle.jn_inference_law.specs.Inference.{IsInferable, inference, task_count, task_sends, words_for}
+use Rattle.jn_tables_law.specs.Inferable.{IsInferable}
+use Rattle.jn_inference_law.specs.Inference.{inference, words_for}
+use Rattle.jn_tables_law.specs.Tasks.{task_count, task_sends}
 use Rattle.jn_inference_law.specs.Packing.{packed}
 use Rattle.jn_inference_law.proofs.InferenceLaws.{inference_lawful}
 use Rattle.jn_system.specs.Cleaning.{clean, cleaned, AreSeen, IsSignatureOf}

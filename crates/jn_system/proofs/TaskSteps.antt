@@ -11,7 +11,9 @@ use Rattle.jn_contrib.specs.declared.listed.Overrider.{Overrider}
 use Rattle.jn_transfer.specs.Pairs.{overriders, pair_sends}
 use Rattle.jn_contrib.specs.Entries.{AreOverriders}
 use Rattle.jn_sigtable.specs.System.{IsReadList}
-use Rattle.jn_inference_law.specs.Inference.{inference, is_body_task, least_sends, task_count, task_method, task_reads, task_sends, words_for}
+use Rattle.jn_inference_law.specs.Inference.{inference, task_reads, words_for}
+use Rattle.jn_tables_law.specs.Tasks.{is_body_task, task_count, task_method, task_sends}
+use Rattle.jn_tables_law.specs.Inferable.{least_sends}
 use Rattle.jn_inference_law.specs.Reading.{body_reads, pair_reads, has_word}
 use Rattle.jn_system.specs.ReadLists.{Adds}
 use Rattle.jn_system.specs.Ready.{IsOverriderOf}

@@ -8,7 +8,8 @@ use Rattle.jn_env.specs.ClassFields.{AreOwnFields}
 use Rattle.jn_contrib.specs.declared.listed.Overrider.{Overrider}
 use Rattle.jn_transfer.specs.Pairs.{under}
 use Rattle.jn_contrib.specs.Entries.{AreOverriders}
-use Rattle.jn_inference_law.specs.Inference.{IsInferable, task_count, task_method, is_body_task}
+use Rattle.jn_tables_law.specs.Inferable.{IsInferable}
+use Rattle.jn_tables_law.specs.Tasks.{task_count, task_method, is_body_task}
 use Rattle.jn_inference_law.proofs.OneFact.{inferable_prop}
 
 -- the program can be inferred, and the lists are its classes' reference fields

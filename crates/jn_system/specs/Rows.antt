@@ -5,7 +5,7 @@ use Rattle.jn_quals.specs.Qualifier.{Qualifier}
 use Rattle.jn_points.specs.declared.program.Program.{Program}
 use Rattle.jn_diag.specs.Order.{IsOrderOf}
 use Rattle.jn_transfer.specs.Rules.{Breaks, body_rows}
-use Rattle.jn_inference_law.specs.Inference.{least_table}
+use Rattle.jn_tables_law.specs.Inferable.{least_table}
 
 module _ (P : Program) (s : List Qualifier) where
   -- a body's, under its least table

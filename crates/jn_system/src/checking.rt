@@ -4,7 +4,7 @@ ghost use Rattle.std.proofs.Common.{Global};
 ghost use Rattle.jn_base.specs.declared.place.Row.{Row as RowOf};
 ghost use Rattle.jn_points.specs.Members.{below};
 ghost use Rattle.jn_transfer.specs.Rules.{pairs_rows};
-ghost use Rattle.jn_inference_law.specs.Inference.{IsInferable};
+ghost use Rattle.jn_tables_law.specs.Inferable.{IsInferable};
 ghost use Rattle.jn_system.specs.Ready.{AreReady};
 ghost use Rattle.jn_system.specs.Rows.{least_rows, AreBroken};
 

@@ -1,7 +1,7 @@
 //! The least signature, by any number of workers.
 ghost use Rattle.std.specs.Prelude.{◌≡◌, ◌<◌, ◌≤◌, ◌+◌, ◌^◌, IfOk, true, false};
 ghost use Rattle.jn_contrib.specs.Entries.{AreOverriders};
-ghost use Rattle.jn_inference_law.specs.Inference.{IsInferable};
+ghost use Rattle.jn_tables_law.specs.Inferable.{IsInferable};
 ghost use Rattle.jn_inference_law.specs.Solution.{IsLeastSignature};
 
 use crate::nullness::Nullness;

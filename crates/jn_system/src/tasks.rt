@@ -3,7 +3,9 @@ ghost use Rattle.std.specs.Prelude.{◌≡◌, ◌<◌, IfOk, MatchOption, lengt
 ghost use Rattle.jn_contrib.specs.Sends.{slot_numbers};
 ghost use Rattle.jn_contrib.specs.Entries.{AreOverriders};
 ghost use Rattle.jn_sigtable.specs.System.{IsReadList};
-ghost use Rattle.jn_inference_law.specs.Inference.{inference, is_body_task, least_sends, task_count, task_reads, task_sends, words_for};
+ghost use Rattle.jn_inference_law.specs.Inference.{inference, task_reads, words_for};
+ghost use Rattle.jn_tables_law.specs.Tasks.{is_body_task, task_count, task_sends};
+ghost use Rattle.jn_tables_law.specs.Inferable.{least_sends};
 ghost use Rattle.jn_inference_law.specs.Reading.{has_word};
 ghost use Rattle.jn_system.specs.Ready.{AreReady, IsOverriderOf};
 

@@ -1,3 +1,4 @@
 pub mod Monotone
 pub mod Sized
 pub mod Refs
+pub mod Entering

@@ -4,6 +4,7 @@
 pub mod analysis;
 pub mod creation;
 pub mod edges;
+pub mod entry;
 pub mod law;
 pub mod lookup;
 

@@ -4,10 +4,9 @@
 //! when it takes a body, so that a test can hold it there; [`Straight`] returns at once.
 #![tactic(auto)]
 
-mod gate;
 mod solving;
 mod working;
 
-pub use gate::{Gate, Straight};
+pub use jn_gate::{Gate, Straight};
 pub use solving::solve;
 pub use working::{Worked, work};

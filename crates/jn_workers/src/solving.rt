@@ -8,9 +8,9 @@ ghost use Rattle.jn_worklist.specs.Plans.{plan_of};
 ghost use Rattle.jn_workers.specs.Ends.{WeighsAs};
 ghost use Rattle.jn_workers.specs.Passes.{CanWork, HasWorked};
 
-use crate::gate::Gate;
 use crate::working::{Worked, work};
 use jn_base::OutOfMemory;
+use jn_gate::Gate;
 use jn_sigtable::{Constraints, Pass, SigTable};
 use jn_worklist::{Plan, plan};
 use std::alloc::Global;

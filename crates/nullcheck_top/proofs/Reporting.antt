@@ -34,7 +34,9 @@ use Rattle.jn_command.specs.Stands.{StandsIn, StandIn}
 use Rattle.nullcheck_top.specs.declared.found.CheckedFiles.{CheckedFiles}
 use Rattle.nullcheck_top.specs.declared.found.Found.{Found}
 use Rattle.nullcheck_top.specs.Found.{IsFinding}
-use Rattle.nullcheck_top.specs.Report.{AreDeclared, IsReport, IsSafe, PhaseRows, ProgramOf, RulesGive, TypedProgramOf, lowering_rows, table_rows}
+use Rattle.nullcheck_top.specs.Report.{AreDeclared, IsReport, IsSafe, PhaseRows, ProgramOf, RulesGive, TypedProgramOf, lowering_rows, table_rows, trees_of}
+use Rattle.jn_lowering.specs.Bodies.{Source}
+use Rattle.jn_meaning_law.specs.Safety.{NeverNullByTrees, NeverStuckByTrees}
 
 -- files that a phase refuses
 refused_report : (infer : Infer) → (files : List SourceFile) (broken sorted : List Row) (report : Report) → PhaseRows infer files broken → IsOrderOf broken sorted → report ≡ Refused sorted → IsReport infer files report
@@ -313,12 +315,25 @@ refused_whole reads rows (Err e) by = tt
 abbrev Keeps : Infer → (Program → Type 0) → Type 0
 Keeps infer Kept = (files : List SourceFile) (names : List (List ℕ)) (P : Program) → TypedProgramOf infer files names P → RulesGive P [] → Kept P
 
-safe_report : (infer : Infer) → Keeps infer NeverNull → Keeps infer NeverStuck → (files : List SourceFile) (report : Report) → report ≡ Checked [] → IsReport infer files report → IsSafe infer files
-safe_report infer null stuck files report none is = accepted (subst (IsReport infer files) none is)
-  where
-    accepted : IsReport infer files (Checked []) → IsSafe infer files
-    accepted by = record { names = by.names; P = by.P; of_files = by.of_files; never_null = null files by.names by.P by.of_files by.rules; never_stuck = stuck files by.names by.P by.of_files by.rules }
+-- what the laws say of each program of files without a broken rule
+abbrev KeepsTrees : Infer → (Program → List Source → Type 0) → Type 0
+KeepsTrees infer Kept = (files : List SourceFile) (names : List (List ℕ)) (P : Program) (typed : TypedProgramOf infer files names P) → RulesGive P [] → Kept P (trees_of infer files names P typed)
 
-pub safe_made : (infer : Infer) → Keeps infer NeverNull → Keeps infer NeverStuck → (reads : List SourceRead) (made : Made) → ReportsAll infer reads made → IfOk made (λ checked. checked.found.report ≡ Checked [] → (files : List SourceFile) → AreReads reads files → IsSafe infer files)
-safe_made infer null stuck reads (Ok r) all = λ none files are. safe_report infer null stuck files r.found.report none (all files are).report
-safe_made infer null stuck reads (Err e) all = tt
+module _ (infer : Infer) (null : Keeps infer NeverNull) (stuck : Keeps infer NeverStuck) (trees_null : KeepsTrees infer NeverNullByTrees) (trees_stuck : KeepsTrees infer NeverStuckByTrees) where
+  safe_report : (files : List SourceFile) (report : Report) → report ≡ Checked [] → IsReport infer files report → IsSafe infer files
+  safe_report files report none is = accepted (subst (IsReport infer files) none is)
+    where
+      accepted : IsReport infer files (Checked []) → IsSafe infer files
+      accepted by = record {
+        names = by.names;
+        P = by.P;
+        of_files = by.of_files;
+        never_null = null files by.names by.P by.of_files by.rules;
+        never_stuck = stuck files by.names by.P by.of_files by.rules;
+        trees_never_null = trees_null files by.names by.P by.of_files by.rules;
+        trees_never_stuck = trees_stuck files by.names by.P by.of_files by.rules;
+      }
+
+  pub safe_made : (reads : List SourceRead) (made : Made) → ReportsAll infer reads made → IfOk made (λ checked. checked.found.report ≡ Checked [] → (files : List SourceFile) → AreReads reads files → IsSafe infer files)
+  safe_made reads (Ok r) all = λ none files are. safe_report files r.found.report none (all files are).report
+  safe_made reads (Err e) all = tt

@@ -11,6 +11,9 @@ use Rattle.jn_points.specs.Regular.{Regular}
 use Rattle.jn_program_law.specs.FileProgram.{j_rows}
 use Rattle.jn_base.specs.declared.infer.Infer.{Infer}
 use Rattle.jn_program_law.specs.FileProgram.{inferring}
+use Rattle.jn_program_law.specs.FileSources.{sources as sources_of}
+use Rattle.jn_lowering.specs.Bodies.{Source}
+use Rattle.jn_meaning_law.specs.Safety.{NeverNullByTrees, NeverStuckByTrees}
 use Rattle.jn_quals.specs.Qualifier.{Qualifier}
 use Rattle.jn_command.specs.declared.report.Report.{Report}
 use Rattle.jn_command.specs.declared.status.Status.{Status}
@@ -116,13 +119,19 @@ abbrev pub IsReport : Infer → List SourceFile → Report → Type 0
 IsReport infer files (Refused rows) = IsPhase infer files rows
 IsReport infer files (Checked rows) = IsCheckedBy infer files rows
 
--- the files' own program has no null fault in any run, and no run gets stuck
+-- the sources of its bodies, as its trees have them
+abbrev pub trees_of : (infer : Infer) (files : List SourceFile) (names : List (List ℕ)) (P : Program) → TypedProgramOf infer files names P → List Source
+trees_of infer files names P of_files = sources_of of_files.of_files.trees
+
+-- the files' own program has no null fault in any run, and no run gets stuck; nor does the meaning of its trees come to a null, or to what has none
 pub record IsSafe (infer : Infer) (files : List SourceFile) : Type 0 where
   pub names : List (List ℕ)
   pub P : Program
   pub of_files : TypedProgramOf infer files names P
   pub never_null : NeverNull P
   pub never_stuck : NeverStuck P
+  pub trees_never_null : NeverNullByTrees P (trees_of infer files names P of_files)
+  pub trees_never_stuck : NeverStuckByTrees P (trees_of infer files names P of_files)
 
 -- so many steps of the files' one main with these words come to the status, and write the bytes
 pub record RunsTo (infer : Infer) (files : List SourceFile) (words : List (List ℕ)) (steps : ℕ) (status : Status) (bytes : List ℕ) : Type 0 where

@@ -7,23 +7,33 @@ ghost use Rattle.jn_progress_law.specs.Progress.{NeverStuck};
 ghost use Rattle.jn_front.specs.declared.source.SourceFile.{SourceFile};
 ghost use Rattle.jn_command.specs.declared.report.Report.{Report};
 ghost use Rattle.jn_command.specs.declared.status.Status.{Status};
-ghost use Rattle.nullcheck_top.specs.Report.{RulesGive, TypedProgramOf, IsReport, RunsTo};
+ghost use Rattle.jn_meaning_law.specs.Safety.{NeverNullByTrees, NeverStuckByTrees};
+ghost use Rattle.nullcheck_top.specs.Report.{RulesGive, TypedProgramOf, IsReport, RunsTo, trees_of};
 
 use jn_diag::rows_have_one_order;
-use jn_flow::law::rounds_give_the_least_table;
 use jn_front::law::files_have_one_front;
 use jn_inference_law::law::least_signatures_are_unique;
+use jn_meaning_law::law::accepted_files_are_safe_by_trees;
 use jn_progress_law::law::{accepted_programs_never_fault, accepted_programs_never_stick};
+use jn_tables_law::law::rounds_give_the_least_table;
 
-/// No run of files whose program breaks no rule dereferences null, and none gets stuck.
+/// No run of files whose program breaks no rule dereferences null, and none gets stuck. Nor does the meaning of their trees come to a
+/// null, with any words, any texts of strings, any longest length and any fuel, and it is always there.
 pub fn accepted_files_are_safe()
     ensures null { (infer : Infer) (files : List SourceFile) (names : List (List ℕ)) (P : Program)
         → TypedProgramOf infer files names P → RulesGive P [] → NeverNull P }
     ensures stuck { (infer : Infer) (files : List SourceFile) (names : List (List ℕ)) (P : Program)
         → TypedProgramOf infer files names P → RulesGive P [] → NeverStuck P }
+    ensures trees_null { (infer : Infer) (files : List SourceFile) (names : List (List ℕ)) (P : Program)
+        (typed : TypedProgramOf infer files names P)
+        → RulesGive P [] → NeverNullByTrees P (trees_of infer files names P typed) }
+    ensures trees_stuck { (infer : Infer) (files : List SourceFile) (names : List (List ℕ)) (P : Program)
+        (typed : TypedProgramOf infer files names P)
+        → NeverStuckByTrees P (trees_of infer files names P typed) }
 {
     accepted_programs_never_fault();
     accepted_programs_never_stick();
+    accepted_files_are_safe_by_trees();
 }
 
 /// Files have at most one report: the signatures are the least ones, whatever workers found them and in which order.

@@ -1,4 +1,5 @@
-use Rattle.jn_inference_law.proofs.InferenceLaws.{inferred_sent, sends_are}
+use Rattle.jn_inference_law.proofs.InferenceLaws.{inferred_sent}
+use Rattle.jn_tables_law.proofs.LeastTables.{sends_are}
 use Rattle.jn_inference_law.proofs.PairLaws.{pairs_inferred}
 use Rattle.jn_inference_law.proofs.law.outputs_are_contributions.Goals as goal
 

@@ -2,4 +2,4 @@ use Rattle.nullcheck_top.proofs.Reporting.{safe_made}
 use Rattle.nullcheck_top.proofs.check.check.Goals as goal
 
 pub returns-clause-safe : goal.returns-clause-safe
-returns-clause-safe g c = safe_made c.args.infer (c.accepted_files_are_safe.ensures.null c.args.infer) (c.accepted_files_are_safe.ensures.stuck c.args.infer) c.args.reads.now c.find.result c.find.ensures.found
+returns-clause-safe g c = safe_made c.args.infer (c.accepted_files_are_safe.ensures.null c.args.infer) (c.accepted_files_are_safe.ensures.stuck c.args.infer) (c.accepted_files_are_safe.ensures.trees_null c.args.infer) (λ files names P typed _. c.accepted_files_are_safe.ensures.trees_stuck c.args.infer files names P typed) c.args.reads.now c.find.result c.find.ensures.found

@@ -3,7 +3,7 @@ use Rattle.std.specs.Prelude.{IfErr, IfOk}
 use Rattle.std.specs.Result.{result_ok}
 use Rattle.jn_accept.specs.Accepting.{AreRowsOf}
 use Rattle.jn_front.specs.Files.{files_of_reads}
-use Rattle.jn_inference_law.specs.Inference.{IsInferable}
+use Rattle.jn_tables_law.specs.Inferable.{IsInferable}
 use Rattle.jn_inference_law.specs.Solution.{IsLeastSignature}
 use Rattle.jn_system.specs.Rows.{AreBroken}
 use Rattle.jn_command.specs.declared.report.Report.TheVariants.{Checked}

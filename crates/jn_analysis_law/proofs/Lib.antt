@@ -1,4 +1,0 @@
-mod Kept
-pub mod Sends
-mod Signatures
-pub mod Tables

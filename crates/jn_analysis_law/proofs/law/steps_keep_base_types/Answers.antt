@@ -1,5 +1,0 @@
-use Rattle.jn_analysis_law.proofs.Kept.{base_types_kept}
-use Rattle.jn_analysis_law.proofs.law.steps_keep_base_types.Goals as goal
-
-pub returns : goal.returns
-returns c = base_types_kept

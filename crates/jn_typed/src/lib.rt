@@ -1,0 +1,6 @@
+//! Programs that are base-typed.
+#![tactic(auto)]
+
+mod typed;
+
+pub use typed::BaseTyped;
