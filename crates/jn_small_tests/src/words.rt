@@ -1,6 +1,6 @@
 //! The words of a command, with bars between them.
-use jn_base::{Fail, Seq, Text};
-use jn_cli::{Command, Usage, read_words};
+use jn_base::{Fail, OutOfMemory, Seq, Text};
+use jn_cli::{Command, Usage, read_words, usage_reason};
 use std::alloc::{AllocError, Global};
 use std::process::Abort;
 
@@ -39,6 +39,31 @@ fn answer(alloc: Global, words: &[String]) -> Result<String, AllocError> {
         Err(Fail::Refused(Usage)) => String::from_str(alloc, "usage"),
         Err(Fail::OutOfMemory) => Err(AllocError),
     }
+}
+
+/// Why the words are no command's, or `a command`.
+fn reason_of(alloc: Global, words: &[String]) -> Result<String, AllocError> {
+    match read_words(alloc, words) {
+        Ok(_command) => String::from_str(alloc, "a command"),
+        Err(Fail::Refused(Usage)) => match usage_reason(alloc, words) {
+            Ok(reason) => Ok(reason),
+            Err(OutOfMemory) => Err(AllocError),
+        },
+        Err(Fail::OutOfMemory) => Err(AllocError),
+    }
+}
+
+fn line_reason(alloc: Global, line: &str) -> Result<String, AllocError> {
+    let words = words_of(alloc, line)?;
+    reason_of(alloc, &words)
+}
+
+fn expect_reason(rt: &impl Abort, alloc: Global, line: &str, want: &str) {
+    let found = line_reason(alloc, line);
+    assert!(rt;
+        matches!(&found, Ok(same) if same.as_str() == want),
+        "at {line}"
+    );
 }
 
 fn line_answer(alloc: Global, line: &str) -> Result<String, AllocError> {
@@ -107,42 +132,79 @@ fn takes_words(rt: HostRuntime) {
 
 #[test]
 fn refuses_words(rt: HostRuntime) {
-    for line in [
-        "--steps|5|A.java",
-        "--words|x|A.java",
-        "--workers|0|A.java",
-        "--workers|17|A.java",
-        "--workers|+4|A.java",
-        "--workers|x|A.java",
-        "--workers=|A.java",
-        "--workers|00000000004|A.java",
-        "A.java|--workers",
-        "--workers|1|--workers|1|A.java",
-        "--report=|A.java",
-        "--run",
-        "--run|--run|A.java",
-        "--run=x|A.java",
-        "--run|--steps|0|A.java",
-        "--run|--steps|1000000001|A.java",
-        "--run|--words|-x|A.java",
-        "--work|2|A.java",
-        "-w|2|A.java",
-        "--help",
-        "-h",
-        "--version",
-        "--gen|0",
-        "--gen|501",
-        "--gen|3|A.java",
-        "--gen|3|--run",
-        "--gen|3|--words|x",
-        "--gen|3|--steps|5",
+    for (line, reason) in [
+        ("--steps|5|A.java", "--steps stands without --run"),
+        ("--words|x|A.java", "--words stands without --run"),
+        (
+            "--workers|0|A.java",
+            "--workers takes a number from 1 to 16",
+        ),
+        (
+            "--workers|17|A.java",
+            "--workers takes a number from 1 to 16",
+        ),
+        (
+            "--workers|+4|A.java",
+            "--workers takes a number from 1 to 16",
+        ),
+        (
+            "--workers|x|A.java",
+            "--workers takes a number from 1 to 16",
+        ),
+        ("--workers=|A.java", "--workers takes a number from 1 to 16"),
+        (
+            "--workers|00000000004|A.java",
+            "--workers takes a number from 1 to 16",
+        ),
+        (
+            "A.java|--workers",
+            "a value is required for '--workers <workers>' but none was supplied",
+        ),
+        (
+            "--workers|1|--workers|1|A.java",
+            "the argument '--workers <workers>' cannot be used multiple times",
+        ),
+        (
+            "--report=|A.java",
+            "no reporter has the name behind --report",
+        ),
+        ("--infer|all|A.java", "--infer takes `private` or `package`"),
+        ("--run", "no file is named"),
+        (
+            "--run|--run|A.java",
+            "the argument '--run' cannot be used multiple times",
+        ),
+        (
+            "--run=x|A.java",
+            "unexpected value 'x' for '--run' found; no more were expected",
+        ),
+        (
+            "--run|--steps|0|A.java",
+            "--steps takes a number from 1 to 1000000000",
+        ),
+        (
+            "--run|--steps|1000000001|A.java",
+            "--steps takes a number from 1 to 1000000000",
+        ),
+        ("--run|--words|-x|A.java", "unexpected argument '-x' found"),
+        ("--work|2|A.java", "unexpected argument '--work' found"),
+        ("-w|2|A.java", "unexpected argument '-w' found"),
+        ("--help", "unexpected argument '--help' found"),
+        ("-h", "unexpected argument '-h' found"),
+        ("--version", "unexpected argument '--version' found"),
+        ("--gen|0", "--gen takes a number from 1 to 500"),
+        ("--gen|501", "--gen takes a number from 1 to 500"),
+        ("--gen|3|A.java", "--gen stands beside a file"),
+        ("--gen|3|--run", "--gen stands beside --run"),
+        ("--gen|3|--words|x", "--words stands without --run"),
+        ("--gen|3|--steps|5", "--steps stands without --run"),
     ] {
-        expect_answer(&rt, rt.alloc(), line, "usage");
+        expect_reason(&rt, rt.alloc(), line, reason);
     }
 }
 
 #[test]
 fn refuses_no_words(rt: HostRuntime) {
-    let found = answer(rt.alloc(), &[]);
-    assert!(rt; matches!(&found, Ok(same) if same.as_str() == "usage"));
+    let found = reason_of(rt.alloc(), &[]);
+    assert!(rt; matches!(&found, Ok(same) if same.as_str() == "no file is named"));
 }
