@@ -2,7 +2,7 @@
 #![tactic(auto)]
 
 use jn_outside::{HostFiles, HostSink};
-use jn_reporters::{Checkstyle, Github, Plain, Reporter, Sarif, Summary, Tabbed};
+use jn_reporters::{Checkstyle, Github, Long, Plain, Reporter, Sarif, Summary, Tabbed};
 use jn_workers::Straight;
 use nullcheck_top::{Status, nullcheck};
 use std::alloc::AllocError;
@@ -32,6 +32,7 @@ fn done<R: Threads + Sync>(
     let alloc = rt.alloc();
     let mut reporters: Vec<Box<dyn Reporter>> = Vec::new(alloc);
     reporters.push(Box::new(alloc, Plain::new(alloc))?)?;
+    reporters.push(Box::new(alloc, Long::new(alloc))?)?;
     reporters.push(Box::new(alloc, Tabbed::new(alloc))?)?;
     reporters.push(Box::new(alloc, Summary::new(alloc))?)?;
     reporters.push(Box::new(alloc, Github::new(alloc))?)?;
