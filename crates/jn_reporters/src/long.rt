@@ -101,7 +101,12 @@ fn margin(alloc: Global, row: &RowText) -> Result<Vec<u8>, AllocError>
 {
     let mut text = Vec::new(alloc);
     let mut buffer = Buffer::new();
-    put_looked(&mut text, alloc, Look::Blank, buffer.format(row.line).as_bytes())?;
+    put_looked(
+        &mut text,
+        alloc,
+        Look::Blank,
+        buffer.format(row.line).as_bytes(),
+    )?;
     Ok(text)
 }
 
@@ -162,11 +167,7 @@ fn put_source(
     }
 }
 
-fn source_lines(
-    alloc: Global,
-    row: &RowText,
-    excerpt: &Excerpt<'_>,
-) -> Result<Vec<u8>, AllocError>
+fn source_lines(alloc: Global, row: &RowText, excerpt: &Excerpt<'_>) -> Result<Vec<u8>, AllocError>
     ensures { IfOk result
         (λ text. text.items ≡ spec.source_lines row.now (Some (extract_of excerpt.now))) }
 {
@@ -224,7 +225,12 @@ fn mark_line(alloc: Global, row: &RowText, excerpt: &Excerpt<'_>) -> Result<Vec<
 {
     let mut text = margin(alloc, row)?;
     text.extend_from_slice(b" | ")?;
-    put_looked(&mut text, alloc, Look::Blank, cut_before(excerpt).as_bytes())?;
+    put_looked(
+        &mut text,
+        alloc,
+        Look::Blank,
+        cut_before(excerpt).as_bytes(),
+    )?;
     put_looked(&mut text, alloc, Look::Blank, excerpt.before)?;
     put_marks(&mut text, alloc, excerpt.marked)?;
     text.extend_from_slice(b"\n")?;
