@@ -2,7 +2,7 @@
 # Times the whole check on generated programs, each at a size and at half of it, with javac beside it where it is on
 # the PATH.
 # Usage: bench/whole.sh PROGRAM [RUNS [SECONDS [DIVISOR]]]
-#        bench/whole.sh --files FOLDER
+#        bench/whole.sh --files FOLDER [DIVISOR]
 #   PROGRAM  a built nullcheck: crates/nullcheck/out/nullcheck, as `rt ci` or bin/nullcheck leaves it; `none` times javac alone
 #   RUNS     runs of each, of which the best time counts (1)
 #   SECONDS  how long one run may take before it is stopped, which is shown as `over` (120)
@@ -241,12 +241,12 @@ compare() {
 sizes=("classes 4096" "chain 4096" "methods 16384" "statements 8192" "one name 4096" "nested 2048" "files 4096"
   "locals 900" "overloads 65536" "pairs 524288" "rows 8192" "bodies 2048")
 
-if [ $# -eq 2 ] && [ "$1" = --files ]; then
+if { [ $# -eq 2 ] || [ $# -eq 3 ]; } && [ "$1" = --files ]; then
   mkdir -p "$2"
   write_annotation "$2"
   for entry in "${sizes[@]}"; do
     shape=${entry% *}
-    write_program "$shape" "${entry##* }" "$2/${shape// /-}"
+    write_program "$shape" $((${entry##* } / ${3:-1})) "$2/${shape// /-}"
   done
   exit 0
 fi
