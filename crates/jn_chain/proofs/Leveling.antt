@@ -79,6 +79,28 @@ module _ (G : Ground) where
       reached = reached_more;
     }
 
+    at_end : (m : ℕ) → m ≤ n → IsOneOf None (level_at ls m) → ⊥
+    at_end m le h = ⊎_elim
+        (λ (lt : m < n). L.endless m lt h)
+        (λ (ge : n ≤ m). let e : m ≡ n = omega (arith, le, ge) in endless (subst (λ (k : ℕ). IsOneOf None (level_at ls k)) e h))
+        (cases_lt m n)
+
+    -- where nothing is new, nothing on the levels comes from the text in the end
+    pub dry : next ≡ [] → (j m : ℕ) (z : Source) → m ≤ n → IsOneOf z (level_at ls m) → Reaches G j z → ⊥
+    dry none zero m z le h r = at_end m le (subst (λ (y : Source). IsOneOf y (level_at ls m)) r h)
+    dry none (suc j) m z le h r = ⊎_elim
+        (λ (lt : m < n). let w = L.all m z r.1 r.0 lt h r.2 in dry none j w.level r.1 (omega (arith, lt, w.within)) w.among r.3)
+        (λ (ge : n ≤ m).
+        let e : m ≡ n = omega (arith, le, ge) in
+        ⊎_elim
+        (λ s. let w = seen_where r.1 ls s in dry none j w.level r.1 (omega (arith, w.inside, L.long)) w.among r.3)
+        (λ i. nothing r.1 (subst (IsOneOf r.1) none i))
+        (N.all z r.1 r.0 (subst (λ (k : ℕ). IsOneOf z (level_at ls k)) e h) r.2))
+        (cases_lt m n)
+      where
+        nothing : (y : Source) → IsOneOf y [] → ⊥
+        nothing y i = i
+
     -- the new level has the text
     pub levels_end : IsOneOf None next → 0 < n + 1 → AreAllLevels G x (ls ++ next ∷ [])
     levels_end h lt =

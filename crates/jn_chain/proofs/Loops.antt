@@ -6,11 +6,13 @@ use Rattle.jn_reasons_law.specs.declared.item.Item.{Item}
 use Rattle.jn_reasons_law.specs.declared.item.Place.{Place}
 use Rattle.jn_reasons_law.specs.declared.item.Step.{Step}
 use Rattle.jn_reasons_law.specs.Sources.{IsOneOf}
+use Rattle.jn_reasons_law.specs.Chains.{HasChain}
 use Rattle.jn_reasons.specs.declared.causes.Cause.{Cause}
 use Rattle.jn_reasons.specs.Listed.{IsListed, cause_at}
 use Rattle.jn_chain.specs.Search.{Ground, IsSeen, level_at, IsLeastAmong, IsUnwanted, IsWanted, IsPushedIf, IsAdded, AreAdded, IsNext, AreCauses, Leads, IsReached, IsNextLevel, AreLeading, AreLevels, AreAllLevels, IsLeastStep}
 use Rattle.jn_chain.proofs.Members.{one_left, pushed, push_cases, front_cases, front_kept, front_new, at_place, causes_cases, causes_kept, causes_new, levels_cases, seen_at}
-use Rattle.jn_chain.proofs.Leveling.{levels_start, levels_more, levels_end}
+use Rattle.jn_chain.proofs.Leveling.{dry, item_among, levels_start, levels_more, levels_end}
+use Rattle.jn_chain.proofs.Walks.{chain_reaches}
 
 abbrev Source : Type 0
 Source = Option Item
@@ -84,6 +86,12 @@ module _ (G : Ground) where
       no_text : IsOneOf None (Some x ∷ []) → ⊥
       no_text (inl h) = cc
       no_text (inr h) = h
+
+  -- a search from an item that has a chain doesn't run dry
+  pub never_dry : (x : Item) (n : ℕ) (ls seen : List (List Source)) (last next : List Source) → AreLevels G ls x n → (IsOneOf None (level_at ls n) → ⊥) → seen ≡ ls → last ≡ level_at ls n → next ≡ [] → IsNextLevel G seen last next → HasChain G.program G.sig G.tables x → ⊥
+  never_dry x n ls seen last next L endless seen_is last_is none N h =
+      let here : IsNextLevel G ls (level_at ls n) next = subst (λ (l : List Source). IsNextLevel G ls l next) last_is (subst (λ (k : List (List Source)). IsNextLevel G k last next) seen_is N) in
+      dry G x n ls next L endless here none (suc (length h.more)) 0 (Some x) (omega arith) (item_among G x n ls L) (chain_reaches G (record { item = x; place = h.place }) h.more h.chain)
 
   -- what a turn of the search found
   pub record IsTurn (ls seen new : List (List Source)) (last next pushed : List Source) (n : ℕ) : Type 0 where

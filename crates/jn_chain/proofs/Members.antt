@@ -122,3 +122,7 @@ whole A [] zero le = refl
 whole A [] (suc i) le = refl
 whole A (x ∷ xs) zero le = absurd (omega (arith, le))
 whole A (x ∷ xs) (suc i) le = ap (λ (l : List A). x ∷ l) (whole A xs i (omega (arith, le)))
+
+pub empty_is : (xs : List Source) → length xs ≡ 0 → xs ≡ []
+empty_is [] e = refl
+empty_is (x ∷ xs) e = absurd (omega (arith, e))

@@ -11,7 +11,7 @@ use Rattle.jn_reasons_law.specs.declared.item.Place.{Place}
 use Rattle.jn_reasons_law.specs.declared.item.Step.{Step}
 use Rattle.jn_reasons_law.specs.Items.{Stands}
 use Rattle.jn_reasons_law.specs.Sources.{IsOneOf}
-use Rattle.jn_reasons_law.specs.Chains.{IsCause, IsChain}
+use Rattle.jn_reasons_law.specs.Chains.{HasChain, IsCause, IsChain}
 use Rattle.jn_reasons_law.specs.Choice.{BeginsAt, IsFirstChain, is_before, item_list, place_list}
 use Rattle.jn_reasons_law.specs.Walk.{EndsIn, IsLeastEnd, IsLeastWay, IsWalk}
 use Rattle.jn_chain.specs.Search.{Ground, level_at, source_list, way_list, IsThere, IsNext, Leads, Reaches, AreLevels, AreAllLevels, AreMarked, AreMarks, IsStep, IsWay, IsLeastStep}
@@ -131,7 +131,7 @@ module _ (G : Ground) where
   first_stands y (z ∷ zs) c = c.0
 
   -- a chain of so many steps is so far from the text
-  chain_reaches : (y : Step) (ys : List Step) → IsChain P s T (y ∷ ys) → Reaches G (suc (length ys)) (Some y.item)
+  pub chain_reaches : (y : Step) (ys : List Step) → IsChain P s T (y ∷ ys) → Reaches G (suc (length ys)) (Some y.item)
   chain_reaches y [] c = (y.place, None, (c.1, tt), refl)
   chain_reaches y (z ∷ zs) c = (y.place, Some z.item, (c.1, first_stands z zs c.2), chain_reaches z zs c.2)
 
@@ -167,6 +167,10 @@ module _ (G : Ground) where
 
   none_some : (x : Item) → Some x ≡ None → ⊥
   none_some x e = cc
+
+  -- what has a chain stands
+  pub chain_stands : (x : Item) → HasChain P s T x → Stands s T x
+  chain_stands x h = first_stands (record { item = x; place = h.place }) h.more h.chain
 
   -- the walk is the first chain
   pub walk_first : (law : FirstLaw) (ls : List (List Source)) (x : Item) → AreAllLevels G x ls → Stands s T x → (steps : List Step) → IsWay G (Some x) steps → length steps ≡ length ls - 1 → IsFirstChain P s T x steps

@@ -1,6 +1,6 @@
 //! The first of the shortest chains.
 ghost use Rattle.std.specs.Prelude.{IfOk};
-ghost use Rattle.jn_reasons_law.specs.Items.{Stands};
+ghost use Rattle.jn_reasons_law.specs.Chains.{HasChain};
 ghost use Rattle.jn_reasons_law.specs.Choice.{IsFirstChain};
 
 use crate::levels::find_levels;
@@ -12,7 +12,8 @@ use jn_reasons_law::law::least_ways_make_the_first_chain;
 use jn_reasons_law::{Item, Step};
 use std::alloc::Global;
 
-/// The first of the shortest chains from a bit that stands. There is always one, and no other, so it doesn't depend on the search.
+/// The first of the shortest chains from an item that has one. There is no other, so it doesn't depend on the search; and each bit of a least
+/// signature, and of the least tables under it, has one (`jn_reasons_law::law::each_bit_has_a_chain`).
 ///
 /// # Errors
 /// No memory was found.
@@ -21,7 +22,8 @@ pub fn first_chain<O: Origins>(
     origins: &O,
     item: Item,
 ) -> Result<Vec<Step>, OutOfMemory>
-    requires stands { Stands (O.describe origins.now).sig (O.describe origins.now).tables item }
+    requires chain { HasChain (O.describe origins.now).program (O.describe origins.now).sig
+        (O.describe origins.now).tables item }
     ensures { IfOk result (λ steps. IsFirstChain (O.describe origins.now).program (O.describe origins.now).sig
         (O.describe origins.now).tables item steps.items) }
 {

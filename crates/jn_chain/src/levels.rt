@@ -1,8 +1,9 @@
 //! Levels: the item, what it comes from, what that comes from, until the text is among it.
 ghost use Rattle.std.specs.Prelude.{IfOk, OnOk};
+ghost use Rattle.jn_reasons_law.specs.Chains.{HasChain};
 ghost use Rattle.jn_chain.specs.Search.{IsAdded, AreAdded, IsNextLevel, AreAllLevels};
 
-use crate::lists::{contains, is_seen, only, push};
+use crate::lists::{contains, is_none, is_seen, only, push};
 use crate::origins::Origins;
 use jn_base::{OutOfMemory, Seq};
 use jn_reasons::{Cause, Source};
@@ -64,12 +65,17 @@ pub(crate) fn find_levels<O: Origins>(
     origins: &O,
     item: Item,
 ) -> Result<Vec<Seq<Source>>, OutOfMemory>
+    requires chain { HasChain (O.describe origins.now).program (O.describe origins.now).sig
+        (O.describe origins.now).tables item }
     ensures { IfOk result (λ levels. AreAllLevels (O.describe origins.now) item levels.items) }
 {
     let mut levels = Vec::new(alloc);
     push(&mut levels, only(alloc, Some(item))?)?;
     for at in 0..u32::MAX as usize {
         let next = next_level(alloc, origins, &levels, levels[at].as_slice())?;
+        if is_none(&next) {
+            unreachable!();
+        }
         let ends = contains(&next, None);
         push(&mut levels, Seq::of_vec(next))?;
         if ends {

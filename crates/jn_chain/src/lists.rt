@@ -57,3 +57,11 @@ pub(crate) fn is_seen(levels: &[Seq<Source>], source: Source) -> bool
     }
     false
 }
+
+/// Whether there is none.
+#[tactic(auto, using(crate::proofs::Members::empty_is))]
+pub(crate) fn is_none(list: &[Source]) -> bool
+    ensures { result ≡ true → list.now ≡ [] }
+{
+    list.len() == 0
+}

@@ -1,6 +1,6 @@
 use Rattle.std.proofs.Common.{◌-◌, length, subst, sym}
 use Rattle.jn_chain.specs.Search.{AreAllLevels, AreMarks}
-use Rattle.jn_chain.proofs.Walks.{walk_first}
+use Rattle.jn_chain.proofs.Walks.{chain_stands, walk_first}
 use Rattle.jn_chain.proofs.first.first_chain.Goals as goal
 
 pub walk-requires-clause-levels : goal.walk-requires-clause-levels
@@ -16,4 +16,4 @@ pub returns : goal.returns
 returns g c =
     let ls = c.as_slice-levels.result.now in
     let all : AreAllLevels (g.O.Origins.describe c.args.origins.now) c.args.item ls = subst (AreAllLevels (g.O.Origins.describe c.args.origins.now) c.args.item) (sym c.as_slice-levels.ensures.value) c.in_ok-found.ensures in
-    walk_first (g.O.Origins.describe c.args.origins.now) (c.least_ways_make_the_first_chain.ensures (g.O.Origins.describe c.args.origins.now).program (g.O.Origins.describe c.args.origins.now).sig (g.O.Origins.describe c.args.origins.now).tables) ls c.args.item all c.requires.stands c.in_ok-steps.steps.items c.in_ok-steps.ensures.way c.in_ok-steps.ensures.long
+    walk_first (g.O.Origins.describe c.args.origins.now) (c.least_ways_make_the_first_chain.ensures (g.O.Origins.describe c.args.origins.now).program (g.O.Origins.describe c.args.origins.now).sig (g.O.Origins.describe c.args.origins.now).tables) ls c.args.item all (chain_stands (g.O.Origins.describe c.args.origins.now) c.args.item c.requires.chain) c.in_ok-steps.steps.items c.in_ok-steps.ensures.way c.in_ok-steps.ensures.long
