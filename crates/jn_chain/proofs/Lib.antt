@@ -4,3 +4,4 @@ pub mod Marking
 pub mod Walks
 pub mod Ordering
 pub mod Loops
+pub mod Telling

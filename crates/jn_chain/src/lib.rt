@@ -7,7 +7,9 @@ mod lists;
 mod marks;
 mod order;
 pub mod origins;
+pub mod shown;
 mod walk;
 
 pub use first::first_chain;
 pub use origins::Origins;
+pub use shown::told;
