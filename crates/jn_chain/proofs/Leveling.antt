@@ -1,13 +1,12 @@
 -- Levels grow by one, and bound how far the text is.
 use Rattle.std.proofs.Common.{◌≡◌, ℕ, zero, suc, ◌+◌, ◌-◌, ◌<◌, ◌≤◌, ◌⊎◌, inl, inr, ⊎_elim, List, [], ◌∷◌, ◌++◌, length, Option, Some, None, refl, sym, ap, ◌∙◌, subst, arith}
-use Rattle.std.specs.Prelude.{slice_index_or}
 use Rattle.std.proofs.lemmas.Bool.{cases_lt}
 use Rattle.std.proofs.lemmas.List.{get_or_append_left, get_or_push, length_push}
 use Rattle.jn_reasons_law.specs.declared.item.Item.{Item}
 use Rattle.jn_reasons_law.specs.declared.item.Place.{Place}
 use Rattle.jn_reasons_law.specs.Sources.{IsOneOf}
 use Rattle.jn_chain.specs.Search.{Ground, IsSeen, level_at, IsNext, IsReached, IsNextLevel, Reaches, IsWithin, AreLevels, AreAllLevels}
-use Rattle.jn_chain.proofs.Members.{IsAt, seen_where}
+use Rattle.jn_chain.proofs.Members.{seen_where}
 
 abbrev Source : Type 0
 Source = Option Item

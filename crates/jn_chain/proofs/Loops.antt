@@ -1,15 +1,13 @@
 -- The steps of the loops over lists of sources, causes and levels.
-use Rattle.std.proofs.Common.{◌≡◌, ℕ, zero, suc, ◌+◌, ◌-◌, ◌<◌, ◌≤◌, ◌⊎◌, inl, inr, ⊎_elim, List, [], ◌∷◌, ◌++◌, length, take, Option, Some, None, refl, sym, ap, ◌∙◌, subst, arith}
+use Rattle.std.proofs.Common.{◌≡◌, ℕ, suc, ◌+◌, ◌<◌, ◌⊎◌, inl, inr, ⊎_elim, List, [], ◌∷◌, ◌++◌, length, take, Option, Some, None, sym, ap, ◌∙◌, subst, arith}
 use Rattle.std.specs.Prelude.{slice_index_or}
 use Rattle.std.proofs.lemmas.List.{get_or_default, get_or_push}
 use Rattle.jn_reasons_law.specs.declared.item.Item.{Item}
-use Rattle.jn_reasons_law.specs.declared.item.Place.{Place}
-use Rattle.jn_reasons_law.specs.declared.item.Step.{Step}
 use Rattle.jn_reasons_law.specs.Sources.{IsOneOf}
 use Rattle.jn_reasons_law.specs.Chains.{HasChain}
 use Rattle.jn_reasons.specs.declared.causes.Cause.{Cause}
 use Rattle.jn_reasons.specs.Listed.{IsListed, cause_at}
-use Rattle.jn_chain.specs.Search.{Ground, IsSeen, level_at, IsLeastAmong, IsUnwanted, IsWanted, IsPushedIf, IsAdded, AreAdded, IsNext, AreCauses, Leads, IsReached, IsNextLevel, AreLeading, AreLevels, AreAllLevels, IsLeastStep}
+use Rattle.jn_chain.specs.Search.{Ground, IsSeen, level_at, IsLeastAmong, IsUnwanted, IsWanted, IsPushedIf, IsAdded, AreAdded, IsNext, AreCauses, Leads, IsNextLevel, AreLeading, AreLevels, AreAllLevels, IsLeastStep}
 use Rattle.jn_chain.proofs.Members.{one_left, pushed, push_cases, front_cases, front_kept, front_new, at_place, causes_cases, causes_kept, causes_new, levels_cases, seen_at}
 use Rattle.jn_chain.proofs.Leveling.{dry, item_among, levels_start, levels_more, levels_end}
 use Rattle.jn_chain.proofs.Walks.{chain_reaches}

@@ -1,10 +1,10 @@
 -- Marks, level by level from the last back.
-use Rattle.std.proofs.Common.{◌≡◌, ℕ, zero, suc, ◌+◌, ◌-◌, ◌<◌, ◌≤◌, ⊎_elim, List, [], ◌∷◌, ◌++◌, length, Option, Some, None, inl, inr, refl, sym, ap, ◌∙◌, subst, arith}
+use Rattle.std.proofs.Common.{◌≡◌, ℕ, zero, suc, ◌+◌, ◌-◌, ◌<◌, ◌≤◌, ⊎_elim, List, [], ◌∷◌, ◌++◌, length, Option, None, inl, inr, refl, sym, ap, ◌∙◌, subst, arith}
 use Rattle.std.proofs.lemmas.Bool.{cases_lt}
 use Rattle.std.proofs.lemmas.List.{get_or_append_left, get_or_push, length_push}
 use Rattle.jn_reasons_law.specs.declared.item.Item.{Item}
 use Rattle.jn_reasons_law.specs.Sources.{IsOneOf}
-use Rattle.jn_chain.specs.Search.{Ground, level_at, Leads, AreLeading, Reaches, AreLevels, AreAllLevels, AreMarked, AreMarks}
+use Rattle.jn_chain.specs.Search.{Ground, level_at, AreLeading, AreLevels, AreAllLevels, AreMarked, AreMarks}
 use Rattle.jn_chain.proofs.Leveling.{next_among}
 
 abbrev Source : Type 0

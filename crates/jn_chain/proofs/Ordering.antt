@@ -1,13 +1,12 @@
 -- The order of numbers, and the least of some causes.
-use Rattle.std.proofs.Common.{◌≡◌, ℕ, ◌+◌, ◌<◌, Bool, true, false, ◌&&◌, ◌||◌, ◌⊎◌, inl, inr, ⊎_elim, List, [], ◌∷◌, ◌++◌, length, take, Option, Some, None, refl, sym, ap, ◌∙◌, subst, arith}
+use Rattle.std.proofs.Common.{◌≡◌, ℕ, ◌+◌, ◌<◌, Bool, true, false, ◌&&◌, ◌||◌, ◌⊎◌, inl, inr, ⊎_elim, List, [], ◌∷◌, length, take, Option, Some, None, refl, sym, ◌∙◌, subst, arith}
 use Rattle.std.specs.Prelude.{eqb, ltb, slice_index_or, MatchOption}
 use Rattle.std.proofs.lemmas.Bool.{and_from, and_parts, or_cases, or_left, or_right, eqb-true, eq-eqb, ltb-true, lt-ltb}
 use Rattle.jn_reasons_law.specs.declared.item.Item.{Item}
 use Rattle.jn_reasons_law.specs.Sources.{IsOneOf}
 use Rattle.jn_reasons_law.specs.Choice.{is_before}
 use Rattle.jn_reasons.specs.declared.causes.Cause.{Cause}
-use Rattle.jn_reasons.specs.Listed.{IsListed}
-use Rattle.jn_chain.specs.Search.{way_list, IsBest, IsBetter, IsLeastAmong, IsLesser, IsUnwanted}
+use Rattle.jn_chain.specs.Search.{way_list, IsBest, IsBetter, IsLeastAmong, IsUnwanted}
 use Rattle.jn_chain.proofs.Members.{causes_cases, causes_kept, causes_new}
 
 pub never : false ≡ true → ⊥

@@ -1,5 +1,5 @@
 -- Walks from level to level by the least steps, and what they are.
-use Rattle.std.proofs.Common.{◌≡◌, ℕ, zero, suc, ◌+◌, ◌-◌, ◌<◌, ◌≤◌, ◌⊎◌, ⊎_elim, Bool, true, false, ◌&&◌, ◌||◌, List, [], ◌∷◌, ◌++◌, length, Option, Some, None, inl, inr, refl, sym, ap, ◌∙◌, subst, arith, append_assoc, append-nil}
+use Rattle.std.proofs.Common.{◌≡◌, ℕ, zero, suc, ◌+◌, ◌-◌, ◌<◌, ◌≤◌, ⊎_elim, true, false, ◌&&◌, List, [], ◌∷◌, ◌++◌, length, Option, Some, None, refl, sym, ap, ◌∙◌, subst, arith, append_assoc, append-nil}
 use Rattle.std.specs.Prelude.{eqb, ltb}
 use Rattle.std.proofs.lemmas.Bool.{and_from, and_parts, or_cases, or_left, or_right}
 use Rattle.std.proofs.lemmas.List.{length_push}
@@ -12,9 +12,9 @@ use Rattle.jn_reasons_law.specs.declared.item.Step.{Step}
 use Rattle.jn_reasons_law.specs.Items.{Stands}
 use Rattle.jn_reasons_law.specs.Sources.{IsOneOf}
 use Rattle.jn_reasons_law.specs.Chains.{HasChain, IsCause, IsChain}
-use Rattle.jn_reasons_law.specs.Choice.{BeginsAt, IsFirstChain, is_before, item_list, place_list}
-use Rattle.jn_reasons_law.specs.Walk.{EndsIn, IsLeastEnd, IsLeastWay, IsWalk}
-use Rattle.jn_chain.specs.Search.{Ground, level_at, source_list, way_list, IsThere, IsNext, Leads, Reaches, AreLevels, AreAllLevels, AreMarked, AreMarks, IsStep, IsWay, IsLeastStep}
+use Rattle.jn_reasons_law.specs.Choice.{BeginsAt, IsFirstChain, is_before, place_list}
+use Rattle.jn_reasons_law.specs.Walk.{IsWalk}
+use Rattle.jn_chain.specs.Search.{Ground, level_at, source_list, way_list, IsThere, IsNext, Leads, Reaches, AreAllLevels, AreMarked, AreMarks, IsStep, IsWay, IsLeastStep}
 use Rattle.jn_chain.proofs.Ordering.{never, as_false}
 use Rattle.jn_chain.proofs.Leveling.{far, next_among, item_reaches, item_among}
 

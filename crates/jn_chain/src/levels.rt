@@ -59,7 +59,8 @@ fn next_level<O: Origins>(
     Ok(next)
 }
 
-/// The levels from an item on, to the first that has the text.
+/// The levels from an item on, to the first that has the text. An item that has a chain always has a next level until then; and each level has an
+/// item that no other has, so memory ends long before 2^32 levels.
 pub(crate) fn find_levels<O: Origins>(
     alloc: Global,
     origins: &O,

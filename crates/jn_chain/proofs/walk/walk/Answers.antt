@@ -1,4 +1,4 @@
-use Rattle.std.proofs.Common.{◌≡◌, ◌∙◌, ◌<◌, ◌-◌, Some, [], length, arith, subst, sym}
+use Rattle.std.proofs.Common.{◌∙◌, ◌<◌, ◌-◌, Some, [], length, arith, subst, sym}
 use Rattle.std.proofs.lemmas.List.{get_or_default}
 use Rattle.jn_chain.proofs.Walks.{IsWalked, walk_start, leads_from, more_from, done_way, done_long}
 use Rattle.jn_chain.proofs.walk.walk.Goals as goal
