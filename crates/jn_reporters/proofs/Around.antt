@@ -1,6 +1,6 @@
 -- What is shown of a line.
-use Rattle.std.proofs.Common.{◌≡◌, ℕ, ◌+◌, ◌-◌, ◌≤◌, ◌<◌, ◌==◌, Bool, true, false, not, List, [], ◌∷◌, ◌++◌, length, get_or, take, drop, append_assoc, append-nil, refl, sym, ap, ◌∙◌, arith}
-use Rattle.std.specs.Prelude.{cond, max, min, nat_le, if◌then◌else◌}
+use Rattle.std.proofs.Common.{◌≡◌, ℕ, zero, suc, ◌+◌, ◌-◌, ◌≤◌, ◌<◌, ◌==◌, Bool, true, false, not, List, [], ◌∷◌, ◌++◌, length, get_or, take, drop, append_assoc, append-nil, refl, sym, ap, ◌∙◌, subst, arith, inl, inr}
+use Rattle.std.specs.Prelude.{◌⊎◌, cond, max, min, nat_le, if◌then◌else◌}
 use Rattle.std.proofs.Math.Dec.{leb-zero}
 use Rattle.std.proofs.Math.Seq.{take-length, drop-length}
 use Rattle.std.proofs.lemmas.Bool.{le-leb, leb-true}
@@ -9,8 +9,7 @@ use Rattle.std.proofs.lemmas.List.{drop_more, take_more, length-append}
 use Rattle.std.proofs.lemmas.List.Sums.{sum_by-append}
 use Rattle.jn_base.specs.Place.{characters, is_continuation, is_line_end, last_line}
 use Rattle.jn_diag.proofs.Sweeping.{line_anew, line_longer}
-use Rattle.jn_reporters.specs.Excerpts.{begun, first_characters, first_line, last_characters}
-use Rattle.jn_reporters.specs.Walks.{GoesBack, GoesOn, is_nothing}
+use Rattle.jn_reporters.specs.Excerpts.{GoesBack, GoesOn, begun, first_characters, first_line, is_nothing, last_characters, most_before}
 
 -- ---- from a place on
 

@@ -100,7 +100,7 @@ fn put_number(out: &mut Vec<u8>, mark: &[u8], byte: u8) -> Result<(), AllocError
 }
 
 /// The hexadecimal digit of a number below 16.
-pub fn hex_digit(value: u8) -> u8
+fn hex_digit(value: u8) -> u8
     requires { value < 16 }
     ensures { result ≡ spec.hex_digit value }
 {

@@ -5,12 +5,11 @@ ghost use Rattle.jn_reporters.specs.Sarif as spec;
 use crate::codes::{all, place};
 use crate::document::{Document, Format};
 use crate::escapes::{Escape, put};
-use crate::fingerprint::put_hex;
-use crate::kept::Kept;
 use crate::reporter::Reporter;
 use crate::telling::told;
 use itoa::{Buffer, Integer};
 use jn_base::Code;
+use jn_diag::RowText;
 use std::alloc::{AllocError, Global};
 
 /// Shows a log of one run in SARIF 2.1.0.
@@ -38,7 +37,7 @@ impl Format for SarifLog {
         "sarif"
     }
 
-    fn document(alloc: Global, rows: &[Kept]) -> Result<Vec<u8>, AllocError> {
+    fn document(alloc: Global, rows: &[RowText]) -> Result<Vec<u8>, AllocError> {
         let codes = occurring(alloc, rows, &all())?;
         let mut text = Vec::new(alloc);
         put_before_rules(&mut text)?;
@@ -51,7 +50,7 @@ impl Format for SarifLog {
 }
 
 /// Those of the codes that some row has.
-fn occurring(alloc: Global, rows: &[Kept], codes: &[Code]) -> Result<Vec<Code>, AllocError>
+fn occurring(alloc: Global, rows: &[RowText], codes: &[Code]) -> Result<Vec<Code>, AllocError>
     ensures { IfOk result (λ found. found.items ≡ spec.occurring rows.now codes.now) }
 {
     let mut found = Vec::new(alloc);
@@ -61,7 +60,11 @@ fn occurring(alloc: Global, rows: &[Kept], codes: &[Code]) -> Result<Vec<Code>, 
     Ok(found)
 }
 
-fn put_where_it_occurs(found: &mut Vec<Code>, rows: &[Kept], code: Code) -> Result<(), AllocError>
+fn put_where_it_occurs(
+    found: &mut Vec<Code>,
+    rows: &[RowText],
+    code: Code,
+) -> Result<(), AllocError>
     ensures { OnOk result
         (found.new.items ≡ found.old.items ++ spec.occurring rows.now (code ∷ [])) }
 {
@@ -72,7 +75,7 @@ fn put_where_it_occurs(found: &mut Vec<Code>, rows: &[Kept], code: Code) -> Resu
 }
 
 /// Whether some row has the code.
-fn occurs(rows: &[Kept], code: Code) -> bool
+fn occurs(rows: &[RowText], code: Code) -> bool
     ensures { result ≡ spec.occurs rows.now code }
 {
     rows.iter().any(|row| place(row.code) == place(code))
@@ -176,7 +179,7 @@ fn rule_help(alloc: Global, code: Code) -> Result<Vec<u8>, AllocError>
     Ok(text)
 }
 
-fn put_results(out: &mut Vec<u8>, alloc: Global, rows: &[Kept]) -> Result<(), AllocError>
+fn put_results(out: &mut Vec<u8>, alloc: Global, rows: &[RowText]) -> Result<(), AllocError>
     ensures { OnOk result
         (out.new.items ≡ out.old.items ++ spec.listed spec.result_object rows.now) }
 {
@@ -188,7 +191,7 @@ fn put_results(out: &mut Vec<u8>, alloc: Global, rows: &[Kept]) -> Result<(), Al
     put_further_results(out, alloc, rest)
 }
 
-fn put_further_results(out: &mut Vec<u8>, alloc: Global, rows: &[Kept]) -> Result<(), AllocError>
+fn put_further_results(out: &mut Vec<u8>, alloc: Global, rows: &[RowText]) -> Result<(), AllocError>
     ensures { OnOk result
         (out.new.items ≡ out.old.items ++ spec.further spec.result_object rows.now) }
 {
@@ -199,7 +202,7 @@ fn put_further_results(out: &mut Vec<u8>, alloc: Global, rows: &[Kept]) -> Resul
 }
 
 #[tactic(auto, unfolding(crate::specs::Sarif::next))]
-fn put_next_result(out: &mut Vec<u8>, alloc: Global, row: &Kept) -> Result<(), AllocError>
+fn put_next_result(out: &mut Vec<u8>, alloc: Global, row: &RowText) -> Result<(), AllocError>
     ensures { OnOk result (out.new.items ≡ out.old.items ++ spec.next spec.result_object row.now) }
 {
     let mut text = Vec::from_slice(alloc, b",\n")?;
@@ -208,7 +211,7 @@ fn put_next_result(out: &mut Vec<u8>, alloc: Global, row: &Kept) -> Result<(), A
     out.extend_from_slice(&text)
 }
 
-fn result_object(alloc: Global, row: &Kept) -> Result<Vec<u8>, AllocError>
+fn result_object(alloc: Global, row: &RowText) -> Result<Vec<u8>, AllocError>
     ensures { IfOk result (λ text. text.items ≡ spec.result_object row.now) }
 {
     let mut text = result_meaning(alloc, row)?;
@@ -216,24 +219,10 @@ fn result_object(alloc: Global, row: &Kept) -> Result<Vec<u8>, AllocError>
     text.extend_from_slice(&file)?;
     let region = result_region(alloc, row)?;
     text.extend_from_slice(&region)?;
-    put_print(&mut text, row.fingerprint)?;
-    text.extend_from_slice(b"}")?;
     Ok(text)
 }
 
-/// Puts the fingerprint, where there is one.
-fn put_print(out: &mut Vec<u8>, print: Option<u64>) -> Result<(), AllocError>
-    ensures { OnOk result (out.new.items ≡ out.old.items ++ spec.print_member print) }
-{
-    let Some(print) = print else {
-        return Ok(());
-    };
-    out.extend_from_slice(b", \"partialFingerprints\": {\"nullcheckLine/v1\": \"")?;
-    put_hex(out, 16, print)?;
-    out.extend_from_slice(b"\"}")
-}
-
-fn result_meaning(alloc: Global, row: &Kept) -> Result<Vec<u8>, AllocError>
+fn result_meaning(alloc: Global, row: &RowText) -> Result<Vec<u8>, AllocError>
     ensures { IfOk result (λ text. text.items ≡ spec.result_meaning row.now) }
 {
     let words = told(alloc, row.code)?;
@@ -245,7 +234,7 @@ fn result_meaning(alloc: Global, row: &Kept) -> Result<Vec<u8>, AllocError>
     Ok(text)
 }
 
-fn result_file(alloc: Global, row: &Kept) -> Result<Vec<u8>, AllocError>
+fn result_file(alloc: Global, row: &RowText) -> Result<Vec<u8>, AllocError>
     ensures { IfOk result (λ text. text.items ≡ spec.result_file row.now) }
 {
     let mut text = Vec::from_slice(
@@ -257,13 +246,13 @@ fn result_file(alloc: Global, row: &Kept) -> Result<Vec<u8>, AllocError>
     Ok(text)
 }
 
-fn result_region(alloc: Global, row: &Kept) -> Result<Vec<u8>, AllocError>
+fn result_region(alloc: Global, row: &RowText) -> Result<Vec<u8>, AllocError>
     ensures { IfOk result (λ text. text.items ≡ spec.result_region row.now) }
 {
     let mut text = numbered(alloc, b"\"region\": {\"startLine\": ", row.line)?;
     let column = numbered(alloc, b", \"startColumn\": ", row.col)?;
     text.extend_from_slice(&column)?;
-    text.extend_from_slice(b"}}}]")?;
+    text.extend_from_slice(b"}}}]}")?;
     Ok(text)
 }
 
