@@ -33,7 +33,7 @@ fn all_inside(program: &Program) -> bool
 
 /// Whether inference takes the program: its lists have fewer than 2^32 items, and each body has a point, fewer than 2^32 - 1 of them, and
 /// edges that stay in it. A body of a regular program may have one point more; a caller that knows of a regular program needs no test.
-#[tactic(auto, using(jn_inference_law::proofs::Inferring::tested_inferable))]
+#[tactic(auto, using(jn_tables_law::proofs::Inferring::tested_inferable))]
 pub fn is_inferable(program: &Program) -> bool
     ensures inferable { result ≡ true → IsInferable program.now }
     ensures taken { IsInferable program.now
