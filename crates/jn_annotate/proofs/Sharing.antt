@@ -1,6 +1,7 @@
 -- A slot is of a field that shares its type with one of another qualifier where it is among those slots; the least of them is the first.
-use Rattle.std.proofs.Common.{◌≡◌, ◌⊎◌, inl, inr, ℕ, zero, suc, ◌+◌, ◌<◌, ◌≤◌, Bool, true, false, not, cond, ◌&&◌, ◌||◌, List, [], ◌∷◌, ◌++◌, length, Option, Some, None, refl, sym, ap, ◌∙◌, arith, append_assoc, append-nil}
+use Rattle.std.proofs.Common.{◌≡◌, ◌⊎◌, inl, inr, ℕ, zero, suc, ◌+◌, ◌<◌, ◌≤◌, Bool, true, false, not, cond, ◌&&◌, ◌||◌, List, [], ◌∷◌, ◌++◌, length, Option, Some, None, refl, sym, ap, ◌∙◌, arith, subst, get_or, append_assoc, append-nil}
 use Rattle.std.specs.Prelude.{drop, take, eqb}
+use Rattle.std.proofs.lemmas.List.{drop_more}
 use Rattle.std.proofs.lemmas.Bool.{eqb-true, eq-eqb, true≢false, false≢true, or_parts}
 use Rattle.jn_base.specs.declared.number.SlotNo.{SlotNo}
 use Rattle.jn_quals.specs.Qualifier.{Qualifier}
@@ -43,9 +44,9 @@ module _ (P : Program) (s : List Qualifier) (i : ℕ) where
           none true = refl
           none false = refl
 
-      go : (x : Option SlotNo) → (is_slot i x && slot_inferred P x && not (same_qual (slot_qual s x) q)) ≡ is_among i (off_slot P s q x)
+      go : (x : Option SlotNo) → (is_slot i x && slot_inferred P s x && not (same_qual (slot_qual s x) q)) ≡ is_among i (off_slot P s q x)
       go None = refl
-      go (Some n) = at (slot_inferred P (Some n)) (not (same_qual (slot_qual s (Some n)) q)) n
+      go (Some n) = at (slot_inferred P s (Some n)) (not (same_qual (slot_qual s (Some n)) q)) n
 
   offs_are : (q : Qualifier) (fs : List Field) → some_of (differs P s q i) fs ≡ is_among i (off_slots P s q fs)
   offs_are q [] = refl
@@ -126,6 +127,9 @@ least_next ns n y m left (inr e) h = record {
     always : (b : Bool) → cond b true true ≡ true
     always true = refl
     always false = refl
+
+pub least_next_at : (ns rest : List ℕ) (n m i d : ℕ) → i < length rest → (m ≡ n) × (n ≤ get_or rest i d) ⊎ (m ≡ get_or rest i d) × (get_or rest i d ≤ n) → Least ns n (drop i rest) → Least ns m (drop (i + 1) rest)
+least_next_at ns rest n m i d l e h = least_next ns n (get_or rest i d) m (drop (i + 1) rest) e (subst (Least ns n) (drop_more rest i d l) h)
 
 pub least_all : (ns : List ℕ) (n : ℕ) → Least ns n [] → IsLeast (Some n) ns
 least_all ns n h =

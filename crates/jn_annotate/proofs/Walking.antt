@@ -1,7 +1,10 @@
 -- What the walk over a file's members adds to the list of words.
-use Rattle.std.proofs.Common.{◌≡◌, ℕ, zero, suc, ◌+◌, Bool, true, false, cond, List, ◌∷◌, ◌++◌, refl, ap, ◌∙◌, sym, append_assoc, arith}
+use Rattle.std.proofs.Common.{◌≡◌, ℕ, zero, suc, ◌+◌, Bool, true, false, cond, List, ◌∷◌, ◌++◌, length, refl, ap, ◌∙◌, sym, append_assoc, arith}
 use Rattle.std.specs.Prelude.{drop, take}
 use Rattle.jn_points.specs.declared.program.Method.{Method}
+use Rattle.std.proofs.lemmas.List.{length-map}
+use Rattle.jn_trees.specs.declared.statement.Declarator.{Declarator}
+use Rattle.jn_trees.specs.View.{declarator_view, declarator_views}
 use Rattle.jn_points.specs.declared.program.Field.{Field}
 use Rattle.jn_quals.specs.Qualifier.{Qualifier}
 use Rattle.jn_points.specs.declared.program.Program.{Program}
@@ -39,3 +42,18 @@ pub more_fields : (P : Program) (s : List Qualifier) (q : Qualifier) (f : Field)
 more_fields P s q f fs n old one two h k =
     k ∙ ap (λ x. x ++ off_slots P s q (take n fs)) h ∙ append_assoc old (off_slot P s q f.slot) (off_slots P s q (take n fs))
     ∙ ap (λ m. old ++ off_slots P s q (take m (f ∷ fs))) (let e : suc n ≡ 1 + n = omega arith in e)
+
+-- four parts of a text, put one behind the other
+pub four_parts : (a b c d x y z w : List ℕ) → x ≡ a → y ≡ x ++ b → z ≡ y ++ c → w ≡ z ++ d → w ≡ a ++ (b ++ (c ++ d))
+four_parts a b c d x y z w e f g h =
+    h ∙ ap (λ t. t ++ d) (g ∙ ap (λ t. t ++ c) (f ∙ ap (λ t. t ++ b) e)) ∙ append_assoc (a ++ b) c d ∙ append_assoc a b (c ++ d)
+
+-- a declaration's fields, by how many more of them it has
+pub declared_long : (ds : List Declarator) → length (declarator_views ds) ≡ length ds
+declared_long ds = length-map ds declarator_view
+
+pub field_drop : (fields rest new : List Field) (ds : List Declarator) (n : ℕ) → rest ≡ drop 1 fields → n ≡ length ds → new ≡ drop n rest → new ≡ drop (1 + length (declarator_views ds)) fields
+field_drop fields rest new ds n e f g = g ∙ ap (drop n) e ∙ sym (drop_twice 1 n fields) ∙ ap (λ m. drop (1 + m) fields) (f ∙ sym (declared_long ds))
+
+pub same_declared : (P : Program) (s : List Qualifier) (q : Qualifier) (fs : List Field) (old new : List ℕ) (ds : List Declarator) (n : ℕ) → n ≡ length ds → new ≡ old ++ off_slots P s q (take (1 + n) fs) → new ≡ old ++ off_slots P s q (take (1 + length (declarator_views ds)) fs)
+same_declared P s q fs old new ds n e f = f ∙ ap (λ m. old ++ off_slots P s q (take (1 + m) fs)) (e ∙ sym (declared_long ds))

@@ -22,7 +22,7 @@ module _ (P : Program) (s : List Qualifier) where
   -- the slot, where it is inferred and hasn't this qualifier
   abbrev pub off_slot : Qualifier → Option SlotNo → List ℕ
   off_slot q None = []
-  off_slot q (Some n) = cond (slot_inferred P (Some n) && not (same_qual (slot_qual s (Some n)) q)) (n.0 ∷ []) []
+  off_slot q (Some n) = cond (slot_inferred P s (Some n) && not (same_qual (slot_qual s (Some n)) q)) (n.0 ∷ []) []
 
   abbrev pub off_slots : Qualifier → List Field → List ℕ
   off_slots q [] = []

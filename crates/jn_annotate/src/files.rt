@@ -29,7 +29,10 @@ fn less(from: u32, by: u32) -> u32
 fn bytes_at(text: &[u8], span: Span) -> &[u8]
     ensures { result.now ≡ piece text.now span }
 {
-    first_bytes(bytes_behind(text, span.from as usize), less(span.to, span.from) as usize)
+    first_bytes(
+        bytes_behind(text, span.from as usize),
+        less(span.to, span.from) as usize,
+    )
 }
 
 /// The fields behind those of members.
@@ -145,7 +148,9 @@ fn put_type(
             let name = step(behind_marks(tokens, modifiers));
             let class = bytes_at(text, front(name));
             let inside = step(behind_interfaces(behind_parent(step(name), parent), interfaces));
-            put_members(alloc, puts, program, sig, class, inside, members, fields, methods)
+            put_members(
+                alloc, puts, program, sig, class, inside, members, fields, methods,
+            )
         }
         TypeTree::Interface {
             modifiers,
@@ -156,7 +161,9 @@ fn put_type(
             let name = step(behind_marks(tokens, modifiers));
             let class = bytes_at(text, front(name));
             let inside = step(behind_parents(step(name), parents));
-            put_members(alloc, puts, program, sig, class, inside, members, fields, methods)
+            put_members(
+                alloc, puts, program, sig, class, inside, members, fields, methods,
+            )
         }
     }
 }
@@ -183,7 +190,9 @@ fn put_types(
     let mut fields = fields;
     let mut methods = methods;
     for declared in types {
-        put_type(alloc, puts, program, sig, text, rest, declared, fields, methods)?;
+        put_type(
+            alloc, puts, program, sig, text, rest, declared, fields, methods,
+        )?;
         rest = behind_type(alloc, rest, declared)?;
         fields = fields_behind_type(fields, declared);
         methods = methods_behind_type(methods, declared);
@@ -209,7 +218,17 @@ pub fn file_puts(
 {
     let mut puts = Vec::new(alloc);
     let rest = behind_imports(behind_package(tokens, &tree.package), &tree.imports);
-    put_types(alloc, &mut puts, program, sig, text, rest, &tree.types, fields, methods)?;
+    put_types(
+        alloc,
+        &mut puts,
+        program,
+        sig,
+        text,
+        rest,
+        &tree.types,
+        fields,
+        methods,
+    )?;
     Ok(puts)
 }
 

@@ -53,12 +53,15 @@ pub fn first_slot(fields: &[Field]) -> Option<SlotNo>
 }
 
 /// The fields behind those that a member declares.
-#[tactic(auto, using(crate::proofs::Cursors::drop_twice))]
+#[tactic(auto, using(crate::proofs::Walking::field_drop))]
 pub fn fields_behind<'p>(fields: &'p [Field], member: &Member) -> &'p [Field]
     ensures { result.now ≡ drop (spec.fields_in (member_view member.now)) fields.now }
 {
     match member {
-        Member::Field { more, .. } => later_fields(later_fields(fields, 1), more.len()),
+        Member::Field { more, .. } => {
+            let rest = later_fields(fields, 1);
+            later_fields(rest, more.len())
+        }
         Member::Method { .. } => fields,
         Member::Constructor { .. } => fields,
     }
@@ -214,9 +217,19 @@ fn put_method(
         (drop 1 (behind tokens.now (spell_result (result_view result_use.now))))
         (receiver_view receiver.now) (parameter_views parameters.now) method.now)) }
 {
-    put_result(alloc, puts, program, sig, tokens, result_use, method.result_slot)?;
+    put_result(
+        alloc,
+        puts,
+        program,
+        sig,
+        tokens,
+        result_use,
+        method.result_slot,
+    )?;
     let paren = step(behind_result(tokens, result_use));
-    put_head(alloc, puts, program, sig, class, paren, receiver, parameters, method)
+    put_head(
+        alloc, puts, program, sig, class, paren, receiver, parameters, method,
+    )
 }
 
 /// Puts the words of a member; the first fields and methods are those that it declares.
@@ -308,7 +321,9 @@ pub fn put_members(
     let mut fields = fields;
     let mut methods = methods;
     for member in members {
-        put_member(alloc, puts, program, sig, class, rest, member, fields, methods)?;
+        put_member(
+            alloc, puts, program, sig, class, rest, member, fields, methods,
+        )?;
         rest = behind_member(alloc, rest, member)?;
         fields = fields_behind(fields, member);
         methods = methods_behind(methods, member);

@@ -1,7 +1,6 @@
 //! The words of inferred positions: at a type and at a receiver.
 ghost use Rattle.std.specs.Prelude.{◌≡◌, ◌++◌, ◌∷◌, [], codes, IfOk, OnOk};
-ghost use Rattle.jn_trees.specs.Trees.{BaseTree};
-ghost use Rattle.jn_trees.specs.View.{brackets_view, parameter_views, receiver_view, type_use_view};
+ghost use Rattle.jn_trees.specs.View.{base_view, brackets_view, parameter_views, receiver_view, type_use_view};
 ghost use Rattle.jn_annotate.specs.Insertions as spec;
 ghost use Rattle.jn_annotate.specs.Puts.{insertions};
 ghost use Rattle.jn_annotate.specs.Words as words;
@@ -52,10 +51,12 @@ fn put_at(puts: &mut Vec<Put>, at: u32, words: Vec<u8>) -> Result<(), OutOfMemor
 }
 
 /// Where the words of a type stand: before its first token, and of an array's before its bracket (JLS 9.7.4).
-fn type_at(tokens: &[Token], array: &Option<Vec<Annotation>>) -> u32
-    ensures { (base : BaseTree) → result ≡ spec.type_at tokens.now base (brackets_view array.now) }
+fn type_at(tokens: &[Token], type_use: &TypeUse) -> u32
+    ensures { result
+        ≡ spec.type_at tokens.now (base_view type_use.now.base)
+        (brackets_view type_use.now.array) }
 {
-    match array {
+    match &type_use.array {
         None => front(tokens).from,
         Some(annotations) => front(behind_annotations(step(tokens), annotations)).from,
     }
@@ -69,12 +70,14 @@ fn type_word(
 ) -> Result<Vec<u8>, OutOfMemory>
     ensures { IfOk result (λ w. w.items ≡ spec.type_words word.now (brackets_view array.now)) }
 {
-    let mut words = Vec::new(alloc);
-    if array.is_some() {
-        words.extend_from_slice(b" ")?;
+    match array {
+        None => Ok(Vec::from_slice(alloc, word)?),
+        Some(_) => {
+            let mut words = Vec::from_slice(alloc, b" ")?;
+            words.extend_from_slice(word)?;
+            Ok(words)
+        }
     }
-    words.extend_from_slice(word)?;
-    Ok(words)
 }
 
 /// Puts the word for null at a field's type.
@@ -93,7 +96,7 @@ pub fn put_nullity(
         None => Ok(()),
         Some(qual) => {
             let words = type_word(alloc, &type_use.array, nullity_text(qual))?;
-            put_at(puts, type_at(tokens, &type_use.array), words)
+            put_at(puts, type_at(tokens, type_use), words)
         }
     }
 }
@@ -115,12 +118,23 @@ pub fn put_both(
         Some(qual) => {
             let mut words = type_word(alloc, &type_use.array, nullity_text(qual))?;
             words.extend_from_slice(initialization_text(qual))?;
-            put_at(puts, type_at(tokens, &type_use.array), words)
+            put_at(puts, type_at(tokens, type_use), words)
         }
     }
 }
 
-/// A receiver that isn't named, as it is written before so many parameters.
+/// What stands between a receiver and the parameters.
+fn comma(parameters: &[Parameter]) -> &'static [u8]
+    ensures { result.now ≡ spec.comma (parameter_views parameters.now) }
+{
+    match parameters {
+        [] => b"",
+        [_, ..] => b", ",
+    }
+}
+
+/// A receiver that isn't named, as it is written before the parameters.
+#[tactic(auto, using(crate::proofs::Walking::four_parts))]
 fn receiver_words(
     alloc: Global,
     class: &[u8],
@@ -131,13 +145,10 @@ fn receiver_words(
         ≡ words.initialization_text qual
         ++ (class.now ++ (codes " this" ++ spec.comma (parameter_views parameters.now)))) }
 {
-    let mut words = Vec::new(alloc);
-    words.extend_from_slice(initialization_text(qual))?;
+    let mut words = Vec::from_slice(alloc, initialization_text(qual))?;
     words.extend_from_slice(class)?;
     words.extend_from_slice(b" this")?;
-    if !parameters.is_empty() {
-        words.extend_from_slice(b", ")?;
-    }
+    words.extend_from_slice(comma(parameters))?;
     Ok(words)
 }
 
@@ -165,8 +176,7 @@ pub fn put_receiver(
                 put_at(puts, front(paren).to, words)
             }
             Some(receiver) => {
-                let mut words = Vec::new(alloc);
-                words.extend_from_slice(initialization_text(qual))?;
+                let words = Vec::from_slice(alloc, initialization_text(qual))?;
                 let class_name = behind_annotations(step(paren), &receiver.annotations);
                 put_at(puts, front(class_name).from, words)
             }

@@ -19,7 +19,7 @@ use std::alloc::Global;
 /// The slot is inferred, and hasn't this qualifier.
 fn is_off(program: &Program, sig: &Sig, first: Qual, slot: SlotNo) -> bool
     ensures { result
-        ≡ (slot_inferred program.now (Some slot)
+        ≡ (slot_inferred program.now sig.now (Some slot)
         && not (same_qual (slot_qual sig.now (Some slot)) first)) }
 {
     match program.slots.as_slice().get(slot.0 as usize) {
@@ -120,6 +120,7 @@ fn put_declared(
     }
 }
 
+#[tactic(auto, using(crate::proofs::Walking::same_declared))]
 fn put_member(
     slots: &mut Vec<u32>,
     program: &Program,
@@ -224,7 +225,7 @@ fn lesser(left: u32, right: u32) -> u32
 }
 
 /// The least of a list of numbers.
-#[tactic(auto, using(crate::proofs::Sharing::least_start, crate::proofs::Sharing::least_next, crate::proofs::Sharing::least_all))]
+#[tactic(auto, using(crate::proofs::Sharing::least_start, crate::proofs::Sharing::least_all))]
 fn least(slots: &[u32]) -> Option<u32>
     ensures { spec.IsLeast result slots.now }
 {

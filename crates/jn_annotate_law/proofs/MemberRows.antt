@@ -7,7 +7,7 @@ use Rattle.jn_base.specs.declared.place.Row.{Row}
 use Rattle.jn_base.specs.declared.place.Span.{Span}
 use Rattle.jn_base.specs.declared.number.NameNo.{NameNo}
 use Rattle.jn_quals.specs.Qualifier.{Qualifier}
-use Rattle.jn_known.specs.Known.{override_name, non_null_name, nullable_name, initialized_name, under_name, unknown_name}
+use Rattle.jn_known.specs.Known.{override_name, non_null_name, nullable_name, initialized_name, under_name, unknown_name, monotonic_name}
 use Rattle.jn_points.specs.Members.{some_of}
 use Rattle.jn_points.specs.declared.program.SlotInfo.{SlotInfo}
 use Rattle.jn_trees.specs.declared.token.Token.{Token}
@@ -189,18 +189,19 @@ some_kept k (n ∷ ns) e = go (eqb n override_name) refl (some_kept k ns e)
     go true f h = ap (λ x. eqb x k || some_of (λ m. eqb m k) ns) (eqb-true n override_name f) ∙ ap (λ b. b || some_of (λ m. eqb m k) ns) e ∙ h
     go false f h = ap (λ b. eqb n k || b) h
 
-abbrev made : Bool → Bool → Bool → Bool → Bool → Notes
-made a b c d e = record { non_null = a; nullable = b; initialized = c; under = d; unknown = e }
+abbrev made : Bool → Bool → Bool → Bool → Bool → Bool → Notes
+made a b c d e f = record { non_null = a; nullable = b; initialized = c; under = d; unknown = e; monotonic = f }
 
 override_notes : (ns : List ℕ) → notes_in ns ≡ notes_in (dropped_override ns)
 override_notes ns =
     let f : ℕ → Bool = λ k. some_of (λ m. eqb m k) ns in
     let g : ℕ → Bool = λ k. some_of (λ m. eqb m k) (dropped_override ns) in
-    ap (λ x. made x (f nullable_name) (f initialized_name) (f under_name) (f unknown_name)) (some_kept non_null_name ns refl)
-    ∙ ap (λ x. made (g non_null_name) x (f initialized_name) (f under_name) (f unknown_name)) (some_kept nullable_name ns refl)
-    ∙ ap (λ x. made (g non_null_name) (g nullable_name) x (f under_name) (f unknown_name)) (some_kept initialized_name ns refl)
-    ∙ ap (λ x. made (g non_null_name) (g nullable_name) (g initialized_name) x (f unknown_name)) (some_kept under_name ns refl)
-    ∙ ap (λ x. made (g non_null_name) (g nullable_name) (g initialized_name) (g under_name) x) (some_kept unknown_name ns refl)
+    ap (λ x. made x (f nullable_name) (f initialized_name) (f under_name) (f unknown_name) (f monotonic_name)) (some_kept non_null_name ns refl)
+    ∙ ap (λ x. made (g non_null_name) x (f initialized_name) (f under_name) (f unknown_name) (f monotonic_name)) (some_kept nullable_name ns refl)
+    ∙ ap (λ x. made (g non_null_name) (g nullable_name) x (f under_name) (f unknown_name) (f monotonic_name)) (some_kept initialized_name ns refl)
+    ∙ ap (λ x. made (g non_null_name) (g nullable_name) (g initialized_name) x (f unknown_name) (f monotonic_name)) (some_kept under_name ns refl)
+    ∙ ap (λ x. made (g non_null_name) (g nullable_name) (g initialized_name) (g under_name) x (f monotonic_name)) (some_kept unknown_name ns refl)
+    ∙ ap (λ x. made (g non_null_name) (g nullable_name) (g initialized_name) (g under_name) (g unknown_name) x) (some_kept monotonic_name ns refl)
 
 names_kept : (n c f : Bool) → let q : Qualifier = record { null = n; committed = c; free = f } in dropped_override (name_numbers (both_names q)) ≡ name_numbers (both_names q)
 names_kept true c false = refl

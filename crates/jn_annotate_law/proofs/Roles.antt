@@ -236,7 +236,7 @@ agree_all n (x ∷ xs) h = ((λ e. absurd (h e)), agree_all n xs h)
 receivers_agree : (m : MethodHead) → Agree (all_are 1 (receiver_slots m)) (receiver_slots m)
 receivers_agree m = go (has_receiver m)
   where
-    at : (c : Bool) → (cond c (record { start = no_qual; inferred = true }) (record { start = receiver_qual m.receiver; inferred = false })).start.null ≡ false
+    at : (c : Bool) → (cond {A = SlotInfo} c (record { start = no_qual; inferred = true }) (record { start = receiver_qual m.receiver; inferred = false })).start.null ≡ false
     at true = refl
     at false = refl
 

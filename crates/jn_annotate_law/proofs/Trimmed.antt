@@ -83,7 +83,7 @@ module _ (P : Program) (can : IsInferable P) (s : List Qualifier) (is : IsLeastS
     new = trimmed_signature
 
     new_below : QualsWithin new s
-    new_below = trims_within f 0 s h.low
+    new_below = trims_within f 0 s (λ i. subst (λ n. IsTrue (within (f n (now i)) (now i))) (let e : i ≡ 0 + i = omega arith in e) (h.low i))
 
     -- what is sent under the trimmed signature is within the signature
     below_old : (T : Table) (b : ℕ) → b < length P.bodies → IsLeastTable P new b T → (x : ℕ × Qualifier) → IsSent x (least_sends P new b) → IsTrue (within x.1 (now x.0))

@@ -1,20 +1,16 @@
 -- What annotated files mean: the same program but for places, in which each slot is written as it was inferred.
-use Rattle.std.specs.Prelude.{◌≡◌, ℕ, ◌+◌, List, [], ◌∷◌, map}
+use Rattle.std.specs.Prelude.{◌≡◌, ℕ, ◌+◌, List, [], ◌∷◌}
 use Rattle.jn_base.specs.declared.place.Row.{Row}
 use Rattle.jn_quals.specs.Qualifier.{Qualifier}
 use Rattle.jn_points.specs.declared.program.Program.{Program}
 use Rattle.jn_transfer.specs.Rules.{Breaks}
 use Rattle.jn_inference_law.specs.Solution.{IsLeastSignature}
-use Rattle.jn_known.specs.Known.{known_names}
 use Rattle.jn_lexer.specs.Lexed.{Lexed}
 use Rattle.jn_trees.specs.declared.token.Token.{Token}
 use Rattle.jn_places.specs.Placed.{PlacedFile}
 use Rattle.jn_places.specs.Places.{IsPlacedFile}
-use Rattle.jn_places.specs.Forget.{forget_file}
-use Rattle.jn_program_law.specs.FileProgram.{program_of_files, rows_of_files}
 use Rattle.jn_bare_law.specs.Bare.{Alike, codes_of}
 use Rattle.jn_bare_law.specs.Written.{IsWritten}
-use Rattle.jn_annotate.specs.Annotated.{Annotated}
 
 -- the same rows but for their places
 abbrev pub BreaksAlike : Program → Program → List Qualifier → Type 0
@@ -40,14 +36,3 @@ AllPlaced [] [] = Unit {0}
 AllPlaced [] (tree ∷ trees) = ⊥
 AllPlaced (ts ∷ tss) [] = ⊥
 AllPlaced (ts ∷ tss) (tree ∷ trees) = IsPlacedFile ts tree × AllPlaced tss trees
-
--- texts that lex and parse, and have no row of classes and bodies
-pub record AreFiles (texts : List (List ℕ)) (names : List (List ℕ)) (tokens : List (List Token)) (trees : List PlacedFile) : Type 0 where
-  pub lexed : TextsLexed 0 known_names texts tokens names
-  pub parsed : AllPlaced tokens trees
-  pub good : rows_of_files trees ≡ []
-
--- the theorem: annotated files lex and parse, with the same names, have no row of classes and bodies, and mean the same
-abbrev pub AnnotatingKeepsMeaning : Type 0
-AnnotatingKeepsMeaning = (texts names new : List (List ℕ)) (tokens : List (List Token)) (trees : List PlacedFile) (s : List Qualifier) → AreFiles texts names tokens trees → IsLeastSignature (program_of_files trees) s → Annotated (program_of_files trees) s texts tokens (map forget_file trees) new
-    → (others : List (List Token)) × (places : List PlacedFile) × AreFiles new names others places × Means (program_of_files trees) (program_of_files places) s
