@@ -48,7 +48,7 @@ module _ (P : Program) (s : List Qualifier) (texts : List (List ℕ)) (tss : Lis
     }
 
     pub is_large : (fail : Fail AnnotateFault) → IsLargeOf made fail → IsWhyRefused P s texts tss trees fail
-    is_large (Refused (TooLarge k)) h = (spelled, (none_is P s trees alone, subst (λ x. IsFirst (is_too_large x) k.0) is h))
+    is_large (Refused (TooLarge k)) h = (spelled, none_is P s trees alone, subst (λ x. IsFirst (is_too_large x) k.0) is h)
     is_large (Refused (NoSpelling n)) h = absurd h
     is_large (Refused (SharedType n)) h = absurd h
     is_large OutOfMemory h = tt

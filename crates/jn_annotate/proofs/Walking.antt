@@ -17,8 +17,12 @@ use Rattle.jn_annotate.proofs.Cursors.{drop_twice}
 pub two_parts : (old one two a b : List Insertion) → one ≡ old ++ a → two ≡ one ++ b → two ≡ old ++ (a ++ b)
 two_parts old one two a b h k = k ∙ ap (λ x. x ++ b) h ∙ append_assoc old a b
 
+-- how many constructors are not written
+abbrev pub missing : Bool → ℕ
+missing b = cond b 0 1
+
 -- a class without a written constructor has one behind its methods
-pub class_methods : (methods rest : List Method) (n m : ℕ) (b : Bool) → rest ≡ drop n methods → m ≡ cond b 0 1 → cond b rest (drop 1 rest) ≡ drop (n + m) methods
+pub class_methods : (methods rest : List Method) (n m : ℕ) (b : Bool) → rest ≡ drop n methods → m ≡ missing b → cond b rest (drop 1 rest) ≡ drop (n + m) methods
 class_methods methods rest n m true h k = h ∙ ap (λ j. drop j methods) (let e : n ≡ n + 0 = omega arith in e) ∙ ap (λ j. drop (n + j) methods) (sym k)
 class_methods methods rest n m false h k = ap (drop 1) h ∙ sym (drop_twice n 1 methods) ∙ ap (λ j. drop (n + j) methods) (sym k)
 

@@ -53,15 +53,11 @@ pub fn first_slot(fields: &[Field]) -> Option<SlotNo>
 }
 
 /// The fields behind those that a member declares.
-#[tactic(auto, using(crate::proofs::Walking::field_drop))]
 pub fn fields_behind<'p>(fields: &'p [Field], member: &Member) -> &'p [Field]
     ensures { result.now ≡ drop (spec.fields_in (member_view member.now)) fields.now }
 {
     match member {
-        Member::Field { more, .. } => {
-            let rest = later_fields(fields, 1);
-            later_fields(rest, more.len())
-        }
+        Member::Field { more, .. } => later_fields(later_fields(fields, 1), more.len()),
         Member::Method { .. } => fields,
         Member::Constructor { .. } => fields,
     }

@@ -138,7 +138,6 @@ pub fn behind_result<'t>(tokens: &'t [Token], result_use: &ResultUse) -> &'t [To
 }
 
 /// What stands behind a parameter and the comma or parenthesis that follows it.
-#[tactic(auto, using(crate::proofs::Cursors::through_parameter))]
 pub fn behind_parameter<'t>(tokens: &'t [Token], parameter: &Parameter) -> &'t [Token]
     ensures { result.now ≡ behind tokens.now (spell_parameter_through (parameter_view parameter.now)) }
 {

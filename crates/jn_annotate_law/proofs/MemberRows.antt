@@ -14,8 +14,8 @@ use Rattle.jn_trees.specs.declared.token.Token.{Token}
 use Rattle.jn_trees.specs.declared.expression.Annotation.{Annotation}
 use Rattle.jn_trees.specs.Trees.{BaseTree, ClassBase, IntBase, BooleanBase, Tree, LiteralTree, NameTree, ThisTree, ParenTree, FieldTree, CallTree, OwnCallTree, SuperCallTree, IndexTree, NewTree, NewArrayTree, ArrayOfTree, PostfixTree, PrefixTree, UnaryTree, CastTree, BinaryTree, InstanceOfTree, ConditionalTree, AssignTree, TypeUseTree, DeclaratorTree, Mark, NoteMark, PublicMark, ProtectedMark, PrivateMark, StaticMark, ConstantMark, AbstractMark, FieldMember}
 use Rattle.jn_trees.specs.declared.expression.UnaryOperator.TheVariants.{Plus as PlusSign, Minus as MinusSign, Not as NotSign}
-use Rattle.jn_trees.specs.Spelling.{spell_mark, spell_all_marks, spell_type_use, spell_declarator, spell_member}
-use Rattle.jn_places.specs.Places.{behind, place, place_base, place_type_use, place_value, place_mark, place_marks, over, place_declarator, place_next_declarator, spell_next_declarator, place_more_declarators, place_result, place_member}
+use Rattle.jn_trees.specs.Spelling.{spell_mark, spell_all_marks, spell_type_use, spell_declarator}
+use Rattle.jn_places.specs.Places.{behind, place, place_base, place_type_use, place_value, place_mark, place_marks, place_declarator, place_next_declarator, spell_next_declarator, place_more_declarators, place_result, place_member}
 use Rattle.jn_classtable.specs.declared.notes.Word.TheVariants.{Private as PrivateWord}
 use Rattle.jn_classtable.specs.declared.head.Notes.{Notes}
 use Rattle.jn_classtable.specs.declared.head.TypeHead.{TypeHead}

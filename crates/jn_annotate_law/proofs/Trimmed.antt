@@ -12,7 +12,7 @@ use Rattle.jn_points.specs.declared.program.Program.{Program}
 use Rattle.jn_points.specs.Lookup.{points_of}
 use Rattle.jn_sigs.specs.Signature.{start_signature}
 use Rattle.jn_env.specs.Order.{QualsWithin, Table, env_in}
-use Rattle.jn_env.proofs.Order.{quals_refl, quals_at}
+use Rattle.jn_env.proofs.Order.{quals_at}
 use Rattle.jn_transfer.specs.Contributions.{IsSent, is_inferred}
 use Rattle.jn_transfer.specs.Least.{IsLeastTable}
 use Rattle.jn_transfer.specs.Closing.{IsClosed}
