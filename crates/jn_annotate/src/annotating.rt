@@ -1,7 +1,7 @@
 //! The texts of files with the words of what was inferred of them.
 ghost use Rattle.std.specs.Prelude.{◌≡◌, ◌<◌, ◌^◌, drop, length, map, IfErr, IfOk};
 ghost use Rattle.jn_trees.specs.View.{file_view};
-ghost use Rattle.jn_annotate.specs.Annotated.{annotated_from, Annotated, HasNone, is_too_large};
+ghost use Rattle.jn_annotate.specs.Annotated.{annotated_from, Annotated, has_no_spelling, HasNone, is_too_large};
 ghost use Rattle.jn_annotate.specs.Answers.{IsLargeOf, IsWhyRefused};
 ghost use Rattle.jn_annotate.specs.Insertions.{in_file};
 ghost use Rattle.jn_splice_law.specs.Inserted.{inserted};
@@ -113,6 +113,36 @@ fn sized(texts: Vec<Seq<u8>>) -> Result<Vec<Seq<u8>>, Fail<AnnotateFault>>
     }
 }
 
+/// The same of files each of whose inferred slots has a spelling.
+#[tactic(auto, using(crate::proofs::Texts::is_annotated, crate::proofs::Texts::is_large))]
+fn annotate_spelled(
+    alloc: Global,
+    texts: &[Seq<u8>],
+    tokens: &[Seq<Token>],
+    trees: &[FileTree],
+    program: &Program,
+    sig: &Sig,
+) -> Result<Vec<Seq<u8>>, Fail<AnnotateFault>>
+    requires spelled { HasNone (has_no_spelling program.now sig.now) }
+    requires files { length texts.now < 2 ^ 32 }
+    ensures annotated { IfOk result (λ new. Annotated program.now sig.now texts.now tokens.now
+        (map file_view trees.now) new.items) }
+    ensures refused { IfErr result (λ fail. IsWhyRefused program.now sig.now texts.now tokens.now
+        (map file_view trees.now) fail) }
+{
+    match first_shared(alloc, program, sig, trees) {
+        Err(_) => Err(Fail::OutOfMemory),
+        Ok(Some(slot)) => Err(Fail::Refused(AnnotateFault::SharedType(SlotNo(slot)))),
+        Ok(None) => {
+            let methods = next_methods(program.methods.as_slice());
+            match annotated_texts(alloc, texts, tokens, trees, program, sig, methods) {
+                Err(_) => Err(Fail::OutOfMemory),
+                Ok(new) => sized(new),
+            }
+        }
+    }
+}
+
 /// The texts of files with the words of what was inferred of them: for each inferred slot what says its qualifier, before its type, or as a receiver
 /// (Checker Framework manual, 3.2 and 3.8). The program and its signature are those of the trees, by either choice of what is inferred, and
 /// the tokens are those of the texts.
@@ -121,7 +151,6 @@ fn sized(texts: Vec<Seq<u8>>) -> Result<Vec<Seq<u8>>, Fail<AnnotateFault>>
 ///
 /// In this order: the least inferred slot that no annotation says; the least slot of an inferred field whose qualifier isn't that of the
 /// first field of its declaration; the first file whose new text is larger than 1 MiB; want of memory.
-#[tactic(auto, using(crate::proofs::Texts::few_texts, crate::proofs::Texts::is_annotated, crate::proofs::Texts::is_large, crate::proofs::Texts::is_shared))]
 pub fn annotate(
     alloc: Global,
     texts: &[Seq<u8>],
@@ -137,18 +166,8 @@ pub fn annotate(
     ensures refused { IfErr result (λ fail. IsWhyRefused program.now sig.now texts.now tokens.now
         (map file_view trees.now) fail) }
 {
-    if let Some(slot) = first_unspelled(program, sig) {
-        return Err(Fail::Refused(AnnotateFault::NoSpelling(SlotNo(slot))));
-    }
-    match first_shared(alloc, program, sig, trees) {
-        Err(_) => Err(Fail::OutOfMemory),
-        Ok(Some(slot)) => Err(Fail::Refused(AnnotateFault::SharedType(SlotNo(slot)))),
-        Ok(None) => {
-            let methods = next_methods(program.methods.as_slice());
-            match annotated_texts(alloc, texts, tokens, trees, program, sig, methods) {
-                Err(_) => Err(Fail::OutOfMemory),
-                Ok(new) => sized(new),
-            }
-        }
+    match first_unspelled(program, sig) {
+        Some(slot) => Err(Fail::Refused(AnnotateFault::NoSpelling(SlotNo(slot)))),
+        None => annotate_spelled(alloc, texts, tokens, trees, program, sig),
     }
 }
