@@ -1,6 +1,6 @@
 -- The texts of files, one after the other, and what is refused.
-use Rattle.std.proofs.Common.{◌≡◌, ℕ, zero, suc, ◌+◌, ◌<◌, ◌≤◌, List, [], ◌∷◌, ◌++◌, length, Option, Some, None, refl, sym, ap, ◌∙◌, subst, arith, append_assoc}
-use Rattle.std.specs.Prelude.{drop, map}
+use Rattle.std.proofs.Common.{◌≡◌, ℕ, ◌+◌, ◌<◌, ◌≤◌, List, [], ◌∷◌, ◌++◌, length, Some, sym, ap, ◌∙◌, subst, arith, append_assoc}
+use Rattle.std.specs.Prelude.{drop}
 use Rattle.jn_base.specs.declared.refusal.Fail.{Fail}
 use Rattle.jn_base.specs.declared.refusal.Fail.TheVariants.{Refused, OutOfMemory}
 use Rattle.jn_quals.specs.Qualifier.{Qualifier}
@@ -10,10 +10,9 @@ use Rattle.jn_points.specs.declared.program.SlotInfo.{SlotInfo}
 use Rattle.jn_points.specs.declared.program.Program.{Program}
 use Rattle.jn_trees.specs.declared.token.Token.{Token}
 use Rattle.jn_trees.specs.Trees.{SourceTree}
-use Rattle.jn_splice_law.specs.Inserted.{inserted}
 use Rattle.jn_annotate.specs.declared.annotating.AnnotateFault.{AnnotateFault}
 use Rattle.jn_annotate.specs.declared.annotating.AnnotateFault.TheVariants.{NoSpelling, SharedType, TooLarge}
-use Rattle.jn_annotate.specs.Insertions.{file_fields, file_methods, in_file}
+use Rattle.jn_annotate.specs.Insertions.{file_fields, file_methods}
 use Rattle.jn_annotate.specs.Annotated.{annotated_from, Annotated, has_no_spelling, is_too_large, HasNone, IsFirst, IsSharedType}
 use Rattle.jn_annotate.specs.Answers.{IsWhyRefused, IsLargeOf}
 use Rattle.jn_annotate.specs.Shared.{shared_slots, IsLeast}

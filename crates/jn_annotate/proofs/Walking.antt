@@ -1,5 +1,5 @@
 -- What the walk over a file's members adds to the list of words.
-use Rattle.std.proofs.Common.{◌≡◌, ℕ, zero, suc, ◌+◌, Bool, true, false, cond, List, ◌∷◌, ◌++◌, length, refl, ap, ◌∙◌, sym, append_assoc, arith}
+use Rattle.std.proofs.Common.{◌≡◌, ℕ, suc, ◌+◌, Bool, true, false, cond, List, ◌∷◌, ◌++◌, length, ap, ◌∙◌, sym, append_assoc, arith}
 use Rattle.std.specs.Prelude.{drop, take}
 use Rattle.jn_points.specs.declared.program.Method.{Method}
 use Rattle.std.proofs.lemmas.List.{length-map}
