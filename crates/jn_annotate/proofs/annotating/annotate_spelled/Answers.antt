@@ -1,4 +1,4 @@
-use Rattle.std.proofs.Common.{◌≡◌, ℕ, Option, Some, subst}
+use Rattle.std.proofs.Common.{subst}
 use Rattle.std.specs.Prelude.{map}
 use Rattle.jn_trees.specs.View.{file_view}
 use Rattle.jn_annotate.specs.Shared.{IsLeast, shared_slots}
@@ -10,6 +10,5 @@ sized-requires c = few_texts c.args.program.now.slots c.args.sig.now c.args.text
 
 pub returns-in-Ok-Some-clause-refused : goal.returns-in-Ok-Some-clause-refused
 returns-in-Ok-Some-clause-refused c =
-    let there : ◌≡◌ {A = Option ℕ} c.in-Ok-Some.field-0 (Some c.in-Ok-Some.slot) = (let is = c.in-Ok-Some.field-0-is in cc) in
     is_shared c.args.program.now c.args.sig.now c.args.texts.now c.args.tokens.now (map file_view c.args.trees.now) c.requires.spelled c.in-Ok-Some.slot
-    (subst (λ x. IsLeast x (shared_slots c.args.program.now c.args.sig.now (map file_view c.args.trees.now) c.args.program.now.fields)) there c.in-Ok-Some.ensures)
+    (subst (λ x. IsLeast x (shared_slots c.args.program.now c.args.sig.now (map file_view c.args.trees.now) c.args.program.now.fields)) c.in-Ok-Some.field-0-is c.in-Ok-Some.ensures)
