@@ -1,0 +1,5 @@
+pub mod Cursors
+pub mod Walking
+pub mod Stepping
+pub mod Sharing
+pub mod Texts

@@ -1,0 +1,15 @@
+//! Files with the words of what was inferred of them, written between the tokens of their texts.
+#![tactic(auto)]
+
+pub mod annotating;
+pub mod files;
+pub mod insert;
+pub mod members;
+pub mod parts;
+pub mod positions;
+pub mod refusals;
+pub mod shared;
+pub mod steps;
+pub mod words;
+
+pub use annotating::{AnnotateFault, annotate};

@@ -1,0 +1,38 @@
+-- What annotated files mean: the same program but for places, in which each slot is written as it was inferred.
+use Rattle.std.specs.Prelude.{◌≡◌, ℕ, ◌+◌, List, [], ◌∷◌}
+use Rattle.jn_base.specs.declared.place.Row.{Row}
+use Rattle.jn_quals.specs.Qualifier.{Qualifier}
+use Rattle.jn_points.specs.declared.program.Program.{Program}
+use Rattle.jn_transfer.specs.Rules.{Breaks}
+use Rattle.jn_inference_law.specs.Solution.{IsLeastSignature}
+use Rattle.jn_lexer.specs.Lexed.{Lexed}
+use Rattle.jn_trees.specs.declared.token.Token.{Token}
+use Rattle.jn_places.specs.Placed.{PlacedFile}
+use Rattle.jn_places.specs.Places.{IsPlacedFile}
+use Rattle.jn_bare_law.specs.Bare.{Alike, codes_of}
+use Rattle.jn_bare_law.specs.Written.{IsWritten}
+
+-- the same rows but for their places
+abbrev pub BreaksAlike : Program → Program → List Qualifier → Type 0
+BreaksAlike P Q s = (broken : List Row) → Breaks P s broken → (others : List Row) × Breaks Q s others × (codes_of others ≡ codes_of broken)
+
+-- Q is P with each slot written as the signature says: it has that signature, and breaks the same rules at the same points, constructors and pairs
+pub record Means (P Q : Program) (s : List Qualifier) : Type 0 where
+  pub alike : Alike P Q
+  pub written : IsWritten Q s
+  pub least : IsLeastSignature Q s
+  pub breaks : BreaksAlike P Q s
+  pub back : BreaksAlike Q P s
+
+-- the texts are these tokens, file by file from the k-th on, and their names make the old list the new one
+abbrev pub TextsLexed : ℕ → List (List ℕ) → List (List ℕ) → List (List Token) → List (List ℕ) → Type 0
+TextsLexed k names [] [] last = last ≡ names
+TextsLexed k names [] (ts ∷ tss) last = ⊥
+TextsLexed k names (text ∷ texts) [] last = ⊥
+TextsLexed k names (text ∷ texts) (ts ∷ tss) last = (new : List (List ℕ)) × Lexed (record { 0 = k }) text names ts new × TextsLexed (k + 1) new texts tss last
+
+abbrev pub AllPlaced : List (List Token) → List PlacedFile → Type 0
+AllPlaced [] [] = Unit {0}
+AllPlaced [] (tree ∷ trees) = ⊥
+AllPlaced (ts ∷ tss) [] = ⊥
+AllPlaced (ts ∷ tss) (tree ∷ trees) = IsPlacedFile ts tree × AllPlaced tss trees

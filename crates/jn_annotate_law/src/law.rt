@@ -1,0 +1,179 @@
+//! Laws of annotated files.
+ghost use Rattle.std.specs.Prelude.{◌≡◌, ◌<◌, ◌∷◌, [], Bool, drop, false, length, List, map, slice_get, slice_index_or, true, ℕ};
+ghost use Rattle.jn_base.specs.declared.number.FileNo.{FileNo};
+ghost use Rattle.jn_known.specs.Known.{known_names};
+ghost use Rattle.jn_quals.specs.Qualifier.{Qualifier};
+ghost use Rattle.jn_points.specs.declared.program.Field.{Field};
+ghost use Rattle.jn_points.specs.declared.program.Method.{Method};
+ghost use Rattle.jn_points.specs.declared.program.SlotInfo.{SlotInfo};
+ghost use Rattle.jn_lexer.specs.Lexed.{Lexed};
+ghost use Rattle.jn_trees.specs.Pieces.{IsFile};
+ghost use Rattle.jn_trees.specs.Trees.{SourceTree};
+ghost use Rattle.jn_trees.specs.declared.token.Token.{Token};
+ghost use Rattle.jn_places.specs.Forget.{forget_file};
+ghost use Rattle.jn_places.specs.Placed.{PlacedFile};
+ghost use Rattle.jn_splice_law.specs.Inserted.{inserted};
+ghost use Rattle.jn_splice_law.specs.Woven.{IsNamed};
+ghost use Rattle.jn_bare_law.specs.Bare.{Alike, codes_of};
+ghost use Rattle.jn_classtable.specs.Rows.{t_rows};
+ghost use Rattle.jn_classtable.specs.Extract.{heads, notes_by};
+ghost use Rattle.jn_classtable.specs.Table.{table};
+ghost use Rattle.jn_bare_law.specs.Written.{IsWritten, written_slot};
+ghost use Rattle.jn_classtable.specs.Types.{field_qual, is_written, receiver_qual, slot_of, written_qual};
+ghost use Rattle.jn_tables_law.specs.Inferable.{IsInferable};
+ghost use Rattle.jn_quals.specs.Order.{no_qual};
+ghost use Rattle.jn_sigs.specs.Signature.{start_signature};
+ghost use Rattle.jn_transfer.specs.Contributions.{is_inferred};
+ghost use Rattle.jn_inference_law.specs.Solution.{IsLeastSignature};
+ghost use Rattle.jn_points.specs.declared.program.Program.{Program};
+ghost use Rattle.jn_annotate_law.specs.Meaning.{AllPlaced, Means, TextsLexed};
+ghost use Rattle.jn_annotate.specs.Annotated.{annotated_from, Annotated, has_no_spelling, has_shared_type, HasNone};
+ghost use Rattle.jn_annotate_law.specs.Fits.{FilesFit, TypesFit};
+ghost use Rattle.jn_annotate.specs.Insertions.{in_file};
+ghost use Rattle.jn_annotate_law.specs.Trees.{both_names, noted_file, noted_files, nullity_names};
+ghost use Rattle.jn_annotate_law.specs.Says.{FilesSay, Spelled};
+ghost use Rattle.jn_annotate_law.specs.Kept.{Kept};
+ghost use Rattle.jn_lowering.specs.BodyRows.{rows_of_bodies};
+ghost use Rattle.jn_program_law.specs.FileSources.{sources};
+ghost use Rattle.jn_program_law.specs.FileProgram.{program_of_files, rows_of_files};
+ghost use Rattle.jn_annotate_law.specs.Noted.{notes_with};
+ghost use Rattle.jn_annotate.specs.Words.{initialization_name, is_unspelled};
+
+/// A file's text with the words of its inferred slots has the annotated tree, and no name more.
+pub fn annotated_texts_have_the_annotated_tree()
+    ensures { (file : FileNo) (text : List ℕ) (old new : List (List ℕ)) (tokens : List Token)
+        (tree : SourceTree) (slots : List SlotInfo) (s : List Qualifier) (fields : List Field)
+        (methods : List Method)
+        → ((name : List ℕ) (n : ℕ) → IsNamed known_names name n → IsNamed old name n)
+        → Lexed file text old tokens new → IsFile tokens tree → TypesFit slots s tree.types methods
+        → (others : List Token)
+        × Lexed file (inserted text (in_file slots s text tokens tree fields methods)) old others new
+        × IsFile others (noted_file slots s tree fields methods) }
+{}
+
+/// The annotated texts of files lex and parse, with the names of the files, and their trees are the annotated trees.
+pub fn annotated_files_have_annotated_trees()
+    ensures { (slots : List SlotInfo) (s : List Qualifier) (texts : List (List ℕ))
+        (tokens : List (List Token)) (trees : List PlacedFile) (names : List (List ℕ))
+        (fields : List Field) (methods : List Method)
+        → TextsLexed 0 known_names texts tokens names → AllPlaced tokens trees
+        → FilesFit slots s (map forget_file trees) methods
+        → (others : List (List Token)) × (places : List PlacedFile)
+        × TextsLexed 0 known_names
+        (annotated_from slots s texts tokens (map forget_file trees) fields methods) others names
+        × AllPlaced others places
+        × (map forget_file places ≡ noted_files slots s (map forget_file trees) fields methods) }
+{}
+
+/// The class tables of annotated files are those of the files, but for places and what is written: their heads differ in nothing else.
+pub fn annotated_files_have_alike_tables()
+    ensures { (slots : List SlotInfo) (s : List Qualifier) (tokens others : List (List Token))
+        (trees places : List PlacedFile) (fields : List Field) (methods : List Method)
+        → AllPlaced tokens trees → AllPlaced others places
+        → map forget_file places ≡ noted_files slots s (map forget_file trees) fields methods
+        → Alike (table (heads trees)) (table (heads places)) }
+{}
+
+/// So are their programs: bodies are lowered to the same points.
+pub fn annotated_files_have_alike_programs()
+    ensures { (slots : List SlotInfo) (s : List Qualifier) (tokens others : List (List Token))
+        (trees places : List PlacedFile) (fields : List Field) (methods : List Method)
+        → AllPlaced tokens trees → AllPlaced others places
+        → map forget_file places ≡ noted_files slots s (map forget_file trees) fields methods
+        → Alike (program_of_files trees) (program_of_files places) }
+{}
+
+/// Their class tables have the same codes of rows T1 to T10, in one order: none where the files had none.
+pub fn annotated_files_have_the_same_class_rows()
+    ensures { (slots : List SlotInfo) (s : List Qualifier) (tokens others : List (List Token))
+        (trees places : List PlacedFile) (fields : List Field) (methods : List Method)
+        → AllPlaced tokens trees → AllPlaced others places
+        → map forget_file places ≡ noted_files slots s (map forget_file trees) fields methods
+        → codes_of (t_rows (heads trees)) ≡ codes_of (t_rows (heads places)) }
+{}
+
+/// Where files have no row, their annotated files have none but those of bodies: no row of class tables, and no row J5 of packages,
+/// imports, names and annotations, since each annotation has a meaning where it stands and is the one of its kind.
+pub fn annotated_files_have_no_rows_outside_bodies()
+    ensures { (tokens others : List (List Token)) (trees places : List PlacedFile)
+        (s : List Qualifier)
+        → AllPlaced tokens trees → AllPlaced others places
+        → map forget_file places
+        ≡ noted_files (table (heads trees)).slots s (map forget_file trees)
+        (table (heads trees)).fields (drop 1 (table (heads trees)).methods)
+        → rows_of_files trees ≡ []
+        → rows_of_files places ≡ rows_of_bodies (table (heads places)) (sources places) }
+{}
+
+/// Where nothing was written on a position, the words of a qualifier, put behind what else stands there, make a slot that isn't
+/// inferred and has this qualifier: both words of a value, that of nullity of a field, that of initialization of a receiver.
+pub fn written_words_say_the_qualifier()
+    ensures values { (has : ℕ → Bool) (q : Qualifier) (secret : Bool)
+        → is_written (notes_by has) ≡ false → is_unspelled q ≡ false
+        → slot_of secret (notes_with has (both_names q))
+        (written_qual (notes_with has (both_names q)))
+        ≡ written_slot q }
+    ensures fields { (has : ℕ → Bool) (q : Qualifier) (secret : Bool)
+        → is_written (notes_by has) ≡ false → q.committed ≡ true → q.free ≡ false
+        → slot_of secret (notes_with has (nullity_names q))
+        (field_qual (notes_with has (nullity_names q)))
+        ≡ written_slot q }
+    ensures receivers { (has : ℕ → Bool) (q : Qualifier) (secret : Bool)
+        → is_written (notes_by has) ≡ false → q.null ≡ false → is_unspelled q ≡ false
+        → slot_of secret (notes_with has (initialization_name q ∷ []))
+        (receiver_qual (notes_with has (initialization_name q ∷ [])))
+        ≡ written_slot q }
+{}
+
+/// The slots of annotated files are written as the signature says, where it has a spelling for each inferred one and what is written
+/// for any other, and says of fields and receivers what can be written there.
+pub fn annotated_files_have_written_slots()
+    ensures { (tokens others : List (List Token)) (trees places : List PlacedFile)
+        (s : List Qualifier)
+        → length s ≡ length (table (heads trees)).slots → Spelled (table (heads trees)).slots s
+        → AllPlaced tokens trees → AllPlaced others places
+        → map forget_file places
+        ≡ noted_files (table (heads trees)).slots s (map forget_file trees)
+        (table (heads trees)).fields (drop 1 (table (heads trees)).methods)
+        → FilesSay (table (heads trees)).slots s (map forget_file trees)
+        (table (heads trees)).fields (drop 1 (table (heads trees)).methods)
+        → (table (heads places)).slots ≡ map written_slot s }
+{}
+
+/// A program that differs from another one in places alone, and has each slot written as a signature says, means the same.
+pub fn written_programs_mean_what_was_inferred()
+    ensures { (P Q : Program) (s : List Qualifier) → Alike P Q → IsWritten Q s → Means P Q s }
+{}
+
+/// In the least signature a slot that isn't inferred has what it starts with.
+pub fn least_signatures_keep_what_is_written()
+    ensures { (P : Program) (s : List Qualifier) (i : ℕ) → IsInferable P → IsLeastSignature P s
+        → i < length s → is_inferred (slice_get P.slots i) ≡ false
+        → slice_index_or s i no_qual ≡ slice_index_or (start_signature P) i no_qual }
+{}
+
+/// The least signature says of fields and receivers what words can say there: an inferred field isn't free, an inferred receiver isn't
+/// null, and the fields of one declaration agree, where each inferred slot has a spelling and no type is shared by fields that differ.
+pub fn least_signatures_say_what_can_be_written()
+    ensures { (tokens : List (List Token)) (trees : List PlacedFile) (s : List Qualifier)
+        → AllPlaced tokens trees → IsInferable (program_of_files trees)
+        → IsLeastSignature (program_of_files trees) s
+        → HasNone (has_no_spelling (program_of_files trees) s)
+        → HasNone (has_shared_type (program_of_files trees) s (map forget_file trees))
+        → FilesSay (program_of_files trees).slots s (map forget_file trees)
+        (program_of_files trees).fields (drop 1 (program_of_files trees).methods) }
+{}
+
+/// Annotated files lex and parse, with the same names, and mean the same: their program is that of the files but for places, each slot
+/// is written as it was inferred, which is its least signature, and the same rules are broken, both ways.
+pub fn annotating_keeps_meaning()
+    ensures { (texts names new : List (List ℕ)) (tokens : List (List Token))
+        (trees : List PlacedFile) (s : List Qualifier)
+        → TextsLexed 0 known_names texts tokens names → AllPlaced tokens trees
+        → IsInferable (program_of_files trees) → IsLeastSignature (program_of_files trees) s
+        → Annotated (program_of_files trees) s texts tokens (map forget_file trees) new
+        → Kept names trees s
+        (noted_files (program_of_files trees).slots s (map forget_file trees)
+        (program_of_files trees).fields (drop 1 (program_of_files trees).methods))
+        new }
+{}

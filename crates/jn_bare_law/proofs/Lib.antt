@@ -1,0 +1,12 @@
+pub mod Lookups
+pub mod Flow
+pub mod Rules
+pub mod Starts
+pub mod Alike
+pub mod Forms
+pub mod Meanings
+pub mod Calls
+pub mod Expressions
+pub mod Places
+pub mod Statements
+pub mod Bodies
