@@ -1,5 +1,3 @@
-pub mod Around
 pub mod Behind
 pub mod Counted
-pub mod Limits
 pub mod Lined

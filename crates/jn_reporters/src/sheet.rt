@@ -1,22 +1,19 @@
 //! What reporters keep: rows, a verdict, and the text of both.
-ghost use Rattle.std.specs.Prelude.{◌≡◌, ◌++◌, IfOk, OnOk, OnErr, take, drop, length, ◌≤◌};
+ghost use Rattle.std.specs.Prelude.{◌≡◌, ◌++◌, IfOk, OnOk, OnErr, take, drop, length, ◌≤◌, ◌<◌, ◌^◌};
 ghost use Rattle.jn_reporters.specs.Reports.{end_line};
 ghost use Rattle.jn_reporters.specs.Sheet.{nothing_lined, with_line, with_lines, with_verdict};
 
 use crate::lines::verdict_line;
-use crate::taken::{TakenRows, with_row};
-use crate::view::RowView;
 use jn_base::OutOfMemory;
-use jn_diag::Verdict;
-use jn_outside::Told;
+use jn_diag::{RowText, Verdict};
 use std::alloc::{AllocError, Global};
 use std::marker::Model;
 
-/// Rows and a verdict, with the lines made of the rows; the rows themselves only clauses read, and the verdict's line behind them.
+/// Rows and a verdict, with the lines made of the rows, and the verdict's line behind them.
 #[derive(Drop)]
 pub struct Sheet {
     alloc: Global,
-    rows: TakenRows,
+    rows: Vec<RowText>,
     verdict: Option<Verdict>,
     /// The lines and behind them the verdict's line.
     text: Vec<u8>,
@@ -42,7 +39,7 @@ impl Sheet {
     {
         Sheet {
             alloc,
-            rows: Told::none(),
+            rows: Vec::new(alloc),
             verdict: None,
             text: Vec::new(alloc),
             lines: 0,
@@ -61,23 +58,33 @@ impl Sheet {
     }
 
     /// Takes the row, with its line behind the lines. On want of memory the sheet is as before.
-    pub fn take(&mut self, row: &RowView<'_>, line: &[u8]) -> Result<(), OutOfMemory>
+    pub fn take(&mut self, row: &RowText, line: &[u8]) -> Result<(), OutOfMemory>
         ensures ok { OnOk result (self.new ≡ with_line self.old row.now line.now) }
         ensures err { OnErr result (self.new ≡ self.old) }
     {
-        put_in(self.alloc, &mut self.text, self.lines, line)?;
-        self.rows = with_row(&self.rows, row);
+        let row = row.copy(self.alloc)?;
+        if self.rows.push(row).is_err() {
+            return Err(OutOfMemory);
+        }
+        if put_in(self.alloc, &mut self.text, self.lines, line).is_err() {
+            self.rows.pop();
+            return Err(OutOfMemory);
+        }
         self.lines += line.len();
         Ok(())
     }
 
     /// Takes the row, with these lines in place of the earlier ones. On want of memory the sheet is as before.
-    pub fn take_anew(&mut self, row: &RowView<'_>, lines: &[u8]) -> Result<(), OutOfMemory>
+    pub fn take_anew(&mut self, row: &RowText, lines: &[u8]) -> Result<(), OutOfMemory>
         ensures ok { OnOk result (self.new ≡ with_lines self.old row.now lines.now) }
         ensures err { OnErr result (self.new ≡ self.old) }
+        ensures bound { length self.new.rows < 2 ^ 63 }
     {
+        let row = row.copy(self.alloc)?;
         let text = joined(self.alloc, lines, &self.text[self.lines..])?;
-        self.rows = with_row(&self.rows, row);
+        if self.rows.push(row).is_err() {
+            return Err(OutOfMemory);
+        }
         self.lines = lines.len();
         self.text = text;
         Ok(())
