@@ -1,1 +1,3 @@
 pub mod Types
+pub mod Counted
+pub mod OneFound

@@ -69,3 +69,12 @@ module _ (infer : Infer) (trees : List PlacedFile) where
     IsFound (Refused rows) = ArePhaseRows rows
     IsFound (Faulty fault) = IsFaultyFor fault
     IsFound (Certified accepted) = IsCertifiedProgram accepted.0
+
+-- two findings say the same: the same rows, the same fault, or the same program that is certified
+abbrev pub IsSameFound : CertFound → CertFound → Type 0
+IsSameFound (Refused rows) (Refused others) = (row : Row) → Contains rows row ↔ Contains others row
+IsSameFound (Refused rows) other = ⊥
+IsSameFound (Faulty fault) (Faulty other) = fault ≡ other
+IsSameFound (Faulty fault) other = ⊥
+IsSameFound (Certified accepted) (Certified other) = accepted.0 ≡ other.0
+IsSameFound (Certified accepted) other = ⊥
