@@ -1,14 +1,12 @@
 -- A certificate that is refused has one fault.
-use Rattle.std.proofs.Common.{◌≡◌, ◌⊎◌, inl, inr, ⊎_elim, ℕ, ◌+◌, ◌<◌, ◌≤◌, List, [], ◌∷◌, length, Option, Some, None, sym, ap, ◌∙◌, subst, arith}
+use Rattle.std.proofs.Common.{◌≡◌, ◌⊎◌, inl, inr, ℕ, ◌<◌, ◌≤◌, List, Option, Some, None, sym, ap, ◌∙◌, subst, arith}
 use Rattle.std.proofs.lemmas.Bool.{cases_lt}
-use Rattle.jn_base.specs.declared.place.Row.{Row}
 use Rattle.jn_base.specs.declared.refusal.Fail.TheVariants.{Refused}
 use Rattle.jn_quals.specs.Qualifier.{Qualifier}
 use Rattle.jn_points.specs.declared.program.Program.{Program}
-use Rattle.jn_env.specs.Environment.{Env}
 use Rattle.jn_transfer.specs.Rules.{pairs_rows}
 use Rattle.jn_diag.specs.Order.{HasOneOrder}
-use Rattle.jn_cert_form.specs.Form.{Begins, IsBadAt}
+use Rattle.jn_cert_form.specs.Form.{IsBadAt}
 use Rattle.jn_cert_form.specs.Counted.{IsCounted}
 use Rattle.jn_cert_form.proofs.OneReading.{same_signature, same_tables}
 use Rattle.jn_cert_judge.specs.declared.fault.CertFault.{CertFault}

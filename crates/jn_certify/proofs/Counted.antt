@@ -1,18 +1,17 @@
 -- The program of trees without rows has keys whose numbers have 32 bits, since each of its bodies is small and it has few fields.
-use Rattle.std.proofs.Common.{◌≡◌, ◌⊎◌, inl, inr, ℕ, zero, suc, ◌+◌, ◌<◌, ◌≤◌, ◌^◌, Bool, true, false, not, ◌||◌, ◌&&◌, List, [], ◌∷◌, ◌++◌, length, length-append, Option, Some, None, refl, sym, ap, ◌∙◌, subst, arith}
+use Rattle.std.proofs.Common.{◌≡◌, inl, inr, ℕ, zero, suc, ◌+◌, ◌<◌, ◌≤◌, ◌^◌, true, false, not, ◌||◌, ◌&&◌, List, [], ◌∷◌, length, length-append, Option, Some, None, refl, sym, subst, arith}
 use Rattle.std.specs.Prelude.{filter, flat_map, ltb, slice_get}
 use Rattle.std.proofs.lemmas.Bool.{and_parts, ltb-false, ltb-true}
 use Rattle.std.proofs.lemmas.Option.{slice_get_within}
 use Rattle.jn_base.specs.declared.code.Code.TheVariants.{J6}
 use Rattle.jn_base.specs.declared.infer.Infer.{Infer}
-use Rattle.jn_base.specs.declared.place.Row.{Row}
 use Rattle.jn_points.specs.declared.program.Body.{Body}
 use Rattle.jn_points.specs.declared.program.Field.{Field}
 use Rattle.jn_points.specs.declared.program.Program.{Program}
 use Rattle.jn_points.specs.Lookup.{body_at, field_info, locals, locals_of, method_in, points_of, ref_field, ref_of}
 use Rattle.jn_points.specs.Members.{below}
 use Rattle.jn_points.specs.Regular.{Regular}
-use Rattle.jn_env.specs.Keys.{Key, distinct, fact_keys, is_key, is_own, kind_keys, own_keys}
+use Rattle.jn_env.specs.Keys.{Key, distinct, fact_keys, is_key, is_own, kind_keys}
 use Rattle.jn_places.specs.Placed.{PlacedFile}
 use Rattle.jn_classtable.specs.Extract.{heads}
 use Rattle.jn_classtable.specs.Table.{table}
