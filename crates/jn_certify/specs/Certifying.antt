@@ -59,13 +59,13 @@ module _ (infer : Infer) (trees : List PlacedFile) where
       pub never_null : NeverNull P
       pub never_stuck : NeverStuck P
 
-    -- the first that fails
-    pub record IsFaultyFor (fault : CertFault) : Type 0 where
-      pub P : Program
+    -- the first that fails, so that the certificate doesn't hold of the program
+    pub record IsFaultyFor (P : Program) (fault : CertFault) : Type 0 where
       pub of_trees : IsTypedOf P
       pub why : IsWhyRefused P cert (RefusedFor fault)
+      pub never : CertHolds P cert → ⊥
 
     abbrev pub IsFound : CertFound → Type 0
     IsFound (Refused rows) = ArePhaseRows rows
-    IsFound (Faulty fault) = IsFaultyFor fault
+    IsFound (Faulty P fault) = IsFaultyFor P fault
     IsFound (Certified accepted) = IsCertifiedProgram accepted.0

@@ -3,6 +3,7 @@
 
 pub mod certifying;
 pub mod found;
+pub mod law;
 
 pub use certifying::certify_trees;
 pub use found::CertFound;
