@@ -1,3 +1,4 @@
 pub mod Readings
 pub mod Standing
 pub mod Refusing
+pub mod Answering

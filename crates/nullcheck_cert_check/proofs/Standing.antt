@@ -200,3 +200,6 @@ few_reads words reads files le named are =
     let same = ap length named in
     let long = map_length words in
     omega (arith, many, same, long, le)
+
+pub many_names : (words : List (String Global)) → most_files < length words → most_files < length (map string_bytes words)
+many_names words lt = let long = map_length words in omega (arith, long, lt)

@@ -8,7 +8,7 @@ ghost use Rattle.jn_command.specs.Shown.{row_of, row_of_file};
 ghost use Rattle.nullcheck_cert_check.specs.Lines as spec;
 
 use itoa::{Buffer, Integer};
-use jn_base::{BodyNo, MethodNo, OutOfMemory, Place, PointNo, Row, SlotNo, Span, place_of};
+use jn_base::{BodyNo, Code, MethodNo, OutOfMemory, Place, PointNo, Row, SlotNo, Span, place_of};
 use jn_cert::CertFault;
 use jn_front::{SourceFile, SourceRead};
 use jn_points::{Body, Field, Method, Program};
@@ -229,6 +229,28 @@ pub(crate) fn large_line(alloc: Global, cert: &str) -> Result<Vec<u8>, AllocErro
     Ok(line)
 }
 
+/// `NAME:LINE:COL: CODE` and a line feed.
+fn line_of(
+    alloc: Global,
+    name: &str,
+    line: u32,
+    col: u32,
+    code: Code,
+) -> Result<Vec<u8>, AllocError>
+    ensures { IfOk result (λ text. text.items
+        ≡ plain_line (record { name = name.now; line = line; col = col; code = code })) }
+{
+    let mut text = Vec::from_slice(alloc, name.as_bytes())?;
+    text.extend_from_slice(b":")?;
+    text.extend_from_slice(Buffer::new().format(line).as_bytes())?;
+    text.extend_from_slice(b":")?;
+    text.extend_from_slice(Buffer::new().format(col).as_bytes())?;
+    text.extend_from_slice(b": ")?;
+    text.extend_from_slice(code.name().as_bytes())?;
+    text.extend_from_slice(b"\n")?;
+    Ok(text)
+}
+
 /// The line of a row of this file.
 fn row_in_file(alloc: Global, file: &SourceFile, row: Row) -> Result<Vec<u8>, AllocError>
     requires fits { length file.now.bytes ≤ 1048576 }
@@ -236,25 +258,14 @@ fn row_in_file(alloc: Global, file: &SourceFile, row: Row) -> Result<Vec<u8>, Al
         (λ line. line.items ≡ plain_line (row_of_file (Some file.now) row)) }
 {
     let place = place_within(file.bytes.as_slice(), row.span);
-    let mut line = Vec::from_slice(alloc, file.name.as_str().as_bytes())?;
-    line.extend_from_slice(b":")?;
-    line.extend_from_slice(Buffer::new().format(place.line).as_bytes())?;
-    line.extend_from_slice(b":")?;
-    line.extend_from_slice(Buffer::new().format(place.col).as_bytes())?;
-    line.extend_from_slice(b": ")?;
-    line.extend_from_slice(row.code.name().as_bytes())?;
-    line.extend_from_slice(b"\n")?;
-    Ok(line)
+    line_of(alloc, file.name.as_str(), place.line, place.col, row.code)
 }
 
 /// The line of a row of no file.
 fn row_of_none(alloc: Global, row: Row) -> Result<Vec<u8>, AllocError>
     ensures { IfOk result (λ line. line.items ≡ plain_line (row_of_file None row)) }
 {
-    let mut line = Vec::from_slice(alloc, b":1:1: ")?;
-    line.extend_from_slice(row.code.name().as_bytes())?;
-    line.extend_from_slice(b"\n")?;
-    Ok(line)
+    line_of(alloc, "", 1, 1, row.code)
 }
 
 /// The line of a row, as the plain reporter shows it.
