@@ -1,3 +1,4 @@
 pub mod Types
+pub mod Empty
 pub mod Counted
 pub mod OneFound

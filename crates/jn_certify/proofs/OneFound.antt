@@ -16,12 +16,9 @@ use Rattle.jn_certify.specs.declared.found.CertFound.TheVariants.{Refused, Fault
 use Rattle.jn_certify.specs.Certifying.{ArePhaseRows, AreTypeRows, IsFaultyFor, IsFound, IsProgramOf, IsSameFound, IsTypedOf}
 use Rattle.jn_certify.proofs.Counted.{program_counted}
 
--- what is said of refusals: they have one fault, and don't hold
+-- what is said of refusals: they have one fault
 abbrev pub OneFault : Type 0
 OneFault = (P : Program) (cert : List ℕ) (one other : CertFault) → IsCounted P → IsWhyRefused P cert (RefusedFor one) → IsWhyRefused P cert (RefusedFor other) → one ≡ other
-
-abbrev pub Excluded : Type 0
-Excluded = (P : Program) (cert : List ℕ) (fault : CertFault) → IsCounted P → IsWhyRefused P cert (RefusedFor fault) → CertHolds P cert → ⊥
 
 module _ (infer : Infer) (trees : List PlacedFile) where
   one_program : (P Q : Program) → IsProgramOf infer trees P → IsProgramOf infer trees Q → P ≡ Q
@@ -60,25 +57,24 @@ module _ (infer : Infer) (trees : List PlacedFile) where
       let typed : NoBaseRows a.P = subst NoBaseRows (one_program P a.P t.of_trees a.of_trees) t.typed in
       a.some (no_rows rows (λ row h. typed row ((a.are row).0 h)))
 
-  module _ (cert : List ℕ) (one_fault : OneFault) (excluded : Excluded) where
-    same_fault : (fault other : CertFault) → IsFaultyFor infer trees cert fault → IsFaultyFor infer trees cert other → fault ≡ other
-    same_fault fault other a b =
-        let same = one_program b.P a.P b.of_trees.of_trees a.of_trees.of_trees in
-        one_fault a.P cert fault other (program_counted infer trees a.P a.of_trees.of_trees.lowered) a.why (subst (λ Z. IsWhyRefused Z cert (RefusedFor other)) same b.why)
-
+  module _ (cert : List ℕ) where
     -- a certificate with a fault holds of no program of the trees
-    pub not_held : (fault : CertFault) (P : Program) → IsFaultyFor infer trees cert fault → IsTypedOf infer trees P → CertHolds P cert → ⊥
-    not_held fault P a t h =
-        let same = one_program P a.P t.of_trees a.of_trees.of_trees in
-        excluded a.P cert fault (program_counted infer trees a.P a.of_trees.of_trees.lowered) a.why (subst (λ Z. CertHolds Z cert) same h)
+    pub not_held : (P Q : Program) (fault : CertFault) → IsFaultyFor infer trees cert P fault → IsTypedOf infer trees Q → CertHolds Q cert → ⊥
+    not_held P Q fault a t h = a.never (subst (λ Z. CertHolds Z cert) (one_program Q P t.of_trees a.of_trees.of_trees) h)
 
-    pub same_found : (one other : CertFound) → IsFound infer trees cert one → IsFound infer trees cert other → IsSameFound one other
-    same_found (Refused rows) (Refused others) a b = same_rows rows others a b
-    same_found (Refused rows) (Faulty fault) a b = none_typed rows b.P a b.of_trees
-    same_found (Refused rows) (Certified accepted) a b = none_typed rows accepted.0 a b.of_trees
-    same_found (Faulty fault) (Refused rows) a b = none_typed rows a.P b a.of_trees
-    same_found (Faulty fault) (Faulty other) a b = same_fault fault other a b
-    same_found (Faulty fault) (Certified accepted) a b = not_held fault accepted.0 a b.of_trees b.holds
-    same_found (Certified accepted) (Refused rows) a b = none_typed rows accepted.0 b a.of_trees
-    same_found (Certified accepted) (Faulty fault) a b = not_held fault accepted.0 b a.of_trees a.holds
-    same_found (Certified accepted) (Certified other) a b = one_program accepted.0 other.0 a.of_trees.of_trees b.of_trees.of_trees
+    module _ (one_fault : OneFault) where
+      same_fault : (P Q : Program) (fault other : CertFault) → IsFaultyFor infer trees cert P fault → IsFaultyFor infer trees cert Q other → fault ≡ other
+      same_fault P Q fault other a b =
+          let same = one_program Q P b.of_trees.of_trees a.of_trees.of_trees in
+          one_fault P cert fault other (program_counted infer trees P a.of_trees.of_trees.lowered) a.why (subst (λ Z. IsWhyRefused Z cert (RefusedFor other)) same b.why)
+
+      pub same_found : (one other : CertFound) → IsFound infer trees cert one → IsFound infer trees cert other → IsSameFound one other
+      same_found (Refused rows) (Refused others) a b = same_rows rows others a b
+      same_found (Refused rows) (Faulty P fault) a b = none_typed rows P a b.of_trees
+      same_found (Refused rows) (Certified accepted) a b = none_typed rows accepted.0 a b.of_trees
+      same_found (Faulty P fault) (Refused rows) a b = none_typed rows P b a.of_trees
+      same_found (Faulty P fault) (Faulty Q other) a b = same_fault P Q fault other a b
+      same_found (Faulty P fault) (Certified accepted) a b = not_held P accepted.0 fault a b.of_trees b.holds
+      same_found (Certified accepted) (Refused rows) a b = none_typed rows accepted.0 b a.of_trees
+      same_found (Certified accepted) (Faulty P fault) a b = not_held P accepted.0 fault b a.of_trees a.holds
+      same_found (Certified accepted) (Certified other) a b = one_program accepted.0 other.0 a.of_trees.of_trees b.of_trees.of_trees

@@ -59,22 +59,25 @@ module _ (infer : Infer) (trees : List PlacedFile) where
       pub never_null : NeverNull P
       pub never_stuck : NeverStuck P
 
-    -- the first that fails
-    pub record IsFaultyFor (fault : CertFault) : Type 0 where
-      pub P : Program
+    -- the first that fails, so that the certificate doesn't hold of the program
+    pub record IsFaultyFor (P : Program) (fault : CertFault) : Type 0 where
       pub of_trees : IsTypedOf P
       pub why : IsWhyRefused P cert (RefusedFor fault)
+      pub never : CertHolds P cert → ⊥
 
     abbrev pub IsFound : CertFound → Type 0
     IsFound (Refused rows) = ArePhaseRows rows
-    IsFound (Faulty fault) = IsFaultyFor fault
+    IsFound (Faulty P fault) = IsFaultyFor P fault
     IsFound (Certified accepted) = IsCertifiedProgram accepted.0
 
 -- two findings say the same: the same rows, the same fault, or the same program that is certified
 abbrev pub IsSameFound : CertFound → CertFound → Type 0
 IsSameFound (Refused rows) (Refused others) = (row : Row) → Contains rows row ↔ Contains others row
-IsSameFound (Refused rows) other = ⊥
-IsSameFound (Faulty fault) (Faulty other) = fault ≡ other
-IsSameFound (Faulty fault) other = ⊥
+IsSameFound (Refused rows) (Faulty P fault) = ⊥
+IsSameFound (Refused rows) (Certified accepted) = ⊥
+IsSameFound (Faulty P fault) (Refused rows) = ⊥
+IsSameFound (Faulty P fault) (Faulty Q other) = fault ≡ other
+IsSameFound (Faulty P fault) (Certified accepted) = ⊥
+IsSameFound (Certified accepted) (Refused rows) = ⊥
+IsSameFound (Certified accepted) (Faulty P fault) = ⊥
 IsSameFound (Certified accepted) (Certified other) = accepted.0 ≡ other.0
-IsSameFound (Certified accepted) other = ⊥

@@ -6,13 +6,17 @@ ghost use Rattle.jn_progress_law.specs.Progress.{NeverStuck};
 ghost use Rattle.jn_classtable.specs.Extract.{heads};
 ghost use Rattle.jn_classtable.specs.Rows.{t_rows};
 ghost use Rattle.jn_classtable.specs.Inferred.{tabled};
+ghost use Rattle.jn_base.specs.declared.refusal.Fail.TheVariants.{Refused};
+ghost use Rattle.jn_cert.specs.Checking.{IsWhyRefused};
 ghost use Rattle.jn_certify.specs.Certifying.{IsFound, IsProgramOf, IsTypedOf};
 
 use crate::found::CertFound;
+use crate::law::programs_of_trees_are_counted;
 use jn_accept::Accepted;
 use jn_base::{Fail, Infer, OutOfMemory, Seq};
 use jn_basecheck::base_check;
-use jn_cert::check_cert;
+use jn_cert::law::refused_certificates_do_not_hold;
+use jn_cert::{CertFault, check_cert};
 use jn_classtable::{ClassTable, build};
 use jn_index::indexed::IndexedProgram;
 use jn_program::lowering::lower;
@@ -27,6 +31,26 @@ fn is_safe(accepted: &Accepted)
     ensures never_stuck { NeverStuck accepted.now.0 }
 {
     let _program = accepted.program();
+}
+
+/// The answer where a certificate doesn't hold.
+fn faulty(
+    infer: Infer,
+    trees: &[FileTree],
+    base: BaseTyped,
+    cert: &[u8],
+    fault: CertFault,
+) -> CertFound
+    requires program { IsTypedOf infer (map placed_file trees.now) base }
+    requires why { IsWhyRefused base cert.now (Refused fault) }
+    ensures { IsFound infer (map placed_file trees.now) cert.now result }
+{
+    let _infer = infer;
+    let _trees = trees;
+    let _cert = cert;
+    programs_of_trees_are_counted();
+    refused_certificates_do_not_hold();
+    CertFound::Faulty(base, fault)
 }
 
 /// What a base-typed program of trees comes to.
@@ -47,7 +71,7 @@ fn certify_typed(
             is_safe(&accepted);
             Ok(CertFound::Certified(accepted))
         }
-        Err((_, Fail::Refused(fault))) => Ok(CertFound::Faulty(fault)),
+        Err((base, Fail::Refused(fault))) => Ok(faulty(infer, trees, base, cert, fault)),
         Err((_, Fail::OutOfMemory)) => Err(OutOfMemory),
     }
 }

@@ -3,6 +3,6 @@ use Rattle.jn_certify.proofs.law.trees_and_certificates_have_one_answer.Goals as
 
 pub returns : goal.returns
 returns c = record {
-  one = λ infer trees cert one other. same_found infer trees cert c.refused_certificates_have_one_fault.ensures c.refused_certificates_do_not_hold.ensures one other;
-  none = λ infer trees cert fault P. not_held infer trees cert c.refused_certificates_have_one_fault.ensures c.refused_certificates_do_not_hold.ensures fault P;
+  one = λ infer trees cert one other. same_found infer trees cert c.refused_certificates_have_one_fault.ensures one other;
+  none = λ infer trees cert P Q fault. not_held infer trees cert P Q fault;
 }

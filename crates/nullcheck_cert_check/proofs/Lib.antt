@@ -1,0 +1,4 @@
+pub mod Readings
+pub mod Standing
+pub mod Refusing
+pub mod Answering

@@ -1,0 +1,19 @@
+use Rattle.std.proofs.Common.{◌≡◌, ◌∙◌, IfOk, ap, sym, subst, option_map}
+use Rattle.std.proofs.lemmas.Option.{slice_get-get_or, slice_get-map, slice_get_past}
+use Rattle.jn_front.specs.declared.source.SourceRead.{SourceRead}
+use Rattle.jn_front.proofs.Loops.{fits_at}
+use Rattle.nullcheck_cert_check.specs.Lines.{place_in_file}
+use Rattle.nullcheck_cert_check.proofs.lines.place_of_span.Goals as goal
+
+pub place_in_file-requires : goal.place_in_file-requires
+place_in_file-requires c = record { fits = fits_at c.args.reads.now c.args.span.file.0 c.index-reads-file.result c.requires.fit c.if-file-reads.true }
+
+pub returns-then-file-reads : goal.returns-then-file-reads
+returns-then-file-reads c =
+    let file = slice_get-map (λ (read : SourceRead). read.file) c.args.reads.now c.args.span.file.0 ∙ ap (option_map (λ (read : SourceRead). read.file)) (slice_get-get_or c.args.reads.now c.args.span.file.0 c.index-reads-file.result c.if-file-reads.true) in
+    subst (λ file. IfOk c.place_in_file.result (λ text. text.items ≡ place_in_file file c.args.span)) (sym file) c.place_in_file.ensures
+
+pub returns-else-file-reads : goal.returns-else-file-reads
+returns-else-file-reads c =
+    let none = slice_get-map (λ (read : SourceRead). read.file) c.args.reads.now c.args.span.file.0 ∙ ap (option_map (λ (read : SourceRead). read.file)) (slice_get_past c.args.reads.now c.args.span.file.0 c.if-file-reads.false) in
+    c.new.ensures.items ∙ ap (λ file. place_in_file file c.args.span) (sym none)

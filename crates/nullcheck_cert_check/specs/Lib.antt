@@ -1,0 +1,6 @@
+pub mod Words
+pub mod Inputs
+pub mod Verdicts
+pub mod Lines
+pub mod Told
+pub mod Answer

@@ -1,0 +1,19 @@
+//! The checker of certificates: words in, the verdict on a certificate of files out.
+//!
+//! [`check`] reads a certificate and the files that it is of, makes their program, and judges the certificate by it; it searches for
+//! nothing. `specs/Answer.antt` says what each answer means.
+#![tactic(auto)]
+
+pub mod certificate;
+pub mod command;
+mod inputs;
+mod lines;
+mod outputs;
+mod phases;
+mod reason;
+pub mod top;
+pub mod verdict;
+
+pub use jn_command::Status;
+pub use reason::usage_reason;
+pub use top::check;
