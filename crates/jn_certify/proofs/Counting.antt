@@ -1,7 +1,7 @@
 -- A regular program whose numbers of locals are of 32 bits has keys with numbers of 32 bits.
-use Rattle.std.proofs.Common.{◌≡◌, ◌⊎◌, inl, inr, ℕ, zero, suc, ◌+◌, ◌^◌, ◌<◌, ◌≤◌, Bool, true, false, not, ◌&&◌, List, [], ◌∷◌, ◌++◌, length, filter, flat_map, cond, Option, Some, None, refl, sym, ap, ◌∙◌, subst, arith}
+use Rattle.std.proofs.Common.{◌≡◌, ◌⊎◌, inl, inr, ℕ, zero, suc, ◌+◌, ◌^◌, ◌<◌, ◌≤◌, Bool, true, false, not, ◌&&◌, List, [], ◌∷◌, ◌++◌, length, filter, flat_map, cond, length-append, Option, Some, None, refl, sym, ap, ◌∙◌, subst, arith}
 use Rattle.std.specs.Prelude.{eqb, ltb, slice_get}
-use Rattle.std.proofs.lemmas.Bool.{ltb-true}
+use Rattle.std.proofs.lemmas.Bool.{cases_lt, ltb-true}
 use Rattle.jn_points.specs.declared.point.Point.{Point}
 use Rattle.jn_points.specs.declared.point.Origin.{Origin}
 use Rattle.jn_points.specs.declared.point.PointKind.{PointKind}
@@ -9,7 +9,7 @@ use Rattle.jn_points.specs.declared.point.PointKind.TheVariants.{FieldRead, Fiel
 use Rattle.jn_points.specs.declared.program.Body.{Body}
 use Rattle.jn_points.specs.declared.program.Field.{Field}
 use Rattle.jn_points.specs.declared.program.Program.{Program}
-use Rattle.jn_points.specs.Lookup.{body_at, field_info, locals, method_in, points_of, ref_field, ref_of}
+use Rattle.jn_points.specs.Lookup.{body_at, locals, locals_of, method_in, points_of, ref_field, ref_of}
 use Rattle.jn_points.specs.Members.{below}
 use Rattle.jn_points.specs.Regular.{Regular}
 use Rattle.jn_env.specs.Keys.{Key, distinct, fact_keys, is_key, is_own, kind_keys, origin_key, own_keys}
@@ -50,16 +50,12 @@ one_key (TestInst of class origin at_yes at_no) = one_origin origin
 one_key (TestNull of origin at_null at_value) = one_origin origin
 one_key kind = omega arith
 
-long_both : (xs ys : List Key) → length (xs ++ ys) ≡ length xs + length ys
-long_both [] ys = refl
-long_both (x ∷ xs) ys = ap suc (long_both xs ys)
-
 few_keys : (pts : List Point) → length (flat_map (λ pt. kind_keys pt.kind) pts) ≤ length pts
 few_keys [] = omega arith
 few_keys (pt ∷ pts) =
     let one = one_key pt.kind in
     let rest = few_keys pts in
-    let both = long_both (kind_keys pt.kind) (flat_map (λ pt. kind_keys pt.kind) pts) in
+    let both = length-append (kind_keys pt.kind) (flat_map (λ pt. kind_keys pt.kind) pts) in
     omega (arith, one, rest, both)
 
 long_below : (n : ℕ) → length (below n) ≡ n
@@ -79,17 +75,17 @@ in_both (y ∷ xs) ys x (inl e) = inl (inl e)
 in_both (y ∷ xs) ys x (inr m) = by (in_both xs ys x m)
   where
     by : IsIn x xs ⊎ IsIn x ys → IsIn x (y ∷ xs) ⊎ IsIn x ys
-    by (inl m) = inl (inr m)
-    by (inr m) = inr m
+    by (inl h) = inl (inr h)
+    by (inr h) = inr h
 
 in_below : (n x : ℕ) → IsIn x (below n) → x < n
 in_below zero x m = absurd m
-in_below (suc n) x m = by (in_both (below n) (n ∷ []) x m)
+in_below (suc n) x m = by (in_below n x) (in_both (below n) (n ∷ []) x m)
   where
-    by : IsIn x (below n) ⊎ IsIn x (n ∷ []) → x < suc n
-    by (inl m) = let low = in_below n x m in omega (arith, low)
-    by (inr (inl e)) = omega (arith, e)
-    by (inr (inr m)) = absurd m
+    by : (IsIn x (below n) → x < n) → IsIn x (below n) ⊎ IsIn x (n ∷ []) → x < suc n
+    by rest (inl m) = let low = rest m in omega (arith, low)
+    by rest (inr (inl e)) = omega (arith, e)
+    by rest (inr (inr m)) = absurd m
 
 -- a field that is there has a number below that of fields
 field_low : (fields : List Field) (f : ℕ) → ref_of (slice_get fields f) ≡ true → f < length fields
@@ -104,6 +100,34 @@ left_of false b e = cc
 right_of : (a b : Bool) → (a && b) ≡ true → b ≡ true
 right_of true b e = e
 right_of false b e = cc
+
+-- ---- numbers of locals
+
+abbrev pub AreLow : List Body → ℕ → Type 0
+AreLow bodies n = (b : ℕ) → b < n → locals_of (slice_get bodies b) < 2 ^ 32
+
+-- one body more
+pub low_more : (bodies : List Body) (n now : ℕ) → now ≡ locals_of (slice_get bodies n) → now < 2 ^ 32 → AreLow bodies n → AreLow bodies (n + 1)
+low_more bodies n now is low before = λ b lt. by b lt (cases_lt b n)
+  where
+    by : (b : ℕ) → b < n + 1 → (b < n) ⊎ (n ≤ b) → locals_of (slice_get bodies b) < 2 ^ 32
+    by b lt (inl less) = before b less
+    by b lt (inr le) =
+        let same : b ≡ n = omega (arith, lt, le) in
+        subst (λ k. locals_of (slice_get bodies k) < 2 ^ 32) (sym same) (subst (λ m. m < 2 ^ 32) is low)
+
+-- behind the last one there are none
+none_behind : (bodies : List Body) (b : ℕ) → length bodies ≤ b → locals_of (slice_get bodies b) < 2 ^ 32
+none_behind [] b le = omega arith
+none_behind (x ∷ bodies) zero le = absurd (omega (arith, le))
+none_behind (x ∷ bodies) (suc b) le = none_behind bodies b (omega (arith, le))
+
+pub low_all : (bodies : List Body) → AreLow bodies (length bodies) → (b : ℕ) → locals_of (slice_get bodies b) < 2 ^ 32
+low_all bodies low b = by (cases_lt b (length bodies))
+  where
+    by : (b < length bodies) ⊎ (length bodies ≤ b) → locals_of (slice_get bodies b) < 2 ^ 32
+    by (inl less) = low b less
+    by (inr le) = none_behind bodies b le
 
 module _ (P : Program) (r : Regular P) (low : (b : ℕ) → locals P b < 2 ^ 32) where
   few_points : (b : ℕ) → length (points_of (body_at P b)) < 2 ^ 32
@@ -143,14 +167,11 @@ module _ (P : Program) (r : Regular P) (low : (b : ℕ) → locals P b < 2 ^ 32)
   pub counted : IsCounted P
   counted = record {
     facts = few_facts;
-    registers = λ b k m. let low = ltb-true k.reg (locals P b) (left_of _ _ (key_in b k m)) in let most = low_locals b in omega (arith, low, most);
-    fields = λ b k m. let lo = field_low P.fields k.field (right_of _ _ (key_in b k m)) in let few = r.few.fields in omega (arith, lo, few);
+    registers = λ b k m. let less : k.reg < locals P b = ltb-true k.reg (locals P b) (left_of (ltb k.reg (locals P b)) (ref_field P k.field) (key_in b k m)) in let most = low b in omega (arith, less, most);
+    fields = λ b k m. let lo : k.field < length P.fields = field_low P.fields k.field (right_of (ltb k.reg (locals P b)) (ref_field P k.field) (key_in b k m)) in let few = r.few.fields in omega (arith, lo, few);
     own = few_own;
     own_fields = own_low;
   }
-    where
-      low_locals : (b : ℕ) → locals P b < 2 ^ 32
-      low_locals b = low b
 
 -- a certificate begins with its first byte
 pub has_bytes : (P : Program) → CertHolds P [] → ⊥
