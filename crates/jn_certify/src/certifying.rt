@@ -71,8 +71,13 @@ fn certify_typed(
             is_safe(&accepted);
             Ok(CertFound::Certified(accepted))
         }
-        Err((base, Fail::Refused(fault))) => Ok(faulty(infer, trees, base, cert, fault)),
-        Err((_, Fail::OutOfMemory)) => Err(OutOfMemory),
+        Err((base, fail)) => match fail {
+            Fail::Refused(fault) => Ok(faulty(infer, trees, base, cert, fault)),
+            Fail::OutOfMemory => {
+                drop(base);
+                Err(OutOfMemory)
+            }
+        },
     }
 }
 
