@@ -10,3 +10,6 @@ pub mod Expressions
 pub mod Places
 pub mod Statements
 pub mod Bodies
+pub mod RowForms
+pub mod ExpressionRows
+pub mod StatementRows
