@@ -13,3 +13,4 @@ pub mod Bodies
 pub mod RowForms
 pub mod ExpressionRows
 pub mod StatementRows
+pub mod BodyRows
