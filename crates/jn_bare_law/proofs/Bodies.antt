@@ -80,7 +80,7 @@ mutual
   all_same ts us NoStatements = refl
   all_same ts us (MoreStatements x xs) = sum (declared_same ts us x) (all_same (behind ts (spell_statement x)) (behind us (spell_statement x)) xs)
 
-params_bare : (m : Option Method) → params_of (option_map bare_method m) ≡ params_of m
+pub params_bare : (m : Option Method) → params_of (option_map bare_method m) ≡ params_of m
 params_bare None = refl
 params_bare (Some m) = refl
 

@@ -14,3 +14,4 @@ pub mod RowForms
 pub mod ExpressionRows
 pub mod StatementRows
 pub mod BodyRows
+pub mod BaseRows

@@ -98,7 +98,7 @@ local_bare (l ∷ ls) n = cases (eqb l.name n) (local_in (bare_scope ls) n) (loc
     cases true x y h = refl
     cases false x y h = h
 
-result_bare : (m : Option Method) → result_base_of (option_map bare_method m) ≡ result_base_of m
+pub result_bare : (m : Option Method) → result_base_of (option_map bare_method m) ≡ result_base_of m
 result_bare None = refl
 result_bare (Some m) = refl
 

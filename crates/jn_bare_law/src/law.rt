@@ -4,6 +4,8 @@ ghost use Rattle.jn_quals.specs.Qualifier.{Qualifier};
 ghost use Rattle.jn_points.specs.declared.point.Point.{Point};
 ghost use Rattle.jn_points.specs.declared.program.Program.{Program};
 ghost use Rattle.jn_points.specs.Lookup.{method_in};
+ghost use Rattle.jn_points.specs.BaseRows.{IsBaseRow, NoBaseRows};
+ghost use Rattle.jn_base.specs.declared.place.Row.{Row};
 ghost use Rattle.jn_sigs.specs.Signature.{start_signature};
 ghost use Rattle.jn_env.specs.Environment.{Env};
 ghost use Rattle.jn_env.specs.Order.{QualsWithin, Table};
@@ -101,4 +103,12 @@ pub fn alike_bodies_have_the_same_limits()
         → codes_of (rows_of_source P s) ≡ codes_of (rows_of_source Q r)
         → bare_body (body_of_source P s) ≡ bare_body (body_of_source Q r)
         → codes_of (rows_of_body P s) ≡ codes_of (rows_of_body Q r) }
+{}
+
+/// Programs that are alike have rows J7 to J10 of the same codes, and none where the other has none. Since `Alike` has no direction, that holds
+/// both ways.
+pub fn alike_programs_have_the_same_base_rows()
+    ensures rows { (P Q : Program) (row : Row) → Alike P Q → IsBaseRow P row
+        → (other : Row) × IsBaseRow Q other × (other.code ≡ row.code) }
+    ensures typed { (P Q : Program) → Alike P Q → NoBaseRows P → NoBaseRows Q }
 {}
