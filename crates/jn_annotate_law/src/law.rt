@@ -105,6 +105,24 @@ pub fn annotated_files_have_no_rows_outside_bodies()
         → rows_of_files places ≡ rows_of_bodies (table (heads places)) (sources places) }
 {}
 
+/// So they have no row at all: the rows of their bodies, J1 to J6, have the same codes, in one order.
+pub fn annotated_files_have_no_rows()
+    ensures bodies { (slots : List SlotInfo) (s : List Qualifier)
+        (tokens others : List (List Token)) (trees places : List PlacedFile) (fields : List Field)
+        (methods : List Method)
+        → AllPlaced tokens trees → AllPlaced others places
+        → map forget_file places ≡ noted_files slots s (map forget_file trees) fields methods
+        → codes_of (rows_of_bodies (table (heads trees)) (sources trees))
+        ≡ codes_of (rows_of_bodies (table (heads places)) (sources places)) }
+    ensures none { (tokens others : List (List Token)) (trees places : List PlacedFile)
+        (s : List Qualifier)
+        → AllPlaced tokens trees → AllPlaced others places
+        → map forget_file places
+        ≡ noted_files (table (heads trees)).slots s (map forget_file trees)
+        (table (heads trees)).fields (drop 1 (table (heads trees)).methods)
+        → rows_of_files trees ≡ [] → rows_of_files places ≡ [] }
+{}
+
 /// Where nothing was written on a position, the words of a qualifier, put behind what else stands there, make a slot that isn't
 /// inferred and has this qualifier: both words of a value, that of nullity of a field, that of initialization of a receiver.
 pub fn written_words_say_the_qualifier()
