@@ -3,6 +3,7 @@ use Rattle.std.specs.Prelude.{◌≡◌, ℕ, ◌+◌, List, [], ◌∷◌}
 use Rattle.jn_base.specs.declared.place.Row.{Row}
 use Rattle.jn_quals.specs.Qualifier.{Qualifier}
 use Rattle.jn_points.specs.declared.program.Program.{Program}
+use Rattle.jn_points.specs.BaseRows.{IsBaseRow}
 use Rattle.jn_transfer.specs.Rules.{Breaks}
 use Rattle.jn_inference_law.specs.Solution.{IsLeastSignature}
 use Rattle.jn_lexer.specs.Lexed.{Lexed}
@@ -16,13 +17,19 @@ use Rattle.jn_bare_law.specs.Written.{IsWritten}
 abbrev pub BreaksAlike : Program → Program → List Qualifier → Type 0
 BreaksAlike P Q s = (broken : List Row) → Breaks P s broken → (others : List Row) × Breaks Q s others × (codes_of others ≡ codes_of broken)
 
--- Q is P with each slot written as the signature says: it has that signature, and breaks the same rules at the same points, constructors and pairs
+-- the same rows J7 to J10 but for their places
+abbrev pub BaseAlike : Program → Program → Type 0
+BaseAlike P Q = (row : Row) → IsBaseRow P row → (other : Row) × IsBaseRow Q other × (other.code ≡ row.code)
+
+-- Q is P with each slot written as the signature says: it has that signature, breaks the same rules at the same points, constructors and pairs, and is refused for its types where P is
 pub record Means (P Q : Program) (s : List Qualifier) : Type 0 where
   pub alike : Alike P Q
   pub written : IsWritten Q s
   pub least : IsLeastSignature Q s
   pub breaks : BreaksAlike P Q s
   pub back : BreaksAlike Q P s
+  pub base : BaseAlike P Q
+  pub base_back : BaseAlike Q P
 
 -- the texts are these tokens, file by file from the k-th on, and their names make the old list the new one
 abbrev pub TextsLexed : ℕ → List (List ℕ) → List (List ℕ) → List (List Token) → List (List ℕ) → Type 0
