@@ -17,7 +17,7 @@ use Rattle.jn_trees.specs.declared.expression.Identifier.{Identifier}
 use Rattle.jn_trees.specs.Trees.{MemberTree, FieldMember, MethodMember, ConstructorMember, TypeDeclaration, ClassType, InterfaceType}
 use Rattle.jn_trees.specs.WellFormed.{GoodMembers, GoodType, GoodTypes}
 use Rattle.jn_trees.specs.Spelling.{spell_all_marks, spell_type_use, spell_declarator, spell_parent, spell_names, spell_member, spell_type}
-use Rattle.jn_places.specs.Places.{behind, place_name, place_member, place_members, place_type, place_each, place_marks, place_type_use}
+use Rattle.jn_places.specs.Places.{behind, place_name, place_member, place_members, place_type, place_marks, place_type_use}
 use Rattle.jn_classtable.specs.declared.head.FieldHead.{FieldHead}
 use Rattle.jn_classtable.specs.declared.head.MethodHead.{MethodHead}
 use Rattle.jn_classtable.specs.declared.head.ClassHead.{ClassHead}

@@ -1,6 +1,6 @@
 -- All slots of annotated fields are written as they were inferred.
 use Rattle.std.proofs.Common.{◌≡◌, ℕ, suc, ◌+◌, Bool, true, false, List, [], ◌∷◌, ◌++◌, length, Option, Some, refl, sym, ap, ◌∙◌, subst, arith, append_assoc, length-append}
-use Rattle.std.specs.Prelude.{drop, take, map, flat_map}
+use Rattle.std.specs.Prelude.{drop, take, map}
 use Rattle.std.proofs.lemmas.List.{take_at, drop_at}
 use Rattle.jn_base.specs.declared.number.NameNo.{NameNo}
 use Rattle.jn_base.specs.declared.number.SlotNo.{SlotNo}
@@ -17,14 +17,13 @@ use Rattle.jn_trees.specs.Trees.{TypeUseTree, DeclaratorTree, Mark, MemberTree, 
 use Rattle.jn_trees.specs.Spelling.{spell_all_marks, spell_type_use, spell_declarator, spell_member}
 use Rattle.jn_trees.specs.declared.declaration.Modifier.{Modifier}
 use Rattle.jn_places.specs.Placed.{PlacedTypeUse, PlacedDeclarator}
-use Rattle.jn_places.specs.Places.{behind, place_marks, place_type_use, place_declarator, place_next_declarator, spell_next_declarator, place_more_declarators, place_members}
-use Rattle.jn_classtable.specs.declared.notes.Word.TheVariants.{Private as PrivateWord}
+use Rattle.jn_places.specs.Places.{behind, place_marks, place_type_use, place_declarator, place_next_declarator, spell_next_declarator, place_more_declarators}
 use Rattle.jn_classtable.specs.declared.head.TypeHead.{TypeHead}
 use Rattle.jn_classtable.specs.declared.head.FieldHead.{FieldHead}
 use Rattle.jn_classtable.specs.declared.head.ClassHead.{ClassHead}
 use Rattle.jn_classtable.specs.Types.{field_qual, is_position, field_slots, fields_slots}
 use Rattle.jn_classtable.specs.Table.{slot_at, field_of, fields_of}
-use Rattle.jn_classtable.specs.Extract.{has_word, modifier_notes, type_head, field_head, field_heads}
+use Rattle.jn_classtable.specs.Extract.{modifier_notes, type_head, field_head}
 use Rattle.jn_bare_law.specs.Written.{written_slot}
 use Rattle.jn_annotate.specs.Insertions.{inferred_qual}
 use Rattle.jn_annotate_law.specs.Trees.{nullity_names, names_of, leading, noted_use, noted_marks, noted_members}

@@ -1,5 +1,5 @@
 -- Heads in which a member counts as private where it is inferred: as many as without, and annotations change none of it.
-use Rattle.std.proofs.Common.{◌≡◌, ℕ, ◌+◌, Bool, true, false, not, cond, ◌&&◌, ◌||◌, List, [], ◌∷◌, ◌++◌, length, Option, Some, None, refl, sym, ap, ◌∙◌, length-append}
+use Rattle.std.proofs.Common.{◌≡◌, ◌+◌, Bool, false, not, ◌&&◌, ◌||◌, List, [], ◌∷◌, ◌++◌, length, Option, Some, None, refl, sym, ap, ◌∙◌, length-append}
 use Rattle.std.specs.Prelude.{flat_map, map}
 use Rattle.std.proofs.lemmas.List.{append-nil, length-map}
 use Rattle.jn_base.specs.declared.infer.Infer.{Infer}

@@ -22,8 +22,8 @@ use Rattle.jn_places.specs.Places.{behind, spell_next_name, place_next_names, pl
 use Rattle.jn_places.specs.Forget.{forget_file}
 use Rattle.jn_classtable.specs.declared.head.ClassHead.{ClassHead}
 use Rattle.jn_classtable.specs.Types.{slots_of_all}
-use Rattle.jn_classtable.specs.Table.{fields_from, methods_from, bodies_of_all, table}
-use Rattle.jn_classtable.specs.Extract.{class_head, heads}
+use Rattle.jn_classtable.specs.Table.{fields_from, methods_from, bodies_of_all}
+use Rattle.jn_classtable.specs.Extract.{heads}
 use Rattle.jn_lowering.specs.FileRows.{types_rows, is_under, import_row, import_rows, same_names, same_package, package_row, package_behind, files_rows, outside_rows}
 use Rattle.jn_annotate.specs.Insertions.{file_fields, file_methods}
 use Rattle.jn_annotate_law.specs.Trees.{noted_types, noted_file, noted_files}

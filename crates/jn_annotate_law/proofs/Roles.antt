@@ -14,9 +14,8 @@ use Rattle.jn_classtable.specs.declared.head.FieldHead.{FieldHead}
 use Rattle.jn_classtable.specs.declared.head.ParamHead.{ParamHead}
 use Rattle.jn_classtable.specs.declared.head.MethodHead.{MethodHead}
 use Rattle.jn_classtable.specs.declared.head.ClassHead.{ClassHead}
-use Rattle.jn_classtable.specs.Heads.{all_heads}
 use Rattle.jn_classtable.specs.Types.{is_written, slot_of, written_qual, receiver_qual, is_position, has_receiver, field_slots, value_slots, params_slots, result_slots, receiver_slots, method_slots, fields_slots, methods_slots, class_slots, slots_of_all}
-use Rattle.jn_classtable.specs.Table.{slot_at, count, bodies_of, fields_of, fields_from, param_slots, result_slot, method_of, methods_of, methods_from, table}
+use Rattle.jn_classtable.specs.Table.{slot_at, count, bodies_of, fields_of, fields_from, param_slots, result_slot, method_of, methods_of, methods_from}
 
 -- what holds of each item
 abbrev pub Each : {A : Type 0} → (A → Type 0) → List A → Type 0

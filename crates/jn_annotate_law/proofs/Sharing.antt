@@ -1,6 +1,6 @@
 -- The fields of one declaration are inferred together, since they have one list of modifiers and one type.
 use Rattle.std.proofs.Common.{◌≡◌, ℕ, suc, ◌+◌, Bool, true, false, cond, List, [], ◌∷◌, ◌++◌, length, Option, Some, None, refl, sym, ap, ◌∙◌, subst, arith, append_assoc}
-use Rattle.std.specs.Prelude.{drop, take, map, flat_map, slice_get}
+use Rattle.std.specs.Prelude.{drop, take, map, slice_get}
 use Rattle.std.proofs.lemmas.List.{append-nil, take_at, drop_at}
 use Rattle.jn_base.specs.declared.number.SlotNo.{SlotNo}
 use Rattle.jn_base.specs.declared.infer.Infer.{Infer}
@@ -16,15 +16,14 @@ use Rattle.jn_trees.specs.declared.declaration.Modifier.{Modifier}
 use Rattle.jn_trees.specs.Trees.{DeclaratorTree, MemberTree, FieldMember, MethodMember, ConstructorMember, TypeDeclaration, ClassType, InterfaceType, SourceTree}
 use Rattle.jn_trees.specs.Spelling.{spell_all_marks, spell_parent, spell_names, spell_type_use, spell_declarator, spell_member, spell_type, spell_package_line, spell_imports}
 use Rattle.jn_places.specs.Placed.{PlacedTypeUse, PlacedDeclarator, PlacedFile}
-use Rattle.jn_places.specs.Places.{behind, place_marks, place_type_use, place_declarator, place_next_declarator, spell_next_declarator, place_more_declarators, place_members, place_type}
+use Rattle.jn_places.specs.Places.{behind, place_marks, place_type_use, place_declarator, place_next_declarator, spell_next_declarator, place_more_declarators, place_type}
 use Rattle.jn_places.specs.Forget.{forget_file}
-use Rattle.jn_classtable.specs.declared.notes.Word.TheVariants.{Private as PrivateWord}
 use Rattle.jn_classtable.specs.declared.head.TypeHead.{TypeHead}
 use Rattle.jn_classtable.specs.declared.head.FieldHead.{FieldHead}
 use Rattle.jn_classtable.specs.declared.head.ClassHead.{ClassHead}
 use Rattle.jn_classtable.specs.Types.{slot_of, field_qual, is_position, field_slots, fields_slots, methods_slots, class_slots, slots_of_all}
-use Rattle.jn_classtable.specs.Table.{slot_at, field_of, fields_of, fields_from, table}
-use Rattle.jn_classtable.specs.Extract.{has_word, modifier_notes, type_head, field_head, field_heads, class_head, heads}
+use Rattle.jn_classtable.specs.Table.{slot_at, field_of, fields_of, fields_from}
+use Rattle.jn_classtable.specs.Extract.{modifier_notes, type_head, heads}
 use Rattle.jn_annotate.specs.Insertions.{fields_in, type_fields, file_fields, first_slot}
 use Rattle.jn_annotate.specs.Annotated.{members_of}
 use Rattle.jn_annotate_law.specs.Meaning.{AllPlaced}

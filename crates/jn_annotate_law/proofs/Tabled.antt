@@ -1,15 +1,13 @@
 -- The fields and methods of a class table in which members count as private that are inferred: they differ from those of the table in that alone, which no words depend on.
-use Rattle.std.proofs.Common.{◌≡◌, ℕ, zero, suc, ◌+◌, Bool, true, false, not, cond, ◌&&◌, ◌||◌, List, [], ◌∷◌, ◌++◌, length, Option, Some, None, refl, sym, ap, ◌∙◌, subst, length-append}
+use Rattle.std.proofs.Common.{◌≡◌, ℕ, zero, suc, ◌+◌, Bool, true, false, cond, ◌||◌, List, [], ◌∷◌, ◌++◌, length, Option, Some, None, refl, sym, ap, ◌∙◌, subst, length-append}
 use Rattle.std.specs.Prelude.{drop, flat_map, map, take}
 use Rattle.std.proofs.lemmas.List.{drop-map, map-append}
 use Rattle.jn_trees.specs.declared.expression.Identifier.{Identifier}
 use Rattle.jn_base.specs.declared.infer.Infer.{Infer}
 use Rattle.jn_base.specs.declared.number.NameNo.{NameNo}
 use Rattle.jn_base.specs.declared.number.SlotNo.{SlotNo}
-use Rattle.jn_base.specs.declared.number.ClassNo.{ClassNo}
 use Rattle.jn_quals.specs.Qualifier.{Qualifier}
 use Rattle.jn_points.specs.Members.{some_of}
-use Rattle.jn_points.specs.declared.point.BaseType.{BaseType}
 use Rattle.jn_points.specs.declared.program.Field.{Field}
 use Rattle.jn_points.specs.declared.program.Method.{Method}
 use Rattle.jn_points.specs.declared.program.SlotInfo.{SlotInfo}
@@ -27,7 +25,7 @@ use Rattle.jn_classtable.specs.Extract.{class_head, field_heads, has_constructor
 use Rattle.jn_classtable.specs.Inferred.{class_marks, field_marks, infers, mark_field, mark_method, marks, method_marks, modifiers_of, slots_by}
 use Rattle.jn_classtable.specs.Types.{class_slots, field_slots, fields_slots, has_receiver, is_position, method_slots, methods_slots, params_slots, receiver_slots, result_slots, value_slots}
 use Rattle.jn_classtable.specs.Table.{bodies_of, count, field_of, fields_from, fields_of, method_of, methods_from, methods_of, param_slots, result_slot, slot_at, table}
-use Rattle.jn_annotate.specs.Insertions.{fields_in, file_fields, file_methods, first_slot, inferred_qual, methods_in, type_fields, type_methods}
+use Rattle.jn_annotate.specs.Insertions.{fields_in, file_fields, file_methods, first_slot, methods_in, type_fields, type_methods}
 use Rattle.jn_annotate.specs.Annotated.{differs, members_of, shared_from, shared_in, shared_in_members, shared_in_types}
 use Rattle.jn_annotate_law.specs.Trees.{noted_file, noted_files, noted_member, noted_members, noted_type, noted_types}
 use Rattle.jn_annotate_law.specs.Says.{FieldsSay, FilesSay, MemberSays, MembersSay, TypeSays, TypesSay}

@@ -1,6 +1,6 @@
 -- Annotated types have no row outside bodies where they had none.
 use Rattle.std.proofs.Common.{◌≡◌, ℕ, suc, ◌+◌, Bool, true, false, List, [], ◌∷◌, ◌++◌, length, Option, refl, sym, ap, ◌∙◌, subst, arith, append_assoc}
-use Rattle.std.specs.Prelude.{drop, map, flat_map}
+use Rattle.std.specs.Prelude.{drop, map}
 use Rattle.std.proofs.lemmas.Bool.{false≢true}
 use Rattle.std.proofs.lemmas.List.{drop_at}
 use Rattle.jn_base.specs.declared.place.Row.{Row}
@@ -21,7 +21,6 @@ use Rattle.jn_trees.specs.WellFormed.{GoodMembers, GoodType, GoodTypes}
 use Rattle.jn_trees.specs.Spelling.{spell_all_marks, spell_type_use, spell_declarator, spell_result, spell_member, spell_parent, spell_names, spell_type}
 use Rattle.jn_places.specs.Placed.{PlacedTypeUse}
 use Rattle.jn_places.specs.Places.{behind, place_name, place_type_use, place_marks, place_declarator, place_more_declarators, place_parameters, place_receiver, spell_receiver, place_result, place_member, place_members, place_type, place_each}
-use Rattle.jn_classtable.specs.declared.notes.Word.TheVariants.{Private as PrivateWord}
 use Rattle.jn_classtable.specs.declared.head.TypeHead.{TypeHead}
 use Rattle.jn_classtable.specs.declared.head.FieldHead.{FieldHead}
 use Rattle.jn_classtable.specs.declared.head.MethodHead.{MethodHead}
@@ -29,7 +28,7 @@ use Rattle.jn_classtable.specs.declared.head.ClassHead.{ClassHead}
 use Rattle.jn_classtable.specs.Heads.{unplaced, unwritten_constructor}
 use Rattle.jn_classtable.specs.Types.{is_position, receiver_qual, has_receiver, field_slots, fields_slots, receiver_slots, params_slots, result_slots, method_slots, methods_slots, class_slots, slots_of_all}
 use Rattle.jn_classtable.specs.Table.{slot_at, count, bodies_of, fields_of, fields_from, param_slots, method_of, methods_of, methods_from}
-use Rattle.jn_classtable.specs.Extract.{has_word, modifier_notes, type_head, param_head, result_head, receiver_notes, field_head, field_heads, method_heads, with_constructor, class_head}
+use Rattle.jn_classtable.specs.Extract.{modifier_notes, type_head, param_head, result_head, receiver_notes, with_constructor}
 use Rattle.jn_lowering.specs.Annotations.{both_kinds, annotation_rows, name_row}
 use Rattle.jn_lowering.specs.FileRows.{notes_of, without_override, parameter_rows, result_rows, receiver_rows, head_rows, heads_rows, declared_type_rows, types_rows}
 use Rattle.jn_annotate.specs.Insertions.{type_fields, type_methods, inferred_qual}

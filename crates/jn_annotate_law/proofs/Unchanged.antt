@@ -1,5 +1,5 @@
 -- Where no slot is inferred, no text gets a word.
-use Rattle.std.proofs.Common.{◌≡◌, ℕ, zero, suc, ◌+◌, Bool, true, false, not, cond, ◌&&◌, ◌||◌, List, [], ◌∷◌, ◌++◌, length, Option, Some, None, refl, sym, ap, ◌∙◌}
+use Rattle.std.proofs.Common.{◌≡◌, ℕ, ◌+◌, Bool, true, false, not, cond, ◌&&◌, ◌||◌, List, [], ◌∷◌, ◌++◌, length, Option, Some, None, refl, sym, ap, ◌∙◌}
 use Rattle.std.specs.Prelude.{drop, map, slice_get, slice_index_or, take}
 use Rattle.jn_base.specs.declared.number.SlotNo.{SlotNo}
 use Rattle.jn_quals.specs.Qualifier.{Qualifier}
@@ -18,11 +18,11 @@ use Rattle.jn_trees.specs.Spelling.{spell_all_marks, spell_imports, spell_marks,
 use Rattle.jn_places.specs.Placed.{PlacedFile}
 use Rattle.jn_places.specs.Places.{behind, front, spell_parameter_through, spell_receiver}
 use Rattle.jn_places.specs.Forget.{forget_file}
-use Rattle.jn_splice_law.specs.Inserted.{Insertion, inserted}
+use Rattle.jn_splice_law.specs.Inserted.{inserted}
 use Rattle.jn_splice_law.specs.Woven.{piece}
 use Rattle.jn_annotate.specs.Words.{both_texts, is_unspelled, nullity_text}
 use Rattle.jn_annotate.specs.Insertions.{at_head, at_member, at_members, at_parameters, at_receiver, at_result, at_type, fields_in, file_fields, file_methods, first_slot, in_file, in_type, in_types, inferred_qual, methods_in, qual_where, type_fields, type_methods}
-use Rattle.jn_annotate.specs.Annotated.{Annotated, HasNone, annotated, annotated_from, differs, has_no_spelling, has_shared_type, is_too_large, members_of, same_qual, shared_from, shared_in, shared_in_members, shared_in_types, slot_inferred}
+use Rattle.jn_annotate.specs.Annotated.{Annotated, HasNone, annotated, annotated_from, differs, has_no_spelling, is_too_large, members_of, same_qual, shared_from, shared_in, shared_in_members, shared_in_types, slot_inferred}
 use Rattle.jn_annotate_law.specs.Meaning.{AllPlaced, TextsLexed}
 use Rattle.jn_annotate_law.specs.Again.{NoneInferred}
 

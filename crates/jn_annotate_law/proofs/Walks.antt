@@ -1,6 +1,6 @@
 -- All slots of annotated members are written as they were inferred.
 use Rattle.std.proofs.Common.{◌≡◌, ℕ, ◌+◌, Bool, true, false, not, cond, ◌||◌, List, [], ◌∷◌, ◌++◌, length, Option, Some, None, refl, sym, ap, ◌∙◌, subst}
-use Rattle.std.specs.Prelude.{drop, map, flat_map}
+use Rattle.std.specs.Prelude.{drop, map}
 use Rattle.std.proofs.lemmas.Bool.{false≢true}
 use Rattle.std.proofs.lemmas.List.{append-nil}
 use Rattle.jn_base.specs.declared.number.NameNo.{NameNo}
@@ -18,7 +18,7 @@ use Rattle.jn_trees.specs.declared.token.TokenKind.TheVariants.{Id, LeftParen}
 use Rattle.jn_trees.specs.Trees.{TypeUseTree, Mark, ReceiverTree, MemberTree, FieldMember, MethodMember, ConstructorMember}
 use Rattle.jn_trees.specs.WellFormed.{GoodMembers}
 use Rattle.jn_trees.specs.Spelling.{spell_all_marks, spell_result, spell_member}
-use Rattle.jn_places.specs.Places.{behind, place_marks, place_type_use, place_annotations, place_parameters, place_receiver, spell_receiver, place_result, place_member, place_members}
+use Rattle.jn_places.specs.Places.{behind, place_marks, place_type_use, place_annotations, place_parameters, place_receiver, spell_receiver, place_result, place_member}
 use Rattle.jn_classtable.specs.declared.head.Notes.{Notes}
 use Rattle.jn_classtable.specs.declared.notes.Word.TheVariants.{Static as StaticWord}
 use Rattle.jn_classtable.specs.declared.head.TypeHead.{TypeHead}
@@ -27,7 +27,7 @@ use Rattle.jn_classtable.specs.declared.head.ClassHead.{ClassHead}
 use Rattle.jn_classtable.specs.Heads.{unplaced, unwritten_constructor}
 use Rattle.jn_classtable.specs.Types.{receiver_qual, slot_of, is_position, receiver_slots, has_receiver, result_slots, params_slots, method_slots, methods_slots}
 use Rattle.jn_classtable.specs.Table.{slot_at, param_slots, result_slot, method_of, methods_of, count}
-use Rattle.jn_classtable.specs.Extract.{has_word, notes_of, modifier_notes, type_head, param_head, result_head, receiver_notes, method_heads}
+use Rattle.jn_classtable.specs.Extract.{has_word, notes_of, modifier_notes, type_head, param_head, result_head, receiver_notes}
 use Rattle.jn_bare_law.specs.Written.{written_slot}
 use Rattle.jn_annotate.specs.Words.{is_unspelled, initialization_name}
 use Rattle.jn_annotate.specs.Insertions.{fields_in, inferred_qual}

@@ -20,7 +20,7 @@ use Rattle.jn_places.specs.Places.{behind, place_file, place_type, place_each}
 use Rattle.jn_places.specs.Forget.{forget_file}
 use Rattle.jn_classtable.specs.declared.head.ClassHead.{ClassHead}
 use Rattle.jn_classtable.specs.Types.{fields_slots, class_slots, slots_of_all}
-use Rattle.jn_classtable.specs.Table.{fields_of, fields_from, methods_of, methods_from, bodies_of, bodies_of_all, table}
+use Rattle.jn_classtable.specs.Table.{fields_of, fields_from, methods_of, methods_from, bodies_of, bodies_of_all}
 use Rattle.jn_classtable.specs.Extract.{class_head, heads}
 use Rattle.jn_bare_law.specs.Written.{written_slot}
 use Rattle.jn_annotate.specs.Insertions.{type_fields, type_methods, file_fields, file_methods}

@@ -1,9 +1,8 @@
 -- Programs that differ in places have rows J7 to J10 of the same codes, at the same points of the same bodies.
-use Rattle.std.proofs.Common.{◌≡◌, ◌⊎◌, inl, inr, ℕ, zero, suc, ◌<◌, ◌≤◌, Bool, true, false, cond, not, ◌&&◌, List, [], ◌∷◌, ◌++◌, length, Option, Some, None, refl, sym, ap, ◌∙◌, subst, arith}
+use Rattle.std.proofs.Common.{◌≡◌, inl, inr, ℕ, zero, suc, ◌<◌, ◌≤◌, Bool, true, false, cond, not, ◌&&◌, List, [], ◌∷◌, ◌++◌, length, Option, Some, None, refl, sym, ap, ◌∙◌, subst, arith}
 use Rattle.std.specs.Prelude.{option_map, slice_get, slice_index_or}
 use Rattle.std.specs.List.{Contains}
 use Rattle.std.proofs.Math.Path.{fun_ext}
-use Rattle.std.proofs.lemmas.Option.{slice_get-map}
 use Rattle.jn_base.specs.declared.code.Code.{Code}
 use Rattle.jn_base.specs.declared.code.Code.TheVariants.{J7, J8, J9, J10}
 use Rattle.jn_base.specs.declared.place.Row.{Row}
@@ -18,15 +17,15 @@ use Rattle.jn_points.specs.declared.point.PointKind.TheVariants.{Const, Move, Un
 use Rattle.jn_points.specs.declared.program.Method.{Method}
 use Rattle.jn_points.specs.declared.program.Program.{Program}
 use Rattle.jn_points.specs.Edges.{edges_of}
-use Rattle.jn_points.specs.Lookup.{class_of, elem_base, field_base, method_at, method_in, owner, params_of, point_at, points_of, body_at, reg_base, result_base_of, static_of}
-use Rattle.jn_points.specs.Members.{fits, sub, type_within}
+use Rattle.jn_points.specs.Lookup.{class_of, elem_base, field_base, method_at, method_in, owner, params_of, point_at, points_of, body_at, reg_base, result_base_of}
+use Rattle.jn_points.specs.Members.{type_within}
 use Rattle.jn_points.specs.Operands.{operand_if, operands}
-use Rattle.jn_points.specs.Paths.{Avoids, Lacks, NotWritten, Path, Reached, Step}
+use Rattle.jn_points.specs.Paths.{Avoids, Path}
 use Rattle.jn_points.specs.Shaped.{LeadsTo, writes}
-use Rattle.jn_points.specs.BaseRows.{Want, Within, Primitive, Same as SameAs, Reference, Elements, Joinable, Printable, Valued, IsBaseRow, IsUnassigned, NoBaseRows, ResultRow, TypeRow, UnassignedRow, all_rows, argument_rows, binary_rows, given, given_count, is_void, name_of, operand_rows, optional_rows, other_nullity, result_rows, returned, rows_with, string_base, suits, suits_otherwise, type_rows}
+use Rattle.jn_points.specs.BaseRows.{Want, Within, Primitive, Same as SameAs, Reference, Elements, Joinable, Printable, Valued, IsBaseRow, NoBaseRows, all_rows, argument_rows, binary_rows, given, given_count, is_void, name_of, operand_rows, optional_rows, other_nullity, result_rows, returned, rows_with, string_base, suits, type_rows}
 use Rattle.jn_bare_law.specs.Bare.{Alike, bare, bare_kind, bare_method, bare_operand, bare_operands, bare_optional, bare_point, bare_points, codes_of}
 use Rattle.jn_bare_law.proofs.Forms.{field_base_is}
-use Rattle.jn_bare_law.proofs.Lookups.{class_bare, method_at_is, method_in_is, owner_is, points_is, reg_base_is, static_bare, sub_is}
+use Rattle.jn_bare_law.proofs.Lookups.{class_bare, method_at_is, method_in_is, owner_is, points_is, reg_base_is, sub_is}
 use Rattle.jn_bare_law.proofs.Bodies.{params_bare}
 use Rattle.jn_bare_law.proofs.Meanings.{result_bare}
 use Rattle.jn_bare_law.proofs.RowForms.{Same, both}
@@ -393,21 +392,24 @@ module _ (P : Program) where
       (y.0, inl (record { b = h.b; p = h.p; pt = bare_point h.pt; there = there_bare h.b h.p h.pt h.there; broken = y.1 }), y.2)
   base_bare row (inr (inl h)) =
       let a : Operand = bare_operand h.operand in
-      let read = kept_operand (operands h.pt.kind) h.operand h.read.0 h.read.1 h.read.2 in
-      (record { span = a.span; code = J8 }, inr (inl (record {
-        b = h.b;
-        p = h.p;
-        pt = bare_point h.pt;
-        operand = a;
-        there = there_bare h.b h.p h.pt h.there;
-        read = subst (λ xs. Contains xs a) (sym (operands_bare h.pt.kind)) read;
-        unassigned = record {
-          valued = ap is_void (reg_base_is P h.b h.operand.reg.0) ∙ h.unassigned.valued;
-          local = subst (λ n. n ≤ h.operand.reg.0) (sym (given_is h.b)) h.unassigned.local;
-          lacks = record { past = h.unassigned.lacks.past; path = path_bare h.b h.unassigned.lacks.past h.p h.unassigned.lacks.path; avoids = avoids_bare h.b h.operand.reg.0 h.unassigned.lacks.past h.unassigned.lacks.avoids };
-        };
-        is = refl;
-      })), sym (ap (λ (r : Row). r.code) h.is))
+      let read = kept_operand (operands h.pt.kind) h.operand h.read.0 h.read.1 h.read.2 in (
+        record { span = a.span; code = J8 },
+        inr (inl (record {
+          b = h.b;
+          p = h.p;
+          pt = bare_point h.pt;
+          operand = a;
+          there = there_bare h.b h.p h.pt h.there;
+          read = subst (λ xs. Contains xs a) (sym (operands_bare h.pt.kind)) read;
+          unassigned = record {
+            valued = ap is_void (reg_base_is P h.b h.operand.reg.0) ∙ h.unassigned.valued;
+            local = subst (λ n. n ≤ h.operand.reg.0) (sym (given_is h.b)) h.unassigned.local;
+            lacks = record { past = h.unassigned.lacks.past; path = path_bare h.b h.unassigned.lacks.past h.p h.unassigned.lacks.path; avoids = avoids_bare h.b h.operand.reg.0 h.unassigned.lacks.past h.unassigned.lacks.avoids };
+          };
+          is = refl;
+        })),
+        sym (ap (λ (r : Row). r.code) h.is),
+      )
   base_bare row (inr (inr h)) =
       let y = has_partner (result_rows P h.b h.pt.kind) (result_rows (bare P) h.b (bare_kind h.pt.kind)) row (results_same h.b h.pt.kind) h.broken in
       (y.0, inr (inr (record { b = h.b; p = h.p; pt = bare_point h.pt; there = there_bare h.b h.p h.pt h.there; reached = record { past = h.reached.past; path = path_bare h.b h.reached.past h.p h.reached.path }; broken = y.1 })), y.2)
@@ -425,21 +427,24 @@ module _ (P : Program) where
       let f = there_full h.b h.p h.pt h.there in
       let read = subst (λ xs. Contains xs h.operand) (operands_bare f.0.kind) (subst (λ (x : Point). Contains (operands x.kind) h.operand) (sym f.2) h.read) in
       let a = found_operand (operands f.0.kind) h.operand read.0 read.1 read.2 in
-      let same : a.0.reg.0 ≡ h.operand.reg.0 = ap (λ (x : Operand). x.reg.0) a.2 in
-      (record { span = a.0.span; code = J8 }, inr (inl (record {
-        b = h.b;
-        p = h.p;
-        pt = f.0;
-        operand = a.0;
-        there = f.1;
-        read = a.1;
-        unassigned = record {
-          valued = ap (λ r. is_void (reg_base P h.b r)) same ∙ ap is_void (sym (reg_base_is P h.b h.operand.reg.0)) ∙ h.unassigned.valued;
-          local = subst (λ n. given P h.b ≤ n) (sym same) (subst (λ n. n ≤ h.operand.reg.0) (given_is h.b) h.unassigned.local);
-          lacks = record { past = h.unassigned.lacks.past; path = path_full h.b h.unassigned.lacks.past h.p h.unassigned.lacks.path; avoids = subst (λ r. Avoids P h.b r h.unassigned.lacks.past) (sym same) (avoids_full h.b h.operand.reg.0 h.unassigned.lacks.past h.unassigned.lacks.avoids) };
-        };
-        is = refl;
-      })), sym (ap (λ (r : Row). r.code) h.is))
+      let same : a.0.reg.0 ≡ h.operand.reg.0 = ap (λ (x : Operand). x.reg.0) a.2 in (
+        record { span = a.0.span; code = J8 },
+        inr (inl (record {
+          b = h.b;
+          p = h.p;
+          pt = f.0;
+          operand = a.0;
+          there = f.1;
+          read = a.1;
+          unassigned = record {
+            valued = ap (λ r. is_void (reg_base P h.b r)) same ∙ ap is_void (sym (reg_base_is P h.b h.operand.reg.0)) ∙ h.unassigned.valued;
+            local = subst (λ n. given P h.b ≤ n) (sym same) (subst (λ n. n ≤ h.operand.reg.0) (given_is h.b) h.unassigned.local);
+            lacks = record { past = h.unassigned.lacks.past; path = path_full h.b h.unassigned.lacks.past h.p h.unassigned.lacks.path; avoids = subst (λ r. Avoids P h.b r h.unassigned.lacks.past) (sym same) (avoids_full h.b h.operand.reg.0 h.unassigned.lacks.past h.unassigned.lacks.avoids) };
+          };
+          is = refl;
+        })),
+        sym (ap (λ (r : Row). r.code) h.is),
+      )
   base_full row (inr (inr h)) =
       let f = there_full h.b h.p h.pt h.there in
       let broken = subst (λ (x : Point). Contains (result_rows (bare P) h.b x.kind) row) (sym f.2) h.broken in

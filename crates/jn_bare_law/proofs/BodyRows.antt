@@ -1,7 +1,6 @@
 -- Bodies whose sources differ in places have the same codes of rows J1 to J6.
-use Rattle.std.proofs.Common.{◌≡◌, ℕ, suc, ◌+◌, Bool, true, false, not, cond, ◌&&◌, ◌||◌, List, [], ◌∷◌, ◌++◌, length, Option, Some, None, refl, sym, ap, ◌∙◌, arith}
+use Rattle.std.proofs.Common.{◌≡◌, ℕ, suc, ◌+◌, Bool, true, false, not, cond, ◌&&◌, ◌||◌, List, [], ◌∷◌, ◌++◌, length, Option, Some, None, refl, sym, ap, ◌∙◌}
 use Rattle.std.specs.Prelude.{drop, eqb, filter, flat_map, ltb}
-use Rattle.std.proofs.Math.Path.{fun_ext}
 use Rattle.std.proofs.lemmas.List.{length-map}
 use Rattle.jn_base.specs.declared.code.Code.{Code}
 use Rattle.jn_base.specs.declared.code.Code.TheVariants.{J6}
@@ -16,9 +15,9 @@ use Rattle.jn_points.specs.Members.{below, constructor_of, declared_field}
 use Rattle.jn_env.specs.Keys.{Key, distinct, is_own, kind_keys}
 use Rattle.jn_trees.specs.declared.token.Token.{Token}
 use Rattle.jn_trees.specs.declared.token.TokenKind.TheVariants.{LeftParen, Super, This}
-use Rattle.jn_trees.specs.Trees.{Tree, Trees, NoTrees, DeclaratorTree, Statement, Statements, BlockStatement, EmptyStatement, ExpressionStatement, BreakStatement, ContinueStatement, ReturnStatement, LocalStatement, IfStatement, IfElseStatement, WhileStatement, DoStatement, ForStatement, ForEachStatement, ThisCallStatement, SuperCallStatement, NoStatements, MoreStatements}
+use Rattle.jn_trees.specs.Trees.{Tree, Trees, NoTrees, DeclaratorTree, Statements, BlockStatement, EmptyStatement, ExpressionStatement, BreakStatement, ContinueStatement, ReturnStatement, LocalStatement, IfStatement, IfElseStatement, WhileStatement, DoStatement, ForStatement, ForEachStatement, ThisCallStatement, SuperCallStatement, NoStatements, MoreStatements}
 use Rattle.jn_trees.specs.Spelling.{spell_statement}
-use Rattle.jn_places.specs.Placed.{NoPlacedTrees, PlacedDeclarator, PlacedMember, PlacedParameter, PlacedStatements, PlacedTree, PlacedTrees}
+use Rattle.jn_places.specs.Placed.{NoPlacedTrees, PlacedDeclarator, PlacedMember, PlacedParameter, PlacedStatements, PlacedTree}
 use Rattle.jn_places.specs.Places.{behind, over, place, place_body, place_declarator, place_list, place_more_declarators, place_next_declarator, place_optional, spell_next_declarator}
 use Rattle.jn_lowering.specs.Scopes.{count}
 use Rattle.jn_lowering.specs.Calls.{is_static, this_operand}
@@ -239,9 +238,9 @@ module _ (P Q : Program) (h : Alike P Q) (m : ℕ) where
           let y : State = (own_initializers Q m first b q others).behind in
           let behind_call : bare_state a ≡ bare_state b = ap (λ (z : Step). z.behind) (construction_alike P Q h m first st r ts us xs l.0) in
           let like : Like x y = (
-              ap (λ (z : Step). z.behind) (either P Q h m first (calls_own p) (calls_own q) (no_step a) (initializers P m first a members) (no_step b) (initializers Q m first b others) (own_same ts us xs) (ap no_step behind_call) (g a b behind_call)),
-              ap coded_scope (own_scope P m first (calls_own p) a members ∙ construction_scope P m first st ts xs) ∙ l.1 ∙ sym (ap coded_scope (own_scope Q m first (calls_own q) b others ∙ construction_scope Q m first r us xs)),
-            ) in
+            ap (λ (z : Step). z.behind) (either P Q h m first (calls_own p) (calls_own q) (no_step a) (initializers P m first a members) (no_step b) (initializers Q m first b others) (own_same ts us xs) (ap no_step behind_call) (g a b behind_call)),
+            ap coded_scope (own_scope P m first (calls_own p) a members ∙ construction_scope P m first st ts xs) ∙ l.1 ∙ sym (ap coded_scope (own_scope Q m first (calls_own q) b others ∙ construction_scope Q m first r us xs)),
+          ) in
           both (construction_rows P m st p ++ when (not (calls_own p)) (member_rows P m members)) (all_rows P (class P m) first (in_body P m) x p) (construction_rows Q m r q ++ when (not (calls_own q)) (member_rows Q m others)) (all_rows Q (class Q m) first (in_body Q m) y q)
           (both (construction_rows P m st p) (when (not (calls_own p)) (member_rows P m members)) (construction_rows Q m r q) (when (not (calls_own q)) (member_rows Q m others)) (construction_same st r ts us xs l) (when_same (not (calls_own p)) (not (calls_own q)) (member_rows P m members) (member_rows Q m others) (ap not (own_same ts us xs)) rows))
           (rest_same first x y ts us xs like)
@@ -253,10 +252,12 @@ module _ (P Q : Program) (h : Alike P Q) (m : ℕ) where
       Same (member_rows P m members) (member_rows Q m others) →
       Same (rows_of_source P (record { method = m; parameters = ps; body = place_body ts xs; members = members })) (rows_of_source Q (record { method = m; parameters = qs; body = place_body us xs; members = others }))
   source_rows_same ps qs ts us xs members others g f rows =
-      whole_same (local_count P m (place_body ts xs)) (at_entry P m ps) (at_entry Q m qs) ts us xs members others
-      (entry_alike P Q h m ps qs g, ap coded_scope (
-      g (first_parameter P m) (params_of (method_at P m))
-      ∙ ap (parameters_from (first_parameter P m) qs) (params_same P Q h m)
-      ∙ ap (λ b. parameters_from (cond b 0 1) qs (params_of (method_at Q m))) (static_same P Q h m)))
+      whole_same (local_count P m (place_body ts xs)) (at_entry P m ps) (at_entry Q m qs) ts us xs members others (
+        entry_alike P Q h m ps qs g,
+        ap coded_scope (
+            g (first_parameter P m) (params_of (method_at P m))
+            ∙ ap (parameters_from (first_parameter P m) qs) (params_same P Q h m)
+            ∙ ap (λ b. parameters_from (cond b 0 1) qs (params_of (method_at Q m))) (static_same P Q h m)),
+      )
       (f (local_count P m (place_body ts xs))) rows
       ∙ ap (λ n. codes_of (whole_rows Q m n (at_entry Q m qs) (place_body us xs) others)) (count_alike P Q h m ts us xs)

@@ -1,7 +1,7 @@
 -- Expressions that differ in places have the same codes of rows J1 to J5.
-use Rattle.std.proofs.Common.{◌≡◌, ℕ, Bool, true, false, not, cond, ◌&&◌, ◌||◌, List, [], ◌∷◌, ◌++◌, refl, sym, ap, ◌∙◌}
+use Rattle.std.proofs.Common.{◌≡◌, ℕ, Bool, not, cond, ◌&&◌, ◌||◌, List, [], ◌∷◌, ◌++◌, refl, sym, ap, ◌∙◌}
 use Rattle.std.specs.Prelude.{drop}
-use Rattle.jn_base.specs.declared.code.Code.TheVariants.{J1, J4, J5}
+use Rattle.jn_base.specs.declared.code.Code.TheVariants.{J1, J5}
 use Rattle.jn_base.specs.declared.place.Row.{Row}
 use Rattle.jn_base.specs.declared.place.Span.{Span}
 use Rattle.jn_points.specs.declared.point.BaseType.{BaseType}
@@ -10,12 +10,12 @@ use Rattle.jn_known.specs.Known.{is_object_member}
 use Rattle.jn_points.specs.Members.{method_of}
 use Rattle.jn_trees.specs.declared.token.Token.{Token}
 use Rattle.jn_trees.specs.declared.token.TokenKind.TheVariants.{Id, New, LeftParen, RightParen, LeftBrace, LeftBracket, RightBracket, Dot, Comma, Question, Colon, Super, Instanceof}
-use Rattle.jn_trees.specs.Trees.{BaseTree, Tree, Trees, LiteralTree, NameTree, ThisTree, ParenTree, FieldTree, CallTree, OwnCallTree, SuperCallTree, IndexTree, NewTree, NewArrayTree, ArrayOfTree, PostfixTree, PrefixTree, UnaryTree, CastTree, BinaryTree, InstanceOfTree, ConditionalTree, AssignTree, NoTrees, MoreTrees}
+use Rattle.jn_trees.specs.Trees.{Tree, Trees, LiteralTree, NameTree, ThisTree, ParenTree, FieldTree, CallTree, OwnCallTree, SuperCallTree, IndexTree, NewTree, NewArrayTree, ArrayOfTree, PostfixTree, PrefixTree, UnaryTree, CastTree, BinaryTree, InstanceOfTree, ConditionalTree, AssignTree, NoTrees, MoreTrees}
 use Rattle.jn_trees.specs.Spelling.{spell, spell_annotations, base_token, operator_token, assign_token}
 use Rattle.jn_trees.specs.declared.expression.BinaryOperator.{BinaryOperator}
 use Rattle.jn_places.specs.Places.{behind, front, place, place_list, place_base, place_annotations}
 use Rattle.jn_places.specs.Placed.{PlacedTree, PlacedTrees}
-use Rattle.jn_lowering.specs.Scopes.{Access, Callee, Meaning, Scope, access, before_dot, callee, class_named, count, meaning, super_method}
+use Rattle.jn_lowering.specs.Scopes.{Scope, access, before_dot, callee, class_named, count, super_method}
 use Rattle.jn_lowering.specs.Bases.{is_equality, type_of}
 use Rattle.jn_lowering.specs.Expressions.{is_null, span_of}
 use Rattle.jn_lowering.specs.Annotations.{known_class, row, unless, when}

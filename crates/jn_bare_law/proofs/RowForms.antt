@@ -22,7 +22,7 @@ use Rattle.jn_lowering.specs.Scopes.{Local, Scope, local_in, Meaning, LocalMeant
 use Rattle.jn_lowering.specs.Bases.{is_class_use}
 use Rattle.jn_lowering.specs.Calls.{is_static}
 use Rattle.jn_lowering.specs.Annotations.{Allowed, annotation_rows, base_rows, doubled, is_allowed, is_initialization, is_of_nullity, known_class, not_allowed, nullity_alone, row, some_named, unless, when}
-use Rattle.jn_lowering.specs.ExpressionRows.{Setting, abstract_class, abstract_method, access_rows, array_rows, assigned_access_rows, assigned_name_rows, call_rows, class_field_rows, class_method_rows, ctor_rows, dotted_call_rows, field_private, final_field, final_rows, index_rows, is_text, method_private, name_rows, new_rows, object_field_rows, object_method_rows, own_field_rows, own_method_rows, private_field, private_row, reference_method_rows, string_method_rows, super_method_rows, value_field_rows, value_method_rows}
+use Rattle.jn_lowering.specs.ExpressionRows.{Setting, abstract_class, abstract_method, access_rows, array_rows, assigned_access_rows, assigned_name_rows, call_rows, class_field_rows, class_method_rows, ctor_rows, dotted_call_rows, field_private, final_field, final_rows, index_rows, is_text, method_private, name_rows, new_rows, object_field_rows, object_method_rows, own_field_rows, own_method_rows, private_field, reference_method_rows, string_method_rows, super_method_rows, value_field_rows, value_method_rows}
 use Rattle.jn_bare_law.specs.Bare.{Alike, bare, bare_class, bare_field, bare_method, codes_of}
 use Rattle.jn_bare_law.specs.Erased.{bare_annotations, bare_base, bare_meaning, coded_local, coded_row, coded_scope}
 use Rattle.jn_bare_law.proofs.Lookups.{class_bare, class_info_is, field_info_is, interface_is, method_at_is, method_of_is, owner_is, static_bare}

@@ -16,7 +16,6 @@ use Rattle.jn_trees.specs.declared.token.Token.{Token}
 use Rattle.jn_trees.specs.declared.token.TokenKind.TheVariants.{Id, LeftParen, RightParen, Comma, Semicolon, Colon, If, Else, While, Do, For}
 use Rattle.jn_trees.specs.Trees.{BaseTree, Tree, Trees, NoTrees, MoreTrees, LocalMark, TypeUseTree, DeclaratorTree, LocalTree, InitTree, ExpressionsInit, DeclarationInit, Statement, Statements, BlockStatement, EmptyStatement, ExpressionStatement, BreakStatement, ContinueStatement, ReturnStatement, LocalStatement, IfStatement, IfElseStatement, WhileStatement, DoStatement, ForStatement, ForEachStatement, ThisCallStatement, SuperCallStatement, NoStatements, MoreStatements}
 use Rattle.jn_trees.specs.Spelling.{spell, spell_marks, spell_type_use, spell_declarator, spell_init, spell_optional, spell_list, spell_statement}
-use Rattle.jn_places.specs.Placed.{PlacedTree}
 use Rattle.jn_places.specs.Places.{behind, front, place, place_list, place_base, place_annotations, place_optional, place_brackets, place_type_use, place_local_marks, place_declarator, place_next_declarator, spell_next_declarator, place_more_declarators, place_local, place_init, place_statement, place_body}
 use Rattle.jn_lowering.specs.Temporaries.{Temporaries, take_one}
 use Rattle.jn_lowering.specs.Scopes.{Local, Scope, local_in}
@@ -24,15 +23,15 @@ use Rattle.jn_lowering.specs.Bases.{is_class_use, type_of}
 use Rattle.jn_lowering.specs.Forms.{Value, Condition}
 use Rattle.jn_lowering.specs.Annotations.{annotation_rows, base_rows, both_kinds, name_row, nullity_alone, row, type_rows, typed_rows, unless, when}
 use Rattle.jn_lowering.specs.Locals.{State, annotations_of, declares, has_final, has_value, is_some, reserves, with_local, with_temporaries}
-use Rattle.jn_lowering.specs.Statements.{Step, declaration, declarator, declarators, each_array, each_element, each_state, each_tested, effects, fresh, init, initialized, local_bound, local_type, lowered_in, optional_test, statement, tested_in}
-use Rattle.jn_lowering.specs.ExpressionRows.{Setting, inner_span, rows_of, rows_of_all}
+use Rattle.jn_lowering.specs.Statements.{Step, declaration, declarator, declarators, each_state, effects, fresh, init, initialized, local_bound, local_type, lowered_in, optional_test, statement, tested_in}
+use Rattle.jn_lowering.specs.ExpressionRows.{Setting, inner_span}
 use Rattle.jn_lowering.specs.StatementRows.{all_rows, array_rows, declaration_rows, declarator_rows, declarators_rows, declared_rows, effect_rows, init_rows, optional_rows, rows_in, statement_rows, use_rows}
 use Rattle.jn_bare_law.specs.Bare.{Alike, codes_of, no_span}
-use Rattle.jn_bare_law.specs.Erased.{bare_scope, bare_state, bare_step, bare_value, coded_local, coded_row, coded_scope}
+use Rattle.jn_bare_law.specs.Erased.{bare_state, coded_local, coded_row, coded_scope}
 use Rattle.jn_bare_law.proofs.Forms.{pushed}
 use Rattle.jn_bare_law.proofs.Meanings.{class_use_bare}
 use Rattle.jn_bare_law.proofs.Places.{base_placed, notes_placed, placed}
-use Rattle.jn_bare_law.proofs.Statements.{declarator_alike, declares_alike, effects_alike, final_same, has_same, list_alike, local_type_alike, marks_same, more_alike, optional_alike, own_same, statement_alike, temps_alike, test_alike, type_alike, value_alike}
+use Rattle.jn_bare_law.proofs.Statements.{declarator_alike, declares_alike, final_same, has_same, local_type_alike, marks_same, optional_alike, own_same, statement_alike, temps_alike, test_alike, type_alike, value_alike}
 use Rattle.jn_bare_law.proofs.RowForms.{Same, base_rows_same, both, local_coded, locals_same, notes_same, unless_same, when_same}
 use Rattle.jn_bare_law.proofs.ExpressionRows as expressions
 
@@ -78,14 +77,14 @@ a_local n r b bound fixed faults = record { name = n; reg = r; base = b; bound =
 
 pub declares_like : (st r : State) (n : ℕ) (b : BaseType) (bound : Option Qualifier) (fixed other : Bool) (faults others : List Row) → fixed ≡ other → Same faults others → Like st r → Like (declares st n b bound fixed faults) (declares r n b bound other others)
 declares_like st r n b bound fixed other faults others g e k = (
-    declares_alike st r n b bound fixed faults others k.0 ∙ ap (λ z. bare_state (declares r n b bound z others)) g,
-    with_coded st.scope (a_local n (length st.locals) b bound fixed faults)
-    ∙ ap (λ s. with_local s (a_local n (length st.locals) b bound fixed (map coded_row faults))) k.1
-    ∙ ap (λ m. with_local (coded_scope r.scope) (a_local n m b bound fixed (map coded_row faults))) (ap (λ (x : State). length x.locals) k.0)
-    ∙ ap (λ z. with_local (coded_scope r.scope) (a_local n (length r.locals) b bound z (map coded_row faults))) g
-    ∙ ap (λ f. with_local (coded_scope r.scope) (a_local n (length r.locals) b bound other f)) (coded_same faults others e)
-    ∙ sym (with_coded r.scope (a_local n (length r.locals) b bound other others)),
-  )
+  declares_alike st r n b bound fixed faults others k.0 ∙ ap (λ z. bare_state (declares r n b bound z others)) g,
+  with_coded st.scope (a_local n (length st.locals) b bound fixed faults)
+      ∙ ap (λ s. with_local s (a_local n (length st.locals) b bound fixed (map coded_row faults))) k.1
+      ∙ ap (λ m. with_local (coded_scope r.scope) (a_local n m b bound fixed (map coded_row faults))) (ap (λ (x : State). length x.locals) k.0)
+      ∙ ap (λ z. with_local (coded_scope r.scope) (a_local n (length r.locals) b bound z (map coded_row faults))) g
+      ∙ ap (λ f. with_local (coded_scope r.scope) (a_local n (length r.locals) b bound other f)) (coded_same faults others e)
+      ∙ sym (with_coded r.scope (a_local n (length r.locals) b bound other others)),
+)
 
 -- ---- types
 
@@ -146,11 +145,11 @@ module _ (P Q : Program) (h : Alike P Q) (c first : ℕ) (w : Setting) where
 
     declarator_like : (st r : State) (ts us : List Token) (d : DeclaratorTree) → Like st r → Like (declarator P c first b bound f faults st (place_declarator ts d)).behind (declarator Q c first b bound f others r (place_declarator us d)).behind
     declarator_like st r ts us d k = (
-        ap (λ (x : Step). x.behind) (declarator_alike P Q c first h b bound f faults others st r ts us d k.0),
-        ap coded_scope (scope_behind P (front ts) (length st.locals) bound (inside st ts d faults) (drop 1 (drop 1 ts)) d.value)
-        ∙ (inside_like st r ts us d k).1
-        ∙ sym (ap coded_scope (scope_behind Q (front us) (length r.locals) bound (inside r us d others) (drop 1 (drop 1 us)) d.value)),
-      )
+      ap (λ (x : Step). x.behind) (declarator_alike P Q c first h b bound f faults others st r ts us d k.0),
+      ap coded_scope (scope_behind P (front ts) (length st.locals) bound (inside st ts d faults) (drop 1 (drop 1 ts)) d.value)
+          ∙ (inside_like st r ts us d k).1
+          ∙ sym (ap coded_scope (scope_behind Q (front us) (length r.locals) bound (inside r us d others) (drop 1 (drop 1 us)) d.value)),
+    )
 
     declarator_same : (st r : State) (ts us : List Token) (d : DeclaratorTree) → Like st r → Same (declarator_rows P c first w b bound f faults st (place_declarator ts d)) (declarator_rows Q c first w b bound f others r (place_declarator us d))
     declarator_same st r ts us d k =
@@ -401,7 +400,7 @@ module _ (P Q : Program) (h : Alike P Q) (c first : ℕ) (w : Setting) where
         let types : ty ≡ ty' = type_alike P Q c first h st.scope r.scope (place a3 e) (place b3 e) (ap (λ (x : State). x.scope) k.0) (placed a3 b3 e) in
         let later : m ≡ m' = ap (λ (v : Value). v.behind) (value_alike P Q c first h (fresh st) (fresh r) a3 b3 e (ap fresh k.0)) in
         let k' = each_like st r n.0 rows others ty ty' base base' bound bound' f f' t t' (base_rows_same P Q h c (place_base a1 u.base) (place_base b1 u.base) (base_placed a1 b1 u.base)) types
-            (local_type_alike P Q c first h a b a1 b1 ms u) (own_same a b (drop 1 a1) (drop 1 b1) ms u.array) (final_same a b ms) (ap (λ z. element_behind z ty) later ∙ ap (element_behind m') types) k in
+        (local_type_alike P Q c first h a b a1 b1 ms u) (own_same a b (drop 1 a1) (drop 1 b1) ms u.array) (final_same a b ms) (ap (λ z. element_behind z ty) later ∙ ap (element_behind m') types) k in
         let last : List Row = statement_rows P c first w x (place_statement a4 s) in
         let last' : List Row = statement_rows Q c first w y (place_statement b4 s) in
         let named : List Row = declared_rows st.scope n.0 (front a2) in
