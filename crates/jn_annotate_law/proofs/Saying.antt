@@ -33,7 +33,8 @@ use Rattle.jn_inference_law.specs.Solution.{IsLeastSignature}
 use Rattle.jn_annotate.specs.Insertions.{type_fields, type_methods, file_fields, file_methods, first_slot, qual_where, inferred_qual}
 use Rattle.jn_annotate.specs.Annotated.{Annotated, has_no_spelling, has_shared_type, HasNone, same_qual, slot_inferred, differs, members_of, shared_in_members, shared_in_types, shared_from}
 use Rattle.jn_annotate_law.specs.Meaning.{TextsLexed, AllPlaced}
-use Rattle.jn_annotate_law.specs.Kept.{Kept}
+use Rattle.jn_annotate_law.specs.Kept.{Kept, KeptWhole}
+use Rattle.jn_annotate_law.proofs.AllRows.{no_rows_more}
 use Rattle.jn_annotate_law.specs.Trees.{noted_files}
 use Rattle.jn_annotate_law.specs.Says.{FieldsSay, MembersSay, TypeSays, TypesSay, FilesSay}
 use Rattle.jn_annotate_law.proofs.Roles.{Each, each_drop, each_take, Plays, FieldPlays, MethodPlays, roles_of_all, table_fields_play, table_methods_play, Agree, all_agree}
@@ -173,9 +174,15 @@ all_say infer tokens trees s placed can is none alone =
     (files_say P s roles (fields_play_too roles infer trees fields) (methods_play_too roles infer trees methods) (all_agree hs xs) can is none (map forget_file trees) Q.fields (drop 1 Q.methods)
     (all_share infer tokens trees s placed) fields (each_drop (MethodPlays roles) Q.methods 1 methods) (λ i. sym (shared_same P s infer trees (map forget_file trees) i) ∙ alone i))
 
--- the whole theorem
-pub kept : (infer : Infer) (texts names new : List (List ℕ)) (tokens : List (List Token)) (trees : List PlacedFile) (s : List Qualifier) → let P = inferring infer trees in let bare = map forget_file trees in TextsLexed 0 known_names texts tokens names → AllPlaced tokens trees → rows_of_files trees ≡ [] → length P.fields < 2 ^ 32 → length P.methods < 2 ^ 32 → IsLeastSignature P s → Annotated P s texts tokens bare new → Kept infer names trees s (noted_files P.slots s bare P.fields (drop 1 P.methods)) new
-kept infer texts names new tokens trees s lexed placed rowless few_fields few_methods is annotated' =
+-- the theorem, of programs that can be inferred
+pub kept : (infer : Infer) (texts names new : List (List ℕ)) (tokens : List (List Token)) (trees : List PlacedFile) (s : List Qualifier) → let P = inferring infer trees in let bare = map forget_file trees in TextsLexed 0 known_names texts tokens names → AllPlaced tokens trees → IsInferable P → IsLeastSignature P s → Annotated P s texts tokens bare new → Kept infer names trees s (noted_files P.slots s bare P.fields (drop 1 P.methods)) new
+kept infer texts names new tokens trees s lexed placed can is annotated' =
+    kept_all infer texts names new tokens trees s lexed placed can is (all_say infer tokens trees s placed can is annotated'.spelled annotated'.alone) annotated'
+
+-- and of files without rows
+pub kept_whole : (infer : Infer) (texts names new : List (List ℕ)) (tokens : List (List Token)) (trees : List PlacedFile) (s : List Qualifier) → let P = inferring infer trees in let bare = map forget_file trees in TextsLexed 0 known_names texts tokens names → AllPlaced tokens trees → rows_of_files trees ≡ [] → length P.fields < 2 ^ 32 → length P.methods < 2 ^ 32 → IsLeastSignature P s → Annotated P s texts tokens bare new → KeptWhole infer names trees s (noted_files P.slots s bare P.fields (drop 1 P.methods)) new
+kept_whole infer texts names new tokens trees s lexed placed rowless few_fields few_methods is annotated' =
     let P : Program = inferring infer trees in
     let can : IsInferable P = regular_inferable P (inferring_regular infer trees (program_regular trees rowless few_fields few_methods)) in
-    kept_all infer texts names new tokens trees s lexed placed rowless can is (all_say infer tokens trees s placed can is annotated'.spelled annotated'.alone) annotated'
+    let all = kept infer texts names new tokens trees s lexed placed can is annotated' in
+    record { kept = all; rowless = no_rows_more infer tokens all.tokens trees all.places s placed all.parsed all.trees_are rowless }

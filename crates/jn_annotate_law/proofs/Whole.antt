@@ -19,11 +19,10 @@ use Rattle.jn_base.specs.declared.infer.Infer.{Infer}
 use Rattle.std.proofs.lemmas.List.{length-map}
 use Rattle.jn_trees.specs.Trees.{SourceTree}
 use Rattle.jn_classtable.specs.Inferred.{slots_by}
-use Rattle.jn_program_law.specs.FileProgram.{inferring, program_of_files, rows_of_files}
+use Rattle.jn_program_law.specs.FileProgram.{inferring, program_of_files}
 use Rattle.jn_bare_law.specs.Bare.{Alike, bare, bare_slot}
 use Rattle.jn_bare_law.specs.Written.{written_slot}
 use Rattle.jn_annotate_law.specs.Again.{NoneInferred}
-use Rattle.jn_annotate_law.proofs.AllRows.{no_rows_more}
 use Rattle.jn_annotate_law.proofs.Tabled.{noted_same, says_same}
 use Rattle.jn_annotate_law.proofs.Unchanged.{annotated_again}
 use Rattle.jn_tables_law.specs.Inferable.{IsInferable}
@@ -125,8 +124,8 @@ written_none slots s e i = ap (λ x. is_inferred (slice_get x i)) e ∙ go s i
     go (q ∷ s) zero = refl
     go (q ∷ s) (suc i) = go s i
 
-pub kept_all : (infer : Infer) (texts names new : List (List ℕ)) (tokens : List (List Token)) (trees : List PlacedFile) (s : List Qualifier) → let P = inferring infer trees in let bare = map forget_file trees in TextsLexed 0 known_names texts tokens names → AllPlaced tokens trees → rows_of_files trees ≡ [] → IsInferable P → IsLeastSignature P s → FilesSay P.slots s bare P.fields (drop 1 P.methods) → Annotated P s texts tokens bare new → Kept infer names trees s (noted_files P.slots s bare P.fields (drop 1 P.methods)) new
-kept_all infer texts names new tokens trees s lexed placed rowless can is say annotated' =
+pub kept_all : (infer : Infer) (texts names new : List (List ℕ)) (tokens : List (List Token)) (trees : List PlacedFile) (s : List Qualifier) → let P = inferring infer trees in let bare = map forget_file trees in TextsLexed 0 known_names texts tokens names → AllPlaced tokens trees → IsInferable P → IsLeastSignature P s → FilesSay P.slots s bare P.fields (drop 1 P.methods) → Annotated P s texts tokens bare new → Kept infer names trees s (noted_files P.slots s bare P.fields (drop 1 P.methods)) new
+kept_all infer texts names new tokens trees s lexed placed can is say annotated' =
     let P : Program = inferring infer trees in
     let forgotten : List SourceTree = map forget_file trees in
     let r = all_parsed P.slots s texts tokens trees names P.fields (drop 1 P.methods) lexed placed (all_fit tokens trees P.slots s placed) in
@@ -144,7 +143,6 @@ kept_all infer texts names new tokens trees s lexed placed rowless can is say an
       lexed = again;
       parsed = r.3;
       trees_are = r.4;
-      rowless = no_rows_more infer tokens r.0 trees r.1 s placed r.3 r.4 rowless;
       meaning = means P Q s (alike_by infer trees r.1 program_is count) written;
       none_inferred = none;
       again = annotated_again Q s none new names r.0 r.1 known_names again r.3 annotated'.small;

@@ -34,12 +34,14 @@ ghost use Rattle.jn_annotate_law.specs.Fits.{FilesFit, TypesFit};
 ghost use Rattle.jn_annotate.specs.Insertions.{in_file};
 ghost use Rattle.jn_annotate_law.specs.Trees.{both_names, noted_file, noted_files, nullity_names};
 ghost use Rattle.jn_annotate_law.specs.Says.{FilesSay, Spelled};
-ghost use Rattle.jn_annotate_law.specs.Kept.{Kept};
+ghost use Rattle.jn_annotate_law.specs.Kept.{Kept, KeptWhole};
 ghost use Rattle.jn_lowering.specs.BodyRows.{rows_of_bodies};
 ghost use Rattle.jn_program_law.specs.FileSources.{sources};
-ghost use Rattle.jn_program_law.specs.FileProgram.{inferring, program_of_files, rows_of_files};
+ghost use Rattle.jn_program_law.specs.FileProgram.{inferring, j_rows, program_of_files, rows_of_files};
 ghost use Rattle.jn_annotate_law.specs.Noted.{notes_with};
 ghost use Rattle.jn_annotate.specs.Words.{initialization_name, is_unspelled};
+
+use jn_classtable::ClassTable;
 
 /// A file's text with the words of its inferred slots has the annotated tree, and no name more.
 pub fn annotated_texts_have_the_annotated_tree()
@@ -200,20 +202,47 @@ pub fn nothing_is_annotated_twice()
         → Annotated P s texts tokens (map forget_file trees) texts }
 {}
 
-/// Annotated files lex and parse, with the same names, have no row, and mean the same, under either choice of members that are inferred: their
-/// program is that of the files but for places, no slot of it is inferred, its least signature is what was inferred, and the same rules are broken,
-/// both ways; rows of types (J7 to J10) have the same codes, both ways, and annotating again changes nothing. The two numbers are below 2 ^ 32
-/// wherever a class table was built (`jn_classtable::ClassTable::facts`).
+/// Annotated files lex and parse, with the same names, and mean the same, under either choice of members that are inferred: their program is that
+/// of the files but for places, no slot of it is inferred, its least signature is what was inferred, and the same rules are broken at the same
+/// points, constructors and pairs, both ways; rows of types (J7 to J10) have the same codes, both ways, and annotating again changes nothing.
+/// Files without rows T and J keep that they have none; their programs can be inferred, since the two numbers are below 2 ^ 32 wherever a class
+/// table was built.
 pub fn annotating_keeps_meaning()
-    ensures { (infer : Infer) (texts names new : List (List ℕ)) (tokens : List (List Token))
+    ensures inferable { (infer : Infer) (texts names new : List (List ℕ))
+        (tokens : List (List Token)) (trees : List PlacedFile) (s : List Qualifier)
+        → TextsLexed 0 known_names texts tokens names → AllPlaced tokens trees
+        → IsInferable (inferring infer trees) → IsLeastSignature (inferring infer trees) s
+        → Annotated (inferring infer trees) s texts tokens (map forget_file trees) new
+        → Kept infer names trees s
+        (noted_files (inferring infer trees).slots s (map forget_file trees)
+        (inferring infer trees).fields (drop 1 (inferring infer trees).methods))
+        new }
+    ensures rowless { (infer : Infer) (texts names new : List (List ℕ)) (tokens : List (List Token))
         (trees : List PlacedFile) (s : List Qualifier)
         → TextsLexed 0 known_names texts tokens names → AllPlaced tokens trees
         → rows_of_files trees ≡ [] → length (inferring infer trees).fields < 2 ^ 32
         → length (inferring infer trees).methods < 2 ^ 32
         → IsLeastSignature (inferring infer trees) s
         → Annotated (inferring infer trees) s texts tokens (map forget_file trees) new
-        → Kept infer names trees s
+        → KeptWhole infer names trees s
         (noted_files (inferring infer trees).slots s (map forget_file trees)
         (inferring infer trees).fields (drop 1 (inferring infer trees).methods))
         new }
 {}
+
+/// Of files for which a class table was built no premise is left but that they have no row J1 to J6: trees of the texts, the least signature under
+/// either choice, and the annotated texts.
+pub fn annotating_keeps_the_meaning_of_tables(table: &ClassTable)
+    ensures { (infer : Infer) (texts names new : List (List ℕ)) (tokens : List (List Token))
+        (trees : List PlacedFile) (s : List Qualifier)
+        → table.now.heads ≡ heads trees → j_rows trees ≡ []
+        → TextsLexed 0 known_names texts tokens names → AllPlaced tokens trees
+        → IsLeastSignature (inferring infer trees) s
+        → Annotated (inferring infer trees) s texts tokens (map forget_file trees) new
+        → KeptWhole infer names trees s
+        (noted_files (inferring infer trees).slots s (map forget_file trees)
+        (inferring infer trees).fields (drop 1 (inferring infer trees).methods))
+        new }
+{
+    table.facts();
+}
