@@ -9,6 +9,7 @@ use Rattle.jn_points.specs.declared.program.SlotInfo.{SlotInfo}
 use Rattle.jn_quals.specs.Order.{no_qual}
 use Rattle.jn_points.specs.Lookup.{slots_of}
 use Rattle.jn_transfer.specs.Contributions.{field_slot_of, receiver_slot_of, result_slot_of}
+use Rattle.jn_bare_law.proofs.Sent.{Each, each_append}
 use Rattle.jn_classtable.specs.declared.head.TypeHead.{TypeHead}
 use Rattle.jn_classtable.specs.declared.head.FieldHead.{FieldHead}
 use Rattle.jn_classtable.specs.declared.head.ParamHead.{ParamHead}
@@ -16,15 +17,6 @@ use Rattle.jn_classtable.specs.declared.head.MethodHead.{MethodHead}
 use Rattle.jn_classtable.specs.declared.head.ClassHead.{ClassHead}
 use Rattle.jn_classtable.specs.Types.{is_written, slot_of, written_qual, receiver_qual, is_position, has_receiver, field_slots, value_slots, params_slots, result_slots, receiver_slots, method_slots, fields_slots, methods_slots, class_slots, slots_of_all}
 use Rattle.jn_classtable.specs.Table.{slot_at, count, bodies_of, fields_of, fields_from, param_slots, result_slot, method_of, methods_of, methods_from}
-
--- what holds of each item
-abbrev pub Each : {A : Type 0} → (A → Type 0) → List A → Type 0
-Each F [] = Unit {0}
-Each F (x ∷ xs) = F x × Each F xs
-
-pub each_append : {A : Type 0} (F : A → Type 0) (xs ys : List A) → Each F xs → Each F ys → Each F (xs ++ ys)
-each_append F [] ys a b = b
-each_append F (x ∷ xs) ys a b = (a.0, each_append F xs ys a.1 b)
 
 pub each_drop : {A : Type 0} (F : A → Type 0) (xs : List A) (n : ℕ) → Each F xs → Each F (drop n xs)
 each_drop F xs zero a = a

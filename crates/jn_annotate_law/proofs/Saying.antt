@@ -37,7 +37,8 @@ use Rattle.jn_annotate_law.specs.Kept.{Kept, KeptWhole}
 use Rattle.jn_annotate_law.proofs.AllRows.{no_rows_more}
 use Rattle.jn_annotate_law.specs.Trees.{noted_files}
 use Rattle.jn_annotate_law.specs.Says.{FieldsSay, MembersSay, TypeSays, TypesSay, FilesSay}
-use Rattle.jn_annotate_law.proofs.Roles.{Each, each_drop, each_take, Plays, FieldPlays, MethodPlays, roles_of_all, table_fields_play, table_methods_play, Agree, all_agree}
+use Rattle.jn_bare_law.proofs.Sent.{Each}
+use Rattle.jn_annotate_law.proofs.Roles.{each_drop, each_take, Plays, FieldPlays, MethodPlays, roles_of_all, table_fields_play, table_methods_play, Agree, all_agree}
 use Rattle.jn_annotate_law.proofs.Sending.{field_not_free, receiver_not_null}
 use Rattle.jn_annotate_law.proofs.Sharing.{info_at, Has, MembersShare, TypesShare, FilesShare, all_share}
 use Rattle.jn_annotate_law.proofs.Whole.{long, spelled, kept_all, receivers_start}

@@ -1,6 +1,7 @@
 pub mod Lookups
 pub mod Flow
 pub mod Rules
+pub mod Sent
 pub mod Starts
 pub mod Alike
 pub mod Forms
