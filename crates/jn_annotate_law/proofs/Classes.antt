@@ -152,6 +152,32 @@ marked_methods_long infer hs c k b (InterfaceType marks n parents members) ts g 
     let inside : List Token = behind (drop 1 (behind ts (spell_all_marks marks ++ Interface ∷ []))) (spell_names Extends parents ++ LeftBrace ∷ []) in
     methods_of_long hs c k b (methods_at infer true inside members) ∙ methods_long infer true (place_members inside members) ∙ methods_count (record { interface = true; name = n }) true refl members inside g.1
 
+-- fields and methods that begin with those of one declaration, and what is behind them
+pub record Parts (fs A B : List Field) (ms D E : List Method) (fields methods : ℕ) : Type 0 where
+  pub cut_f : fs ≡ A ++ B
+  pub cut_m : ms ≡ D ++ E
+  pub rest_f : drop fields fs ≡ B
+  pub rest_m : drop methods ms ≡ E
+
+pub parts : (fs A B : List Field) (ms D E : List Method) (fields methods : ℕ) → fs ≡ A ++ B → ms ≡ D ++ E → length A ≡ fields → length D ≡ methods → Parts fs A B ms D E fields methods
+parts fs A B ms D E fields methods f m a d = record { cut_f = f; cut_m = m; rest_f = ap (drop fields) f ∙ drop_at A B fields a; rest_m = ap (drop methods) m ∙ drop_at D E methods d }
+
+-- of the first of types
+pub type_parts : (infer : Infer) (hs : List ClassHead) (t : TypeDeclaration) (types : List TypeDeclaration) (c k b : ℕ) (fs restf : List Field) (ms restm : List Method) (ts : List Token) → let x : ClassHead = class_marks infer (place_type ts t) in let xs : List ClassHead = marks_at infer (behind ts (spell_type t)) types in let k' : ℕ = k + length (class_slots hs x) in
+    fs ≡ fields_from hs c k (marks_at infer ts (t ∷ types)) ++ restf → ms ≡ methods_from hs c k b (marks_at infer ts (t ∷ types)) ++ restm → GoodType t →
+    Parts fs (fields_of hs c k x.fields) (fields_from hs (suc c) k' xs ++ restf) ms (methods_of hs c (k + length (fields_slots hs x.fields)) b x.methods) (methods_from hs (suc c) k' (b + bodies_of x.methods) xs ++ restm) (type_fields t) (type_methods t)
+type_parts infer hs t types c k b fs restf ms restm ts f m g =
+    let x : ClassHead = class_marks infer (place_type ts t) in
+    let xs : List ClassHead = marks_at infer (behind ts (spell_type t)) types in
+    let k' : ℕ = k + length (class_slots hs x) in
+    let b' : ℕ = b + bodies_of x.methods in
+    let n : ℕ = k + length (fields_slots hs x.fields) in
+    let A : List Field = fields_of hs c k x.fields in
+    let D : List Method = methods_of hs c n b x.methods in
+    parts fs A (fields_from hs (suc c) k' xs ++ restf) ms D (methods_from hs (suc c) k' b' xs ++ restm) (type_fields t) (type_methods t)
+    (f ∙ append_assoc A (fields_from hs (suc c) k' xs) restf) (m ∙ append_assoc D (methods_from hs (suc c) k' b' xs) restm)
+    (marked_fields_long infer hs c k t ts) (marked_methods_long infer hs c n b t ts g)
+
 -- ---- types
 
 module _ (slots : List SlotInfo) (s : List Qualifier) (hs gs : List ClassHead) (same : map plain_head hs ≡ map plain_head gs) (sp : Spelled slots s) (infer : Infer) where
@@ -197,13 +223,10 @@ module _ (slots : List SlotInfo) (s : List Qualifier) (hs gs : List ClassHead) (
       let B : List Field = fields_from hs (suc c) k' xs ++ restf in
       let D : List Method = methods_of hs c (k + length (fields_slots hs x.fields)) b x.methods in
       let E : List Method = methods_from hs (suc c) k' b' xs ++ restm in
-      let cut_f : fs ≡ A ++ B = ef ∙ append_assoc A (fields_from hs (suc c) k' xs) restf in
-      let cut_m : ms ≡ D ++ E = em ∙ append_assoc D (methods_from hs (suc c) k' b' xs) restm in
-      let rest_f : drop (type_fields t) fs ≡ B = ap (drop (type_fields t)) cut_f ∙ drop_at A B (type_fields t) (marked_fields_long infer hs c k t ts) in
-      let rest_m : drop (type_methods t) ms ≡ E = ap (drop (type_methods t)) cut_m ∙ drop_at D E (type_methods t) (marked_methods_long infer hs c (k + length (fields_slots hs x.fields)) b t ts g.0) in
+      let p = type_parts infer hs t types c k b fs restf ms restm ts ef em g.0 in
       let new : TypeDeclaration = noted_type slots s t fs ms in
       let later' : List Token = behind us (spell_type new) in
-      let say' = subst (λ y. TypeSays slots s t (A ++ B) y) cut_m (subst (λ y. TypeSays slots s t y ms) cut_f say.0) in
-      let one = ap (λ y. class_slots gs (class_marks infer (place_type us (noted_type slots s t y ms)))) cut_f ∙ ap (λ y. class_slots gs (class_marks infer (place_type us (noted_type slots s t (A ++ B) y)))) cut_m ∙ type_walk t c k b B E ts us g.0 say' (stands_left slots s k (class_slots hs x) (slots_of_all hs xs) h) in
-      let two = types_walk types (suc c) k' b' (drop (type_fields t) fs) restf (drop (type_methods t) ms) restm later later' rest_f rest_m g.1 say.1 (stands_right slots s k (class_slots hs x) (slots_of_all hs xs) h) in
+      let say' = subst (λ y. TypeSays slots s t (A ++ B) y) p.cut_m (subst (λ y. TypeSays slots s t y ms) p.cut_f say.0) in
+      let one = ap (λ y. class_slots gs (class_marks infer (place_type us (noted_type slots s t y ms)))) p.cut_f ∙ ap (λ y. class_slots gs (class_marks infer (place_type us (noted_type slots s t (A ++ B) y)))) p.cut_m ∙ type_walk t c k b B E ts us g.0 say' (stands_left slots s k (class_slots hs x) (slots_of_all hs xs) h) in
+      let two = types_walk types (suc c) k' b' (drop (type_fields t) fs) restf (drop (type_methods t) ms) restm later later' p.rest_f p.rest_m g.1 say.1 (stands_right slots s k (class_slots hs x) (slots_of_all hs xs) h) in
       slots_append slots s k (class_slots hs x) (slots_of_all hs xs) (class_slots gs (class_marks infer (place_type us new))) (slots_of_all gs (marks_at infer later' (noted_types slots s types (drop (type_fields t) fs) (drop (type_methods t) ms)))) one two

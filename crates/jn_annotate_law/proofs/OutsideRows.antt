@@ -1,7 +1,7 @@
 -- Annotated files have no row J5 outside bodies where they had none.
-use Rattle.std.proofs.Common.{◌≡◌, ℕ, ◌+◌, Bool, true, false, not, ◌&&◌, List, [], ◌∷◌, ◌++◌, length, Option, Some, None, refl, sym, ap, ◌∙◌, subst, append_assoc}
+use Rattle.std.proofs.Common.{◌≡◌, ℕ, ◌+◌, Bool, true, false, not, ◌&&◌, List, [], ◌∷◌, ◌++◌, length, Option, Some, None, refl, sym, ap, ◌∙◌, subst}
 use Rattle.std.specs.Prelude.{drop, map, eqb}
-use Rattle.std.proofs.lemmas.List.{append-nil, drop_at}
+use Rattle.std.proofs.lemmas.List.{append-nil}
 use Rattle.jn_base.specs.declared.place.Row.{Row}
 use Rattle.jn_base.specs.declared.number.NameNo.{NameNo}
 use Rattle.jn_base.specs.declared.infer.Infer.{Infer}
@@ -29,7 +29,7 @@ use Rattle.jn_annotate.specs.Insertions.{file_fields, file_methods}
 use Rattle.jn_annotate_law.specs.Trees.{noted_types, noted_file, noted_files}
 use Rattle.jn_annotate_law.specs.Meaning.{AllPlaced}
 use Rattle.jn_annotate_law.proofs.Positions.{Stands, stands_left, stands_right}
-use Rattle.jn_annotate_law.proofs.Written.{fields_from_append, marked_from_long, marked_methods_from_long, methods_from_append, slots_all_append}
+use Rattle.jn_annotate_law.proofs.Written.{file_parts, slots_all_append}
 use Rattle.jn_annotate_law.proofs.NoteRows.{no_rows_left, no_rows_right, no_rows_both}
 use Rattle.jn_annotate_law.proofs.MemberRows.{when_stays}
 use Rattle.jn_annotate_law.proofs.TypeRows.{types_stay}
@@ -131,10 +131,7 @@ module _ (slots : List SlotInfo) (s : List Qualifier) (hs : List ClassHead) (inf
       let B : List Field = fields_from hs c' k' ys ++ restf in
       let D : List Method = methods_from hs c k b xs in
       let E : List Method = methods_from hs c' k' b' ys ++ restm in
-      let cut_f : fs ≡ A ++ B = ef ∙ ap (λ x. fields_from hs c k x ++ restf) head_is ∙ ap (λ x. x ++ restf) (fields_from_append hs c k xs ys) ∙ append_assoc A (fields_from hs c' k' ys) restf in
-      let cut_m : ms ≡ D ++ E = em ∙ ap (λ x. methods_from hs c k b x ++ restm) head_is ∙ ap (λ x. x ++ restm) (methods_from_append hs c k b xs ys) ∙ append_assoc D (methods_from hs c' k' b' ys) restm in
-      let rest_f : drop (file_fields bare.types) fs ≡ B = ap (drop (file_fields bare.types)) cut_f ∙ drop_at A B (file_fields bare.types) (marked_from_long infer hs c k bare.types (at ts)) in
-      let rest_m : drop (file_methods bare.types) ms ≡ E = ap (drop (file_methods bare.types)) cut_m ∙ drop_at D E (file_methods bare.types) (marked_methods_from_long infer hs c k b bare.types (at ts) p.0.0.0) in
+      let cut = file_parts infer hs bare.types ys c k b fs restf ms restm (at ts) (ef ∙ ap (λ x. fields_from hs c k x ++ restf) head_is) (em ∙ ap (λ x. methods_from hs c k b x ++ restm) head_is) p.0.0.0 in
       let stands : Stands slots s k (slots_of_all hs xs ++ slots_of_all hs ys) = subst (Stands slots s k) (ap (slots_of_all hs) head_is ∙ slots_all_append hs xs ys) h in
       let r' = subst (λ x. files_rows f (x ∷ trees) ≡ []) p.0.1 r in
       let F : List Row = package_row f (place_package ts bare.package_line) in
@@ -150,9 +147,9 @@ module _ (slots : List SlotInfo) (s : List Qualifier) (hs : List ClassHead) (inf
       let here : F' ++ (G' ++ H') ≡ [] =
       no_rows_both F' (G' ++ H') (package_stays f g bare.package_line ts us w (no_rows_left F (G ++ H) one))
       (no_rows_both G' H' (imports_stay (line ts) (line us) bare.imports (no_rows_left G H two))
-      (types_stay slots s hs infer bare.types c k b fs B ms E (at ts) (at us) cut_f cut_m p.0.0.0 (stands_left slots s k (slots_of_all hs xs) (slots_of_all hs ys) stands) (no_rows_right G H two))) in
+      (types_stay slots s hs infer bare.types c k b fs B ms E (at ts) (at us) cut.cut_f cut.cut_m p.0.0.0 (stands_left slots s k (slots_of_all hs xs) (slots_of_all hs ys) stands) (no_rows_right G H two))) in
       let later : K' ≡ [] =
-      files_stay tokens others trees places (package_behind f (place_package ts bare.package_line)) (package_behind g (place_package us bare.package_line)) c' k' b' (drop (file_fields bare.types) fs) restf (drop (file_methods bare.types) ms) restm p.1 q.1 others_is rest_f rest_m (stands_right slots s k (slots_of_all hs xs) (slots_of_all hs ys) stands) (behind_same f g bare.package_line ts us w) (no_rows_right (F ++ (G ++ H)) K r') in
+      files_stay tokens others trees places (package_behind f (place_package ts bare.package_line)) (package_behind g (place_package us bare.package_line)) c' k' b' (drop (file_fields bare.types) fs) restf (drop (file_methods bare.types) ms) restm p.1 q.1 others_is cut.rest_f cut.rest_m (stands_right slots s k (slots_of_all hs xs) (slots_of_all hs ys) stands) (behind_same f g bare.package_line ts us w) (no_rows_right (F ++ (G ++ H)) K r') in
       subst (λ x. files_rows g (x ∷ places) ≡ []) (sym new_is) (no_rows_both (F' ++ (G' ++ H')) K' here later)
 
 pub outside_stays : (infer : Infer) (tokens others : List (List Token)) (trees places : List PlacedFile) (s : List Qualifier) → let P = table_by infer trees in AllPlaced tokens trees → AllPlaced others places → map forget_file places ≡ noted_files P.slots s (map forget_file trees) P.fields (drop 1 P.methods) → outside_rows trees ≡ [] → outside_rows places ≡ []

@@ -1,13 +1,11 @@
 -- What is sent to a field isn't free, and what is sent to a receiver isn't null; so neither is what the least signature says of an inferred one.
-use Rattle.std.proofs.Common.{◌≡◌, ⊎_elim, ℕ, zero, suc, ◌+◌, ◌<◌, inl, inr, Bool, true, false, not, cond, ◌&&◌, ◌||◌, List, [], ◌∷◌, ◌++◌, length, Option, Some, None, refl, sym, ap, ◌∙◌, subst, arith}
+use Rattle.std.proofs.Common.{◌≡◌, ⊎_elim, ℕ, zero, suc, ◌+◌, ◌<◌, Bool, true, false, not, cond, ◌&&◌, ◌||◌, List, [], ◌∷◌, ◌++◌, length, Option, Some, None, refl, sym, ap, ◌∙◌, subst, arith}
 use Rattle.std.specs.Prelude.{IsTrue, eqb, flat_map, slice_get, slice_index_or}
 use Rattle.std.proofs.lemmas.Bool.{true≢false, eqb-true, cases_lt}
 use Rattle.jn_base.specs.declared.number.SlotNo.{SlotNo}
 use Rattle.jn_quals.specs.Qualifier.{Qualifier}
-use Rattle.jn_quals.specs.Order.{no_qual, null_only, committed_only, without_null, without_free, settle, within}
+use Rattle.jn_quals.specs.Order.{no_qual, committed_only, without_null, without_free, within}
 use Rattle.jn_points.specs.declared.point.Operand.{Operand}
-use Rattle.jn_points.specs.declared.point.PointKind.{PointKind}
-use Rattle.jn_points.specs.declared.point.PointKind.TheVariants.{Const, Move, Unary, Binary, Concat, SameRef, FieldRead, FieldWrite, StaticRead, StaticWrite, ElemRead, ElemWrite, ArrayLen, New, NewArray, ArrayOf, CtorCall, Call, StrOp, Print, Cast, TestInst, TestNull, Branch, Goto, Return}
 use Rattle.jn_points.specs.declared.program.Body.{Body}
 use Rattle.jn_points.specs.declared.program.SlotInfo.{SlotInfo}
 use Rattle.jn_points.specs.declared.program.Program.{Program}
@@ -15,9 +13,8 @@ use Rattle.jn_points.specs.Lookup.{slots_of, body_at, field_info, method_at, met
 use Rattle.jn_sigs.specs.Signature.{uncalled_from, starts_from, start_signature}
 use Rattle.jn_env.specs.Environment.{Env}
 use Rattle.jn_env.specs.Order.{qual_at}
-use Rattle.jn_env.specs.Keys.{is_on, own_keys}
 use Rattle.jn_env.proofs.Order.{quals_at}
-use Rattle.jn_transfer.specs.Contributions.{IsSent, is_inferred, result_slot_of, receiver_slot_of, field_slot_of, sends, arg_sends, receiver_sends, return_sends, unset_sends, kind_sends}
+use Rattle.jn_transfer.specs.Contributions.{IsSent, is_inferred, result_slot_of, receiver_slot_of, field_slot_of, sends, arg_sends, receiver_sends, return_sends, kind_sends}
 use Rattle.jn_quals.proofs.Order.{within_refl}
 use Rattle.jn_transfer.specs.Pairs.{under, slot_sends, slots_sends, override_sends, pair_sends}
 use Rattle.jn_contrib.proofs.Sent.{of_a_point}

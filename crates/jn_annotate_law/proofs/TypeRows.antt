@@ -35,7 +35,7 @@ use Rattle.jn_annotate.specs.Insertions.{type_fields, type_methods, inferred_qua
 use Rattle.jn_annotate_law.specs.Trees.{nullity_names, names_of, noted_use, noted_marks, noted_receiver, noted_result, noted_result_marks, both_at, noted_parameters, noted_members, noted_type, noted_types}
 use Rattle.jn_annotate_law.proofs.Positions.{Stands, stands_left, stands_right}
 use Rattle.jn_annotate_law.proofs.Fields.{fields_slots_append, fields_of_append, fields_of_long, marked_declarators_long}
-use Rattle.jn_annotate_law.proofs.Classes.{marked_fields_long, marked_methods_long, with_methods, with_slots}
+use Rattle.jn_annotate_law.proofs.Classes.{type_parts, with_methods, with_slots}
 use Rattle.jn_annotate_law.proofs.NoteRows.{no_rows_left, no_rows_right, no_rows_both, marks_numbers}
 use Rattle.jn_annotate_law.proofs.PositionRows.{name_stays, parameters_stay, receiver_stays}
 use Rattle.jn_annotate_law.proofs.MemberRows.{alone_stay, result_stays, field_stays}
@@ -199,12 +199,9 @@ module _ (slots : List SlotInfo) (s : List Qualifier) (hs : List ClassHead) (inf
       let B : List Field = fields_from hs (suc c) k' xs ++ restf in
       let D : List Method = methods_of hs c (k + length (fields_slots hs x.fields)) b x.methods in
       let E : List Method = methods_from hs (suc c) k' b' xs ++ restm in
-      let cut_f : fs ≡ A ++ B = ef ∙ append_assoc A (fields_from hs (suc c) k' xs) restf in
-      let cut_m : ms ≡ D ++ E = em ∙ append_assoc D (methods_from hs (suc c) k' b' xs) restm in
-      let rest_f : drop (type_fields t) fs ≡ B = ap (drop (type_fields t)) cut_f ∙ drop_at A B (type_fields t) (marked_fields_long infer hs c k t ts) in
-      let rest_m : drop (type_methods t) ms ≡ E = ap (drop (type_methods t)) cut_m ∙ drop_at D E (type_methods t) (marked_methods_long infer hs c (k + length (fields_slots hs x.fields)) b t ts g.0) in
+      let p = type_parts infer hs t types c k b fs restf ms restm ts ef em g.0 in
       let P : List Row = declared_type_rows (place_type ts t) in
       let Q : List Row = types_rows (place_each place_type spell_type later types) in
-      let one = subst (λ y. declared_type_rows (place_type us (noted_type slots s t fs y)) ≡ []) (sym cut_m) (subst (λ y. declared_type_rows (place_type us (noted_type slots s t y (D ++ E))) ≡ []) (sym cut_f) (type_stays t c k b B E ts us g.0 (stands_left slots s k (class_slots hs x) (slots_of_all hs xs) h) (no_rows_left P Q e))) in
-      let two = types_stay types (suc c) k' b' (drop (type_fields t) fs) restf (drop (type_methods t) ms) restm later (behind us (spell_type (noted_type slots s t fs ms))) rest_f rest_m g.1 (stands_right slots s k (class_slots hs x) (slots_of_all hs xs) h) (no_rows_right P Q e) in
+      let one = subst (λ y. declared_type_rows (place_type us (noted_type slots s t fs y)) ≡ []) (sym p.cut_m) (subst (λ y. declared_type_rows (place_type us (noted_type slots s t y (D ++ E))) ≡ []) (sym p.cut_f) (type_stays t c k b B E ts us g.0 (stands_left slots s k (class_slots hs x) (slots_of_all hs xs) h) (no_rows_left P Q e))) in
+      let two = types_stay types (suc c) k' b' (drop (type_fields t) fs) restf (drop (type_methods t) ms) restm later (behind us (spell_type (noted_type slots s t fs ms))) p.rest_f p.rest_m g.1 (stands_right slots s k (class_slots hs x) (slots_of_all hs xs) h) (no_rows_right P Q e) in
       no_rows_both (declared_type_rows (place_type us (noted_type slots s t fs ms))) _ one two

@@ -1,5 +1,5 @@
 -- Three whole files under both choices of members that are inferred, by computation.
-use Rattle.std.proofs.Common.{◌≡◌, ℕ, Bool, true, false, List, [], ◌∷◌, Option, Some, None, refl}
+use Rattle.std.proofs.Common.{◌≡◌, ℕ, Bool, true, false, List, [], ◌∷◌, Some, None, refl}
 use Rattle.std.specs.Prelude.{codes}
 use Rattle.jn_base.specs.declared.infer.Infer.{Infer}
 use Rattle.jn_base.specs.declared.infer.Infer.TheVariants.{Private as PrivateAlone, Package}
@@ -10,7 +10,7 @@ use Rattle.jn_trees.specs.declared.token.TokenKind.TheVariants.{Id, Str, Number,
 use Rattle.jn_trees.specs.declared.expression.AssignOperator.TheVariants.{Assign as PlainAssign}
 use Rattle.jn_trees.specs.declared.expression.BinaryOperator.TheVariants.{NotEqual as Unequal}
 use Rattle.jn_trees.specs.declared.expression.Literal.TheVariants.{Null as NullLiteral, Number as NumberLiteral, Str as Text}
-use Rattle.jn_trees.specs.Trees.{IntBase, Tree, Trees, LiteralTree, NameTree, ThisTree, FieldTree, CallTree, OwnCallTree, BinaryTree, AssignTree, NoTrees, MoreTrees, Statement, Statements, ExpressionStatement, IfStatement, ReturnStatement, NoStatements, MoreStatements, PrivateMark, StaticMark, FieldMember, MethodMember, ConstructorMember, ParameterTree, SourceTree}
+use Rattle.jn_trees.specs.Trees.{IntBase, Tree, LiteralTree, NameTree, ThisTree, FieldTree, CallTree, OwnCallTree, BinaryTree, AssignTree, NoTrees, MoreTrees, Statement, Statements, ExpressionStatement, IfStatement, ReturnStatement, NoStatements, MoreStatements, PrivateMark, StaticMark, FieldMember, MethodMember, ConstructorMember, ParameterTree, SourceTree}
 use Rattle.jn_places.specs.Places.{place_file}
 use Rattle.jn_program_law.specs.FileProgram.{inferring}
 use Rattle.jn_annotate.specs.Annotated.{annotated, has_no_spelling}

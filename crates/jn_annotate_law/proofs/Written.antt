@@ -1,7 +1,7 @@
 -- All slots of annotated files are written as they were inferred.
 use Rattle.std.proofs.Common.{◌≡◌, ℕ, suc, ◌+◌, List, [], ◌∷◌, ◌++◌, length, refl, sym, ap, ◌∙◌, subst, arith, append_assoc, length-append}
 use Rattle.std.specs.Prelude.{drop, map, slice_index_or}
-use Rattle.std.proofs.lemmas.List.{append-nil, drop_at}
+use Rattle.std.proofs.lemmas.List.{append-nil}
 use Rattle.jn_base.specs.declared.infer.Infer.{Infer}
 use Rattle.jn_classtable.specs.Inferred.{class_marks, marks, slots_by}
 use Rattle.jn_annotate_law.proofs.Marked.{marks_at}
@@ -30,7 +30,7 @@ use Rattle.jn_annotate_law.specs.Plain.{plain_head}
 use Rattle.jn_annotate_law.specs.Says.{Spelled, FilesSay}
 use Rattle.jn_annotate_law.proofs.Extracting.{heads_plain}
 use Rattle.jn_annotate_law.proofs.Positions.{quals_from, Stands, stands_left, stands_right, slots_append}
-use Rattle.jn_annotate_law.proofs.Classes.{marked_fields_long, marked_methods_long, type_fields_long, type_methods_long, types_walk}
+use Rattle.jn_annotate_law.proofs.Classes.{Parts, marked_fields_long, marked_methods_long, parts, type_fields_long, type_methods_long, types_walk}
 
 pub slots_all_append : (hs : List ClassHead) (xs ys : List ClassHead) → slots_of_all hs (xs ++ ys) ≡ slots_of_all hs xs ++ slots_of_all hs ys
 slots_all_append hs [] ys = refl
@@ -101,6 +101,21 @@ methods_from_long hs c k b (t ∷ types) ts g =
     ∙ ap (λ n. n + length later) (type_methods_long hs c (k + length (fields_slots hs x.fields)) b t ts g.0)
     ∙ ap (λ n. type_methods t + n) (methods_from_long hs (suc c) (k + length (class_slots hs x)) (b + bodies_of x.methods) types (behind ts (spell_type t)) g.1)
 
+-- of the first of files
+pub file_parts : (infer : Infer) (hs : List ClassHead) (types : List TypeDeclaration) (ys : List ClassHead) (c k b : ℕ) (fs restf : List Field) (ms restm : List Method) (ts : List Token) → let xs : List ClassHead = marks_at infer ts types in let c' : ℕ = c + length xs in let k' : ℕ = k + length (slots_of_all hs xs) in
+    fs ≡ fields_from hs c k (xs ++ ys) ++ restf → ms ≡ methods_from hs c k b (xs ++ ys) ++ restm → GoodTypes types →
+    Parts fs (fields_from hs c k xs) (fields_from hs c' k' ys ++ restf) ms (methods_from hs c k b xs) (methods_from hs c' k' (b + bodies_of_all xs) ys ++ restm) (file_fields types) (file_methods types)
+file_parts infer hs types ys c k b fs restf ms restm ts f m g =
+    let xs : List ClassHead = marks_at infer ts types in
+    let c' : ℕ = c + length xs in
+    let k' : ℕ = k + length (slots_of_all hs xs) in
+    let b' : ℕ = b + bodies_of_all xs in
+    let A : List Field = fields_from hs c k xs in
+    let D : List Method = methods_from hs c k b xs in
+    parts fs A (fields_from hs c' k' ys ++ restf) ms D (methods_from hs c' k' b' ys ++ restm) (file_fields types) (file_methods types)
+    (f ∙ ap (λ x. x ++ restf) (fields_from_append hs c k xs ys) ∙ append_assoc A (fields_from hs c' k' ys) restf) (m ∙ ap (λ x. x ++ restm) (methods_from_append hs c k b xs ys) ∙ append_assoc D (methods_from hs c' k' b' ys) restm)
+    (marked_from_long infer hs c k types ts) (marked_methods_from_long infer hs c k b types ts g)
+
 module _ (slots : List SlotInfo) (s : List Qualifier) (hs gs : List ClassHead) (same : map plain_head hs ≡ map plain_head gs) (sp : Spelled slots s) (infer : Infer) where
   files_walk : (tokens others : List (List Token)) (trees places : List PlacedFile) (c k b : ℕ) (fs restf : List Field) (ms restm : List Method) → AllPlaced tokens trees → AllPlaced others places → map forget_file places ≡ noted_files slots s (map forget_file trees) fs ms → fs ≡ fields_from hs c k (marks infer trees) ++ restf → ms ≡ methods_from hs c k b (marks infer trees) ++ restm → FilesSay slots s (map forget_file trees) fs ms → Stands slots s k (slots_of_all hs (marks infer trees)) → slots_of_all gs (marks infer places) ≡ map written_slot (quals_from s k (length (slots_of_all hs (marks infer trees))))
   files_walk [] others [] [] c k b fs restf ms restm p q e ef em say h = refl
@@ -127,13 +142,10 @@ module _ (slots : List SlotInfo) (s : List Qualifier) (hs gs : List ClassHead) (
       let B : List Field = fields_from hs c' k' ys ++ restf in
       let D : List Method = methods_from hs c k b xs in
       let E : List Method = methods_from hs c' k' b' ys ++ restm in
-      let cut_f : fs ≡ A ++ B = ef ∙ ap (λ x. fields_from hs c k x ++ restf) head_is ∙ ap (λ x. x ++ restf) (fields_from_append hs c k xs ys) ∙ append_assoc A (fields_from hs c' k' ys) restf in
-      let cut_m : ms ≡ D ++ E = em ∙ ap (λ x. methods_from hs c k b x ++ restm) head_is ∙ ap (λ x. x ++ restm) (methods_from_append hs c k b xs ys) ∙ append_assoc D (methods_from hs c' k' b' ys) restm in
-      let rest_f : drop (file_fields bare.types) fs ≡ B = ap (drop (file_fields bare.types)) cut_f ∙ drop_at A B (file_fields bare.types) (marked_from_long infer hs c k bare.types (at ts)) in
-      let rest_m : drop (file_methods bare.types) ms ≡ E = ap (drop (file_methods bare.types)) cut_m ∙ drop_at D E (file_methods bare.types) (marked_methods_from_long infer hs c k b bare.types (at ts) p.0.0.0) in
+      let cut = file_parts infer hs bare.types ys c k b fs restf ms restm (at ts) (ef ∙ ap (λ x. fields_from hs c k x ++ restf) head_is) (em ∙ ap (λ x. methods_from hs c k b x ++ restm) head_is) p.0.0.0 in
       let whole : Stands slots s k (slots_of_all hs xs ++ slots_of_all hs ys) = subst (Stands slots s k) (ap (slots_of_all hs) head_is ∙ slots_all_append hs xs ys) h in
-      let one = types_walk slots s hs gs same sp infer bare.types c k b fs B ms E (at ts) (at us) cut_f cut_m p.0.0.0 say.0 (stands_left slots s k (slots_of_all hs xs) (slots_of_all hs ys) whole) in
-      let two = files_walk tokens others trees places c' k' b' (drop (file_fields bare.types) fs) restf (drop (file_methods bare.types) ms) restm p.1 q.1 others_is rest_f rest_m say.1 (stands_right slots s k (slots_of_all hs xs) (slots_of_all hs ys) whole) in
+      let one = types_walk slots s hs gs same sp infer bare.types c k b fs B ms E (at ts) (at us) cut.cut_f cut.cut_m p.0.0.0 say.0 (stands_left slots s k (slots_of_all hs xs) (slots_of_all hs ys) whole) in
+      let two = files_walk tokens others trees places c' k' b' (drop (file_fields bare.types) fs) restf (drop (file_methods bare.types) ms) restm p.1 q.1 others_is cut.rest_f cut.rest_m say.1 (stands_right slots s k (slots_of_all hs xs) (slots_of_all hs ys) whole) in
       ap (slots_of_all gs) new_is ∙ slots_all_append gs zs (marks infer places)
       ∙ slots_append slots s k (slots_of_all hs xs) (slots_of_all hs ys) (slots_of_all gs zs) (slots_of_all gs (marks infer places)) one two
       ∙ ap (λ x. map written_slot (quals_from s k (length x))) (sym (ap (slots_of_all hs) head_is ∙ slots_all_append hs xs ys))

@@ -4,18 +4,15 @@ use Rattle.std.specs.Prelude.{flat_map, map, IsTrue, slice_get, slice_index_or, 
 use Rattle.std.proofs.lemmas.Option.{slice_get-map}
 use Rattle.jn_base.specs.declared.number.SlotNo.{SlotNo}
 use Rattle.jn_quals.specs.Qualifier.{Qualifier}
-use Rattle.jn_quals.specs.Order.{no_qual, null_only, without_null, settle}
+use Rattle.jn_quals.specs.Order.{no_qual, without_null}
 use Rattle.jn_points.specs.declared.point.Operand.{Operand}
-use Rattle.jn_points.specs.declared.point.PointKind.{PointKind}
-use Rattle.jn_points.specs.declared.point.PointKind.TheVariants.{Const, Move, Unary, Binary, Concat, SameRef, FieldRead, FieldWrite, StaticRead, StaticWrite, ElemRead, ElemWrite, ArrayLen, NewArray, ArrayOf, New, CtorCall, Call, StrOp, Print, Cast, TestInst, TestNull, Branch, Goto, Return}
 use Rattle.jn_points.specs.declared.program.Program.{Program}
 use Rattle.jn_points.specs.declared.program.Method.{Method}
 use Rattle.jn_points.specs.Lookup.{slots_of, field_info, method_at, method_in}
 use Rattle.jn_sigs.specs.Signature.{starts_from, start_signature}
 use Rattle.jn_env.specs.Environment.{Env}
 use Rattle.jn_env.specs.Order.{QualsWithin, qual_at}
-use Rattle.jn_env.specs.Keys.{own_keys}
-use Rattle.jn_transfer.specs.Contributions.{is_inferred, IsSent, field_slot_of, receiver_slot_of, result_slot_of, sends, arg_sends, receiver_sends, return_sends, unset_sends, kind_sends}
+use Rattle.jn_transfer.specs.Contributions.{is_inferred, IsSent, field_slot_of, receiver_slot_of, result_slot_of, sends, arg_sends, receiver_sends, return_sends, kind_sends}
 use Rattle.jn_transfer.specs.Pairs.{under, slot_sends, slots_sends, override_sends, pair_sends}
 use Rattle.jn_transfer.specs.Closing.{IsClosed, IsNotBelowStart}
 use Rattle.jn_bare_law.specs.Written.{written_slot, IsWritten}
