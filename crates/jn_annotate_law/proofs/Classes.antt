@@ -113,10 +113,6 @@ with_count n ms = here (has_constructor ms)
     here true = omega arith
     here false = length-append ms (unwritten_constructor n ∷ [])
 
-pub type_fields_long : (hs : List ClassHead) (c k : ℕ) (t : TypeDeclaration) (ts : List Token) → length (fields_of hs c k (class_head (place_type ts t)).fields) ≡ type_fields t
-type_fields_long hs c k (ClassType marks n parent interfaces members) ts = fields_of_long hs c k (class_head (place_type ts (ClassType marks n parent interfaces members))).fields ∙ fields_count members _
-type_fields_long hs c k (InterfaceType marks n parents members) ts = fields_of_long hs c k (class_head (place_type ts (InterfaceType marks n parents members))).fields ∙ fields_count members _
-
 pub type_methods_long : (hs : List ClassHead) (c k b : ℕ) (t : TypeDeclaration) (ts : List Token) → GoodType t → length (methods_of hs c k b (class_head (place_type ts t)).methods) ≡ type_methods t
 type_methods_long hs c k b (ClassType marks n parent interfaces members) ts g =
     let at : List Token = behind ts (spell_all_marks marks ++ Class ∷ []) in

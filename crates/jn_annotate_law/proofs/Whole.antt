@@ -99,9 +99,6 @@ module _ (P : Program) (s : List Qualifier) (can : IsInferable P) (is : IsLeastS
 
 -- ---- slots by a choice
 
-no_slot : SlotInfo
-no_slot = record { start = no_qual; inferred = false }
-
 as_many : (xs ys : List SlotInfo) → length xs ≡ length ys → map bare_slot xs ≡ map bare_slot ys
 as_many [] [] e = refl
 as_many [] (y ∷ ys) e = absurd (omega (arith, e))

@@ -30,7 +30,7 @@ use Rattle.jn_annotate_law.specs.Plain.{plain_head}
 use Rattle.jn_annotate_law.specs.Says.{Spelled, FilesSay}
 use Rattle.jn_annotate_law.proofs.Extracting.{heads_plain}
 use Rattle.jn_annotate_law.proofs.Positions.{quals_from, Stands, stands_left, stands_right, slots_append}
-use Rattle.jn_annotate_law.proofs.Classes.{Parts, marked_fields_long, marked_methods_long, parts, type_fields_long, type_methods_long, types_walk}
+use Rattle.jn_annotate_law.proofs.Classes.{Parts, marked_fields_long, marked_methods_long, parts, type_methods_long, types_walk}
 
 pub slots_all_append : (hs : List ClassHead) (xs ys : List ClassHead) → slots_of_all hs (xs ++ ys) ≡ slots_of_all hs xs ++ slots_of_all hs ys
 slots_all_append hs [] ys = refl
@@ -82,15 +82,6 @@ marked_methods_from_long infer hs c k b (t ∷ types) ts g =
     length-append (methods_of hs c (k + length (fields_slots hs x.fields)) b x.methods) later
     ∙ ap (λ n. n + length later) (marked_methods_long infer hs c (k + length (fields_slots hs x.fields)) b t ts g.0)
     ∙ ap (λ n. type_methods t + n) (marked_methods_from_long infer hs (suc c) (k + length (class_slots hs x)) (b + bodies_of x.methods) types (behind ts (spell_type t)) g.1)
-
-pub fields_from_long : (hs : List ClassHead) (c k : ℕ) (types : List TypeDeclaration) (ts : List Token) → length (fields_from hs c k (heads_at ts types)) ≡ file_fields types
-fields_from_long hs c k [] ts = refl
-fields_from_long hs c k (t ∷ types) ts =
-    let x : ClassHead = class_head (place_type ts t) in
-    let a = length-append (fields_of hs c k x.fields) (fields_from hs (suc c) (k + length (class_slots hs x)) (heads_at (behind ts (spell_type t)) types)) in
-    let b = type_fields_long hs c k t ts in
-    let d = fields_from_long hs (suc c) (k + length (class_slots hs x)) types (behind ts (spell_type t)) in
-    a ∙ ap (λ n. n + length (fields_from hs (suc c) (k + length (class_slots hs x)) (heads_at (behind ts (spell_type t)) types))) b ∙ ap (λ n. type_fields t + n) d
 
 pub methods_from_long : (hs : List ClassHead) (c k b : ℕ) (types : List TypeDeclaration) (ts : List Token) → GoodTypes types → length (methods_from hs c k b (heads_at ts types)) ≡ file_methods types
 methods_from_long hs c k b [] ts g = refl
