@@ -17,7 +17,11 @@ use Rattle.jn_transfer.specs.Contributions.{is_inferred}
 use Rattle.jn_trees.specs.declared.token.Token.{Token}
 use Rattle.jn_trees.specs.Trees.{MemberTree, FieldMember, MethodMember, ConstructorMember, TypeDeclaration, ClassType, InterfaceType, SourceTree}
 use Rattle.jn_places.specs.Placed.{PlacedFile}
+use Rattle.jn_trees.specs.declared.declaration.FileTree.{FileTree}
+use Rattle.jn_trees.specs.View.{file_view}
 use Rattle.jn_places.specs.Forget.{forget_file}
+use Rattle.jn_places.specs.PlacedView.{placed_file}
+use Rattle.jn_places.proofs.ViewForgotten.{file_seen}
 use Rattle.jn_classtable.specs.Extract.{heads}
 use Rattle.jn_program_law.specs.FileProgram.{inferring, rows_of_files}
 use Rattle.jn_program_law.proofs.Marks.{inferring_regular}
@@ -33,7 +37,7 @@ use Rattle.jn_inference_law.specs.Solution.{IsLeastSignature}
 use Rattle.jn_annotate.specs.Insertions.{type_fields, type_methods, file_fields, file_methods, first_slot, qual_where, inferred_qual}
 use Rattle.jn_annotate.specs.Annotated.{Annotated, has_no_spelling, has_shared_type, HasNone, same_qual, slot_inferred, differs, members_of, shared_in_members, shared_in_types, shared_from}
 use Rattle.jn_annotate_law.specs.Meaning.{TextsLexed, AllPlaced}
-use Rattle.jn_annotate_law.specs.Kept.{Kept, KeptWhole}
+use Rattle.jn_annotate_law.specs.Kept.{Kept, KeptRowless}
 use Rattle.jn_annotate_law.proofs.AllRows.{no_rows_more}
 use Rattle.jn_annotate_law.specs.Trees.{noted_files}
 use Rattle.jn_annotate_law.specs.Says.{FieldsSay, MembersSay, TypeSays, TypesSay, FilesSay}
@@ -181,9 +185,23 @@ kept infer texts names new tokens trees s lexed placed can is annotated' =
     kept_all infer texts names new tokens trees s lexed placed can is (all_say infer tokens trees s placed can is annotated'.spelled annotated'.alone) annotated'
 
 -- and of files without rows
-pub kept_whole : (infer : Infer) (texts names new : List (List ℕ)) (tokens : List (List Token)) (trees : List PlacedFile) (s : List Qualifier) → let P = inferring infer trees in let bare = map forget_file trees in TextsLexed 0 known_names texts tokens names → AllPlaced tokens trees → rows_of_files trees ≡ [] → length P.fields < 2 ^ 32 → length P.methods < 2 ^ 32 → IsLeastSignature P s → Annotated P s texts tokens bare new → KeptWhole infer names trees s (noted_files P.slots s bare P.fields (drop 1 P.methods)) new
-kept_whole infer texts names new tokens trees s lexed placed rowless few_fields few_methods is annotated' =
+pub kept_rowless : (infer : Infer) (texts names new : List (List ℕ)) (tokens : List (List Token)) (trees : List PlacedFile) (s : List Qualifier) → let P = inferring infer trees in let bare = map forget_file trees in TextsLexed 0 known_names texts tokens names → AllPlaced tokens trees → rows_of_files trees ≡ [] → length P.fields < 2 ^ 32 → length P.methods < 2 ^ 32 → IsLeastSignature P s → Annotated P s texts tokens bare new → KeptRowless infer names trees s (noted_files P.slots s bare P.fields (drop 1 P.methods)) new
+kept_rowless infer texts names new tokens trees s lexed placed rowless few_fields few_methods is annotated' =
     let P : Program = inferring infer trees in
     let can : IsInferable P = regular_inferable P (inferring_regular infer trees (program_regular trees rowless few_fields few_methods)) in
     let all = kept infer texts names new tokens trees s lexed placed can is annotated' in
     record { kept = all; rowless = no_rows_more infer tokens all.tokens trees all.places s placed all.parsed all.trees_are rowless }
+
+-- ---- trees in memory
+
+views_are : (files : List FileTree) → map forget_file (map placed_file files) ≡ map file_view files
+views_are [] = refl
+views_are (f ∷ files) = ap (λ x. x ∷ map forget_file (map placed_file files)) (file_seen f) ∙ ap (λ r. file_view f ∷ r) (views_are files)
+
+-- as `annotate` is given them
+pub kept_answer : (infer : Infer) (texts names new : List (List ℕ)) (tokens : List (List Token)) (files : List FileTree) (s : List Qualifier) → let trees = map placed_file files in let P = inferring infer trees in let views = map file_view files in TextsLexed 0 known_names texts tokens names → AllPlaced tokens trees → rows_of_files trees ≡ [] → length P.fields < 2 ^ 32 → length P.methods < 2 ^ 32 → IsLeastSignature P s → Annotated P s texts tokens views new → KeptRowless infer names trees s (noted_files P.slots s views P.fields (drop 1 P.methods)) new
+kept_answer infer texts names new tokens files s lexed placed rowless few_fields few_methods is annotated' =
+    let trees : List PlacedFile = map placed_file files in
+    let P : Program = inferring infer trees in
+    subst (λ views. KeptRowless infer names trees s (noted_files P.slots s views P.fields (drop 1 P.methods)) new) (views_are files)
+    (kept_rowless infer texts names new tokens trees s lexed placed rowless few_fields few_methods is (subst (λ views. Annotated P s texts tokens views new) (sym (views_are files)) annotated'))

@@ -12,7 +12,10 @@ ghost use Rattle.jn_lexer.specs.Lexed.{Lexed};
 ghost use Rattle.jn_trees.specs.Pieces.{IsFile};
 ghost use Rattle.jn_trees.specs.Trees.{SourceTree};
 ghost use Rattle.jn_trees.specs.declared.token.Token.{Token};
+ghost use Rattle.jn_trees.specs.declared.declaration.FileTree.{FileTree};
+ghost use Rattle.jn_trees.specs.View.{file_view};
 ghost use Rattle.jn_places.specs.Forget.{forget_file};
+ghost use Rattle.jn_places.specs.PlacedView.{placed_file};
 ghost use Rattle.jn_places.specs.Placed.{PlacedFile};
 ghost use Rattle.jn_splice_law.specs.Inserted.{inserted};
 ghost use Rattle.jn_splice_law.specs.Woven.{IsNamed};
@@ -34,7 +37,7 @@ ghost use Rattle.jn_annotate_law.specs.Fits.{FilesFit, TypesFit};
 ghost use Rattle.jn_annotate.specs.Insertions.{in_file};
 ghost use Rattle.jn_annotate_law.specs.Trees.{both_names, noted_file, noted_files, nullity_names};
 ghost use Rattle.jn_annotate_law.specs.Says.{FilesSay, Spelled};
-ghost use Rattle.jn_annotate_law.specs.Kept.{Kept, KeptWhole};
+ghost use Rattle.jn_annotate_law.specs.Kept.{Kept, KeptRowless};
 ghost use Rattle.jn_lowering.specs.BodyRows.{rows_of_bodies};
 ghost use Rattle.jn_program_law.specs.FileSources.{sources};
 ghost use Rattle.jn_program_law.specs.FileProgram.{inferring, j_rows, program_of_files, rows_of_files};
@@ -224,9 +227,27 @@ pub fn annotating_keeps_meaning()
         → length (inferring infer trees).methods < 2 ^ 32
         → IsLeastSignature (inferring infer trees) s
         → Annotated (inferring infer trees) s texts tokens (map forget_file trees) new
-        → KeptWhole infer names trees s
+        → KeptRowless infer names trees s
         (noted_files (inferring infer trees).slots s (map forget_file trees)
         (inferring infer trees).fields (drop 1 (inferring infer trees).methods))
+        new }
+{}
+
+/// So does what `annotate` answers, of trees in memory.
+pub fn annotated_answers_keep_meaning()
+    ensures { (infer : Infer) (texts names new : List (List ℕ)) (tokens : List (List Token))
+        (files : List FileTree) (s : List Qualifier)
+        → TextsLexed 0 known_names texts tokens names → AllPlaced tokens (map placed_file files)
+        → rows_of_files (map placed_file files) ≡ []
+        → length (inferring infer (map placed_file files)).fields < 2 ^ 32
+        → length (inferring infer (map placed_file files)).methods < 2 ^ 32
+        → IsLeastSignature (inferring infer (map placed_file files)) s
+        → Annotated (inferring infer (map placed_file files)) s texts tokens (map file_view files)
+        new
+        → KeptRowless infer names (map placed_file files) s
+        (noted_files (inferring infer (map placed_file files)).slots s (map file_view files)
+        (inferring infer (map placed_file files)).fields
+        (drop 1 (inferring infer (map placed_file files)).methods))
         new }
 {}
 
@@ -239,7 +260,7 @@ pub fn annotating_keeps_the_meaning_of_tables(table: &ClassTable)
         → TextsLexed 0 known_names texts tokens names → AllPlaced tokens trees
         → IsLeastSignature (inferring infer trees) s
         → Annotated (inferring infer trees) s texts tokens (map forget_file trees) new
-        → KeptWhole infer names trees s
+        → KeptRowless infer names trees s
         (noted_files (inferring infer trees).slots s (map forget_file trees)
         (inferring infer trees).fields (drop 1 (inferring infer trees).methods))
         new }
