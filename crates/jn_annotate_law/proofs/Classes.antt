@@ -3,6 +3,9 @@ use Rattle.std.proofs.Common.{◌≡◌, ℕ, suc, ◌+◌, Bool, true, false, c
 use Rattle.std.specs.Prelude.{drop, map, flat_map}
 use Rattle.std.proofs.lemmas.Bool.{false≢true}
 use Rattle.std.proofs.lemmas.List.{append-nil, drop_at}
+use Rattle.jn_base.specs.declared.infer.Infer.{Infer}
+use Rattle.jn_classtable.specs.Inferred.{class_marks}
+use Rattle.jn_annotate_law.proofs.Marked.{constructors_same, fields_at, fields_long, marks_at, methods_at, methods_long}
 use Rattle.jn_quals.specs.Qualifier.{Qualifier}
 use Rattle.jn_points.specs.declared.program.Field.{Field}
 use Rattle.jn_points.specs.declared.program.Method.{Method}
@@ -14,7 +17,7 @@ use Rattle.jn_trees.specs.declared.expression.Identifier.{Identifier}
 use Rattle.jn_trees.specs.Trees.{MemberTree, FieldMember, MethodMember, ConstructorMember, TypeDeclaration, ClassType, InterfaceType}
 use Rattle.jn_trees.specs.WellFormed.{GoodMembers, GoodType, GoodTypes}
 use Rattle.jn_trees.specs.Spelling.{spell_all_marks, spell_type_use, spell_declarator, spell_parent, spell_names, spell_member, spell_type}
-use Rattle.jn_places.specs.Places.{behind, place_name, place_member, place_members, place_type, place_each, place_marks, place_type_use}
+use Rattle.jn_places.specs.Places.{behind, place_name, place_member, place_members, place_type, place_marks, place_type_use}
 use Rattle.jn_classtable.specs.declared.head.FieldHead.{FieldHead}
 use Rattle.jn_classtable.specs.declared.head.MethodHead.{MethodHead}
 use Rattle.jn_classtable.specs.declared.head.ClassHead.{ClassHead}
@@ -110,10 +113,6 @@ with_count n ms = here (has_constructor ms)
     here true = omega arith
     here false = length-append ms (unwritten_constructor n ∷ [])
 
-pub type_fields_long : (hs : List ClassHead) (c k : ℕ) (t : TypeDeclaration) (ts : List Token) → length (fields_of hs c k (class_head (place_type ts t)).fields) ≡ type_fields t
-type_fields_long hs c k (ClassType marks n parent interfaces members) ts = fields_of_long hs c k (class_head (place_type ts (ClassType marks n parent interfaces members))).fields ∙ fields_count members _
-type_fields_long hs c k (InterfaceType marks n parents members) ts = fields_of_long hs c k (class_head (place_type ts (InterfaceType marks n parents members))).fields ∙ fields_count members _
-
 pub type_methods_long : (hs : List ClassHead) (c k b : ℕ) (t : TypeDeclaration) (ts : List Token) → GoodType t → length (methods_of hs c k b (class_head (place_type ts t)).methods) ≡ type_methods t
 type_methods_long hs c k b (ClassType marks n parent interfaces members) ts g =
     let at : List Token = behind ts (spell_all_marks marks ++ Class ∷ []) in
@@ -126,61 +125,104 @@ type_methods_long hs c k b (InterfaceType marks n parents members) ts g =
     let inside : List Token = behind (drop 1 at) (spell_names Extends parents ++ LeftBrace ∷ []) in
     methods_of_long hs c k b (flat_map (method_heads true) (place_members inside members)) ∙ methods_count (record { interface = true; name = n }) true refl members inside g.1
 
+-- the same where members count as private that are inferred
+
+pub marked_fields_long : (infer : Infer) (hs : List ClassHead) (c k : ℕ) (t : TypeDeclaration) (ts : List Token) → length (fields_of hs c k (class_marks infer (place_type ts t)).fields) ≡ type_fields t
+marked_fields_long infer hs c k (ClassType marks n parent interfaces members) ts =
+    let inside : List Token = behind (behind (drop 1 (behind ts (spell_all_marks marks ++ Class ∷ []))) (spell_parent parent)) (spell_names Implements interfaces ++ LeftBrace ∷ []) in
+    fields_of_long hs c k (fields_at infer false inside members) ∙ fields_long infer false (place_members inside members) ∙ fields_count members inside
+marked_fields_long infer hs c k (InterfaceType marks n parents members) ts =
+    let inside : List Token = behind (drop 1 (behind ts (spell_all_marks marks ++ Interface ∷ []))) (spell_names Extends parents ++ LeftBrace ∷ []) in
+    fields_of_long hs c k (fields_at infer true inside members) ∙ fields_long infer true (place_members inside members) ∙ fields_count members inside
+
+pub marked_methods_long : (infer : Infer) (hs : List ClassHead) (c k b : ℕ) (t : TypeDeclaration) (ts : List Token) → GoodType t → length (methods_of hs c k b (class_marks infer (place_type ts t)).methods) ≡ type_methods t
+marked_methods_long infer hs c k b (ClassType marks n parent interfaces members) ts g =
+    let at : List Token = behind ts (spell_all_marks marks ++ Class ∷ []) in
+    let inside : List Token = behind (behind (drop 1 at) (spell_parent parent)) (spell_names Implements interfaces ++ LeftBrace ∷ []) in
+    let M : List MethodHead = methods_at infer false inside members in
+    methods_of_long hs c k b (with_constructor (place_name at n) M) ∙ with_count (place_name at n) M
+    ∙ ap (λ x. x + cond (has_constructor M) 0 1) (methods_long infer false (place_members inside members) ∙ methods_count (record { interface = false; name = n }) false refl members inside g.1)
+    ∙ ap (λ x. in_all methods_in members + cond x 0 1) (constructors_same infer false (place_members inside members))
+    ∙ ap (λ x. in_all methods_in members + x) (sym (constructor_count members inside))
+marked_methods_long infer hs c k b (InterfaceType marks n parents members) ts g =
+    let inside : List Token = behind (drop 1 (behind ts (spell_all_marks marks ++ Interface ∷ []))) (spell_names Extends parents ++ LeftBrace ∷ []) in
+    methods_of_long hs c k b (methods_at infer true inside members) ∙ methods_long infer true (place_members inside members) ∙ methods_count (record { interface = true; name = n }) true refl members inside g.1
+
+-- fields and methods that begin with those of one declaration, and what is behind them
+pub record Parts (fs A B : List Field) (ms D E : List Method) (fields methods : ℕ) : Type 0 where
+  pub cut_f : fs ≡ A ++ B
+  pub cut_m : ms ≡ D ++ E
+  pub rest_f : drop fields fs ≡ B
+  pub rest_m : drop methods ms ≡ E
+
+pub parts : (fs A B : List Field) (ms D E : List Method) (fields methods : ℕ) → fs ≡ A ++ B → ms ≡ D ++ E → length A ≡ fields → length D ≡ methods → Parts fs A B ms D E fields methods
+parts fs A B ms D E fields methods f m a d = record { cut_f = f; cut_m = m; rest_f = ap (drop fields) f ∙ drop_at A B fields a; rest_m = ap (drop methods) m ∙ drop_at D E methods d }
+
+-- of the first of types
+pub type_parts : (infer : Infer) (hs : List ClassHead) (t : TypeDeclaration) (types : List TypeDeclaration) (c k b : ℕ) (fs restf : List Field) (ms restm : List Method) (ts : List Token) → let x : ClassHead = class_marks infer (place_type ts t) in let xs : List ClassHead = marks_at infer (behind ts (spell_type t)) types in let k' : ℕ = k + length (class_slots hs x) in
+    fs ≡ fields_from hs c k (marks_at infer ts (t ∷ types)) ++ restf → ms ≡ methods_from hs c k b (marks_at infer ts (t ∷ types)) ++ restm → GoodType t →
+    Parts fs (fields_of hs c k x.fields) (fields_from hs (suc c) k' xs ++ restf) ms (methods_of hs c (k + length (fields_slots hs x.fields)) b x.methods) (methods_from hs (suc c) k' (b + bodies_of x.methods) xs ++ restm) (type_fields t) (type_methods t)
+type_parts infer hs t types c k b fs restf ms restm ts f m g =
+    let x : ClassHead = class_marks infer (place_type ts t) in
+    let xs : List ClassHead = marks_at infer (behind ts (spell_type t)) types in
+    let k' : ℕ = k + length (class_slots hs x) in
+    let b' : ℕ = b + bodies_of x.methods in
+    let n : ℕ = k + length (fields_slots hs x.fields) in
+    let A : List Field = fields_of hs c k x.fields in
+    let D : List Method = methods_of hs c n b x.methods in
+    parts fs A (fields_from hs (suc c) k' xs ++ restf) ms D (methods_from hs (suc c) k' b' xs ++ restm) (type_fields t) (type_methods t)
+    (f ∙ append_assoc A (fields_from hs (suc c) k' xs) restf) (m ∙ append_assoc D (methods_from hs (suc c) k' b' xs) restm)
+    (marked_fields_long infer hs c k t ts) (marked_methods_long infer hs c n b t ts g)
+
 -- ---- types
 
-module _ (slots : List SlotInfo) (s : List Qualifier) (hs gs : List ClassHead) (same : map plain_head hs ≡ map plain_head gs) (sp : Spelled slots s) where
-  type_walk : (t : TypeDeclaration) (c k b : ℕ) (restf : List Field) (restm : List Method) (ts us : List Token) → let h : ClassHead = class_head (place_type ts t) in let fs : List Field = fields_of hs c k h.fields ++ restf in let ms : List Method = methods_of hs c (k + length (fields_slots hs h.fields)) b h.methods ++ restm in GoodType t → TypeSays slots s t fs ms → Stands slots s k (class_slots hs h) → class_slots gs (class_head (place_type us (noted_type slots s t fs ms))) ≡ map written_slot (quals_from s k (length (class_slots hs h)))
+module _ (slots : List SlotInfo) (s : List Qualifier) (hs gs : List ClassHead) (same : map plain_head hs ≡ map plain_head gs) (sp : Spelled slots s) (infer : Infer) where
+  type_walk : (t : TypeDeclaration) (c k b : ℕ) (restf : List Field) (restm : List Method) (ts us : List Token) → let h : ClassHead = class_marks infer (place_type ts t) in let fs : List Field = fields_of hs c k h.fields ++ restf in let ms : List Method = methods_of hs c (k + length (fields_slots hs h.fields)) b h.methods ++ restm in GoodType t → TypeSays slots s t fs ms → Stands slots s k (class_slots hs h) → class_slots gs (class_marks infer (place_type us (noted_type slots s t fs ms))) ≡ map written_slot (quals_from s k (length (class_slots hs h)))
   type_walk (ClassType marks n parent interfaces members) c k b restf restm ts us g say h =
       let at : List Token → List Token = λ x. behind x (spell_all_marks marks ++ Class ∷ []) in
       let inside : List Token → List Token = λ x. behind (behind (drop 1 (at x)) (spell_parent parent)) (spell_names Implements interfaces ++ LeftBrace ∷ []) in
-      let F : List FieldHead = flat_map field_heads (place_members (inside ts) members) in
-      let M : List MethodHead = flat_map (method_heads false) (place_members (inside ts) members) in
+      let F : List FieldHead = fields_at infer false (inside ts) members in
+      let M : List MethodHead = methods_at infer false (inside ts) members in
       let k' : ℕ = k + length (fields_slots hs F) in
       let fs : List Field = fields_of hs c k F ++ restf in
       let ms : List Method = methods_of hs c k' b (with_constructor (place_name (at ts) n) M) ++ restm in
       let w = with_methods hs c k' b (place_name (at ts) n) M restm in
-      let M' : List Method → List MethodHead = λ x. flat_map (method_heads false) (place_members (inside us) (noted_members slots s n members fs x)) in
+      let M' : List Method → List MethodHead = λ x. methods_at infer false (inside us) (noted_members slots s n members fs x) in
       let S : List SlotInfo = methods_slots hs (with_constructor (place_name (at ts) n) M) in
       let stands = subst (Stands slots s k') (with_slots hs (place_name (at ts) n) M) (stands_right slots s k (fields_slots hs F) S h) in
-      let one = fields_walk slots s hs gs same sp n members ms c k restf (inside ts) (inside us) say (stands_left slots s k (fields_slots hs F) S h) in
-      let two = methods_walk slots s hs gs same sp (record { interface = false; name = n }) false refl n members fs c k' b w.0 (inside ts) (inside us) g.1 (subst (MembersSay slots s members fs) w.1 say) stands in
+      let one = fields_walk slots s hs gs same sp infer false n members ms c k restf (inside ts) (inside us) say (stands_left slots s k (fields_slots hs F) S h) in
+      let two = methods_walk slots s hs gs same sp infer (record { interface = false; name = n }) false refl n members fs c k' b w.0 (inside ts) (inside us) g.1 (subst (MembersSay slots s members fs) w.1 say) stands in
       let three : methods_slots gs (with_constructor (place_name (at us) n) (M' ms)) ≡ map written_slot (quals_from s k' (length S)) =
       with_slots gs (place_name (at us) n) (M' ms) ∙ ap (λ x. methods_slots gs (M' x)) w.1 ∙ two ∙ ap (λ x. map written_slot (quals_from s k' (length x))) (sym (with_slots hs (place_name (at ts) n) M)) in
-      slots_append slots s k (fields_slots hs F) S (fields_slots gs (flat_map field_heads (place_members (inside us) (noted_members slots s n members fs ms)))) (methods_slots gs (with_constructor (place_name (at us) n) (M' ms))) one three
+      slots_append slots s k (fields_slots hs F) S (fields_slots gs (fields_at infer false (inside us) (noted_members slots s n members fs ms))) (methods_slots gs (with_constructor (place_name (at us) n) (M' ms))) one three
   type_walk (InterfaceType marks n parents members) c k b restf restm ts us g say h =
       let inside : List Token → List Token = λ x. behind (drop 1 (behind x (spell_all_marks marks ++ Interface ∷ []))) (spell_names Extends parents ++ LeftBrace ∷ []) in
-      let F : List FieldHead = flat_map field_heads (place_members (inside ts) members) in
-      let M : List MethodHead = flat_map (method_heads true) (place_members (inside ts) members) in
+      let F : List FieldHead = fields_at infer true (inside ts) members in
+      let M : List MethodHead = methods_at infer true (inside ts) members in
       let k' : ℕ = k + length (fields_slots hs F) in
       let fs : List Field = fields_of hs c k F ++ restf in
       let ms : List Method = methods_of hs c k' b M ++ restm in
       let N : List MemberTree = noted_members slots s n members fs ms in
-      slots_append slots s k (fields_slots hs F) (methods_slots hs M) (fields_slots gs (flat_map field_heads (place_members (inside us) N))) (methods_slots gs (flat_map (method_heads true) (place_members (inside us) N)))
-      (fields_walk slots s hs gs same sp n members ms c k restf (inside ts) (inside us) say (stands_left slots s k (fields_slots hs F) (methods_slots hs M) h))
-      (methods_walk slots s hs gs same sp (record { interface = true; name = n }) true refl n members fs c k' b restm (inside ts) (inside us) g.1 say (stands_right slots s k (fields_slots hs F) (methods_slots hs M) h))
+      slots_append slots s k (fields_slots hs F) (methods_slots hs M) (fields_slots gs (fields_at infer true (inside us) N)) (methods_slots gs (methods_at infer true (inside us) N))
+      (fields_walk slots s hs gs same sp infer true n members ms c k restf (inside ts) (inside us) say (stands_left slots s k (fields_slots hs F) (methods_slots hs M) h))
+      (methods_walk slots s hs gs same sp infer (record { interface = true; name = n }) true refl n members fs c k' b restm (inside ts) (inside us) g.1 say (stands_right slots s k (fields_slots hs F) (methods_slots hs M) h))
 
-  abbrev heads_at : List Token → List TypeDeclaration → List ClassHead
-  heads_at ts types = map class_head (place_each place_type spell_type ts types)
-
-  pub types_walk : (types : List TypeDeclaration) (c k b : ℕ) (fs restf : List Field) (ms restm : List Method) (ts us : List Token) → fs ≡ fields_from hs c k (heads_at ts types) ++ restf → ms ≡ methods_from hs c k b (heads_at ts types) ++ restm → GoodTypes types → TypesSay slots s types fs ms → Stands slots s k (slots_of_all hs (heads_at ts types)) → slots_of_all gs (heads_at us (noted_types slots s types fs ms)) ≡ map written_slot (quals_from s k (length (slots_of_all hs (heads_at ts types))))
+  pub types_walk : (types : List TypeDeclaration) (c k b : ℕ) (fs restf : List Field) (ms restm : List Method) (ts us : List Token) → fs ≡ fields_from hs c k (marks_at infer ts types) ++ restf → ms ≡ methods_from hs c k b (marks_at infer ts types) ++ restm → GoodTypes types → TypesSay slots s types fs ms → Stands slots s k (slots_of_all hs (marks_at infer ts types)) → slots_of_all gs (marks_at infer us (noted_types slots s types fs ms)) ≡ map written_slot (quals_from s k (length (slots_of_all hs (marks_at infer ts types))))
   types_walk [] c k b fs restf ms restm ts us ef em g say h = refl
   types_walk (t ∷ types) c k b fs restf ms restm ts us ef em g say h =
-      let x : ClassHead = class_head (place_type ts t) in
+      let x : ClassHead = class_marks infer (place_type ts t) in
       let later : List Token = behind ts (spell_type t) in
-      let xs : List ClassHead = heads_at later types in
+      let xs : List ClassHead = marks_at infer later types in
       let k' : ℕ = k + length (class_slots hs x) in
       let b' : ℕ = b + bodies_of x.methods in
       let A : List Field = fields_of hs c k x.fields in
       let B : List Field = fields_from hs (suc c) k' xs ++ restf in
       let D : List Method = methods_of hs c (k + length (fields_slots hs x.fields)) b x.methods in
       let E : List Method = methods_from hs (suc c) k' b' xs ++ restm in
-      let cut_f : fs ≡ A ++ B = ef ∙ append_assoc A (fields_from hs (suc c) k' xs) restf in
-      let cut_m : ms ≡ D ++ E = em ∙ append_assoc D (methods_from hs (suc c) k' b' xs) restm in
-      let rest_f : drop (type_fields t) fs ≡ B = ap (drop (type_fields t)) cut_f ∙ drop_at A B (type_fields t) (type_fields_long hs c k t ts) in
-      let rest_m : drop (type_methods t) ms ≡ E = ap (drop (type_methods t)) cut_m ∙ drop_at D E (type_methods t) (type_methods_long hs c (k + length (fields_slots hs x.fields)) b t ts g.0) in
+      let p = type_parts infer hs t types c k b fs restf ms restm ts ef em g.0 in
       let new : TypeDeclaration = noted_type slots s t fs ms in
       let later' : List Token = behind us (spell_type new) in
-      let say' = subst (λ y. TypeSays slots s t (A ++ B) y) cut_m (subst (λ y. TypeSays slots s t y ms) cut_f say.0) in
-      let one = ap (λ y. class_slots gs (class_head (place_type us (noted_type slots s t y ms)))) cut_f ∙ ap (λ y. class_slots gs (class_head (place_type us (noted_type slots s t (A ++ B) y)))) cut_m ∙ type_walk t c k b B E ts us g.0 say' (stands_left slots s k (class_slots hs x) (slots_of_all hs xs) h) in
-      let two = types_walk types (suc c) k' b' (drop (type_fields t) fs) restf (drop (type_methods t) ms) restm later later' rest_f rest_m g.1 say.1 (stands_right slots s k (class_slots hs x) (slots_of_all hs xs) h) in
-      slots_append slots s k (class_slots hs x) (slots_of_all hs xs) (class_slots gs (class_head (place_type us new))) (slots_of_all gs (heads_at later' (noted_types slots s types (drop (type_fields t) fs) (drop (type_methods t) ms)))) one two
+      let say' = subst (λ y. TypeSays slots s t (A ++ B) y) p.cut_m (subst (λ y. TypeSays slots s t y ms) p.cut_f say.0) in
+      let one = ap (λ y. class_slots gs (class_marks infer (place_type us (noted_type slots s t y ms)))) p.cut_f ∙ ap (λ y. class_slots gs (class_marks infer (place_type us (noted_type slots s t (A ++ B) y)))) p.cut_m ∙ type_walk t c k b B E ts us g.0 say' (stands_left slots s k (class_slots hs x) (slots_of_all hs xs) h) in
+      let two = types_walk types (suc c) k' b' (drop (type_fields t) fs) restf (drop (type_methods t) ms) restm later later' p.rest_f p.rest_m g.1 say.1 (stands_right slots s k (class_slots hs x) (slots_of_all hs xs) h) in
+      slots_append slots s k (class_slots hs x) (slots_of_all hs xs) (class_slots gs (class_marks infer (place_type us new))) (slots_of_all gs (marks_at infer later' (noted_types slots s types (drop (type_fields t) fs) (drop (type_methods t) ms)))) one two

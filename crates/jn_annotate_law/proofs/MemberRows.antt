@@ -16,13 +16,12 @@ use Rattle.jn_trees.specs.Trees.{BaseTree, ClassBase, IntBase, BooleanBase, Tree
 use Rattle.jn_trees.specs.declared.expression.UnaryOperator.TheVariants.{Plus as PlusSign, Minus as MinusSign, Not as NotSign}
 use Rattle.jn_trees.specs.Spelling.{spell_mark, spell_all_marks, spell_type_use, spell_declarator}
 use Rattle.jn_places.specs.Places.{behind, place, place_base, place_type_use, place_value, place_mark, place_marks, place_declarator, place_next_declarator, spell_next_declarator, place_more_declarators, place_result, place_member}
-use Rattle.jn_classtable.specs.declared.notes.Word.TheVariants.{Private as PrivateWord}
 use Rattle.jn_classtable.specs.declared.head.Notes.{Notes}
 use Rattle.jn_classtable.specs.declared.head.TypeHead.{TypeHead}
 use Rattle.jn_classtable.specs.declared.head.ClassHead.{ClassHead}
 use Rattle.jn_classtable.specs.Types.{slot_of, field_qual, written_qual, is_position, result_slots}
 use Rattle.jn_classtable.specs.Table.{slot_at, result_slot}
-use Rattle.jn_classtable.specs.Extract.{has_word, modifier_notes, type_head, result_head}
+use Rattle.jn_classtable.specs.Extract.{modifier_notes, type_head, result_head}
 use Rattle.jn_lowering.specs.Annotations.{Allowed, row, when, both_kinds, of_field, annotation_rows, type_rows, name_row}
 use Rattle.jn_lowering.specs.FileRows.{notes_of, is_static_mark, has_static, without_override, is_number_tree, is_int_start, is_truth_start, starts, all_start, is_primitive_base, is_plain, is_static_start, names_rows, result_rows, head_rows, first_mark}
 use Rattle.jn_annotate.specs.Insertions.{inferred_qual}
@@ -241,8 +240,8 @@ module _ (slots : List SlotInfo) (s : List Qualifier) (hs : List ClassHead) wher
 
   -- ---- members
 
-  pub field_stays : (interface : Bool) (marks : List Mark) (u : TypeUseTree) (d : DeclaratorTree) (ds : List DeclaratorTree) (k : ℕ) (ts us : List Token) → let K : TypeHead = type_head (modifier_notes (place_marks ts marks)) (place_type_use (behind ts (spell_all_marks marks)) u) in let names : List NameNo = names_of nullity_names (inferred_qual slots s (slot_at (is_position hs K) k)) in Stands slots s k (cond (is_position hs K) (slot_of (has_word PrivateWord (place_marks ts marks)) K.notes (field_qual K.notes) ∷ []) []) → head_rows interface (place_member ts (FieldMember marks u d ds)) ≡ [] → head_rows interface (place_member us (FieldMember (noted_marks names u marks) (noted_use names u) d ds)) ≡ []
-  field_stays interface marks u d ds k ts us h e =
+  pub field_stays : (interface : Bool) (marks : List Mark) (u : TypeUseTree) (d : DeclaratorTree) (ds : List DeclaratorTree) (k : ℕ) (secret : Bool) (ts us : List Token) → let K : TypeHead = type_head (modifier_notes (place_marks ts marks)) (place_type_use (behind ts (spell_all_marks marks)) u) in let names : List NameNo = names_of nullity_names (inferred_qual slots s (slot_at (is_position hs K) k)) in Stands slots s k (cond (is_position hs K) (slot_of secret K.notes (field_qual K.notes) ∷ []) []) → head_rows interface (place_member ts (FieldMember marks u d ds)) ≡ [] → head_rows interface (place_member us (FieldMember (noted_marks names u marks) (noted_use names u) d ds)) ≡ []
+  field_stays interface marks u d ds k secret ts us h e =
       let t1 : List Token = behind ts (spell_all_marks marks) in
       let N : Notes = modifier_notes (place_marks ts marks) in
       let K : TypeHead = type_head N (place_type_use t1 u) in
@@ -280,7 +279,7 @@ module _ (slots : List SlotInfo) (s : List Qualifier) (hs : List ClassHead) wher
       let f = no_rows_right A (B ++ C) e in
       let g = no_rows_left B C f in
       no_rows_both (type_rows (place_type_use u1 u') of_field Y) (names_rows (E ∷ place_more_declarators u3 ds) ++ cond interface (row J5 at_new) (when b (row J5 at_new)))
-      (position_stays slots s hs of_field nullity_names nullity_clear u k (has_word PrivateWord (place_marks ts marks)) N (field_qual K.notes) t1 u1 X Y is h more (no_rows_left A (B ++ C) e))
+      (position_stays slots s hs of_field nullity_names nullity_clear u k secret N (field_qual K.notes) t1 u1 X Y is h more (no_rows_left A (B ++ C) e))
       (no_rows_both (names_rows (E ∷ place_more_declarators u3 ds)) (cond interface (row J5 at_new) (when b (row J5 at_new)))
       (no_rows_both (name_row d.name.0 E.name.span) (names_rows (place_more_declarators u3 ds)) (name_stays d.name.0 D.name.span E.name.span (no_rows_left B1 B2 g)) (more_names_stay t3 u3 ds (no_rows_right B1 B2 g)))
       (static_stays interface a b at_old at_new same (no_rows_right B C f)))

@@ -1,9 +1,13 @@
 -- Annotated files have no row J5 outside bodies where they had none.
-use Rattle.std.proofs.Common.{◌≡◌, ℕ, ◌+◌, Bool, true, false, not, ◌&&◌, List, [], ◌∷◌, ◌++◌, length, Option, Some, None, refl, sym, ap, ◌∙◌, subst, append_assoc}
+use Rattle.std.proofs.Common.{◌≡◌, ℕ, ◌+◌, Bool, true, false, not, ◌&&◌, List, [], ◌∷◌, ◌++◌, length, Option, Some, None, refl, sym, ap, ◌∙◌, subst}
 use Rattle.std.specs.Prelude.{drop, map, eqb}
-use Rattle.std.proofs.lemmas.List.{append-nil, drop_at}
+use Rattle.std.proofs.lemmas.List.{append-nil}
 use Rattle.jn_base.specs.declared.place.Row.{Row}
 use Rattle.jn_base.specs.declared.number.NameNo.{NameNo}
+use Rattle.jn_base.specs.declared.infer.Infer.{Infer}
+use Rattle.jn_classtable.specs.Inferred.{class_marks, marks}
+use Rattle.jn_annotate_law.proofs.Marked.{marks_at}
+use Rattle.jn_annotate_law.proofs.Tabled.{table_by}
 use Rattle.jn_quals.specs.Qualifier.{Qualifier}
 use Rattle.jn_known.specs.Known.{org_name}
 use Rattle.jn_points.specs.declared.program.Field.{Field}
@@ -18,14 +22,14 @@ use Rattle.jn_places.specs.Places.{behind, spell_next_name, place_next_names, pl
 use Rattle.jn_places.specs.Forget.{forget_file}
 use Rattle.jn_classtable.specs.declared.head.ClassHead.{ClassHead}
 use Rattle.jn_classtable.specs.Types.{slots_of_all}
-use Rattle.jn_classtable.specs.Table.{fields_from, methods_from, bodies_of_all, table}
-use Rattle.jn_classtable.specs.Extract.{class_head, heads}
+use Rattle.jn_classtable.specs.Table.{fields_from, methods_from, bodies_of_all}
+use Rattle.jn_classtable.specs.Extract.{heads}
 use Rattle.jn_lowering.specs.FileRows.{types_rows, is_under, import_row, import_rows, same_names, same_package, package_row, package_behind, files_rows, outside_rows}
 use Rattle.jn_annotate.specs.Insertions.{file_fields, file_methods}
 use Rattle.jn_annotate_law.specs.Trees.{noted_types, noted_file, noted_files}
 use Rattle.jn_annotate_law.specs.Meaning.{AllPlaced}
 use Rattle.jn_annotate_law.proofs.Positions.{Stands, stands_left, stands_right}
-use Rattle.jn_annotate_law.proofs.Written.{heads_at, slots_all_append, fields_from_append, fields_from_long, methods_from_append, methods_from_long}
+use Rattle.jn_annotate_law.proofs.Written.{file_parts, slots_all_append}
 use Rattle.jn_annotate_law.proofs.NoteRows.{no_rows_left, no_rows_right, no_rows_both}
 use Rattle.jn_annotate_law.proofs.MemberRows.{when_stays}
 use Rattle.jn_annotate_law.proofs.TypeRows.{types_stay}
@@ -100,8 +104,8 @@ imports_stay ts us (i ∷ is) e =
 
 -- ---- files
 
-module _ (slots : List SlotInfo) (s : List Qualifier) (hs : List ClassHead) where
-  files_stay : (tokens others : List (List Token)) (trees places : List PlacedFile) (f g : Option PlacedDotted) (c k b : ℕ) (fs restf : List Field) (ms restm : List Method) → AllPlaced tokens trees → AllPlaced others places → map forget_file places ≡ noted_files slots s (map forget_file trees) fs ms → fs ≡ fields_from hs c k (heads trees) ++ restf → ms ≡ methods_from hs c k b (heads trees) ++ restm → Stands slots s k (slots_of_all hs (heads trees)) → whole_of f ≡ whole_of g → files_rows f trees ≡ [] → files_rows g places ≡ []
+module _ (slots : List SlotInfo) (s : List Qualifier) (hs : List ClassHead) (infer : Infer) where
+  files_stay : (tokens others : List (List Token)) (trees places : List PlacedFile) (f g : Option PlacedDotted) (c k b : ℕ) (fs restf : List Field) (ms restm : List Method) → AllPlaced tokens trees → AllPlaced others places → map forget_file places ≡ noted_files slots s (map forget_file trees) fs ms → fs ≡ fields_from hs c k (marks infer trees) ++ restf → ms ≡ methods_from hs c k b (marks infer trees) ++ restm → Stands slots s k (slots_of_all hs (marks infer trees)) → whole_of f ≡ whole_of g → files_rows f trees ≡ [] → files_rows g places ≡ []
   files_stay [] others [] [] f g c k b fs restf ms restm p q e ef em h w r = refl
   files_stay [] others [] (place ∷ places) f g c k b fs restf ms restm p q e ef em h w r = cc
   files_stay [] others (tree ∷ trees) places f g c k b fs restf ms restm p q e ef em h w r = absurd p
@@ -113,9 +117,9 @@ module _ (slots : List SlotInfo) (s : List Qualifier) (hs : List ClassHead) wher
       let bare : SourceTree = forget_file tree in
       let line : List Token → List Token = λ x. behind x (spell_package_line bare.package_line) in
       let at : List Token → List Token = λ x. behind (line x) (spell_imports bare.imports) in
-      let xs : List ClassHead = heads_at (at ts) bare.types in
-      let ys : List ClassHead = heads trees in
-      let head_is : heads (tree ∷ trees) ≡ xs ++ ys = ap (λ (x : PlacedFile). map class_head x.types ++ ys) p.0.1 in
+      let xs : List ClassHead = marks_at infer (at ts) bare.types in
+      let ys : List ClassHead = marks infer trees in
+      let head_is : marks infer (tree ∷ trees) ≡ xs ++ ys = ap (λ (x : PlacedFile). map (class_marks infer) x.types ++ ys) p.0.1 in
       let first : forget_file place ≡ noted_file slots s bare fs ms = cc in
       let others_is : map forget_file places ≡ noted_files slots s (map forget_file trees) (drop (file_fields bare.types) fs) (drop (file_methods bare.types) ms) = cc in
       let noted : SourceTree = noted_file slots s bare fs ms in
@@ -127,10 +131,7 @@ module _ (slots : List SlotInfo) (s : List Qualifier) (hs : List ClassHead) wher
       let B : List Field = fields_from hs c' k' ys ++ restf in
       let D : List Method = methods_from hs c k b xs in
       let E : List Method = methods_from hs c' k' b' ys ++ restm in
-      let cut_f : fs ≡ A ++ B = ef ∙ ap (λ x. fields_from hs c k x ++ restf) head_is ∙ ap (λ x. x ++ restf) (fields_from_append hs c k xs ys) ∙ append_assoc A (fields_from hs c' k' ys) restf in
-      let cut_m : ms ≡ D ++ E = em ∙ ap (λ x. methods_from hs c k b x ++ restm) head_is ∙ ap (λ x. x ++ restm) (methods_from_append hs c k b xs ys) ∙ append_assoc D (methods_from hs c' k' b' ys) restm in
-      let rest_f : drop (file_fields bare.types) fs ≡ B = ap (drop (file_fields bare.types)) cut_f ∙ drop_at A B (file_fields bare.types) (fields_from_long hs c k bare.types (at ts)) in
-      let rest_m : drop (file_methods bare.types) ms ≡ E = ap (drop (file_methods bare.types)) cut_m ∙ drop_at D E (file_methods bare.types) (methods_from_long hs c k b bare.types (at ts) p.0.0.0) in
+      let cut = file_parts infer hs bare.types ys c k b fs restf ms restm (at ts) (ef ∙ ap (λ x. fields_from hs c k x ++ restf) head_is) (em ∙ ap (λ x. methods_from hs c k b x ++ restm) head_is) p.0.0.0 in
       let stands : Stands slots s k (slots_of_all hs xs ++ slots_of_all hs ys) = subst (Stands slots s k) (ap (slots_of_all hs) head_is ∙ slots_all_append hs xs ys) h in
       let r' = subst (λ x. files_rows f (x ∷ trees) ≡ []) p.0.1 r in
       let F : List Row = package_row f (place_package ts bare.package_line) in
@@ -146,15 +147,16 @@ module _ (slots : List SlotInfo) (s : List Qualifier) (hs : List ClassHead) wher
       let here : F' ++ (G' ++ H') ≡ [] =
       no_rows_both F' (G' ++ H') (package_stays f g bare.package_line ts us w (no_rows_left F (G ++ H) one))
       (no_rows_both G' H' (imports_stay (line ts) (line us) bare.imports (no_rows_left G H two))
-      (types_stay slots s hs bare.types c k b fs B ms E (at ts) (at us) cut_f cut_m p.0.0.0 (stands_left slots s k (slots_of_all hs xs) (slots_of_all hs ys) stands) (no_rows_right G H two))) in
+      (types_stay slots s hs infer bare.types c k b fs B ms E (at ts) (at us) cut.cut_f cut.cut_m p.0.0.0 (stands_left slots s k (slots_of_all hs xs) (slots_of_all hs ys) stands) (no_rows_right G H two))) in
       let later : K' ≡ [] =
-      files_stay tokens others trees places (package_behind f (place_package ts bare.package_line)) (package_behind g (place_package us bare.package_line)) c' k' b' (drop (file_fields bare.types) fs) restf (drop (file_methods bare.types) ms) restm p.1 q.1 others_is rest_f rest_m (stands_right slots s k (slots_of_all hs xs) (slots_of_all hs ys) stands) (behind_same f g bare.package_line ts us w) (no_rows_right (F ++ (G ++ H)) K r') in
+      files_stay tokens others trees places (package_behind f (place_package ts bare.package_line)) (package_behind g (place_package us bare.package_line)) c' k' b' (drop (file_fields bare.types) fs) restf (drop (file_methods bare.types) ms) restm p.1 q.1 others_is cut.rest_f cut.rest_m (stands_right slots s k (slots_of_all hs xs) (slots_of_all hs ys) stands) (behind_same f g bare.package_line ts us w) (no_rows_right (F ++ (G ++ H)) K r') in
       subst (λ x. files_rows g (x ∷ places) ≡ []) (sym new_is) (no_rows_both (F' ++ (G' ++ H')) K' here later)
 
-pub outside_stays : (tokens others : List (List Token)) (trees places : List PlacedFile) (s : List Qualifier) → let P = table (heads trees) in AllPlaced tokens trees → AllPlaced others places → map forget_file places ≡ noted_files P.slots s (map forget_file trees) P.fields (drop 1 P.methods) → outside_rows trees ≡ [] → outside_rows places ≡ []
-outside_stays tokens others trees places s p q e r =
+pub outside_stays : (infer : Infer) (tokens others : List (List Token)) (trees places : List PlacedFile) (s : List Qualifier) → let P = table_by infer trees in AllPlaced tokens trees → AllPlaced others places → map forget_file places ≡ noted_files P.slots s (map forget_file trees) P.fields (drop 1 P.methods) → outside_rows trees ≡ [] → outside_rows places ≡ []
+outside_stays infer tokens others trees places s p q e r =
     let hs : List ClassHead = heads trees in
-    let slots : List SlotInfo = slots_of_all hs hs in
-    let fs : List Field = fields_from hs 2 0 hs in
-    let ms : List Method = methods_from hs 2 0 1 hs in
-    files_stay slots s hs tokens others trees places None None 2 0 1 fs [] ms [] p q e (sym (append-nil fs)) (sym (append-nil ms)) (record { before = []; behind' = []; is = sym (append-nil slots); long = refl }) refl r
+    let xs : List ClassHead = marks infer trees in
+    let slots : List SlotInfo = slots_of_all hs xs in
+    let fs : List Field = fields_from hs 2 0 xs in
+    let ms : List Method = methods_from hs 2 0 1 xs in
+    files_stay slots s hs infer tokens others trees places None None 2 0 1 fs [] ms [] p q e (sym (append-nil fs)) (sym (append-nil ms)) (record { before = []; behind' = []; is = sym (append-nil slots); long = refl }) refl r

@@ -9,23 +9,14 @@ use Rattle.jn_points.specs.declared.program.SlotInfo.{SlotInfo}
 use Rattle.jn_quals.specs.Order.{no_qual}
 use Rattle.jn_points.specs.Lookup.{slots_of}
 use Rattle.jn_transfer.specs.Contributions.{field_slot_of, receiver_slot_of, result_slot_of}
+use Rattle.jn_bare_law.proofs.Sent.{Each, each_append}
 use Rattle.jn_classtable.specs.declared.head.TypeHead.{TypeHead}
 use Rattle.jn_classtable.specs.declared.head.FieldHead.{FieldHead}
 use Rattle.jn_classtable.specs.declared.head.ParamHead.{ParamHead}
 use Rattle.jn_classtable.specs.declared.head.MethodHead.{MethodHead}
 use Rattle.jn_classtable.specs.declared.head.ClassHead.{ClassHead}
-use Rattle.jn_classtable.specs.Heads.{all_heads}
 use Rattle.jn_classtable.specs.Types.{is_written, slot_of, written_qual, receiver_qual, is_position, has_receiver, field_slots, value_slots, params_slots, result_slots, receiver_slots, method_slots, fields_slots, methods_slots, class_slots, slots_of_all}
-use Rattle.jn_classtable.specs.Table.{slot_at, count, bodies_of, fields_of, fields_from, param_slots, result_slot, method_of, methods_of, methods_from, table}
-
--- what holds of each item
-abbrev pub Each : {A : Type 0} → (A → Type 0) → List A → Type 0
-Each F [] = Unit {0}
-Each F (x ∷ xs) = F x × Each F xs
-
-pub each_append : {A : Type 0} (F : A → Type 0) (xs ys : List A) → Each F xs → Each F ys → Each F (xs ++ ys)
-each_append F [] ys a b = b
-each_append F (x ∷ xs) ys a b = (a.0, each_append F xs ys a.1 b)
+use Rattle.jn_classtable.specs.Table.{slot_at, count, bodies_of, fields_of, fields_from, param_slots, result_slot, method_of, methods_of, methods_from}
 
 pub each_drop : {A : Type 0} (F : A → Type 0) (xs : List A) (n : ℕ) → Each F xs → Each F (drop n xs)
 each_drop F xs zero a = a
@@ -204,15 +195,12 @@ module _ (hs : List ClassHead) where
         (methods_play x.methods c n b (stand_right k (length (fields_slots hs x.fields)) (field_roles x.fields) (methods_roles x.methods) (fields_long x.fields) (stand_left k (class_roles x) (roles_of_all xs) h)))
         (all_methods_play xs (suc c) (k + length (class_slots hs x)) (b + bodies_of x.methods) (stand_right k (length (class_slots hs x)) (class_roles x) (roles_of_all xs) (class_long x) h))
 
-  -- the roles of a class table's slots
-  abbrev pub roles : List ℕ
-  roles = roles_of_all (all_heads hs)
+  -- the fields and methods of these classes play the roles of their slots
+  pub table_fields_play : (xs : List ClassHead) → Each (FieldPlays (roles_of_all xs)) (fields_from hs 0 0 xs)
+  table_fields_play xs = all_fields_play (roles_of_all xs) xs 0 0 (record { before = []; behind' = []; is = sym (append-nil (roles_of_all xs)); long = refl })
 
-  pub table_fields_play : Each (FieldPlays roles) (table hs).fields
-  table_fields_play = all_fields_play roles (all_heads hs) 0 0 (record { before = []; behind' = []; is = sym (append-nil roles); long = refl })
-
-  pub table_methods_play : Each (MethodPlays roles) (table hs).methods
-  table_methods_play = all_methods_play roles (all_heads hs) 0 0 0 (record { before = []; behind' = []; is = sym (append-nil roles); long = refl })
+  pub table_methods_play : (xs : List ClassHead) → Each (MethodPlays (roles_of_all xs)) (methods_from hs 0 0 0 xs)
+  table_methods_play xs = all_methods_play (roles_of_all xs) xs 0 0 0 (record { before = []; behind' = []; is = sym (append-nil (roles_of_all xs)); long = refl })
 
 -- ---- what receivers start with
 
@@ -266,12 +254,9 @@ module _ (hs : List ClassHead) where
   class_agrees : (h : ClassHead) → Agree (class_roles hs h) (class_slots hs h)
   class_agrees h = agree_append (field_roles hs h.fields) (methods_roles hs h.methods) (fields_slots hs h.fields) (methods_slots hs h.methods) (fields_long hs h.fields) (fields_agree h.fields) (methods_agree h.methods)
 
-  all_agree : (xs : List ClassHead) → Agree (roles_of_all hs xs) (slots_of_all hs xs)
+  pub all_agree : (xs : List ClassHead) → Agree (roles_of_all hs xs) (slots_of_all hs xs)
   all_agree [] = tt
   all_agree (x ∷ xs) = agree_append (class_roles hs x) (roles_of_all hs xs) (class_slots hs x) (slots_of_all hs xs) (class_long hs x) (class_agrees x) (all_agree xs)
-
-  pub table_agrees : Agree (roles hs) (table hs).slots
-  table_agrees = all_agree (all_heads hs)
 
 pub starts_agree : (ns : List ℕ) (xs : List SlotInfo) (i : ℕ) (info : SlotInfo) → Agree ns xs → slice_get ns i ≡ Some 1 → slice_get xs i ≡ Some info → info.start.null ≡ false
 starts_agree [] xs i info a r e = absurd (let f : ◌≡◌ {A = Option ℕ} None (Some 1) = r in cc)

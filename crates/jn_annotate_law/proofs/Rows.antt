@@ -14,13 +14,13 @@ use Rattle.jn_classtable.specs.Extract.{heads}
 use Rattle.jn_classtable.specs.Table.{table}
 use Rattle.jn_annotate.specs.Annotated.{annotated, has_no_spelling, has_shared_type}
 
-abbrev n : ℕ → NameNo
+abbrev pub n : ℕ → NameNo
 n i = record { 0 = i }
 
-abbrev tk : TokenKind → ℕ → ℕ → Token
+abbrev pub tk : TokenKind → ℕ → ℕ → Token
 tk k from to = record { kind = k; span = record { file = record { 0 = 0 }; from = from; to = to } }
 
-abbrev one_class : List MemberTree → SourceTree
+abbrev pub one_class : List MemberTree → SourceTree
 one_class members = record { package_line = None; imports = []; types = ClassType [] (n 30) None [] members ∷ [] }
 
 abbrev table_of : List Token → SourceTree → Program
@@ -29,7 +29,7 @@ table_of ts f = table (heads (place_file ts f ∷ []))
 abbrev new_text : List ℕ → List Token → SourceTree → List Qualifier → List (List ℕ)
 new_text text ts f s = annotated (table_of ts f) s (text ∷ []) (ts ∷ []) (f ∷ [])
 
-abbrev use_of : ℕ → Option (List NameNo) → TypeUseTree
+abbrev pub use_of : ℕ → Option (List NameNo) → TypeUseTree
 use_of i array = record { base = ClassBase (n i); array = array }
 
 -- a field that may be null

@@ -1,5 +1,5 @@
 -- The least signature says of fields and receivers what words can say, where each inferred slot has a spelling and no type is shared by fields that differ.
-use Rattle.std.proofs.Common.{◌≡◌, ℕ, zero, suc, ◌+◌, ◌<◌, Bool, true, false, not, cond, ◌&&◌, ◌||◌, List, [], ◌∷◌, length, Option, Some, None, refl, sym, ap, ◌∙◌, subst, arith}
+use Rattle.std.proofs.Common.{◌≡◌, ◌^◌, ℕ, zero, suc, ◌+◌, ◌<◌, Bool, true, false, not, cond, ◌&&◌, ◌||◌, List, [], ◌∷◌, length, Option, Some, None, refl, sym, ap, ◌∙◌, subst, arith}
 use Rattle.std.specs.Prelude.{drop, take, map, eqb, slice_get, slice_index_or}
 use Rattle.std.proofs.lemmas.Bool.{false≢true, true≢false, eq-eqb, or_parts}
 use Rattle.jn_base.specs.declared.number.SlotNo.{SlotNo}
@@ -17,18 +17,32 @@ use Rattle.jn_transfer.specs.Contributions.{is_inferred}
 use Rattle.jn_trees.specs.declared.token.Token.{Token}
 use Rattle.jn_trees.specs.Trees.{MemberTree, FieldMember, MethodMember, ConstructorMember, TypeDeclaration, ClassType, InterfaceType, SourceTree}
 use Rattle.jn_places.specs.Placed.{PlacedFile}
+use Rattle.jn_trees.specs.declared.declaration.FileTree.{FileTree}
+use Rattle.jn_trees.specs.View.{file_view}
 use Rattle.jn_places.specs.Forget.{forget_file}
+use Rattle.jn_places.specs.PlacedView.{placed_file}
+use Rattle.jn_places.proofs.ViewForgotten.{file_seen}
 use Rattle.jn_classtable.specs.Extract.{heads}
-use Rattle.jn_program_law.specs.FileProgram.{program_of_files}
+use Rattle.jn_program_law.specs.FileProgram.{inferring, rows_of_files}
+use Rattle.jn_program_law.proofs.Marks.{inferring_regular}
+use Rattle.jn_program_law.proofs.Program.{program_regular}
+use Rattle.jn_tables_law.proofs.Inferring.{regular_inferable}
+use Rattle.jn_base.specs.declared.infer.Infer.{Infer}
+use Rattle.jn_classtable.specs.Heads.{all_heads}
+use Rattle.jn_classtable.specs.declared.head.ClassHead.{ClassHead}
+use Rattle.jn_classtable.specs.Inferred.{marks}
+use Rattle.jn_annotate_law.proofs.Tabled.{fields_play_too, methods_play_too, says_same, shared_same, table_by}
 use Rattle.jn_tables_law.specs.Inferable.{IsInferable}
 use Rattle.jn_inference_law.specs.Solution.{IsLeastSignature}
 use Rattle.jn_annotate.specs.Insertions.{type_fields, type_methods, file_fields, file_methods, first_slot, qual_where, inferred_qual}
 use Rattle.jn_annotate.specs.Annotated.{Annotated, has_no_spelling, has_shared_type, HasNone, same_qual, slot_inferred, differs, members_of, shared_in_members, shared_in_types, shared_from}
 use Rattle.jn_annotate_law.specs.Meaning.{TextsLexed, AllPlaced}
-use Rattle.jn_annotate_law.specs.Kept.{Kept}
+use Rattle.jn_annotate_law.specs.Kept.{Kept, KeptRowless}
+use Rattle.jn_annotate_law.proofs.AllRows.{no_rows_more}
 use Rattle.jn_annotate_law.specs.Trees.{noted_files}
 use Rattle.jn_annotate_law.specs.Says.{FieldsSay, MembersSay, TypeSays, TypesSay, FilesSay}
-use Rattle.jn_annotate_law.proofs.Roles.{Each, each_drop, each_take, Plays, FieldPlays, MethodPlays, roles, table_fields_play, table_methods_play, Agree, table_agrees}
+use Rattle.jn_bare_law.proofs.Sent.{Each}
+use Rattle.jn_annotate_law.proofs.Roles.{each_drop, each_take, Plays, FieldPlays, MethodPlays, roles_of_all, table_fields_play, table_methods_play, Agree, all_agree}
 use Rattle.jn_annotate_law.proofs.Sending.{field_not_free, receiver_not_null}
 use Rattle.jn_annotate_law.proofs.Sharing.{info_at, Has, MembersShare, TypesShare, FilesShare, all_share}
 use Rattle.jn_annotate_law.proofs.Whole.{long, spelled, kept_all, receivers_start}
@@ -151,13 +165,43 @@ module _ (P : Program) (s : List Qualifier) where
           files_say trees (drop (file_fields f.types) fs) (drop (file_methods f.types) methods) h.1 (each_drop (FieldPlays roles) fs (file_fields f.types) p) (each_drop (MethodPlays roles) methods (file_methods f.types) r) (λ i. (parts i).1),
         )
 
-pub all_say : (tokens : List (List Token)) (trees : List PlacedFile) (s : List Qualifier) → let P = program_of_files trees in let bare = map forget_file trees in AllPlaced tokens trees → IsInferable P → IsLeastSignature P s → HasNone (has_no_spelling P s) → HasNone (has_shared_type P s bare) → FilesSay P.slots s bare P.fields (drop 1 P.methods)
-all_say tokens trees s placed can is none alone =
-    let P : Program = program_of_files trees in
-    let fields_play : Each (FieldPlays (roles (heads trees))) P.fields = table_fields_play (heads trees) in
-    let methods_play : Each (MethodPlays (roles (heads trees))) P.methods = table_methods_play (heads trees) in
-    files_say P s (roles (heads trees)) fields_play methods_play (table_agrees (heads trees)) can is none (map forget_file trees) P.fields (drop 1 P.methods)
-    (all_share tokens trees s placed) fields_play (each_drop (MethodPlays (roles (heads trees))) P.methods 1 methods_play) alone
+-- of the fields and methods of its class table, and of those in which members count as private that are inferred
+pub all_say : (infer : Infer) (tokens : List (List Token)) (trees : List PlacedFile) (s : List Qualifier) → let P = inferring infer trees in let bare = map forget_file trees in AllPlaced tokens trees → IsInferable P → IsLeastSignature P s → HasNone (has_no_spelling P s) → HasNone (has_shared_type P s bare) → FilesSay P.slots s bare P.fields (drop 1 P.methods)
+all_say infer tokens trees s placed can is none alone =
+    let P : Program = inferring infer trees in
+    let Q : Program = table_by infer trees in
+    let hs : List ClassHead = heads trees in
+    let xs : List ClassHead = all_heads (marks infer trees) in
+    let roles : List ℕ = roles_of_all hs xs in
+    let fields : Each (FieldPlays roles) Q.fields = table_fields_play hs xs in
+    let methods : Each (MethodPlays roles) Q.methods = table_methods_play hs xs in
+    (says_same P.slots s infer trees (map forget_file trees)).0
+    (files_say P s roles (fields_play_too roles infer trees fields) (methods_play_too roles infer trees methods) (all_agree hs xs) can is none (map forget_file trees) Q.fields (drop 1 Q.methods)
+    (all_share infer tokens trees s placed) fields (each_drop (MethodPlays roles) Q.methods 1 methods) (λ i. sym (shared_same P s infer trees (map forget_file trees) i) ∙ alone i))
 
-pub kept : (texts names new : List (List ℕ)) (tokens : List (List Token)) (trees : List PlacedFile) (s : List Qualifier) → let P = program_of_files trees in let bare = map forget_file trees in TextsLexed 0 known_names texts tokens names → AllPlaced tokens trees → IsInferable P → IsLeastSignature P s → Annotated P s texts tokens bare new → Kept names trees s (noted_files P.slots s bare P.fields (drop 1 P.methods)) new
-kept texts names new tokens trees s lexed placed can is annotated' = kept_all texts names new tokens trees s lexed placed can is (all_say tokens trees s placed can is annotated'.spelled annotated'.alone) annotated'
+-- the theorem, of programs that can be inferred
+pub kept : (infer : Infer) (texts names new : List (List ℕ)) (tokens : List (List Token)) (trees : List PlacedFile) (s : List Qualifier) → let P = inferring infer trees in let bare = map forget_file trees in TextsLexed 0 known_names texts tokens names → AllPlaced tokens trees → IsInferable P → IsLeastSignature P s → Annotated P s texts tokens bare new → Kept infer names trees s (noted_files P.slots s bare P.fields (drop 1 P.methods)) new
+kept infer texts names new tokens trees s lexed placed can is annotated' =
+    kept_all infer texts names new tokens trees s lexed placed can is (all_say infer tokens trees s placed can is annotated'.spelled annotated'.alone) annotated'
+
+-- and of files without rows
+pub kept_rowless : (infer : Infer) (texts names new : List (List ℕ)) (tokens : List (List Token)) (trees : List PlacedFile) (s : List Qualifier) → let P = inferring infer trees in let bare = map forget_file trees in TextsLexed 0 known_names texts tokens names → AllPlaced tokens trees → rows_of_files trees ≡ [] → length P.fields < 2 ^ 32 → length P.methods < 2 ^ 32 → IsLeastSignature P s → Annotated P s texts tokens bare new → KeptRowless infer names trees s (noted_files P.slots s bare P.fields (drop 1 P.methods)) new
+kept_rowless infer texts names new tokens trees s lexed placed rowless few_fields few_methods is annotated' =
+    let P : Program = inferring infer trees in
+    let can : IsInferable P = regular_inferable P (inferring_regular infer trees (program_regular trees rowless few_fields few_methods)) in
+    let all = kept infer texts names new tokens trees s lexed placed can is annotated' in
+    record { kept = all; rowless = no_rows_more infer tokens all.tokens trees all.places s placed all.parsed all.trees_are rowless }
+
+-- ---- trees in memory
+
+views_are : (files : List FileTree) → map forget_file (map placed_file files) ≡ map file_view files
+views_are [] = refl
+views_are (f ∷ files) = ap (λ x. x ∷ map forget_file (map placed_file files)) (file_seen f) ∙ ap (λ r. file_view f ∷ r) (views_are files)
+
+-- as `annotate` is given them
+pub kept_answer : (infer : Infer) (texts names new : List (List ℕ)) (tokens : List (List Token)) (files : List FileTree) (s : List Qualifier) → let trees = map placed_file files in let P = inferring infer trees in let views = map file_view files in TextsLexed 0 known_names texts tokens names → AllPlaced tokens trees → rows_of_files trees ≡ [] → length P.fields < 2 ^ 32 → length P.methods < 2 ^ 32 → IsLeastSignature P s → Annotated P s texts tokens views new → KeptRowless infer names trees s (noted_files P.slots s views P.fields (drop 1 P.methods)) new
+kept_answer infer texts names new tokens files s lexed placed rowless few_fields few_methods is annotated' =
+    let trees : List PlacedFile = map placed_file files in
+    let P : Program = inferring infer trees in
+    subst (λ views. KeptRowless infer names trees s (noted_files P.slots s views P.fields (drop 1 P.methods)) new) (views_are files)
+    (kept_rowless infer texts names new tokens trees s lexed placed rowless few_fields few_methods is (subst (λ views. Annotated P s texts tokens views new) (sym (views_are files)) annotated'))

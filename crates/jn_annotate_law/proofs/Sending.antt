@@ -1,13 +1,11 @@
 -- What is sent to a field isn't free, and what is sent to a receiver isn't null; so neither is what the least signature says of an inferred one.
-use Rattle.std.proofs.Common.{◌≡◌, ⊎_elim, ℕ, zero, suc, ◌+◌, ◌<◌, inl, inr, Bool, true, false, not, cond, ◌&&◌, ◌||◌, List, [], ◌∷◌, ◌++◌, length, Option, Some, None, refl, sym, ap, ◌∙◌, subst, arith}
+use Rattle.std.proofs.Common.{◌≡◌, ⊎_elim, ℕ, zero, suc, ◌+◌, ◌<◌, Bool, true, false, not, cond, ◌&&◌, ◌||◌, List, [], ◌∷◌, ◌++◌, length, Option, Some, None, refl, sym, ap, ◌∙◌, subst, arith}
 use Rattle.std.specs.Prelude.{IsTrue, eqb, flat_map, slice_get, slice_index_or}
 use Rattle.std.proofs.lemmas.Bool.{true≢false, eqb-true, cases_lt}
 use Rattle.jn_base.specs.declared.number.SlotNo.{SlotNo}
 use Rattle.jn_quals.specs.Qualifier.{Qualifier}
-use Rattle.jn_quals.specs.Order.{no_qual, null_only, committed_only, without_null, without_free, settle, within}
+use Rattle.jn_quals.specs.Order.{no_qual, committed_only, without_null, without_free, within}
 use Rattle.jn_points.specs.declared.point.Operand.{Operand}
-use Rattle.jn_points.specs.declared.point.PointKind.{PointKind}
-use Rattle.jn_points.specs.declared.point.PointKind.TheVariants.{Const, Move, Unary, Binary, Concat, SameRef, FieldRead, FieldWrite, StaticRead, StaticWrite, ElemRead, ElemWrite, ArrayLen, New, NewArray, ArrayOf, CtorCall, Call, StrOp, Print, Cast, TestInst, TestNull, Branch, Goto, Return}
 use Rattle.jn_points.specs.declared.program.Body.{Body}
 use Rattle.jn_points.specs.declared.program.SlotInfo.{SlotInfo}
 use Rattle.jn_points.specs.declared.program.Program.{Program}
@@ -15,15 +13,15 @@ use Rattle.jn_points.specs.Lookup.{slots_of, body_at, field_info, method_at, met
 use Rattle.jn_sigs.specs.Signature.{uncalled_from, starts_from, start_signature}
 use Rattle.jn_env.specs.Environment.{Env}
 use Rattle.jn_env.specs.Order.{qual_at}
-use Rattle.jn_env.specs.Keys.{is_on, own_keys}
 use Rattle.jn_env.proofs.Order.{quals_at}
-use Rattle.jn_transfer.specs.Contributions.{IsSent, is_inferred, result_slot_of, receiver_slot_of, field_slot_of, sends, arg_sends, receiver_sends, return_sends, unset_sends, kind_sends}
+use Rattle.jn_transfer.specs.Contributions.{IsSent, is_inferred, result_slot_of, receiver_slot_of, field_slot_of, sends, arg_sends, receiver_sends, return_sends, kind_sends}
 use Rattle.jn_quals.proofs.Order.{within_refl}
 use Rattle.jn_transfer.specs.Pairs.{under, slot_sends, slots_sends, override_sends, pair_sends}
 use Rattle.jn_contrib.proofs.Sent.{of_a_point}
 use Rattle.jn_tables_law.specs.Inferable.{IsInferable, least_table, least_sends}
 use Rattle.jn_inference_law.specs.Solution.{IsLeastSignature}
-use Rattle.jn_annotate_law.proofs.Roles.{Each, Plays, FieldPlays, MethodPlays, MethodAt, field_plays, method_at_plays}
+use Rattle.jn_bare_law.proofs.Sent.{Each, HoldsOfSends, each_append, each_sent, points_send}
+use Rattle.jn_annotate_law.proofs.Roles.{Plays, FieldPlays, MethodPlays, MethodAt, field_plays, method_at_plays}
 use Rattle.jn_annotate_law.proofs.Trimmed.{trims, trims_at, trims_past, IsNeedless, trimmed, written_stays}
 
 -- ---- qualifiers without a bit
@@ -61,10 +59,6 @@ module _ (P : Program) (roles : List ℕ) (fields_play : Each (FieldPlays roles)
   abbrev Fine : ℕ × Qualifier → Type 0
   Fine x = (slice_get roles x.0 ≡ Some 0 → x.1.free ≡ false) × (slice_get roles x.0 ≡ Some 1 → x.1.null ≡ false)
 
-  append_fine : (xs ys : List (ℕ × Qualifier)) → Each Fine xs → Each Fine ys → Each Fine (xs ++ ys)
-  append_fine [] ys a b = b
-  append_fine (x ∷ xs) ys a b = (a.0, append_fine xs ys a.1 b)
-
   send_fine : (n : ℕ) (x : Option SlotNo) (q : Qualifier) → Plays roles n x → (n ≡ 0 → q.free ≡ false) → (n ≡ 1 → q.null ≡ false) → Each Fine (sends P x q)
   send_fine n None q h f g = tt
   send_fine n (Some i) q h f g = go (is_inferred (slice_get P.slots i.0))
@@ -82,7 +76,7 @@ module _ (P : Program) (roles : List ℕ) (fields_play : Each (FieldPlays roles)
   args_fine : (e : Env) (xs : List (Option SlotNo)) (args : List Operand) → Each (Plays roles 2) xs → Each Fine (arg_sends P e xs args)
   args_fine e [] args h = tt
   args_fine e (x ∷ xs) [] h = tt
-  args_fine e (x ∷ xs) (a ∷ args) h = append_fine (sends P x (qual_at e a.reg.0)) (arg_sends P e xs args) (value_fine x (qual_at e a.reg.0) h.0) (args_fine e xs args h.1)
+  args_fine e (x ∷ xs) (a ∷ args) h = each_append Fine (sends P x (qual_at e a.reg.0)) (arg_sends P e xs args) (value_fine x (qual_at e a.reg.0) h.0) (args_fine e xs args h.1)
 
   receivers_fine : (e : Env) (slot : Option SlotNo) (r : Option Operand) → Plays roles 1 slot → Each Fine (receiver_sends P e slot r)
   receivers_fine e slot None h = tt
@@ -95,17 +89,6 @@ module _ (P : Program) (roles : List ℕ) (fields_play : Each (FieldPlays roles)
   field_fine : (f : ℕ) (q : Qualifier) → q.free ≡ false → Each Fine (sends P (field_slot_of (field_info P f)) q)
   field_fine f q e = send_fine 0 (field_slot_of (field_info P f)) q (field_plays roles P.fields f fields_play) (λ k. e) (λ k. absurd (omega (arith, k)))
 
-  unless_fine : (t : Bool) (f : ℕ) → Each Fine (cond t [] (sends P (field_slot_of (field_info P f)) null_only))
-  unless_fine true f = tt
-  unless_fine false f = field_fine f null_only refl
-
-  unset_fine : (fs keys : List ℕ) (bits : List Bool) → Each Fine (unset_sends P fs keys bits)
-  unset_fine [] keys bits = tt
-  unset_fine (f ∷ fs) keys bits =
-      append_fine (cond (is_on (λ k. eqb k f) keys bits) [] (sends P (field_slot_of (field_info P f)) null_only)) (unset_sends P fs keys bits)
-      (unless_fine (is_on (λ k. eqb k f) keys bits) f)
-      (unset_fine fs keys bits)
-
   at_method : (m : ℕ) → MethodAt roles (method_at P m)
   at_method m = method_at_plays roles P.methods m methods_play
 
@@ -113,48 +96,17 @@ module _ (P : Program) (roles : List ℕ) (fields_play : Each (FieldPlays roles)
   in_body None = (tt, (tt, tt))
   in_body (Some b) = at_method b.method.0
 
-  kinds_fine : (b : ℕ) (e : Env) (k : PointKind) → Each Fine (kind_sends P b e k)
-  kinds_fine b e (FieldWrite r f v) = field_fine f.0 (settle (qual_at e v.reg.0)) refl
-  kinds_fine b e (New dst m args) = args_fine e (slots_of (method_at P m.0)) args (at_method m.0).1.0
-  kinds_fine b e (CtorCall m args own) = args_fine e (slots_of (method_at P m.0)) args (at_method m.0).1.0
-  kinds_fine b e (Call dst m r direct args) =
-      append_fine (arg_sends P e (slots_of (method_at P m.0)) args) (receiver_sends P e (receiver_slot_of (method_at P m.0)) r)
-      (args_fine e (slots_of (method_at P m.0)) args (at_method m.0).1.0)
-      (receivers_fine e (receiver_slot_of (method_at P m.0)) r (at_method m.0).0)
-  kinds_fine b e (Return v) =
-      append_fine (return_sends P e (result_slot_of (method_in P b)) v) (unset_sends P (own_keys P b) (own_keys P b) e.assigned)
-      (returns_fine e (result_slot_of (method_in P b)) v (in_body (body_at P b)).1.1)
-      (unset_fine (own_keys P b) (own_keys P b) e.assigned)
-  kinds_fine b e (Const dst value) = tt
-  kinds_fine b e (Move dst from bound) = tt
-  kinds_fine b e (Unary dst neg of) = tt
-  kinds_fine b e (Binary dst op l r) = tt
-  kinds_fine b e (Concat dst l r) = tt
-  kinds_fine b e (SameRef dst eq l r) = tt
-  kinds_fine b e (FieldRead dst r f) = tt
-  kinds_fine b e (StaticRead dst f) = tt
-  kinds_fine b e (StaticWrite f v) = tt
-  kinds_fine b e (ElemRead dst r i) = tt
-  kinds_fine b e (ElemWrite r i v) = tt
-  kinds_fine b e (ArrayLen dst r) = tt
-  kinds_fine b e (NewArray dst base n) = tt
-  kinds_fine b e (ArrayOf dst base xs) = tt
-  kinds_fine b e (StrOp dst op of other) = tt
-  kinds_fine b e (Print of) = tt
-  kinds_fine b e (Cast dst of c) = tt
-  kinds_fine b e (TestInst of c og at_yes at_no) = tt
-  kinds_fine b e (TestNull of og at_null at_value) = tt
-  kinds_fine b e (Branch of at_yes at_no) = tt
-  kinds_fine b e (Goto to) = tt
-
-  among : (xs : List (ℕ × Qualifier)) (x : ℕ × Qualifier) → Each Fine xs → IsSent x xs → Fine x
-  among [] x h m = absurd m
-  among (y ∷ xs) x h (inl e) = subst Fine (sym e) h.0
-  among (y ∷ xs) x h (inr m) = among xs x h.1 m
+  fine_of_points : HoldsOfSends P Fine
+  fine_of_points = record {
+    fields = field_fine;
+    parameters = λ m e args. args_fine e (slots_of (method_at P m)) args (at_method m).1.0;
+    receivers = λ m e r. receivers_fine e (receiver_slot_of (method_at P m)) r (at_method m).0;
+    results = λ b e v. returns_fine e (result_slot_of (method_in P b)) v (in_body (body_at P b)).1.1;
+  }
 
   sent_fine : (t : List Qualifier) (b : ℕ) (x : ℕ × Qualifier) → IsSent x (least_sends P t b) → Fine x
   unfolding least_sends
-  sent_fine t b x m = let h = of_a_point P b (least_table P t b) x m in among (kind_sends P b h.env h.point.kind) x (kinds_fine b h.env h.point.kind) h.sent
+  sent_fine t b x m = let h = of_a_point P b (least_table P t b) x m in each_sent Fine (kind_sends P b h.env h.point.kind) x (points_send P Fine fine_of_points b h.env h.point.kind) h.sent
 
   -- ---- what overriding methods send
 
@@ -165,7 +117,7 @@ module _ (P : Program) (roles : List ℕ) (fields_play : Each (FieldPlays roles)
   values_fine : (t : List Qualifier) (from to : List (Option SlotNo)) → Each (Plays roles 2) to → Each Fine (slots_sends P t from to)
   values_fine t [] to h = tt
   values_fine t (x ∷ xs) [] h = tt
-  values_fine t (x ∷ xs) (y ∷ ys) h = append_fine (slot_sends P t x y) (slots_sends P t xs ys) (slot_fine t 2 x y h.0 (λ e. absurd (omega (arith, e))) (λ i e f. absurd (omega (arith, f)))) (values_fine t xs ys h.1)
+  values_fine t (x ∷ xs) (y ∷ ys) h = each_append Fine (slot_sends P t x y) (slots_sends P t xs ys) (slot_fine t 2 x y h.0 (λ e. absurd (omega (arith, e))) (λ i e f. absurd (omega (arith, f)))) (values_fine t xs ys h.1)
 
   -- receivers of the signature that are not null send nothing that is
   module _ (t : List Qualifier) (low : (i : ℕ) → slice_get roles i ≡ Some 1 → (slice_index_or t i no_qual).null ≡ false) where
@@ -178,16 +130,16 @@ module _ (P : Program) (roles : List ℕ) (fields_play : Each (FieldPlays roles)
         let lower = method_at P k in
         let a = slots_sends P t (slots_of lower) (slots_of over) in
         let b = slot_sends P t (receiver_slot_of lower) (receiver_slot_of over) in
-        append_fine (a ++ b) (slot_sends P t (result_slot_of over) (result_slot_of lower))
-        (append_fine a b (values_fine t (slots_of lower) (slots_of over) (at_method m).1.0) (receiver_fine (receiver_slot_of lower) (receiver_slot_of over) (at_method k).0 (at_method m).0))
+        each_append Fine (a ++ b) (slot_sends P t (result_slot_of over) (result_slot_of lower))
+        (each_append Fine a b (values_fine t (slots_of lower) (slots_of over) (at_method m).1.0) (receiver_fine (receiver_slot_of lower) (receiver_slot_of over) (at_method k).0 (at_method m).0))
         (slot_fine t 2 (result_slot_of over) (result_slot_of lower) (at_method k).1.1 (λ e. absurd (omega (arith, e))) (λ i e f. absurd (omega (arith, f))))
 
     overrides_fine : (m : ℕ) (ks : List ℕ) → Each Fine (flat_map (λ k. override_sends P t (method_at P m) (method_at P k)) ks)
     overrides_fine m [] = tt
-    overrides_fine m (k ∷ ks) = append_fine (override_sends P t (method_at P m) (method_at P k)) (flat_map (λ j. override_sends P t (method_at P m) (method_at P j)) ks) (override_fine m k) (overrides_fine m ks)
+    overrides_fine m (k ∷ ks) = each_append Fine (override_sends P t (method_at P m) (method_at P k)) (flat_map (λ j. override_sends P t (method_at P m) (method_at P j)) ks) (override_fine m k) (overrides_fine m ks)
 
     pairs_fine : (m : ℕ) (x : ℕ × Qualifier) → IsSent x (pair_sends P t m) → Fine x
-    pairs_fine m x sent = among (pair_sends P t m) x (overrides_fine m (under P m)) sent
+    pairs_fine m x sent = each_sent Fine (pair_sends P t m) x (overrides_fine m (under P m)) sent
 
   -- an inferred slot starts with neither
   starts_low : (k i : ℕ) (xs : List SlotInfo) → is_inferred (slice_get xs i) ≡ true → let q : Qualifier = slice_index_or (starts_from P k xs) i no_qual in (q.free ≡ false) × (q.null ≡ false)

@@ -1,8 +1,12 @@
 -- The fields of one declaration are inferred together, since they have one list of modifiers and one type.
 use Rattle.std.proofs.Common.{◌≡◌, ℕ, suc, ◌+◌, Bool, true, false, cond, List, [], ◌∷◌, ◌++◌, length, Option, Some, None, refl, sym, ap, ◌∙◌, subst, arith, append_assoc}
-use Rattle.std.specs.Prelude.{drop, take, map, flat_map, slice_get}
+use Rattle.std.specs.Prelude.{drop, take, map, slice_get}
 use Rattle.std.proofs.lemmas.List.{append-nil, take_at, drop_at}
 use Rattle.jn_base.specs.declared.number.SlotNo.{SlotNo}
+use Rattle.jn_base.specs.declared.infer.Infer.{Infer}
+use Rattle.jn_classtable.specs.Inferred.{class_marks, infers, marks, slots_by}
+use Rattle.jn_annotate_law.proofs.Marked.{a_head, fields_at, marks_at, some_heads}
+use Rattle.jn_annotate_law.proofs.Tabled.{table_by}
 use Rattle.jn_quals.specs.Qualifier.{Qualifier}
 use Rattle.jn_points.specs.declared.program.Field.{Field}
 use Rattle.jn_points.specs.declared.program.SlotInfo.{SlotInfo}
@@ -12,23 +16,22 @@ use Rattle.jn_trees.specs.declared.declaration.Modifier.{Modifier}
 use Rattle.jn_trees.specs.Trees.{DeclaratorTree, MemberTree, FieldMember, MethodMember, ConstructorMember, TypeDeclaration, ClassType, InterfaceType, SourceTree}
 use Rattle.jn_trees.specs.Spelling.{spell_all_marks, spell_parent, spell_names, spell_type_use, spell_declarator, spell_member, spell_type, spell_package_line, spell_imports}
 use Rattle.jn_places.specs.Placed.{PlacedTypeUse, PlacedDeclarator, PlacedFile}
-use Rattle.jn_places.specs.Places.{behind, place_marks, place_type_use, place_declarator, place_next_declarator, spell_next_declarator, place_more_declarators, place_members, place_type}
+use Rattle.jn_places.specs.Places.{behind, place_marks, place_type_use, place_declarator, place_next_declarator, spell_next_declarator, place_more_declarators, place_type}
 use Rattle.jn_places.specs.Forget.{forget_file}
-use Rattle.jn_classtable.specs.declared.notes.Word.TheVariants.{Private as PrivateWord}
 use Rattle.jn_classtable.specs.declared.head.TypeHead.{TypeHead}
 use Rattle.jn_classtable.specs.declared.head.FieldHead.{FieldHead}
 use Rattle.jn_classtable.specs.declared.head.ClassHead.{ClassHead}
 use Rattle.jn_classtable.specs.Types.{slot_of, field_qual, is_position, field_slots, fields_slots, methods_slots, class_slots, slots_of_all}
-use Rattle.jn_classtable.specs.Table.{slot_at, field_of, fields_of, fields_from, table}
-use Rattle.jn_classtable.specs.Extract.{has_word, modifier_notes, type_head, field_head, field_heads, class_head, heads}
+use Rattle.jn_classtable.specs.Table.{slot_at, field_of, fields_of, fields_from}
+use Rattle.jn_classtable.specs.Extract.{modifier_notes, type_head, heads}
 use Rattle.jn_annotate.specs.Insertions.{fields_in, type_fields, file_fields, first_slot}
 use Rattle.jn_annotate.specs.Annotated.{members_of}
 use Rattle.jn_annotate_law.specs.Meaning.{AllPlaced}
-use Rattle.jn_annotate_law.proofs.Roles.{Each}
+use Rattle.jn_bare_law.proofs.Sent.{Each}
 use Rattle.jn_annotate_law.proofs.Positions.{Stands, stands_left, stands_right, stands_one}
-use Rattle.jn_annotate_law.proofs.Fields.{fields_slots_append, fields_of_append, fields_of_long, declarators_long}
-use Rattle.jn_annotate_law.proofs.Classes.{type_fields_long}
-use Rattle.jn_annotate_law.proofs.Written.{heads_at, slots_all_append, fields_from_append, fields_from_long}
+use Rattle.jn_annotate_law.proofs.Fields.{fields_slots_append, fields_of_append, fields_of_long, marked_declarators_long}
+use Rattle.jn_annotate_law.proofs.Classes.{marked_fields_long}
+use Rattle.jn_annotate_law.proofs.Written.{fields_from_append, marked_from_long, slots_all_append}
 
 module _ (slots : List SlotInfo) where
   abbrev pub info_at : Option SlotNo → Option SlotInfo
@@ -60,113 +63,112 @@ module _ (slots : List SlotInfo) where
   FilesShare [] fs = Unit {0}
   FilesShare (f ∷ trees) fs = TypesShare f.types fs × FilesShare trees (drop (file_fields f.types) fs)
 
-abbrev at_members : List Token → List MemberTree → List FieldHead
-at_members ts ms = flat_map field_heads (place_members ts ms)
-
-module _ (slots : List SlotInfo) (s : List Qualifier) (hs : List ClassHead) where
+module _ (slots : List SlotInfo) (s : List Qualifier) (hs : List ClassHead) (infer : Infer) where
   position_info : (b : Bool) (k : ℕ) (x : SlotInfo) → Stands slots s k (cond b (x ∷ []) []) → info_at slots (slot_at b k) ≡ cond b (Some x) None
   position_info true k x h = stands_one slots s k x h
   position_info false k x h = refl
 
-  module _ (A : List Modifier) (U : PlacedTypeUse) where
+  module _ (A : List Modifier) (U : PlacedTypeUse) (w : Bool) where
     -- what all fields of the declaration have
     abbrev info_of : Option SlotInfo
-    info_of = let K : TypeHead = type_head (modifier_notes A) U in cond (is_position hs K) (Some (slot_of (has_word PrivateWord A) K.notes (field_qual K.notes))) None
+    info_of = let K : TypeHead = type_head (modifier_notes A) U in cond (is_position hs K) (Some (slot_of w K.notes (field_qual K.notes))) None
 
-    field_has : (c k : ℕ) (d : PlacedDeclarator) → Stands slots s k (field_slots hs (field_head A U d)) → Has slots info_of (field_of hs c k (field_head A U d))
-    field_has c k d h = let K : TypeHead = type_head (modifier_notes A) U in position_info (is_position hs K) k (slot_of (has_word PrivateWord A) K.notes (field_qual K.notes)) h
+    field_has : (c k : ℕ) (d : PlacedDeclarator) → Stands slots s k (field_slots hs (a_head w A U d)) → Has slots info_of (field_of hs c k (a_head w A U d))
+    field_has c k d h = let K : TypeHead = type_head (modifier_notes A) U in position_info (is_position hs K) k (slot_of w K.notes (field_qual K.notes)) h
 
-    fields_have : (ds : List DeclaratorTree) (c k : ℕ) (ts : List Token) → Stands slots s k (fields_slots hs (map (field_head A U) (place_more_declarators ts ds))) → Each (Has slots info_of) (fields_of hs c k (map (field_head A U) (place_more_declarators ts ds)))
+    fields_have : (ds : List DeclaratorTree) (c k : ℕ) (ts : List Token) → Stands slots s k (fields_slots hs (some_heads w A U (place_more_declarators ts ds))) → Each (Has slots info_of) (fields_of hs c k (some_heads w A U (place_more_declarators ts ds)))
     fields_have [] c k ts h = tt
     fields_have (d ∷ ds) c k ts h =
         let D : PlacedDeclarator = place_next_declarator ts d in
-        let one : List SlotInfo = field_slots hs (field_head A U D) in
+        let one : List SlotInfo = field_slots hs (a_head w A U D) in
         let later : List Token = behind ts (spell_next_declarator d) in
-        let more : List SlotInfo = fields_slots hs (map (field_head A U) (place_more_declarators later ds)) in
+        let more : List SlotInfo = fields_slots hs (some_heads w A U (place_more_declarators later ds)) in
         (field_has c k D (stands_left slots s k one more h), fields_have ds c (k + length one) later (stands_right slots s k one more h))
 
-  members_share : (ms : List MemberTree) (c k : ℕ) (rest : List Field) (ts : List Token) → Stands slots s k (fields_slots hs (at_members ts ms)) → MembersShare slots ms (fields_of hs c k (at_members ts ms) ++ rest)
-  members_share [] c k rest ts h = tt
-  members_share (MethodMember marks u n r ps body ∷ ms) c k rest ts h = (tt, members_share ms c k rest (behind ts (spell_member (MethodMember marks u n r ps body))) h)
-  members_share (ConstructorMember marks n ps ss ∷ ms) c k rest ts h = (tt, members_share ms c k rest (behind ts (spell_member (ConstructorMember marks n ps ss))) h)
-  members_share (FieldMember marks u d ds ∷ ms) c k rest ts h =
+  members_share : (interface : Bool) (ms : List MemberTree) (c k : ℕ) (rest : List Field) (ts : List Token) → Stands slots s k (fields_slots hs (fields_at infer interface ts ms)) → MembersShare slots ms (fields_of hs c k (fields_at infer interface ts ms) ++ rest)
+  members_share interface [] c k rest ts h = tt
+  members_share interface (MethodMember marks u n r ps body ∷ ms) c k rest ts h = (tt, members_share interface ms c k rest (behind ts (spell_member (MethodMember marks u n r ps body))) h)
+  members_share interface (ConstructorMember marks n ps ss ∷ ms) c k rest ts h = (tt, members_share interface ms c k rest (behind ts (spell_member (ConstructorMember marks n ps ss))) h)
+  members_share interface (FieldMember marks u d ds ∷ ms) c k rest ts h =
       let m : MemberTree = FieldMember marks u d ds in
       let A : List Modifier = place_marks ts marks in
+      let w : Bool = infers infer interface A in
       let t1 : List Token = behind ts (spell_all_marks marks) in
       let U : PlacedTypeUse = place_type_use t1 u in
       let t2 : List Token = behind t1 (spell_type_use u) in
       let t3 : List Token = behind t2 (spell_declarator d) in
       let D : PlacedDeclarator = place_declarator t2 d in
-      let H : List FieldHead = map (field_head A U) (D ∷ place_more_declarators t3 ds) in
+      let H : List FieldHead = some_heads w A U (D ∷ place_more_declarators t3 ds) in
       let later : List Token = behind ts (spell_member m) in
-      let T : List FieldHead = at_members later ms in
+      let T : List FieldHead = fields_at infer interface later ms in
       let k' : ℕ = k + length (fields_slots hs H) in
       let X : List Field = fields_of hs c k' T ++ rest in
       let all : List Field = fields_of hs c k (H ++ T) ++ rest in
       let cut : all ≡ fields_of hs c k H ++ X = ap (λ x. x ++ rest) (fields_of_append hs c k H T) ∙ append_assoc (fields_of hs c k H) (fields_of hs c k' T) rest in
-      let long : length (fields_of hs c k H) ≡ 1 + length ds = (let a = fields_of_long hs c k H in let b = declarators_long A U t3 ds in omega (arith, a, b)) in
+      let long : length (fields_of hs c k H) ≡ 1 + length ds = (let a = fields_of_long hs c k H in let b = marked_declarators_long w A U t3 ds in omega (arith, a, b)) in
       let taken : take (1 + length ds) all ≡ fields_of hs c k H = ap (take (1 + length ds)) cut ∙ take_at (fields_of hs c k H) X (1 + length ds) long in
       let dropped : drop (1 + length ds) all ≡ X = ap (drop (1 + length ds)) cut ∙ drop_at (fields_of hs c k H) X (1 + length ds) long in
       let h' = subst (Stands slots s k) (fields_slots_append hs H T) h in
       let here = stands_left slots s k (fields_slots hs H) (fields_slots hs T) h' in
-      let head : List SlotInfo = field_slots hs (field_head A U D) in
-      let more : List SlotInfo = fields_slots hs (map (field_head A U) (place_more_declarators t3 ds)) in
-      let one = field_has A U c k D (stands_left slots s k head more here) in
-      let each : Each (Has slots (info_of A U)) (fields_of hs c k H) = (one, fields_have A U ds c (k + length head) t3 (stands_right slots s k head more here)) in (
-        record { info = info_of A U; first_is = one; each = subst (Each (Has slots (info_of A U))) (sym taken) each },
-        subst (MembersShare slots ms) (sym dropped) (members_share ms c k' rest later (stands_right slots s k (fields_slots hs H) (fields_slots hs T) h')),
+      let head : List SlotInfo = field_slots hs (a_head w A U D) in
+      let more : List SlotInfo = fields_slots hs (some_heads w A U (place_more_declarators t3 ds)) in
+      let one = field_has A U w c k D (stands_left slots s k head more here) in
+      let each : Each (Has slots (info_of A U w)) (fields_of hs c k H) = (one, fields_have A U w ds c (k + length head) t3 (stands_right slots s k head more here)) in (
+        record { info = info_of A U w; first_is = one; each = subst (Each (Has slots (info_of A U w))) (sym taken) each },
+        subst (MembersShare slots ms) (sym dropped) (members_share interface ms c k' rest later (stands_right slots s k (fields_slots hs H) (fields_slots hs T) h')),
       )
 
-  type_shares : (t : TypeDeclaration) (c k : ℕ) (rest : List Field) (ts : List Token) → let h : ClassHead = class_head (place_type ts t) in Stands slots s k (class_slots hs h) → MembersShare slots (members_of t) (fields_of hs c k h.fields ++ rest)
+  type_shares : (t : TypeDeclaration) (c k : ℕ) (rest : List Field) (ts : List Token) → let h : ClassHead = class_marks infer (place_type ts t) in Stands slots s k (class_slots hs h) → MembersShare slots (members_of t) (fields_of hs c k h.fields ++ rest)
   type_shares (ClassType marks n parent interfaces members) c k rest ts h =
       let at : List Token = behind ts (spell_all_marks marks ++ Class ∷ []) in
       let inside : List Token = behind (behind (drop 1 at) (spell_parent parent)) (spell_names Implements interfaces ++ LeftBrace ∷ []) in
-      let x : ClassHead = class_head (place_type ts (ClassType marks n parent interfaces members)) in
-      members_share members c k rest inside (stands_left slots s k (fields_slots hs x.fields) (methods_slots hs x.methods) h)
+      let x : ClassHead = class_marks infer (place_type ts (ClassType marks n parent interfaces members)) in
+      members_share false members c k rest inside (stands_left slots s k (fields_slots hs x.fields) (methods_slots hs x.methods) h)
   type_shares (InterfaceType marks n parents members) c k rest ts h =
       let inside : List Token = behind (drop 1 (behind ts (spell_all_marks marks ++ Interface ∷ []))) (spell_names Extends parents ++ LeftBrace ∷ []) in
-      let x : ClassHead = class_head (place_type ts (InterfaceType marks n parents members)) in
-      members_share members c k rest inside (stands_left slots s k (fields_slots hs x.fields) (methods_slots hs x.methods) h)
+      let x : ClassHead = class_marks infer (place_type ts (InterfaceType marks n parents members)) in
+      members_share true members c k rest inside (stands_left slots s k (fields_slots hs x.fields) (methods_slots hs x.methods) h)
 
-  types_share : (types : List TypeDeclaration) (c k : ℕ) (fs rest : List Field) (ts : List Token) → fs ≡ fields_from hs c k (heads_at ts types) ++ rest → Stands slots s k (slots_of_all hs (heads_at ts types)) → TypesShare slots types fs
+  types_share : (types : List TypeDeclaration) (c k : ℕ) (fs rest : List Field) (ts : List Token) → fs ≡ fields_from hs c k (marks_at infer ts types) ++ rest → Stands slots s k (slots_of_all hs (marks_at infer ts types)) → TypesShare slots types fs
   types_share [] c k fs rest ts e h = tt
   types_share (t ∷ types) c k fs rest ts e h =
-      let x : ClassHead = class_head (place_type ts t) in
+      let x : ClassHead = class_marks infer (place_type ts t) in
       let later : List Token = behind ts (spell_type t) in
-      let xs : List ClassHead = heads_at later types in
+      let xs : List ClassHead = marks_at infer later types in
       let k' : ℕ = k + length (class_slots hs x) in
       let A : List Field = fields_of hs c k x.fields in
       let F : List Field = fields_from hs (suc c) k' xs in
       let cut : fs ≡ A ++ (F ++ rest) = e ∙ append_assoc A F rest in
-      let dropped : drop (type_fields t) fs ≡ F ++ rest = ap (drop (type_fields t)) cut ∙ drop_at A (F ++ rest) (type_fields t) (type_fields_long hs c k t ts) in (
+      let dropped : drop (type_fields t) fs ≡ F ++ rest = ap (drop (type_fields t)) cut ∙ drop_at A (F ++ rest) (type_fields t) (marked_fields_long infer hs c k t ts) in (
         subst (MembersShare slots (members_of t)) (sym cut) (type_shares t c k (F ++ rest) ts (stands_left slots s k (class_slots hs x) (slots_of_all hs xs) h)),
         types_share types (suc c) k' (drop (type_fields t) fs) rest later dropped (stands_right slots s k (class_slots hs x) (slots_of_all hs xs) h),
       )
 
-  files_share : (tokens : List (List Token)) (trees : List PlacedFile) (c k : ℕ) (fs rest : List Field) → AllPlaced tokens trees → fs ≡ fields_from hs c k (heads trees) ++ rest → Stands slots s k (slots_of_all hs (heads trees)) → FilesShare slots (map forget_file trees) fs
+  files_share : (tokens : List (List Token)) (trees : List PlacedFile) (c k : ℕ) (fs rest : List Field) → AllPlaced tokens trees → fs ≡ fields_from hs c k (marks infer trees) ++ rest → Stands slots s k (slots_of_all hs (marks infer trees)) → FilesShare slots (map forget_file trees) fs
   files_share [] [] c k fs rest p e h = tt
   files_share [] (tree ∷ trees) c k fs rest p e h = absurd p
   files_share (ts ∷ tokens) [] c k fs rest p e h = absurd p
   files_share (ts ∷ tokens) (tree ∷ trees) c k fs rest p e h =
       let bare : SourceTree = forget_file tree in
       let at : List Token = behind (behind ts (spell_package_line bare.package_line)) (spell_imports bare.imports) in
-      let xs : List ClassHead = heads_at at bare.types in
-      let ys : List ClassHead = heads trees in
-      let head_is : heads (tree ∷ trees) ≡ xs ++ ys = ap (λ (x : PlacedFile). map class_head x.types ++ ys) p.0.1 in
+      let xs : List ClassHead = marks_at infer at bare.types in
+      let ys : List ClassHead = marks infer trees in
+      let head_is : marks infer (tree ∷ trees) ≡ xs ++ ys = ap (λ (x : PlacedFile). map (class_marks infer) x.types ++ ys) p.0.1 in
       let c' : ℕ = c + length xs in
       let k' : ℕ = k + length (slots_of_all hs xs) in
       let A : List Field = fields_from hs c k xs in
       let F : List Field = fields_from hs c' k' ys in
       let cut : fs ≡ A ++ (F ++ rest) = e ∙ ap (λ x. fields_from hs c k x ++ rest) head_is ∙ ap (λ x. x ++ rest) (fields_from_append hs c k xs ys) ∙ append_assoc A F rest in
-      let dropped : drop (file_fields bare.types) fs ≡ F ++ rest = ap (drop (file_fields bare.types)) cut ∙ drop_at A (F ++ rest) (file_fields bare.types) (fields_from_long hs c k bare.types at) in
+      let dropped : drop (file_fields bare.types) fs ≡ F ++ rest = ap (drop (file_fields bare.types)) cut ∙ drop_at A (F ++ rest) (file_fields bare.types) (marked_from_long infer hs c k bare.types at) in
       let whole : Stands slots s k (slots_of_all hs xs ++ slots_of_all hs ys) = subst (Stands slots s k) (ap (slots_of_all hs) head_is ∙ slots_all_append hs xs ys) h in (
         types_share bare.types c k fs (F ++ rest) at cut (stands_left slots s k (slots_of_all hs xs) (slots_of_all hs ys) whole),
         files_share tokens trees c' k' (drop (file_fields bare.types) fs) rest p.1 dropped (stands_right slots s k (slots_of_all hs xs) (slots_of_all hs ys) whole),
       )
 
-pub all_share : (tokens : List (List Token)) (trees : List PlacedFile) (s : List Qualifier) → AllPlaced tokens trees → FilesShare (table (heads trees)).slots (map forget_file trees) (table (heads trees)).fields
-all_share tokens trees s p =
+pub all_share : (infer : Infer) (tokens : List (List Token)) (trees : List PlacedFile) (s : List Qualifier) → AllPlaced tokens trees → FilesShare (slots_by infer trees) (map forget_file trees) (table_by infer trees).fields
+all_share infer tokens trees s p =
     let hs : List ClassHead = heads trees in
-    let slots : List SlotInfo = slots_of_all hs hs in
-    let fs : List Field = fields_from hs 2 0 hs in
-    files_share slots s hs tokens trees 2 0 fs [] p (sym (append-nil fs)) (record { before = []; behind' = []; is = sym (append-nil slots); long = refl })
+    let xs : List ClassHead = marks infer trees in
+    let slots : List SlotInfo = slots_of_all hs xs in
+    let fs : List Field = fields_from hs 2 0 xs in
+    files_share slots s hs infer tokens trees 2 0 fs [] p (sym (append-nil fs)) (record { before = []; behind' = []; is = sym (append-nil slots); long = refl })

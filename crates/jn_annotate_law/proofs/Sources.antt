@@ -23,13 +23,17 @@ use Rattle.jn_classtable.specs.Table.{table}
 use Rattle.jn_lowering.specs.Locals.{State, has_final, parameters_from}
 use Rattle.jn_lowering.specs.Scopes.{Scope}
 use Rattle.jn_lowering.specs.Statements.{Step, no_step}
-use Rattle.jn_lowering.specs.Bodies.{declarators_of, initializers_of, initializers, body_of_source, bodies_of, with_bodies}
-use Rattle.jn_program_law.specs.FileSources.{BodyTree, tree_of, member_trees, members_trees, unwritten_tree, type_trees, types_of, body_trees, numbered}
+use Rattle.jn_lowering.specs.BodyRows.{initializers_rows, member_rows, rows_of_bodies, rows_of_body}
+use Rattle.jn_lowering.specs.Bodies.{Source, declarators_of, initializers_of, initializers, body_of_source, bodies_of, with_bodies}
+use Rattle.jn_program_law.specs.FileSources.{BodyTree, tree_of, member_trees, members_trees, unwritten_tree, type_trees, types_of, body_trees, numbered, sources}
 use Rattle.jn_program_law.specs.FileProgram.{program_of_files}
 use Rattle.jn_bare_law.specs.Bare.{bare, Alike, bare_body}
 use Rattle.jn_bare_law.specs.Erased.{bare_state, bare_step}
 use Rattle.jn_bare_law.proofs.Statements.{both_alike, final_same}
 use Rattle.jn_bare_law.proofs.Bodies.{fields_alike, body_alike}
+use Rattle.jn_bare_law.proofs.BodyRows.{body_rows_same, fields_same, source_rows_same}
+use Rattle.jn_bare_law.proofs.RowForms.{Same}
+use Rattle.jn_bare_law.proofs.RowForms.{both as both_rows}
 use Rattle.jn_annotate.specs.Insertions.{fields_in, methods_in, type_fields, type_methods, file_fields, file_methods, first_slot, inferred_qual}
 use Rattle.jn_annotate_law.specs.Trees.{nullity_names, names_of, leading, noted_use, noted_marks, noted_parameter, noted_receiver, noted_result, noted_result_marks, both_at, noted_parameters, noted_member, noted_members, noted_type, noted_types, noted_file, noted_files}
 use Rattle.jn_annotate_law.specs.Meaning.{AllPlaced}
@@ -71,6 +75,13 @@ module _ (slots : List SlotInfo) (s : List Qualifier) where
     abbrev body_of : Program → ℕ → BodyTree → Body
     body_of R m t = bare_body (body_of_source R (record { method = m; parameters = t.parameters; body = t.body; members = t.members }))
 
+    abbrev source_of : ℕ → BodyTree → Source
+    source_of m t = record { method = m; parameters = t.parameters; body = t.body; members = t.members }
+
+    -- as the body of any method, one differs from the other in places alone, and has rows of the same codes
+    abbrev BodiesAlike : BodyTree → BodyTree → Type 0
+    BodiesAlike x y = (m : ℕ) → (body_of P m x ≡ body_of Q m y) × Same (rows_of_body P (source_of m x)) (rows_of_body Q (source_of m y))
+
     abbrev TreesAlike : List (Option BodyTree) → List (Option BodyTree) → Type 0
     TreesAlike [] [] = Unit {0}
     TreesAlike [] (y ∷ ys) = ⊥
@@ -78,7 +89,7 @@ module _ (slots : List SlotInfo) (s : List Qualifier) where
     TreesAlike (None ∷ xs) (None ∷ ys) = TreesAlike xs ys
     TreesAlike (None ∷ xs) (Some y ∷ ys) = ⊥
     TreesAlike (Some x ∷ xs) (None ∷ ys) = ⊥
-    TreesAlike (Some x ∷ xs) (Some y ∷ ys) = ((m : ℕ) → body_of P m x ≡ body_of Q m y) × TreesAlike xs ys
+    TreesAlike (Some x ∷ xs) (Some y ∷ ys) = BodiesAlike x y × TreesAlike xs ys
 
     numbered_alike : (m : ℕ) (xs ys : List (Option BodyTree)) → TreesAlike xs ys → map bare_body (bodies_of P (numbered m xs)) ≡ map bare_body (bodies_of Q (numbered m ys))
     numbered_alike m [] [] a = refl
@@ -87,7 +98,16 @@ module _ (slots : List SlotInfo) (s : List Qualifier) where
     numbered_alike m (None ∷ xs) (None ∷ ys) a = numbered_alike (suc m) xs ys a
     numbered_alike m (None ∷ xs) (Some y ∷ ys) a = absurd a
     numbered_alike m (Some x ∷ xs) (None ∷ ys) a = absurd a
-    numbered_alike m (Some x ∷ xs) (Some y ∷ ys) a = ap (λ z. z ∷ map bare_body (bodies_of P (numbered (suc m) xs))) (a.0 m) ∙ ap (λ z. body_of Q m y ∷ z) (numbered_alike (suc m) xs ys a.1)
+    numbered_alike m (Some x ∷ xs) (Some y ∷ ys) a = ap (λ z. z ∷ map bare_body (bodies_of P (numbered (suc m) xs))) (a.0 m).0 ∙ ap (λ z. body_of Q m y ∷ z) (numbered_alike (suc m) xs ys a.1)
+
+    numbered_rows : (m : ℕ) (xs ys : List (Option BodyTree)) → TreesAlike xs ys → Same (rows_of_bodies P (numbered m xs)) (rows_of_bodies Q (numbered m ys))
+    numbered_rows m [] [] a = refl
+    numbered_rows m [] (y ∷ ys) a = absurd a
+    numbered_rows m (x ∷ xs) [] a = absurd a
+    numbered_rows m (None ∷ xs) (None ∷ ys) a = numbered_rows (suc m) xs ys a
+    numbered_rows m (None ∷ xs) (Some y ∷ ys) a = absurd a
+    numbered_rows m (Some x ∷ xs) (None ∷ ys) a = absurd a
+    numbered_rows m (Some x ∷ xs) (Some y ∷ ys) a = both_rows (rows_of_body P (source_of m x)) (rows_of_bodies P (numbered (suc m) xs)) (rows_of_body Q (source_of m y)) (rows_of_bodies Q (numbered (suc m) ys)) (a.0 m).1 (numbered_rows (suc m) xs ys a.1)
 
     appended : (a b c d : List (Option BodyTree)) → TreesAlike a b → TreesAlike c d → TreesAlike (a ++ c) (b ++ d)
     appended [] [] c d h k = k
@@ -107,7 +127,7 @@ module _ (slots : List SlotInfo) (s : List Qualifier) where
 
     -- members whose initializers are alike
     abbrev MembersAlike : List PlacedMember → List PlacedMember → Type 0
-    MembersAlike all others = (m first : ℕ) (a b : State) → bare_state a ≡ bare_state b → bare_step (initializers P m first a all) ≡ bare_step (initializers Q m first b others)
+    MembersAlike all others = (m : ℕ) → ((first : ℕ) (a b : State) → bare_state a ≡ bare_state b → bare_step (initializers P m first a all) ≡ bare_step (initializers Q m first b others)) × Same (member_rows P m all) (member_rows Q m others)
 
     one_member : (c : NameNo) (x : MemberTree) (fs : List Field) (methods : List Method) (ts us : List Token) (m first : ℕ) (a b : State) → bare_state a ≡ bare_state b → bare_step (initializers_of P m first a (declarators_of (place_member ts x))) ≡ bare_step (initializers_of Q m first b (declarators_of (place_member us (noted_member slots s c x fs methods))))
     one_member c (FieldMember ms u d ds) fs methods ts us m first a b k =
@@ -119,24 +139,54 @@ module _ (slots : List SlotInfo) (s : List Qualifier) where
     one_member c (ConstructorMember ms n ps ss) fs [] ts us m first a b k = ap no_step k
     one_member c (ConstructorMember ms n ps ss) fs (x ∷ methods) ts us m first a b k = ap no_step k
 
-    members_alike : (c : NameNo) (xs : List MemberTree) (fs : List Field) (methods : List Method) (ts us : List Token) → MembersAlike (place_members ts xs) (place_members us (noted_members slots s c xs fs methods))
-    members_alike c [] fs methods ts us m first a b k = ap no_step k
-    members_alike c (x ∷ xs) fs methods ts us m first a b k =
+    members_steps : (c : NameNo) (xs : List MemberTree) (fs : List Field) (methods : List Method) (ts us : List Token) (m first : ℕ) (a b : State) → bare_state a ≡ bare_state b → bare_step (initializers P m first a (place_members ts xs)) ≡ bare_step (initializers Q m first b (place_members us (noted_members slots s c xs fs methods)))
+    members_steps c [] fs methods ts us m first a b k = ap no_step k
+    members_steps c (x ∷ xs) fs methods ts us m first a b k =
         let new : MemberTree = noted_member slots s c x fs methods in
         both_alike (initializers_of P m first a (declarators_of (place_member ts x))) (initializers P m first (initializers_of P m first a (declarators_of (place_member ts x))).behind (place_members (behind ts (spell_member x)) xs))
         (initializers_of Q m first b (declarators_of (place_member us new))) (initializers Q m first (initializers_of Q m first b (declarators_of (place_member us new))).behind (place_members (behind us (spell_member new)) (noted_members slots s c xs (drop (fields_in x) fs) (drop (methods_in x) methods))))
         (one_member c x fs methods ts us m first a b k)
-        (members_alike c xs (drop (fields_in x) fs) (drop (methods_in x) methods) (behind ts (spell_member x)) (behind us (spell_member new)) m first (initializers_of P m first a (declarators_of (place_member ts x))).behind (initializers_of Q m first b (declarators_of (place_member us new))).behind
+        (members_steps c xs (drop (fields_in x) fs) (drop (methods_in x) methods) (behind ts (spell_member x)) (behind us (spell_member new)) m first (initializers_of P m first a (declarators_of (place_member ts x))).behind (initializers_of Q m first b (declarators_of (place_member us new))).behind
         (ap (λ (z : Step). z.behind) (one_member c x fs methods ts us m first a b k)))
+
+    one_member_rows : (c : NameNo) (x : MemberTree) (fs : List Field) (methods : List Method) (ts us : List Token) (m : ℕ) → Same (initializers_rows P m (declarators_of (place_member ts x))) (initializers_rows Q m (declarators_of (place_member us (noted_member slots s c x fs methods))))
+    one_member_rows c (FieldMember ms u d ds) fs methods ts us m =
+        let names : List NameNo = names_of nullity_names (inferred_qual slots s (first_slot fs)) in
+        let a = behind (behind ts (spell_all_marks ms)) (spell_type_use u) in
+        let b = behind (behind us (spell_all_marks (noted_marks names u ms))) (spell_type_use (noted_use names u)) in
+        fields_same P Q h m a b (behind a (spell_declarator d)) (behind b (spell_declarator d)) d ds
+    one_member_rows c (MethodMember ms u n r ps body) fs [] ts us m = refl
+    one_member_rows c (MethodMember ms u n r ps body) fs (x ∷ methods) ts us m = refl
+    one_member_rows c (ConstructorMember ms n ps ss) fs [] ts us m = refl
+    one_member_rows c (ConstructorMember ms n ps ss) fs (x ∷ methods) ts us m = refl
+
+    members_rows : (c : NameNo) (xs : List MemberTree) (fs : List Field) (methods : List Method) (ts us : List Token) (m : ℕ) → Same (member_rows P m (place_members ts xs)) (member_rows Q m (place_members us (noted_members slots s c xs fs methods)))
+    members_rows c [] fs methods ts us m = refl
+    members_rows c (x ∷ xs) fs methods ts us m =
+        let new : MemberTree = noted_member slots s c x fs methods in
+        let a = behind ts (spell_member x) in
+        let b = behind us (spell_member new) in
+        both_rows (initializers_rows P m (declarators_of (place_member ts x))) (member_rows P m (place_members a xs)) (initializers_rows Q m (declarators_of (place_member us new))) (member_rows Q m (place_members b (noted_members slots s c xs (drop (fields_in x) fs) (drop (methods_in x) methods))))
+        (one_member_rows c x fs methods ts us m) (members_rows c xs (drop (fields_in x) fs) (drop (methods_in x) methods) a b m)
+
+    members_alike : (c : NameNo) (xs : List MemberTree) (fs : List Field) (methods : List Method) (ts us : List Token) → MembersAlike (place_members ts xs) (place_members us (noted_members slots s c xs fs methods))
+    members_alike c xs fs methods ts us m = (members_steps c xs fs methods ts us m, members_rows c xs fs methods ts us m)
 
     -- ---- the bodies of members
 
+    bodies_alike : (all others : List PlacedMember) (ps qs : List PlacedParameter) (ts us : List Token) (ss : Statements) → MembersAlike all others → ((r : ℕ) (bases : List BaseType) → parameters_from r ps bases ≡ parameters_from r qs bases) → BodiesAlike (record { parameters = ps; body = place_body ts ss; members = all }) (record { parameters = qs; body = place_body us ss; members = others })
+    bodies_alike all others ps qs ts us ss g k m =
+        let x : Source = record { method = m; parameters = ps; body = place_body ts ss; members = all } in
+        let y : Source = record { method = m; parameters = qs; body = place_body us ss; members = others } in
+        let same : bare_body (body_of_source P x) ≡ bare_body (body_of_source Q y) = body_alike P Q h m ps qs ts us ss all others k (g m).0 in
+        (same, body_rows_same P Q x y h (source_rows_same P Q h m ps qs ts us ss all others k (g m).0 (g m).1) same)
+
     tree_alike : (all others : List PlacedMember) (ps qs : List PlacedParameter) (ts us : List Token) (body : Option Statements) → MembersAlike all others → ((r : ℕ) (bases : List BaseType) → parameters_from r ps bases ≡ parameters_from r qs bases) → TreesAlike (tree_of all ps (place_method_body ts body) ∷ []) (tree_of others qs (place_method_body us body) ∷ [])
     tree_alike all others ps qs ts us None g k = tt
-    tree_alike all others ps qs ts us (Some ss) g k = ((λ m. body_alike P Q h m ps qs (drop 1 ts) (drop 1 us) ss all others k (g m)), tt)
+    tree_alike all others ps qs ts us (Some ss) g k = (bodies_alike all others ps qs (drop 1 ts) (drop 1 us) ss g k, tt)
 
     written_alike : (all others : List PlacedMember) (ps qs : List PlacedParameter) (ts us : List Token) (ss : Statements) → MembersAlike all others → ((r : ℕ) (bases : List BaseType) → parameters_from r ps bases ≡ parameters_from r qs bases) → TreesAlike (tree_of all ps (Some (place_body ts ss)) ∷ []) (tree_of others qs (Some (place_body us ss)) ∷ [])
-    written_alike all others ps qs ts us ss g k = ((λ m. body_alike P Q h m ps qs ts us ss all others k (g m)), tt)
+    written_alike all others ps qs ts us ss g k = (bodies_alike all others ps qs ts us ss g k, tt)
 
     member_alike : (interface : Bool) (c : NameNo) (x : MemberTree) (fs : List Field) (methods : List Method) (all others : List PlacedMember) (ts us : List Token) → MembersAlike all others → TreesAlike (member_trees interface all (place_member ts x)) (member_trees interface others (place_member us (noted_member slots s c x fs methods)))
     member_alike true c (FieldMember ms u d ds) fs methods all others ts us g = tt
@@ -174,7 +224,7 @@ module _ (slots : List SlotInfo) (s : List Qualifier) where
         (all_alike interface c xs (drop (fields_in x) fs) (drop (methods_in x) methods) all others (behind ts (spell_member x)) (behind us (spell_member new)) g)
 
     unwritten_alike : (all others : List PlacedMember) → MembersAlike all others → TreesAlike (unwritten_tree all ∷ []) (unwritten_tree others ∷ [])
-    unwritten_alike all others g = ((λ m. body_alike P Q h m [] [] [] [] NoStatements all others (λ r bases. refl) (g m)), tt)
+    unwritten_alike all others g = (bodies_alike all others [] [] [] [] NoStatements g (λ r bases. refl), tt)
 
     -- ---- types and files
 
@@ -231,10 +281,16 @@ module _ (slots : List SlotInfo) (s : List Qualifier) where
     programs_alike xs ys a = ap (λ z. with_list z (map bare_body (bodies_of P (numbered 0 xs)))) h ∙ ap (with_list (bare Q)) (numbered_alike 0 xs ys a)
 
     no_members : MembersAlike [] []
-    no_members m first a b k = ap no_step k
+    no_members m = ((λ first a b k. ap no_step k), refl)
 
     trees_alike : (xs ys : List (Option BodyTree)) → TreesAlike xs ys → TreesAlike (unwritten_tree [] ∷ xs) (unwritten_tree [] ∷ ys)
     trees_alike xs ys a = appended (unwritten_tree [] ∷ []) (unwritten_tree [] ∷ []) xs ys (unwritten_alike [] [] no_members) a
+
+  -- the rows of their bodies have the same codes
+  pub same_body_rows : (tokens others : List (List Token)) (trees places : List PlacedFile) (fs : List Field) (methods : List Method) → AllPlaced tokens trees → AllPlaced others places → map forget_file places ≡ noted_files slots s (map forget_file trees) fs methods → Alike (table (heads trees)) (table (heads places)) → Same (rows_of_bodies (table (heads trees)) (sources trees)) (rows_of_bodies (table (heads places)) (sources places))
+  same_body_rows tokens others trees places fs methods p q e h =
+      numbered_rows (table (heads trees)) (table (heads places)) h 0 (body_trees trees) (body_trees places)
+      (trees_alike (table (heads trees)) (table (heads places)) h (flat_map type_trees (types_of trees)) (flat_map type_trees (types_of places)) (files_alike (table (heads trees)) (table (heads places)) h tokens others trees places fs methods p q e))
 
   -- programs of files whose trees are those of tokens
   pub alike_programs : (tokens others : List (List Token)) (trees places : List PlacedFile) (fs : List Field) (methods : List Method) → AllPlaced tokens trees → AllPlaced others places → map forget_file places ≡ noted_files slots s (map forget_file trees) fs methods → Alike (table (heads trees)) (table (heads places)) → Alike (program_of_files trees) (program_of_files places)

@@ -1,10 +1,13 @@
 -- Annotated types have no row outside bodies where they had none.
 use Rattle.std.proofs.Common.{◌≡◌, ℕ, suc, ◌+◌, Bool, true, false, List, [], ◌∷◌, ◌++◌, length, Option, refl, sym, ap, ◌∙◌, subst, arith, append_assoc}
-use Rattle.std.specs.Prelude.{drop, map, flat_map}
+use Rattle.std.specs.Prelude.{drop, map}
 use Rattle.std.proofs.lemmas.Bool.{false≢true}
 use Rattle.std.proofs.lemmas.List.{drop_at}
 use Rattle.jn_base.specs.declared.place.Row.{Row}
 use Rattle.jn_base.specs.declared.number.NameNo.{NameNo}
+use Rattle.jn_base.specs.declared.infer.Infer.{Infer}
+use Rattle.jn_classtable.specs.Inferred.{class_marks, infers, method_marks}
+use Rattle.jn_annotate_law.proofs.Marked.{a_head, fields_at, marks_at, methods_at, some_heads}
 use Rattle.jn_quals.specs.Qualifier.{Qualifier}
 use Rattle.jn_points.specs.declared.program.Field.{Field}
 use Rattle.jn_points.specs.declared.program.Method.{Method}
@@ -18,7 +21,6 @@ use Rattle.jn_trees.specs.WellFormed.{GoodMembers, GoodType, GoodTypes}
 use Rattle.jn_trees.specs.Spelling.{spell_all_marks, spell_type_use, spell_declarator, spell_result, spell_member, spell_parent, spell_names, spell_type}
 use Rattle.jn_places.specs.Placed.{PlacedTypeUse}
 use Rattle.jn_places.specs.Places.{behind, place_name, place_type_use, place_marks, place_declarator, place_more_declarators, place_parameters, place_receiver, spell_receiver, place_result, place_member, place_members, place_type, place_each}
-use Rattle.jn_classtable.specs.declared.notes.Word.TheVariants.{Private as PrivateWord}
 use Rattle.jn_classtable.specs.declared.head.TypeHead.{TypeHead}
 use Rattle.jn_classtable.specs.declared.head.FieldHead.{FieldHead}
 use Rattle.jn_classtable.specs.declared.head.MethodHead.{MethodHead}
@@ -26,24 +28,17 @@ use Rattle.jn_classtable.specs.declared.head.ClassHead.{ClassHead}
 use Rattle.jn_classtable.specs.Heads.{unplaced, unwritten_constructor}
 use Rattle.jn_classtable.specs.Types.{is_position, receiver_qual, has_receiver, field_slots, fields_slots, receiver_slots, params_slots, result_slots, method_slots, methods_slots, class_slots, slots_of_all}
 use Rattle.jn_classtable.specs.Table.{slot_at, count, bodies_of, fields_of, fields_from, param_slots, method_of, methods_of, methods_from}
-use Rattle.jn_classtable.specs.Extract.{has_word, modifier_notes, type_head, param_head, result_head, receiver_notes, field_head, field_heads, method_heads, with_constructor, class_head}
+use Rattle.jn_classtable.specs.Extract.{modifier_notes, type_head, param_head, result_head, receiver_notes, with_constructor}
 use Rattle.jn_lowering.specs.Annotations.{both_kinds, annotation_rows, name_row}
 use Rattle.jn_lowering.specs.FileRows.{notes_of, without_override, parameter_rows, result_rows, receiver_rows, head_rows, heads_rows, declared_type_rows, types_rows}
 use Rattle.jn_annotate.specs.Insertions.{type_fields, type_methods, inferred_qual}
 use Rattle.jn_annotate_law.specs.Trees.{nullity_names, names_of, noted_use, noted_marks, noted_receiver, noted_result, noted_result_marks, both_at, noted_parameters, noted_members, noted_type, noted_types}
 use Rattle.jn_annotate_law.proofs.Positions.{Stands, stands_left, stands_right}
-use Rattle.jn_annotate_law.proofs.Fields.{fields_slots_append, fields_of_append, fields_of_long, declarators_long}
-use Rattle.jn_annotate_law.proofs.Classes.{with_methods, with_slots, type_fields_long, type_methods_long}
-use Rattle.jn_annotate_law.proofs.Written.{heads_at}
+use Rattle.jn_annotate_law.proofs.Fields.{fields_slots_append, fields_of_append, fields_of_long, marked_declarators_long}
+use Rattle.jn_annotate_law.proofs.Classes.{type_parts, with_methods, with_slots}
 use Rattle.jn_annotate_law.proofs.NoteRows.{no_rows_left, no_rows_right, no_rows_both, marks_numbers}
 use Rattle.jn_annotate_law.proofs.PositionRows.{name_stays, parameters_stay, receiver_stays}
 use Rattle.jn_annotate_law.proofs.MemberRows.{alone_stay, result_stays, field_stays}
-
-abbrev fields_at : List Token → List MemberTree → List FieldHead
-fields_at ts ms = flat_map field_heads (place_members ts ms)
-
-abbrev methods_at : Bool → List Token → List MemberTree → List MethodHead
-methods_at interface ts ms = flat_map (method_heads interface) (place_members ts ms)
 
 abbrev head_of : List MethodHead → MethodHead
 head_of [] = unwritten_constructor (unplaced (record { 0 = 0 }))
@@ -52,31 +47,32 @@ head_of (x ∷ xs) = x
 marks_stay : (ts us : List Token) (ms : List Mark) → annotation_rows both_kinds true (notes_of (place_marks ts ms)) ≡ [] → annotation_rows both_kinds true (notes_of (place_marks us ms)) ≡ []
 marks_stay ts us ms e = alone_stay both_kinds true (notes_of (place_marks ts ms)) (notes_of (place_marks us ms)) (marks_numbers ts ms ∙ sym (marks_numbers us ms)) e
 
-module _ (slots : List SlotInfo) (s : List Qualifier) (hs : List ClassHead) where
+module _ (slots : List SlotInfo) (s : List Qualifier) (hs : List ClassHead) (infer : Infer) where
   -- a declaration of fields, and what follows it
-  field_then : (interface : Bool) (cn : NameNo) (marks : List Mark) (u : TypeUseTree) (d : DeclaratorTree) (ds : List DeclaratorTree) (ms : List MemberTree) (c k : ℕ) (rest : List Field) (methods : List Method) (ts us : List Token) → let m : MemberTree = FieldMember marks u d ds in let later : List Token = behind ts (spell_member m) in let n : ℕ = k + length (fields_slots hs (fields_at ts (m ∷ []))) in Stands slots s k (fields_slots hs (fields_at ts (m ∷ ms))) → heads_rows interface (place_members ts (m ∷ ms)) ≡ []
-      → ((j : ℕ) (vs : List Token) → Stands slots s j (fields_slots hs (fields_at later ms)) → heads_rows interface (place_members later ms) ≡ [] → heads_rows interface (place_members vs (noted_members slots s cn ms (fields_of hs c j (fields_at later ms) ++ rest) methods)) ≡ [])
-      → heads_rows interface (place_members us (noted_members slots s cn (m ∷ ms) (fields_of hs c k (fields_at ts (m ∷ ms)) ++ rest) methods)) ≡ []
+  field_then : (interface : Bool) (cn : NameNo) (marks : List Mark) (u : TypeUseTree) (d : DeclaratorTree) (ds : List DeclaratorTree) (ms : List MemberTree) (c k : ℕ) (rest : List Field) (methods : List Method) (ts us : List Token) → let m : MemberTree = FieldMember marks u d ds in let later : List Token = behind ts (spell_member m) in let n : ℕ = k + length (fields_slots hs (fields_at infer interface ts (m ∷ []))) in Stands slots s k (fields_slots hs (fields_at infer interface ts (m ∷ ms))) → heads_rows interface (place_members ts (m ∷ ms)) ≡ []
+      → ((j : ℕ) (vs : List Token) → Stands slots s j (fields_slots hs (fields_at infer interface later ms)) → heads_rows interface (place_members later ms) ≡ [] → heads_rows interface (place_members vs (noted_members slots s cn ms (fields_of hs c j (fields_at infer interface later ms) ++ rest) methods)) ≡ [])
+      → heads_rows interface (place_members us (noted_members slots s cn (m ∷ ms) (fields_of hs c k (fields_at infer interface ts (m ∷ ms)) ++ rest) methods)) ≡ []
   field_then interface cn marks u d ds ms c k rest methods ts us h e next =
       let m : MemberTree = FieldMember marks u d ds in
       let A : List Modifier = place_marks ts marks in
+      let w : Bool = infers infer interface A in
       let t1 : List Token = behind ts (spell_all_marks marks) in
       let U : PlacedTypeUse = place_type_use t1 u in
       let t2 : List Token = behind t1 (spell_type_use u) in
       let t3 : List Token = behind t2 (spell_declarator d) in
-      let H : List FieldHead = map (field_head A U) (place_declarator t2 d ∷ place_more_declarators t3 ds) in
+      let H : List FieldHead = some_heads w A U (place_declarator t2 d ∷ place_more_declarators t3 ds) in
       let later : List Token = behind ts (spell_member m) in
-      let T : List FieldHead = fields_at later ms in
+      let T : List FieldHead = fields_at infer interface later ms in
       let k' : ℕ = k + length (fields_slots hs H) in
       let X : List Field = fields_of hs c k' T ++ rest in
       let all : List Field = fields_of hs c k (H ++ T) ++ rest in
       let cut : all ≡ fields_of hs c k H ++ X = ap (λ x. x ++ rest) (fields_of_append hs c k H T) ∙ append_assoc (fields_of hs c k H) (fields_of hs c k' T) rest in
-      let long : length (fields_of hs c k H) ≡ 1 + length ds = (let a = fields_of_long hs c k H in let b = declarators_long A U t3 ds in omega (arith, a, b)) in
+      let long : length (fields_of hs c k H) ≡ 1 + length ds = (let a = fields_of_long hs c k H in let b = marked_declarators_long w A U t3 ds in omega (arith, a, b)) in
       let dropped : drop (1 + length ds) all ≡ X = ap (drop (1 + length ds)) cut ∙ drop_at (fields_of hs c k H) X (1 + length ds) long in
       let h' = subst (Stands slots s k) (fields_slots_append hs H T) h in
       let here = stands_left slots s k (fields_slots hs H) (fields_slots hs T) h' in
-      let head : List SlotInfo = field_slots hs (field_head A U (place_declarator t2 d)) in
-      let more : List SlotInfo = fields_slots hs (map (field_head A U) (place_more_declarators t3 ds)) in
+      let head : List SlotInfo = field_slots hs (a_head w A U (place_declarator t2 d)) in
+      let more : List SlotInfo = fields_slots hs (some_heads w A U (place_more_declarators t3 ds)) in
       let K : TypeHead = type_head (modifier_notes A) U in
       let names : List NameNo = names_of nullity_names (inferred_qual slots s (slot_at (is_position hs K) k)) in
       let new : MemberTree = FieldMember (noted_marks names u marks) (noted_use names u) d ds in
@@ -84,27 +80,27 @@ module _ (slots : List SlotInfo) (s : List Qualifier) (hs : List ClassHead) wher
       let F : List Row = head_rows interface (place_member ts m) in
       let G : List Row = heads_rows interface (place_members later ms) in
       no_rows_both (head_rows interface (place_member us new)) (heads_rows interface (place_members later' (noted_members slots s cn ms (drop (1 + length ds) all) methods)))
-      (field_stays slots s hs interface marks u d ds k ts us (stands_left slots s k head more here) (no_rows_left F G e))
+      (field_stays slots s hs interface marks u d ds k w ts us (stands_left slots s k head more here) (no_rows_left F G e))
       (subst (λ x. heads_rows interface (place_members later' (noted_members slots s cn ms x methods)) ≡ []) (sym dropped) (next k' later' (stands_right slots s k (fields_slots hs H) (fields_slots hs T) h') (no_rows_right F G e)))
 
-  members_stay : (o : Owner) (interface : Bool) → o.interface ≡ interface → (cn : NameNo) (ms : List MemberTree) (c k j b : ℕ) (restf : List Field) (restm : List Method) (ts us : List Token) → GoodMembers o ms → Stands slots s k (fields_slots hs (fields_at ts ms)) → Stands slots s j (methods_slots hs (methods_at interface ts ms)) → heads_rows interface (place_members ts ms) ≡ [] → heads_rows interface (place_members us (noted_members slots s cn ms (fields_of hs c k (fields_at ts ms) ++ restf) (methods_of hs c j b (methods_at interface ts ms) ++ restm))) ≡ []
+  members_stay : (o : Owner) (interface : Bool) → o.interface ≡ interface → (cn : NameNo) (ms : List MemberTree) (c k j b : ℕ) (restf : List Field) (restm : List Method) (ts us : List Token) → GoodMembers o ms → Stands slots s k (fields_slots hs (fields_at infer interface ts ms)) → Stands slots s j (methods_slots hs (methods_at infer interface ts ms)) → heads_rows interface (place_members ts ms) ≡ [] → heads_rows interface (place_members us (noted_members slots s cn ms (fields_of hs c k (fields_at infer interface ts ms) ++ restf) (methods_of hs c j b (methods_at infer interface ts ms) ++ restm))) ≡ []
   members_stay o interface io cn [] c k j b restf restm ts us g h i e = refl
   members_stay o true io cn (FieldMember marks u d ds ∷ ms) c k j b restf restm ts us g h i e =
-      field_then true cn marks u d ds ms c k restf (methods_of hs c j b (methods_at true (behind ts (spell_member (FieldMember marks u d ds))) ms) ++ restm) ts us h e
+      field_then true cn marks u d ds ms c k restf (methods_of hs c j b (methods_at infer true (behind ts (spell_member (FieldMember marks u d ds))) ms) ++ restm) ts us h e
       (λ n vs h e. members_stay o true io cn ms c n j b restf restm (behind ts (spell_member (FieldMember marks u d ds))) vs g.1 h i e)
   members_stay o false io cn (FieldMember marks u d ds ∷ ms) c k j b restf restm ts us g h i e =
-      field_then false cn marks u d ds ms c k restf (methods_of hs c j b (methods_at false (behind ts (spell_member (FieldMember marks u d ds))) ms) ++ restm) ts us h e
+      field_then false cn marks u d ds ms c k restf (methods_of hs c j b (methods_at infer false (behind ts (spell_member (FieldMember marks u d ds))) ms) ++ restm) ts us h e
       (λ n vs h e. members_stay o false io cn ms c n j b restf restm (behind ts (spell_member (FieldMember marks u d ds))) vs g.1 h i e)
   members_stay o true io cn (ConstructorMember marks n ps ss ∷ ms) c k j b restf restm ts us g h i e = absurd (false≢true (sym g.0.0.1 ∙ io))
   members_stay o false io cn (ConstructorMember marks n ps ss ∷ ms) c k j b restf restm ts us g h i e =
       let m : MemberTree = ConstructorMember marks n ps ss in
-      let old : MethodHead = head_of (method_heads false (place_member ts m)) in
+      let old : MethodHead = head_of (method_marks infer false (place_member ts m)) in
       let later : List Token = behind ts (spell_member m) in
       let pt : List Token = behind (behind ts (spell_all_marks marks)) (Id n ∷ LeftParen ∷ []) in
       let pu : List Token = behind (behind us (spell_all_marks marks)) (Id n ∷ LeftParen ∷ []) in
-      let w : Bool = has_word PrivateWord (place_marks ts marks) in
+      let w : Bool = infers infer false (place_marks ts marks) in
       let params : List SlotInfo = params_slots hs w (map param_head (place_parameters pt ps)) in
-      let tail : List SlotInfo = methods_slots hs (methods_at false later ms) in
+      let tail : List SlotInfo = methods_slots hs (methods_at infer false later ms) in
       let here = stands_right slots s j [] (params ++ []) (stands_left slots s j (params ++ []) tail i) in
       let A : List Row = annotation_rows both_kinds true (notes_of (place_marks ts marks)) in
       let B : List Row = parameter_rows (place_parameters pt ps) in
@@ -117,7 +113,7 @@ module _ (slots : List SlotInfo) (s : List Qualifier) (hs : List ClassHead) wher
       (members_stay o false io cn ms c k (j + length (method_slots hs old)) (b + 1) restf restm later later' g.1 h (stands_right slots s j (method_slots hs old) tail i) (no_rows_right (A ++ B) C e))
   members_stay o interface io cn (MethodMember marks u n r ps body ∷ ms) c k j b restf restm ts us g h i e =
       let m : MemberTree = MethodMember marks u n r ps body in
-      let old : MethodHead = head_of (method_heads interface (place_member ts m)) in
+      let old : MethodHead = head_of (method_marks infer interface (place_member ts m)) in
       let later : List Token = behind ts (spell_member m) in
       let info : Method = method_of hs c j b old in
       let names : List NameNo = both_at slots s info.result_slot in
@@ -132,11 +128,11 @@ module _ (slots : List SlotInfo) (s : List Qualifier) (hs : List ClassHead) wher
       let ru : List Token = behind nu (Id n ∷ LeftParen ∷ []) in
       let pt : List Token = behind rt (spell_receiver r) in
       let pu : List Token = behind ru (spell_receiver (noted_receiver cn r q)) in
-      let w : Bool = has_word PrivateWord (place_marks ts marks) in
+      let w : Bool = infers infer interface (place_marks ts marks) in
       let R : List SlotInfo = receiver_slots old in
       let params : List SlotInfo = params_slots hs w (map param_head (place_parameters pt ps)) in
       let results : List SlotInfo = result_slots hs w (result_head (place_marks ts marks) (place_result at_result u)) in
-      let tail : List SlotInfo = methods_slots hs (methods_at interface later ms) in
+      let tail : List SlotInfo = methods_slots hs (methods_at infer interface later ms) in
       let whole = stands_left slots s j (R ++ (params ++ results)) tail i in
       let behind_r = stands_right slots s j R (params ++ results) whole in
       let t : ℕ = j + length R in
@@ -159,12 +155,12 @@ module _ (slots : List SlotInfo) (s : List Qualifier) (hs : List ClassHead) wher
       (parameters_stay slots s hs ps w t pt pu (stands_left slots s t params results behind_r) (no_rows_right C D third)))))
       (members_stay o interface io cn ms c k (j + length (method_slots hs old)) (b + count old.has_body) restf restm later later' g.1 h (stands_right slots s j (method_slots hs old) tail i) (no_rows_right (A ++ (B ++ (C ++ D))) E e))
 
-  type_stays : (t : TypeDeclaration) (c k b : ℕ) (restf : List Field) (restm : List Method) (ts us : List Token) → let x : ClassHead = class_head (place_type ts t) in GoodType t → Stands slots s k (class_slots hs x) → declared_type_rows (place_type ts t) ≡ [] → declared_type_rows (place_type us (noted_type slots s t (fields_of hs c k x.fields ++ restf) (methods_of hs c (k + length (fields_slots hs x.fields)) b x.methods ++ restm))) ≡ []
+  type_stays : (t : TypeDeclaration) (c k b : ℕ) (restf : List Field) (restm : List Method) (ts us : List Token) → let x : ClassHead = class_marks infer (place_type ts t) in GoodType t → Stands slots s k (class_slots hs x) → declared_type_rows (place_type ts t) ≡ [] → declared_type_rows (place_type us (noted_type slots s t (fields_of hs c k x.fields ++ restf) (methods_of hs c (k + length (fields_slots hs x.fields)) b x.methods ++ restm))) ≡ []
   type_stays (ClassType marks n parent interfaces members) c k b restf restm ts us g h e =
       let at : List Token → List Token = λ x. behind x (spell_all_marks marks ++ Class ∷ []) in
       let inside : List Token → List Token = λ x. behind (behind (drop 1 (at x)) (spell_parent parent)) (spell_names Implements interfaces ++ LeftBrace ∷ []) in
-      let F : List FieldHead = fields_at (inside ts) members in
-      let M : List MethodHead = methods_at false (inside ts) members in
+      let F : List FieldHead = fields_at infer false (inside ts) members in
+      let M : List MethodHead = methods_at infer false (inside ts) members in
       let k' : ℕ = k + length (fields_slots hs F) in
       let fs : List Field = fields_of hs c k F ++ restf in
       let w = with_methods hs c k' b (place_name (at ts) n) M restm in
@@ -181,8 +177,8 @@ module _ (slots : List SlotInfo) (s : List Qualifier) (hs : List ClassHead) wher
   type_stays (InterfaceType marks n parents members) c k b restf restm ts us g h e =
       let at : List Token → List Token = λ x. behind x (spell_all_marks marks ++ Interface ∷ []) in
       let inside : List Token → List Token = λ x. behind (drop 1 (at x)) (spell_names Extends parents ++ LeftBrace ∷ []) in
-      let F : List FieldHead = fields_at (inside ts) members in
-      let M : List MethodHead = methods_at true (inside ts) members in
+      let F : List FieldHead = fields_at infer true (inside ts) members in
+      let M : List MethodHead = methods_at infer true (inside ts) members in
       let A : List Row = annotation_rows both_kinds true (notes_of (place_marks ts marks)) in
       let B : List Row = name_row n.0 (place_name (at ts) n).span in
       let C : List Row = heads_rows true (place_members (inside ts) members) in
@@ -191,24 +187,21 @@ module _ (slots : List SlotInfo) (s : List Qualifier) (hs : List ClassHead) wher
       (no_rows_both (name_row n.0 (place_name (at us) n).span) _ (name_stays n.0 (place_name (at ts) n).span (place_name (at us) n).span (no_rows_left B C second))
       (members_stay (record { interface = true; name = n }) true refl n members c k (k + length (fields_slots hs F)) b restf restm (inside ts) (inside us) g.1 (stands_left slots s k (fields_slots hs F) (methods_slots hs M) h) (stands_right slots s k (fields_slots hs F) (methods_slots hs M) h) (no_rows_right B C second)))
 
-  pub types_stay : (types : List TypeDeclaration) (c k b : ℕ) (fs restf : List Field) (ms restm : List Method) (ts us : List Token) → fs ≡ fields_from hs c k (heads_at ts types) ++ restf → ms ≡ methods_from hs c k b (heads_at ts types) ++ restm → GoodTypes types → Stands slots s k (slots_of_all hs (heads_at ts types)) → types_rows (place_each place_type spell_type ts types) ≡ [] → types_rows (place_each place_type spell_type us (noted_types slots s types fs ms)) ≡ []
+  pub types_stay : (types : List TypeDeclaration) (c k b : ℕ) (fs restf : List Field) (ms restm : List Method) (ts us : List Token) → fs ≡ fields_from hs c k (marks_at infer ts types) ++ restf → ms ≡ methods_from hs c k b (marks_at infer ts types) ++ restm → GoodTypes types → Stands slots s k (slots_of_all hs (marks_at infer ts types)) → types_rows (place_each place_type spell_type ts types) ≡ [] → types_rows (place_each place_type spell_type us (noted_types slots s types fs ms)) ≡ []
   types_stay [] c k b fs restf ms restm ts us ef em g h e = refl
   types_stay (t ∷ types) c k b fs restf ms restm ts us ef em g h e =
-      let x : ClassHead = class_head (place_type ts t) in
+      let x : ClassHead = class_marks infer (place_type ts t) in
       let later : List Token = behind ts (spell_type t) in
-      let xs : List ClassHead = heads_at later types in
+      let xs : List ClassHead = marks_at infer later types in
       let k' : ℕ = k + length (class_slots hs x) in
       let b' : ℕ = b + bodies_of x.methods in
       let A : List Field = fields_of hs c k x.fields in
       let B : List Field = fields_from hs (suc c) k' xs ++ restf in
       let D : List Method = methods_of hs c (k + length (fields_slots hs x.fields)) b x.methods in
       let E : List Method = methods_from hs (suc c) k' b' xs ++ restm in
-      let cut_f : fs ≡ A ++ B = ef ∙ append_assoc A (fields_from hs (suc c) k' xs) restf in
-      let cut_m : ms ≡ D ++ E = em ∙ append_assoc D (methods_from hs (suc c) k' b' xs) restm in
-      let rest_f : drop (type_fields t) fs ≡ B = ap (drop (type_fields t)) cut_f ∙ drop_at A B (type_fields t) (type_fields_long hs c k t ts) in
-      let rest_m : drop (type_methods t) ms ≡ E = ap (drop (type_methods t)) cut_m ∙ drop_at D E (type_methods t) (type_methods_long hs c (k + length (fields_slots hs x.fields)) b t ts g.0) in
+      let p = type_parts infer hs t types c k b fs restf ms restm ts ef em g.0 in
       let P : List Row = declared_type_rows (place_type ts t) in
       let Q : List Row = types_rows (place_each place_type spell_type later types) in
-      let one = subst (λ y. declared_type_rows (place_type us (noted_type slots s t fs y)) ≡ []) (sym cut_m) (subst (λ y. declared_type_rows (place_type us (noted_type slots s t y (D ++ E))) ≡ []) (sym cut_f) (type_stays t c k b B E ts us g.0 (stands_left slots s k (class_slots hs x) (slots_of_all hs xs) h) (no_rows_left P Q e))) in
-      let two = types_stay types (suc c) k' b' (drop (type_fields t) fs) restf (drop (type_methods t) ms) restm later (behind us (spell_type (noted_type slots s t fs ms))) rest_f rest_m g.1 (stands_right slots s k (class_slots hs x) (slots_of_all hs xs) h) (no_rows_right P Q e) in
+      let one = subst (λ y. declared_type_rows (place_type us (noted_type slots s t fs y)) ≡ []) (sym p.cut_m) (subst (λ y. declared_type_rows (place_type us (noted_type slots s t y (D ++ E))) ≡ []) (sym p.cut_f) (type_stays t c k b B E ts us g.0 (stands_left slots s k (class_slots hs x) (slots_of_all hs xs) h) (no_rows_left P Q e))) in
+      let two = types_stay types (suc c) k' b' (drop (type_fields t) fs) restf (drop (type_methods t) ms) restm later (behind us (spell_type (noted_type slots s t fs ms))) p.rest_f p.rest_m g.1 (stands_right slots s k (class_slots hs x) (slots_of_all hs xs) h) (no_rows_right P Q e) in
       no_rows_both (declared_type_rows (place_type us (noted_type slots s t fs ms))) _ one two

@@ -15,7 +15,16 @@ use Rattle.jn_places.specs.Placed.{PlacedFile}
 use Rattle.jn_places.specs.Forget.{forget_file}
 use Rattle.jn_transfer.specs.Contributions.{is_inferred}
 use Rattle.jn_classtable.specs.Extract.{heads}
-use Rattle.jn_program_law.specs.FileProgram.{program_of_files}
+use Rattle.jn_base.specs.declared.infer.Infer.{Infer}
+use Rattle.std.proofs.lemmas.List.{length-map}
+use Rattle.jn_trees.specs.Trees.{SourceTree}
+use Rattle.jn_classtable.specs.Inferred.{slots_by}
+use Rattle.jn_program_law.specs.FileProgram.{inferring, program_of_files}
+use Rattle.jn_bare_law.specs.Bare.{Alike, bare, bare_slot}
+use Rattle.jn_bare_law.specs.Written.{written_slot}
+use Rattle.jn_annotate_law.specs.Again.{NoneInferred}
+use Rattle.jn_annotate_law.proofs.Tabled.{noted_same, says_same}
+use Rattle.jn_annotate_law.proofs.Unchanged.{annotated_again}
 use Rattle.jn_tables_law.specs.Inferable.{IsInferable}
 use Rattle.jn_inference_law.specs.Solution.{IsLeastSignature}
 use Rattle.jn_annotate.specs.Words.{is_unspelled}
@@ -88,18 +97,50 @@ module _ (P : Program) (s : List Qualifier) (can : IsInferable P) (is : IsLeastS
       here None e h = absurd (let f : ◌≡◌ {A = Option Qualifier} None (Some q) = e in cc)
       here (Some info) e h = inner info.inferred e h
 
-pub kept_all : (texts names new : List (List ℕ)) (tokens : List (List Token)) (trees : List PlacedFile) (s : List Qualifier) → let P = program_of_files trees in let bare = map forget_file trees in TextsLexed 0 known_names texts tokens names → AllPlaced tokens trees → IsInferable P → IsLeastSignature P s → FilesSay P.slots s bare P.fields (drop 1 P.methods) → Annotated P s texts tokens bare new → Kept names trees s (noted_files P.slots s bare P.fields (drop 1 P.methods)) new
-kept_all texts names new tokens trees s lexed placed can is say annotated' =
-    let P : Program = program_of_files trees in
+-- ---- slots by a choice
+
+as_many : (xs ys : List SlotInfo) → length xs ≡ length ys → map bare_slot xs ≡ map bare_slot ys
+as_many [] [] e = refl
+as_many [] (y ∷ ys) e = absurd (omega (arith, e))
+as_many (x ∷ xs) [] e = absurd (omega (arith, e))
+as_many (x ∷ xs) (y ∷ ys) e = ap (λ r. bare_slot x ∷ r) (as_many xs ys (omega (arith, e)))
+
+abbrev with_slots : Program → List SlotInfo → Program
+with_slots P slots = record P { slots = slots }
+
+alike_by : (infer : Infer) (trees places : List PlacedFile) → Alike (program_of_files trees) (program_of_files places) → length (slots_by infer trees) ≡ length (slots_by infer places) → Alike (inferring infer trees) (inferring infer places)
+alike_by infer trees places a e =
+    ap (λ P. with_slots P (map bare_slot (slots_by infer trees))) a
+    ∙ ap (with_slots (bare (program_of_files places))) (as_many (slots_by infer trees) (slots_by infer places) e)
+
+written_none : (slots : List SlotInfo) (s : List Qualifier) → slots ≡ map written_slot s → NoneInferred slots
+written_none slots s e i = ap (λ x. is_inferred (slice_get x i)) e ∙ go s i
+  where
+    go : (s : List Qualifier) (i : ℕ) → is_inferred (slice_get (map written_slot s) i) ≡ false
+    go [] i = refl
+    go (q ∷ s) zero = refl
+    go (q ∷ s) (suc i) = go s i
+
+pub kept_all : (infer : Infer) (texts names new : List (List ℕ)) (tokens : List (List Token)) (trees : List PlacedFile) (s : List Qualifier) → let P = inferring infer trees in let bare = map forget_file trees in TextsLexed 0 known_names texts tokens names → AllPlaced tokens trees → IsInferable P → IsLeastSignature P s → FilesSay P.slots s bare P.fields (drop 1 P.methods) → Annotated P s texts tokens bare new → Kept infer names trees s (noted_files P.slots s bare P.fields (drop 1 P.methods)) new
+kept_all infer texts names new tokens trees s lexed placed can is say annotated' =
+    let P : Program = inferring infer trees in
+    let forgotten : List SourceTree = map forget_file trees in
     let r = all_parsed P.slots s texts tokens trees names P.fields (drop 1 P.methods) lexed placed (all_fit tokens trees P.slots s placed) in
     let sp : Spelled P.slots s = record { fixed = fixed P s can is; spelled = spelled P s can is annotated'.spelled } in
-    let written = all_written tokens r.0 trees r.1 s (long P s can is) sp placed r.3 r.4 say in
+    let written = all_written infer tokens r.0 trees r.1 s (long P s can is) sp placed r.3 (r.4 ∙ noted_same P.slots s infer trees forgotten) ((says_same P.slots s infer trees forgotten).1 say) in
     let table_is = tables_alike (heads trees) (heads r.1) (heads_plain P.slots s tokens r.0 trees r.1 P.fields (drop 1 P.methods) placed r.3 r.4) in
+    let program_is = alike_programs P.slots s tokens r.0 trees r.1 P.fields (drop 1 P.methods) placed r.3 r.4 table_is in
+    let count : length (slots_by infer trees) ≡ length (slots_by infer r.1) = sym (ap length written ∙ length-map s written_slot ∙ long P s can is) in
+    let Q : Program = inferring infer r.1 in
+    let none : NoneInferred Q.slots = written_none Q.slots s written in
+    let again : TextsLexed 0 known_names new r.0 names = subst (λ x. TextsLexed 0 known_names x r.0 names) (sym annotated'.are) r.2 in
     record {
       tokens = r.0;
       places = r.1;
-      lexed = subst (λ x. TextsLexed 0 known_names x r.0 names) (sym annotated'.are) r.2;
+      lexed = again;
       parsed = r.3;
       trees_are = r.4;
-      meaning = means P (program_of_files r.1) s (alike_programs P.slots s tokens r.0 trees r.1 P.fields (drop 1 P.methods) placed r.3 r.4 table_is) written;
+      meaning = means P Q s (alike_by infer trees r.1 program_is count) written;
+      none_inferred = none;
+      again = annotated_again Q s none new names r.0 r.1 known_names again r.3 annotated'.small;
     }

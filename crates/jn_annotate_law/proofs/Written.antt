@@ -1,7 +1,11 @@
 -- All slots of annotated files are written as they were inferred.
 use Rattle.std.proofs.Common.{◌≡◌, ℕ, suc, ◌+◌, List, [], ◌∷◌, ◌++◌, length, refl, sym, ap, ◌∙◌, subst, arith, append_assoc, length-append}
 use Rattle.std.specs.Prelude.{drop, map, slice_index_or}
-use Rattle.std.proofs.lemmas.List.{append-nil, drop_at}
+use Rattle.std.proofs.lemmas.List.{append-nil}
+use Rattle.jn_base.specs.declared.infer.Infer.{Infer}
+use Rattle.jn_classtable.specs.Inferred.{class_marks, marks, slots_by}
+use Rattle.jn_annotate_law.proofs.Marked.{marks_at}
+use Rattle.jn_annotate_law.proofs.Tabled.{table_by}
 use Rattle.jn_quals.specs.Qualifier.{Qualifier}
 use Rattle.jn_quals.specs.Order.{no_qual}
 use Rattle.jn_points.specs.declared.program.Field.{Field}
@@ -16,7 +20,7 @@ use Rattle.jn_places.specs.Places.{behind, place_file, place_type, place_each}
 use Rattle.jn_places.specs.Forget.{forget_file}
 use Rattle.jn_classtable.specs.declared.head.ClassHead.{ClassHead}
 use Rattle.jn_classtable.specs.Types.{fields_slots, class_slots, slots_of_all}
-use Rattle.jn_classtable.specs.Table.{fields_of, fields_from, methods_of, methods_from, bodies_of, bodies_of_all, table}
+use Rattle.jn_classtable.specs.Table.{fields_of, fields_from, methods_of, methods_from, bodies_of, bodies_of_all}
 use Rattle.jn_classtable.specs.Extract.{class_head, heads}
 use Rattle.jn_bare_law.specs.Written.{written_slot}
 use Rattle.jn_annotate.specs.Insertions.{type_fields, type_methods, file_fields, file_methods}
@@ -26,7 +30,7 @@ use Rattle.jn_annotate_law.specs.Plain.{plain_head}
 use Rattle.jn_annotate_law.specs.Says.{Spelled, FilesSay}
 use Rattle.jn_annotate_law.proofs.Extracting.{heads_plain}
 use Rattle.jn_annotate_law.proofs.Positions.{quals_from, Stands, stands_left, stands_right, slots_append}
-use Rattle.jn_annotate_law.proofs.Classes.{type_fields_long, type_methods_long, types_walk}
+use Rattle.jn_annotate_law.proofs.Classes.{Parts, marked_fields_long, marked_methods_long, parts, type_methods_long, types_walk}
 
 pub slots_all_append : (hs : List ClassHead) (xs ys : List ClassHead) → slots_of_all hs (xs ++ ys) ≡ slots_of_all hs xs ++ slots_of_all hs ys
 slots_all_append hs [] ys = refl
@@ -61,14 +65,23 @@ methods_from_append hs c k b (x ∷ xs) ys =
 abbrev pub heads_at : List Token → List TypeDeclaration → List ClassHead
 heads_at ts types = map class_head (place_each place_type spell_type ts types)
 
-pub fields_from_long : (hs : List ClassHead) (c k : ℕ) (types : List TypeDeclaration) (ts : List Token) → length (fields_from hs c k (heads_at ts types)) ≡ file_fields types
-fields_from_long hs c k [] ts = refl
-fields_from_long hs c k (t ∷ types) ts =
-    let x : ClassHead = class_head (place_type ts t) in
-    let a = length-append (fields_of hs c k x.fields) (fields_from hs (suc c) (k + length (class_slots hs x)) (heads_at (behind ts (spell_type t)) types)) in
-    let b = type_fields_long hs c k t ts in
-    let d = fields_from_long hs (suc c) (k + length (class_slots hs x)) types (behind ts (spell_type t)) in
-    a ∙ ap (λ n. n + length (fields_from hs (suc c) (k + length (class_slots hs x)) (heads_at (behind ts (spell_type t)) types))) b ∙ ap (λ n. type_fields t + n) d
+pub marked_from_long : (infer : Infer) (hs : List ClassHead) (c k : ℕ) (types : List TypeDeclaration) (ts : List Token) → length (fields_from hs c k (marks_at infer ts types)) ≡ file_fields types
+marked_from_long infer hs c k [] ts = refl
+marked_from_long infer hs c k (t ∷ types) ts =
+    let x : ClassHead = class_marks infer (place_type ts t) in
+    let later : List Field = fields_from hs (suc c) (k + length (class_slots hs x)) (marks_at infer (behind ts (spell_type t)) types) in
+    length-append (fields_of hs c k x.fields) later
+    ∙ ap (λ n. n + length later) (marked_fields_long infer hs c k t ts)
+    ∙ ap (λ n. type_fields t + n) (marked_from_long infer hs (suc c) (k + length (class_slots hs x)) types (behind ts (spell_type t)))
+
+pub marked_methods_from_long : (infer : Infer) (hs : List ClassHead) (c k b : ℕ) (types : List TypeDeclaration) (ts : List Token) → GoodTypes types → length (methods_from hs c k b (marks_at infer ts types)) ≡ file_methods types
+marked_methods_from_long infer hs c k b [] ts g = refl
+marked_methods_from_long infer hs c k b (t ∷ types) ts g =
+    let x : ClassHead = class_marks infer (place_type ts t) in
+    let later : List Method = methods_from hs (suc c) (k + length (class_slots hs x)) (b + bodies_of x.methods) (marks_at infer (behind ts (spell_type t)) types) in
+    length-append (methods_of hs c (k + length (fields_slots hs x.fields)) b x.methods) later
+    ∙ ap (λ n. n + length later) (marked_methods_long infer hs c (k + length (fields_slots hs x.fields)) b t ts g.0)
+    ∙ ap (λ n. type_methods t + n) (marked_methods_from_long infer hs (suc c) (k + length (class_slots hs x)) (b + bodies_of x.methods) types (behind ts (spell_type t)) g.1)
 
 pub methods_from_long : (hs : List ClassHead) (c k b : ℕ) (types : List TypeDeclaration) (ts : List Token) → GoodTypes types → length (methods_from hs c k b (heads_at ts types)) ≡ file_methods types
 methods_from_long hs c k b [] ts g = refl
@@ -79,8 +92,23 @@ methods_from_long hs c k b (t ∷ types) ts g =
     ∙ ap (λ n. n + length later) (type_methods_long hs c (k + length (fields_slots hs x.fields)) b t ts g.0)
     ∙ ap (λ n. type_methods t + n) (methods_from_long hs (suc c) (k + length (class_slots hs x)) (b + bodies_of x.methods) types (behind ts (spell_type t)) g.1)
 
-module _ (slots : List SlotInfo) (s : List Qualifier) (hs gs : List ClassHead) (same : map plain_head hs ≡ map plain_head gs) (sp : Spelled slots s) where
-  files_walk : (tokens others : List (List Token)) (trees places : List PlacedFile) (c k b : ℕ) (fs restf : List Field) (ms restm : List Method) → AllPlaced tokens trees → AllPlaced others places → map forget_file places ≡ noted_files slots s (map forget_file trees) fs ms → fs ≡ fields_from hs c k (heads trees) ++ restf → ms ≡ methods_from hs c k b (heads trees) ++ restm → FilesSay slots s (map forget_file trees) fs ms → Stands slots s k (slots_of_all hs (heads trees)) → slots_of_all gs (heads places) ≡ map written_slot (quals_from s k (length (slots_of_all hs (heads trees))))
+-- of the first of files
+pub file_parts : (infer : Infer) (hs : List ClassHead) (types : List TypeDeclaration) (ys : List ClassHead) (c k b : ℕ) (fs restf : List Field) (ms restm : List Method) (ts : List Token) → let xs : List ClassHead = marks_at infer ts types in let c' : ℕ = c + length xs in let k' : ℕ = k + length (slots_of_all hs xs) in
+    fs ≡ fields_from hs c k (xs ++ ys) ++ restf → ms ≡ methods_from hs c k b (xs ++ ys) ++ restm → GoodTypes types →
+    Parts fs (fields_from hs c k xs) (fields_from hs c' k' ys ++ restf) ms (methods_from hs c k b xs) (methods_from hs c' k' (b + bodies_of_all xs) ys ++ restm) (file_fields types) (file_methods types)
+file_parts infer hs types ys c k b fs restf ms restm ts f m g =
+    let xs : List ClassHead = marks_at infer ts types in
+    let c' : ℕ = c + length xs in
+    let k' : ℕ = k + length (slots_of_all hs xs) in
+    let b' : ℕ = b + bodies_of_all xs in
+    let A : List Field = fields_from hs c k xs in
+    let D : List Method = methods_from hs c k b xs in
+    parts fs A (fields_from hs c' k' ys ++ restf) ms D (methods_from hs c' k' b' ys ++ restm) (file_fields types) (file_methods types)
+    (f ∙ ap (λ x. x ++ restf) (fields_from_append hs c k xs ys) ∙ append_assoc A (fields_from hs c' k' ys) restf) (m ∙ ap (λ x. x ++ restm) (methods_from_append hs c k b xs ys) ∙ append_assoc D (methods_from hs c' k' b' ys) restm)
+    (marked_from_long infer hs c k types ts) (marked_methods_from_long infer hs c k b types ts g)
+
+module _ (slots : List SlotInfo) (s : List Qualifier) (hs gs : List ClassHead) (same : map plain_head hs ≡ map plain_head gs) (sp : Spelled slots s) (infer : Infer) where
+  files_walk : (tokens others : List (List Token)) (trees places : List PlacedFile) (c k b : ℕ) (fs restf : List Field) (ms restm : List Method) → AllPlaced tokens trees → AllPlaced others places → map forget_file places ≡ noted_files slots s (map forget_file trees) fs ms → fs ≡ fields_from hs c k (marks infer trees) ++ restf → ms ≡ methods_from hs c k b (marks infer trees) ++ restm → FilesSay slots s (map forget_file trees) fs ms → Stands slots s k (slots_of_all hs (marks infer trees)) → slots_of_all gs (marks infer places) ≡ map written_slot (quals_from s k (length (slots_of_all hs (marks infer trees))))
   files_walk [] others [] [] c k b fs restf ms restm p q e ef em say h = refl
   files_walk [] others [] (place ∷ places) c k b fs restf ms restm p q e ef em say h = cc
   files_walk [] others (tree ∷ trees) places c k b fs restf ms restm p q e ef em say h = absurd p
@@ -91,13 +119,13 @@ module _ (slots : List SlotInfo) (s : List Qualifier) (hs gs : List ClassHead) (
   files_walk (ts ∷ tokens) (us ∷ others) (tree ∷ trees) (place ∷ places) c k b fs restf ms restm p q e ef em say h =
       let bare : SourceTree = forget_file tree in
       let at : List Token → List Token = λ x. behind (behind x (spell_package_line bare.package_line)) (spell_imports bare.imports) in
-      let xs : List ClassHead = heads_at (at ts) bare.types in
-      let ys : List ClassHead = heads trees in
-      let head_is : heads (tree ∷ trees) ≡ xs ++ ys = ap (λ (x : PlacedFile). map class_head x.types ++ ys) p.0.1 in
+      let xs : List ClassHead = marks_at infer (at ts) bare.types in
+      let ys : List ClassHead = marks infer trees in
+      let head_is : marks infer (tree ∷ trees) ≡ xs ++ ys = ap (λ (x : PlacedFile). map (class_marks infer) x.types ++ ys) p.0.1 in
       let first : forget_file place ≡ noted_file slots s bare fs ms = cc in
       let others_is : map forget_file places ≡ noted_files slots s (map forget_file trees) (drop (file_fields bare.types) fs) (drop (file_methods bare.types) ms) = cc in
-      let zs : List ClassHead = heads_at (at us) (noted_types slots s bare.types fs ms) in
-      let new_is : heads (place ∷ places) ≡ zs ++ heads places = ap (λ (x : PlacedFile). map class_head x.types ++ heads places) q.0.1 ∙ ap (λ (x : SourceTree). map class_head (place_file us x).types ++ heads places) first in
+      let zs : List ClassHead = marks_at infer (at us) (noted_types slots s bare.types fs ms) in
+      let new_is : marks infer (place ∷ places) ≡ zs ++ marks infer places = ap (λ (x : PlacedFile). map (class_marks infer) x.types ++ marks infer places) q.0.1 ∙ ap (λ (x : SourceTree). map (class_marks infer) (place_file us x).types ++ marks infer places) first in
       let c' : ℕ = c + length xs in
       let k' : ℕ = k + length (slots_of_all hs xs) in
       let b' : ℕ = b + bodies_of_all xs in
@@ -105,15 +133,12 @@ module _ (slots : List SlotInfo) (s : List Qualifier) (hs gs : List ClassHead) (
       let B : List Field = fields_from hs c' k' ys ++ restf in
       let D : List Method = methods_from hs c k b xs in
       let E : List Method = methods_from hs c' k' b' ys ++ restm in
-      let cut_f : fs ≡ A ++ B = ef ∙ ap (λ x. fields_from hs c k x ++ restf) head_is ∙ ap (λ x. x ++ restf) (fields_from_append hs c k xs ys) ∙ append_assoc A (fields_from hs c' k' ys) restf in
-      let cut_m : ms ≡ D ++ E = em ∙ ap (λ x. methods_from hs c k b x ++ restm) head_is ∙ ap (λ x. x ++ restm) (methods_from_append hs c k b xs ys) ∙ append_assoc D (methods_from hs c' k' b' ys) restm in
-      let rest_f : drop (file_fields bare.types) fs ≡ B = ap (drop (file_fields bare.types)) cut_f ∙ drop_at A B (file_fields bare.types) (fields_from_long hs c k bare.types (at ts)) in
-      let rest_m : drop (file_methods bare.types) ms ≡ E = ap (drop (file_methods bare.types)) cut_m ∙ drop_at D E (file_methods bare.types) (methods_from_long hs c k b bare.types (at ts) p.0.0.0) in
+      let cut = file_parts infer hs bare.types ys c k b fs restf ms restm (at ts) (ef ∙ ap (λ x. fields_from hs c k x ++ restf) head_is) (em ∙ ap (λ x. methods_from hs c k b x ++ restm) head_is) p.0.0.0 in
       let whole : Stands slots s k (slots_of_all hs xs ++ slots_of_all hs ys) = subst (Stands slots s k) (ap (slots_of_all hs) head_is ∙ slots_all_append hs xs ys) h in
-      let one = types_walk slots s hs gs same sp bare.types c k b fs B ms E (at ts) (at us) cut_f cut_m p.0.0.0 say.0 (stands_left slots s k (slots_of_all hs xs) (slots_of_all hs ys) whole) in
-      let two = files_walk tokens others trees places c' k' b' (drop (file_fields bare.types) fs) restf (drop (file_methods bare.types) ms) restm p.1 q.1 others_is rest_f rest_m say.1 (stands_right slots s k (slots_of_all hs xs) (slots_of_all hs ys) whole) in
-      ap (slots_of_all gs) new_is ∙ slots_all_append gs zs (heads places)
-      ∙ slots_append slots s k (slots_of_all hs xs) (slots_of_all hs ys) (slots_of_all gs zs) (slots_of_all gs (heads places)) one two
+      let one = types_walk slots s hs gs same sp infer bare.types c k b fs B ms E (at ts) (at us) cut.cut_f cut.cut_m p.0.0.0 say.0 (stands_left slots s k (slots_of_all hs xs) (slots_of_all hs ys) whole) in
+      let two = files_walk tokens others trees places c' k' b' (drop (file_fields bare.types) fs) restf (drop (file_methods bare.types) ms) restm p.1 q.1 others_is cut.rest_f cut.rest_m say.1 (stands_right slots s k (slots_of_all hs xs) (slots_of_all hs ys) whole) in
+      ap (slots_of_all gs) new_is ∙ slots_all_append gs zs (marks infer places)
+      ∙ slots_append slots s k (slots_of_all hs xs) (slots_of_all hs ys) (slots_of_all gs zs) (slots_of_all gs (marks infer places)) one two
       ∙ ap (λ x. map written_slot (quals_from s k (length x))) (sym (ap (slots_of_all hs) head_is ∙ slots_all_append hs xs ys))
 
 -- ---- all slots
@@ -134,14 +159,16 @@ quals_all s = go [] s
         at [] y ys = refl
         at (x ∷ xs) y ys = at xs y ys
 
-pub all_written : (tokens others : List (List Token)) (trees places : List PlacedFile) (s : List Qualifier) → let P = table (heads trees) in length s ≡ length P.slots → Spelled P.slots s → AllPlaced tokens trees → AllPlaced others places → map forget_file places ≡ noted_files P.slots s (map forget_file trees) P.fields (drop 1 P.methods) → FilesSay P.slots s (map forget_file trees) P.fields (drop 1 P.methods) → (table (heads places)).slots ≡ map written_slot s
-all_written tokens others trees places s long sp p q e say =
+-- the slots by a choice are those of the heads in which members that are inferred count as private
+pub all_written : (infer : Infer) (tokens others : List (List Token)) (trees places : List PlacedFile) (s : List Qualifier) → let slots = slots_by infer trees in let P = table_by infer trees in length s ≡ length slots → Spelled slots s → AllPlaced tokens trees → AllPlaced others places → map forget_file places ≡ noted_files slots s (map forget_file trees) P.fields (drop 1 P.methods) → FilesSay slots s (map forget_file trees) P.fields (drop 1 P.methods) → slots_by infer places ≡ map written_slot s
+all_written infer tokens others trees places s long sp p q e say =
     let hs : List ClassHead = heads trees in
     let gs : List ClassHead = heads places in
-    let slots : List SlotInfo = slots_of_all hs hs in
-    let fs : List Field = fields_from hs 2 0 hs in
-    let ms : List Method = methods_from hs 2 0 1 hs in
+    let xs : List ClassHead = marks infer trees in
+    let slots : List SlotInfo = slots_of_all hs xs in
+    let fs : List Field = fields_from hs 2 0 xs in
+    let ms : List Method = methods_from hs 2 0 1 xs in
     let same = heads_plain slots s tokens others trees places fs ms p q e in
-    let stands : Stands slots s 0 (slots_of_all hs hs) = record { before = []; behind' = []; is = sym (append-nil slots); long = refl } in
-    files_walk slots s hs gs same sp tokens others trees places 2 0 1 fs [] ms [] p q e (sym (append-nil fs)) (sym (append-nil ms)) say stands
+    let stands : Stands slots s 0 (slots_of_all hs xs) = record { before = []; behind' = []; is = sym (append-nil slots); long = refl } in
+    files_walk slots s hs gs same sp infer tokens others trees places 2 0 1 fs [] ms [] p q e (sym (append-nil fs)) (sym (append-nil ms)) say stands
     ∙ ap (λ n. map written_slot (quals_from s 0 n)) (sym long) ∙ ap (map written_slot) (quals_all s)

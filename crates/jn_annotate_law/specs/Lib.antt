@@ -5,3 +5,4 @@ pub mod Plain
 pub mod Noted
 pub mod Says
 pub mod Kept
+pub mod Again

@@ -1,6 +1,8 @@
 //! Laws of annotated files.
-ghost use Rattle.std.specs.Prelude.{◌≡◌, ◌<◌, ◌∷◌, [], Bool, drop, false, length, List, map, slice_get, slice_index_or, true, ℕ};
+ghost use Rattle.std.specs.Prelude.{◌≡◌, ◌<◌, ◌^◌, ◌∷◌, [], Bool, drop, false, length, List, map, slice_get, slice_index_or, true, ℕ};
 ghost use Rattle.jn_base.specs.declared.number.FileNo.{FileNo};
+ghost use Rattle.jn_base.specs.declared.infer.Infer.{Infer};
+ghost use Rattle.jn_annotate_law.specs.Again.{NoneInferred};
 ghost use Rattle.jn_known.specs.Known.{known_names};
 ghost use Rattle.jn_quals.specs.Qualifier.{Qualifier};
 ghost use Rattle.jn_points.specs.declared.program.Field.{Field};
@@ -10,7 +12,10 @@ ghost use Rattle.jn_lexer.specs.Lexed.{Lexed};
 ghost use Rattle.jn_trees.specs.Pieces.{IsFile};
 ghost use Rattle.jn_trees.specs.Trees.{SourceTree};
 ghost use Rattle.jn_trees.specs.declared.token.Token.{Token};
+ghost use Rattle.jn_trees.specs.declared.declaration.FileTree.{FileTree};
+ghost use Rattle.jn_trees.specs.View.{file_view};
 ghost use Rattle.jn_places.specs.Forget.{forget_file};
+ghost use Rattle.jn_places.specs.PlacedView.{placed_file};
 ghost use Rattle.jn_places.specs.Placed.{PlacedFile};
 ghost use Rattle.jn_splice_law.specs.Inserted.{inserted};
 ghost use Rattle.jn_splice_law.specs.Woven.{IsNamed};
@@ -27,17 +32,19 @@ ghost use Rattle.jn_transfer.specs.Contributions.{is_inferred};
 ghost use Rattle.jn_inference_law.specs.Solution.{IsLeastSignature};
 ghost use Rattle.jn_points.specs.declared.program.Program.{Program};
 ghost use Rattle.jn_annotate_law.specs.Meaning.{AllPlaced, Means, TextsLexed};
-ghost use Rattle.jn_annotate.specs.Annotated.{annotated_from, Annotated, has_no_spelling, has_shared_type, HasNone};
+ghost use Rattle.jn_annotate.specs.Annotated.{annotated_from, Annotated, has_no_spelling, has_shared_type, HasNone, is_too_large};
 ghost use Rattle.jn_annotate_law.specs.Fits.{FilesFit, TypesFit};
 ghost use Rattle.jn_annotate.specs.Insertions.{in_file};
 ghost use Rattle.jn_annotate_law.specs.Trees.{both_names, noted_file, noted_files, nullity_names};
 ghost use Rattle.jn_annotate_law.specs.Says.{FilesSay, Spelled};
-ghost use Rattle.jn_annotate_law.specs.Kept.{Kept};
+ghost use Rattle.jn_annotate_law.specs.Kept.{Kept, KeptRowless};
 ghost use Rattle.jn_lowering.specs.BodyRows.{rows_of_bodies};
 ghost use Rattle.jn_program_law.specs.FileSources.{sources};
-ghost use Rattle.jn_program_law.specs.FileProgram.{program_of_files, rows_of_files};
+ghost use Rattle.jn_program_law.specs.FileProgram.{inferring, j_rows, program_of_files, rows_of_files};
 ghost use Rattle.jn_annotate_law.specs.Noted.{notes_with};
 ghost use Rattle.jn_annotate.specs.Words.{initialization_name, is_unspelled};
+
+use jn_classtable::ClassTable;
 
 /// A file's text with the words of its inferred slots has the annotated tree, and no name more.
 pub fn annotated_texts_have_the_annotated_tree()
@@ -95,14 +102,32 @@ pub fn annotated_files_have_the_same_class_rows()
 /// Where files have no row, their annotated files have none but those of bodies: no row of class tables, and no row J5 of packages,
 /// imports, names and annotations, since each annotation has a meaning where it stands and is the one of its kind.
 pub fn annotated_files_have_no_rows_outside_bodies()
-    ensures { (tokens others : List (List Token)) (trees places : List PlacedFile)
+    ensures { (infer : Infer) (tokens others : List (List Token)) (trees places : List PlacedFile)
         (s : List Qualifier)
         → AllPlaced tokens trees → AllPlaced others places
         → map forget_file places
-        ≡ noted_files (table (heads trees)).slots s (map forget_file trees)
-        (table (heads trees)).fields (drop 1 (table (heads trees)).methods)
+        ≡ noted_files (inferring infer trees).slots s (map forget_file trees)
+        (inferring infer trees).fields (drop 1 (inferring infer trees).methods)
         → rows_of_files trees ≡ []
         → rows_of_files places ≡ rows_of_bodies (table (heads places)) (sources places) }
+{}
+
+/// So they have no row at all: the rows of their bodies, J1 to J6, have the same codes, in one order.
+pub fn annotated_files_have_no_rows()
+    ensures bodies { (slots : List SlotInfo) (s : List Qualifier)
+        (tokens others : List (List Token)) (trees places : List PlacedFile) (fields : List Field)
+        (methods : List Method)
+        → AllPlaced tokens trees → AllPlaced others places
+        → map forget_file places ≡ noted_files slots s (map forget_file trees) fields methods
+        → codes_of (rows_of_bodies (table (heads trees)) (sources trees))
+        ≡ codes_of (rows_of_bodies (table (heads places)) (sources places)) }
+    ensures none { (infer : Infer) (tokens others : List (List Token))
+        (trees places : List PlacedFile) (s : List Qualifier)
+        → AllPlaced tokens trees → AllPlaced others places
+        → map forget_file places
+        ≡ noted_files (inferring infer trees).slots s (map forget_file trees)
+        (inferring infer trees).fields (drop 1 (inferring infer trees).methods)
+        → rows_of_files trees ≡ [] → rows_of_files places ≡ [] }
 {}
 
 /// Where nothing was written on a position, the words of a qualifier, put behind what else stands there, make a slot that isn't
@@ -128,16 +153,17 @@ pub fn written_words_say_the_qualifier()
 /// The slots of annotated files are written as the signature says, where it has a spelling for each inferred one and what is written
 /// for any other, and says of fields and receivers what can be written there.
 pub fn annotated_files_have_written_slots()
-    ensures { (tokens others : List (List Token)) (trees places : List PlacedFile)
+    ensures { (infer : Infer) (tokens others : List (List Token)) (trees places : List PlacedFile)
         (s : List Qualifier)
-        → length s ≡ length (table (heads trees)).slots → Spelled (table (heads trees)).slots s
-        → AllPlaced tokens trees → AllPlaced others places
+        → length s ≡ length (inferring infer trees).slots
+        → Spelled (inferring infer trees).slots s → AllPlaced tokens trees
+        → AllPlaced others places
         → map forget_file places
-        ≡ noted_files (table (heads trees)).slots s (map forget_file trees)
-        (table (heads trees)).fields (drop 1 (table (heads trees)).methods)
-        → FilesSay (table (heads trees)).slots s (map forget_file trees)
-        (table (heads trees)).fields (drop 1 (table (heads trees)).methods)
-        → (table (heads places)).slots ≡ map written_slot s }
+        ≡ noted_files (inferring infer trees).slots s (map forget_file trees)
+        (inferring infer trees).fields (drop 1 (inferring infer trees).methods)
+        → FilesSay (inferring infer trees).slots s (map forget_file trees)
+        (inferring infer trees).fields (drop 1 (inferring infer trees).methods)
+        → (inferring infer places).slots ≡ map written_slot s }
 {}
 
 /// A program that differs from another one in places alone, and has each slot written as a signature says, means the same.
@@ -155,25 +181,89 @@ pub fn least_signatures_keep_what_is_written()
 /// The least signature says of fields and receivers what words can say there: an inferred field isn't free, an inferred receiver isn't
 /// null, and the fields of one declaration agree, where each inferred slot has a spelling and no type is shared by fields that differ.
 pub fn least_signatures_say_what_can_be_written()
-    ensures { (tokens : List (List Token)) (trees : List PlacedFile) (s : List Qualifier)
-        → AllPlaced tokens trees → IsInferable (program_of_files trees)
-        → IsLeastSignature (program_of_files trees) s
-        → HasNone (has_no_spelling (program_of_files trees) s)
-        → HasNone (has_shared_type (program_of_files trees) s (map forget_file trees))
-        → FilesSay (program_of_files trees).slots s (map forget_file trees)
-        (program_of_files trees).fields (drop 1 (program_of_files trees).methods) }
+    ensures { (infer : Infer) (tokens : List (List Token)) (trees : List PlacedFile)
+        (s : List Qualifier)
+        → AllPlaced tokens trees → IsInferable (inferring infer trees)
+        → IsLeastSignature (inferring infer trees) s
+        → HasNone (has_no_spelling (inferring infer trees) s)
+        → HasNone (has_shared_type (inferring infer trees) s (map forget_file trees))
+        → FilesSay (inferring infer trees).slots s (map forget_file trees)
+        (inferring infer trees).fields (drop 1 (inferring infer trees).methods) }
 {}
 
-/// Annotated files lex and parse, with the same names, and mean the same: their program is that of the files but for places, each slot
-/// is written as it was inferred, which is its least signature, and the same rules are broken, both ways.
+/// A program without inferred slots is annotated to itself, where its texts are small enough, so that annotating twice is annotating once.
+pub fn nothing_is_annotated_twice()
+    ensures same { (P : Program) (s : List Qualifier) (texts names new : List (List ℕ))
+        (tokens : List (List Token)) (trees : List PlacedFile)
+        → TextsLexed 0 known_names texts tokens names → AllPlaced tokens trees
+        → NoneInferred P.slots → Annotated P s texts tokens (map forget_file trees) new
+        → new ≡ texts }
+    ensures again { (P : Program) (s : List Qualifier) (texts names : List (List ℕ))
+        (tokens : List (List Token)) (trees : List PlacedFile)
+        → TextsLexed 0 known_names texts tokens names → AllPlaced tokens trees
+        → NoneInferred P.slots → HasNone (is_too_large texts)
+        → Annotated P s texts tokens (map forget_file trees) texts }
+{}
+
+/// Annotated files lex and parse, with the same names, and mean the same, under either choice of members that are inferred: their program is that
+/// of the files but for places, no slot of it is inferred, its least signature is what was inferred, and the same rules are broken at the same
+/// points, constructors and pairs, both ways; rows of types (J7 to J10) have the same codes, both ways, and annotating again changes nothing.
+/// Files without rows T and J keep that they have none; their programs can be inferred, since the two numbers are below 2 ^ 32 wherever a class
+/// table was built.
 pub fn annotating_keeps_meaning()
-    ensures { (texts names new : List (List ℕ)) (tokens : List (List Token))
+    ensures inferable { (infer : Infer) (texts names new : List (List ℕ))
+        (tokens : List (List Token)) (trees : List PlacedFile) (s : List Qualifier)
+        → TextsLexed 0 known_names texts tokens names → AllPlaced tokens trees
+        → IsInferable (inferring infer trees) → IsLeastSignature (inferring infer trees) s
+        → Annotated (inferring infer trees) s texts tokens (map forget_file trees) new
+        → Kept infer names trees s
+        (noted_files (inferring infer trees).slots s (map forget_file trees)
+        (inferring infer trees).fields (drop 1 (inferring infer trees).methods))
+        new }
+    ensures rowless { (infer : Infer) (texts names new : List (List ℕ)) (tokens : List (List Token))
         (trees : List PlacedFile) (s : List Qualifier)
         → TextsLexed 0 known_names texts tokens names → AllPlaced tokens trees
-        → IsInferable (program_of_files trees) → IsLeastSignature (program_of_files trees) s
-        → Annotated (program_of_files trees) s texts tokens (map forget_file trees) new
-        → Kept names trees s
-        (noted_files (program_of_files trees).slots s (map forget_file trees)
-        (program_of_files trees).fields (drop 1 (program_of_files trees).methods))
+        → rows_of_files trees ≡ [] → length (inferring infer trees).fields < 2 ^ 32
+        → length (inferring infer trees).methods < 2 ^ 32
+        → IsLeastSignature (inferring infer trees) s
+        → Annotated (inferring infer trees) s texts tokens (map forget_file trees) new
+        → KeptRowless infer names trees s
+        (noted_files (inferring infer trees).slots s (map forget_file trees)
+        (inferring infer trees).fields (drop 1 (inferring infer trees).methods))
         new }
 {}
+
+/// So does what `annotate` answers, of trees in memory.
+pub fn annotated_answers_keep_meaning()
+    ensures { (infer : Infer) (texts names new : List (List ℕ)) (tokens : List (List Token))
+        (files : List FileTree) (s : List Qualifier)
+        → TextsLexed 0 known_names texts tokens names → AllPlaced tokens (map placed_file files)
+        → rows_of_files (map placed_file files) ≡ []
+        → length (inferring infer (map placed_file files)).fields < 2 ^ 32
+        → length (inferring infer (map placed_file files)).methods < 2 ^ 32
+        → IsLeastSignature (inferring infer (map placed_file files)) s
+        → Annotated (inferring infer (map placed_file files)) s texts tokens (map file_view files)
+        new
+        → KeptRowless infer names (map placed_file files) s
+        (noted_files (inferring infer (map placed_file files)).slots s (map file_view files)
+        (inferring infer (map placed_file files)).fields
+        (drop 1 (inferring infer (map placed_file files)).methods))
+        new }
+{}
+
+/// Of files for which a class table was built no premise is left but that they have no row J1 to J6: trees of the texts, the least signature under
+/// either choice, and the annotated texts.
+pub fn annotating_keeps_the_meaning_of_tables(table: &ClassTable)
+    ensures { (infer : Infer) (texts names new : List (List ℕ)) (tokens : List (List Token))
+        (trees : List PlacedFile) (s : List Qualifier)
+        → table.now.heads ≡ heads trees → j_rows trees ≡ []
+        → TextsLexed 0 known_names texts tokens names → AllPlaced tokens trees
+        → IsLeastSignature (inferring infer trees) s
+        → Annotated (inferring infer trees) s texts tokens (map forget_file trees) new
+        → KeptRowless infer names trees s
+        (noted_files (inferring infer trees).slots s (map forget_file trees)
+        (inferring infer trees).fields (drop 1 (inferring infer trees).methods))
+        new }
+{
+    table.facts();
+}

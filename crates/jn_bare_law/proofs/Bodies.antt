@@ -80,14 +80,14 @@ mutual
   all_same ts us NoStatements = refl
   all_same ts us (MoreStatements x xs) = sum (declared_same ts us x) (all_same (behind ts (spell_statement x)) (behind us (spell_statement x)) xs)
 
-params_bare : (m : Option Method) → params_of (option_map bare_method m) ≡ params_of m
+pub params_bare : (m : Option Method) → params_of (option_map bare_method m) ≡ params_of m
 params_bare None = refl
 params_bare (Some m) = refl
 
-count_same : (ts us : List Token) (es : Trees) → count (place_list ts es) ≡ count (place_list us es)
+pub count_same : (ts us : List Token) (es : Trees) → count (place_list ts es) ≡ count (place_list us es)
 count_same ts us es = sym (count_bare (place_list ts es)) ∙ ap count (listed ts us es) ∙ count_bare (place_list us es)
 
-own_same : (ts us : List Token) (xs : Statements) → calls_own (place_body ts xs) ≡ calls_own (place_body us xs)
+pub own_same : (ts us : List Token) (xs : Statements) → calls_own (place_body ts xs) ≡ calls_own (place_body us xs)
 own_same ts us NoStatements = refl
 own_same ts us (MoreStatements (BlockStatement ss) xs) = refl
 own_same ts us (MoreStatements EmptyStatement xs) = refl
@@ -106,31 +106,31 @@ own_same ts us (MoreStatements (ThisCallStatement es) xs) = refl
 own_same ts us (MoreStatements (SuperCallStatement es) xs) = refl
 
 module _ (P Q : Program) (h : Alike P Q) (m : ℕ) where
-  class_same : class P m ≡ class Q m
+  pub class_same : class P m ≡ class Q m
   class_same = sym (ap class_of (method_at_is P m) ∙ class_bare (method_at P m)) ∙ ap (λ z. class_of (method_at z m)) h ∙ (ap class_of (method_at_is Q m) ∙ class_bare (method_at Q m))
 
-  ctor_same : ctor_of (method_at P m) ≡ ctor_of (method_at Q m)
+  pub ctor_same : ctor_of (method_at P m) ≡ ctor_of (method_at Q m)
   ctor_same = sym (ap ctor_of (method_at_is P m) ∙ ctor_bare (method_at P m)) ∙ ap (λ z. ctor_of (method_at z m)) h ∙ (ap ctor_of (method_at_is Q m) ∙ ctor_bare (method_at Q m))
 
-  static_same : static_of (method_at P m) ≡ static_of (method_at Q m)
+  pub static_same : static_of (method_at P m) ≡ static_of (method_at Q m)
   static_same = sym (ap static_of (method_at_is P m) ∙ static_bare (method_at P m)) ∙ ap (λ z. static_of (method_at z m)) h ∙ (ap static_of (method_at_is Q m) ∙ static_bare (method_at Q m))
 
-  params_same : params_of (method_at P m) ≡ params_of (method_at Q m)
+  pub params_same : params_of (method_at P m) ≡ params_of (method_at Q m)
   params_same = sym (ap params_of (method_at_is P m) ∙ params_bare (method_at P m)) ∙ ap (λ z. params_of (method_at z m)) h ∙ (ap params_of (method_at_is Q m) ∙ params_bare (method_at Q m))
 
-  parents_same : parent_of (class_info P (class P m)) ≡ parent_of (class_info Q (class Q m))
+  pub parents_same : parent_of (class_info P (class P m)) ≡ parent_of (class_info Q (class Q m))
   parents_same = sym (parent_is P (class P m)) ∙ ap (λ z. parent_of (class_info z (class P m))) h ∙ parent_is Q (class P m) ∙ ap (λ c. parent_of (class_info Q c)) class_same
 
-  parent_same : parent P m ≡ parent Q m
+  pub parent_same : parent P m ≡ parent Q m
   parent_same = sym (parent_class_is P (class P m)) ∙ ap (λ z. parent_class z (parent_of (class_info z (class P m)))) h ∙ parent_class_is Q (class P m) ∙ ap (λ c. parent_class Q (parent_of (class_info Q c))) class_same
 
   ctor_of_same : (k n : ℕ) → constructor_of P k n ≡ constructor_of Q k n
   ctor_of_same k n = sym (constructor_is P k n) ∙ ap (λ z. constructor_of z k n) h ∙ constructor_is Q k n
 
-  field_same : (n : ℕ) → declared_field P (class P m) n (class P m) ≡ declared_field Q (class Q m) n (class Q m)
+  pub field_same : (n : ℕ) → declared_field P (class P m) n (class P m) ≡ declared_field Q (class Q m) n (class Q m)
   field_same n = sym (declared_field_is P (class P m) n (class P m)) ∙ ap (λ z. declared_field z (class P m) n (class P m)) h ∙ declared_field_is Q (class P m) n (class P m) ∙ ap (λ c. declared_field Q c n c) class_same
 
-  is_static_same : (f : ℕ) → is_static P f ≡ is_static Q f
+  pub is_static_same : (f : ℕ) → is_static P f ≡ is_static Q f
   is_static_same f = sym (static_is P f) ∙ ap (λ z. is_static z f) h ∙ static_is Q f
 
   module _ (first : ℕ) where
@@ -164,7 +164,7 @@ module _ (P Q : Program) (h : Alike P Q) (m : ℕ) where
         ∙ ap (λ x. call_step (bare_state r) x own no_span (bare_row (arguments Q m first (fresh r) (place_list us es)))) (ctor_of_same j (count (place_list ts es)) ∙ ap (constructor_of Q j) (count_same ts us es) ∙ ap (λ x. constructor_of Q x (count (place_list us es))) g)
         ∙ sym (ap (step (with_temporaries (bare_state r) (arguments Q m first (fresh r) (place_list us es)).behind)) (called_bare Q (constructor_of Q k (count (place_list us es))) own at (arguments Q m first (fresh r) (place_list us es)))))
 
-    either : (b d : Bool) (x y z w : Step) → b ≡ d → bare_step x ≡ bare_step z → bare_step y ≡ bare_step w → bare_step (cond b x y) ≡ bare_step (cond d z w)
+    pub either : (b d : Bool) (x y z w : Step) → b ≡ d → bare_step x ≡ bare_step z → bare_step y ≡ bare_step w → bare_step (cond b x y) ≡ bare_step (cond d z w)
     either b d x y z w e k g = ap (λ t. bare_step (cond t x y)) e ∙ cases d
       where
         cases : (d : Bool) → bare_step (cond d x y) ≡ bare_step (cond d z w)
@@ -177,7 +177,7 @@ module _ (P Q : Program) (h : Alike P Q) (m : ℕ) where
         (no_step st) (ctor_call P m first st false (parent P m) (place_list [] NoTrees) (name_span P m)) (no_step r) (ctor_call Q m first r false (parent Q m) (place_list [] NoTrees) (name_span Q m))
         (ap is_under_object parents_same) (ap no_step k) (ctor_call_alike st r false (parent P m) (parent Q m) (name_span P m) (name_span Q m) [] [] NoTrees k parent_same)
 
-    construction_alike : (st r : State) (ts us : List Token) (xs : Statements) → bare_state st ≡ bare_state r → bare_step (construction P m first st (place_body ts xs)) ≡ bare_step (construction Q m first r (place_body us xs))
+    pub construction_alike : (st r : State) (ts us : List Token) (xs : Statements) → bare_state st ≡ bare_state r → bare_step (construction P m first st (place_body ts xs)) ≡ bare_step (construction Q m first r (place_body us xs))
     construction_alike st r ts us NoStatements k = unwritten_alike st r k
     construction_alike st r ts us (MoreStatements (BlockStatement ss) xs) k = unwritten_alike st r k
     construction_alike st r ts us (MoreStatements EmptyStatement xs) k = unwritten_alike st r k
@@ -285,10 +285,10 @@ module _ (P Q : Program) (h : Alike P Q) (m : ℕ) where
       ∙ ap (λ ps. cond (static_of (method_at Q m)) ps (Ref (record { 0 = class P m }) ∷ ps)) params_same
       ∙ ap (λ (c : ℕ). cond (static_of (method_at Q m)) (params_of (method_at Q m)) (Ref (record { 0 = c }) ∷ params_of (method_at Q m))) class_same
 
-  count_alike : (ts us : List Token) (xs : Statements) → local_count P m (place_body ts xs) ≡ local_count Q m (place_body us xs)
+  pub count_alike : (ts us : List Token) (xs : Statements) → local_count P m (place_body ts xs) ≡ local_count Q m (place_body us xs)
   count_alike ts us xs = sum (ap length given_same) (all_same ts us xs)
 
-  entry_alike : (ps qs : List PlacedParameter) → ((r : ℕ) (bases : List BaseType) → parameters_from r ps bases ≡ parameters_from r qs bases) → bare_state (at_entry P m ps) ≡ bare_state (at_entry Q m qs)
+  pub entry_alike : (ps qs : List PlacedParameter) → ((r : ℕ) (bases : List BaseType) → parameters_from r ps bases ≡ parameters_from r qs bases) → bare_state (at_entry P m ps) ≡ bare_state (at_entry Q m qs)
   entry_alike ps qs g =
       ap (λ (s : Scope). bare_state (entry s (given_bases P m))) (g (first_parameter P m) (params_of (method_at P m)))
       ∙ ap (λ bases. bare_state (entry (parameters_from (first_parameter P m) qs bases) (given_bases P m))) params_same

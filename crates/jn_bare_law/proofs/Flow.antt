@@ -56,7 +56,7 @@ kind_keys_is (Branch of at_yes at_no) = refl
 kind_keys_is (Goto to) = refl
 kind_keys_is (Return v) = refl
 
-points_keys : (pts : List Point) → flat_map (λ (pt : Point). kind_keys pt.kind) (bare_points pts) ≡ flat_map (λ (pt : Point). kind_keys pt.kind) pts
+pub points_keys : (pts : List Point) → flat_map (λ (pt : Point). kind_keys pt.kind) (bare_points pts) ≡ flat_map (λ (pt : Point). kind_keys pt.kind) pts
 points_keys [] = refl
 points_keys (pt ∷ pts) = ap (λ x. x ++ flat_map (λ (q : Point). kind_keys q.kind) (bare_points pts)) (kind_keys_is pt.kind) ∙ ap (λ x. kind_keys pt.kind ++ x) (points_keys pts)
 

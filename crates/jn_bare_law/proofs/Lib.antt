@@ -1,6 +1,7 @@
 pub mod Lookups
 pub mod Flow
 pub mod Rules
+pub mod Sent
 pub mod Starts
 pub mod Alike
 pub mod Forms
@@ -10,3 +11,8 @@ pub mod Expressions
 pub mod Places
 pub mod Statements
 pub mod Bodies
+pub mod RowForms
+pub mod ExpressionRows
+pub mod StatementRows
+pub mod BodyRows
+pub mod BaseRows

@@ -85,7 +85,7 @@ annotation_bare : (n : ℕ) (as' : List Annotation) → has_annotation n (bare_a
 annotation_bare n [] = refl
 annotation_bare n (a ∷ as') = ap (λ b. eqb a.name.0 n || b) (annotation_bare n as')
 
-class_use_bare : (base : Base) → is_class_use (bare_base base) ≡ is_class_use base
+pub class_use_bare : (base : Base) → is_class_use (bare_base base) ≡ is_class_use base
 class_use_bare (ClassUse n) = refl
 class_use_bare (IntUse s) = refl
 class_use_bare (BooleanUse s) = refl
@@ -98,7 +98,7 @@ local_bare (l ∷ ls) n = cases (eqb l.name n) (local_in (bare_scope ls) n) (loc
     cases true x y h = refl
     cases false x y h = h
 
-result_bare : (m : Option Method) → result_base_of (option_map bare_method m) ≡ result_base_of m
+pub result_bare : (m : Option Method) → result_base_of (option_map bare_method m) ≡ result_base_of m
 result_bare None = refl
 result_bare (Some m) = refl
 
@@ -143,7 +143,7 @@ module _ (P : Program) where
   pub declared_field_is : (c name d : ℕ) → declared_field (bare P) c name d ≡ declared_field P c name d
   declared_field_is c name d = first_at-map bare_field (λ f. eqb f.name.0 name && eqb f.owner.0 d && (not f.is_private || eqb d c)) 0 P.fields
 
-  field_of_is : (c name : ℕ) → field_of (bare P) c name ≡ field_of P c name
+  pub field_of_is : (c name : ℕ) → field_of (bare P) c name ≡ field_of P c name
   field_of_is c name = ap (λ f. first_some f (walk (bare P) c)) (fun_ext (declared_field_is c name)) ∙ ap (first_some (declared_field P c name)) (walk_is P c)
 
   pub constructor_is : (c arity : ℕ) → constructor_of (bare P) c arity ≡ constructor_of P c arity
@@ -253,7 +253,7 @@ module _ (P : Program) where
     pub super_method_is : (n arity : ℕ) → super_method (bare P) c n arity ≡ super_method P c n arity
     super_method_is = super_is
 
-    before_is : (s : Scope) (e : PlacedTree) → before_dot (bare P) c (bare_scope s) (bare_tree e) ≡ bare_meaning (before_dot P c s e)
+    pub before_is : (s : Scope) (e : PlacedTree) → before_dot (bare P) c (bare_scope s) (bare_tree e) ≡ bare_meaning (before_dot P c s e)
     before_is s (PlacedLiteral l span) = refl
     before_is s (PlacedName n) = meaning_is s n.name.0
     before_is s (PlacedThis span) = refl

@@ -4,21 +4,19 @@ use Rattle.std.specs.Prelude.{flat_map, map, IsTrue, slice_get, slice_index_or, 
 use Rattle.std.proofs.lemmas.Option.{slice_get-map}
 use Rattle.jn_base.specs.declared.number.SlotNo.{SlotNo}
 use Rattle.jn_quals.specs.Qualifier.{Qualifier}
-use Rattle.jn_quals.specs.Order.{no_qual, null_only, without_null, settle}
+use Rattle.jn_quals.specs.Order.{no_qual, without_null}
 use Rattle.jn_points.specs.declared.point.Operand.{Operand}
-use Rattle.jn_points.specs.declared.point.PointKind.{PointKind}
-use Rattle.jn_points.specs.declared.point.PointKind.TheVariants.{Const, Move, Unary, Binary, Concat, SameRef, FieldRead, FieldWrite, StaticRead, StaticWrite, ElemRead, ElemWrite, ArrayLen, NewArray, ArrayOf, New, CtorCall, Call, StrOp, Print, Cast, TestInst, TestNull, Branch, Goto, Return}
 use Rattle.jn_points.specs.declared.program.Program.{Program}
 use Rattle.jn_points.specs.declared.program.Method.{Method}
 use Rattle.jn_points.specs.Lookup.{slots_of, field_info, method_at, method_in}
 use Rattle.jn_sigs.specs.Signature.{starts_from, start_signature}
 use Rattle.jn_env.specs.Environment.{Env}
 use Rattle.jn_env.specs.Order.{QualsWithin, qual_at}
-use Rattle.jn_env.specs.Keys.{own_keys}
-use Rattle.jn_transfer.specs.Contributions.{is_inferred, IsSent, field_slot_of, receiver_slot_of, result_slot_of, sends, arg_sends, receiver_sends, return_sends, unset_sends, kind_sends}
+use Rattle.jn_transfer.specs.Contributions.{is_inferred, IsSent, field_slot_of, receiver_slot_of, result_slot_of, sends, arg_sends, receiver_sends, return_sends, kind_sends}
 use Rattle.jn_transfer.specs.Pairs.{under, slot_sends, slots_sends, override_sends, pair_sends}
 use Rattle.jn_transfer.specs.Closing.{IsClosed, IsNotBelowStart}
 use Rattle.jn_bare_law.specs.Written.{written_slot, IsWritten}
+use Rattle.jn_bare_law.proofs.Sent.{Each, HoldsOfSends, each_sent, points_send}
 
 starts_written : (P : Program) (i : ℕ) (s : List Qualifier) → starts_from P i (map written_slot s) ≡ s
 starts_written P i [] = refl
@@ -71,41 +69,20 @@ module _ (P : Program) (s : List Qualifier) (h : IsWritten P s) where
   return_none e slot None = refl
   return_none e slot (Some v) = sends_none slot (qual_at e v.reg.0)
 
-  unset_none : (fs keys : List ℕ) (bits : List Bool) → unset_sends P fs keys bits ≡ []
-  unset_none [] keys bits = refl
-  unset_none (f ∷ fs) keys bits = nothing_more _ (unset_sends P fs keys bits) (either _) (unset_none fs keys bits)
-    where
-      either : (b : Bool) → cond b [] (sends P (field_slot_of (field_info P f)) null_only) ≡ []
-      either true = refl
-      either false = sends_none (field_slot_of (field_info P f)) null_only
+  -- where nothing is sent, anything holds of it
+  of_none : (F : ℕ × Qualifier → Type 0) (xs : List (ℕ × Qualifier)) → xs ≡ [] → Each F xs
+  of_none F xs e = subst (Each F) (sym e) tt
 
-  kind_none : (b : ℕ) (e : Env) (k : PointKind) → kind_sends P b e k ≡ []
-  kind_none b e (FieldWrite r f v) = sends_none (field_slot_of (field_info P f.0)) (settle (qual_at e v.reg.0))
-  kind_none b e (New dst m args) = args_none e (slots_of (method_at P m.0)) args
-  kind_none b e (CtorCall m args own) = args_none e (slots_of (method_at P m.0)) args
-  kind_none b e (Call dst m r direct args) = nothing_more (arg_sends P e (slots_of (method_at P m.0)) args) (receiver_sends P e (receiver_slot_of (method_at P m.0)) r) (args_none e (slots_of (method_at P m.0)) args) (receiver_none e (receiver_slot_of (method_at P m.0)) r)
-  kind_none b e (Return v) = nothing_more (return_sends P e (result_slot_of (method_in P b)) v) (unset_sends P (own_keys P b) (own_keys P b) e.assigned) (return_none e (result_slot_of (method_in P b)) v) (unset_none (own_keys P b) (own_keys P b) e.assigned)
-  kind_none b e (Const dst value) = refl
-  kind_none b e (Move dst from bound) = refl
-  kind_none b e (Unary dst negate of) = refl
-  kind_none b e (Binary dst op l r) = refl
-  kind_none b e (Concat dst l r) = refl
-  kind_none b e (SameRef dst eq l r) = refl
-  kind_none b e (FieldRead dst r f) = refl
-  kind_none b e (StaticRead dst f) = refl
-  kind_none b e (StaticWrite f v) = refl
-  kind_none b e (ElemRead dst r i) = refl
-  kind_none b e (ElemWrite r i v) = refl
-  kind_none b e (ArrayLen dst r) = refl
-  kind_none b e (NewArray dst base n) = refl
-  kind_none b e (ArrayOf dst base xs) = refl
-  kind_none b e (StrOp dst op of other) = refl
-  kind_none b e (Print of) = refl
-  kind_none b e (Cast dst of c) = refl
-  kind_none b e (TestInst of c og at_yes at_no) = refl
-  kind_none b e (TestNull of og at_null at_value) = refl
-  kind_none b e (Branch of at_yes at_no) = refl
-  kind_none b e (Goto to) = refl
+  abbrev Never : ℕ × Qualifier → Type 0
+  Never x = ⊥
+
+  none_of_points : HoldsOfSends P Never
+  none_of_points = record {
+    fields = λ f q e. of_none Never (sends P (field_slot_of (field_info P f)) q) (sends_none (field_slot_of (field_info P f)) q);
+    parameters = λ m e args. of_none Never (arg_sends P e (slots_of (method_at P m)) args) (args_none e (slots_of (method_at P m)) args);
+    receivers = λ m e r. of_none Never (receiver_sends P e (receiver_slot_of (method_at P m)) r) (receiver_none e (receiver_slot_of (method_at P m)) r);
+    results = λ b e v. of_none Never (return_sends P e (result_slot_of (method_in P b)) v) (return_none e (result_slot_of (method_in P b)) v);
+  }
 
   -- nor by overriding methods
 
@@ -133,7 +110,7 @@ module _ (P : Program) (s : List Qualifier) (h : IsWritten P s) where
 
   pub closed : (t : List Qualifier) → IsClosed P t
   closed t = record {
-    bodies = λ tables least b p pt e at env x sent. absurd (subst (IsSent x) (kind_none b e pt.kind) sent);
+    bodies = λ tables least b p pt e at env x sent. absurd (each_sent Never (kind_sends P b e pt.kind) x (points_send P Never none_of_points b e pt.kind) sent);
     pairs = λ m x sent. absurd (subst (IsSent x) (pair_none t m) sent);
   }
 

@@ -124,7 +124,7 @@ a_state s locals t = record { scope = s; locals = locals; temporaries = t }
 declares_bare : (st : State) (n : ℕ) (b : BaseType) (bound : Option Qualifier) (fixed : Bool) (faults : List Row) → bare_state (declares st n b bound fixed faults) ≡ declares (bare_state st) n b bound fixed []
 declares_bare st n b bound fixed faults = ap (λ s. a_state s (st.locals ++ b ∷ []) st.temporaries) (with_bare st.scope (record { name = n; reg = length st.locals; base = b; bound = bound; fixed = fixed; faults = faults }))
 
-declares_alike : (st r : State) (n : ℕ) (b : BaseType) (bound : Option Qualifier) (fixed : Bool) (faults others : List Row) → bare_state st ≡ bare_state r → bare_state (declares st n b bound fixed faults) ≡ bare_state (declares r n b bound fixed others)
+pub declares_alike : (st r : State) (n : ℕ) (b : BaseType) (bound : Option Qualifier) (fixed : Bool) (faults others : List Row) → bare_state st ≡ bare_state r → bare_state (declares st n b bound fixed faults) ≡ bare_state (declares r n b bound fixed others)
 declares_alike st r n b bound fixed faults others k = declares_bare st n b bound fixed faults ∙ ap (λ a. declares a n b bound fixed []) k ∙ sym (declares_bare r n b bound fixed others)
 
 -- ---- what stands before a declaration
@@ -138,7 +138,7 @@ final_same ts us [] = refl
 final_same ts us (AnnotationMark n ∷ ms) = final_same (behind ts (spell_local_mark (AnnotationMark n))) (behind us (spell_local_mark (AnnotationMark n))) ms
 final_same ts us (FinalMark ∷ ms) = refl
 
-marks_same : (ts us : List Token) (ms : List LocalMark) → bare_annotations (annotations_of (place_local_marks ts ms)) ≡ bare_annotations (annotations_of (place_local_marks us ms))
+pub marks_same : (ts us : List Token) (ms : List LocalMark) → bare_annotations (annotations_of (place_local_marks ts ms)) ≡ bare_annotations (annotations_of (place_local_marks us ms))
 marks_same ts us [] = refl
 marks_same ts us (AnnotationMark n ∷ ms) = ap (λ r. record { name = n; span = no_span } ∷ r) (marks_same (behind ts (spell_local_mark (AnnotationMark n))) (behind us (spell_local_mark (AnnotationMark n))) ms)
 marks_same ts us (FinalMark ∷ ms) = marks_same (behind ts (spell_local_mark FinalMark)) (behind us (spell_local_mark FinalMark)) ms
@@ -146,11 +146,11 @@ marks_same ts us (FinalMark ∷ ms) = marks_same (behind ts (spell_local_mark Fi
 bounds_same : (a b : List Annotation) → bare_annotations a ≡ bare_annotations b → bound_of a ≡ bound_of b
 bounds_same a b h = sym (bound_bare a) ∙ ap bound_of h ∙ bound_bare b
 
-own_same : (ts us vs ws : List Token) (ms : List LocalMark) (array : Option (List NameNo)) → bound_of (own_annotations (place_brackets vs array) (annotations_of (place_local_marks ts ms))) ≡ bound_of (own_annotations (place_brackets ws array) (annotations_of (place_local_marks us ms)))
+pub own_same : (ts us vs ws : List Token) (ms : List LocalMark) (array : Option (List NameNo)) → bound_of (own_annotations (place_brackets vs array) (annotations_of (place_local_marks ts ms))) ≡ bound_of (own_annotations (place_brackets ws array) (annotations_of (place_local_marks us ms)))
 own_same ts us vs ws ms None = bounds_same (annotations_of (place_local_marks ts ms)) (annotations_of (place_local_marks us ms)) (marks_same ts us ms)
 own_same ts us vs ws ms (Some ns) = bounds_same (place_annotations vs ns) (place_annotations ws ns) (notes_placed vs ws ns)
 
-has_same : (ts us : List Token) (d : DeclaratorTree) → has_value (place_declarator ts d) ≡ has_value (place_declarator us d)
+pub has_same : (ts us : List Token) (d : DeclaratorTree) → has_value (place_declarator ts d) ≡ has_value (place_declarator us d)
 has_same ts us d = cases d.value
   where
     cases : (v : Option Tree) → has_value (record { name = record { name = d.name; span = no_span }; value = place_value (drop 1 ts) v }) ≡ has_value (record { name = record { name = d.name; span = no_span }; value = place_value (drop 1 us) v })
@@ -174,10 +174,10 @@ module _ (P Q : Program) (c first : ℕ) (h : Alike P Q) where
   pub value_alike : (st r : State) (ts us : List Token) (e : Tree) → bare_state st ≡ bare_state r → bare_value (lowered_in P c first st (place ts e)) ≡ bare_value (lowered_in Q c first r (place us e))
   value_alike st r ts us e k = ap (λ (l : Lowered). l.value) (lowered_alike st r ts us e k)
 
-  test_alike : (st r : State) (ts us : List Token) (e : Tree) → bare_state st ≡ bare_state r → bare_condition (tested_in P c first st (place ts e)) ≡ bare_condition (tested_in Q c first r (place us e))
+  pub test_alike : (st r : State) (ts us : List Token) (e : Tree) → bare_state st ≡ bare_state r → bare_condition (tested_in P c first st (place ts e)) ≡ bare_condition (tested_in Q c first r (place us e))
   test_alike st r ts us e k = ap (λ (l : Lowered). l.condition) (lowered_alike st r ts us e k)
 
-  effects_alike : (st r : State) (ts us : List Token) (es : Trees) → bare_state st ≡ bare_state r → bare_step (effects P c first st (place_list ts es)) ≡ bare_step (effects Q c first r (place_list us es))
+  pub effects_alike : (st r : State) (ts us : List Token) (es : Trees) → bare_state st ≡ bare_state r → bare_step (effects P c first st (place_list ts es)) ≡ bare_step (effects Q c first r (place_list us es))
   effects_alike st r ts us NoTrees k = ap no_step k
   effects_alike st r ts us (MoreTrees e es) k =
       both_alike (with_value st (lowered_in P c first st (place ts e))) (effects P c first (with_temporaries st (lowered_in P c first st (place ts e)).behind) (place_list (behind ts (spell e ++ Comma ∷ [])) es))
@@ -194,7 +194,7 @@ module _ (P Q : Program) (c first : ℕ) (h : Alike P Q) where
   initialized_alike span at n bound st r ts us None k = ap no_step k
   initialized_alike span at n bound st r ts us (Some e) k = ends_alike (λ o. Move (register n) o bound) (λ o. refl) st r (through span (span_of (place ts e))) (through at (span_of (place us e))) (lowered_in P c first st (place ts e)) (lowered_in Q c first r (place us e)) k (value_alike st r ts us e k)
 
-  declarator_alike : (b : BaseType) (bound : Option Qualifier) (f : Bool) (faults others : List Row) (st r : State) (ts us : List Token) (d : DeclaratorTree) → bare_state st ≡ bare_state r → bare_step (declarator P c first b bound f faults st (place_declarator ts d)) ≡ bare_step (declarator Q c first b bound f others r (place_declarator us d))
+  pub declarator_alike : (b : BaseType) (bound : Option Qualifier) (f : Bool) (faults others : List Row) (st r : State) (ts us : List Token) (d : DeclaratorTree) → bare_state st ≡ bare_state r → bare_step (declarator P c first b bound f faults st (place_declarator ts d)) ≡ bare_step (declarator Q c first b bound f others r (place_declarator us d))
   declarator_alike b bound f faults others st r ts us d k =
       initialized_alike (place_declarator ts d).name.span (place_declarator us d).name.span (length st.locals) bound
       (declares st d.name.0 b bound (f && has_value (place_declarator ts d)) faults) (declares r d.name.0 b bound (f && has_value (place_declarator ts d)) others) (drop 1 (drop 1 ts)) (drop 1 (drop 1 us)) d.value
@@ -202,7 +202,7 @@ module _ (P Q : Program) (c first : ℕ) (h : Alike P Q) where
       ∙ ap (λ n. bare_step (initialized Q c first (place_declarator us d).name.span n bound (declares r d.name.0 b bound (f && has_value (place_declarator ts d)) others) (place_declarator us d).value)) (ap (λ (x : State). length x.locals) k)
       ∙ ap (λ z. bare_step (initialized Q c first (place_declarator us d).name.span (length r.locals) bound (declares r d.name.0 b bound (f && z) others) (place_declarator us d).value)) (has_same ts us d)
 
-  more_alike : (b : BaseType) (bound : Option Qualifier) (f : Bool) (faults others : List Row) (st r : State) (ts us : List Token) (ds : List DeclaratorTree) → bare_state st ≡ bare_state r → bare_step (declarators P c first b bound f faults st (place_more_declarators ts ds)) ≡ bare_step (declarators Q c first b bound f others r (place_more_declarators us ds))
+  pub more_alike : (b : BaseType) (bound : Option Qualifier) (f : Bool) (faults others : List Row) (st r : State) (ts us : List Token) (ds : List DeclaratorTree) → bare_state st ≡ bare_state r → bare_step (declarators P c first b bound f faults st (place_more_declarators ts ds)) ≡ bare_step (declarators Q c first b bound f others r (place_more_declarators us ds))
   more_alike b bound f faults others st r ts us [] k = ap no_step k
   more_alike b bound f faults others st r ts us (d ∷ ds) k =
       both_alike (declarator P c first b bound f faults st (place_next_declarator ts d)) (declarators P c first b bound f faults (declarator P c first b bound f faults st (place_next_declarator ts d)).behind (place_more_declarators (behind ts (spell_next_declarator d)) ds))
@@ -231,10 +231,10 @@ module _ (P Q : Program) (c first : ℕ) (h : Alike P Q) where
   type_by_alike ts us vs ws xs ys b None ms = simple_alike ts us b
   type_by_alike ts us vs ws xs ys b (Some ns) ms = array_alike (place_base ts b) (place_base us b) (annotations_of (place_local_marks xs ms)) (annotations_of (place_local_marks ys ms)) (base_placed ts us b) (marks_same xs ys ms)
 
-  local_type_alike : (ts us vs ws : List Token) (ms : List LocalMark) (u : TypeUseTree) → local_type P c first (place_local_marks ts ms) (place_type_use vs u) ≡ local_type Q c first (place_local_marks us ms) (place_type_use ws u)
+  pub local_type_alike : (ts us vs ws : List Token) (ms : List LocalMark) (u : TypeUseTree) → local_type P c first (place_local_marks ts ms) (place_type_use vs u) ≡ local_type Q c first (place_local_marks us ms) (place_type_use ws u)
   local_type_alike ts us vs ws ms u = type_by_alike vs ws (drop 1 vs) (drop 1 ws) ts us u.base u.array ms
 
-  list_alike : (b d : BaseType) (x y : Option Qualifier) (f g : Bool) (rows others : List Row) (st r : State) (ts us vs ws : List Token) (e : DeclaratorTree) (ds : List DeclaratorTree) → b ≡ d → x ≡ y → f ≡ g → bare_state st ≡ bare_state r →
+  pub list_alike : (b d : BaseType) (x y : Option Qualifier) (f g : Bool) (rows others : List Row) (st r : State) (ts us vs ws : List Token) (e : DeclaratorTree) (ds : List DeclaratorTree) → b ≡ d → x ≡ y → f ≡ g → bare_state st ≡ bare_state r →
       bare_step (declarators P c first b x f rows st (place_declarator ts e ∷ place_more_declarators vs ds)) ≡ bare_step (declarators Q c first d y g others r (place_declarator us e ∷ place_more_declarators ws ds))
   list_alike b d x y f g rows others st r ts us vs ws e ds i j l k =
       both_alike
@@ -264,7 +264,7 @@ module _ (P Q : Program) (c first : ℕ) (h : Alike P Q) where
   init_alike st r ts us (ExpressionsInit es) k = effects_alike st r ts us es k
   init_alike st r ts us (DeclarationInit l) k = declaration_alike st r ts us l k
 
-  optional_alike : (st r : State) (ts us : List Token) (e : Option Tree) → bare_state st ≡ bare_state r → bare_condition (optional_test P c first st (place_optional ts e)) ≡ bare_condition (optional_test Q c first r (place_optional us e))
+  pub optional_alike : (st r : State) (ts us : List Token) (e : Option Tree) → bare_state st ≡ bare_state r → bare_condition (optional_test P c first st (place_optional ts e)) ≡ bare_condition (optional_test Q c first r (place_optional us e))
   optional_alike st r ts us None k = ap (λ (x : State). bare_condition (record { fragment = nothing; behind = x.temporaries })) k
   optional_alike st r ts us (Some e) k = test_alike st r ts us e k
 
