@@ -5,8 +5,9 @@ use Rattle.jn_base.specs.declared.code.Code.{Code}
 use Rattle.jn_diag.specs.declared.shown.RowText.{RowText}
 use Rattle.jn_diag.specs.declared.shown.Verdict.{Verdict}
 use Rattle.jn_reporters.specs.Escapes.{xml_text}
-use Rattle.jn_reporters.specs.Sheet.{document_shown}
+use Rattle.jn_reporters.specs.Sheet.{documented}
 use Rattle.jn_reporters.specs.Words.{told}
+use Rattle.jn_reporters.specs.declared.shown.ShownRow.{ShownRow}
 
 -- the element of a row: where it stands, and what it says
 abbrev pub error_place : RowText → List ℕ
@@ -49,5 +50,5 @@ abbrev pub checkstyle_document : List RowText → List ℕ
 checkstyle_document rows =
     codes "<?xml version=\"1.0\" encoding=\"UTF-8\"?>\n<checkstyle version=\"4.3\">\n" ++ file_elements rows ++ codes "</checkstyle>\n"
 
-abbrev pub checkstyle_shown : List RowText → Option Verdict → List ℕ
-checkstyle_shown = document_shown checkstyle_document
+abbrev pub checkstyle_shown : List ShownRow → Option Verdict → List ℕ
+checkstyle_shown = documented checkstyle_document

@@ -10,8 +10,9 @@ use Rattle.jn_diag.specs.declared.shown.Verdict.{Verdict}
 use Rattle.jn_reporters.specs.Escapes.{escaped}
 use Rattle.jn_reporters.specs.Reports.{all_codes}
 use Rattle.jn_reporters.specs.declared.escapes.Escape.TheVariants.{Json, Uri}
-use Rattle.jn_reporters.specs.Sheet.{document_shown}
+use Rattle.jn_reporters.specs.Sheet.{documented}
 use Rattle.jn_reporters.specs.Words.{told}
+use Rattle.jn_reporters.specs.declared.shown.ShownRow.{ShownRow}
 
 -- an item of an array behind another, and all items behind the first
 unfoldable pub next : {A : Type 0} → (A → List ℕ) → A → List ℕ
@@ -80,5 +81,5 @@ behind_results = codes "\n      ]\n    }\n  ]\n}\n"
 abbrev pub sarif_document : List RowText → List ℕ
 sarif_document rows = before_rules ++ listed rule_object (occurring rows all_codes) ++ before_results ++ listed result_object rows ++ behind_results
 
-abbrev pub sarif_shown : List RowText → Option Verdict → List ℕ
-sarif_shown = document_shown sarif_document
+abbrev pub sarif_shown : List ShownRow → Option Verdict → List ℕ
+sarif_shown = documented sarif_document

@@ -5,8 +5,11 @@ ghost use Rattle.jn_reporters.specs.Sheet.{document_shown, nothing_taken};
 
 use crate::gathered::push_copy;
 use crate::reporter::Reporter;
+use crate::taken::{TakenRows, with_row};
+use crate::view::RowView;
 use jn_base::OutOfMemory;
 use jn_diag::{RowText, Verdict};
+use jn_outside::Told;
 use std::alloc::{AllocError, Global};
 use std::marker::{Model, PhantomData};
 
@@ -32,7 +35,9 @@ pub trait Format: Drop {
 #[derive(Drop)]
 pub struct Document<F: Format> {
     alloc: Global,
-    rows: Vec<RowText>,
+    rows: TakenRows,
+    /// The texts of the rows.
+    texts: Vec<RowText>,
     verdict: Option<Verdict>,
     /// The document of the rows, or nothing where no verdict was given.
     text: Vec<u8>,
@@ -41,13 +46,13 @@ pub struct Document<F: Format> {
 
 impl<F: Format> Model for Document<F> {
     ghost use Rattle.std.specs.Prelude.{◌≡◌};
-    ghost use Rattle.jn_reporters.specs.Sheet.{Taken, document_shown};
+    ghost use Rattle.jn_reporters.specs.Sheet.{Taken, document_shown, texts_of};
 
     ghost Value = { Taken };
 
     ghost view = { λ a. record { rows = a.rows.items; verdict = a.verdict } };
 
-    ghost invariant = { λ a. a.text.items ≡ document_shown F.written a.rows.items a.verdict };
+    ghost invariant = { λ a. (a.texts.items ≡ texts_of a.rows.items) × (a.text.items ≡ document_shown F.written a.texts.items a.verdict) };
 }
 
 impl<F: Format> Document<F> {
@@ -56,7 +61,8 @@ impl<F: Format> Document<F> {
     {
         Document {
             alloc,
-            rows: Vec::new(alloc),
+            rows: Told::none(),
+            texts: Vec::new(alloc),
             verdict: None,
             text: Vec::new(alloc),
             format: PhantomData,
@@ -66,7 +72,7 @@ impl<F: Format> Document<F> {
 
 impl<F: Format> Reporter for Document<F> {
     ghost use Rattle.std.specs.Prelude.{true};
-    ghost use Rattle.jn_reporters.specs.Sheet.{document_shown};
+    ghost use Rattle.jn_reporters.specs.Sheet.{documented};
 
     ghost rows = { λ a. a.rows };
 
@@ -76,7 +82,7 @@ impl<F: Format> Reporter for Document<F> {
 
     ghost document = { λ a. true };
 
-    ghost shown = { λ a. document_shown F.written };
+    ghost shown = { λ a. documented F.written };
 
     fn name(&self) -> &str {
         F::name()
@@ -86,22 +92,23 @@ impl<F: Format> Reporter for Document<F> {
         true
     }
 
-    fn take(&mut self, row: &RowText) -> Result<(), OutOfMemory> {
-        push_copy(self.alloc, &mut self.rows, row)?;
-        match shown::<F>(self.alloc, &self.rows, self.verdict) {
+    fn take(&mut self, row: &RowView<'_>) -> Result<(), OutOfMemory> {
+        push_copy(self.alloc, &mut self.texts, row.row())?;
+        match shown::<F>(self.alloc, &self.texts, self.verdict) {
             Ok(text) => {
                 self.text = text;
+                self.rows = with_row(&self.rows, row);
                 Ok(())
             }
             Err(_) => {
-                self.rows.pop();
+                self.texts.pop();
                 Err(OutOfMemory)
             }
         }
     }
 
     fn finish(&mut self, verdict: Verdict) -> Result<(), OutOfMemory> {
-        let text = shown::<F>(self.alloc, &self.rows, Some(verdict))?;
+        let text = shown::<F>(self.alloc, &self.texts, Some(verdict))?;
         self.text = text;
         self.verdict = Some(verdict);
         Ok(())
