@@ -9,7 +9,8 @@ use Rattle.std.proofs.lemmas.List.{drop_more, take_more, length-append}
 use Rattle.std.proofs.lemmas.List.Sums.{sum_by-append}
 use Rattle.jn_base.specs.Place.{characters, is_continuation, is_line_end, last_line}
 use Rattle.jn_diag.proofs.Sweeping.{line_anew, line_longer}
-use Rattle.jn_reporters.specs.Excerpts.{GoesBack, GoesOn, begun, first_characters, first_line, is_nothing, last_characters}
+use Rattle.jn_reporters.specs.Excerpts.{begun, first_characters, first_line, last_characters}
+use Rattle.jn_reporters.specs.Walks.{GoesBack, GoesOn, is_nothing}
 
 -- ---- from a place on
 

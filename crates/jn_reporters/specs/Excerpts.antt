@@ -1,5 +1,5 @@
 -- The line on which a row begins, and of a long one what stands around the row.
-use Rattle.std.specs.Prelude.{ℕ, ◌≡◌, ◌≤◌, ◌<◌, ◌-◌, ◌==◌, nat_le, max, Bool, true, false, List, [], ◌∷◌, Option, Some, None, length, take, drop, get_or, if◌then◌else◌}
+use Rattle.std.specs.Prelude.{ℕ, ◌-◌, ◌==◌, nat_le, max, Bool, List, [], ◌∷◌, Option, Some, None, length, take, drop, if◌then◌else◌}
 use Rattle.jn_base.specs.Place.{characters, is_continuation, is_line_end, last_line}
 use Rattle.jn_base.specs.declared.code.Code.{Code}
 use Rattle.jn_base.specs.declared.place.Span.{Span}
@@ -51,21 +51,3 @@ is_limit code = nat_le (code_place code) 2
 -- no line is shown for a limit
 abbrev pub extract_for : Code → List ℕ → Span → Option Extract
 extract_for code text span = if is_limit code then None else Some (extract_at text span.from span.to)
-
--- ---- how far a walk over a text goes
-
-abbrev pub is_nothing : List ℕ → Bool
-is_nothing [] = true
-is_nothing (byte ∷ rest) = false
-
--- a byte that is no line end stands at the place, and so many characters hold it
-pub record GoesOn (text : List ℕ) (at left : ℕ) : Type 0 where
-  pub within : at < length text
-  pub inside : is_line_end (get_or text at 0) ≡ false
-  pub fits : begun (get_or text at 0) ≤ left
-
--- one stands before the place, and a character is left
-pub record GoesBack (text : List ℕ) (at left : ℕ) : Type 0 where
-  pub some : 0 < at
-  pub more : 0 < left
-  pub inside : is_line_end (get_or text (at - 1) 0) ≡ false

@@ -1,7 +1,8 @@
 -- What reporters keep.
 use Rattle.std.specs.Prelude.{ℕ, List, [], ◌∷◌, ◌++◌, Option, Some, None, map}
-use Rattle.jn_diag.specs.declared.shown.RowText.{RowText}
 use Rattle.jn_diag.specs.declared.shown.Verdict.{Verdict}
+use Rattle.jn_reporters.specs.Fingerprints.{print_for}
+use Rattle.jn_reporters.specs.declared.kept.KeptRow.{KeptRow}
 use Rattle.jn_reporters.specs.declared.shown.ShownRow.{ShownRow}
 
 -- the rows in the order in which they were taken, and the verdict that was given last
@@ -33,15 +34,18 @@ with_lines sheet row lines = record sheet { rows = sheet.rows ++ row ∷ []; lin
 abbrev pub with_verdict : Lined → Verdict → Lined
 with_verdict sheet verdict = record sheet { verdict = Some verdict }
 
--- the rows' texts
-abbrev pub texts_of : List ShownRow → List RowText
-texts_of rows = map (λ row. row.text) rows
+-- what a document keeps of a row
+abbrev pub kept_of : ShownRow → KeptRow
+kept_of row = record { name = row.text.name; line = row.text.line; col = row.text.col; code = row.text.code; fingerprint = print_for row.text.code row.extract }
+
+abbrev pub all_kept : List ShownRow → List KeptRow
+all_kept rows = map kept_of rows
 
 -- the document comes with the verdict, and before it nothing
-abbrev pub document_shown : (List RowText → List ℕ) → List RowText → Option Verdict → List ℕ
+abbrev pub document_shown : (List KeptRow → List ℕ) → List KeptRow → Option Verdict → List ℕ
 document_shown document rows None = []
 document_shown document rows (Some verdict) = document rows
 
--- a document of the rows' texts alone
-abbrev pub documented : (List RowText → List ℕ) → List ShownRow → Option Verdict → List ℕ
-documented document rows verdict = document_shown document (texts_of rows) verdict
+-- a document of what is kept of the rows
+abbrev pub documented : (List KeptRow → List ℕ) → List ShownRow → Option Verdict → List ℕ
+documented document rows verdict = document_shown document (all_kept rows) verdict

@@ -1,14 +1,14 @@
 //! Reports that are one document of all rows.
 ghost use Rattle.std.specs.Prelude.{◌≡◌, ℕ, List, IfOk};
-ghost use Rattle.jn_diag.specs.declared.shown.RowText.{RowText};
+ghost use Rattle.jn_reporters.specs.declared.kept.KeptRow.{KeptRow};
 ghost use Rattle.jn_reporters.specs.Sheet.{document_shown, nothing_taken};
 
-use crate::gathered::push_copy;
+use crate::kept::{KeptRow, keep};
 use crate::reporter::Reporter;
 use crate::taken::{TakenRows, with_row};
 use crate::view::RowView;
 use jn_base::OutOfMemory;
-use jn_diag::{RowText, Verdict};
+use jn_diag::Verdict;
 use jn_outside::Told;
 use std::alloc::{AllocError, Global};
 use std::marker::{Model, PhantomData};
@@ -19,14 +19,14 @@ pub trait Format: Drop {
     ghost title: { List ℕ };
 
     /// The document of the rows.
-    ghost written: { List RowText → List ℕ };
+    ghost written: { List KeptRow → List ℕ };
 
     /// The name by which the reporter is chosen.
     fn name() -> &'static str
         ensures { result.now ≡ title };
 
     /// The document of the rows, made in time linear in its size.
-    fn document(alloc: Global, rows: &[RowText]) -> Result<Vec<u8>, AllocError>
+    fn document(alloc: Global, rows: &[KeptRow]) -> Result<Vec<u8>, AllocError>
         ensures { IfOk result (λ text. text.items ≡ written rows.now) };
 }
 
@@ -36,8 +36,8 @@ pub trait Format: Drop {
 pub struct Document<F: Format> {
     alloc: Global,
     rows: TakenRows,
-    /// The texts of the rows.
-    texts: Vec<RowText>,
+    /// What is kept of the rows.
+    kept: Vec<KeptRow>,
     verdict: Option<Verdict>,
     /// The document of the rows, or nothing where no verdict was given.
     text: Vec<u8>,
@@ -46,13 +46,13 @@ pub struct Document<F: Format> {
 
 impl<F: Format> Model for Document<F> {
     ghost use Rattle.std.specs.Prelude.{◌≡◌};
-    ghost use Rattle.jn_reporters.specs.Sheet.{Taken, document_shown, texts_of};
+    ghost use Rattle.jn_reporters.specs.Sheet.{Taken, document_shown, all_kept};
 
     ghost Value = { Taken };
 
     ghost view = { λ a. record { rows = a.rows.items; verdict = a.verdict } };
 
-    ghost invariant = { λ a. (a.texts.items ≡ texts_of a.rows.items) × (a.text.items ≡ document_shown F.written a.texts.items a.verdict) };
+    ghost invariant = { λ a. (a.kept.items ≡ all_kept a.rows.items) × (a.text.items ≡ document_shown F.written a.kept.items a.verdict) };
 }
 
 impl<F: Format> Document<F> {
@@ -62,7 +62,7 @@ impl<F: Format> Document<F> {
         Document {
             alloc,
             rows: Told::none(),
-            texts: Vec::new(alloc),
+            kept: Vec::new(alloc),
             verdict: None,
             text: Vec::new(alloc),
             format: PhantomData,
@@ -93,22 +93,22 @@ impl<F: Format> Reporter for Document<F> {
     }
 
     fn take(&mut self, row: &RowView<'_>) -> Result<(), OutOfMemory> {
-        push_copy(self.alloc, &mut self.texts, row.row())?;
-        match shown::<F>(self.alloc, &self.texts, self.verdict) {
+        keep(self.alloc, &mut self.kept, row)?;
+        match shown::<F>(self.alloc, &self.kept, self.verdict) {
             Ok(text) => {
                 self.text = text;
                 self.rows = with_row(&self.rows, row);
                 Ok(())
             }
             Err(_) => {
-                self.texts.pop();
+                self.kept.pop();
                 Err(OutOfMemory)
             }
         }
     }
 
     fn finish(&mut self, verdict: Verdict) -> Result<(), OutOfMemory> {
-        let text = shown::<F>(self.alloc, &self.texts, Some(verdict))?;
+        let text = shown::<F>(self.alloc, &self.kept, Some(verdict))?;
         self.text = text;
         self.verdict = Some(verdict);
         Ok(())
@@ -122,7 +122,7 @@ impl<F: Format> Reporter for Document<F> {
 /// The document of the rows, or nothing where no verdict was given.
 fn shown<F: Format>(
     alloc: Global,
-    rows: &[RowText],
+    rows: &[KeptRow],
     verdict: Option<Verdict>,
 ) -> Result<Vec<u8>, AllocError>
     ensures { IfOk result (λ text. text.items ≡ document_shown F.written rows.now verdict) }

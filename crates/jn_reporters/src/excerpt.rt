@@ -3,7 +3,8 @@ ghost use Rattle.std.specs.Prelude.{◌≡◌, ◌++◌, ◌≤◌, [], true, fa
 ghost use Rattle.std.specs.Option.{option_map};
 ghost use Rattle.jn_base.specs.Place as place;
 ghost use Rattle.jn_reporters.specs.Excerpts as spec;
-ghost use Rattle.jn_reporters.specs.Excerpts.{extract_of, is_nothing, GoesBack, GoesOn};
+ghost use Rattle.jn_reporters.specs.Excerpts.{extract_of};
+ghost use Rattle.jn_reporters.specs.Walks.{is_nothing, GoesBack, GoesOn};
 
 use crate::codes::place;
 use jn_base::place::{is_continuation, is_line_end};
