@@ -64,13 +64,16 @@ numbered front number = front ++ decimal number
 abbrev pub result_region : KeptRow → List ℕ
 result_region row = numbered (codes "\"region\": {\"startLine\": ") row.line ++ numbered (codes ", \"startColumn\": ") row.col ++ codes "}}}]"
 
+abbrev pub result_place : KeptRow → List ℕ
+result_place row = result_file row ++ result_region row
+
 -- the fingerprint (3.27.17) of the row's code and line, as a decimal number; none where no line is shown
-abbrev pub print_member : Option ℕ → List ℕ
+unfoldable pub print_member : Option ℕ → List ℕ
 print_member None = codes "}"
 print_member (Some print) = codes ", \"partialFingerprints\": {\"codeAndLine/v1\": \"" ++ decimal print ++ codes "\"}}"
 
 abbrev pub result_object : KeptRow → List ℕ
-result_object row = result_meaning row ++ result_file row ++ result_region row ++ print_member row.fingerprint
+result_object row = result_meaning row ++ result_place row ++ print_member row.fingerprint
 
 -- what stands before the rules: the log (3.13), its run (3.14) and the run's tool (3.18, 3.19)
 unfoldable pub before_rules : List ℕ

@@ -215,10 +215,8 @@ fn result_object(alloc: Global, row: &KeptRow) -> Result<Vec<u8>, AllocError>
     ensures { IfOk result (λ text. text.items ≡ spec.result_object row.now) }
 {
     let mut text = result_meaning(alloc, row)?;
-    let file = result_file(alloc, row)?;
-    text.extend_from_slice(&file)?;
-    let region = result_region(alloc, row)?;
-    text.extend_from_slice(&region)?;
+    let place = result_place(alloc, row)?;
+    text.extend_from_slice(&place)?;
     let member = print_member(alloc, row.fingerprint)?;
     text.extend_from_slice(&member)?;
     Ok(text)
@@ -233,6 +231,15 @@ fn result_meaning(alloc: Global, row: &KeptRow) -> Result<Vec<u8>, AllocError>
     text.extend_from_slice(b"\", \"level\": \"error\", \"message\": {\"text\": \"")?;
     put(&mut text, Escape::Json, &words)?;
     text.extend_from_slice(b"\"}, ")?;
+    Ok(text)
+}
+
+fn result_place(alloc: Global, row: &KeptRow) -> Result<Vec<u8>, AllocError>
+    ensures { IfOk result (λ text. text.items ≡ spec.result_place row.now) }
+{
+    let mut text = result_file(alloc, row)?;
+    let region = result_region(alloc, row)?;
+    text.extend_from_slice(&region)?;
     Ok(text)
 }
 
@@ -267,6 +274,7 @@ fn numbered(alloc: Global, front: &[u8], number: u32) -> Result<Vec<u8>, AllocEr
 }
 
 /// The fingerprint, where there is one, and the end of the result.
+#[tactic(auto, unfolding(crate::specs::Sarif::print_member))]
 fn print_member(alloc: Global, print: Option<u64>) -> Result<Vec<u8>, AllocError>
     ensures { IfOk result (λ text. text.items ≡ spec.print_member print) }
 {
