@@ -1,6 +1,6 @@
 -- Rows of files that were read, as a reader sees them.
 use Rattle.std.proofs.Common.{◌≡◌, ℕ, zero, suc, ◌<◌, ◌≤◌, true, false, List, [], ◌∷◌, ◌++◌, length, map, take, get_or, Option, Some, None, Result, Ok, Err, inl, inr, refl, sym, ap, ◌∙◌, subst, arith}
-use Rattle.std.specs.Prelude.{◌⊎◌, IfOk, slice_get, string_bytes}
+use Rattle.std.specs.Prelude.{◌⊎◌, Bool, IfOk, slice_get, string_bytes, if◌then◌else◌}
 use Rattle.std.specs.declared.string.String.{String}
 use Rattle.std.specs.declared.alloc.Global.{Global}
 use Rattle.jn_base.specs.declared.place.Row.{Row}
@@ -24,6 +24,11 @@ use Rattle.jn_command.specs.Reporters.{shown_behind}
 use Rattle.jn_command.specs.Reports.{rows_of, verdict_of}
 use Rattle.jn_command.specs.Shown.{row_of, row_of_file, shown}
 use Rattle.jn_command.specs.Stands.{StandsIn, StandIn, IsPlace, bytes_of}
+use Rattle.jn_reporters.specs.Excerpts.{extract_at, extract_for, is_limit}
+use Rattle.jn_reporters.specs.declared.shown.Extract.{Extract}
+use Rattle.jn_reporters.specs.Views.{row_view}
+use Rattle.jn_reporters.specs.declared.shown.ShownRow.{ShownRow}
+use Rattle.jn_reporters.proofs.Limits.{b1_is_limit}
 
 read_at : (reads : List SourceRead) (i : ℕ) (d : SourceRead) → i < length reads → slice_get reads i ≡ Some (get_or reads i d)
 read_at [] i d lt = absurd (omega (arith, lt))
@@ -40,14 +45,15 @@ no_file_at [] i le = refl
 no_file_at (read ∷ reads) zero le = absurd (omega (arith, le))
 no_file_at (read ∷ reads) (suc i) le = no_file_at reads i (omega (arith, le))
 
-pub row_there : {E : Type 0} (reads : List SourceRead) (i : ℕ) (read : SourceRead) (row : Row) (r : Result RowText E) → i ≡ row.span.file.0 → i < length reads → read ≡ get_or reads i read → IfOk r (λ t. t ≡ row_shown read.file.name read.file.bytes row) → IfOk r (λ t. t ≡ row_of (files_of_reads reads) row)
+pub row_there : {E : Type 0} (reads : List SourceRead) (i : ℕ) (read : SourceRead) (row : Row) (r : Result ShownRow E) → i ≡ row.span.file.0 → i < length reads → read ≡ get_or reads i read → IfOk r (λ t. t ≡ row_view read.file.name read.file.bytes row) → IfOk r (λ t. t ≡ row_of (files_of_reads reads) row)
 row_there reads i read row (Ok t) number lt is h =
     let here : slice_get (files_of_reads reads) row.span.file.0 ≡ Some read.file = ap (λ n. slice_get (files_of_reads reads) n) (sym number) ∙ file_at reads i read lt ∙ ap (λ (x : SourceRead). Some x.file) (sym is) in
     h ∙ ap (λ f. row_of_file f row) (sym here)
 row_there reads i read row (Err e) number lt is h = tt
 
-pub row_nowhere : (reads : List SourceRead) (row : Row) (name : List ℕ) → length reads ≤ row.span.file.0 → name ≡ [] → record { name = name; line = 1; col = 1; code = row.code } ≡ row_of (files_of_reads reads) row
-row_nowhere reads row name le empty = ap (λ n. record { name = n; line = 1; col = 1; code = row.code }) empty ∙ ap (λ f. row_of_file f row) (sym (no_file_at reads row.span.file.0 le))
+pub row_nowhere : {E : Type 0} (reads : List SourceRead) (row : Row) (r : Result ShownRow E) → length reads ≤ row.span.file.0 → IfOk r (λ t. t ≡ row_of_file None row) → IfOk r (λ t. t ≡ row_of (files_of_reads reads) row)
+row_nowhere reads row (Ok t) le is = is ∙ ap (λ f. row_of_file f row) (sym (no_file_at reads row.span.file.0 le))
+row_nowhere reads row (Err e) le is = tt
 
 -- the text of a file that was read
 pub bytes_there : (reads : List SourceRead) (i : ℕ) (read : SourceRead) → i < length reads → read ≡ get_or reads i read → bytes_of (slice_get reads i) ≡ read.file.bytes
@@ -85,16 +91,25 @@ pub at_start : (name one other : List ℕ) (row : Row) → row.span.from ≡ 0 �
 at_start name one other row e =
     ap (λ before. record { name = name; line = (place_behind before row.span).line; col = (place_behind before row.span).col; code = row.code }) (none_taken row.span.from one e ∙ sym (none_taken row.span.from other e))
 
+-- and no line, where it is one of a limit
+pub view_at_start : (name one other : List ℕ) (row : Row) → row.span.from ≡ 0 → is_limit row.code ≡ true → row_view name one row ≡ row_view name other row
+view_at_start name one other row from limit =
+    ap (λ (t : RowText). record { text = t; extract = extract_for row.code one row.span }) (at_start name one other row from)
+    ∙ ap (λ (x : Option Extract). record { text = row_shown name other row; extract = x }) (none one ∙ sym (none other))
+  where
+    none : (bytes : List ℕ) → extract_for row.code bytes row.span ≡ None
+    none bytes = ap (λ (b : Bool). if b then None else Some (extract_at bytes row.span.from row.span.to)) limit
+
 never_both : (read : SourceRead) → read.whole ≡ true → read.whole ≡ false → ⊥
 never_both read all part = no_flag (sym all ∙ part)
   where
     no_flag : true ≡ false → ⊥
     no_flag e = cc
 
-same_file : (read : SourceRead) (file : SourceFile) (row : Row) → IsReadOf read file → StandsIn (Some read) row → row_shown read.file.name read.file.bytes row ≡ row_shown file.name file.bytes row
-same_file read file row (inl w) stands = ap (λ (f : SourceFile). row_shown f.name f.bytes row) w.1
+same_file : (read : SourceRead) (file : SourceFile) (row : Row) → IsReadOf read file → StandsIn (Some read) row → row_view read.file.name read.file.bytes row ≡ row_view file.name file.bytes row
+same_file read file row (inl w) stands = ap (λ (f : SourceFile). row_view f.name f.bytes row) w.1
 same_file read file row (inr l) (inl whole) = absurd (never_both read whole l.0)
-same_file read file row (inr l) (inr from) = ap (λ (f : SourceFile). row_shown f.name f.bytes row) l.1 ∙ at_start file.name [] file.bytes row from
+same_file read file row (inr l) (inr stands) = ap (λ (f : SourceFile). row_view f.name f.bytes row) l.1 ∙ view_at_start file.name [] file.bytes row stands.0 stands.1
 
 same_at : (reads : List SourceRead) (files : List SourceFile) (k : ℕ) (row : Row) → AreReads reads files → StandsIn (slice_get reads k) row → row_of_file (slice_get (files_of_reads reads) k) row ≡ row_of_file (slice_get files k) row
 same_at [] [] k row are stands = refl
@@ -110,9 +125,9 @@ same_rows reads files (row ∷ rows) are stand =
 
 -- what is shown of a report: the function of the rows and the verdict
 abbrev Shows : Type 0
-Shows = List RowText → Option Verdict → List ℕ
+Shows = List ShownRow → Option Verdict → List ℕ
 
-pub same_text : (show kept : Shows) (taken : List RowText) (reads : List SourceRead) (files : List SourceFile) (report : Report) (rows : List RowText) (verdict : Option Verdict) → kept ≡ show → AreReads reads files → StandIn reads (rows_of report) → rows ≡ taken ++ map (row_of (files_of_reads reads)) (rows_of report) → verdict ≡ Some (verdict_of report) → kept rows verdict ≡ shown (shown_behind taken show) files report
+pub same_text : (show kept : Shows) (taken : List ShownRow) (reads : List SourceRead) (files : List SourceFile) (report : Report) (rows : List ShownRow) (verdict : Option Verdict) → kept ≡ show → AreReads reads files → StandIn reads (rows_of report) → rows ≡ taken ++ map (row_of (files_of_reads reads)) (rows_of report) → verdict ≡ Some (verdict_of report) → kept rows verdict ≡ shown (shown_behind taken show) files report
 same_text show kept taken reads files report rows verdict same are stand lines end =
     ap (λ (f : Shows). f rows verdict) same
     ∙ ap (λ rs. show rs verdict) (lines ∙ ap (λ rs. taken ++ rs) (same_rows reads files (rows_of report) are stand)) ∙ ap (λ v. show (taken ++ map (row_of files) (rows_of report)) v) end
@@ -123,21 +138,21 @@ pub length_is : (files : List SourceFile) → length (names_of files) ≡ length
 length_is [] = refl
 length_is (file ∷ files) = ap suc (length_is files)
 
-name_of_file : (files : List SourceFile) (k : ℕ) (name : List ℕ) (row : Row) → slice_get (names_of files) k ≡ Some name → row.span.from ≡ 0 → row_shown name [] row ≡ row_of_file (slice_get files k) row
-name_of_file [] k name row is from = absurd (no_name is)
+name_of_file : (files : List SourceFile) (k : ℕ) (name : List ℕ) (row : Row) → slice_get (names_of files) k ≡ Some name → row.span.from ≡ 0 → is_limit row.code ≡ true → row_view name [] row ≡ row_of_file (slice_get files k) row
+name_of_file [] k name row is from limit = absurd (no_name is)
   where
     no_name : None ≡ Some name → ⊥
     no_name e = cc
-name_of_file (file ∷ files) zero name row is from = ap (λ n. row_shown n [] row) (sym (same_name is)) ∙ at_start file.name [] file.bytes row from
+name_of_file (file ∷ files) zero name row is from limit = ap (λ n. row_view n [] row) (sym (same_name is)) ∙ view_at_start file.name [] file.bytes row from limit
   where
     same_name : Some file.name ≡ Some name → file.name ≡ name
     same_name e = cc
-name_of_file (file ∷ files) (suc k) name row is from = name_of_file files k name row is from
+name_of_file (file ∷ files) (suc k) name row is from limit = name_of_file files k name row is from limit
 
-pub number_text : (show kept : Shows) (taken : List RowText) (files : List SourceFile) (names : List (List ℕ)) (name : List ℕ) (report : Report) (rows : List RowText) (verdict : Option Verdict) → kept ≡ show → names_of files ≡ names → slice_get names most_files ≡ Some name → report ≡ Refused (row_at most_files B1 ∷ []) → rows ≡ taken ++ row_shown name [] (row_at 64 B1) ∷ [] → verdict ≡ Some (RefusedVerdict 1) → kept rows verdict ≡ shown (shown_behind taken show) files report
+pub number_text : (show kept : Shows) (taken : List ShownRow) (files : List SourceFile) (names : List (List ℕ)) (name : List ℕ) (report : Report) (rows : List ShownRow) (verdict : Option Verdict) → kept ≡ show → names_of files ≡ names → slice_get names most_files ≡ Some name → report ≡ Refused (row_at most_files B1 ∷ []) → rows ≡ taken ++ row_view name [] (row_at 64 B1) ∷ [] → verdict ≡ Some (RefusedVerdict 1) → kept rows verdict ≡ shown (shown_behind taken show) files report
 number_text show kept taken files names name report rows verdict same named is refused lines end =
     ap (λ (f : Shows). f rows verdict) same
-    ∙ ap (λ rs. show rs verdict) (lines ∙ ap (λ r. taken ++ r ∷ []) (name_of_file files most_files name (row_at most_files B1) (ap (λ ns. slice_get ns most_files) named ∙ is) refl))
+    ∙ ap (λ rs. show rs verdict) (lines ∙ ap (λ r. taken ++ r ∷ []) (name_of_file files most_files name (row_at most_files B1) (ap (λ ns. slice_get ns most_files) named ∙ is) refl b1_is_limit))
     ∙ ap (λ v. show (taken ++ row_of files (row_at most_files B1) ∷ []) v) end
     ∙ ap (shown (shown_behind taken show) files) (sym refused)
 

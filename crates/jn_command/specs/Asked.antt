@@ -1,6 +1,6 @@
 -- What the words of the command line ask for.
 use Rattle.std.specs.Prelude.{ℕ, Bool, List, Option, Some, None, if◌then◌else◌, codes}
-use Rattle.jn_diag.specs.declared.shown.RowText.{RowText}
+use Rattle.jn_reporters.specs.declared.shown.ShownRow.{ShownRow}
 use Rattle.jn_diag.specs.declared.shown.Verdict.{Verdict}
 use Rattle.jn_cli.specs.declared.command.Command.{Command}
 use Rattle.jn_cli.specs.Words.{command_of, is_usage, options_of}
@@ -10,9 +10,9 @@ use Rattle.jn_command.specs.Reporters.{Form, first_named, shown_behind}
 pub record Asked : Type 0 where
   pub command : Command
   pub document : Bool
-  pub show : List RowText → Option Verdict → List ℕ
+  pub show : List ShownRow → Option Verdict → List ℕ
 
-abbrev pub asked : Command → Bool → (List RowText → Option Verdict → List ℕ) → Asked
+abbrev pub asked : Command → Bool → (List ShownRow → Option Verdict → List ℕ) → Asked
 asked command document show = record { command = command; document = document; show = show }
 
 abbrev pub shown_by : Command → Option Form → Option Asked

@@ -1,18 +1,18 @@
 -- Reporters as a command sees them, and which of them it takes.
 use Rattle.std.specs.Prelude.{ℕ, Bool, List, [], ◌∷◌, ◌++◌, Option, Some, None, if◌then◌else◌}
 use Rattle.std.specs.Str.{bytes_eq}
-use Rattle.jn_diag.specs.declared.shown.RowText.{RowText}
+use Rattle.jn_reporters.specs.declared.shown.ShownRow.{ShownRow}
 use Rattle.jn_diag.specs.declared.shown.Verdict.{Verdict}
 
 -- a reporter: its name, whether its bytes are one document, the rows that it took so far, and the bytes that it makes of rows and a verdict
 pub record Form : Type 0 where
   pub title : List ℕ
   pub document : Bool
-  pub rows : List RowText
-  pub shown : List RowText → Option Verdict → List ℕ
+  pub rows : List ShownRow
+  pub shown : List ShownRow → Option Verdict → List ℕ
 
 -- what a reporter that took these rows before makes of further ones
-abbrev pub shown_behind : List RowText → (List RowText → Option Verdict → List ℕ) → List RowText → Option Verdict → List ℕ
+abbrev pub shown_behind : List ShownRow → (List ShownRow → Option Verdict → List ℕ) → List ShownRow → Option Verdict → List ℕ
 shown_behind taken show = λ rows verdict. show (taken ++ rows) verdict
 
 -- the first reporter with the name

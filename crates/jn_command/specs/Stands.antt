@@ -4,11 +4,12 @@ use Rattle.jn_base.specs.declared.place.Row.{Row}
 use Rattle.jn_diag.specs.Sweep.{IsPosition}
 use Rattle.jn_front.specs.declared.source.SourceRead.{SourceRead}
 use Rattle.jn_command.specs.declared.show.Place.{Place}
+use Rattle.jn_reporters.specs.Excerpts.{is_limit}
 
--- a row of a file that wasn't read whole, since it is too large, stands at its first byte
+-- a row of a file that wasn't read whole, since it is too large, is one of a limit, and stands at its first byte
 abbrev pub StandsIn : Option SourceRead → Row → Type 0
 StandsIn None row = Unit {0}
-StandsIn (Some read) row = (read.whole ≡ true) ⊎ (row.span.from ≡ 0)
+StandsIn (Some read) row = (read.whole ≡ true) ⊎ ((row.span.from ≡ 0) × (is_limit row.code ≡ true))
 
 abbrev pub StandIn : List SourceRead → List Row → Type 0
 StandIn reads [] = Unit {0}

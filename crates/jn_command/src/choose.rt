@@ -4,8 +4,8 @@ ghost use Rattle.std.specs.Option.{option_map};
 ghost use Rattle.jn_command.specs.Reporters.{first_named};
 
 use jn_base::OutOfMemory;
-use jn_diag::{RowText, Verdict};
-use jn_reporters::Reporter;
+use jn_diag::Verdict;
+use jn_reporters::{Reporter, RowView};
 
 /// A reporter out of its list.
 #[derive(Drop)]
@@ -32,7 +32,7 @@ impl Reporter for Chosen {
         self.reporter.is_document()
     }
 
-    fn take(&mut self, row: &RowText) -> Result<(), OutOfMemory> {
+    fn take(&mut self, row: &RowView<'_>) -> Result<(), OutOfMemory> {
         self.reporter.take(row)
     }
 

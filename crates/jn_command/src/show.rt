@@ -1,5 +1,5 @@
 //! A report, as a reporter takes it.
-ghost use Rattle.std.specs.Prelude.{◌≡◌, ◌⊎◌, ◌≤◌, ◌<◌, ◌∷◌, ◌++◌, [], length, map, Some, IfOk};
+ghost use Rattle.std.specs.Prelude.{◌≡◌, ◌⊎◌, ◌≤◌, ◌<◌, ◌∷◌, ◌++◌, [], length, map, None, Some, IfOk};
 ghost use Rattle.jn_base.specs.declared.code.Code.TheVariants.{B1};
 ghost use Rattle.jn_diag.specs.Shown.{row_shown};
 ghost use Rattle.jn_diag.specs.Sweep.{IsPosition};
@@ -7,14 +7,15 @@ ghost use Rattle.jn_front.specs.Counted.{ReadsFit};
 ghost use Rattle.jn_front.specs.Files.{files_of_reads};
 ghost use Rattle.jn_front.specs.Limits.{row_at};
 ghost use Rattle.jn_command.specs.Reports.{rows_of, verdict_of};
-ghost use Rattle.jn_command.specs.Shown.{row_of};
+ghost use Rattle.jn_command.specs.Shown.{row_of, row_of_file};
 ghost use Rattle.jn_command.specs.Stands.{IsPlace};
+ghost use Rattle.jn_reporters.specs.Views.{row_view};
 
 use crate::report::Report;
 use jn_base::{Code, OutOfMemory, Row, Span, Text};
 use jn_diag::{Position, RowText, Verdict, place_behind};
 use jn_front::{SourceRead, row_at};
-use jn_reporters::Reporter;
+use jn_reporters::{Reporter, RowView, excerpt_for};
 use std::alloc::Global;
 
 /// A place in one of the files that were read: rows come in order, so that each file is swept once.
@@ -41,8 +42,8 @@ fn place_in(place: Place, file: usize) -> Place
     }
 }
 
-/// The row as a reader sees it, of a file that was read; the position goes there.
-fn row_in(
+/// The row's text, of a file that was read; the position goes there.
+fn text_in(
     alloc: Global,
     read: &SourceRead,
     row: &Row,
@@ -69,13 +70,44 @@ fn row_in(
     })
 }
 
-/// The row as a reader sees it; one of no file has no name, and one behind its file's end stands at the end.
-fn row_of(
+/// The row with what is shown of its line, of a file that was read; the position goes there.
+fn row_in<'a>(
     alloc: Global,
-    reads: &[SourceRead],
+    read: &'a SourceRead,
+    row: &Row,
+    position: &mut Position,
+) -> Result<RowView<'a>, OutOfMemory>
+    requires fits { length read.now.file.bytes ≤ 1048576 }
+    requires is { IsPosition read.now.file.bytes position.old }
+    ensures shown { IfOk result
+        (λ t. t ≡ row_view read.now.file.name read.now.file.bytes row.now) }
+    ensures is { IsPosition read.now.file.bytes position.new }
+{
+    let text = text_in(alloc, read, row, position)?;
+    let excerpt = excerpt_for(row.code, read.file.bytes.as_slice(), &row.span);
+    Ok(RowView::new(text, excerpt))
+}
+
+/// The row of no file: it has no name, and no line is shown.
+fn row_nowhere<'a>(alloc: Global, row: &Row) -> Result<RowView<'a>, OutOfMemory>
+    ensures { IfOk result (λ t. t ≡ row_of_file None row.now) }
+{
+    let text = RowText {
+        name: Text::of_str(alloc, "")?,
+        line: 1,
+        col: 1,
+        code: row.code,
+    };
+    Ok(RowView::new(text, None))
+}
+
+/// The row as a reporter is given it; one of no file has no name, and one behind its file's end stands at the end.
+fn row_of<'a>(
+    alloc: Global,
+    reads: &'a [SourceRead],
     row: &Row,
     place: &mut Place,
-) -> Result<RowText, OutOfMemory>
+) -> Result<RowView<'a>, OutOfMemory>
     requires fit { ReadsFit reads.now }
     requires is { IsPlace reads.now place.old }
     ensures shown { IfOk result (λ t. t ≡ row_of (files_of_reads reads.now) row.now) }
@@ -86,12 +118,7 @@ fn row_of(
         *place = place_in(*place, file);
         row_in(alloc, &reads[file], row, &mut place.position)
     } else {
-        Ok(RowText {
-            name: Text::of_str(alloc, "")?,
-            line: 1,
-            col: 1,
-            code: row.code,
-        })
+        row_nowhere(alloc, row)
     }
 }
 
@@ -121,19 +148,28 @@ pub fn show<P: Reporter>(
     Ok(shower)
 }
 
-/// Hands the report of more files than there may be to a reporter; this is the name of the first that is too many.
-pub fn show_number<P: Reporter>(alloc: Global, name: &str, reporter: P) -> Result<P, OutOfMemory>
-    ensures rows { IfOk result
-        (λ shower. P.rows shower ≡ P.rows reporter ++ row_shown name.now [] (row_at 64 B1) ∷ []) }
-    ensures verdict { IfOk result (λ shower. P.given shower ≡ Some (Verdict.Refused 1)) }
-    ensures shown { IfOk result (λ shower. P.shown shower ≡ P.shown reporter) }
+/// The row of the first file that is too many, which has this name.
+fn row_too_many<'a>(alloc: Global, name: &str) -> Result<RowView<'a>, OutOfMemory>
+    ensures { IfOk result (λ t. t ≡ row_view name.now [] (row_at 64 B1)) }
 {
-    let shown = RowText {
+    let row = row_at(64, Code::B1);
+    let text = RowText {
         name: Text::of_str(alloc, name)?,
         line: 1,
         col: 1,
         code: Code::B1,
     };
+    Ok(RowView::new(text, excerpt_for(row.code, &[], &row.span)))
+}
+
+/// Hands the report of more files than there may be to a reporter; this is the name of the first that is too many.
+pub fn show_number<P: Reporter>(alloc: Global, name: &str, reporter: P) -> Result<P, OutOfMemory>
+    ensures rows { IfOk result
+        (λ shower. P.rows shower ≡ P.rows reporter ++ row_view name.now [] (row_at 64 B1) ∷ []) }
+    ensures verdict { IfOk result (λ shower. P.given shower ≡ Some (Verdict.Refused 1)) }
+    ensures shown { IfOk result (λ shower. P.shown shower ≡ P.shown reporter) }
+{
+    let shown = row_too_many(alloc, name)?;
     let mut shower = reporter;
     shower.take(&shown)?;
     shower.finish(Verdict::Refused(1))?;

@@ -1,16 +1,16 @@
 -- Rows behind a row, one row more, and bytes behind two bytes, one byte more.
 use Rattle.std.proofs.Common.{◌≡◌, ◌<◌, ℕ, ◌+◌, List, ◌∷◌, ◌++◌, length, get_or, drop, append_assoc, sym, ap, ◌∙◌}
 use Rattle.std.proofs.lemmas.List.{drop_more}
-use Rattle.jn_diag.specs.declared.shown.RowText.{RowText}
 use Rattle.jn_reporters.specs.Escapes.{xml_behind, xml_from}
 use Rattle.jn_reporters.specs.Checkstyle.{error_element, file_change, rows_behind}
+use Rattle.jn_reporters.specs.declared.kept.KeptRow.{KeptRow}
 
 regrouped : (new out piece left rest whole : List ℕ) → new ≡ out ++ piece → left ≡ piece ++ rest → out ++ left ≡ whole → new ++ rest ≡ whole
 regrouped new out piece left rest whole is parts all =
     ap (λ xs. xs ++ rest) is ∙ append_assoc out piece rest ∙ ap (λ xs. out ++ xs) (sym parts) ∙ all
 
 -- the next row is put behind a row of the file of this name
-pub row_more : (new out whole name : List ℕ) (rows : List RowText) (i : ℕ) (row : RowText) → i < length rows → row ≡ get_or rows i row
+pub row_more : (new out whole name : List ℕ) (rows : List KeptRow) (i : ℕ) (row : KeptRow) → i < length rows → row ≡ get_or rows i row
     → new ≡ out ++ (file_change name row.name ++ error_element row) → out ++ rows_behind name (drop i rows) ≡ whole
     → new ++ rows_behind row.name (drop (i + 1) rows) ≡ whole
 row_more new out whole name rows i row within at is all =

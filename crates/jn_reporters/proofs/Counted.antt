@@ -1,5 +1,5 @@
 -- Counts of rows by their code, and the lines of a summary.
-use Rattle.std.proofs.Common.{◌≡◌, ℕ, zero, suc, ◌+◌, ◌<◌, ◌^◌, lit<, ◌==◌, Bool, List, [], ◌∷◌, ◌++◌, length, set, slice_index, sym, ap, ◌∙◌, refl, subst, arith, eq-eqb, ⊎_elim}
+use Rattle.std.proofs.Common.{◌≡◌, ℕ, zero, suc, ◌+◌, ◌<◌, ◌==◌, Bool, List, [], ◌∷◌, ◌++◌, length, set, slice_index, sym, ap, ◌∙◌, refl, subst, arith, eq-eqb, ⊎_elim}
 use Rattle.std.specs.Prelude.{count_by, if◌then◌else◌}
 use Rattle.std.specs.List.{flat_map}
 use Rattle.std.proofs.lemmas.Bool.{cases_eq}
@@ -8,16 +8,16 @@ use Rattle.std.proofs.lemmas.Grind.{common_steps}
 use Rattle.std.proofs.lemmas.List.{get_or-set_same, get_or-set_other}
 use Rattle.jn_base.specs.declared.code.Code.{Code}
 use Rattle.jn_diag.specs.Order.{code_place}
-use Rattle.jn_diag.specs.declared.shown.RowText.{RowText}
 use Rattle.jn_reporters.specs.Counts.{Counts, lines_of}
 use Rattle.jn_reporters.specs.Reports.{all_codes, count_line, count_of, summary_lines}
 use Rattle.jn_reporters.specs.Sheet.{Lined, nothing_lined}
+use Rattle.jn_reporters.specs.declared.shown.ShownRow.{ShownRow}
 
 same_lines : (f g : Code → List ℕ) → ((code : Code) → f code ≡ g code) → (codes : List Code) → flat_map f codes ≡ flat_map g codes
 same_lines f g h [] = refl
 same_lines f g h (code ∷ codes) = ap (λ xs. xs ++ flat_map f codes) (h code) ∙ ap (λ xs. g code ++ xs) (same_lines f g h codes)
 
-pub counted_lines : (rows : List RowText) (counts : List ℕ) → Counts rows counts → lines_of all_codes counts ≡ summary_lines rows
+pub counted_lines : (rows : List ShownRow) (counts : List ℕ) → Counts rows counts → lines_of all_codes counts ≡ summary_lines rows
 unfolding summary_lines
 counted_lines rows counts h = same_lines (λ code. count_line code (slice_index counts (code_place code))) (λ code. count_line code (count_of rows code)) (λ code. ap (count_line code) (h code)) all_codes
 
@@ -37,7 +37,7 @@ zero_at (suc n) (suc k) = zero_at n k
 abbrev tell : Bool → ℕ
 tell b = if b then 1 else 0
 
-count_more : (p : RowText → Bool) (rows : List RowText) (row : RowText) → count_by p (rows ++ row ∷ []) ≡ count_by p rows + tell (p row)
+count_more : (p : ShownRow → Bool) (rows : List ShownRow) (row : ShownRow) → count_by p (rows ++ row ∷ []) ≡ count_by p rows + tell (p row)
 count_more p rows row = grind (arith, common_steps)
 
 -- one more at p, seen at k
@@ -55,12 +55,12 @@ more_at counts p k before within h =
     kept ∙ h ∙ zero_more)
     (cases_eq p k)
 
-pub one_more : (rows : List RowText) (row : RowText) (counts : List ℕ) → code_place row.code < length counts → Counts rows counts
-    → Counts (rows ++ row ∷ []) (set counts (code_place row.code) (slice_index counts (code_place row.code) + 1))
+pub one_more : (rows : List ShownRow) (row : ShownRow) (counts : List ℕ) → code_place row.text.code < length counts → Counts rows counts
+    → Counts (rows ++ row ∷ []) (set counts (code_place row.text.code) (slice_index counts (code_place row.text.code) + 1))
 one_more rows row counts within h code =
-    more_at counts (code_place row.code) (code_place code) (count_of rows code) within (h code)
-    ∙ sym (count_more (λ other. code_place other.code == code_place code) rows row)
+    more_at counts (code_place row.text.code) (code_place code) (count_of rows code) within (h code)
+    ∙ sym (count_more (λ other. code_place other.text.code == code_place code) rows row)
 
 pub fresh : (sheet : Lined) → sheet ≡ nothing_lined
-    → (sheet.lines ≡ summary_lines sheet.rows) × Counts sheet.rows (zeros 49) × (length sheet.rows < 2 ^ 63)
-fresh sheet is = subst (λ (s : Lined). (s.lines ≡ summary_lines s.rows) × Counts s.rows (zeros 49) × (length s.rows < 2 ^ 63)) (sym is) (no_lines, (λ code. zero_at 49 (code_place code)), lit< tt)
+    → (sheet.lines ≡ summary_lines sheet.rows) × Counts sheet.rows (zeros 49)
+fresh sheet is = subst (λ (s : Lined). (s.lines ≡ summary_lines s.rows) × Counts s.rows (zeros 49)) (sym is) (no_lines, λ code. zero_at 49 (code_place code))

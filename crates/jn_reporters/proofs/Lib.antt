@@ -1,3 +1,5 @@
+pub mod Around
 pub mod Behind
 pub mod Counted
+pub mod Limits
 pub mod Lined

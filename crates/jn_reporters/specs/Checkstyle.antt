@@ -2,26 +2,27 @@
 use Rattle.std.specs.Prelude.{ℕ, ◌++◌, List, [], ◌∷◌, Option, codes, decimal, bytes_eq, if◌then◌else◌}
 use Rattle.jn_base.specs.Codes.{code_name}
 use Rattle.jn_base.specs.declared.code.Code.{Code}
-use Rattle.jn_diag.specs.declared.shown.RowText.{RowText}
 use Rattle.jn_diag.specs.declared.shown.Verdict.{Verdict}
 use Rattle.jn_reporters.specs.Escapes.{xml_text}
-use Rattle.jn_reporters.specs.Sheet.{document_shown}
+use Rattle.jn_reporters.specs.Sheet.{documented}
 use Rattle.jn_reporters.specs.Words.{told}
+use Rattle.jn_reporters.specs.declared.shown.ShownRow.{ShownRow}
+use Rattle.jn_reporters.specs.declared.kept.KeptRow.{KeptRow}
 
 -- the element of a row: where it stands, and what it says
-abbrev pub error_place : RowText → List ℕ
+abbrev pub error_place : KeptRow → List ℕ
 error_place row = codes "    <error line=\"" ++ decimal row.line ++ codes "\" column=\"" ++ decimal row.col ++ codes "\""
 
 -- what is wrong and what to do about it, as an attribute's value
 unfoldable pub error_words : Code → List ℕ
 error_words code = xml_text (told code)
 
-abbrev pub error_meaning : RowText → List ℕ
+abbrev pub error_meaning : KeptRow → List ℕ
 error_meaning row =
     codes " severity=\"error\" message=\"" ++ code_name row.code ++ codes ": " ++ error_words row.code
     ++ codes "\" source=\"nullcheck." ++ code_name row.code ++ codes "\"/>\n"
 
-abbrev pub error_element : RowText → List ℕ
+abbrev pub error_element : KeptRow → List ℕ
 error_element row = error_place row ++ error_meaning row
 
 -- the begin and the end of the element of a file
@@ -36,18 +37,18 @@ abbrev pub file_change : List ℕ → List ℕ → List ℕ
 file_change name next = if bytes_eq name next then [] else file_end ++ file_begin next
 
 -- the rows that follow a row of the file of this name, and the end of the last file's element
-abbrev pub rows_behind : List ℕ → List RowText → List ℕ
+abbrev pub rows_behind : List ℕ → List KeptRow → List ℕ
 rows_behind name [] = file_end
 rows_behind name (row ∷ rows) = file_change name row.name ++ error_element row ++ rows_behind row.name rows
 
 -- an element for each run of rows of one file
-abbrev pub file_elements : List RowText → List ℕ
+abbrev pub file_elements : List KeptRow → List ℕ
 file_elements [] = []
 file_elements (row ∷ rows) = file_begin row.name ++ error_element row ++ rows_behind row.name rows
 
-abbrev pub checkstyle_document : List RowText → List ℕ
+abbrev pub checkstyle_document : List KeptRow → List ℕ
 checkstyle_document rows =
     codes "<?xml version=\"1.0\" encoding=\"UTF-8\"?>\n<checkstyle version=\"4.3\">\n" ++ file_elements rows ++ codes "</checkstyle>\n"
 
-abbrev pub checkstyle_shown : List RowText → Option Verdict → List ℕ
-checkstyle_shown = document_shown checkstyle_document
+abbrev pub checkstyle_shown : List ShownRow → Option Verdict → List ℕ
+checkstyle_shown = documented checkstyle_document

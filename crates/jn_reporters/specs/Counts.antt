@@ -3,11 +3,11 @@ use Rattle.std.specs.Prelude.{◌≡◌, ℕ, List, slice_index}
 use Rattle.std.specs.List.{flat_map}
 use Rattle.jn_base.specs.declared.code.Code.{Code}
 use Rattle.jn_diag.specs.Order.{code_place}
-use Rattle.jn_diag.specs.declared.shown.RowText.{RowText}
 use Rattle.jn_reporters.specs.Reports.{count_line, count_of}
+use Rattle.jn_reporters.specs.declared.shown.ShownRow.{ShownRow}
 
 -- at the place of each code stands how many rows have it
-abbrev pub Counts : List RowText → List ℕ → Type 0
+abbrev pub Counts : List ShownRow → List ℕ → Type 0
 Counts rows counts = (code : Code) → slice_index counts (code_place code) ≡ count_of rows code
 
 -- the lines of these codes

@@ -7,6 +7,7 @@ use Rattle.jn_diag.specs.declared.shown.Verdict.{Verdict}
 use Rattle.jn_reporters.specs.Escapes.{escaped}
 use Rattle.jn_reporters.specs.Reports.{end_line}
 use Rattle.jn_reporters.specs.Words.{told}
+use Rattle.jn_reporters.specs.declared.shown.ShownRow.{ShownRow}
 use Rattle.jn_reporters.specs.declared.escapes.Escape.TheVariants.{Message, Property}
 
 -- a command that shows the row beside its line: ::error file=FILE,line=LINE,col=COL::CODE MESSAGE; cure: CURE
@@ -15,5 +16,8 @@ github_line row =
     codes "::error file=" ++ escaped Property row.name ++ codes ",line=" ++ decimal row.line ++ codes ",col=" ++ decimal row.col
     ++ codes "::" ++ code_name row.code ++ codes " " ++ escaped Message (told row.code) ++ codes "\n"
 
-abbrev pub github_shown : List RowText → Option Verdict → List ℕ
-github_shown rows verdict = flat_map github_line rows ++ end_line verdict
+abbrev pub github_row : ShownRow → List ℕ
+github_row row = github_line row.text
+
+abbrev pub github_shown : List ShownRow → Option Verdict → List ℕ
+github_shown rows verdict = flat_map github_row rows ++ end_line verdict

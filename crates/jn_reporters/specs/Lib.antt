@@ -1,8 +1,13 @@
 pub mod Checkstyle
 pub mod Counts
 pub mod Escapes
+pub mod Excerpts
+pub mod Fingerprints
 pub mod Github
+pub mod Longs
 pub mod Reports
 pub mod Sarif
 pub mod Sheet
+pub mod Views
+pub mod Walks
 pub mod Words

@@ -8,6 +8,7 @@ use Rattle.jn_diag.specs.Order.{code_place}
 use Rattle.jn_diag.specs.declared.shown.RowText.{RowText}
 use Rattle.jn_diag.specs.declared.shown.Verdict.{Verdict}
 use Rattle.jn_diag.specs.declared.shown.Verdict.TheVariants.{Accepted, Rejected, Refused}
+use Rattle.jn_reporters.specs.declared.shown.ShownRow.{ShownRow}
 
 -- ---- the verdict
 
@@ -31,11 +32,17 @@ plain_line row = row.name ++ codes ":" ++ decimal row.line ++ codes ":" ++ decim
 abbrev pub tabbed_line : RowText → List ℕ
 tabbed_line row = row.name ++ codes "\t" ++ decimal row.line ++ codes "\t" ++ decimal row.col ++ codes "\t" ++ code_name row.code ++ codes "\t" ++ code_text row.code ++ codes "\n"
 
-abbrev pub plain_shown : List RowText → Option Verdict → List ℕ
-plain_shown rows verdict = flat_map plain_line rows ++ end_line verdict
+abbrev pub plain_row : ShownRow → List ℕ
+plain_row row = plain_line row.text
 
-abbrev pub tabbed_shown : List RowText → Option Verdict → List ℕ
-tabbed_shown rows verdict = flat_map tabbed_line rows ++ end_line verdict
+abbrev pub tabbed_row : ShownRow → List ℕ
+tabbed_row row = tabbed_line row.text
+
+abbrev pub plain_shown : List ShownRow → Option Verdict → List ℕ
+plain_shown rows verdict = flat_map plain_row rows ++ end_line verdict
+
+abbrev pub tabbed_shown : List ShownRow → Option Verdict → List ℕ
+tabbed_shown rows verdict = flat_map tabbed_row rows ++ end_line verdict
 
 -- ---- a line for each code
 
@@ -49,15 +56,15 @@ all_codes =
     ∷ Elem ∷ ElemInit ∷ NewArray ∷ CtorFields ∷ OvrParam ∷ OvrReceiver ∷ OvrResult ∷ []
 
 -- how many rows have the code
-abbrev pub count_of : List RowText → Code → ℕ
-count_of rows code = count_by (λ row. code_place row.code == code_place code) rows
+abbrev pub count_of : List ShownRow → Code → ℕ
+count_of rows code = count_by (λ row. code_place row.text.code == code_place code) rows
 
 -- CODE COUNT, and nothing for a code that does not occur
 abbrev pub count_line : Code → ℕ → List ℕ
 count_line code count = if count == 0 then [] else code_name code ++ codes " " ++ decimal count ++ codes "\n"
 
-unfoldable pub summary_lines : List RowText → List ℕ
+unfoldable pub summary_lines : List ShownRow → List ℕ
 summary_lines rows = flat_map (λ code. count_line code (count_of rows code)) all_codes
 
-abbrev pub summary_shown : List RowText → Option Verdict → List ℕ
+abbrev pub summary_shown : List ShownRow → Option Verdict → List ℕ
 summary_shown rows verdict = summary_lines rows ++ end_line verdict

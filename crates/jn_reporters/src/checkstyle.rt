@@ -4,11 +4,11 @@ ghost use Rattle.jn_reporters.specs.Checkstyle as spec;
 
 use crate::attribute::put_value;
 use crate::document::{Document, Format};
+use crate::kept::KeptRow;
 use crate::reporter::Reporter;
 use crate::telling::told;
 use itoa::{Buffer, Integer};
 use jn_base::Code;
-use jn_diag::RowText;
 use std::alloc::{AllocError, Global};
 
 /// Shows the XML of Checkstyle.
@@ -36,7 +36,7 @@ impl Format for CheckstyleXml {
         "checkstyle"
     }
 
-    fn document(alloc: Global, rows: &[RowText]) -> Result<Vec<u8>, AllocError> {
+    fn document(alloc: Global, rows: &[KeptRow]) -> Result<Vec<u8>, AllocError> {
         let mut text = Vec::from_slice(
             alloc,
             b"<?xml version=\"1.0\" encoding=\"UTF-8\"?>\n<checkstyle version=\"4.3\">\n",
@@ -48,7 +48,7 @@ impl Format for CheckstyleXml {
 }
 
 /// Puts an element for each run of rows of one file.
-fn put_files(out: &mut Vec<u8>, alloc: Global, rows: &[RowText]) -> Result<(), AllocError>
+fn put_files(out: &mut Vec<u8>, alloc: Global, rows: &[KeptRow]) -> Result<(), AllocError>
     ensures { OnOk result (out.new.items ≡ out.old.items ++ spec.file_elements rows.now) }
 {
     let Some((first, rest)) = rows.split_first() else {
@@ -62,8 +62,8 @@ fn put_files(out: &mut Vec<u8>, alloc: Global, rows: &[RowText]) -> Result<(), A
 fn put_rows_behind(
     out: &mut Vec<u8>,
     alloc: Global,
-    first: &RowText,
-    rest: &[RowText],
+    first: &KeptRow,
+    rest: &[KeptRow],
 ) -> Result<(), AllocError>
     ensures { OnOk result
         (out.new.items ≡ out.old.items ++ spec.rows_behind first.now.name rest.now) }
@@ -77,7 +77,7 @@ fn put_rows_behind(
 }
 
 /// Puts the first row, with the begin of its file's element.
-fn put_first(out: &mut Vec<u8>, alloc: Global, row: &RowText) -> Result<(), AllocError>
+fn put_first(out: &mut Vec<u8>, alloc: Global, row: &KeptRow) -> Result<(), AllocError>
     ensures { OnOk result (out.new.items
         ≡ out.old.items ++ (spec.file_begin row.now.name ++ spec.error_element row.now)) }
 {
@@ -91,8 +91,8 @@ fn put_first(out: &mut Vec<u8>, alloc: Global, row: &RowText) -> Result<(), Allo
 fn put_next(
     out: &mut Vec<u8>,
     alloc: Global,
-    last: &RowText,
-    row: &RowText,
+    last: &KeptRow,
+    row: &KeptRow,
 ) -> Result<(), AllocError>
     ensures { OnOk result (out.new.items
         ≡ out.old.items
@@ -125,7 +125,7 @@ fn file_begin(alloc: Global, name: &str) -> Result<Vec<u8>, AllocError>
     Ok(text)
 }
 
-fn error_element(alloc: Global, row: &RowText) -> Result<Vec<u8>, AllocError>
+fn error_element(alloc: Global, row: &KeptRow) -> Result<Vec<u8>, AllocError>
     ensures { IfOk result (λ text. text.items ≡ spec.error_element row.now) }
 {
     let mut text = error_place(alloc, row)?;
@@ -134,7 +134,7 @@ fn error_element(alloc: Global, row: &RowText) -> Result<Vec<u8>, AllocError>
     Ok(text)
 }
 
-fn error_place(alloc: Global, row: &RowText) -> Result<Vec<u8>, AllocError>
+fn error_place(alloc: Global, row: &KeptRow) -> Result<Vec<u8>, AllocError>
     ensures { IfOk result (λ text. text.items ≡ spec.error_place row.now) }
 {
     let mut text = Vec::from_slice(alloc, b"    <error line=\"")?;
@@ -155,7 +155,7 @@ fn error_words(alloc: Global, code: Code) -> Result<Vec<u8>, AllocError>
     Ok(text)
 }
 
-fn error_meaning(alloc: Global, row: &RowText) -> Result<Vec<u8>, AllocError>
+fn error_meaning(alloc: Global, row: &KeptRow) -> Result<Vec<u8>, AllocError>
     ensures { IfOk result (λ text. text.items ≡ spec.error_meaning row.now) }
 {
     let words = error_words(alloc, row.code)?;

@@ -1,12 +1,15 @@
 //! Reports that are one document of all rows.
 ghost use Rattle.std.specs.Prelude.{◌≡◌, ℕ, List, IfOk};
-ghost use Rattle.jn_diag.specs.declared.shown.RowText.{RowText};
+ghost use Rattle.jn_reporters.specs.declared.kept.KeptRow.{KeptRow};
 ghost use Rattle.jn_reporters.specs.Sheet.{document_shown, nothing_taken};
 
-use crate::gathered::push_copy;
+use crate::kept::{KeptRow, keep};
 use crate::reporter::Reporter;
+use crate::taken::{TakenRows, with_row};
+use crate::view::RowView;
 use jn_base::OutOfMemory;
-use jn_diag::{RowText, Verdict};
+use jn_diag::Verdict;
+use jn_outside::Told;
 use std::alloc::{AllocError, Global};
 use std::marker::{Model, PhantomData};
 
@@ -16,14 +19,14 @@ pub trait Format: Drop {
     ghost title: { List ℕ };
 
     /// The document of the rows.
-    ghost written: { List RowText → List ℕ };
+    ghost written: { List KeptRow → List ℕ };
 
     /// The name by which the reporter is chosen.
     fn name() -> &'static str
         ensures { result.now ≡ title };
 
     /// The document of the rows, made in time linear in its size.
-    fn document(alloc: Global, rows: &[RowText]) -> Result<Vec<u8>, AllocError>
+    fn document(alloc: Global, rows: &[KeptRow]) -> Result<Vec<u8>, AllocError>
         ensures { IfOk result (λ text. text.items ≡ written rows.now) };
 }
 
@@ -32,7 +35,9 @@ pub trait Format: Drop {
 #[derive(Drop)]
 pub struct Document<F: Format> {
     alloc: Global,
-    rows: Vec<RowText>,
+    rows: TakenRows,
+    /// What is kept of the rows.
+    kept: Vec<KeptRow>,
     verdict: Option<Verdict>,
     /// The document of the rows, or nothing where no verdict was given.
     text: Vec<u8>,
@@ -41,13 +46,13 @@ pub struct Document<F: Format> {
 
 impl<F: Format> Model for Document<F> {
     ghost use Rattle.std.specs.Prelude.{◌≡◌};
-    ghost use Rattle.jn_reporters.specs.Sheet.{Taken, document_shown};
+    ghost use Rattle.jn_reporters.specs.Sheet.{Taken, document_shown, all_kept};
 
     ghost Value = { Taken };
 
     ghost view = { λ a. record { rows = a.rows.items; verdict = a.verdict } };
 
-    ghost invariant = { λ a. a.text.items ≡ document_shown F.written a.rows.items a.verdict };
+    ghost invariant = { λ a. (a.kept.items ≡ all_kept a.rows.items) × (a.text.items ≡ document_shown F.written a.kept.items a.verdict) };
 }
 
 impl<F: Format> Document<F> {
@@ -56,7 +61,8 @@ impl<F: Format> Document<F> {
     {
         Document {
             alloc,
-            rows: Vec::new(alloc),
+            rows: Told::none(),
+            kept: Vec::new(alloc),
             verdict: None,
             text: Vec::new(alloc),
             format: PhantomData,
@@ -66,7 +72,7 @@ impl<F: Format> Document<F> {
 
 impl<F: Format> Reporter for Document<F> {
     ghost use Rattle.std.specs.Prelude.{true};
-    ghost use Rattle.jn_reporters.specs.Sheet.{document_shown};
+    ghost use Rattle.jn_reporters.specs.Sheet.{documented};
 
     ghost rows = { λ a. a.rows };
 
@@ -76,7 +82,7 @@ impl<F: Format> Reporter for Document<F> {
 
     ghost document = { λ a. true };
 
-    ghost shown = { λ a. document_shown F.written };
+    ghost shown = { λ a. documented F.written };
 
     fn name(&self) -> &str {
         F::name()
@@ -86,22 +92,23 @@ impl<F: Format> Reporter for Document<F> {
         true
     }
 
-    fn take(&mut self, row: &RowText) -> Result<(), OutOfMemory> {
-        push_copy(self.alloc, &mut self.rows, row)?;
-        match shown::<F>(self.alloc, &self.rows, self.verdict) {
+    fn take(&mut self, row: &RowView<'_>) -> Result<(), OutOfMemory> {
+        keep(self.alloc, &mut self.kept, row)?;
+        match shown::<F>(self.alloc, &self.kept, self.verdict) {
             Ok(text) => {
                 self.text = text;
+                self.rows = with_row(&self.rows, row);
                 Ok(())
             }
             Err(_) => {
-                self.rows.pop();
+                self.kept.pop();
                 Err(OutOfMemory)
             }
         }
     }
 
     fn finish(&mut self, verdict: Verdict) -> Result<(), OutOfMemory> {
-        let text = shown::<F>(self.alloc, &self.rows, Some(verdict))?;
+        let text = shown::<F>(self.alloc, &self.kept, Some(verdict))?;
         self.text = text;
         self.verdict = Some(verdict);
         Ok(())
@@ -115,7 +122,7 @@ impl<F: Format> Reporter for Document<F> {
 /// The document of the rows, or nothing where no verdict was given.
 fn shown<F: Format>(
     alloc: Global,
-    rows: &[RowText],
+    rows: &[KeptRow],
     verdict: Option<Verdict>,
 ) -> Result<Vec<u8>, AllocError>
     ensures { IfOk result (λ text. text.items ≡ document_shown F.written rows.now verdict) }

@@ -8,6 +8,7 @@ use crate::escapes::{Escape, put};
 use crate::reporter::Reporter;
 use crate::sheet::Sheet;
 use crate::telling::told;
+use crate::view::RowView;
 use itoa::{Buffer, Integer};
 use jn_base::OutOfMemory;
 use jn_diag::{RowText, Verdict};
@@ -23,14 +24,14 @@ pub struct Github {
 impl Model for Github {
     ghost use Rattle.std.specs.Prelude.{◌≡◌};
     ghost use Rattle.std.specs.List.{flat_map};
-    ghost use Rattle.jn_reporters.specs.Github.{github_line};
+    ghost use Rattle.jn_reporters.specs.Github.{github_row};
     ghost use Rattle.jn_reporters.specs.Sheet.{Taken, taken_of};
 
     ghost Value = { Taken };
 
     ghost view = { λ a. taken_of a.sheet };
 
-    ghost invariant = { λ a. a.sheet.lines ≡ flat_map github_line a.sheet.rows };
+    ghost invariant = { λ a. a.sheet.lines ≡ flat_map github_row a.sheet.rows };
 }
 
 impl Github {
@@ -65,8 +66,8 @@ impl Reporter for Github {
         false
     }
 
-    fn take(&mut self, row: &RowText) -> Result<(), OutOfMemory> {
-        let line = github_line(self.sheet.alloc(), row)?;
+    fn take(&mut self, row: &RowView<'_>) -> Result<(), OutOfMemory> {
+        let line = github_line(self.sheet.alloc(), row.row())?;
         self.sheet.take(row, &line)
     }
 

@@ -6,8 +6,9 @@ ghost use Rattle.jn_reporters.specs.Sheet.{nothing_taken};
 use crate::lines::plain_line;
 use crate::reporter::Reporter;
 use crate::sheet::Sheet;
+use crate::view::RowView;
 use jn_base::OutOfMemory;
-use jn_diag::{RowText, Verdict};
+use jn_diag::Verdict;
 use std::alloc::Global;
 use std::marker::Model;
 
@@ -20,14 +21,14 @@ pub struct Plain {
 impl Model for Plain {
     ghost use Rattle.std.specs.Prelude.{◌≡◌};
     ghost use Rattle.std.specs.List.{flat_map};
-    ghost use Rattle.jn_reporters.specs.Reports.{plain_line};
+    ghost use Rattle.jn_reporters.specs.Reports.{plain_row};
     ghost use Rattle.jn_reporters.specs.Sheet.{Taken, taken_of};
 
     ghost Value = { Taken };
 
     ghost view = { λ a. taken_of a.sheet };
 
-    ghost invariant = { λ a. a.sheet.lines ≡ flat_map plain_line a.sheet.rows };
+    ghost invariant = { λ a. a.sheet.lines ≡ flat_map plain_row a.sheet.rows };
 }
 
 impl Plain {
@@ -62,8 +63,8 @@ impl Reporter for Plain {
         false
     }
 
-    fn take(&mut self, row: &RowText) -> Result<(), OutOfMemory> {
-        let line = plain_line(self.sheet.alloc(), row)?;
+    fn take(&mut self, row: &RowView<'_>) -> Result<(), OutOfMemory> {
+        let line = plain_line(self.sheet.alloc(), row.row())?;
         self.sheet.take(row, &line)
     }
 

@@ -1,15 +1,16 @@
 //! What a reporter is.
 ghost use Rattle.std.specs.Prelude.{◌≡◌, ◌++◌, ◌∷◌, [], ℕ, Bool, List, Option, Some, OnOk, OnErr};
-ghost use Rattle.jn_diag.specs.declared.shown.RowText.{RowText};
 ghost use Rattle.jn_diag.specs.declared.shown.Verdict.{Verdict};
+ghost use Rattle.jn_reporters.specs.declared.shown.ShownRow.{ShownRow};
 
+use crate::view::RowView;
 use jn_base::OutOfMemory;
-use jn_diag::{RowText, Verdict};
+use jn_diag::Verdict;
 
 /// Takes rows and a verdict, and makes the bytes of a report from them.
 pub trait Reporter: Drop {
     /// The rows that were taken, in their order.
-    ghost rows: { Self → List RowText };
+    ghost rows: { Self → List ShownRow };
 
     /// The verdict that was given last, if one was given.
     ghost given: { Self → Option Verdict };
@@ -20,8 +21,8 @@ pub trait Reporter: Drop {
     /// Whether the bytes are one document, before which no line can stand.
     ghost document: { Self → Bool };
 
-    /// The bytes that the reporter makes of rows and a verdict.
-    ghost shown: { Self → List RowText → Option Verdict → List ℕ };
+    /// The bytes that the reporter makes of rows, their lines and a verdict.
+    ghost shown: { Self → List ShownRow → Option Verdict → List ℕ };
 
     /// The name by which the reporter is chosen.
     fn name(&self) -> &str
@@ -32,7 +33,7 @@ pub trait Reporter: Drop {
         ensures { result ≡ document self.now };
 
     /// Takes the row behind the others. On want of memory the reporter is as before.
-    fn take(&mut self, row: &RowText) -> Result<(), OutOfMemory>
+    fn take(&mut self, row: &RowView<'_>) -> Result<(), OutOfMemory>
         ensures ok { OnOk result (rows self.new ≡ rows self.old ++ row.now ∷ []) }
         ensures err { OnErr result (self.new ≡ self.old) }
         ensures given { given self.new ≡ given self.old }

@@ -5,11 +5,11 @@ ghost use Rattle.jn_reporters.specs.Sarif as spec;
 use crate::codes::{all, place};
 use crate::document::{Document, Format};
 use crate::escapes::{Escape, put};
+use crate::kept::KeptRow;
 use crate::reporter::Reporter;
 use crate::telling::told;
 use itoa::{Buffer, Integer};
 use jn_base::Code;
-use jn_diag::RowText;
 use std::alloc::{AllocError, Global};
 
 /// Shows a log of one run in SARIF 2.1.0.
@@ -37,7 +37,7 @@ impl Format for SarifLog {
         "sarif"
     }
 
-    fn document(alloc: Global, rows: &[RowText]) -> Result<Vec<u8>, AllocError> {
+    fn document(alloc: Global, rows: &[KeptRow]) -> Result<Vec<u8>, AllocError> {
         let codes = occurring(alloc, rows, &all())?;
         let mut text = Vec::new(alloc);
         put_before_rules(&mut text)?;
@@ -50,7 +50,7 @@ impl Format for SarifLog {
 }
 
 /// Those of the codes that some row has.
-fn occurring(alloc: Global, rows: &[RowText], codes: &[Code]) -> Result<Vec<Code>, AllocError>
+fn occurring(alloc: Global, rows: &[KeptRow], codes: &[Code]) -> Result<Vec<Code>, AllocError>
     ensures { IfOk result (λ found. found.items ≡ spec.occurring rows.now codes.now) }
 {
     let mut found = Vec::new(alloc);
@@ -62,7 +62,7 @@ fn occurring(alloc: Global, rows: &[RowText], codes: &[Code]) -> Result<Vec<Code
 
 fn put_where_it_occurs(
     found: &mut Vec<Code>,
-    rows: &[RowText],
+    rows: &[KeptRow],
     code: Code,
 ) -> Result<(), AllocError>
     ensures { OnOk result
@@ -75,7 +75,7 @@ fn put_where_it_occurs(
 }
 
 /// Whether some row has the code.
-fn occurs(rows: &[RowText], code: Code) -> bool
+fn occurs(rows: &[KeptRow], code: Code) -> bool
     ensures { result ≡ spec.occurs rows.now code }
 {
     rows.iter().any(|row| place(row.code) == place(code))
@@ -179,7 +179,7 @@ fn rule_help(alloc: Global, code: Code) -> Result<Vec<u8>, AllocError>
     Ok(text)
 }
 
-fn put_results(out: &mut Vec<u8>, alloc: Global, rows: &[RowText]) -> Result<(), AllocError>
+fn put_results(out: &mut Vec<u8>, alloc: Global, rows: &[KeptRow]) -> Result<(), AllocError>
     ensures { OnOk result
         (out.new.items ≡ out.old.items ++ spec.listed spec.result_object rows.now) }
 {
@@ -191,7 +191,7 @@ fn put_results(out: &mut Vec<u8>, alloc: Global, rows: &[RowText]) -> Result<(),
     put_further_results(out, alloc, rest)
 }
 
-fn put_further_results(out: &mut Vec<u8>, alloc: Global, rows: &[RowText]) -> Result<(), AllocError>
+fn put_further_results(out: &mut Vec<u8>, alloc: Global, rows: &[KeptRow]) -> Result<(), AllocError>
     ensures { OnOk result
         (out.new.items ≡ out.old.items ++ spec.further spec.result_object rows.now) }
 {
@@ -202,7 +202,7 @@ fn put_further_results(out: &mut Vec<u8>, alloc: Global, rows: &[RowText]) -> Re
 }
 
 #[tactic(auto, unfolding(crate::specs::Sarif::next))]
-fn put_next_result(out: &mut Vec<u8>, alloc: Global, row: &RowText) -> Result<(), AllocError>
+fn put_next_result(out: &mut Vec<u8>, alloc: Global, row: &KeptRow) -> Result<(), AllocError>
     ensures { OnOk result (out.new.items ≡ out.old.items ++ spec.next spec.result_object row.now) }
 {
     let mut text = Vec::from_slice(alloc, b",\n")?;
@@ -211,18 +211,18 @@ fn put_next_result(out: &mut Vec<u8>, alloc: Global, row: &RowText) -> Result<()
     out.extend_from_slice(&text)
 }
 
-fn result_object(alloc: Global, row: &RowText) -> Result<Vec<u8>, AllocError>
+fn result_object(alloc: Global, row: &KeptRow) -> Result<Vec<u8>, AllocError>
     ensures { IfOk result (λ text. text.items ≡ spec.result_object row.now) }
 {
     let mut text = result_meaning(alloc, row)?;
-    let file = result_file(alloc, row)?;
-    text.extend_from_slice(&file)?;
-    let region = result_region(alloc, row)?;
-    text.extend_from_slice(&region)?;
+    let place = result_place(alloc, row)?;
+    text.extend_from_slice(&place)?;
+    let member = print_member(alloc, row.fingerprint)?;
+    text.extend_from_slice(&member)?;
     Ok(text)
 }
 
-fn result_meaning(alloc: Global, row: &RowText) -> Result<Vec<u8>, AllocError>
+fn result_meaning(alloc: Global, row: &KeptRow) -> Result<Vec<u8>, AllocError>
     ensures { IfOk result (λ text. text.items ≡ spec.result_meaning row.now) }
 {
     let words = told(alloc, row.code)?;
@@ -234,7 +234,16 @@ fn result_meaning(alloc: Global, row: &RowText) -> Result<Vec<u8>, AllocError>
     Ok(text)
 }
 
-fn result_file(alloc: Global, row: &RowText) -> Result<Vec<u8>, AllocError>
+fn result_place(alloc: Global, row: &KeptRow) -> Result<Vec<u8>, AllocError>
+    ensures { IfOk result (λ text. text.items ≡ spec.result_place row.now) }
+{
+    let mut text = result_file(alloc, row)?;
+    let region = result_region(alloc, row)?;
+    text.extend_from_slice(&region)?;
+    Ok(text)
+}
+
+fn result_file(alloc: Global, row: &KeptRow) -> Result<Vec<u8>, AllocError>
     ensures { IfOk result (λ text. text.items ≡ spec.result_file row.now) }
 {
     let mut text = Vec::from_slice(
@@ -246,13 +255,13 @@ fn result_file(alloc: Global, row: &RowText) -> Result<Vec<u8>, AllocError>
     Ok(text)
 }
 
-fn result_region(alloc: Global, row: &RowText) -> Result<Vec<u8>, AllocError>
+fn result_region(alloc: Global, row: &KeptRow) -> Result<Vec<u8>, AllocError>
     ensures { IfOk result (λ text. text.items ≡ spec.result_region row.now) }
 {
     let mut text = numbered(alloc, b"\"region\": {\"startLine\": ", row.line)?;
     let column = numbered(alloc, b", \"startColumn\": ", row.col)?;
     text.extend_from_slice(&column)?;
-    text.extend_from_slice(b"}}}]}")?;
+    text.extend_from_slice(b"}}}]")?;
     Ok(text)
 }
 
@@ -261,5 +270,19 @@ fn numbered(alloc: Global, front: &[u8], number: u32) -> Result<Vec<u8>, AllocEr
 {
     let mut text = Vec::from_slice(alloc, front)?;
     text.extend_from_slice(Buffer::new().format(number).as_bytes())?;
+    Ok(text)
+}
+
+/// The fingerprint, where there is one, and the end of the result.
+#[tactic(auto, unfolding(crate::specs::Sarif::print_member))]
+fn print_member(alloc: Global, print: Option<u64>) -> Result<Vec<u8>, AllocError>
+    ensures { IfOk result (λ text. text.items ≡ spec.print_member print) }
+{
+    let Some(print) = print else {
+        return Vec::from_slice(alloc, b"}");
+    };
+    let mut text = Vec::from_slice(alloc, b", \"partialFingerprints\": {\"codeAndLine/v1\": \"")?;
+    text.extend_from_slice(Buffer::new().format(print).as_bytes())?;
+    text.extend_from_slice(b"\"}}")?;
     Ok(text)
 }

@@ -1,19 +1,22 @@
 //! What reporters keep: rows, a verdict, and the text of both.
-ghost use Rattle.std.specs.Prelude.{◌≡◌, ◌++◌, IfOk, OnOk, OnErr, take, drop, length, ◌≤◌, ◌<◌, ◌^◌};
+ghost use Rattle.std.specs.Prelude.{◌≡◌, ◌++◌, IfOk, OnOk, OnErr, take, drop, length, ◌≤◌};
 ghost use Rattle.jn_reporters.specs.Reports.{end_line};
 ghost use Rattle.jn_reporters.specs.Sheet.{nothing_lined, with_line, with_lines, with_verdict};
 
 use crate::lines::verdict_line;
+use crate::taken::{TakenRows, with_row};
+use crate::view::RowView;
 use jn_base::OutOfMemory;
-use jn_diag::{RowText, Verdict};
+use jn_diag::Verdict;
+use jn_outside::Told;
 use std::alloc::{AllocError, Global};
 use std::marker::Model;
 
-/// Rows and a verdict, with the lines made of the rows, and the verdict's line behind them.
+/// Rows and a verdict, with the lines made of the rows; the rows themselves only clauses read, and the verdict's line behind them.
 #[derive(Drop)]
 pub struct Sheet {
     alloc: Global,
-    rows: Vec<RowText>,
+    rows: TakenRows,
     verdict: Option<Verdict>,
     /// The lines and behind them the verdict's line.
     text: Vec<u8>,
@@ -39,7 +42,7 @@ impl Sheet {
     {
         Sheet {
             alloc,
-            rows: Vec::new(alloc),
+            rows: Told::none(),
             verdict: None,
             text: Vec::new(alloc),
             lines: 0,
@@ -58,33 +61,23 @@ impl Sheet {
     }
 
     /// Takes the row, with its line behind the lines. On want of memory the sheet is as before.
-    pub fn take(&mut self, row: &RowText, line: &[u8]) -> Result<(), OutOfMemory>
+    pub fn take(&mut self, row: &RowView<'_>, line: &[u8]) -> Result<(), OutOfMemory>
         ensures ok { OnOk result (self.new ≡ with_line self.old row.now line.now) }
         ensures err { OnErr result (self.new ≡ self.old) }
     {
-        let row = row.copy(self.alloc)?;
-        if self.rows.push(row).is_err() {
-            return Err(OutOfMemory);
-        }
-        if put_in(self.alloc, &mut self.text, self.lines, line).is_err() {
-            self.rows.pop();
-            return Err(OutOfMemory);
-        }
+        put_in(self.alloc, &mut self.text, self.lines, line)?;
+        self.rows = with_row(&self.rows, row);
         self.lines += line.len();
         Ok(())
     }
 
     /// Takes the row, with these lines in place of the earlier ones. On want of memory the sheet is as before.
-    pub fn take_anew(&mut self, row: &RowText, lines: &[u8]) -> Result<(), OutOfMemory>
+    pub fn take_anew(&mut self, row: &RowView<'_>, lines: &[u8]) -> Result<(), OutOfMemory>
         ensures ok { OnOk result (self.new ≡ with_lines self.old row.now lines.now) }
         ensures err { OnErr result (self.new ≡ self.old) }
-        ensures bound { length self.new.rows < 2 ^ 63 }
     {
-        let row = row.copy(self.alloc)?;
         let text = joined(self.alloc, lines, &self.text[self.lines..])?;
-        if self.rows.push(row).is_err() {
-            return Err(OutOfMemory);
-        }
+        self.rows = with_row(&self.rows, row);
         self.lines = lines.len();
         self.text = text;
         Ok(())

@@ -1,5 +1,5 @@
 //! The summary.
-ghost use Rattle.std.specs.Prelude.{◌≡◌, ◌<◌, ◌+◌, ◌-◌, ◌^◌, length, slice_index, slice_set, IfOk};
+ghost use Rattle.std.specs.Prelude.{◌≡◌, ◌<◌, ◌+◌, length, slice_index, slice_set, IfOk};
 ghost use Rattle.jn_diag.specs.Order.{code_place};
 ghost use Rattle.jn_reporters.specs.Counts.{lines_of};
 ghost use Rattle.jn_reporters.specs.Reports.{count_line, summary_shown};
@@ -9,8 +9,9 @@ use crate::codes::{CODES, place};
 use crate::lines::counted;
 use crate::reporter::Reporter;
 use crate::sheet::Sheet;
+use crate::view::RowView;
 use jn_base::{Code, OutOfMemory};
-use jn_diag::{RowText, Verdict};
+use jn_diag::Verdict;
 use std::alloc::{AllocError, Global};
 use std::marker::Model;
 
@@ -23,7 +24,7 @@ pub struct Summary {
 }
 
 impl Model for Summary {
-    ghost use Rattle.std.specs.Prelude.{◌≡◌, ◌<◌, ◌^◌, length};
+    ghost use Rattle.std.specs.Prelude.{◌≡◌};
     ghost use Rattle.jn_reporters.specs.Counts.{Counts};
     ghost use Rattle.jn_reporters.specs.Reports.{summary_lines};
     ghost use Rattle.jn_reporters.specs.Sheet.{Taken, taken_of};
@@ -32,7 +33,7 @@ impl Model for Summary {
 
     ghost view = { λ a. taken_of a.sheet };
 
-    ghost invariant = { λ a. (a.sheet.lines ≡ summary_lines a.sheet.rows) × Counts a.sheet.rows a.counts × (length a.sheet.rows < 2 ^ 63) };
+    ghost invariant = { λ a. (a.sheet.lines ≡ summary_lines a.sheet.rows) × Counts a.sheet.rows a.counts };
 }
 
 impl Summary {
@@ -68,8 +69,8 @@ impl Reporter for Summary {
         false
     }
 
-    fn take(&mut self, row: &RowText) -> Result<(), OutOfMemory> {
-        let counts = one_more(&self.counts, row.code);
+    fn take(&mut self, row: &RowView<'_>) -> Result<(), OutOfMemory> {
+        let counts = one_more(&self.counts, row.row().code)?;
         let lines = count_lines(self.sheet.alloc(), &CODES, &counts)?;
         self.sheet.take_anew(row, &lines)?;
         self.counts = counts;
@@ -85,15 +86,18 @@ impl Reporter for Summary {
     }
 }
 
-fn one_more(counts: &[u64; 49], code: Code) -> [u64; 49]
-    requires { slice_index counts.now (code_place code) < 2 ^ 64 - 1 }
-    ensures more { result
-        ≡ slice_set counts.now (code_place code) (slice_index counts.now (code_place code) + 1) }
+/// The counts with one row more of this code. Where there are more rows than a number holds, no memory would hold them either.
+fn one_more(counts: &[u64; 49], code: Code) -> Result<[u64; 49], OutOfMemory>
+    ensures more { IfOk result (λ more. more
+        ≡ slice_set counts.now (code_place code) (slice_index counts.now (code_place code) + 1)) }
     ensures within { code_place code < length counts.now }
 {
+    let Some(count) = counts[place(code)].checked_add(1) else {
+        return Err(OutOfMemory);
+    };
     let mut more = *counts;
-    more[place(code)] += 1;
-    more
+    more[place(code)] = count;
+    Ok(more)
 }
 
 fn count_lines(alloc: Global, codes: &[Code], counts: &[u64; 49]) -> Result<Vec<u8>, AllocError>

@@ -1,7 +1,9 @@
 //! What each reporter writes: a row and a verdict, and then one row more; and names of files with bytes that are escaped.
-use jn_base::{Code, OutOfMemory, Text};
+use jn_base::{Code, FileNo, OutOfMemory, Span, Text};
 use jn_diag::{RowText, Verdict};
-use jn_reporters::{Checkstyle, Github, Plain, Reporter, Sarif, Summary, Tabbed};
+use jn_reporters::{
+    Checkstyle, Github, Long, Plain, Reporter, RowView, Sarif, Summary, Tabbed, excerpt_for,
+};
 use std::alloc::Global;
 use std::process::Abort;
 
@@ -13,12 +15,13 @@ fn take(
     code: Code,
 ) -> Result<(), OutOfMemory> {
     let name = Text::of_str(alloc, "V.java")?;
-    reporter.take(&RowText {
+    let row = RowText {
         name,
         line,
         col,
         code,
-    })
+    };
+    reporter.take(&RowView::new(row, None))
 }
 
 fn expect_bytes(rt: &impl Abort, reporter: &dyn Reporter, want: &str) {
@@ -74,12 +77,13 @@ fn take_rows(
 ) -> Result<(), OutOfMemory> {
     for row in rows {
         let name = Text::of_str(alloc, row.0)?;
-        reporter.take(&RowText {
+        let text = RowText {
             name,
             line: row.1,
             col: row.2,
             code: row.3,
-        })?;
+        };
+        reporter.take(&RowView::new(text, None))?;
     }
     reporter.finish(Verdict::Rejected(rows.len() as u64))
 }
@@ -154,5 +158,56 @@ fn sarif_has_a_rule_for_each_code_and_a_result_for_each_row(rt: HostRuntime) {
             ("V.java", 7, 5, Code::NewArray),
         ],
         "{\n  \"$schema\": \"https://json.schemastore.org/sarif-2.1.0.json\",\n  \"version\": \"2.1.0\",\n  \"runs\": [\n    {\n      \"tool\": {\n        \"driver\": {\n          \"name\": \"nullcheck\",\n          \"rules\": [\n            {\"id\": \"DEREF\", \"shortDescription\": {\"text\": \"this may be null when it is dereferenced\"}, \"fullDescription\": {\"text\": \"this may be null when it is dereferenced; cure: test it first, or mark what it comes from\"}, \"help\": {\"text\": \"test it first, or mark what it comes from\"}},\n            {\"id\": \"NEW-ARRAY\", \"shortDescription\": {\"text\": \"a new array holds nulls, and its elements are not @Nullable\"}, \"fullDescription\": {\"text\": \"a new array holds nulls, and its elements are not @Nullable; cure: list the elements in braces, or make an array of @Nullable elements\"}, \"help\": {\"text\": \"list the elements in braces, or make an array of @Nullable elements\"}}\n          ]\n        }\n      },\n      \"columnKind\": \"unicodeCodePoints\",\n      \"results\": [\n        {\"ruleId\": \"NEW-ARRAY\", \"level\": \"error\", \"message\": {\"text\": \"a new array holds nulls, and its elements are not @Nullable; cure: list the elements in braces, or make an array of @Nullable elements\"}, \"locations\": [{\"physicalLocation\": {\"artifactLocation\": {\"uri\": \"src/a%20b%25%C3%A9%22~.java\"}, \"region\": {\"startLine\": 3, \"startColumn\": 18}}}]},\n        {\"ruleId\": \"DEREF\", \"level\": \"error\", \"message\": {\"text\": \"this may be null when it is dereferenced; cure: test it first, or mark what it comes from\"}, \"locations\": [{\"physicalLocation\": {\"artifactLocation\": {\"uri\": \"V.java\"}, \"region\": {\"startLine\": 5, \"startColumn\": 5}}}]},\n        {\"ruleId\": \"NEW-ARRAY\", \"level\": \"error\", \"message\": {\"text\": \"a new array holds nulls, and its elements are not @Nullable; cure: list the elements in braces, or make an array of @Nullable elements\"}, \"locations\": [{\"physicalLocation\": {\"artifactLocation\": {\"uri\": \"V.java\"}, \"region\": {\"startLine\": 7, \"startColumn\": 5}}}]}\n      ]\n    }\n  ]\n}\n",
+    );
+}
+
+/// A row of these bytes of the text, at this line and column, shown by `long`.
+fn expect_long(
+    rt: &impl Abort,
+    alloc: Global,
+    text: &[u8],
+    place: (u32, u32),
+    bytes: (u32, u32),
+    want: &str,
+) {
+    let Ok(name) = Text::of_str(alloc, "V.java") else {
+        panic!(rt; "no memory");
+    };
+    let row = RowText {
+        name,
+        line: place.0,
+        col: place.1,
+        code: Code::S2,
+    };
+    let span = Span {
+        file: FileNo(0),
+        from: bytes.0,
+        to: bytes.1,
+    };
+    let mut long = Long::new(alloc);
+    let Ok(()) = long.take(&RowView::new(row, excerpt_for(Code::S2, text, &span))) else {
+        panic!(rt; "no memory");
+    };
+    assert_eq!(rt; long.bytes(), want.as_bytes());
+}
+
+#[test]
+fn long_shows_what_stands_around_a_row(rt: HostRuntime) {
+    let alloc = rt.alloc();
+    expect_long(
+        &rt,
+        alloc,
+        b"",
+        (1, 1),
+        (0, 0),
+        "error[S2]: more than 200 brackets are open here\n --> V.java:1:1\n  |\n1 | \n  | ^\n  = cure: split the expression or the block\n\n",
+    );
+    expect_long(
+        &rt,
+        alloc,
+        b"ab\r\nc\xffd",
+        (2, 4),
+        (9, 12),
+        "error[S2]: more than 200 brackets are open here\n --> V.java:2:4\n  |\n2 | c\u{fffd}d\n  |    ^\n  = cure: split the expression or the block\n\n",
     );
 }

@@ -5,7 +5,7 @@ use jn_base::OutOfMemory;
 use jn_cli::usage_reason;
 use jn_gate::Straight;
 use jn_outside::{HostFault, HostFiles, HostSink};
-use jn_reporters::{Checkstyle, Github, Plain, Reporter, Sarif, Summary, Tabbed};
+use jn_reporters::{Checkstyle, Github, Long, Plain, Reporter, Sarif, Summary, Tabbed};
 use nullcheck_top::{Status, nullcheck};
 use std::alloc::AllocError;
 use std::env;
@@ -85,6 +85,7 @@ fn done<R: Threads + Sync>(
     let alloc = rt.alloc();
     let mut reporters: Vec<Box<dyn Reporter>> = Vec::new(alloc);
     reporters.push(Box::new(alloc, Plain::new(alloc))?)?;
+    reporters.push(Box::new(alloc, Long::new(alloc))?)?;
     reporters.push(Box::new(alloc, Tabbed::new(alloc))?)?;
     reporters.push(Box::new(alloc, Summary::new(alloc))?)?;
     reporters.push(Box::new(alloc, Github::new(alloc))?)?;

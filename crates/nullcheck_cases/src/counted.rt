@@ -1,7 +1,7 @@
 //! A reporter that finds no memory at one of its calls, and counts them.
 use jn_base::OutOfMemory;
-use jn_diag::{RowText, Verdict};
-use jn_reporters::{Plain, Reporter};
+use jn_diag::Verdict;
+use jn_reporters::{Plain, Reporter, RowView};
 use std::alloc::{AllocError, Global};
 use std::sync::Arc;
 use std::sync::atomic::{AtomicU64, Ordering};
@@ -99,7 +99,7 @@ impl Reporter for Counted {
         self.plain.is_document()
     }
 
-    fn take(&mut self, row: &RowText) -> Result<(), OutOfMemory> {
+    fn take(&mut self, row: &RowView<'_>) -> Result<(), OutOfMemory> {
         if self.counts.call() == self.refused {
             return Err(OutOfMemory);
         }

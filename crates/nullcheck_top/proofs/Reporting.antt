@@ -31,6 +31,8 @@ use Rattle.jn_command.specs.declared.report.Report.{Report}
 use Rattle.jn_command.specs.declared.report.Report.TheVariants.{Refused, Checked}
 use Rattle.jn_command.specs.Reports.{rows_of}
 use Rattle.jn_command.specs.Stands.{StandsIn, StandIn}
+use Rattle.jn_reporters.specs.Excerpts.{is_limit}
+use Rattle.jn_reporters.proofs.Limits.{b1_is_limit, b2_is_limit, b3_is_limit}
 use Rattle.nullcheck_top.specs.declared.found.CheckedFiles.{CheckedFiles}
 use Rattle.nullcheck_top.specs.declared.found.Found.{Found}
 use Rattle.nullcheck_top.specs.Found.{IsFinding}
@@ -132,10 +134,10 @@ stand_whole : (reads : List SourceRead) (rows : List Row) → AllWhole reads →
 stand_whole reads [] whole = tt
 stand_whole reads (row ∷ rows) whole = (stands_whole reads row.span.file.0 row whole, stand_whole reads rows whole)
 
--- ---- rows of the limits stand at the first byte of their files
+-- ---- rows of the limits stand at the first byte of their files, and have their codes
 
 abbrev pub IsAtStart : Row → Type 0
-IsAtStart row = (k : ℕ) × (code : Code) × (row ≡ row_at k code)
+IsAtStart row = (k : ℕ) × (code : Code) × (is_limit code ≡ true) × (row ≡ row_at k code)
 
 abbrev pub AllAtStart : List Row → Type 0
 AllAtStart [] = Unit {0}
@@ -145,22 +147,22 @@ at_start_both : (xs ys : List Row) → AllAtStart xs → AllAtStart ys → AllAt
 at_start_both [] ys a b = b
 at_start_both (x ∷ xs) ys a b = (a.0, at_start_both xs ys a.1 b)
 
-some_at_start : (k : ℕ) (code : Code) (b : Bool) → AllAtStart (cond b (row_at k code ∷ []) [])
-some_at_start k code true = ((k, code, refl), tt)
-some_at_start k code false = tt
+some_at_start : (k : ℕ) (code : Code) (b : Bool) → is_limit code ≡ true → AllAtStart (cond b (row_at k code ∷ []) [])
+some_at_start k code true limit = ((k, code, limit, refl), tt)
+some_at_start k code false limit = tt
 
 sizes_at_start : (k before : ℕ) (sizes : List ℕ) → AllAtStart (size_rows k before sizes)
 sizes_at_start k before [] = tt
 sizes_at_start k before (size ∷ sizes) =
-    at_start_both (large_row k size) (passing_row k before size ++ size_rows (k + 1) (before + size) sizes) (some_at_start k B2 (nat_lt file_limit size))
-    (at_start_both (passing_row k before size) (size_rows (k + 1) (before + size) sizes) (some_at_start k B3 (nat_le before all_limit && nat_lt all_limit (before + size))) (sizes_at_start (k + 1) (before + size) sizes))
+    at_start_both (large_row k size) (passing_row k before size ++ size_rows (k + 1) (before + size) sizes) (some_at_start k B2 (nat_lt file_limit size) b2_is_limit)
+    (at_start_both (passing_row k before size) (size_rows (k + 1) (before + size) sizes) (some_at_start k B3 (nat_le before all_limit && nat_lt all_limit (before + size)) b3_is_limit) (sizes_at_start (k + 1) (before + size) sizes))
 
 one_or : (b : Bool) (xs ys : List Row) → AllAtStart xs → AllAtStart ys → AllAtStart (cond b xs ys)
 one_or true xs ys a b = a
 one_or false xs ys a b = b
 
 limits_at_start : (files : List SourceFile) → AllAtStart (limit_rows files)
-limits_at_start files = one_or (nat_lt most_files (length files)) (row_at most_files B1 ∷ []) (size_rows 0 0 (map counted files)) ((most_files, B1, refl), tt) (sizes_at_start 0 0 (map counted files))
+limits_at_start files = one_or (nat_lt most_files (length files)) (row_at most_files B1 ∷ []) (size_rows 0 0 (map counted files)) ((most_files, B1, b1_is_limit, refl), tt) (sizes_at_start 0 0 (map counted files))
 
 in_cases : (x y : Row) (xs : List Row) (k : ℕ) → k < length (x ∷ xs) → get_or (x ∷ xs) k y ≡ y → (x ≡ y) ⊎ Contains xs y
 in_cases x y xs zero below at = inl at
@@ -183,7 +185,7 @@ sorted_at_start files broken sorted are order =
 
 stands_at_start : (read : Option SourceRead) (row : Row) → IsAtStart row → StandsIn read row
 stands_at_start None row start = tt
-stands_at_start (Some read) row (k, code, is) = inr (ap (λ (r : Row). r.span.from) is)
+stands_at_start (Some read) row (k, code, limit, is) = inr (ap (λ (r : Row). r.span.from) is, ap (λ (r : Row). is_limit r.code) is ∙ limit)
 
 stand_at_start : (reads : List SourceRead) (rows : List Row) → AllAtStart rows → StandIn reads rows
 stand_at_start reads [] all = tt

@@ -2,7 +2,6 @@
 use Rattle.std.specs.Prelude.{ℕ, ◌≡◌, [], List, Option, Some, None}
 use Rattle.jn_base.specs.declared.infer.Infer.{Infer}
 use Rattle.jn_base.specs.declared.place.Row.{Row}
-use Rattle.jn_diag.specs.declared.shown.RowText.{RowText}
 use Rattle.jn_diag.specs.declared.shown.Verdict.{Verdict}
 use Rattle.jn_command.specs.declared.report.Report.{Report}
 use Rattle.jn_command.specs.declared.report.Report.TheVariants.{Refused, Checked}
@@ -12,6 +11,7 @@ use Rattle.jn_command.specs.Shown.{shown}
 use Rattle.jn_front.specs.declared.source.SourceFile.{SourceFile}
 use Rattle.jn_points.specs.declared.program.Program.{Program}
 use Rattle.jn_quals.specs.Qualifier.{Qualifier}
+use Rattle.jn_reporters.specs.declared.shown.ShownRow.{ShownRow}
 use Rattle.nullcheck_top.specs.declared.found.Found.{Found}
 use Rattle.nullcheck_top.specs.Report.{IsReport, TypedProgramOf}
 
@@ -25,7 +25,7 @@ pub record IsFinding (infer : Infer) (files : List SourceFile) (names : List (Li
   pub accepted : IsAtHand infer files names found.report found.accepted
 
 -- files that are refused, and their report shown so
-pub record IsRefusalOf (show : List RowText → Option Verdict → List ℕ) (infer : Infer) (files : List SourceFile) (status : Status) (bytes : List ℕ) : Type 0 where
+pub record IsRefusalOf (show : List ShownRow → Option Verdict → List ℕ) (infer : Infer) (files : List SourceFile) (status : Status) (bytes : List ℕ) : Type 0 where
   pub rows : List Row
   pub is : IsReport infer files (Refused rows)
   pub ends : status ≡ RefusedStatus

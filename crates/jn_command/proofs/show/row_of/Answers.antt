@@ -25,5 +25,5 @@ returns-then-file-reads-clause-is c =
     let text = ap (λ n. bytes_of (slice_get c.args.reads.now n)) file ∙ bytes_there c.args.reads.now c.args.row.now.span.file.0 c.index-reads-file.result c.if-file-reads.true c.index-reads-file.is in
     subst (λ bytes. IsPosition bytes c.row_in.new.position) (sym text) c.row_in.ensures.is
 
-pub returns-in_ok-of_str-clause-shown : goal.returns-in_ok-of_str-clause-shown
-returns-in_ok-of_str-clause-shown c = row_nowhere c.args.reads.now c.args.row.now c.in_ok-of_str.field-0 c.if-file-reads.false c.in_ok-of_str.ensures
+pub returns-else-file-reads-clause-shown : goal.returns-else-file-reads-clause-shown
+returns-else-file-reads-clause-shown c = row_nowhere c.args.reads.now c.args.row.now c.row_nowhere.result c.if-file-reads.false c.row_nowhere.ensures

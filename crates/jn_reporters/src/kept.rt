@@ -1,0 +1,45 @@
+//! What documents keep of rows.
+ghost use Rattle.std.specs.Prelude.{◌≡◌, ◌++◌, ◌∷◌, [], IfOk, OnOk, OnErr};
+ghost use Rattle.jn_reporters.specs.Sheet.{kept_of};
+
+use crate::fingerprint::print_for;
+use crate::view::RowView;
+use jn_base::{Code, OutOfMemory, Text};
+use std::alloc::Global;
+
+/// A row with the name of its file, and the line and the column, both from 1, of its first byte.
+#[derive(Drop)]
+pub struct KeptRow {
+    pub name: Text,
+    pub line: u32,
+    pub col: u32,
+    pub code: Code,
+    /// The fingerprint of the code and of what is shown of the row's line; none where no line is shown.
+    pub fingerprint: Option<u64>,
+}
+
+fn kept_of(alloc: Global, row: &RowView<'_>) -> Result<KeptRow, OutOfMemory>
+    ensures { IfOk result (λ kept. kept ≡ kept_of row.now) }
+{
+    let fingerprint = print_for(row);
+    let text = row.row();
+    Ok(KeptRow {
+        name: text.name.copy(alloc)?,
+        line: text.line,
+        col: text.col,
+        code: text.code,
+        fingerprint,
+    })
+}
+
+/// Keeps the row behind the others. On want of memory the rows are as before.
+pub fn keep(alloc: Global, rows: &mut Vec<KeptRow>, row: &RowView<'_>) -> Result<(), OutOfMemory>
+    ensures ok { OnOk result (rows.new.items ≡ rows.old.items ++ kept_of row.now ∷ []) }
+    ensures err { OnErr result (rows.new.items ≡ rows.old.items) }
+{
+    let row = kept_of(alloc, row)?;
+    if rows.push(row).is_err() {
+        return Err(OutOfMemory);
+    }
+    Ok(())
+}

@@ -1,0 +1,238 @@
+//! The report with the lines of the files.
+ghost use Rattle.std.specs.Prelude.{◌≡◌, ◌++◌, Some, IfOk, OnOk};
+ghost use Rattle.std.specs.Option.{option_map};
+ghost use Rattle.jn_reporters.specs.Excerpts.{extract_of};
+ghost use Rattle.jn_reporters.specs.Longs as spec;
+ghost use Rattle.jn_reporters.specs.Sheet.{nothing_taken};
+
+use crate::excerpt::Excerpt;
+use crate::look::{Look, put_looked};
+use crate::reporter::Reporter;
+use crate::sheet::Sheet;
+use crate::view::RowView;
+use itoa::{Buffer, Integer};
+use jn_base::OutOfMemory;
+use jn_diag::{RowText, Verdict};
+use std::alloc::{AllocError, Global};
+use std::marker::Model;
+
+/// Shows for each row its message, its place, the line on which it begins with a mark below, and its cure, and then the verdict.
+#[derive(Drop)]
+pub struct Long {
+    sheet: Sheet,
+}
+
+impl Model for Long {
+    ghost use Rattle.std.specs.Prelude.{◌≡◌};
+    ghost use Rattle.std.specs.List.{flat_map};
+    ghost use Rattle.jn_reporters.specs.Longs.{long_row};
+    ghost use Rattle.jn_reporters.specs.Sheet.{Taken, taken_of};
+
+    ghost Value = { Taken };
+
+    ghost view = { λ a. taken_of a.sheet };
+
+    ghost invariant = { λ a. a.sheet.lines ≡ flat_map long_row a.sheet.rows };
+}
+
+impl Long {
+    pub fn new(alloc: Global) -> Self
+        ensures { result ≡ nothing_taken }
+    {
+        Long {
+            sheet: Sheet::new(alloc),
+        }
+    }
+}
+
+impl Reporter for Long {
+    ghost use Rattle.std.specs.Prelude.{codes, false};
+    ghost use Rattle.jn_reporters.specs.Longs.{long_shown};
+
+    ghost rows = { λ a. a.rows };
+
+    ghost given = { λ a. a.verdict };
+
+    ghost title = { λ a. codes "long" };
+
+    ghost document = { λ a. false };
+
+    ghost shown = { λ a. long_shown };
+
+    fn name(&self) -> &str {
+        "long"
+    }
+
+    fn is_document(&self) -> bool {
+        false
+    }
+
+    fn take(&mut self, row: &RowView<'_>) -> Result<(), OutOfMemory> {
+        let text = long_row(self.sheet.alloc(), row)?;
+        self.sheet.take(row, &text)
+    }
+
+    fn finish(&mut self, verdict: Verdict) -> Result<(), OutOfMemory> {
+        self.sheet.finish(verdict)
+    }
+
+    fn bytes(&self) -> &[u8] {
+        self.sheet.text()
+    }
+}
+
+/// The lines of a row, and an empty one.
+fn long_row(alloc: Global, row: &RowView<'_>) -> Result<Vec<u8>, AllocError>
+    ensures { IfOk result (λ text. text.items ≡ spec.long_row row.now) }
+{
+    let mut text = head_line(alloc, row.row())?;
+    let place = place_line(alloc, row.row())?;
+    text.extend_from_slice(&place)?;
+    put_source(&mut text, alloc, row.row(), row.excerpt())?;
+    let cure = cure_line(alloc, row.row())?;
+    text.extend_from_slice(&cure)?;
+    text.extend_from_slice(b"\n")?;
+    Ok(text)
+}
+
+/// As many spaces as the number of the row's line has digits.
+fn margin(alloc: Global, row: &RowText) -> Result<Vec<u8>, AllocError>
+    ensures { IfOk result (λ text. text.items ≡ spec.margin row.now) }
+{
+    let mut text = Vec::new(alloc);
+    let mut buffer = Buffer::new();
+    put_looked(
+        &mut text,
+        alloc,
+        Look::Blank,
+        buffer.format(row.line).as_bytes(),
+    )?;
+    Ok(text)
+}
+
+/// `error[CODE]: MESSAGE` and a line feed.
+fn head_line(alloc: Global, row: &RowText) -> Result<Vec<u8>, AllocError>
+    ensures { IfOk result (λ text. text.items ≡ spec.head_line row.now) }
+{
+    let mut text = Vec::from_slice(alloc, b"error[")?;
+    text.extend_from_slice(row.code.name().as_bytes())?;
+    text.extend_from_slice(b"]: ")?;
+    text.extend_from_slice(row.code.message().as_bytes())?;
+    text.extend_from_slice(b"\n")?;
+    Ok(text)
+}
+
+/// `--> FILE:LINE:COL` and a line feed.
+fn place_line(alloc: Global, row: &RowText) -> Result<Vec<u8>, AllocError>
+    ensures { IfOk result (λ text. text.items ≡ spec.place_line row.now) }
+{
+    let mut text = margin(alloc, row)?;
+    text.extend_from_slice(b"--> ")?;
+    text.extend_from_slice(row.name.as_str().as_bytes())?;
+    text.extend_from_slice(b":")?;
+    text.extend_from_slice(Buffer::new().format(row.line).as_bytes())?;
+    text.extend_from_slice(b":")?;
+    text.extend_from_slice(Buffer::new().format(row.col).as_bytes())?;
+    text.extend_from_slice(b"\n")?;
+    Ok(text)
+}
+
+/// `= cure: CURE` and a line feed.
+fn cure_line(alloc: Global, row: &RowText) -> Result<Vec<u8>, AllocError>
+    ensures { IfOk result (λ text. text.items ≡ spec.cure_line row.now) }
+{
+    let mut text = margin(alloc, row)?;
+    text.extend_from_slice(b" = cure: ")?;
+    text.extend_from_slice(row.code.cure().as_bytes())?;
+    text.extend_from_slice(b"\n")?;
+    Ok(text)
+}
+
+/// Puts the line on which the row begins, and its mark; nothing where no line is shown.
+fn put_source(
+    out: &mut Vec<u8>,
+    alloc: Global,
+    row: &RowText,
+    excerpt: Option<Excerpt<'_>>,
+) -> Result<(), AllocError>
+    ensures { OnOk result (out.new.items
+        ≡ out.old.items ++ spec.source_lines row.now (option_map extract_of excerpt.entry)) }
+{
+    match excerpt {
+        None => Ok(()),
+        Some(excerpt) => {
+            let lines = source_lines(alloc, row, &excerpt)?;
+            out.extend_from_slice(&lines)
+        }
+    }
+}
+
+fn source_lines(alloc: Global, row: &RowText, excerpt: &Excerpt<'_>) -> Result<Vec<u8>, AllocError>
+    ensures { IfOk result
+        (λ text. text.items ≡ spec.source_lines row.now (Some (extract_of excerpt.now))) }
+{
+    let mut text = margin(alloc, row)?;
+    text.extend_from_slice(b" |\n")?;
+    let line = text_line(alloc, row, excerpt)?;
+    text.extend_from_slice(&line)?;
+    let mark = mark_line(alloc, row, excerpt)?;
+    text.extend_from_slice(&mark)?;
+    Ok(text)
+}
+
+fn cut_before(excerpt: &Excerpt<'_>) -> &'static str
+    ensures { result.now ≡ spec.cut_before (extract_of excerpt.now) }
+{
+    if excerpt.begins { "" } else { ".. " }
+}
+
+fn cut_behind(excerpt: &Excerpt<'_>) -> &'static str
+    ensures { result.now ≡ spec.cut_behind (extract_of excerpt.now) }
+{
+    if excerpt.ends { "" } else { " .." }
+}
+
+/// The line's number, and what is shown of it.
+fn text_line(alloc: Global, row: &RowText, excerpt: &Excerpt<'_>) -> Result<Vec<u8>, AllocError>
+    ensures { IfOk result
+        (λ text. text.items ≡ spec.text_line row.now (extract_of excerpt.now)) }
+{
+    let mut text = Vec::from_slice(alloc, Buffer::new().format(row.line).as_bytes())?;
+    text.extend_from_slice(b" | ")?;
+    text.extend_from_slice(cut_before(excerpt).as_bytes())?;
+    put_looked(&mut text, alloc, Look::Itself, excerpt.before)?;
+    put_looked(&mut text, alloc, Look::Itself, excerpt.marked)?;
+    put_looked(&mut text, alloc, Look::Itself, excerpt.behind)?;
+    text.extend_from_slice(cut_behind(excerpt).as_bytes())?;
+    text.extend_from_slice(b"\n")?;
+    Ok(text)
+}
+
+/// Marks below the row, or one where nothing of it stands on the line.
+fn put_marks(out: &mut Vec<u8>, alloc: Global, marked: &[u8]) -> Result<(), AllocError>
+    ensures { OnOk result (out.new.items ≡ out.old.items ++ spec.marks marked.now) }
+{
+    match marked {
+        [] => out.extend_from_slice(b"^"),
+        _ => put_looked(out, alloc, Look::Mark, marked),
+    }
+}
+
+/// The mark below the line.
+fn mark_line(alloc: Global, row: &RowText, excerpt: &Excerpt<'_>) -> Result<Vec<u8>, AllocError>
+    ensures { IfOk result
+        (λ text. text.items ≡ spec.mark_line row.now (extract_of excerpt.now)) }
+{
+    let mut text = margin(alloc, row)?;
+    text.extend_from_slice(b" | ")?;
+    put_looked(
+        &mut text,
+        alloc,
+        Look::Blank,
+        cut_before(excerpt).as_bytes(),
+    )?;
+    put_looked(&mut text, alloc, Look::Blank, excerpt.before)?;
+    put_marks(&mut text, alloc, excerpt.marked)?;
+    text.extend_from_slice(b"\n")?;
+    Ok(text)
+}

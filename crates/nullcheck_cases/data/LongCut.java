@@ -1,0 +1,3 @@
+class A {
+	void f() {
+		int	x = 1
