@@ -137,7 +137,6 @@ module _ (P : Program) (r : Regular P) (low : (b : ℕ) → locals P b < 2 ^ 32)
       by None e = omega arith
       by (Some x) e = (r.bodies b x e).few
 
-
   key_in : (b : ℕ) (k : Key) → IsIn k (fact_keys P b) → (ltb k.reg (locals P b) && ref_field P k.field) ≡ true
   key_in b k m = (filtered (λ k. ltb k.reg (locals P b) && ref_field P k.field) (flat_map (λ pt. kind_keys pt.kind) (points_of (body_at P b))) k (distinct_in (filter (λ k. ltb k.reg (locals P b) && ref_field P k.field) (flat_map (λ pt. kind_keys pt.kind) (points_of (body_at P b)))) k m)).1
 
