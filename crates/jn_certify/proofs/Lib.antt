@@ -1,2 +1,4 @@
-pub mod Counting
 pub mod Types
+pub mod Empty
+pub mod Counted
+pub mod OneFound

@@ -69,3 +69,15 @@ module _ (infer : Infer) (trees : List PlacedFile) where
     IsFound (Refused rows) = ArePhaseRows rows
     IsFound (Faulty P fault) = IsFaultyFor P fault
     IsFound (Certified accepted) = IsCertifiedProgram accepted.0
+
+-- two findings say the same: the same rows, the same fault, or the same program that is certified
+abbrev pub IsSameFound : CertFound → CertFound → Type 0
+IsSameFound (Refused rows) (Refused others) = (row : Row) → Contains rows row ↔ Contains others row
+IsSameFound (Refused rows) (Faulty P fault) = ⊥
+IsSameFound (Refused rows) (Certified accepted) = ⊥
+IsSameFound (Faulty P fault) (Refused rows) = ⊥
+IsSameFound (Faulty P fault) (Faulty Q other) = fault ≡ other
+IsSameFound (Faulty P fault) (Certified accepted) = ⊥
+IsSameFound (Certified accepted) (Refused rows) = ⊥
+IsSameFound (Certified accepted) (Faulty P fault) = ⊥
+IsSameFound (Certified accepted) (Certified other) = accepted.0 ≡ other.0

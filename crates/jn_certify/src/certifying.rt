@@ -1,5 +1,5 @@
 //! From trees of files and a certificate to a certified program.
-ghost use Rattle.std.specs.Prelude.{◌≡◌, ◌≤◌, ◌<◌, ◌^◌, [], length, map, slice_get, IfOk};
+ghost use Rattle.std.specs.Prelude.{◌≡◌, ◌≤◌, ◌<◌, ◌^◌, [], length, map, IfOk};
 ghost use Rattle.jn_places.specs.PlacedView.{placed_file};
 ghost use Rattle.jn_heap.specs.Runs.{NeverNull};
 ghost use Rattle.jn_progress_law.specs.Progress.{NeverStuck};
@@ -7,12 +7,11 @@ ghost use Rattle.jn_classtable.specs.Extract.{heads};
 ghost use Rattle.jn_classtable.specs.Rows.{t_rows};
 ghost use Rattle.jn_classtable.specs.Inferred.{tabled};
 ghost use Rattle.jn_base.specs.declared.refusal.Fail.TheVariants.{Refused};
-ghost use Rattle.jn_points.specs.Lookup.{locals_of};
-ghost use Rattle.jn_cert_form.specs.Counted.{IsCounted};
 ghost use Rattle.jn_cert.specs.Checking.{IsWhyRefused};
 ghost use Rattle.jn_certify.specs.Certifying.{IsFound, IsProgramOf, IsTypedOf};
 
 use crate::found::CertFound;
+use crate::law::programs_of_trees_are_counted;
 use jn_accept::Accepted;
 use jn_base::{Fail, Infer, OutOfMemory, Seq};
 use jn_basecheck::base_check;
@@ -20,7 +19,6 @@ use jn_cert::law::refused_certificates_do_not_hold;
 use jn_cert::{CertFault, check_cert};
 use jn_classtable::{ClassTable, build};
 use jn_index::indexed::IndexedProgram;
-use jn_points::Body;
 use jn_program::lowering::lower;
 use jn_trees::FileTree;
 use jn_typed::BaseTyped;
@@ -33,25 +31,6 @@ fn is_safe(accepted: &Accepted)
     ensures never_stuck { NeverStuck accepted.now.0 }
 {
     let _program = accepted.program();
-}
-
-fn locals_at(bodies: &[Body], body: usize) -> u32
-    ensures { result ≡ locals_of (slice_get bodies.now body) }
-{
-    match bodies.get(body) {
-        None => 0,
-        Some(body) => body.locals,
-    }
-}
-
-/// The numbers of locals are of 32 bits, and so are those of the keys along which a certificate's facts run.
-fn is_counted(base: &BaseTyped)
-    ensures { IsCounted base.now }
-{
-    let bodies = base.program().bodies.as_slice();
-    for body in 0..bodies.len() {
-        let _locals = locals_at(bodies, body);
-    }
 }
 
 /// The answer where a certificate doesn't hold.
@@ -69,8 +48,8 @@ fn faulty(
     let _infer = infer;
     let _trees = trees;
     let _cert = cert;
+    programs_of_trees_are_counted();
     refused_certificates_do_not_hold();
-    is_counted(&base);
     CertFound::Faulty(base, fault)
 }
 
