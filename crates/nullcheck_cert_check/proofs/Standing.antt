@@ -1,5 +1,5 @@
 -- Files that were read, and rows at the places where they stand.
-use Rattle.std.proofs.Common.{◌≡◌, ◌↔◌, ℕ, zero, suc, ◌+◌, ◌<◌, ◌≤◌, Bool, true, false, List, [], ◌∷◌, ◌++◌, length, map, get_or, Option, Some, None, inl, inr, ⊎_elim, refl, sym, ap, ◌∙◌, subst, arith}
+use Rattle.std.proofs.Common.{◌≡◌, ℕ, zero, suc, ◌+◌, ◌<◌, ◌≤◌, Bool, true, false, List, [], ◌∷◌, ◌++◌, length, map, get_or, Option, Some, None, inl, inr, ⊎_elim, refl, sym, ap, ◌∙◌, subst, arith}
 use Rattle.std.specs.Prelude.{◌⊎◌, ◌&&◌, cond, nat_lt, nat_le, Contains, slice_get, string_bytes}
 use Rattle.std.specs.List.Sorted.{IsStrictlySortedBy}
 use Rattle.std.proofs.Math.Nat.{min-eq_right}
@@ -12,7 +12,7 @@ use Rattle.jn_base.specs.declared.code.Code.TheVariants.{B1, B2, B3}
 use Rattle.jn_diag.specs.Order.{IsOrderOf, row_cmp}
 use Rattle.jn_front.specs.declared.source.SourceFile.{SourceFile}
 use Rattle.jn_front.specs.declared.source.SourceRead.{SourceRead}
-use Rattle.jn_front.specs.Files.{files_of_reads, AllWhole, AreReads, IsReadOf, ReadFrom, names_of, most_files, file_limit}
+use Rattle.jn_front.specs.Files.{files_of_reads, AllWhole, AreReads, IsReadOf, names_of, most_files, file_limit}
 use Rattle.jn_front.specs.Counted.{ReadsFit}
 use Rattle.jn_front.specs.Limits.{row_at, counted, large_row, passing_row, size_rows, limit_rows, all_limit}
 use Rattle.jn_command.specs.Stands.{StandsIn, StandIn}

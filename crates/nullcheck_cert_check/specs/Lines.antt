@@ -1,5 +1,5 @@
 -- The bytes that tell a verdict, by the certificate's name and the files.
-use Rattle.std.specs.Prelude.{ℕ, ◌++◌, Bool, true, false, ◌||◌, eqb, ltb, List, [], ◌∷◌, Option, Some, None, cond, codes, decimal, slice_get}
+use Rattle.std.specs.Prelude.{ℕ, ◌++◌, Bool, false, ◌||◌, eqb, ltb, List, [], ◌∷◌, Option, Some, None, cond, codes, decimal, slice_get}
 use Rattle.jn_base.specs.declared.number.SlotNo.{SlotNo}
 use Rattle.jn_base.specs.declared.place.Span.{Span}
 use Rattle.jn_base.specs.Place.{place_in}
