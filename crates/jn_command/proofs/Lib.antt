@@ -2,3 +2,4 @@ pub mod Asking
 pub mod Boxing
 pub mod Choosing
 pub mod Showing
+pub mod Standing

@@ -1,8 +1,6 @@
 -- What is written answers the words.
-use Rattle.std.proofs.Common.{◌≡◌, ℕ, ◌<◌, ◌≤◌, inl, inr, List, [], ◌∷◌, ◌++◌, length, map, Option, Some, None, Result, Ok as Made, Err, refl, sym, ap, ◌∙◌, subst, arith}
-use Rattle.std.specs.Prelude.{◌⊎◌, IfOk, string_bytes}
-use Rattle.std.specs.declared.string.String.{String}
-use Rattle.std.specs.declared.alloc.Global.{Global}
+use Rattle.std.proofs.Common.{◌≡◌, ℕ, ◌<◌, inl, inr, List, [], ◌∷◌, length, Option, Some, None, Result, Ok as Made, Err, refl, sym, ap, ◌∙◌, subst, arith}
+use Rattle.std.specs.Prelude.{IfOk}
 use Rattle.jn_base.specs.declared.infer.Infer.{Infer}
 use Rattle.jn_base.specs.declared.refusal.OutOfMemory.{OutOfMemory as NoMemory}
 use Rattle.jn_outside.specs.Causes.{Rose}
@@ -27,6 +25,53 @@ use Rattle.nullcheck_cert_check.specs.Lines.{status_of, verdict_text}
 use Rattle.nullcheck_cert_check.specs.Told.{IsRefusalOf}
 use Rattle.nullcheck_cert_check.specs.Verdicts.{HasNoCertificate, IsCertifiedBy, IsVerdict}
 use Rattle.nullcheck_cert_check.specs.Words.{Command, command, usage_line}
+
+-- ---- statuses that differ, each over nothing else
+
+ok_refused : Ok ≡ RefusedStatus → ⊥
+ok_refused e = cc
+
+ok_rejected : Ok ≡ Rejected → ⊥
+ok_rejected e = cc
+
+ok_usage_status : Ok ≡ Usage → ⊥
+ok_usage_status e = cc
+
+rejected_refused : Rejected ≡ RefusedStatus → ⊥
+rejected_refused e = cc
+
+rejected_ok : Rejected ≡ Ok → ⊥
+rejected_ok e = cc
+
+rejected_usage_status : Rejected ≡ Usage → ⊥
+rejected_usage_status e = cc
+
+fault_refused : RunFault ≡ RefusedStatus → ⊥
+fault_refused e = cc
+
+fault_rejected : RunFault ≡ Rejected → ⊥
+fault_rejected e = cc
+
+fault_ok : RunFault ≡ Ok → ⊥
+fault_ok e = cc
+
+fault_usage_status : RunFault ≡ Usage → ⊥
+fault_usage_status e = cc
+
+stopped_refused : Stopped ≡ RefusedStatus → ⊥
+stopped_refused e = cc
+
+stopped_rejected : Stopped ≡ Rejected → ⊥
+stopped_rejected e = cc
+
+stopped_ok : Stopped ≡ Ok → ⊥
+stopped_ok e = cc
+
+stopped_usage_status : Stopped ≡ Usage → ⊥
+stopped_usage_status e = cc
+
+memory_write_fault : OutOfMemory ≡ WriteFault → ⊥
+memory_write_fault e = cc
 
 -- statuses behind which something was written whole
 abbrev pub Written : Status → Type 0
@@ -94,7 +139,7 @@ verdict_made verdict (Err e) ends = tt
 pub no_fault : (old new : Option (List ℕ)) (before now : ℕ) (result : Status) (made : Result Output NoMemory) → IfMade made (λ status bytes. Written status) (Unit {0}) → Ends old new before now result made → result ≡ WriteFault → Rose before now
 no_fault old new before now result (Made r) w (inl p) e = absurd (subst Written (sym p.0 ∙ e) w)
 no_fault old new before now result (Made r) w (inr p) e = p.2
-no_fault old new before now result (Err e1) w f e = absurd (let x : OutOfMemory ≡ WriteFault = sym f.0 ∙ e in cc)
+no_fault old new before now result (Err e1) w f e = absurd (memory_write_fault (sym f.0 ∙ e))
 
 pub always_fault : (old new : Option (List ℕ)) (before now : ℕ) (result : Status) (made : Result Output NoMemory) → Ends old new before now result made → before < now → result ≡ WriteFault
 always_fault old new before now result (Made r) (inl p) lt = absurd (omega (arith, lt, p.2))
@@ -199,9 +244,9 @@ module _ (read : Reading) where
 
   -- status 0 has a verdict that certifies
   certified_by : (infer : Infer) (cert : List ℕ) (files : List SourceFile) (v : CertVerdict) → Ok ≡ status_of v → IsVerdict infer files cert v → (P : Program) × IsCertifiedBy infer files cert P
-  certified_by infer cert files (Refused rows) e is = cc
-  certified_by infer cert files TooLarge e is = cc
-  certified_by infer cert files (Faulty P fault) e is = cc
+  certified_by infer cert files (Refused rows) e is = absurd (ok_refused e)
+  certified_by infer cert files TooLarge e is = absurd (ok_rejected e)
+  certified_by infer cert files (Faulty P fault) e is = absurd (ok_rejected e)
   certified_by infer cert files (CertifiedVerdict accepted) e is = (accepted.0, is)
 
   certified_told : (c : Command) (bytes : List ℕ) → IsOutputOf read c Ok bytes → Certified read (Some c)
@@ -211,15 +256,15 @@ module _ (read : Reading) where
   certified asked old new result w e = by asked (subst (λ r. Answer read asked old new r) e w)
     where
       by : (asked : Option Command) → Answer read asked old new Ok → Certified read asked
-      by None w = absurd (let x : Ok ≡ Usage = w.1.0 in cc)
+      by None w = absurd (ok_usage_status w.1.0)
       by (Some c) w = certified_told c w.0 w.1
 
   -- status 1 has one by which there is no certificate
   uncertified_by : (infer : Infer) (cert : List ℕ) (files : List SourceFile) (v : CertVerdict) → Rejected ≡ status_of v → IsVerdict infer files cert v → HasNoCertificate infer files cert
-  uncertified_by infer cert files (Refused rows) e is = cc
+  uncertified_by infer cert files (Refused rows) e is = absurd (rejected_refused e)
   uncertified_by infer cert files TooLarge e is = record { P = is.P; of_files = is.of_files; never = λ held. (let small = held.small in let large = is.large in omega (arith, small, large)) }
   uncertified_by infer cert files (Faulty P fault) e is = record { P = P; of_files = is.of_files; never = λ held. is.never held.holds }
-  uncertified_by infer cert files (CertifiedVerdict accepted) e is = cc
+  uncertified_by infer cert files (CertifiedVerdict accepted) e is = absurd (rejected_ok e)
 
   uncertified_told : (c : Command) (bytes : List ℕ) → IsOutputOf read c Rejected bytes → Uncertified read (Some c)
   uncertified_told c bytes o = record { cert = o.cert; files = o.files; are = o.are; none = uncertified_by c.infer o.cert o.files o.told.verdict o.told.ends o.told.is }
@@ -228,26 +273,26 @@ module _ (read : Reading) where
   uncertified asked old new result w e = by asked (subst (λ r. Answer read asked old new r) e w)
     where
       by : (asked : Option Command) → Answer read asked old new Rejected → Uncertified read asked
-      by None w = absurd (let x : Rejected ≡ Usage = w.1.0 in cc)
+      by None w = absurd (rejected_usage_status w.1.0)
       by (Some c) w = uncertified_told c w.0 w.1
 
   -- no verdict has the status of a run
   no_run : (v : CertVerdict) → (RunFault ≡ status_of v → ⊥) × (Stopped ≡ status_of v → ⊥)
-  no_run (Refused rows) = (λ e. cc, λ e. cc)
-  no_run TooLarge = (λ e. cc, λ e. cc)
-  no_run (Faulty P fault) = (λ e. cc, λ e. cc)
-  no_run (CertifiedVerdict accepted) = (λ e. cc, λ e. cc)
+  no_run (Refused rows) = (fault_refused, stopped_refused)
+  no_run TooLarge = (fault_rejected, stopped_rejected)
+  no_run (Faulty P fault) = (fault_rejected, stopped_rejected)
+  no_run (CertifiedVerdict accepted) = (fault_ok, stopped_ok)
 
   pub never_fault : (asked : Option Command) (old new : Option (List ℕ)) (result : Status) → Answer read asked old new result → result ≡ RunFault → ⊥
   never_fault asked old new result w e = by asked (subst (λ r. Answer read asked old new r) e w)
     where
       by : (asked : Option Command) → Answer read asked old new RunFault → ⊥
-      by None w = let x : RunFault ≡ Usage = w.1.0 in cc
+      by None w = fault_usage_status w.1.0
       by (Some c) w = (no_run w.1.told.verdict).0 w.1.told.ends
 
   pub never_stops : (asked : Option Command) (old new : Option (List ℕ)) (result : Status) → Answer read asked old new result → result ≡ Stopped → ⊥
   never_stops asked old new result w e = by asked (subst (λ r. Answer read asked old new r) e w)
     where
       by : (asked : Option Command) → Answer read asked old new Stopped → ⊥
-      by None w = let x : Stopped ≡ Usage = w.1.0 in cc
+      by None w = stopped_usage_status w.1.0
       by (Some c) w = (no_run w.1.told.verdict).1 w.1.told.ends

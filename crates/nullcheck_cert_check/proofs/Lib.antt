@@ -1,4 +1,4 @@
 pub mod Readings
-pub mod Standing
+pub mod Fitting
 pub mod Refusing
 pub mod Answering

@@ -1,5 +1,5 @@
 -- What the reads of a certificate and of files gave.
-use Rattle.std.proofs.Common.{◌≡◌, ℕ, zero, suc, ◌+◌, ◌≤◌, ◌<◌, Bool, true, false, List, [], ◌∷◌, ◌++◌, length, map, take, Option, Some, None, Result, Ok, Err, inl, inr, refl, sym, ap, ◌∙◌, subst, arith, append_assoc, append-nil}
+use Rattle.std.proofs.Common.{◌≡◌, ℕ, ◌+◌, ◌≤◌, ◌<◌, Bool, true, false, List, [], ◌∷◌, ◌++◌, length, map, take, Option, Some, None, Err, inl, inr, refl, sym, ap, ◌∙◌, subst, arith, append_assoc, append-nil}
 use Rattle.std.proofs.lemmas.List.{take_all, length-take}
 use Rattle.jn_base.specs.declared.refusal.Fail.{Fail}
 use Rattle.jn_base.specs.declared.refusal.Fail.TheVariants.{Refused, OutOfMemory}
@@ -7,7 +7,6 @@ use Rattle.jn_outside.specs.declared.files.Failed.{Failed}
 use Rattle.jn_outside.specs.declared.given.Given.{Given}
 use Rattle.jn_outside.specs.Files.{Holding, Gives}
 use Rattle.jn_outside.specs.Gave.{given, Begins, BeginsWith, GivesLittle, GivesTooMany}
-use Rattle.jn_front.specs.declared.source.SourceFile.{SourceFile}
 use Rattle.jn_front.specs.declared.source.SourceRead.{SourceRead}
 use Rattle.jn_front.specs.Files.{AreHeld, CannotRead, ReadFrom, StartsOnly, given_of}
 use Rattle.nullcheck_cert_check.specs.declared.certificate.CertRead.{CertRead}

@@ -1,5 +1,5 @@
 -- What is found of files that were read, and of a certificate.
-use Rattle.std.proofs.Common.{◌≡◌, ℕ, ◌<◌, ◌≤◌, true, false, List, [], ◌∷◌, length, map, Result, Ok, Err, inl, inr, refl, sym, ap, ◌∙◌, subst, arith}
+use Rattle.std.proofs.Common.{◌≡◌, ℕ, ◌<◌, true, false, List, [], ◌∷◌, length, Result, Ok, Err, inl, inr, sym, ap, ◌∙◌, subst}
 use Rattle.std.specs.Prelude.{◌⊎◌, IfOk}
 use Rattle.jn_base.specs.declared.code.Code.TheVariants.{B1}
 use Rattle.jn_base.specs.declared.infer.Infer.{Infer}
@@ -8,25 +8,22 @@ use Rattle.jn_base.specs.declared.place.Row.{Row}
 use Rattle.jn_trees.specs.declared.token.Token.{Token}
 use Rattle.jn_places.specs.Placed.{PlacedFile}
 use Rattle.jn_points.specs.declared.program.Program.{Program}
-use Rattle.jn_quals.specs.Qualifier.{Qualifier}
 use Rattle.jn_diag.specs.Order.{IsOrderOf}
 use Rattle.jn_cert_law.specs.Certificate.{CertHolds}
 use Rattle.jn_cert_judge.specs.declared.fault.CertFault.{CertFault}
-use Rattle.jn_certify.specs.declared.found.CertFound.{CertFound}
-use Rattle.jn_certify.specs.declared.found.CertFound.TheVariants.{Refused as RefusedFound, Faulty as FaultyFound, Certified as CertifiedFound}
-use Rattle.jn_certify.specs.Certifying.{ArePhaseRows, IsCertifiedProgram, IsFaultyFor, IsFound}
+use Rattle.jn_certify.specs.Certifying.{ArePhaseRows, IsCertifiedProgram, IsFaultyFor}
 use Rattle.jn_front.specs.declared.source.SourceFile.{SourceFile}
 use Rattle.jn_front.specs.declared.source.SourceRead.{SourceRead}
 use Rattle.jn_front.specs.Files.{AreReads, files_of_reads, most_files}
 use Rattle.jn_front.specs.Limits.{limit_rows, row_at}
-use Rattle.jn_front.specs.Phases.{AreParsed, ArePlaced, AreTreesOf, FrontRows, TextRows}
+use Rattle.jn_front.specs.Phases.{AreParsed, AreTreesOf, FrontRows, TextRows}
 use Rattle.jn_command.specs.Stands.{StandIn}
 use Rattle.nullcheck_cert_check.specs.declared.certificate.CertRead.{CertRead}
 use Rattle.nullcheck_cert_check.specs.declared.verdict.CertVerdict.{CertVerdict}
-use Rattle.nullcheck_cert_check.specs.declared.verdict.CertVerdict.TheVariants.{Refused, TooLarge, Faulty, Certified}
-use Rattle.nullcheck_cert_check.specs.Inputs.{IsCertRead, cert_limit}
+use Rattle.nullcheck_cert_check.specs.declared.verdict.CertVerdict.TheVariants.{Refused}
+use Rattle.nullcheck_cert_check.specs.Inputs.{IsCertRead}
 use Rattle.nullcheck_cert_check.specs.Verdicts.{AreRefusal, AreTreeRows, HasProgram, IsCertifiedBy, IsFaultyBy, IsTooLarge, IsVerdict, refused_rows}
-use Rattle.nullcheck_cert_check.proofs.Standing.{Limited, all_stand, limited_stand, many_limit, one_ordered, within_limits}
+use Rattle.jn_command.proofs.Standing.{Limited, all_stand, limited_stand, many_limit, one_ordered, within_limits}
 
 never_both : (read : CertRead) → read.whole ≡ true → read.whole ≡ false → ⊥
 never_both read all part = clash (sym all ∙ part)
@@ -136,12 +133,12 @@ whole_stands reads limits (Err e) limited none some = tt
 
 -- ---- more files than there may be
 
+some_row : (row : Row) (rows : List Row) → row ∷ rows ≡ [] → ⊥
+some_row row rows e = cc
+
 pub many_refused : (infer : Infer) (files : List SourceFile) → most_files < length files → AreRefusal infer files (row_at most_files B1 ∷ [])
 many_refused infer files many = record {
   broken = row_at most_files B1 ∷ [];
-  phase = inl (inl (record { are = many_limit files many; some = no_rows }));
+  phase = inl (inl (record { are = many_limit files many; some = some_row (row_at most_files B1) [] }));
   order = one_ordered (row_at most_files B1);
 }
-  where
-    no_rows : row_at most_files B1 ∷ [] ≡ [] → ⊥
-    no_rows e = cc

@@ -1,5 +1,5 @@
 -- The bytes that tell a verdict, by the certificate's name and the files.
-use Rattle.std.specs.Prelude.{ℕ, ◌++◌, Bool, true, false, ◌||◌, eqb, ltb, List, [], ◌∷◌, Option, Some, None, cond, codes, decimal, slice_get}
+use Rattle.std.specs.Prelude.{ℕ, ◌++◌, Bool, false, ◌||◌, eqb, ltb, List, [], ◌∷◌, Option, Some, None, cond, codes, decimal, slice_get}
 use Rattle.jn_base.specs.declared.number.SlotNo.{SlotNo}
 use Rattle.jn_base.specs.declared.place.Span.{Span}
 use Rattle.jn_base.specs.Place.{place_in}
@@ -97,7 +97,7 @@ module _ (cert : List ℕ) (files : List SourceFile) where
   fault_line P (Slot n) = placed_line (codes ": slot") (slot_span P n.0)
   fault_line P (Entry b) = placed_line (codes ": entry") (body_span P b.0)
   fault_line P (Edge b p) = placed_line (codes ": edge") (point_span P b.0 p.0)
-  fault_line P (Broken row) = plain_line (row_of files row)
+  fault_line P (Broken row) = plain_line (row_of files row).text
   fault_line P (Open n) = placed_line (codes ": open") (slot_span P n.0)
 
   -- rows of files that are refused are shown by the plain reporter

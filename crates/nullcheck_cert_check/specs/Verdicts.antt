@@ -1,5 +1,5 @@
 -- What is found of a certificate and files: the rows of the first phase that has any, what fails of the certificate, or that it holds.
-use Rattle.std.specs.Prelude.{ℕ, ◌≤◌, ◌<◌, ◌≡◌, ◌⊎◌, List, [], length}
+use Rattle.std.specs.Prelude.{ℕ, ◌≤◌, ◌<◌, ◌⊎◌, List, [], length}
 use Rattle.jn_base.specs.declared.infer.Infer.{Infer}
 use Rattle.jn_base.specs.declared.place.Row.{Row}
 use Rattle.jn_trees.specs.declared.token.Token.{Token}

@@ -255,7 +255,7 @@ fn line_of(
 fn row_in_file(alloc: Global, file: &SourceFile, row: Row) -> Result<Vec<u8>, AllocError>
     requires fits { length file.now.bytes ≤ 1048576 }
     ensures { IfOk result
-        (λ line. line.items ≡ plain_line (row_of_file (Some file.now) row)) }
+        (λ line. line.items ≡ plain_line (row_of_file (Some file.now) row).text) }
 {
     let place = place_within(file.bytes.as_slice(), row.span);
     line_of(alloc, file.name.as_str(), place.line, place.col, row.code)
@@ -263,7 +263,7 @@ fn row_in_file(alloc: Global, file: &SourceFile, row: Row) -> Result<Vec<u8>, Al
 
 /// The line of a row of no file.
 fn row_of_none(alloc: Global, row: Row) -> Result<Vec<u8>, AllocError>
-    ensures { IfOk result (λ line. line.items ≡ plain_line (row_of_file None row)) }
+    ensures { IfOk result (λ line. line.items ≡ plain_line (row_of_file None row).text) }
 {
     line_of(alloc, "", 1, 1, row.code)
 }
@@ -272,7 +272,7 @@ fn row_of_none(alloc: Global, row: Row) -> Result<Vec<u8>, AllocError>
 fn row_line(alloc: Global, reads: &[SourceRead], row: Row) -> Result<Vec<u8>, AllocError>
     requires fit { ReadsFit reads.now }
     ensures { IfOk result
-        (λ line. line.items ≡ plain_line (row_of (files_of_reads reads.now) row)) }
+        (λ line. line.items ≡ plain_line (row_of (files_of_reads reads.now) row).text) }
 {
     let file = row.span.file.0 as usize;
     if file < reads.len() {

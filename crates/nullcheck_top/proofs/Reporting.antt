@@ -1,15 +1,11 @@
 -- Reports of files that were read.
-use Rattle.std.proofs.Common.{◌≡◌, ◌↔◌, ℕ, zero, suc, ◌+◌, ◌<◌, Bool, true, false, List, [], ◌∷◌, ◌++◌, length, map, get_or, Option, Some, None, Result, Ok, Err, inl, inr, ⊎_elim, refl, sym, ap, ◌∙◌, subst, arith}
-use Rattle.std.specs.Prelude.{◌⊎◌, ◌&&◌, cond, nat_lt, nat_le, Contains, IfOk, IfErr, slice_get}
+use Rattle.std.proofs.Common.{◌≡◌, ◌↔◌, ℕ, ◌<◌, List, [], ◌∷◌, length, None, Result, Ok, Err, inl, inr, refl, sym, ap, ◌∙◌, subst, arith}
+use Rattle.std.specs.Prelude.{Contains, IfOk, IfErr}
 use Rattle.std.specs.Result.{result_ok}
-use Rattle.std.specs.List.Sorted.{IsStrictlySortedBy}
-use Rattle.std.proofs.Math.Nat.{min-eq_right}
-use Rattle.std.proofs.lemmas.Bool.{lt-ltb}
 use Rattle.jn_base.specs.declared.infer.Infer.{Infer}
 use Rattle.jn_base.specs.declared.refusal.OutOfMemory.{OutOfMemory}
 use Rattle.jn_base.specs.declared.place.Row.{Row}
-use Rattle.jn_base.specs.declared.code.Code.{Code}
-use Rattle.jn_base.specs.declared.code.Code.TheVariants.{B1, B2, B3}
+use Rattle.jn_base.specs.declared.code.Code.TheVariants.{B1}
 use Rattle.jn_trees.specs.declared.token.Token.{Token}
 use Rattle.jn_places.specs.Placed.{PlacedFile}
 use Rattle.jn_points.specs.declared.program.Program.{Program}
@@ -21,18 +17,17 @@ use Rattle.jn_quals.specs.Qualifier.{Qualifier}
 use Rattle.jn_accept.specs.Accepting.{AreRowsOf}
 use Rattle.jn_inference_law.specs.Solution.{IsLeastSignature}
 use Rattle.jn_system.specs.Rows.{AreBroken}
-use Rattle.jn_diag.specs.Order.{IsOrderOf, row_cmp}
+use Rattle.jn_diag.specs.Order.{IsOrderOf}
 use Rattle.jn_front.specs.declared.source.SourceFile.{SourceFile}
 use Rattle.jn_front.specs.declared.source.SourceRead.{SourceRead}
-use Rattle.jn_front.specs.Files.{files_of_reads, AllWhole, AreReads, most_files, file_limit}
-use Rattle.jn_front.specs.Limits.{row_at, counted, large_row, passing_row, size_rows, limit_rows, all_limit}
+use Rattle.jn_front.specs.Files.{files_of_reads, AreReads, most_files}
+use Rattle.jn_front.specs.Limits.{row_at, limit_rows}
 use Rattle.jn_front.specs.Phases.{AreParsed, ArePlaced, FaultRows, SyntaxRows, LexedFrom, TextRows}
 use Rattle.jn_command.specs.declared.report.Report.{Report}
 use Rattle.jn_command.specs.declared.report.Report.TheVariants.{Refused, Checked}
 use Rattle.jn_command.specs.Reports.{rows_of}
-use Rattle.jn_command.specs.Stands.{StandsIn, StandIn}
-use Rattle.jn_reporters.specs.Excerpts.{is_limit}
-use Rattle.jn_reporters.proofs.Limits.{b1_is_limit, b2_is_limit, b3_is_limit}
+use Rattle.jn_command.specs.Stands.{StandIn}
+use Rattle.jn_command.proofs.Standing.{Limited, all_stand, limited_stand, many_limit, one_ordered, within_limits}
 use Rattle.nullcheck_top.specs.declared.found.CheckedFiles.{CheckedFiles}
 use Rattle.nullcheck_top.specs.declared.found.Found.{Found}
 use Rattle.nullcheck_top.specs.Found.{IsFinding}
@@ -70,138 +65,7 @@ module _ (infer : Infer) (files : List SourceFile) (names : List (List ℕ)) (P 
 pub rows_of_rules : (P : Program) (s : List Qualifier) (rows : List Row) → AreBroken P s rows → AreRowsOf P s rows
 rows_of_rules P s rows broken = record { broken = broken.all; breaks = broken.broken; each = λ row h. (broken.ordered.same row).0 h; all = λ row h. (broken.ordered.same row).1 h }
 
--- ---- where no limit is passed, what was read are the files
-
-front_none : (xs ys : List Row) → xs ++ ys ≡ [] → xs ≡ []
-front_none [] ys e = refl
-front_none (x ∷ xs) ys e = cc
-
-back_none : (xs ys : List Row) → xs ++ ys ≡ [] → ys ≡ []
-back_none [] ys e = e
-back_none (x ∷ xs) ys e = cc
-
-small_if : (b : Bool) (row : Row) → cond b (row ∷ []) [] ≡ [] → b ≡ false
-small_if true row e = cc
-small_if false row e = refl
-
-never_both : (b : Bool) → b ≡ true → b ≡ false → ⊥
-never_both true e f = cc
-never_both false e f = cc
-
-not_large : (k : ℕ) (file : SourceFile) → large_row k (counted file) ≡ [] → file_limit < length file.bytes → ⊥
-not_large k file none long =
-    let most : counted file ≡ file_limit + 1 = min-eq_right (omega (arith, long)) in
-    never_both (nat_lt file_limit (counted file)) (lt-ltb file_limit (counted file) (omega (arith, most))) (small_if (nat_lt file_limit (counted file)) (row_at k B2) none)
-
-whole_by_size : (k before : ℕ) (reads : List SourceRead) (files : List SourceFile) → AreReads reads files → size_rows k before (map counted files) ≡ [] → files_of_reads reads ≡ files
-whole_by_size k before [] [] are none = refl
-whole_by_size k before [] (file ∷ files) are none = absurd are
-whole_by_size k before (read ∷ reads) [] are none = absurd are
-whole_by_size k before (read ∷ reads) (file ∷ files) (inl w, are) none =
-    let rest = back_none (passing_row k before (counted file)) (size_rows (k + 1) (before + counted file) (map counted files)) (back_none (large_row k (counted file)) _ none) in
-    ap (λ f. f ∷ files_of_reads reads) w.1 ∙ ap (λ fs. file ∷ fs) (whole_by_size (k + 1) (before + counted file) reads files are rest)
-whole_by_size k before (read ∷ reads) (file ∷ files) (inr l, are) none =
-    absurd (not_large k file (front_none (large_row k (counted file)) _ none) l.2)
-
-none_of_sizes : (b : Bool) (row : Row) (rows : List Row) → cond b (row ∷ []) rows ≡ [] → rows ≡ []
-none_of_sizes true row rows e = cc
-none_of_sizes false row rows e = e
-
-pub whole_files : (reads : List SourceRead) (files : List SourceFile) → AreReads reads files → limit_rows files ≡ [] → files_of_reads reads ≡ files
-whole_files reads files are none =
-    whole_by_size 0 0 reads files are (none_of_sizes (nat_lt most_files (length files)) (row_at most_files B1) (size_rows 0 0 (map counted files)) none)
-
-all_whole_by_size : (k before : ℕ) (reads : List SourceRead) (files : List SourceFile) → AreReads reads files → size_rows k before (map counted files) ≡ [] → AllWhole reads
-all_whole_by_size k before [] [] are none = tt
-all_whole_by_size k before [] (file ∷ files) are none = absurd are
-all_whole_by_size k before (read ∷ reads) [] are none = absurd are
-all_whole_by_size k before (read ∷ reads) (file ∷ files) (inl w, are) none =
-    let rest = back_none (passing_row k before (counted file)) (size_rows (k + 1) (before + counted file) (map counted files)) (back_none (large_row k (counted file)) _ none) in
-    let same = ap (λ (f : SourceFile). length f.bytes) w.1 in
-    (w.0, omega (arith, same, w.2), all_whole_by_size (k + 1) (before + counted file) reads files are rest)
-all_whole_by_size k before (read ∷ reads) (file ∷ files) (inr l, are) none =
-    absurd (not_large k file (front_none (large_row k (counted file)) _ none) l.2)
-
-all_whole : (reads : List SourceRead) (files : List SourceFile) → AreReads reads files → limit_rows files ≡ [] → AllWhole reads
-all_whole reads files are none = all_whole_by_size 0 0 reads files are (none_of_sizes (nat_lt most_files (length files)) (row_at most_files B1) (size_rows 0 0 (map counted files)) none)
-
-stands_whole : (reads : List SourceRead) (k : ℕ) (row : Row) → AllWhole reads → StandsIn (slice_get reads k) row
-stands_whole [] k row whole = tt
-stands_whole (read ∷ reads) zero row whole = inl whole.0
-stands_whole (read ∷ reads) (suc k) row whole = stands_whole reads k row whole.2
-
-stand_whole : (reads : List SourceRead) (rows : List Row) → AllWhole reads → StandIn reads rows
-stand_whole reads [] whole = tt
-stand_whole reads (row ∷ rows) whole = (stands_whole reads row.span.file.0 row whole, stand_whole reads rows whole)
-
--- ---- rows of the limits stand at the first byte of their files, and have their codes
-
-abbrev pub IsAtStart : Row → Type 0
-IsAtStart row = (k : ℕ) × (code : Code) × (is_limit code ≡ true) × (row ≡ row_at k code)
-
-abbrev pub AllAtStart : List Row → Type 0
-AllAtStart [] = Unit {0}
-AllAtStart (row ∷ rows) = IsAtStart row × AllAtStart rows
-
-at_start_both : (xs ys : List Row) → AllAtStart xs → AllAtStart ys → AllAtStart (xs ++ ys)
-at_start_both [] ys a b = b
-at_start_both (x ∷ xs) ys a b = (a.0, at_start_both xs ys a.1 b)
-
-some_at_start : (k : ℕ) (code : Code) (b : Bool) → is_limit code ≡ true → AllAtStart (cond b (row_at k code ∷ []) [])
-some_at_start k code true limit = ((k, code, limit, refl), tt)
-some_at_start k code false limit = tt
-
-sizes_at_start : (k before : ℕ) (sizes : List ℕ) → AllAtStart (size_rows k before sizes)
-sizes_at_start k before [] = tt
-sizes_at_start k before (size ∷ sizes) =
-    at_start_both (large_row k size) (passing_row k before size ++ size_rows (k + 1) (before + size) sizes) (some_at_start k B2 (nat_lt file_limit size) b2_is_limit)
-    (at_start_both (passing_row k before size) (size_rows (k + 1) (before + size) sizes) (some_at_start k B3 (nat_le before all_limit && nat_lt all_limit (before + size)) b3_is_limit) (sizes_at_start (k + 1) (before + size) sizes))
-
-one_or : (b : Bool) (xs ys : List Row) → AllAtStart xs → AllAtStart ys → AllAtStart (cond b xs ys)
-one_or true xs ys a b = a
-one_or false xs ys a b = b
-
-limits_at_start : (files : List SourceFile) → AllAtStart (limit_rows files)
-limits_at_start files = one_or (nat_lt most_files (length files)) (row_at most_files B1 ∷ []) (size_rows 0 0 (map counted files)) ((most_files, B1, b1_is_limit, refl), tt) (sizes_at_start 0 0 (map counted files))
-
-in_cases : (x y : Row) (xs : List Row) (k : ℕ) → k < length (x ∷ xs) → get_or (x ∷ xs) k y ≡ y → (x ≡ y) ⊎ Contains xs y
-in_cases x y xs zero below at = inl at
-in_cases x y xs (suc k) below at = inr (k, omega arith, at)
-
-at_start_in : (rows : List Row) (row : Row) → AllAtStart rows → Contains rows row → IsAtStart row
-at_start_in [] row all h = let below = h.1 in absurd (omega arith)
-at_start_in (x ∷ xs) row all h = ⊎_elim (λ e. subst IsAtStart e all.0) (λ c. at_start_in xs row all.1 c) (in_cases x row xs h.0 h.1 h.2)
-
-in_more : (x y : Row) (xs : List Row) → Contains xs y → Contains (x ∷ xs) y
-in_more x y xs h = (suc h.0, (let below = h.1 in omega arith), h.2)
-
-each_at_start : (rows : List Row) → ((row : Row) → Contains rows row → IsAtStart row) → AllAtStart rows
-each_at_start [] each = tt
-each_at_start (x ∷ xs) each = (each x (0, omega arith, refl), each_at_start xs (λ row h. each row (in_more x row xs h)))
-
-pub sorted_at_start : (files : List SourceFile) (broken sorted : List Row) → broken ≡ limit_rows files → IsOrderOf broken sorted → AllAtStart sorted
-sorted_at_start files broken sorted are order =
-    each_at_start sorted (λ row h. at_start_in broken row (subst AllAtStart (sym are) (limits_at_start files)) ((order.same row).0 h))
-
-stands_at_start : (read : Option SourceRead) (row : Row) → IsAtStart row → StandsIn read row
-stands_at_start None row start = tt
-stands_at_start (Some read) row (k, code, limit, is) = inr (ap (λ (r : Row). r.span.from) is, ap (λ (r : Row). is_limit r.code) is ∙ limit)
-
-stand_at_start : (reads : List SourceRead) (rows : List Row) → AllAtStart rows → StandIn reads rows
-stand_at_start reads [] all = tt
-stand_at_start reads (row ∷ rows) all = (stands_at_start (slice_get reads row.span.file.0) row all.0, stand_at_start reads rows all.1)
-
 -- ---- the phases
-
--- the rows of the limits are there, whatever files were read so
-abbrev pub Limited : List SourceRead → List Row → Type 0
-Limited reads rows = (files : List SourceFile) → AreReads reads files → rows ≡ limit_rows files
-
--- no limit is passed
-within_limits : (reads : List SourceRead) (limits : List Row) → Limited reads limits → limits ≡ [] → (files : List SourceFile) → AreReads reads files → (files_of_reads reads ≡ files) × (limit_rows files ≡ [])
-within_limits reads limits limited none files are =
-    let no_rows : limit_rows files ≡ [] = sym (limited files are) ∙ none in
-    (whole_files reads files are no_rows, no_rows)
 
 abbrev pub Made : Type 0
 Made = Result CheckedFiles OutOfMemory
@@ -220,14 +84,10 @@ pub limited_made : (infer : Infer) → (reads : List SourceRead) (limits : List 
 limited_made infer reads limits (Ok r) limited some by = λ files are. refused_finding infer files r.names limits by.0 r.found (inl (inl (record { are = limited files are; some = some }))) by.1 by.2
 limited_made infer reads limits (Err e) limited some by = tt
 
-pub limited_stand : (reads : List SourceRead) (limits : List Row) (made : Made) → Limited reads limits → ((files : List SourceFile) × AreReads reads files) → RefusesBy limits made → Stand reads made
-limited_stand reads limits (Ok r) limited some by =
-    subst (λ (found : Found). StandIn reads (rows_of found.report)) (sym by.2) (stand_at_start reads by.0 (sorted_at_start some.0 limits by.0 (limited some.0 some.1) by.1))
-limited_stand reads limits (Err e) limited some by = tt
-
--- where no limit is passed, rows stand anywhere
-pub all_stand : (reads : List SourceRead) (limits rows : List Row) → Limited reads limits → limits ≡ [] → ((files : List SourceFile) × AreReads reads files) → StandIn reads rows
-all_stand reads limits rows limited none some = stand_whole reads rows (all_whole reads some.0 some.1 (within_limits reads limits limited none some.0 some.1).1)
+pub limited_made_stand : (reads : List SourceRead) (limits : List Row) (made : Made) → Limited reads limits → ((files : List SourceFile) × AreReads reads files) → RefusesBy limits made → Stand reads made
+limited_made_stand reads limits (Ok r) limited some by =
+    subst (λ (found : Found). StandIn reads (rows_of found.report)) (sym by.2) (limited_stand reads limits by.0 limited some by.1)
+limited_made_stand reads limits (Err e) limited some by = tt
 
 pub whole_stand : (reads : List SourceRead) (limits : List Row) (made : Made) → Limited reads limits → limits ≡ [] → ((files : List SourceFile) × AreReads reads files) → Stand reads made
 whole_stand reads limits (Ok r) limited none some = all_stand reads limits (rows_of r.found.report) limited none some
@@ -289,17 +149,10 @@ types_made infer files names P rows (Err e) of_files are some by = tt
 
 -- ---- more files than there may be
 
-one_sorted : (row : Row) → IsStrictlySortedBy row_cmp (row ∷ [])
-unfolding IsStrictlySortedBy
-one_sorted row = (tt, tt)
-
 pub too_many_report : (infer : Infer) → (files : List SourceFile) (report : Report) → most_files < length files → report ≡ Refused (row_at most_files B1 ∷ []) → IsReport infer files report
 too_many_report infer files report many is =
-    refused_report infer files (row_at most_files B1 ∷ []) (row_at most_files B1 ∷ []) report (inl (inl (record { are = limit_is; some = no_rows }))) (record { sorted = one_sorted (row_at most_files B1); same = λ row. (λ h. h, λ h. h) }) is
+    refused_report infer files (row_at most_files B1 ∷ []) (row_at most_files B1 ∷ []) report (inl (inl (record { are = many_limit files many; some = no_rows }))) (one_ordered (row_at most_files B1)) is
   where
-    limit_is : row_at most_files B1 ∷ [] ≡ limit_rows files
-    limit_is = ap (λ b. cond b (row_at most_files B1 ∷ []) (size_rows 0 0 (map counted files))) (sym (lt-ltb most_files (length files) many))
-
     no_rows : row_at most_files B1 ∷ [] ≡ [] → ⊥
     no_rows e = cc
 

@@ -12,9 +12,9 @@ row_in_file-requires c = record { fits = fits_at c.args.reads.now c.args.row.spa
 pub returns-then-file-reads : goal.returns-then-file-reads
 returns-then-file-reads c =
     let file = slice_get-map (λ (read : SourceRead). read.file) c.args.reads.now c.args.row.span.file.0 ∙ ap (option_map (λ (read : SourceRead). read.file)) (slice_get-get_or c.args.reads.now c.args.row.span.file.0 c.index-reads-file.result c.if-file-reads.true) in
-    subst (λ file. IfOk c.row_in_file.result (λ line. line.items ≡ plain_line (row_of_file file c.args.row))) (sym file) c.row_in_file.ensures
+    subst (λ file. IfOk c.row_in_file.result (λ line. line.items ≡ plain_line (row_of_file file c.args.row).text)) (sym file) c.row_in_file.ensures
 
 pub returns-else-file-reads : goal.returns-else-file-reads
 returns-else-file-reads c =
     let none = slice_get-map (λ (read : SourceRead). read.file) c.args.reads.now c.args.row.span.file.0 ∙ ap (option_map (λ (read : SourceRead). read.file)) (slice_get_past c.args.reads.now c.args.row.span.file.0 c.if-file-reads.false) in
-    subst (λ file. IfOk c.row_of_none.result (λ line. line.items ≡ plain_line (row_of_file file c.args.row))) (sym none) c.row_of_none.ensures
+    subst (λ file. IfOk c.row_of_none.result (λ line. line.items ≡ plain_line (row_of_file file c.args.row).text)) (sym none) c.row_of_none.ensures

@@ -4,7 +4,8 @@ use Rattle.jn_places.specs.PlacedView.{placed_file}
 use Rattle.jn_front.specs.Files.{files_of_reads}
 use Rattle.jn_command.specs.Reports.{rows_of}
 use Rattle.jn_front.specs.Phases.{AreParsed}
-use Rattle.nullcheck_top.proofs.Reporting.{limited_made, text_made, found_all, are_parsed, limited_stand, all_stand, whole_stand, refused_whole, found_whole}
+use Rattle.jn_command.proofs.Standing.{all_stand}
+use Rattle.nullcheck_top.proofs.Reporting.{limited_made, limited_made_stand, text_made, found_all, are_parsed, whole_stand, refused_whole, found_whole}
 use Rattle.nullcheck_top.proofs.check.find.Goals as goal
 
 pub returns-then-not-no_rows-clause-found : goal.returns-then-not-no_rows-clause-found
@@ -29,7 +30,7 @@ pub returns-clause-found : goal.returns-clause-found
 returns-clause-found g c = found_all c.args.infer c.args.reads.now c.in_ok-limits.limits.items c.in_ok-parsed.parsed.names c.in_ok-found.found c.in_ok-limits.ensures (c.no_rows.ensures.none c.if-not-no_rows.false) c.in_ok-found.ensures
 
 pub returns-then-not-no_rows-clause-stand : goal.returns-then-not-no_rows-clause-stand
-returns-then-not-no_rows-clause-stand g c = limited_stand c.args.reads.now c.in_ok-limits.limits.items c.refused_texts.result c.in_ok-limits.ensures c.requires.read c.refused_texts.ensures
+returns-then-not-no_rows-clause-stand g c = limited_made_stand c.args.reads.now c.in_ok-limits.limits.items c.refused_texts.result c.in_ok-limits.ensures c.requires.read c.refused_texts.ensures
 
 pub returns-then-not-no_rows-2-clause-stand : goal.returns-then-not-no_rows-2-clause-stand
 returns-then-not-no_rows-2-clause-stand g c = whole_stand c.args.reads.now c.in_ok-limits.limits.items c.refused_texts-then-not-no_rows-2.result c.in_ok-limits.ensures (c.no_rows.ensures.none c.if-not-no_rows.false) c.requires.read

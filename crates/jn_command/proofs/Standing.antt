@@ -1,20 +1,19 @@
 -- Files that were read, and rows at the places where they stand.
-use Rattle.std.proofs.Common.{◌≡◌, ◌↔◌, ℕ, zero, suc, ◌+◌, ◌<◌, ◌≤◌, Bool, true, false, List, [], ◌∷◌, ◌++◌, length, map, get_or, Option, Some, None, inl, inr, ⊎_elim, refl, sym, ap, ◌∙◌, subst, arith}
-use Rattle.std.specs.Prelude.{◌⊎◌, ◌&&◌, cond, nat_lt, nat_le, Contains, slice_get, string_bytes}
+use Rattle.std.proofs.Common.{◌≡◌, ℕ, zero, suc, ◌+◌, ◌<◌, Bool, true, false, List, [], ◌∷◌, ◌++◌, length, map, get_or, Option, Some, None, inl, inr, ⊎_elim, refl, sym, ap, ◌∙◌, subst, arith}
+use Rattle.std.specs.Prelude.{◌⊎◌, ◌&&◌, cond, nat_lt, nat_le, Contains, slice_get}
 use Rattle.std.specs.List.Sorted.{IsStrictlySortedBy}
 use Rattle.std.proofs.Math.Nat.{min-eq_right}
 use Rattle.std.proofs.lemmas.Bool.{lt-ltb}
-use Rattle.std.specs.declared.string.String.{String}
-use Rattle.std.specs.declared.alloc.Global.{Global}
 use Rattle.jn_base.specs.declared.place.Row.{Row}
 use Rattle.jn_base.specs.declared.code.Code.{Code}
 use Rattle.jn_base.specs.declared.code.Code.TheVariants.{B1, B2, B3}
 use Rattle.jn_diag.specs.Order.{IsOrderOf, row_cmp}
 use Rattle.jn_front.specs.declared.source.SourceFile.{SourceFile}
 use Rattle.jn_front.specs.declared.source.SourceRead.{SourceRead}
-use Rattle.jn_front.specs.Files.{files_of_reads, AllWhole, AreReads, IsReadOf, ReadFrom, names_of, most_files, file_limit}
-use Rattle.jn_front.specs.Counted.{ReadsFit}
+use Rattle.jn_front.specs.Files.{files_of_reads, AllWhole, AreReads, most_files, file_limit}
 use Rattle.jn_front.specs.Limits.{row_at, counted, large_row, passing_row, size_rows, limit_rows, all_limit}
+use Rattle.jn_reporters.specs.Excerpts.{is_limit}
+use Rattle.jn_reporters.proofs.Limits.{b1_is_limit, b2_is_limit, b3_is_limit}
 use Rattle.jn_command.specs.Stands.{StandsIn, StandIn}
 
 -- ---- where no limit is passed, what was read are the files
@@ -81,10 +80,10 @@ stand_whole : (reads : List SourceRead) (rows : List Row) → AllWhole reads →
 stand_whole reads [] whole = tt
 stand_whole reads (row ∷ rows) whole = (stands_whole reads row.span.file.0 row whole, stand_whole reads rows whole)
 
--- ---- rows of the limits stand at the first byte of their files
+-- ---- rows of the limits stand at the first byte of their files, and have their codes
 
 abbrev pub IsAtStart : Row → Type 0
-IsAtStart row = (k : ℕ) × (code : Code) × (row ≡ row_at k code)
+IsAtStart row = (k : ℕ) × (code : Code) × (is_limit code ≡ true) × (row ≡ row_at k code)
 
 abbrev pub AllAtStart : List Row → Type 0
 AllAtStart [] = Unit {0}
@@ -94,22 +93,22 @@ at_start_both : (xs ys : List Row) → AllAtStart xs → AllAtStart ys → AllAt
 at_start_both [] ys a b = b
 at_start_both (x ∷ xs) ys a b = (a.0, at_start_both xs ys a.1 b)
 
-some_at_start : (k : ℕ) (code : Code) (b : Bool) → AllAtStart (cond b (row_at k code ∷ []) [])
-some_at_start k code true = ((k, code, refl), tt)
-some_at_start k code false = tt
+some_at_start : (k : ℕ) (code : Code) (b : Bool) → is_limit code ≡ true → AllAtStart (cond b (row_at k code ∷ []) [])
+some_at_start k code true limit = ((k, code, limit, refl), tt)
+some_at_start k code false limit = tt
 
 sizes_at_start : (k before : ℕ) (sizes : List ℕ) → AllAtStart (size_rows k before sizes)
 sizes_at_start k before [] = tt
 sizes_at_start k before (size ∷ sizes) =
-    at_start_both (large_row k size) (passing_row k before size ++ size_rows (k + 1) (before + size) sizes) (some_at_start k B2 (nat_lt file_limit size))
-    (at_start_both (passing_row k before size) (size_rows (k + 1) (before + size) sizes) (some_at_start k B3 (nat_le before all_limit && nat_lt all_limit (before + size))) (sizes_at_start (k + 1) (before + size) sizes))
+    at_start_both (large_row k size) (passing_row k before size ++ size_rows (k + 1) (before + size) sizes) (some_at_start k B2 (nat_lt file_limit size) b2_is_limit)
+    (at_start_both (passing_row k before size) (size_rows (k + 1) (before + size) sizes) (some_at_start k B3 (nat_le before all_limit && nat_lt all_limit (before + size)) b3_is_limit) (sizes_at_start (k + 1) (before + size) sizes))
 
 one_or : (b : Bool) (xs ys : List Row) → AllAtStart xs → AllAtStart ys → AllAtStart (cond b xs ys)
 one_or true xs ys a b = a
 one_or false xs ys a b = b
 
 limits_at_start : (files : List SourceFile) → AllAtStart (limit_rows files)
-limits_at_start files = one_or (nat_lt most_files (length files)) (row_at most_files B1 ∷ []) (size_rows 0 0 (map counted files)) ((most_files, B1, refl), tt) (sizes_at_start 0 0 (map counted files))
+limits_at_start files = one_or (nat_lt most_files (length files)) (row_at most_files B1 ∷ []) (size_rows 0 0 (map counted files)) ((most_files, B1, b1_is_limit, refl), tt) (sizes_at_start 0 0 (map counted files))
 
 in_cases : (x y : Row) (xs : List Row) (k : ℕ) → k < length (x ∷ xs) → get_or (x ∷ xs) k y ≡ y → (x ≡ y) ⊎ Contains xs y
 in_cases x y xs zero below at = inl at
@@ -132,7 +131,7 @@ sorted_at_start files broken sorted are order =
 
 stands_at_start : (read : Option SourceRead) (row : Row) → IsAtStart row → StandsIn read row
 stands_at_start None row start = tt
-stands_at_start (Some read) row (k, code, is) = inr (ap (λ (r : Row). r.span.from) is)
+stands_at_start (Some read) row (k, code, limit, is) = inr (ap (λ (r : Row). r.span.from) is, ap (λ (r : Row). is_limit r.code) is ∙ limit)
 
 stand_at_start : (reads : List SourceRead) (rows : List Row) → AllAtStart rows → StandIn reads rows
 stand_at_start reads [] all = tt
@@ -169,37 +168,3 @@ many_limit files many = ap (λ b. cond b (row_at most_files B1 ∷ []) (size_row
 
 pub one_ordered : (row : Row) → IsOrderOf (row ∷ []) (row ∷ [])
 one_ordered row = record { sorted = one_sorted row; same = λ other. (λ h. h, λ h. h) }
-
--- ---- how much was read
-
--- no bytes beyond the limit are kept
-one_fits : (read : SourceRead) (file : SourceFile) → IsReadOf read file → length read.file.bytes ≤ 1048576
-one_fits read file (inl w) = let same = ap (λ (f : SourceFile). length f.bytes) w.1 in omega (arith, same, w.2)
-one_fits read file (inr l) = let same = ap (λ (f : SourceFile). length f.bytes) l.1 in omega (arith, same)
-
-pub reads_fit : (reads : List SourceRead) (files : List SourceFile) → AreReads reads files → ReadsFit reads
-reads_fit [] [] are = tt
-reads_fit [] (file ∷ files) are = absurd are
-reads_fit (read ∷ reads) [] are = absurd are
-reads_fit (read ∷ reads) (file ∷ files) are = (one_fits read file are.0, reads_fit reads files are.1)
-
-as_many_reads : (reads : List SourceRead) (files : List SourceFile) → AreReads reads files → length reads ≡ length (names_of files)
-as_many_reads [] [] are = refl
-as_many_reads [] (file ∷ files) are = absurd are
-as_many_reads (read ∷ reads) [] are = absurd are
-as_many_reads (read ∷ reads) (file ∷ files) are = ap suc (as_many_reads reads files are.1)
-
-pub map_length : (xs : List (String Global)) → length (map string_bytes xs) ≡ length xs
-map_length [] = refl
-map_length (x ∷ xs) = ap suc (map_length xs)
-
--- at most so many were read
-pub few_reads : (words : List (String Global)) (reads : List SourceRead) (files : List SourceFile) → length words ≤ most_files → names_of files ≡ map string_bytes words → AreReads reads files → length reads ≤ most_files
-few_reads words reads files le named are =
-    let many = as_many_reads reads files are in
-    let same = ap length named in
-    let long = map_length words in
-    omega (arith, many, same, long, le)
-
-pub many_names : (words : List (String Global)) → most_files < length words → most_files < length (map string_bytes words)
-many_names words lt = let long = map_length words in omega (arith, long, lt)

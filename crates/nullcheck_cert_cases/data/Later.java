@@ -1,0 +1,5 @@
+class P {
+  private P same(P p) { return null; }
+
+  P twice(P p) { return same(p); }
+}

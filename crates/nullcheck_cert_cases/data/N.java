@@ -1,0 +1,1 @@
+class A { static void f() { String s = null; s.length(); } }

@@ -1,0 +1,5 @@
+class Q {
+  String s = "a";
+
+  void set() { s = null; }
+}
