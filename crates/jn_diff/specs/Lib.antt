@@ -1,0 +1,3 @@
+pub mod Lines
+pub mod Hunks
+pub mod Diff
