@@ -1,0 +1,6 @@
+pub mod Changing
+pub mod Relexing
+pub mod Studying
+pub mod Phasing
+pub mod Placing
+pub mod Ending
