@@ -1,6 +1,7 @@
 -- What stands behind each status.
 use Rattle.std.proofs.Common.{◌≡◌, ℕ, ◌<◌, List, [], ◌∷◌, ◌++◌, map, Option, Some, None, inl, inr, refl, sym, ap, ◌∙◌, subst, arith}
-use Rattle.std.specs.Prelude.{◌⊎◌}
+use Rattle.std.specs.Prelude.{◌⊎◌, length, take}
+use Rattle.jn_outside.specs.Sink.{Appends, AppendsPrefix}
 use Rattle.jn_outside.specs.Causes.{Rose}
 use Rattle.jn_base.specs.declared.infer.Infer.{Infer}
 use Rattle.jn_front.specs.declared.source.SourceFile.{SourceFile}
@@ -79,3 +80,11 @@ sink_always output e sink sinks targets target status (inr s) lt = s.ends
 pub targets_always : (output : Output) (e : Effects) (sink sinks targets target : ℕ) (status : Status) → Ends output e sink sinks targets target status → targets < target → status ≡ WriteFault
 targets_always output e sink sinks targets target status (inl w) lt = let k = w.targets_kept in absurd (omega (arith, lt, k))
 targets_always output e sink sinks targets target status (inr s) lt = s.ends
+
+take_long : (xs : List ℕ) → take (length xs) xs ≡ xs
+take_long [] = refl
+take_long (x ∷ xs) = ap (λ ys. x ∷ ys) (take_long xs)
+
+-- all of it is a prefix
+pub whole_prefix : (old new : Option (List ℕ)) (bytes : List ℕ) → Appends old new bytes → AppendsPrefix old new bytes
+whole_prefix old new bytes all = record { count = length bytes; within = omega arith; taken = subst (Appends old new) (sym (take_long bytes)) all }

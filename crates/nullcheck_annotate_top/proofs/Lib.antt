@@ -4,3 +4,4 @@ pub mod Studying
 pub mod Phasing
 pub mod Placing
 pub mod Ending
+pub mod Naming

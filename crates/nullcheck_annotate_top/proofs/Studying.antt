@@ -19,7 +19,8 @@ use Rattle.jn_annotate.specs.declared.annotating.AnnotateFault.{AnnotateFault}
 use Rattle.jn_annotate.specs.Annotated.{Annotated}
 use Rattle.jn_annotate.specs.Answers.{IsFaultOf}
 use Rattle.jn_front.specs.declared.source.SourceFile.{SourceFile}
-use Rattle.nullcheck_top.specs.Report.{TypedProgramOf}
+use Rattle.jn_points.specs.BaseRows.{NoBaseRows}
+use Rattle.nullcheck_top.specs.Report.{ProgramOf, TypedProgramOf}
 use Rattle.nullcheck_annotate_top.specs.Places.{fault_span}
 use Rattle.nullcheck_annotate_top.specs.Study.{AreAnnotated, AreUnannotated, Solved, texts_of}
 
@@ -62,3 +63,7 @@ module _ (infer : Infer) (files : List SourceFile) (names : List (List ℕ)) (P 
 
   pub unannotated : (fault : AnnotateFault) (span : Span) → IsFaultOf P s texts tokens (map file_view trees) fault → span ≡ fault_span P fault → AreUnannotated infer files fault span
   unannotated fault span h stands = record { solved = solved; why = told (λ x t v. IsFaultOf P s x t v fault) h; stands = stands }
+
+-- a program of files that has no row of types, by its trees
+pub typed_of : (infer : Infer) (files : List SourceFile) (names : List (List ℕ)) (P Q : Program) (trees : List PlacedFile) → Q ≡ P → ((of : ProgramOf infer files names P) × (of.trees ≡ trees)) → NoBaseRows P → (typed : TypedProgramOf infer files names Q) × (typed.of_files.trees ≡ trees)
+typed_of infer files names P Q trees same of none = subst (λ R. (typed : TypedProgramOf infer files names R) × (typed.of_files.trees ≡ trees)) (sym same) (record { of_files = of.0; typed = none }, of.1)

@@ -22,7 +22,7 @@ usage_line = codes "usage: nullcheck_annotate [--infer NAME] [--check] [--write]
 pub record IsOutputOf (read : Reading) (wanted : Wanted) (output : Output) : Type 0 where
   pub files : List SourceFile
   pub are : AreFiles read wanted.files files
-  pub output : IsOutput wanted.infer wanted.mode files output
+  pub is : IsOutput wanted.infer wanted.mode files output
 
 -- the output that the files and what is asked for define
 abbrev pub Defines : Reading → Option Wanted → Output → Type 0

@@ -1,5 +1,5 @@
 //! Where files that get no annotated texts are told so, and the line that says it.
-ghost use Rattle.std.specs.Prelude.{◌≡◌, codes, length, IfOk};
+ghost use Rattle.std.specs.Prelude.{◌≡◌, ◌≤◌, ◌++◌, codes, length, IfOk};
 ghost use Rattle.jn_base.specs.Place.{place_in};
 ghost use Rattle.jn_front.specs.Counted.{ReadsFit};
 ghost use Rattle.jn_front.specs.Files.{files_of_reads};

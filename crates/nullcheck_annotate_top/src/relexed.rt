@@ -1,5 +1,5 @@
 //! The tokens of files whose trees are known.
-ghost use Rattle.std.specs.Prelude.{◌≡◌, ◌<◌, ◌≤◌, ◌+◌, ◌*◌, ◌^◌, List, ℕ, length, map, IfOk};
+ghost use Rattle.std.specs.Prelude.{◌≡◌, ◌<◌, ◌≤◌, ◌+◌, ◌-◌, ◌^◌, List, ℕ, length, IfOk};
 ghost use Rattle.jn_base.specs.declared.number.FileNo.{FileNo as SpecFileNo};
 ghost use Rattle.jn_trees.specs.declared.token.Token.{Token as SpecToken};
 ghost use Rattle.jn_known.specs.Known.{known_names};
