@@ -1,5 +1,5 @@
 -- What stands behind each status.
-use Rattle.std.proofs.Common.{◌≡◌, ℕ, ◌<◌, List, [], ◌∷◌, ◌++◌, map, Option, Some, None, inl, inr, refl, sym, ap, ◌∙◌, subst, arith}
+use Rattle.std.proofs.Common.{◌≡◌, ℕ, ◌<◌, List, [], ◌∷◌, Option, inl, inr, refl, sym, ap, ◌∙◌, subst, arith}
 use Rattle.std.specs.Prelude.{◌⊎◌, length, take}
 use Rattle.jn_outside.specs.Sink.{Appends, AppendsPrefix}
 use Rattle.jn_outside.specs.Causes.{Rose}
@@ -13,7 +13,7 @@ use Rattle.nullcheck_annotate_top.specs.declared.changes.Change.{Change}
 use Rattle.nullcheck_annotate_top.specs.declared.output.Output.{Output}
 use Rattle.nullcheck_annotate_top.specs.declared.study.Study.{Study}
 use Rattle.nullcheck_annotate_top.specs.declared.study.Study.TheVariants.{Refused, Unannotated, Annotated}
-use Rattle.nullcheck_annotate_top.specs.Answer.{AnswersBy, DoesAll, Effects, Ends, EndsShort, EndsWhole}
+use Rattle.nullcheck_annotate_top.specs.Answer.{AnswersBy, DoesAll, Effects, Ends}
 use Rattle.nullcheck_annotate_top.specs.Changes.{changes}
 use Rattle.nullcheck_annotate_top.specs.Output.{IsOutput, changed_output, output_of, status_of_changes}
 

@@ -1,6 +1,6 @@
 -- The files that are asked for are those that are read.
 use Rattle.std.proofs.Common.{◌≡◌, ℕ, ◌≤◌, List, length, map, ap, ◌∙◌, arith}
-use Rattle.std.specs.Prelude.{Option, Some, string_bytes}
+use Rattle.std.specs.Prelude.{Option, string_bytes}
 use Rattle.std.specs.declared.string.String.{String}
 use Rattle.std.specs.declared.alloc.Global.{Global}
 use Rattle.jn_outside.specs.declared.given.Given.{Given}

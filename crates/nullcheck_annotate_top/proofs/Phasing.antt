@@ -1,5 +1,5 @@
 -- What files that were read come to, phase by phase.
-use Rattle.std.proofs.Common.{◌≡◌, ℕ, List, [], ◌∷◌, Option, Some, None, Result, Ok, Err, inl, inr, refl, sym, ap, ◌∙◌, subst}
+use Rattle.std.proofs.Common.{◌≡◌, List, [], ◌∷◌, Option, Some, None, Result, Ok, Err, inl, inr, sym, ap, ◌∙◌, subst}
 use Rattle.std.specs.Prelude.{IfOk, slice_get}
 use Rattle.jn_base.specs.declared.infer.Infer.{Infer}
 use Rattle.jn_base.specs.declared.refusal.OutOfMemory.{OutOfMemory}
@@ -7,13 +7,12 @@ use Rattle.jn_base.specs.declared.place.Row.{Row}
 use Rattle.jn_diag.specs.Order.{IsOrderOf}
 use Rattle.jn_command.specs.Stands.{StandsIn, StandIn}
 use Rattle.jn_known.specs.Known.{known_names}
-use Rattle.jn_trees.specs.declared.token.Token.{Token}
 use Rattle.jn_front.specs.declared.source.SourceFile.{SourceFile}
 use Rattle.jn_front.specs.declared.source.SourceRead.{SourceRead}
 use Rattle.jn_front.specs.Files.{AreReads, files_of_reads}
 use Rattle.jn_front.specs.Limits.{limit_rows}
 use Rattle.jn_front.specs.Phases.{FaultRows, LexedFrom, SyntaxRows, TextRows}
-use Rattle.nullcheck_top.specs.Report.{IsPhase, PhaseRows}
+use Rattle.nullcheck_top.specs.Report.{PhaseRows}
 use Rattle.nullcheck_top.proofs.Reporting.{AllAtStart, IsAtStart, Limited, all_stand, found_whole, sorted_at_start}
 use Rattle.nullcheck_annotate_top.specs.declared.study.Study.{Study}
 use Rattle.nullcheck_annotate_top.specs.declared.study.Study.TheVariants.{Refused, Unannotated, Annotated}

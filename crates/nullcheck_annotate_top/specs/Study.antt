@@ -1,7 +1,6 @@
 -- What files come to: rows that refuse them, why they have no annotated texts, or these texts.
 use Rattle.std.specs.Prelude.{ℕ, ◌≡◌, List, map}
 use Rattle.jn_base.specs.declared.infer.Infer.{Infer}
-use Rattle.jn_base.specs.declared.place.Row.{Row}
 use Rattle.jn_base.specs.declared.place.Span.{Span}
 use Rattle.jn_quals.specs.Qualifier.{Qualifier}
 use Rattle.jn_points.specs.declared.program.Program.{Program}

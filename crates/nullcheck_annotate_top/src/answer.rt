@@ -16,9 +16,9 @@ use jn_annotate_cli::{Mode, Wanted};
 use jn_base::{Fail, Infer, OutOfMemory, Text};
 use jn_command::Status;
 use jn_front::{SourceRead, read_all};
+use jn_gate::Gate;
 use jn_outside::{Files, Sink};
 use jn_targets::Targets;
-use jn_workers::Gate;
 use std::alloc::{AllocError, Global};
 use std::thread::Threads;
 

@@ -114,10 +114,7 @@ fn replaced_by(alloc: Global, change: &Change) -> Result<Replaced, AllocError>
 }
 
 /// The files as they are replaced.
-pub(crate) fn replacements(
-    alloc: Global,
-    changes: &[Change],
-) -> Result<Vec<Replaced>, AllocError>
+pub(crate) fn replacements(alloc: Global, changes: &[Change]) -> Result<Vec<Replaced>, AllocError>
     ensures { IfOk result (λ rs. rs.items ≡ spec.replacements changes.now) }
 {
     let mut files = Vec::new(alloc);

@@ -118,12 +118,7 @@ fn fault_code(fault: AnnotateFault) -> &'static [u8]
 }
 
 /// `FILE:LINE:COL: CODE` and a line feed.
-fn placed_line(
-    alloc: Global,
-    name: &str,
-    place: Place,
-    code: &[u8],
-) -> Result<Vec<u8>, AllocError>
+fn placed_line(alloc: Global, name: &str, place: Place, code: &[u8]) -> Result<Vec<u8>, AllocError>
     ensures { IfOk result (λ line. line.items ≡ output.placed_line name.now place code.now) }
 {
     let mut line = Vec::from_slice(alloc, name.as_bytes())?;

@@ -44,11 +44,7 @@ pub(crate) fn only(alloc: Global, status: Status, bytes: Vec<u8>) -> Output
 }
 
 /// The report of files that are refused by these rows.
-fn refused_text(
-    alloc: Global,
-    reads: &[SourceRead],
-    rows: Seq<Row>,
-) -> Result<Vec<u8>, OutOfMemory>
+fn refused_text(alloc: Global, reads: &[SourceRead], rows: Seq<Row>) -> Result<Vec<u8>, OutOfMemory>
     requires fit { ReadsFit reads.now }
     requires stand { StandIn reads.now rows }
     ensures { IfOk result (λ text. (files : List SpecFile) → AreReads reads.now files

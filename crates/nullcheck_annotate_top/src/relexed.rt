@@ -40,10 +40,7 @@ fn lex_again(
 }
 
 /// The tokens of files that have them, file by file.
-pub(crate) fn lex_all(
-    alloc: Global,
-    reads: &[SourceRead],
-) -> Result<Vec<Seq<Token>>, OutOfMemory>
+pub(crate) fn lex_all(alloc: Global, reads: &[SourceRead]) -> Result<Vec<Seq<Token>>, OutOfMemory>
     requires few { length reads.now ≤ 64 }
     requires fit { ReadsFit reads.now }
     requires lexes { (tokens : List (List SpecToken)) × (last : List (List ℕ))

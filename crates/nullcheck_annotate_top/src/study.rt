@@ -23,6 +23,7 @@ use jn_basecheck::base_check;
 use jn_classtable::{ClassTable, build};
 use jn_diag::order;
 use jn_front::{SourceRead, limit_rows, parse_files};
+use jn_gate::Gate;
 use jn_index::indexed::IndexedProgram;
 use jn_inference_law::law::regular_programs_are_inferable;
 use jn_places::law::places_are_forgotten;
@@ -31,7 +32,6 @@ use jn_sigs::Sig;
 use jn_system::solve_sig;
 use jn_trees::{FileTree, Names, Token};
 use jn_typed::BaseTyped;
-use jn_workers::Gate;
 use std::alloc::Global;
 use std::mem::forget;
 use std::thread::Threads;
@@ -136,9 +136,7 @@ fn study_program<R: Threads + Sync, G: Gate + Sync>(
 {
     match base_check(rt, alloc, program, workers) {
         Ok(base) => {
-            return study_typed(
-                rt, alloc, workers, infer, reads, names, trees, base, gate,
-            );
+            return study_typed(rt, alloc, workers, infer, reads, names, trees, base, gate);
         }
         Err(Fail::Refused(rows)) => return refused(alloc, rows),
         Err(Fail::OutOfMemory) => return Err(OutOfMemory),
@@ -196,9 +194,7 @@ fn study_trees<R: Threads + Sync, G: Gate + Sync>(
 {
     match build(alloc, trees, infer) {
         Ok(table) => {
-            return study_table(
-                rt, alloc, workers, infer, reads, names, trees, table, gate,
-            );
+            return study_table(rt, alloc, workers, infer, reads, names, trees, table, gate);
         }
         Err(Fail::Refused(rows)) => return refused(alloc, rows.into_vec()),
         Err(Fail::OutOfMemory) => return Err(OutOfMemory),

@@ -13,9 +13,9 @@ use crate::output::{Output, only};
 use jn_annotate_cli::read_wanted;
 use jn_base::{Fail, OutOfMemory};
 use jn_command::Status;
+use jn_gate::Gate;
 use jn_outside::{Files, Sink};
 use jn_targets::Targets;
-use jn_workers::Gate;
 use std::alloc::Global;
 use std::thread::Threads;
 

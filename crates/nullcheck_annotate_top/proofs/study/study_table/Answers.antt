@@ -12,14 +12,16 @@ lower-requires-clause-table g c κs lives = ap (λ (t : Tabled). t.heads) c.requ
 pub study_program-requires-clause-program : goal.study_program-requires-clause-program
 study_program-requires-clause-program g c κs lives =
     let declared = c.requires.declared in
-    let made = c.in-Ok.ensures.lowered c.args.infer (ap (λ (t : Tabled). t.slots) c.requires.table) in
-    (record {
-      tokens = declared.0;
-      trees = map placed_file c.args.trees.now;
-      lowered = record { declared = declared.1; rowless = made.rows };
-      is = made.program;
-      regular = made.regular;
-    }, refl)
+    let made = c.in-Ok.ensures.lowered c.args.infer (ap (λ (t : Tabled). t.slots) c.requires.table) in (
+      record {
+        tokens = declared.0;
+        trees = map placed_file c.args.trees.now;
+        lowered = record { declared = declared.1; rowless = made.rows };
+        is = made.program;
+        regular = made.regular;
+      },
+      refl,
+    )
 
 pub returns-in-Err-Refused : goal.returns-in-Err-Refused
 returns-in-Err-Refused g c =
