@@ -6,6 +6,7 @@
 
 mod diff;
 mod hunks;
+pub mod law;
 mod line;
 mod texts;
 
