@@ -1,5 +1,5 @@
 //! Words in, a unified diff or replaced files out.
-ghost use Rattle.std.specs.Prelude.{◌≡◌, ◌≢◌, ◌<◌, ◌⊎◌, map, IfOk};
+ghost use Rattle.std.specs.Prelude.{None, ◌≡◌, ◌≢◌, ◌<◌, ◌⊎◌, map, IfOk};
 ghost use Rattle.std.specs.String.{string_bytes};
 ghost use Rattle.jn_outside.specs.Causes.{Rose};
 ghost use Rattle.jn_command.specs.Answer.{reading};
@@ -64,6 +64,9 @@ pub fn annotate_files<R: Threads + Sync, F: Files, K: Sink, T: Targets, G: Gate 
     // No file is started but those that the words name, in their order, whatever comes of it.
     ensures starts { Starts (wanted_of (map string_bytes words.now)) (F.gave files.old)
         (F.gave files.new) }
+    // Nothing is read where the words are no command's.
+    ensures unread { wanted_of (map string_bytes words.now) ≡ None
+        → (F.faults files.new ≡ F.faults files.old) × (F.gave files.new ≡ F.gave files.old) }
     ensures write { result ≡ Status.WriteFault
         → Rose (K.faults out.old) (K.faults out.new)
         ⊎ Rose (T.faults targets.old) (T.faults targets.new) }
