@@ -1,0 +1,3 @@
+pub mod Pairing
+pub mod Showing
+pub mod Patching

@@ -1,0 +1,4 @@
+pub mod Lines
+pub mod Hunks
+pub mod Diff
+pub mod Patch

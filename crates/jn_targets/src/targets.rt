@@ -1,0 +1,41 @@
+//! Files that are replaced whole, one after the other.
+ghost use Rattle.std.specs.Prelude.{◌≡◌, ◌++◌, ℕ, List, OnErr, OnOk};
+ghost use Rattle.jn_outside.specs.Causes.{HasCause};
+ghost use Rattle.jn_targets.specs.Replacing.{ReplacesFirst, with_replaced};
+ghost use Rattle.jn_targets.specs.declared.replaced.Replaced.{Replaced as ReplacedOf};
+
+use crate::replaced::Replaced;
+use jn_outside::Failed;
+
+/// Files that are replaced.
+pub trait Targets {
+    /// What was replaced since the targets were made, in order.
+    ghost replaced: { Self → List ReplacedOf };
+
+    /// How often a replacement has failed; the count stands still at its last value.
+    ghost faults: { Self → ℕ };
+
+    /// Gives the file of this name these bytes, whole; where it fails, the file is as it was.
+    fn replace(&mut self, name: &str, bytes: &[u8]) -> Result<(), Failed>
+        ensures ok { OnOk result
+            (replaced self.new ≡ with_replaced (replaced self.old) name.now bytes.now) }
+        ensures err { OnErr result (replaced self.new ≡ replaced self.old) }
+        ensures cause { HasCause (faults self.old) (faults self.new) result };
+}
+
+/// Replaces files, one after the other. It fails only where the targets' count of faults rose; the first ones were replaced then.
+pub fn replace_all<T: Targets>(targets: &mut T, wanted: &[Replaced]) -> Result<(), Failed>
+    ensures ok { OnOk result
+        (T.replaced targets.new ≡ T.replaced targets.old ++ wanted.now) }
+    ensures err { OnErr result
+        (ReplacesFirst (T.replaced targets.old) (T.replaced targets.new) wanted.now) }
+    ensures cause { HasCause (T.faults targets.old) (T.faults targets.new) result }
+{
+    let mut done = 0;
+    while done < wanted.len() {
+        let file = &wanted[done];
+        targets.replace(file.name.as_str(), file.bytes.as_slice())?;
+        done += 1;
+    }
+    Ok(())
+}

@@ -1,0 +1,1 @@
+class A { private static void f(String s) { } void g() { f(null); } }

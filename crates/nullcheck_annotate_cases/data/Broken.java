@@ -1,0 +1,3 @@
+class Broken {
+  private String s
+}

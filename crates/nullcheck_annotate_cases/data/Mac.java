@@ -1,0 +1,1 @@
+class Mac {  private String s = "s";  int n() { return s.length(); }}

@@ -1,0 +1,4 @@
+class OnlyNull {
+  private String a, b = "b";
+  OnlyNull() { a = null; }
+}

@@ -1,0 +1,3 @@
+class Open {
+  int n() { return s.length(); }
+  private String s = "s"; }

@@ -1,0 +1,1 @@
+class Twice { private String s; private String s; }

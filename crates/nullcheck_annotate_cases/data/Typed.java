@@ -1,0 +1,1 @@
+class Typed { private String s = 1; }

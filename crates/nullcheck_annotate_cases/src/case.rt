@@ -1,0 +1,69 @@
+//! A case is one line: the words of a command. Four words set what lies around it: `read=N` has the Nth call on the source fail,
+//! `write=N` the Nth write and `replace=N` the Nth file that is replaced, and `again` takes the words once more over the files as they are
+//! then, with their report before and behind.
+use std::alloc::{AllocError, Global};
+
+#[derive(Drop)]
+pub struct Case {
+    pub words: Vec<String>,
+    /// The words that name files, and the choice of what is inferred.
+    pub files: Vec<String>,
+    /// The call on the source that fails, from 1; 0 where none does.
+    pub read: u32,
+    /// The write that fails, from 1; 0 where none does.
+    pub write: u32,
+    /// The replacement that fails, from 1; 0 where none does.
+    pub replace: u32,
+    pub again: bool,
+}
+
+/// The number behind the name, where the word is of that form.
+fn number(word: &str, name: &str) -> Option<u32> {
+    match word.split_once('=') {
+        Some((front, digits)) if front == name => digits.parse().ok(),
+        _ => None,
+    }
+}
+
+/// Whether the word sets what lies around the command, which is put into the case then.
+fn take_setting(case: &mut Case, word: &str) -> bool {
+    if let Some(call) = number(word, "read") {
+        case.read = call;
+    } else if let Some(call) = number(word, "write") {
+        case.write = call;
+    } else if let Some(call) = number(word, "replace") {
+        case.replace = call;
+    } else if word == "again" {
+        case.again = true;
+    } else {
+        return false;
+    }
+    true
+}
+
+/// Takes the word into the case.
+fn take(alloc: Global, case: &mut Case, word: &str) -> Result<(), AllocError> {
+    if take_setting(case, word) {
+        return Ok(());
+    }
+    case.words.push(String::from_str(alloc, word)?)?;
+    if word != "--write" && word != "--check" {
+        case.files.push(String::from_str(alloc, word)?)?;
+    }
+    Ok(())
+}
+
+pub fn case_of(alloc: Global, line: &str) -> Result<Case, AllocError> {
+    let mut case = Case {
+        words: Vec::new(alloc),
+        files: Vec::new(alloc),
+        read: 0,
+        write: 0,
+        replace: 0,
+        again: false,
+    };
+    for word in line.split_whitespace() {
+        take(alloc, &mut case, word)?;
+    }
+    Ok(case)
+}

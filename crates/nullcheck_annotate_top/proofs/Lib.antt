@@ -1,0 +1,7 @@
+pub mod Changing
+pub mod Relexing
+pub mod Studying
+pub mod Phasing
+pub mod Placing
+pub mod Ending
+pub mod Naming

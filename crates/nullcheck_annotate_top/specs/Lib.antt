@@ -1,0 +1,5 @@
+pub mod Places
+pub mod Study
+pub mod Changes
+pub mod Output
+pub mod Answer

@@ -1,0 +1,67 @@
+-- What the command writes of what files come to.
+use Rattle.std.specs.Prelude.{ℕ, ◌≡◌, ◌++◌, List, [], ◌∷◌, Option, Some, None, codes, decimal, slice_get}
+use Rattle.jn_base.specs.declared.infer.Infer.{Infer}
+use Rattle.jn_base.specs.declared.place.Place.{Place}
+use Rattle.jn_base.specs.declared.place.Span.{Span}
+use Rattle.jn_base.specs.Place.{place_in}
+use Rattle.jn_annotate.specs.declared.annotating.AnnotateFault.{AnnotateFault}
+use Rattle.jn_annotate.specs.declared.annotating.AnnotateFault.TheVariants.{NoSpelling, SharedType, TooLarge}
+use Rattle.jn_annotate_cli.specs.declared.wanted.Mode.{Mode}
+use Rattle.jn_annotate_cli.specs.declared.wanted.Mode.TheVariants.{Show, Check, Write}
+use Rattle.jn_command.specs.declared.report.Report.TheVariants.{Refused as RefusedReport}
+use Rattle.jn_command.specs.declared.status.Status.{Status}
+use Rattle.jn_command.specs.declared.status.Status.TheVariants.{Ok, Rejected, Refused as RefusedStatus}
+use Rattle.jn_command.specs.Shown.{shown}
+use Rattle.jn_reporters.specs.Reports.{plain_shown}
+use Rattle.jn_front.specs.declared.source.SourceFile.{SourceFile}
+use Rattle.nullcheck_annotate_top.specs.declared.changes.Change.{Change}
+use Rattle.nullcheck_annotate_top.specs.declared.output.Output.{Output}
+use Rattle.nullcheck_annotate_top.specs.declared.study.Study.{Study}
+use Rattle.nullcheck_annotate_top.specs.declared.study.Study.TheVariants.{Refused, Unannotated, Annotated}
+use Rattle.nullcheck_annotate_top.specs.Changes.{changes, diffs, replacements}
+use Rattle.nullcheck_annotate_top.specs.Study.{IsStudy}
+
+-- ---- why there are no annotated texts
+
+abbrev pub fault_code : AnnotateFault → List ℕ
+fault_code (NoSpelling slot) = codes "NO-SPELLING"
+fault_code (SharedType slot) = codes "SHARED-TYPE"
+fault_code (TooLarge file) = codes "TOO-LARGE"
+
+-- FILE:LINE:COL: CODE
+abbrev pub placed_line : List ℕ → Place → List ℕ → List ℕ
+placed_line name place code = name ++ codes ":" ++ decimal place.line ++ codes ":" ++ decimal place.col ++ codes ": " ++ code ++ codes "\n"
+
+abbrev pub line_in : Option SourceFile → Span → List ℕ → List ℕ
+line_in None span code = code ++ codes "\n"
+line_in (Some file) span code = placed_line file.name (place_in file.bytes span) code
+
+abbrev pub fault_line : List SourceFile → AnnotateFault → Span → List ℕ
+fault_line files fault span = line_in (slice_get files span.file.0) span (fault_code fault)
+
+-- ---- the output
+
+-- whether anything would change
+abbrev pub status_of_changes : List Change → Status
+status_of_changes [] = Ok
+status_of_changes (c ∷ cs) = Rejected
+
+abbrev pub only : Status → List ℕ → Output
+only status bytes = record { status = status; bytes = bytes; replaced = [] }
+
+-- what changes is shown, told by the status alone, or written
+abbrev pub changed_output : Mode → List Change → Output
+changed_output Show cs = only Ok (diffs cs)
+changed_output Check cs = only (status_of_changes cs) []
+changed_output Write cs = record { status = Ok; bytes = []; replaced = replacements cs }
+
+-- files that are refused get their report
+abbrev pub output_of : Mode → List SourceFile → Study → Output
+output_of mode files (Refused rows) = only RefusedStatus (shown plain_shown files (RefusedReport rows))
+output_of mode files (Unannotated fault span) = only Rejected (fault_line files fault span)
+output_of mode files (Annotated new) = changed_output mode (changes files new)
+
+pub record IsOutput (infer : Infer) (mode : Mode) (files : List SourceFile) (output : Output) : Type 0 where
+  pub study : Study
+  pub is : IsStudy infer files study
+  pub comes : output ≡ output_of mode files study

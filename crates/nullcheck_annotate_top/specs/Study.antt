@@ -1,0 +1,67 @@
+-- What files come to: rows that refuse them, why they have no annotated texts, or these texts.
+use Rattle.std.specs.Prelude.{ℕ, ◌≡◌, List, map}
+use Rattle.jn_base.specs.declared.infer.Infer.{Infer}
+use Rattle.jn_base.specs.declared.place.Span.{Span}
+use Rattle.jn_quals.specs.Qualifier.{Qualifier}
+use Rattle.jn_points.specs.declared.program.Program.{Program}
+use Rattle.jn_trees.specs.declared.token.Token.{Token}
+use Rattle.jn_trees.specs.Trees.{SourceTree}
+use Rattle.jn_places.specs.Forget.{forget_file}
+use Rattle.jn_inference_law.specs.Solution.{IsLeastSignature}
+use Rattle.jn_annotate.specs.declared.annotating.AnnotateFault.{AnnotateFault}
+use Rattle.jn_annotate.specs.Annotated.{Annotated}
+use Rattle.jn_annotate.specs.Answers.{IsFaultOf}
+use Rattle.jn_command.specs.Stands.{StandIn}
+use Rattle.jn_front.specs.declared.source.SourceFile.{SourceFile}
+use Rattle.jn_front.specs.declared.source.SourceRead.{SourceRead}
+use Rattle.jn_front.specs.Files.{AreReads, files_of_reads}
+use Rattle.nullcheck_top.specs.Report.{IsPhase, TypedProgramOf}
+use Rattle.nullcheck_annotate_top.specs.declared.study.Study.{Study}
+use Rattle.nullcheck_annotate_top.specs.declared.study.Study.TheVariants.{Refused, Unannotated, Annotated as AnnotatedTexts}
+use Rattle.nullcheck_annotate_top.specs.Places.{fault_span}
+
+abbrev pub texts_of : List SourceFile → List (List ℕ)
+texts_of files = map (λ (file : SourceFile). file.bytes) files
+
+-- the files' own program, in which all has a meaning and a type that fits, with its least signature
+pub record Solved (infer : Infer) (files : List SourceFile) : Type 0 where
+  pub names : List (List ℕ)
+  pub P : Program
+  pub of_files : TypedProgramOf infer files names P
+  pub signature : List Qualifier
+  pub least : IsLeastSignature P signature
+
+module _ (infer : Infer) (files : List SourceFile) (solved : Solved infer files) where
+  -- the files' tokens and trees
+  abbrev pub tokens_of : List (List Token)
+  tokens_of = solved.of_files.of_files.tokens
+
+  abbrev pub trees_of : List SourceTree
+  trees_of = map forget_file solved.of_files.of_files.trees
+
+-- the files' texts with what is inferred of them, under the least signature of their program
+pub record AreAnnotated (infer : Infer) (files : List SourceFile) (new : List (List ℕ)) : Type 0 where
+  pub solved : Solved infer files
+  pub are : Annotated solved.P solved.signature (texts_of files) (tokens_of infer files solved) (trees_of infer files solved) new
+
+-- they have no such texts, for this reason, which stands there
+pub record AreUnannotated (infer : Infer) (files : List SourceFile) (fault : AnnotateFault) (span : Span) : Type 0 where
+  pub solved : Solved infer files
+  pub why : IsFaultOf solved.P solved.signature (texts_of files) (tokens_of infer files solved) (trees_of infer files solved) fault
+  pub stands : span ≡ fault_span solved.P fault
+
+-- files that some phase refuses come to its rows; of others nothing is asked, accepted or not
+abbrev pub IsStudy : Infer → List SourceFile → Study → Type 0
+IsStudy infer files (Refused rows) = IsPhase infer files rows
+IsStudy infer files (Unannotated fault span) = AreUnannotated infer files fault span
+IsStudy infer files (AnnotatedTexts new) = AreAnnotated infer files new
+
+-- what was read are the files, whole
+abbrev pub AreWhole : List SourceRead → Type 0
+AreWhole reads = (files : List SourceFile) → AreReads reads files → files_of_reads reads ≡ files
+
+-- rows stand in files that were read whole, or at their first byte; others than refused files were read whole
+abbrev pub IsOf : List SourceRead → Study → Type 0
+IsOf reads (Refused rows) = StandIn reads rows
+IsOf reads (Unannotated fault span) = AreWhole reads
+IsOf reads (AnnotatedTexts new) = AreWhole reads

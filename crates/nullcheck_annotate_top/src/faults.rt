@@ -1,0 +1,176 @@
+//! Where files that get no annotated texts are told so, and the line that says it.
+ghost use Rattle.std.specs.Prelude.{◌≡◌, ◌≤◌, ◌++◌, codes, length, IfOk};
+ghost use Rattle.jn_base.specs.Place.{place_in};
+ghost use Rattle.jn_front.specs.Counted.{ReadsFit};
+ghost use Rattle.jn_front.specs.Files.{files_of_reads};
+ghost use Rattle.jn_points.specs.Members.{some_of};
+ghost use Rattle.jn_sigs.specs.Signature as sigs;
+ghost use Rattle.nullcheck_annotate_top.specs.Output as output;
+ghost use Rattle.nullcheck_annotate_top.specs.Places as spec;
+
+use itoa::{Buffer, Integer};
+use jn_annotate::AnnotateFault;
+use jn_base::place::place_of;
+use jn_base::{FileNo, Place, SlotNo, Span};
+use jn_front::SourceRead;
+use jn_points::{Field, Method, Program};
+use std::alloc::{AllocError, Global};
+
+/// The first byte of a file.
+fn file_start(file: u32) -> Span
+    ensures { result ≡ spec.file_start file }
+{
+    Span {
+        file: FileNo(file),
+        from: 0,
+        to: 0,
+    }
+}
+
+/// Whether it is the slot.
+fn is_slot(slot: u32, has: Option<SlotNo>) -> bool
+    ensures { result ≡ sigs.is_slot slot has }
+{
+    match has {
+        None => false,
+        Some(has) => has.0 == slot,
+    }
+}
+
+/// Whether the slot is among them.
+fn is_among(slot: u32, has: &[Option<SlotNo>]) -> bool
+    ensures { result ≡ some_of (sigs.is_slot slot) has.now }
+{
+    for one in has {
+        if is_slot(slot, *one) {
+            return true;
+        }
+    }
+    false
+}
+
+/// Whether the slot is of a parameter, the receiver or the result of the method.
+fn has_slot(slot: u32, method: &Method) -> bool
+    ensures { result ≡ sigs.method_has_slot slot method.now }
+{
+    is_slot(slot, method.receiver)
+        || is_slot(slot, method.result_slot)
+        || is_among(slot, method.param_slots.as_slice())
+}
+
+/// The name of the slot's field.
+fn field_span(slot: u32, fields: &[Field]) -> Option<Span>
+    ensures { result ≡ spec.field_span slot fields.now }
+{
+    for field in fields {
+        if is_slot(slot, field.slot) {
+            return Some(field.span);
+        }
+    }
+    None
+}
+
+/// The name of the slot's method.
+fn method_span(slot: u32, methods: &[Method]) -> Option<Span>
+    ensures { result ≡ spec.method_span slot methods.now }
+{
+    for method in methods {
+        if has_slot(slot, method) {
+            return Some(method.span);
+        }
+    }
+    None
+}
+
+/// The name of the slot's field, or of the method whose parameter, receiver or result it is.
+fn slot_span(program: &Program, slot: u32) -> Span
+    ensures { result ≡ spec.slot_span program.now slot }
+{
+    match field_span(slot, program.fields.as_slice()) {
+        Some(span) => span,
+        None => match method_span(slot, program.methods.as_slice()) {
+            Some(span) => span,
+            None => file_start(0),
+        },
+    }
+}
+
+/// Where the fault stands: at the slot's declaration, or at the first byte of the file.
+pub(crate) fn fault_span(program: &Program, fault: AnnotateFault) -> Span
+    ensures { result ≡ spec.fault_span program.now fault }
+{
+    match fault {
+        AnnotateFault::NoSpelling(slot) => slot_span(program, slot.0),
+        AnnotateFault::SharedType(slot) => slot_span(program, slot.0),
+        AnnotateFault::TooLarge(file) => file_start(file.0),
+    }
+}
+
+/// The fault's code.
+fn fault_code(fault: AnnotateFault) -> &'static [u8]
+    ensures { result.now ≡ output.fault_code fault }
+{
+    match fault {
+        AnnotateFault::NoSpelling(_) => b"NO-SPELLING",
+        AnnotateFault::SharedType(_) => b"SHARED-TYPE",
+        AnnotateFault::TooLarge(_) => b"TOO-LARGE",
+    }
+}
+
+/// `FILE:LINE:COL: CODE` and a line feed.
+fn placed_line(alloc: Global, name: &str, place: Place, code: &[u8]) -> Result<Vec<u8>, AllocError>
+    ensures { IfOk result (λ line. line.items ≡ output.placed_line name.now place code.now) }
+{
+    let mut line = Vec::from_slice(alloc, name.as_bytes())?;
+    line.extend_from_slice(b":")?;
+    line.extend_from_slice(Buffer::new().format(place.line).as_bytes())?;
+    line.extend_from_slice(b":")?;
+    line.extend_from_slice(Buffer::new().format(place.col).as_bytes())?;
+    line.extend_from_slice(b": ")?;
+    line.extend_from_slice(code)?;
+    line.extend_from_slice(b"\n")?;
+    Ok(line)
+}
+
+/// The place of a span's first byte, or the end of the text where it stands behind that.
+fn place_within(text: &[u8], span: Span) -> Place
+    requires { length text.now ≤ 1048576 }
+    ensures { result ≡ place_in text.now span }
+{
+    let at = Span {
+        file: span.file,
+        from: span.from.min(text.len() as u32),
+        to: span.to,
+    };
+    place_of(text, &at)
+}
+
+/// The code alone, of a fault that stands in no file.
+fn bare_line(alloc: Global, code: &[u8]) -> Result<Vec<u8>, AllocError>
+    ensures { IfOk result (λ line. line.items ≡ code.now ++ codes "\n") }
+{
+    let mut line = Vec::from_slice(alloc, code)?;
+    line.extend_from_slice(b"\n")?;
+    Ok(line)
+}
+
+/// The line of a fault.
+pub(crate) fn fault_line(
+    alloc: Global,
+    reads: &[SourceRead],
+    fault: AnnotateFault,
+    span: Span,
+) -> Result<Vec<u8>, AllocError>
+    requires fit { ReadsFit reads.now }
+    ensures { IfOk result
+        (λ line. line.items ≡ output.fault_line (files_of_reads reads.now) fault span) }
+{
+    let file = span.file.0 as usize;
+    if file < reads.len() {
+        let read = &reads[file];
+        let place = place_within(read.file.bytes.as_slice(), span);
+        placed_line(alloc, read.file.name.as_str(), place, fault_code(fault))
+    } else {
+        bare_line(alloc, fault_code(fault))
+    }
+}

@@ -1,0 +1,17 @@
+//! The top call of annotated sources: words in, a unified diff or replaced files out.
+//!
+//! [`annotate_files`] reads the files that the words name, finds what they come to ([`study::study_files`]: `specs/Study.antt`), and shows, counts or
+//! writes what changes in them (`specs/Output.antt`). `specs/Answer.antt` says what stands behind each status.
+#![tactic(auto)]
+
+pub mod answer;
+pub mod changes;
+pub mod faults;
+pub mod finish;
+pub mod output;
+mod relexed;
+pub mod study;
+pub mod top;
+
+pub use jn_command::Status;
+pub use top::annotate_files;
