@@ -36,8 +36,17 @@ abbrev pub line_in : Option SourceFile → Span → List ℕ → List ℕ
 line_in None span code = code ++ codes "\n"
 line_in (Some file) span code = placed_line file.name (place_in file.bytes span) code
 
-abbrev pub fault_line : List SourceFile → AnnotateFault → Span → List ℕ
-fault_line files fault span = line_in (slice_get files span.file.0) span (fault_code fault)
+abbrev pub place_line : List SourceFile → AnnotateFault → Span → List ℕ
+place_line files fault span = line_in (slice_get files span.file.0) span (fault_code fault)
+
+-- what can be done about it, in a line of its own
+abbrev pub fault_cure : AnnotateFault → List ℕ
+fault_cure (NoSpelling slot) = codes "cure: write the annotation that is meant, or leave out what takes nothing but null\n"
+fault_cure (SharedType slot) = codes "cure: declare the fields one by one\n"
+fault_cure (TooLarge file) = codes "cure: split the file\n"
+
+abbrev pub fault_text : List SourceFile → AnnotateFault → Span → List ℕ
+fault_text files fault span = place_line files fault span ++ fault_cure fault
 
 -- ---- the output
 
@@ -58,7 +67,7 @@ changed_output Write cs = record { status = Ok; bytes = []; replaced = replaceme
 -- files that are refused get their report
 abbrev pub output_of : Mode → List SourceFile → Study → Output
 output_of mode files (Refused rows) = only RefusedStatus (shown plain_shown files (RefusedReport rows))
-output_of mode files (Unannotated fault span) = only Rejected (fault_line files fault span)
+output_of mode files (Unannotated fault span) = only Rejected (fault_text files fault span)
 output_of mode files (Annotated new) = changed_output mode (changes files new)
 
 pub record IsOutput (infer : Infer) (mode : Mode) (files : List SourceFile) (output : Output) : Type 0 where

@@ -154,8 +154,8 @@ fn bare_line(alloc: Global, code: &[u8]) -> Result<Vec<u8>, AllocError>
     Ok(line)
 }
 
-/// The line of a fault.
-pub(crate) fn fault_line(
+/// The line of a fault's place.
+fn place_line(
     alloc: Global,
     reads: &[SourceRead],
     fault: AnnotateFault,
@@ -163,7 +163,7 @@ pub(crate) fn fault_line(
 ) -> Result<Vec<u8>, AllocError>
     requires fit { ReadsFit reads.now }
     ensures { IfOk result
-        (λ line. line.items ≡ output.fault_line (files_of_reads reads.now) fault span) }
+        (λ line. line.items ≡ output.place_line (files_of_reads reads.now) fault span) }
 {
     let file = span.file.0 as usize;
     if file < reads.len() {
@@ -173,4 +173,33 @@ pub(crate) fn fault_line(
     } else {
         bare_line(alloc, fault_code(fault))
     }
+}
+
+/// What can be done about a fault.
+fn fault_cure(fault: AnnotateFault) -> &'static [u8]
+    ensures { result.now ≡ output.fault_cure fault }
+{
+    match fault {
+        AnnotateFault::NoSpelling(_) => {
+            b"cure: write the annotation that is meant, or leave out what takes nothing but null\n"
+        }
+        AnnotateFault::SharedType(_) => b"cure: declare the fields one by one\n",
+        AnnotateFault::TooLarge(_) => b"cure: split the file\n",
+    }
+}
+
+/// The lines of a fault: its place, and its cure.
+pub(crate) fn fault_text(
+    alloc: Global,
+    reads: &[SourceRead],
+    fault: AnnotateFault,
+    span: Span,
+) -> Result<Vec<u8>, AllocError>
+    requires fit { ReadsFit reads.now }
+    ensures { IfOk result
+        (λ text. text.items ≡ output.fault_text (files_of_reads reads.now) fault span) }
+{
+    let mut text = place_line(alloc, reads, fault, span)?;
+    text.extend_from_slice(fault_cure(fault))?;
+    Ok(text)
 }

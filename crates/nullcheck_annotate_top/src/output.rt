@@ -12,7 +12,7 @@ ghost use Rattle.nullcheck_annotate_top.specs.Output as spec;
 ghost use Rattle.nullcheck_annotate_top.specs.Study.{IsOf};
 
 use crate::changes::{Change, changes, diffs, replacements};
-use crate::faults::fault_line;
+use crate::faults::fault_text;
 use crate::study::Study;
 use jn_annotate::AnnotateFault;
 use jn_annotate_cli::Mode;
@@ -129,7 +129,7 @@ fn annotated_output(
     changed_output(alloc, mode, &changes)
 }
 
-/// The output of a fault, which is one line.
+/// The output of a fault.
 fn fault_output(
     alloc: Global,
     reads: &[SourceRead],
@@ -138,10 +138,10 @@ fn fault_output(
 ) -> Result<Output, OutOfMemory>
     requires fit { ReadsFit reads.now }
     ensures { IfOk result (λ o. o
-        ≡ spec.only Status.Rejected (spec.fault_line (files_of_reads reads.now) fault span)) }
+        ≡ spec.only Status.Rejected (spec.fault_text (files_of_reads reads.now) fault span)) }
 {
-    let line = fault_line(alloc, reads, fault, span)?;
-    Ok(only(alloc, Status::Rejected, line))
+    let text = fault_text(alloc, reads, fault, span)?;
+    Ok(only(alloc, Status::Rejected, text))
 }
 
 /// The output of what files that were read come to.
