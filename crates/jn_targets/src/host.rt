@@ -1,4 +1,4 @@
-//! The files of the host, each replaced by a whole file beside it that takes its name.
+//! The files of the host, each put in place by a whole file beside it that takes its name.
 ghost use Rattle.std.specs.Prelude.{◌≡◌, ◌≤◌, []};
 ghost use Rattle.jn_outside.specs.Causes.{Rose};
 
@@ -7,7 +7,7 @@ use crate::targets::Targets;
 use jn_outside::{Failed, Told};
 use std::alloc::Global;
 use std::fs::{File, OpenFile};
-use std::io::Write;
+use std::io::{ErrorKind, Write};
 use std::path::AsPath;
 use std::{fs, io, rt};
 
@@ -91,13 +91,33 @@ fn beside(alloc: Global, name: &str) -> io::Result<String> {
     Ok(beside)
 }
 
-/// Writes the bytes into a new file with the rights of the old one, up to the disk.
+/// The name of the file to which this name leads; the name itself where it isn't there yet.
+fn place_of<R: rt::Files>(rt: &R, alloc: Global, name: &str) -> io::Result<String> {
+    match rt.canonicalize(alloc, name) {
+        Ok(place) => Ok(String::from_str(alloc, place.path_text())?),
+        Err(reason) if reason.kind() == ErrorKind::NotFound => Ok(String::from_str(alloc, name)?),
+        Err(reason) => Err(reason),
+    }
+}
+
+/// The rights of the file of this name; none where it isn't there yet.
+fn rights_of<R: rt::Files>(rt: &R, name: &str) -> io::Result<Option<fs::Permissions>> {
+    match fs::metadata(rt, name) {
+        Ok(about) => Ok(Some(about.permissions())),
+        Err(reason) if reason.kind() == ErrorKind::NotFound => Ok(None),
+        Err(reason) => Err(reason),
+    }
+}
+
+/// Writes the bytes into a new file, with the rights of the old one where there is one, up to the disk.
 fn fill<F: OpenFile + Write>(
     file: &mut F,
-    rights: fs::Permissions,
+    rights: Option<fs::Permissions>,
     bytes: &[u8],
 ) -> io::Result<()> {
-    file.set_permissions(rights)?;
+    if let Some(rights) = rights {
+        file.set_permissions(rights)?;
+    }
     file.write_all(bytes)?;
     file.sync_all()
 }
@@ -108,7 +128,7 @@ fn fill_and_rename<R: rt::Files>(
     file: &mut R::File,
     beside: &str,
     name: &str,
-    rights: fs::Permissions,
+    rights: Option<fs::Permissions>,
     bytes: &[u8],
 ) -> io::Result<()> {
     fill(file, rights, bytes)?;
@@ -116,17 +136,17 @@ fn fill_and_rename<R: rt::Files>(
 }
 
 /// Gives the file of this name these bytes: a new file beside it is filled and takes its name in one step, or is removed. Where the name
-/// is a link, the file to which it leads is replaced.
+/// is a link, the file to which it leads is replaced; where it isn't there yet, it is there behind the call.
 fn replace_file<R: rt::Files>(rt: &R, alloc: Global, name: &str, bytes: &[u8]) -> io::Result<()> {
-    let place = rt.canonicalize(alloc, name)?;
-    let rights = fs::metadata(rt, place.path_text())?.permissions();
-    let beside = beside(alloc, place.path_text())?;
+    let place = place_of(rt, alloc, name)?;
+    let rights = rights_of(rt, place.as_str())?;
+    let beside = beside(alloc, place.as_str())?;
     let mut file = File::create_new(rt, beside.as_str())?;
     let done = fill_and_rename(
         rt,
         &mut file,
         beside.as_str(),
-        place.path_text(),
+        place.as_str(),
         rights,
         bytes,
     );

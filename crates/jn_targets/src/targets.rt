@@ -15,7 +15,7 @@ pub trait Targets {
     /// How often a replacement has failed; the count stands still at its last value.
     ghost faults: { Self → ℕ };
 
-    /// Gives the file of this name these bytes, whole; where it fails, the file is as it was.
+    /// Gives the file of this name these bytes, whole, in place of those that it has, if it is there; where it fails, all is as it was.
     fn replace(&mut self, name: &str, bytes: &[u8]) -> Result<(), Failed>
         ensures ok { OnOk result
             (replaced self.new ≡ with_replaced (replaced self.old) name.now bytes.now) }

@@ -2,8 +2,11 @@
 #![tactic(auto)]
 
 use jn_base::OutOfMemory;
+use jn_gate::Straight;
 use jn_outside::{HostFault, HostFiles, HostSink};
+use jn_targets::{HostTargets, TargetFault};
 use nullcheck_cert_check::{Status, check, usage_reason};
+use nullcheck_cert_write::write_cert;
 use std::env;
 use std::io::{self, ErrorKind};
 use std::process::ExitCode;
@@ -35,8 +38,25 @@ fn tell_read(rt: &HostRuntime, fault: Option<&HostFault>) -> io::Result<()> {
     eprintln!(rt; "nullcheck_cert: can't {call} {name}: {reason}")
 }
 
-/// Says why the output can't be written.
-fn tell_write(rt: &HostRuntime, fault: Option<io::Error>) -> io::Result<()> {
+/// Says why a file can't be stored.
+fn tell_store(rt: &HostRuntime, fault: &TargetFault) -> io::Result<()> {
+    let name = match &fault.name {
+        Some(name) => name.as_str(),
+        None => "a file",
+    };
+    let reason = fault.reason;
+    eprintln!(rt; "nullcheck_cert: can't write {name}: {reason}")
+}
+
+/// Says why the output can't be written, or the file that was to be stored.
+fn tell_write(
+    rt: &HostRuntime,
+    fault: Option<io::Error>,
+    stored: Option<&TargetFault>,
+) -> io::Result<()> {
+    if let Some(stored) = stored {
+        return tell_store(rt, stored);
+    }
     match fault {
         Some(reason) => {
             eprintln!(rt; "nullcheck_cert: can't write to standard output: {reason}")
@@ -56,14 +76,23 @@ fn tell(
     words: &[String],
     files: &HostFiles<HostRuntime>,
     out: &HostSink<HostRuntime>,
+    target: &HostTargets<HostRuntime>,
 ) {
     let _told = match status {
         Status::ReadFault => tell_read(rt, files.fault()),
-        Status::WriteFault => tell_write(rt, out.fault()),
+        Status::WriteFault => tell_write(rt, out.fault(), target.fault()),
         Status::OutOfMemory => tell_no_memory(rt),
         Status::Usage => eprintln!(rt; "nullcheck_cert: {}", usage_reason(words)),
         _ => Ok(()),
     };
+}
+
+/// Whether the words ask for a certificate to be written.
+fn is_write(words: &[String]) -> bool {
+    match words {
+        [word, ..] => word.as_str() == "write",
+        [] => false,
+    }
 }
 
 /// Does what the words ask for.
@@ -71,8 +100,21 @@ fn done<R: Threads + Sync>(rt: &HostRuntime, threads: &R, words: &[String]) -> S
     let alloc = rt.alloc();
     let mut files = HostFiles::new(rt, alloc);
     let mut out = HostSink::new(rt);
-    let status = check(threads, alloc, words, &mut files, &mut out);
-    tell(rt, status, words, &files, &out);
+    let mut target = HostTargets::new(rt, alloc);
+    let status = if is_write(words) {
+        write_cert(
+            threads,
+            &Straight,
+            alloc,
+            words,
+            &mut files,
+            &mut out,
+            &mut target,
+        )
+    } else {
+        check(threads, alloc, words, &mut files, &mut out)
+    };
+    tell(rt, status, words, &files, &out, &target);
     status
 }
 

@@ -51,4 +51,4 @@ asked_of first [] = None
 asked_of first (word ∷ words) = if bytes_eq word first then command_of words else None
 
 abbrev pub usage_line : List ℕ
-usage_line = codes "usage: nullcheck_cert check [--infer NAME] CERT FILE..\n"
+usage_line = codes "usage: nullcheck_cert check [--infer NAME] CERT FILE..\n       nullcheck_cert write [--infer NAME] CERT FILE..\n"

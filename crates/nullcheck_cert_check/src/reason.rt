@@ -38,7 +38,7 @@ fn command_reason(words: &[String]) -> &'static str {
 pub fn usage_reason(words: &[String]) -> &'static str {
     match words {
         [word, rest @ ..] => {
-            if word.as_str() == "check" {
+            if word.as_str() == "check" || word.as_str() == "write" {
                 command_reason(rest)
             } else {
                 "the first word is no command"

@@ -22,7 +22,8 @@ use std::alloc::Global;
 use std::mem::forget;
 use std::thread::Threads;
 
-const USAGE: &str = "usage: nullcheck_cert check [--infer NAME] CERT FILE..\n";
+const USAGE: &str =
+    "usage: nullcheck_cert check [--infer NAME] CERT FILE..\n       nullcheck_cert write [--infer NAME] CERT FILE..\n";
 
 /// Tells the verdict on a certificate of this name and the files that were read with it, at most 64.
 ///

@@ -1,0 +1,123 @@
+-- What is told answers the words.
+use Rattle.std.proofs.Common.{◌≡◌, ℕ, ◌<◌, inl, inr, true, false, List, [], ◌∷◌, ◌++◌, length, Option, Some, None, Result, Ok as MadeOk, Err, refl, sym, ap, ◌∙◌, subst, arith, append-nil}
+use Rattle.std.specs.Prelude.{◌⊎◌, IfOk, codes}
+use Rattle.std.specs.Str.{bytes_eq}
+use Rattle.jn_base.specs.declared.infer.Infer.{Infer}
+use Rattle.jn_base.specs.declared.refusal.OutOfMemory.{OutOfMemory as NoMemory}
+use Rattle.jn_base.specs.declared.place.Row.{Row}
+use Rattle.jn_outside.specs.Causes.{Rose}
+use Rattle.jn_targets.specs.declared.replaced.Replaced.{Replaced}
+use Rattle.jn_targets.specs.Replacing.{replacement}
+use Rattle.jn_outside.specs.Sink.{Appends, AppendsPrefix}
+use Rattle.jn_front.specs.declared.source.SourceFile.{SourceFile}
+use Rattle.jn_front.specs.declared.source.SourceRead.{SourceRead}
+use Rattle.jn_front.specs.Files.{AreReads, most_files, names_of}
+use Rattle.jn_reporters.specs.Reports.{plain_shown}
+use Rattle.jn_command.specs.declared.output.Output.{Output}
+use Rattle.jn_command.specs.declared.report.Report.TheVariants.{Refused as RefusedReport, Checked}
+use Rattle.jn_command.specs.declared.status.Status.{Status}
+use Rattle.jn_command.specs.declared.status.Status.TheVariants.{Ok, Rejected as RejectedStatus, Refused as RefusedStatus, ReadFault, WriteFault, OutOfMemory, Usage}
+use Rattle.jn_command.specs.Answer.{Finished, Reading}
+use Rattle.jn_command.specs.Outputs.{IfMade}
+use Rattle.jn_command.specs.Reports.{status_of}
+use Rattle.jn_command.specs.Shown.{shown}
+use Rattle.jn_cert_make.specs.declared.made.CertMade.{CertMade}
+use Rattle.jn_cert_make.specs.declared.made.CertMade.TheVariants.{Refused, Rejected, TooLarge, Made}
+use Rattle.nullcheck_cert_check.specs.Told.{IsRefusalOf}
+use Rattle.nullcheck_cert_check.specs.Words.{Command, command, usage_line}
+use Rattle.nullcheck_cert_write.specs.Answer.{Answers, AnswersFiles, IsTold, IsUntouched, Outcome, Tells, TellsPrefix, outcome, output_name}
+use Rattle.nullcheck_cert_write.specs.Verdicts.{IsVerdict}
+
+module _ (infer : Infer) (name : List ℕ) (files : List SourceFile) (o : Outcome) where
+  -- it was written whole
+  whole : (made : CertMade) (status : Status) (bytes : List ℕ) → IsVerdict infer files made → IsTold name files made status bytes → o.now ≡ o.before → Tells infer name files o status → AnswersFiles infer name files o status
+  whole (Refused rows) status bytes is t s w = subst (AnswersFiles infer name files o) (sym t.0) (subst (Tells infer name files o) t.0 w)
+  whole (Rejected rows) status bytes is t s w = subst (AnswersFiles infer name files o) (sym t.0) (subst (Tells infer name files o) t.0 w)
+  whole TooLarge status bytes is t s w = subst (AnswersFiles infer name files o) (sym t.0) (subst (Tells infer name files o) t.0 w)
+  whole (Made cert) status bytes is t s w = subst (AnswersFiles infer name files o) (sym t.1) (inl (subst (Tells infer name files o) t.1 w))
+
+  pub finished : (made : CertMade) (status : Status) (bytes : List ℕ) (kb kn : ℕ) (result : Status) → IsVerdict infer files made → IsTold name files made status bytes → o.now ≡ o.before → Finished o.old o.new bytes status kb kn result → AnswersFiles infer name files o result
+  finished made status bytes kb kn result is t s (inl p) = subst (AnswersFiles infer name files o) (sym p.0) (whole made status bytes is t s (record { made = made; is = is; bytes = bytes; told = t; written = p.1; stored = s }))
+  finished made status bytes kb kn result is t s (inr p) = subst (AnswersFiles infer name files o) (sym p.0) (inl (record { made = made; is = is; status = status; bytes = bytes; told = t; written = p.1; stored = s }))
+
+  pub by_made : (made : CertMade) (kb kn : ℕ) (result : Status) (output : Result Output NoMemory) → IsVerdict infer files made → IfOk output (λ r. IsTold name files made r.status r.bytes) → o.now ≡ o.before → IfMade output (λ status bytes. Finished o.old o.new bytes status kb kn result) ((result ≡ OutOfMemory) × (o.new ≡ o.old) × (kn ≡ kb)) → AnswersFiles infer name files o result
+  by_made made kb kn result (MadeOk r) is t s f = finished made r.status r.bytes kb kn result is t s f
+  by_made made kb kn result (Err e) is t s f = subst (AnswersFiles infer name files o) (sym f.0) (f.1, s)
+
+-- ---- outputs
+
+some_status : (rows : List Row) → (rows ≡ [] → ⊥) → status_of (Checked rows) ≡ RejectedStatus
+some_status [] some = absurd (some refl)
+some_status (row ∷ rows) some = refl
+
+pub told_refused : (name : List ℕ) (reads : List SourceRead) (files : List SourceFile) (rows : List Row) (output : Result Output NoMemory) → IfOk output (λ o. o.status ≡ status_of (RefusedReport rows)) → IfOk output (λ o. (fs : List SourceFile) → AreReads reads fs → o.bytes ≡ shown plain_shown fs (RefusedReport rows)) → AreReads reads files → IfOk output (λ r. IsTold name files (Refused rows) r.status r.bytes)
+told_refused name reads files rows (MadeOk o) status bytes are = (status, bytes files are)
+told_refused name reads files rows (Err e) status bytes are = tt
+
+pub told_rejected : (infer : Infer) (name : List ℕ) (reads : List SourceRead) (files : List SourceFile) (rows : List Row) (output : Result Output NoMemory) → IsVerdict infer files (Rejected rows) → IfOk output (λ o. o.status ≡ status_of (Checked rows)) → IfOk output (λ o. (fs : List SourceFile) → AreReads reads fs → o.bytes ≡ shown plain_shown fs (Checked rows)) → AreReads reads files → IfOk output (λ r. IsTold name files (Rejected rows) r.status r.bytes)
+told_rejected infer name reads files rows (MadeOk o) is status bytes are = (status ∙ some_status rows is.gives.1, bytes files are)
+told_rejected infer name reads files rows (Err e) is status bytes are = tt
+
+pub told_large : (name : List ℕ) (files : List SourceFile) (output : Result Output NoMemory) → IfOk output (λ o. o.status ≡ RejectedStatus) → IfOk output (λ o. o.bytes ≡ name ++ codes ": too large\n") → IfOk output (λ r. IsTold name files TooLarge r.status r.bytes)
+told_large name files (MadeOk o) status bytes = (status, bytes)
+told_large name files (Err e) status bytes = tt
+
+-- ---- more files than there may be
+
+pub files_named : List (List ℕ) → List SourceFile
+files_named [] = []
+files_named (name ∷ names) = record { name = name; bytes = [] } ∷ files_named names
+
+named_are : (names : List (List ℕ)) → names_of (files_named names) ≡ names
+unfolding files_named
+named_are [] = refl
+named_are (name ∷ names) = ap (λ ns. name ∷ ns) (named_are names)
+
+abbrev IsMany : List (List ℕ) → Result Output NoMemory → Type 0
+IsMany names output = IfOk output (λ o. (infer : Infer) (files : List SourceFile) → names_of files ≡ names → IsRefusalOf infer files o.status o.bytes)
+
+refusal_finished : (infer : Infer) (name : List ℕ) (files : List SourceFile) (o : Outcome) (status : Status) (bytes : List ℕ) (kb kn : ℕ) (result : Status) → IsRefusalOf infer files status bytes → o.now ≡ o.before → Finished o.old o.new bytes status kb kn result → AnswersFiles infer name files o result
+refusal_finished infer name files o status bytes kb kn result r s f = finished infer name files o (Refused r.rows) status bytes kb kn result r.are (r.ends, r.shows) s f
+
+many_files : (infer : Infer) (name : List ℕ) (names : List (List ℕ)) (o : Outcome) (kb kn : ℕ) (result : Status) (output : Result Output NoMemory) → IsMany names output → o.now ≡ o.before → IfMade output (λ status bytes. Finished o.old o.new bytes status kb kn result) ((result ≡ OutOfMemory) × (o.new ≡ o.old) × (kn ≡ kb)) → AnswersFiles infer name (files_named names) o result
+many_files infer name names o kb kn result (MadeOk r) many s f = refusal_finished infer name (files_named names) o r.status r.bytes kb kn result (many infer (files_named names) (named_are names)) s f
+many_files infer name names o kb kn result (Err e) many s f = subst (AnswersFiles infer name (files_named names) o) (sym f.0) (f.1, s)
+
+pub many_answers : (read : Reading) (infer : Infer) (name : List ℕ) (names : List (List ℕ)) (o : Outcome) (kb kn : ℕ) (result : Status) (output : Result Output NoMemory) → most_files < length names → IsMany names output → o.now ≡ o.before → IfMade output (λ status bytes. Finished o.old o.new bytes status kb kn result) ((result ≡ OutOfMemory) × (o.new ≡ o.old) × (kn ≡ kb)) → Answers read (Some (command infer name names)) o result
+many_answers read infer name names o kb kn result output lt many s f = inl (record {
+  files = files_named names;
+  are = record { named = named_are names; told = λ few. absurd (omega (arith, few, lt)); given = λ few. absurd (omega (arith, few, lt)) };
+  answer = many_files infer name names o kb kn result output many s f;
+})
+
+read_refused : ReadFault ≡ RefusedStatus → ⊥
+read_refused e = cc
+
+read_write : ReadFault ≡ WriteFault → ⊥
+read_write e = cc
+
+read_memory : ReadFault ≡ OutOfMemory → ⊥
+read_memory e = cc
+
+write_refused : WriteFault ≡ RefusedStatus → ⊥
+write_refused e = cc
+
+write_memory : WriteFault ≡ OutOfMemory → ⊥
+write_memory e = cc
+
+-- no read fault, and a write fault only where the count rose
+pub many_unread : (infer : Infer) (names : List (List ℕ)) (old new : Option (List ℕ)) (kb kn : ℕ) (result : Status) (output : Result Output NoMemory) → IsMany names output → IfMade output (λ status bytes. Finished old new bytes status kb kn result) ((result ≡ OutOfMemory) × (new ≡ old) × (kn ≡ kb)) → result ≡ ReadFault → ⊥
+many_unread infer names old new kb kn result (MadeOk r) many (inl p) e = read_refused (sym e ∙ p.0 ∙ (many infer (files_named names) (named_are names)).ends)
+many_unread infer names old new kb kn result (MadeOk r) many (inr p) e = read_write (sym e ∙ p.0)
+many_unread infer names old new kb kn result (Err x) many f e = read_memory (sym e ∙ f.0)
+
+pub many_rose : (infer : Infer) (names : List (List ℕ)) (old new : Option (List ℕ)) (kb kn : ℕ) (result : Status) (output : Result Output NoMemory) → IsMany names output → IfMade output (λ status bytes. Finished old new bytes status kb kn result) ((result ≡ OutOfMemory) × (new ≡ old) × (kn ≡ kb)) → result ≡ WriteFault → Rose kb kn
+many_rose infer names old new kb kn result (MadeOk r) many (inl p) e = absurd (write_refused (sym e ∙ p.0 ∙ (many infer (files_named names) (named_are names)).ends))
+many_rose infer names old new kb kn result (MadeOk r) many (inr p) e = p.2
+many_rose infer names old new kb kn result (Err x) many f e = absurd (write_memory (sym e ∙ f.0))
+
+-- ---- words that are no command's
+
+pub usage : (read : Reading) (asked : Option Command) (o : Outcome) (bytes : List ℕ) (kb kn : ℕ) (result : Status) → asked ≡ None → bytes ≡ usage_line → o.now ≡ o.before → Finished o.old o.new bytes Usage kb kn result → Answers read asked o result
+usage read asked o bytes kb kn result e b s (inl p) = subst (λ x. Answers read x o result) (sym e) (inl (p.0, subst (Appends o.old o.new) b p.1, s))
+usage read asked o bytes kb kn result e b s (inr p) = subst (λ x. Answers read x o result) (sym e) (inr (p.0, subst (AppendsPrefix o.old o.new) b p.1, s))
