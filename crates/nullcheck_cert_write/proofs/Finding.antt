@@ -18,7 +18,7 @@ use Rattle.jn_front.specs.Limits.{limit_rows}
 use Rattle.jn_front.specs.Phases.{AreParsed, AreTreesOf, FrontRows, TextRows}
 use Rattle.jn_command.specs.Stands.{StandIn}
 use Rattle.nullcheck_cert_check.specs.Verdicts.{AreTreeRows}
-use Rattle.nullcheck_cert_check.proofs.Standing.{Limited, all_stand, limited_stand, within_limits}
+use Rattle.jn_command.proofs.Standing.{Limited, all_stand, limited_stand, within_limits}
 use Rattle.nullcheck_cert_write.specs.Verdicts.{IsVerdict, rows_of}
 
 abbrev pub Found : Type 0

@@ -10,7 +10,7 @@ use Rattle.jn_command.proofs.Showing.{length_is, name_there, number_text}
 use Rattle.jn_reporters.specs.Reports.{plain_shown}
 use Rattle.jn_reporters.specs.Sheet.{Taken}
 use Rattle.nullcheck_cert_check.proofs.Refusing.{many_refused}
-use Rattle.nullcheck_cert_check.proofs.Standing.{map_length}
+use Rattle.nullcheck_cert_check.proofs.Fitting.{map_length}
 use Rattle.nullcheck_cert_write.proofs.outputs.number_output.Goals as goal
 
 pub returns : goal.returns
