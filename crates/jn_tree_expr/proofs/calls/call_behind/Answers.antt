@@ -1,0 +1,22 @@
+use Rattle.std.proofs.Common.{◌≡◌, ℕ, Bool, List, Option, Some, None, [], ◌∷◌, sym, ap, ◌∙◌, subst}
+use Rattle.jn_heap.specs.Values.{Value, At, usual_limits}
+use Rattle.jn_heap.specs.State.{object_of, value_at}
+use Rattle.jn_heap.specs.Calls.{selected}
+use Rattle.jn_points.specs.declared.program.Program.{Program}
+use Rattle.jn_points.specs.Lookup.{method_at, private_of}
+use Rattle.jn_machine.specs.Parts.{prepended}
+use Rattle.jn_meaning.specs.Expressions as spec
+use Rattle.jn_meaning.specs.Operations.{all_there}
+use Rattle.jn_meaning.specs.Worlds.{Has, then_do}
+use Rattle.jn_tree_world.specs.Outcomes.{IsStop, Means, MeansAs}
+use Rattle.jn_tree_world.specs.Worlds.{items_in, place_of, world_of}
+use Rattle.jn_tree_world.proofs.Binding.{bound, deref_first, memory, stop_then, stops}
+use Rattle.jn_tree_expr.specs.Meaning.{called_behind, number_of}
+use Rattle.jn_tree_expr.proofs.Evaluating.{front_none, never_stops, same_value, this_front}
+use Rattle.jn_tree_expr.proofs.calls.call_behind.Goals as goal
+
+pub returns-in-Text : goal.returns-in-Text
+returns-in-Text g c = λ names m h. rw c.in-Text.is (c.text_call.ensures c.args.c.now.program.now names usual_limits.longest m (world_of c.args.w.now))
+
+pub returns-in-Object : goal.returns-in-Object
+returns-in-Object g c = λ names m h. rw c.in-Object.is (subst (λ (b : Bool). Means (spec.called_on c.args.c.now.program.now names usual_limits.longest m c.args.span c.in-Object.method.0 b c.args.receiver.now c.args.at c.args.arguments.now (world_of c.args.w.now)) c.call_on.result (world_of c.call_on.new.w)) c.is_private-direct.ensures (c.call_on.ensures names usual_limits.longest m h))

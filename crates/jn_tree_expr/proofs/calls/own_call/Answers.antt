@@ -1,0 +1,22 @@
+use Rattle.std.proofs.Common.{◌≡◌, ℕ, Bool, List, Option, Some, None, [], ◌∷◌, sym, ap, ◌∙◌, subst}
+use Rattle.jn_heap.specs.Values.{Value, At, usual_limits}
+use Rattle.jn_heap.specs.State.{object_of, value_at}
+use Rattle.jn_heap.specs.Calls.{selected}
+use Rattle.jn_points.specs.declared.program.Program.{Program}
+use Rattle.jn_points.specs.Lookup.{method_at, private_of}
+use Rattle.jn_machine.specs.Parts.{prepended}
+use Rattle.jn_meaning.specs.Expressions as spec
+use Rattle.jn_meaning.specs.Operations.{all_there}
+use Rattle.jn_meaning.specs.Worlds.{Has, then_do}
+use Rattle.jn_tree_world.specs.Outcomes.{IsStop, Means, MeansAs}
+use Rattle.jn_tree_world.specs.Worlds.{items_in, place_of, world_of}
+use Rattle.jn_tree_world.proofs.Binding.{bound, deref_first, memory, stop_then, stops}
+use Rattle.jn_tree_expr.specs.Meaning.{called_behind, number_of}
+use Rattle.jn_tree_expr.proofs.Evaluating.{front_none, never_stops, same_value, this_front}
+use Rattle.jn_tree_expr.proofs.calls.own_call.Goals as goal
+
+pub returns-then-is_static : goal.returns-then-is_static
+returns-then-is_static g c = λ names longest m h. rw c.in-Some.is (rw (sym c.is_static.ensures ∙ c.if-is_static.true) (c.call_static.ensures names longest m h))
+
+pub returns : goal.returns
+returns g c = λ names longest m h. rw c.in-Some.is (rw (sym c.is_static.ensures ∙ c.if-is_static.false) (subst (λ (b : Bool). Means (spec.called_on c.args.c.now.program.now names longest m c.args.span c.in-Some.own.0 b (value_at c.args.w.now.locals.items 0) c.args.at c.args.arguments.now (world_of c.args.w.now)) c.call_on_this.result (world_of c.call_on_this.new.w)) c.is_private-direct.ensures (c.call_on_this.ensures names longest m h)))

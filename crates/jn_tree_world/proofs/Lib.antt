@@ -1,0 +1,3 @@
+mod Pieces
+mod Nulls
+pub mod Binding
