@@ -1,7 +1,8 @@
-//! A case is one line: the words of a command. Eight words set what lies around it: `hex=FILE` gives the certificate `CERT` the bytes
+//! A case is one line: the words of a command. Nine words set what lies around it: `hex=FILE` gives the certificate `CERT` the bytes
 //! that FILE writes in hexadecimal digits, and `zeros=N` so many zero bytes; `set=AT:VALUE` changes a byte of it, `cut=N` leaves
 //! its first N bytes and `more=N` puts N zero bytes behind them; `read=N` has the Nth call on the source fail, `write=N` the Nth
-//! write, and `room=N` gives the sink room for N bytes. `times=N` takes the last word N times.
+//! write, `store=N` the Nth file that is put in place, and `room=N` gives the sink room for N bytes. `times=N` takes the last word
+//! N times.
 use std::alloc::AllocError;
 use std::{fs, io};
 
@@ -21,6 +22,8 @@ pub struct Case {
     pub reads: Vec<u32>,
     /// The writes that fail, from 1.
     pub writes: Vec<u32>,
+    /// The file that isn't put in place, from 1; 0 where all are.
+    pub store: u32,
     pub room: u32,
 }
 
@@ -93,6 +96,8 @@ fn take_failure(case: &mut Case, word: &str) -> Result<bool, AllocError> {
         case.reads.push(call)?;
     } else if let Some(call) = number(word, "write") {
         case.writes.push(call)?;
+    } else if let Some(call) = number(word, "store") {
+        case.store = call;
     } else if let Some(room) = number(word, "room") {
         case.room = room;
     } else {
@@ -131,6 +136,7 @@ pub fn case_of(rt: &HostRuntime, line: &str) -> io::Result<Case> {
         cert: None,
         reads: Vec::new(alloc),
         writes: Vec::new(alloc),
+        store: 0,
         room: WIDE,
     };
     for word in line.split_whitespace() {

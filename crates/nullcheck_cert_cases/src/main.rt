@@ -1,12 +1,15 @@
-//! Runs the check of certificates on each line of the tables that the words name, over the files beside them, and prints what it
-//! writes.
+//! Checks or writes certificates by each line of the tables that the words name, over the files beside them, and prints what is
+//! written, and a certificate in hexadecimal digits.
 #![tactic(auto)]
 
 mod case;
 
 use case::{Case, case_of};
+use jn_gate::Straight;
 use jn_outside::{MemFile, MemFiles, MemSink};
-use nullcheck_cert_check::check;
+use jn_targets::MemTargets;
+use nullcheck_cert_check::{Status, check};
+use nullcheck_cert_write::write_cert;
 use std::alloc::AllocError;
 use std::thread::Threads;
 use std::{env, fs, io};
@@ -40,6 +43,77 @@ fn sink_of(rt: &HostRuntime, case: &Case) -> io::Result<MemSink> {
     }
 }
 
+/// Prints bytes in hexadecimal digits, sixteen a line.
+fn print_bytes(rt: &HostRuntime, bytes: &[u8]) -> io::Result<()> {
+    for line in bytes.chunks(16) {
+        for byte in line {
+            print!(rt; "{byte:02x} ")?;
+        }
+        println!(rt)?;
+    }
+    Ok(())
+}
+
+/// Prints what was written: text, or the certificate of accepted files.
+fn print_written(rt: &HostRuntime, status: Status, bytes: &[u8]) -> io::Result<()> {
+    if status == Status::Ok {
+        return print_bytes(rt, bytes);
+    }
+    let wrote = String::from_utf8_lossy(rt.alloc(), bytes)?;
+    print!(rt; "{wrote}")
+}
+
+/// Writes a certificate over these files, and prints what is written and put in place.
+fn run_write<R: Threads + Sync>(
+    rt: &HostRuntime,
+    threads: &R,
+    case: &Case,
+    files: &mut MemFiles,
+    sink: &mut MemSink,
+) -> io::Result<()> {
+    let alloc = rt.alloc();
+    let mut targets = MemTargets::new(alloc, case.store as u64);
+    let status = write_cert(
+        threads,
+        &Straight,
+        alloc,
+        &case.words,
+        files,
+        sink,
+        &mut targets,
+    );
+    print_written(rt, status, sink.bytes())?;
+    for file in targets.files() {
+        let name = file.name.as_str();
+        println!(rt; ">> {name}")?;
+        print_bytes(rt, file.bytes.as_slice())?;
+    }
+    let number = status.number();
+    println!(rt; "-- {number}")
+}
+
+/// Checks a certificate of these files, and prints what is written.
+fn run_check<R: Threads + Sync>(
+    rt: &HostRuntime,
+    threads: &R,
+    case: &Case,
+    files: &mut MemFiles,
+    sink: &mut MemSink,
+) -> io::Result<()> {
+    let alloc = rt.alloc();
+    let status = check(threads, alloc, &case.words, files, sink).number();
+    let wrote = String::from_utf8_lossy(alloc, sink.bytes())?;
+    println!(rt; "{wrote}-- {status}")
+}
+
+/// Whether the words ask for a certificate to be written.
+fn is_write(words: &[String]) -> bool {
+    match words {
+        [word, ..] => word.as_str() == "write",
+        [] => false,
+    }
+}
+
 /// Runs the case of a line with these threads, and prints both.
 fn run<R: Threads + Sync>(rt: &HostRuntime, threads: &R, line: &str) -> io::Result<()> {
     let alloc = rt.alloc();
@@ -49,9 +123,11 @@ fn run<R: Threads + Sync>(rt: &HostRuntime, threads: &R, line: &str) -> io::Resu
     let failing = Vec::from_slice(alloc, &case.reads)?;
     let mut files = MemFiles::new(alloc, held, failing);
     let mut sink = sink_of(rt, &case)?;
-    let status = check(threads, alloc, &case.words, &mut files, &mut sink).number();
-    let wrote = String::from_utf8_lossy(alloc, sink.bytes())?;
-    println!(rt; "{wrote}-- {status}")
+    if is_write(&case.words) {
+        run_write(rt, threads, &case, &mut files, &mut sink)
+    } else {
+        run_check(rt, threads, &case, &mut files, &mut sink)
+    }
 }
 
 fn main(rt: HostRuntime) -> io::Result<()> {
