@@ -77,12 +77,12 @@ class Tally:
             print(f"{name}: ended with {ended.returncode}: {ended.stdout[:200]!r} {ended.stderr[:200]!r}")
 
 
-def check(certifier, folder, cert, words, number):
-    """Checks these bytes as a certificate of the files."""
+def check(certifier, folder, cert, words, number, choice=()):
+    """Checks these bytes as a certificate of the files, with a choice of members that are inferred."""
     name = f"changed{number % 64}.cert"
     path = pathlib.Path(folder, name)
     path.write_bytes(cert)
-    return run([certifier, "check", name, *words], folder)
+    return run([certifier, "check", *choice, name, *words], folder)
 
 
 def accepted(certifier, folder, count):
@@ -128,7 +128,7 @@ def others(certifier, folder, found, tally):
         older = pathlib.Path(folder, "Older" + name)
         older.write_text(text + "\nclass OlderThanThat { int more() { return 1; } }\n", encoding="utf-8")
         tally.take(f"{name}, older", check(certifier, folder, cert, [older.name], 0), (1, 2))
-        tally.take(f"{name}, the other choice", check(certifier, folder, cert, ["--infer", "package", name], 0), (0, 1))
+        tally.take(f"{name}, the other choice", check(certifier, folder, cert, [name], 0, ("--infer", "package")), (0, 1))
 
 
 def change_examples(certifier, count):
