@@ -5,3 +5,4 @@ pub mod Phasing
 pub mod Placing
 pub mod Ending
 pub mod Naming
+pub mod Meaning

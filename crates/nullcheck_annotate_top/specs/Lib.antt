@@ -1,5 +1,6 @@
 pub mod Places
 pub mod Study
+pub mod Kept
 pub mod Changes
 pub mod Output
 pub mod Answer

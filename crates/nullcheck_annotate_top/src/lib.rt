@@ -8,6 +8,7 @@ pub mod answer;
 pub mod changes;
 pub mod faults;
 pub mod finish;
+pub mod law;
 pub mod output;
 mod relexed;
 pub mod study;

@@ -1,0 +1,20 @@
+-- That annotated texts mean what the files do.
+use Rattle.std.specs.Prelude.{ℕ, List, drop, map}
+use Rattle.jn_base.specs.declared.infer.Infer.{Infer}
+use Rattle.jn_quals.specs.Qualifier.{Qualifier}
+use Rattle.jn_places.specs.Placed.{PlacedFile}
+use Rattle.jn_places.specs.Forget.{forget_file}
+use Rattle.jn_program_law.specs.FileProgram.{inferring}
+use Rattle.jn_front.specs.declared.source.SourceFile.{SourceFile}
+use Rattle.jn_annotate_law.specs.Kept.{KeptRowless}
+use Rattle.jn_annotate_law.specs.Trees.{noted_files}
+use Rattle.nullcheck_annotate_top.specs.Study.{AreAnnotated}
+
+-- what annotating keeps of trees with these names and signature
+abbrev pub KeptTrees : Infer → List (List ℕ) → List PlacedFile → List Qualifier → List (List ℕ) → Type 0
+KeptTrees infer names trees s new =
+    KeptRowless infer names trees s (noted_files (inferring infer trees).slots s (map forget_file trees) (inferring infer trees).fields (drop 1 (inferring infer trees).methods)) new
+
+-- what it keeps of the files' own trees, names and least signature
+abbrev pub KeptFiles : (infer : Infer) (files : List SourceFile) (new : List (List ℕ)) → AreAnnotated infer files new → Type 0
+KeptFiles infer files new a = KeptTrees infer a.solved.names a.solved.of_files.of_files.trees a.solved.signature new
