@@ -50,10 +50,10 @@ keeps_meaning law infer files new a =
     let parsed = of.lowered.declared.parsed in
     let regular : Regular (inferring infer of.trees) = subst Regular of.is of.regular in
     law infer (texts_of files) a.solved.names new of.tokens of.trees a.solved.signature
-        (lexed_texts 0 _ files of.tokens a.solved.names parsed.lexed)
-        (placed_all of.tokens of.trees parsed.parsed)
-        (rowless of.trees of.lowered.declared.rowless of.lowered.rowless)
-        regular.few.fields
-        regular.few.methods
-        (subst (λ (Q : Program). IsLeastSignature Q a.solved.signature) of.is a.solved.least)
-        (subst (λ (Q : Program). Annotated Q a.solved.signature (texts_of files) (tokens_of infer files a.solved) (trees_of infer files a.solved) new) of.is a.are)
+    (lexed_texts 0 _ files of.tokens a.solved.names parsed.lexed)
+    (placed_all of.tokens of.trees parsed.parsed)
+    (rowless of.trees of.lowered.declared.rowless of.lowered.rowless)
+    regular.few.fields
+    regular.few.methods
+    (subst (λ (Q : Program). IsLeastSignature Q a.solved.signature) of.is a.solved.least)
+    (subst (λ (Q : Program). Annotated Q a.solved.signature (texts_of files) (tokens_of infer files a.solved) (trees_of infer files a.solved) new) of.is a.are)
