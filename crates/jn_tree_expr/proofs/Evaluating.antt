@@ -1,6 +1,6 @@
 -- Operands one after the other, and what stands before arguments.
-use Rattle.std.proofs.Common.{◌≡◌, ℕ, List, [], ◌∷◌, ◌++◌, Option, Some, None, Ok, Err, refl, sym, ap, ◌∙◌, subst, append_assoc, append-nil}
-use Rattle.std.specs.Prelude.{MatchOption, true, false}
+use Rattle.std.proofs.Common.{◌≡◌, ℕ, List, [], ◌∷◌, ◌++◌, Option, Some, None, refl, sym, ap, append_assoc}
+use Rattle.std.specs.Prelude.{MatchOption, true}
 use Rattle.jn_base.specs.declared.number.MethodNo.{MethodNo}
 use Rattle.jn_base.specs.declared.place.Span.{Span}
 use Rattle.jn_heap.specs.Values.{Value, At, usual_limits}
@@ -16,7 +16,6 @@ use Rattle.jn_tree_expr.specs.Meaning.{called_behind, has_receiver, number_of}
 use Rattle.jn_tree_world.specs.declared.halt.Halt.{Halt}
 use Rattle.jn_tree_world.specs.declared.halt.Halt.TheVariants.{Faulted, NullAt, FuelOut, TooDeep, Senseless, OutOfMemory}
 use Rattle.jn_tree_world.specs.Outcomes.{IsStop}
-use Rattle.jn_tree_world.proofs.Binding.{stop_then}
 
 pub front_none : (o : Option (List Value)) → prepended [] o ≡ o
 front_none None = refl

@@ -1,10 +1,9 @@
 -- Which forms are values that are tested, and which are conditions that are made a value; what a binary form is.
-use Rattle.std.proofs.Common.{◌≡◌, ℕ, Bool, true, false, List, refl, ap}
-use Rattle.std.specs.Prelude.{cond, not, ◌&&◌, ◌||◌, Option, Some}
+use Rattle.std.proofs.Common.{◌≡◌, ℕ, Bool, true, false, List, refl}
+use Rattle.std.specs.Prelude.{not, ◌&&◌, ◌||◌, Option, Some}
 use Rattle.jn_base.specs.declared.place.Span.{Span}
 use Rattle.jn_trees.specs.declared.expression.AssignOperator.{AssignOperator}
 use Rattle.jn_trees.specs.declared.expression.AssignOperator.TheVariants.{Assign}
-use Rattle.jn_trees.specs.declared.expression.Literal.{Literal}
 use Rattle.jn_trees.specs.declared.expression.Literal.TheVariants.{True, False}
 use Rattle.jn_trees.specs.declared.expression.UnaryOperator.{UnaryOperator}
 use Rattle.jn_trees.specs.declared.expression.UnaryOperator.TheVariants.{Plus, Minus, Not}
@@ -17,11 +16,11 @@ use Rattle.jn_lowering.specs.Bases.{compound_of, is_equality, is_simple, operato
 use Rattle.jn_heap.specs.State.{prim_of}
 use Rattle.jn_heap.specs.Steps.{unary_of}
 use Rattle.jn_heap.specs.Values.{Value, Plain, Truth, usual_limits}
-use Rattle.jn_lower_expr.specs.Lowering.{is_and, is_connective, is_logical, is_minus, is_not, is_tested, is_true}
+use Rattle.jn_lower_expr.specs.Lowering.{is_connective, is_logical, is_minus, is_not, is_tested}
 use Rattle.jn_scopes.specs.declared.context.Context.{Context}
 use Rattle.jn_meaning.specs.Operations.{Place}
 use Rattle.jn_meaning.specs.Worlds.{World, Result, Has, got, then_do, truth_in}
-use Rattle.jn_meaning.specs.Expressions.{Caller, Meant, assignment, binary, both_hold, calculated, compound, either_holds, fails, is_on_null, literal_holds, null_holds, unary}
+use Rattle.jn_meaning.specs.Expressions.{Caller, Meant, assignment, binary, calculated, compound, is_on_null, null_holds, unary}
 use Rattle.jn_tree_expr.specs.Meaning.{meant_in}
 
 wrong : false ≡ true → ⊥

@@ -1,8 +1,8 @@
 -- What a comparison with null tells.
-use Rattle.std.proofs.Common.{◌≡◌, ℕ, Bool, true, false, Option, Some, None, refl, sym, ap, ◌∙◌, List}
+use Rattle.std.proofs.Common.{◌≡◌, ℕ, Bool, true, false, Option, Some, None, refl, sym, ap}
 use Rattle.jn_base.specs.declared.place.Span.{Span}
 use Rattle.jn_points.specs.declared.program.Program.{Program}
-use Rattle.jn_heap.specs.Values.{Prim, Value, NullRef, Text, Plain, At, Thing, same}
+use Rattle.jn_heap.specs.Values.{Prim, Value, NullRef, Text, Plain, At, same}
 use Rattle.jn_heap.specs.State.{prim_of}
 use Rattle.jn_heap.specs.Steps.{is_within}
 use Rattle.jn_meaning.specs.Worlds.{World, Has, Stops, NullAt, Senseless}

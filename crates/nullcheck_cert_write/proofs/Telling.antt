@@ -1,13 +1,10 @@
 -- What is told answers the words.
-use Rattle.std.proofs.Common.{◌≡◌, ℕ, ◌<◌, inl, inr, true, false, List, [], ◌∷◌, ◌++◌, length, Option, Some, None, Result, Ok as MadeOk, Err, refl, sym, ap, ◌∙◌, subst, arith, append-nil}
-use Rattle.std.specs.Prelude.{◌⊎◌, IfOk, codes}
-use Rattle.std.specs.Str.{bytes_eq}
+use Rattle.std.proofs.Common.{◌≡◌, ℕ, ◌<◌, inl, inr, List, [], ◌∷◌, ◌++◌, length, Option, Some, None, Result, Ok as MadeOk, Err, refl, sym, ap, ◌∙◌, subst, arith}
+use Rattle.std.specs.Prelude.{IfOk, codes}
 use Rattle.jn_base.specs.declared.infer.Infer.{Infer}
 use Rattle.jn_base.specs.declared.refusal.OutOfMemory.{OutOfMemory as NoMemory}
 use Rattle.jn_base.specs.declared.place.Row.{Row}
 use Rattle.jn_outside.specs.Causes.{Rose}
-use Rattle.jn_targets.specs.declared.replaced.Replaced.{Replaced}
-use Rattle.jn_targets.specs.Replacing.{replacement}
 use Rattle.jn_outside.specs.Sink.{Appends, AppendsPrefix}
 use Rattle.jn_front.specs.declared.source.SourceFile.{SourceFile}
 use Rattle.jn_front.specs.declared.source.SourceRead.{SourceRead}
@@ -16,7 +13,7 @@ use Rattle.jn_reporters.specs.Reports.{plain_shown}
 use Rattle.jn_command.specs.declared.output.Output.{Output}
 use Rattle.jn_command.specs.declared.report.Report.TheVariants.{Refused as RefusedReport, Checked}
 use Rattle.jn_command.specs.declared.status.Status.{Status}
-use Rattle.jn_command.specs.declared.status.Status.TheVariants.{Ok, Rejected as RejectedStatus, Refused as RefusedStatus, ReadFault, WriteFault, OutOfMemory, Usage}
+use Rattle.jn_command.specs.declared.status.Status.TheVariants.{Rejected as RejectedStatus, Refused as RefusedStatus, ReadFault, WriteFault, OutOfMemory, Usage}
 use Rattle.jn_command.specs.Answer.{Finished, Reading}
 use Rattle.jn_command.specs.Outputs.{IfMade}
 use Rattle.jn_command.specs.Reports.{status_of}
@@ -25,7 +22,7 @@ use Rattle.jn_cert_make.specs.declared.made.CertMade.{CertMade}
 use Rattle.jn_cert_make.specs.declared.made.CertMade.TheVariants.{Refused, Rejected, TooLarge, Made}
 use Rattle.nullcheck_cert_check.specs.Told.{IsRefusalOf}
 use Rattle.nullcheck_cert_check.specs.Words.{Command, command, usage_line}
-use Rattle.nullcheck_cert_write.specs.Answer.{Answers, AnswersFiles, IsTold, IsUntouched, Outcome, Tells, TellsPrefix, outcome, output_name}
+use Rattle.nullcheck_cert_write.specs.Answer.{Answers, AnswersFiles, IsTold, Outcome, Tells}
 use Rattle.nullcheck_cert_write.specs.Verdicts.{IsVerdict}
 
 module _ (infer : Infer) (name : List ℕ) (files : List SourceFile) (o : Outcome) where

@@ -1,7 +1,6 @@
 use Rattle.std.proofs.Common.{◌≡◌, ◌≤◌, ℕ, List, length, sym, ap, ◌∙◌, subst}
 use Rattle.jn_points.specs.BaseRows.{NoBaseRows}
 use Rattle.jn_points.specs.Regular.{Regular}
-use Rattle.jn_points.specs.declared.program.Program.{Program}
 use Rattle.jn_inference_law.specs.Solution.{IsLeastSignature}
 use Rattle.jn_cert_form.specs.Form.{AreParts, cert_bytes}
 use Rattle.jn_cert_law.specs.Certificate.{CertHolds}

@@ -1,26 +1,25 @@
-use Rattle.std.proofs.Common.{◌≡◌, ℕ, Bool, true, false, List, Option, Some, None, [], ◌∷◌, ◌++◌, ◌+◌, drop, refl, sym, ap, ◌∙◌, subst, append-nil}
+use Rattle.std.proofs.Common.{◌≡◌, ℕ, true, false, List, Option, ◌++◌, ◌+◌, drop, refl, sym, ap, ◌∙◌, subst, append-nil}
 use Rattle.jn_base.specs.declared.place.Span.{Span}
 use Rattle.jn_points.specs.declared.program.Program.{Program}
 use Rattle.jn_trees.specs.declared.expression.Expr.{Expr}
 use Rattle.jn_points.specs.declared.point.BaseType.{BaseType}
-use Rattle.jn_points.specs.declared.point.Operator.{Operator}
 use Rattle.jn_points.specs.Members.{constructor_of, method_of}
-use Rattle.jn_places.specs.Placed.{PlacedTree, PlacedTrees}
+use Rattle.jn_places.specs.Placed.{PlacedTrees}
 use Rattle.jn_places.specs.PlacedView.{placed_view, placed_views}
 use Rattle.jn_heap.specs.Values.{Value, usual_limits}
 use Rattle.jn_lowering.specs.Bases.{compound_of, operator_of}
 use Rattle.jn_lowering.specs.Expressions.{is_null, span_of}
-use Rattle.jn_lowering.specs.Scopes.{callee, class_named, count, or_zero, super_method}
+use Rattle.jn_lowering.specs.Scopes.{callee, count, super_method}
 use Rattle.jn_scopes.specs.Views.{callee_of, scope_in, type_in}
 use Rattle.jn_scopes.proofs.Seen.{left_before, none_left, seen_array_of, seen_call, seen_new, seen_own_call, seen_super_call}
 use Rattle.jn_meaning.specs.Expressions as spec
 use Rattle.jn_meaning.specs.Expressions.{operand_span}
 use Rattle.jn_meaning.specs.Operations.{operated, read_place}
-use Rattle.jn_meaning.specs.Worlds.{Has, got, then_do}
+use Rattle.jn_meaning.specs.Worlds.{Has, then_do}
 use Rattle.jn_tree_world.specs.Outcomes.{IsStop, Means}
 use Rattle.jn_tree_world.specs.Worlds.{items_of, place_of, world_of}
 use Rattle.jn_tree_world.proofs.Binding.{bound, stop_then, stops}
-use Rattle.jn_tree_expr.specs.Meaning.{all_in, called_behind, meant_in, number_of}
+use Rattle.jn_tree_expr.specs.Meaning.{all_in, meant_in, number_of}
 use Rattle.jn_tree_expr.proofs.Evaluating.{has_other, next_operand, numbered, receives, then_has}
 use Rattle.jn_tree_expr.proofs.Shapes.{as_made, as_tested, assigns_so, calculates_so, null_left, null_right, signed}
 use Rattle.jn_tree_expr.proofs.expressions.+evaluating.Goals as goal

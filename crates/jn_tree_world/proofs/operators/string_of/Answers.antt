@@ -1,7 +1,3 @@
-use Rattle.std.proofs.Common.{ap, ◌∙◌, sym}
-use Rattle.jn_heap.specs.State.{got_plain}
-use Rattle.jn_heap.specs.Steps.{str_op}
-use Rattle.std.specs.Prelude.{Some}
 use Rattle.jn_tree_world.proofs.operators.string_of.Goals as goal
 
 pub returns-in-Equals : goal.returns-in-Equals

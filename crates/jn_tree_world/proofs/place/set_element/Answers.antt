@@ -1,8 +1,3 @@
-use Rattle.std.proofs.Common.{sym, subst}
-use Rattle.jn_meaning.specs.Worlds.{Result, then_do}
-use Rattle.jn_heap.specs.Values.{Value}
-use Rattle.std.specs.Prelude.{Option}
-use Rattle.jn_tree_world.specs.Outcomes.{MeansAs}
 use Rattle.jn_tree_world.specs.Worlds.{world_of}
 use Rattle.jn_tree_world.proofs.Binding.{bound, deref_first, stop_then, stops}
 use Rattle.jn_tree_world.proofs.place.set_element.Goals as goal

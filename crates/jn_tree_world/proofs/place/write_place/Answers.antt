@@ -1,4 +1,3 @@
-use Rattle.std.proofs.Common.{sym}
 use Rattle.jn_tree_world.proofs.place.write_place.Goals as goal
 
 pub returns-in-Local : goal.returns-in-Local

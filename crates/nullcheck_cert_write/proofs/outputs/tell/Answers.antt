@@ -1,5 +1,4 @@
 use Rattle.std.proofs.Common.{refl, subst}
-use Rattle.jn_command.specs.declared.report.Report.TheVariants.{Refused as RefusedReport, Checked}
 use Rattle.jn_cert_make.specs.declared.made.CertMade.TheVariants.{Refused, Rejected, TooLarge}
 use Rattle.nullcheck_cert_write.specs.Answer.{outcome}
 use Rattle.nullcheck_cert_write.specs.Verdicts.{IsVerdict}

@@ -1,4 +1,4 @@
-use Rattle.std.proofs.Common.{map, refl, sym, subst, inl, inr}
+use Rattle.std.proofs.Common.{map, refl, sym, subst, inl}
 use Rattle.std.specs.Prelude.{string_bytes}
 use Rattle.jn_front.specs.Files.{ReadFrom}
 use Rattle.jn_command.specs.Answer.{reading}
