@@ -4,6 +4,7 @@ use Rattle.jn_quals.specs.Qualifier.{Qualifier}
 use Rattle.jn_quals.specs.Order.{no_qual}
 use Rattle.jn_points.specs.declared.program.Program.{Program}
 use Rattle.jn_sigs.specs.Signature.{start_signature}
+use Rattle.jn_env.specs.ClassFields.{AreOwnFields}
 use Rattle.jn_env.specs.Environment.{Env}
 use Rattle.jn_env.specs.Order.{Table, env_in, qual_at}
 use Rattle.jn_env.specs.Sized.{Sized}
@@ -21,9 +22,10 @@ abbrev pub AreSized : Program → List Table → Type 0
 AreSized P tables = (b : ℕ) → b < length P.bodies → Sized P b (slice_index_or tables b [])
 
 -- what is found once of a program with its tables
-pub record AreParts (P : Program) (tables : List Table) (start : List Qualifier) (list : List Overrider) : Type 0 where
+pub record AreParts (P : Program) (tables : List Table) (fields : List (List ℕ)) (start : List Qualifier) (list : List Overrider) : Type 0 where
   pub inferable : IsInferable P
   pub sized : AreSized P tables
+  pub own : AreOwnFields P fields
   pub starts : start ≡ start_signature P
   pub overriders : AreOverriders P list
 

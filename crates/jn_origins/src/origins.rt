@@ -10,7 +10,7 @@ use crate::standing::standing;
 use jn_base::{BodyNo, OutOfMemory, PointNo, RegNo, SlotNo};
 use jn_chain::Origins;
 use jn_contrib::{Overrider, overriders};
-use jn_env::FlowTable;
+use jn_env::{FlowTable, OwnFields};
 use jn_index::indexed::IndexedProgram;
 use jn_points::Program;
 use jn_reasons::law::causes_are_listed;
@@ -20,13 +20,14 @@ use jn_sigs::{Sig, start};
 use std::alloc::Global;
 use std::marker::Model;
 
-/// A program, a signature, and a table for each body, with the signature from which inference starts and the methods that override, which are
-/// found once. Contracts see the first three. Each question passes over the points of all bodies, or of one.
+/// A program, a signature, and a table for each body, with the fields of classes, the signature from which inference starts and the methods that
+/// override, which are found once. Contracts see the first three. Each question passes over the points of all bodies, or of one.
 #[derive(Drop)]
 pub struct LeastOrigins<'a> {
     program: &'a Program,
     sig: &'a Sig,
     tables: &'a [FlowTable],
+    fields: OwnFields,
     start: Sig,
     overriders: Vec<Overrider>,
 }
@@ -39,7 +40,7 @@ impl<'a> Model for LeastOrigins<'a> {
 
     ghost view = { λ o. record { program = o.program.now; sig = o.sig.now; tables = o.tables.now } };
 
-    ghost invariant = { λ o. AreParts o.program.now o.tables.now o.start o.overriders.items };
+    ghost invariant = { λ o. AreParts o.program.now o.tables.now o.fields o.start o.overriders.items };
 }
 
 impl<'a> LeastOrigins<'a> {
@@ -59,12 +60,14 @@ impl<'a> LeastOrigins<'a> {
         ensures sig { IfOk result (λ origins. origins.sig ≡ sig.now) }
         ensures tables { IfOk result (λ origins. origins.tables ≡ tables.now) }
     {
+        let fields = OwnFields::new(alloc, program.program())?;
         let start = start(alloc, program.program())?;
         let overriders = overriders(alloc, program)?;
         Ok(LeastOrigins {
             program: program.program(),
             sig,
             tables,
+            fields,
             start,
             overriders,
         })
@@ -81,6 +84,7 @@ impl<'a> LeastOrigins<'a> {
                 self.program,
                 self.sig,
                 self.tables,
+                &self.fields,
                 &self.start,
                 &self.overriders,
                 SlotNo(slot),
@@ -91,6 +95,7 @@ impl<'a> LeastOrigins<'a> {
                 self.program,
                 self.sig,
                 self.tables,
+                &self.fields,
                 BodyNo(body),
                 Wanted {
                     point: PointNo(point),

@@ -1,6 +1,7 @@
 //! The causes of a register's bit before a point.
 ghost use Rattle.std.specs.Prelude.{◌≡◌, ◌<◌, ◌+◌, ◌^◌, ◌++◌, ◌&&◌, IfOk, OnOk, Some, eqb, length};
 ghost use Rattle.jn_points.specs.Lookup.{body_at, points_of, method_in};
+ghost use Rattle.jn_env.specs.ClassFields.{AreOwnFields};
 ghost use Rattle.jn_env.specs.Order.{env_in, qual_at};
 ghost use Rattle.jn_env.specs.Sized.{EnvSized, Sized};
 ghost use Rattle.jn_reasons_law.specs.declared.item.Item.TheVariants.{AtRegister};
@@ -15,7 +16,7 @@ ghost use Rattle.jn_tables_law.specs.Inferable.{IsInferable};
 use crate::adding::{add_placed, is_on};
 use crate::slots::table_of;
 use jn_base::{BodyNo, OutOfMemory, PointNo, RegNo};
-use jn_env::{Env, FlowTable, env_at, find_keys};
+use jn_env::{Env, FlowTable, OwnFields, env_at, find_keys_by};
 use jn_points::{Point, PointKind, Program};
 use jn_reasons::{Asked, Cause, Spot, add_behind, add_entry};
 use jn_reasons_law::{Bit, Place};
@@ -278,17 +279,19 @@ fn causes_of_body(
     program: &Program,
     sig: &Sig,
     tables: &[FlowTable],
+    fields: &OwnFields,
     body: BodyNo,
     wanted: Wanted,
 ) -> Result<Vec<Cause>, OutOfMemory>
     requires inside { body.0 < length program.now.bodies }
     requires inferable { IsInferable program.now }
+    requires fields { AreOwnFields program.now fields.now }
     requires sized { AreSized program.now tables.now }
     ensures { IfOk result (λ list. list.items
         ≡ causes program.now sig.now tables.now
         (AtRegister body.0 wanted.point.0 wanted.reg.0 wanted.bit)) }
 {
-    let keys = find_keys(alloc, program, body)?;
+    let keys = find_keys_by(alloc, program, fields, body)?;
     let analysis = Analysis::new(program, sig, body, &keys);
     let info = &program.bodies.as_slice()[body.0 as usize];
     let points = info.points.as_slice();
@@ -304,17 +307,19 @@ pub(crate) fn register_causes(
     program: &Program,
     sig: &Sig,
     tables: &[FlowTable],
+    fields: &OwnFields,
     body: BodyNo,
     wanted: Wanted,
 ) -> Result<Vec<Cause>, OutOfMemory>
     requires inferable { IsInferable program.now }
+    requires fields { AreOwnFields program.now fields.now }
     requires sized { AreSized program.now tables.now }
     ensures { IfOk result (λ list. list.items
         ≡ causes program.now sig.now tables.now
         (AtRegister body.0 wanted.point.0 wanted.reg.0 wanted.bit)) }
 {
     if (body.0 as usize) < program.bodies.len() {
-        causes_of_body(alloc, program, sig, tables, body, wanted)
+        causes_of_body(alloc, program, sig, tables, fields, body, wanted)
     } else {
         Ok(Vec::new(alloc))
     }

@@ -5,6 +5,7 @@ ghost use Rattle.jn_points.specs.Lookup.{body_at, points_of};
 ghost use Rattle.jn_sigs.specs.Signature.{start_signature};
 ghost use Rattle.jn_env.specs.Order.{env_in};
 ghost use Rattle.jn_env.specs.Keys.{own_keys};
+ghost use Rattle.jn_env.specs.ClassFields.{AreOwnFields};
 ghost use Rattle.jn_transfer.specs.Contributions.{kind_sends};
 ghost use Rattle.jn_transfer.specs.Pairs as pairs;
 ghost use Rattle.jn_contrib.specs.Entries.{AreOverriders};
@@ -19,7 +20,7 @@ use crate::adding::{add_cause, add_placed, is_on, is_sent, is_sent_to};
 use jn_base::{BodyNo, MethodNo, OutOfMemory, PointNo, SlotNo};
 use jn_contrib::sends::send_kind;
 use jn_contrib::{Overrider, pair_contrib_by};
-use jn_env::{Env, FlowTable, env_at, find_keys};
+use jn_env::{Env, FlowTable, OwnFields, env_at, find_keys_by};
 use jn_points::{Point, PointKind, Program};
 use jn_reasons::{AskedSlot, Cause, Spot, add_pairs, add_sent};
 use jn_reasons_law::{Bit, Place};
@@ -159,6 +160,7 @@ pub(crate) fn table_of(tables: &[FlowTable], body: BodyNo) -> &[Option<Env>]
 fn add_body(
     alloc: Global,
     program: &Program,
+    fields: &OwnFields,
     tables: &[FlowTable],
     list: &mut Vec<Cause>,
     body: BodyNo,
@@ -167,11 +169,12 @@ fn add_body(
 ) -> Result<(), OutOfMemory>
     requires inside { body.0 < length program.now.bodies }
     requires inferable { IsInferable program.now }
+    requires fields { AreOwnFields program.now fields.now }
     ensures { OnOk result (list.new.items
         ≡ list.old.items
         ++ body_causes program.now body.0 (slice_index_or tables.now body.0 []) slot.0 bit) }
 {
-    let keys = find_keys(alloc, program, body)?;
+    let keys = find_keys_by(alloc, program, fields, body)?;
     let info = &program.bodies.as_slice()[body.0 as usize];
     let points = info.points.as_slice();
     let own = keys.own.as_slice();
@@ -184,19 +187,30 @@ fn add_body(
 fn add_bodies(
     alloc: Global,
     program: &Program,
+    fields: &OwnFields,
     tables: &[FlowTable],
     list: &mut Vec<Cause>,
     slot: SlotNo,
     bit: Bit,
 ) -> Result<(), OutOfMemory>
     requires inferable { IsInferable program.now }
+    requires fields { AreOwnFields program.now fields.now }
     ensures { OnOk result (list.new.items
         ≡ list.old.items
         ++ firsts (λ b. body_causes program.now b (slice_index_or tables.now b []) slot.0 bit)
         (length program.now.bodies)) }
 {
     for body in 0..program.bodies.len() {
-        add_body(alloc, program, tables, list, BodyNo(body as u32), slot, bit)?;
+        add_body(
+            alloc,
+            program,
+            fields,
+            tables,
+            list,
+            BodyNo(body as u32),
+            slot,
+            bit,
+        )?;
     }
     Ok(())
 }
@@ -280,12 +294,14 @@ pub(crate) fn slot_causes(
     program: &Program,
     sig: &Sig,
     tables: &[FlowTable],
+    fields: &OwnFields,
     start: &Sig,
     overriders: &[Overrider],
     slot: SlotNo,
     bit: Bit,
 ) -> Result<Vec<Cause>, OutOfMemory>
     requires inferable { IsInferable program.now }
+    requires fields { AreOwnFields program.now fields.now }
     requires start { start.now ≡ start_signature program.now }
     requires overriders { AreOverriders program.now overriders.now }
     ensures { IfOk result
@@ -293,7 +309,7 @@ pub(crate) fn slot_causes(
 {
     let mut list = Vec::new(alloc);
     add_started(&mut list, start, slot, bit)?;
-    add_bodies(alloc, program, tables, &mut list, slot, bit)?;
+    add_bodies(alloc, program, fields, tables, &mut list, slot, bit)?;
     add_overriders(alloc, program, sig, &mut list, overriders, slot, bit)?;
     Ok(list)
 }
