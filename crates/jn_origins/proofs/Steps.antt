@@ -1,7 +1,7 @@
 -- Lists of causes that grow: by a number's, and by those of all tasks.
 use Rattle.std.proofs.Common.{◌≡◌, ℕ, zero, suc, ◌+◌, ◌-◌, ◌<◌, ◌≤◌, Bool, true, false, cond, List, [], ◌∷◌, ◌++◌, length, map, Option, Some, None, refl, sym, ap, ◌∙◌, subst, append_assoc, append-nil, add-one, arith}
 use Rattle.std.specs.Prelude.{slice_get, slice_index_or}
-use Rattle.std.proofs.lemmas.Bool.{ltb-true, lt-ltb}
+use Rattle.std.proofs.lemmas.Bool.{le-ltb, lt-ltb}
 use Rattle.jn_quals.specs.Qualifier.{Qualifier}
 use Rattle.jn_quals.specs.Order.{no_qual}
 use Rattle.jn_points.specs.declared.point.Point.{Point}
@@ -60,24 +60,20 @@ method_there [] j d lt = absurd (omega (arith, lt))
 method_there (x ∷ list) zero d lt = refl
 method_there (x ∷ list) (suc j) d lt = method_there list j d (omega (arith, lt))
 
-there : (list : List Overrider) (j : ℕ) (d : Overrider) → j < length list → slice_get list j ≡ Some (slice_index_or list j d)
-there [] j d lt = absurd (omega (arith, lt))
-there (x ∷ list) zero d lt = refl
-there (x ∷ list) (suc j) d lt = there list j d (omega (arith, lt))
+there : (A : Type 0) (list : List A) (j : ℕ) (d : A) → j < length list → slice_get list j ≡ Some (slice_index_or list j d)
+there A [] j d lt = absurd (omega (arith, lt))
+there A (x ∷ list) zero d lt = refl
+there A (x ∷ list) (suc j) d lt = there A list j d (omega (arith, lt))
 
 -- an overrider of the list is the program's
 pub got_at : (P : Program) (list : List Overrider) (j : ℕ) (o : Overrider) → j < length list → o ≡ slice_index_or list j o → slice_get list j ≡ Some o
-got_at P list j o lt e = there list j o lt ∙ sym (ap Some e)
+got_at P list j o lt e = there Overrider list j o lt ∙ sym (ap Some e)
 
 pub method_is : (P : Program) (list : List Overrider) (j : ℕ) (o : Overrider) → AreOverriders P list → j < length list → o ≡ slice_index_or list j o → o.method ≡ slice_index_or (overriders P) j 0
 method_is P list j o h lt e = ap (λ (x : Overrider). x.method) e ∙ sym (method_there list j o lt) ∙ ap (λ (ms : List ℕ). slice_index_or ms j 0) h.methods
 
 not_body : (P : Program) (t : ℕ) → length P.bodies ≤ t → is_body_task P t ≡ false
-not_body P t le = by (is_body_task P t) refl
-  where
-    by : (c : Bool) → is_body_task P t ≡ c → c ≡ false
-    by true e = let lt = ltb-true t (length P.bodies) e in absurd (omega (arith, lt, le))
-    by false e = refl
+not_body P t le = le-ltb t (length P.bodies) le
 
 module _ (P : Program) (s : List Qualifier) (tables : List Table) (k : ℕ) (bit : Bit) where
   task_body : (b : ℕ) → b < length P.bodies → task_causes P s tables k bit b ≡ body_causes P b (slice_index_or tables b []) k bit
@@ -107,13 +103,8 @@ module _ (P : Program) (s : List Qualifier) (tables : List Table) (k : ℕ) (bit
       ∙ ap (λ (xs : List Cause). started P k bit ++ xs) (sym both)
       ∙ ap (λ (n : ℕ). started P k bit ++ firsts F (B + n)) (as_many P list h)
 
-point_there : (points : List Point) (j : ℕ) (d : Point) → j < length points → slice_get points j ≡ Some (slice_index_or points j d)
-point_there [] j d lt = absurd (omega (arith, lt))
-point_there (x ∷ points) zero d lt = refl
-point_there (x ∷ points) (suc j) d lt = point_there points j d (omega (arith, lt))
-
 point_is : (P : Program) (b : ℕ) (points : List Point) (at : ℕ) (pt : Point) → points ≡ points_of (body_at P b) → at < length points → pt ≡ slice_index_or points at pt → point_at P b at ≡ Some pt
-point_is P b points at pt is lt e = ap (λ (l : List Point). slice_get l at) (sym is) ∙ point_there points at pt lt ∙ sym (ap Some e)
+point_is P b points at pt is lt e = ap (λ (l : List Point). slice_get l at) (sym is) ∙ there Point points at pt lt ∙ sym (ap Some e)
 
 -- a point more
 pub sent_more : (P : Program) (b : ℕ) (T : Table) (k : ℕ) (bit : Bit) (points : List Point) (at : ℕ) (pt : Point) (old list new : List Cause)
@@ -132,7 +123,7 @@ pub carried_more : (P : Program) (s : List Qualifier) (b : ℕ) (T : Table) (p r
 carried_more P s b T p r bit points at pt old list new is lt e h l =
     firsts_more (carried P s b T p r bit) at old list new (over_point P s b p r bit at (Some pt) (env_in T at)) (ap (λ (o : Option Point). over_point P s b p r bit at o (env_in T at)) (sym (point_is P b points at pt is lt e))) h l
 
-no_such : (xs : List Body) (n : ℕ) → length xs ≤ n → slice_get xs n ≡ None
+pub no_such : (xs : List Body) (n : ℕ) → length xs ≤ n → slice_get xs n ≡ None
 no_such [] n le = refl
 no_such (x ∷ xs) zero le = absurd (omega (arith, le))
 no_such (x ∷ xs) (suc n) le = no_such xs n (omega (arith, le))
