@@ -1,0 +1,133 @@
+//! Origins over the tables of all bodies.
+ghost use Rattle.std.specs.Prelude.{◌≡◌, IfOk};
+ghost use Rattle.jn_tables_law.specs.Inferable.{IsInferable};
+ghost use Rattle.jn_reasons.specs.Listed.{causes};
+ghost use Rattle.jn_origins.specs.Standing.{AreSized, standing};
+
+use crate::registers::{Wanted, register_causes};
+use crate::slots::slot_causes;
+use crate::standing::standing;
+use jn_base::{BodyNo, OutOfMemory, PointNo, RegNo, SlotNo};
+use jn_chain::Origins;
+use jn_contrib::{Overrider, overriders};
+use jn_env::{FlowTable, OwnFields};
+use jn_index::indexed::IndexedProgram;
+use jn_points::Program;
+use jn_reasons::law::causes_are_listed;
+use jn_reasons::{Cause, Source};
+use jn_reasons_law::Item;
+use jn_sigs::{Sig, start};
+use std::alloc::Global;
+use std::marker::Model;
+
+/// A program, a signature, and a table for each body, with the fields of classes, the signature from which inference starts and the methods that
+/// override, which are found once. Contracts see the first three. Each question passes over the points of all bodies, or of one.
+#[derive(Drop)]
+pub struct LeastOrigins<'a> {
+    program: &'a Program,
+    sig: &'a Sig,
+    tables: &'a [FlowTable],
+    fields: OwnFields,
+    start: Sig,
+    overriders: Vec<Overrider>,
+}
+
+impl<'a> Model for LeastOrigins<'a> {
+    ghost use Rattle.jn_chain.specs.Search.{Ground};
+    ghost use Rattle.jn_origins.specs.Standing.{AreParts};
+
+    ghost Value = { Ground };
+
+    ghost view = { λ o. record { program = o.program.now; sig = o.sig.now; tables = o.tables.now } };
+
+    ghost invariant = { λ o. AreParts o.program.now o.tables.now o.fields o.start o.overriders.items };
+}
+
+impl<'a> LeastOrigins<'a> {
+    /// Over a program, a signature, and tables: those of its bodies, in their order.
+    ///
+    /// # Errors
+    /// No memory was found.
+    pub fn new(
+        alloc: Global,
+        program: &'a IndexedProgram,
+        sig: &'a Sig,
+        tables: &'a [FlowTable],
+    ) -> Result<LeastOrigins<'a>, OutOfMemory>
+        requires inferable { IsInferable program.now }
+        requires sized { AreSized program.now tables.now }
+        ensures program { IfOk result (λ origins. origins.program ≡ program.now) }
+        ensures sig { IfOk result (λ origins. origins.sig ≡ sig.now) }
+        ensures tables { IfOk result (λ origins. origins.tables ≡ tables.now) }
+    {
+        let fields = OwnFields::new(alloc, program.program())?;
+        let start = start(alloc, program.program())?;
+        let overriders = overriders(alloc, program)?;
+        Ok(LeastOrigins {
+            program: program.program(),
+            sig,
+            tables,
+            fields,
+            start,
+            overriders,
+        })
+    }
+
+    /// All causes of an item, whether their sources stand or not.
+    fn all(&self, alloc: Global, item: Item) -> Result<Vec<Cause>, OutOfMemory>
+        ensures { IfOk result
+            (λ list. list.items ≡ causes self.now.program self.now.sig self.now.tables item) }
+    {
+        match item {
+            Item::AtSlot(slot, bit) => slot_causes(
+                alloc,
+                self.program,
+                self.sig,
+                self.tables,
+                &self.fields,
+                &self.start,
+                &self.overriders,
+                SlotNo(slot),
+                bit,
+            ),
+            Item::AtRegister(body, point, reg, bit) => register_causes(
+                alloc,
+                self.program,
+                self.sig,
+                self.tables,
+                &self.fields,
+                BodyNo(body),
+                Wanted {
+                    point: PointNo(point),
+                    reg: RegNo(reg),
+                    bit,
+                },
+            ),
+        }
+    }
+
+    /// The causes of an item whose sources stand, or are the text.
+    fn found(&self, alloc: Global, item: Item) -> Result<Vec<Cause>, OutOfMemory>
+        ensures { IfOk result (λ list. list.items
+            ≡ standing self.now.sig self.now.tables
+            (causes self.now.program self.now.sig self.now.tables item)) }
+    {
+        let all = self.all(alloc, item)?;
+        Ok(standing(alloc, self.sig, self.tables, &all)?)
+    }
+}
+
+impl<'a> Origins for LeastOrigins<'a> {
+    ghost describe = { λ o. o };
+
+    fn causes(&self, alloc: Global, source: Source) -> Result<Vec<Cause>, OutOfMemory> {
+        causes_are_listed();
+        match source {
+            None => Ok(Vec::new(alloc)),
+            Some(item) => {
+                let list = self.found(alloc, item)?;
+                Ok(list)
+            }
+        }
+    }
+}

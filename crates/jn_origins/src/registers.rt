@@ -1,0 +1,326 @@
+//! The causes of a register's bit before a point.
+ghost use Rattle.std.specs.Prelude.{◌≡◌, ◌<◌, ◌+◌, ◌^◌, ◌++◌, ◌&&◌, IfOk, OnOk, Some, eqb, length};
+ghost use Rattle.jn_points.specs.Lookup.{body_at, points_of, method_in};
+ghost use Rattle.jn_env.specs.ClassFields.{AreOwnFields};
+ghost use Rattle.jn_env.specs.Order.{env_in, qual_at};
+ghost use Rattle.jn_env.specs.Sized.{EnvSized, Sized};
+ghost use Rattle.jn_reasons_law.specs.declared.item.Item.TheVariants.{AtRegister};
+ghost use Rattle.jn_reasons_law.specs.declared.item.Place.TheVariants.{OfBody, OfPoint};
+ghost use Rattle.jn_reasons_law.specs.Items.{on};
+ghost use Rattle.jn_reasons_law.specs.Sources.{at_entry, behind};
+ghost use Rattle.jn_reasons.specs.Listed.{placed, firsts, over_edge, over_edges, over_point, entered, carried, causes};
+ghost use Rattle.jn_reasons.specs.Listed as spec;
+ghost use Rattle.jn_origins.specs.Standing.{AreSized};
+ghost use Rattle.jn_tables_law.specs.Inferable.{IsInferable};
+
+use crate::adding::{add_placed, is_on};
+use crate::slots::table_of;
+use jn_base::{BodyNo, OutOfMemory, PointNo, RegNo};
+use jn_env::{Env, FlowTable, OwnFields, env_at, find_keys_by};
+use jn_points::{Point, PointKind, Program};
+use jn_reasons::{Asked, Cause, Spot, add_behind, add_entry};
+use jn_reasons_law::{Bit, Place};
+use jn_sigs::Sig;
+use jn_transfer::entry::entry;
+use jn_transfer::{Analysis, Edge};
+use std::alloc::{AllocError, Global};
+
+/// What is asked: where the bit of a register before the point comes from.
+#[derive(Clone, Copy)]
+pub(crate) struct Wanted {
+    pub point: PointNo,
+    pub reg: RegNo,
+    pub bit: Bit,
+}
+
+/// Whether the edge goes to the point, and the register has the bit behind it.
+fn is_wanted(edge: &Edge, wanted: Wanted) -> bool
+    ensures { result
+        ≡ (eqb edge.now.0 wanted.point.0 && on wanted.bit (qual_at edge.now.1 wanted.reg.0)) }
+{
+    if edge.0 == wanted.point.0 {
+        is_on(edge.1.qual(wanted.reg), wanted.bit)
+    } else {
+        false
+    }
+}
+
+/// What the register has the bit from, behind a point.
+fn add_sources(
+    alloc: Global,
+    program: &Program,
+    list: &mut Vec<Cause>,
+    kind: &PointKind,
+    env: &Env,
+    asked: Asked,
+) -> Result<(), AllocError>
+    ensures { OnOk result (list.new.items
+        ≡ list.old.items
+        ++ placed (OfPoint asked.spot.body.0 asked.spot.point.0)
+        (behind asked.spot.body.0 asked.spot.point.0 program.now env.now kind.now asked.reg.0
+        asked.bit)) }
+{
+    let mut sources = Vec::new(alloc);
+    add_behind(program, &mut sources, env, kind, asked)?;
+    add_placed(
+        list,
+        Place::OfPoint(asked.spot.body.0, asked.spot.point.0),
+        &sources,
+    )
+}
+
+/// Over an edge of a point.
+fn add_edge(
+    alloc: Global,
+    program: &Program,
+    list: &mut Vec<Cause>,
+    kind: &PointKind,
+    env: &Env,
+    spot: Spot,
+    edge: &Edge,
+    wanted: Wanted,
+) -> Result<(), AllocError>
+    ensures { OnOk result (list.new.items
+        ≡ list.old.items
+        ++ over_edge program.now spot.body.0 wanted.point.0 wanted.reg.0 wanted.bit spot.point.0
+        kind.now env.now edge.now) }
+{
+    let asked = Asked {
+        spot,
+        reg: wanted.reg,
+        bit: wanted.bit,
+    };
+    if is_wanted(edge, wanted) {
+        add_sources(alloc, program, list, kind, env, asked)
+    } else {
+        Ok(())
+    }
+}
+
+/// Over the edges of a point.
+fn add_edges(
+    alloc: Global,
+    program: &Program,
+    list: &mut Vec<Cause>,
+    kind: &PointKind,
+    env: &Env,
+    spot: Spot,
+    edges: &[Edge],
+    wanted: Wanted,
+) -> Result<(), AllocError>
+    ensures { OnOk result (list.new.items
+        ≡ list.old.items
+        ++ over_edges program.now spot.body.0 wanted.point.0 wanted.reg.0 wanted.bit spot.point.0
+        kind.now env.now edges.now) }
+{
+    for edge in edges {
+        add_edge(alloc, program, list, kind, env, spot, edge, wanted)?;
+    }
+    Ok(())
+}
+
+/// Over a point, where it is reached.
+fn add_point(
+    alloc: Global,
+    analysis: &Analysis,
+    list: &mut Vec<Cause>,
+    point: &Point,
+    at: PointNo,
+    slots: &[Option<Env>],
+    wanted: Wanted,
+) -> Result<(), OutOfMemory>
+    requires small { at.0 + 1 < 2 ^ 32 }
+    requires sized { Sized analysis.now.program analysis.now.body slots.now }
+    ensures { OnOk result (list.new.items
+        ≡ list.old.items
+        ++ over_point analysis.now.program analysis.now.sig analysis.now.body wanted.point.0
+        wanted.reg.0 wanted.bit at.0 (Some point.now) (env_in slots.now at.0)) }
+{
+    match env_at(slots, at.0 as usize) {
+        None => Ok(()),
+        Some(env) => add_reached(alloc, analysis, list, point, at, env, wanted),
+    }
+}
+
+/// Over a reached point.
+fn add_reached(
+    alloc: Global,
+    analysis: &Analysis,
+    list: &mut Vec<Cause>,
+    point: &Point,
+    at: PointNo,
+    env: &Env,
+    wanted: Wanted,
+) -> Result<(), OutOfMemory>
+    requires small { at.0 + 1 < 2 ^ 32 }
+    requires sized { EnvSized analysis.now.program analysis.now.body env.now }
+    ensures { OnOk result (list.new.items
+        ≡ list.old.items
+        ++ over_point analysis.now.program analysis.now.sig analysis.now.body wanted.point.0
+        wanted.reg.0 wanted.bit at.0 (Some point.now) (Some env.now)) }
+{
+    let edges = analysis.edges_after(alloc, &point.kind, at.0, env)?;
+    let spot = Spot {
+        body: analysis.body(),
+        point: at,
+    };
+    let program = analysis.program();
+    add_edges(alloc, program, list, &point.kind, env, spot, &edges, wanted)?;
+    Ok(())
+}
+
+/// Over the points of a body.
+fn add_points(
+    alloc: Global,
+    analysis: &Analysis,
+    list: &mut Vec<Cause>,
+    points: &[Point],
+    slots: &[Option<Env>],
+    wanted: Wanted,
+) -> Result<(), OutOfMemory>
+    requires points { points.now ≡ points_of (body_at analysis.now.program analysis.now.body) }
+    requires short { length points.now < 2 ^ 32 }
+    requires sized { Sized analysis.now.program analysis.now.body slots.now }
+    ensures { OnOk result (list.new.items
+        ≡ list.old.items
+        ++ firsts (carried analysis.now.program analysis.now.sig analysis.now.body slots.now
+        wanted.point.0 wanted.reg.0 wanted.bit) (length points.now)) }
+{
+    for at in 0..points.len() {
+        let place = PointNo(at as u32);
+        add_point(alloc, analysis, list, &points[at], place, slots, wanted)?;
+    }
+    Ok(())
+}
+
+/// The sources at the entry.
+fn add_entry_sources(
+    alloc: Global,
+    program: &Program,
+    list: &mut Vec<Cause>,
+    body: BodyNo,
+    wanted: Wanted,
+) -> Result<(), AllocError>
+    ensures { OnOk result (list.new.items
+        ≡ list.old.items
+        ++ placed (OfBody body.0) (at_entry (method_in program.now body.0) wanted.reg.0 wanted.bit)) }
+{
+    let mut sources = Vec::new(alloc);
+    add_entry(program, &mut sources, body, wanted.reg, wanted.bit)?;
+    add_placed(list, Place::OfBody(body.0), &sources)
+}
+
+/// At the entry, where the register has the bit there.
+fn add_first(
+    alloc: Global,
+    analysis: &Analysis,
+    list: &mut Vec<Cause>,
+    wanted: Wanted,
+) -> Result<(), OutOfMemory>
+    requires inside { analysis.now.body < length analysis.now.program.bodies }
+    ensures { OnOk result (list.new.items
+        ≡ list.old.items
+        ++ entered analysis.now.program analysis.now.sig analysis.now.body 0 wanted.reg.0
+        wanted.bit) }
+{
+    let env = entry(alloc, analysis)?;
+    if is_on(env.qual(wanted.reg), wanted.bit) {
+        add_entry_sources(alloc, analysis.program(), list, analysis.body(), wanted)?;
+    }
+    Ok(())
+}
+
+/// At the entry, where the point is the first.
+fn add_entered(
+    alloc: Global,
+    analysis: &Analysis,
+    list: &mut Vec<Cause>,
+    wanted: Wanted,
+) -> Result<(), OutOfMemory>
+    requires inside { analysis.now.body < length analysis.now.program.bodies }
+    ensures { OnOk result (list.new.items
+        ≡ list.old.items
+        ++ entered analysis.now.program analysis.now.sig analysis.now.body wanted.point.0
+        wanted.reg.0 wanted.bit) }
+{
+    if wanted.point.0 == 0 {
+        add_first(alloc, analysis, list, wanted)
+    } else {
+        Ok(())
+    }
+}
+
+/// Of an analysis, whose points and table are at hand.
+fn analysed(
+    alloc: Global,
+    analysis: &Analysis,
+    points: &[Point],
+    slots: &[Option<Env>],
+    wanted: Wanted,
+) -> Result<Vec<Cause>, OutOfMemory>
+    requires inside { analysis.now.body < length analysis.now.program.bodies }
+    requires points { points.now ≡ points_of (body_at analysis.now.program analysis.now.body) }
+    requires short { length points.now < 2 ^ 32 }
+    requires sized { Sized analysis.now.program analysis.now.body slots.now }
+    ensures { IfOk result (λ list. list.items
+        ≡ spec.register_causes analysis.now.program analysis.now.sig analysis.now.body slots.now
+        wanted.point.0 wanted.reg.0 wanted.bit) }
+{
+    let mut list = Vec::new(alloc);
+    add_entered(alloc, analysis, &mut list, wanted)?;
+    add_points(alloc, analysis, &mut list, points, slots, wanted)?;
+    Ok(list)
+}
+
+/// Of a body that is there.
+#[tactic(auto, using(crate::proofs::Steps::sized_for))]
+fn causes_of_body(
+    alloc: Global,
+    program: &Program,
+    sig: &Sig,
+    tables: &[FlowTable],
+    fields: &OwnFields,
+    body: BodyNo,
+    wanted: Wanted,
+) -> Result<Vec<Cause>, OutOfMemory>
+    requires inside { body.0 < length program.now.bodies }
+    requires inferable { IsInferable program.now }
+    requires fields { AreOwnFields program.now fields.now }
+    requires sized { AreSized program.now tables.now }
+    ensures { IfOk result (λ list. list.items
+        ≡ causes program.now sig.now tables.now
+        (AtRegister body.0 wanted.point.0 wanted.reg.0 wanted.bit)) }
+{
+    let keys = find_keys_by(alloc, program, fields, body)?;
+    let analysis = Analysis::new(program, sig, body, &keys);
+    let info = &program.bodies.as_slice()[body.0 as usize];
+    let points = info.points.as_slice();
+    let table = table_of(tables, body);
+    let list = analysed(alloc, &analysis, points, table, wanted)?;
+    Ok(list)
+}
+
+/// The causes of a register's bit before a point, whether their sources stand or not.
+#[tactic(auto, using(crate::proofs::Steps::no_body))]
+pub(crate) fn register_causes(
+    alloc: Global,
+    program: &Program,
+    sig: &Sig,
+    tables: &[FlowTable],
+    fields: &OwnFields,
+    body: BodyNo,
+    wanted: Wanted,
+) -> Result<Vec<Cause>, OutOfMemory>
+    requires inferable { IsInferable program.now }
+    requires fields { AreOwnFields program.now fields.now }
+    requires sized { AreSized program.now tables.now }
+    ensures { IfOk result (λ list. list.items
+        ≡ causes program.now sig.now tables.now
+        (AtRegister body.0 wanted.point.0 wanted.reg.0 wanted.bit)) }
+{
+    if (body.0 as usize) < program.bodies.len() {
+        causes_of_body(alloc, program, sig, tables, fields, body, wanted)
+    } else {
+        Ok(Vec::new(alloc))
+    }
+}
