@@ -1,0 +1,12 @@
+//! Where statements go on.
+use jn_machine::Value;
+
+/// Where a statement goes on: behind itself, behind the loop around it, to that loop's next turn, or out of the body with a value
+/// (JLS 14.1).
+#[derive(Drop)]
+pub enum Flow {
+    Onward,
+    Breaks,
+    Continues,
+    Returns(Option<Value>),
+}
