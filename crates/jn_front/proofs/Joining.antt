@@ -40,11 +40,11 @@ module _ (few : (file : FileNo) (text : List ℕ) (old : List (List ℕ)) (token
   few_names k (read ∷ reads) (Lexical row ∷ outcomes) fit h = few_names (k + 1) reads outcomes fit.1 h.1
   few_names k (read ∷ reads) (Syntax row ∷ outcomes) fit h = few_names (k + 1) reads outcomes fit.1 h.1
   few_names k (read ∷ reads) (Tree own tree ∷ outcomes) fit h =
-      let short : length own ≤ 26 + length read.file.bytes = few (file_no k) read.file.bytes known_names h.0.0 own h.0.1 in
+      let short : length own ≤ 30 + length read.file.bytes = few (file_no k) read.file.bytes known_names h.0.0 own h.0.1 in
       (omega (arith, short, fit.0), few_names (k + 1) reads outcomes fit.1 h.1)
 
 -- behind one more there are few names
-pub still_few : (names : List (List ℕ)) (outcome : Outcome) → HaveFewNames (outcome ∷ []) → length (joined_names names (outcome ∷ [])) ≤ length names + 1048602
+pub still_few : (names : List (List ℕ)) (outcome : Outcome) → HaveFewNames (outcome ∷ []) → length (joined_names names (outcome ∷ [])) ≤ length names + 1048606
 still_few names (Lexical row) few = omega arith
 still_few names (Syntax row) few = omega arith
 still_few names (Tree own tree) few = let long = merged_length names own in omega (arith, long, few.0)
@@ -77,7 +77,7 @@ trees_step names now outcome rest next trees more whole is new put h =
     ∙ append_assoc trees one (joined_trees (joined_names names (outcome ∷ [])) next)
     ∙ ap (λ ts. trees ++ ts) (sym (trees_on names outcome next)) ∙ ap (λ os. trees ++ joined_trees names os) (sym is) ∙ h
 
-pub few_step : (names now : List (List ℕ)) (outcome : Outcome) (rest next : List Outcome) → rest ≡ outcome ∷ next → now ≡ joined_names names (outcome ∷ []) → HaveFewNames rest → length names + length rest * 1048602 ≤ 67110554 → HaveFewNames next × (length now + length next * 1048602 ≤ 67110554)
+pub few_step : (names now : List (List ℕ)) (outcome : Outcome) (rest next : List Outcome) → rest ≡ outcome ∷ next → now ≡ joined_names names (outcome ∷ []) → HaveFewNames rest → length names + length rest * 1048606 ≤ 67110814 → HaveFewNames next × (length now + length next * 1048606 ≤ 67110814)
 few_step names now outcome rest next is new few short =
     let both = first_few outcome next (subst HaveFewNames is few) in
     let long = still_few names outcome both.0 in

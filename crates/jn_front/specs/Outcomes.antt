@@ -67,4 +67,4 @@ abbrev pub HaveFewNames : List Outcome → Type 0
 HaveFewNames [] = Unit {0}
 HaveFewNames (Lexical row ∷ outcomes) = HaveFewNames outcomes
 HaveFewNames (Syntax row ∷ outcomes) = HaveFewNames outcomes
-HaveFewNames (Tree own tree ∷ outcomes) = (length own ≤ 1048602) × HaveFewNames outcomes
+HaveFewNames (Tree own tree ∷ outcomes) = (length own ≤ 1048606) × HaveFewNames outcomes

@@ -62,7 +62,7 @@ fn join_tree(
     tree: FileTree,
 ) -> Result<(), OutOfMemory>
     requires room { length names.old < 2 ^ 31 }
-    requires few { length own ≤ 1048602 }
+    requires few { length own ≤ 1048606 }
     requires found { (k : ℕ) × (file : SourceFile) × IsOutcome k file (Tree own tree) }
     requires begun { trees.old.items ≡ [] → names.old ≡ known_names }
     ensures names { OnOk result (names.new ≡ merged names.old own) }

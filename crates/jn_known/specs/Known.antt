@@ -6,7 +6,8 @@ known_names =
     codes "String" ∷ codes "System" ∷ codes "out" ∷ codes "println" ∷ codes "length" ∷ codes "main" ∷ codes "Object"
     ∷ codes "clone" ∷ codes "equals" ∷ codes "finalize" ∷ codes "getClass" ∷ codes "hashCode" ∷ codes "notify" ∷ codes "notifyAll" ∷ codes "toString" ∷ codes "wait"
     ∷ codes "isEmpty" ∷ codes "NonNull" ∷ codes "Nullable" ∷ codes "Initialized" ∷ codes "UnderInitialization" ∷ codes "UnknownInitialization"
-    ∷ codes "Override" ∷ codes "org" ∷ codes "checkerframework" ∷ codes "MonotonicNonNull" ∷ []
+    ∷ codes "Override" ∷ codes "org" ∷ codes "checkerframework" ∷ codes "MonotonicNonNull"
+    ∷ codes "checker" ∷ codes "nullness" ∷ codes "qual" ∷ codes "initialization" ∷ []
 
 -- their numbers
 
@@ -63,6 +64,18 @@ checkerframework_name = 24
 
 abbrev pub monotonic_name : ℕ
 monotonic_name = 25
+
+abbrev pub checker_name : ℕ
+checker_name = 26
+
+abbrev pub nullness_name : ℕ
+nullness_name = 27
+
+abbrev pub qual_name : ℕ
+qual_name = 28
+
+abbrev pub initialization_name : ℕ
+initialization_name = 29
 
 -- the members of Object (JLS 4.3.2), from `clone` to `wait`
 abbrev pub is_object_member : ℕ → Bool

@@ -1,6 +1,6 @@
 //! Numbers and texts of the known names.
 ghost use Rattle.std.specs.Prelude.{◌≡◌, Some, slice_get, codes};
-ghost use Rattle.jn_known.specs.Known.{known_names, string_name, system_name, out_name, println_name, length_name, main_name, object_name, equals_name, is_empty_name, non_null_name, nullable_name, initialized_name, under_name, unknown_name, override_name, org_name, checkerframework_name, monotonic_name};
+ghost use Rattle.jn_known.specs.Known.{known_names, string_name, system_name, out_name, println_name, length_name, main_name, object_name, equals_name, is_empty_name, non_null_name, nullable_name, initialized_name, under_name, unknown_name, override_name, org_name, checkerframework_name, monotonic_name, checker_name, nullness_name, qual_name, initialization_name};
 
 /// Each number is that of its text.
 pub fn numbers_tell_names()
@@ -21,5 +21,9 @@ pub fn numbers_tell_names()
         × (slice_get known_names override_name ≡ Some (codes "Override"))
         × (slice_get known_names monotonic_name ≡ Some (codes "MonotonicNonNull")) }
     ensures packages { (slice_get known_names org_name ≡ Some (codes "org"))
-        × (slice_get known_names checkerframework_name ≡ Some (codes "checkerframework")) }
+        × (slice_get known_names checkerframework_name ≡ Some (codes "checkerframework"))
+        × (slice_get known_names checker_name ≡ Some (codes "checker"))
+        × (slice_get known_names nullness_name ≡ Some (codes "nullness"))
+        × (slice_get known_names qual_name ≡ Some (codes "qual"))
+        × (slice_get known_names initialization_name ≡ Some (codes "initialization")) }
 {}

@@ -9,7 +9,7 @@ use jn_base::NameNo;
 
 /// The texts that are numbered first, in the order of their numbers: words of the library, the members of Object, the
 /// annotations of the Checker Framework that are known, and the parts of its package's name.
-pub const KNOWN_NAMES: [&str; 26] = [
+pub const KNOWN_NAMES: [&str; 30] = [
     "String",
     "System",
     "out",
@@ -36,6 +36,10 @@ pub const KNOWN_NAMES: [&str; 26] = [
     "org",
     "checkerframework",
     "MonotonicNonNull",
+    "checker",
+    "nullness",
+    "qual",
+    "initialization",
 ];
 
 pub const STRING: NameNo = NameNo(0);
@@ -77,3 +81,13 @@ pub const ORG: NameNo = NameNo(23);
 pub const CHECKERFRAMEWORK: NameNo = NameNo(24);
 
 pub const MONOTONIC_NON_NULL: NameNo = NameNo(25);
+
+/// `checker`, `nullness`, `qual` and `initialization`: the parts of the names of the packages of annotations, so that
+/// an import of them gives no other name a new number.
+pub const CHECKER: NameNo = NameNo(26);
+
+pub const NULLNESS: NameNo = NameNo(27);
+
+pub const QUAL: NameNo = NameNo(28);
+
+pub const INITIALIZATION: NameNo = NameNo(29);

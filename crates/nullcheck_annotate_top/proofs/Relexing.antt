@@ -25,10 +25,10 @@ drop_nothing (read ∷ reads) = refl
 -- so many files were lexed
 pub record IsLexed (reads : List SourceRead) (k : ℕ) (names : List (List ℕ)) (done : List (List Token)) : Type 0 where
   pub within : k ≤ length reads
-  pub few : length names ≤ 26 + k * 1048576
+  pub few : length names ≤ 30 + k * 1048576
   pub rest : (tss : List (List Token)) (last : List (List ℕ)) → LexedFrom 0 known_names (files_of_reads reads) tss last → Rest k names (drop k reads) done tss last
 
-known_few : length known_names ≡ 26
+known_few : length known_names ≡ 30
 known_few = refl
 
 pub begins : (reads : List SourceRead) (names : List (List ℕ)) → names ≡ known_names → IsLexed reads 0 names []

@@ -14,5 +14,5 @@ invariant-loop-outcome l = record {
   few : HaveFewNames l.outcome-iterator.rest.items;
   found : (k : ℕ) × (files : List SourceFile) × AreOutcomes k files l.outcome-iterator.rest.items;
   begun : l.trees.items ≡ [] → l.names ≡ known_names;
-  short : length l.names + length l.outcome-iterator.rest.items * 1048602 ≤ 67110554;
+  short : length l.names + length l.outcome-iterator.rest.items * 1048606 ≤ 67110814;
 }

@@ -7,8 +7,8 @@ use Rattle.jn_lex_shared.proofs.sharing.put_behind.Goals as goal
 
 pub merge-requires : goal.merge-requires
 merge-requires c =
-    let front : length c.args.names.now ≤ 26 + length (take c.args.cut c.args.text.now) = few_names c.args.file _ known_names _ _ c.requires.front in
-    let back : length c.args.own.now ≤ 26 + length (drop c.args.cut c.args.text.now) = few_names c.args.file _ known_names _ _ c.requires.back.lexed in
+    let front : length c.args.names.now ≤ 30 + length (take c.args.cut c.args.text.now) = few_names c.args.file _ known_names _ _ c.requires.front in
+    let back : length c.args.own.now ≤ 30 + length (drop c.args.cut c.args.text.now) = few_names c.args.file _ known_names _ _ c.requires.back.lexed in
     let taken = length-take-le c.args.cut c.args.text.now c.requires.cut.0 in
     let left = length-drop c.args.cut c.args.text.now in
     let few = c.requires.bytes in
