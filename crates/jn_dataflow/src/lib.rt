@@ -3,6 +3,7 @@
 
 mod analysis;
 mod blocks;
+mod loops;
 mod slots;
 mod sweeps;
 

@@ -6,6 +6,7 @@ ghost use Rattle.jn_dataflow.specs.Settled.{SlotValid, Blocks, Stepped, Swept, E
 
 use crate::analysis::Dataflow;
 use crate::blocks::{entry_alone, goes_on, only, set_inner};
+use crate::loops::Loops;
 use crate::slots::Slots;
 use jn_base::{OutOfMemory, Seq, either};
 use std::alloc::Global;
@@ -136,6 +137,7 @@ fn visit<D: Dataflow>(
     table: &mut Slots<D::Env>,
     waiting: &mut Seq<bool>,
     starts: &mut Seq<bool>,
+    loops: &mut Loops,
 ) -> Result<bool, OutOfMemory>
     requires there { at < (D.describe analysis.now).count }
     requires blocks { Blocks (D.describe analysis.now) [] table.old waiting.old starts.old }
@@ -151,28 +153,69 @@ fn visit<D: Dataflow>(
         set_inner(table, waiting, only(edges));
         return Ok(false);
     }
+    loops.note_all(at, &edges);
     raise_all(alloc, analysis, table, waiting, starts, &edges)
 }
 
-/// Passes over each block that waits, in the order of the points. Gives whether the environment of a block's start rose;
-/// where none did, nobody waits.
+/// Whether a point waits.
+fn waits(waiting: &Seq<bool>, at: usize) -> bool {
+    at < waiting.len() && waiting.at(at)
+}
+
+/// Where the loop begins that ends at a point, if that beginning waits.
+fn back_from(loops: &Loops, waiting: &Seq<bool>, at: usize) -> Option<usize> {
+    match loops.ended(at) {
+        Some(head) => if waits(waiting, head) {
+            Some(head)
+        } else {
+            None
+        },
+        None => None,
+    }
+}
+
+/// How a sweep ended.
+#[derive(Clone, Copy)]
+struct Turn {
+    /// Whether the environment of a block's start rose.
+    rose: bool,
+    /// The point with which the next sweep begins.
+    next: usize,
+}
+
+/// Passes over each block from a point on that waits, in the order of the points, until a loop ends whose beginning waits,
+/// or the body. Where no environment of a block's start rose, and nobody before that point waited, nobody waits.
 fn sweep<D: Dataflow>(
     alloc: Global,
     analysis: &D,
+    from: usize,
     table: &mut Slots<D::Env>,
     waiting: &mut Seq<bool>,
     starts: &mut Seq<bool>,
-) -> Result<bool, OutOfMemory>
+    loops: &mut Loops,
+) -> Result<Turn, OutOfMemory>
     requires blocks { Blocks (D.describe analysis.now) [] table.old waiting.old starts.old }
-    ensures swept { IfOk result (λ rose. Swept (D.describe analysis.now) table.old table.new
-        waiting.new starts.old starts.new rose) }
-    ensures still { IfOk result (λ rose. rose ≡ false → NobodyWaits waiting.new) }
+    ensures swept { IfOk result (λ turn. Swept (D.describe analysis.now) table.old table.new
+        waiting.new starts.old starts.new turn.rose) }
+    ensures still { IfOk result (λ turn. turn.rose ≡ false → from ≡ 0 → NobodyWaits waiting.new) }
+    ensures whole { IfOk result (λ turn. turn.rose ≡ false → turn.next ≡ 0) }
 {
     let mut rose = false;
-    for at in 0..analysis.points() {
-        rose = either(rose, visit(alloc, analysis, at, table, waiting, starts)?);
+    for at in from..analysis.points() {
+        rose = either(
+            rose,
+            visit(alloc, analysis, at, table, waiting, starts, loops)?,
+        );
+        if rose {
+            if let Some(head) = back_from(loops, waiting, at) {
+                return Ok(Turn {
+                    rose: true,
+                    next: head,
+                });
+            }
+        }
     }
-    Ok(rose)
+    Ok(Turn { rose, next: 0 })
 }
 
 /// The table in which only the entry is reached.
@@ -192,7 +235,9 @@ fn start<D: Dataflow>(alloc: Global, analysis: &D) -> Result<Slots<D::Env>, OutO
 /// inner point one edge comes, from the point before it, so its environment is what that edge carries, and is set; at the
 /// start of a block environments are joined. A block is passed over again where the environment of its start rose, in
 /// sweeps over the blocks that wait for that, until none does. A sweep goes over the points in their order, so an inner
-/// point that was set is taken up next, and what only edges forward carry is joined by the first sweep.
+/// point that was set is taken up next, and what only edges forward carry is joined by the first sweep. From the second
+/// sweep on a loop is passed over until nothing rises in it before what stands behind it is: what inner loops add comes to
+/// the beginning of each outer one at once (Bourdoncle, Efficient chaotic iteration strategies with widenings, 1993).
 ///
 /// # Errors
 /// No memory was found.
@@ -203,9 +248,24 @@ pub fn solve<D: Dataflow>(alloc: Global, analysis: &D) -> Result<Slots<D::Env>, 
     let mut table = start(alloc, analysis)?;
     let mut waiting = entry_alone(alloc, analysis.points())?;
     let mut starts = entry_alone(alloc, analysis.points())?;
+    let mut loops = Loops::unknown(alloc, analysis.points())?;
+    let mut from: usize = 0;
     loop {
-        if !sweep(alloc, analysis, &mut table, &mut waiting, &mut starts)? {
-            return Ok(table);
+        let turn = sweep(
+            alloc,
+            analysis,
+            from,
+            &mut table,
+            &mut waiting,
+            &mut starts,
+            &mut loops,
+        )?;
+        if from == 0 {
+            if !turn.rose {
+                return Ok(table);
+            }
         }
+        loops.all_known();
+        from = turn.next;
     }
 }
