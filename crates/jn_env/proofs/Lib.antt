@@ -12,3 +12,5 @@ pub mod HeldWrites
 pub mod Written
 pub mod Laid
 pub mod Joined
+pub mod Lacking
+pub mod Firsts

@@ -1,11 +1,12 @@
 //! Bits along the keys of a body.
-ghost use Rattle.std.specs.Prelude.{◌≡◌, ◌<◌, ◌≤◌, ◌+◌, ◌^◌, ◌++◌, ◌&&◌, length, take, drop, cond, false, slice_index_or, slice_set};
+ghost use Rattle.std.specs.Prelude.{◌≡◌, ◌<◌, ◌≤◌, ◌+◌, ◌^◌, ◌++◌, ◌&&◌, length, take, drop, cond, eqb, false, slice_index_or, slice_set};
 ghost use Rattle.jn_env.specs.Keys.{is_on, is_key};
 ghost use Rattle.jn_env.specs.Code.{picks, is_field};
 ghost use Rattle.jn_env.specs.Flat.{written};
 
 use crate::env::Env;
 use crate::keys::FieldKey;
+use crate::lists::{FactKeys, FieldNumbers};
 use crate::packed::BitList;
 use jn_base::{FieldNo, RegNo};
 use jn_points::Program;
@@ -40,14 +41,17 @@ fn picks(which: Which, key: FieldKey) -> bool
 }
 
 /// Writes a bit at each of these keys. The bits of all keys stand one after another from the first on.
-pub fn write_keys(keys: &[FieldKey], bits: &mut BitList, first: usize, which: Which, wanted: bool)
+pub fn write_keys(keys: &FactKeys, bits: &mut BitList, first: usize, which: Which, wanted: bool)
     requires inside { first + length keys.now ≤ length bits.old }
     requires few { first + length keys.now < 2 ^ 64 }
     ensures { bits.new
         ≡ take first bits.old ++ written (picks which.entry) wanted keys.now (drop first bits.old) }
 {
-    for i in 0..keys.len() {
-        write_if(bits, first + i, picks(which, keys[i]), wanted);
+    let count = keys.len();
+    let mut at = keys.first(which);
+    while at < count {
+        write_if(bits, first + at, picks(which, keys.at(at)), wanted);
+        at = keys.next(at, which);
     }
 }
 
@@ -64,7 +68,7 @@ fn write_if(bits: &mut BitList, at: usize, chosen: bool, wanted: bool)
 /// Writes the bit of a field among a constructor's own, or all of their bits, which stand one after another from the
 /// first on.
 pub fn write_own(
-    own: &[u32],
+    own: &FieldNumbers,
     bits: &mut BitList,
     first: usize,
     field: Option<FieldNo>,
@@ -75,8 +79,11 @@ pub fn write_own(
     ensures { bits.new
         ≡ take first bits.old ++ written (is_field field) wanted own.now (drop first bits.old) }
 {
-    for i in 0..own.len() {
-        write_if(bits, first + i, is_field(field, own[i]), wanted);
+    let count = own.len();
+    let mut at = own.first(field);
+    while at < count {
+        write_if(bits, first + at, is_field(field, own.at(at)), wanted);
+        at = own.next(at, field);
     }
 }
 
@@ -97,13 +104,16 @@ fn is_field(field: Option<FieldNo>, own: u32) -> bool
 }
 
 /// Whether the register's field is known not to be null.
-pub fn is_known(keys: &[FieldKey], env: &Env, reg: RegNo, field: FieldNo) -> bool
+pub fn is_known(keys: &FactKeys, env: &Env, reg: RegNo, field: FieldNo) -> bool
     ensures { result ≡ is_on (is_key reg.0 field.0) keys.now env.now.facts }
 {
-    for i in 0..keys.len() {
-        if is_known_as(env, i, keys[i], reg, field) {
+    let count = keys.len();
+    let mut at = keys.first(Which::Exactly(reg, field));
+    while at < count {
+        if is_known_as(env, at, keys.at(at), reg, field) {
             return true;
         }
+        at = keys.next(at, Which::Exactly(reg, field));
     }
     false
 }
@@ -112,4 +122,26 @@ fn is_known_as(env: &Env, at: usize, key: FieldKey, reg: RegNo, field: FieldNo) 
     ensures { result ≡ (slice_index_or env.now.facts at false && is_key reg.0 field.0 key) }
 {
     key.is(reg, field) && env.has_fact_at(at)
+}
+
+/// Whether the field of one of the places is this one, and assigned.
+pub fn is_assigned_as(env: &Env, at: usize, own: u32, field: u32) -> bool
+    ensures { result ≡ (slice_index_or env.now.assigned at false && eqb own field) }
+{
+    own == field && env.has_assigned_at(at)
+}
+
+/// Whether the field is among a constructor's own, and assigned.
+pub fn is_assigned_by(own: &FieldNumbers, env: &Env, field: FieldNo) -> bool
+    ensures { result ≡ is_on (λ k. eqb k field.0) own.now env.now.assigned }
+{
+    let count = own.len();
+    let mut at = own.first(Some(field));
+    while at < count {
+        if is_assigned_as(env, at, own.at(at), field.0) {
+            return true;
+        }
+        at = own.next(at, Some(field));
+    }
+    false
 }

@@ -3,8 +3,9 @@ ghost use Rattle.std.specs.Prelude.{◌≡◌, ◌<◌, ◌≤◌, ◌+◌, ◌*
 ghost use Rattle.jn_quals.specs.Order.{no_qual};
 ghost use Rattle.jn_points.specs.Lookup.{regs_of, body_at};
 
-use crate::bits::{Which, is_known, is_set, write_keys, write_own};
-use crate::keys::{FieldKey, Keys};
+use crate::bits::{Which, is_assigned_as, is_assigned_by, is_known, write_keys, write_own};
+use crate::keys::Keys;
+use crate::lists::{FactKeys, FieldNumbers};
 use crate::packed::BitList;
 use jn_base::{BodyNo, FieldNo, OutOfMemory, RegNo};
 use jn_points::Program;
@@ -73,8 +74,8 @@ impl Env {
             keys.facts.len(),
             keys.own.len(),
         )?;
-        env.write_facts(keys.facts.as_slice(), Which::Each, false);
-        env.write_assigned(keys.own.as_slice(), None, false);
+        env.write_facts(&keys.facts, Which::Each, false);
+        env.write_assigned(&keys.own, None, false);
         Ok(env)
     }
 
@@ -169,7 +170,7 @@ impl Env {
         ensures assigned { self.new.assigned ≡ self.old.assigned }
     {
         self.set_qual(reg, qual);
-        self.write_facts(keys.facts.as_slice(), Which::OfReg(reg), false);
+        self.write_facts(&keys.facts, Which::OfReg(reg), false);
     }
 
     /// Where the bits of the facts begin.
@@ -205,7 +206,7 @@ impl Env {
     pub fn has_fact(&self, keys: &Keys, reg: RegNo, field: FieldNo) -> bool
         ensures { result ≡ is_on (is_key reg.0 field.0) keys.now.facts self.now.facts }
     {
-        is_known(keys.facts.as_slice(), self, reg, field)
+        is_known(&keys.facts, self, reg, field)
     }
 
     /// Lets the field of the object in the register be known not to be null; nothing changes where
@@ -216,12 +217,11 @@ impl Env {
         ensures quals { self.new.quals ≡ self.old.quals }
         ensures assigned { self.new.assigned ≡ self.old.assigned }
     {
-        let facts = keys.facts.as_slice();
-        self.write_facts(facts, Which::Exactly(reg, field), true);
+        self.write_facts(&keys.facts, Which::Exactly(reg, field), true);
     }
 
     /// Lets the facts of these keys be known, or forgets them.
-    fn write_facts(&mut self, keys: &[FieldKey], which: Which, known: bool)
+    fn write_facts(&mut self, keys: &FactKeys, which: Which, known: bool)
         requires { length keys.now ≡ length self.old.facts }
         ensures facts { self.new.facts ≡ marked known (picks which.entry) keys.now self.old.facts }
         ensures quals { self.new.quals ≡ self.old.quals }
@@ -239,7 +239,7 @@ impl Env {
         ensures quals { self.new.quals ≡ self.old.quals }
         ensures assigned { self.new.assigned ≡ self.old.assigned }
     {
-        self.write_facts(keys.facts.as_slice(), Which::OfField(field), false);
+        self.write_facts(&keys.facts, Which::OfField(field), false);
     }
 
     /// Forgets what calls can change: facts on fields that aren't monotonic.
@@ -249,7 +249,7 @@ impl Env {
         ensures quals { self.new.quals ≡ self.old.quals }
         ensures assigned { self.new.assigned ≡ self.old.assigned }
     {
-        self.write_facts(keys.facts.as_slice(), Which::Fleeting(program), false);
+        self.write_facts(&keys.facts, Which::Fleeting(program), false);
     }
 
     /// Whether the own field at a place is assigned; not where there is none.
@@ -269,7 +269,7 @@ impl Env {
         ensures { result ≡ is_on (λ k. eqb k field) own.now self.now.assigned }
     {
         for i in 0..own.len() {
-            if is_set(self.has_assigned_at(i), own[i] == field) {
+            if is_assigned_as(self, i, own[i], field) {
                 return true;
             }
         }
@@ -280,7 +280,7 @@ impl Env {
     pub fn has_assigned(&self, keys: &Keys, field: FieldNo) -> bool
         ensures { result ≡ is_on (λ k. eqb k field.0) keys.now.own self.now.assigned }
     {
-        self.is_assigned(keys.own.as_slice(), field.0)
+        is_assigned_by(&keys.own, self, field)
     }
 
     /// Assigns one of the constructor's own fields; with None all of them. Nothing changes where
@@ -292,11 +292,11 @@ impl Env {
         ensures quals { self.new.quals ≡ self.old.quals }
         ensures facts { self.new.facts ≡ self.old.facts }
     {
-        self.write_assigned(keys.own.as_slice(), field, true);
+        self.write_assigned(&keys.own, field, true);
     }
 
     /// Lets an own field be assigned or not; with None all of them.
-    fn write_assigned(&mut self, own: &[u32], field: Option<FieldNo>, assigned: bool)
+    fn write_assigned(&mut self, own: &FieldNumbers, field: Option<FieldNo>, assigned: bool)
         requires { length own.now ≡ length self.old.assigned }
         ensures assigned { self.new.assigned
             ≡ marked assigned (is_field field) own.now self.old.assigned }

@@ -1,14 +1,18 @@
 //! The keys of a body, along which its facts and assigned fields run.
-ghost use Rattle.std.specs.Prelude.{◌≡◌, ◌<◌, ◌++◌, ◌∷◌, ◌^◌, true, false, [], ◌&&◌, cond, IfOk, OnOk, MatchOption, length, filter, not, ltb};
+ghost use Rattle.std.specs.Prelude.{◌≡◌, ◌<◌, ◌++◌, ◌∷◌, ◌^◌, true, false, [], ◌&&◌, cond, IfOk, OnOk, MatchOption, length, drop, filter, flat_map, ltb, ◌+◌};
 ghost use Rattle.jn_points.specs.Lookup.{ref_field, class_of, ctor_of, method_in};
-ghost use Rattle.jn_env.specs.Keys.{is_key, kind_keys, origin_key, fact_keys, own_keys};
+ghost use Rattle.jn_env.specs.Keys.{kind_keys, origin_key, distinct, fact_keys, own_keys};
+ghost use Rattle.jn_env.specs.Chained.{unmarked};
 ghost use Rattle.jn_env.specs.Code.{AreKeys};
 ghost use Rattle.jn_env.specs.ClassFields.{is_field_of, class_fields, AreOwnFields};
 
+use crate::bits::{Which, write_keys};
+use crate::lists::{FactKeys, FieldNumbers};
 use crate::owned::OwnFields;
-use jn_base::{BodyNo, FieldNo, OutOfMemory, RegNo, Seq};
+use crate::packed::BitList;
+use jn_base::{BodyNo, FieldNo, OutOfMemory, RegNo};
 use jn_points::lookup::owner;
-use jn_points::{Origin, PointKind, Program};
+use jn_points::{Origin, Point, PointKind, Program};
 use std::alloc::{AllocError, Global};
 use std::marker::Model;
 
@@ -69,9 +73,9 @@ impl FieldKey {
 #[derive(Drop)]
 pub struct Keys {
     /// Reference fields read, tested or written through a parameter or local; each once.
-    pub facts: Seq<FieldKey>,
+    pub facts: FactKeys,
     /// Numbers of the reference fields of a constructor's class; none in other bodies.
-    pub own: Seq<u32>,
+    pub own: FieldNumbers,
 }
 
 /// The keys of the body.
@@ -84,8 +88,8 @@ pub fn find_keys(alloc: Global, program: &Program, body: BodyNo) -> Result<Keys,
     ensures { IfOk result (λ keys. AreKeys program.now body.0 keys) }
 {
     Ok(Keys {
-        facts: Seq::of_vec(fact_keys(alloc, program, body)?),
-        own: Seq::of_vec(own_keys(alloc, program, body)?),
+        facts: FactKeys::chained(alloc, fact_keys(alloc, program, body)?)?,
+        own: FieldNumbers::chained(alloc, own_keys(alloc, program, body)?)?,
     })
 }
 
@@ -106,25 +110,39 @@ pub fn find_keys_by(
     ensures { IfOk result (λ keys. AreKeys program.now body.0 keys) }
 {
     Ok(Keys {
-        facts: Seq::of_vec(fact_keys(alloc, program, body)?),
-        own: Seq::of_vec(own_keys_by(alloc, program, own, body)?),
+        facts: FactKeys::chained(alloc, fact_keys(alloc, program, body)?)?,
+        own: FieldNumbers::chained(alloc, own_keys_by(alloc, program, own, body)?)?,
     })
 }
 
-fn fact_keys(alloc: Global, program: &Program, body: BodyNo) -> Result<Vec<FieldKey>, AllocError>
+fn fact_keys(alloc: Global, program: &Program, body: BodyNo) -> Result<Vec<FieldKey>, OutOfMemory>
     requires inside { body.0 < length program.now.bodies }
     ensures { IfOk result (λ keys. keys.items ≡ fact_keys program.now body.0) }
 {
     let info = &program.bodies.as_slice()[body.0 as usize];
     let points = info.points.as_slice();
+    let all = facts_in(alloc, program, info.locals, points)?;
+    Ok(distinct(alloc, all)?)
+}
+
+/// The keys that points read, write or test through so many registers, in the order of the points.
+fn facts_in(
+    alloc: Global,
+    program: &Program,
+    locals: u32,
+    points: &[Point],
+) -> Result<Vec<FieldKey>, AllocError>
+    ensures { IfOk result (λ keys. keys.items
+        ≡ filter
+        (λ k. ltb k.reg locals && ref_field program.now k.field)
+        (flat_map (λ pt. kind_keys pt.kind) points.now)) }
+{
     let mut keys = Vec::new(alloc);
-    let mut left = points.len();
-    while left > 0 {
-        left -= 1;
-        if let Some(key) = key_of(&points[left].kind)
-            && is_fact(program, info.locals, key)
+    for point in points {
+        if let Some(key) = key_of(&point.kind)
+            && is_fact(program, locals, key)
         {
-            keys = with_first(alloc, key, &keys)?;
+            keys.push(key)?;
         }
     }
     Ok(keys)
@@ -168,19 +186,50 @@ pub fn is_ref_field(program: &Program, field: u32) -> bool
     }
 }
 
-/// The key, and all others of the list.
-fn with_first(alloc: Global, key: FieldKey, rest: &[FieldKey]) -> Result<Vec<FieldKey>, AllocError>
-    ensures { IfOk result
-        (λ keys. keys.items ≡ key ∷ filter (λ x. not (is_key key.reg key.field x)) rest.now) }
+fn push_key(keys: &mut Vec<FieldKey>, key: FieldKey) -> Result<(), AllocError>
+    ensures { OnOk result (keys.new.items ≡ keys.old.items ++ key ∷ []) }
 {
-    let mut keys = Vec::new(alloc);
     keys.push(key)?;
-    for other in rest {
-        if !other.is(RegNo(key.reg()), FieldNo(key.field())) {
-            keys.push(*other)?;
-        }
+    Ok(())
+}
+
+/// Each key once, where it stands first.
+fn distinct(alloc: Global, all: Vec<FieldKey>) -> Result<Vec<FieldKey>, OutOfMemory>
+    ensures { IfOk result (λ keys. keys.items ≡ distinct all.items) }
+{
+    let list = FactKeys::chained(alloc, all)?;
+    let count = list.len();
+    let mut seen = BitList::unset(alloc, count)?;
+    let mut keys = Vec::new(alloc);
+    for i in 0..count {
+        take_first(&list, &mut seen, &mut keys, i)?;
     }
     Ok(keys)
+}
+
+/// Takes the key at a place, where it wasn't seen, and marks all places where it stands as seen.
+fn take_first(
+    list: &FactKeys,
+    seen: &mut BitList,
+    keys: &mut Vec<FieldKey>,
+    i: usize,
+) -> Result<(), AllocError>
+    requires inside { i < length list.now }
+    requires long { length seen.old ≡ length list.now }
+    requires few { length list.now < 2 ^ 64 }
+    ensures long { OnOk result (length seen.new ≡ length list.now) }
+    ensures taken { OnOk result
+        (keys.new.items ++ distinct (unmarked (drop (i + 1) list.now) (drop (i + 1) seen.new))
+        ≡ keys.old.items ++ distinct (unmarked (drop i list.now) (drop i seen.old))) }
+{
+    if seen.get(i) {
+        return Ok(());
+    }
+    let key = list.at(i);
+    push_key(keys, key)?;
+    let which = Which::Exactly(RegNo(key.reg()), FieldNo(key.field()));
+    write_keys(list, seen, 0, which, true);
+    Ok(())
 }
 
 /// The class whose constructor the body is.

@@ -1,10 +1,7 @@
-use Rattle.std.proofs.Common.{◌&&◌, eqb, ap, ◌∙◌}
-use Rattle.std.specs.Prelude.{slice_index_or}
+use Rattle.std.proofs.Common.{eqb}
 use Rattle.jn_env.proofs.Along.{on_next}
 use Rattle.jn_env.proofs.env.Env.is_assigned.Goals as goal
 
 pub loop-i-preserved : goal.loop-i-preserved
 loop-i-preserved c =
-    let i = c.loop-i.i in
-    let own = c.args.own.now in
-    on_next (λ k. eqb k c.args.field) own c.args.self.now.assigned i 0 c.is_set.result _ c.loop-i-test.true (c.is_set.ensures ∙ ap (λ b. b && eqb (slice_index_or own i 0) c.args.field) c.has_assigned_at.ensures) c.if-is_set.false c.loop-i.invariant
+    on_next (λ k. eqb k c.args.field) c.args.own.now c.args.self.now.assigned c.loop-i.i 0 c.is_assigned_as.result _ c.loop-i-test.true c.is_assigned_as.ensures c.if-is_assigned_as.false c.loop-i.invariant
