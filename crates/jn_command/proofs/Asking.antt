@@ -30,5 +30,5 @@ module _ (forms : List Form) (words : List (List ℕ)) (command : Command) (take
   pub name_refused : (name : List ℕ) → name ≡ command.report → first_named name forms ≡ None → asked_of forms words ≡ None
   name_refused name same e = by_name None name same e
 
-  pub words_taken : (form : Form) (name : List ℕ) → name ≡ command.report → first_named name forms ≡ Some form → asked_of forms words ≡ Some (asked command form.document (shown_behind form.rows form.shown))
+  pub words_taken : (form : Form) (name : List ℕ) → name ≡ command.report → first_named name forms ≡ Some form → asked_of forms words ≡ Some (asked command form.document form.notes (shown_behind form.rows form.shown))
   words_taken form name same e = by_name (Some form) name same e

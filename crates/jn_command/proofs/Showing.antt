@@ -1,9 +1,11 @@
 -- Rows of files that were read, as a reader sees them.
-use Rattle.std.proofs.Common.{◌≡◌, ℕ, zero, suc, ◌<◌, ◌≤◌, true, false, List, [], ◌∷◌, ◌++◌, length, map, take, get_or, Option, Some, None, Result, Ok, Err, inl, inr, refl, sym, ap, ◌∙◌, subst, arith}
+use Rattle.std.proofs.Common.{◌≡◌, ℕ, zero, suc, ◌+◌, ◌<◌, ◌≤◌, true, false, List, [], ◌∷◌, ◌++◌, length, map, take, get_or, Option, Some, None, Result, Ok, Err, inl, inr, refl, sym, ap, ◌∙◌, subst, arith, length-take-le}
 use Rattle.std.specs.Prelude.{◌⊎◌, Bool, IfOk, slice_get, string_bytes, if◌then◌else◌}
 use Rattle.std.specs.declared.string.String.{String}
 use Rattle.std.specs.declared.alloc.Global.{Global}
+use Rattle.std.proofs.lemmas.List.{take_more}
 use Rattle.jn_base.specs.declared.place.Row.{Row}
+use Rattle.jn_base.specs.declared.place.Span.{Span}
 use Rattle.jn_base.specs.declared.code.Code.{Code}
 use Rattle.jn_base.specs.declared.code.Code.TheVariants.{B1}
 use Rattle.jn_base.specs.Place.{place_behind}
@@ -17,16 +19,18 @@ use Rattle.jn_front.specs.declared.source.SourceFile.{SourceFile}
 use Rattle.jn_front.specs.declared.source.SourceRead.{SourceRead}
 use Rattle.jn_front.specs.Files.{names_of, files_of_reads, AreReads, IsReadOf, most_files}
 use Rattle.jn_front.specs.Limits.{row_at}
+use Rattle.jn_command.specs.declared.noted.Noted.{Noted}
 use Rattle.jn_command.specs.declared.report.Report.{Report}
 use Rattle.jn_command.specs.declared.report.Report.TheVariants.{Refused, Checked}
 use Rattle.jn_command.specs.declared.show.Place.{Place}
 use Rattle.jn_command.specs.Reporters.{shown_behind}
 use Rattle.jn_command.specs.Reports.{rows_of, verdict_of}
-use Rattle.jn_command.specs.Shown.{row_of, row_of_file, shown}
+use Rattle.jn_command.specs.Shown.{no_notes, note_of_file, note_of, noted_at, noted_behind, row_of, row_of_file, rows_with, shown, shown_noted, with_notes}
 use Rattle.jn_command.specs.Stands.{StandsIn, StandIn, IsPlace, bytes_of}
 use Rattle.jn_reporters.specs.Excerpts.{extract_at, extract_for, is_limit}
 use Rattle.jn_reporters.specs.declared.shown.Extract.{Extract}
 use Rattle.jn_reporters.specs.Views.{row_view}
+use Rattle.jn_reporters.specs.declared.shown.ShownNote.{ShownNote}
 use Rattle.jn_reporters.specs.declared.shown.ShownRow.{ShownRow}
 use Rattle.jn_reporters.proofs.Limits.{b1_is_limit}
 
@@ -45,15 +49,57 @@ no_file_at [] i le = refl
 no_file_at (read ∷ reads) zero le = absurd (omega (arith, le))
 no_file_at (read ∷ reads) (suc i) le = no_file_at reads i (omega (arith, le))
 
-pub row_there : {E : Type 0} (reads : List SourceRead) (i : ℕ) (read : SourceRead) (row : Row) (r : Result ShownRow E) → i ≡ row.span.file.0 → i < length reads → read ≡ get_or reads i read → IfOk r (λ t. t ≡ row_view read.file.name read.file.bytes row) → IfOk r (λ t. t ≡ row_of (files_of_reads reads) row)
-row_there reads i read row (Ok t) number lt is h =
-    let here : slice_get (files_of_reads reads) row.span.file.0 ≡ Some read.file = ap (λ n. slice_get (files_of_reads reads) n) (sym number) ∙ file_at reads i read lt ∙ ap (λ (x : SourceRead). Some x.file) (sym is) in
-    h ∙ ap (λ f. row_of_file f row) (sym here)
-row_there reads i read row (Err e) number lt is h = tt
+-- the file of a number that is in reach
+here : (reads : List SourceRead) (i n : ℕ) (read : SourceRead) → i ≡ n → i < length reads → read ≡ get_or reads i read → slice_get (files_of_reads reads) n ≡ Some read.file
+here reads i n read number lt is = ap (λ m. slice_get (files_of_reads reads) m) (sym number) ∙ file_at reads i read lt ∙ ap (λ (x : SourceRead). Some x.file) (sym is)
 
-pub row_nowhere : {E : Type 0} (reads : List SourceRead) (row : Row) (r : Result ShownRow E) → length reads ≤ row.span.file.0 → IfOk r (λ t. t ≡ row_of_file None row) → IfOk r (λ t. t ≡ row_of (files_of_reads reads) row)
-row_nowhere reads row (Ok t) le is = is ∙ ap (λ f. row_of_file f row) (sym (no_file_at reads row.span.file.0 le))
-row_nowhere reads row (Err e) le is = tt
+pub row_there : {E : Type 0} (reads : List SourceRead) (i : ℕ) (read : SourceRead) (row : Row) (noted : Noted) (r : Result ShownRow E) → i ≡ row.span.file.0 → i < length reads → read ≡ get_or reads i read → IfOk r (λ t. t ≡ with_notes (row_view read.file.name read.file.bytes row) noted) → IfOk r (λ t. t ≡ with_notes (row_of (files_of_reads reads) row) noted)
+row_there reads i read row noted (Ok t) number lt is h = h ∙ ap (λ f. with_notes (row_of_file f row) noted) (sym (here reads i row.span.file.0 read number lt is))
+row_there reads i read row noted (Err e) number lt is h = tt
+
+pub row_nowhere : {E : Type 0} (reads : List SourceRead) (row : Row) (noted : Noted) (r : Result ShownRow E) → length reads ≤ row.span.file.0 → IfOk r (λ t. t ≡ with_notes (row_of_file None row) noted) → IfOk r (λ t. t ≡ with_notes (row_of (files_of_reads reads) row) noted)
+row_nowhere reads row noted (Ok t) le is = is ∙ ap (λ f. with_notes (row_of_file f row) noted) (sym (no_file_at reads row.span.file.0 le))
+row_nowhere reads row noted (Err e) le is = tt
+
+-- ---- notes
+
+pub note_there : {E : Type 0} (reads : List SourceRead) (i : ℕ) (read : SourceRead) (words : List ℕ) (span : Span) (r : Result ShownNote E) → i ≡ span.file.0 → i < length reads → read ≡ get_or reads i read → IfOk r (λ n. n ≡ note_of_file (Some read.file) words span) → IfOk r (λ n. n ≡ note_of (files_of_reads reads) words span)
+note_there reads i read words span (Ok n) number lt is h = h ∙ ap (λ f. note_of_file f words span) (sym (here reads i span.file.0 read number lt is))
+note_there reads i read words span (Err e) number lt is h = tt
+
+pub note_nowhere : {E : Type 0} (reads : List SourceRead) (words : List ℕ) (span : Span) (r : Result ShownNote E) → length reads ≤ span.file.0 → IfOk r (λ n. (s : Span) → n ≡ note_of_file None words s) → IfOk r (λ n. n ≡ note_of (files_of_reads reads) words span)
+note_nowhere reads words span (Ok n) le is = is span ∙ ap (λ f. note_of_file f words span) (sym (no_file_at reads span.file.0 le))
+note_nowhere reads words span (Err e) le is = tt
+
+noted_next : (noted : List Noted) (at : ℕ) → noted_at (noted_behind noted) at ≡ noted_at noted (suc at)
+noted_next [] at = refl
+noted_next (first ∷ noted) at = refl
+
+-- a row behind others has the notes at its place
+row_behind : (files : List SourceFile) (noted : List Noted) (before : List Row) (row : Row) → rows_with files noted (before ++ row ∷ []) ≡ rows_with files noted before ++ with_notes (row_of files row) (noted_at noted (length before)) ∷ []
+row_behind files noted [] row = refl
+row_behind files noted (first ∷ before) row =
+    ap (λ rs. with_notes (row_of files first) (noted_at noted 0) ∷ rs) (row_behind files (noted_behind noted) before row)
+    ∙ ap (λ n. with_notes (row_of files first) (noted_at noted 0) ∷ rows_with files (noted_behind noted) before ++ with_notes (row_of files row) n ∷ []) (noted_next noted (length before))
+
+pub rows_more : (files : List SourceFile) (noted : List Noted) (rows : List Row) (at : ℕ) (row : Row) → at < length rows → row ≡ get_or rows at row → rows_with files noted (take (at + 1) rows) ≡ rows_with files noted (take at rows) ++ with_notes (row_of files row) (noted_at noted at) ∷ []
+rows_more files noted rows at row within is =
+    let long : length (take at rows) ≡ at = length-take-le at rows (omega (arith, within)) in
+    ap (rows_with files noted) (take_more rows at row within ∙ ap (λ r. take at rows ++ r ∷ []) (sym is))
+    ∙ row_behind files noted (take at rows) row
+    ∙ ap (λ n. rows_with files noted (take at rows) ++ with_notes (row_of files row) (noted_at noted n) ∷ []) long
+
+no_more : (file : Option SourceFile) (row : Row) → with_notes (row_of_file file row) no_notes ≡ row_of_file file row
+no_more None row = refl
+no_more (Some file) row = refl
+
+pub none_noted : (files : List SourceFile) (rows : List Row) → rows_with files [] rows ≡ map (row_of files) rows
+none_noted files [] = refl
+none_noted files (row ∷ rows) = ap (λ r. r ∷ rows_with files [] rows) (no_more (slice_get files row.span.file.0) row) ∙ ap (λ rs. row_of files row ∷ rs) (none_noted files rows)
+
+pub plain_rows : {T E : Type 0} (f : T → List ShownRow) (taken : List ShownRow) (files : List SourceFile) (rows : List Row) (noted : List Noted) (r : Result T E) → noted ≡ [] → IfOk r (λ x. f x ≡ taken ++ rows_with files noted rows) → IfOk r (λ x. f x ≡ taken ++ map (row_of files) rows)
+plain_rows f taken files rows noted (Ok x) none is = is ∙ ap (λ rs. taken ++ rs) (ap (λ n. rows_with files n rows) none ∙ none_noted files rows)
+plain_rows f taken files rows noted (Err e) none is = tt
 
 -- the text of a file that was read
 pub bytes_there : (reads : List SourceRead) (i : ℕ) (read : SourceRead) → i < length reads → read ≡ get_or reads i read → bytes_of (slice_get reads i) ≡ read.file.bytes
@@ -94,8 +140,8 @@ at_start name one other row e =
 -- and no line, where it is one of a limit
 pub view_at_start : (name one other : List ℕ) (row : Row) → row.span.from ≡ 0 → is_limit row.code ≡ true → row_view name one row ≡ row_view name other row
 view_at_start name one other row from limit =
-    ap (λ (t : RowText). record { text = t; extract = extract_for row.code one row.span }) (at_start name one other row from)
-    ∙ ap (λ (x : Option Extract). record { text = row_shown name other row; extract = x }) (none one ∙ sym (none other))
+    ap (λ (t : RowText). record { text = t; extract = extract_for row.code one row.span; notes = []; more = 0 }) (at_start name one other row from)
+    ∙ ap (λ (x : Option Extract). record { text = row_shown name other row; extract = x; notes = []; more = 0 }) (none one ∙ sym (none other))
   where
     none : (bytes : List ℕ) → extract_for row.code bytes row.span ≡ None
     none bytes = ap (λ (b : Bool). if b then None else Some (extract_at bytes row.span.from row.span.to)) limit
@@ -123,6 +169,12 @@ same_rows reads files [] are stand = refl
 same_rows reads files (row ∷ rows) are stand =
     ap (λ r. r ∷ map (row_of (files_of_reads reads)) rows) (same_at reads files row.span.file.0 row are stand.0) ∙ ap (λ rs. row_of files row ∷ rs) (same_rows reads files rows are stand.1)
 
+rows_with_same : (reads : List SourceRead) (files : List SourceFile) (noted : List Noted) (rows : List Row) → AreReads reads files → StandIn reads rows → rows_with (files_of_reads reads) noted rows ≡ rows_with files noted rows
+rows_with_same reads files noted [] are stand = refl
+rows_with_same reads files noted (row ∷ rows) are stand =
+    ap (λ r. with_notes r (noted_at noted 0) ∷ rows_with (files_of_reads reads) (noted_behind noted) rows) (same_at reads files row.span.file.0 row are stand.0)
+    ∙ ap (λ rs. with_notes (row_of files row) (noted_at noted 0) ∷ rs) (rows_with_same reads files (noted_behind noted) rows are stand.1)
+
 -- what is shown of a report: the function of the rows and the verdict
 abbrev Shows : Type 0
 Shows = List ShownRow → Option Verdict → List ℕ
@@ -131,6 +183,17 @@ pub same_text : (show kept : Shows) (taken : List ShownRow) (reads : List Source
 same_text show kept taken reads files report rows verdict same are stand lines end =
     ap (λ (f : Shows). f rows verdict) same
     ∙ ap (λ rs. show rs verdict) (lines ∙ ap (λ rs. taken ++ rs) (same_rows reads files (rows_of report) are stand)) ∙ ap (λ v. show (taken ++ map (row_of files) (rows_of report)) v) end
+
+-- the same with notes
+pub noted_text : (show kept : Shows) (taken : List ShownRow) (reads : List SourceRead) (files : List SourceFile) (report : Report) (noted : List Noted) (rows : List ShownRow) (verdict : Option Verdict) → kept ≡ show → AreReads reads files → StandIn reads (rows_of report) → rows ≡ taken ++ rows_with (files_of_reads reads) noted (rows_of report) → verdict ≡ Some (verdict_of report) → kept rows verdict ≡ shown_noted (shown_behind taken show) files report noted
+noted_text show kept taken reads files report noted rows verdict same are stand lines end =
+    ap (λ (f : Shows). f rows verdict) same
+    ∙ ap (λ rs. show rs verdict) (lines ∙ ap (λ rs. taken ++ rs) (rows_with_same reads files noted (rows_of report) are stand))
+    ∙ ap (λ v. show (taken ++ rows_with files noted (rows_of report)) v) end
+
+-- a report without notes is one of which no row is given any
+pub shown_is_noted : (show : Shows) (files : List SourceFile) (report : Report) → shown show files report ≡ shown_noted show files report []
+shown_is_noted show files report = ap (λ rs. show rs (Some (verdict_of report))) (sym (none_noted files (rows_of report)))
 
 -- ---- more files than there may be
 

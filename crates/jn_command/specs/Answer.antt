@@ -13,10 +13,11 @@ use Rattle.jn_command.specs.Asked.{Asked, usage_line}
 use Rattle.jn_command.specs.Made.{front_of, made_file, made_text}
 use Rattle.jn_front.specs.declared.source.SourceFile.{SourceFile}
 use Rattle.jn_front.specs.Files.{names_of, most_files, AreHeld, AreGiven, StartsOnly, AllHeld}
+use Rattle.jn_command.specs.declared.noted.Noted.{Noted}
 use Rattle.jn_command.specs.declared.report.Report.{Report}
 use Rattle.jn_command.specs.declared.report.Report.TheVariants.{Checked}
 use Rattle.jn_command.specs.Reports.{status_of}
-use Rattle.jn_command.specs.Shown.{shown}
+use Rattle.jn_command.specs.Shown.{shown_noted}
 
 -- what a call read: what the source tells of names, and what its calls had given before this one and have given behind it
 pub record Reading : Type 0 where
@@ -96,15 +97,23 @@ module _ (Defined : Status → List ℕ → Type 0) (Part Unread : Type 0) (old 
   AnswersBy OutOfMemory = (new ≡ old) ⊎ Part
   AnswersBy Usage = Writes Usage
 
--- by what, for a choice of members that are inferred, a report of files is, what is promised of files that are accepted, what a run of so many steps of their main with these words comes to, and what it prints
-module _ (IsReport : Infer → List SourceFile → Report → Type 0) (IsSafe : Infer → List SourceFile → Type 0) (RunsTo : Infer → List SourceFile → List (List ℕ) → ℕ → Status → List ℕ → Type 0) (Prints : Infer → List SourceFile → List (List ℕ) → ℕ → List ℕ → Type 0) where
+-- the notes with which the rows of a report are shown, by what its notes are: none by a reporter that shows no notes
+module _ (AreNotes : Infer → List SourceFile → Report → List Noted → Type 0) where
+  abbrev pub AreShownNotes : Bool → Infer → List SourceFile → Report → List Noted → Type 0
+  AreShownNotes false infer files report noted = noted ≡ []
+  AreShownNotes true infer files report noted = AreNotes infer files report noted
+
+-- by what, for a choice of members that are inferred, a report of files is, which notes its rows have, what is promised of files that are accepted, what a run of so many steps of their main with these words comes to, and what it prints
+module _ (IsReport : Infer → List SourceFile → Report → Type 0) (AreNotes : Infer → List SourceFile → Report → List Noted → Type 0) (IsSafe : Infer → List SourceFile → Type 0) (RunsTo : Infer → List SourceFile → List (List ℕ) → ℕ → Status → List ℕ → Type 0) (Prints : Infer → List SourceFile → List (List ℕ) → ℕ → List ℕ → Type 0) where
   module _ (a : Asked) (files : List SourceFile) where
-    -- status and bytes are those of the report of the files, behind the line of a program that is made, which no document takes; the files are safe where the status is that of acceptance
+    -- status and bytes are those of the report of the files, whose rows are shown with their notes, behind the line of a program that is made, which no document takes; the files are safe where the status is that of acceptance
     pub record IsReportOfFiles (status : Status) (bytes : List ℕ) : Type 0 where
       pub report : Report
       pub is : IsReport a.command.infer files report
+      pub noted : List Noted
+      pub notes : AreShownNotes AreNotes a.notes a.command.infer files report noted
       pub ends : status ≡ status_of report
-      pub shows : bytes ≡ front_of a.document a.command.classes ++ shown a.show files report
+      pub shows : bytes ≡ front_of a.document a.command.classes ++ shown_noted a.show files report noted
       pub safe : status ≡ Ok → IsSafe a.command.infer files
 
     -- they are those of the run of accepted files, which are safe

@@ -6,18 +6,19 @@ use Rattle.jn_cli.specs.declared.command.Command.{Command}
 use Rattle.jn_cli.specs.Words.{command_of, is_usage, options_of}
 use Rattle.jn_command.specs.Reporters.{Form, first_named, shown_behind}
 
--- a command, and how the report of its files is shown: whether it is one document, and its bytes
+-- a command, and how the report of its files is shown: whether it is one document, whether with notes, and its bytes
 pub record Asked : Type 0 where
   pub command : Command
   pub document : Bool
+  pub notes : Bool
   pub show : List ShownRow → Option Verdict → List ℕ
 
-abbrev pub asked : Command → Bool → (List ShownRow → Option Verdict → List ℕ) → Asked
-asked command document show = record { command = command; document = document; show = show }
+abbrev pub asked : Command → Bool → Bool → (List ShownRow → Option Verdict → List ℕ) → Asked
+asked command document notes show = record { command = command; document = document; notes = notes; show = show }
 
 abbrev pub shown_by : Command → Option Form → Option Asked
 shown_by command None = None
-shown_by command (Some form) = Some (asked command form.document (shown_behind form.rows form.shown))
+shown_by command (Some form) = Some (asked command form.document form.notes (shown_behind form.rows form.shown))
 
 -- a command with the first reporter of its name; none where no reporter has it
 abbrev pub asked_by : List Form → Command → Option Asked

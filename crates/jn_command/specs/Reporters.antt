@@ -4,10 +4,11 @@ use Rattle.std.specs.Str.{bytes_eq}
 use Rattle.jn_reporters.specs.declared.shown.ShownRow.{ShownRow}
 use Rattle.jn_diag.specs.declared.shown.Verdict.{Verdict}
 
--- a reporter: its name, whether its bytes are one document, the rows that it took so far, and the bytes that it makes of rows and a verdict
+-- a reporter: its name, whether its bytes are one document, whether it shows notes, the rows that it took so far, and the bytes that it makes of rows and a verdict
 pub record Form : Type 0 where
   pub title : List ℕ
   pub document : Bool
+  pub notes : Bool
   pub rows : List ShownRow
   pub shown : List ShownRow → Option Verdict → List ℕ
 

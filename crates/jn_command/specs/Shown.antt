@@ -1,20 +1,59 @@
 -- The text of a report: what its reporter makes of its rows and its verdict.
-use Rattle.std.specs.Prelude.{ℕ, List, [], map, Option, Some, None, slice_get}
+use Rattle.std.specs.Prelude.{ℕ, List, [], ◌∷◌, map, Option, Some, None, get_or, slice_get}
 use Rattle.jn_base.specs.declared.place.Row.{Row}
+use Rattle.jn_base.specs.declared.place.Span.{Span}
+use Rattle.jn_base.specs.Place.{place_in}
 use Rattle.jn_diag.specs.declared.shown.Verdict.{Verdict}
 use Rattle.jn_front.specs.declared.source.SourceFile.{SourceFile}
+use Rattle.jn_command.specs.declared.noted.Noted.{Noted}
 use Rattle.jn_command.specs.declared.report.Report.{Report}
 use Rattle.jn_command.specs.Reports.{rows_of, verdict_of}
 use Rattle.jn_reporters.specs.Views.{row_view}
+use Rattle.jn_reporters.specs.declared.shown.ShownNote.{ShownNote}
 use Rattle.jn_reporters.specs.declared.shown.ShownRow.{ShownRow}
 
--- a row as a reporter is given it, with what is shown of its line; one of no file has no name, and stands at its beginning
+-- ---- rows
+
+-- a row as a reporter is given it, with what is shown of its line, and without notes; one of no file has no name, and stands at its beginning
 abbrev pub row_of_file : Option SourceFile → Row → ShownRow
-row_of_file None row = record { text = record { name = []; line = 1; col = 1; code = row.code }; extract = None }
+row_of_file None row = record { text = record { name = []; line = 1; col = 1; code = row.code }; extract = None; notes = []; more = 0 }
 row_of_file (Some file) row = row_view file.name file.bytes row
 
 abbrev pub row_of : List SourceFile → Row → ShownRow
 row_of files row = row_of_file (slice_get files row.span.file.0) row
 
+-- without notes
 abbrev pub shown : (List ShownRow → Option Verdict → List ℕ) → List SourceFile → Report → List ℕ
 shown show files report = show (map (row_of files) (rows_of report)) (Some (verdict_of report))
+
+-- ---- rows with notes
+
+-- the note that tells these words, as a reporter is given it, with the place of its first byte; one of no file has no name, and stands at its beginning
+abbrev pub note_of_file : Option SourceFile → List ℕ → Span → ShownNote
+note_of_file None words span = record { text = words; name = []; line = 1; col = 1 }
+note_of_file (Some file) words span = let place = place_in file.bytes span in record { text = words; name = file.name; line = place.line; col = place.col }
+
+abbrev pub note_of : List SourceFile → List ℕ → Span → ShownNote
+note_of files words span = note_of_file (slice_get files span.file.0) words span
+
+abbrev pub no_notes : Noted
+no_notes = record { notes = []; more = 0 }
+
+-- the notes of the row at a place; none where the list is shorter
+abbrev pub noted_at : List Noted → ℕ → Noted
+noted_at noted at = get_or noted at no_notes
+
+abbrev pub with_notes : ShownRow → Noted → ShownRow
+with_notes row noted = record row { notes = noted.notes; more = noted.more }
+
+abbrev pub noted_behind : List Noted → List Noted
+noted_behind [] = []
+noted_behind (first ∷ noted) = noted
+
+-- the rows, each with the notes at its place
+abbrev pub rows_with : List SourceFile → List Noted → List Row → List ShownRow
+rows_with files noted [] = []
+rows_with files noted (row ∷ rows) = with_notes (row_of files row) (noted_at noted 0) ∷ rows_with files (noted_behind noted) rows
+
+abbrev pub shown_noted : (List ShownRow → Option Verdict → List ℕ) → List SourceFile → Report → List Noted → List ℕ
+shown_noted show files report noted = show (rows_with files noted (rows_of report)) (Some (verdict_of report))

@@ -30,14 +30,26 @@ pub fn read_asked(
 ) -> Result<Asked, Fail<Usage>>
     ensures asked { IfOk result (λ a. asked_of
         (map
-        (λ b. record { title = title b; document = document b; rows = rows b; shown = shown b })
+        (λ b. record {
+          title = title b;
+          document = document b;
+          notes = notes b;
+          rows = rows b;
+          shown = shown b;
+        })
         reporters.items)
         (map string_bytes words.now)
-        ≡ Some (asked a.command (document a.reporter.reporter)
+        ≡ Some (asked a.command (document a.reporter.reporter) (notes a.reporter.reporter)
         (shown_behind (rows a.reporter.reporter) (shown a.reporter.reporter)))) }
     ensures usage { IfRefused result (asked_of
         (map
-        (λ b. record { title = title b; document = document b; rows = rows b; shown = shown b })
+        (λ b. record {
+          title = title b;
+          document = document b;
+          notes = notes b;
+          rows = rows b;
+          shown = shown b;
+        })
         reporters.items)
         (map string_bytes words.now)
         ≡ None) }

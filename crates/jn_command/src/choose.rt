@@ -22,6 +22,8 @@ impl Reporter for Chosen {
 
     ghost document = { λ a. (Reporter-box a.reporter).document a.reporter.value };
 
+    ghost notes = { λ a. (Reporter-box a.reporter).notes a.reporter.value };
+
     ghost shown = { λ a. (Reporter-box a.reporter).shown a.reporter.value };
 
     fn name(&self) -> &str {
@@ -30,6 +32,10 @@ impl Reporter for Chosen {
 
     fn is_document(&self) -> bool {
         self.reporter.is_document()
+    }
+
+    fn shows_notes(&self) -> bool {
+        self.reporter.shows_notes()
     }
 
     fn take(&mut self, row: &RowView<'_>) -> Result<(), OutOfMemory> {
@@ -49,12 +55,19 @@ impl Reporter for Chosen {
 pub fn choose(reporters: Vec<Box<dyn Reporter>>, name: &str) -> Option<Chosen>
     ensures { first_named name.now
         (map
-        (λ b. record { title = title b; document = document b; rows = rows b; shown = shown b })
+        (λ b. record {
+          title = title b;
+          document = document b;
+          notes = notes b;
+          rows = rows b;
+          shown = shown b;
+        })
         reporters.items)
         ≡ option_map
         (λ a. record {
           title = title a.reporter;
           document = document a.reporter;
+          notes = notes a.reporter;
           rows = rows a.reporter;
           shown = shown a.reporter;
         })

@@ -1,13 +1,14 @@
 //! What a command is, apart from what a report of files says: what its words ask for, how a report is shown, and what status and
 //! which bytes stand behind each answer (`specs/Answer.antt`), by whatever a report of files is.
 //!
-//! [`asked::read_asked`] reads the words and chooses a reporter, [`show::show`] shows a [`Report`] by it, and [`output::write`]
-//! writes what was made and gives the [`Status`].
+//! [`asked::read_asked`] reads the words and chooses a reporter, [`show::show`] and [`show::show_noted`] show a [`Report`] by it, the
+//! second with [`noted::Notes`] of its rows, and [`output::write`] writes what was made and gives the [`Status`].
 #![tactic(auto)]
 
 pub mod asked;
 pub mod choose;
 pub mod made;
+pub mod noted;
 pub mod output;
 pub mod report;
 pub mod show;

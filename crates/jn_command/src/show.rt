@@ -7,10 +7,11 @@ ghost use Rattle.jn_front.specs.Counted.{ReadsFit};
 ghost use Rattle.jn_front.specs.Files.{files_of_reads};
 ghost use Rattle.jn_front.specs.Limits.{row_at};
 ghost use Rattle.jn_command.specs.Reports.{rows_of, verdict_of};
-ghost use Rattle.jn_command.specs.Shown.{row_of, row_of_file};
+ghost use Rattle.jn_command.specs.Shown.{row_of, row_of_file, rows_with, with_notes};
 ghost use Rattle.jn_command.specs.Stands.{IsPlace};
 ghost use Rattle.jn_reporters.specs.Views.{row_view};
 
+use crate::noted::{NoNotes, Noted, Notes};
 use crate::report::Report;
 use jn_base::{Code, OutOfMemory, Row, Span, Text};
 use jn_diag::{Position, RowText, Verdict, place_behind};
@@ -70,27 +71,29 @@ fn text_in(
     })
 }
 
-/// The row with what is shown of its line, of a file that was read; the position goes there.
+/// The row with what is shown of its line and its notes, of a file that was read; the position goes there.
 fn row_in<'a>(
     alloc: Global,
     read: &'a SourceRead,
     row: &Row,
+    noted: &'a Noted,
     position: &mut Position,
 ) -> Result<RowView<'a>, OutOfMemory>
     requires fits { length read.now.file.bytes ≤ 1048576 }
     requires is { IsPosition read.now.file.bytes position.old }
     ensures shown { IfOk result
-        (λ t. t ≡ row_view read.now.file.name read.now.file.bytes row.now) }
+        (λ t. t
+        ≡ with_notes (row_view read.now.file.name read.now.file.bytes row.now) noted.now) }
     ensures is { IsPosition read.now.file.bytes position.new }
 {
     let text = text_in(alloc, read, row, position)?;
     let excerpt = excerpt_for(row.code, read.file.bytes.as_slice(), &row.span);
-    Ok(RowView::new(text, excerpt))
+    Ok(RowView::noted(text, excerpt, noted.notes.as_slice(), noted.more))
 }
 
 /// The row of no file: it has no name, and no line is shown.
-fn row_nowhere<'a>(alloc: Global, row: &Row) -> Result<RowView<'a>, OutOfMemory>
-    ensures { IfOk result (λ t. t ≡ row_of_file None row.now) }
+fn row_nowhere<'a>(alloc: Global, row: &Row, noted: &'a Noted) -> Result<RowView<'a>, OutOfMemory>
+    ensures { IfOk result (λ t. t ≡ with_notes (row_of_file None row.now) noted.now) }
 {
     let text = RowText {
         name: Text::of_str(alloc, "")?,
@@ -98,31 +101,65 @@ fn row_nowhere<'a>(alloc: Global, row: &Row) -> Result<RowView<'a>, OutOfMemory>
         col: 1,
         code: row.code,
     };
-    Ok(RowView::new(text, None))
+    Ok(RowView::noted(text, None, noted.notes.as_slice(), noted.more))
 }
 
-/// The row as a reporter is given it; one of no file has no name, and one behind its file's end stands at the end.
+/// The row as a reporter is given it, with these notes; one of no file has no name, and one behind its file's end stands at the end.
 fn row_of<'a>(
     alloc: Global,
     reads: &'a [SourceRead],
     row: &Row,
+    noted: &'a Noted,
     place: &mut Place,
 ) -> Result<RowView<'a>, OutOfMemory>
     requires fit { ReadsFit reads.now }
     requires is { IsPlace reads.now place.old }
-    ensures shown { IfOk result (λ t. t ≡ row_of (files_of_reads reads.now) row.now) }
+    ensures shown { IfOk result
+        (λ t. t ≡ with_notes (row_of (files_of_reads reads.now) row.now) noted.now) }
     ensures is { IsPlace reads.now place.new }
 {
     let file = row.span.file.0 as usize;
     if file < reads.len() {
         *place = place_in(*place, file);
-        row_in(alloc, &reads[file], row, &mut place.position)
+        row_in(alloc, &reads[file], row, noted, &mut place.position)
     } else {
-        row_nowhere(alloc, row)
+        row_nowhere(alloc, row, noted)
     }
 }
 
-/// Hands the rows and the verdict of a report of files that were read to a reporter.
+/// Hands the rows, with these notes, and the verdict of a report of files that were read to a reporter.
+pub fn show_noted<P: Reporter, N: Notes>(
+    alloc: Global,
+    reads: &[SourceRead],
+    report: &Report,
+    notes: &N,
+    reporter: P,
+) -> Result<P, OutOfMemory>
+    requires fit { ReadsFit reads.now }
+    ensures rows { IfOk result (λ shower. P.rows shower
+        ≡ P.rows reporter
+        ++ rows_with (files_of_reads reads.now) (N.told notes.now) (rows_of report.now)) }
+    ensures verdict { IfOk result (λ shower. P.given shower ≡ Some (verdict_of report.now)) }
+    ensures shown { IfOk result (λ shower. P.shown shower ≡ P.shown reporter) }
+{
+    let rows = report.rows();
+    let mut shower = reporter;
+    let mut place = Place {
+        file: 0,
+        position: Position::start(),
+    };
+    let mut at = 0;
+    while at < rows.len() {
+        let noted = notes.of_row(alloc, at)?;
+        let shown = row_of(alloc, reads, &rows[at], &noted, &mut place)?;
+        shower.take(&shown)?;
+        at += 1;
+    }
+    shower.finish(report.verdict())?;
+    Ok(shower)
+}
+
+/// Hands the rows, without notes, and the verdict of a report of files that were read to a reporter.
 pub fn show<P: Reporter>(
     alloc: Global,
     reads: &[SourceRead],
@@ -135,17 +172,7 @@ pub fn show<P: Reporter>(
     ensures verdict { IfOk result (λ shower. P.given shower ≡ Some (verdict_of report.now)) }
     ensures shown { IfOk result (λ shower. P.shown shower ≡ P.shown reporter) }
 {
-    let mut shower = reporter;
-    let mut place = Place {
-        file: 0,
-        position: Position::start(),
-    };
-    for row in report.rows() {
-        let shown = row_of(alloc, reads, row, &mut place)?;
-        shower.take(&shown)?;
-    }
-    shower.finish(report.verdict())?;
-    Ok(shower)
+    show_noted(alloc, reads, report, &NoNotes, reporter)
 }
 
 /// The row of the first file that is too many, which has this name.

@@ -1,5 +1,5 @@
--- The report with the lines of the files: for each row its message, its place, the line on which it begins with a mark below, and its cure.
-use Rattle.std.specs.Prelude.{ℕ, ◌==◌, ◌++◌, ◌||◌, Bool, List, [], ◌∷◌, Option, Some, None, chars, codes, decimal, encode_utf8, if◌then◌else◌}
+-- The report with the lines of the files: for each row its message, its place, the line on which it begins with a mark below, its cure, and its notes.
+use Rattle.std.specs.Prelude.{ℕ, zero, suc, ◌==◌, ◌++◌, ◌||◌, Bool, List, [], ◌∷◌, Option, Some, None, chars, codes, decimal, encode_utf8, if◌then◌else◌}
 use Rattle.std.specs.Char.{is_control}
 use Rattle.std.specs.Int.{is_in_range}
 use Rattle.std.specs.List.{flat_map}
@@ -10,7 +10,9 @@ use Rattle.jn_diag.specs.declared.shown.RowText.{RowText}
 use Rattle.jn_diag.specs.declared.shown.Verdict.{Verdict}
 use Rattle.jn_reporters.specs.declared.shown.Extract.{Extract}
 use Rattle.jn_reporters.specs.Reports.{end_line}
+use Rattle.jn_reporters.specs.declared.shown.ShownNote.{ShownNote}
 use Rattle.jn_reporters.specs.declared.shown.ShownRow.{ShownRow}
+use Rattle.jn_reporters.specs.Words.{note_words}
 use Rattle.jn_reporters.specs.declared.look.Look.{Look}
 use Rattle.jn_reporters.specs.declared.look.Look.TheVariants.{Itself, Blank, Mark}
 
@@ -78,9 +80,21 @@ source_lines row (Some e) = margin row ++ codes " |\n" ++ text_line row e ++ mar
 abbrev pub cure_line : RowText → List ℕ
 cure_line row = margin row ++ codes " = cure: " ++ code_cure row.code ++ codes "\n"
 
+-- = note: TEXT FILE:LINE:COL
+unfoldable pub note_line : RowText → ShownNote → List ℕ
+note_line row note = margin row ++ codes " = note: " ++ note_words note ++ codes "\n"
+
+-- how many notes were left out; nothing where none were
+unfoldable pub more_line : RowText → ℕ → List ℕ
+more_line row zero = []
+more_line row (suc n) = margin row ++ codes " = note: .. and " ++ decimal (suc n) ++ codes " more\n"
+
+abbrev pub note_lines : RowText → List ShownNote → ℕ → List ℕ
+note_lines row notes more = flat_map (note_line row) notes ++ more_line row more
+
 -- behind a row stands an empty line
 abbrev pub long_row : ShownRow → List ℕ
-long_row row = head_line row.text ++ place_line row.text ++ source_lines row.text row.extract ++ cure_line row.text ++ codes "\n"
+long_row row = head_line row.text ++ place_line row.text ++ source_lines row.text row.extract ++ cure_line row.text ++ note_lines row.text row.notes row.more ++ codes "\n"
 
 abbrev pub long_shown : List ShownRow → Option Verdict → List ℕ
 long_shown rows verdict = flat_map long_row rows ++ end_line verdict

@@ -1,5 +1,5 @@
 -- The report as a log of one run in SARIF (Static Analysis Results Interchange Format, version 2.1.0, OASIS).
-use Rattle.std.specs.Prelude.{ℕ, ◌==◌, ◌++◌, Bool, List, [], ◌∷◌, Option, Some, None, codes, decimal, filter}
+use Rattle.std.specs.Prelude.{ℕ, ◌+◌, ◌==◌, ◌++◌, Bool, List, [], ◌∷◌, Option, Some, None, codes, decimal, filter, if◌then◌else◌}
 use Rattle.std.specs.List.{flat_map, list_any}
 use Rattle.jn_base.specs.Codes.{code_name}
 use Rattle.jn_base.specs.Messages.{code_cure, code_message}
@@ -10,7 +10,8 @@ use Rattle.jn_reporters.specs.Escapes.{escaped}
 use Rattle.jn_reporters.specs.Reports.{all_codes}
 use Rattle.jn_reporters.specs.declared.escapes.Escape.TheVariants.{Json, Uri}
 use Rattle.jn_reporters.specs.Sheet.{documented}
-use Rattle.jn_reporters.specs.Words.{told}
+use Rattle.jn_reporters.specs.Words.{note_words, told}
+use Rattle.jn_reporters.specs.declared.shown.ShownNote.{ShownNote}
 use Rattle.jn_reporters.specs.declared.shown.ShownRow.{ShownRow}
 use Rattle.jn_reporters.specs.declared.kept.KeptRow.{KeptRow}
 
@@ -61,8 +62,12 @@ result_file row = codes "\"locations\": [{\"physicalLocation\": {\"artifactLocat
 abbrev pub numbered : List ℕ → ℕ → List ℕ
 numbered front number = front ++ decimal number
 
+-- a region (3.30), and the end of the physical location (3.29) that it stands in
+abbrev pub region : ℕ → ℕ → List ℕ
+region line col = numbered (codes "\"region\": {\"startLine\": ") line ++ numbered (codes ", \"startColumn\": ") col ++ codes "}}"
+
 abbrev pub result_region : KeptRow → List ℕ
-result_region row = numbered (codes "\"region\": {\"startLine\": ") row.line ++ numbered (codes ", \"startColumn\": ") row.col ++ codes "}}}]"
+result_region row = region row.line row.col ++ codes "}]"
 
 abbrev pub result_place : KeptRow → List ℕ
 result_place row = result_file row ++ result_region row
@@ -72,8 +77,41 @@ unfoldable pub print_member : Option ℕ → List ℕ
 print_member None = codes "}"
 print_member (Some print) = codes ", \"partialFingerprints\": {\"codeAndLine/v1\": \"" ++ decimal print ++ codes "\"}}"
 
+-- the related location (3.27.22) of a note: a number of its own (3.28.2), its place, and what it tells (3.28.5)
+abbrev pub related_id : ℕ → List ℕ
+related_id id = codes "{\"id\": " ++ decimal id ++ codes ", "
+
+abbrev pub related_file : ShownNote → List ℕ
+related_file note = codes "\"physicalLocation\": {\"artifactLocation\": {\"uri\": \"" ++ escaped Uri note.name ++ codes "\"}, "
+
+abbrev pub related_words : ShownNote → List ℕ
+related_words note = codes ", \"message\": {\"text\": \"" ++ escaped Json (note_words note) ++ codes "\"}}"
+
+abbrev pub related_object : ℕ → ShownNote → List ℕ
+related_object id note = related_id id ++ related_file note ++ region note.line note.col ++ related_words note
+
+-- a comma stands between two
+abbrev pub comma_before : ℕ → List ℕ
+comma_before id = if id == 1 then [] else codes ", "
+
+unfoldable pub next_related : ℕ → ShownNote → List ℕ
+next_related id note = comma_before id ++ related_object id note
+
+-- numbered from this number on
+abbrev pub related_from : ℕ → List ShownNote → List ℕ
+related_from id [] = []
+related_from id (note ∷ notes) = next_related id note ++ related_from (id + 1) notes
+
+abbrev pub related_some : List ShownNote → List ℕ
+related_some notes = codes ", \"relatedLocations\": [" ++ related_from 1 notes ++ codes "]"
+
+-- nothing where there are no notes
+unfoldable pub related_member : List ShownNote → List ℕ
+related_member [] = []
+related_member (note ∷ notes) = related_some (note ∷ notes)
+
 abbrev pub result_object : KeptRow → List ℕ
-result_object row = result_meaning row ++ result_place row ++ print_member row.fingerprint
+result_object row = result_meaning row ++ result_place row ++ related_member row.notes ++ print_member row.fingerprint
 
 -- what stands before the rules: the log (3.13), its run (3.14) and the run's tool (3.18, 3.19)
 unfoldable pub before_rules : List ℕ

@@ -36,7 +36,7 @@ with_verdict sheet verdict = record sheet { verdict = Some verdict }
 
 -- what a document keeps of a row
 abbrev pub kept_of : ShownRow → KeptRow
-kept_of row = record { name = row.text.name; line = row.text.line; col = row.text.col; code = row.text.code; fingerprint = print_for row.text.code row.extract }
+kept_of row = record { name = row.text.name; line = row.text.line; col = row.text.col; code = row.text.code; fingerprint = print_for row.text.code row.extract; notes = row.notes }
 
 abbrev pub all_kept : List ShownRow → List KeptRow
 all_kept rows = map kept_of rows

@@ -1,5 +1,5 @@
 //! The report as the XML of Checkstyle.
-ghost use Rattle.std.specs.Prelude.{◌≡◌, ◌++◌, true, IfOk, OnOk};
+ghost use Rattle.std.specs.Prelude.{◌≡◌, ◌++◌, true, false, IfOk, OnOk};
 ghost use Rattle.jn_reporters.specs.Checkstyle as spec;
 
 use crate::attribute::put_value;
@@ -18,6 +18,7 @@ pub type Checkstyle = Document<CheckstyleXml>;
 pub fn checkstyle_shows(reporter: &Checkstyle)
     ensures shown { ⟦<Checkstyle as Reporter>⟧.shown reporter.now ≡ spec.checkstyle_shown }
     ensures document { ⟦<Checkstyle as Reporter>⟧.document reporter.now ≡ true }
+    ensures notes { ⟦<Checkstyle as Reporter>⟧.notes reporter.now ≡ false }
 {}
 
 /// The XML of Checkstyle: an element for each run of rows of one file, and in it one for each row.
@@ -25,15 +26,21 @@ pub fn checkstyle_shows(reporter: &Checkstyle)
 pub struct CheckstyleXml;
 
 impl Format for CheckstyleXml {
-    ghost use Rattle.std.specs.Prelude.{codes};
+    ghost use Rattle.std.specs.Prelude.{codes, false};
     ghost use Rattle.jn_reporters.specs.Checkstyle.{checkstyle_document};
 
     ghost title = { codes "checkstyle" };
+
+    ghost notes = { false };
 
     ghost written = { checkstyle_document };
 
     fn name() -> &'static str {
         "checkstyle"
+    }
+
+    fn shows_notes() -> bool {
+        false
     }
 
     fn document(alloc: Global, rows: &[KeptRow]) -> Result<Vec<u8>, AllocError> {

@@ -1,5 +1,5 @@
 //! Reports that are one document of all rows.
-ghost use Rattle.std.specs.Prelude.{◌≡◌, ℕ, List, IfOk};
+ghost use Rattle.std.specs.Prelude.{◌≡◌, ℕ, Bool, List, IfOk};
 ghost use Rattle.jn_reporters.specs.declared.kept.KeptRow.{KeptRow};
 ghost use Rattle.jn_reporters.specs.Sheet.{document_shown, nothing_taken};
 
@@ -18,12 +18,19 @@ pub trait Format: Drop {
     /// The name by which the reporter is chosen.
     ghost title: { List ℕ };
 
+    /// Whether notes are shown.
+    ghost notes: { Bool };
+
     /// The document of the rows.
     ghost written: { List KeptRow → List ℕ };
 
     /// The name by which the reporter is chosen.
     fn name() -> &'static str
         ensures { result.now ≡ title };
+
+    /// Whether notes are shown.
+    fn shows_notes() -> bool
+        ensures { result ≡ notes };
 
     /// The document of the rows, made in time linear in its size.
     fn document(alloc: Global, rows: &[KeptRow]) -> Result<Vec<u8>, AllocError>
@@ -82,6 +89,8 @@ impl<F: Format> Reporter for Document<F> {
 
     ghost document = { λ a. true };
 
+    ghost notes = { λ a. F.notes };
+
     ghost shown = { λ a. documented F.written };
 
     fn name(&self) -> &str {
@@ -90,6 +99,10 @@ impl<F: Format> Reporter for Document<F> {
 
     fn is_document(&self) -> bool {
         true
+    }
+
+    fn shows_notes(&self) -> bool {
+        F::shows_notes()
     }
 
     fn take(&mut self, row: &RowView<'_>) -> Result<(), OutOfMemory> {

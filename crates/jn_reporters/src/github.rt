@@ -56,6 +56,8 @@ impl Reporter for Github {
 
     ghost document = { λ a. false };
 
+    ghost notes = { λ a. false };
+
     ghost shown = { λ a. github_shown };
 
     fn name(&self) -> &str {
@@ -63,6 +65,10 @@ impl Reporter for Github {
     }
 
     fn is_document(&self) -> bool {
+        false
+    }
+
+    fn shows_notes(&self) -> bool {
         false
     }
 

@@ -3,8 +3,9 @@ ghost use Rattle.std.specs.Prelude.{◌≡◌, ◌++◌, ◌∷◌, [], IfOk, On
 ghost use Rattle.jn_reporters.specs.Sheet.{kept_of};
 
 use crate::fingerprint::print_for;
+use crate::shown::ShownNote;
 use crate::view::RowView;
-use jn_base::{Code, OutOfMemory, Text};
+use jn_base::{Code, OutOfMemory, Seq, Text};
 use std::alloc::Global;
 
 /// A row with the name of its file, and the line and the column, both from 1, of its first byte.
@@ -16,6 +17,18 @@ pub struct KeptRow {
     pub code: Code,
     /// The fingerprint of the code and of what is shown of the row's line; none where no line is shown.
     pub fingerprint: Option<u64>,
+    /// The notes, in their order.
+    pub notes: Seq<ShownNote>,
+}
+
+fn copied(alloc: Global, notes: &[ShownNote]) -> Result<Seq<ShownNote>, OutOfMemory>
+    ensures { IfOk result (λ copies. copies ≡ notes.now) }
+{
+    let mut copies = Seq::new(alloc);
+    for note in notes {
+        copies.push(note.copy(alloc)?)?;
+    }
+    Ok(copies)
 }
 
 fn kept_of(alloc: Global, row: &RowView<'_>) -> Result<KeptRow, OutOfMemory>
@@ -29,6 +42,7 @@ fn kept_of(alloc: Global, row: &RowView<'_>) -> Result<KeptRow, OutOfMemory>
         col: text.col,
         code: text.code,
         fingerprint,
+        notes: copied(alloc, row.notes())?,
     })
 }
 

@@ -1,8 +1,8 @@
 //! Reporters, which make the text of a report from rows and a verdict.
 //!
-//! A [`Reporter`] takes each row once and in order, with what is shown of the line on which it begins ([`RowView`]), and then the verdict;
-//! its bytes are a function of both, defined in `specs/` for each of [`Plain`], [`Long`], [`Tabbed`], [`Summary`], [`Github`],
-//! [`Checkstyle`] and [`Sarif`]. `docs/HOWTO.md` says how to add one.
+//! A [`Reporter`] takes each row once and in order, with what is shown of the line on which it begins and with its notes ([`RowView`]),
+//! and then the verdict; its bytes are a function of both, defined in `specs/` for each of [`Plain`], [`Long`], [`Tabbed`], [`Summary`],
+//! [`Github`], [`Checkstyle`] and [`Sarif`]. `docs/HOWTO.md` says how to add one.
 #![tactic(auto)]
 
 mod attribute;
@@ -37,6 +37,7 @@ pub use long::Long;
 pub use plain::Plain;
 pub use reporter::Reporter;
 pub use sarif::Sarif;
+pub use shown::ShownNote;
 pub use summary::Summary;
 pub use tabbed::Tabbed;
 pub use view::RowView;

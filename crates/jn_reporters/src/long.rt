@@ -1,5 +1,6 @@
 //! The report with the lines of the files.
-ghost use Rattle.std.specs.Prelude.{◌≡◌, ◌++◌, Some, IfOk, OnOk};
+ghost use Rattle.std.specs.Prelude.{◌≡◌, ◌<◌, ◌++◌, Some, IfOk, OnOk};
+ghost use Rattle.std.specs.List.{flat_map};
 ghost use Rattle.std.specs.Option.{option_map};
 ghost use Rattle.jn_reporters.specs.Excerpts.{extract_of};
 ghost use Rattle.jn_reporters.specs.Longs as spec;
@@ -9,6 +10,8 @@ use crate::excerpt::Excerpt;
 use crate::look::{Look, put_looked};
 use crate::reporter::Reporter;
 use crate::sheet::Sheet;
+use crate::shown::ShownNote;
+use crate::telling::noted;
 use crate::view::RowView;
 use itoa::{Buffer, Integer};
 use jn_base::OutOfMemory;
@@ -16,7 +19,8 @@ use jn_diag::{RowText, Verdict};
 use std::alloc::{AllocError, Global};
 use std::marker::Model;
 
-/// Shows for each row its message, its place, the line on which it begins with a mark below, and its cure, and then the verdict.
+/// Shows for each row its message, its place, the line on which it begins with a mark below, its cure and its notes, and then the
+/// verdict.
 #[derive(Drop)]
 pub struct Long {
     sheet: Sheet,
@@ -46,7 +50,7 @@ impl Long {
 }
 
 impl Reporter for Long {
-    ghost use Rattle.std.specs.Prelude.{codes, false};
+    ghost use Rattle.std.specs.Prelude.{codes, false, true};
     ghost use Rattle.jn_reporters.specs.Longs.{long_shown};
 
     ghost rows = { λ a. a.rows };
@@ -57,6 +61,8 @@ impl Reporter for Long {
 
     ghost document = { λ a. false };
 
+    ghost notes = { λ a. true };
+
     ghost shown = { λ a. long_shown };
 
     fn name(&self) -> &str {
@@ -65,6 +71,10 @@ impl Reporter for Long {
 
     fn is_document(&self) -> bool {
         false
+    }
+
+    fn shows_notes(&self) -> bool {
+        true
     }
 
     fn take(&mut self, row: &RowView<'_>) -> Result<(), OutOfMemory> {
@@ -91,6 +101,8 @@ fn long_row(alloc: Global, row: &RowView<'_>) -> Result<Vec<u8>, AllocError>
     put_source(&mut text, alloc, row.row(), row.excerpt())?;
     let cure = cure_line(alloc, row.row())?;
     text.extend_from_slice(&cure)?;
+    let notes = note_lines(alloc, row.row(), row.notes(), row.more())?;
+    text.extend_from_slice(&notes)?;
     text.extend_from_slice(b"\n")?;
     Ok(text)
 }
@@ -145,6 +157,74 @@ fn cure_line(alloc: Global, row: &RowText) -> Result<Vec<u8>, AllocError>
     text.extend_from_slice(b" = cure: ")?;
     text.extend_from_slice(row.code.cure().as_bytes())?;
     text.extend_from_slice(b"\n")?;
+    Ok(text)
+}
+
+/// A line for each note, and one where more were left out.
+fn note_lines(
+    alloc: Global,
+    row: &RowText,
+    notes: &[ShownNote],
+    more: usize,
+) -> Result<Vec<u8>, AllocError>
+    ensures { IfOk result (λ text. text.items ≡ spec.note_lines row.now notes.now more) }
+{
+    let mut text = Vec::new(alloc);
+    put_notes(&mut text, alloc, row, notes)?;
+    put_more(&mut text, alloc, row, more)?;
+    Ok(text)
+}
+
+fn put_notes(
+    out: &mut Vec<u8>,
+    alloc: Global,
+    row: &RowText,
+    notes: &[ShownNote],
+) -> Result<(), AllocError>
+    ensures { OnOk result
+        (out.new.items ≡ out.old.items ++ flat_map (spec.note_line row.now) notes.now) }
+{
+    for note in notes {
+        let line = note_line(alloc, row, note)?;
+        out.extend_from_slice(&line)?;
+    }
+    Ok(())
+}
+
+/// `= note: TEXT FILE:LINE:COL` and a line feed.
+#[tactic(auto, unfolding(crate::specs::Longs::note_line))]
+fn note_line(alloc: Global, row: &RowText, note: &ShownNote) -> Result<Vec<u8>, AllocError>
+    ensures { IfOk result (λ text. text.items ≡ spec.note_line row.now note.now) }
+{
+    let mut text = margin(alloc, row)?;
+    text.extend_from_slice(b" = note: ")?;
+    let words = noted(alloc, note)?;
+    text.extend_from_slice(&words)?;
+    text.extend_from_slice(b"\n")?;
+    Ok(text)
+}
+
+/// `= note: .. and N more` and a line feed, where notes were left out.
+#[tactic(auto, unfolding(crate::specs::Longs::more_line))]
+fn put_more(out: &mut Vec<u8>, alloc: Global, row: &RowText, more: usize) -> Result<(), AllocError>
+    ensures { OnOk result (out.new.items ≡ out.old.items ++ spec.more_line row.now more) }
+{
+    if more == 0 {
+        return Ok(());
+    }
+    let line = more_line(alloc, row, more)?;
+    out.extend_from_slice(&line)
+}
+
+#[tactic(auto, unfolding(crate::specs::Longs::more_line))]
+fn more_line(alloc: Global, row: &RowText, more: usize) -> Result<Vec<u8>, AllocError>
+    requires { 0 < more }
+    ensures { IfOk result (λ text. text.items ≡ spec.more_line row.now more) }
+{
+    let mut text = margin(alloc, row)?;
+    text.extend_from_slice(b" = note: .. and ")?;
+    text.extend_from_slice(Buffer::new().format(more).as_bytes())?;
+    text.extend_from_slice(b" more\n")?;
     Ok(text)
 }
 

@@ -21,6 +21,9 @@ pub trait Reporter: Drop {
     /// Whether the bytes are one document, before which no line can stand.
     ghost document: { Self → Bool };
 
+    /// Whether notes are shown. Where they aren't, rows need no notes.
+    ghost notes: { Self → Bool };
+
     /// The bytes that the reporter makes of rows, their lines and a verdict.
     ghost shown: { Self → List ShownRow → Option Verdict → List ℕ };
 
@@ -32,6 +35,10 @@ pub trait Reporter: Drop {
     fn is_document(&self) -> bool
         ensures { result ≡ document self.now };
 
+    /// Whether notes are shown. Where they aren't, rows need no notes.
+    fn shows_notes(&self) -> bool
+        ensures { result ≡ notes self.now };
+
     /// Takes the row behind the others. On want of memory the reporter is as before.
     fn take(&mut self, row: &RowView<'_>) -> Result<(), OutOfMemory>
         ensures ok { OnOk result (rows self.new ≡ rows self.old ++ row.now ∷ []) }
@@ -39,7 +46,8 @@ pub trait Reporter: Drop {
         ensures given { given self.new ≡ given self.old }
         ensures title { title self.new ≡ title self.old }
         ensures document { document self.new ≡ document self.old }
-        ensures shown { shown self.new ≡ shown self.old };
+        ensures shown { shown self.new ≡ shown self.old }
+        ensures notes { notes self.new ≡ notes self.old };
 
     /// Gives the verdict, in place of an earlier one. On want of memory the reporter is as before.
     fn finish(&mut self, verdict: Verdict) -> Result<(), OutOfMemory>
@@ -48,7 +56,8 @@ pub trait Reporter: Drop {
         ensures rows { rows self.new ≡ rows self.old }
         ensures title { title self.new ≡ title self.old }
         ensures document { document self.new ≡ document self.old }
-        ensures shown { shown self.new ≡ shown self.old };
+        ensures shown { shown self.new ≡ shown self.old }
+        ensures notes { notes self.new ≡ notes self.old };
 
     /// The bytes of the rows and the verdict so far.
     fn bytes(&self) -> &[u8]

@@ -7,7 +7,8 @@ use crate::document::{Document, Format};
 use crate::escapes::{Escape, put};
 use crate::kept::KeptRow;
 use crate::reporter::Reporter;
-use crate::telling::told;
+use crate::shown::ShownNote;
+use crate::telling::{noted, told};
 use itoa::{Buffer, Integer};
 use jn_base::Code;
 use std::alloc::{AllocError, Global};
@@ -19,6 +20,7 @@ pub type Sarif = Document<SarifLog>;
 pub fn sarif_shows(reporter: &Sarif)
     ensures shown { ⟦<Sarif as Reporter>⟧.shown reporter.now ≡ spec.sarif_shown }
     ensures document { ⟦<Sarif as Reporter>⟧.document reporter.now ≡ true }
+    ensures notes { ⟦<Sarif as Reporter>⟧.notes reporter.now ≡ true }
 {}
 
 /// A log of one run in SARIF 2.1.0: a rule for each code that occurs, and a result for each row.
@@ -26,15 +28,21 @@ pub fn sarif_shows(reporter: &Sarif)
 pub struct SarifLog;
 
 impl Format for SarifLog {
-    ghost use Rattle.std.specs.Prelude.{codes};
+    ghost use Rattle.std.specs.Prelude.{codes, true};
     ghost use Rattle.jn_reporters.specs.Sarif.{sarif_document};
 
     ghost title = { codes "sarif" };
+
+    ghost notes = { true };
 
     ghost written = { sarif_document };
 
     fn name() -> &'static str {
         "sarif"
+    }
+
+    fn shows_notes() -> bool {
+        true
     }
 
     fn document(alloc: Global, rows: &[KeptRow]) -> Result<Vec<u8>, AllocError> {
@@ -217,6 +225,8 @@ fn result_object(alloc: Global, row: &KeptRow) -> Result<Vec<u8>, AllocError>
     let mut text = result_meaning(alloc, row)?;
     let place = result_place(alloc, row)?;
     text.extend_from_slice(&place)?;
+    let related = related_member(alloc, row.notes.as_slice())?;
+    text.extend_from_slice(&related)?;
     let member = print_member(alloc, row.fingerprint)?;
     text.extend_from_slice(&member)?;
     Ok(text)
@@ -258,10 +268,116 @@ fn result_file(alloc: Global, row: &KeptRow) -> Result<Vec<u8>, AllocError>
 fn result_region(alloc: Global, row: &KeptRow) -> Result<Vec<u8>, AllocError>
     ensures { IfOk result (λ text. text.items ≡ spec.result_region row.now) }
 {
-    let mut text = numbered(alloc, b"\"region\": {\"startLine\": ", row.line)?;
-    let column = numbered(alloc, b", \"startColumn\": ", row.col)?;
+    let mut text = region(alloc, row.line, row.col)?;
+    text.extend_from_slice(b"}]")?;
+    Ok(text)
+}
+
+/// A region, and the end of the physical location that it stands in.
+fn region(alloc: Global, line: u32, col: u32) -> Result<Vec<u8>, AllocError>
+    ensures { IfOk result (λ text. text.items ≡ spec.region line col) }
+{
+    let mut text = numbered(alloc, b"\"region\": {\"startLine\": ", line)?;
+    let column = numbered(alloc, b", \"startColumn\": ", col)?;
     text.extend_from_slice(&column)?;
-    text.extend_from_slice(b"}}}]")?;
+    text.extend_from_slice(b"}}")?;
+    Ok(text)
+}
+
+/// The locations of the notes; nothing where there are none.
+#[tactic(auto, unfolding(crate::specs::Sarif::related_member))]
+fn related_member(alloc: Global, notes: &[ShownNote]) -> Result<Vec<u8>, AllocError>
+    ensures { IfOk result (λ text. text.items ≡ spec.related_member notes.now) }
+{
+    match notes {
+        [] => Ok(Vec::new(alloc)),
+        _ => related_some(alloc, notes),
+    }
+}
+
+fn related_some(alloc: Global, notes: &[ShownNote]) -> Result<Vec<u8>, AllocError>
+    ensures { IfOk result (λ text. text.items ≡ spec.related_some notes.now) }
+{
+    let mut text = Vec::from_slice(alloc, b", \"relatedLocations\": [")?;
+    put_related(&mut text, alloc, notes)?;
+    text.extend_from_slice(b"]")?;
+    Ok(text)
+}
+
+/// Puts the locations of the notes, numbered from 1, with commas between.
+fn put_related(out: &mut Vec<u8>, alloc: Global, notes: &[ShownNote]) -> Result<(), AllocError>
+    ensures { OnOk result (out.new.items ≡ out.old.items ++ spec.related_from 1 notes.now) }
+{
+    let mut before = 0;
+    while before < notes.len() {
+        put_next_related(out, alloc, before + 1, &notes[before])?;
+        before += 1;
+    }
+    Ok(())
+}
+
+#[tactic(auto, unfolding(crate::specs::Sarif::next_related))]
+fn put_next_related(
+    out: &mut Vec<u8>,
+    alloc: Global,
+    id: usize,
+    note: &ShownNote,
+) -> Result<(), AllocError>
+    ensures { OnOk result (out.new.items ≡ out.old.items ++ spec.next_related id note.now) }
+{
+    let mut text = Vec::from_slice(alloc, comma_before(id).as_bytes())?;
+    let object = related_object(alloc, id, note)?;
+    text.extend_from_slice(&object)?;
+    out.extend_from_slice(&text)
+}
+
+fn comma_before(id: usize) -> &'static str
+    ensures { result.now ≡ spec.comma_before id }
+{
+    if id == 1 { "" } else { ", " }
+}
+
+fn related_object(alloc: Global, id: usize, note: &ShownNote) -> Result<Vec<u8>, AllocError>
+    ensures { IfOk result (λ text. text.items ≡ spec.related_object id note.now) }
+{
+    let mut text = related_id(alloc, id)?;
+    let file = related_file(alloc, note)?;
+    text.extend_from_slice(&file)?;
+    let region = region(alloc, note.line, note.col)?;
+    text.extend_from_slice(&region)?;
+    let words = related_words(alloc, note)?;
+    text.extend_from_slice(&words)?;
+    Ok(text)
+}
+
+fn related_id(alloc: Global, id: usize) -> Result<Vec<u8>, AllocError>
+    ensures { IfOk result (λ text. text.items ≡ spec.related_id id) }
+{
+    let mut text = Vec::from_slice(alloc, b"{\"id\": ")?;
+    text.extend_from_slice(Buffer::new().format(id).as_bytes())?;
+    text.extend_from_slice(b", ")?;
+    Ok(text)
+}
+
+fn related_file(alloc: Global, note: &ShownNote) -> Result<Vec<u8>, AllocError>
+    ensures { IfOk result (λ text. text.items ≡ spec.related_file note.now) }
+{
+    let mut text = Vec::from_slice(
+        alloc,
+        b"\"physicalLocation\": {\"artifactLocation\": {\"uri\": \"",
+    )?;
+    put(&mut text, Escape::Uri, note.name.as_str().as_bytes())?;
+    text.extend_from_slice(b"\"}, ")?;
+    Ok(text)
+}
+
+fn related_words(alloc: Global, note: &ShownNote) -> Result<Vec<u8>, AllocError>
+    ensures { IfOk result (λ text. text.items ≡ spec.related_words note.now) }
+{
+    let words = noted(alloc, note)?;
+    let mut text = Vec::from_slice(alloc, b", \"message\": {\"text\": \"")?;
+    put(&mut text, Escape::Json, &words)?;
+    text.extend_from_slice(b"\"}}")?;
     Ok(text)
 }
 

@@ -1,6 +1,32 @@
-//! Rows that reporters took, as clauses see them.
-use jn_base::Seq;
+//! Rows that reporters took, as clauses see them, and their notes.
+ghost use Rattle.std.specs.Prelude.{◌≡◌, IfOk};
+
+use jn_base::{OutOfMemory, Seq, Text};
 use jn_diag::RowText;
+use std::alloc::Global;
+
+/// A note of a row: what it tells, up to the place that follows it, and that place: the name of a file, and the line and the column,
+/// both from 1.
+#[derive(Drop)]
+pub struct ShownNote {
+    pub text: Seq<u8>,
+    pub name: Text,
+    pub line: u32,
+    pub col: u32,
+}
+
+impl ShownNote {
+    pub fn copy(&self, alloc: Global) -> Result<ShownNote, OutOfMemory>
+        ensures { IfOk result (λ c. c ≡ self.now) }
+    {
+        Ok(ShownNote {
+            text: self.text.copy(alloc)?,
+            name: self.name.copy(alloc)?,
+            line: self.line,
+            col: self.col,
+        })
+    }
+}
 
 /// What is shown of a line: what stands before the row, what is of the row, and what stands behind that; and whether the line begins
 /// and ends there. Only clauses have such values.
@@ -13,10 +39,12 @@ pub struct Extract {
     pub ends: bool,
 }
 
-/// A row's text, and what is shown of the line on which it begins, if anything is. Only clauses have such values; they have no lifetime,
-/// so that a reporter can be boxed as `dyn Reporter`.
+/// A row's text, what is shown of the line on which it begins, if anything is, its notes in order, and how many notes were left out.
+/// Only clauses have such values; they have no lifetime, so that a reporter can be boxed as `dyn Reporter`.
 #[derive(Drop)]
 pub struct ShownRow {
     pub text: RowText,
     pub extract: Option<Extract>,
+    pub notes: Seq<ShownNote>,
+    pub more: usize,
 }

@@ -59,6 +59,8 @@ impl Reporter for Summary {
 
     ghost document = { λ a. false };
 
+    ghost notes = { λ a. false };
+
     ghost shown = { λ a. summary_shown };
 
     fn name(&self) -> &str {
@@ -66,6 +68,10 @@ impl Reporter for Summary {
     }
 
     fn is_document(&self) -> bool {
+        false
+    }
+
+    fn shows_notes(&self) -> bool {
         false
     }
 

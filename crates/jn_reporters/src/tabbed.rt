@@ -53,6 +53,8 @@ impl Reporter for Tabbed {
 
     ghost document = { λ a. false };
 
+    ghost notes = { λ a. false };
+
     ghost shown = { λ a. tabbed_shown };
 
     fn name(&self) -> &str {
@@ -60,6 +62,10 @@ impl Reporter for Tabbed {
     }
 
     fn is_document(&self) -> bool {
+        false
+    }
+
+    fn shows_notes(&self) -> bool {
         false
     }
 

@@ -1,8 +1,9 @@
 //! What each reporter writes: a row and a verdict, and then one row more; and names of files with bytes that are escaped.
-use jn_base::{Code, FileNo, OutOfMemory, Span, Text};
+use jn_base::{Code, FileNo, OutOfMemory, Seq, Span, Text};
 use jn_diag::{RowText, Verdict};
 use jn_reporters::{
-    Checkstyle, Github, Long, Plain, Reporter, RowView, Sarif, Summary, Tabbed, excerpt_for,
+    Checkstyle, Github, Long, Plain, Reporter, RowView, Sarif, ShownNote, Summary, Tabbed,
+    excerpt_for,
 };
 use std::alloc::Global;
 use std::process::Abort;
@@ -209,5 +210,102 @@ fn long_shows_what_stands_around_a_row(rt: HostRuntime) {
         (2, 4),
         (9, 12),
         "error[S2]: more than 200 brackets are open here\n --> V.java:2:4\n  |\n2 | c\u{fffd}d\n  |    ^\n  = cure: split the expression or the block\n\n",
+    );
+}
+
+fn noted_row(alloc: Global) -> Result<RowText, OutOfMemory> {
+    let name = Text::of_str(alloc, "V.java")?;
+    Ok(RowText {
+        name,
+        line: 12,
+        col: 5,
+        code: Code::Deref,
+    })
+}
+
+fn note(alloc: Global, text: &str, name: &str, line: u32) -> Result<ShownNote, OutOfMemory> {
+    let text = Vec::from_slice(alloc, text.as_bytes())?;
+    let name = Text::of_str(alloc, name)?;
+    Ok(ShownNote {
+        text: Seq::of_vec(text),
+        name,
+        line,
+        col: 7,
+    })
+}
+
+fn notes(alloc: Global) -> Result<Vec<ShownNote>, OutOfMemory> {
+    let mut notes = Vec::new(alloc);
+    notes.push(note(alloc, "the field `x` may be null: written at", "V.java", 9)?)?;
+    notes.push(note(alloc, "\"null\" is written at", "a b.java", 10)?)?;
+    Ok(notes)
+}
+
+fn take_noted(
+    alloc: Global,
+    reporter: &mut dyn Reporter,
+    notes: &[ShownNote],
+    more: usize,
+) -> Result<(), OutOfMemory> {
+    reporter.take(&RowView::noted(noted_row(alloc)?, None, notes, more))?;
+    reporter.finish(Verdict::Rejected(1))
+}
+
+/// A row with two notes, of which so many more were left out.
+fn expect_noted(
+    rt: &impl Abort,
+    alloc: Global,
+    reporter: &mut dyn Reporter,
+    more: usize,
+    want: &str,
+) {
+    let Ok(notes) = notes(alloc) else {
+        panic!(rt; "no memory");
+    };
+    let Ok(()) = take_noted(alloc, reporter, &notes, more) else {
+        panic!(rt; "no memory");
+    };
+    assert_eq!(rt; reporter.bytes(), want.as_bytes());
+}
+
+#[test]
+fn long_shows_notes_behind_the_cure(rt: HostRuntime) {
+    let alloc = rt.alloc();
+    let mut long = Long::new(alloc);
+    assert!(rt; long.shows_notes());
+    expect_noted(
+        &rt,
+        alloc,
+        &mut long,
+        3,
+        "error[DEREF]: this may be null when it is dereferenced\n  --> V.java:12:5\n   = cure: test it first, or mark what it comes from\n   = note: the field `x` may be null: written at V.java:9:7\n   = note: \"null\" is written at a b.java:10:7\n   = note: .. and 3 more\n\nrejected 1\n",
+    );
+}
+
+#[test]
+fn sarif_has_a_related_location_for_each_note(rt: HostRuntime) {
+    let alloc = rt.alloc();
+    let mut sarif = Sarif::new(alloc);
+    assert!(rt; sarif.shows_notes());
+    expect_noted(
+        &rt,
+        alloc,
+        &mut sarif,
+        0,
+        "{\n  \"$schema\": \"https://json.schemastore.org/sarif-2.1.0.json\",\n  \"version\": \"2.1.0\",\n  \"runs\": [\n    {\n      \"tool\": {\n        \"driver\": {\n          \"name\": \"nullcheck\",\n          \"rules\": [\n            {\"id\": \"DEREF\", \"shortDescription\": {\"text\": \"this may be null when it is dereferenced\"}, \"fullDescription\": {\"text\": \"this may be null when it is dereferenced; cure: test it first, or mark what it comes from\"}, \"help\": {\"text\": \"test it first, or mark what it comes from\"}}\n          ]\n        }\n      },\n      \"columnKind\": \"unicodeCodePoints\",\n      \"results\": [\n        {\"ruleId\": \"DEREF\", \"level\": \"error\", \"message\": {\"text\": \"this may be null when it is dereferenced; cure: test it first, or mark what it comes from\"}, \"locations\": [{\"physicalLocation\": {\"artifactLocation\": {\"uri\": \"V.java\"}, \"region\": {\"startLine\": 12, \"startColumn\": 5}}}], \"relatedLocations\": [{\"id\": 1, \"physicalLocation\": {\"artifactLocation\": {\"uri\": \"V.java\"}, \"region\": {\"startLine\": 9, \"startColumn\": 7}}, \"message\": {\"text\": \"the field `x` may be null: written at V.java:9:7\"}}, {\"id\": 2, \"physicalLocation\": {\"artifactLocation\": {\"uri\": \"a%20b.java\"}, \"region\": {\"startLine\": 10, \"startColumn\": 7}}, \"message\": {\"text\": \"\\\"null\\\" is written at a b.java:10:7\"}}]}\n      ]\n    }\n  ]\n}\n",
+    );
+}
+
+#[test]
+fn other_reporters_show_no_notes(rt: HostRuntime) {
+    let alloc = rt.alloc();
+    let mut plain = Plain::new(alloc);
+    assert!(rt; !plain.shows_notes());
+    expect_noted(
+        &rt,
+        alloc,
+        &mut plain,
+        3,
+        "V.java:12:5: DEREF\nrejected 1\n",
     );
 }

@@ -89,6 +89,8 @@ impl Reporter for Counted {
 
     ghost document = { λ a. false };
 
+    ghost notes = { λ a. false };
+
     ghost shown = { λ a. plain_shown };
 
     fn name(&self) -> &str {
@@ -97,6 +99,10 @@ impl Reporter for Counted {
 
     fn is_document(&self) -> bool {
         self.plain.is_document()
+    }
+
+    fn shows_notes(&self) -> bool {
+        self.plain.shows_notes()
     }
 
     fn take(&mut self, row: &RowView<'_>) -> Result<(), OutOfMemory> {

@@ -1,5 +1,5 @@
 -- What is written answers the command, by the files that are checked.
-use Rattle.std.proofs.Common.{◌≡◌, ℕ, zero, suc, ◌<◌, List, [], ◌∷◌, ◌++◌, length, Result, Ok as Made, Err, refl, sym, ap, ◌∙◌, subst, arith}
+use Rattle.std.proofs.Common.{◌≡◌, ℕ, zero, suc, ◌<◌, Bool, true, false, List, [], ◌∷◌, ◌++◌, length, Result, Ok as Made, Err, refl, sym, ap, ◌∙◌, subst, arith}
 use Rattle.std.specs.Prelude.{IfOk, Option}
 use Rattle.std.proofs.lemmas.Result.{IfOk-weaker}
 use Rattle.jn_base.specs.declared.infer.Infer.{Infer}
@@ -14,23 +14,29 @@ use Rattle.jn_command.specs.declared.output.Output.{Output}
 use Rattle.jn_command.specs.declared.report.Report.TheVariants.{Refused, Checked}
 use Rattle.jn_command.specs.declared.status.Status.{Status}
 use Rattle.jn_command.specs.Asked.{Asked}
-use Rattle.jn_command.specs.Answer.{Reading, reading, AreFiles, AreChecked}
+use Rattle.jn_command.specs.Answer.{Reading, reading, AreFiles, AreChecked, AreShownNotes}
 use Rattle.jn_command.specs.Made.{front_of, made_file, made_text}
 use Rattle.jn_command.specs.Outputs.{IfMade}
-use Rattle.jn_command.specs.Shown.{shown}
+use Rattle.jn_command.specs.Shown.{shown_noted}
+use Rattle.jn_command.proofs.Showing.{shown_is_noted}
 use Rattle.nullcheck_top.specs.Found.{IsRefusalOf}
-use Rattle.nullcheck_top.specs.Report.{IsReport, IsSafe, RunsTo, Prints}
+use Rattle.nullcheck_top.specs.Report.{AreNotes, IsReport, IsSafe, RunsTo, Prints}
 use Rattle.nullcheck_top.specs.Answers.{AnswersFiles}
 use Rattle.nullcheck_top.proofs.Written.{Ends, MadeFor, Written, answers_files, report_shown, files_named, named_are}
 
 never_checked : (rows others : List Row) → Refused rows ≡ Checked others → ⊥
 never_checked rows others e = cc
 
+-- rows of files that are refused have no notes
+refused_notes : (b : Bool) (infer : Infer) (files : List SourceFile) (rows : List Row) → AreShownNotes AreNotes b infer files (Refused rows) []
+refused_notes false infer files rows = refl
+refused_notes true infer files rows = refl
+
 -- files that are refused, with no line before their report
-refusal_made : (a : Asked) (files : List SourceFile) (made : Result Output NoMemory) → a.command.classes ≡ 0 → IfOk made (λ o. IsRefusalOf a.show a.command.infer files o.status o.bytes) → MadeFor IsReport IsSafe RunsTo Prints a files made
+refusal_made : (a : Asked) (files : List SourceFile) (made : Result Output NoMemory) → a.command.classes ≡ 0 → IfOk made (λ o. IsRefusalOf a.show a.command.infer files o.status o.bytes) → MadeFor IsReport AreNotes IsSafe RunsTo Prints a files made
 refusal_made a files (Made o) none r =
-    report_shown IsReport IsSafe RunsTo Prints a files (Refused r.rows) o.status o.bytes r.is r.ends
-    (r.shows ∙ ap (λ n. front_of a.document n ++ shown a.show files (Refused r.rows)) (sym none)) (λ e. absurd (never_checked r.rows [] e)) (λ run e. never_checked r.rows [] e)
+    report_shown IsReport AreNotes IsSafe RunsTo Prints a files (Refused r.rows) o.status o.bytes r.is [] (refused_notes a.notes a.command.infer files r.rows) r.ends
+    (r.shows ∙ shown_is_noted a.show files (Refused r.rows) ∙ ap (λ n. front_of a.document n ++ shown_noted a.show files (Refused r.rows) []) (sym none)) (λ e. absurd (never_checked r.rows [] e)) (λ run e. never_checked r.rows [] e)
 refusal_made a files (Err e) none r = tt
 
 refusal_written : (a : Asked) (files : List SourceFile) (made : Result Output NoMemory) → IfOk made (λ o. IsRefusalOf a.show a.command.infer files o.status o.bytes) → IfMade made (λ status bytes. Written status) (Unit {0})
@@ -49,7 +55,7 @@ many_written a names made many = refusal_written a (files_named names) made (man
 
 pub many_answers : (a : Asked) (names : List (List ℕ)) (old new : Option (List ℕ)) (before now : ℕ) (result : Status) (made : Result Output NoMemory) → a.command.classes ≡ 0 → IsMany a names made → Ends old new before now result made → AnswersFiles a (files_named names) old new result
 many_answers a names old new before now result made none many ends =
-    answers_files IsReport IsSafe RunsTo Prints a (files_named names) old new before now result made (refusal_made a (files_named names) made none (many_refused a names made many)) ends
+    answers_files IsReport AreNotes IsSafe RunsTo Prints a (files_named names) old new before now result made (refusal_made a (files_named names) made none (many_refused a names made many)) ends
 
 -- ---- the files that are checked
 

@@ -1,5 +1,5 @@
 -- Reports of files that were read.
-use Rattle.std.proofs.Common.{◌≡◌, ◌↔◌, ℕ, ◌<◌, List, [], ◌∷◌, length, None, Result, Ok, Err, inl, inr, refl, sym, ap, ◌∙◌, subst, arith}
+use Rattle.std.proofs.Common.{◌≡◌, ◌↔◌, ℕ, ◌<◌, Bool, true, false, List, [], ◌∷◌, length, None, Result, Ok, Err, inl, inr, refl, sym, ap, ◌∙◌, subst, arith}
 use Rattle.std.specs.Prelude.{Contains, IfOk, IfErr}
 use Rattle.std.specs.Result.{result_ok}
 use Rattle.jn_base.specs.declared.infer.Infer.{Infer}
@@ -25,13 +25,14 @@ use Rattle.jn_front.specs.Limits.{row_at, limit_rows}
 use Rattle.jn_front.specs.Phases.{AreParsed, ArePlaced, FaultRows, SyntaxRows, LexedFrom, TextRows}
 use Rattle.jn_command.specs.declared.report.Report.{Report}
 use Rattle.jn_command.specs.declared.report.Report.TheVariants.{Refused, Checked}
+use Rattle.jn_command.specs.Answer.{AreShownNotes}
 use Rattle.jn_command.specs.Reports.{rows_of}
 use Rattle.jn_command.specs.Stands.{StandIn}
 use Rattle.jn_command.proofs.Standing.{Limited, all_stand, limited_stand, many_limit, one_ordered, within_limits}
 use Rattle.nullcheck_top.specs.declared.found.CheckedFiles.{CheckedFiles}
 use Rattle.nullcheck_top.specs.declared.found.Found.{Found}
 use Rattle.nullcheck_top.specs.Found.{IsFinding}
-use Rattle.nullcheck_top.specs.Report.{AreDeclared, IsReport, IsSafe, PhaseRows, ProgramOf, RulesGive, TypedProgramOf, lowering_rows, table_rows, trees_of}
+use Rattle.nullcheck_top.specs.Report.{AreDeclared, AreNotes, IsReport, IsSafe, PhaseRows, ProgramOf, RulesGive, TypedProgramOf, lowering_rows, table_rows, trees_of}
 use Rattle.jn_lowering.specs.Bodies.{Source}
 use Rattle.jn_meaning_law.specs.Safety.{NeverNullByTrees, NeverStuckByTrees}
 
@@ -192,3 +193,9 @@ module _ (infer : Infer) (null : Keeps infer NeverNull) (stuck : Keeps infer Nev
   pub safe_made : (reads : List SourceRead) (made : Made) → ReportsAll infer reads made → IfOk made (λ checked. checked.found.report ≡ Checked [] → (files : List SourceFile) → AreReads reads files → IsSafe infer files)
   safe_made reads (Ok r) all = λ none files are. safe_report files r.found.report none (all files are).report
   safe_made reads (Err e) all = tt
+
+-- ---- notes
+
+pub no_notes : (b : Bool) (infer : Infer) (files : List SourceFile) (report : Report) → AreShownNotes AreNotes b infer files report []
+no_notes true infer files report = refl
+no_notes false infer files report = refl

@@ -16,13 +16,13 @@ use Rattle.jn_command.specs.Answer.{IsOutputBy, IsOutputOfFiles}
 use Rattle.jn_run.specs.Line.{end_line}
 use Rattle.jn_run.specs.Main.{Answers as RunAnswers, IsToldBy, Runs, RunsTo as ProgramRunsTo}
 use Rattle.nullcheck_top.specs.Answers.{AnswersFiles}
-use Rattle.nullcheck_top.specs.Report.{IsReport, IsSafe, RunsTo, Prints, TypedProgramOf}
+use Rattle.nullcheck_top.specs.Report.{AreNotes, IsReport, IsSafe, RunsTo, Prints, TypedProgramOf}
 use Rattle.nullcheck_top.proofs.Laws.{OneReading, one_program}
 
 module _ (a : Asked) (files : List SourceFile) (names : List (List ℕ)) (P : Program) (asked_to : a.command.run ≡ true) (accepted : IsReport a.command.infer files (Checked [])) (safe : IsSafe a.command.infer files) (of_files : TypedProgramOf a.command.infer files names P) where
-  output : (status : Status) (bytes : List ℕ) → ProgramRunsTo files P names a.command.args a.command.steps status bytes → IsOutputOfFiles IsReport IsSafe RunsTo Prints a files status bytes
+  output : (status : Status) (bytes : List ℕ) → ProgramRunsTo files P names a.command.args a.command.steps status bytes → IsOutputOfFiles IsReport AreNotes IsSafe RunsTo Prints a files status bytes
   output status bytes r =
-      subst (λ b. IsOutputBy IsReport IsSafe RunsTo Prints a files b status bytes) (sym asked_to)
+      subst (λ b. IsOutputBy IsReport AreNotes IsSafe RunsTo Prints a files b status bytes) (sym asked_to)
       (inr (record { accepted = accepted; safe = safe; runs = record { names = names; P = P; of_files = of_files; runs = r } }))
 
   -- what is written of the run answers the command

@@ -18,12 +18,13 @@ use Rattle.jn_command.specs.declared.status.Status.TheVariants.{Ok, Rejected, Re
 use Rattle.jn_command.specs.declared.output.Output.{Output}
 use Rattle.jn_command.specs.Asked.{Asked, usage_line}
 use Rattle.jn_command.specs.Made.{front_of, made_line, made_text}
+use Rattle.jn_command.specs.declared.noted.Noted.{Noted}
 use Rattle.jn_command.specs.declared.report.Report.{Report}
 use Rattle.jn_command.specs.declared.report.Report.TheVariants.{Refused, Checked}
 use Rattle.jn_command.specs.Reports.{status_of}
 use Rattle.jn_command.specs.Status.{IsAcceptance}
-use Rattle.jn_command.specs.Shown.{shown}
-use Rattle.jn_command.specs.Answer.{Reading, AreChecked, ReadsFew, ReadsFiles, ReadsNone, ReadsNothing, HoldsFiles, Starts, names_read, IsReportOfFiles, IsOutputBy, IsOutputOfFiles, IsOutputOf, Defines, Answers, AnswersFiles, Completes, Safe, Finished}
+use Rattle.jn_command.specs.Shown.{shown_noted}
+use Rattle.jn_command.specs.Answer.{Reading, AreChecked, ReadsFew, ReadsFiles, ReadsNone, ReadsNothing, HoldsFiles, Starts, names_read, AreShownNotes, IsReportOfFiles, IsOutputBy, IsOutputOfFiles, IsOutputOf, Defines, Answers, AnswersFiles, Completes, Safe, Finished}
 use Rattle.jn_command.specs.Outputs.{IfMade}
 use Rattle.nullcheck_top.specs.Answers.{AsksRun}
 
@@ -76,21 +77,21 @@ unfolding files_named
 named_are [] = refl
 named_are (name ∷ names) = ap (λ ns. name ∷ ns) (named_are names)
 
-module _ (IsReport : Infer → List SourceFile → Report → Type 0) (IsSafe : Infer → List SourceFile → Type 0) (RunsTo : Infer → List SourceFile → List (List ℕ) → ℕ → Status → List ℕ → Type 0) (Prints : Infer → List SourceFile → List (List ℕ) → ℕ → List ℕ → Type 0) where
+module _ (IsReport : Infer → List SourceFile → Report → Type 0) (AreNotes : Infer → List SourceFile → Report → List Noted → Type 0) (IsSafe : Infer → List SourceFile → Type 0) (RunsTo : Infer → List SourceFile → List (List ℕ) → ℕ → Status → List ℕ → Type 0) (Prints : Infer → List SourceFile → List (List ℕ) → ℕ → List ℕ → Type 0) where
   abbrev Answer : Reading → Option Asked → Option (List ℕ) → Option (List ℕ) → Status → Type 0
-  Answer = Answers IsReport IsSafe RunsTo Prints
+  Answer = Answers IsReport AreNotes IsSafe RunsTo Prints
 
   abbrev FilesAnswer : Asked → List SourceFile → Option (List ℕ) → Option (List ℕ) → Status → Type 0
-  FilesAnswer = AnswersFiles IsReport IsSafe RunsTo Prints
+  FilesAnswer = AnswersFiles IsReport AreNotes IsSafe RunsTo Prints
 
   abbrev FilesOutput : Asked → List SourceFile → Status → List ℕ → Type 0
-  FilesOutput = IsOutputOfFiles IsReport IsSafe RunsTo Prints
+  FilesOutput = IsOutputOfFiles IsReport AreNotes IsSafe RunsTo Prints
 
   abbrev OutputBy : Asked → List SourceFile → Bool → Status → List ℕ → Type 0
-  OutputBy = IsOutputBy IsReport IsSafe RunsTo Prints
+  OutputBy = IsOutputBy IsReport AreNotes IsSafe RunsTo Prints
 
   abbrev OutputOf : Reading → Asked → Status → List ℕ → Type 0
-  OutputOf = IsOutputOf IsReport IsSafe RunsTo Prints
+  OutputOf = IsOutputOf IsReport AreNotes IsSafe RunsTo Prints
 
   -- what answers the files that are checked answers what is asked for
   pub of_files : (read : Reading) (a : Asked) (files : List SourceFile) (old new : Option (List ℕ)) (result : Status) → AreChecked read a.command.classes a.command.files files → FilesAnswer a files old new result → Answer read (Some a) old new result
@@ -131,18 +132,23 @@ module _ (IsReport : Infer → List SourceFile → Report → Type 0) (IsSafe : 
   answers_files a files old new before now result (Made o) m (inr p) = subst (λ r. FilesAnswer a files old new r) (sym p.0) (o.status, o.bytes, m.1, p.1)
   answers_files a files old new before now result (Err e) m f = subst (λ r. FilesAnswer a files old new r) (sym f.0) (inl f.1)
 
-  module _ (a : Asked) (files : List SourceFile) (report : Report) (status : Status) (bytes : List ℕ) (is : IsReport a.command.infer files report) (ends : status ≡ status_of report) (shows : bytes ≡ front_of a.document a.command.classes ++ shown a.show files report) (safe : report ≡ Checked [] → IsSafe a.command.infer files) where
+  module _ (a : Asked) (files : List SourceFile) (report : Report) (status : Status) (bytes : List ℕ) (is : IsReport a.command.infer files report) (noted : List Noted) (notes : AreShownNotes AreNotes a.notes a.command.infer files report noted) (ends : status ≡ status_of report) (shows : bytes ≡ front_of a.document a.command.classes ++ shown_noted a.show files report noted) (safe : report ≡ Checked [] → IsSafe a.command.infer files) where
     shown_by : (b : Bool) → (b ≡ true → report ≡ Checked [] → ⊥) → OutputBy a files b status bytes
-    shown_by false apart = record { report = report; is = is; ends = ends; shows = shows; safe = λ ok. safe (accepted_rows report (sym ends ∙ ok)) }
-    shown_by true apart = inl (record { report = report; is = is; ends = ends; shows = shows; safe = λ ok. safe (accepted_rows report (sym ends ∙ ok)) }, λ ok. apart refl (accepted_rows report (sym ends ∙ ok)))
+    shown_by false apart = record { report = report; is = is; noted = noted; notes = notes; ends = ends; shows = shows; safe = λ ok. safe (accepted_rows report (sym ends ∙ ok)) }
+    shown_by true apart = inl (record { report = report; is = is; noted = noted; notes = notes; ends = ends; shows = shows; safe = λ ok. safe (accepted_rows report (sym ends ∙ ok)) }, λ ok. apart refl (accepted_rows report (sym ends ∙ ok)))
 
     -- a report that is shown: where a run is asked for, that of files that aren't accepted
     pub report_shown : (a.command.run ≡ true → report ≡ Checked [] → ⊥) → Written status × FilesOutput a files status bytes
     report_shown apart = (subst Written (sym ends) (report_written report), shown_by a.command.run apart)
 
-  pub shown_made : (a : Asked) (files : List SourceFile) (reads : List SourceRead) (report : Report) (front : List ℕ) (made : Result Output NoMemory) → AreReads reads files → front ≡ front_of a.document a.command.classes → IsReport a.command.infer files report → (report ≡ Checked [] → IsSafe a.command.infer files) → (a.command.run ≡ true → report ≡ Checked [] → ⊥) → IfOk made (λ o. o.status ≡ status_of report) → IfOk made (λ o. (files : List SourceFile) → AreReads reads files → o.bytes ≡ front ++ shown a.show files report) → MadeFor a files made
+  -- these bytes are the report's of the files, behind the front, with the notes that are shown
+  abbrev pub ShowsNoted : Asked → List SourceFile → Report → List ℕ → List ℕ → Type 0
+  ShowsNoted a files report front bytes = (noted : List Noted) × AreShownNotes AreNotes a.notes a.command.infer files report noted × (bytes ≡ front ++ shown_noted a.show files report noted)
+
+  pub shown_made : (a : Asked) (files : List SourceFile) (reads : List SourceRead) (report : Report) (front : List ℕ) (made : Result Output NoMemory) → AreReads reads files → front ≡ front_of a.document a.command.classes → IsReport a.command.infer files report → (report ≡ Checked [] → IsSafe a.command.infer files) → (a.command.run ≡ true → report ≡ Checked [] → ⊥) → IfOk made (λ o. o.status ≡ status_of report) → IfOk made (λ o. (files : List SourceFile) → AreReads reads files → ShowsNoted a files report front o.bytes) → MadeFor a files made
   shown_made a files reads report front (Made o) are same is safe apart status bytes =
-      report_shown a files report o.status o.bytes is status (bytes files are ∙ ap (λ xs. xs ++ shown a.show files report) same) safe apart
+      let shows = bytes files are in
+      report_shown a files report o.status o.bytes is shows.0 shows.1 status (shows.2 ∙ ap (λ xs. xs ++ shown_noted a.show files report shows.0) same) safe apart
   shown_made a files reads report front (Err e) are same is safe apart status bytes = tt
 
   -- the words are not those of a command
@@ -155,7 +161,7 @@ module _ (IsReport : Infer → List SourceFile → Report → Type 0) (IsSafe : 
 
   -- ---- what an answer says
 
-  pub completes : (read : Reading) (asked : Option Asked) (old new : Option (List ℕ)) (result : Status) → Answer read asked old new result → (result ≡ ReadFault → ⊥) → (result ≡ WriteFault → ⊥) → Completes IsReport IsSafe RunsTo Prints read asked old new result
+  pub completes : (read : Reading) (asked : Option Asked) (old new : Option (List ℕ)) (result : Status) → Answer read asked old new result → (result ≡ ReadFault → ⊥) → (result ≡ WriteFault → ⊥) → Completes IsReport AreNotes IsSafe RunsTo Prints read asked old new result
   completes read None old new result w reads writes = tt
   completes read (Some a) old new Ok w reads writes = inr w
   completes read (Some a) old new Rejected w reads writes = inr w
@@ -177,7 +183,7 @@ module _ (IsReport : Infer → List SourceFile → Report → Type 0) (IsSafe : 
       by (Some a) (inl same) no_run = same
       by (Some a) (inr part) no_run = absurd (no_run part.steps.run)
 
-  report_safe : (a : Asked) (files : List SourceFile) (status : Status) (bytes : List ℕ) → IsAcceptance status → IsReportOfFiles IsReport IsSafe RunsTo Prints a files status bytes → IsSafe a.command.infer files
+  report_safe : (a : Asked) (files : List SourceFile) (status : Status) (bytes : List ℕ) → IsAcceptance status → IsReportOfFiles IsReport AreNotes IsSafe RunsTo Prints a files status bytes → IsSafe a.command.infer files
   report_safe a files status bytes accepts r = r.safe (r.ends ∙ accepting r.report (subst IsAcceptance r.ends accepts))
 
   output_safe : (a : Asked) (files : List SourceFile) (b : Bool) (status : Status) (bytes : List ℕ) → IsAcceptance status → OutputBy a files b status bytes → IsSafe a.command.infer files
@@ -185,12 +191,12 @@ module _ (IsReport : Infer → List SourceFile → Report → Type 0) (IsSafe : 
   output_safe a files true status bytes accepts (inl r) = report_safe a files status bytes accepts r.0
   output_safe a files true status bytes accepts (inr r) = r.safe
 
-  defined_safe : (read : Reading) (asked : Option Asked) (status : Status) (bytes : List ℕ) → IsAcceptance status → Defines IsReport IsSafe RunsTo Prints read asked status bytes → Safe IsReport IsSafe RunsTo Prints read asked
+  defined_safe : (read : Reading) (asked : Option Asked) (status : Status) (bytes : List ℕ) → IsAcceptance status → Defines IsReport AreNotes IsSafe RunsTo Prints read asked status bytes → Safe IsReport AreNotes IsSafe RunsTo Prints read asked
   defined_safe read None status bytes accepts d = absurd (subst IsAcceptance d.0 accepts)
   defined_safe read (Some a) status bytes accepts d = record { files = d.files; are = d.are; safe = output_safe a d.files a.command.run status bytes accepts d.output }
 
   -- an answer that accepts has the files that are checked, and they are safe
-  pub safe : (read : Reading) (asked : Option Asked) (old new : Option (List ℕ)) (result : Status) → Answer read asked old new result → IsAcceptance result → Safe IsReport IsSafe RunsTo Prints read asked
+  pub safe : (read : Reading) (asked : Option Asked) (old new : Option (List ℕ)) (result : Status) → Answer read asked old new result → IsAcceptance result → Safe IsReport AreNotes IsSafe RunsTo Prints read asked
   safe read asked old new Ok w accepts = defined_safe read asked Ok w.0 accepts w.1
   safe read asked old new RunFault w accepts = defined_safe read asked RunFault w.0 accepts w.1
   safe read asked old new Stopped w accepts = defined_safe read asked Stopped w.0 accepts w.1

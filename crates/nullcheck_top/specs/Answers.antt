@@ -1,22 +1,22 @@
--- What an answer says, by the report, the safety and the runs of files.
+-- What an answer says, by the report, its notes, the safety and the runs of files.
 use Rattle.std.specs.Prelude.{ℕ, ◌≡◌, true, List, Option, Some, None}
 use Rattle.jn_command.specs.declared.status.Status.{Status}
 use Rattle.jn_command.specs.Asked.{Asked}
 use Rattle.jn_command.specs.Answer.{Reading, Answers as CommandAnswers, AnswersFiles as CommandAnswersFiles, Completes as CommandCompletes, Safe as CommandSafe}
 use Rattle.jn_front.specs.declared.source.SourceFile.{SourceFile}
-use Rattle.nullcheck_top.specs.Report.{IsReport, IsSafe, RunsTo, Prints}
+use Rattle.nullcheck_top.specs.Report.{AreNotes, IsReport, IsSafe, RunsTo, Prints}
 
 abbrev pub Answers : Reading → Option Asked → Option (List ℕ) → Option (List ℕ) → Status → Type 0
-Answers = CommandAnswers IsReport IsSafe RunsTo Prints
+Answers = CommandAnswers IsReport AreNotes IsSafe RunsTo Prints
 
 abbrev pub AnswersFiles : Asked → List SourceFile → Option (List ℕ) → Option (List ℕ) → Status → Type 0
-AnswersFiles = CommandAnswersFiles IsReport IsSafe RunsTo Prints
+AnswersFiles = CommandAnswersFiles IsReport AreNotes IsSafe RunsTo Prints
 
 abbrev pub Completes : Reading → Option Asked → Option (List ℕ) → Option (List ℕ) → Status → Type 0
-Completes = CommandCompletes IsReport IsSafe RunsTo Prints
+Completes = CommandCompletes IsReport AreNotes IsSafe RunsTo Prints
 
 abbrev pub Safe : Reading → Option Asked → Type 0
-Safe = CommandSafe IsReport IsSafe RunsTo Prints
+Safe = CommandSafe IsReport AreNotes IsSafe RunsTo Prints
 
 -- the words ask for a run
 abbrev pub AsksRun : Option Asked → Type 0

@@ -1,5 +1,5 @@
 -- What a check of files finds, and the output of more files than there may be.
-use Rattle.std.specs.Prelude.{ℕ, ◌≡◌, [], List, Option, Some, None}
+use Rattle.std.specs.Prelude.{ℕ, ◌≡◌, ◌++◌, Bool, [], List, Option, Some, None}
 use Rattle.jn_base.specs.declared.infer.Infer.{Infer}
 use Rattle.jn_base.specs.declared.place.Row.{Row}
 use Rattle.jn_diag.specs.declared.shown.Verdict.{Verdict}
@@ -7,13 +7,15 @@ use Rattle.jn_command.specs.declared.report.Report.{Report}
 use Rattle.jn_command.specs.declared.report.Report.TheVariants.{Refused, Checked}
 use Rattle.jn_command.specs.declared.status.Status.{Status}
 use Rattle.jn_command.specs.declared.status.Status.TheVariants.{Refused as RefusedStatus}
-use Rattle.jn_command.specs.Shown.{shown}
+use Rattle.jn_command.specs.declared.noted.Noted.{Noted}
+use Rattle.jn_command.specs.Answer.{AreShownNotes}
+use Rattle.jn_command.specs.Shown.{shown, shown_noted}
 use Rattle.jn_front.specs.declared.source.SourceFile.{SourceFile}
 use Rattle.jn_points.specs.declared.program.Program.{Program}
 use Rattle.jn_quals.specs.Qualifier.{Qualifier}
 use Rattle.jn_reporters.specs.declared.shown.ShownRow.{ShownRow}
 use Rattle.nullcheck_top.specs.declared.found.Found.{Found}
-use Rattle.nullcheck_top.specs.Report.{IsReport, TypedProgramOf}
+use Rattle.nullcheck_top.specs.Report.{AreNotes, IsReport, TypedProgramOf}
 
 -- the program of accepted files is at hand, and none where they aren't accepted
 abbrev pub IsAtHand : Infer → List SourceFile → List (List ℕ) → Report → Option (Program × List Qualifier) → Type 0
@@ -30,3 +32,7 @@ pub record IsRefusalOf (show : List ShownRow → Option Verdict → List ℕ) (i
   pub is : IsReport infer files (Refused rows)
   pub ends : status ≡ RefusedStatus
   pub shows : bytes ≡ shown show files (Refused rows)
+
+-- behind these bytes, a report of files shown so, with the notes of its rows where notes are shown
+abbrev pub ShowsReport : Bool → (List ShownRow → Option Verdict → List ℕ) → Infer → List SourceFile → Report → List ℕ → List ℕ → Type 0
+ShowsReport notes show infer files report front bytes = (noted : List Noted) × AreShownNotes AreNotes notes infer files report noted × (bytes ≡ front ++ shown_noted show files report noted)

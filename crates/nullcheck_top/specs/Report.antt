@@ -15,6 +15,7 @@ use Rattle.jn_program_law.specs.FileSources.{sources as sources_of}
 use Rattle.jn_lowering.specs.Bodies.{Source}
 use Rattle.jn_meaning_law.specs.Safety.{NeverNullByTrees, NeverStuckByTrees}
 use Rattle.jn_quals.specs.Qualifier.{Qualifier}
+use Rattle.jn_command.specs.declared.noted.Noted.{Noted}
 use Rattle.jn_command.specs.declared.report.Report.{Report}
 use Rattle.jn_command.specs.declared.status.Status.{Status}
 use Rattle.jn_command.specs.declared.report.Report.TheVariants.{Refused, Checked}
@@ -118,6 +119,10 @@ pub record IsPhase (infer : Infer) (files : List SourceFile) (rows : List Row) :
 abbrev pub IsReport : Infer → List SourceFile → Report → Type 0
 IsReport infer files (Refused rows) = IsPhase infer files rows
 IsReport infer files (Checked rows) = IsCheckedBy infer files rows
+
+-- the notes of the rows: none
+abbrev pub AreNotes : Infer → List SourceFile → Report → List Noted → Type 0
+AreNotes infer files report noted = noted ≡ []
 
 -- the sources of its bodies, as its trees have them
 abbrev pub trees_of : (infer : Infer) (files : List SourceFile) (names : List (List ℕ)) (P : Program) → TypedProgramOf infer files names P → List Source

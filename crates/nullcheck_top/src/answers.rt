@@ -74,7 +74,7 @@ fn answer_checked<P: Reporter, K: Sink>(
     requires safe { checked.now.found.report ≡ Checked [] → (files : List FileOf)
         → AreReads reads.now files → IsSafe command.now.infer files }
     ensures answer { (files : List FileOf) → AreReads reads.now files
-        → AnswersFiles (asked command.now (P.document reporter) (shown_behind (P.rows reporter) (P.shown reporter))) files
+        → AnswersFiles (asked command.now (P.document reporter) (P.notes reporter) (shown_behind (P.rows reporter) (P.shown reporter))) files
         (K.written out.old) (K.written out.new) result }
     ensures write { result ≡ Status.WriteFault → Rose (K.faults out.old) (K.faults out.new) }
     ensures write_always { K.faults out.old < K.faults out.new → result ≡ Status.WriteFault }
@@ -117,7 +117,7 @@ fn answer_reads<R: Threads + Sync, G: Gate + Sync, P: Reporter, K: Sink>(
     requires fit { ReadsFit reads.now }
     requires read { (files : List FileOf) × AreReads reads.now files }
     ensures answer { (files : List FileOf) → AreReads reads.now files
-        → AnswersFiles (asked command.now (P.document reporter) (shown_behind (P.rows reporter) (P.shown reporter))) files
+        → AnswersFiles (asked command.now (P.document reporter) (P.notes reporter) (shown_behind (P.rows reporter) (P.shown reporter))) files
         (K.written out.old) (K.written out.new) result }
     ensures write { result ≡ Status.WriteFault → Rose (K.faults out.old) (K.faults out.new) }
     ensures write_always { K.faults out.old < K.faults out.new → result ≡ Status.WriteFault }
@@ -160,7 +160,7 @@ fn answer_made<R: Threads + Sync, G: Gate + Sync, P: Reporter, K: Sink>(
     requires some { 1 ≤ command.now.classes }
     requires most { command.now.classes ≤ 500 }
     ensures answer { AnswersFiles
-        (asked command.now (P.document reporter) (shown_behind (P.rows reporter) (P.shown reporter)))
+        (asked command.now (P.document reporter) (P.notes reporter) (shown_behind (P.rows reporter) (P.shown reporter)))
         (made_file (made_text command.now.classes) ∷ []) (K.written out.old) (K.written out.new)
         result }
     ensures write { result ≡ Status.WriteFault → Rose (K.faults out.old) (K.faults out.new) }
@@ -189,7 +189,7 @@ fn answer_named<R: Threads + Sync, G: Gate + Sync, P: Reporter, F: Files, K: Sin
     requires named { map string_bytes names.now ≡ command.now.files }
     requires workers { (1 ≤ command.now.workers) × (command.now.workers ≤ 16) }
     ensures answer { Answers (reading (F.held files.old) (F.gave files.old) (F.gave files.new))
-        (Some (asked command.now (P.document reporter) (shown_behind (P.rows reporter) (P.shown reporter))))
+        (Some (asked command.now (P.document reporter) (P.notes reporter) (shown_behind (P.rows reporter) (P.shown reporter))))
         (K.written out.old) (K.written out.new) result }
     ensures read { result ≡ Status.ReadFault → Rose (F.faults files.old) (F.faults files.new) }
     ensures read_always { F.faults files.old < F.faults files.new → result ≡ Status.ReadFault }
@@ -228,23 +228,23 @@ pub fn answer_command<R: Threads + Sync, G: Gate + Sync, P: Reporter, F: Files, 
     requires workers { (1 ≤ command.now.workers) × (command.now.workers ≤ 16) }
     requires classes { command.now.classes ≤ 500 }
     ensures answer { Answers (reading (F.held files.old) (F.gave files.old) (F.gave files.new))
-        (Some (asked command.now (P.document reporter) (shown_behind (P.rows reporter) (P.shown reporter))))
+        (Some (asked command.now (P.document reporter) (P.notes reporter) (shown_behind (P.rows reporter) (P.shown reporter))))
         (K.written out.old) (K.written out.new) result }
     ensures read { result ≡ Status.ReadFault → Rose (F.faults files.old) (F.faults files.new) }
     ensures read_always { F.faults files.old < F.faults files.new → result ≡ Status.ReadFault }
     ensures read_steady { F.steady files.old
         → HoldsFiles (F.held files.old)
-        (Some (asked command.now (P.document reporter) (shown_behind (P.rows reporter) (P.shown reporter))))
+        (Some (asked command.now (P.document reporter) (P.notes reporter) (shown_behind (P.rows reporter) (P.shown reporter))))
         → result ≢ Status.ReadFault }
     ensures read_count { F.steady files.old
         → HoldsFiles (F.held files.old)
-        (Some (asked command.now (P.document reporter) (shown_behind (P.rows reporter) (P.shown reporter))))
+        (Some (asked command.now (P.document reporter) (P.notes reporter) (shown_behind (P.rows reporter) (P.shown reporter))))
         → F.faults files.new ≡ F.faults files.old }
     ensures starts { Starts
-        (Some (asked command.now (P.document reporter) (shown_behind (P.rows reporter) (P.shown reporter))))
+        (Some (asked command.now (P.document reporter) (P.notes reporter) (shown_behind (P.rows reporter) (P.shown reporter))))
         (F.gave files.old) (F.gave files.new) }
     ensures unread { ReadsNothing
-        (Some (asked command.now (P.document reporter) (shown_behind (P.rows reporter) (P.shown reporter))))
+        (Some (asked command.now (P.document reporter) (P.notes reporter) (shown_behind (P.rows reporter) (P.shown reporter))))
         → (F.faults files.new ≡ F.faults files.old) × (F.gave files.new ≡ F.gave files.old) }
     ensures write { result ≡ Status.WriteFault → Rose (K.faults out.old) (K.faults out.new) }
     ensures write_always { K.faults out.old < K.faults out.new → result ≡ Status.WriteFault }

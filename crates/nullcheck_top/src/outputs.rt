@@ -1,15 +1,14 @@
 //! The output of a report: of files that were read, and of too many files.
-ghost use Rattle.std.specs.Prelude.{◌≡◌, ◌<◌, ◌++◌, [], List, IfOk, map, length};
+ghost use Rattle.std.specs.Prelude.{◌≡◌, ◌<◌, ◌++◌, List, IfOk, map, length};
 ghost use Rattle.std.specs.String.{string_bytes};
 ghost use Rattle.jn_base.specs.declared.infer.Infer.{Infer};
 ghost use Rattle.jn_command.specs.Reporters.{shown_behind};
 ghost use Rattle.jn_command.specs.Reports.{rows_of, status_of};
-ghost use Rattle.jn_command.specs.Shown.{shown};
 ghost use Rattle.jn_command.specs.Stands.{StandIn};
 ghost use Rattle.jn_front.specs.declared.source.SourceFile.{SourceFile as FileOf};
 ghost use Rattle.jn_front.specs.Counted.{ReadsFit};
 ghost use Rattle.jn_front.specs.Files.{AreReads, most_files, names_of};
-ghost use Rattle.nullcheck_top.specs.Found.{IsRefusalOf};
+ghost use Rattle.nullcheck_top.specs.Found.{IsRefusalOf, ShowsReport};
 
 use crate::check::refuse_number;
 use jn_base::{OutOfMemory, Seq};
@@ -42,10 +41,9 @@ pub(crate) fn report_output<P: Reporter>(
     requires fit { ReadsFit reads.now }
     requires stand { StandIn reads.now (rows_of report.now) }
     ensures status { IfOk result (λ o. o.status ≡ status_of report.now) }
-    ensures bytes { IfOk result (λ o. (files : List FileOf) → AreReads reads.now files
-        → o.bytes
-        ≡ front.now
-        ++ shown (shown_behind (P.rows reporter) (P.shown reporter)) files report.now) }
+    ensures bytes { IfOk result (λ o. (infer : Infer) (files : List FileOf) → AreReads reads.now files
+        → ShowsReport (P.notes reporter) (shown_behind (P.rows reporter) (P.shown reporter)) infer
+        files report.now front.now o.bytes) }
 {
     let shower = show(alloc, reads, report, reporter)?;
     Ok(Output {

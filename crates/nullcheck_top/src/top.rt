@@ -44,7 +44,13 @@ pub fn nullcheck<R: Threads + Sync, F: Files, K: Sink, G: Gate + Sync>(
     ensures answer { Answers (reading (F.held files.old) (F.gave files.old) (F.gave files.new))
         (asked_of
         (map
-        (λ b. record { title = title b; document = document b; rows = rows b; shown = shown b })
+        (λ b. record {
+          title = title b;
+          document = document b;
+          notes = notes b;
+          rows = rows b;
+          shown = shown b;
+        })
         reporters.items)
         (map string_bytes words.now))
         (K.written out.old) (K.written out.new) result }
@@ -53,7 +59,13 @@ pub fn nullcheck<R: Threads + Sync, F: Files, K: Sink, G: Gate + Sync>(
     ensures safe { IsAcceptance result
         → Safe (reading (F.held files.old) (F.gave files.old) (F.gave files.new)) (asked_of
         (map
-        (λ b. record { title = title b; document = document b; rows = rows b; shown = shown b })
+        (λ b. record {
+          title = title b;
+          document = document b;
+          notes = notes b;
+          rows = rows b;
+          shown = shown b;
+        })
         reporters.items)
         (map string_bytes words.now)) }
     // Where the words are a command's and no fault is counted, all is written, or no memory was found.
@@ -62,7 +74,13 @@ pub fn nullcheck<R: Threads + Sync, F: Files, K: Sink, G: Gate + Sync>(
         → Completes (reading (F.held files.old) (F.gave files.old) (F.gave files.new))
         (asked_of
         (map
-        (λ b. record { title = title b; document = document b; rows = rows b; shown = shown b })
+        (λ b. record {
+          title = title b;
+          document = document b;
+          notes = notes b;
+          rows = rows b;
+          shown = shown b;
+        })
         reporters.items)
         (map string_bytes words.now))
         (K.written out.old) (K.written out.new) result }
@@ -70,7 +88,13 @@ pub fn nullcheck<R: Threads + Sync, F: Files, K: Sink, G: Gate + Sync>(
     ensures nothing { result ≡ Status.OutOfMemory
         → (AsksRun (asked_of
         (map
-        (λ b. record { title = title b; document = document b; rows = rows b; shown = shown b })
+        (λ b. record {
+          title = title b;
+          document = document b;
+          notes = notes b;
+          rows = rows b;
+          shown = shown b;
+        })
         reporters.items)
         (map string_bytes words.now)) → ⊥)
         → K.written out.new ≡ K.written out.old }
@@ -79,14 +103,26 @@ pub fn nullcheck<R: Threads + Sync, F: Files, K: Sink, G: Gate + Sync>(
     ensures read_steady { F.steady files.old
         → HoldsFiles (F.held files.old) (asked_of
         (map
-        (λ b. record { title = title b; document = document b; rows = rows b; shown = shown b })
+        (λ b. record {
+          title = title b;
+          document = document b;
+          notes = notes b;
+          rows = rows b;
+          shown = shown b;
+        })
         reporters.items)
         (map string_bytes words.now))
         → result ≢ Status.ReadFault }
     ensures read_count { F.steady files.old
         → HoldsFiles (F.held files.old) (asked_of
         (map
-        (λ b. record { title = title b; document = document b; rows = rows b; shown = shown b })
+        (λ b. record {
+          title = title b;
+          document = document b;
+          notes = notes b;
+          rows = rows b;
+          shown = shown b;
+        })
         reporters.items)
         (map string_bytes words.now))
         → F.faults files.new ≡ F.faults files.old }
@@ -94,14 +130,26 @@ pub fn nullcheck<R: Threads + Sync, F: Files, K: Sink, G: Gate + Sync>(
     ensures starts { Starts
         (asked_of
         (map
-        (λ b. record { title = title b; document = document b; rows = rows b; shown = shown b })
+        (λ b. record {
+          title = title b;
+          document = document b;
+          notes = notes b;
+          rows = rows b;
+          shown = shown b;
+        })
         reporters.items)
         (map string_bytes words.now))
         (F.gave files.old) (F.gave files.new) }
     // Nothing is read where the words are no command's, name too many files, or ask for a program.
     ensures unread { ReadsNothing (asked_of
         (map
-        (λ b. record { title = title b; document = document b; rows = rows b; shown = shown b })
+        (λ b. record {
+          title = title b;
+          document = document b;
+          notes = notes b;
+          rows = rows b;
+          shown = shown b;
+        })
         reporters.items)
         (map string_bytes words.now))
         → (F.faults files.new ≡ F.faults files.old) × (F.gave files.new ≡ F.gave files.old) }

@@ -17,7 +17,7 @@ pub row_in-requires-clause-is : goal.row_in-requires-clause-is
 row_in-requires-clause-is c = turned c.args.reads.now c.args.place.now c.place_in.result c.args.row.now.span.file.0 c.index-reads-file.result c.requires.is c.place_in.ensures c.if-file-reads.true c.index-reads-file.is
 
 pub returns-then-file-reads-clause-shown : goal.returns-then-file-reads-clause-shown
-returns-then-file-reads-clause-shown c = row_there c.args.reads.now c.args.row.now.span.file.0 c.index-reads-file.result c.args.row.now c.row_in.result refl c.if-file-reads.true c.index-reads-file.is c.row_in.ensures.shown
+returns-then-file-reads-clause-shown c = row_there c.args.reads.now c.args.row.now.span.file.0 c.index-reads-file.result c.args.row.now c.args.noted.now c.row_in.result refl c.if-file-reads.true c.index-reads-file.is c.row_in.ensures.shown
 
 pub returns-then-file-reads-clause-is : goal.returns-then-file-reads-clause-is
 returns-then-file-reads-clause-is c =
@@ -26,4 +26,4 @@ returns-then-file-reads-clause-is c =
     subst (λ bytes. IsPosition bytes c.row_in.new.position) (sym text) c.row_in.ensures.is
 
 pub returns-else-file-reads-clause-shown : goal.returns-else-file-reads-clause-shown
-returns-else-file-reads-clause-shown c = row_nowhere c.args.reads.now c.args.row.now c.row_nowhere.result c.if-file-reads.false c.row_nowhere.ensures
+returns-else-file-reads-clause-shown c = row_nowhere c.args.reads.now c.args.row.now c.args.noted.now c.row_nowhere.result c.if-file-reads.false c.row_nowhere.ensures
