@@ -60,7 +60,7 @@ pub fn note_point(
         None => Ok(least),
         Some(env) => {
             let mut sends = Vec::new(alloc);
-            let own = analysis.keys().own.as_slice();
+            let own = &analysis.keys().own;
             send_kind(
                 analysis.program(),
                 &mut sends,

@@ -6,8 +6,9 @@ ghost use Rattle.jn_env.specs.Keys.{is_on};
 ghost use Rattle.jn_transfer.specs.Rules.{is_unset, unset_at, unset_from, ctor_rows};
 
 use crate::rules::push_if;
-use jn_base::{Code, Row, either};
-use jn_env::Env;
+use jn_base::{Code, FieldNo, Row, either};
+use jn_env::bits::is_assigned_by;
+use jn_env::{Env, FieldNumbers};
 use jn_points::{Body, Point, PointKind};
 use jn_transfer::Analysis;
 use jn_transfer::lookup::field_qual;
@@ -84,20 +85,20 @@ fn is_unset_at(analysis: &Analysis, kind: &PointKind, slot: &Option<Env>) -> boo
 fn is_unset(analysis: &Analysis, env: &Env) -> bool
     ensures { result ≡ is_unset analysis.now.program analysis.now.sig analysis.now.body env.now }
 {
-    let own = analysis.keys().own.as_slice();
+    let own = &analysis.keys().own;
     let mut unset = false;
-    for field in own {
+    for field in own.as_slice() {
         unset = either(unset, lacks_value(analysis, own, env, *field));
     }
     unset
 }
 
 /// Whether the field's slot has no null, and it is not assigned.
-fn lacks_value(analysis: &Analysis, own: &[u32], env: &Env, field: u32) -> bool
+fn lacks_value(analysis: &Analysis, own: &FieldNumbers, env: &Env, field: u32) -> bool
     ensures { result
         ≡ (not (field_qual analysis.now.program analysis.now.sig field).null
         && not (is_on (λ k. eqb k field) own.now env.now.assigned)) }
 {
     !field_qual(analysis.program(), analysis.sig(), field).has_null()
-        && !env.is_assigned(own, field)
+        && !is_assigned_by(own, env, FieldNo(field))
 }

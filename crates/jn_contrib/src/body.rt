@@ -7,7 +7,7 @@ ghost use Rattle.jn_contrib.specs.Sends.{slot_numbers, point_sends, sends_from, 
 
 use crate::sends::{Send, send_kind};
 use jn_base::{BodyNo, OutOfMemory, SlotNo};
-use jn_env::{Env, FlowTable, Keys, env_at, find_keys};
+use jn_env::{Env, FieldNumbers, FlowTable, Keys, env_at, find_keys};
 use jn_points::{Point, Program};
 use jn_quals::Qual;
 use jn_sigs::Sig;
@@ -52,8 +52,7 @@ pub fn contrib_by(
 {
     let info = &program.bodies.as_slice()[body.0 as usize];
     let points = info.points.as_slice();
-    let own = keys.own.as_slice();
-    let list = all_sends(alloc, program, body, own, points, table.slots())?;
+    let list = all_sends(alloc, program, body, &keys.own, points, table.slots())?;
     Ok(with_slots(alloc, list)?)
 }
 
@@ -61,7 +60,7 @@ fn all_sends(
     alloc: Global,
     program: &Program,
     body: BodyNo,
-    own: &[u32],
+    own: &FieldNumbers,
     points: &[Point],
     slots: &[Option<Env>],
 ) -> Result<Vec<Send>, AllocError>
@@ -81,7 +80,7 @@ fn send_point(
     program: &Program,
     list: &mut Vec<Send>,
     body: BodyNo,
-    own: &[u32],
+    own: &FieldNumbers,
     point: &Point,
     slots: &[Option<Env>],
     at: usize,

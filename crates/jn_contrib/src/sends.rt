@@ -6,7 +6,8 @@ ghost use Rattle.jn_transfer.specs.Contributions.{is_inferred, receiver_slot_of,
 ghost use Rattle.jn_env.specs.Keys.{own_keys};
 
 use jn_base::{BodyNo, FieldNo, MethodNo, SlotNo};
-use jn_env::Env;
+use jn_env::bits::is_assigned_by;
+use jn_env::{Env, FieldNumbers};
 use jn_points::{Operand, PointKind, Program};
 use jn_quals::Qual;
 use jn_transfer::lookup::field_slot;
@@ -178,13 +179,13 @@ fn send_unset(
     program: &Program,
     list: &mut Vec<Send>,
     env: &Env,
-    own: &[u32],
+    own: &FieldNumbers,
 ) -> Result<(), AllocError>
     ensures { OnOk result (list.new.items
         ≡ list.old.items ++ unset_sends program.now own.now own.now env.now.assigned) }
 {
-    for field in own {
-        let assigned = env.is_assigned(own, *field);
+    for field in own.as_slice() {
+        let assigned = is_assigned_by(own, env, FieldNo(*field));
         send_unless(
             program,
             list,
@@ -218,7 +219,7 @@ fn send_return(
     list: &mut Vec<Send>,
     env: &Env,
     body: BodyNo,
-    own: &[u32],
+    own: &FieldNumbers,
     value: Option<Operand>,
 ) -> Result<(), AllocError>
     requires { own.now ≡ own_keys program.now body.0 }
@@ -239,7 +240,7 @@ pub fn send_kind(
     list: &mut Vec<Send>,
     env: &Env,
     body: BodyNo,
-    own: &[u32],
+    own: &FieldNumbers,
     kind: &PointKind,
 ) -> Result<(), AllocError>
     requires { own.now ≡ own_keys program.now body.0 }

@@ -20,7 +20,7 @@ use crate::adding::{add_cause, add_placed, is_on, is_sent, is_sent_to};
 use jn_base::{BodyNo, MethodNo, OutOfMemory, PointNo, SlotNo};
 use jn_contrib::sends::send_kind;
 use jn_contrib::{Overrider, pair_contrib_by};
-use jn_env::{Env, FlowTable, OwnFields, env_at, find_keys_by};
+use jn_env::{Env, FieldNumbers, FlowTable, OwnFields, env_at, find_keys_by};
 use jn_points::{Point, PointKind, Program};
 use jn_reasons::{AskedSlot, Cause, Spot, add_pairs, add_sent};
 use jn_reasons_law::{Bit, Place};
@@ -46,7 +46,7 @@ fn add_sources(
     alloc: Global,
     program: &Program,
     list: &mut Vec<Cause>,
-    own: &[u32],
+    own: &FieldNumbers,
     kind: &PointKind,
     env: &Env,
     asked: AskedSlot,
@@ -59,7 +59,7 @@ fn add_sources(
         asked.bit)) }
 {
     let mut sources = Vec::new(alloc);
-    add_sent(program, &mut sources, env, own, kind, asked)?;
+    add_sent(program, &mut sources, env, own.as_slice(), kind, asked)?;
     add_placed(
         list,
         Place::OfPoint(asked.spot.body.0, asked.spot.point.0),
@@ -72,7 +72,7 @@ fn add_reached(
     alloc: Global,
     program: &Program,
     list: &mut Vec<Cause>,
-    own: &[u32],
+    own: &FieldNumbers,
     kind: &PointKind,
     env: &Env,
     asked: AskedSlot,
@@ -100,7 +100,7 @@ fn add_point(
     alloc: Global,
     program: &Program,
     list: &mut Vec<Cause>,
-    own: &[u32],
+    own: &FieldNumbers,
     point: &Point,
     slots: &[Option<Env>],
     asked: AskedSlot,
@@ -122,7 +122,7 @@ fn add_points(
     alloc: Global,
     program: &Program,
     list: &mut Vec<Cause>,
-    own: &[u32],
+    own: &FieldNumbers,
     points: &[Point],
     slots: &[Option<Env>],
     body: BodyNo,
@@ -177,7 +177,7 @@ fn add_body(
     let keys = find_keys_by(alloc, program, fields, body)?;
     let info = &program.bodies.as_slice()[body.0 as usize];
     let points = info.points.as_slice();
-    let own = keys.own.as_slice();
+    let own = &keys.own;
     let table = table_of(tables, body);
     add_points(alloc, program, list, own, points, table, body, slot, bit)?;
     Ok(())
