@@ -1,10 +1,11 @@
 //! The fields that a constructor leaves unassigned at some of its ends.
 ghost use Rattle.std.specs.Prelude.{◌≡◌, ◌<◌, ◌++◌, ◌∷◌, ◌^◌, [], IfOk, OnOk, cond, filter, length, Some, None};
+ghost use Rattle.jn_env.specs.Code.{AreKeys};
 ghost use Rattle.jn_env.specs.Order.{env_in};
 ghost use Rattle.jn_ctor.specs.Unassigned.{field_numbers, lacks, lacks_from, unassigned_at_end};
 
 use jn_base::{BodyNo, FieldNo, OutOfMemory, either};
-use jn_env::{Env, FlowTable, env_at, find_keys};
+use jn_env::{Env, FlowTable, Keys, env_at, find_keys};
 use jn_points::{Point, PointKind, Program};
 use jn_sigs::Sig;
 use std::alloc::{AllocError, Global};
@@ -27,10 +28,25 @@ pub fn unassigned_at_end(
         (λ fields. field_numbers fields.items ≡ unassigned_at_end program.now body.0 table.now) }
 {
     let keys = find_keys(alloc, program, body)?;
+    Ok(unassigned_by(alloc, program, &keys, body, table)?)
+}
+
+/// The same with the body's keys.
+fn unassigned_by(
+    alloc: Global,
+    program: &Program,
+    keys: &Keys,
+    body: BodyNo,
+    table: &FlowTable,
+) -> Result<Vec<FieldNo>, AllocError>
+    requires inside { body.0 < length program.now.bodies }
+    requires keys { AreKeys program.now body.0 keys.now }
+    ensures { IfOk result
+        (λ fields. field_numbers fields.items ≡ unassigned_at_end program.now body.0 table.now) }
+{
     let info = &program.bodies.as_slice()[body.0 as usize];
     let points = info.points.as_slice();
-    let found = unassigned(alloc, keys.own.as_slice(), points, table.slots())?;
-    Ok(found)
+    unassigned(alloc, keys.own.as_slice(), points, table.slots())
 }
 
 fn unassigned(
