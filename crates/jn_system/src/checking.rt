@@ -3,6 +3,7 @@ ghost use Rattle.std.specs.Prelude.{◌≡◌, ℕ, ◌++◌, ◌<◌, ◌≤◌
 ghost use Rattle.std.proofs.Common.{Global};
 ghost use Rattle.jn_base.specs.declared.place.Row.{Row as RowOf};
 ghost use Rattle.jn_points.specs.Members.{below};
+ghost use Rattle.jn_env.specs.Code.{AreKeys};
 ghost use Rattle.jn_transfer.specs.Rules.{pairs_rows};
 ghost use Rattle.jn_tables_law.specs.Inferable.{IsInferable};
 ghost use Rattle.jn_system.specs.Ready.{AreReady};
@@ -12,7 +13,7 @@ use crate::bodies::Bodies;
 use jn_base::{BodyNo, OutOfMemory, Row};
 use jn_checks::{checks_by, override_rows};
 use jn_diag::order;
-use jn_env::{OwnFields, find_keys_by};
+use jn_env::{Keys, OwnFields, find_keys_by};
 use jn_flow::flow_by;
 use jn_index::indexed::IndexedProgram;
 use jn_points::Program;
@@ -23,8 +24,27 @@ use jn_workers::Gate;
 use std::alloc::{AllocError, Global};
 use std::thread::Threads;
 
-/// One body's rows under its least table. The worker enters the gate with the body's number first.
+/// A body's rows under its least table.
 #[tactic(auto, using(crate::proofs::Gathering::table_long, crate::proofs::Gathering::rows_are))]
+fn rows_by(
+    alloc: Global,
+    program: &Program,
+    sig: &Sig,
+    body: BodyNo,
+    keys: &Keys,
+) -> Result<Vec<Row>, OutOfMemory>
+    requires inferable { IsInferable program.now }
+    requires inside { body.0 < length program.now.bodies }
+    requires keys { AreKeys program.now body.0 keys.now }
+    ensures { IfOk result (λ rows. rows.items ≡ least_rows program.now sig.now body.0) }
+{
+    let analysis = Analysis::new(program, sig, body, keys);
+    let table = flow_by(alloc, &analysis)?;
+    let rows = checks_by(alloc, &analysis, &table)?;
+    Ok(rows)
+}
+
+/// One body's rows under its least table. The worker enters the gate with the body's number first.
 fn rows_of<G: Gate>(
     alloc: Global,
     bodies: &Bodies,
@@ -40,10 +60,7 @@ fn rows_of<G: Gate>(
     let Bodies { program, sig, own } = *bodies;
     gate.enter(worker, BodyNo(body));
     let keys = find_keys_by(alloc, program, own, BodyNo(body))?;
-    let analysis = Analysis::new(program, sig, BodyNo(body), &keys);
-    let table = flow_by(alloc, &analysis)?;
-    let rows = checks_by(alloc, &analysis, &table)?;
-    Ok(rows)
+    rows_by(alloc, program, sig, BodyNo(body), &keys)
 }
 
 fn append(all: &mut Vec<Row>, rows: &[Row]) -> Result<(), AllocError>
