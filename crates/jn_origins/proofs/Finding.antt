@@ -14,6 +14,7 @@ use Rattle.jn_reasons.specs.declared.causes.Cause.{Cause}
 use Rattle.jn_reasons.specs.Listed.{IsListed, cause_at, causes}
 use Rattle.jn_chain.specs.Search.{Ground, IsThere, AreCauses}
 use Rattle.jn_origins.specs.Standing.{has_bit, is_there, standing}
+use Rattle.jn_origins.specs.Targets.{AreSame}
 
 -- the test says what stands
 stands_at : (T : Table) (p r : ℕ) (bit : Bit) (o : Option Env) → env_in T p ≡ o → has_bit o r bit ≡ true → StandsAt T p r bit
@@ -69,9 +70,16 @@ module _ (G : Ground) where
   pub found : (x : Item) (list : List Cause)
       → ((p : Place) (z : Option Item) → IsCause G.program G.sig G.tables x p z → IsListed (cause_at p z) (causes G.program G.sig G.tables x))
       → ((p : Place) (z : Option Item) → IsListed (cause_at p z) (causes G.program G.sig G.tables x) → IsCause G.program G.sig G.tables x p z)
-      → list ≡ standing G.sig G.tables (causes G.program G.sig G.tables x)
+      → AreSame list (standing G.sig G.tables (causes G.program G.sig G.tables x))
       → AreCauses G (Some x) list
   found x list all none e = record {
-    all = λ p z i. subst (IsListed (cause_at p z)) (sym e) (kept G.sig G.tables (cause_at p z) (causes G.program G.sig G.tables x) (tested G z i.1) (all p z i.0));
-    none_else = λ p z m. let k = from G.sig G.tables (cause_at p z) (causes G.program G.sig G.tables x) (subst (IsListed (cause_at p z)) e m) in (none p z k.listed, holds G z k.there);
+    all = λ p z i. e.all (cause_at p z) (kept G.sig G.tables (cause_at p z) (causes G.program G.sig G.tables x) (tested G z i.1) (all p z i.0));
+    none_else = λ p z m. let k = from G.sig G.tables (cause_at p z) (causes G.program G.sig G.tables x) (e.none_else (cause_at p z) m) in (none p z k.listed, holds G z k.there);
   }
+
+-- of the same causes the same ones stand
+pub same_standing : (s : List Qualifier) (tables : List Table) (list xs ys : List Cause) → list ≡ standing s tables xs → AreSame xs ys → AreSame list (standing s tables ys)
+same_standing s tables list xs ys is h = record {
+  all = λ c m. let k = from s tables c ys m in subst (IsListed c) (sym is) (kept s tables c xs k.there (h.all c k.listed));
+  none_else = λ c m. let k = from s tables c xs (subst (IsListed c) is m) in kept s tables c ys k.there (h.none_else c k.listed);
+}

@@ -1,3 +1,5 @@
 pub mod Steps
 pub mod Finding
 pub mod Beyond
+mod Skipping
+mod Sending

@@ -1,2 +1,4 @@
 pub mod Standing
 pub mod Worked
+pub mod Targets
+pub mod Leading

@@ -16,18 +16,20 @@ use Rattle.jn_reasons_law.specs.declared.item.Item.{Item}
 use Rattle.jn_reasons_law.specs.declared.item.Item.TheVariants.{AtSlot, AtRegister}
 use Rattle.jn_reasons_law.specs.Items.{on}
 use Rattle.jn_reasons.specs.declared.causes.Cause.{Cause}
+use Rattle.jn_origins.specs.Targets.{AreSenders}
 
 -- the table of each body has environments of that body
 abbrev pub AreSized : Program → List Table → Type 0
 AreSized P tables = (b : ℕ) → b < length P.bodies → Sized P b (slice_index_or tables b [])
 
 -- what is found once of a program with its tables
-pub record AreParts (P : Program) (tables : List Table) (fields : List (List ℕ)) (start : List Qualifier) (list : List Overrider) : Type 0 where
+pub record AreParts (P : Program) (tables : List Table) (fields : List (List ℕ)) (start : List Qualifier) (list : List Overrider) (lists : List (List ℕ)) : Type 0 where
   pub inferable : IsInferable P
   pub sized : AreSized P tables
   pub own : AreOwnFields P fields
   pub starts : start ≡ start_signature P
   pub overriders : AreOverriders P list
+  pub senders : AreSenders P lists
 
 -- the point is reached, and the register has the bit there
 abbrev pub has_bit : Option Env → ℕ → Bit → Bool

@@ -8,6 +8,7 @@ pub mod adding;
 pub mod law;
 pub mod origins;
 pub mod registers;
+pub mod senders;
 pub mod slots;
 pub mod standing;
 

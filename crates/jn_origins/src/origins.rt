@@ -3,11 +3,13 @@ ghost use Rattle.std.specs.Prelude.{◌≡◌, IfOk};
 ghost use Rattle.jn_tables_law.specs.Inferable.{IsInferable};
 ghost use Rattle.jn_reasons.specs.Listed.{causes};
 ghost use Rattle.jn_origins.specs.Standing.{AreSized, standing};
+ghost use Rattle.jn_origins.specs.Targets.{AreSame};
 
 use crate::registers::{Wanted, register_causes};
+use crate::senders::find_senders;
 use crate::slots::slot_causes;
 use crate::standing::standing;
-use jn_base::{BodyNo, OutOfMemory, PointNo, RegNo, SlotNo};
+use jn_base::{BodyNo, OutOfMemory, PointNo, RegNo, Seq, SlotNo};
 use jn_chain::Origins;
 use jn_contrib::{Overrider, overriders};
 use jn_env::{FlowTable, OwnFields};
@@ -20,8 +22,9 @@ use jn_sigs::{Sig, start};
 use std::alloc::Global;
 use std::marker::Model;
 
-/// A program, a signature, and a table for each body, with the fields of classes, the signature from which inference starts and the methods that
-/// override, which are found once. Contracts see the first three. Each question passes over the points of all bodies, or of one.
+/// A program, a signature, and a table for each body, with the fields of classes, the signature from which inference starts, the methods that
+/// override and the bodies that can send to each slot, which are found once. Contracts see the first three. A question for a slot passes over the
+/// bodies that can send to it, and one for a register over its body.
 #[derive(Drop)]
 pub struct LeastOrigins<'a> {
     program: &'a Program,
@@ -30,6 +33,7 @@ pub struct LeastOrigins<'a> {
     fields: OwnFields,
     start: Sig,
     overriders: Vec<Overrider>,
+    senders: Vec<Seq<u32>>,
 }
 
 impl<'a> Model for LeastOrigins<'a> {
@@ -40,7 +44,7 @@ impl<'a> Model for LeastOrigins<'a> {
 
     ghost view = { λ o. record { program = o.program.now; sig = o.sig.now; tables = o.tables.now } };
 
-    ghost invariant = { λ o. AreParts o.program.now o.tables.now o.fields o.start o.overriders.items };
+    ghost invariant = { λ o. AreParts o.program.now o.tables.now o.fields o.start o.overriders.items o.senders.items };
 }
 
 impl<'a> LeastOrigins<'a> {
@@ -63,6 +67,7 @@ impl<'a> LeastOrigins<'a> {
         let fields = OwnFields::new(alloc, program.program())?;
         let start = start(alloc, program.program())?;
         let overriders = overriders(alloc, program)?;
+        let senders = find_senders(alloc, program.program(), &fields)?;
         Ok(LeastOrigins {
             program: program.program(),
             sig,
@@ -70,13 +75,14 @@ impl<'a> LeastOrigins<'a> {
             fields,
             start,
             overriders,
+            senders,
         })
     }
 
     /// All causes of an item, whether their sources stand or not.
     fn all(&self, alloc: Global, item: Item) -> Result<Vec<Cause>, OutOfMemory>
-        ensures { IfOk result
-            (λ list. list.items ≡ causes self.now.program self.now.sig self.now.tables item) }
+        ensures { IfOk result (λ list.
+            AreSame list.items (causes self.now.program self.now.sig self.now.tables item)) }
     {
         match item {
             Item::AtSlot(slot, bit) => slot_causes(
@@ -87,33 +93,40 @@ impl<'a> LeastOrigins<'a> {
                 &self.fields,
                 &self.start,
                 &self.overriders,
+                &self.senders,
                 SlotNo(slot),
                 bit,
             ),
-            Item::AtRegister(body, point, reg, bit) => register_causes(
-                alloc,
-                self.program,
-                self.sig,
-                self.tables,
-                &self.fields,
-                BodyNo(body),
-                Wanted {
+            Item::AtRegister(body, point, reg, bit) => {
+                let wanted = Wanted {
                     point: PointNo(point),
                     reg: RegNo(reg),
                     bit,
-                },
-            ),
+                };
+                let list = register_causes(
+                    alloc,
+                    self.program,
+                    self.sig,
+                    self.tables,
+                    &self.fields,
+                    BodyNo(body),
+                    wanted,
+                )?;
+                Ok(list)
+            }
         }
     }
 
     /// The causes of an item whose sources stand, or are the text.
     fn found(&self, alloc: Global, item: Item) -> Result<Vec<Cause>, OutOfMemory>
-        ensures { IfOk result (λ list. list.items
-            ≡ standing self.now.sig self.now.tables
-            (causes self.now.program self.now.sig self.now.tables item)) }
+        ensures { IfOk result (λ list.
+            AreSame list.items
+            (standing self.now.sig self.now.tables
+            (causes self.now.program self.now.sig self.now.tables item))) }
     {
         let all = self.all(alloc, item)?;
-        Ok(standing(alloc, self.sig, self.tables, &all)?)
+        let list = standing(alloc, self.sig, self.tables, &all)?;
+        Ok(list)
     }
 }
 

@@ -10,6 +10,7 @@ ghost use Rattle.jn_reasons_law.specs.Items.{on};
 ghost use Rattle.jn_reasons_law.specs.Sources.{at_entry, behind};
 ghost use Rattle.jn_reasons.specs.Listed.{placed, firsts, over_edge, over_edges, over_point, entered, carried, causes};
 ghost use Rattle.jn_reasons.specs.Listed as spec;
+ghost use Rattle.jn_origins.specs.Leading.{leads};
 ghost use Rattle.jn_origins.specs.Standing.{AreSized};
 ghost use Rattle.jn_tables_law.specs.Inferable.{IsInferable};
 
@@ -119,7 +120,22 @@ fn add_edges(
     Ok(())
 }
 
-/// Over a point, where it is reached.
+/// Whether a point leads to another, whatever is known there.
+fn leads(kind: &PointKind, from: PointNo, to: PointNo) -> bool
+    requires small { from.0 + 1 < 2 ^ 32 }
+    ensures { result ≡ leads kind.now from.0 to.0 }
+{
+    match kind {
+        PointKind::TestInst { yes, no, .. } => yes.0 == to.0 || no.0 == to.0,
+        PointKind::TestNull { null, non_null, .. } => null.0 == to.0 || non_null.0 == to.0,
+        PointKind::Branch { yes, no, .. } => yes.0 == to.0 || no.0 == to.0,
+        PointKind::Goto { to: next } => next.0 == to.0,
+        PointKind::Return { .. } => false,
+        _ => from.0 + 1 == to.0,
+    }
+}
+
+/// Over a point, where it leads there and is reached.
 fn add_point(
     alloc: Global,
     analysis: &Analysis,
@@ -136,6 +152,9 @@ fn add_point(
         ++ over_point analysis.now.program analysis.now.sig analysis.now.body wanted.point.0
         wanted.reg.0 wanted.bit at.0 (Some point.now) (env_in slots.now at.0)) }
 {
+    if !leads(&point.kind, at, wanted.point) {
+        return Ok(());
+    }
     match env_at(slots, at.0 as usize) {
         None => Ok(()),
         Some(env) => add_reached(alloc, analysis, list, point, at, env, wanted),

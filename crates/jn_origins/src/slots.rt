@@ -14,10 +14,12 @@ ghost use Rattle.jn_reasons_law.specs.declared.item.Item.TheVariants.{AtSlot};
 ghost use Rattle.jn_reasons_law.specs.declared.item.Place.TheVariants.{OfSlot, OfMethod, OfPoint};
 ghost use Rattle.jn_reasons_law.specs.Items.{on};
 ghost use Rattle.jn_reasons_law.specs.Sources.{the_text, sent_from, from_pairs};
+ghost use Rattle.jn_origins.specs.Targets.{AreSame, AreSenders, over};
 ghost use Rattle.jn_reasons.specs.Listed.{placed, firsts, is_sent, sent_at, body_causes, pair_causes, causes};
 
 use crate::adding::{add_cause, add_placed, is_on, is_sent, is_sent_to};
-use jn_base::{BodyNo, MethodNo, OutOfMemory, PointNo, SlotNo};
+use crate::senders::senders_of;
+use jn_base::{BodyNo, MethodNo, OutOfMemory, PointNo, Seq, SlotNo};
 use jn_contrib::sends::send_kind;
 use jn_contrib::{Overrider, pair_contrib_by};
 use jn_env::{Env, FieldNumbers, FlowTable, OwnFields, env_at, find_keys_by};
@@ -183,13 +185,14 @@ fn add_body(
     Ok(())
 }
 
-/// What all bodies send.
-fn add_bodies(
+/// What a body sends, where it is there.
+fn add_any_body(
     alloc: Global,
     program: &Program,
     fields: &OwnFields,
     tables: &[FlowTable],
     list: &mut Vec<Cause>,
+    body: BodyNo,
     slot: SlotNo,
     bit: Bit,
 ) -> Result<(), OutOfMemory>
@@ -197,20 +200,36 @@ fn add_bodies(
     requires fields { AreOwnFields program.now fields.now }
     ensures { OnOk result (list.new.items
         ≡ list.old.items
-        ++ firsts (λ b. body_causes program.now b (slice_index_or tables.now b []) slot.0 bit)
-        (length program.now.bodies)) }
+        ++ body_causes program.now body.0 (slice_index_or tables.now body.0 []) slot.0 bit) }
 {
-    for body in 0..program.bodies.len() {
-        add_body(
-            alloc,
-            program,
-            fields,
-            tables,
-            list,
-            BodyNo(body as u32),
-            slot,
-            bit,
-        )?;
+    if (body.0 as usize) < program.bodies.len() {
+        add_body(alloc, program, fields, tables, list, body, slot, bit)
+    } else {
+        Ok(())
+    }
+}
+
+/// What these bodies send.
+fn add_bodies(
+    alloc: Global,
+    program: &Program,
+    fields: &OwnFields,
+    tables: &[FlowTable],
+    list: &mut Vec<Cause>,
+    senders: &[u32],
+    slot: SlotNo,
+    bit: Bit,
+) -> Result<(), OutOfMemory>
+    requires inferable { IsInferable program.now }
+    requires fields { AreOwnFields program.now fields.now }
+    ensures { OnOk result (list.new.items
+        ≡ list.old.items
+        ++ over (λ b. body_causes program.now b (slice_index_or tables.now b []) slot.0 bit)
+        senders.now) }
+{
+    for sender in senders {
+        let body = BodyNo(*sender);
+        add_any_body(alloc, program, fields, tables, list, body, slot, bit)?;
     }
     Ok(())
 }
@@ -297,6 +316,7 @@ pub(crate) fn slot_causes(
     fields: &OwnFields,
     start: &Sig,
     overriders: &[Overrider],
+    senders: &[Seq<u32>],
     slot: SlotNo,
     bit: Bit,
 ) -> Result<Vec<Cause>, OutOfMemory>
@@ -304,12 +324,14 @@ pub(crate) fn slot_causes(
     requires fields { AreOwnFields program.now fields.now }
     requires start { start.now ≡ start_signature program.now }
     requires overriders { AreOverriders program.now overriders.now }
+    requires senders { AreSenders program.now senders.now }
     ensures { IfOk result
-        (λ list. list.items ≡ causes program.now sig.now tables.now (AtSlot slot.0 bit)) }
+        (λ list. AreSame list.items (causes program.now sig.now tables.now (AtSlot slot.0 bit))) }
 {
     let mut list = Vec::new(alloc);
     add_started(&mut list, start, slot, bit)?;
-    add_bodies(alloc, program, fields, tables, &mut list, slot, bit)?;
+    let bodies = senders_of(senders, slot);
+    add_bodies(alloc, program, fields, tables, &mut list, bodies, slot, bit)?;
     add_overriders(alloc, program, sig, &mut list, overriders, slot, bit)?;
     Ok(list)
 }

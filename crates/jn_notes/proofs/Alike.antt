@@ -1,0 +1,44 @@
+-- Rows have one list of notes.
+use Rattle.std.proofs.Common.{◌≡◌, ℕ, ◌<◌, List, [], ◌∷◌, length, Option, Some, None, refl, sym, ap, ◌∙◌, subst, arith}
+use Rattle.std.specs.Prelude.{slice_index_or}
+use Rattle.std.proofs.lemmas.List.{ext_get_or}
+use Rattle.jn_base.specs.declared.place.Row.{Row}
+use Rattle.jn_quals.specs.Qualifier.{Qualifier}
+use Rattle.jn_points.specs.declared.program.Program.{Program}
+use Rattle.jn_env.specs.Order.{Table}
+use Rattle.jn_transfer.specs.Least.{IsLeastTable}
+use Rattle.jn_reasons_law.specs.declared.item.Item.{Item}
+use Rattle.jn_reasons_law.specs.declared.item.Step.{Step}
+use Rattle.jn_reasons_law.specs.Choice.{IsFirstChain, told}
+use Rattle.jn_notes.specs.declared.note.Notes.{Notes}
+use Rattle.jn_notes.specs.Asked.{item_of}
+use Rattle.jn_notes.specs.Noted.{noted, AreFrom, AreEach, AreLeastTables, AreNotesOf}
+
+module _ (P : Program) (names : List (List ℕ)) (s : List Qualifier)
+    (tables_one : (b : ℕ) (t u : Table) → IsLeastTable P s b t → IsLeastTable P s b u → t ≡ u)
+    (chain_one : (tables : List Table) (x : Item) (a b : List Step) → IsFirstChain P s tables x a → IsFirstChain P s tables x b → a ≡ b) where
+  same_tables : (ts us : List Table) → AreLeastTables P s ts → AreLeastTables P s us → ts ≡ us
+  same_tables ts us h i =
+      let l = h.long in
+      let m = i.long in
+      ext_get_or [] ts us (l ∙ sym m) (λ b lt.
+      let low : b < length P.bodies = omega (arith, lt, l) in
+      tables_one b (slice_index_or ts b []) (slice_index_or us b []) (h.least b low) (i.least b low))
+
+  module _ (tables : List Table) where
+    same_from : (o : Option Item) (n m : Notes) → AreFrom P names s tables o n → AreFrom P names s tables o m → n ≡ m
+    same_from None n m h i = h ∙ sym i
+    same_from (Some x) n m h i = h.2 ∙ ap (λ (steps : List Step). noted P names (told steps)) (chain_one tables x h.0 i.0 h.1 i.1) ∙ sym i.2
+
+    same_each : (rows : List Row) (ns ms : List Notes) → AreEach P names s tables rows ns → AreEach P names s tables rows ms → ns ≡ ms
+    same_each [] [] [] h i = refl
+    same_each [] [] (m ∷ ms) h i = absurd i
+    same_each [] (n ∷ ns) ms h i = absurd h
+    same_each (row ∷ rows) [] ms h i = absurd h
+    same_each (row ∷ rows) (n ∷ ns) [] h i = absurd i
+    same_each (row ∷ rows) (n ∷ ns) (m ∷ ms) h i =
+        ap (λ (x : Notes). x ∷ ns) (same_from (item_of P s row tables) n m h.0 i.0) ∙ ap (λ (xs : List Notes). m ∷ xs) (same_each rows ns ms h.1 i.1)
+
+  pub one_list : (rows : List Row) (one other : List Notes) → AreNotesOf P names s rows one → AreNotesOf P names s rows other → one ≡ other
+  one_list rows one other h i =
+      same_each i.tables rows one other (subst (λ (ts : List Table). AreEach P names s ts rows one) (same_tables h.tables i.tables h.solved i.solved) h.each) i.each

@@ -1,0 +1,163 @@
+-- The first item, number by number, operand by operand and slot by slot.
+use Rattle.std.proofs.Common.{◌≡◌, ◌⊎◌, inl, inr, ℕ, zero, suc, ◌+◌, ◌<◌, ◌≤◌, true, false, List, [], ◌∷◌, length, drop, map, Option, Some, None, refl, sym, ap, ◌∙◌, subst, arith, add-one}
+use Rattle.std.specs.Prelude.{is_some, slice_get, slice_index_or}
+use Rattle.std.proofs.lemmas.Bool.{cases_lt, false≢true}
+use Rattle.std.proofs.lemmas.List.{drop_more}
+use Rattle.jn_base.specs.declared.number.SlotNo.{SlotNo}
+use Rattle.jn_base.specs.declared.place.Span.{Span}
+use Rattle.jn_quals.specs.Qualifier.{Qualifier}
+use Rattle.jn_points.specs.declared.point.Operand.{Operand}
+use Rattle.jn_points.specs.declared.point.Point.{Point}
+use Rattle.jn_points.specs.declared.program.Program.{Program}
+use Rattle.jn_points.specs.Lookup.{body_at, method_at, points_of}
+use Rattle.jn_env.specs.Environment.{Env}
+use Rattle.jn_env.specs.Order.{Table, env_in}
+use Rattle.jn_transfer.specs.Pairs.{overriders, under}
+use Rattle.jn_contrib.specs.declared.listed.Overrider.{Overrider}
+use Rattle.jn_contrib.specs.Entries.{AreOverriders}
+use Rattle.jn_reasons_law.specs.declared.item.Bit.{Bit}
+use Rattle.jn_reasons_law.specs.declared.item.Item.{Item}
+use Rattle.jn_notes.specs.declared.pairs.Part.{Part}
+use Rattle.jn_notes.specs.Asked.{or_item, first_item, by_operand, by_operands, by_point, by_number, lacking, some_lacking, by_under, by_overriders}
+
+pub item_or_none : (x : Option Item) → or_item x None ≡ x
+item_or_none None = refl
+item_or_none (Some x) = refl
+
+-- a number more that gives none
+pub none_more : (f : ℕ → Option Item) (n : ℕ) (r : Option Item) → first_item f n ≡ None → r ≡ f n → is_some r ≡ false → first_item f (n + 1) ≡ None
+none_more f n (Some x) h is e = absurd (false≢true (sym e))
+none_more f n None h is e = ap (first_item f) (add-one n) ∙ ap (λ (x : Option Item). or_item x (f n)) h ∙ sym is
+
+found_first : (f : ℕ → Option Item) (n m : ℕ) (x : Item) → n < m → first_item f n ≡ None → f n ≡ Some x → first_item f m ≡ Some x
+found_first f n zero x lt h e = absurd (omega (arith, lt))
+found_first f n (suc m) x lt h e = by (λ (less : n < m). found_first f n m x less h e) (cases_lt n m)
+  where
+    by : (n < m → first_item f m ≡ Some x) → (n < m) ⊎ (m ≤ n) → or_item (first_item f m) (f m) ≡ Some x
+    by before (inl less) = ap (λ (o : Option Item). or_item o (f m)) (before less)
+    by before (inr le) = let same : n ≡ m = omega (arith, lt, le) in subst (λ (k : ℕ). or_item (first_item f k) (f k) ≡ Some x) same (ap (λ (o : Option Item). or_item o (f n)) h ∙ e)
+
+-- the first that is given
+pub found_is : (f : ℕ → Option Item) (n m : ℕ) (r : Option Item) → n < m → first_item f n ≡ None → r ≡ f n → is_some r ≡ true → r ≡ first_item f m
+found_is f n m None lt h is e = absurd (false≢true e)
+found_is f n m (Some x) lt h is e = sym (found_first f n m x lt h (sym is))
+
+-- none was given up to the end
+pub none_is : (f : ℕ → Option Item) (n m : ℕ) → m ≤ n → first_item f n ≡ None → first_item f m ≡ None
+none_is f zero m le h = let none : m ≡ 0 = omega (arith, le) in ap (first_item f) none ∙ h
+none_is f (suc n) m le h = by (λ (low : m ≤ n). none_is f n m low (first_none (first_item f n) (f n) h)) (cases_lt n m)
+  where
+    first_none : (x y : Option Item) → or_item x y ≡ None → x ≡ None
+    first_none None y e = refl
+    first_none (Some x) y e = e
+
+    by : (m ≤ n → first_item f m ≡ None) → (n < m) ⊎ (m ≤ n) → first_item f m ≡ None
+    by before (inl less) = let same : m ≡ suc n = omega (arith, le, less) in ap (first_item f) same ∙ h
+    by before (inr low) = before low
+
+-- ---- operands
+
+module _ (span : Span) (bit : Bit) (b p : ℕ) (e : Env) where
+  pub operand_none : (list : List Operand) (i : ℕ) (d : Operand) (r whole : Option Item) → i < length list → r ≡ by_operand span bit b p e (slice_index_or list i d) → is_some r ≡ false
+      → by_operands span bit b p e (drop i list) ≡ whole → by_operands span bit b p e (drop (i + 1) list) ≡ whole
+  operand_none list i d (Some x) whole lt is lacks h = absurd (false≢true (sym lacks))
+  operand_none list i d None whole lt is lacks h =
+      ap (λ (o : Option Item). or_item o (by_operands span bit b p e (drop (i + 1) list))) is ∙ sym (ap (by_operands span bit b p e) (drop_more list i d lt)) ∙ h
+
+  pub operand_found : (list : List Operand) (i : ℕ) (d : Operand) (r whole : Option Item) → i < length list → r ≡ by_operand span bit b p e (slice_index_or list i d) → is_some r ≡ true
+      → by_operands span bit b p e (drop i list) ≡ whole → r ≡ whole
+  operand_found list i d None whole lt is some h = absurd (false≢true some)
+  operand_found list i d (Some x) whole lt is some h =
+      ap (λ (o : Option Item). or_item o (by_operands span bit b p e (drop (i + 1) list))) is ∙ sym (ap (by_operands span bit b p e) (drop_more list i d lt)) ∙ h
+
+  pub operands_done : (list : List Operand) (i : ℕ) (whole : Option Item) → length list ≤ i → by_operands span bit b p e (drop i list) ≡ whole → None ≡ whole
+  operands_done list i whole le h = sym (ap (by_operands span bit b p e) (past list i le)) ∙ h
+    where
+      past : (xs : List Operand) (j : ℕ) → length xs ≤ j → drop j xs ≡ []
+      past [] zero low = refl
+      past [] (suc j) low = refl
+      past (x ∷ xs) zero low = absurd (omega (arith, low))
+      past (x ∷ xs) (suc j) low = past xs j (omega (arith, low))
+
+-- ---- points
+
+there : (A : Type 0) (xs : List A) (i : ℕ) (d : A) → i < length xs → slice_get xs i ≡ Some (slice_index_or xs i d)
+there A [] i d lt = absurd (omega (arith, lt))
+there A (x ∷ xs) zero d lt = refl
+there A (x ∷ xs) (suc i) d lt = there A xs i d (omega (arith, lt))
+
+-- whatever stands there where nothing does
+pub any_default : (A : Type 0) (xs : List A) (i : ℕ) (x d : A) → i < length xs → x ≡ slice_index_or xs i x → x ≡ slice_index_or xs i d
+any_default A [] i x d lt is = absurd (omega (arith, lt))
+any_default A (y ∷ xs) zero x d lt is = is
+any_default A (y ∷ xs) (suc i) x d lt is = any_default A xs i x d (omega (arith, lt)) is
+
+pub point_is : (span : Span) (bit : Bit) (P : Program) (b : ℕ) (T : Table) (points : List Point) (i : ℕ) (pt : Point) (r : Option Item)
+    → points ≡ points_of (body_at P b) → i < length points → pt ≡ slice_index_or points i pt
+    → r ≡ by_point span bit b i (Some pt) (env_in T i) → r ≡ by_number span bit b P T i
+point_is span bit P b T points i pt r is lt e h =
+    h ∙ ap (λ (o : Option Point). by_point span bit b i o (env_in T i)) (ap Some e ∙ sym (there Point points i pt lt) ∙ ap (λ (l : List Point). slice_get l i) is)
+
+-- ---- overriding pairs
+
+module _ (s : List Qualifier) where
+  pub lacking_none : (xs ys : List (Option SlotNo)) (i : ℕ) (c d : Option SlotNo) (r whole : Option Item) → i < length xs → i < length ys
+      → r ≡ lacking s (slice_index_or xs i c) (slice_index_or ys i d) → is_some r ≡ false
+      → some_lacking s (drop i xs) (drop i ys) ≡ whole → some_lacking s (drop (i + 1) xs) (drop (i + 1) ys) ≡ whole
+  lacking_none xs ys i c d (Some x) whole l m is lacks h = absurd (false≢true (sym lacks))
+  lacking_none xs ys i c d None whole l m is lacks h =
+      ap (λ (o : Option Item). or_item o (some_lacking s (drop (i + 1) xs) (drop (i + 1) ys))) is
+      ∙ sym (ap (λ (zs : List (Option SlotNo)). some_lacking s zs (slice_index_or ys i d ∷ drop (i + 1) ys)) (drop_more xs i c l))
+      ∙ sym (ap (some_lacking s (drop i xs)) (drop_more ys i d m)) ∙ h
+
+  pub lacking_found : (xs ys : List (Option SlotNo)) (i : ℕ) (c d : Option SlotNo) (r whole : Option Item) → i < length xs → i < length ys
+      → r ≡ lacking s (slice_index_or xs i c) (slice_index_or ys i d) → is_some r ≡ true
+      → some_lacking s (drop i xs) (drop i ys) ≡ whole → r ≡ whole
+  lacking_found xs ys i c d None whole l m is some h = absurd (false≢true some)
+  lacking_found xs ys i c d (Some x) whole l m is some h =
+      ap (λ (o : Option Item). or_item o (some_lacking s (drop (i + 1) xs) (drop (i + 1) ys))) is
+      ∙ sym (ap (λ (zs : List (Option SlotNo)). some_lacking s zs (slice_index_or ys i d ∷ drop (i + 1) ys)) (drop_more xs i c l))
+      ∙ sym (ap (some_lacking s (drop i xs)) (drop_more ys i d m)) ∙ h
+
+  past_either : (xs ys : List (Option SlotNo)) (i : ℕ) → (length xs ≤ i) ⊎ (length ys ≤ i) → some_lacking s (drop i xs) (drop i ys) ≡ None
+  past_either [] ys zero h = refl
+  past_either [] ys (suc i) h = refl
+  past_either (x ∷ xs) [] zero h = refl
+  past_either (x ∷ xs) [] (suc i) h = none_right (drop i xs)
+    where
+      none_right : (zs : List (Option SlotNo)) → some_lacking s zs [] ≡ None
+      none_right [] = refl
+      none_right (z ∷ zs) = refl
+  past_either (x ∷ xs) (y ∷ ys) zero (inl le) = absurd (omega (arith, le))
+  past_either (x ∷ xs) (y ∷ ys) zero (inr le) = absurd (omega (arith, le))
+  past_either (x ∷ xs) (y ∷ ys) (suc i) (inl le) = past_either xs ys i (inl (omega (arith, le)))
+  past_either (x ∷ xs) (y ∷ ys) (suc i) (inr le) = past_either xs ys i (inr (omega (arith, le)))
+
+  pub lacking_done : (xs ys : List (Option SlotNo)) (i n : ℕ) (whole : Option Item) → n ≤ i → (length xs ≤ n) ⊎ (length ys ≤ n)
+      → some_lacking s (drop i xs) (drop i ys) ≡ whole → None ≡ whole
+  lacking_done xs ys i n whole le h e = sym (past_either xs ys i (by h)) ∙ e
+    where
+      by : (length xs ≤ n) ⊎ (length ys ≤ n) → (length xs ≤ i) ⊎ (length ys ≤ i)
+      by (inl l) = inl (omega (arith, l, le))
+      by (inr r) = inr (omega (arith, r, le))
+
+method_there : (list : List Overrider) (j : ℕ) (d : Overrider) → j < length list → slice_index_or (map (λ (o : Overrider). o.method) list) j 0 ≡ (slice_index_or list j d).method
+method_there [] j d lt = absurd (omega (arith, lt))
+method_there (x ∷ list) zero d lt = refl
+method_there (x ∷ list) (suc j) d lt = method_there list j d (omega (arith, lt))
+
+length_methods : (list : List Overrider) → length (map (λ (o : Overrider). o.method) list) ≡ length list
+length_methods [] = refl
+length_methods (x ∷ list) = ap suc (length_methods list)
+
+pub as_many : (P : Program) (list : List Overrider) → AreOverriders P list → length list ≡ length (overriders P)
+as_many P list h = sym (length_methods list) ∙ ap (λ (ms : List ℕ). length ms) h.methods
+
+-- an overrider of the list is the program's
+pub overrider_is : (P : Program) (s : List Qualifier) (span : Span) (part : Part) (list : List Overrider) (j : ℕ) (o : Overrider) (r : Option Item)
+    → AreOverriders P list → j < length list → o ≡ slice_index_or list j o
+    → r ≡ by_under P s span part (method_at P o.method) o.under → r ≡ by_overriders P s span part j
+overrider_is P s span part list j o r h lt e is =
+    let m : o.method ≡ slice_index_or (overriders P) j 0 = ap (λ (x : Overrider). x.method) e ∙ sym (method_there list j o lt) ∙ ap (λ (ms : List ℕ). slice_index_or ms j 0) h.methods in
+    let u : o.under ≡ under P o.method = h.under j o (there Overrider list j o lt ∙ sym (ap Some e)) in
+    is ∙ ap (by_under P s span part (method_at P o.method)) u ∙ ap (λ (n : ℕ). by_under P s span part (method_at P n) (under P n)) m

@@ -1,0 +1,6 @@
+mod Filling
+mod Finding
+mod Standing
+mod Solving
+mod Noting
+mod Alike

@@ -1,0 +1,81 @@
+-- Notes, step after step and row after row.
+use Rattle.std.proofs.Common.{◌≡◌, ℕ, ◌+◌, ◌<◌, ◌≤◌, List, [], ◌∷◌, ◌++◌, length, map, take, Option, Some, None, sym, ap, ◌∙◌, subst, arith}
+use Rattle.std.specs.Prelude.{slice_index_or}
+use Rattle.std.specs.List.{range_with_len}
+use Rattle.std.proofs.lemmas.List.FromFn.{get_or-map-range_with_len, length-map-range_with_len}
+use Rattle.std.proofs.lemmas.List.{map-append, take_more, take_all}
+use Rattle.jn_base.specs.declared.place.Row.{Row}
+use Rattle.jn_quals.specs.Qualifier.{Qualifier}
+use Rattle.jn_points.specs.declared.program.Program.{Program}
+use Rattle.jn_env.specs.Order.{Table}
+use Rattle.jn_transfer.specs.Least.{IsLeastTable}
+use Rattle.jn_transfer.specs.Sized.{StaysInside}
+use Rattle.jn_tables_law.specs.Inferable.{IsInferable, least_table}
+use Rattle.jn_reasons_law.specs.declared.item.Item.{Item}
+use Rattle.jn_reasons_law.specs.declared.item.Step.{Step}
+use Rattle.jn_reasons_law.specs.Choice.{IsFirstChain, told}
+use Rattle.jn_notes.specs.declared.note.Note.{Note}
+use Rattle.jn_notes.specs.declared.note.Notes.{Notes}
+use Rattle.jn_notes.specs.Asked.{item_of}
+use Rattle.jn_notes.specs.Noted.{note_of, noted, no_notes, AreFrom, AreNotes, AreEach, AreNotesOf}
+
+module _ (P : Program) (names : List (List ℕ)) where
+  pub note_more : (steps : List Step) (i : ℕ) (x : Step) (n : Note) (old new : List Note) → i < length steps → x ≡ slice_index_or steps i x → n ≡ note_of P names x → new ≡ old ++ n ∷ []
+      → old ≡ map (note_of P names) (take i steps) → new ≡ map (note_of P names) (take (i + 1) steps)
+  note_more steps i x n old new lt is e h l =
+      h ∙ ap (λ (xs : List Note). xs ++ n ∷ []) l
+      ∙ ap (λ (y : Note). map (note_of P names) (take i steps) ++ y ∷ []) (e ∙ ap (note_of P names) is)
+      ∙ sym (map-append (note_of P names) (take i steps) (slice_index_or steps i x ∷ []))
+      ∙ ap (map (note_of P names)) (sym (take_more steps i x lt))
+
+  pub notes_done : (steps : List Step) (i : ℕ) (list : List Note) → length steps ≤ i → list ≡ map (note_of P names) (take i steps) → list ≡ map (note_of P names) steps
+  notes_done steps i list le h = h ∙ ap (map (note_of P names)) (take_all i steps le)
+
+  module _ (s : List Qualifier) (tables : List Table) where
+    both_more : (rows : List Row) (row : Row) (notes : List Notes) (n : Notes) → AreEach P names s tables rows notes → AreNotes P names s tables row n → AreEach P names s tables (rows ++ row ∷ []) (notes ++ n ∷ [])
+    both_more [] row [] n h g = (g, tt)
+    both_more [] row (m ∷ notes) n h g = absurd h
+    both_more (r ∷ rows) row [] n h g = absurd h
+    both_more (r ∷ rows) row (m ∷ notes) n h g = (h.0, both_more rows row notes n h.1 g)
+
+    pub row_more : (rows : List Row) (i : ℕ) (d : Row) (n : Notes) (old new : List Notes) → i < length rows → AreNotes P names s tables (slice_index_or rows i d) n → new ≡ old ++ n ∷ []
+        → AreEach P names s tables (take i rows) old → AreEach P names s tables (take (i + 1) rows) new
+    row_more rows i d n old new lt g h e =
+        subst (AreEach P names s tables (take (i + 1) rows)) (sym h)
+        (subst (λ (rs : List Row). AreEach P names s tables rs (old ++ n ∷ [])) (sym (take_more rows i d lt))
+        (both_more (take i rows) (slice_index_or rows i d) old n e g))
+
+    pub rows_done : (rows : List Row) (i : ℕ) (list : List Notes) → length rows ≤ i → AreEach P names s tables (take i rows) list → AreEach P names s tables rows list
+    rows_done rows i list le h = subst (λ (rs : List Row). AreEach P names s tables rs list) (take_all i rows le) h
+
+    pub none_rows : (rows : List Row) (list : List Notes) → list ≡ [] → AreEach P names s tables (take 0 rows) list
+    none_rows [] list e = subst (AreEach P names s tables []) (sym e) tt
+    none_rows (row ∷ rows) list e = subst (AreEach P names s tables []) (sym e) tt
+
+  -- of a chain's first item
+  pub from_chain : (s : List Qualifier) (tables : List Table) (x : Item) (list : List Step) (notes : Notes)
+      → ((steps : List Step) × IsFirstChain P s tables x steps × (list ≡ told steps)) → notes ≡ noted P names list → AreFrom P names s tables (Some x) notes
+  from_chain s tables x list notes h e = (h.0, h.1, e ∙ ap (noted P names) h.2)
+
+  -- of a row's item
+  pub of_item : (s t : List Qualifier) (tables ts : List Table) (row : Row) (o : Option Item) (x : Item) (notes : Notes) → t ≡ s → ts ≡ tables → o ≡ item_of P s row tables → o ≡ Some x
+      → AreFrom P names t ts (Some x) notes → AreNotes P names s tables row notes
+  of_item s t tables ts row o x notes es et is e h =
+      subst (λ (i : Option Item). AreFrom P names s tables i notes) (sym e ∙ is)
+      (subst (λ (l : List Table). AreFrom P names s l (Some x) notes) et (subst (λ (q : List Qualifier). AreFrom P names q ts (Some x) notes) es h))
+
+  pub of_none : (s : List Qualifier) (tables : List Table) (row : Row) (o : Option Item) (notes : Notes) → o ≡ item_of P s row tables → o ≡ None → notes ≡ no_notes → AreNotes P names s tables row notes
+  of_none s tables row o notes is e h = subst (λ (i : Option Item). AreFrom P names s tables i notes) (sym e ∙ is) h
+
+-- of no rows, under the least tables
+pub of_no_rows : (P : Program) (names : List (List ℕ)) (s : List Qualifier) (rows : List Row) (notes : List Notes) → IsInferable P
+    → ((b : ℕ) → StaysInside P b → IsLeastTable P s b (least_table P s b)) → rows ≡ [] → notes ≡ [] → AreNotesOf P names s rows notes
+of_no_rows P names s rows notes can exists none empty =
+    subst (λ (rs : List Row). AreNotesOf P names s rs notes) (sym none) (subst (λ (ns : List Notes). AreNotesOf P names s [] ns) (sym empty) (record {
+      tables = map (least_table P s) (range_with_len 0 (length P.bodies));
+      solved = record {
+        long = length-map-range_with_len (least_table P s) 0 (length P.bodies);
+        least = λ b lt. subst (IsLeastTable P s b) (sym (get_or-map-range_with_len (least_table P s) 0 (length P.bodies) b b [] lt (omega arith))) (exists b (can.inside b lt));
+      };
+      each = tt;
+    }))

@@ -1,0 +1,6 @@
+use Rattle.std.proofs.Common.{take}
+use Rattle.jn_notes.specs.Noted.{AreEach}
+use Rattle.jn_notes.proofs.explain.notes_of_each.Given as goal
+
+abbrev pub invariant-loop-row : goal.invariant-loop-row
+invariant-loop-row l = AreEach l.program l.names l.sig l.tables (take l.row-index l.rows) l.list.items

@@ -1,0 +1,6 @@
+use Rattle.std.proofs.Common.{◌≡◌, None}
+use Rattle.jn_notes.specs.Asked.{by_number, first_item}
+use Rattle.jn_notes.proofs.reads.by_points.Given as goal
+
+abbrev pub invariant-loop-at : goal.invariant-loop-at
+invariant-loop-at l = first_item (by_number l.sought.span l.sought.bit l.body.0 l.program l.slots) l.at ≡ None

@@ -1,0 +1,7 @@
+use Rattle.std.proofs.Common.{◌≡◌, [], None}
+use Rattle.std.specs.Prelude.{slice_index_or}
+use Rattle.jn_notes.specs.Asked.{by_body, first_item}
+use Rattle.jn_notes.proofs.reads.register_item.Given as goal
+
+abbrev pub invariant-loop-body : goal.invariant-loop-body
+invariant-loop-body l = first_item (λ b. by_body l.sought.span l.sought.bit b l.program (slice_index_or l.tables b [])) l.body ≡ None

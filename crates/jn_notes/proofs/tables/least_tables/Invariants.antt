@@ -1,0 +1,5 @@
+use Rattle.jn_notes.proofs.Solving.{AreFirst}
+use Rattle.jn_notes.proofs.tables.least_tables.Given as goal
+
+abbrev pub invariant-loop-body : goal.invariant-loop-body
+invariant-loop-body l = AreFirst l.program l.sig l.body l.tables.items

@@ -1,0 +1,150 @@
+-- The item that a row speaks of. A row that speaks of a value points to an operand: its item is the first register that is read there and has the
+-- bit, by body, point and operand. A row of an overriding pair points to the overrider: its item is the slot that has a bit which its partner lacks.
+use Rattle.std.specs.Prelude.{ℕ, zero, suc, Bool, false, cond, not, ◌&&◌, eqb, List, [], ◌∷◌, length, Option, Some, None, slice_index_or}
+use Rattle.jn_base.specs.declared.place.Span.{Span}
+use Rattle.jn_base.specs.declared.place.Row.{Row}
+use Rattle.jn_base.specs.declared.code.Code.{Code}
+use Rattle.jn_base.specs.declared.code.Code.TheVariants.{Deref, Field as FieldCode, FieldInit, Arg, ArgInit, RecvInit, Return as ReturnCode, ReturnInit, Local, LocalInit, Elem, ElemInit, OvrParam, OvrReceiver, OvrResult}
+use Rattle.jn_base.specs.declared.number.SlotNo.{SlotNo}
+use Rattle.jn_quals.specs.Qualifier.{Qualifier}
+use Rattle.jn_quals.specs.Order.{no_qual}
+use Rattle.jn_points.specs.declared.point.Operand.{Operand}
+use Rattle.jn_points.specs.declared.point.Point.{Point}
+use Rattle.jn_points.specs.declared.program.Method.{Method}
+use Rattle.jn_points.specs.declared.program.Program.{Program}
+use Rattle.jn_points.specs.Lookup.{body_at, method_at, point_at, points_of}
+use Rattle.jn_points.specs.Operands.{operands}
+use Rattle.jn_sigs.specs.Signature.{slot_qual}
+use Rattle.jn_env.specs.Environment.{Env}
+use Rattle.jn_env.specs.Order.{Table, env_in, qual_at}
+use Rattle.jn_transfer.specs.Pairs.{overriders, under}
+use Rattle.jn_transfer.specs.Rules.{lacks_null}
+use Rattle.jn_reasons_law.specs.declared.item.Bit.{Bit}
+use Rattle.jn_reasons_law.specs.declared.item.Bit.TheVariants.{Nullable, Free}
+use Rattle.jn_reasons_law.specs.declared.item.Item.{Item}
+use Rattle.jn_reasons_law.specs.declared.item.Item.TheVariants.{AtSlot, AtRegister}
+use Rattle.jn_reasons_law.specs.Items.{on}
+use Rattle.jn_notes.specs.declared.pairs.Part.{Part}
+use Rattle.jn_notes.specs.declared.pairs.Part.TheVariants.{OverParameters, OverReceiver, OverResult}
+
+-- the bit of a value that a code speaks of. Of what is whole where the other is taken there is no note: it ends at its `new`
+abbrev pub bit_of : Code → Option Bit
+bit_of Deref = Some Nullable
+bit_of FieldCode = Some Nullable
+bit_of FieldInit = Some Free
+bit_of Arg = Some Nullable
+bit_of ArgInit = Some Free
+bit_of RecvInit = Some Free
+bit_of ReturnCode = Some Nullable
+bit_of ReturnInit = Some Free
+bit_of Local = Some Nullable
+bit_of LocalInit = Some Free
+bit_of Elem = Some Nullable
+bit_of ElemInit = Some Free
+bit_of code = None
+
+-- the part of an overriding pair that a code speaks of
+abbrev pub part_of : Code → Option Part
+part_of OvrParam = Some OverParameters
+part_of OvrReceiver = Some OverReceiver
+part_of OvrResult = Some OverResult
+part_of code = None
+
+abbrev pub same_span : Span → Span → Bool
+same_span x y = eqb x.file.0 y.file.0 && eqb x.from y.from && eqb x.to y.to
+
+-- the first where there is one, else the second
+abbrev pub or_item : Option Item → Option Item → Option Item
+or_item None y = y
+or_item (Some x) y = Some x
+
+-- the first of the numbers below n that gives one
+abbrev pub first_item : (ℕ → Option Item) → ℕ → Option Item
+first_item f zero = None
+first_item f (suc n) = or_item (first_item f n) (f n)
+
+module _ (span : Span) (bit : Bit) where
+  module _ (b p : ℕ) (e : Env) where
+    -- an operand that stands there and has the bit
+    abbrev pub by_operand : Operand → Option Item
+    by_operand a = cond (same_span a.span span && on bit (qual_at e a.reg.0)) (Some (AtRegister b p a.reg.0 bit)) None
+
+    abbrev pub by_operands : List Operand → Option Item
+    by_operands [] = None
+    by_operands (a ∷ as') = or_item (by_operand a) (by_operands as')
+
+  module _ (b : ℕ) where
+    -- a point, where it is reached
+    abbrev pub by_point : ℕ → Option Point → Option Env → Option Item
+    by_point p None o = None
+    by_point p (Some pt) None = None
+    by_point p (Some pt) (Some e) = by_operands b p e (operands pt.kind)
+
+    module _ (P : Program) (T : Table) where
+      abbrev pub by_number : ℕ → Option Item
+      by_number p = by_point p (point_at P b p) (env_in T p)
+
+      abbrev pub by_body : Option Item
+      by_body = first_item by_number (length (points_of (body_at P b)))
+
+  -- the first register that is read there and has the bit
+  abbrev pub register_item : Program → List Table → Option Item
+  register_item P tables = first_item (λ b. by_body b P (slice_index_or tables b [])) (length P.bodies)
+
+-- what the first qualifier has and the second lacks: null before under construction
+abbrev pub lacking_bit : ℕ → Qualifier → Qualifier → Option Item
+lacking_bit k q t = cond (lacks_null q t) (Some (AtSlot k Nullable)) (cond (q.free && not t.free) (Some (AtSlot k Free)) None)
+
+module _ (s : List Qualifier) where
+  abbrev pub lacking : Option SlotNo → Option SlotNo → Option Item
+  lacking None to = None
+  lacking (Some n) to = lacking_bit n.0 (slice_index_or s n.0 no_qual) (slot_qual s to)
+
+  -- slot by slot, the first
+  abbrev pub some_lacking : List (Option SlotNo) → List (Option SlotNo) → Option Item
+  some_lacking [] ys = None
+  some_lacking (x ∷ xs) [] = None
+  some_lacking (x ∷ xs) (y ∷ ys) = or_item (lacking x y) (some_lacking xs ys)
+
+  -- what the overridden method's parameters and receiver have and the overrider's lack, or the overrider's result has and the other's lacks
+  abbrev pub by_part : Part → Method → Method → Option Item
+  by_part OverParameters over lower = some_lacking lower.param_slots over.param_slots
+  by_part OverReceiver over lower = lacking lower.receiver over.receiver
+  by_part OverResult over lower = lacking over.result_slot lower.result_slot
+
+  abbrev pub by_override : Part → Option Method → Option Method → Option Item
+  by_override part None lower = None
+  by_override part (Some over) None = None
+  by_override part (Some over) (Some lower) = by_part part over lower
+
+abbrev pub stands_at : Span → Option Method → Bool
+stands_at span None = false
+stands_at span (Some m) = same_span m.span span
+
+module _ (P : Program) (s : List Qualifier) where
+  -- of a method with those that it overrides
+  abbrev pub by_lower : Part → Option Method → List ℕ → ℕ → Option Item
+  by_lower part over ks i = by_override s part over (method_at P (slice_index_or ks i 0))
+
+  module _ (span : Span) (part : Part) where
+    -- where the row points to it
+    abbrev pub by_under : Option Method → List ℕ → Option Item
+    by_under over ks = cond (stands_at span over) (first_item (by_lower part over ks) (length ks)) None
+
+    abbrev pub by_overrider : ℕ → Option Item
+    by_overrider m = by_under (method_at P m) (under P m)
+
+    abbrev pub by_overriders : ℕ → Option Item
+    by_overriders j = by_overrider (slice_index_or (overriders P) j 0)
+
+  abbrev pub slot_item : Span → Option Part → Option Item
+  slot_item span None = None
+  slot_item span (Some part) = first_item (by_overriders span part) (length (overriders P))
+
+  abbrev pub item_by : Row → List Table → Option Bit → Option Item
+  item_by row tables None = slot_item row.span (part_of row.code)
+  item_by row tables (Some bit) = register_item row.span bit P tables
+
+  -- the item that the row speaks of, where a chain says something of it
+  abbrev pub item_of : Row → List Table → Option Item
+  item_of row tables = item_by row tables (bit_of row.code)

@@ -1,0 +1,4 @@
+pub mod Owned
+pub mod Asked
+pub mod Worded
+pub mod Noted

@@ -1,0 +1,56 @@
+-- The notes of rows: what is told of the first chain from what a row speaks of.
+use Rattle.std.specs.Prelude.{ℕ, ◌<◌, ◌-◌, ◌≡◌, List, [], ◌∷◌, length, map, take, Option, Some, None, slice_index_or}
+use Rattle.jn_base.specs.declared.place.Row.{Row}
+use Rattle.jn_quals.specs.Qualifier.{Qualifier}
+use Rattle.jn_points.specs.declared.program.Program.{Program}
+use Rattle.jn_env.specs.Order.{Table}
+use Rattle.jn_transfer.specs.Least.{IsLeastTable}
+use Rattle.jn_reasons_law.specs.declared.item.Item.{Item}
+use Rattle.jn_reasons_law.specs.declared.item.Step.{Step}
+use Rattle.jn_reasons_law.specs.Choice.{IsFirstChain, told}
+use Rattle.jn_notes.specs.declared.note.Note.{Note}
+use Rattle.jn_notes.specs.declared.note.Notes.{Notes}
+use Rattle.jn_notes.specs.Asked.{item_of}
+use Rattle.jn_notes.specs.Worded.{place_span, step_words}
+
+abbrev pub most_shown : ℕ
+most_shown = 8
+
+abbrev pub no_notes : Notes
+no_notes = record { shown = []; more = 0 }
+
+module _ (P : Program) (names : List (List ℕ)) where
+  -- a step in words, and where it stands
+  abbrev pub note_of : Step → Note
+  note_of step = record { words = step_words P names step; span = place_span P step.place }
+
+  -- the first 8 of the steps that are told
+  abbrev pub noted : List Step → Notes
+  noted steps = record { shown = map note_of (take most_shown steps); more = length steps - most_shown }
+
+  module _ (s : List Qualifier) (tables : List Table) where
+    -- of the first chain from the item
+    abbrev pub AreFrom : Option Item → Notes → Type 0
+    AreFrom None notes = notes ≡ no_notes
+    AreFrom (Some x) notes = (steps : List Step) × IsFirstChain P s tables x steps × (notes ≡ noted (told steps))
+
+    abbrev pub AreNotes : Row → Notes → Type 0
+    AreNotes row notes = AreFrom (item_of P s row tables) notes
+
+    -- row by row
+    abbrev pub AreEach : List Row → List Notes → Type 0
+    AreEach [] [] = Unit {0}
+    AreEach [] (n ∷ notes) = ⊥
+    AreEach (row ∷ rows) [] = ⊥
+    AreEach (row ∷ rows) (n ∷ notes) = AreNotes row n × AreEach rows notes
+
+-- the least table of each body
+pub record AreLeastTables (P : Program) (s : List Qualifier) (tables : List Table) : Type 0 where
+  pub long : length tables ≡ length P.bodies
+  pub least : (b : ℕ) → b < length P.bodies → IsLeastTable P s b (slice_index_or tables b [])
+
+-- the notes of each row, under the least tables
+pub record AreNotesOf (P : Program) (names : List (List ℕ)) (s : List Qualifier) (rows : List Row) (notes : List Notes) : Type 0 where
+  pub tables : List Table
+  pub solved : AreLeastTables P s tables
+  pub each : AreEach P names s tables rows notes

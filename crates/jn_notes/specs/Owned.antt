@@ -1,0 +1,59 @@
+-- Whose slot it is: the first field, and then the first method, that names it.
+use Rattle.std.specs.Prelude.{ℕ, zero, suc, ◌<◌, ◌≡◌, cond, eqb, ltb, List, length, Option, Some, None, slice_index_or}
+use Rattle.jn_base.specs.declared.number.SlotNo.{SlotNo}
+use Rattle.jn_points.specs.declared.program.Field.{Field}
+use Rattle.jn_points.specs.declared.program.Method.{Method}
+use Rattle.jn_points.specs.declared.program.Program.{Program}
+use Rattle.jn_points.specs.Lookup.{field_info, method_at}
+use Rattle.jn_notes.specs.declared.owners.Owner.{Owner}
+use Rattle.jn_notes.specs.declared.owners.Owner.TheVariants.{OfField, OfParameter, OfReceiver, OfResult}
+
+-- the first where there is one, else the second
+abbrev pub or_owner : Option Owner → Option Owner → Option Owner
+or_owner None y = y
+or_owner (Some x) y = Some x
+
+-- the first of the numbers below n that gives one
+abbrev pub first_owner : (ℕ → Option Owner) → ℕ → Option Owner
+first_owner f zero = None
+first_owner f (suc n) = or_owner (first_owner f n) (f n)
+
+module _ (k : ℕ) where
+  abbrev pub if_slot : Option SlotNo → Owner → Option Owner
+  if_slot None owner = None
+  if_slot (Some n) owner = cond (eqb n.0 k) (Some owner) None
+
+  abbrev pub by_field : ℕ → Option Field → Option Owner
+  by_field f None = None
+  by_field f (Some x) = if_slot x.slot (OfField f)
+
+  abbrev pub by_parameter : ℕ → List (Option SlotNo) → ℕ → Option Owner
+  by_parameter m slots i = if_slot (slice_index_or slots i None) (OfParameter m i)
+
+  abbrev pub by_parameters : ℕ → List (Option SlotNo) → Option Owner
+  by_parameters m slots = first_owner (by_parameter m slots) (length slots)
+
+  abbrev pub by_method : ℕ → Option Method → Option Owner
+  by_method m None = None
+  by_method m (Some x) = or_owner (by_parameters m x.param_slots) (or_owner (if_slot x.receiver (OfReceiver m)) (if_slot x.result_slot (OfResult m)))
+
+module _ (P : Program) where
+  abbrev pub by_fields : ℕ → Option Owner
+  by_fields k = first_owner (λ f. by_field k f (field_info P f)) (length P.fields)
+
+  abbrev pub by_methods : ℕ → Option Owner
+  by_methods k = first_owner (λ m. by_method k m (method_at P m)) (length P.methods)
+
+  -- whose slot k is; what is no slot is nobody's
+  abbrev pub owner_of : ℕ → Option Owner
+  owner_of k = cond (ltb k (length P.slots)) (or_owner (by_fields k) (by_methods k)) None
+
+-- each of the owners that were missing is what the test gives
+pub record Filled (old new : List (Option Owner)) (test : ℕ → Option Owner) : Type 0 where
+  pub long : length new ≡ length old
+  pub each : (k : ℕ) → k < length old → slice_index_or new k None ≡ or_owner (slice_index_or old k None) (test k)
+
+-- the owner of each slot
+pub record AreOwners (P : Program) (owners : List (Option Owner)) : Type 0 where
+  pub long : length owners ≡ length P.slots
+  pub each : (k : ℕ) → slice_index_or owners k None ≡ owner_of P k

@@ -1,0 +1,125 @@
+-- The words of a step that is told, and where it stands in the text.
+use Rattle.std.specs.Prelude.{ℕ, Bool, true, false, cond, codes, eqb, List, [], ◌++◌, Option, Some, None, slice_index_or}
+use Rattle.jn_base.specs.declared.place.Span.{Span}
+use Rattle.jn_points.specs.declared.point.Point.{Point}
+use Rattle.jn_points.specs.declared.point.PointKind.{PointKind}
+use Rattle.jn_points.specs.declared.point.PointKind.TheVariants.{Const, FieldRead, ElemRead, Return}
+use Rattle.jn_points.specs.declared.program.Field.{Field}
+use Rattle.jn_points.specs.declared.program.Method.{Method}
+use Rattle.jn_points.specs.declared.program.Program.{Program}
+use Rattle.jn_points.specs.Lookup.{field_info, method_at, method_in, point_at}
+use Rattle.jn_reasons_law.specs.declared.item.Bit.{Bit}
+use Rattle.jn_reasons_law.specs.declared.item.Bit.TheVariants.{Nullable, Committed, Free}
+use Rattle.jn_reasons_law.specs.declared.item.Item.{Item}
+use Rattle.jn_reasons_law.specs.declared.item.Item.TheVariants.{AtSlot, AtRegister}
+use Rattle.jn_reasons_law.specs.declared.item.Place.{Place}
+use Rattle.jn_reasons_law.specs.declared.item.Place.TheVariants.{OfSlot, OfMethod, OfBody, OfPoint}
+use Rattle.jn_reasons_law.specs.declared.item.Step.{Step}
+use Rattle.jn_notes.specs.declared.owners.Owner.{Owner}
+use Rattle.jn_notes.specs.declared.owners.Owner.TheVariants.{OfField, OfParameter, OfReceiver, OfResult}
+use Rattle.jn_notes.specs.Owned.{owner_of}
+
+abbrev pub text_at : List (List ℕ) → ℕ → List ℕ
+text_at names n = slice_index_or names n []
+
+abbrev pub field_name : List (List ℕ) → Option Field → List ℕ
+field_name names None = []
+field_name names (Some f) = text_at names f.name.0
+
+abbrev pub method_name : List (List ℕ) → Option Method → List ℕ
+method_name names None = []
+method_name names (Some m) = text_at names m.name.0
+
+-- a parameter by its number from 0
+abbrev pub parameter_words : ℕ → List ℕ
+parameter_words i = cond (eqb i 0) (codes "the first parameter of `") (cond (eqb i 1) (codes "the second parameter of `") (cond (eqb i 2) (codes "the third parameter of `") (codes "a later parameter of `")))
+
+module _ (P : Program) (names : List (List ℕ)) where
+  abbrev pub owner_words : Option Owner → List ℕ
+  owner_words None = codes "this"
+  owner_words (Some (OfField f)) = codes "the field `" ++ field_name names (field_info P f) ++ codes "`"
+  owner_words (Some (OfParameter m i)) = parameter_words i ++ method_name names (method_at P m) ++ codes "`"
+  owner_words (Some (OfReceiver m)) = codes "`this` of `" ++ method_name names (method_at P m) ++ codes "`"
+  owner_words (Some (OfResult m)) = codes "the result of `" ++ method_name names (method_at P m) ++ codes "`"
+
+abbrev pub bit_words : Bit → List ℕ
+bit_words Nullable = codes " may be null"
+bit_words Committed = codes " may be whole"
+bit_words Free = codes " may be under construction"
+
+abbrev pub ends_body : PointKind → Bool
+ends_body (Return v) = true
+ends_body kind = false
+
+abbrev pub is_return : Option Point → Bool
+is_return None = false
+is_return (Some pt) = ends_body pt.kind
+
+-- how a slot has its bit from a point
+abbrev pub sent_words : Option Owner → Bool → List ℕ
+sent_words None unset = codes ": at"
+sent_words (Some (OfField f)) true = codes ": left unassigned by the constructor that ends at"
+sent_words (Some (OfField f)) false = codes ": written at"
+sent_words (Some (OfParameter m i)) unset = codes ": passed at"
+sent_words (Some (OfReceiver m)) unset = codes ": called at"
+sent_words (Some (OfResult m)) unset = codes ": returned at"
+
+abbrev pub kind_words : PointKind → List ℕ
+kind_words (Const dst value) = codes "null is written at"
+kind_words (FieldRead dst object f) = codes "a field of an object under construction is read at"
+kind_words (ElemRead dst array i) = codes "an element that may be null is read at"
+kind_words kind = codes "it is made at"
+
+abbrev pub read_words : Option Point → List ℕ
+read_words None = codes "it is made at"
+read_words (Some pt) = kind_words pt.kind
+
+abbrev pub nowhere : Span
+nowhere = record { file = record { 0 = 0 }; from = 0; to = 0 }
+
+abbrev pub field_span : Option Field → Span
+field_span None = nowhere
+field_span (Some f) = f.span
+
+abbrev pub method_span : Option Method → Span
+method_span None = nowhere
+method_span (Some m) = m.span
+
+abbrev pub point_span : Option Point → Span
+point_span None = nowhere
+point_span (Some pt) = pt.span
+
+module _ (P : Program) where
+  abbrev pub how_words : Option Owner → Place → List ℕ
+  how_words owner (OfSlot k) = codes ": declared so at"
+  how_words owner (OfMethod m) = codes ": handed on by overriding at"
+  how_words owner (OfBody b) = codes ": at"
+  how_words owner (OfPoint b p) = sent_words owner (is_return (point_at P b p))
+
+  -- where a chain ends at a register
+  abbrev pub end_words : Place → List ℕ
+  end_words (OfSlot k) = codes "it is declared at"
+  end_words (OfMethod m) = codes "it is handed on by overriding at"
+  end_words (OfBody b) = codes "`this` is under construction in the constructor at"
+  end_words (OfPoint b p) = read_words (point_at P b p)
+
+  abbrev pub item_words : List (List ℕ) → Place → Item → List ℕ
+  item_words names place (AtSlot k bit) = owner_words P names (owner_of P k) ++ bit_words bit ++ how_words (owner_of P k) place
+  item_words names place (AtRegister b p r bit) = end_words place
+
+  abbrev pub step_words : List (List ℕ) → Step → List ℕ
+  step_words names step = item_words names step.place step.item
+
+  -- where a slot is declared
+  abbrev pub owner_span : Option Owner → Span
+  owner_span None = nowhere
+  owner_span (Some (OfField f)) = field_span (field_info P f)
+  owner_span (Some (OfParameter m i)) = method_span (method_at P m)
+  owner_span (Some (OfReceiver m)) = method_span (method_at P m)
+  owner_span (Some (OfResult m)) = method_span (method_at P m)
+
+  abbrev pub place_span : Place → Span
+  place_span (OfSlot k) = owner_span (owner_of P k)
+  place_span (OfMethod m) = method_span (method_at P m)
+  place_span (OfBody b) = method_span (method_in P b)
+  place_span (OfPoint b p) = point_span (point_at P b p)

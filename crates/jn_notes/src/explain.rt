@@ -1,0 +1,321 @@
+//! The notes of rows.
+ghost use Rattle.std.specs.Prelude.{◌≡◌, ◌-◌, List, [], IfOk, map, take, true, Some};
+ghost use Rattle.jn_contrib.specs.Entries.{AreOverriders};
+ghost use Rattle.jn_tables_law.specs.Inferable.{IsInferable};
+ghost use Rattle.jn_inference_law.specs.Solution.{IsLeastSignature};
+ghost use Rattle.jn_reasons_law.specs.Chains.{HasChain};
+ghost use Rattle.jn_notes.specs.Asked.{item_of};
+ghost use Rattle.jn_notes.specs.Noted.{AreEach, AreFrom, AreLeastTables, AreNotes, AreNotesOf, most_shown, no_notes, note_of, noted};
+ghost use Rattle.jn_notes.specs.Owned.{AreOwners};
+ghost use Rattle.jn_reasons_law.specs.declared.item.Step.{Step as StepOf};
+ghost use Rattle.jn_reasons_law.specs.Choice.{IsFirstChain};
+ghost use Rattle.jn_reasons_law.specs.Choice as choice;
+
+use crate::note::{Note, Notes};
+use crate::owners::{Owner, find_owners};
+use crate::pairs::{part_of, slot_item};
+use crate::reads::{Sought, bit_of, register_item};
+use crate::spans::place_span;
+use crate::tables::least_tables;
+use crate::words::step_words;
+use jn_base::lists::put;
+use jn_base::{OutOfMemory, Row, Seq};
+use jn_chain::{first_chain, told};
+use jn_contrib::{Overrider, overriders};
+use jn_env::FlowTable;
+use jn_index::indexed::IndexedProgram;
+use jn_origins::LeastOrigins;
+use jn_origins::law::{least_tables_are_sized, what_stands_has_a_chain};
+use jn_points::Program;
+use jn_reasons_law::{Item, Step};
+use jn_sigs::Sig;
+use jn_tables_law::law::rounds_give_the_least_table;
+use jn_trees::Names;
+use std::alloc::{AllocError, Global};
+
+/// The greatest number of notes that are shown of a row.
+const MOST_SHOWN: usize = 8;
+
+/// A step in words, and where it stands.
+fn note_of(
+    alloc: Global,
+    program: &Program,
+    names: &Names,
+    owners: &[Option<Owner>],
+    step: Step,
+) -> Result<Note, AllocError>
+    requires owners { AreOwners program.now owners.now }
+    ensures { IfOk result (λ note. note ≡ note_of program.now names.now step) }
+{
+    let words = step_words(alloc, program, names, owners, step)?;
+    Ok(Note {
+        words: Seq::of_vec(words),
+        span: place_span(program, owners, step.place),
+    })
+}
+
+/// The steps in words.
+fn notes_of_steps(
+    alloc: Global,
+    program: &Program,
+    names: &Names,
+    owners: &[Option<Owner>],
+    steps: &[Step],
+) -> Result<Vec<Note>, AllocError>
+    requires owners { AreOwners program.now owners.now }
+    ensures { IfOk result
+        (λ notes. notes.items ≡ map (note_of program.now names.now) steps.now) }
+{
+    let mut notes = Vec::new(alloc);
+    for step in steps {
+        let note = note_of(alloc, program, names, owners, *step)?;
+        put(&mut notes, note)?;
+    }
+    Ok(notes)
+}
+
+/// As many steps as are shown.
+fn shown(steps: &[Step]) -> &[Step]
+    ensures { result.now ≡ take most_shown steps.now }
+{
+    if steps.len() <= MOST_SHOWN {
+        steps
+    } else {
+        &steps[..MOST_SHOWN]
+    }
+}
+
+/// How many more there are.
+fn more(steps: usize) -> usize
+    ensures { result ≡ steps - most_shown }
+{
+    if steps <= MOST_SHOWN {
+        0
+    } else {
+        steps - MOST_SHOWN
+    }
+}
+
+/// The first of the steps that are told, in words.
+fn noted(
+    alloc: Global,
+    program: &Program,
+    names: &Names,
+    owners: &[Option<Owner>],
+    steps: &[Step],
+) -> Result<Notes, AllocError>
+    requires owners { AreOwners program.now owners.now }
+    ensures { IfOk result (λ notes. notes ≡ noted program.now names.now steps.now) }
+{
+    let notes = notes_of_steps(alloc, program, names, owners, shown(steps))?;
+    Ok(Notes {
+        shown: Seq::of_vec(notes),
+        more: more(steps.len()),
+    })
+}
+
+fn no_notes(alloc: Global) -> Notes
+    ensures { result ≡ no_notes }
+{
+    Notes {
+        shown: Seq::new(alloc),
+        more: 0,
+    }
+}
+
+/// The item that a row speaks of.
+fn item_of(
+    program: &Program,
+    sig: &Sig,
+    tables: &[FlowTable],
+    overriders: &[Overrider],
+    row: Row,
+) -> Option<Item>
+    requires inferable { IsInferable program.now }
+    requires overriders { AreOverriders program.now overriders.now }
+    ensures { result ≡ item_of program.now sig.now row tables.now }
+{
+    match bit_of(row.code) {
+        None => slot_item(sig, row.span, part_of(row.code), program, overriders),
+        Some(bit) => {
+            let span = row.span;
+            register_item(Sought { span, bit }, program, tables)
+        }
+    }
+}
+
+/// What is told of the first chain from an item.
+fn told_from(alloc: Global, origins: &LeastOrigins, item: Item) -> Result<Vec<Step>, OutOfMemory>
+    requires chain { HasChain origins.now.program origins.now.sig origins.now.tables item }
+    ensures { IfOk result (λ told. (steps : List StepOf)
+        × IsFirstChain origins.now.program origins.now.sig origins.now.tables item steps
+        × (told.items ≡ choice.told steps)) }
+{
+    let steps = first_chain(alloc, origins, item)?;
+    let list = told(alloc, &steps)?;
+    Ok(list)
+}
+
+/// The notes of a chain's first item.
+fn notes_from(
+    alloc: Global,
+    program: &Program,
+    names: &Names,
+    origins: &LeastOrigins,
+    owners: &[Option<Owner>],
+    item: Item,
+) -> Result<Notes, OutOfMemory>
+    requires program { origins.now.program ≡ program.now }
+    requires chain { HasChain program.now origins.now.sig origins.now.tables item }
+    requires owners { AreOwners program.now owners.now }
+    ensures { IfOk result (λ notes.
+        AreFrom program.now names.now origins.now.sig origins.now.tables (Some item) notes) }
+{
+    let told = told_from(alloc, origins, item)?;
+    let notes = noted(alloc, program, names, owners, &told)?;
+    Ok(notes)
+}
+
+/// The notes of a row.
+fn notes_of(
+    alloc: Global,
+    program: &Program,
+    names: &Names,
+    sig: &Sig,
+    tables: &[FlowTable],
+    overriders: &[Overrider],
+    origins: &LeastOrigins,
+    owners: &[Option<Owner>],
+    row: Row,
+) -> Result<Notes, OutOfMemory>
+    requires inferable { IsInferable program.now }
+    requires least { IsLeastSignature program.now sig.now }
+    requires solved { AreLeastTables program.now sig.now tables.now }
+    requires overriders { AreOverriders program.now overriders.now }
+    requires program { origins.now.program ≡ program.now }
+    requires sig { origins.now.sig ≡ sig.now }
+    requires tables { origins.now.tables ≡ tables.now }
+    requires owners { AreOwners program.now owners.now }
+    ensures { IfOk result
+        (λ notes. AreNotes program.now names.now sig.now tables.now row notes) }
+{
+    what_stands_has_a_chain();
+    match item_of(program, sig, tables, overriders, row) {
+        None => Ok(no_notes(alloc)),
+        Some(item) => notes_from(alloc, program, names, origins, owners, item),
+    }
+}
+
+/// The notes of each row.
+fn notes_of_each(
+    alloc: Global,
+    program: &Program,
+    names: &Names,
+    sig: &Sig,
+    tables: &[FlowTable],
+    overriders: &[Overrider],
+    origins: &LeastOrigins,
+    owners: &[Option<Owner>],
+    rows: &[Row],
+) -> Result<Vec<Notes>, OutOfMemory>
+    requires inferable { IsInferable program.now }
+    requires least { IsLeastSignature program.now sig.now }
+    requires solved { AreLeastTables program.now sig.now tables.now }
+    requires overriders { AreOverriders program.now overriders.now }
+    requires program { origins.now.program ≡ program.now }
+    requires sig { origins.now.sig ≡ sig.now }
+    requires tables { origins.now.tables ≡ tables.now }
+    requires owners { AreOwners program.now owners.now }
+    ensures { IfOk result
+        (λ notes. AreEach program.now names.now sig.now tables.now rows.now notes.items) }
+{
+    let mut list = Vec::new(alloc);
+    for row in rows {
+        let notes = notes_of(
+            alloc, program, names, sig, tables, overriders, origins, owners, *row,
+        )?;
+        put(&mut list, notes)?;
+    }
+    Ok(list)
+}
+
+fn are_none(rows: &[Row]) -> bool
+    ensures { result ≡ true → rows.now ≡ [] }
+{
+    rows.len() == 0
+}
+
+/// The notes of no rows, for which nothing is made.
+fn notes_of_none(
+    alloc: Global,
+    program: &Program,
+    names: &Names,
+    sig: &Sig,
+    rows: &[Row],
+) -> Vec<Notes>
+    requires inferable { IsInferable program.now }
+    requires none { rows.now ≡ [] }
+    ensures { AreNotesOf program.now names.now sig.now rows.now result.items }
+{
+    rounds_give_the_least_table();
+    let _program = program;
+    let _names = names;
+    let _sig = sig;
+    let _rows = rows;
+    Vec::new(alloc)
+}
+
+/// The notes of some rows.
+fn notes_of_some(
+    alloc: Global,
+    program: &IndexedProgram,
+    names: &Names,
+    sig: &Sig,
+    rows: &[Row],
+) -> Result<Vec<Notes>, OutOfMemory>
+    requires inferable { IsInferable program.now }
+    requires least { IsLeastSignature program.now sig.now }
+    ensures { IfOk result
+        (λ notes. AreNotesOf program.now names.now sig.now rows.now notes.items) }
+{
+    least_tables_are_sized();
+    let tables = least_tables(alloc, program.program(), sig)?;
+    let overriders = overriders(alloc, program)?;
+    let owners = find_owners(alloc, program.program())?;
+    let origins = LeastOrigins::new(alloc, program, sig, &tables)?;
+    notes_of_each(
+        alloc,
+        program.program(),
+        names,
+        sig,
+        &tables,
+        &overriders,
+        &origins,
+        &owners,
+        rows,
+    )
+}
+
+/// The notes of each row of a program under its least signature, in the rows' order. What they need is made once: the least tables of all bodies,
+/// what overrides what, and whose slots are whose; and nothing where there is no row.
+///
+/// # Errors
+/// No memory was found.
+pub fn notes_of_rows(
+    alloc: Global,
+    program: &IndexedProgram,
+    names: &Names,
+    sig: &Sig,
+    rows: &[Row],
+) -> Result<Vec<Notes>, OutOfMemory>
+    requires inferable { IsInferable program.now }
+    requires least { IsLeastSignature program.now sig.now }
+    ensures { IfOk result
+        (λ notes. AreNotesOf program.now names.now sig.now rows.now notes.items) }
+{
+    if are_none(rows) {
+        Ok(notes_of_none(alloc, program.program(), names, sig, rows))
+    } else {
+        notes_of_some(alloc, program, names, sig, rows)
+    }
+}
