@@ -234,8 +234,8 @@ fn note(alloc: Global, text: &str, name: &str, line: u32) -> Result<ShownNote, O
     })
 }
 
-fn notes(alloc: Global) -> Result<Vec<ShownNote>, OutOfMemory> {
-    let mut notes = Vec::new(alloc);
+fn notes(alloc: Global) -> Result<Seq<ShownNote>, OutOfMemory> {
+    let mut notes = Seq::new(alloc);
     notes.push(note(alloc, "the field `x` may be null: written at", "V.java", 9)?)?;
     notes.push(note(alloc, "\"null\" is written at", "a b.java", 10)?)?;
     Ok(notes)
@@ -262,7 +262,7 @@ fn expect_noted(
     let Ok(notes) = notes(alloc) else {
         panic!(rt; "no memory");
     };
-    let Ok(()) = take_noted(alloc, reporter, &notes, more) else {
+    let Ok(()) = take_noted(alloc, reporter, notes.as_slice(), more) else {
         panic!(rt; "no memory");
     };
     assert_eq!(rt; reporter.bytes(), want.as_bytes());

@@ -6,3 +6,4 @@ pub mod Running
 pub mod Written
 pub mod Answering
 pub mod Trees
+pub mod Noting

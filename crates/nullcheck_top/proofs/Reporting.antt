@@ -1,7 +1,6 @@
 -- Reports of files that were read.
-use Rattle.std.proofs.Common.{◌≡◌, ◌↔◌, ℕ, ◌<◌, Bool, true, false, List, [], ◌∷◌, length, None, Result, Ok, Err, inl, inr, refl, sym, ap, ◌∙◌, subst, arith}
+use Rattle.std.proofs.Common.{◌≡◌, ◌↔◌, ℕ, ◌<◌, List, [], ◌∷◌, length, None, Result, Ok, Err, inl, inr, refl, sym, ap, ◌∙◌, subst}
 use Rattle.std.specs.Prelude.{Contains, IfOk, IfErr}
-use Rattle.std.specs.Result.{result_ok}
 use Rattle.jn_base.specs.declared.infer.Infer.{Infer}
 use Rattle.jn_base.specs.declared.refusal.OutOfMemory.{OutOfMemory}
 use Rattle.jn_base.specs.declared.place.Row.{Row}
@@ -25,14 +24,13 @@ use Rattle.jn_front.specs.Limits.{row_at, limit_rows}
 use Rattle.jn_front.specs.Phases.{AreParsed, ArePlaced, FaultRows, SyntaxRows, LexedFrom, TextRows}
 use Rattle.jn_command.specs.declared.report.Report.{Report}
 use Rattle.jn_command.specs.declared.report.Report.TheVariants.{Refused, Checked}
-use Rattle.jn_command.specs.Answer.{AreShownNotes}
 use Rattle.jn_command.specs.Reports.{rows_of}
 use Rattle.jn_command.specs.Stands.{StandIn}
 use Rattle.jn_command.proofs.Standing.{Limited, all_stand, limited_stand, many_limit, one_ordered, within_limits}
 use Rattle.nullcheck_top.specs.declared.found.CheckedFiles.{CheckedFiles}
 use Rattle.nullcheck_top.specs.declared.found.Found.{Found}
-use Rattle.nullcheck_top.specs.Found.{IsFinding}
-use Rattle.nullcheck_top.specs.Report.{AreDeclared, AreNotes, IsReport, IsSafe, PhaseRows, ProgramOf, RulesGive, TypedProgramOf, lowering_rows, table_rows, trees_of}
+use Rattle.nullcheck_top.specs.Found.{AreWhole, IsBroken, IsFinding, found_of}
+use Rattle.nullcheck_top.specs.Report.{AreDeclared, IsReport, IsSafe, PhaseRows, ProgramOf, RulesGive, TypedProgramOf, lowering_rows, table_rows, trees_of}
 use Rattle.jn_lowering.specs.Bodies.{Source}
 use Rattle.jn_meaning_law.specs.Safety.{NeverNullByTrees, NeverStuckByTrees}
 
@@ -44,10 +42,17 @@ never_checked : (rows others : List Row) → Refused rows ≡ Checked others →
 never_checked rows others e = cc
 
 abbrev refused_found : List Row → Found
-refused_found rows = record { report = Refused rows; accepted = None }
+refused_found rows = record { report = Refused rows; accepted = None; rejected = None }
 
 refused_finding : (infer : Infer) → (files : List SourceFile) (names : List (List ℕ)) (broken sorted : List Row) (found : Found) → PhaseRows infer files broken → IsOrderOf broken sorted → found ≡ refused_found sorted → IsFinding infer files names found
-refused_finding infer files names broken sorted found phase order is = subst (IsFinding infer files names) (sym is) (record { report = refused_report infer files broken sorted (Refused sorted) phase order refl; accepted = never_checked sorted [] })
+refused_finding infer files names broken sorted found phase order is = subst (IsFinding infer files names) (sym is) (record { report = refused_report infer files broken sorted (Refused sorted) phase order refl; accepted = never_checked sorted []; rejected = λ broken. broken })
+
+unbroken : (rows : List Row) → rows ≡ [] → IsBroken (Checked rows) → ⊥
+unbroken rows none broken = subst (λ rs. IsBroken (Checked rs)) none broken
+
+broken_rows : (rows : List Row) → (rows ≡ [] → ⊥) → IsBroken (Checked rows)
+broken_rows [] some = some refl
+broken_rows (row ∷ rows) some = tt
 
 -- files that are checked by the rules
 module _ (infer : Infer) (files : List SourceFile) (names : List (List ℕ)) (P : Program) (s : List Qualifier) (rows : List Row) (of_files : TypedProgramOf infer files names P) (least : IsLeastSignature P s) (broken : AreBroken P s rows) where
@@ -55,9 +60,17 @@ module _ (infer : Infer) (files : List SourceFile) (names : List (List ℕ)) (P 
   checked_report = record { names = names; P = P; of_files = of_files; rules = record { signature = s; least = least; broken = broken.all; breaks = broken.broken; order = broken.ordered } }
 
   -- accepted exactly where there is no row
-  pub checked_finding : (made : Result (Program × List Qualifier) (Program × List Qualifier)) → IfOk made (λ a. (rows ≡ []) × (a ≡ (P, s))) → IfErr made (λ r. (rows ≡ [] → ⊥) × (r.0 ≡ P) × (r.1 ≡ s)) → IsFinding infer files names (record { report = Checked rows; accepted = result_ok made })
-  checked_finding (Ok a) taken refused = record { report = checked_report; accepted = (ap Checked taken.0, subst (λ (x : Program × List Qualifier). TypedProgramOf infer files names x.0) (sym taken.1) of_files) }
-  checked_finding (Err e) taken refused = record { report = checked_report; accepted = λ none. refused.0 (no_rows none) }
+  pub checked_finding : (made : Result (Program × List Qualifier) (Program × List Qualifier)) → IfOk made (λ a. (rows ≡ []) × (a ≡ (P, s))) → IfErr made (λ r. (rows ≡ [] → ⊥) × (r.0 ≡ P) × (r.1 ≡ s)) → IsFinding infer files names (found_of rows made)
+  checked_finding (Ok a) taken refused = record { report = checked_report; accepted = (ap Checked taken.0, subst (λ (x : Program × List Qualifier). TypedProgramOf infer files names x.0) (sym taken.1) of_files); rejected = unbroken rows taken.0 }
+  checked_finding (Err left) taken refused = record {
+    report = checked_report;
+    accepted = λ none. refused.0 (no_rows none);
+    rejected = record {
+      broken = broken_rows rows refused.0;
+      of_files = subst (TypedProgramOf infer files names) (sym refused.1) of_files;
+      least = subst (λ P. IsLeastSignature P left.1) (sym refused.1) (subst (IsLeastSignature P) (sym refused.2) least);
+    };
+  }
     where
       no_rows : Checked rows ≡ Checked [] → rows ≡ []
       no_rows e = cc
@@ -73,7 +86,7 @@ Made = Result CheckedFiles OutOfMemory
 
 -- it refuses by these rows, in order
 abbrev pub RefusesBy : List Row → Made → Type 0
-RefusesBy rows made = IfOk made (λ checked. (sorted : List Row) × IsOrderOf rows sorted × (checked.found ≡ record { report = Refused sorted; accepted = None }))
+RefusesBy rows made = IfOk made (λ checked. (sorted : List Row) × IsOrderOf rows sorted × (checked.found ≡ record { report = Refused sorted; accepted = None; rejected = None }))
 
 abbrev pub ReportsAll : Infer → List SourceRead → Made → Type 0
 ReportsAll infer reads made = IfOk made (λ checked. (files : List SourceFile) → AreReads reads files → IsFinding infer files checked.names checked.found)
@@ -128,7 +141,7 @@ abbrev pub MadeFound : Type 0
 MadeFound = Result Found OutOfMemory
 
 abbrev pub RefusesFound : List Row → MadeFound → Type 0
-RefusesFound rows made = IfOk made (λ found. (sorted : List Row) × IsOrderOf rows sorted × (found ≡ record { report = Refused sorted; accepted = None }))
+RefusesFound rows made = IfOk made (λ found. (sorted : List Row) × IsOrderOf rows sorted × (found ≡ record { report = Refused sorted; accepted = None; rejected = None }))
 
 -- rows of classes and members
 pub table_made : (infer : Infer) → (files : List SourceFile) (names : List (List ℕ)) (tokens : List (List Token)) (trees : List PlacedFile) (rows : List Row) (made : MadeFound) → AreParsed files names tokens trees → rows ≡ table_rows trees → (table_rows trees ≡ [] → ⊥) → RefusesFound rows made → IfOk made (λ found. IsFinding infer files names found)
@@ -157,13 +170,13 @@ too_many_report infer files report many is =
     no_rows : row_at most_files B1 ∷ [] ≡ [] → ⊥
     no_rows e = cc
 
--- ---- where files are accepted, what was read are the files
+-- ---- where files have a program, what was read are the files
 
 abbrev pub Whole : List SourceRead → Made → Type 0
-Whole reads made = IfOk made (λ checked. checked.found.report ≡ Checked [] → (files : List SourceFile) → AreReads reads files → files_of_reads reads ≡ files)
+Whole reads made = IfOk made (λ checked. AreWhole checked.found.report reads)
 
 pub refused_whole : (reads : List SourceRead) (rows : List Row) (made : Made) → RefusesBy rows made → Whole reads made
-refused_whole reads rows (Ok r) by = λ none files are. absurd (never_checked by.0 [] (sym (ap (λ (found : Found). found.report) by.2) ∙ none))
+refused_whole reads rows (Ok r) by = λ others is files are. absurd (never_checked by.0 others (sym (ap (λ (found : Found). found.report) by.2) ∙ is))
 refused_whole reads rows (Err e) by = tt
 
 -- ---- accepted files are safe
@@ -193,9 +206,3 @@ module _ (infer : Infer) (null : Keeps infer NeverNull) (stuck : Keeps infer Nev
   pub safe_made : (reads : List SourceRead) (made : Made) → ReportsAll infer reads made → IfOk made (λ checked. checked.found.report ≡ Checked [] → (files : List SourceFile) → AreReads reads files → IsSafe infer files)
   safe_made reads (Ok r) all = λ none files are. safe_report files r.found.report none (all files are).report
   safe_made reads (Err e) all = tt
-
--- ---- notes
-
-pub no_notes : (b : Bool) (infer : Infer) (files : List SourceFile) (report : Report) → AreShownNotes AreNotes b infer files report []
-no_notes true infer files report = refl
-no_notes false infer files report = refl

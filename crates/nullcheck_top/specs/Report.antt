@@ -1,5 +1,5 @@
 -- What files are found to be, by the members that are inferred: the rows of the first phase that has any, those of the rules, or safe; and what their main does.
-use Rattle.std.specs.Prelude.{ℕ, ◌≡◌, ◌⊎◌, ◌↔◌, List, [], Contains}
+use Rattle.std.specs.Prelude.{ℕ, ◌≡◌, ◌⊎◌, ◌↔◌, List, [], ◌∷◌, map, Contains}
 use Rattle.jn_base.specs.declared.place.Row.{Row}
 use Rattle.jn_trees.specs.declared.token.Token.{Token}
 use Rattle.jn_places.specs.Placed.{PlacedFile}
@@ -18,6 +18,11 @@ use Rattle.jn_quals.specs.Qualifier.{Qualifier}
 use Rattle.jn_command.specs.declared.noted.Noted.{Noted}
 use Rattle.jn_command.specs.declared.report.Report.{Report}
 use Rattle.jn_command.specs.declared.status.Status.{Status}
+use Rattle.jn_command.specs.Shown.{note_of}
+use Rattle.jn_notes.specs.declared.note.Note.{Note}
+use Rattle.jn_notes.specs.declared.note.Notes.{Notes}
+use Rattle.jn_notes.specs.Noted.{AreNotesOf}
+use Rattle.jn_reporters.specs.declared.shown.ShownNote.{ShownNote}
 use Rattle.jn_command.specs.declared.report.Report.TheVariants.{Refused, Checked}
 use Rattle.jn_inference_law.specs.Solution.{IsLeastSignature}
 use Rattle.jn_transfer.specs.Rules.{Breaks}
@@ -120,9 +125,29 @@ abbrev pub IsReport : Infer → List SourceFile → Report → Type 0
 IsReport infer files (Refused rows) = IsPhase infer files rows
 IsReport infer files (Checked rows) = IsCheckedBy infer files rows
 
--- the notes of the rows: none
+-- notes as they are shown: with the places of their first bytes in the files
+abbrev pub placed_note : List SourceFile → Note → ShownNote
+placed_note files note = note_of files note.words note.span
+
+abbrev pub placed : List SourceFile → Notes → Noted
+placed files notes = record { notes = map (placed_note files) notes.shown; more = notes.more }
+
+-- the notes of rows of the rules: those under the least signature and the least tables
+pub record RuleNotes (infer : Infer) (files : List SourceFile) (rows : List Row) (noted : List Noted) : Type 0 where
+  pub names : List (List ℕ)
+  pub P : Program
+  pub of_files : TypedProgramOf infer files names P
+  pub signature : List Qualifier
+  pub least : IsLeastSignature P signature
+  pub notes : List Notes
+  pub are : AreNotesOf P names signature rows notes
+  pub places : noted ≡ map (placed files) notes
+
+-- the notes of a report's rows: only those of the rules have any
 abbrev pub AreNotes : Infer → List SourceFile → Report → List Noted → Type 0
-AreNotes infer files report noted = noted ≡ []
+AreNotes infer files (Refused rows) noted = noted ≡ []
+AreNotes infer files (Checked []) noted = noted ≡ []
+AreNotes infer files (Checked (row ∷ rows)) noted = RuleNotes infer files (row ∷ rows) noted
 
 -- the sources of its bodies, as its trees have them
 abbrev pub trees_of : (infer : Infer) (files : List SourceFile) (names : List (List ℕ)) (P : Program) → TypedProgramOf infer files names P → List Source

@@ -11,9 +11,9 @@ ghost use Rattle.jn_command.specs.Reports.{rows_of};
 ghost use Rattle.jn_command.specs.Stands.{StandIn};
 ghost use Rattle.jn_front.specs.Counted.{ReadsFit};
 ghost use Rattle.jn_front.specs.declared.source.SourceFile.{SourceFile as FileOf};
-ghost use Rattle.jn_front.specs.Files.{AllHeld, AreReads, IsReadOf, StartsOnly, files_of_reads, most_files};
+ghost use Rattle.jn_front.specs.Files.{AllHeld, AreReads, IsReadOf, StartsOnly, most_files};
 ghost use Rattle.nullcheck_top.specs.Answers.{Answers, AnswersFiles};
-ghost use Rattle.nullcheck_top.specs.Found.{IsFinding};
+ghost use Rattle.nullcheck_top.specs.Found.{AreWhole, IsFinding};
 ghost use Rattle.nullcheck_top.specs.Report.{IsSafe};
 
 use crate::check::check;
@@ -69,8 +69,8 @@ fn answer_checked<P: Reporter, K: Sink>(
     requires stand { StandIn reads.now (rows_of checked.now.found.report) }
     requires found { (files : List FileOf) → AreReads reads.now files
         → IsFinding command.now.infer files checked.now.names checked.now.found }
-    requires whole { checked.now.found.report ≡ Checked [] → (files : List FileOf)
-        → AreReads reads.now files → files_of_reads reads.now ≡ files }
+    requires read { (files : List FileOf) × AreReads reads.now files }
+    requires whole { AreWhole checked.now.found.report reads.now }
     requires safe { checked.now.found.report ≡ Checked [] → (files : List FileOf)
         → AreReads reads.now files → IsSafe command.now.infer files }
     ensures answer { (files : List FileOf) → AreReads reads.now files
@@ -90,7 +90,14 @@ fn answer_checked<P: Reporter, K: Sink>(
             out,
         ),
         None => write(
-            report_output(alloc, reads, &checked.found.report, front, reporter),
+            report_output(
+                alloc,
+                reads,
+                &checked.names,
+                &checked.found,
+                front,
+                reporter,
+            ),
             out,
         ),
     }

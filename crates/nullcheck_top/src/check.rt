@@ -15,12 +15,12 @@ ghost use Rattle.jn_front.specs.Phases.{AreParsed};
 ghost use Rattle.jn_command.specs.declared.report.Report.TheVariants.{Refused, Checked};
 ghost use Rattle.jn_command.specs.Reports.{rows_of};
 ghost use Rattle.jn_command.specs.Stands.{StandIn};
-ghost use Rattle.nullcheck_top.specs.Found.{IsFinding};
+ghost use Rattle.nullcheck_top.specs.Found.{AreWhole, IsFinding, found_of};
 ghost use Rattle.nullcheck_top.specs.Report.{AreDeclared, IsReport, IsSafe, ProgramOf, TypedProgramOf};
 
 use crate::found::{CheckedFiles, Found};
 use crate::law::accepted_files_are_safe;
-use jn_accept::accept;
+use jn_accept::{Accepted, accept};
 use jn_base::{Code, Fail, Infer, OutOfMemory, Row, Seq};
 use jn_basecheck::base_check;
 use jn_classtable::{ClassTable, build};
@@ -30,6 +30,7 @@ use jn_front::{SourceRead, limit_rows, parse_files, row_at};
 use jn_index::indexed::IndexedProgram;
 use jn_inference_law::law::regular_programs_are_inferable;
 use jn_program::lowering::lower;
+use jn_sigs::Sig;
 use jn_system::{check_all, solve_sig};
 use jn_trees::{FileTree, Names};
 use jn_typed::BaseTyped;
@@ -40,7 +41,7 @@ use std::thread::Threads;
 /// What is found of files that are refused by these rows, of which the list may have more room than it needs.
 fn refused(alloc: Global, rows: Vec<Row>) -> Result<Found, OutOfMemory>
     ensures { IfOk result (λ found. (sorted : List SpecRow) × IsOrderOf rows.items sorted
-        × (found ≡ record { report = Refused sorted; accepted = None })) }
+        × (found ≡ record { report = Refused sorted; accepted = None; rejected = None })) }
 {
     let mut rows = rows;
     order(&mut rows)?;
@@ -48,19 +49,39 @@ fn refused(alloc: Global, rows: Vec<Row>) -> Result<Found, OutOfMemory>
     Ok(Found {
         report: Report::Refused(Seq::of_vec(kept)),
         accepted: None,
+        rejected: None,
     })
 }
 
 /// The same of files without trees, of which no names are known.
 fn refused_texts(alloc: Global, rows: Vec<Row>) -> Result<CheckedFiles, OutOfMemory>
     ensures { IfOk result (λ checked. (sorted : List SpecRow) × IsOrderOf rows.items sorted
-        × (checked.found ≡ record { report = Refused sorted; accepted = None })) }
+        × (checked.found ≡ record { report = Refused sorted; accepted = None; rejected = None })) }
 {
     Ok(CheckedFiles {
         found: refused(alloc, rows)?,
         names: Names::new(alloc),
         trees: Vec::new(alloc),
     })
+}
+
+/// What is found where the rules have these rows.
+fn found_by(rows: Vec<Row>, made: Result<Accepted, (BaseTyped, Sig)>) -> Found
+    ensures { result ≡ found_of rows.items made }
+{
+    let report = Report::Checked(Seq::of_vec(rows));
+    match made {
+        Ok(accepted) => Found {
+            report,
+            accepted: Some(accepted),
+            rejected: None,
+        },
+        Err(left) => Found {
+            report,
+            accepted: None,
+            rejected: Some(left),
+        },
+    }
 }
 
 /// What is found of files with this program, which has no row of types: the rows of the rules under its least signature.
@@ -81,11 +102,8 @@ fn checked<R: Threads + Sync, G: Gate + Sync>(
     regular_programs_are_inferable();
     let sig = solve_sig(rt, alloc, base.indexed(), workers, gate)?;
     let rows = check_all(rt, alloc, base.indexed(), &sig, workers, gate)?;
-    let accepted = accept(base, sig, &rows).ok();
-    Ok(Found {
-        report: Report::Checked(Seq::of_vec(rows)),
-        accepted,
-    })
+    let made = accept(base, sig, &rows);
+    Ok(found_by(rows, made))
 }
 
 /// What is found of files with this program.
@@ -184,8 +202,7 @@ fn find<R: Threads + Sync, G: Gate + Sync>(
     requires workers { (1 ≤ workers) × (workers ≤ 16) }
     ensures found { IfOk result (λ checked. (files : List SpecFile) → AreReads reads.now files
         → IsFinding infer files checked.names checked.found) }
-    ensures whole { IfOk result (λ checked. checked.found.report ≡ Checked []
-        → (files : List SpecFile) → AreReads reads.now files → files_of_reads reads.now ≡ files) }
+    ensures whole { IfOk result (λ checked. AreWhole checked.found.report reads.now) }
     ensures stand { IfOk result (λ checked. StandIn reads.now (rows_of checked.found.report)) }
 {
     let limits = limit_rows(alloc, reads)?;
@@ -233,8 +250,7 @@ pub fn check<R: Threads + Sync, G: Gate + Sync>(
     requires read { (files : List SpecFile) × AreReads reads.now files }
     ensures found { IfOk result (λ checked. (files : List SpecFile) → AreReads reads.now files
         → IsFinding infer files checked.names checked.found) }
-    ensures whole { IfOk result (λ checked. checked.found.report ≡ Checked []
-        → (files : List SpecFile) → AreReads reads.now files → files_of_reads reads.now ≡ files) }
+    ensures whole { IfOk result (λ checked. AreWhole checked.found.report reads.now) }
     ensures safe { IfOk result (λ checked. checked.found.report ≡ Checked []
         → (files : List SpecFile) → AreReads reads.now files → IsSafe infer files) }
     ensures stand { IfOk result (λ checked. StandIn reads.now (rows_of checked.found.report)) }

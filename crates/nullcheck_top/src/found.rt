@@ -2,13 +2,18 @@
 
 use jn_accept::Accepted;
 use jn_command::Report;
+use jn_sigs::Sig;
 use jn_trees::{FileTree, Names};
+use jn_typed::BaseTyped;
 
-/// The report of files, and their program where they are accepted.
+/// The report of files, and their program where they have one.
 #[derive(Drop)]
 pub struct Found {
     pub report: Report,
+    /// The program of accepted files.
     pub accepted: Option<Accepted>,
+    /// The program of files that break a rule, and its least signature.
+    pub rejected: Option<(BaseTyped, Sig)>,
 }
 
 /// What is found of files, and what was read off their texts on the way, of which the trees are needed no more: whoever has the files

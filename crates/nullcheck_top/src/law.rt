@@ -5,15 +5,17 @@ ghost use Rattle.jn_base.specs.declared.infer.Infer.{Infer};
 ghost use Rattle.jn_heap.specs.Runs.{NeverNull};
 ghost use Rattle.jn_progress_law.specs.Progress.{NeverStuck};
 ghost use Rattle.jn_front.specs.declared.source.SourceFile.{SourceFile};
+ghost use Rattle.jn_command.specs.declared.noted.Noted.{Noted};
 ghost use Rattle.jn_command.specs.declared.report.Report.{Report};
 ghost use Rattle.jn_command.specs.declared.status.Status.{Status};
 ghost use Rattle.jn_meaning_law.specs.Safety.{NeverNullByTrees, NeverStuckByTrees};
-ghost use Rattle.nullcheck_top.specs.Report.{RulesGive, TypedProgramOf, IsReport, RunsTo, trees_of};
+ghost use Rattle.nullcheck_top.specs.Report.{AreNotes, RulesGive, TypedProgramOf, IsReport, RunsTo, trees_of};
 
 use jn_diag::rows_have_one_order;
 use jn_front::law::files_have_one_front;
 use jn_inference_law::law::least_signatures_are_unique;
 use jn_meaning_law::law::accepted_files_are_safe_by_trees;
+use jn_notes::law::rows_have_one_list_of_notes as notes_are_unique;
 use jn_progress_law::law::{accepted_programs_never_fault, accepted_programs_never_stick};
 use jn_tables_law::law::rounds_give_the_least_table;
 
@@ -45,6 +47,16 @@ pub fn files_have_one_report()
     least_signatures_are_unique();
     rounds_give_the_least_table();
     rows_have_one_order();
+}
+
+/// The rows of a report of files have one list of notes: the least tables and the first chains are one each.
+pub fn rows_have_one_list_of_notes()
+    ensures { (infer : Infer) (files : List SourceFile) (report : Report) (one other : List Noted)
+        → AreNotes infer files report one → AreNotes infer files report other → one ≡ other }
+{
+    files_have_one_front();
+    least_signatures_are_unique();
+    notes_are_unique();
 }
 
 /// The run of files' main with these words, of at most so many steps, has one status and one text.

@@ -5,6 +5,8 @@ mod answers;
 mod check;
 pub mod found;
 pub mod law;
+mod marks;
+mod notes;
 mod outputs;
 pub mod top;
 

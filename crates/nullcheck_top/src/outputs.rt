@@ -1,22 +1,34 @@
 //! The output of a report: of files that were read, and of too many files.
-ghost use Rattle.std.specs.Prelude.{◌≡◌, ◌<◌, ◌++◌, List, IfOk, map, length};
+ghost use Rattle.std.specs.Prelude.{◌≡◌, ◌<◌, ◌++◌, List, IfOk, MatchOption, None, Some, map, length, true};
 ghost use Rattle.std.specs.String.{string_bytes};
 ghost use Rattle.jn_base.specs.declared.infer.Infer.{Infer};
 ghost use Rattle.jn_command.specs.Reporters.{shown_behind};
-ghost use Rattle.jn_command.specs.Reports.{rows_of, status_of};
+ghost use Rattle.jn_command.specs.Reports.{rows_of, status_of, verdict_of};
+ghost use Rattle.jn_command.specs.Shown.{rows_with};
 ghost use Rattle.jn_command.specs.Stands.{StandIn};
 ghost use Rattle.jn_front.specs.declared.source.SourceFile.{SourceFile as FileOf};
 ghost use Rattle.jn_front.specs.Counted.{ReadsFit};
-ghost use Rattle.jn_front.specs.Files.{AreReads, most_files, names_of};
-ghost use Rattle.nullcheck_top.specs.Found.{IsRefusalOf, ShowsReport};
+ghost use Rattle.jn_front.specs.Files.{AreReads, files_of_reads, most_files, names_of};
+ghost use Rattle.jn_inference_law.specs.Solution.{IsLeastSignature};
+ghost use Rattle.jn_notes.specs.Noted.{AreNotesOf};
+ghost use Rattle.nullcheck_top.specs.Report.{placed};
+ghost use Rattle.nullcheck_top.specs.Found.{AreWhole, IsFinding, IsGiven, IsRefusalOf, ShowsReport};
 
 use crate::check::refuse_number;
-use jn_base::{OutOfMemory, Seq};
+use crate::found::Found;
+use crate::marks::marked;
+use crate::notes::PlacedNotes;
+use jn_base::{OutOfMemory, Row, Seq};
 use jn_command::Report;
 use jn_command::output::Output;
-use jn_command::show::{show, show_number};
+use jn_command::show::{show, show_noted, show_number};
 use jn_front::SourceRead;
+use jn_inference_law::law::regular_programs_are_inferable;
+use jn_notes::{Notes, notes_of_rows};
 use jn_reporters::Reporter;
+use jn_sigs::Sig;
+use jn_trees::Names;
+use jn_typed::BaseTyped;
 use std::alloc::{AllocError, Global};
 
 /// The greatest number of files.
@@ -30,24 +42,110 @@ fn joined(alloc: Global, front: &[u8], back: &[u8]) -> Result<Seq<u8>, AllocErro
     Ok(Seq::of_vec(whole))
 }
 
+/// Hands the report of files that were read to a reporter, with the notes of its rows where it shows notes.
+fn show_found<P: Reporter>(
+    alloc: Global,
+    reads: &[SourceRead],
+    names: &Names,
+    found: &Found,
+    reporter: P,
+) -> Result<P, OutOfMemory>
+    requires fit { ReadsFit reads.now }
+    requires read { (files : List FileOf) × AreReads reads.now files }
+    requires found { (infer : Infer) × ((files : List FileOf) → AreReads reads.now files
+        → IsFinding infer files names.now found.now) }
+    requires whole { AreWhole found.now.report reads.now }
+    ensures rows { IfOk result (λ shower. (infer : Infer) (files : List FileOf)
+        → AreReads reads.now files → IsFinding infer files names.now found.now
+        → IsGiven (P.notes reporter) (P.rows reporter) infer reads.now files found.now.report
+        (P.rows shower)) }
+    ensures verdict { IfOk result
+        (λ shower. P.given shower ≡ Some (verdict_of found.now.report)) }
+    ensures shown { IfOk result (λ shower. P.shown shower ≡ P.shown reporter) }
+{
+    match left_for(reporter.shows_notes(), found) {
+        None => show(alloc, reads, &found.report, reporter),
+        Some(left) => {
+            let rows = found.report.rows();
+            let notes = notes_of(alloc, names, &left.0, &left.1, rows)?;
+            show_with(alloc, reads, &found.report, &notes, reporter)
+        }
+    }
+}
+
+/// Hands the report of files that were read to a reporter, with these notes of its rows.
+fn show_with<P: Reporter>(
+    alloc: Global,
+    reads: &[SourceRead],
+    report: &Report,
+    notes: &[Notes],
+    reporter: P,
+) -> Result<P, OutOfMemory>
+    requires fit { ReadsFit reads.now }
+    ensures rows { IfOk result (λ shower. P.rows shower
+        ≡ P.rows reporter
+        ++ rows_with (files_of_reads reads.now) (map (placed (files_of_reads reads.now)) notes.now)
+        (rows_of report.now)) }
+    ensures verdict { IfOk result (λ shower. P.given shower ≡ Some (verdict_of report.now)) }
+    ensures shown { IfOk result (λ shower. P.shown shower ≡ P.shown reporter) }
+{
+    let files = marked(alloc, reads)?;
+    let placed = PlacedNotes::new(&files, notes);
+    show_noted(alloc, reads, report, &placed, reporter)
+}
+
+/// The program of which the rows' notes are shown: that of files that break a rule, where notes are shown.
+fn left_for<'a>(shows_notes: bool, found: &'a Found) -> Option<&'a (BaseTyped, Sig)>
+    ensures { MatchOption result (shows_notes ≡ true → found.now.rejected ≡ None)
+        (λ left. (shows_notes ≡ true) × (found.now.rejected ≡ Some left.now)) }
+{
+    if shows_notes {
+        found.rejected.as_ref()
+    } else {
+        None
+    }
+}
+
+/// The notes of rows of the rules, under the least signature.
+fn notes_of(
+    alloc: Global,
+    names: &Names,
+    base: &BaseTyped,
+    sig: &Sig,
+    rows: &[Row],
+) -> Result<Vec<Notes>, OutOfMemory>
+    requires { IsLeastSignature base.now sig.now }
+    ensures { IfOk result
+        (λ notes. AreNotesOf base.now names.now sig.now rows.now notes.items) }
+{
+    regular_programs_are_inferable();
+    notes_of_rows(alloc, base.indexed(), names, sig, rows)
+}
+
 /// The output of a report of files that were read: these bytes, and then the report.
 pub(crate) fn report_output<P: Reporter>(
     alloc: Global,
     reads: &[SourceRead],
-    report: &Report,
+    names: &Names,
+    found: &Found,
     front: &[u8],
     reporter: P,
 ) -> Result<Output, OutOfMemory>
     requires fit { ReadsFit reads.now }
-    requires stand { StandIn reads.now (rows_of report.now) }
-    ensures status { IfOk result (λ o. o.status ≡ status_of report.now) }
-    ensures bytes { IfOk result (λ o. (infer : Infer) (files : List FileOf) → AreReads reads.now files
+    requires read { (files : List FileOf) × AreReads reads.now files }
+    requires stand { StandIn reads.now (rows_of found.now.report) }
+    requires found { (infer : Infer) × ((files : List FileOf) → AreReads reads.now files
+        → IsFinding infer files names.now found.now) }
+    requires whole { AreWhole found.now.report reads.now }
+    ensures status { IfOk result (λ o. o.status ≡ status_of found.now.report) }
+    ensures bytes { IfOk result (λ o. (infer : Infer) (files : List FileOf)
+        → AreReads reads.now files → IsFinding infer files names.now found.now
         → ShowsReport (P.notes reporter) (shown_behind (P.rows reporter) (P.shown reporter)) infer
-        files report.now front.now o.bytes) }
+        files found.now.report front.now o.bytes) }
 {
-    let shower = show(alloc, reads, report, reporter)?;
+    let shower = show_found(alloc, reads, names, found, reporter)?;
     Ok(Output {
-        status: report.status(),
+        status: found.report.status(),
         bytes: joined(alloc, front, shower.bytes())?,
     })
 }

@@ -1,4 +1,4 @@
-use Rattle.std.proofs.Common.{subst}
+use Rattle.std.proofs.Common.{[], subst}
 use Rattle.std.proofs.lemmas.Result.{IfOk-weaker}
 use Rattle.jn_command.specs.Asked.{asked}
 use Rattle.jn_command.specs.Reporters.{shown_behind}
@@ -17,7 +17,7 @@ returns-in-Some-clause-answer g c files are =
     let of_files = subst (IsAtHand c.args.command.now.infer files names c.args.checked.now.found.report) c.in-Some.ensures.1 finding.accepted in
     let old = g.K.Sink.written c.args.out.now in
     let new = g.K.Sink.written c.run_files.new.out in
-    let ran = subst (λ fs. RunAnswers fs accepted.0 names c.as_slice.result.now c.args.command.now.steps old new c.run_files.result) (c.requires.whole of_files.0 files are) c.run_files.ensures.answer in
+    let ran = subst (λ fs. RunAnswers fs accepted.0 names c.as_slice.result.now c.args.command.now.steps old new c.run_files.result) (c.requires.whole [] of_files.0 files are) c.run_files.ensures.answer in
     let told = subst (λ words. RunAnswers files accepted.0 names words c.args.command.now.steps old new c.run_files.result) c.as_slice.ensures ran in
     run_answers (asked c.args.command.now (g.P.Reporter.document c.args.reporter) (g.P.Reporter.notes c.args.reporter) (shown_behind (g.P.Reporter.rows c.args.reporter) (g.P.Reporter.shown c.args.reporter))) files names accepted.0 c.in-Some.ensures.0 (subst (IsReport c.args.command.now.infer files) of_files.0 finding.report) (c.requires.safe of_files.0 files are) of_files.1 old new c.run_files.result told
 
@@ -26,9 +26,12 @@ returns-in-None-clause-answer g c files are =
     let a = asked c.args.command.now (g.P.Reporter.document c.args.reporter) (g.P.Reporter.notes c.args.reporter) (shown_behind (g.P.Reporter.rows c.args.reporter) (g.P.Reporter.shown c.args.reporter)) in
     let report = c.args.checked.now.found.report in
     let finding = c.requires.found files are in
-    let made = shown_made IsReport AreNotes IsSafe RunsTo Prints a files c.args.reads.now report c.args.front.now c.report_output.result are c.requires.front finding.report (λ none. c.requires.safe none files are) (λ run. subst (IsAtHand c.args.command.now.infer files c.args.checked.now.names report) (c.in-None.ensures run) finding.accepted) c.report_output.ensures.status (IfOk-weaker c.report_output.result _ _ (λ o h. h c.args.command.now.infer) c.report_output.ensures.bytes) in
+    let made = shown_made IsReport AreNotes IsSafe RunsTo Prints a files c.args.reads.now report c.args.front.now c.report_output.result are c.requires.front finding.report (λ none. c.requires.safe none files are) (λ run. subst (IsAtHand c.args.command.now.infer files c.args.checked.now.names report) (c.in-None.ensures run) finding.accepted) c.report_output.ensures.status (IfOk-weaker c.report_output.result _ _ (λ o h fs rs. h c.args.command.now.infer fs rs (c.requires.found fs rs)) c.report_output.ensures.bytes) in
     answers_files IsReport AreNotes IsSafe RunsTo Prints a files (g.K.Sink.written c.args.out.now) (g.K.Sink.written c.write.new.out) (g.K.Sink.faults c.args.out.now) (g.K.Sink.faults c.write.new.out) c.write.result c.report_output.result made c.write.ensures
 
 pub returns-in-None-clause-write : goal.returns-in-None-clause-write
 returns-in-None-clause-write g c e =
     no_fault (g.K.Sink.written c.args.out.now) (g.K.Sink.written c.write.new.out) (g.K.Sink.faults c.args.out.now) (g.K.Sink.faults c.write.new.out) c.write.result c.report_output.result (status_written c.args.checked.now.found.report c.report_output.result c.report_output.ensures.status) c.write.ensures e
+
+pub report_output-requires-clause-found : goal.report_output-requires-clause-found
+report_output-requires-clause-found g c = (c.args.command.now.infer, c.requires.found)

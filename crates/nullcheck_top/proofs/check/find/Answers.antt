@@ -45,4 +45,4 @@ pub returns-then-not-no_rows-2-clause-whole : goal.returns-then-not-no_rows-2-cl
 returns-then-not-no_rows-2-clause-whole g c = refused_whole c.args.reads.now c.in_ok-parsed.parsed.rows.items c.refused_texts-then-not-no_rows-2.result c.refused_texts-then-not-no_rows-2.ensures
 
 pub returns-clause-whole : goal.returns-clause-whole
-returns-clause-whole g c accepted = found_whole c.args.reads.now c.in_ok-limits.limits.items c.in_ok-limits.ensures (c.no_rows.ensures.none c.if-not-no_rows.false)
+returns-clause-whole g c rows is = found_whole c.args.reads.now c.in_ok-limits.limits.items c.in_ok-limits.ensures (c.no_rows.ensures.none c.if-not-no_rows.false)

@@ -1,0 +1,5 @@
+class WhyHere {
+  int size(WhyThere t) {
+    return t.text.length();
+  }
+}

@@ -1,0 +1,8 @@
+class WhyUnassigned {
+  private String held;
+  WhyUnassigned() {
+  }
+  int size() {
+    return this.held.length();
+  }
+}
