@@ -1,0 +1,209 @@
+//! The run of the one main by the meaning of its trees: its text, and a line of its end as `--run` writes it, but for `null`, with the
+//! place of the operand, `out`, where a unit of fuel isn't there, and `deep`, which comes at 256 frames.
+ghost use Rattle.std.specs.Prelude.{◌≡◌, ◌≤◌, [], length, map};
+ghost use Rattle.jn_classtable.specs.Extract.{heads};
+ghost use Rattle.jn_classtable.specs.Inferred.{tabled};
+ghost use Rattle.jn_classtable.specs.Rows.{t_rows};
+ghost use Rattle.jn_front.specs.Counted.{ReadsFit};
+ghost use Rattle.jn_places.specs.PlacedView.{placed_file};
+ghost use Rattle.jn_program.specs.Lowered.{IsProgram};
+ghost use Rattle.jn_tree_run.specs.Beginning.{HasTrees};
+
+use crate::held::held_files;
+use jn_accept::mains::only_main;
+use jn_base::{Span, place_of};
+use jn_basecheck::base_check;
+use jn_classtable::{ClassTable, build};
+use jn_cli::{Command, read_words};
+use jn_front::{ParsedFiles, SourceRead, parse_files, read_all};
+use jn_gate::Straight;
+use jn_index::indexed::IndexedProgram;
+use jn_outside::{MemFiles, MemSink};
+use jn_program::lowering::lower;
+use jn_tree_run::{FaultKind, TreeEnd, tree_run};
+use jn_typed::BaseTyped;
+use std::alloc::{AllocError, Global};
+use std::io;
+use std::thread::Threads;
+
+/// The most files.
+const FILES: usize = 64;
+
+/// The bytes for which the sink of a run has room.
+const ROOM: u32 = 100_000;
+
+/// The most bytes that one write takes.
+const MOST: u32 = 1000;
+
+/// The class of an exception, by its simple name (java.lang).
+fn class_name(kind: FaultKind) -> &'static str {
+    match kind {
+        FaultKind::Arithmetic => "ArithmeticException",
+        FaultKind::Index => "ArrayIndexOutOfBoundsException",
+        FaultKind::NegativeSize => "NegativeArraySizeException",
+        FaultKind::ClassCast => "ClassCastException",
+        FaultKind::ArrayStore => "ArrayStoreException",
+    }
+}
+
+/// FILE:LINE:COL of a span's first byte.
+fn place_text(alloc: Global, reads: &[SourceRead], span: Span) -> Result<String, AllocError> {
+    let Some(read) = reads.get(span.file.0 as usize) else {
+        return "nowhere".to_string(alloc);
+    };
+    let text = read.file.bytes.as_slice();
+    if span.from as usize > text.len() || span.from == u32::MAX {
+        return "nowhere".to_string(alloc);
+    }
+    let place = place_of(text, &span);
+    format!(in alloc; "{}:{}:{}", read.file.name.as_str(), place.line, place.col)
+}
+
+/// The line of an end.
+fn end_line(alloc: Global, reads: &[SourceRead], end: TreeEnd) -> Result<String, AllocError> {
+    match end {
+        TreeEnd::Done => "done".to_string(alloc),
+        TreeEnd::Fault(kind, span) => {
+            let place = place_text(alloc, reads, span)?;
+            format!(in alloc; "fault {} {place}", class_name(kind))
+        }
+        TreeEnd::Long => "long".to_string(alloc),
+        TreeEnd::Null(span) => {
+            let place = place_text(alloc, reads, span)?;
+            format!(in alloc; "null {place}")
+        }
+        TreeEnd::Out => "out".to_string(alloc),
+        TreeEnd::Deep => "deep".to_string(alloc),
+        TreeEnd::WriteFault => "write fault".to_string(alloc),
+        TreeEnd::OutOfMemory => "no memory".to_string(alloc),
+    }
+}
+
+/// What the one main of a base-typed program prints, and the line of its end.
+fn run_typed(
+    alloc: Global,
+    command: &Command,
+    reads: &[SourceRead],
+    parsed: &ParsedFiles,
+    base: &BaseTyped,
+    fuel: u64,
+) -> Result<String, AllocError>
+    requires program { HasTrees (map placed_file parsed.now.trees.items) base.now }
+{
+    let Some(main) = only_main(base.program()) else {
+        return "no single main\n".to_string(alloc);
+    };
+    let Ok(mut sink) = MemSink::new(alloc, Vec::new(alloc), MOST, ROOM) else {
+        return Err(AllocError);
+    };
+    let end = tree_run(
+        alloc,
+        base,
+        &parsed.trees,
+        &parsed.names,
+        main,
+        command.args.as_slice(),
+        fuel,
+        &mut sink,
+    );
+    let line = end_line(alloc, reads, end)?;
+    let text = String::from_utf8_lossy(alloc, sink.bytes())?;
+    format!(in alloc; "{text}{line}\n")
+}
+
+/// The same of a program of trees.
+fn run_program<R: Threads + Sync>(
+    rt: &R,
+    alloc: Global,
+    command: &Command,
+    reads: &[SourceRead],
+    parsed: &ParsedFiles,
+    program: IndexedProgram,
+    fuel: u64,
+) -> Result<String, AllocError>
+    requires declared { t_rows (heads (map placed_file parsed.now.trees.items)) ≡ [] }
+    requires program { IsProgram command.now.infer (map placed_file parsed.now.trees.items) program }
+{
+    match base_check(rt, alloc, program, 1) {
+        Err(_) => "not base-typed\n".to_string(alloc),
+        Ok(base) => {
+            let shown = run_typed(alloc, command, reads, parsed, &base, fuel);
+            drop(base);
+            shown
+        }
+    }
+}
+
+/// The same of trees whose classes and members have no row.
+fn run_table<R: Threads + Sync>(
+    rt: &R,
+    alloc: Global,
+    command: &Command,
+    reads: &[SourceRead],
+    parsed: &ParsedFiles,
+    table: ClassTable,
+    fuel: u64,
+) -> Result<String, AllocError>
+    requires declared { t_rows (heads (map placed_file parsed.now.trees.items)) ≡ [] }
+    requires table { table ≡ tabled command.now.infer (map placed_file parsed.now.trees.items) }
+{
+    match lower(rt, alloc, table, &parsed.trees, 1) {
+        Err(_) => "not lowered\n".to_string(alloc),
+        Ok(program) => run_program(rt, alloc, command, reads, parsed, program, fuel),
+    }
+}
+
+/// The same of files that were read.
+fn run_reads<R: Threads + Sync>(
+    rt: &R,
+    alloc: Global,
+    command: &Command,
+    reads: &[SourceRead],
+    fuel: u64,
+) -> Result<String, AllocError>
+    requires few { length reads.now ≤ 64 }
+    requires fit { ReadsFit reads.now }
+{
+    let Ok(parsed) = parse_files(rt, alloc, reads, 1, &Straight) else {
+        return Err(AllocError);
+    };
+    if !parsed.rows.is_empty() {
+        return "no trees\n".to_string(alloc);
+    }
+    match build(alloc, &parsed.trees, command.infer) {
+        Err(_) => "no table\n".to_string(alloc),
+        Ok(table) => run_table(rt, alloc, command, reads, &parsed, table, fuel),
+    }
+}
+
+/// The names of the files of a command.
+fn file_names(alloc: Global, command: &Command) -> Result<Vec<String>, AllocError> {
+    let mut names = Vec::new(alloc);
+    for name in command.files.as_slice() {
+        names.push(name.as_str().to_string(alloc)?)?;
+    }
+    Ok(names)
+}
+
+/// What the one main of the files that the words name prints by its trees, with so many units of fuel, and the line of its end.
+pub fn trees_text<R: Threads + Sync>(
+    rt: &HostRuntime,
+    threads: &R,
+    words: &[String],
+    fuel: u64,
+) -> io::Result<String> {
+    let alloc = rt.alloc();
+    let Ok(command) = read_words(alloc, words) else {
+        return Ok("no command\n".to_string(alloc)?);
+    };
+    let names = file_names(alloc, &command)?;
+    let held = held_files(rt, &names, 0, u32::MAX)?;
+    let mut files = MemFiles::new(alloc, held, Vec::new(alloc));
+    let Ok(reads) = read_all(alloc, &mut files, &names) else {
+        return Ok("not read\n".to_string(alloc)?);
+    };
+    if reads.len() > FILES {
+        return Ok("too many files\n".to_string(alloc)?);
+    }
+    Ok(run_reads(threads, alloc, &command, &reads, fuel)?)
+}
