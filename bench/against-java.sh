@@ -4,10 +4,13 @@
 # the six annotations made as stubs; each main of accepted or rejected ones is run, without words and with two; and
 # what a case with `--run` answers is held against Java's run of the same main with the same words. It isn't part of
 # the gate. A file is compiled under the name of its public type, which needn't be its own.
-# Usage: bench/against-java.sh [SECONDS [PROGRAM]]
+# Usage: bench/against-java.sh [SECONDS [PROGRAM [ANNOTATOR]]]
 #   SECONDS  how many seconds of a processor one run may take before it is stopped (5)
 #   PROGRAM  a built nullcheck, which then answers in place of what is stored: for the cases with `--run`, for runs of
 #            all accepted cases that have one main, without words and with two, and for the files of examples/
+#   ANNOTATOR  a built nullcheck_annotate: each file of the cases and examples that the compiler takes alone, with the annotations
+#            in their own packages only, is written anew by `--imports --write`, by both choices of what is inferred, and the compiler
+#            has to take it then, too
 # A run answers as Java does where it printed the same text, and ended as Java's did: `done`, or by an exception of the
 # same class, whose line is that of the first place that Java tells (Java tells no column). Behind `steps`, `deep` and
 # `long` Java has to have printed the same text first. Files without a single main may have none in Java either: one
@@ -19,6 +22,7 @@
 set -eu
 seconds=${1:-5}
 program=${2:-}
+annotator=${3:-}
 root=$(cd "$(dirname "$(readlink -f "${BASH_SOURCE[0]}")")/.." && pwd)
 cases="$root/crates/nullcheck_cases"
 
@@ -52,5 +56,10 @@ if [ -n "$program" ]; then
     echo "-- $answer"
   done >"$scratch/answers"
   compare examples "$root/examples" "$scratch/answers" || status=1
+fi
+if [ -n "$annotator" ]; then
+  mkdir "$scratch/annotated"
+  java -Dfile.encoding=UTF-8 -cp "$scratch/driver" Annotated "$scratch/annotated" "$(readlink -f "$annotator")" \
+    "$cases/data" "$root/crates/nullcheck_annotate_cases/data" "$root/examples" || status=1
 fi
 exit "$status"

@@ -7,15 +7,16 @@ Usage: bench/annotated.py ANNOTATOR CHECKER
   CHECKER    a built nullcheck: crates/nullcheck/out/nullcheck
   DIVISOR    divides the sizes of bench/whole.sh's shapes (1)
 
-Each file is taken alone, under both choices of members that are inferred. Where it has annotated texts, its diff is applied by
-`git apply` to one copy and `--write` writes another: both have the same bytes; the checker ends with the same status on it as on the
-file, with rows of the same codes at the same lines and at the same tokens; and nothing would change a second time. Files that are
-refused stay refused. Prints each file that does otherwise, and how many did what; ends with 1 where one did otherwise.
+Each file is taken alone, under both choices of members that are inferred, without `--imports` and with. Where it has annotated texts,
+its diff is applied by `git apply` to one copy and `--write` writes another: both have the same bytes; the checker ends with the same
+status on it as on the file, with rows of the same codes at the same tokens, and at the same lines but for those that were added before;
+and nothing would change a second time. Files that are refused stay refused. Prints each file that does otherwise, and how many did what; ends with 1 where one did otherwise.
 
 Times: for each shape a check with four workers and its annotating, the best of three, and their ratio, at the whole size and at half.
 """
 
 import collections
+import itertools
 import pathlib
 import re
 import shutil
@@ -33,8 +34,8 @@ def run(words, folder):
     return subprocess.run(words, cwd=folder, stdin=subprocess.DEVNULL, stdout=subprocess.PIPE, stderr=subprocess.PIPE, check=False)
 
 
-def rows(text, report):
-    """Code, line and token of each row of a report."""
+def rows(text, report, added=0):
+    """Code, line and token of each row of a report; behind lines that were added, by the lines of before."""
     lines = re.split(rb"\r\n|\r|\n", text)
     found = []
     for line in report.split(b"\n"):
@@ -43,16 +44,17 @@ def rows(text, report):
             number, column = int(row.group(2)), int(row.group(3))
             shown = lines[number - 1].decode("utf-8", "replace") if number <= len(lines) else ""
             token = TOKEN.match(shown[column - 1:].encode("utf-8", "replace"))
-            found.append((row.group(4), number, token.group(0) if token else b""))
+            found.append((row.group(4), number - added, token.group(0) if token else b""))
     return found
 
 
-def differs(annotator, checker, folder, name, infer):
+def differs(annotator, checker, folder, name, infer, imports):
     """What the annotating of a file did, and what is wrong with it."""
     choice = ["--infer", infer]
+    annotating = [annotator, *choice, *imports]
     old = pathlib.Path(folder, name).read_bytes()
     before = run([checker, *choice, name], folder)
-    shown = run([annotator, *choice, name], folder)
+    shown = run([*annotating, name], folder)
     if shown.returncode == 2:
         return "refused", None if before.returncode == 2 and before.stdout == shown.stdout else "refused by one alone"
     if shown.returncode == 1:
@@ -67,13 +69,14 @@ def differs(annotator, checker, folder, name, infer):
                 return "annotated", f"git apply: {patch.stderr[:200]!r}"
         applied = pathlib.Path(other, name).read_bytes()
         pathlib.Path(other, name).write_bytes(old)
-        wrote = run([annotator, *choice, "--write", name], other)
+        wrote = run([*annotating, "--write", name], other)
         new = pathlib.Path(other, name).read_bytes()
         if wrote.returncode != 0 or new != applied:
             return "annotated", "--write and the diff differ"
         after = run([checker, *choice, name], other)
-        again = run([annotator, *choice, "--check", name], other)
-    if after.returncode != before.returncode or rows(old, before.stdout) != rows(new, after.stdout):
+        again = run([*annotating, "--check", name], other)
+    added = len(re.findall(rb"\r\n|\r|\n", new)) - len(re.findall(rb"\r\n|\r|\n", old))
+    if after.returncode != before.returncode or rows(old, before.stdout) != rows(new, after.stdout, added):
         return "annotated", f"rows differ: {before.stdout[:200]!r} {after.stdout[:200]!r}"
     if again.returncode != 0:
         return "annotated", "something would change again"
@@ -86,12 +89,12 @@ def try_all(annotator, checker):
     with tempfile.TemporaryDirectory() as folder:
         for path in sorted((ROOT / "crates/nullcheck_cases/data").glob("*.java")) + sorted((ROOT / "examples").glob("*.java")):
             shutil.copy(path, folder)
-            for infer in ("private", "package"):
-                what, fault = differs(annotator, checker, folder, path.name, infer)
+            for infer, imports in itertools.product(("private", "package"), ([], ["--imports"])):
+                what, fault = differs(annotator, checker, folder, path.name, infer, imports)
                 did[what] += 1
                 if fault:
                     wrong += 1
-                    print(f"{path.name}, {infer}: {fault}")
+                    print(f"{path.name}, {' '.join([infer, *imports])}: {fault}")
     print(", ".join(f"{count} {what}" for what, count in sorted(did.items())) + f"; {wrong} otherwise")
     return 1 if wrong or not did["annotated"] else 0
 

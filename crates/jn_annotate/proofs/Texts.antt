@@ -1,5 +1,5 @@
 -- The texts of files, one after the other, and what is refused.
-use Rattle.std.proofs.Common.{◌≡◌, ℕ, ◌+◌, ◌<◌, ◌≤◌, List, [], ◌∷◌, ◌++◌, length, Some, sym, ap, ◌∙◌, subst, arith, append_assoc}
+use Rattle.std.proofs.Common.{◌≡◌, ℕ, Bool, ◌<◌, ◌≤◌, List, [], ◌∷◌, ◌++◌, length, Some, sym, ap, ◌∙◌, subst, arith, append_assoc}
 use Rattle.std.specs.Prelude.{drop}
 use Rattle.jn_base.specs.declared.refusal.Fail.{Fail}
 use Rattle.jn_base.specs.declared.refusal.Fail.TheVariants.{Refused, OutOfMemory}
@@ -22,23 +22,23 @@ use Rattle.jn_annotate.proofs.Sharing.{first_is, none_is}
 pub next_text : (done new left : List (List ℕ)) (text : List ℕ) (whole : List (List ℕ)) → new ≡ done ++ text ∷ [] → done ++ (text ∷ left) ≡ whole → new ++ left ≡ whole
 next_text done new left text whole h k = ap (λ x. x ++ left) h ∙ append_assoc done (text ∷ []) left ∙ k
 
-module _ (slots : List SlotInfo) (s : List Qualifier) where
+module _ (imports : Bool) (slots : List SlotInfo) (s : List Qualifier) where
   -- there are no more texts than there were
-  long : (texts : List (List ℕ)) (tss : List (List Token)) (trees : List SourceTree) (fs : List Field) (ms : List Method) → length (annotated_from slots s texts tss trees fs ms) ≤ length texts
+  long : (texts : List (List ℕ)) (tss : List (List Token)) (trees : List SourceTree) (fs : List Field) (ms : List Method) → length (annotated_from imports slots s texts tss trees fs ms) ≤ length texts
   long [] tss trees fs ms = omega arith
   long (text ∷ texts) [] trees fs ms = omega arith
   long (text ∷ texts) (ts ∷ tss) [] fs ms = omega arith
   long (text ∷ texts) (ts ∷ tss) (f ∷ trees) fs ms = let l = long texts tss trees (drop (file_fields f.types) fs) (drop (file_methods f.types) ms) in omega (arith, l)
 
-pub few_texts : (slots : List SlotInfo) (s : List Qualifier) (texts : List (List ℕ)) (tss : List (List Token)) (trees : List SourceTree) (fs : List Field) (ms : List Method) (new : List (List ℕ)) (n : ℕ) → new ≡ annotated_from slots s texts tss trees fs ms → length texts < n → length new < n
-few_texts slots s texts tss trees fs ms new n e l = let a = long slots s texts tss trees fs ms in let b : length new ≡ length (annotated_from slots s texts tss trees fs ms) = ap length e in omega (arith, a, b, l)
+pub few_texts : (imports : Bool) (slots : List SlotInfo) (s : List Qualifier) (texts : List (List ℕ)) (tss : List (List Token)) (trees : List SourceTree) (fs : List Field) (ms : List Method) (new : List (List ℕ)) (n : ℕ) → new ≡ annotated_from imports slots s texts tss trees fs ms → length texts < n → length new < n
+few_texts imports slots s texts tss trees fs ms new n e l = let a = long imports slots s texts tss trees fs ms in let b : length new ≡ length (annotated_from imports slots s texts tss trees fs ms) = ap length e in omega (arith, a, b, l)
 
-module _ (P : Program) (s : List Qualifier) (texts : List (List ℕ)) (tss : List (List Token)) (trees : List SourceTree) (spelled : HasNone (has_no_spelling P s)) where
+module _ (imports : Bool) (P : Program) (s : List Qualifier) (texts : List (List ℕ)) (tss : List (List Token)) (trees : List SourceTree) (spelled : HasNone (has_no_spelling P s)) where
   pub is_shared : (n : ℕ) → IsLeast (Some n) (shared_slots P s trees P.fields) → IsSharedType P s trees n
   is_shared n h = (spelled, first_is P s trees n h)
 
-  module _ (alone : shared_slots P s trees P.fields ≡ []) (made : List (List ℕ)) (is : made ≡ annotated_from P.slots s texts tss trees P.fields (drop 1 P.methods)) where
-    pub is_annotated : (new : List (List ℕ)) → new ≡ made → HasNone (is_too_large made) → Annotated P s texts tss trees new
+  module _ (alone : shared_slots P s trees P.fields ≡ []) (made : List (List ℕ)) (is : made ≡ annotated_from imports P.slots s texts tss trees P.fields (drop 1 P.methods)) where
+    pub is_annotated : (new : List (List ℕ)) → new ≡ made → HasNone (is_too_large made) → Annotated imports P s texts tss trees new
     is_annotated new e h = record {
       spelled = spelled;
       alone = none_is P s trees alone;
@@ -46,7 +46,7 @@ module _ (P : Program) (s : List Qualifier) (texts : List (List ℕ)) (tss : Lis
       small = subst (λ x. HasNone (is_too_large x)) (sym e) h;
     }
 
-    pub is_large : (fail : Fail AnnotateFault) → IsLargeOf made fail → IsWhyRefused P s texts tss trees fail
+    pub is_large : (fail : Fail AnnotateFault) → IsLargeOf made fail → IsWhyRefused imports P s texts tss trees fail
     is_large (Refused (TooLarge k)) h = (spelled, none_is P s trees alone, subst (λ x. IsFirst (is_too_large x) k.0) is h)
     is_large (Refused (NoSpelling n)) h = absurd h
     is_large (Refused (SharedType n)) h = absurd h

@@ -14,19 +14,21 @@ use Rattle.jn_trees.specs.declared.token.Token.{Token}
 use Rattle.jn_trees.specs.Trees.{MemberTree, FieldMember, TypeDeclaration, ClassType, InterfaceType, SourceTree}
 use Rattle.jn_annotate.specs.Words.{is_unspelled}
 use Rattle.jn_splice_law.specs.Inserted.{inserted}
+use Rattle.jn_annotate.specs.Imports.{with_lines}
 use Rattle.jn_annotate.specs.Insertions.{fields_in, type_fields, file_fields, file_methods, first_slot, in_file}
 
-module _ (slots : List SlotInfo) (s : List Qualifier) where
+-- `imports` is whether the annotations that a file gets are imported, too
+module _ (imports : Bool) (slots : List SlotInfo) (s : List Qualifier) where
   -- of files whose types declare these fields and methods, one after the other
   abbrev pub annotated_from : List (List ℕ) → List (List Token) → List SourceTree → List Field → List Method → List (List ℕ)
   annotated_from [] tss trees fs ms = []
   annotated_from (text ∷ texts) [] trees fs ms = []
   annotated_from (text ∷ texts) (ts ∷ tss) [] fs ms = []
-  annotated_from (text ∷ texts) (ts ∷ tss) (f ∷ trees) fs ms = inserted text (in_file slots s text ts f fs ms) ∷ annotated_from texts tss trees (drop (file_fields f.types) fs) (drop (file_methods f.types) ms)
+  annotated_from (text ∷ texts) (ts ∷ tss) (f ∷ trees) fs ms = inserted text (with_lines imports text ts f (in_file slots s text ts f fs ms)) ∷ annotated_from texts tss trees (drop (file_fields f.types) fs) (drop (file_methods f.types) ms)
 
 -- method 0 is Object's constructor, which no file declares
-abbrev pub annotated : Program → List Qualifier → List (List ℕ) → List (List Token) → List SourceTree → List (List ℕ)
-annotated P s texts tokens trees = annotated_from P.slots s texts tokens trees P.fields (drop 1 P.methods)
+abbrev pub annotated : Bool → Program → List Qualifier → List (List ℕ) → List (List Token) → List SourceTree → List (List ℕ)
+annotated imports P s texts tokens trees = annotated_from imports P.slots s texts tokens trees P.fields (drop 1 P.methods)
 
 -- Refusals
 
@@ -91,11 +93,11 @@ IsNoSpelling P s i = IsFirst (has_no_spelling P s) i
 abbrev pub IsSharedType : Program → List Qualifier → List SourceTree → ℕ → Type 0
 IsSharedType P s trees i = HasNone (has_no_spelling P s) × IsFirst (has_shared_type P s trees) i
 
-abbrev pub IsTooLarge : Program → List Qualifier → List (List ℕ) → List (List Token) → List SourceTree → ℕ → Type 0
-IsTooLarge P s texts tokens trees k = HasNone (has_no_spelling P s) × HasNone (has_shared_type P s trees) × IsFirst (is_too_large (annotated P s texts tokens trees)) k
+abbrev pub IsTooLarge : Bool → Program → List Qualifier → List (List ℕ) → List (List Token) → List SourceTree → ℕ → Type 0
+IsTooLarge imports P s texts tokens trees k = HasNone (has_no_spelling P s) × HasNone (has_shared_type P s trees) × IsFirst (is_too_large (annotated imports P s texts tokens trees)) k
 
-pub record Annotated (P : Program) (s : List Qualifier) (texts : List (List ℕ)) (tokens : List (List Token)) (trees : List SourceTree) (new : List (List ℕ)) : Type 0 where
+pub record Annotated (imports : Bool) (P : Program) (s : List Qualifier) (texts : List (List ℕ)) (tokens : List (List Token)) (trees : List SourceTree) (new : List (List ℕ)) : Type 0 where
   pub spelled : HasNone (has_no_spelling P s)
   pub alone : HasNone (has_shared_type P s trees)
-  pub are : new ≡ annotated P s texts tokens trees
+  pub are : new ≡ annotated imports P s texts tokens trees
   pub small : HasNone (is_too_large new)

@@ -1,5 +1,5 @@
 -- Why files have no annotated texts.
-use Rattle.std.specs.Prelude.{ℕ, List}
+use Rattle.std.specs.Prelude.{ℕ, Bool, List}
 use Rattle.jn_base.specs.declared.refusal.Fail.{Fail}
 use Rattle.jn_base.specs.declared.refusal.Fail.TheVariants.{Refused, OutOfMemory}
 use Rattle.jn_quals.specs.Qualifier.{Qualifier}
@@ -10,11 +10,11 @@ use Rattle.jn_annotate.specs.declared.annotating.AnnotateFault.{AnnotateFault}
 use Rattle.jn_annotate.specs.declared.annotating.AnnotateFault.TheVariants.{NoSpelling, SharedType, TooLarge}
 use Rattle.jn_annotate.specs.Annotated.{IsNoSpelling, IsSharedType, IsTooLarge, IsFirst, is_too_large}
 
-module _ (P : Program) (s : List Qualifier) (texts : List (List ℕ)) (tokens : List (List Token)) (trees : List SourceTree) where
+module _ (imports : Bool) (P : Program) (s : List Qualifier) (texts : List (List ℕ)) (tokens : List (List Token)) (trees : List SourceTree) where
   abbrev pub IsFaultOf : AnnotateFault → Type 0
   IsFaultOf (NoSpelling slot) = IsNoSpelling P s slot.0
   IsFaultOf (SharedType slot) = IsSharedType P s trees slot.0
-  IsFaultOf (TooLarge file) = IsTooLarge P s texts tokens trees file.0
+  IsFaultOf (TooLarge file) = IsTooLarge imports P s texts tokens trees file.0
 
   -- want of memory tells nothing
   abbrev pub IsWhyRefused : Fail AnnotateFault → Type 0

@@ -1,5 +1,6 @@
 pub mod Words
 pub mod Insertions
+pub mod Imports
 pub mod Annotated
 pub mod Puts
 pub mod Shared

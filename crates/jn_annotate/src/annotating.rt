@@ -3,11 +3,13 @@ ghost use Rattle.std.specs.Prelude.{◌≡◌, ◌<◌, ◌^◌, drop, length, m
 ghost use Rattle.jn_trees.specs.View.{file_view};
 ghost use Rattle.jn_annotate.specs.Annotated.{annotated_from, Annotated, has_no_spelling, HasNone, is_too_large};
 ghost use Rattle.jn_annotate.specs.Answers.{IsLargeOf, IsWhyRefused};
+ghost use Rattle.jn_annotate.specs.Imports.{with_lines};
 ghost use Rattle.jn_annotate.specs.Insertions.{in_file};
 ghost use Rattle.jn_splice_law.specs.Inserted.{inserted};
 
 use crate::files::{fields_behind_types, file_puts, methods_behind_types};
 use crate::insert::insert;
+use crate::lines;
 use crate::members::next_methods;
 use crate::refusals::{first_too_large, first_unspelled};
 use crate::shared::first_shared;
@@ -29,9 +31,10 @@ pub enum AnnotateFault {
     TooLarge(FileNo),
 }
 
-/// A file's text with the words of its inferred slots.
+/// A file's text with the words of its inferred slots, and with the lines that import them, where these are asked for.
 fn annotated_text(
     alloc: Global,
+    imports: bool,
     program: &Program,
     sig: &Sig,
     text: &[u8],
@@ -42,10 +45,12 @@ fn annotated_text(
 ) -> Result<Seq<u8>, OutOfMemory>
     ensures { IfOk result (λ new. new
         ≡ inserted text.now
+        (with_lines imports text.now tokens.now (file_view tree.now)
         (in_file program.now.slots sig.now text.now tokens.now (file_view tree.now) fields.now
-        methods.now)) }
+        methods.now))) }
 {
     let puts = file_puts(alloc, program, sig, text, tokens, tree, fields, methods)?;
+    let puts = lines::with_lines(alloc, imports, text, tokens, tree, puts)?;
     Ok(Seq::of_vec(insert(alloc, text, &puts)?))
 }
 
@@ -53,6 +58,7 @@ fn annotated_text(
 #[tactic(auto, using(crate::proofs::Texts::next_text))]
 fn annotated_texts(
     alloc: Global,
+    imports: bool,
     texts: &[Seq<u8>],
     tokens: &[Seq<Token>],
     trees: &[FileTree],
@@ -61,7 +67,7 @@ fn annotated_texts(
     methods: &[Method],
 ) -> Result<Vec<Seq<u8>>, OutOfMemory>
     ensures { IfOk result (λ new. new.items
-        ≡ annotated_from program.now.slots sig.now texts.now tokens.now (map file_view trees.now)
+        ≡ annotated_from imports program.now.slots sig.now texts.now tokens.now (map file_view trees.now)
         program.now.fields methods.now) }
 {
     let mut new = Vec::new(alloc);
@@ -77,6 +83,7 @@ fn annotated_texts(
                 [tree, others @ ..] => {
                     let made = annotated_text(
                         alloc,
+                        imports,
                         program,
                         sig,
                         text.as_slice(),
@@ -117,6 +124,7 @@ fn sized(texts: Vec<Seq<u8>>) -> Result<Vec<Seq<u8>>, Fail<AnnotateFault>>
 #[tactic(auto, using(crate::proofs::Texts::is_annotated, crate::proofs::Texts::is_large))]
 fn annotate_spelled(
     alloc: Global,
+    imports: bool,
     texts: &[Seq<u8>],
     tokens: &[Seq<Token>],
     trees: &[FileTree],
@@ -125,9 +133,11 @@ fn annotate_spelled(
 ) -> Result<Vec<Seq<u8>>, Fail<AnnotateFault>>
     requires spelled { HasNone (has_no_spelling program.now sig.now) }
     requires files { length texts.now < 2 ^ 32 }
-    ensures annotated { IfOk result (λ new. Annotated program.now sig.now texts.now tokens.now
+    ensures annotated { IfOk result (λ new. Annotated imports program.now sig.now texts.now
+        tokens.now
         (map file_view trees.now) new.items) }
-    ensures refused { IfErr result (λ fail. IsWhyRefused program.now sig.now texts.now tokens.now
+    ensures refused { IfErr result (λ fail. IsWhyRefused imports program.now sig.now texts.now
+        tokens.now
         (map file_view trees.now) fail) }
 {
     match first_shared(alloc, program, sig, trees) {
@@ -135,7 +145,7 @@ fn annotate_spelled(
         Ok(Some(slot)) => Err(Fail::Refused(AnnotateFault::SharedType(SlotNo(slot)))),
         Ok(None) => {
             let methods = next_methods(program.methods.as_slice());
-            match annotated_texts(alloc, texts, tokens, trees, program, sig, methods) {
+            match annotated_texts(alloc, imports, texts, tokens, trees, program, sig, methods) {
                 Err(_) => Err(Fail::OutOfMemory),
                 Ok(new) => sized(new),
             }
@@ -145,7 +155,8 @@ fn annotate_spelled(
 
 /// The texts of files with the words of what was inferred of them: for each inferred slot what says its qualifier, before its type, or as a receiver
 /// (Checker Framework manual, 3.2 and 3.8). The program and its signature are those of the trees, by either choice of what is inferred, and
-/// the tokens are those of the texts.
+/// the tokens are those of the texts. Where imports are asked for, a file that gets a word which it doesn't import gets a line that imports
+/// all annotations of the word's package.
 ///
 /// # Errors
 ///
@@ -153,6 +164,7 @@ fn annotate_spelled(
 /// first field of its declaration; the first file whose new text is larger than 1 MiB; want of memory.
 pub fn annotate(
     alloc: Global,
+    imports: bool,
     texts: &[Seq<u8>],
     tokens: &[Seq<Token>],
     trees: &[FileTree],
@@ -161,13 +173,15 @@ pub fn annotate(
 ) -> Result<Vec<Seq<u8>>, Fail<AnnotateFault>>
     requires slots { length sig.now ≡ length program.now.slots }
     requires files { length texts.now < 2 ^ 32 }
-    ensures annotated { IfOk result (λ new. Annotated program.now sig.now texts.now tokens.now
+    ensures annotated { IfOk result (λ new. Annotated imports program.now sig.now texts.now
+        tokens.now
         (map file_view trees.now) new.items) }
-    ensures refused { IfErr result (λ fail. IsWhyRefused program.now sig.now texts.now tokens.now
+    ensures refused { IfErr result (λ fail. IsWhyRefused imports program.now sig.now texts.now
+        tokens.now
         (map file_view trees.now) fail) }
 {
     match first_unspelled(program, sig) {
         Some(slot) => Err(Fail::Refused(AnnotateFault::NoSpelling(SlotNo(slot)))),
-        None => annotate_spelled(alloc, texts, tokens, trees, program, sig),
+        None => annotate_spelled(alloc, imports, texts, tokens, trees, program, sig),
     }
 }

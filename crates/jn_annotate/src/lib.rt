@@ -3,7 +3,9 @@
 
 pub mod annotating;
 pub mod files;
+pub mod imports;
 pub mod insert;
+pub mod lines;
 pub mod members;
 pub mod parts;
 pub mod positions;

@@ -1,9 +1,9 @@
 //! Steps along a file's tokens: what stands behind the tokens of the parts of its tree.
-ghost use Rattle.std.specs.Prelude.{◌≡◌, drop, map, IfOk};
-ghost use Rattle.jn_trees.specs.Spelling.{spell_all_marks, spell_annotations, spell_brackets, spell_dots, spell_import, spell_imports, spell_mark, spell_marks, spell_member, spell_names, spell_package_line, spell_parent, spell_result, spell_star, spell_type, spell_type_use};
-ghost use Rattle.jn_trees.specs.View.{annotation_names, brackets_view, identifier_names, import_view, local_mark, local_marks, mark, marks, member_view, package_view, parameter_view, parent_view, receiver_view, result_view, type_use_view, type_view};
+ghost use Rattle.std.specs.Prelude.{◌≡◌, ◌∷◌, drop, map, IfOk};
+ghost use Rattle.jn_trees.specs.Spelling.{spell_all_marks, spell_annotations, spell_brackets, spell_dots, spell_dotted, spell_import, spell_imports, spell_mark, spell_marks, spell_member, spell_names, spell_package_line, spell_parent, spell_result, spell_star, spell_type, spell_type_use};
+ghost use Rattle.jn_trees.specs.View.{annotation_names, brackets_view, dotted_view, identifier_names, import_view, local_mark, local_marks, mark, marks, member_view, package_view, parameter_view, parent_view, receiver_view, result_view, type_use_view, type_view};
 ghost use Rattle.jn_places.specs.Places.{behind, front as spec_front, spell_local_mark, spell_parameter_through, spell_receiver};
-ghost use Rattle.jn_trees.specs.declared.token.TokenKind.TheVariants.{Extends, Implements};
+ghost use Rattle.jn_trees.specs.declared.token.TokenKind.TheVariants.{Extends, Implements, Package as PackageWord};
 
 use jn_base::{FileNo, OutOfMemory, Span};
 use jn_trees::{
@@ -195,6 +195,13 @@ pub fn behind_parent<'t>(tokens: &'t [Token], parent: &Option<Identifier>) -> &'
     }
 }
 
+/// The semicolon of the package line, and what stands behind it.
+pub fn semicolon<'t>(tokens: &'t [Token], line: &PackageLine) -> &'t [Token]
+    ensures { result.now ≡ behind tokens.now (PackageWord ∷ spell_dotted (dotted_view line.now.name)) }
+{
+    behind_dots(step(step(tokens)), &line.name.more)
+}
+
 /// What stands behind the package line.
 #[tactic(auto, using(crate::proofs::Cursors::behind_append))]
 pub fn behind_package<'t>(tokens: &'t [Token], line: &Option<PackageLine>) -> &'t [Token]
@@ -202,7 +209,7 @@ pub fn behind_package<'t>(tokens: &'t [Token], line: &Option<PackageLine>) -> &'
 {
     match line {
         None => tokens,
-        Some(line) => step(behind_dots(step(step(tokens)), &line.name.more)),
+        Some(line) => step(semicolon(tokens, line)),
     }
 }
 

@@ -20,7 +20,7 @@ abbrev pub bare_app : App
 bare_app = on_top (λ s. record s { no_binary_name = true; disable_help_flag = true }) (new_app (codes "nullcheck_annotate"))
 
 unfoldable pub annotate_app : App
-annotate_app = with_rule (with_rule (with_rule (with_rule bare_app (single (codes "infer"))) (flag (codes "check"))) (flag (codes "write"))) file_rule
+annotate_app = with_rule (with_rule (with_rule (with_rule (with_rule bare_app (single (codes "infer"))) (flag (codes "imports"))) (flag (codes "check"))) (flag (codes "write"))) file_rule
 
 -- the command takes the words
 abbrev pub takes_words : List (List ℕ) → Bool
@@ -29,6 +29,7 @@ takes_words words = no_fault (fault_of annotate_app words)
 abbrev pub options_in : List Row → Options
 options_in rows = record {
   infer = first_of (codes "infer") rows;
+  imports = is_on (first_of (codes "imports") rows);
   check = is_on (first_of (codes "check") rows);
   write = is_on (first_of (codes "write") rows);
   files = unwrap_or (all_of (codes "FILE") rows) [];
@@ -66,7 +67,7 @@ abbrev pub mode_of : Bool → Bool → Mode
 mode_of check write = cond check Check (cond write Write Show)
 
 unfoldable pub wanted_in : Options → Wanted
-wanted_in o = record { infer = infer_of o.infer; mode = mode_of o.check o.write; files = o.files }
+wanted_in o = record { infer = infer_of o.infer; imports = o.imports; mode = mode_of o.check o.write; files = o.files }
 
 abbrev pub wanted_if : Bool → Bool → Options → Option Wanted
 wanted_if false refused o = None

@@ -8,6 +8,7 @@ use jn_base::{Seq, Text};
 #[derive(Drop)]
 pub struct Options {
     pub infer: Option<Text>,
+    pub imports: bool,
     pub check: bool,
     pub write: bool,
     pub files: Seq<Text>,

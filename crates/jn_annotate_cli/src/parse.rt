@@ -53,6 +53,7 @@ pub fn command<'a>(alloc: Global) -> Result<Command<'a>, AllocError>
         .no_binary_name(true)
         .disable_help_flag(true);
     let command = command.arg(single(alloc, "infer"))?;
+    let command = command.arg(flag(alloc, "imports"))?;
     let command = command.arg(flag(alloc, "check"))?;
     let command = command.arg(flag(alloc, "write"))?;
     command.arg(file(alloc))
@@ -84,6 +85,7 @@ pub fn options_in(alloc: Global, matches: &ArgMatches) -> Result<Options, OutOfM
 {
     Ok(Options {
         infer: text_of(alloc, matches, "infer")?,
+        imports: is_on(matches, "imports"),
         check: is_on(matches, "check"),
         write: is_on(matches, "write"),
         files: texts_of(alloc, matches, "FILE")?,

@@ -25,6 +25,8 @@ pub enum Mode {
 pub struct Wanted {
     /// The members that are inferred where nothing is written; private ones where nothing is said.
     pub infer: Infer,
+    /// Whether annotations that a file gets are imported.
+    pub imports: bool,
     pub mode: Mode,
     /// 1 to 64.
     pub files: Seq<Text>,
@@ -63,6 +65,7 @@ fn wanted_from(options: Options) -> Wanted
 {
     Wanted {
         infer: infer_of(&options.infer),
+        imports: options.imports,
         mode: mode_of(options.check, options.write),
         files: options.files,
     }

@@ -11,17 +11,19 @@ use Rattle.jn_points.specs.declared.program.SlotInfo.{SlotInfo}
 use Rattle.jn_trees.specs.Pieces.{kinds}
 use Rattle.jn_trees.specs.declared.token.Token.{Token}
 use Rattle.jn_trees.specs.declared.token.TokenKind.{TokenKind}
-use Rattle.jn_trees.specs.declared.token.TokenKind.TheVariants.{Id, At, Final, Void, This, Comma, Semicolon, LeftParen, RightParen, LeftBrace, RightBrace, Class, Interface, Implements, Extends}
-use Rattle.jn_trees.specs.Trees.{TypeUseTree, LocalMark, AnnotationMark, FinalMark, Mark, NoteMark, ParameterTree, ReceiverTree, MemberTree, FieldMember, MethodMember, ConstructorMember, TypeDeclaration, ClassType, InterfaceType, SourceTree}
-use Rattle.jn_trees.specs.Spelling.{spell_annotations, spell_marks, spell_mark, spell_all_marks, spell_type_use, spell_declarator, spell_more_declarators, spell_parameter, spell_more_parameters, spell_parameters, spell_result, spell_method_head, spell_constructor_head, spell_method_body, spell_body, spell_field, spell_member, spell_members, spell_parent, spell_names, spell_type, spell_types, spell_package_line, spell_imports, spell_file}
+use Rattle.jn_trees.specs.declared.token.TokenKind.TheVariants.{Package as PackageWord, Id, At, Final, Void, This, Comma, Semicolon, LeftParen, RightParen, LeftBrace, RightBrace, Class, Interface, Implements, Extends}
+use Rattle.jn_trees.specs.Trees.{TypeUseTree, LocalMark, AnnotationMark, FinalMark, Mark, NoteMark, ParameterTree, ReceiverTree, MemberTree, FieldMember, MethodMember, ConstructorMember, TypeDeclaration, ClassType, InterfaceType, DottedName, ImportTree, SourceTree}
+use Rattle.jn_trees.specs.Spelling.{spell_annotations, spell_marks, spell_mark, spell_all_marks, spell_type_use, spell_declarator, spell_more_declarators, spell_parameter, spell_more_parameters, spell_parameters, spell_result, spell_method_head, spell_constructor_head, spell_method_body, spell_body, spell_field, spell_member, spell_members, spell_parent, spell_names, spell_type, spell_types, spell_dotted, spell_package, spell_package_line, spell_import, spell_imports, spell_file}
 use Rattle.jn_places.specs.Places.{behind, front, spell_receiver}
 use Rattle.jn_splice_law.specs.Inserted.{Insertion}
-use Rattle.jn_splice_law.specs.Woven.{piece, Receiver, Keep, Put, put, woven, IsTokenAmong}
+use Rattle.jn_splice_law.specs.Woven.{piece, Receiver, ImportLine, import_kinds, Keep, Put, put, woven, IsTokenAmong}
+use Rattle.jn_annotate.specs.declared.imports.Package.{Package}
+use Rattle.jn_annotate.specs.Imports.{import_line, import_of, line_end, put_line}
 use Rattle.jn_annotate.specs.Words.{nullity_text, initialization_text, both_texts, initialization_name}
 use Rattle.jn_annotate.specs.Insertions.{fields_in, methods_in, type_fields, type_methods, at_type, at_receiver, first_slot, inferred_qual, at_parameters, at_result, at_member, at_members, in_type, in_types, in_file}
-use Rattle.jn_annotate_law.specs.Trees.{nullity_names, both_names, names_of, leading, noted_use, noted_marks, noted_parameter, noted_receiver, noted_result, noted_result_marks, both_at, noted_parameters, noted_member, noted_members, noted_type, noted_types, noted_file}
+use Rattle.jn_annotate_law.specs.Trees.{nullity_names, both_names, names_of, leading, noted_use, noted_marks, noted_parameter, noted_receiver, noted_result, noted_result_marks, both_at, noted_parameters, noted_member, noted_members, noted_type, noted_types, noted_file, with_imports}
 use Rattle.jn_annotate_law.proofs.Weaves.{taken, behind_append, annotations_append, behind_kinds, Spells, Weave, weave_nil, weave_same, keep_one, before_type, typed, Part, part_same, keep_part, next}
-use Rattle.jn_annotate_law.proofs.Notes.{HasKnown, nullity_spells, init_spells, init_note, both_spells}
+use Rattle.jn_annotate_law.proofs.Notes.{HasKnown, line_end_is, line_is, line_kinds, notes_known, org_note, rest_notes, nullity_spells, init_spells, init_note, both_spells}
 
 -- ---- spelling with more marks
 
@@ -332,15 +334,76 @@ module _ (text : List ℕ) (old : List (List ℕ)) (known : HasKnown old) (slots
       same0 ((a ++ b) ++ spell_types f.types) (spell_file f) (λ ts. in_file slots s text ts f fs methods) (λ ts. in_file slots s text ts f fs methods) ((a ++ b) ++ new) (spell_file (noted_file slots s f fs methods)) (append_assoc a b (spell_types f.types)) (λ ts. refl) (append_assoc a b new)
       (n0 (a ++ b) (spell_types f.types) (λ ts. []) (λ ts. in_types slots s text ts f.types fs methods) (a ++ b) new (k0 (a ++ b)) (types_part f.types fs methods))
 
-  -- all tokens of a file, with the words of its inferred slots between them
-  pub file_weave : (ts : List Token) (f : SourceTree) (fs : List Field) (methods : List Method) → kinds ts ≡ spell_file f → Weave text old [] ts (in_file slots s text ts f fs methods) (spell_file (noted_file slots s f fs methods))
-  file_weave ts f fs methods e =
-      let whole : kinds ts ≡ spell_file f ++ [] = e ∙ sym (append-nil (spell_file f)) in
-      let none = nothing (behind ts (spell_file f)) (behind_kinds ts (spell_file f) [] whole) in
-      let end = subst (λ x. Weave text old (taken ts (spell_file f)) x [] []) (sym none) (weave_nil text old (taken ts (spell_file f))) in
-      weave_same text old [] ts (in_file slots s text ts f fs methods ++ []) (in_file slots s text ts f fs methods) (spell_file (noted_file slots s f fs methods) ++ []) (spell_file (noted_file slots s f fs methods)) (append-nil (in_file slots s text ts f fs methods)) (append-nil (spell_file (noted_file slots s f fs methods)))
-      (file_part f fs methods [] ts [] [] [] tt whole end)
+  -- all tokens of a file, with words between them
+  whole_weave : (sp new : List TokenKind) (is : List Token → List Insertion) (ts : List Token) → Q sp is new → kinds ts ≡ sp → Weave text old [] ts (is ts) new
+  whole_weave sp new is ts part e =
+      let whole : kinds ts ≡ sp ++ [] = e ∙ sym (append-nil sp) in
+      let none = nothing (behind ts sp) (behind_kinds ts sp [] whole) in
+      let end = subst (λ x. Weave text old (taken ts sp) x [] []) (sym none) (weave_nil text old (taken ts sp)) in
+      weave_same text old [] ts (is ts ++ []) (is ts) (new ++ []) new (append-nil (is ts)) (append-nil new) (part [] ts [] [] [] tt whole end)
     where
       nothing : (us : List Token) → kinds us ≡ [] → us ≡ []
       nothing [] e = refl
       nothing (u ∷ us) e = cc
+
+  -- with the words of its inferred slots
+  pub file_weave : (ts : List Token) (f : SourceTree) (fs : List Field) (methods : List Method) → kinds ts ≡ spell_file f → Weave text old [] ts (in_file slots s text ts f fs methods) (spell_file (noted_file slots s f fs methods))
+  file_weave ts f fs methods e = whole_weave (spell_file f) (spell_file (noted_file slots s f fs methods)) (λ x. in_file slots s text x f fs methods) ts (file_part f fs methods) e
+
+  -- ---- lines behind the package line
+
+  abbrev line_at : ℕ → Package → Insertion
+  line_at at p = record { at = at; words = line_end text ++ import_line p }
+
+  lines_behind : (ps : List Package) (at : ℕ) (before first : List Token) (t : Token) → before ≡ first ++ t ∷ [] → at ≡ t.span.to → (ts : List Token) (is : List Insertion) (ks : List TokenKind) → Weave text old before ts is ks → Weave text old before ts (map (line_at at) ps ++ is) (spell_imports (map import_of ps) ++ ks)
+  lines_behind [] at before first t b a ts is ks w = w
+  lines_behind (p ∷ ps) at before first t b a ts is ks w =
+      let r = lines_behind ps at before first t b a ts is ks w in
+      record {
+        items = Put at (ImportLine (line_end text) org_note (rest_notes p)) ∷ r.items;
+        kept_is = r.kept_is;
+        put_is = ap (λ x. record { at = at; words = line_end text ++ x } ∷ put text r.items) (line_is p) ∙ ap (λ x. line_at at p ∷ x) r.put_is;
+        woven_is = ap (λ x. import_kinds org_note (rest_notes p) ++ x) r.woven_is ∙ ap (λ x. x ++ (spell_imports (map import_of ps) ++ ks)) (line_kinds p) ∙ sym (append_assoc (spell_import (import_of p)) (spell_imports (map import_of ps)) ks);
+        are = (inr (t, first, b, a), (line_end_is text, notes_known old known p), r.are);
+      }
+
+  semicolon_part : (ps : List Package) → Q (Semicolon ∷ []) (λ rest. map (line_at (front rest).to) ps) (Semicolon ∷ spell_imports (map import_of ps))
+  semicolon_part ps before [] ls others more h e w = cc
+  semicolon_part ps before (t ∷ us) ls others more h e w =
+      let head : t.kind ≡ Semicolon = cc in
+      let new : List TokenKind = spell_imports (map import_of ps) ++ others in
+      let is : List Insertion = map (line_at t.span.to) ps ++ more in
+      let r = lines_behind ps t.span.to (before ++ t ∷ []) before t refl refl us more others w in
+      subst (λ x. Weave text old before (t ∷ us) is (x ∷ new)) head (keep_one text old before t us is new r)
+
+  imports_append : (xs ys : List ImportTree) → spell_imports (xs ++ ys) ≡ spell_imports xs ++ spell_imports ys
+  imports_append [] ys = refl
+  imports_append (x ∷ xs) ys = ap (λ z. spell_import x ++ z) (imports_append xs ys) ∙ sym (append_assoc (spell_import x) (spell_imports xs) (spell_imports ys))
+
+  lines_part : (ps : List Package) (q : DottedName) → Q (spell_package q) (λ ts. map (put_line text ts (Some q)) ps) (spell_package q ++ spell_imports (map import_of ps))
+  lines_part ps q =
+      let name : List TokenKind = PackageWord ∷ spell_dotted q in
+      let lines : List TokenKind = spell_imports (map import_of ps) in
+      same0 (name ++ Semicolon ∷ []) (spell_package q) (λ ts. map (line_at (front (behind ts name)).to) ps) (λ ts. map (put_line text ts (Some q)) ps) (name ++ Semicolon ∷ lines) (spell_package q ++ lines)
+      refl (λ ts. refl) (sym (append_assoc name (Semicolon ∷ []) lines))
+      (n0 name (Semicolon ∷ []) (λ ts. []) (λ rest. map (line_at (front rest).to) ps) name (Semicolon ∷ lines) (k0 name) (semicolon_part ps))
+
+  file_lines_part : (ps : List Package) (q : DottedName) (imports : List ImportTree) (types : List TypeDeclaration) (fs : List Field) (methods : List Method) → let f : SourceTree = record { package_line = Some q; imports = imports; types = types } in Q (spell_file f) (λ ts. map (put_line text ts (Some q)) ps ++ in_file slots s text ts f fs methods) (spell_file (with_imports ps (noted_file slots s f fs methods)))
+  file_lines_part ps q imports types fs methods =
+      let f : SourceTree = record { package_line = Some q; imports = imports; types = types } in
+      let a : List TokenKind = spell_package q in
+      let b : List TokenKind = spell_imports imports in
+      let lines : List TokenKind = spell_imports (map import_of ps) in
+      let new : List TokenKind = spell_types (noted_types slots s types fs methods) in
+      let L : List Token → List Insertion = λ ts. map (put_line text ts (Some q)) ps in
+      let T : List Token → List Insertion = λ ts. in_types slots s text (behind ts b) types fs methods in
+      same0 (a ++ (b ++ spell_types types)) (spell_file f) (λ ts. L ts ++ T (behind ts a)) (λ ts. L ts ++ in_file slots s text ts f fs methods) ((a ++ lines) ++ (b ++ new)) (spell_file (with_imports ps (noted_file slots s f fs methods)))
+      refl (λ ts. ap (λ x. L ts ++ in_types slots s text x types fs methods) (sym (behind_append ts a b)))
+      (append_assoc a lines (b ++ new) ∙ ap (λ x. a ++ x) (sym (append_assoc lines b new) ∙ ap (λ x. x ++ new) (sym (imports_append (map import_of ps) imports))))
+      (n0 a (b ++ spell_types types) L T (a ++ lines) (b ++ new) (lines_part ps q) (n0 b (spell_types types) (λ ts. []) (λ ts. in_types slots s text ts types fs methods) b new (k0 b) (types_part types fs methods)))
+
+  -- and with lines that import annotations
+  pub file_lines_weave : (ps : List Package) (q : DottedName) (imports : List ImportTree) (types : List TypeDeclaration) (ts : List Token) (fs : List Field) (methods : List Method) → let f : SourceTree = record { package_line = Some q; imports = imports; types = types } in kinds ts ≡ spell_file f → Weave text old [] ts (map (put_line text ts (Some q)) ps ++ in_file slots s text ts f fs methods) (spell_file (with_imports ps (noted_file slots s f fs methods)))
+  file_lines_weave ps q imports types ts fs methods e =
+      let f : SourceTree = record { package_line = Some q; imports = imports; types = types } in
+      whole_weave (spell_file f) (spell_file (with_imports ps (noted_file slots s f fs methods))) (λ x. map (put_line text x (Some q)) ps ++ in_file slots s text x f fs methods) ts (file_lines_part ps q imports types fs methods) e

@@ -1,10 +1,17 @@
 -- The notes that spell qualifiers.
-use Rattle.std.proofs.Common.{◌≡◌, ℕ, Bool, true, false, List, [], ◌∷◌, ◌++◌, refl}
-use Rattle.std.specs.Prelude.{codes}
+use Rattle.std.proofs.Common.{◌≡◌, ℕ, Bool, true, false, cond, List, [], ◌∷◌, ◌++◌, refl}
+use Rattle.std.specs.Prelude.{codes, eqb}
+use Rattle.std.specs.List.{list_all}
 use Rattle.jn_known.specs.Known.{known_names}
 use Rattle.jn_quals.specs.Qualifier.{Qualifier}
-use Rattle.jn_splice_law.specs.Woven.{Note, IsNamed, IsNote}
-use Rattle.jn_splice_law.proofs.Wording.{non_null_is, nullable_is, initialized_is, under_is, unknown_is}
+use Rattle.jn_splice_law.specs.Woven.{is_ascii, Note, import_kinds, import_text, IsLineEnd, IsNamed, IsNote, AreNotes}
+use Rattle.jn_lexer.specs.Characters.{is_line_end, AllAre}
+use Rattle.jn_lexer.specs.Lexemes.{Word, IsSpelling}
+use Rattle.jn_splice_law.proofs.Wording.{non_null_is, nullable_is, initialized_is, under_is, unknown_is, org_is, checkerframework_is, checker_is, nullness_is, initialization_is, qual_is}
+use Rattle.jn_trees.specs.Spelling.{spell_import}
+use Rattle.jn_annotate.specs.declared.imports.Package.{Package}
+use Rattle.jn_annotate.specs.declared.imports.Package.TheVariants.{Nullness, Initialization}
+use Rattle.jn_annotate.specs.Imports.{import_line, import_of, line_end, line_feed}
 use Rattle.jn_annotate.specs.Words.{nullity_text, initialization_text, both_texts, initialization_name}
 use Rattle.jn_annotate_law.specs.Trees.{nullity_names, both_names}
 use Rattle.jn_annotate_law.proofs.Weaves.{Spells}
@@ -13,7 +20,65 @@ use Rattle.jn_annotate_law.proofs.Weaves.{Spells}
 abbrev pub HasKnown : List (List ℕ) → Type 0
 HasKnown old = (text : List ℕ) (n : ℕ) → IsNamed known_names text n → IsNamed old text n
 
+-- ---- lines that import annotations
+
+abbrev pub note : List ℕ → ℕ → Note
+note name n = record { name = name; number = record { 0 = n } }
+
+abbrev pub org_note : Note
+org_note = note (codes "org") 23
+
+-- the parts of a package's name behind the first
+abbrev pub rest_notes : Package → List Note
+rest_notes Nullness = note (codes "checkerframework") 24 ∷ note (codes "checker") 26 ∷ note (codes "nullness") 27 ∷ note (codes "qual") 28 ∷ []
+rest_notes Initialization = note (codes "checkerframework") 24 ∷ note (codes "checker") 26 ∷ note (codes "initialization") 29 ∷ note (codes "qual") 28 ∷ []
+
+pub line_is : (p : Package) → import_text org_note (rest_notes p) ≡ import_line p
+line_is Nullness = refl
+line_is Initialization = refl
+
+pub line_kinds : (p : Package) → import_kinds org_note (rest_notes p) ≡ spell_import (import_of p)
+line_kinds Nullness = refl
+line_kinds Initialization = refl
+
+pub line_end_is : (text : List ℕ) → IsLineEnd (line_end text)
+unfolding is_line_end
+line_end_is [] = (refl, tt)
+line_end_is (c ∷ cs) = here (eqb c 10) (eqb c 13) (line_end_is cs)
+  where
+    feed : (xs : List ℕ) → AllAre is_line_end (line_feed xs)
+    feed [] = tt
+    feed (x ∷ xs) = at_feed (eqb x 10)
+      where
+        at_feed : (b : Bool) → AllAre is_line_end (cond b (10 ∷ []) [])
+        at_feed true = (refl, tt)
+        at_feed false = tt
+
+    here : (a b : Bool) → IsLineEnd (line_end cs) → IsLineEnd (cond a (10 ∷ []) (cond b (13 ∷ line_feed cs) (line_end cs)))
+    here true b h = (refl, tt)
+    here false true h = (refl, feed cs)
+    here false false h = h
+
 module _ (old : List (List ℕ)) (known : HasKnown old) where
+  part_note : (name : List ℕ) (n : ℕ) → list_all is_ascii name ≡ true → IsSpelling (Word name) name → IsNamed known_names name n → IsNote old (note name n)
+  part_note name n a h k = record { ascii = a; spelled = h; named = known name n k }
+
+  pub notes_known : (p : Package) → AreNotes old (org_note ∷ rest_notes p)
+  notes_known Nullness = (
+    part_note (codes "org") 23 refl org_is (refl, refl),
+    (
+      part_note (codes "checkerframework") 24 refl checkerframework_is (refl, refl),
+      (part_note (codes "checker") 26 refl checker_is (refl, refl), (part_note (codes "nullness") 27 refl nullness_is (refl, refl), (part_note (codes "qual") 28 refl qual_is (refl, refl), tt))),
+    ),
+  )
+  notes_known Initialization = (
+    part_note (codes "org") 23 refl org_is (refl, refl),
+    (
+      part_note (codes "checkerframework") 24 refl checkerframework_is (refl, refl),
+      (part_note (codes "checker") 26 refl checker_is (refl, refl), (part_note (codes "initialization") 29 refl initialization_is (refl, refl), (part_note (codes "qual") 28 refl qual_is (refl, refl), tt))),
+    ),
+  )
+
   non_null_note : IsNote old (record { name = codes "NonNull"; number = record { 0 = 17 } })
   non_null_note = record { ascii = refl; spelled = non_null_is; named = known (codes "NonNull") 17 (refl, refl) }
 

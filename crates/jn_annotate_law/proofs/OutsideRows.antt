@@ -36,7 +36,7 @@ use Rattle.jn_annotate_law.proofs.TypeRows.{types_stay}
 
 -- ---- names of packages and imports
 
-abbrev ids : List Identifier → List ℕ
+abbrev pub ids : List Identifier → List ℕ
 ids [] = []
 ids (x ∷ xs) = x.name.0 ∷ ids xs
 
@@ -56,10 +56,10 @@ names_are [] (y ∷ ys) = refl
 names_are (x ∷ xs) [] = refl
 names_are (x ∷ xs) (y ∷ ys) = ap (λ b. eqb x.name.0 y.name.0 && b) (names_are xs ys)
 
-abbrev whole : PlacedDotted → List ℕ
+abbrev pub whole : PlacedDotted → List ℕ
 whole d = d.first.name.0 ∷ ids d.more
 
-abbrev whole_of : Option PlacedDotted → Option (List ℕ)
+abbrev pub whole_of : Option PlacedDotted → Option (List ℕ)
 whole_of None = None
 whole_of (Some d) = Some (whole d)
 
@@ -69,7 +69,7 @@ whole_same ts us q = ap (λ z. q.first.0 ∷ z) (ids_same (drop 1 ts) (drop 1 us
 package_is : (a b : PlacedDotted) → same_package a b ≡ same_ids (whole a) (whole b)
 package_is a b = ap (λ x. eqb a.first.name.0 b.first.name.0 && x) (names_are a.more b.more)
 
-package_stays : (f g : Option PlacedDotted) (p : Option DottedName) (ts us : List Token) → whole_of f ≡ whole_of g → package_row f (place_package ts p) ≡ [] → package_row g (place_package us p) ≡ []
+pub package_stays : (f g : Option PlacedDotted) (p : Option DottedName) (ts us : List Token) → whole_of f ≡ whole_of g → package_row f (place_package ts p) ≡ [] → package_row g (place_package us p) ≡ []
 package_stays f g None ts us w e = refl
 package_stays None None (Some q) ts us w e = refl
 package_stays None (Some b) (Some q) ts us w e = absurd (let h : ◌≡◌ {A = Option (List ℕ)} None (Some (whole b)) = w in cc)
@@ -81,7 +81,7 @@ package_stays (Some a) (Some b) (Some q) ts us w e =
     when_stays (not (same_package a old)) (not (same_package b new)) _ _
     (ap not (package_is a old ∙ ap (λ x. same_ids x (whole old)) same ∙ ap (same_ids (whole b)) (whole_same (drop 1 ts) (drop 1 us) q) ∙ sym (package_is b new))) e
 
-behind_same : (f g : Option PlacedDotted) (p : Option DottedName) (ts us : List Token) → whole_of f ≡ whole_of g → whole_of (package_behind f (place_package ts p)) ≡ whole_of (package_behind g (place_package us p))
+pub behind_same : (f g : Option PlacedDotted) (p : Option DottedName) (ts us : List Token) → whole_of f ≡ whole_of g → whole_of (package_behind f (place_package ts p)) ≡ whole_of (package_behind g (place_package us p))
 behind_same (Some a) (Some b) p ts us w = w
 behind_same None None None ts us w = refl
 behind_same None None (Some q) ts us w = ap {B = Option (List ℕ)} (λ z. Some z) (whole_same (drop 1 ts) (drop 1 us) q)
@@ -93,7 +93,7 @@ under_same ts us [] all = refl
 under_same ts us (n ∷ []) all = refl
 under_same ts us (n ∷ m ∷ ns) all = refl
 
-imports_stay : (ts us : List Token) (is : List ImportTree) → import_rows (place_each place_import spell_import ts is) ≡ [] → import_rows (place_each place_import spell_import us is) ≡ []
+pub imports_stay : (ts us : List Token) (is : List ImportTree) → import_rows (place_each place_import spell_import ts is) ≡ [] → import_rows (place_each place_import spell_import us is) ≡ []
 imports_stay ts us [] e = refl
 imports_stay ts us (i ∷ is) e =
     let A : List Row = import_row (place_import ts i) in

@@ -38,14 +38,13 @@ use Rattle.jn_annotate.specs.Insertions.{type_fields, type_methods, file_fields,
 use Rattle.jn_annotate.specs.Annotated.{Annotated, has_no_spelling, has_shared_type, HasNone, same_qual, slot_inferred, differs, members_of, shared_in_members, shared_in_types, shared_from}
 use Rattle.jn_annotate_law.specs.Meaning.{TextsLexed, AllPlaced}
 use Rattle.jn_annotate_law.specs.Kept.{Kept, KeptRowless}
-use Rattle.jn_annotate_law.proofs.AllRows.{no_rows_more}
 use Rattle.jn_annotate_law.specs.Trees.{noted_files}
 use Rattle.jn_annotate_law.specs.Says.{FieldsSay, MembersSay, TypeSays, TypesSay, FilesSay}
 use Rattle.jn_bare_law.proofs.Sent.{Each}
 use Rattle.jn_annotate_law.proofs.Roles.{each_drop, each_take, Plays, FieldPlays, MethodPlays, roles_of_all, table_fields_play, table_methods_play, Agree, all_agree}
 use Rattle.jn_annotate_law.proofs.Sending.{field_not_free, receiver_not_null}
 use Rattle.jn_annotate_law.proofs.Sharing.{info_at, Has, MembersShare, TypesShare, FilesShare, all_share}
-use Rattle.jn_annotate_law.proofs.Whole.{long, spelled, kept_all, receivers_start}
+use Rattle.jn_annotate_law.proofs.Whole.{Whole, long, spelled, kept_all, receivers_start}
 
 has_committed : (c f : Bool) → not (c || f) ≡ false → f ≡ false → c ≡ true
 has_committed true f e g = refl
@@ -180,17 +179,20 @@ all_say infer tokens trees s placed can is none alone =
     (all_share infer tokens trees s placed) fields (each_drop (MethodPlays roles) Q.methods 1 methods) (λ i. sym (shared_same P s infer trees (map forget_file trees) i) ∙ alone i))
 
 -- the theorem, of programs that can be inferred
-pub kept : (infer : Infer) (texts names new : List (List ℕ)) (tokens : List (List Token)) (trees : List PlacedFile) (s : List Qualifier) → let P = inferring infer trees in let bare = map forget_file trees in TextsLexed 0 known_names texts tokens names → AllPlaced tokens trees → IsInferable P → IsLeastSignature P s → Annotated P s texts tokens bare new → Kept infer names trees s (noted_files P.slots s bare P.fields (drop 1 P.methods)) new
-kept infer texts names new tokens trees s lexed placed can is annotated' =
-    kept_all infer texts names new tokens trees s lexed placed can is (all_say infer tokens trees s placed can is annotated'.spelled annotated'.alone) annotated'
+kept_whole : (imports : Bool) (infer : Infer) (texts names new : List (List ℕ)) (tokens : List (List Token)) (trees : List PlacedFile) (s : List Qualifier) → let P = inferring infer trees in let bare = map forget_file trees in TextsLexed 0 known_names texts tokens names → AllPlaced tokens trees → IsInferable P → IsLeastSignature P s → Annotated imports P s texts tokens bare new → Whole imports infer names trees s (noted_files P.slots s bare P.fields (drop 1 P.methods)) new
+kept_whole imports infer texts names new tokens trees s lexed placed can is annotated' =
+    kept_all imports infer texts names new tokens trees s lexed placed can is (all_say infer tokens trees s placed can is annotated'.spelled annotated'.alone) annotated'
+
+pub kept : (imports : Bool) (infer : Infer) (texts names new : List (List ℕ)) (tokens : List (List Token)) (trees : List PlacedFile) (s : List Qualifier) → let P = inferring infer trees in let bare = map forget_file trees in TextsLexed 0 known_names texts tokens names → AllPlaced tokens trees → IsInferable P → IsLeastSignature P s → Annotated imports P s texts tokens bare new → Kept imports infer names trees s (noted_files P.slots s bare P.fields (drop 1 P.methods)) new
+kept imports infer texts names new tokens trees s lexed placed can is annotated' = (kept_whole imports infer texts names new tokens trees s lexed placed can is annotated').kept
 
 -- and of files without rows
-pub kept_rowless : (infer : Infer) (texts names new : List (List ℕ)) (tokens : List (List Token)) (trees : List PlacedFile) (s : List Qualifier) → let P = inferring infer trees in let bare = map forget_file trees in TextsLexed 0 known_names texts tokens names → AllPlaced tokens trees → rows_of_files trees ≡ [] → length P.fields < 2 ^ 32 → length P.methods < 2 ^ 32 → IsLeastSignature P s → Annotated P s texts tokens bare new → KeptRowless infer names trees s (noted_files P.slots s bare P.fields (drop 1 P.methods)) new
-kept_rowless infer texts names new tokens trees s lexed placed rowless few_fields few_methods is annotated' =
+pub kept_rowless : (imports : Bool) (infer : Infer) (texts names new : List (List ℕ)) (tokens : List (List Token)) (trees : List PlacedFile) (s : List Qualifier) → let P = inferring infer trees in let bare = map forget_file trees in TextsLexed 0 known_names texts tokens names → AllPlaced tokens trees → rows_of_files trees ≡ [] → length P.fields < 2 ^ 32 → length P.methods < 2 ^ 32 → IsLeastSignature P s → Annotated imports P s texts tokens bare new → KeptRowless imports infer names trees s (noted_files P.slots s bare P.fields (drop 1 P.methods)) new
+kept_rowless imports infer texts names new tokens trees s lexed placed rowless few_fields few_methods is annotated' =
     let P : Program = inferring infer trees in
     let can : IsInferable P = regular_inferable P (inferring_regular infer trees (program_regular trees rowless few_fields few_methods)) in
-    let all = kept infer texts names new tokens trees s lexed placed can is annotated' in
-    record { kept = all; rowless = no_rows_more infer tokens all.tokens trees all.places s placed all.parsed all.trees_are rowless }
+    let all = kept_whole imports infer texts names new tokens trees s lexed placed can is annotated' in
+    record { kept = all.kept; rowless = all.rows rowless }
 
 -- ---- trees in memory
 
@@ -199,9 +201,9 @@ views_are [] = refl
 views_are (f ∷ files) = ap (λ x. x ∷ map forget_file (map placed_file files)) (file_seen f) ∙ ap (λ r. file_view f ∷ r) (views_are files)
 
 -- as `annotate` is given them
-pub kept_answer : (infer : Infer) (texts names new : List (List ℕ)) (tokens : List (List Token)) (files : List FileTree) (s : List Qualifier) → let trees = map placed_file files in let P = inferring infer trees in let views = map file_view files in TextsLexed 0 known_names texts tokens names → AllPlaced tokens trees → rows_of_files trees ≡ [] → length P.fields < 2 ^ 32 → length P.methods < 2 ^ 32 → IsLeastSignature P s → Annotated P s texts tokens views new → KeptRowless infer names trees s (noted_files P.slots s views P.fields (drop 1 P.methods)) new
-kept_answer infer texts names new tokens files s lexed placed rowless few_fields few_methods is annotated' =
+pub kept_answer : (imports : Bool) (infer : Infer) (texts names new : List (List ℕ)) (tokens : List (List Token)) (files : List FileTree) (s : List Qualifier) → let trees = map placed_file files in let P = inferring infer trees in let views = map file_view files in TextsLexed 0 known_names texts tokens names → AllPlaced tokens trees → rows_of_files trees ≡ [] → length P.fields < 2 ^ 32 → length P.methods < 2 ^ 32 → IsLeastSignature P s → Annotated imports P s texts tokens views new → KeptRowless imports infer names trees s (noted_files P.slots s views P.fields (drop 1 P.methods)) new
+kept_answer imports infer texts names new tokens files s lexed placed rowless few_fields few_methods is annotated' =
     let trees : List PlacedFile = map placed_file files in
     let P : Program = inferring infer trees in
-    subst (λ views. KeptRowless infer names trees s (noted_files P.slots s views P.fields (drop 1 P.methods)) new) (views_are files)
-    (kept_rowless infer texts names new tokens trees s lexed placed rowless few_fields few_methods is (subst (λ views. Annotated P s texts tokens views new) (sym (views_are files)) annotated'))
+    subst (λ views. KeptRowless imports infer names trees s (noted_files P.slots s views P.fields (drop 1 P.methods)) new) (views_are files)
+    (kept_rowless imports infer texts names new tokens trees s lexed placed rowless few_fields few_methods is (subst (λ views. Annotated imports P s texts tokens views new) (sym (views_are files)) annotated'))

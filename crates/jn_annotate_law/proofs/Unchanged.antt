@@ -21,6 +21,7 @@ use Rattle.jn_places.specs.Forget.{forget_file}
 use Rattle.jn_splice_law.specs.Inserted.{inserted}
 use Rattle.jn_splice_law.specs.Woven.{piece}
 use Rattle.jn_annotate.specs.Words.{both_texts, is_unspelled, nullity_text}
+use Rattle.jn_annotate.specs.Imports.{with_lines}
 use Rattle.jn_annotate.specs.Insertions.{at_head, at_member, at_members, at_parameters, at_receiver, at_result, at_type, fields_in, file_fields, file_methods, first_slot, in_file, in_type, in_types, inferred_qual, methods_in, qual_where, type_fields, type_methods}
 use Rattle.jn_annotate.specs.Annotated.{Annotated, HasNone, annotated, annotated_from, differs, has_no_spelling, is_too_large, members_of, same_qual, shared_from, shared_in, shared_in_members, shared_in_types, slot_inferred}
 use Rattle.jn_annotate_law.specs.Meaning.{AllPlaced, TextsLexed}
@@ -92,17 +93,23 @@ module _ (slots : List SlotInfo) (s : List Qualifier) (none : NoneInferred slots
     file_none : (ts : List Token) (f : SourceTree) (fs : List Field) (methods : List Method) → in_file slots s text ts f fs methods ≡ []
     file_none ts f fs methods = types_none (behind ts (spell_package_line f.package_line ++ spell_imports f.imports)) f.types fs methods
 
-  files_none : (k : ℕ) (known : List (List ℕ)) (texts : List (List ℕ)) (tokens : List (List Token)) (trees : List PlacedFile) (names : List (List ℕ)) (fs : List Field) (methods : List Method) → TextsLexed k known texts tokens names → AllPlaced tokens trees → annotated_from slots s texts tokens (map forget_file trees) fs methods ≡ texts
-  files_none k known [] tokens trees names fs methods l p = refl
-  files_none k known (text ∷ texts) [] trees names fs methods l p = absurd l
-  files_none k known (text ∷ texts) (ts ∷ tokens) [] names fs methods l p = absurd p
-  files_none k known (text ∷ texts) (ts ∷ tokens) (tree ∷ trees) names fs methods l p =
-      let f : SourceTree = forget_file tree in
-      ap (λ x. inserted text x ∷ annotated_from slots s texts tokens (map forget_file trees) (drop (file_fields f.types) fs) (drop (file_methods f.types) methods)) (file_none text ts f fs methods)
-      ∙ ap (λ r. text ∷ r) (files_none (k + 1) l.0 texts tokens trees names (drop (file_fields f.types) fs) (drop (file_methods f.types) methods) l.2 p.1)
+  no_lines : (imports : Bool) (text : List ℕ) (ts : List Token) (f : SourceTree) → with_lines imports text ts f [] ≡ []
+  unfolding with_lines
+  no_lines true text ts f = refl
+  no_lines false text ts f = refl
 
-pub unchanged : (P : Program) (s : List Qualifier) (texts names : List (List ℕ)) (tokens : List (List Token)) (trees : List PlacedFile) (known : List (List ℕ)) → NoneInferred P.slots → TextsLexed 0 known texts tokens names → AllPlaced tokens trees → annotated P s texts tokens (map forget_file trees) ≡ texts
-unchanged P s texts names tokens trees known none l p = files_none P.slots s none 0 known texts tokens trees names P.fields (drop 1 P.methods) l p
+  files_none : (imports : Bool) (k : ℕ) (known : List (List ℕ)) (texts : List (List ℕ)) (tokens : List (List Token)) (trees : List PlacedFile) (names : List (List ℕ)) (fs : List Field) (methods : List Method) → TextsLexed k known texts tokens names → AllPlaced tokens trees → annotated_from imports slots s texts tokens (map forget_file trees) fs methods ≡ texts
+  files_none imports k known [] tokens trees names fs methods l p = refl
+  files_none imports k known (text ∷ texts) [] trees names fs methods l p = absurd l
+  files_none imports k known (text ∷ texts) (ts ∷ tokens) [] names fs methods l p = absurd p
+  files_none imports k known (text ∷ texts) (ts ∷ tokens) (tree ∷ trees) names fs methods l p =
+      let f : SourceTree = forget_file tree in
+      ap (λ x. inserted text (with_lines imports text ts f x) ∷ annotated_from imports slots s texts tokens (map forget_file trees) (drop (file_fields f.types) fs) (drop (file_methods f.types) methods)) (file_none text ts f fs methods)
+      ∙ ap (λ x. inserted text x ∷ annotated_from imports slots s texts tokens (map forget_file trees) (drop (file_fields f.types) fs) (drop (file_methods f.types) methods)) (no_lines imports text ts f)
+      ∙ ap (λ r. text ∷ r) (files_none imports (k + 1) l.0 texts tokens trees names (drop (file_fields f.types) fs) (drop (file_methods f.types) methods) l.2 p.1)
+
+pub unchanged : (imports : Bool) (P : Program) (s : List Qualifier) (texts names : List (List ℕ)) (tokens : List (List Token)) (trees : List PlacedFile) (known : List (List ℕ)) → NoneInferred P.slots → TextsLexed 0 known texts tokens names → AllPlaced tokens trees → annotated imports P s texts tokens (map forget_file trees) ≡ texts
+unchanged imports P s texts names tokens trees known none l p = files_none P.slots s none imports 0 known texts tokens trees names P.fields (drop 1 P.methods) l p
 
 -- ---- and nothing is refused but for its size
 
@@ -142,10 +149,10 @@ module _ (P : Program) (s : List Qualifier) (none : NoneInferred P.slots) where
   files_share_none [] fs i = refl
   files_share_none (f ∷ trees) fs i = ap (λ b. cond b true (shared_from P s trees (drop (file_fields f.types) fs) i)) (types_share_none f.types fs i) ∙ files_share_none trees (drop (file_fields f.types) fs) i
 
-  pub annotated_again : (texts names : List (List ℕ)) (tokens : List (List Token)) (trees : List PlacedFile) (known : List (List ℕ)) → TextsLexed 0 known texts tokens names → AllPlaced tokens trees → HasNone (is_too_large texts) → Annotated P s texts tokens (map forget_file trees) texts
-  annotated_again texts names tokens trees known l p small = record {
+  pub annotated_again : (imports : Bool) (texts names : List (List ℕ)) (tokens : List (List Token)) (trees : List PlacedFile) (known : List (List ℕ)) → TextsLexed 0 known texts tokens names → AllPlaced tokens trees → HasNone (is_too_large texts) → Annotated imports P s texts tokens (map forget_file trees) texts
+  annotated_again imports texts names tokens trees known l p small = record {
     spelled = spelled_all;
     alone = λ i. files_share_none (map forget_file trees) P.fields i;
-    are = sym (unchanged P s texts names tokens trees known none l p);
+    are = sym (unchanged imports P s texts names tokens trees known none l p);
     small = small;
   }

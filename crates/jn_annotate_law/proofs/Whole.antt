@@ -19,7 +19,7 @@ use Rattle.jn_base.specs.declared.infer.Infer.{Infer}
 use Rattle.std.proofs.lemmas.List.{length-map}
 use Rattle.jn_trees.specs.Trees.{SourceTree}
 use Rattle.jn_classtable.specs.Inferred.{slots_by}
-use Rattle.jn_program_law.specs.FileProgram.{inferring, program_of_files}
+use Rattle.jn_program_law.specs.FileProgram.{inferring, program_of_files, rows_of_files}
 use Rattle.jn_bare_law.specs.Bare.{Alike, bare, bare_slot}
 use Rattle.jn_bare_law.specs.Written.{written_slot}
 use Rattle.jn_annotate_law.specs.Again.{NoneInferred}
@@ -30,11 +30,13 @@ use Rattle.jn_inference_law.specs.Solution.{IsLeastSignature}
 use Rattle.jn_annotate.specs.Words.{is_unspelled}
 use Rattle.jn_annotate.specs.Insertions.{qual_where, inferred_qual}
 use Rattle.jn_annotate.specs.Annotated.{Annotated, has_no_spelling, HasNone}
-use Rattle.jn_annotate_law.specs.Meaning.{TextsLexed, AllPlaced}
+use Rattle.jn_annotate_law.specs.Meaning.{Means, TextsLexed, AllPlaced}
 use Rattle.jn_annotate_law.specs.Kept.{Kept}
 use Rattle.jn_annotate_law.specs.Says.{Spelled, FilesSay}
 use Rattle.jn_annotate_law.specs.Trees.{noted_files}
-use Rattle.jn_annotate_law.proofs.Files.{all_parsed}
+use Rattle.jn_annotate_law.proofs.Files.{all_of, are_noted}
+use Rattle.jn_annotate_law.proofs.AllRows.{no_rows_more}
+use Rattle.jn_annotate_law.proofs.Lined.{lined_rows, program_same}
 use Rattle.jn_annotate_law.proofs.Fitting.{all_fit}
 use Rattle.jn_annotate_law.proofs.Extracting.{heads_plain}
 use Rattle.jn_annotate_law.proofs.Tables.{tables_alike}
@@ -121,26 +123,33 @@ written_none slots s e i = ap (λ x. is_inferred (slice_get x i)) e ∙ go s i
     go (q ∷ s) zero = refl
     go (q ∷ s) (suc i) = go s i
 
-pub kept_all : (infer : Infer) (texts names new : List (List ℕ)) (tokens : List (List Token)) (trees : List PlacedFile) (s : List Qualifier) → let P = inferring infer trees in let bare = map forget_file trees in TextsLexed 0 known_names texts tokens names → AllPlaced tokens trees → IsInferable P → IsLeastSignature P s → FilesSay P.slots s bare P.fields (drop 1 P.methods) → Annotated P s texts tokens bare new → Kept infer names trees s (noted_files P.slots s bare P.fields (drop 1 P.methods)) new
-kept_all infer texts names new tokens trees s lexed placed can is say annotated' =
+-- what is kept, and that files without rows stay without
+pub record Whole (imports : Bool) (infer : Infer) (names : List (List ℕ)) (trees : List PlacedFile) (s : List Qualifier) (noted : List SourceTree) (new : List (List ℕ)) : Type 0 where
+  pub kept : Kept imports infer names trees s noted new
+  pub rows : rows_of_files trees ≡ [] → rows_of_files kept.places ≡ []
+
+pub kept_all : (imports : Bool) (infer : Infer) (texts names new : List (List ℕ)) (tokens : List (List Token)) (trees : List PlacedFile) (s : List Qualifier) → let P = inferring infer trees in let bare = map forget_file trees in TextsLexed 0 known_names texts tokens names → AllPlaced tokens trees → IsInferable P → IsLeastSignature P s → FilesSay P.slots s bare P.fields (drop 1 P.methods) → Annotated imports P s texts tokens bare new → Whole imports infer names trees s (noted_files P.slots s bare P.fields (drop 1 P.methods)) new
+kept_all imports infer texts names new tokens trees s lexed placed can is say annotated' =
     let P : Program = inferring infer trees in
     let forgotten : List SourceTree = map forget_file trees in
-    let r = all_parsed P.slots s texts tokens trees names P.fields (drop 1 P.methods) lexed placed (all_fit tokens trees P.slots s placed) in
+    let r = all_of imports P.slots s texts tokens trees names P.fields (drop 1 P.methods) lexed placed (all_fit tokens trees P.slots s placed) in
     let sp : Spelled P.slots s = record { fixed = fixed P s can is; spelled = spelled P s can is annotated'.spelled } in
-    let written = all_written infer tokens r.0 trees r.1 s (long P s can is) sp placed r.3 (r.4 ∙ noted_same P.slots s infer trees forgotten) ((says_same P.slots s infer trees forgotten).1 say) in
-    let table_is = tables_alike (heads trees) (heads r.1) (heads_plain P.slots s tokens r.0 trees r.1 P.fields (drop 1 P.methods) placed r.3 r.4) in
-    let program_is = alike_programs P.slots s tokens r.0 trees r.1 P.fields (drop 1 P.methods) placed r.3 r.4 table_is in
-    let count : length (slots_by infer trees) ≡ length (slots_by infer r.1) = sym (ap length written ∙ length-map s written_slot ∙ long P s can is) in
-    let Q : Program = inferring infer r.1 in
-    let none : NoneInferred Q.slots = written_none Q.slots s written in
-    let again : TextsLexed 0 known_names new r.0 names = subst (λ x. TextsLexed 0 known_names x r.0 names) (sym annotated'.are) r.2 in
-    record {
-      tokens = r.0;
-      places = r.1;
+    let written = all_written infer tokens r.plains trees r.plain s (long P s can is) sp placed r.plain_placed (r.plain_are ∙ noted_same P.slots s infer trees forgotten) ((says_same P.slots s infer trees forgotten).1 say) in
+    let table_is = tables_alike (heads trees) (heads r.plain) (heads_plain P.slots s tokens r.plains trees r.plain P.fields (drop 1 P.methods) placed r.plain_placed r.plain_are) in
+    let program_is = alike_programs P.slots s tokens r.plains trees r.plain P.fields (drop 1 P.methods) placed r.plain_placed r.plain_are table_is in
+    let count : length (slots_by infer trees) ≡ length (slots_by infer r.plain) = sym (ap length written ∙ length-map s written_slot ∙ long P s can is) in
+    let Q : Program = inferring infer r.plain in
+    let same : inferring infer r.places ≡ Q = program_same r.plain r.places r.lined infer in
+    let none : NoneInferred (inferring infer r.places).slots = subst (λ (X : Program). NoneInferred X.slots) (sym same) (written_none Q.slots s written) in
+    let again : TextsLexed 0 known_names new r.others names = subst (λ x. TextsLexed 0 known_names x r.others names) (sym annotated'.are) r.lexed in
+    let all : Kept imports infer names trees s (noted_files P.slots s forgotten P.fields (drop 1 P.methods)) new = record {
+      tokens = r.others;
+      places = r.places;
       lexed = again;
-      parsed = r.3;
-      trees_are = r.4;
-      meaning = means P Q s (alike_by infer trees r.1 program_is count) written;
+      parsed = r.placed;
+      trees_are = are_noted P.slots s texts tokens trees names P.fields (drop 1 P.methods) imports r;
+      meaning = subst (λ (X : Program). Means P X s) (sym same) (means P Q s (alike_by infer trees r.plain program_is count) written);
       none_inferred = none;
-      again = annotated_again Q s none new names r.0 r.1 known_names again r.3 annotated'.small;
-    }
+      again = λ more. annotated_again (inferring infer r.places) s none more new names r.others r.places known_names again r.placed annotated'.small;
+    } in
+    record { kept = all; rows = λ e. lined_rows r.plain r.places r.lined (no_rows_more infer tokens r.plains trees r.plain s placed r.plain_placed r.plain_are e) }

@@ -13,11 +13,12 @@ use Rattle.jn_trees.specs.declared.expression.Literal.TheVariants.{Null as NullL
 use Rattle.jn_trees.specs.Trees.{IntBase, Tree, LiteralTree, NameTree, ThisTree, FieldTree, CallTree, OwnCallTree, BinaryTree, AssignTree, NoTrees, MoreTrees, Statement, Statements, ExpressionStatement, IfStatement, ReturnStatement, NoStatements, MoreStatements, PrivateMark, StaticMark, FieldMember, MethodMember, ConstructorMember, ParameterTree, SourceTree}
 use Rattle.jn_places.specs.Places.{place_file}
 use Rattle.jn_program_law.specs.FileProgram.{inferring}
+use Rattle.jn_annotate.specs.Imports.{with_lines}
 use Rattle.jn_annotate.specs.Annotated.{annotated, has_no_spelling}
 use Rattle.jn_annotate_law.proofs.Rows.{n, one_class, tk, use_of}
 
 abbrev new_texts : Infer → List ℕ → List Token → SourceTree → List Qualifier → List (List ℕ)
-new_texts infer text ts f s = annotated (inferring infer (place_file ts f ∷ [])) s (text ∷ []) (ts ∷ []) (f ∷ [])
+new_texts infer text ts f s = annotated false (inferring infer (place_file ts f ∷ [])) s (text ∷ []) (ts ∷ []) (f ∷ [])
 
 abbrev one : Statement → Statements
 one x = MoreStatements x NoStatements
@@ -50,9 +51,11 @@ abbrev k_signature : List Qualifier
 k_signature = null_or_committed ∷ committed_only ∷ committed_only ∷ []
 
 k_private : new_texts PrivateAlone k_text k_tokens k_tree k_signature ≡ codes "class K {\n  private @Nullable String s;\n  K() { }\n  K(String t) { this.s = t; }\n  int n() {\n    if (s != null) return s.length();\n    return 0;\n  }\n}\n" ∷ []
+unfolding with_lines
 k_private = refl
 
 k_package : new_texts Package k_text k_tokens k_tree k_signature ≡ codes "class K {\n  private @Nullable String s;\n  K() { }\n  K(@NonNull @Initialized String t) { this.s = t; }\n  int n(@Initialized K this) {\n    if (s != null) return s.length();\n    return 0;\n  }\n}\n" ∷ []
+unfolding with_lines
 k_package = refl
 
 -- ---- a receiver under construction
@@ -76,9 +79,11 @@ abbrev p_signature : List Qualifier
 p_signature = committed_only ∷ record { null = false; committed = true; free = true } ∷ committed_only ∷ []
 
 p_private : new_texts PrivateAlone p_text p_tokens p_tree p_signature ≡ codes "class P {\n  private @NonNull String x;\n  P() { this.show(); this.x = \"a\"; }\n  private void show(@UnknownInitialization P this) { this.x.length(); }\n  void go() { this.show(); }\n}\n" ∷ []
+unfolding with_lines
 p_private = refl
 
 p_package : new_texts Package p_text p_tokens p_tree p_signature ≡ codes "class P {\n  private @NonNull String x;\n  P() { this.show(); this.x = \"a\"; }\n  private void show(@UnknownInitialization P this) { this.x.length(); }\n  void go(@Initialized P this) { this.show(); }\n}\n" ∷ []
+unfolding with_lines
 p_package = refl
 
 -- ---- a parameter that is only ever null has no spelling: class A { private static void f(String s) { } void g() { f(null); } }

@@ -1,5 +1,5 @@
 -- Trees with the annotations of inferred slots.
-use Rattle.std.specs.Prelude.{List, [], ◌∷◌, ◌++◌, drop, map, Option, Some, None}
+use Rattle.std.specs.Prelude.{◌≡◌, Bool, true, false, List, [], ◌∷◌, ◌++◌, drop, map, Option, Some, None}
 use Rattle.jn_base.specs.declared.number.NameNo.{NameNo}
 use Rattle.jn_base.specs.declared.number.SlotNo.{SlotNo}
 use Rattle.jn_quals.specs.Qualifier.{Qualifier}
@@ -7,6 +7,8 @@ use Rattle.jn_points.specs.declared.program.Field.{Field}
 use Rattle.jn_points.specs.declared.program.Method.{Method}
 use Rattle.jn_points.specs.declared.program.SlotInfo.{SlotInfo}
 use Rattle.jn_trees.specs.Trees.{TypeUseTree, AnnotationMark, Mark, NoteMark, ParameterTree, ReceiverTree, MemberTree, FieldMember, MethodMember, ConstructorMember, TypeDeclaration, ClassType, InterfaceType, SourceTree}
+use Rattle.jn_annotate.specs.declared.imports.Package.{Package}
+use Rattle.jn_annotate.specs.Imports.{import_of}
 use Rattle.jn_annotate.specs.Words.{nullity_name, initialization_name}
 use Rattle.jn_annotate.specs.Insertions.{fields_in, methods_in, type_fields, type_methods, file_fields, file_methods, first_slot, inferred_qual}
 
@@ -89,3 +91,18 @@ module _ (slots : List SlotInfo) (s : List Qualifier) where
   abbrev pub noted_files : List SourceTree → List Field → List Method → List SourceTree
   noted_files [] fs methods = []
   noted_files (f ∷ trees) fs methods = noted_file f fs methods ∷ noted_files trees (drop (file_fields f.types) fs) (drop (file_methods f.types) methods)
+
+-- with imports of all annotations of these packages, before those that it has
+abbrev pub with_imports : List Package → SourceTree → SourceTree
+with_imports ps f = record { package_line = f.package_line; imports = map import_of ps ++ f.imports; types = f.types }
+
+abbrev pub AllImport : List SourceTree → List SourceTree → Type 0
+AllImport [] [] = Unit {0}
+AllImport [] (g ∷ gs) = ⊥
+AllImport (f ∷ fs) [] = ⊥
+AllImport (f ∷ fs) (g ∷ gs) = ((ps : List Package) × (g ≡ with_imports ps f)) × AllImport fs gs
+
+-- the trees are the annotated ones, with such imports, where these are asked for
+abbrev pub AreNoted : Bool → List SourceTree → List SourceTree → Type 0
+AreNoted false noted trees = trees ≡ noted
+AreNoted true noted trees = AllImport noted trees

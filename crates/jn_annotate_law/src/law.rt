@@ -35,7 +35,7 @@ ghost use Rattle.jn_annotate_law.specs.Meaning.{AllPlaced, Means, TextsLexed};
 ghost use Rattle.jn_annotate.specs.Annotated.{annotated_from, Annotated, has_no_spelling, has_shared_type, HasNone, is_too_large};
 ghost use Rattle.jn_annotate_law.specs.Fits.{FilesFit, TypesFit};
 ghost use Rattle.jn_annotate.specs.Insertions.{in_file};
-ghost use Rattle.jn_annotate_law.specs.Trees.{both_names, noted_file, noted_files, nullity_names};
+ghost use Rattle.jn_annotate_law.specs.Trees.{AreNoted, both_names, noted_file, noted_files, nullity_names};
 ghost use Rattle.jn_annotate_law.specs.Says.{FilesSay, Spelled};
 ghost use Rattle.jn_annotate_law.specs.Kept.{Kept, KeptRowless};
 ghost use Rattle.jn_lowering.specs.BodyRows.{rows_of_bodies};
@@ -67,9 +67,25 @@ pub fn annotated_files_have_annotated_trees()
         → FilesFit slots s (map forget_file trees) methods
         → (others : List (List Token)) × (places : List PlacedFile)
         × TextsLexed 0 known_names
-        (annotated_from slots s texts tokens (map forget_file trees) fields methods) others names
+        (annotated_from false slots s texts tokens (map forget_file trees) fields methods) others names
         × AllPlaced others places
         × (map forget_file places ≡ noted_files slots s (map forget_file trees) fields methods) }
+{}
+
+/// With the lines that import annotations, if these are asked for, they lex and parse with the same names, too, and the trees have these imports more.
+pub fn annotated_files_have_their_imports()
+    ensures { (imports : Bool) (slots : List SlotInfo) (s : List Qualifier)
+        (texts : List (List ℕ)) (tokens : List (List Token)) (trees : List PlacedFile)
+        (names : List (List ℕ)) (fields : List Field) (methods : List Method)
+        → TextsLexed 0 known_names texts tokens names → AllPlaced tokens trees
+        → FilesFit slots s (map forget_file trees) methods
+        → (others : List (List Token)) × (places : List PlacedFile)
+        × TextsLexed 0 known_names
+        (annotated_from imports slots s texts tokens (map forget_file trees) fields methods) others
+        names
+        × AllPlaced others places
+        × AreNoted imports (noted_files slots s (map forget_file trees) fields methods)
+        (map forget_file places) }
 {}
 
 /// The class tables of annotated files are those of the files, but for places and what is written: their heads differ in nothing else.
@@ -193,41 +209,43 @@ pub fn least_signatures_say_what_can_be_written()
 
 /// A program without inferred slots is annotated to itself, where its texts are small enough, so that annotating twice is annotating once.
 pub fn nothing_is_annotated_twice()
-    ensures same { (P : Program) (s : List Qualifier) (texts names new : List (List ℕ))
+    ensures same { (imports : Bool) (P : Program) (s : List Qualifier) (texts names new : List (List ℕ))
         (tokens : List (List Token)) (trees : List PlacedFile)
         → TextsLexed 0 known_names texts tokens names → AllPlaced tokens trees
-        → NoneInferred P.slots → Annotated P s texts tokens (map forget_file trees) new
+        → NoneInferred P.slots
+        → Annotated imports P s texts tokens (map forget_file trees) new
         → new ≡ texts }
-    ensures again { (P : Program) (s : List Qualifier) (texts names : List (List ℕ))
+    ensures again { (imports : Bool) (P : Program) (s : List Qualifier) (texts names : List (List ℕ))
         (tokens : List (List Token)) (trees : List PlacedFile)
         → TextsLexed 0 known_names texts tokens names → AllPlaced tokens trees
         → NoneInferred P.slots → HasNone (is_too_large texts)
-        → Annotated P s texts tokens (map forget_file trees) texts }
+        → Annotated imports P s texts tokens (map forget_file trees) texts }
 {}
 
 /// Annotated files lex and parse, with the same names, and mean the same, under either choice of members that are inferred: their program is that
 /// of the files but for places, no slot of it is inferred, its least signature is what was inferred, and the same rules are broken at the same
 /// points, constructors and pairs, both ways; rows of types (J7 to J10) have the same codes, both ways, and annotating again changes nothing.
+/// So it is with imports of annotations, which stand in the trees before those of the files, and without.
 /// Files without rows T and J keep that they have none; their programs can be inferred, since the two numbers are below 2 ^ 32 wherever a class
 /// table was built.
 pub fn annotating_keeps_meaning()
-    ensures inferable { (infer : Infer) (texts names new : List (List ℕ))
+    ensures inferable { (imports : Bool) (infer : Infer) (texts names new : List (List ℕ))
         (tokens : List (List Token)) (trees : List PlacedFile) (s : List Qualifier)
         → TextsLexed 0 known_names texts tokens names → AllPlaced tokens trees
         → IsInferable (inferring infer trees) → IsLeastSignature (inferring infer trees) s
-        → Annotated (inferring infer trees) s texts tokens (map forget_file trees) new
-        → Kept infer names trees s
+        → Annotated imports (inferring infer trees) s texts tokens (map forget_file trees) new
+        → Kept imports infer names trees s
         (noted_files (inferring infer trees).slots s (map forget_file trees)
         (inferring infer trees).fields (drop 1 (inferring infer trees).methods))
         new }
-    ensures rowless { (infer : Infer) (texts names new : List (List ℕ)) (tokens : List (List Token))
-        (trees : List PlacedFile) (s : List Qualifier)
+    ensures rowless { (imports : Bool) (infer : Infer) (texts names new : List (List ℕ))
+        (tokens : List (List Token)) (trees : List PlacedFile) (s : List Qualifier)
         → TextsLexed 0 known_names texts tokens names → AllPlaced tokens trees
         → rows_of_files trees ≡ [] → length (inferring infer trees).fields < 2 ^ 32
         → length (inferring infer trees).methods < 2 ^ 32
         → IsLeastSignature (inferring infer trees) s
-        → Annotated (inferring infer trees) s texts tokens (map forget_file trees) new
-        → KeptRowless infer names trees s
+        → Annotated imports (inferring infer trees) s texts tokens (map forget_file trees) new
+        → KeptRowless imports infer names trees s
         (noted_files (inferring infer trees).slots s (map forget_file trees)
         (inferring infer trees).fields (drop 1 (inferring infer trees).methods))
         new }
@@ -235,16 +253,16 @@ pub fn annotating_keeps_meaning()
 
 /// So does what `annotate` answers, of trees in memory.
 pub fn annotated_answers_keep_meaning()
-    ensures { (infer : Infer) (texts names new : List (List ℕ)) (tokens : List (List Token))
+    ensures { (imports : Bool) (infer : Infer) (texts names new : List (List ℕ)) (tokens : List (List Token))
         (files : List FileTree) (s : List Qualifier)
         → TextsLexed 0 known_names texts tokens names → AllPlaced tokens (map placed_file files)
         → rows_of_files (map placed_file files) ≡ []
         → length (inferring infer (map placed_file files)).fields < 2 ^ 32
         → length (inferring infer (map placed_file files)).methods < 2 ^ 32
         → IsLeastSignature (inferring infer (map placed_file files)) s
-        → Annotated (inferring infer (map placed_file files)) s texts tokens (map file_view files)
+        → Annotated imports (inferring infer (map placed_file files)) s texts tokens (map file_view files)
         new
-        → KeptRowless infer names (map placed_file files) s
+        → KeptRowless imports infer names (map placed_file files) s
         (noted_files (inferring infer (map placed_file files)).slots s (map file_view files)
         (inferring infer (map placed_file files)).fields
         (drop 1 (inferring infer (map placed_file files)).methods))
@@ -254,13 +272,13 @@ pub fn annotated_answers_keep_meaning()
 /// Of files for which a class table was built no premise is left but that they have no row J1 to J6: trees of the texts, the least signature under
 /// either choice, and the annotated texts.
 pub fn annotating_keeps_the_meaning_of_tables(table: &ClassTable)
-    ensures { (infer : Infer) (texts names new : List (List ℕ)) (tokens : List (List Token))
+    ensures { (imports : Bool) (infer : Infer) (texts names new : List (List ℕ)) (tokens : List (List Token))
         (trees : List PlacedFile) (s : List Qualifier)
         → table.now.heads ≡ heads trees → j_rows trees ≡ []
         → TextsLexed 0 known_names texts tokens names → AllPlaced tokens trees
         → IsLeastSignature (inferring infer trees) s
-        → Annotated (inferring infer trees) s texts tokens (map forget_file trees) new
-        → KeptRowless infer names trees s
+        → Annotated imports (inferring infer trees) s texts tokens (map forget_file trees) new
+        → KeptRowless imports infer names trees s
         (noted_files (inferring infer trees).slots s (map forget_file trees)
         (inferring infer trees).fields (drop 1 (inferring infer trees).methods))
         new }

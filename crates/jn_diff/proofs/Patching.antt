@@ -1,12 +1,12 @@
 -- Hunks make the old lines the new ones.
-use Rattle.std.proofs.Common.{◌≡◌, ℕ, zero, suc, ◌+◌, ◌≤◌, ◌==◌, ◌||◌, Bool, true, false, not, cond, List, [], ◌∷◌, ◌++◌, length, refl, sym, ap, ◌∙◌, subst, arith, append_assoc, length-drop}
+use Rattle.std.proofs.Common.{◌≡◌, ℕ, zero, suc, ◌+◌, ◌-◌, ◌≤◌, ◌==◌, ◌||◌, Bool, true, false, not, cond, List, [], ◌∷◌, ◌++◌, length, refl, sym, ap, ◌∙◌, subst, arith, append_assoc, length-drop}
 use Rattle.std.specs.Prelude.{bytes_eq, drop, take}
 use Rattle.std.specs.List.{list_any}
 use Rattle.std.proofs.lemmas.Bool.{false≢true}
 use Rattle.std.proofs.lemmas.Slice.Eq.{bytes_eq-Decides}
 use Rattle.jn_diff.specs.declared.line.Line.{Line}
 use Rattle.jn_diff.specs.Hunks.{due_behind, Hunk, hunks_from, is_changed, is_shown, shown_count}
-use Rattle.jn_diff.specs.Lines.{lines_of, onto, paired, side_by_side}
+use Rattle.jn_diff.specs.Lines.{against, alone, is_added, lines_of, more_lines, onto, paired, side_by_side}
 use Rattle.jn_diff.specs.Patch.{news, olds, Patches, there}
 use Rattle.jn_diff.proofs.Showing.{none_begins, one_begins}
 
@@ -33,17 +33,31 @@ lines_there : (text : List ℕ) → AreThere (lines_of text)
 lines_there [] = tt
 lines_there (b ∷ bs) = either_there b (lines_of bs) (b == 10) (lines_there bs)
 
-old_lines : (os ns : List (List ℕ)) → AreThere os → olds (side_by_side os ns) ≡ os
-old_lines [] [] all = refl
-old_lines [] (n ∷ ns) all = old_lines [] ns tt
-old_lines (o ∷ os) [] all = ap (λ x. x ++ olds (side_by_side os [])) all.0 ∙ ap (λ x. o ∷ x) (old_lines os [] all.1)
-old_lines (o ∷ os) (n ∷ ns) all = ap (λ x. x ++ olds (side_by_side os ns)) all.0 ∙ ap (λ x. o ∷ x) (old_lines os ns all.1)
+old_alone : (os : List (List ℕ)) → AreThere os → olds (alone os) ≡ os
+old_alone [] all = refl
+old_alone (o ∷ os) all = ap (λ x. x ++ olds (alone os)) all.0 ∙ ap (λ x. o ∷ x) (old_alone os all.1)
 
-new_lines : (os ns : List (List ℕ)) → AreThere ns → news (side_by_side os ns) ≡ ns
-new_lines [] [] all = refl
-new_lines (o ∷ os) [] all = new_lines os [] tt
-new_lines [] (n ∷ ns) all = ap (λ x. x ++ news (side_by_side [] ns)) all.0 ∙ ap (λ x. n ∷ x) (new_lines [] ns all.1)
-new_lines (o ∷ os) (n ∷ ns) all = ap (λ x. x ++ news (side_by_side os ns)) all.0 ∙ ap (λ x. n ∷ x) (new_lines os ns all.1)
+new_alone : (os : List (List ℕ)) → news (alone os) ≡ []
+new_alone [] = refl
+new_alone (o ∷ os) = new_alone os
+
+old_lines : (extra : ℕ) (os ns : List (List ℕ)) → AreThere os → olds (side_by_side extra os ns) ≡ os
+old_lines extra os [] all = old_alone os all
+old_lines extra [] (n ∷ ns) all = old_lines extra [] ns tt
+old_lines extra (o ∷ os) (n ∷ ns) all = by (is_added extra o n) (old_lines (extra - 1) (o ∷ os) ns all) (old_lines extra os ns all.1)
+  where
+    by : (c : Bool) → olds (side_by_side (extra - 1) (o ∷ os) ns) ≡ o ∷ os → olds (side_by_side extra os ns) ≡ os → olds (cond c (against [] n ∷ side_by_side (extra - 1) (o ∷ os) ns) (against o n ∷ side_by_side extra os ns)) ≡ o ∷ os
+    by true e f = e
+    by false e f = ap (λ x. x ++ olds (side_by_side extra os ns)) all.0 ∙ ap (λ x. o ∷ x) f
+
+new_lines : (extra : ℕ) (os ns : List (List ℕ)) → AreThere ns → news (side_by_side extra os ns) ≡ ns
+new_lines extra os [] all = new_alone os
+new_lines extra [] (n ∷ ns) all = ap (λ x. x ++ news (side_by_side extra [] ns)) all.0 ∙ ap (λ x. n ∷ x) (new_lines extra [] ns all.1)
+new_lines extra (o ∷ os) (n ∷ ns) all = by (is_added extra o n) (new_lines (extra - 1) (o ∷ os) ns all.1) (new_lines extra os ns all.1)
+  where
+    by : (c : Bool) → news (side_by_side (extra - 1) (o ∷ os) ns) ≡ ns → news (side_by_side extra os ns) ≡ ns → news (cond c (against [] n ∷ side_by_side (extra - 1) (o ∷ os) ns) (against o n ∷ side_by_side extra os ns)) ≡ n ∷ ns
+    by true e f = ap (λ x. x ++ news (side_by_side (extra - 1) (o ∷ os) ns)) all.0 ∙ ap (λ x. n ∷ x) e
+    by false e f = ap (λ x. x ++ news (side_by_side extra os ns)) all.0 ∙ ap (λ x. n ∷ x) f
 
 -- a line that doesn't change is there in both texts
 abbrev IsSame : Line → Type 0
@@ -64,11 +78,21 @@ nowhere : (line : List ℕ) → line ≡ [] → there line ≡ line ∷ [] → �
 nowhere [] e t = cc
 nowhere (b ∷ bs) e t = cc
 
-all_same : (os ns : List (List ℕ)) → AreThere os → AreThere ns → AllSame (side_by_side os ns)
-all_same [] [] all more = tt
-all_same [] (n ∷ ns) all more = (λ kept. absurd (nowhere n (sym (same_bytes [] n (kept_equal (bytes_eq [] n) kept))) more.0), all_same [] ns tt more.1)
-all_same (o ∷ os) [] all more = (λ kept. absurd (nowhere o (same_bytes o [] (kept_equal (bytes_eq o []) kept)) all.0), all_same os [] all.1 tt)
-all_same (o ∷ os) (n ∷ ns) all more = (λ kept. (all.0, sym (same_bytes o n (kept_equal (bytes_eq o n) kept))), all_same os ns all.1 more.1)
+same_alone : (os : List (List ℕ)) → AreThere os → AllSame (alone os)
+same_alone [] all = tt
+same_alone (o ∷ os) all = (λ kept. absurd (nowhere o (same_bytes o [] (kept_equal (bytes_eq o []) kept)) all.0), same_alone os all.1)
+
+same_added : (n : List ℕ) → there n ≡ n ∷ [] → IsSame (against [] n)
+same_added n is = λ kept. absurd (nowhere n (sym (same_bytes [] n (kept_equal (bytes_eq [] n) kept))) is)
+
+all_same : (extra : ℕ) (os ns : List (List ℕ)) → AreThere os → AreThere ns → AllSame (side_by_side extra os ns)
+all_same extra os [] all more = same_alone os all
+all_same extra [] (n ∷ ns) all more = (same_added n more.0, all_same extra [] ns tt more.1)
+all_same extra (o ∷ os) (n ∷ ns) all more = by (is_added extra o n) (all_same (extra - 1) (o ∷ os) ns all more.1) (all_same extra os ns all.1 more.1)
+  where
+    by : (c : Bool) → AllSame (side_by_side (extra - 1) (o ∷ os) ns) → AllSame (side_by_side extra os ns) → AllSame (cond c (against [] n ∷ side_by_side (extra - 1) (o ∷ os) ns) (against o n ∷ side_by_side extra os ns))
+    by true e f = (same_added n more.0, e)
+    by false e f = (λ kept. (all.0, sym (same_bytes o n (kept_equal (bytes_eq o n) kept))), f)
 
 all_drop : (n : ℕ) (ls : List Line) → AllSame ls → AllSame (drop n ls)
 all_drop zero [] all = all
@@ -157,7 +181,9 @@ pub patched : (old new : List ℕ) → Patches 1 (hunks_from 1 0 (paired old new
 patched old new =
     let os = lines_of old in
     let ns = lines_of new in
-    let all = all_same os ns (lines_there old) (lines_there new) in
-    subst (λ x. Patches 1 (hunks_from 1 0 (side_by_side os ns)) x ns) (old_lines os ns (lines_there old))
-    (subst (λ x. Patches 1 (hunks_from 1 0 (side_by_side os ns)) (olds (side_by_side os ns)) x) (new_lines os ns (lines_there new))
-    (patched_from (length (side_by_side os ns)) 1 (side_by_side os ns) (omega arith) all))
+    let extra = more_lines os ns in
+    let lines = side_by_side extra os ns in
+    let all = all_same extra os ns (lines_there old) (lines_there new) in
+    subst (λ x. Patches 1 (hunks_from 1 0 lines) x ns) (old_lines extra os ns (lines_there old))
+    (subst (λ x. Patches 1 (hunks_from 1 0 lines) (olds lines) x) (new_lines extra os ns (lines_there new))
+    (patched_from (length lines) 1 lines (omega arith) all))

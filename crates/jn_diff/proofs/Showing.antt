@@ -2,8 +2,7 @@
 use Rattle.std.proofs.Common.{◌≡◌, ◌≢◌, ℕ, zero, suc, ◌+◌, ◌-◌, ◌<◌, true, false, cond, List, [], ◌∷◌, ◌++◌, length, refl, sym, ap, ◌∙◌, arith, append_assoc}
 use Rattle.std.specs.Prelude.{drop, take}
 use Rattle.jn_diff.specs.declared.line.Line.{Line}
-use Rattle.std.specs.List.{flat_map}
-use Rattle.jn_diff.specs.Diff.{hunk_text}
+use Rattle.jn_diff.specs.Diff.{added_count, hunk_text, hunks_text}
 use Rattle.jn_diff.specs.Hunks.{due_behind, hunk_of, hunks_from, is_shown, shown_count}
 
 -- the lines of a hunk that began before are passed over
@@ -36,8 +35,10 @@ pub shown_no_more : (due : ℕ) (ls : List Line) → is_shown due ls ≡ false �
 shown_no_more due [] hidden = refl
 shown_no_more due (l ∷ ls) hidden = ap (λ c. cond c (suc (shown_count (due_behind due l) ls)) 0) hidden
 
-pub hunk_put : (text new hunk : List ℕ) (first n : ℕ) (ls : List Line) → shown_count 0 ls ≡ n → n ≢ 0 → hunk ≡ hunk_text (record { first = first; lines = take n ls }) → new ≡ text ++ hunk → new ++ flat_map hunk_text (hunks_from (first + n) 0 (drop n ls)) ≡ text ++ flat_map hunk_text (hunks_from first 0 ls)
-hunk_put text new hunk first n ls is some spells put =
-    ap (λ x. x ++ flat_map hunk_text (hunks_from (first + n) 0 (drop n ls))) (put ∙ ap (λ x. text ++ x) spells)
-    ∙ append_assoc text (hunk_text (record { first = first; lines = take n ls })) (flat_map hunk_text (hunks_from (first + n) 0 (drop n ls)))
-    ∙ ap (λ hs. text ++ flat_map hunk_text hs) (sym (one_begins first n ls is some))
+-- the text of a hunk behind those before it
+pub hunk_put : (text new hunk : List ℕ) (back first n : ℕ) (ls : List Line) → shown_count 0 ls ≡ n → n ≢ 0 → hunk ≡ hunk_text back (record { first = first; lines = take n ls }) → new ≡ text ++ hunk → new ++ hunks_text (back + added_count (take n ls)) (hunks_from (first + n) 0 (drop n ls)) ≡ text ++ hunks_text back (hunks_from first 0 ls)
+hunk_put text new hunk back first n ls is some spells put =
+    let later : List ℕ = hunks_text (back + added_count (take n ls)) (hunks_from (first + n) 0 (drop n ls)) in
+    ap (λ x. x ++ later) (put ∙ ap (λ x. text ++ x) spells)
+    ∙ append_assoc text (hunk_text back (record { first = first; lines = take n ls })) later
+    ∙ ap (λ hs. text ++ hunks_text back hs) (sym (one_begins first n ls is some))

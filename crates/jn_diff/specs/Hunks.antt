@@ -19,7 +19,7 @@ abbrev pub shown_count : ℕ → List Line → ℕ
 shown_count due [] = 0
 shown_count due (l ∷ ls) = cond (is_shown due (l ∷ ls)) (suc (shown_count (due_behind due l) ls)) 0
 
--- lines that are shown together, the first by its number, from 1
+-- lines that are shown together, the first by its number, from 1, which counts lines that one of the texts alone has, too
 pub record Hunk : Type 0 where
   pub first : ℕ
   pub lines : List Line

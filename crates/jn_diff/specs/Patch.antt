@@ -1,7 +1,7 @@
 -- What hunks do to the lines of a text.
 use Rattle.std.specs.Prelude.{ℕ, ◌≡◌, ◌+◌, cond, List, [], ◌∷◌, ◌++◌, length}
 use Rattle.jn_diff.specs.declared.line.Line.{Line}
-use Rattle.jn_diff.specs.Diff.{is_there}
+use Rattle.jn_diff.specs.Lines.{is_there}
 use Rattle.jn_diff.specs.Hunks.{Hunk}
 
 -- a line, where it is there
@@ -19,7 +19,7 @@ news [] = []
 news (l ∷ ls) = there l.new ++ news ls
 
 -- the old lines are the new ones up to a hunk's first line, there are those of the hunk in both, and so on behind it; `at` is the number of
--- the first line
+-- the first line, which counts lines that one of the texts alone has, too
 abbrev pub Patches : ℕ → List Hunk → List (List ℕ) → List (List ℕ) → Type 0
 Patches at [] old new = old ≡ new
 Patches at (h ∷ hs) old new = (same : List (List ℕ)) × (more : List (List ℕ)) × (others : List (List ℕ)) × (at + length same ≡ h.first) × (old ≡ same ++ (olds h.lines ++ more)) × (new ≡ same ++ (news h.lines ++ others)) × Patches (h.first + length h.lines) hs more others

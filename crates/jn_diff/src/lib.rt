@@ -1,7 +1,8 @@
 //! Differences of texts, as unified diffs.
 //!
-//! [`file_diff`] compares two texts line by line, the i-th of the one with the i-th of the other, and writes the lines that differ with
-//! three lines of context, as `git apply` takes it. It looks for no line that moved, so it is short only where no line is added or removed.
+//! [`file_diff`] compares two texts line by line, and writes the lines that differ with three lines of context, as `git apply` takes it.
+//! Where the new text has more lines, the first ones that differ count as added. It looks for no line that moved, so it is short only
+//! where lines are added at one place, before all others that differ, and none is removed.
 #![tactic(auto)]
 
 mod diff;

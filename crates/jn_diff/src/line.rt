@@ -1,6 +1,7 @@
 //! Lines of two texts, one against the other.
-ghost use Rattle.std.specs.Prelude.{◌≡◌, ◌≤◌, ◌<◌, ◌+◌, false, true, bytes_eq, drop, length, not, take, IfOk};
-ghost use Rattle.jn_diff.specs.Lines.{line_length, paired};
+ghost use Rattle.std.specs.Prelude.{◌≡◌, ◌≤◌, ◌<◌, ◌+◌, ◌∷◌, false, true, bytes_eq, drop, length, not, take, IfOk};
+ghost use Rattle.jn_diff.specs.Lines as spec;
+ghost use Rattle.jn_diff.specs.Lines.{line_length, lines_of};
 ghost use Rattle.jn_diff.specs.Hunks.{is_changed};
 
 use jn_base::lists::put;
@@ -61,19 +62,92 @@ fn has_line(old: &[u8], new: &[u8]) -> bool
     old.len() != 0 || new.len() != 0
 }
 
-/// The lines of two texts, the i-th of the one against the i-th of the other.
+/// What stands behind the first line.
+fn behind_line(text: &[u8]) -> &[u8]
+    ensures { result.now ≡ drop (line_length text.now) text.now }
+{
+    let count = line_length(text);
+    &text[count..]
+}
+
+/// How many lines the text has.
+fn line_count(text: &[u8]) -> usize
+    ensures { result ≡ length (lines_of text.now) }
+{
+    let mut count = 0;
+    let mut rest = text;
+    while rest.len() != 0 {
+        rest = behind_line(rest);
+        count += 1;
+    }
+    count
+}
+
+/// Whether both lines are there and differ, while more are due that only the new text has.
+fn is_added(extra: usize, old: &[u8], new: &[u8]) -> bool
+    ensures { result ≡ spec.is_added extra old.now new.now }
+{
+    0 < extra && old.len() != 0 && new.len() != 0 && !are_same(old, new)
+}
+
+/// The next of the lines that stand against each other, and what is left behind it.
+#[derive(Drop)]
+struct Next<'t> {
+    line: Line,
+    extra: usize,
+    olds: &'t [u8],
+    news: &'t [u8],
+}
+
+/// The next line of two texts, of which the new one has so many lines more.
+fn next_line<'t>(
+    alloc: Global,
+    extra: usize,
+    olds: &'t [u8],
+    news: &'t [u8],
+) -> Result<Next<'t>, AllocError>
+    requires some { 0 < length olds.now + length news.now }
+    ensures next { IfOk result (λ n. spec.paired_by extra olds.now news.now
+        ≡ n.line ∷ spec.paired_by n.extra n.olds.now n.news.now) }
+    ensures smaller { IfOk result
+        (λ n. length n.olds.now + length n.news.now < length olds.now + length news.now) }
+{
+    let (old, more) = first_line(alloc, olds)?;
+    let (new, others) = first_line(alloc, news)?;
+    if is_added(extra, old.as_slice(), new.as_slice()) {
+        drop(old);
+        return Ok(Next {
+            line: Line {
+                old: Seq::new(alloc),
+                new,
+            },
+            extra: extra - 1,
+            olds,
+            news: others,
+        });
+    }
+    Ok(Next {
+        line: Line { old, new },
+        extra,
+        olds: more,
+        news: others,
+    })
+}
+
+/// The lines of two texts, one against the other.
 pub(crate) fn paired(alloc: Global, old: &[u8], new: &[u8]) -> Result<Vec<Line>, OutOfMemory>
-    ensures { IfOk result (λ lines. lines.items ≡ paired old.now new.now) }
+    ensures { IfOk result (λ lines. lines.items ≡ spec.paired old.now new.now) }
 {
     let mut lines = Vec::new(alloc);
+    let mut extra = line_count(new).saturating_sub(line_count(old));
     let mut olds = old;
     let mut news = new;
     while has_line(olds, news) {
-        let (old, more) = first_line(alloc, olds)?;
-        let (new, others) = first_line(alloc, news)?;
-        put(&mut lines, Line { old, new })?;
-        olds = more;
-        news = others;
+        let next = next_line(alloc, extra, olds, news)?;
+        extra = next.extra;
+        olds = next.olds;
+        news = next.news;
+        put(&mut lines, next.line)?;
     }
     Ok(lines)
 }

@@ -1,7 +1,8 @@
 //! The texts of lines and hunks.
-ghost use Rattle.std.specs.Prelude.{◌≡◌, ◌++◌, codes, IfOk};
+ghost use Rattle.std.specs.Prelude.{◌≡◌, ◌≤◌, ◌++◌, codes, cond, length, IfOk};
 ghost use Rattle.std.specs.List.{flat_map};
 ghost use Rattle.jn_diff.specs.Diff as spec;
+ghost use Rattle.jn_diff.specs.Lines.{is_there};
 
 use crate::line::{Line, is_changed};
 use itoa::{Buffer, Integer};
@@ -85,6 +86,26 @@ fn new_count(lines: &[Line]) -> usize
     lines.iter().filter(|line| line.new.len() != 0).count()
 }
 
+/// One where only the new text has the line.
+fn added(line: &Line) -> usize
+    ensures is { result ≡ cond (is_there line.now.old) 0 1 }
+    ensures few { result ≤ 1 }
+{
+    if line.old.len() == 0 { 1 } else { 0 }
+}
+
+/// How many lines only the new text has.
+pub(crate) fn added_count(lines: &[Line]) -> usize
+    ensures is { result ≡ spec.added_count lines.now }
+    ensures few { result ≤ length lines.now }
+{
+    let mut count = 0;
+    for line in lines {
+        count += added(line);
+    }
+    count
+}
+
 /// The number of the first line, and how many there are.
 fn range(alloc: Global, first: usize, count: usize) -> Result<Vec<u8>, AllocError>
     ensures { IfOk result (λ text. text.items ≡ spec.range first count) }
@@ -95,11 +116,16 @@ fn range(alloc: Global, first: usize, count: usize) -> Result<Vec<u8>, AllocErro
     Ok(text)
 }
 
-fn hunk_head(alloc: Global, first: usize, lines: &[Line]) -> Result<Vec<u8>, AllocError>
+fn hunk_head(
+    alloc: Global,
+    back: usize,
+    first: usize,
+    lines: &[Line],
+) -> Result<Vec<u8>, AllocError>
     ensures { IfOk result
-        (λ text. text.items ≡ spec.hunk_head (record { first = first; lines = lines.now })) }
+        (λ text. text.items ≡ spec.hunk_head back (record { first = first; lines = lines.now })) }
 {
-    let olds = range(alloc, first, old_count(lines))?;
+    let olds = range(alloc, first.saturating_sub(back), old_count(lines))?;
     let news = range(alloc, first, new_count(lines))?;
     let mut text = Vec::from_slice(alloc, b"@@ -")?;
     text.extend_from_slice(&olds)?;
@@ -109,13 +135,18 @@ fn hunk_head(alloc: Global, first: usize, lines: &[Line]) -> Result<Vec<u8>, All
     Ok(text)
 }
 
-/// The text of a hunk whose first line has this number.
+/// The text of a hunk whose first line has this number, behind so many lines that only the new text has.
 #[tactic(auto, unfolding(crate::specs::Diff::hunk_text))]
-pub(crate) fn hunk_text(alloc: Global, first: usize, lines: &[Line]) -> Result<Vec<u8>, AllocError>
+pub(crate) fn hunk_text(
+    alloc: Global,
+    back: usize,
+    first: usize,
+    lines: &[Line],
+) -> Result<Vec<u8>, AllocError>
     ensures { IfOk result
-        (λ text. text.items ≡ spec.hunk_text (record { first = first; lines = lines.now })) }
+        (λ text. text.items ≡ spec.hunk_text back (record { first = first; lines = lines.now })) }
 {
-    let mut text = hunk_head(alloc, first, lines)?;
+    let mut text = hunk_head(alloc, back, first, lines)?;
     put_lines(&mut text, lines)?;
     Ok(text)
 }

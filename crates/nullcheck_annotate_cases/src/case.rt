@@ -47,7 +47,7 @@ fn take(alloc: Global, case: &mut Case, word: &str) -> Result<(), AllocError> {
         return Ok(());
     }
     case.words.push(String::from_str(alloc, word)?)?;
-    if word != "--write" && word != "--check" {
+    if word != "--imports" && word != "--write" && word != "--check" {
         case.files.push(String::from_str(alloc, word)?)?;
     }
     Ok(())

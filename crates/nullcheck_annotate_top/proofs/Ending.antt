@@ -1,5 +1,5 @@
 -- What stands behind each status.
-use Rattle.std.proofs.Common.{◌≡◌, ℕ, ◌<◌, List, [], ◌∷◌, Option, inl, inr, refl, sym, ap, ◌∙◌, subst, arith}
+use Rattle.std.proofs.Common.{◌≡◌, ℕ, Bool, ◌<◌, List, [], ◌∷◌, Option, inl, inr, refl, sym, ap, ◌∙◌, subst, arith}
 use Rattle.std.specs.Prelude.{◌⊎◌, length, take}
 use Rattle.jn_outside.specs.Sink.{Appends, AppendsPrefix}
 use Rattle.jn_outside.specs.Causes.{Rose}
@@ -43,8 +43,8 @@ study_done mode files (Refused rows) = tt
 study_done mode files (Unannotated fault span) = tt
 study_done mode files (Annotated new) = changed_done mode (changes files new)
 
-pub output_done : (infer : Infer) (mode : Mode) (files : List SourceFile) (output : Output) → IsOutput infer mode files output → Done output.status
-output_done infer mode files output is = subst (λ (o : Output). Done o.status) (sym is.comes) (study_done mode files is.study)
+pub output_done : (infer : Infer) (imports : Bool) (mode : Mode) (files : List SourceFile) (output : Output) → IsOutput infer imports mode files output → Done output.status
+output_done infer imports mode files output is = subst (λ (o : Output). Done o.status) (sym is.comes) (study_done mode files is.study)
 
 module _ (Defined : Output → Type 0) (output : Output) (e : Effects) (defined : Defined output) (done : Done output.status) where
   whole : (status : Status) → Done status → output.status ≡ status → DoesAll output e → AnswersBy Defined e status

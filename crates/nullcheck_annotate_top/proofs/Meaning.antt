@@ -1,5 +1,5 @@
 -- Annotated texts of files mean what the files do.
-use Rattle.std.proofs.Common.{◌≡◌, ℕ, ◌+◌, ◌<◌, ◌^◌, List, [], ◌∷◌, cond, length, map, ap, ◌∙◌, subst}
+use Rattle.std.proofs.Common.{◌≡◌, ℕ, Bool, ◌+◌, ◌<◌, ◌^◌, List, [], ◌∷◌, cond, length, map, ap, ◌∙◌, subst}
 use Rattle.jn_base.specs.declared.infer.Infer.{Infer}
 use Rattle.jn_base.specs.declared.place.Row.{Row}
 use Rattle.jn_known.specs.Known.{known_names}
@@ -23,11 +23,11 @@ use Rattle.nullcheck_annotate_top.specs.Study.{AreAnnotated, texts_of, tokens_of
 -- the law of what annotating keeps
 abbrev pub KeepsMeaning : Type 0
 KeepsMeaning =
-    (infer : Infer) (texts names new : List (List ℕ)) (tokens : List (List Token)) (trees : List PlacedFile) (s : List Qualifier)
+    (imports : Bool) (infer : Infer) (texts names new : List (List ℕ)) (tokens : List (List Token)) (trees : List PlacedFile) (s : List Qualifier)
     → TextsLexed 0 known_names texts tokens names → AllPlaced tokens trees
     → rows_of_files trees ≡ [] → length (inferring infer trees).fields < 2 ^ 32 → length (inferring infer trees).methods < 2 ^ 32
-    → IsLeastSignature (inferring infer trees) s → Annotated (inferring infer trees) s texts tokens (map forget_file trees) new
-    → KeptTrees infer names trees s new
+    → IsLeastSignature (inferring infer trees) s → Annotated imports (inferring infer trees) s texts tokens (map forget_file trees) new
+    → KeptTrees infer imports names trees s new
 
 lexed_texts : (k : ℕ) (names : List (List ℕ)) (files : List SourceFile) (tokens : List (List Token)) (last : List (List ℕ)) → LexedFrom k names files tokens last → TextsLexed k names (texts_of files) tokens last
 lexed_texts k names [] [] last h = h
@@ -44,16 +44,16 @@ placed_all (ts ∷ tss) (tree ∷ trees) h = (h.0, placed_all tss trees h.1)
 rowless : (trees : List PlacedFile) → table_rows trees ≡ [] → lowering_rows trees ≡ [] → rows_of_files trees ≡ []
 rowless trees none lowered = ap (λ (rows : List Row). cond (no_rows rows) (j_rows trees) rows) none ∙ lowered
 
-pub keeps_meaning : KeepsMeaning → (infer : Infer) (files : List SourceFile) (new : List (List ℕ)) (a : AreAnnotated infer files new) → KeptFiles infer files new a
-keeps_meaning law infer files new a =
+pub keeps_meaning : KeepsMeaning → (infer : Infer) (imports : Bool) (files : List SourceFile) (new : List (List ℕ)) (a : AreAnnotated infer imports files new) → KeptFiles infer imports files new a
+keeps_meaning law infer imports files new a =
     let of : ProgramOf infer files a.solved.names a.solved.P = a.solved.of_files.of_files in
     let parsed = of.lowered.declared.parsed in
     let regular : Regular (inferring infer of.trees) = subst Regular of.is of.regular in
-    law infer (texts_of files) a.solved.names new of.tokens of.trees a.solved.signature
+    law imports infer (texts_of files) a.solved.names new of.tokens of.trees a.solved.signature
     (lexed_texts 0 _ files of.tokens a.solved.names parsed.lexed)
     (placed_all of.tokens of.trees parsed.parsed)
     (rowless of.trees of.lowered.declared.rowless of.lowered.rowless)
     regular.few.fields
     regular.few.methods
     (subst (λ (Q : Program). IsLeastSignature Q a.solved.signature) of.is a.solved.least)
-    (subst (λ (Q : Program). Annotated Q a.solved.signature (texts_of files) (tokens_of infer files a.solved) (trees_of infer files a.solved) new) of.is a.are)
+    (subst (λ (Q : Program). Annotated imports Q a.solved.signature (texts_of files) (tokens_of infer files a.solved) (trees_of infer files a.solved) new) of.is a.are)

@@ -1,5 +1,5 @@
 -- What files that were read come to, phase by phase.
-use Rattle.std.proofs.Common.{◌≡◌, List, [], Result, Ok, Err, inl, inr, sym, ◌∙◌, subst}
+use Rattle.std.proofs.Common.{◌≡◌, Bool, List, [], Result, Ok, Err, inl, inr, sym, ◌∙◌, subst}
 use Rattle.std.specs.Prelude.{IfOk}
 use Rattle.jn_base.specs.declared.infer.Infer.{Infer}
 use Rattle.jn_base.specs.declared.refusal.OutOfMemory.{OutOfMemory}
@@ -26,21 +26,21 @@ abbrev pub RefusesBy : List Row → Made → Type 0
 RefusesBy rows made = IfOk made (λ study. (sorted : List Row) × IsOrderOf rows sorted × (study ≡ Refused sorted))
 
 -- files that a phase refuses
-pub refused_made : (infer : Infer) (files : List SourceFile) (rows : List Row) (made : Made) → PhaseRows infer files rows → RefusesBy rows made → IfOk made (λ study. IsStudy infer files study)
-refused_made infer files rows (Ok study) phase by = subst (IsStudy infer files) (sym by.2) (record { broken = rows; phase = phase; order = by.1 })
-refused_made infer files rows (Err e) phase by = tt
+pub refused_made : (infer : Infer) (imports : Bool) (files : List SourceFile) (rows : List Row) (made : Made) → PhaseRows infer files rows → RefusesBy rows made → IfOk made (λ study. IsStudy infer imports files study)
+refused_made infer imports files rows (Ok study) phase by = subst (IsStudy infer imports files) (sym by.2) (record { broken = rows; phase = phase; order = by.1 })
+refused_made infer imports files rows (Err e) phase by = tt
 
-abbrev pub OfAll : Infer → List SourceRead → Made → Type 0
-OfAll infer reads made = IfOk made (λ study. (files : List SourceFile) → AreReads reads files → IsStudy infer files study)
+abbrev pub OfAll : Infer → Bool → List SourceRead → Made → Type 0
+OfAll infer imports reads made = IfOk made (λ study. (files : List SourceFile) → AreReads reads files → IsStudy infer imports files study)
 
-refused_all : (infer : Infer) (reads : List SourceRead) (rows : List Row) (made : Made) → ((files : List SourceFile) → AreReads reads files → PhaseRows infer files rows) → RefusesBy rows made → OfAll infer reads made
-refused_all infer reads rows (Ok study) phase by = λ files are. subst (IsStudy infer files) (sym by.2) (record { broken = rows; phase = phase files are; order = by.1 })
-refused_all infer reads rows (Err e) phase by = tt
+refused_all : (infer : Infer) (imports : Bool) (reads : List SourceRead) (rows : List Row) (made : Made) → ((files : List SourceFile) → AreReads reads files → PhaseRows infer files rows) → RefusesBy rows made → OfAll infer imports reads made
+refused_all infer imports reads rows (Ok study) phase by = λ files are. subst (IsStudy infer imports files) (sym by.2) (record { broken = rows; phase = phase files are; order = by.1 })
+refused_all infer imports reads rows (Err e) phase by = tt
 
-module _ (infer : Infer) (reads : List SourceRead) (limits : List Row) (limited : Limited reads limits) where
+module _ (infer : Infer) (imports : Bool) (reads : List SourceRead) (limits : List Row) (limited : Limited reads limits) where
   -- files that pass a limit
-  pub limits_made : (made : Made) → (limits ≡ [] → ⊥) → RefusesBy limits made → OfAll infer reads made
-  limits_made made some by = refused_all infer reads limits made (λ files are. inl (inl (record { are = limited files are; some = some }))) by
+  pub limits_made : (made : Made) → (limits ≡ [] → ⊥) → RefusesBy limits made → OfAll infer imports reads made
+  limits_made made some by = refused_all infer imports reads limits made (λ files are. inl (inl (record { are = limited files are; some = some }))) by
 
   module _ (none : limits ≡ []) where
     whole : (files : List SourceFile) → AreReads reads files → files_of_reads reads ≡ files
@@ -50,15 +50,15 @@ module _ (infer : Infer) (reads : List SourceRead) (limits : List Row) (limited 
     within files are = sym (limited files are) ∙ none
 
     -- files with a lexical fault or a syntax row
-    pub texts_made : (rows : List Row) (made : Made) → TextRows (files_of_reads reads) rows → (rows ≡ [] → ⊥) → RefusesBy rows made → OfAll infer reads made
+    pub texts_made : (rows : List Row) (made : Made) → TextRows (files_of_reads reads) rows → (rows ≡ [] → ⊥) → RefusesBy rows made → OfAll infer imports reads made
     texts_made rows made (inl faulty) some by =
-        refused_all infer reads rows made (λ files are. inl (inr (inl (record { within = within files are; are = subst (λ fs. FaultRows 0 fs rows) (whole files are) faulty; some = some })))) by
+        refused_all infer imports reads rows made (λ files are. inl (inr (inl (record { within = within files are; are = subst (λ fs. FaultRows 0 fs rows) (whole files are) faulty; some = some })))) by
     texts_made rows made (inr g) some by =
-        refused_all infer reads rows made (λ files are. inl (inr (inr (record { within = within files are; names = g.0; tokens = g.1; lexed = subst (λ fs. LexedFrom 0 known_names fs g.1 g.0) (whole files are) g.2; are = subst (λ fs. SyntaxRows 0 fs g.1 rows) (whole files are) g.3; some = some })))) by
+        refused_all infer imports reads rows made (λ files are. inl (inr (inr (record { within = within files are; names = g.0; tokens = g.1; lexed = subst (λ fs. LexedFrom 0 known_names fs g.1 g.0) (whole files are) g.2; are = subst (λ fs. SyntaxRows 0 fs g.1 rows) (whole files are) g.3; some = some })))) by
 
     -- what holds of what was read holds of the files
-    pub study_made : (study : Study) → IsStudy infer (files_of_reads reads) study → (files : List SourceFile) → AreReads reads files → IsStudy infer files study
-    study_made study is files are = subst (λ fs. IsStudy infer fs study) (whole files are) is
+    pub study_made : (study : Study) → IsStudy infer imports (files_of_reads reads) study → (files : List SourceFile) → AreReads reads files → IsStudy infer imports files study
+    study_made study is files are = subst (λ fs. IsStudy infer imports fs study) (whole files are) is
 
     -- rows stand anywhere in files that were read whole
     pub of_whole : ((files : List SourceFile) × AreReads reads files) → (study : Study) → IsOf reads study

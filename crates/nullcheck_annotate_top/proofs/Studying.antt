@@ -1,5 +1,5 @@
 -- The annotated texts of files, or why they have none.
-use Rattle.std.proofs.Common.{◌≡◌, ℕ, suc, ◌+◌, List, [], ◌∷◌, length, map, refl, sym, ap, ap₂, ◌∙◌, subst}
+use Rattle.std.proofs.Common.{◌≡◌, ℕ, Bool, suc, ◌+◌, List, [], ◌∷◌, length, map, refl, sym, ap, ap₂, ◌∙◌, subst}
 use Rattle.jn_base.specs.declared.infer.Infer.{Infer}
 use Rattle.jn_base.specs.declared.place.Span.{Span}
 use Rattle.jn_quals.specs.Qualifier.{Qualifier}
@@ -47,7 +47,7 @@ all_seen forgets [] = refl
 all_seen forgets (tree ∷ trees) = ap₂ (λ x xs. x ∷ xs) (forgets tree) (all_seen forgets trees)
 
 -- what is known of a program of files, by its parts
-module _ (infer : Infer) (files : List SourceFile) (names : List (List ℕ)) (P : Program) (s : List Qualifier) (texts : List (List ℕ)) (tokens : List (List Token)) (trees : List FileTree) (forgets : Forgets) (typed : TypedProgramOf infer files names P) (placed : typed.of_files.trees ≡ map placed_file trees) (lexed : typed.of_files.tokens ≡ tokens) (read : texts ≡ texts_of files) (least : IsLeastSignature P s) where
+module _ (infer : Infer) (imports : Bool) (files : List SourceFile) (names : List (List ℕ)) (P : Program) (s : List Qualifier) (texts : List (List ℕ)) (tokens : List (List Token)) (trees : List FileTree) (forgets : Forgets) (typed : TypedProgramOf infer files names P) (placed : typed.of_files.trees ≡ map placed_file trees) (lexed : typed.of_files.tokens ≡ tokens) (read : texts ≡ texts_of files) (least : IsLeastSignature P s) where
   abbrev solved : Solved infer files
   solved = record { names = names; P = P; of_files = typed; signature = s; least = least }
 
@@ -58,11 +58,11 @@ module _ (infer : Infer) (files : List SourceFile) (names : List (List ℕ)) (P 
   told : (Holds : List (List ℕ) → List (List Token) → List SourceTree → Type 0) → Holds texts tokens (map file_view trees) → Holds (texts_of files) typed.of_files.tokens (map forget_file typed.of_files.trees)
   told Holds h = subst (λ v. Holds (texts_of files) typed.of_files.tokens v) seen (subst (λ t. Holds (texts_of files) t (map file_view trees)) (sym lexed) (subst (λ x. Holds x tokens (map file_view trees)) read h))
 
-  pub annotated : (new : List (List ℕ)) → Annotated P s texts tokens (map file_view trees) new → AreAnnotated infer files new
-  annotated new h = record { solved = solved; are = told (λ x t v. Annotated P s x t v new) h }
+  pub annotated : (new : List (List ℕ)) → Annotated imports P s texts tokens (map file_view trees) new → AreAnnotated infer imports files new
+  annotated new h = record { solved = solved; are = told (λ x t v. Annotated imports P s x t v new) h }
 
-  pub unannotated : (fault : AnnotateFault) (span : Span) → IsFaultOf P s texts tokens (map file_view trees) fault → span ≡ fault_span P fault → AreUnannotated infer files fault span
-  unannotated fault span h stands = record { solved = solved; why = told (λ x t v. IsFaultOf P s x t v fault) h; stands = stands }
+  pub unannotated : (fault : AnnotateFault) (span : Span) → IsFaultOf imports P s texts tokens (map file_view trees) fault → span ≡ fault_span P fault → AreUnannotated infer imports files fault span
+  unannotated fault span h stands = record { solved = solved; why = told (λ x t v. IsFaultOf imports P s x t v fault) h; stands = stands }
 
 -- a program of files that has no row of types, by its trees
 pub typed_of : (infer : Infer) (files : List SourceFile) (names : List (List ℕ)) (P Q : Program) (trees : List PlacedFile) → Q ≡ P → ((of : ProgramOf infer files names P) × (of.trees ≡ trees)) → NoBaseRows P → (typed : TypedProgramOf infer files names Q) × (typed.of_files.trees ≡ trees)

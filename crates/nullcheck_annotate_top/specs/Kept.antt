@@ -1,5 +1,5 @@
 -- That annotated texts mean what the files do.
-use Rattle.std.specs.Prelude.{ℕ, List, drop, map}
+use Rattle.std.specs.Prelude.{ℕ, Bool, List, drop, map}
 use Rattle.jn_base.specs.declared.infer.Infer.{Infer}
 use Rattle.jn_quals.specs.Qualifier.{Qualifier}
 use Rattle.jn_places.specs.Placed.{PlacedFile}
@@ -11,10 +11,10 @@ use Rattle.jn_annotate_law.specs.Trees.{noted_files}
 use Rattle.nullcheck_annotate_top.specs.Study.{AreAnnotated}
 
 -- what annotating keeps of trees with these names and signature
-abbrev pub KeptTrees : Infer → List (List ℕ) → List PlacedFile → List Qualifier → List (List ℕ) → Type 0
-KeptTrees infer names trees s new =
-    KeptRowless infer names trees s (noted_files (inferring infer trees).slots s (map forget_file trees) (inferring infer trees).fields (drop 1 (inferring infer trees).methods)) new
+abbrev pub KeptTrees : Infer → Bool → List (List ℕ) → List PlacedFile → List Qualifier → List (List ℕ) → Type 0
+KeptTrees infer imports names trees s new =
+    KeptRowless imports infer names trees s (noted_files (inferring infer trees).slots s (map forget_file trees) (inferring infer trees).fields (drop 1 (inferring infer trees).methods)) new
 
 -- what it keeps of the files' own trees, names and least signature
-abbrev pub KeptFiles : (infer : Infer) (files : List SourceFile) (new : List (List ℕ)) → AreAnnotated infer files new → Type 0
-KeptFiles infer files new a = KeptTrees infer a.solved.names a.solved.of_files.of_files.trees a.solved.signature new
+abbrev pub KeptFiles : (infer : Infer) (imports : Bool) (files : List SourceFile) (new : List (List ℕ)) → AreAnnotated infer imports files new → Type 0
+KeptFiles infer imports files new a = KeptTrees infer imports a.solved.names a.solved.of_files.of_files.trees a.solved.signature new

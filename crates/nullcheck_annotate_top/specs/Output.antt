@@ -1,5 +1,5 @@
 -- What the command writes of what files come to.
-use Rattle.std.specs.Prelude.{ℕ, ◌≡◌, ◌++◌, List, [], ◌∷◌, Option, Some, None, codes, decimal, slice_get}
+use Rattle.std.specs.Prelude.{ℕ, ◌≡◌, Bool, ◌++◌, List, [], ◌∷◌, Option, Some, None, codes, decimal, slice_get}
 use Rattle.jn_base.specs.declared.infer.Infer.{Infer}
 use Rattle.jn_base.specs.declared.place.Place.{Place}
 use Rattle.jn_base.specs.declared.place.Span.{Span}
@@ -70,7 +70,7 @@ output_of mode files (Refused rows) = only RefusedStatus (shown plain_shown file
 output_of mode files (Unannotated fault span) = only Rejected (fault_text files fault span)
 output_of mode files (Annotated new) = changed_output mode (changes files new)
 
-pub record IsOutput (infer : Infer) (mode : Mode) (files : List SourceFile) (output : Output) : Type 0 where
+pub record IsOutput (infer : Infer) (imports : Bool) (mode : Mode) (files : List SourceFile) (output : Output) : Type 0 where
   pub study : Study
-  pub is : IsStudy infer files study
+  pub is : IsStudy infer imports files study
   pub comes : output ≡ output_of mode files study

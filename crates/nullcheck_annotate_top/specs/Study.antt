@@ -1,5 +1,5 @@
 -- What files come to: rows that refuse them, why they have no annotated texts, or these texts.
-use Rattle.std.specs.Prelude.{ℕ, ◌≡◌, List, map}
+use Rattle.std.specs.Prelude.{ℕ, ◌≡◌, Bool, List, map}
 use Rattle.jn_base.specs.declared.infer.Infer.{Infer}
 use Rattle.jn_base.specs.declared.place.Span.{Span}
 use Rattle.jn_quals.specs.Qualifier.{Qualifier}
@@ -40,21 +40,21 @@ module _ (infer : Infer) (files : List SourceFile) (solved : Solved infer files)
   trees_of = map forget_file solved.of_files.of_files.trees
 
 -- the files' texts with what is inferred of them, under the least signature of their program
-pub record AreAnnotated (infer : Infer) (files : List SourceFile) (new : List (List ℕ)) : Type 0 where
+pub record AreAnnotated (infer : Infer) (imports : Bool) (files : List SourceFile) (new : List (List ℕ)) : Type 0 where
   pub solved : Solved infer files
-  pub are : Annotated solved.P solved.signature (texts_of files) (tokens_of infer files solved) (trees_of infer files solved) new
+  pub are : Annotated imports solved.P solved.signature (texts_of files) (tokens_of infer files solved) (trees_of infer files solved) new
 
 -- they have no such texts, for this reason, which stands there
-pub record AreUnannotated (infer : Infer) (files : List SourceFile) (fault : AnnotateFault) (span : Span) : Type 0 where
+pub record AreUnannotated (infer : Infer) (imports : Bool) (files : List SourceFile) (fault : AnnotateFault) (span : Span) : Type 0 where
   pub solved : Solved infer files
-  pub why : IsFaultOf solved.P solved.signature (texts_of files) (tokens_of infer files solved) (trees_of infer files solved) fault
+  pub why : IsFaultOf imports solved.P solved.signature (texts_of files) (tokens_of infer files solved) (trees_of infer files solved) fault
   pub stands : span ≡ fault_span solved.P fault
 
 -- files that some phase refuses come to its rows; of others nothing is asked, accepted or not
-abbrev pub IsStudy : Infer → List SourceFile → Study → Type 0
-IsStudy infer files (Refused rows) = IsPhase infer files rows
-IsStudy infer files (Unannotated fault span) = AreUnannotated infer files fault span
-IsStudy infer files (AnnotatedTexts new) = AreAnnotated infer files new
+abbrev pub IsStudy : Infer → Bool → List SourceFile → Study → Type 0
+IsStudy infer imports files (Refused rows) = IsPhase infer files rows
+IsStudy infer imports files (Unannotated fault span) = AreUnannotated infer imports files fault span
+IsStudy infer imports files (AnnotatedTexts new) = AreAnnotated infer imports files new
 
 -- what was read are the files, whole
 abbrev pub AreWhole : List SourceRead → Type 0

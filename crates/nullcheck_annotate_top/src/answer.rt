@@ -42,6 +42,7 @@ fn output_of_reads<R: Threads + Sync, G: Gate + Sync>(
     gate: &G,
     alloc: Global,
     infer: Infer,
+    imports: bool,
     mode: Mode,
     reads: &[SourceRead],
 ) -> Result<Output, OutOfMemory>
@@ -49,9 +50,9 @@ fn output_of_reads<R: Threads + Sync, G: Gate + Sync>(
     requires fit { ReadsFit reads.now }
     requires read { (files : List SpecFile) × AreReads reads.now files }
     ensures { IfOk result (λ o. (files : List SpecFile) → AreReads reads.now files
-        → IsOutput infer mode files o) }
+        → IsOutput infer imports mode files o) }
 {
-    let study = study_files(rt, gate, alloc, WORKERS, infer, reads)?;
+    let study = study_files(rt, gate, alloc, WORKERS, infer, imports, reads)?;
     output_of(alloc, mode, reads, study)
 }
 
@@ -91,7 +92,15 @@ pub fn answer_wanted<R: Threads + Sync, G: Gate + Sync, F: Files, K: Sink, T: Ta
         Err(Fail::Refused(_)) => return Status::ReadFault,
         Err(Fail::OutOfMemory) => return Status::OutOfMemory,
     };
-    match output_of_reads(rt, gate, alloc, wanted.infer, wanted.mode, &reads) {
+    match output_of_reads(
+        rt,
+        gate,
+        alloc,
+        wanted.infer,
+        wanted.imports,
+        wanted.mode,
+        &reads,
+    ) {
         Ok(output) => finish(out, targets, &output),
         Err(_) => Status::OutOfMemory,
     }

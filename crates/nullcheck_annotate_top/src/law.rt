@@ -1,5 +1,5 @@
 //! A law of annotated files.
-ghost use Rattle.std.specs.Prelude.{List, ℕ};
+ghost use Rattle.std.specs.Prelude.{Bool, List, ℕ};
 ghost use Rattle.jn_base.specs.declared.infer.Infer.{Infer};
 ghost use Rattle.jn_front.specs.declared.source.SourceFile.{SourceFile};
 ghost use Rattle.nullcheck_annotate_top.specs.Kept.{KeptFiles};
@@ -10,10 +10,10 @@ use jn_annotate_law::law::annotating_keeps_meaning;
 /// What is shown or written of files means the same as they do: the new texts lex and parse, with the same names, and have no row T or J
 /// before types; their program is that of the files but for places, nothing of it is inferred, what is written is its least signature,
 /// the same rules are broken at the same points, constructors and pairs, and rows of types have the same codes, all of it both ways;
-/// and they are annotated to themselves. So they are accepted exactly where the files are, as long as no limit on files is passed.
+/// and they are annotated to themselves. Imports of annotations, where they are asked for, change none of it. So they are accepted exactly where the files are, as long as no limit on files is passed.
 pub fn annotated_files_mean_the_same()
-    ensures { (infer : Infer) (files : List SourceFile) (new : List (List ℕ))
-        (a : AreAnnotated infer files new) → KeptFiles infer files new a }
+    ensures { (infer : Infer) (imports : Bool) (files : List SourceFile) (new : List (List ℕ))
+        (a : AreAnnotated infer imports files new) → KeptFiles infer imports files new a }
 {
     annotating_keeps_meaning();
 }

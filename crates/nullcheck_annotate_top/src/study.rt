@@ -62,6 +62,7 @@ fn refused(alloc: Global, rows: Vec<Row>) -> Result<Study, OutOfMemory>
 fn study_solved(
     alloc: Global,
     infer: Infer,
+    imports: bool,
     reads: &[SourceRead],
     names: &Names,
     trees: &[FileTree],
@@ -75,10 +76,10 @@ fn study_solved(
     requires least { IsLeastSignature base.now sig.now }
     requires texts { texts.now ≡ texts_of (files_of_reads reads.now) }
     requires few { length reads.now ≤ 64 }
-    ensures { IfOk result (λ study. IsStudy infer (files_of_reads reads.now) study) }
+    ensures { IfOk result (λ study. IsStudy infer imports (files_of_reads reads.now) study) }
 {
     places_are_forgotten();
-    match annotate(alloc, texts, tokens, trees, base.program(), sig) {
+    match annotate(alloc, imports, texts, tokens, trees, base.program(), sig) {
         Ok(new) => Ok(Study::Annotated(Seq::of_vec(new))),
         Err(Fail::Refused(fault)) => {
             Ok(Study::Unannotated(fault, fault_span(base.program(), fault)))
@@ -93,6 +94,7 @@ fn study_typed<R: Threads + Sync, G: Gate + Sync>(
     alloc: Global,
     workers: u32,
     infer: Infer,
+    imports: bool,
     reads: &[SourceRead],
     names: &Names,
     trees: &[FileTree],
@@ -104,14 +106,14 @@ fn study_typed<R: Threads + Sync, G: Gate + Sync>(
     requires few { length reads.now ≤ 64 }
     requires fit { ReadsFit reads.now }
     requires workers { (1 ≤ workers) × (workers ≤ 16) }
-    ensures { IfOk result (λ study. IsStudy infer (files_of_reads reads.now) study) }
+    ensures { IfOk result (λ study. IsStudy infer imports (files_of_reads reads.now) study) }
 {
     regular_programs_are_inferable();
     let sig = solve_sig(rt, alloc, base.indexed(), workers, gate)?;
     let texts = texts(alloc, reads)?;
     let tokens = lex_all(alloc, reads)?;
     study_solved(
-        alloc, infer, reads, names, trees, &base, &sig, &texts, &tokens,
+        alloc, infer, imports, reads, names, trees, &base, &sig, &texts, &tokens,
     )
 }
 
@@ -121,6 +123,7 @@ fn study_program<R: Threads + Sync, G: Gate + Sync>(
     alloc: Global,
     workers: u32,
     infer: Infer,
+    imports: bool,
     reads: &[SourceRead],
     names: &Names,
     trees: &[FileTree],
@@ -132,11 +135,13 @@ fn study_program<R: Threads + Sync, G: Gate + Sync>(
     requires few { length reads.now ≤ 64 }
     requires fit { ReadsFit reads.now }
     requires workers { (1 ≤ workers) × (workers ≤ 16) }
-    ensures { IfOk result (λ study. IsStudy infer (files_of_reads reads.now) study) }
+    ensures { IfOk result (λ study. IsStudy infer imports (files_of_reads reads.now) study) }
 {
     match base_check(rt, alloc, program, workers) {
         Ok(base) => {
-            return study_typed(rt, alloc, workers, infer, reads, names, trees, base, gate);
+            return study_typed(
+                rt, alloc, workers, infer, imports, reads, names, trees, base, gate,
+            );
         }
         Err(Fail::Refused(rows)) => return refused(alloc, rows),
         Err(Fail::OutOfMemory) => return Err(OutOfMemory),
@@ -149,6 +154,7 @@ fn study_table<R: Threads + Sync, G: Gate + Sync>(
     alloc: Global,
     workers: u32,
     infer: Infer,
+    imports: bool,
     reads: &[SourceRead],
     names: &Names,
     trees: &[FileTree],
@@ -161,12 +167,12 @@ fn study_table<R: Threads + Sync, G: Gate + Sync>(
     requires few { length reads.now ≤ 64 }
     requires fit { ReadsFit reads.now }
     requires workers { (1 ≤ workers) × (workers ≤ 16) }
-    ensures { IfOk result (λ study. IsStudy infer (files_of_reads reads.now) study) }
+    ensures { IfOk result (λ study. IsStudy infer imports (files_of_reads reads.now) study) }
 {
     match lower(rt, alloc, table, trees, workers) {
         Ok(program) => {
             return study_program(
-                rt, alloc, workers, infer, reads, names, trees, program, gate,
+                rt, alloc, workers, infer, imports, reads, names, trees, program, gate,
             );
         }
         Err(Fail::Refused(rows)) => return refused(alloc, rows.into_vec()),
@@ -180,6 +186,7 @@ fn study_trees<R: Threads + Sync, G: Gate + Sync>(
     alloc: Global,
     workers: u32,
     infer: Infer,
+    imports: bool,
     reads: &[SourceRead],
     names: &Names,
     trees: &[FileTree],
@@ -190,11 +197,13 @@ fn study_trees<R: Threads + Sync, G: Gate + Sync>(
     requires few { length reads.now ≤ 64 }
     requires fit { ReadsFit reads.now }
     requires workers { (1 ≤ workers) × (workers ≤ 16) }
-    ensures { IfOk result (λ study. IsStudy infer (files_of_reads reads.now) study) }
+    ensures { IfOk result (λ study. IsStudy infer imports (files_of_reads reads.now) study) }
 {
     match build(alloc, trees, infer) {
         Ok(table) => {
-            return study_table(rt, alloc, workers, infer, reads, names, trees, table, gate);
+            return study_table(
+                rt, alloc, workers, infer, imports, reads, names, trees, table, gate,
+            );
         }
         Err(Fail::Refused(rows)) => return refused(alloc, rows.into_vec()),
         Err(Fail::OutOfMemory) => return Err(OutOfMemory),
@@ -210,7 +219,7 @@ fn no_rows(rows: &Vec<Row>) -> bool
 
 /// What files that were read come to, at most 64, by so many workers, with the choice of members that are inferred: the text of each
 /// with what is inferred of it, whether they are accepted or not; or the rows of the phase that refuses them, or why they have no such
-/// texts. The memory of their trees is left to the process's end.
+/// texts. Where `imports` holds, annotations that a file gets are imported. The memory of their trees is left to the process's end.
 ///
 /// # Errors
 ///
@@ -221,6 +230,7 @@ pub fn study_files<R: Threads + Sync, G: Gate + Sync>(
     alloc: Global,
     workers: u32,
     infer: Infer,
+    imports: bool,
     reads: &[SourceRead],
 ) -> Result<Study, OutOfMemory>
     requires workers { (1 ≤ workers) × (workers ≤ 16) }
@@ -228,7 +238,7 @@ pub fn study_files<R: Threads + Sync, G: Gate + Sync>(
     requires fit { ReadsFit reads.now }
     requires read { (files : List SpecFile) × AreReads reads.now files }
     ensures is { IfOk result (λ study. (files : List SpecFile) → AreReads reads.now files
-        → IsStudy infer files study) }
+        → IsStudy infer imports files study) }
     ensures of { IfOk result (λ study. IsOf reads.now study) }
 {
     let limits = limit_rows(alloc, reads)?;
@@ -244,6 +254,7 @@ pub fn study_files<R: Threads + Sync, G: Gate + Sync>(
         alloc,
         workers,
         infer,
+        imports,
         reads,
         &parsed.names,
         &parsed.trees,

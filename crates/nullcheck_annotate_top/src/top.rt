@@ -19,7 +19,8 @@ use jn_targets::Targets;
 use std::alloc::Global;
 use std::thread::Threads;
 
-const USAGE: &str = "usage: nullcheck_annotate [--infer NAME] [--check] [--write] FILE..\n";
+const USAGE: &str =
+    "usage: nullcheck_annotate [--infer NAME] [--imports] [--check] [--write] FILE..\n";
 
 /// The output of words that are no command's.
 fn usage_output(alloc: Global) -> Result<Output, OutOfMemory>

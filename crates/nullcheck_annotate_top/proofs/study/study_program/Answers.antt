@@ -12,6 +12,6 @@ study_typed-requires-clause-program g c κs lives = typed_of c.args.infer (files
 pub returns-in-Err-Refused : goal.returns-in-Err-Refused
 returns-in-Err-Refused g c =
     let are = subst (λ fail. IsRefusedFor c.args.program fail) c.in-Err-Refused.field-0-is c.in-Err-Refused.ensures.refused in
-    refused_made c.args.infer (files_of_reads c.args.reads.now) c.in-Err-Refused.rows.items c.refused.result
+    refused_made c.args.infer c.args.imports (files_of_reads c.args.reads.now) c.in-Err-Refused.rows.items c.refused.result
     (inr (inr (inr (record { names = c.args.names.now; P = c.args.program; of_files = c.requires.program.0; are = are.1; some = are.0 }))))
     (subst (λ rows. RefusesBy rows.items c.refused.result) c.in-Err-Refused.rows-is c.refused.ensures)

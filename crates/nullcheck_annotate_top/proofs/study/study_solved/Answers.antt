@@ -18,9 +18,9 @@ returns-in-Ok c =
     let tokens = c.args.tokens.now in
     let views = map file_view c.args.trees.now in
     let s = c.args.sig.now in
-    let h = subst (λ P. Annotated P s texts tokens views c.in-Ok.new.items) c.program.ensures.is c.in-Ok.ensures.annotated in
-    annotated c.args.infer (files_of_reads c.args.reads.now) c.args.names.now c.args.base.now s texts tokens c.args.trees.now c.places_are_forgotten.ensures.view p.0 p.1 p.2 c.requires.texts c.requires.least c.of_vec.result
-    (subst (λ new. Annotated c.args.base.now s texts tokens views new) (sym c.of_vec.ensures) h)
+    let h = subst (λ P. Annotated c.args.imports P s texts tokens views c.in-Ok.new.items) c.program.ensures.is c.in-Ok.ensures.annotated in
+    annotated c.args.infer c.args.imports (files_of_reads c.args.reads.now) c.args.names.now c.args.base.now s texts tokens c.args.trees.now c.places_are_forgotten.ensures.view p.0 p.1 p.2 c.requires.texts c.requires.least c.of_vec.result
+    (subst (λ new. Annotated c.args.imports c.args.base.now s texts tokens views new) (sym c.of_vec.ensures) h)
 
 pub returns-in-Err-Refused : goal.returns-in-Err-Refused
 returns-in-Err-Refused c =
@@ -30,6 +30,6 @@ returns-in-Err-Refused c =
     let views = map file_view c.args.trees.now in
     let s = c.args.sig.now in
     let fault = c.in-Err-Refused.fault in
-    let why = subst (λ f. IsWhyRefused c.args.base.now s texts tokens views f) c.in-Err-Refused.field-0-is (subst (λ P. IsWhyRefused P s texts tokens views c.in-Err-Refused.field-0) c.program.ensures.is c.in-Err-Refused.ensures.refused) in
-    unannotated c.args.infer (files_of_reads c.args.reads.now) c.args.names.now c.args.base.now s texts tokens c.args.trees.now c.places_are_forgotten.ensures.view p.0 p.1 p.2 c.requires.texts c.requires.least fault c.fault_span.result why
+    let why = subst (λ f. IsWhyRefused c.args.imports c.args.base.now s texts tokens views f) c.in-Err-Refused.field-0-is (subst (λ P. IsWhyRefused c.args.imports P s texts tokens views c.in-Err-Refused.field-0) c.program.ensures.is c.in-Err-Refused.ensures.refused) in
+    unannotated c.args.infer c.args.imports (files_of_reads c.args.reads.now) c.args.names.now c.args.base.now s texts tokens c.args.trees.now c.places_are_forgotten.ensures.view p.0 p.1 p.2 c.requires.texts c.requires.least fault c.fault_span.result why
     (c.fault_span.ensures ∙ ap (λ P. fault_span P fault) c.program-in-Err-Refused.ensures.is)

@@ -29,5 +29,5 @@ returns-in-Err-Refused g c =
     let declared = c.requires.declared in
     let are = subst (λ fail. IsRefusedFor trees fail) c.in-Err-Refused.field-0-is c.in-Err-Refused.ensures.refused in
     let rows = c.into_vec.ensures ∙ c.in-Err-Refused.rows-is ∙ are.0 in
-    refused_made c.args.infer (files_of_reads c.args.reads.now) c.into_vec.result.items c.refused.result
+    refused_made c.args.infer c.args.imports (files_of_reads c.args.reads.now) c.into_vec.result.items c.refused.result
     (inr (inr (inl (record { names = c.args.names.now; tokens = declared.0; trees = trees; declared = declared.1; are = rows; some = λ none. are.1 (sym rows ∙ none) })))) c.refused.ensures

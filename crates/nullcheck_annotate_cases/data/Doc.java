@@ -1,0 +1,6 @@
+/* Copyright. */
+
+/** A class. */
+class Doc {
+  private String s = "s";
+}
