@@ -1,0 +1,9 @@
+pub mod Going
+pub mod Reading
+pub mod Keeping
+pub mod Splitting
+pub mod Showing
+pub mod Rechecking
+pub mod Fitting
+pub mod RuleRows
+pub mod OneReport

@@ -1,0 +1,59 @@
+-- What a session is, and what its report gives.
+use Rattle.std.specs.Prelude.{ℕ, ◌≡◌, List, map, Option, Some, None}
+use Rattle.jn_base.specs.declared.infer.Infer.TheVariants.{Private}
+use Rattle.jn_base.specs.declared.place.Row.{Row}
+use Rattle.jn_command.specs.declared.report.Report.{Report}
+use Rattle.jn_command.specs.declared.report.Report.TheVariants.{Refused, Checked}
+use Rattle.jn_command.specs.Reports.{rows_of, verdict_of}
+use Rattle.jn_command.specs.Shown.{row_of}
+use Rattle.jn_diag.specs.declared.shown.RowText.{RowText}
+use Rattle.jn_diag.specs.declared.shown.Verdict.{Verdict}
+use Rattle.jn_front.specs.declared.source.SourceFile.{SourceFile}
+use Rattle.jn_inference_law.specs.Solution.{IsLeastSignature}
+use Rattle.jn_recheck_law.specs.Reusable.{Solved}
+use Rattle.jn_recheck.specs.Files.{changed}
+use Rattle.jn_recheck.specs.KeptRows.{AreMadeAnew}
+use Rattle.jn_typed_files.specs.Phases.{TypedProgramOf}
+use Rattle.jn_recheck.specs.Report.{IsReport}
+
+-- the files, those at the last report, and the program, the texts of its names and the least signature of the last report that came to the rules
+pub record SessionOf : Type 0 where
+  pub files : List SourceFile
+  pub last : List SourceFile
+  pub kept : Option Solved
+
+-- the files' program, the texts of its names and its least signature
+pub record IsSolutionOf (files : List SourceFile) (solved : Solved) : Type 0 where
+  pub typed : TypedProgramOf Private files solved.names solved.program
+  pub least : IsLeastSignature solved.program solved.signature
+
+-- a report of the files, what it leaves to be kept, and how many bodies were not reusable: none where the rules aren't reached
+abbrev pub IsRecheck : Option Solved → List SourceFile → Report → Option Solved → ℕ → Type 0
+IsRecheck old files (Refused rows) new made = IsReport Private files (Refused rows) × (new ≡ None) × (made ≡ 0)
+IsRecheck old files (Checked rows) new made = IsReport Private files (Checked rows) × ((solved : Solved) × (new ≡ Some solved) × IsSolutionOf files solved × AreMadeAnew old solved made)
+
+-- what is new is kept in place of what was
+abbrev pub or_else : Option Solved → Option Solved → Option Solved
+or_else None old = old
+or_else (Some solved) old = Some solved
+
+-- a row as a reader sees it
+abbrev pub text_of_row : List SourceFile → Row → RowText
+text_of_row files row = (row_of files row).text
+
+-- rows and verdict of a report of the files
+abbrev pub AreShown : List SourceFile → Report → List RowText → Verdict → Type 0
+AreShown files report rows verdict = (rows ≡ map (text_of_row files) (rows_of report)) × (verdict ≡ verdict_of report)
+
+-- what a report of a session gives: rows and verdict are those of the files' report, `files` is the number of names with another text than at the
+-- last report, `made` that of the bodies that are not reusable
+pub record Reports (before after : SessionOf) (rows : List RowText) (verdict : Verdict) (files made : ℕ) : Type 0 where
+  pub report : Report
+  pub is : IsReport Private before.files report
+  pub shown : AreShown before.files report rows verdict
+  pub changes : files ≡ changed before.last before.files
+  pub stays : after.files ≡ before.files
+  pub last : after.last ≡ before.files
+  pub found : Option Solved
+  pub recheck : IsRecheck before.kept before.files report found made
+  pub keeps : after.kept ≡ or_else found before.kept

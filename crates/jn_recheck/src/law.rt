@@ -1,0 +1,31 @@
+//! Laws of sessions.
+ghost use Rattle.std.specs.Prelude.{◌≡◌, List, ℕ};
+ghost use Rattle.jn_base.specs.declared.infer.Infer.{Infer};
+ghost use Rattle.jn_command.specs.declared.report.Report.{Report};
+ghost use Rattle.jn_diag.specs.declared.shown.RowText.{RowText};
+ghost use Rattle.jn_diag.specs.declared.shown.Verdict.{Verdict};
+ghost use Rattle.jn_front.specs.declared.source.SourceFile.{SourceFile};
+ghost use Rattle.jn_recheck.specs.Report.{IsReport};
+ghost use Rattle.jn_recheck.specs.Sessions.{Reports, SessionOf};
+
+use jn_diag::rows_have_one_order;
+use jn_inference_law::law::least_signatures_are_unique;
+use jn_tables_law::law::rounds_give_the_least_table;
+use jn_typed_files::law::files_have_one_typing;
+
+/// Files have at most one report, and a session reports in one way: its rows, its verdict, its numbers and what is kept are those of the
+/// session, whatever the number of workers, and whoever of them did what.
+pub fn sessions_report_one_way()
+    ensures report { (infer : Infer) (files : List SourceFile) (one other : Report)
+        → IsReport infer files one → IsReport infer files other → one ≡ other }
+    ensures outcome { (before one other : SessionOf) (rows others : List RowText)
+        (verdict second : Verdict) (files count made bodies : ℕ)
+        → Reports before one rows verdict files made
+        → Reports before other others second count bodies
+        → (rows ≡ others) × (verdict ≡ second) × (files ≡ count) × (made ≡ bodies) × (one ≡ other) }
+{
+    files_have_one_typing();
+    least_signatures_are_unique();
+    rounds_give_the_least_table();
+    rows_have_one_order();
+}

@@ -1,0 +1,14 @@
+//! Rechecking after edits: a [`Session`] keeps files, and of its reports what serves the next one.
+#![tactic(auto)]
+
+mod anew;
+mod files;
+mod kept;
+pub mod law;
+mod reads;
+mod recheck;
+mod rows;
+pub mod session;
+mod shown;
+
+pub use session::{Checked, Session};

@@ -1,0 +1,170 @@
+//! A session: files that are edited, and reports of them.
+ghost use Rattle.std.specs.Prelude.{◌≡◌, ◌≢◌, ◌≤◌, ◌↔◌, [], None, Some, OnOk, OnErr, IfOk, length, true};
+ghost use Rattle.jn_recheck.specs.Files.{AllFit, changed, place_of, with_file, without_file};
+ghost use Rattle.jn_recheck.specs.Sessions.{AreShown, Reports, or_else};
+
+use crate::files::{changed, copy_files, remove_file, set_file};
+use crate::kept::Kept;
+use crate::recheck::{Rechecked, recheck_files};
+use crate::shown::row_texts;
+use jn_base::OutOfMemory;
+use jn_command::Report;
+use jn_diag::{RowText, Verdict};
+use jn_front::SourceFile;
+use jn_gate::Gate;
+use std::alloc::Global;
+use std::marker::Model;
+use std::thread::Threads;
+
+/// A report of a session's files: its rows in order, what they come to, how many files have another text than at the last report, and
+/// of how many bodies the rows were made anew.
+#[derive(Drop)]
+pub struct Checked {
+    pub rows: Vec<RowText>,
+    pub verdict: Verdict,
+    pub files: u64,
+    pub bodies: u32,
+}
+
+/// What a report of the files says, beside what its numbers are, and a copy of the files.
+fn tell(
+    alloc: Global,
+    files: &[SourceFile],
+    last: &[SourceFile],
+    report: &Report,
+    made: u32,
+) -> Result<(Checked, Vec<SourceFile>), OutOfMemory>
+    requires fit { AllFit files.now }
+    ensures shown { IfOk result (λ t. AreShown files.now report.now t.0.rows.items t.0.verdict) }
+    ensures files { IfOk result (λ t. t.0.files ≡ changed last.now files.now) }
+    ensures bodies { IfOk result (λ t. t.0.bodies ≡ made) }
+    ensures copy { IfOk result (λ t. t.1.items ≡ files.now) }
+{
+    let rows = row_texts(alloc, files, report.rows())?;
+    let copy = copy_files(alloc, files)?;
+    Ok((
+        Checked {
+            rows,
+            verdict: report.verdict(),
+            files: changed(last, files),
+            bodies: made,
+        },
+        copy,
+    ))
+}
+
+/// What is new is kept in place of what was.
+fn keep(kept: &mut Option<Kept>, new: Option<Kept>)
+    ensures { kept.new ≡ or_else new kept.old }
+{
+    if let Some(new) = new {
+        *kept = Some(new);
+    }
+}
+
+/// Files that are edited name by name, and what is kept of their reports. Contracts see the files, those of the last report, and the program of
+/// the last one that came to the rules, with the texts of its names and its least signature.
+#[derive(Drop)]
+pub struct Session {
+    alloc: Global,
+    files: Vec<SourceFile>,
+    last: Vec<SourceFile>,
+    kept: Option<Kept>,
+}
+
+impl Model for Session {
+    ghost use Rattle.jn_recheck.specs.Files.{AllFit};
+    ghost use Rattle.jn_recheck.specs.Sessions.{SessionOf};
+
+    ghost Value = { SessionOf };
+
+    ghost view = { λ s. record { files = s.files.items; last = s.last.items; kept = s.kept } };
+
+    ghost invariant = { λ s. AllFit s.files.items };
+}
+
+impl Session {
+    /// A session without files.
+    pub fn new(alloc: Global) -> Session
+        ensures { result ≡ record { files = []; last = []; kept = None } }
+    {
+        Session {
+            alloc,
+            files: Vec::new(alloc),
+            last: Vec::new(alloc),
+            kept: None,
+        }
+    }
+
+    /// Gives a known name its new text in its place, and puts a new name last.
+    ///
+    /// # Errors
+    /// No memory was found, and the session is as before.
+    pub fn set(&mut self, name: &str, text: &[u8]) -> Result<(), OutOfMemory>
+        requires { length text.now ≤ 1048577 }
+        ensures files { OnOk result (self.new.files ≡ with_file name.now text.now self.old.files) }
+        ensures unchanged { OnErr result (self.new.files ≡ self.old.files) }
+        ensures last { self.new.last ≡ self.old.last }
+        ensures kept { self.new.kept ≡ self.old.kept }
+    {
+        set_file(self.alloc, &mut self.files, name, text)
+    }
+
+    /// Removes the file of this name; says whether it was there.
+    pub fn remove(&mut self, name: &str) -> bool
+        ensures files { self.new.files ≡ without_file name.now self.old.files }
+        ensures there { (result ≡ true) ↔ (place_of name.now self.old.files ≢ None) }
+        ensures last { self.new.last ≡ self.old.last }
+        ensures kept { self.new.kept ≡ self.old.kept }
+    {
+        remove_file(&mut self.files, name)
+    }
+
+    /// The report of the files, by so many workers. Each enters the gate `solving` when it takes a file or a body for inference, and `bodies`
+    /// before it makes a body's rows anew.
+    ///
+    /// # Errors
+    /// No memory was found, and the session is as before.
+    pub fn report<R: Threads + Sync, G: Gate + Sync, H: Gate + Sync>(
+        &mut self,
+        rt: &R,
+        workers: u32,
+        solving: &G,
+        bodies: &H,
+    ) -> Result<Checked, OutOfMemory>
+        requires workers { (1 ≤ workers) × (workers ≤ 16) }
+        ensures reports { IfOk result (λ checked. Reports self.old self.new checked.rows.items
+            checked.verdict checked.files checked.bodies) }
+        ensures unchanged { OnErr result (self.new ≡ self.old) }
+    {
+        let alloc = self.alloc;
+        let Rechecked { report, kept, made } = recheck_files(
+            rt,
+            alloc,
+            workers,
+            self.files.as_slice(),
+            &self.kept,
+            solving,
+            bodies,
+        )?;
+        let told = tell(
+            alloc,
+            self.files.as_slice(),
+            self.last.as_slice(),
+            &report,
+            made,
+        );
+        drop(report);
+        match told {
+            Ok((checked, last)) => {
+                self.last = last;
+                keep(&mut self.kept, kept);
+                return Ok(checked);
+            }
+            Err(_) => {
+                drop(kept);
+                return Err(OutOfMemory);
+            }
+        }
+    }
+}

@@ -1,0 +1,3 @@
+pub mod TypeRows
+pub mod OneTyping
+pub mod Reporting

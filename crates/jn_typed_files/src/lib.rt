@@ -1,0 +1,10 @@
+//! From files that were read to their program, whose types fit, or to the rows of the first phase that has any.
+//!
+//! [`type_files`] does so, by workers; `specs/Phases.antt` says what the phases' rows and the program are, and [`law`] that files have
+//! one of the two, in one way.
+#![tactic(auto)]
+
+pub mod law;
+pub mod typing;
+
+pub use typing::{TypedFiles, too_many_files, type_files};

@@ -1,0 +1,4 @@
+pub mod Stepping
+pub mod Looping
+pub mod Showing
+pub mod Answering

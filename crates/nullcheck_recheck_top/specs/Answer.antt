@@ -1,0 +1,127 @@
+-- What an answer says of the words, of what was read and of the output.
+use Rattle.std.specs.Prelude.{ℕ, ◌+◌, ◌≡◌, ◌≤◌, ◌<◌, ◌⊎◌, ◌++◌, ◌==◌, Bool, true, false, List, [], ◌∷◌, Option, Some, None, codes, decimal, length, map, take, if◌then◌else◌}
+use Rattle.jn_outside.specs.declared.given.Given.{Given}
+use Rattle.jn_outside.specs.Files.{Holding, Holds, Gives}
+use Rattle.jn_outside.specs.Gave.{given}
+use Rattle.jn_outside.specs.Sink.{Appends, AppendsPrefix}
+use Rattle.jn_command.specs.declared.status.Status.{Status}
+use Rattle.jn_command.specs.declared.status.Status.TheVariants.{Ok, Rejected, Refused, RunFault, Stopped, ReadFault, WriteFault, OutOfMemory, Usage}
+use Rattle.jn_command.specs.Answer.{Reading}
+use Rattle.jn_front.specs.declared.source.SourceFile.{SourceFile}
+use Rattle.jn_front.specs.Files.{AllHeld, AreHeld, given_of}
+use Rattle.jn_recheck.specs.Sessions.{SessionOf}
+use Rattle.jn_script.specs.declared.step.Step.{Step}
+use Rattle.jn_script.specs.Script.{IsFirstBad, IsScript}
+use Rattle.nullcheck_recheck_top.specs.Carrying.{DoAll, files_of, new_session}
+
+-- ---- words
+
+abbrev pub is_option : List ℕ → Bool
+is_option [] = false
+is_option (byte ∷ bytes) = byte == 45
+
+-- the script that the words name: one word that doesn't begin with a minus
+abbrev pub asked_of : List (List ℕ) → Option (List ℕ)
+asked_of [] = None
+asked_of (word ∷ []) = if is_option word then None else Some word
+asked_of (word ∷ other ∷ words) = None
+
+abbrev pub usage_line : List ℕ
+usage_line = codes "usage: nullcheck_recheck SCRIPT\n"
+
+-- ---- scripts
+
+-- bytes of a script that is read whole
+abbrev pub script_limit : ℕ
+script_limit = 1048576
+
+-- what the reads of a script gave: its bytes, of one that is too large one byte more than the limit
+abbrev pub given_script : List ℕ → List ℕ → Given
+given_script name script = given name (take (script_limit + 1) script)
+
+abbrev pub bad_line : List ℕ → ℕ → List ℕ
+bad_line name line = name ++ codes ":" ++ decimal line ++ codes ":1: script\n"
+
+-- the first line that is no step which can be taken; the first one of a script that is too large
+abbrev pub IsBadAt : List ℕ → ℕ → Type 0
+IsBadAt script line = ((length script ≤ script_limit) × IsFirstBad script line) ⊎ ((script_limit < length script) × (line ≡ 1))
+
+-- the script has the bytes that the source tells, and is these steps
+pub record IsGood (held : Option Holding) (name script : List ℕ) (steps : List Step) : Type 0 where
+  pub told : Gives held name script
+  pub small : length script ≤ script_limit
+  pub are : IsScript script steps
+
+-- ---- what is written
+
+-- the script alone was read, and has a bad line
+pub record IsRefusedScript (read : Reading) (name bytes : List ℕ) : Type 0 where
+  pub script : List ℕ
+  pub told : Gives read.held name script
+  pub given : read.now ≡ read.before ++ given_script name script ∷ []
+  pub line : ℕ
+  pub bad : IsBadAt script line
+  pub text : bytes ≡ bad_line name line
+
+-- the script was carried out to its end: the files that were read have the bytes that the source tells, and that its reads gave
+pub record IsCarried (read : Reading) (name : List ℕ) (status : Status) (bytes : List ℕ) : Type 0 where
+  pub script : List ℕ
+  pub steps : List Step
+  pub good : IsGood read.held name script steps
+  pub files : List SourceFile
+  pub told : AreHeld read.held files
+  pub given : read.now ≡ read.before ++ given_script name script ∷ map given_of files
+  pub session : SessionOf
+  pub does : DoAll new_session Ok steps files bytes status session
+
+-- some first steps of it were
+pub record IsPartly (read : Reading) (name bytes : List ℕ) : Type 0 where
+  pub script : List ℕ
+  pub front : List Step
+  pub back : List Step
+  pub good : IsGood read.held name script (front ++ back)
+  pub files : List SourceFile
+  pub told : AreHeld read.held files
+  pub status : Status
+  pub session : SessionOf
+  pub does : DoAll new_session Ok front files bytes status session
+
+-- what stands behind each status, of a script
+module _ (read : Reading) (name : List ℕ) (old new : Option (List ℕ)) where
+  -- the reports of all checks were written whole
+  abbrev pub Carries : Status → Type 0
+  Carries status = (bytes : List ℕ) × IsCarried read name status bytes × Appends old new bytes
+
+  abbrev pub Refuses : Type 0
+  Refuses = (bytes : List ℕ) × IsRefusedScript read name bytes × Appends old new bytes
+
+  -- nothing was written, or the reports of the first checks
+  abbrev pub CarriesFirst : Type 0
+  CarriesFirst = (new ≡ old) ⊎ ((bytes : List ℕ) × IsPartly read name bytes × Appends old new bytes)
+
+  -- a prefix of the line of a bad script, or of the reports of the first checks
+  abbrev pub WritesPrefix : Type 0
+  WritesPrefix = (bytes : List ℕ) × (IsRefusedScript read name bytes ⊎ IsPartly read name bytes) × AppendsPrefix old new bytes
+
+  abbrev pub AnswersScript : Status → Type 0
+  AnswersScript Ok = Carries Ok
+  AnswersScript Rejected = Carries Rejected
+  AnswersScript Refused = Carries Refused ⊎ Refuses
+  AnswersScript RunFault = ⊥
+  AnswersScript Stopped = ⊥
+  AnswersScript ReadFault = CarriesFirst
+  AnswersScript WriteFault = WritesPrefix
+  AnswersScript OutOfMemory = CarriesFirst
+  AnswersScript Usage = ⊥
+
+abbrev pub AnswersUsage : Option (List ℕ) → Option (List ℕ) → Status → Type 0
+AnswersUsage old new status = ((status ≡ Usage) × Appends old new usage_line) ⊎ ((status ≡ WriteFault) × AppendsPrefix old new usage_line)
+
+abbrev pub Answers : Reading → Option (List ℕ) → Option (List ℕ) → Option (List ℕ) → Status → Type 0
+Answers read None old new status = AnswersUsage old new status
+Answers read (Some name) old new status = AnswersScript read name old new status
+
+-- the source holds the script, and where that is good each file that it sets
+abbrev pub HoldsAll : Option Holding → Option (List ℕ) → Type 0
+HoldsAll held None = Unit {0}
+HoldsAll held (Some name) = Holds held name × ((script : List ℕ) (steps : List Step) → IsGood held name script steps → AllHeld held (files_of steps))

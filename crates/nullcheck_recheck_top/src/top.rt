@@ -1,0 +1,120 @@
+//! A script in, the reports of its checks out.
+ghost use Rattle.std.specs.Prelude.{None, Some, ◌≡◌, ◌≢◌, ◌<◌, ◌≤◌, MatchOption, length, map};
+ghost use Rattle.std.specs.String.{string_bytes};
+ghost use Rattle.jn_outside.specs.Causes.{Rose};
+ghost use Rattle.jn_outside.specs.Files.{Gives, Holds};
+ghost use Rattle.jn_front.specs.Files.{AllHeld};
+ghost use Rattle.jn_command.specs.Answer.{reading};
+ghost use Rattle.nullcheck_recheck_top.specs.Answer.{Answers, AnswersScript, HoldsAll, asked_of, is_option};
+
+use crate::carrying::carry_out;
+use crate::outputs::bad_output;
+use jn_base::Fail;
+use jn_command::Status;
+use jn_command::output::{finish, write};
+use jn_gate::Gate;
+use jn_outside::{Files, ReadFail, Sink, read_whole};
+use jn_script::read_script;
+use std::alloc::Global;
+use std::thread::Threads;
+
+const USAGE: &str = "usage: nullcheck_recheck SCRIPT\n";
+
+/// The greatest number of bytes of a script.
+const LIMIT: u32 = 1_048_576;
+
+/// Whether a word begins with a minus.
+fn is_option(word: &str) -> bool
+    ensures { result ≡ is_option word.now }
+{
+    match word.as_bytes() {
+        [b'-', ..] => true,
+        _ => false,
+    }
+}
+
+/// The script that the words name.
+fn script_of<'a>(words: &'a [String]) -> Option<&'a str>
+    ensures { MatchOption result (asked_of (map string_bytes words.entry.now) ≡ None)
+        (λ name. asked_of (map string_bytes words.entry.now) ≡ Some name.now) }
+{
+    match words {
+        [word] => {
+            if is_option(word.as_str()) {
+                None
+            } else {
+                Some(word.as_str())
+            }
+        }
+        _ => None,
+    }
+}
+
+/// Reads the script, judges it whole, and carries it out where it is good.
+fn answer_named<R: Threads + Sync, F: Files, K: Sink, G: Gate + Sync>(
+    rt: &R,
+    gate: &G,
+    alloc: Global,
+    name: &str,
+    files: &mut F,
+    out: &mut K,
+) -> Status
+    ensures answer { AnswersScript
+        (reading (F.held files.old) (F.gave files.old) (F.gave files.new))
+        name.now (K.written out.old) (K.written out.new) result }
+    ensures read { result ≡ Status.ReadFault → Rose (F.faults files.old) (F.faults files.new) }
+    ensures read_always { F.faults files.old < F.faults files.new → result ≡ Status.ReadFault }
+    ensures read_steady { F.steady files.old → HoldsAll (F.held files.old) (Some name.now)
+        → result ≢ Status.ReadFault }
+    ensures write { result ≡ Status.WriteFault → Rose (K.faults out.old) (K.faults out.new) }
+    ensures write_always { K.faults out.old < K.faults out.new → result ≡ Status.WriteFault }
+{
+    let script = match read_whole(alloc, files, name, LIMIT) {
+        Ok(script) => script,
+        Err(Fail::Refused(ReadFail::TooLarge)) => return write(bad_output(alloc, name, 1), out),
+        Err(Fail::Refused(ReadFail::Failed)) => return Status::ReadFault,
+        Err(Fail::OutOfMemory) => return Status::OutOfMemory,
+    };
+    match read_script(alloc, &script) {
+        Ok(steps) => carry_out(rt, gate, alloc, &steps, files, out),
+        Err(Fail::Refused(line)) => write(bad_output(alloc, name, line), out),
+        Err(Fail::OutOfMemory) => Status::OutOfMemory,
+    }
+}
+
+/// Carries out the script that the words name: one word that doesn't begin with a minus. A script has lines `set NAME FILE`, `drop NAME`
+/// and `check`, and empty ones; it is read and judged whole before any other file is read. `set` gives a name the text of a file, `drop`
+/// takes a name out, and `check` writes the plain report of the files that stand then, and how many of them have another text than at the
+/// last check and of how many bodies the rows were made anew.
+///
+/// `rt` gives the threads of four workers, who call `gate` when they take a file, a body for inference, or a body whose rows are made
+/// anew.
+pub fn recheck<R: Threads + Sync, F: Files, K: Sink, G: Gate + Sync>(
+    rt: &R,
+    gate: &G,
+    alloc: Global,
+    words: &[String],
+    files: &mut F,
+    out: &mut K,
+) -> Status
+    // Status and bytes are those that the words, the script and the files define: check by check the report of the files that stand
+    // there, with the bytes that the reads of this call gave, and the status of the last. A script with a bad line is refused by that
+    // line. Behind a read fault or want of memory the reports of the checks before were written, and behind a write fault a prefix.
+    ensures answer { Answers (reading (F.held files.old) (F.gave files.old) (F.gave files.new))
+        (asked_of (map string_bytes words.now)) (K.written out.old) (K.written out.new) result }
+    ensures read { result ≡ Status.ReadFault → Rose (F.faults files.old) (F.faults files.new) }
+    ensures read_always { F.faults files.old < F.faults files.new → result ≡ Status.ReadFault }
+    ensures read_steady { F.steady files.old
+        → HoldsAll (F.held files.old) (asked_of (map string_bytes words.now))
+        → result ≢ Status.ReadFault }
+    // Nothing is read where the words name no script.
+    ensures unread { asked_of (map string_bytes words.now) ≡ None
+        → (F.faults files.new ≡ F.faults files.old) × (F.gave files.new ≡ F.gave files.old) }
+    ensures write { result ≡ Status.WriteFault → Rose (K.faults out.old) (K.faults out.new) }
+    ensures write_always { K.faults out.old < K.faults out.new → result ≡ Status.WriteFault }
+{
+    match script_of(words) {
+        None => finish(out, USAGE.as_bytes(), Status::Usage),
+        Some(name) => answer_named(rt, gate, alloc, name, files, out),
+    }
+}
