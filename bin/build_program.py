@@ -1,15 +1,16 @@
 #!/usr/bin/env python3
-"""Proves the crates that the program nullcheck stands on, each once, on all processors, and builds it.
+"""Proves the crates that a program stands on, each once, on all processors, and builds it.
 
-usage: build_nullcheck.py
+usage: build_program.py NAME
+  NAME  a program of crates/, such as nullcheck
 
 A crate is proved as soon as those below it are, several side by side, and one that most others wait for by several processes.
 Two commands of rt in one checkout wait for each other, so each runs in a lane: a copy of the sources, cut to those crates, in
 a folder that is removed at the end. The lanes and the checkout share the libraries that were built, by second names of their
 files. What was proved before and hasn't changed isn't proved again.
 
-bin/nullcheck calls it, one at a time. It says on standard error how far it is. Its status is 0 where the program stands at
-crates/nullcheck/out/nullcheck, made from the sources that were there at the start, and 70 where it doesn't.
+bin/run_program calls it, one at a time. It says on standard error how far it is. Its status is 0 where the program stands at
+crates/NAME/out/NAME, made from the sources that were there at the start, and 70 where it doesn't.
 """
 
 import fcntl
@@ -22,7 +23,7 @@ import sys
 import time
 from dataclasses import dataclass, field
 
-PROGRAM = "nullcheck"
+PROGRAM = sys.argv[1] if len(sys.argv) == 2 else ""
 ROOT = os.path.dirname(os.path.dirname(os.path.realpath(__file__)))
 # Folders of a crate that a proof reads.
 PARTS = ("src", "specs", "proofs")
@@ -37,6 +38,7 @@ START_LINES = 100
 # Signals that end a build.
 SIGNALS = (signal.SIGINT, signal.SIGTERM, signal.SIGHUP)
 UNAVAILABLE = 70
+USAGE = 64
 
 
 class Failure(Exception):
@@ -67,7 +69,7 @@ class Run:
 
 
 def say(text):
-    print(f"nullcheck: {text}", file=sys.stderr, flush=True)
+    print(f"{PROGRAM}: {text}", file=sys.stderr, flush=True)
 
 
 def read_crates():
@@ -342,6 +344,9 @@ def interrupted(number, frame):
 
 
 def main():
+    if not PROGRAM:
+        print("usage: build_program.py NAME", file=sys.stderr)
+        return USAGE
     for number in SIGNALS:
         signal.signal(number, interrupted)
     try:
