@@ -3,6 +3,7 @@ use jn_base::BodyNo;
 use jn_gate::Gate;
 use std::sync::atomic::{AtomicU64, Ordering};
 
+#[derive(Drop)]
 pub struct Counting {
     entries: AtomicU64,
 }

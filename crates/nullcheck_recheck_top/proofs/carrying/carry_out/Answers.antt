@@ -31,13 +31,12 @@ loop-step-preserved g c =
     let old = world (g.F.Files.gave c.args.files.now) (g.K.Sink.written c.args.out.now) (g.F.Files.faults c.args.files.now) (g.K.Sink.faults c.args.out.now) in
     let mid = world (g.F.Files.gave l.files) (g.K.Sink.written l.out) (g.F.Files.faults l.files) (g.K.Sink.faults l.out) in
     let new = world (g.F.Files.gave c.take_step.new.files) (g.K.Sink.written c.take_step.new.out) (g.F.Files.faults c.take_step.new.files) (g.K.Sink.faults c.take_step.new.out) in
-    let goes = subst (λ h. GoesOn h mid new l.session l.last c.step-item.result c.in-Goes.status c.take_step.new.session) l.invariant.1 c.in-Goes.ensures.taken in
-    (
+    let goes = subst (λ h. GoesOn h mid new l.session l.last c.step-item.result c.in-Goes.status c.take_step.new.session) l.invariant.1 c.in-Goes.ensures.taken in (
       did_more held old mid c.args.steps.now l.step-index c.step-item.result c.loop-step-test.true c.step-item.is l.last l.session l.invariant.0 new c.in-Goes.status c.take_step.new.session goes,
       c.in-Goes.ensures.held ∙ l.invariant.1,
       (λ st all.
-        let there = subst (λ h. AllHeld h (file_of c.step-item.result)) (sym l.invariant.1) (held_at held c.args.steps.now l.step-index c.step-item.result c.loop-step-test.true c.step-item.is all) in
-        (c.in-Goes.ensures.steady (l.invariant.2 st all) there).1),
+          let there = subst (λ h. AllHeld h (file_of c.step-item.result)) (sym l.invariant.1) (held_at held c.args.steps.now l.step-index c.step-item.result c.loop-step-test.true c.step-item.is all) in
+          (c.in-Goes.ensures.steady (l.invariant.2 st all) there).1),
     )
 
 pub returns-clause-carried : goal.returns-clause-carried
