@@ -17,6 +17,9 @@ final class StoredCase {
   /** A word that sets what lies around the command. */
   private static final Pattern AROUND = Pattern.compile("(read|write|most|room|times|spaces|meet|cuts|boxes|refused)=\\d+");
 
+  /** A word by which the files' main is also run by its trees, beside the command. */
+  private static final Pattern BESIDE = Pattern.compile("fuel=\\d+");
+
   private static final List<String> VALUED = Arrays.asList("--workers", "--infer", "--report", "--steps", "--words", "--gen");
 
   private static final String WORDS = "--words";
@@ -63,8 +66,8 @@ final class StoredCase {
 
   /** The words of the command; in a table `~` stands for a space. */
   List<String> words() {
-    return pieces().stream().filter(piece -> !AROUND.matcher(piece).matches()).map(piece -> piece.replace('~', ' '))
-        .collect(Collectors.toList());
+    return pieces().stream().filter(piece -> !AROUND.matcher(piece).matches() && !BESIDE.matcher(piece).matches())
+        .map(piece -> piece.replace('~', ' ')).collect(Collectors.toList());
   }
 
   boolean isRun() {
