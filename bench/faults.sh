@@ -59,12 +59,20 @@ tell() {
   echo "faults.sh: $group: $1"
 }
 
+# A reason stands on standard error behind the statuses from 5 on, and behind them alone; marks `status` where it doesn't.
+heed() {
+  case $status in
+    5 | 6 | 7 | 8 | 64) if [ ! -s "$scratch/err" ]; then status="$status, without a reason"; fi ;;
+    *) if [ -s "$scratch/err" ]; then status="$status, with a reason"; fi ;;
+  esac
+}
+
 # Runs a command; sets `status` and `text`.
 run() {
   status=0
   timeout -s KILL "$seconds" "$@" >"$scratch/out" 2>"$scratch/err" </dev/null || status=$?
   IFS= read -r -d '' text <"$scratch/out"
-  if [ -s "$scratch/err" ]; then status="$status, with an error's text"; fi
+  heed
   count=$((count + 1))
 }
 
@@ -86,7 +94,7 @@ faulty() {
   FAULTY_CALL=$call FAULTY_FROM=$from FAULTY_TO=$to FAULTY_EACH=$each FAULTY_HOW=$how FAULTY_COUNT="$scratch/count" FAULTY_SECONDS=$seconds \
     LD_PRELOAD="$scratch/faults.so" "$program" "$@" >"$scratch/out" 2>"$scratch/err" </dev/null || status=$?
   IFS= read -r -d '' text <"$scratch/out"
-  if [ -s "$scratch/err" ]; then status="$status, with an error's text"; fi
+  heed
   count=$((count + 1))
 }
 
