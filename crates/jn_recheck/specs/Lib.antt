@@ -1,5 +1,4 @@
 pub mod Files
-pub mod Report
 pub mod KeptRows
 pub mod Found
 pub mod Places

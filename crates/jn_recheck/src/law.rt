@@ -5,7 +5,7 @@ ghost use Rattle.jn_command.specs.declared.report.Report.{Report};
 ghost use Rattle.jn_diag.specs.declared.shown.RowText.{RowText};
 ghost use Rattle.jn_diag.specs.declared.shown.Verdict.{Verdict};
 ghost use Rattle.jn_front.specs.declared.source.SourceFile.{SourceFile};
-ghost use Rattle.jn_recheck.specs.Report.{IsReport};
+ghost use Rattle.jn_typed_files.specs.Report.{IsReport};
 ghost use Rattle.jn_recheck.specs.Sessions.{Reports, SessionOf};
 
 use jn_diag::rows_have_one_order;

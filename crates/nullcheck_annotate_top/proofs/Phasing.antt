@@ -12,7 +12,7 @@ use Rattle.jn_front.specs.declared.source.SourceRead.{SourceRead}
 use Rattle.jn_front.specs.Files.{AreReads, files_of_reads}
 use Rattle.jn_front.specs.Limits.{limit_rows}
 use Rattle.jn_front.specs.Phases.{FaultRows, LexedFrom, SyntaxRows, TextRows}
-use Rattle.nullcheck_top.specs.Report.{PhaseRows}
+use Rattle.jn_typed_files.specs.Phases.{PhaseRows}
 use Rattle.nullcheck_top.proofs.Reporting.{found_whole}
 use Rattle.nullcheck_annotate_top.specs.declared.study.Study.{Study}
 use Rattle.nullcheck_annotate_top.specs.declared.study.Study.TheVariants.{Refused, Unannotated, Annotated}

@@ -11,7 +11,7 @@ ghost use Rattle.jn_front.specs.Counted.{ReadsFit};
 ghost use Rattle.jn_front.specs.declared.source.SourceFile.{SourceFile as SpecFile};
 ghost use Rattle.jn_front.specs.Files.{files_of_reads, AreReads, most_files};
 ghost use Rattle.jn_front.specs.Phases.{AreParsed};
-ghost use Rattle.nullcheck_top.specs.Report.{AreDeclared, ProgramOf, TypedProgramOf};
+ghost use Rattle.jn_typed_files.specs.Phases.{AreDeclared, ProgramOf, TypedProgramOf};
 ghost use Rattle.nullcheck_annotate_top.specs.Study.{IsOf, IsStudy, texts_of};
 ghost use Rattle.nullcheck_annotate_top.specs.declared.study.Study.TheVariants.{Refused as RefusedStudy};
 

@@ -19,7 +19,8 @@ use Rattle.jn_front.specs.declared.source.SourceFile.{SourceFile}
 use Rattle.jn_front.specs.Phases.{AreParsed, FrontRows}
 use Rattle.jn_command.specs.declared.report.Report.{Report}
 use Rattle.jn_command.specs.declared.report.Report.TheVariants.{Refused, Checked}
-use Rattle.nullcheck_top.specs.Report.{AreDeclared, AreLowered, LoweringRows, PhaseRows, ProgramOf, ProgramRows, TypedProgramOf, TypeRows, RulesGive, TableRows, TreeRows, IsPhase, IsReport, lowering_rows, table_rows}
+use Rattle.jn_typed_files.specs.Phases.{AreDeclared, AreLowered, LoweringRows, PhaseRows, ProgramOf, ProgramRows, TypedProgramOf, TypeRows, TableRows, TreeRows, IsPhase, lowering_rows, table_rows}
+use Rattle.jn_typed_files.specs.Report.{RulesGive, IsReport}
 use Rattle.nullcheck_top.proofs.Programs.{never_typed, same_order}
 use Rattle.nullcheck_top.proofs.RuleRows.{breaks_once}
 

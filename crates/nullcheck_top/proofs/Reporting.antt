@@ -30,7 +30,9 @@ use Rattle.jn_command.proofs.Standing.{Limited, all_stand, limited_stand, many_l
 use Rattle.nullcheck_top.specs.declared.found.CheckedFiles.{CheckedFiles}
 use Rattle.nullcheck_top.specs.declared.found.Found.{Found}
 use Rattle.nullcheck_top.specs.Found.{AreWhole, IsBroken, IsFinding, found_of}
-use Rattle.nullcheck_top.specs.Report.{AreDeclared, IsReport, IsSafe, PhaseRows, ProgramOf, RulesGive, TypedProgramOf, lowering_rows, table_rows, trees_of}
+use Rattle.jn_typed_files.specs.Phases.{AreDeclared, PhaseRows, ProgramOf, TypedProgramOf, lowering_rows, table_rows}
+use Rattle.jn_typed_files.specs.Report.{IsReport, RulesGive}
+use Rattle.nullcheck_top.specs.Report.{IsSafe, trees_of}
 use Rattle.jn_lowering.specs.Bodies.{Source}
 use Rattle.jn_meaning_law.specs.Safety.{NeverNullByTrees, NeverStuckByTrees}
 

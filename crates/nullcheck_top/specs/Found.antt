@@ -19,7 +19,9 @@ use Rattle.jn_points.specs.declared.program.Program.{Program}
 use Rattle.jn_quals.specs.Qualifier.{Qualifier}
 use Rattle.jn_reporters.specs.declared.shown.ShownRow.{ShownRow}
 use Rattle.nullcheck_top.specs.declared.found.Found.{Found}
-use Rattle.nullcheck_top.specs.Report.{AreNotes, IsReport, TypedProgramOf}
+use Rattle.jn_typed_files.specs.Phases.{TypedProgramOf}
+use Rattle.jn_typed_files.specs.Report.{IsReport}
+use Rattle.nullcheck_top.specs.Report.{AreNotes}
 
 -- the program of accepted files is at hand, and none where they aren't accepted
 abbrev pub IsAtHand : Infer → List SourceFile → List (List ℕ) → Report → Option (Program × List Qualifier) → Type 0

@@ -16,7 +16,9 @@ ghost use Rattle.jn_command.specs.declared.report.Report.TheVariants.{Refused, C
 ghost use Rattle.jn_command.specs.Reports.{rows_of};
 ghost use Rattle.jn_command.specs.Stands.{StandIn};
 ghost use Rattle.nullcheck_top.specs.Found.{AreWhole, IsFinding, found_of};
-ghost use Rattle.nullcheck_top.specs.Report.{AreDeclared, IsReport, IsSafe, ProgramOf, TypedProgramOf};
+ghost use Rattle.jn_typed_files.specs.Phases.{AreDeclared, ProgramOf, TypedProgramOf};
+ghost use Rattle.jn_typed_files.specs.Report.{IsReport};
+ghost use Rattle.nullcheck_top.specs.Report.{IsSafe};
 
 use crate::found::{CheckedFiles, Found};
 use crate::law::accepted_files_are_safe;

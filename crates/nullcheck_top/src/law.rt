@@ -9,7 +9,9 @@ ghost use Rattle.jn_command.specs.declared.noted.Noted.{Noted};
 ghost use Rattle.jn_command.specs.declared.report.Report.{Report};
 ghost use Rattle.jn_command.specs.declared.status.Status.{Status};
 ghost use Rattle.jn_meaning_law.specs.Safety.{NeverNullByTrees, NeverStuckByTrees};
-ghost use Rattle.nullcheck_top.specs.Report.{AreNotes, RulesGive, TypedProgramOf, IsReport, RunsTo, trees_of};
+ghost use Rattle.jn_typed_files.specs.Phases.{TypedProgramOf};
+ghost use Rattle.jn_typed_files.specs.Report.{RulesGive, IsReport};
+ghost use Rattle.nullcheck_top.specs.Report.{AreNotes, RunsTo, trees_of};
 
 use jn_diag::rows_have_one_order;
 use jn_front::law::files_have_one_front;

@@ -6,7 +6,8 @@ use Rattle.jn_command.specs.Answer.{reading}
 use Rattle.jn_command.specs.Reporters.{shown_behind}
 use Rattle.nullcheck_top.proofs.Answering.{checked_many, checked_read, many_answers, many_written}
 use Rattle.nullcheck_top.proofs.Written.{files_named, few_reads, many_names, never_read, no_fault, of_files, reads_fit, starts_none}
-use Rattle.nullcheck_top.specs.Report.{AreNotes, IsReport, IsSafe, RunsTo, Prints}
+use Rattle.jn_typed_files.specs.Report.{IsReport}
+use Rattle.nullcheck_top.specs.Report.{AreNotes, IsSafe, RunsTo, Prints}
 use Rattle.nullcheck_top.proofs.answers.answer_named.Goals as goal
 
 pub returns-then-names-gt-MOST_FILES-clause-answer : goal.returns-then-names-gt-MOST_FILES-clause-answer

@@ -1,7 +1,7 @@
 use Rattle.std.proofs.Common.{subst, sym}
 use Rattle.jn_points.specs.BaseRows.{NoBaseRows}
 use Rattle.jn_front.specs.Files.{files_of_reads}
-use Rattle.nullcheck_top.specs.Report.{ProgramOf}
+use Rattle.jn_typed_files.specs.Phases.{ProgramOf}
 use Rattle.jn_basecheck.specs.Refusal.{IsRefusedFor}
 use Rattle.nullcheck_top.proofs.Reporting.{RefusesFound, types_made}
 use Rattle.nullcheck_top.proofs.check.find_program.Goals as goal

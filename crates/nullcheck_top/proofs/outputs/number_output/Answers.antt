@@ -8,7 +8,7 @@ use Rattle.jn_command.specs.Reports.{status_of}
 use Rattle.jn_command.specs.Shown.{shown}
 use Rattle.jn_command.proofs.Showing.{number_text, name_there, length_is}
 use Rattle.nullcheck_top.proofs.Written.{map_length}
-use Rattle.nullcheck_top.specs.Report.{IsReport}
+use Rattle.jn_typed_files.specs.Report.{IsReport}
 use Rattle.nullcheck_top.proofs.outputs.number_output.Goals as goal
 
 pub returns : goal.returns
