@@ -14,6 +14,10 @@ use std::thread::Threads;
 
 /// Lexes and parses the file of this number. The worker enters the gate by the file's number first; `more` is how many others
 /// may then take part in its text and in its tokens, which enter no gate.
+///
+/// # Errors
+///
+/// [`OutOfMemory`] where tokens, names or the tree found no memory.
 pub fn outcome_of<R: Threads + Sync, G: Gate>(
     rt: &R,
     alloc: Global,

@@ -8,18 +8,20 @@
 //! files have one of the two, in one way.
 #![tactic(auto)]
 
-mod alone;
+pub mod alone;
 mod gathering;
 pub mod law;
 pub mod limits;
-mod outcome;
+pub mod outcome;
 pub mod parsing;
 pub mod reads;
-mod renumbering;
+pub mod renumbering;
 mod sharing;
 pub mod source;
 
+pub use alone::outcome_of;
 pub use limits::{limit_rows, row_at};
+pub use outcome::Outcome;
 pub use parsing::{ParsedFiles, parse_files};
 pub use reads::read_all;
 pub use source::{SourceFile, SourceRead};

@@ -91,7 +91,7 @@ fn put_together<R: Threads + Sync>(
 }
 
 /// How many workers there are beside the first: together no more than there are files.
-fn more_workers(files: usize, workers: u32) -> u32
+pub fn more_workers(files: usize, workers: u32) -> u32
     ensures { result ≡ min workers files - 1 }
 {
     if files == 0 || workers == 0 {
@@ -105,7 +105,7 @@ fn more_workers(files: usize, workers: u32) -> u32
 
 /// How many others take part in each file, where as many workers as `more` says share the files with the first one: equally many
 /// in each, so that no more than all workers are at work at once.
-fn others_of_each(workers: u32, more: u32) -> u32
+pub fn others_of_each(workers: u32, more: u32) -> u32
     requires { more < workers }
     ensures share { result ≡ workers / (more + 1) - 1 }
     ensures within { (more + 1) * (result + 1) ≤ workers }

@@ -55,6 +55,10 @@ fn renumber_all<R: Threads + Sync>(rt: &R, numbered: &mut [Numbered], workers: u
 }
 
 /// The trees, each with the numbers that its names are to have, by so many workers.
+///
+/// # Errors
+///
+/// [`OutOfMemory`] where the list of the trees found no memory.
 pub fn renumber_by<R: Threads + Sync>(
     rt: &R,
     alloc: Global,

@@ -7,4 +7,4 @@
 pub mod law;
 pub mod typing;
 
-pub use typing::{TypedFiles, too_many_files, type_files};
+pub use typing::{TypedFiles, Typing, find_trees, refused_texts, too_many_files, type_files};

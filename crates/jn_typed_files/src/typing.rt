@@ -31,8 +31,10 @@ use std::thread::Threads;
 
 /// What is found of files with trees.
 #[derive(Drop)]
-pub(crate) struct Typing {
+pub struct Typing {
+    /// The rows of the first phase that has any, in order; none where there is a program.
     pub rows: Seq<Row>,
+    /// The files' program, whose types fit.
     pub base: Option<BaseTyped>,
 }
 
@@ -63,8 +65,11 @@ fn refused(alloc: Global, rows: Vec<Row>) -> Result<Typing, OutOfMemory>
     })
 }
 
-/// The same of files without trees, of which no names are known.
-fn refused_texts(alloc: Global, rows: Vec<Row>) -> Result<TypedFiles, OutOfMemory>
+/// What is found of files that are refused by these rows and have no trees, so that no names are known. The rows are put in order.
+///
+/// # Errors
+/// No memory was found.
+pub fn refused_texts(alloc: Global, rows: Vec<Row>) -> Result<TypedFiles, OutOfMemory>
     ensures rows { IfOk result
         (λ typed. (sorted : List SpecRow) × IsOrderOf rows.items sorted × (typed.rows ≡ sorted)) }
     ensures base { IfOk result (λ typed. typed.base ≡ None) }
@@ -143,8 +148,11 @@ fn find_table<R: Threads + Sync>(
     }
 }
 
-/// What is found of files with these trees.
-fn find_trees<R: Threads + Sync>(
+/// What is found of files with these trees: their program, whose types fit, or the rows of the first phase that has any.
+///
+/// # Errors
+/// No memory was found.
+pub fn find_trees<R: Threads + Sync>(
     rt: &R,
     alloc: Global,
     workers: u32,
