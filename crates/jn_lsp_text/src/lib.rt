@@ -1,0 +1,16 @@
+//! Positions and ranges of the Language Server Protocol, and texts with a range replaced.
+//!
+//! [`position_of`] gives the [`Position`] of a byte and [`range_of`] the [`Range`] of a span; [`offset_of`] is the way back. [`replace`]
+//! makes a text with other bytes in place of a range. All take texts of any bytes: where a text is no UTF-8, its bytes count by
+//! the same rule, which [`Position`] tells.
+#![tactic(auto)]
+
+pub mod counting;
+pub mod position;
+pub mod range;
+
+pub use position::{
+    Position, offset_of, offsets_return, offsets_stand_on_their_lines, position_of,
+    positions_have_one_offset,
+};
+pub use range::{Range, range_of, ranges_have_one_replacement, replace};
