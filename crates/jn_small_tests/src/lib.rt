@@ -1,4 +1,4 @@
-//! Tests of libraries by their public names: places and lists, names, words of a command, order of rows, reporters, the generated program, sources
+//! Tests of libraries by their public names: places and lists, an editor's positions, names, words of a command, order of rows, reporters, the generated program, sources
 //! and sinks, sets of qualifiers by their bits and how they are packed, and the machine over small programs.
 #![tactic(auto)]
 
@@ -10,6 +10,8 @@ mod generated;
 mod machine;
 #[cfg(test)]
 mod places;
+#[cfg(test)]
+mod positions;
 #[cfg(test)]
 mod quals;
 #[cfg(test)]
