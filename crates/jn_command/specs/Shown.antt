@@ -1,5 +1,5 @@
 -- The text of a report: what its reporter makes of its rows and its verdict.
-use Rattle.std.specs.Prelude.{ℕ, List, [], ◌∷◌, map, Option, Some, None, get_or, slice_get}
+use Rattle.std.specs.Prelude.{ℕ, Bool, List, [], ◌∷◌, map, Option, Some, None, get_or, slice_get}
 use Rattle.jn_base.specs.declared.place.Row.{Row}
 use Rattle.jn_base.specs.declared.place.Span.{Span}
 use Rattle.jn_base.specs.Place.{place_in}
@@ -28,13 +28,14 @@ shown show files report = show (map (row_of files) (rows_of report)) (Some (verd
 
 -- ---- rows with notes
 
--- the note that tells these words, as a reporter is given it, with the place of its first byte; one of no file has no name, and stands at its beginning
-abbrev pub note_of_file : Option SourceFile → List ℕ → Span → ShownNote
-note_of_file None words span = record { text = words; name = []; line = 1; col = 1 }
-note_of_file (Some file) words span = let place = place_in file.bytes span in record { text = words; name = file.name; line = place.line; col = place.col }
+-- the note that tells these words, as a reporter is given it, with the place of its first byte, and whether it goes on with the one before it; one of no file
+-- has no name, and stands at its beginning
+abbrev pub note_of_file : Option SourceFile → Bool → List ℕ → Span → ShownNote
+note_of_file None joined words span = record { text = words; name = []; line = 1; col = 1; joined = joined }
+note_of_file (Some file) joined words span = let place = place_in file.bytes span in record { text = words; name = file.name; line = place.line; col = place.col; joined = joined }
 
-abbrev pub note_of : List SourceFile → List ℕ → Span → ShownNote
-note_of files words span = note_of_file (slice_get files span.file.0) words span
+abbrev pub note_of : List SourceFile → Bool → List ℕ → Span → ShownNote
+note_of files joined words span = note_of_file (slice_get files span.file.0) joined words span
 
 abbrev pub no_notes : Noted
 no_notes = record { notes = []; more = 0 }

@@ -55,11 +55,13 @@ pub fn nothing(alloc: Global) -> Noted
 fn note_in(
     alloc: Global,
     read: &SourceRead,
+    joined: bool,
     words: &[u8],
     span: &Span,
 ) -> Result<ShownNote, OutOfMemory>
     requires { length read.now.file.bytes ≤ 1048576 }
-    ensures { IfOk result (λ note. note ≡ note_of_file (Some read.now.file) words.now span.now) }
+    ensures { IfOk result
+        (λ note. note ≡ note_of_file (Some read.now.file) joined words.now span.now) }
 {
     let text = read.file.bytes.as_slice();
     let at = Span {
@@ -73,35 +75,44 @@ fn note_in(
         name: Text::of_str(alloc, read.file.name.as_str())?,
         line: place.line,
         col: place.col,
+        joined,
     })
 }
 
 /// The same of a place in no file: it has no name.
-fn note_nowhere(alloc: Global, words: &[u8]) -> Result<ShownNote, OutOfMemory>
-    ensures { IfOk result (λ note. (span : SpecSpan) → note ≡ note_of_file None words.now span) }
+fn note_nowhere(alloc: Global, joined: bool, words: &[u8]) -> Result<ShownNote, OutOfMemory>
+    ensures { IfOk result
+        (λ note. (span : SpecSpan) → note ≡ note_of_file None joined words.now span) }
 {
     Ok(ShownNote {
         text: Seq::of_vec(Vec::from_slice(alloc, words)?),
         name: Text::of_str(alloc, "")?,
         line: 1,
         col: 1,
+        joined,
     })
 }
 
-/// The note that tells these words of a place in the files that were read, at its first byte.
+/// The note that tells these words of a place in the files that were read, at its first byte; where `joined` holds it goes on with the
+/// note before it.
+///
+/// # Errors
+/// No memory was found.
 pub fn note_of(
     alloc: Global,
     reads: &[SourceRead],
+    joined: bool,
     words: &[u8],
     span: &Span,
 ) -> Result<ShownNote, OutOfMemory>
     requires { ReadsFit reads.now }
-    ensures { IfOk result (λ note. note ≡ note_of (files_of_reads reads.now) words.now span.now) }
+    ensures { IfOk result
+        (λ note. note ≡ note_of (files_of_reads reads.now) joined words.now span.now) }
 {
     let file = span.file.0 as usize;
     if file < reads.len() {
-        note_in(alloc, &reads[file], words, span)
+        note_in(alloc, &reads[file], joined, words, span)
     } else {
-        note_nowhere(alloc, words)
+        note_nowhere(alloc, joined, words)
     }
 }

@@ -78,23 +78,31 @@ source_lines row None = []
 source_lines row (Some e) = margin row ++ codes " |\n" ++ text_line row e ++ mark_line row e
 
 abbrev pub cure_line : RowText → List ℕ
-cure_line row = margin row ++ codes " = cure: " ++ code_cure row.code ++ codes "\n"
+cure_line row = margin row ++ codes " = cure: " ++ code_cure row.code
+
+-- what stands before a note's words on a line of its own, behind the line before
+abbrev pub line_begin : RowText → List ℕ
+line_begin row = codes "\n" ++ margin row ++ codes " = note: "
+
+-- a note that goes on with the one before it stands on that one's line
+abbrev pub note_begin : RowText → ShownNote → List ℕ
+note_begin row note = if note.joined then codes ", " else line_begin row
 
 -- = note: TEXT FILE:LINE:COL
 unfoldable pub note_line : RowText → ShownNote → List ℕ
-note_line row note = margin row ++ codes " = note: " ++ note_words note ++ codes "\n"
+note_line row note = note_begin row note ++ note_words note
 
 -- how many notes were left out; nothing where none were
 unfoldable pub more_line : RowText → ℕ → List ℕ
 more_line row zero = []
-more_line row (suc n) = margin row ++ codes " = note: .. and " ++ decimal (suc n) ++ codes " more\n"
+more_line row (suc n) = line_begin row ++ codes ".. and " ++ decimal (suc n) ++ codes " more"
 
 abbrev pub note_lines : RowText → List ShownNote → ℕ → List ℕ
 note_lines row notes more = flat_map (note_line row) notes ++ more_line row more
 
 -- behind a row stands an empty line
 abbrev pub long_row : ShownRow → List ℕ
-long_row row = head_line row.text ++ place_line row.text ++ source_lines row.text row.extract ++ cure_line row.text ++ note_lines row.text row.notes row.more ++ codes "\n"
+long_row row = head_line row.text ++ place_line row.text ++ source_lines row.text row.extract ++ cure_line row.text ++ note_lines row.text row.notes row.more ++ codes "\n\n"
 
 abbrev pub long_shown : List ShownRow → Option Verdict → List ℕ
 long_shown rows verdict = flat_map long_row rows ++ end_line verdict

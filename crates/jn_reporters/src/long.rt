@@ -103,7 +103,7 @@ fn long_row(alloc: Global, row: &RowView<'_>) -> Result<Vec<u8>, AllocError>
     text.extend_from_slice(&cure)?;
     let notes = note_lines(alloc, row.row(), row.notes(), row.more())?;
     text.extend_from_slice(&notes)?;
-    text.extend_from_slice(b"\n")?;
+    text.extend_from_slice(b"\n\n")?;
     Ok(text)
 }
 
@@ -149,14 +149,13 @@ fn place_line(alloc: Global, row: &RowText) -> Result<Vec<u8>, AllocError>
     Ok(text)
 }
 
-/// `= cure: CURE` and a line feed.
+/// `= cure: CURE`.
 fn cure_line(alloc: Global, row: &RowText) -> Result<Vec<u8>, AllocError>
     ensures { IfOk result (λ text. text.items ≡ spec.cure_line row.now) }
 {
     let mut text = margin(alloc, row)?;
     text.extend_from_slice(b" = cure: ")?;
     text.extend_from_slice(row.code.cure().as_bytes())?;
-    text.extend_from_slice(b"\n")?;
     Ok(text)
 }
 
@@ -191,20 +190,40 @@ fn put_notes(
     Ok(())
 }
 
-/// `= note: TEXT FILE:LINE:COL` and a line feed.
+/// `= note: TEXT FILE:LINE:COL` on a line of its own, or `, TEXT FILE:LINE:COL`.
 #[tactic(auto, unfolding(crate::specs::Longs::note_line))]
 fn note_line(alloc: Global, row: &RowText, note: &ShownNote) -> Result<Vec<u8>, AllocError>
     ensures { IfOk result (λ text. text.items ≡ spec.note_line row.now note.now) }
 {
-    let mut text = margin(alloc, row)?;
-    text.extend_from_slice(b" = note: ")?;
+    let mut text = note_begin(alloc, row, note)?;
     let words = noted(alloc, note)?;
     text.extend_from_slice(&words)?;
-    text.extend_from_slice(b"\n")?;
     Ok(text)
 }
 
-/// `= note: .. and N more` and a line feed, where notes were left out.
+/// What stands before a note's words.
+fn note_begin(alloc: Global, row: &RowText, note: &ShownNote) -> Result<Vec<u8>, AllocError>
+    ensures { IfOk result (λ text. text.items ≡ spec.note_begin row.now note.now) }
+{
+    if note.joined {
+        Vec::from_slice(alloc, b", ")
+    } else {
+        line_begin(alloc, row)
+    }
+}
+
+/// A line feed, and what stands before the words of a note on a line of its own.
+fn line_begin(alloc: Global, row: &RowText) -> Result<Vec<u8>, AllocError>
+    ensures { IfOk result (λ text. text.items ≡ spec.line_begin row.now) }
+{
+    let mut text = Vec::from_slice(alloc, b"\n")?;
+    let margin = margin(alloc, row)?;
+    text.extend_from_slice(&margin)?;
+    text.extend_from_slice(b" = note: ")?;
+    Ok(text)
+}
+
+/// `= note: .. and N more` on a line of its own, where notes were left out.
 #[tactic(auto, unfolding(crate::specs::Longs::more_line))]
 fn put_more(out: &mut Vec<u8>, alloc: Global, row: &RowText, more: usize) -> Result<(), AllocError>
     ensures { OnOk result (out.new.items ≡ out.old.items ++ spec.more_line row.now more) }
@@ -221,10 +240,10 @@ fn more_line(alloc: Global, row: &RowText, more: usize) -> Result<Vec<u8>, Alloc
     requires { 0 < more }
     ensures { IfOk result (λ text. text.items ≡ spec.more_line row.now more) }
 {
-    let mut text = margin(alloc, row)?;
-    text.extend_from_slice(b" = note: .. and ")?;
+    let mut text = line_begin(alloc, row)?;
+    text.extend_from_slice(b".. and ")?;
     text.extend_from_slice(Buffer::new().format(more).as_bytes())?;
-    text.extend_from_slice(b" more\n")?;
+    text.extend_from_slice(b" more")?;
     Ok(text)
 }
 

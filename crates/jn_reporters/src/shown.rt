@@ -6,13 +6,14 @@ use jn_diag::RowText;
 use std::alloc::Global;
 
 /// A note of a row: what it tells, up to the place that follows it, and that place: the name of a file, and the line and the column,
-/// both from 1.
+/// both from 1; and whether it goes on with the note before it, so that both are told in one line.
 #[derive(Drop)]
 pub struct ShownNote {
     pub text: Seq<u8>,
     pub name: Text,
     pub line: u32,
     pub col: u32,
+    pub joined: bool,
 }
 
 impl ShownNote {
@@ -24,6 +25,7 @@ impl ShownNote {
             name: self.name.copy(alloc)?,
             line: self.line,
             col: self.col,
+            joined: self.joined,
         })
     }
 }

@@ -231,6 +231,7 @@ fn note(alloc: Global, text: &str, name: &str, line: u32) -> Result<ShownNote, O
         name,
         line,
         col: 7,
+        joined: false,
     })
 }
 

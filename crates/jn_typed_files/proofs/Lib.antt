@@ -1,3 +1,5 @@
 pub mod TypeRows
 pub mod OneTyping
 pub mod Reporting
+pub mod RuleRows
+pub mod OneReport
