@@ -1,0 +1,5 @@
+pub mod Voided
+pub mod Courses
+pub mod Turning
+pub mod TurningLaws
+pub mod Searched
