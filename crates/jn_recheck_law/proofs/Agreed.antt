@@ -11,7 +11,7 @@ use Rattle.jn_transfer.specs.Contributions.{field_slot_of, receiver_slot_of, res
 use Rattle.jn_recheck_law.specs.Alike.{SameDeclarations}
 use Rattle.jn_recheck_law.specs.Slots.{Agree, slot_list, slot_lists}
 use Rattle.jn_recheck_law.specs.RuleReads.{method_slots}
-use Rattle.jn_recheck_law.specs.Reusable.{SameBodies}
+use Rattle.jn_recheck_law.specs.Reusable.{ActAlike}
 use Rattle.jn_recheck_law.proofs.Seeing as see
 
 module _ (s t : List Qualifier) where
@@ -68,7 +68,7 @@ module _ (names more : List (List ℕ)) (P Q : Program) (s t : List Qualifier) (
   params_same m h = ap (slot_quals s) (see.slots_seen names more P Q d m) ∙ slots_same s t (slots_of (method_at Q m)) h
 
   -- of a body's own method
-  module _ (b : ℕ) (same : SameBodies names more (body_at P b) (body_at Q b)) where
+  module _ (b : ℕ) (same : ActAlike (body_at P b) (body_at Q b)) where
     pub given_receiver : Agree s t (slot_list (receiver_slot_of (method_in Q b))) → receiver_of s (method_in P b) ≡ receiver_of t (method_in Q b)
     given_receiver h = receiver_is s (method_in P b) ∙ ap (slot_qual s) (see.given_receiver_seen names more P Q d b same) ∙ slot_same s t (receiver_slot_of (method_in Q b)) h ∙ sym (receiver_is t (method_in Q b))
 

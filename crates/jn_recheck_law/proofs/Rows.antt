@@ -21,7 +21,7 @@ use Rattle.jn_transfer.specs.Rules.{arg_rows, body_rows, ctor_rows, deref_rows, 
 use Rattle.jn_recheck_law.specs.Alike.{AllAlike, SameDeclarations, SamePoint, bare_kind}
 use Rattle.jn_recheck_law.specs.Slots.{Agree}
 use Rattle.jn_recheck_law.specs.RuleReads.{field_slots, fields_slots, kind_slots, method_slots, points_slots, rule_reads}
-use Rattle.jn_recheck_law.specs.Reusable.{SameBodies, span_of}
+use Rattle.jn_recheck_law.specs.Reusable.{ActAlike, SameBodies, span_of}
 use Rattle.jn_recheck_law.proofs.Seeing as see
 use Rattle.jn_recheck_law.proofs.Agreed as agreed
 use Rattle.jn_recheck_law.proofs.RuleSlots.{method_agrees, own_agree, points_agree}
@@ -31,6 +31,9 @@ span_or x None = x
 span_or x (Some y) = y
 
 module _ (names more : List (List ℕ)) (P Q : Program) (s t : List Qualifier) (d : SameDeclarations names more P Q) (b : ℕ) (same : SameBodies names more (body_at P b) (body_at Q b)) (h : Agree s t (rule_reads Q b)) where
+  acting : ActAlike (body_at P b) (body_at Q b)
+  acting = see.acts names more (body_at P b) (body_at Q b) same
+
   params : (m : ℕ) → Agree s t (method_slots (method_at Q m)) → slot_quals s (slots_of (method_at P m)) ≡ slot_quals t (slots_of (method_at Q m))
   params m a = agreed.params_same names more P Q s t d m (agreed.agree_params s t (method_at Q m) a)
 
@@ -39,14 +42,14 @@ module _ (names more : List (List ℕ)) (P Q : Program) (s t : List Qualifier) (
       let q = agreed.field_qual_same names more P Q s t d f.0 a in
       let m = see.monotonic_seen names more P Q d f.0 in
       (λ i. row_if ((qual_at e v.reg.0).null && (not (q i).null || m i)) v.span FieldOf ++ row_if ((qual_at e v.reg.0).free && (qual_at e r.reg.0).committed) v.span FieldInitOf)
-  kind_same (ElemWrite r i v) e span a = ap (λ (base : BaseType). elem_rows e base v) (see.base_seen names more P Q d b same r.reg.0)
+  kind_same (ElemWrite r i v) e span a = ap (λ (base : BaseType). elem_rows e base v) (see.base_seen names more P Q d b acting r.reg.0)
   kind_same (New dst m args) e span a = ap (λ (qs : List Qualifier). arg_rows e qs args) (params m.0 a)
   kind_same (CtorCall m args own) e span a = ap (λ (qs : List Qualifier). arg_rows e qs args) (params m.0 a)
   kind_same (Call dst m r direct args) e span a =
       let qs = params m.0 a in
       let q = agreed.receiver_same names more P Q s t d m.0 (agreed.agree_receiver s t (method_at Q m.0) a) in
       (λ i. arg_rows e (qs i) args ++ receiver_rows e r (q i))
-  kind_same (Return v) e span a = ap (return_rows e v) (agreed.given_result names more P Q s t d b same (agreed.agree_result s t (method_in Q b) (method_agrees Q s t b h)))
+  kind_same (Return v) e span a = ap (return_rows e v) (agreed.given_result names more P Q s t d b acting (agreed.agree_result s t (method_in Q b) (method_agrees Q s t b h)))
   kind_same (Const dst value) e span a = refl
   kind_same (Move dst from bound) e span a = refl
   kind_same (Unary dst neg of) e span a = refl
@@ -101,7 +104,7 @@ module _ (names more : List (List ℕ)) (P Q : Program) (s t : List Qualifier) (
 
   unset_same : (e : Env) → is_unset P s b e ≡ is_unset Q t b e
   unset_same e =
-      ap (λ (keys : List ℕ). some_of (λ f. not (field_qual P s f).null && not (is_on (λ k. eqb k f) keys e.assigned)) keys) (see.own_seen names more P Q d b same)
+      ap (λ (keys : List ℕ). some_of (λ f. not (field_qual P s f).null && not (is_on (λ k. eqb k f) keys e.assigned)) keys) (see.own_seen names more P Q d b acting)
       ∙ some_unset (λ f. is_on (λ k. eqb k f) (own_keys Q b) e.assigned) (own_keys Q b) (own_agree Q s t b h)
 
   unset_blind : (o : Option Env) (k : PointKind) → unset_at P s b k o ≡ unset_at P s b (bare_kind k) o
@@ -136,7 +139,7 @@ module _ (names more : List (List ℕ)) (P Q : Program) (s t : List Qualifier) (
 
   pub rows_same : (T : Table) → span_of (method_in P b) ≡ span_of (method_in Q b) → body_rows P s b T ≡ body_rows Q t b T
   rows_same T span =
-      let one = from_same 0 (points_of (body_at P b)) (points_of (body_at Q b)) 0 T (see.points_alike names more P Q d b same) (points_agree Q s t b h) in
-      let unset = unset_from_same 0 (points_of (body_at P b)) (points_of (body_at Q b)) 0 T (see.points_alike names more P Q d b same) in
-      let rest = ctor_same (method_in P b) (method_in Q b) T (see.ctor_seen names more P Q d b same) span unset in
+      let one = from_same 0 (points_of (body_at P b)) (points_of (body_at Q b)) 0 T (see.placed_alike names more (body_at P b) (body_at Q b) same) (points_agree Q s t b h) in
+      let unset = unset_from_same 0 (points_of (body_at P b)) (points_of (body_at Q b)) 0 T (see.placed_alike names more (body_at P b) (body_at Q b) same) in
+      let rest = ctor_same (method_in P b) (method_in Q b) T (see.ctor_seen names more P Q d b acting) span unset in
       (λ i. one i ++ rest i)

@@ -12,7 +12,7 @@ use Rattle.jn_transfer.specs.Least.{IsLeastTable}
 use Rattle.jn_recheck_law.specs.Alike.{SameDeclarations}
 use Rattle.jn_recheck_law.specs.Slots.{Agree}
 use Rattle.jn_recheck_law.specs.RuleReads.{fields_slots, kind_slots, method_slots, points_slots, rule_reads}
-use Rattle.jn_recheck_law.specs.Reusable.{SameBodies}
+use Rattle.jn_recheck_law.specs.Reusable.{ActAlike}
 use Rattle.jn_recheck_law.proofs.Agreed as agreed
 use Rattle.jn_recheck_law.proofs.Tables.{AllRead, ReadsSame, least_same}
 
@@ -40,7 +40,7 @@ module _ (names more : List (List ℕ)) (P Q : Program) (s t : List Qualifier) (
   all_read [] h = tt
   all_read (y ∷ ys) h = (reads_same y.kind (agreed.agree_left s t (kind_slots Q y.kind) (points_slots Q ys) h), all_read ys (agreed.agree_right s t (kind_slots Q y.kind) (points_slots Q ys) h))
 
-  pub least_kept : (b : ℕ) → SameBodies names more (body_at P b) (body_at Q b) → Agree s t (rule_reads Q b) → (T : Table) → IsLeastTable P s b T → IsLeastTable Q t b T
+  pub least_kept : (b : ℕ) → ActAlike (body_at P b) (body_at Q b) → Agree s t (rule_reads Q b) → (T : Table) → IsLeastTable P s b T → IsLeastTable Q t b T
   least_kept b same h =
       let m = method_agrees Q s t b h in
       least_same names more P Q s t d b same

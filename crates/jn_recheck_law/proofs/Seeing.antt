@@ -15,8 +15,8 @@ use Rattle.jn_points.specs.Lookup.{base_in, body_at, class_of, ctor_of, field_in
 use Rattle.jn_points.specs.Members.{below}
 use Rattle.jn_env.specs.Keys.{distinct, fact_keys, kind_keys, own_keys}
 use Rattle.jn_transfer.specs.Contributions.{field_slot_of, receiver_slot_of, result_slot_of}
-use Rattle.jn_recheck_law.specs.Alike.{AllAlike, SameBody, SameDeclarations, SameField, SameMethod, SamePoint, bare_kind}
-use Rattle.jn_recheck_law.specs.Reusable.{SameBodies}
+use Rattle.jn_recheck_law.specs.Alike.{ActsAlike, AllAlike, SameBody, SameDeclarations, SameField, SameKind, SameMethod, SamePoint, bare_kind}
+use Rattle.jn_recheck_law.specs.Reusable.{ActAlike, SameBodies}
 
 -- what is seen of the i-th items of lists that are alike
 pub alike_seen : {A C : Type 0} (R : ℕ → A → A → Type 0) (look : Option A → C) → ((i : ℕ) (x y : A) → R i x y → look (Some x) ≡ look (Some y)) → (k : ℕ) (xs ys : List A) → AllAlike R k xs ys → (i : ℕ) → look (slice_get xs i) ≡ look (slice_get ys i)
@@ -36,8 +36,28 @@ alike_long R k (x ∷ xs) (y ∷ ys) h = ap suc (alike_long R (k + 1) xs ys h.1)
 pub by_kind : {C : Type 0} (look : PointKind → C) → ((k : PointKind) → look k ≡ look (bare_kind k)) → (x y : PointKind) → bare_kind x ≡ bare_kind y → look x ≡ look y
 by_kind look blind x y e = blind x ∙ ap look e ∙ sym (blind y)
 
+-- bodies that do the same at the same places act alike
+same_kinds : (names more : List (List ℕ)) (i : ℕ) (xs ys : List Point) → AllAlike (SamePoint names more) i xs ys → AllAlike SameKind i xs ys
+same_kinds names more i [] [] h = tt
+same_kinds names more i [] (y ∷ ys) h = absurd h
+same_kinds names more i (x ∷ xs) [] h = absurd h
+same_kinds names more i (x ∷ xs) (y ∷ ys) h = (record { kind = h.0.kind }, same_kinds names more (i + 1) xs ys h.1)
+
+same_acts : (names more : List (List ℕ)) (x y : Body) → SameBody names more x y → ActsAlike x y
+same_acts names more x y h = record { method = h.method; regs = h.regs; locals = h.locals; points = same_kinds names more 0 x.points y.points h.points }
+
+pub acts : (names more : List (List ℕ)) (o p : Option Body) → SameBodies names more o p → ActAlike o p
+acts names more None p h = absurd h
+acts names more (Some x) None h = absurd h
+acts names more (Some x) (Some y) h = same_acts names more x y h
+
+pub placed_alike : (names more : List (List ℕ)) (o p : Option Body) → SameBodies names more o p → AllAlike (SamePoint names more) 0 (points_of o) (points_of p)
+placed_alike names more None p h = absurd h
+placed_alike names more (Some x) None h = absurd h
+placed_alike names more (Some x) (Some y) h = h.points
+
 module _ (names more : List (List ℕ)) where
-  keys_alike : (k : ℕ) (xs ys : List Point) → AllAlike (SamePoint names more) k xs ys → flat_map (λ pt. kind_keys pt.kind) xs ≡ flat_map (λ pt. kind_keys pt.kind) ys
+  keys_alike : (k : ℕ) (xs ys : List Point) → AllAlike SameKind k xs ys → flat_map (λ pt. kind_keys pt.kind) xs ≡ flat_map (λ pt. kind_keys pt.kind) ys
   keys_alike k [] [] h = refl
   keys_alike k [] (y ∷ ys) h = absurd h
   keys_alike k (x ∷ xs) [] h = absurd h
@@ -84,30 +104,30 @@ module _ (names more : List (List ℕ)) where
     pub result_slot_seen : (m : ℕ) → result_slot_of (method_at P m) ≡ result_slot_of (method_at Q m)
     result_slot_seen m = method_seen result_slot_of (λ i x y r. r.result_slot) m
 
-    method_by : {C : Type 0} (look : Option Method → C) → ((m : ℕ) → look (method_at P m) ≡ look (method_at Q m)) → (o p : Option Body) → SameBodies names more o p → look (method_of_body P o) ≡ look (method_of_body Q p)
+    method_by : {C : Type 0} (look : Option Method → C) → ((m : ℕ) → look (method_at P m) ≡ look (method_at Q m)) → (o p : Option Body) → ActAlike o p → look (method_of_body P o) ≡ look (method_of_body Q p)
     method_by look same None p h = absurd h
     method_by look same (Some x) None h = absurd h
     method_by look same (Some x) (Some y) h = same x.method.0 ∙ ap (λ (n : MethodNo). look (method_at Q n.0)) h.method
 
-    body_by : {C : Type 0} (look : Option Body → C) → ((x y : Body) → SameBody names more x y → look (Some x) ≡ look (Some y)) → (o p : Option Body) → SameBodies names more o p → look o ≡ look p
+    body_by : {C : Type 0} (look : Option Body → C) → ((x y : Body) → ActsAlike x y → look (Some x) ≡ look (Some y)) → (o p : Option Body) → ActAlike o p → look o ≡ look p
     body_by look same None p h = absurd h
     body_by look same (Some x) None h = absurd h
     body_by look same (Some x) (Some y) h = same x y h
 
-    points_by : (o p : Option Body) → SameBodies names more o p → AllAlike (SamePoint names more) 0 (points_of o) (points_of p)
+    points_by : (o p : Option Body) → ActAlike o p → AllAlike SameKind 0 (points_of o) (points_of p)
     points_by None p h = absurd h
     points_by (Some x) None h = absurd h
     points_by (Some x) (Some y) h = h.points
 
-    module _ (b : ℕ) (same : SameBodies names more (body_at P b) (body_at Q b)) where
+    module _ (b : ℕ) (same : ActAlike (body_at P b) (body_at Q b)) where
       pub in_seen : {C : Type 0} (look : Option Method → C) → ((m : ℕ) → look (method_at P m) ≡ look (method_at Q m)) → look (method_in P b) ≡ look (method_in Q b)
       in_seen look h = method_by look h (body_at P b) (body_at Q b) same
 
-      pub points_alike : AllAlike (SamePoint names more) 0 (points_of (body_at P b)) (points_of (body_at Q b))
+      pub points_alike : AllAlike SameKind 0 (points_of (body_at P b)) (points_of (body_at Q b))
       points_alike = points_by (body_at P b) (body_at Q b) same
 
       pub points_long : length (points_of (body_at P b)) ≡ length (points_of (body_at Q b))
-      points_long = alike_long (SamePoint names more) 0 (points_of (body_at P b)) (points_of (body_at Q b)) points_alike
+      points_long = alike_long SameKind 0 (points_of (body_at P b)) (points_of (body_at Q b)) points_alike
 
       pub regs_seen : regs_of (body_at P b) ≡ regs_of (body_at Q b)
       regs_seen = body_by regs_of (λ x y h j. length (h.regs j)) (body_at P b) (body_at Q b) same

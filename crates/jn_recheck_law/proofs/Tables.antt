@@ -18,8 +18,8 @@ use Rattle.jn_env.specs.Keys.{Key, also, fact_keys, has_key_field, has_reg, is_k
 use Rattle.jn_env.specs.Order.{Table, env_in, qual_at}
 use Rattle.jn_transfer.specs.Least.{IsLeastTable, all_edges, edges_from, flow_all, round, rounds, start_table}
 use Rattle.jn_transfer.specs.Transfer.{ctor_called, drop_facts, elem_qual, elem_read, given_quals, learn, less_null, literal_qual, new_qual, pad_quals, put, put_to, read_qual, ref_quals, refine, side, transfer, written}
-use Rattle.jn_recheck_law.specs.Alike.{AllAlike, SameDeclarations, SamePoint, bare_kind}
-use Rattle.jn_recheck_law.specs.Reusable.{SameBodies}
+use Rattle.jn_recheck_law.specs.Alike.{AllAlike, SameDeclarations, SameKind, bare_kind}
+use Rattle.jn_recheck_law.specs.Reusable.{ActAlike}
 use Rattle.jn_recheck_law.proofs.Seeing as see
 
 module _ (P Q : Program) (s t : List Qualifier) where
@@ -34,7 +34,7 @@ module _ (P Q : Program) (s t : List Qualifier) where
   AllRead (y ∷ ys) = ReadsSame y.kind × AllRead ys
 
 module _ (names more : List (List ℕ)) (P Q : Program) (s t : List Qualifier) (d : SameDeclarations names more P Q) where
-  module _ (b : ℕ) (same : SameBodies names more (body_at P b) (body_at Q b)) where
+  module _ (b : ℕ) (same : ActAlike (body_at P b) (body_at Q b)) where
     facts : fact_keys P b ≡ fact_keys Q b
     facts = see.facts_seen names more P Q d b same
 
@@ -124,7 +124,7 @@ module _ (names more : List (List ℕ)) (P Q : Program) (s t : List Qualifier) (
     from_same x y p None k h = refl
     from_same x y p (Some e) k h = see.by_kind (λ kind. transfer P s b kind p e) (edges_blind p e) x.kind y.kind k ∙ edge_same y.kind p e h
 
-    edges_same : (i : ℕ) (xs ys : List Point) (p : ℕ) (T : Table) → AllAlike (SamePoint names more) i xs ys → AllRead P Q s t ys → all_edges P s b xs p T ≡ all_edges Q t b ys p T
+    edges_same : (i : ℕ) (xs ys : List Point) (p : ℕ) (T : Table) → AllAlike SameKind i xs ys → AllRead P Q s t ys → all_edges P s b xs p T ≡ all_edges Q t b ys p T
     edges_same i [] [] p T a h = refl
     edges_same i [] (y ∷ ys) p T a h = absurd a
     edges_same i (x ∷ xs) [] p T a h = absurd a

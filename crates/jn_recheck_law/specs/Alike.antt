@@ -33,6 +33,17 @@ abbrev pub text_at : List (List ℕ) → Option NameNo → Option (List ℕ)
 text_at names None = None
 text_at names (Some n) = slice_get names n.0
 
+-- a point that does the same, wherever it stands and whatever the text of its string
+pub record SameKind (i : ℕ) (x y : Point) : Type 0 where
+  pub kind : bare_kind x.kind ≡ bare_kind y.kind
+
+-- bodies of one method with equal registers, parameters and locals, and points that do the same; neither places nor strings are compared
+pub record ActsAlike (x y : Body) : Type 0 where
+  pub method : x.method ≡ y.method
+  pub regs : x.regs ≡ y.regs
+  pub locals : x.locals ≡ y.locals
+  pub points : AllAlike SameKind 0 x.points y.points
+
 module _ (names more : List (List ℕ)) where
   -- two names have one text
   abbrev pub SameName : NameNo → NameNo → Type 0

@@ -14,7 +14,7 @@ use Rattle.jn_inference_law.specs.Reading.{body_reads, given_reads, kind_reads, 
 use Rattle.jn_recheck_law.specs.Alike.{SameDeclarations}
 use Rattle.jn_recheck_law.specs.Slots.{Agree}
 use Rattle.jn_recheck_law.specs.Slots as slots
-use Rattle.jn_recheck_law.specs.Reusable.{SameBodies}
+use Rattle.jn_recheck_law.specs.Reusable.{ActAlike}
 use Rattle.jn_recheck_law.proofs.Agreed as agreed
 use Rattle.jn_recheck_law.proofs.Tables.{AllRead, ReadsSame, least_same}
 
@@ -37,7 +37,7 @@ module _ (names more : List (List ℕ)) (P Q : Program) (s t : List Qualifier) (
   all_read [] h = tt
   all_read (y ∷ ys) h = (reads_same y.kind (agreed.agree_left s t (kind_reads Q y.kind) (points_reads Q ys) h), all_read ys (agreed.agree_right s t (kind_reads Q y.kind) (points_reads Q ys) h))
 
-  module _ (b : ℕ) (same : SameBodies names more (body_at P b) (body_at Q b)) (h : Agree s t (body_reads Q b)) where
+  module _ (b : ℕ) (same : ActAlike (body_at P b) (body_at Q b)) (h : Agree s t (body_reads Q b)) where
     given : Agree s t (given_reads (method_in Q b))
     given = agreed.agree_left s t (given_reads (method_in Q b)) (points_reads Q (points_of (body_at Q b))) h
 

@@ -16,15 +16,15 @@ use Rattle.jn_env.specs.Keys.{is_on, own_keys}
 use Rattle.jn_env.specs.Order.{Table, env_in, qual_at}
 use Rattle.jn_transfer.specs.Contributions.{arg_sends, field_slot_of, is_inferred, kind_sends, receiver_sends, receiver_slot_of, result_slot_of, return_sends, sends, unset_sends}
 use Rattle.jn_contrib.specs.Sends.{body_sends, point_sends, sends_from}
-use Rattle.jn_recheck_law.specs.Alike.{AllAlike, SameDeclarations, SamePoint, SameSlot, bare_kind}
-use Rattle.jn_recheck_law.specs.Reusable.{SameBodies}
+use Rattle.jn_recheck_law.specs.Alike.{AllAlike, SameDeclarations, SameKind, SameSlot, bare_kind}
+use Rattle.jn_recheck_law.specs.Reusable.{ActAlike}
 use Rattle.jn_recheck_law.proofs.Seeing as see
 
 module _ (names more : List (List ℕ)) (P Q : Program) (d : SameDeclarations names more P Q) where
   inferred_same : (n : ℕ) → is_inferred (slice_get P.slots n) ≡ is_inferred (slice_get Q.slots n)
   inferred_same n = see.alike_seen (SameSlot names more) is_inferred (λ i x y r. r.inferred) 0 P.slots Q.slots d.slots n
 
-  send_same : (x : Option SlotNo) (q : Qualifier) → sends P x q ≡ sends Q x q
+  pub send_same : (x : Option SlotNo) (q : Qualifier) → sends P x q ≡ sends Q x q
   send_same None q = refl
   send_same (Some n) q = ap (λ (b : Bool). cond b ((n.0, q) ∷ []) []) (inferred_same n.0)
 
@@ -51,7 +51,7 @@ module _ (names more : List (List ℕ)) (P Q : Program) (d : SameDeclarations na
       let rest = unset_same fs keys bits in
       (λ i. cond (is_on (λ k. eqb k f) keys bits) [] (one i) ++ rest i)
 
-  module _ (b : ℕ) (same : SameBodies names more (body_at P b) (body_at Q b)) where
+  module _ (b : ℕ) (same : ActAlike (body_at P b) (body_at Q b)) where
     call_args : (e : Env) (m : ℕ) (args : List Operand) → arg_sends P e (slots_of (method_at P m)) args ≡ arg_sends Q e (slots_of (method_at Q m)) args
     call_args e m args = args_same e (slots_of (method_at P m)) args ∙ ap (λ (xs : List (Option SlotNo)). arg_sends Q e xs args) (see.slots_seen names more P Q d m)
 
@@ -100,7 +100,7 @@ module _ (names more : List (List ℕ)) (P Q : Program) (d : SameDeclarations na
     point_same x y None k = refl
     point_same x y (Some e) k = see.by_kind (kind_sends P b e) (kind_blind e) x.kind y.kind k ∙ kinds_same e y.kind
 
-    from_same : (i : ℕ) (xs ys : List Point) (p : ℕ) (T : Table) → AllAlike (SamePoint names more) i xs ys → sends_from P b xs p T ≡ sends_from Q b ys p T
+    from_same : (i : ℕ) (xs ys : List Point) (p : ℕ) (T : Table) → AllAlike SameKind i xs ys → sends_from P b xs p T ≡ sends_from Q b ys p T
     from_same i [] [] p T al = refl
     from_same i [] (y ∷ ys) p T al = absurd al
     from_same i (x ∷ xs) [] p T al = absurd al

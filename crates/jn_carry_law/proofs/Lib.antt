@@ -1,0 +1,4 @@
+pub mod SameOutputs
+pub mod Blind
+pub mod Apart
+pub mod LeastWords

@@ -1,0 +1,12 @@
+//! Solving on from the words of an earlier solving.
+//!
+//! [`law`] says which words of an earlier solving lie below the new least words, [`standing_words`] makes them, and [`resume`] gives the least words
+//! from words that lie between the start and them.
+#![tactic(auto)]
+
+pub mod law;
+pub mod resuming;
+pub mod words;
+
+pub use resuming::resume;
+pub use words::standing_words;
