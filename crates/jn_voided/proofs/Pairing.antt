@@ -1,8 +1,7 @@
 -- The first pair of a course is the first of the body, and there is one.
-use Rattle.std.proofs.Common.{◌≡◌, ◌⊎◌, inl, inr, ⊎_elim, ℕ, zero, suc, ◌+◌, ◌<◌, ◌≤◌, Bool, true, false, List, [], ◌∷◌, length, Option, Some, None, refl, sym, ap, ◌∙◌, subst, arith}
+use Rattle.std.proofs.Common.{◌≡◌, ◌⊎◌, inl, inr, ⊎_elim, ℕ, ◌<◌, ◌≤◌, Bool, true, false, List, Option, Some, None, refl, sym, ap, ◌∙◌, subst, arith}
 use Rattle.std.specs.Prelude.{not}
 use Rattle.std.proofs.lemmas.Bool.{cases_lt}
-use Rattle.jn_base.specs.declared.number.PointNo.{PointNo}
 use Rattle.jn_quals.specs.Qualifier.{Qualifier}
 use Rattle.jn_points.specs.declared.program.Program.{Program}
 use Rattle.jn_points.specs.Lookup.{point_at}
@@ -13,7 +12,7 @@ use Rattle.jn_voided.specs.declared.course.Passed.{Passed}
 use Rattle.jn_voided.specs.declared.course.Way.{Way}
 use Rattle.jn_voided.specs.declared.search.Voided.{Voided}
 use Rattle.jn_voided.specs.Courses.{is_there}
-use Rattle.jn_voided.specs.Searched.{IsPair, IsFirstPair, IsFoundBy, pair}
+use Rattle.jn_voided.specs.Searched.{IsPair, IsFoundBy, pair}
 use Rattle.jn_voided.specs.Turning.{IsAtMost, TellsTurns, turn_at}
 use Rattle.jn_voided.specs.Voided.{Since, turned, kept, IsVoided, IsFirstVoided, IsFound, course, tests}
 

@@ -1,14 +1,14 @@
 -- A solution has for each point the least source at which the fact turned.
-use Rattle.std.proofs.Common.{◌≡◌, ℕ, zero, suc, ◌+◌, ◌<◌, ◌≤◌, ◌⊎◌, Bool, true, false, IsTrue, cond, ltb, inl, inr, ⊎_elim, List, [], ◌∷◌, ◌++◌, length, Option, Some, None, refl, sym, ap, ◌∙◌, subst, arith}
+use Rattle.std.proofs.Common.{◌≡◌, ℕ, zero, suc, ◌+◌, ◌<◌, ◌≤◌, ◌⊎◌, Bool, true, false, cond, ltb, inl, inr, ⊎_elim, List, [], ◌∷◌, ◌++◌, length, Option, Some, None, refl, sym, ap, ◌∙◌, subst, arith}
 use Rattle.std.specs.Prelude.{◌&&◌, flat_map, not}
-use Rattle.std.proofs.lemmas.Bool.{lt-ltb, ltb-true, ltb-false}
+use Rattle.std.proofs.lemmas.Bool.{lt-ltb, ltb-false}
 use Rattle.jn_dataflow.specs.Problem.{IsAmong, slot_at}
 use Rattle.jn_dataflow.specs.Solution.{Arises, entered, followed, joined, Absorbs, Solves}
 use Rattle.jn_voided.specs.declared.course.Passed.{Passed}
 use Rattle.jn_voided.specs.declared.course.Way.{Way}
 use Rattle.jn_voided.specs.Voided.{Since, turned, kept}
 use Rattle.jn_voided.specs.Courses.{is_in, passed_in}
-use Rattle.jn_voided.specs.Turning.{along, arriving, as_wanted, handed, is_below, IsAtMost, least, TellsTurns, handed_to, turn_at, turn_in, turning, turning_edges}
+use Rattle.jn_voided.specs.Turning.{along, arriving, as_wanted, handed, IsAtMost, least, TellsTurns, handed_to, turn_at, turn_in, turning}
 use Rattle.jn_voided.specs.TurningLaws.{Along, edge_cases}
 
 -- ---- what is as wanted

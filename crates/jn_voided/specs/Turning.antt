@@ -1,6 +1,6 @@
 -- Where a fact turned, as a dataflow problem: what comes to a point is the least source at which the fact turned to what is wanted and since which it has
 -- been so.
-use Rattle.std.specs.Prelude.{ℕ, ◌+◌, ◌-◌, ◌≡◌, ◌≤◌, Bool, true, false, not, ◌&&◌, cond, ltb, List, [], ◌∷◌, ◌++◌, length, flat_map, Option, Some, None}
+use Rattle.std.specs.Prelude.{ℕ, ◌+◌, ◌-◌, ◌≡◌, ◌≤◌, Bool, true, false, not, ◌&&◌, cond, ltb, List, [], ◌∷◌, ◌++◌, flat_map, Option, Some, None}
 use Rattle.jn_dataflow.specs.Problem.{Problem, slot_at}
 use Rattle.jn_voided.specs.declared.course.Passed.{Passed}
 use Rattle.jn_voided.specs.declared.course.Way.{Way}
