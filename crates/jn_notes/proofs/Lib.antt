@@ -1,6 +1,7 @@
+mod Alike
 mod Filling
 mod Finding
-mod Standing
-mod Solving
+mod Leaving
 mod Noting
-mod Alike
+mod Solving
+mod Standing

@@ -3,7 +3,7 @@ use Rattle.std.proofs.Common.{◌≡◌, ℕ, ◌+◌, ◌<◌, ◌≤◌, List,
 use Rattle.std.specs.Prelude.{slice_index_or}
 use Rattle.std.specs.List.{range_with_len}
 use Rattle.std.proofs.lemmas.List.FromFn.{get_or-map-range_with_len, length-map-range_with_len}
-use Rattle.std.proofs.lemmas.List.{map-append, take_more, take_all}
+use Rattle.std.proofs.lemmas.List.{append_assoc, map-append, take_more, take_all}
 use Rattle.jn_base.specs.declared.place.Row.{Row}
 use Rattle.jn_quals.specs.Qualifier.{Qualifier}
 use Rattle.jn_points.specs.declared.program.Program.{Program}
@@ -17,19 +17,26 @@ use Rattle.jn_reasons_law.specs.Choice.{IsFirstChain, told}
 use Rattle.jn_notes.specs.declared.note.Note.{Note}
 use Rattle.jn_notes.specs.declared.note.Notes.{Notes}
 use Rattle.jn_notes.specs.Asked.{item_of}
-use Rattle.jn_notes.specs.Noted.{note_of, noted, no_notes, AreFrom, AreNotes, AreEach, AreNotesOf}
+use Rattle.jn_notes.specs.Noted.{note_of, noted, no_notes, AreBy, AreFrom, AreNotes, AreEach, AreNotesOf}
+use Rattle.jn_notes.specs.Voids.{AreVoids, read_in}
 
 module _ (P : Program) (names : List (List ℕ)) where
-  pub note_more : (steps : List Step) (i : ℕ) (x : Step) (n : Note) (old new : List Note) → i < length steps → x ≡ slice_index_or steps i x → n ≡ note_of P names x → new ≡ old ++ n ∷ []
-      → old ≡ map (note_of P names) (take i steps) → new ≡ map (note_of P names) (take (i + 1) steps)
-  note_more steps i x n old new lt is e h l =
-      h ∙ ap (λ (xs : List Note). xs ++ n ∷ []) l
-      ∙ ap (λ (y : Note). map (note_of P names) (take i steps) ++ y ∷ []) (e ∙ ap (note_of P names) is)
+  one_more : (steps : List Step) (i : ℕ) (x : Step) (n : Note) → i < length steps → x ≡ slice_index_or steps i x → n ≡ note_of P names x
+      → map (note_of P names) (take i steps) ++ n ∷ [] ≡ map (note_of P names) (take (i + 1) steps)
+  one_more steps i x n lt is e =
+      ap (λ (y : Note). map (note_of P names) (take i steps) ++ y ∷ []) (e ∙ ap (note_of P names) is)
       ∙ sym (map-append (note_of P names) (take i steps) (slice_index_or steps i x ∷ []))
       ∙ ap (map (note_of P names)) (sym (take_more steps i x lt))
 
-  pub notes_done : (steps : List Step) (i : ℕ) (list : List Note) → length steps ≤ i → list ≡ map (note_of P names) (take i steps) → list ≡ map (note_of P names) steps
-  notes_done steps i list le h = h ∙ ap (map (note_of P names)) (take_all i steps le)
+  pub note_more : (steps : List Step) (i : ℕ) (x : Step) (n : Note) (first old new : List Note) → i < length steps → x ≡ slice_index_or steps i x → n ≡ note_of P names x → new ≡ old ++ n ∷ []
+      → old ≡ first ++ map (note_of P names) (take i steps) → new ≡ first ++ map (note_of P names) (take (i + 1) steps)
+  note_more steps i x n first old new lt is e h l =
+      h ∙ ap (λ (xs : List Note). xs ++ n ∷ []) l
+      ∙ append_assoc first (map (note_of P names) (take i steps)) (n ∷ [])
+      ∙ ap (λ (xs : List Note). first ++ xs) (one_more steps i x n lt is e)
+
+  pub notes_done : (steps : List Step) (i : ℕ) (first list : List Note) → length steps ≤ i → list ≡ first ++ map (note_of P names) (take i steps) → list ≡ first ++ map (note_of P names) steps
+  notes_done steps i first list le h = h ∙ ap (λ (xs : List Step). first ++ map (note_of P names) xs) (take_all i steps le)
 
   module _ (s : List Qualifier) (tables : List Table) where
     both_more : (rows : List Row) (row : Row) (notes : List Notes) (n : Notes) → AreEach P names s tables rows notes → AreNotes P names s tables row n → AreEach P names s tables (rows ++ row ∷ []) (notes ++ n ∷ [])
@@ -52,17 +59,20 @@ module _ (P : Program) (names : List (List ℕ)) where
     none_rows [] list e = subst (AreEach P names s tables []) (sym e) tt
     none_rows (row ∷ rows) list e = subst (AreEach P names s tables []) (sym e) tt
 
+  -- of a chain
+  pub by_told : (s : List Qualifier) (tables : List Table) (steps list : List Step) (voids : List Note) (notes : Notes)
+      → AreVoids P names s tables (read_in P steps) voids → list ≡ told steps → notes ≡ noted P names voids list → AreBy P names s tables steps notes
+  by_told s tables steps list voids notes h e f = (voids, h, f ∙ ap (noted P names voids) e)
+
   -- of a chain's first item
-  pub from_chain : (s : List Qualifier) (tables : List Table) (x : Item) (list : List Step) (notes : Notes)
-      → ((steps : List Step) × IsFirstChain P s tables x steps × (list ≡ told steps)) → notes ≡ noted P names list → AreFrom P names s tables (Some x) notes
-  from_chain s tables x list notes h e = (h.0, h.1, e ∙ ap (noted P names) h.2)
+  pub from_chain : (s t : List Qualifier) (tables ts : List Table) (x : Item) (steps : List Step) (notes : Notes)
+      → t ≡ s → ts ≡ tables → IsFirstChain P t ts x steps → AreBy P names s tables steps notes → AreFrom P names s tables (Some x) notes
+  from_chain s t tables ts x steps notes es et h a = (steps, subst (λ (us : List Table). IsFirstChain P s us x steps) et (subst (λ (q : List Qualifier). IsFirstChain P q ts x steps) es h), a)
 
   -- of a row's item
-  pub of_item : (s t : List Qualifier) (tables ts : List Table) (row : Row) (o : Option Item) (x : Item) (notes : Notes) → t ≡ s → ts ≡ tables → o ≡ item_of P s row tables → o ≡ Some x
-      → AreFrom P names t ts (Some x) notes → AreNotes P names s tables row notes
-  of_item s t tables ts row o x notes es et is e h =
-      subst (λ (i : Option Item). AreFrom P names s tables i notes) (sym e ∙ is)
-      (subst (λ (l : List Table). AreFrom P names s l (Some x) notes) et (subst (λ (q : List Qualifier). AreFrom P names q ts (Some x) notes) es h))
+  pub of_item : (s : List Qualifier) (tables : List Table) (row : Row) (o : Option Item) (x : Item) (notes : Notes) → o ≡ item_of P s row tables → o ≡ Some x
+      → AreFrom P names s tables (Some x) notes → AreNotes P names s tables row notes
+  of_item s tables row o x notes is e h = subst (λ (i : Option Item). AreFrom P names s tables i notes) (sym e ∙ is) h
 
   pub of_none : (s : List Qualifier) (tables : List Table) (row : Row) (o : Option Item) (notes : Notes) → o ≡ item_of P s row tables → o ≡ None → notes ≡ no_notes → AreNotes P names s tables row notes
   of_none s tables row o notes is e h = subst (λ (i : Option Item). AreFrom P names s tables i notes) (sym e ∙ is) h

@@ -1,4 +1,5 @@
 pub mod Owned
 pub mod Asked
 pub mod Worded
+pub mod Voids
 pub mod Noted

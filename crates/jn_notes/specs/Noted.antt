@@ -1,5 +1,5 @@
 -- The notes of rows: what is told of the first chain from what a row speaks of.
-use Rattle.std.specs.Prelude.{ℕ, ◌<◌, ◌-◌, ◌≡◌, List, [], ◌∷◌, length, map, take, Option, Some, None, slice_index_or}
+use Rattle.std.specs.Prelude.{ℕ, ◌<◌, ◌-◌, ◌≡◌, List, [], ◌∷◌, ◌++◌, false, length, map, take, Option, Some, None, slice_index_or}
 use Rattle.jn_base.specs.declared.place.Row.{Row}
 use Rattle.jn_quals.specs.Qualifier.{Qualifier}
 use Rattle.jn_points.specs.declared.program.Program.{Program}
@@ -11,6 +11,7 @@ use Rattle.jn_reasons_law.specs.Choice.{IsFirstChain, told}
 use Rattle.jn_notes.specs.declared.note.Note.{Note}
 use Rattle.jn_notes.specs.declared.note.Notes.{Notes}
 use Rattle.jn_notes.specs.Asked.{item_of}
+use Rattle.jn_notes.specs.Voids.{AreVoids, read_in}
 use Rattle.jn_notes.specs.Worded.{place_span, step_words}
 
 abbrev pub most_shown : ℕ
@@ -22,17 +23,21 @@ no_notes = record { shown = []; more = 0 }
 module _ (P : Program) (names : List (List ℕ)) where
   -- a step in words, and where it stands
   abbrev pub note_of : Step → Note
-  note_of step = record { words = step_words P names step; span = place_span P step.place }
+  note_of step = record { joined = false; words = step_words P names step; span = place_span P step.place }
 
-  -- the first 8 of the steps that are told
-  abbrev pub noted : List Step → Notes
-  noted steps = record { shown = map note_of (take most_shown steps); more = length steps - most_shown }
+  -- the notes of what made a test void, and then the first 8 of the steps that are told
+  abbrev pub noted : List Note → List Step → Notes
+  noted voids steps = record { shown = voids ++ map note_of (take most_shown steps); more = length steps - most_shown }
 
   module _ (s : List Qualifier) (tables : List Table) where
+    -- of a chain: those of the read of a field by which it leaves its first registers, and what is told of it
+    abbrev pub AreBy : List Step → Notes → Type 0
+    AreBy steps notes = (voids : List Note) × AreVoids P names s tables (read_in P steps) voids × (notes ≡ noted voids (told steps))
+
     -- of the first chain from the item
     abbrev pub AreFrom : Option Item → Notes → Type 0
     AreFrom None notes = notes ≡ no_notes
-    AreFrom (Some x) notes = (steps : List Step) × IsFirstChain P s tables x steps × (notes ≡ noted (told steps))
+    AreFrom (Some x) notes = (steps : List Step) × IsFirstChain P s tables x steps × AreBy steps notes
 
     abbrev pub AreNotes : Row → Notes → Type 0
     AreNotes row notes = AreFrom (item_of P s row tables) notes

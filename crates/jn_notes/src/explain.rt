@@ -1,15 +1,14 @@
 //! The notes of rows.
-ghost use Rattle.std.specs.Prelude.{◌≡◌, ◌-◌, List, [], IfOk, map, take, true, Some};
+ghost use Rattle.std.specs.Prelude.{◌≡◌, ◌-◌, ◌++◌, [], IfOk, OnOk, map, take, true, Some};
 ghost use Rattle.jn_contrib.specs.Entries.{AreOverriders};
 ghost use Rattle.jn_tables_law.specs.Inferable.{IsInferable};
 ghost use Rattle.jn_inference_law.specs.Solution.{IsLeastSignature};
 ghost use Rattle.jn_reasons_law.specs.Chains.{HasChain};
 ghost use Rattle.jn_notes.specs.Asked.{item_of};
-ghost use Rattle.jn_notes.specs.Noted.{AreEach, AreFrom, AreLeastTables, AreNotes, AreNotesOf, most_shown, no_notes, note_of, noted};
+ghost use Rattle.jn_notes.specs.Noted.{AreBy, AreEach, AreFrom, AreLeastTables, AreNotes, AreNotesOf, most_shown, no_notes, note_of, noted};
 ghost use Rattle.jn_notes.specs.Owned.{AreOwners};
-ghost use Rattle.jn_reasons_law.specs.declared.item.Step.{Step as StepOf};
 ghost use Rattle.jn_reasons_law.specs.Choice.{IsFirstChain};
-ghost use Rattle.jn_reasons_law.specs.Choice as choice;
+ghost use Rattle.jn_origins.specs.Standing.{AreSized};
 
 use crate::note::{Note, Notes};
 use crate::owners::{Owner, find_owners};
@@ -17,6 +16,7 @@ use crate::pairs::{part_of, slot_item};
 use crate::reads::{Sought, bit_of, register_item};
 use crate::spans::place_span;
 use crate::tables::least_tables;
+use crate::voids::find_voids;
 use crate::words::step_words;
 use jn_base::lists::put;
 use jn_base::{OutOfMemory, Row, Seq};
@@ -49,29 +49,30 @@ fn note_of(
 {
     let words = step_words(alloc, program, names, owners, step)?;
     Ok(Note {
+        joined: false,
         words: Seq::of_vec(words),
         span: place_span(program, owners, step.place),
     })
 }
 
-/// The steps in words.
-fn notes_of_steps(
+/// Puts the steps in words behind the notes.
+fn put_steps(
+    notes: &mut Vec<Note>,
     alloc: Global,
     program: &Program,
     names: &Names,
     owners: &[Option<Owner>],
     steps: &[Step],
-) -> Result<Vec<Note>, AllocError>
+) -> Result<(), AllocError>
     requires owners { AreOwners program.now owners.now }
-    ensures { IfOk result
-        (λ notes. notes.items ≡ map (note_of program.now names.now) steps.now) }
+    ensures { OnOk result
+        (notes.new.items ≡ notes.old.items ++ map (note_of program.now names.now) steps.now) }
 {
-    let mut notes = Vec::new(alloc);
     for step in steps {
         let note = note_of(alloc, program, names, owners, *step)?;
-        put(&mut notes, note)?;
+        put(notes, note)?;
     }
-    Ok(notes)
+    Ok(())
 }
 
 /// As many steps as are shown.
@@ -96,18 +97,21 @@ fn more(steps: usize) -> usize
     }
 }
 
-/// The first of the steps that are told, in words.
+/// These notes, and the first of the steps that are told, in words.
 fn noted(
     alloc: Global,
     program: &Program,
     names: &Names,
     owners: &[Option<Owner>],
+    voids: Vec<Note>,
     steps: &[Step],
 ) -> Result<Notes, AllocError>
     requires owners { AreOwners program.now owners.now }
-    ensures { IfOk result (λ notes. notes ≡ noted program.now names.now steps.now) }
+    ensures { IfOk result
+        (λ notes. notes ≡ noted program.now names.now voids.items steps.now) }
 {
-    let notes = notes_of_steps(alloc, program, names, owners, shown(steps))?;
+    let mut notes = voids;
+    put_steps(&mut notes, alloc, program, names, owners, shown(steps))?;
     Ok(Notes {
         shown: Seq::of_vec(notes),
         more: more(steps.len()),
@@ -144,16 +148,42 @@ fn item_of(
     }
 }
 
-/// What is told of the first chain from an item.
-fn told_from(alloc: Global, origins: &LeastOrigins, item: Item) -> Result<Vec<Step>, OutOfMemory>
-    requires chain { HasChain origins.now.program origins.now.sig origins.now.tables item }
-    ensures { IfOk result (λ told. (steps : List StepOf)
-        × IsFirstChain origins.now.program origins.now.sig origins.now.tables item steps
-        × (told.items ≡ choice.told steps)) }
+/// The first chain from an item.
+fn chain_from(
+    alloc: Global,
+    program: &Program,
+    origins: &LeastOrigins,
+    item: Item,
+) -> Result<Vec<Step>, OutOfMemory>
+    requires program { origins.now.program ≡ program.now }
+    requires chain { HasChain program.now origins.now.sig origins.now.tables item }
+    ensures { IfOk result (λ steps.
+        IsFirstChain program.now origins.now.sig origins.now.tables item steps.items) }
 {
-    let steps = first_chain(alloc, origins, item)?;
-    let list = told(alloc, &steps)?;
-    Ok(list)
+    let _program = program;
+    first_chain(alloc, origins, item)
+}
+
+/// The notes of a chain.
+fn notes_by(
+    alloc: Global,
+    program: &Program,
+    names: &Names,
+    sig: &Sig,
+    tables: &[FlowTable],
+    owners: &[Option<Owner>],
+    steps: &[Step],
+) -> Result<Notes, OutOfMemory>
+    requires inferable { IsInferable program.now }
+    requires sized { AreSized program.now tables.now }
+    requires owners { AreOwners program.now owners.now }
+    ensures { IfOk result (λ notes.
+        AreBy program.now names.now sig.now tables.now steps.now notes) }
+{
+    let told = told(alloc, steps)?;
+    let voids = find_voids(alloc, program, names, sig, tables, steps)?;
+    let notes = noted(alloc, program, names, owners, voids, &told)?;
+    Ok(notes)
 }
 
 /// The notes of a chain's first item.
@@ -161,19 +191,23 @@ fn notes_from(
     alloc: Global,
     program: &Program,
     names: &Names,
+    sig: &Sig,
+    tables: &[FlowTable],
     origins: &LeastOrigins,
     owners: &[Option<Owner>],
     item: Item,
 ) -> Result<Notes, OutOfMemory>
+    requires inferable { IsInferable program.now }
+    requires sized { AreSized program.now tables.now }
     requires program { origins.now.program ≡ program.now }
+    requires sig { origins.now.sig ≡ sig.now }
+    requires tables { origins.now.tables ≡ tables.now }
     requires chain { HasChain program.now origins.now.sig origins.now.tables item }
     requires owners { AreOwners program.now owners.now }
-    ensures { IfOk result (λ notes.
-        AreFrom program.now names.now origins.now.sig origins.now.tables (Some item) notes) }
+    ensures { IfOk result (λ notes. AreFrom program.now names.now sig.now tables.now (Some item) notes) }
 {
-    let told = told_from(alloc, origins, item)?;
-    let notes = noted(alloc, program, names, owners, &told)?;
-    Ok(notes)
+    let steps = chain_from(alloc, program, origins, item)?;
+    notes_by(alloc, program, names, sig, tables, owners, &steps)
 }
 
 /// The notes of a row.
@@ -200,9 +234,10 @@ fn notes_of(
         (λ notes. AreNotes program.now names.now sig.now tables.now row notes) }
 {
     what_stands_has_a_chain();
+    least_tables_are_sized();
     match item_of(program, sig, tables, overriders, row) {
         None => Ok(no_notes(alloc)),
-        Some(item) => notes_from(alloc, program, names, origins, owners, item),
+        Some(item) => notes_from(alloc, program, names, sig, tables, origins, owners, item),
     }
 }
 

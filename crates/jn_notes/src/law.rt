@@ -8,8 +8,9 @@ ghost use Rattle.jn_notes.specs.Noted.{AreNotesOf};
 
 use jn_reasons_law::law::first_chains_are_unique;
 use jn_tables_law::law::rounds_give_the_least_table;
+use jn_voided::law::first_pairs_are_unique;
 
-/// Rows have one list of notes: the least tables are one, and the first chain is one.
+/// Rows have one list of notes: the least tables are one, the first chain is one, and so is the first pair of a test and what made it void.
 pub fn rows_have_one_list_of_notes()
     ensures { (P : Program) (names : List (List ℕ)) (s : List Qualifier) (rows : List Row)
         (one other : List Notes)
@@ -17,4 +18,5 @@ pub fn rows_have_one_list_of_notes()
 {
     rounds_give_the_least_table();
     first_chains_are_unique();
+    first_pairs_are_unique();
 }

@@ -12,6 +12,7 @@ pub mod pairs;
 pub mod reads;
 pub mod spans;
 pub mod tables;
+pub mod voids;
 pub mod words;
 
 pub use explain::notes_of_rows;

@@ -1,14 +1,17 @@
 //! Notes.
 use jn_base::{Seq, Span};
 
-/// A note below a row: its words, and the bytes of the text that it points to. The words end before the place.
+/// A note below a row: its words, and the bytes of the text that it points to. The words end before the place. One that is joined goes on with the line
+/// of the note before it.
 #[derive(Drop)]
 pub struct Note {
+    pub joined: bool,
     pub words: Seq<u8>,
     pub span: Span,
 }
 
-/// The notes that are shown of a row, at most 8, and how many more there are.
+/// The notes that are shown of a row: those of a test that something made void, and at most 8 of where its qualifier comes from; and how many more of these
+/// there are.
 #[derive(Drop)]
 pub struct Notes {
     pub shown: Seq<Note>,

@@ -267,7 +267,7 @@ fn by_body(sought: Sought, program: &Program, body: BodyNo, tables: &[FlowTable]
 }
 
 /// The table of a body; empty where it isn't there.
-fn table_of(tables: &[FlowTable], body: BodyNo) -> &[Option<Env>]
+pub(crate) fn table_of(tables: &[FlowTable], body: BodyNo) -> &[Option<Env>]
     ensures { result.now ≡ slice_index_or tables.now body.0 [] }
 {
     match tables.get(body.0 as usize) {

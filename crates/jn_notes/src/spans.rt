@@ -55,7 +55,7 @@ pub(crate) fn point_at(program: &Program, body: u32, point: u32) -> Option<&Poin
     }
 }
 
-fn point_span(program: &Program, body: u32, point: u32) -> Span
+pub(crate) fn point_span(program: &Program, body: u32, point: u32) -> Span
     ensures { result ≡ spec.point_span (point_at program.now body point) }
 {
     match point_at(program, body, point) {

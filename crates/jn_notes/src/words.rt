@@ -24,7 +24,7 @@ fn text_at(names: &Names, name: NameNo) -> &str
     }
 }
 
-fn field_name<'a>(program: &Program, names: &'a Names, field: u32) -> &'a str
+pub(crate) fn field_name<'a>(program: &Program, names: &'a Names, field: u32) -> &'a str
     ensures { result.now ≡ spec.field_name names.entry.now (field_info program.entry.now field) }
 {
     match field_info(program, FieldNo(field)) {
@@ -57,7 +57,7 @@ fn parameter_words(place: usize) -> &'static str
 }
 
 /// Puts a text behind the words.
-fn add(words: &mut Vec<u8>, text: &str) -> Result<(), AllocError>
+pub(crate) fn add(words: &mut Vec<u8>, text: &str) -> Result<(), AllocError>
     ensures { OnOk result (words.new.items ≡ words.old.items ++ text.now) }
 {
     words.extend_from_slice(text.as_bytes())?;

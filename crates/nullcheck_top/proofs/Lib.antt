@@ -1,6 +1,4 @@
 pub mod Reporting
-pub mod RuleRows
-pub mod Programs
 pub mod Laws
 pub mod Running
 pub mod Written

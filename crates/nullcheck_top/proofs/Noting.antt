@@ -27,7 +27,7 @@ use Rattle.jn_notes.specs.Noted.{AreNotesOf}
 use Rattle.nullcheck_top.specs.declared.found.Found.{Found}
 use Rattle.nullcheck_top.specs.Found.{AreLeft, AreWhole, IsBroken, IsFinding, IsGiven, IsLeft}
 use Rattle.nullcheck_top.specs.Report.{AreNotes, RuleNotes, placed}
-use Rattle.nullcheck_top.proofs.Laws.{OneReading, one_program}
+use Rattle.jn_typed_files.proofs.OneTyping.{OneReading, one_program}
 
 -- ---- the notes at a place
 
@@ -55,8 +55,8 @@ pub one_fits : (reads : List SourceRead) (i : ℕ) (read : SourceRead) → Reads
 one_fits reads i read fit lt is = subst (λ (r : SourceRead). length r.file.bytes ≤ 1048576) (sym is) (fits_at reads i read fit lt)
 
 -- a note of no file is the same among any files that don't have it
-pub note_in_none : {E : Type 0} (reads : List SourceRead) (words : List ℕ) (span : Span) (r : Result ShownNote E) → length reads ≤ span.file.0 → IfOk r (λ n. n ≡ note_of (files_of_reads []) words span) → IfOk r (λ n. n ≡ note_of (files_of_reads reads) words span)
-note_in_none reads words span r le is = note_nowhere reads words span r le (IfOk-weaker r _ _ (λ n h s. h) is)
+pub note_in_none : {E : Type 0} (reads : List SourceRead) (joined : Bool) (words : List ℕ) (span : Span) (r : Result ShownNote E) → length reads ≤ span.file.0 → IfOk r (λ n. n ≡ note_of (files_of_reads []) joined words span) → IfOk r (λ n. n ≡ note_of (files_of_reads reads) joined words span)
+note_in_none reads joined words span r le is = note_nowhere reads joined words span r le (IfOk-weaker r _ _ (λ n h s. h) is)
 
 -- ---- which notes are shown
 

@@ -19,7 +19,7 @@ use Rattle.nullcheck_top.specs.Answers.{AnswersFiles}
 use Rattle.jn_typed_files.specs.Phases.{TypedProgramOf}
 use Rattle.jn_typed_files.specs.Report.{IsReport}
 use Rattle.nullcheck_top.specs.Report.{AreNotes, IsSafe, RunsTo, Prints}
-use Rattle.nullcheck_top.proofs.Laws.{OneReading, one_program}
+use Rattle.jn_typed_files.proofs.OneTyping.{OneReading, one_program}
 
 module _ (a : Asked) (files : List SourceFile) (names : List (List ℕ)) (P : Program) (asked_to : a.command.run ≡ true) (accepted : IsReport a.command.infer files (Checked [])) (safe : IsSafe a.command.infer files) (of_files : TypedProgramOf a.command.infer files names P) where
   output : (status : Status) (bytes : List ℕ) → ProgramRunsTo files P names a.command.args a.command.steps status bytes → IsOutputOfFiles IsReport AreNotes IsSafe RunsTo Prints a files status bytes

@@ -25,7 +25,7 @@ use Rattle.jn_typed_files.specs.Phases.{TypedProgramOf}
 
 -- notes as they are shown: with the places of their first bytes in the files
 abbrev pub placed_note : List SourceFile → Note → ShownNote
-placed_note files note = note_of files note.words note.span
+placed_note files note = note_of files note.joined note.words note.span
 
 abbrev pub placed : List SourceFile → Notes → Noted
 placed files notes = record { notes = map (placed_note files) notes.shown; more = notes.more }

@@ -10,16 +10,15 @@ ghost use Rattle.jn_command.specs.declared.report.Report.{Report};
 ghost use Rattle.jn_command.specs.declared.status.Status.{Status};
 ghost use Rattle.jn_meaning_law.specs.Safety.{NeverNullByTrees, NeverStuckByTrees};
 ghost use Rattle.jn_typed_files.specs.Phases.{TypedProgramOf};
-ghost use Rattle.jn_typed_files.specs.Report.{RulesGive, IsReport};
+ghost use Rattle.jn_typed_files.specs.Report.{RulesGive};
 ghost use Rattle.nullcheck_top.specs.Report.{AreNotes, RunsTo, trees_of};
 
-use jn_diag::rows_have_one_order;
 use jn_front::law::files_have_one_front;
 use jn_inference_law::law::least_signatures_are_unique;
 use jn_meaning_law::law::accepted_files_are_safe_by_trees;
 use jn_notes::law::rows_have_one_list_of_notes as notes_are_unique;
 use jn_progress_law::law::{accepted_programs_never_fault, accepted_programs_never_stick};
-use jn_tables_law::law::rounds_give_the_least_table;
+pub use jn_typed_files::law::files_have_one_report;
 
 /// No run of files whose program breaks no rule dereferences null, and none gets stuck. Nor does the meaning of their trees come to a
 /// null, with any words, any texts of strings, any longest length and any fuel, and it is always there.
@@ -38,17 +37,6 @@ pub fn accepted_files_are_safe()
     accepted_programs_never_fault();
     accepted_programs_never_stick();
     accepted_files_are_safe_by_trees();
-}
-
-/// Files have at most one report: the signatures are the least ones, whatever workers found them and in which order.
-pub fn files_have_one_report()
-    ensures { (infer : Infer) (files : List SourceFile) (one other : Report) → IsReport infer files one
-        → IsReport infer files other → one ≡ other }
-{
-    files_have_one_front();
-    least_signatures_are_unique();
-    rounds_give_the_least_table();
-    rows_have_one_order();
 }
 
 /// The rows of a report of files have one list of notes: the least tables and the first chains are one each.

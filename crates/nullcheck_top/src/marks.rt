@@ -104,15 +104,16 @@ impl<'a> MarkedFile<'a> {
         Ok(MarkedFile { read, marks })
     }
 
-    /// The note that tells these words of a place in the file, at its first byte.
+    /// The note that tells these words of a place in the file, at its first byte, and whether it goes on with the one before it.
     pub(crate) fn note(
         &self,
         alloc: Global,
+        joined: bool,
         words: &[u8],
         span: &Span,
     ) -> Result<ShownNote, OutOfMemory>
         ensures { IfOk result
-            (λ note. note ≡ note_of_file (Some self.now.file) words.now span.now) }
+            (λ note. note ≡ note_of_file (Some self.now.file) joined words.now span.now) }
     {
         let text = self.read.file.bytes.as_slice();
         let at = Span {
@@ -126,6 +127,7 @@ impl<'a> MarkedFile<'a> {
             name: Text::of_str(alloc, self.read.file.name.as_str())?,
             line: place.line,
             col: place.col,
+            joined,
         })
     }
 }

@@ -10,12 +10,14 @@ pub returns-then-file-files : goal.returns-then-file-files
 returns-then-file-files c =
     let files = c.args.files.now in
     let span = c.args.note.now.span in
-    subst (λ words. IfOk c.note.result (λ note. note ≡ note_of (files_of_reads files) words span)) c.as_slice.ensures
-    (note_there files span.file.0 c.index-files-file.result c.as_slice.result.now span c.note.result refl c.if-file-files.true c.index-files-file.is c.note.ensures)
+    let joined = c.args.note.now.joined in
+    subst (λ words. IfOk c.note.result (λ note. note ≡ note_of (files_of_reads files) joined words span)) c.as_slice.ensures
+    (note_there files span.file.0 c.index-files-file.result joined c.as_slice.result.now span c.note.result refl c.if-file-files.true c.index-files-file.is c.note.ensures)
 
 pub returns-else-file-files : goal.returns-else-file-files
 returns-else-file-files c =
     let files = c.args.files.now in
     let span = c.args.note.now.span in
-    subst (λ words. IfOk c.note_of.result (λ note. note ≡ note_of (files_of_reads files) words span)) c.as_slice-else-file-files.ensures
-    (note_in_none files c.as_slice-else-file-files.result.now span c.note_of.result c.if-file-files.false c.note_of.ensures)
+    let joined = c.args.note.now.joined in
+    subst (λ words. IfOk c.note_of.result (λ note. note ≡ note_of (files_of_reads files) joined words span)) c.as_slice-else-file-files.ensures
+    (note_in_none files joined c.as_slice-else-file-files.result.now span c.note_of.result c.if-file-files.false c.note_of.ensures)

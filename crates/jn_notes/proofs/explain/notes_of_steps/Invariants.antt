@@ -1,6 +1,0 @@
-use Rattle.std.proofs.Common.{◌≡◌, map, take}
-use Rattle.jn_notes.specs.Noted.{note_of}
-use Rattle.jn_notes.proofs.explain.notes_of_steps.Given as goal
-
-abbrev pub invariant-loop-step : goal.invariant-loop-step
-invariant-loop-step l = l.notes.items ≡ map (note_of l.program l.names) (take l.step-index l.steps)

@@ -1,0 +1,301 @@
+//! The notes of a test that something made void.
+ghost use Rattle.std.specs.Prelude.{◌≡◌, ◌<◌, [], length, IfOk, None, Some, slice_index_or};
+ghost use Rattle.jn_points.specs.Lookup.{field_info, method_in, point_at, static_of};
+ghost use Rattle.jn_origins.specs.Standing.{AreSized};
+ghost use Rattle.jn_tables_law.specs.Inferable.{IsInferable};
+ghost use Rattle.jn_voided.specs.Voided.{IsFound};
+ghost use Rattle.jn_notes.specs.Voids as spec;
+ghost use Rattle.jn_notes.specs.Worded.{point_span};
+
+use crate::note::Note;
+use crate::reads::table_of;
+use crate::spans::{point_at, point_span};
+use crate::words::{add, field_name};
+use jn_base::lists::put;
+use jn_base::{BodyNo, FieldNo, OutOfMemory, PointNo, RegNo, Seq};
+use jn_env::{FieldKey, FlowTable, find_keys};
+use jn_points::lookup::method_in;
+use jn_points::{PointKind, Program};
+use jn_reasons_law::{Bit, Item, Place, Step};
+use jn_sigs::Sig;
+use jn_transfer::Analysis;
+use jn_trees::Names;
+use jn_voided::{Voided, first_voided};
+use std::alloc::{AllocError, Global};
+
+/// A read of a field: the body, the point, the register of the object, and the field.
+#[derive(Clone, Copy, Debug, PartialEq, Eq)]
+pub struct ReadAt {
+    pub body: u32,
+    pub point: u32,
+    pub object: u32,
+    pub field: u32,
+}
+
+/// The read, where the point writes the register with a field.
+fn read_by(body: u32, point: u32, reg: u32, kind: &PointKind) -> Option<ReadAt>
+    ensures { result ≡ spec.read_by body point reg kind.now }
+{
+    match kind {
+        PointKind::FieldRead { dst, object, field } => {
+            if dst.0 == reg {
+                Some(ReadAt {
+                    body,
+                    point,
+                    object: object.reg.0,
+                    field: field.0,
+                })
+            } else {
+                None
+            }
+        }
+        _ => None,
+    }
+}
+
+fn read_at(program: &Program, body: u32, point: u32, reg: u32) -> Option<ReadAt>
+    ensures { result ≡ spec.read_at body point reg (point_at program.now body point) }
+{
+    match point_at(program, body, point) {
+        None => None,
+        Some(info) => read_by(body, point, reg, &info.kind),
+    }
+}
+
+/// The read by which a null in a register comes from a point.
+fn read_from(program: &Program, item: Item, place: Place) -> Option<ReadAt>
+    ensures { result ≡ spec.read_from program.now item place }
+{
+    match item {
+        Item::AtRegister(_, _, reg, Bit::Nullable) => match place {
+            Place::OfPoint(body, point) => read_at(program, body, point, reg),
+            _ => None,
+        },
+        _ => None,
+    }
+}
+
+/// Whether a null in a register comes from a point.
+fn goes_on(step: Step) -> bool
+    ensures { result ≡ spec.goes_on step }
+{
+    match step.item {
+        Item::AtRegister(_, _, _, Bit::Nullable) => match step.place {
+            Place::OfPoint(_, _) => true,
+            _ => false,
+        },
+        _ => false,
+    }
+}
+
+/// The first read of a field of a chain's steps, before they leave the registers.
+pub(crate) fn read_in(program: &Program, steps: &[Step]) -> Option<ReadAt>
+    ensures { result ≡ spec.read_in program.now steps.now }
+{
+    for step in steps {
+        let found = read_from(program, step.item, step.place);
+        if found.is_some() {
+            return found;
+        }
+        if !goes_on(*step) {
+            return None;
+        }
+    }
+    None
+}
+
+/// Whether the object is the body's own.
+fn is_this(program: &Program, read: ReadAt) -> bool
+    ensures { result ≡ spec.is_this program.now read }
+{
+    read.object == 0 && !is_static(program, read.body)
+}
+
+fn is_static(program: &Program, body: u32) -> bool
+    ensures { result ≡ static_of (method_in program.now body) }
+{
+    match method_in(program, body as usize) {
+        None => true,
+        Some(info) => info.is_static,
+    }
+}
+
+fn front_words(program: &Program, read: ReadAt) -> &'static str
+    ensures { result.now ≡ spec.front_words program.now read }
+{
+    if is_this(program, read) {
+        "`this."
+    } else {
+        "the field `"
+    }
+}
+
+/// Where it was tested.
+fn tested_words(
+    alloc: Global,
+    program: &Program,
+    names: &Names,
+    read: ReadAt,
+) -> Result<Vec<u8>, AllocError>
+    ensures { IfOk result (λ words. words.items ≡ spec.tested_words program.now names.now read) }
+{
+    let mut words = Vec::from_slice(alloc, front_words(program, read).as_bytes())?;
+    add(&mut words, field_name(program, names, read.field))?;
+    add(&mut words, "` was tested at")?;
+    Ok(words)
+}
+
+fn ends_by(kind: &PointKind) -> &'static str
+    ensures { result.now ≡ spec.ends_by kind.now }
+{
+    match kind {
+        PointKind::New { .. } => "and this call may change it:",
+        PointKind::CtorCall { .. } => "and this call may change it:",
+        PointKind::Call { .. } => "and this call may change it:",
+        _ => "and this assignment may change it:",
+    }
+}
+
+/// What may change it.
+fn ended_words(program: &Program, body: u32, point: u32) -> &'static str
+    ensures { result.now ≡ spec.ended_words (point_at program.now body point) }
+{
+    match point_at(program, body, point) {
+        None => "and this assignment may change it:",
+        Some(info) => ends_by(&info.kind),
+    }
+}
+
+fn tested_note(
+    alloc: Global,
+    program: &Program,
+    names: &Names,
+    read: ReadAt,
+    tested: PointNo,
+) -> Result<Note, AllocError>
+    ensures { IfOk result (λ note. note ≡ spec.tested_note program.now names.now read tested.0) }
+{
+    let words = tested_words(alloc, program, names, read)?;
+    Ok(Note {
+        joined: false,
+        words: Seq::of_vec(words),
+        span: point_span(program, read.body, tested.0),
+    })
+}
+
+fn ended_note(
+    alloc: Global,
+    program: &Program,
+    read: ReadAt,
+    ended: PointNo,
+) -> Result<Note, AllocError>
+    ensures { IfOk result (λ note. note ≡ spec.ended_note program.now read ended.0) }
+{
+    let words = ended_words(program, read.body, ended.0);
+    Ok(Note {
+        joined: true,
+        words: Seq::of_vec(Vec::from_slice(alloc, words.as_bytes())?),
+        span: point_span(program, read.body, ended.0),
+    })
+}
+
+/// The notes of a pair.
+fn pair_notes(
+    alloc: Global,
+    program: &Program,
+    names: &Names,
+    read: ReadAt,
+    pair: Voided,
+) -> Result<Vec<Note>, AllocError>
+    ensures { IfOk result
+        (λ notes. notes.items ≡ spec.void_notes program.now names.now read (Some pair)) }
+{
+    let mut notes = Vec::new(alloc);
+    put(
+        &mut notes,
+        tested_note(alloc, program, names, read, pair.tested)?,
+    )?;
+    put(&mut notes, ended_note(alloc, program, read, pair.ended)?)?;
+    Ok(notes)
+}
+
+/// The notes of what was found.
+fn void_notes(
+    alloc: Global,
+    program: &Program,
+    names: &Names,
+    read: ReadAt,
+    found: Option<Voided>,
+) -> Result<Vec<Note>, AllocError>
+    ensures { IfOk result
+        (λ notes. notes.items ≡ spec.void_notes program.now names.now read found) }
+{
+    match found {
+        None => Ok(Vec::new(alloc)),
+        Some(pair) => pair_notes(alloc, program, names, read, pair),
+    }
+}
+
+/// The first pair of a test of the field and what made it void before the read.
+fn find_voided(
+    alloc: Global,
+    program: &Program,
+    sig: &Sig,
+    tables: &[FlowTable],
+    read: ReadAt,
+) -> Result<Option<Voided>, OutOfMemory>
+    requires inside { read.body < length program.now.bodies }
+    requires inferable { IsInferable program.now }
+    requires sized { AreSized program.now tables.now }
+    ensures { IfOk result (λ found. IsFound program.now sig.now read.body
+        (slice_index_or tables.now read.body []) (spec.key_of read) read.point found) }
+{
+    let body = BodyNo(read.body);
+    let keys = find_keys(alloc, program, body)?;
+    let analysis = Analysis::new(program, sig, body, &keys);
+    let key = FieldKey::new(RegNo(read.object), FieldNo(read.field));
+    let table = table_of(tables, body);
+    first_voided(alloc, &analysis, table, key, PointNo(read.point))
+}
+
+/// The notes of a read.
+fn voids_of(
+    alloc: Global,
+    program: &Program,
+    names: &Names,
+    sig: &Sig,
+    tables: &[FlowTable],
+    read: ReadAt,
+) -> Result<Vec<Note>, OutOfMemory>
+    requires inside { read.body < length program.now.bodies }
+    requires inferable { IsInferable program.now }
+    requires sized { AreSized program.now tables.now }
+    ensures { IfOk result (λ notes. spec.AreVoids program.now names.now sig.now tables.now (Some read) notes.items) }
+{
+    let found = find_voided(alloc, program, sig, tables, read)?;
+    Ok(void_notes(alloc, program, names, read, found)?)
+}
+
+/// The notes of what made a test void, before the read of a field by which the steps of a chain leave its first registers; none where there is no such
+/// read, or no such test.
+///
+/// # Errors
+/// No memory was found.
+pub fn find_voids(
+    alloc: Global,
+    program: &Program,
+    names: &Names,
+    sig: &Sig,
+    tables: &[FlowTable],
+    steps: &[Step],
+) -> Result<Vec<Note>, OutOfMemory>
+    requires inferable { IsInferable program.now }
+    requires sized { AreSized program.now tables.now }
+    ensures { IfOk result (λ notes. spec.AreVoids program.now names.now sig.now tables.now
+        (spec.read_in program.now steps.now) notes.items) }
+{
+    match read_in(program, steps) {
+        None => Ok(Vec::new(alloc)),
+        Some(read) => voids_of(alloc, program, names, sig, tables, read),
+    }
+}
