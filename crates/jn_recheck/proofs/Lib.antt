@@ -7,3 +7,4 @@ pub mod Rechecking
 pub mod Fitting
 pub mod RuleRows
 pub mod OneReport
+pub mod OwnNames

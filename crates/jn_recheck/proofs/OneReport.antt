@@ -76,15 +76,16 @@ module _ (refused : (infer : Infer) (files : List SourceFile) (rows others : Lis
       let same = one_solution files xs ys xl yl in
       (xe ∙ ap Some same ∙ sym ye, made_same old ys made bodies (subst (λ (s : Solved). AreMadeAnew old s made) same xm) ym)
 
-  pub one_outcome : (before one other : SessionOf) (rows others : List RowText) (verdict second : Verdict) (files count made bodies : ℕ) → Reports before one rows verdict files made → Reports before other others second count bodies → (rows ≡ others) × (verdict ≡ second) × (files ≡ count) × (made ≡ bodies) × (one ≡ other)
-  one_outcome before one other rows others verdict second files count made bodies x y =
+  pub one_outcome : (before one other : SessionOf) (rows others : List RowText) (places seconds : List Row) (verdict second : Verdict) (files count made bodies : ℕ) → Reports before one rows places verdict files made → Reports before other others seconds second count bodies → (rows ≡ others) × (places ≡ seconds) × (verdict ≡ second) × (files ≡ count) × (made ≡ bodies) × (one ≡ other)
+  one_outcome before one other rows others places seconds verdict second files count made bodies x y =
       let report = one_report Private before.files x.report y.report x.is y.is in
       let again = one_recheck before.kept before.files y.report x.found y.found made bodies (subst (λ (r : Report). IsRecheck before.kept before.files r x.found made) report x.recheck) y.recheck in
       let kept = x.keeps ∙ ap (λ (f : Option Solved). or_else f before.kept) again.0 ∙ sym y.keeps in
       let stays = x.stays ∙ sym y.stays in
       let last = x.last ∙ sym y.last in (
         x.shown.0 ∙ ap (λ (r : Report). map (text_of_row before.files) (rows_of r)) report ∙ sym y.shown.0,
-        x.shown.1 ∙ ap verdict_of report ∙ sym y.shown.1,
+        x.shown.1 ∙ ap rows_of report ∙ sym y.shown.1,
+        x.shown.2 ∙ ap verdict_of report ∙ sym y.shown.2,
         x.changes ∙ sym y.changes,
         again.1,
         (λ i. record { files = stays i; last = last i; kept = kept i }),

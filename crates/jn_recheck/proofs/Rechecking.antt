@@ -30,17 +30,17 @@ report_of old files (Refused rows) new made r = r.0
 report_of old files (Checked rows) new made r = r.0
 
 -- what a session's report gives
-pub session_reports : (before after : SessionOf) (one two three : List SourceFile) (report : Report) (found : Option Solved) (made bodies count : ℕ) (rows : List RowText) (verdict : Verdict)
+pub session_reports : (before after : SessionOf) (one two three : List SourceFile) (report : Report) (found : Option Solved) (made bodies count : ℕ) (rows : List RowText) (places : List Row) (verdict : Verdict)
     → one ≡ before.files → two ≡ before.files → three ≡ before.last
-    → IsRecheck before.kept one report found made → AreShown two report rows verdict → count ≡ changed three two → bodies ≡ made
+    → IsRecheck before.kept one report found made → AreShown two report rows places verdict → count ≡ changed three two → bodies ≡ made
     → after.files ≡ before.files → after.last ≡ two → after.kept ≡ or_else found before.kept
-    → Reports before after rows verdict count bodies
-session_reports before after one two three report found made bodies count rows verdict e1 e2 e3 r shown counted same stays last keeps =
+    → Reports before after rows places verdict count bodies
+session_reports before after one two three report found made bodies count rows places verdict e1 e2 e3 r shown counted same stays last keeps =
     let recheck = subst (λ (fs : List SourceFile). IsRecheck before.kept fs report found made) e1 r in
     record {
       report = report;
       is = report_of before.kept before.files report found made recheck;
-      shown = subst (λ (fs : List SourceFile). AreShown fs report rows verdict) e2 shown;
+      shown = subst (λ (fs : List SourceFile). AreShown fs report rows places verdict) e2 shown;
       changes = counted ∙ (λ i. changed (e3 i) (e2 i));
       stays = stays;
       last = last ∙ e2;

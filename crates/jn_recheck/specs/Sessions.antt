@@ -1,5 +1,5 @@
 -- What a session is, and what its report gives.
-use Rattle.std.specs.Prelude.{ℕ, ◌≡◌, List, map, Option, Some, None}
+use Rattle.std.specs.Prelude.{ℕ, ◌≡◌, List, [], map, Option, Some, None}
 use Rattle.jn_base.specs.declared.infer.Infer.TheVariants.{Private}
 use Rattle.jn_base.specs.declared.place.Row.{Row}
 use Rattle.jn_command.specs.declared.report.Report.{Report}
@@ -10,6 +10,8 @@ use Rattle.jn_diag.specs.declared.shown.RowText.{RowText}
 use Rattle.jn_diag.specs.declared.shown.Verdict.{Verdict}
 use Rattle.jn_front.specs.declared.source.SourceFile.{SourceFile}
 use Rattle.jn_inference_law.specs.Solution.{IsLeastSignature}
+use Rattle.jn_notes.specs.declared.note.Notes.{Notes}
+use Rattle.jn_notes.specs.Noted.{AreNotesOf}
 use Rattle.jn_recheck_law.specs.Reusable.{Solved}
 use Rattle.jn_recheck.specs.Files.{changed}
 use Rattle.jn_recheck.specs.KeptRows.{AreMadeAnew}
@@ -41,19 +43,24 @@ or_else (Some solved) old = Some solved
 abbrev pub text_of_row : List SourceFile → Row → RowText
 text_of_row files row = (row_of files row).text
 
--- rows and verdict of a report of the files
-abbrev pub AreShown : List SourceFile → Report → List RowText → Verdict → Type 0
-AreShown files report rows verdict = (rows ≡ map (text_of_row files) (rows_of report)) × (verdict ≡ verdict_of report)
+-- rows as a reader sees them, the same with their bytes, and verdict of a report of the files
+abbrev pub AreShown : List SourceFile → Report → List RowText → List Row → Verdict → Type 0
+AreShown files report rows places verdict = (rows ≡ map (text_of_row files) (rows_of report)) × (places ≡ rows_of report) × (verdict ≡ verdict_of report)
 
--- what a report of a session gives: rows and verdict are those of the files' report, `files` is the number of names with another text than at the
--- last report, `made` that of the bodies that are not reusable
-pub record Reports (before after : SessionOf) (rows : List RowText) (verdict : Verdict) (files made : ℕ) : Type 0 where
+-- what a report of a session gives: rows, their places and verdict are those of the files' report, `files` is the number of names with another text
+-- than at the last report, `made` that of the bodies that are not reusable
+pub record Reports (before after : SessionOf) (rows : List RowText) (places : List Row) (verdict : Verdict) (files made : ℕ) : Type 0 where
   pub report : Report
   pub is : IsReport Private before.files report
-  pub shown : AreShown before.files report rows verdict
+  pub shown : AreShown before.files report rows places verdict
   pub changes : files ≡ changed before.last before.files
   pub stays : after.files ≡ before.files
   pub last : after.last ≡ before.files
   pub found : Option Solved
   pub recheck : IsRecheck before.kept before.files report found made
   pub keeps : after.kept ≡ or_else found before.kept
+
+-- the notes of these rows in what is kept; none where nothing is
+abbrev pub HaveNotes : Option Solved → List Row → List Notes → Type 0
+HaveNotes None rows notes = notes ≡ []
+HaveNotes (Some solved) rows notes = AreNotesOf solved.program solved.names solved.signature rows notes

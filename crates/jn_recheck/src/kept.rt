@@ -2,10 +2,12 @@
 ghost use Rattle.std.specs.Prelude.{◌≡◌, ◌<◌, length};
 ghost use Rattle.jn_points.specs.BaseRows.{NoBaseRows};
 ghost use Rattle.jn_points.specs.Regular.{Regular};
+ghost use Rattle.jn_inference_law.specs.Solution.{IsLeastSignature};
 ghost use Rattle.jn_recheck.specs.KeptRows.{AreKept};
 ghost use Rattle.jn_system.specs.Rows.{least_rows};
 
 use jn_base::{Row, Seq};
+use jn_index::indexed::IndexedProgram;
 use jn_points::Program;
 use jn_sigs::Sig;
 use jn_trees::Names;
@@ -24,6 +26,7 @@ pub struct Kept {
 
 impl Model for Kept {
     ghost use Rattle.jn_points.specs.Regular.{Regular};
+    ghost use Rattle.jn_inference_law.specs.Solution.{IsLeastSignature};
     ghost use Rattle.jn_recheck_law.specs.Reusable.{Solved};
     ghost use Rattle.jn_recheck.specs.KeptRows.{AreKept};
 
@@ -31,13 +34,14 @@ impl Model for Kept {
 
     ghost view = { λ k. record { names = k.names; program = k.base; signature = k.sig } };
 
-    ghost invariant = { λ k. Regular k.base × AreKept k.base k.sig k.rows.items };
+    ghost invariant = { λ k. Regular k.base × IsLeastSignature k.base k.sig × AreKept k.base k.sig k.rows.items };
 }
 
 impl Kept {
-    /// What is kept of a program whose bodies have these rows.
+    /// What is kept of a program whose bodies have these rows under its least signature.
     pub(crate) fn of(names: Names, base: BaseTyped, sig: Sig, rows: Vec<Seq<Row>>) -> Kept
         requires regular { Regular base }
+        requires least { IsLeastSignature base sig }
         requires rows { AreKept base sig rows.items }
         ensures { result ≡ record { names = names; program = base; signature = sig } }
     {
@@ -62,6 +66,15 @@ impl Kept {
         ensures regular { Regular self.now.program }
     {
         self.base.program()
+    }
+
+    /// The program with its index.
+    pub(crate) fn indexed(&self) -> &IndexedProgram
+        ensures is { result.now ≡ self.now.program }
+        ensures regular { Regular self.now.program }
+        ensures least { IsLeastSignature self.now.program self.now.signature }
+    {
+        self.base.indexed()
     }
 
     /// The least signature.

@@ -1,6 +1,7 @@
 //! Laws of sessions.
 ghost use Rattle.std.specs.Prelude.{◌≡◌, List, ℕ};
 ghost use Rattle.jn_base.specs.declared.infer.Infer.{Infer};
+ghost use Rattle.jn_base.specs.declared.place.Row.{Row};
 ghost use Rattle.jn_command.specs.declared.report.Report.{Report};
 ghost use Rattle.jn_diag.specs.declared.shown.RowText.{RowText};
 ghost use Rattle.jn_diag.specs.declared.shown.Verdict.{Verdict};
@@ -19,10 +20,10 @@ pub fn sessions_report_one_way()
     ensures report { (infer : Infer) (files : List SourceFile) (one other : Report)
         → IsReport infer files one → IsReport infer files other → one ≡ other }
     ensures outcome { (before one other : SessionOf) (rows others : List RowText)
-        (verdict second : Verdict) (files count made bodies : ℕ)
-        → Reports before one rows verdict files made
-        → Reports before other others second count bodies
-        → (rows ≡ others) × (verdict ≡ second) × (files ≡ count) × (made ≡ bodies) × (one ≡ other) }
+        (places seconds : List Row) (verdict second : Verdict) (files count made bodies : ℕ)
+        → Reports before one rows places verdict files made
+        → Reports before other others seconds second count bodies
+        → (rows ≡ others) × (places ≡ seconds) × (verdict ≡ second) × (files ≡ count) × (made ≡ bodies) × (one ≡ other) }
 {
     files_have_one_typing();
     least_signatures_are_unique();

@@ -5,6 +5,7 @@ mod anew;
 mod files;
 mod kept;
 pub mod law;
+mod notes;
 mod reads;
 mod recheck;
 mod rows;

@@ -3,6 +3,7 @@ ghost use Rattle.std.specs.Prelude.{◌≡◌, ◌≤◌, ◌<◌, ◌^◌, ◌�
 ghost use Rattle.jn_base.specs.declared.place.Row.{Row as RowOf};
 ghost use Rattle.jn_tables_law.specs.Inferable.{IsInferable};
 ghost use Rattle.jn_points.specs.Regular.{Regular};
+ghost use Rattle.jn_inference_law.specs.Solution.{IsLeastSignature};
 ghost use Rattle.jn_recheck_law.specs.Alike.{SameDeclarations};
 ghost use Rattle.jn_recheck_law.specs.Reusable.{IsReusable, Solved as SolvedOf};
 ghost use Rattle.jn_recheck.specs.KeptRows.{AreKept, AreMadeAnew, IsReusableFrom, TellsSame};
@@ -299,7 +300,7 @@ pub(crate) struct Rules {
     pub made: u32,
 }
 
-/// The rows of the rules of a program under this signature: those of reusable bodies are the kept ones, and those of all others are made by so
+/// The rows of the rules of a program under its least signature: those of reusable bodies are the kept ones, and those of all others are made by so
 /// many workers, who enter the gate once for each.
 pub(crate) fn rules_again<R: Threads + Sync, G: Gate + Sync>(
     rt: &R,
@@ -313,6 +314,7 @@ pub(crate) fn rules_again<R: Threads + Sync, G: Gate + Sync>(
 ) -> Result<Rules, OutOfMemory>
     requires inferable { IsInferable base }
     requires regular { Regular base }
+    requires least { IsLeastSignature base sig }
     requires workers { 0 < workers }
     ensures rows { IfOk result (λ rules. AreBroken base sig rules.rows.items) }
     ensures kept { IfOk result (λ rules. rules.kept ≡ record { names = names; program = base; signature = sig }) }

@@ -1,28 +1,35 @@
 //! A session: files that are edited, and reports of them.
 ghost use Rattle.std.specs.Prelude.{◌≡◌, ◌≢◌, ◌≤◌, ◌↔◌, [], None, Some, OnOk, OnErr, IfOk, length, true};
-ghost use Rattle.jn_recheck.specs.Files.{AllFit, changed, place_of, with_file, without_file};
-ghost use Rattle.jn_recheck.specs.Sessions.{AreShown, Reports, or_else};
+ghost use Rattle.jn_recheck.specs.Files.{AllFit, HaveOwnNames, changed, place_of, with_file, without_file};
+ghost use Rattle.jn_recheck.specs.Sessions.{AreShown, HaveNotes, Reports, or_else};
 
 use crate::files::{changed, copy_files, remove_file, set_file};
 use crate::kept::Kept;
+use crate::notes::notes_of;
 use crate::recheck::{Rechecked, recheck_files};
 use crate::shown::row_texts;
-use jn_base::OutOfMemory;
+use jn_base::{OutOfMemory, Row};
 use jn_command::Report;
 use jn_diag::{RowText, Verdict};
 use jn_front::SourceFile;
 use jn_gate::Gate;
+use jn_notes::Notes;
 use std::alloc::Global;
 use std::marker::Model;
 use std::thread::Threads;
 
-/// A report of a session's files: its rows in order, what they come to, how many files have another text than at the last report, and
-/// of how many bodies the rows were made anew.
+/// A report of a session's files.
 #[derive(Drop)]
 pub struct Checked {
+    /// Its rows in order, as a reader sees them.
     pub rows: Vec<RowText>,
+    /// The same rows, each with the bytes of its file that it points to.
+    pub places: Vec<Row>,
+    /// What they come to.
     pub verdict: Verdict,
+    /// How many files have another text than at the last report.
     pub files: u64,
+    /// Of how many bodies the rows were made anew.
     pub bodies: u32,
 }
 
@@ -35,16 +42,19 @@ fn tell(
     made: u32,
 ) -> Result<(Checked, Vec<SourceFile>), OutOfMemory>
     requires fit { AllFit files.now }
-    ensures shown { IfOk result (λ t. AreShown files.now report.now t.0.rows.items t.0.verdict) }
+    ensures shown { IfOk result (λ t. AreShown files.now report.now t.0.rows.items t.0.places.items
+        t.0.verdict) }
     ensures files { IfOk result (λ t. t.0.files ≡ changed last.now files.now) }
     ensures bodies { IfOk result (λ t. t.0.bodies ≡ made) }
     ensures copy { IfOk result (λ t. t.1.items ≡ files.now) }
 {
     let rows = row_texts(alloc, files, report.rows())?;
+    let places = Vec::from_slice(alloc, report.rows())?;
     let copy = copy_files(alloc, files)?;
     Ok((
         Checked {
             rows,
+            places,
             verdict: report.verdict(),
             files: changed(last, files),
             bodies: made,
@@ -62,8 +72,8 @@ fn keep(kept: &mut Option<Kept>, new: Option<Kept>)
     }
 }
 
-/// Files that are edited name by name, and what is kept of their reports. Contracts see the files, those of the last report, and the program of
-/// the last one that came to the rules, with the texts of its names and its least signature.
+/// Files that are edited name by name, no two of one name, and what is kept of their reports. Contracts see the files, those of the last report,
+/// and the program of the last one that came to the rules, with the texts of its names and its least signature.
 #[derive(Drop)]
 pub struct Session {
     alloc: Global,
@@ -73,14 +83,14 @@ pub struct Session {
 }
 
 impl Model for Session {
-    ghost use Rattle.jn_recheck.specs.Files.{AllFit};
+    ghost use Rattle.jn_recheck.specs.Files.{AllFit, HaveOwnNames};
     ghost use Rattle.jn_recheck.specs.Sessions.{SessionOf};
 
     ghost Value = { SessionOf };
 
     ghost view = { λ s. record { files = s.files.items; last = s.last.items; kept = s.kept } };
 
-    ghost invariant = { λ s. AllFit s.files.items };
+    ghost invariant = { λ s. AllFit s.files.items × HaveOwnNames s.files.items };
 }
 
 impl Session {
@@ -94,6 +104,15 @@ impl Session {
             last: Vec::new(alloc),
             kept: None,
         }
+    }
+
+    /// The files, in the order in which their names came.
+    pub fn files(&self) -> &[SourceFile]
+        ensures are { result.now ≡ self.now.files }
+        ensures fit { AllFit self.now.files }
+        ensures distinct { HaveOwnNames self.now.files }
+    {
+        self.files.as_slice()
     }
 
     /// Gives a known name its new text in its place, and puts a new name last.
@@ -120,6 +139,22 @@ impl Session {
         remove_file(&mut self.files, name)
     }
 
+    /// Has these files, with copies of their texts, in place of all that were there.
+    ///
+    /// # Errors
+    /// No memory was found, and the session is as before.
+    pub fn replace(&mut self, files: &[SourceFile]) -> Result<(), OutOfMemory>
+        requires fit { AllFit files.now }
+        requires distinct { HaveOwnNames files.now }
+        ensures files { OnOk result (self.new.files ≡ files.now) }
+        ensures unchanged { OnErr result (self.new.files ≡ self.old.files) }
+        ensures last { self.new.last ≡ self.old.last }
+        ensures kept { self.new.kept ≡ self.old.kept }
+    {
+        self.files = copy_files(self.alloc, files)?;
+        Ok(())
+    }
+
     /// The report of the files, by so many workers. Each enters the gate `solving` when it takes a file or a body for inference, and `bodies`
     /// before it makes a body's rows anew.
     ///
@@ -134,7 +169,7 @@ impl Session {
     ) -> Result<Checked, OutOfMemory>
         requires workers { (1 ≤ workers) × (workers ≤ 16) }
         ensures reports { IfOk result (λ checked. Reports self.old self.new checked.rows.items
-            checked.verdict checked.files checked.bodies) }
+            checked.places.items checked.verdict checked.files checked.bodies) }
         ensures unchanged { OnErr result (self.new ≡ self.old) }
     {
         let alloc = self.alloc;
@@ -166,5 +201,15 @@ impl Session {
                 return Err(OutOfMemory);
             }
         }
+    }
+    /// The notes of these rows, in their order, in the program of the last report that came to the rules; none where none did. They are those of
+    /// a report's rows where it came to the rules.
+    ///
+    /// # Errors
+    /// No memory was found.
+    pub fn notes_of(&self, rows: &[Row]) -> Result<Vec<Notes>, OutOfMemory>
+        ensures { IfOk result (λ notes. HaveNotes self.now.kept rows.now notes.items) }
+    {
+        notes_of(self.alloc, &self.kept, rows)
     }
 }

@@ -8,6 +8,7 @@ use Rattle.jn_outside.specs.Files.{Holding}
 use Rattle.jn_outside.specs.Gave.{given, GivesTooMany}
 use Rattle.jn_outside.specs.Sink.{Appends, AppendsPrefix}
 use Rattle.jn_outside.specs.Files.{Gives}
+use Rattle.jn_base.specs.declared.place.Row.{Row}
 use Rattle.jn_command.specs.declared.status.Status.{Status}
 use Rattle.jn_command.specs.declared.status.Status.TheVariants.{Ok, Rejected, Refused, RunFault, Stopped, ReadFault, WriteFault, OutOfMemory, Usage}
 use Rattle.jn_diag.specs.declared.shown.RowText.{RowText}
@@ -150,20 +151,20 @@ set_taken held old new written reads now writes s t name file text last from sam
   moves = record { told = from.told; given = from.given; taken = none_taken written; reads = same; writes = refl };
 }
 
-pub check_taken : (held : Option Holding) (gave : List Given) (old new : Option (List ℕ)) (reads before now : ℕ) (s t : SessionOf) (last : Status) (rows : List RowText) (verdict : Verdict) (files bodies : ℕ) (bytes : List ℕ) (end : Status) (taken : Taken) → Reports s t rows verdict files bodies → end ≡ status_of verdict → bytes ≡ check_text rows verdict files bodies → IsWritten old new bytes before now end taken → IsTaken held (world gave old reads before) (world gave new reads now) s last Check t taken
-check_taken held gave old new reads before now s t last rows verdict files bodies bytes end taken reports ends text (inl w) =
+pub check_taken : (held : Option Holding) (gave : List Given) (old new : Option (List ℕ)) (reads before now : ℕ) (s t : SessionOf) (last : Status) (rows : List RowText) (places : List Row) (verdict : Verdict) (files bodies : ℕ) (bytes : List ℕ) (end : Status) (taken : Taken) → Reports s t rows places verdict files bodies → end ≡ status_of verdict → bytes ≡ check_text rows verdict files bodies → IsWritten old new bytes before now end taken → IsTaken held (world gave old reads before) (world gave new reads now) s last Check t taken
+check_taken held gave old new reads before now s t last rows places verdict files bodies bytes end taken reports ends text (inl w) =
     subst (λ (x : Taken). IsTaken held (world gave old reads before) (world gave new reads now) s last Check t x) (sym w.0) (record {
       read = [];
       bytes = bytes;
-      does = (refl, record { rows = rows; verdict = verdict; files = files; bodies = bodies; reports = reports; text = text; ends = ends });
+      does = (refl, record { rows = rows; places = places; verdict = verdict; files = files; bodies = bodies; reports = reports; text = text; ends = ends });
       moves = record { told = none_held held; given = sym (append-nil gave); taken = w.1; reads = refl; writes = w.2 };
     })
-check_taken held gave old new reads before now s t last rows verdict files bodies bytes end taken reports ends text (inr w) =
+check_taken held gave old new reads before now s t last rows places verdict files bodies bytes end taken reports ends text (inr w) =
     subst (λ (x : Taken). IsTaken held (world gave old reads before) (world gave new reads now) s last Check t x) (sym w.0) (record {
       bytes = bytes;
       end = end;
       session = t;
-      does = (refl, record { rows = rows; verdict = verdict; files = files; bodies = bodies; reports = reports; text = text; ends = ends });
+      does = (refl, record { rows = rows; places = places; verdict = verdict; files = files; bodies = bodies; reports = reports; text = text; ends = ends });
       taken = w.1;
       reads = refl;
       rose = w.2;

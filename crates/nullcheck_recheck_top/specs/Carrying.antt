@@ -1,6 +1,7 @@
 -- What the steps of a script make of a session, what they read and what they write.
 use Rattle.std.specs.Prelude.{ℕ, ◌+◌, ◌≡◌, ◌≤◌, ◌<◌, ◌⊎◌, ◌++◌, List, [], ◌∷◌, Option, Some, None, codes, decimal, length, map, replicate}
 use Rattle.std.specs.List.{flat_map}
+use Rattle.jn_base.specs.declared.place.Row.{Row}
 use Rattle.jn_command.specs.declared.status.Status.{Status}
 use Rattle.jn_command.specs.declared.status.Status.TheVariants.{Ok, Rejected as RejectedStatus, Refused as RefusedStatus}
 use Rattle.jn_diag.specs.declared.shown.RowText.{RowText}
@@ -67,10 +68,11 @@ pub record IsSet (s : SessionOf) (name file : List ℕ) (read : List SourceFile)
 -- a report of the session's files is written, and behind it its numbers
 pub record IsCheck (s : SessionOf) (bytes : List ℕ) (end : Status) (t : SessionOf) : Type 0 where
   pub rows : List RowText
+  pub places : List Row
   pub verdict : Verdict
   pub files : ℕ
   pub bodies : ℕ
-  pub reports : Reports s t rows verdict files bodies
+  pub reports : Reports s t rows places verdict files bodies
   pub text : bytes ≡ check_text rows verdict files bodies
   pub ends : end ≡ status_of verdict
 

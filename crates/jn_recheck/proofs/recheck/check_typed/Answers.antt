@@ -10,6 +10,9 @@ solve_sig-requires-clause-inferable g c κs within = subst IsInferable (sym c.in
 pub rules_again-requires-clause-inferable : goal.rules_again-requires-clause-inferable
 rules_again-requires-clause-inferable g c κs within = c.regular_programs_can_be_inferred.ensures c.args.base c.requires.program.of_files.regular
 
+pub rules_again-requires-clause-least : goal.rules_again-requires-clause-least
+rules_again-requires-clause-least g c κs within = subst (λ P. IsLeastSignature P c.in_ok-sig.sig) c.indexed.ensures.is c.in_ok-sig.ensures
+
 pub returns : goal.returns
 returns g c =
     let sig = c.in_ok-sig.sig in
