@@ -5,6 +5,5 @@ pub mod Splitting
 pub mod Showing
 pub mod Rechecking
 pub mod Fitting
-pub mod RuleRows
 pub mod OneReport
 pub mod OwnNames

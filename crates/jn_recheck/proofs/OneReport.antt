@@ -6,23 +6,18 @@ use Rattle.jn_base.specs.declared.infer.Infer.TheVariants.{Private}
 use Rattle.jn_base.specs.declared.place.Row.{Row}
 use Rattle.jn_quals.specs.Qualifier.{Qualifier}
 use Rattle.jn_points.specs.declared.program.Program.{Program}
-use Rattle.jn_env.specs.Environment.{Env}
-use Rattle.jn_transfer.specs.Least.{IsLeastTable}
-use Rattle.jn_transfer.specs.Rules.{Breaks}
 use Rattle.jn_inference_law.specs.Solution.{IsLeastSignature}
-use Rattle.jn_diag.specs.Order.{IsOrderOf}
 use Rattle.jn_diag.specs.declared.shown.RowText.{RowText}
 use Rattle.jn_diag.specs.declared.shown.Verdict.{Verdict}
 use Rattle.jn_front.specs.declared.source.SourceFile.{SourceFile}
 use Rattle.jn_command.specs.declared.report.Report.{Report}
 use Rattle.jn_command.specs.declared.report.Report.TheVariants.{Refused, Checked}
 use Rattle.jn_command.specs.Reports.{rows_of, verdict_of}
-use Rattle.jn_typed_files.specs.Phases.{IsPhase, ProgramOf, TypedProgramOf}
+use Rattle.jn_typed_files.specs.Phases.{ProgramOf}
 use Rattle.jn_recheck_law.specs.Reusable.{Solved}
 use Rattle.jn_recheck.specs.KeptRows.{AreMadeAnew, count_false}
-use Rattle.jn_typed_files.specs.Report.{IsReport, RulesGive}
+use Rattle.jn_typed_files.specs.Report.{IsReport}
 use Rattle.jn_recheck.specs.Sessions.{IsRecheck, IsSolutionOf, Reports, SessionOf, or_else, text_of_row}
-use Rattle.jn_recheck.proofs.RuleRows.{breaks_once}
 
 -- ---- numbers
 
@@ -47,22 +42,7 @@ made_same old new made bodies x y =
     ∙ count_same x.reused y.reused (x.long ∙ sym y.long) (λ b lt. (let inside = subst (λ n. b < n) x.long lt in same_flag (slice_index_or x.reused b false) (slice_index_or y.reused b false) (x.tells b inside) (y.tells b inside)))
     ∙ sym y.count
 
-module _ (refused : (infer : Infer) (files : List SourceFile) (rows others : List Row) → IsPhase infer files rows → IsPhase infer files others → rows ≡ others) (program : (infer : Infer) (files : List SourceFile) (names others : List (List ℕ)) (P Q : Program) → ProgramOf infer files names P → ProgramOf infer files others Q → (names ≡ others) × (P ≡ Q)) (apart : (infer : Infer) (files : List SourceFile) (names : List (List ℕ)) (P : Program) (rows : List Row) → TypedProgramOf infer files names P → IsPhase infer files rows → ⊥) (least : (P : Program) (s t : List Qualifier) → IsLeastSignature P s → IsLeastSignature P t → s ≡ t) (table : (P : Program) (s : List Qualifier) (b : ℕ) (t u : List (Option Env)) → IsLeastTable P s b t → IsLeastTable P s b u → t ≡ u) (ordered : (old one other : List Row) → IsOrderOf old one → IsOrderOf old other → one ≡ other) where
-  one_rules : (P : Program) (rows others : List Row) → RulesGive P rows → RulesGive P others → rows ≡ others
-  one_rules P rows others x y =
-      let signature = least P x.signature y.signature x.least y.least in
-      let breaks : Breaks P y.signature x.broken = subst (λ s. Breaks P s x.broken) signature x.breaks in
-      let same = breaks_once P y.signature (table P y.signature) x.broken y.broken breaks y.breaks in
-      ordered y.broken rows others (subst (λ broken. IsOrderOf broken rows) same x.order) y.order
-
-  pub one_report : (infer : Infer) (files : List SourceFile) (one other : Report) → IsReport infer files one → IsReport infer files other → one ≡ other
-  one_report infer files (Refused rows) (Refused others) x y = ap Refused (refused infer files rows others x y)
-  one_report infer files (Refused rows) (Checked others) x y = absurd (apart infer files y.names y.P rows y.of_files x)
-  one_report infer files (Checked rows) (Refused others) x y = absurd (apart infer files x.names x.P others x.of_files y)
-  one_report infer files (Checked rows) (Checked others) x y =
-      let same = (program infer files x.names y.names x.P y.P x.of_files.of_files y.of_files.of_files).1 in
-      ap Checked (one_rules y.P rows others (subst (λ P. RulesGive P rows) same x.rules) y.rules)
-
+module _ (report : (infer : Infer) (files : List SourceFile) (one other : Report) → IsReport infer files one → IsReport infer files other → one ≡ other) (program : (infer : Infer) (files : List SourceFile) (names others : List (List ℕ)) (P Q : Program) → ProgramOf infer files names P → ProgramOf infer files others Q → (names ≡ others) × (P ≡ Q)) (least : (P : Program) (s t : List Qualifier) → IsLeastSignature P s → IsLeastSignature P t → s ≡ t) where
   one_solution : (files : List SourceFile) (one other : Solved) → IsSolutionOf files one → IsSolutionOf files other → one ≡ other
   one_solution files one other x y =
       let same = program Private files one.names other.names one.program other.program x.typed.of_files y.typed.of_files in
@@ -78,14 +58,14 @@ module _ (refused : (infer : Infer) (files : List SourceFile) (rows others : Lis
 
   pub one_outcome : (before one other : SessionOf) (rows others : List RowText) (places seconds : List Row) (verdict second : Verdict) (files count made bodies : ℕ) → Reports before one rows places verdict files made → Reports before other others seconds second count bodies → (rows ≡ others) × (places ≡ seconds) × (verdict ≡ second) × (files ≡ count) × (made ≡ bodies) × (one ≡ other)
   one_outcome before one other rows others places seconds verdict second files count made bodies x y =
-      let report = one_report Private before.files x.report y.report x.is y.is in
-      let again = one_recheck before.kept before.files y.report x.found y.found made bodies (subst (λ (r : Report). IsRecheck before.kept before.files r x.found made) report x.recheck) y.recheck in
+      let same = report Private before.files x.report y.report x.is y.is in
+      let again = one_recheck before.kept before.files y.report x.found y.found made bodies (subst (λ (r : Report). IsRecheck before.kept before.files r x.found made) same x.recheck) y.recheck in
       let kept = x.keeps ∙ ap (λ (f : Option Solved). or_else f before.kept) again.0 ∙ sym y.keeps in
       let stays = x.stays ∙ sym y.stays in
       let last = x.last ∙ sym y.last in (
-        x.shown.0 ∙ ap (λ (r : Report). map (text_of_row before.files) (rows_of r)) report ∙ sym y.shown.0,
-        x.shown.1 ∙ ap rows_of report ∙ sym y.shown.1,
-        x.shown.2 ∙ ap verdict_of report ∙ sym y.shown.2,
+        x.shown.0 ∙ ap (λ (r : Report). map (text_of_row before.files) (rows_of r)) same ∙ sym y.shown.0,
+        x.shown.1 ∙ ap rows_of same ∙ sym y.shown.1,
+        x.shown.2 ∙ ap verdict_of same ∙ sym y.shown.2,
         x.changes ∙ sym y.changes,
         again.1,
         (λ i. record { files = stays i; last = last i; kept = kept i }),

@@ -9,10 +9,8 @@ ghost use Rattle.jn_front.specs.declared.source.SourceFile.{SourceFile};
 ghost use Rattle.jn_typed_files.specs.Report.{IsReport};
 ghost use Rattle.jn_recheck.specs.Sessions.{Reports, SessionOf};
 
-use jn_diag::rows_have_one_order;
 use jn_inference_law::law::least_signatures_are_unique;
-use jn_tables_law::law::rounds_give_the_least_table;
-use jn_typed_files::law::files_have_one_typing;
+use jn_typed_files::law::{files_have_one_report, files_have_one_typing};
 
 /// Files have at most one report, and a session reports in one way: its rows, its verdict, its numbers and what is kept are those of the
 /// session, whatever the number of workers, and whoever of them did what.
@@ -25,8 +23,7 @@ pub fn sessions_report_one_way()
         → Reports before other others seconds second count bodies
         → (rows ≡ others) × (places ≡ seconds) × (verdict ≡ second) × (files ≡ count) × (made ≡ bodies) × (one ≡ other) }
 {
+    files_have_one_report();
     files_have_one_typing();
     least_signatures_are_unique();
-    rounds_give_the_least_table();
-    rows_have_one_order();
 }
