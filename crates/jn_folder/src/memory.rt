@@ -1,0 +1,83 @@
+//! Folders in memory, which tell all and fail where they are told to.
+ghost use Rattle.std.specs.Prelude.{◌≡◌, [], IfOk};
+
+use crate::folder::Folder;
+use crate::listed::{Entry, Listed, with_listed};
+use jn_base::Fail;
+use jn_outside::{Failed, Told};
+use std::alloc::{AllocError, Global};
+
+/// Folders in memory. Of folders of one path the first counts.
+#[derive(Drop)]
+pub struct MemFolder {
+    folders: Vec<Listed>,
+    /// The number, from 1, of the call that fails; 0 where none does.
+    failing: u64,
+    calls: u64,
+    faults: u64,
+    told: Told<Listed>,
+}
+
+impl MemFolder {
+    /// Folders of which the call of this number fails, from 1; 0 where none does. A call for a path that isn't there fails, too.
+    pub fn new(folders: Vec<Listed>, failing: u64) -> MemFolder
+        ensures folders { result.folders ≡ folders }
+        ensures failing { result.failing ≡ failing }
+        ensures faults { result.faults ≡ 0 }
+        ensures told { result.told.items ≡ [] }
+    {
+        MemFolder {
+            folders,
+            failing,
+            calls: 0,
+            faults: 0,
+            told: Told::none(),
+        }
+    }
+
+    /// The entries of the folder of this path, where it is there.
+    fn find(&self, path: &str) -> Option<&[Entry]> {
+        for folder in &self.folders {
+            if folder.path.as_str() == path {
+                return Some(folder.entries.as_slice());
+            }
+        }
+        None
+    }
+}
+
+/// A copy of the entries.
+fn copied(alloc: Global, entries: &[Entry]) -> Result<Vec<Entry>, AllocError>
+    ensures { IfOk result (λ copy. copy.items ≡ entries.now) }
+{
+    let mut copy = Vec::new(alloc);
+    for entry in entries {
+        copy.push(entry.copy(alloc)?)?;
+    }
+    Ok(copy)
+}
+
+impl Folder for MemFolder {
+    ghost told = { λ s. s.told.items };
+
+    ghost faults = { λ s. s.faults };
+
+    fn entries(&mut self, alloc: Global, path: &str) -> Result<Vec<Entry>, Fail<Failed>> {
+        self.calls = self.calls.saturating_add(1);
+        if self.calls == self.failing {
+            self.faults = self.faults.saturating_add(1);
+            return Err(Fail::Refused(Failed));
+        }
+        let Some(entries) = self.find(path) else {
+            self.faults = self.faults.saturating_add(1);
+            return Err(Fail::Refused(Failed));
+        };
+        match copied(alloc, entries) {
+            Ok(entries) => {
+                self.told = with_listed(&self.told, path, &entries);
+                Ok(entries)
+            }
+            Err(_) => Err(Fail::OutOfMemory),
+        }
+    }
+}

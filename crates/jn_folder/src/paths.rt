@@ -1,0 +1,97 @@
+//! Names in folders, and their paths.
+ghost use Rattle.std.specs.Prelude.{◌≡◌, ◌++◌, codes, eqb, IfOk, OnOk};
+ghost use Rattle.std.specs.List.{ends_with};
+ghost use Rattle.jn_folder.specs.Listing as spec;
+
+use crate::listed::{Entry, Kind};
+use jn_base::Text;
+use std::alloc::{AllocError, Global};
+
+/// Whether the name begins with a dot.
+fn is_hidden(name: &str) -> bool
+    ensures { result ≡ spec.is_hidden name.now }
+{
+    match name.as_bytes() {
+        [b'.', ..] => true,
+        _ => false,
+    }
+}
+
+/// Whether the name ends in `.java`.
+fn is_java(name: &str) -> bool
+    ensures { result ≡ spec.is_java name.now }
+{
+    name.as_bytes().ends_with(b".java")
+}
+
+/// The path of a name in the folder of this path: behind it and a slash, where it ends with none.
+pub fn joined(alloc: Global, path: &str, name: &str) -> Result<Text, AllocError>
+    ensures { IfOk result (λ whole. whole ≡ spec.joined path.now name.now) }
+{
+    let mut whole = String::from_str(alloc, path)?;
+    if !path.as_bytes().ends_with(b"/") {
+        whole.push_str("/")?;
+    }
+    whole.push_str(name)?;
+    Ok(Text::of_string(whole))
+}
+
+/// The path of the Java file that the entry is, put behind the others.
+fn put_file(
+    alloc: Global,
+    path: &str,
+    entry: &Entry,
+    files: &mut Vec<Text>,
+) -> Result<(), AllocError>
+    ensures { OnOk result
+        (files.new.items ≡ files.old.items ++ spec.file_at path.now entry.now.name entry.now.kind) }
+{
+    let name = entry.name.as_str();
+    match entry.kind {
+        Kind::File if !is_hidden(name) && is_java(name) => {
+            files.push(joined(alloc, path, name)?)?;
+            Ok(())
+        }
+        _ => Ok(()),
+    }
+}
+
+/// The path of the folder that the entry is, put behind the others.
+fn put_folder(
+    alloc: Global,
+    path: &str,
+    entry: &Entry,
+    folders: &mut Vec<Text>,
+) -> Result<(), AllocError>
+    ensures { OnOk result (folders.new.items
+        ≡ folders.old.items ++ spec.folder_at path.now entry.now.name entry.now.kind) }
+{
+    let name = entry.name.as_str();
+    match entry.kind {
+        Kind::Folder if !is_hidden(name) => {
+            folders.push(joined(alloc, path, name)?)?;
+            Ok(())
+        }
+        _ => Ok(()),
+    }
+}
+
+/// Puts the paths of the Java files, and of the folders, that a folder lists behind the others.
+pub(crate) fn put_entries(
+    alloc: Global,
+    path: &str,
+    entries: &[Entry],
+    files: &mut Vec<Text>,
+    folders: &mut Vec<Text>,
+) -> Result<(), AllocError>
+    ensures files { OnOk result
+        (files.new.items ≡ files.old.items ++ spec.files_in path.now entries.now) }
+    ensures folders { OnOk result
+        (folders.new.items ≡ folders.old.items ++ spec.folders_in path.now entries.now) }
+{
+    for entry in entries {
+        put_file(alloc, path, entry, files)?;
+        put_folder(alloc, path, entry, folders)?;
+    }
+    Ok(())
+}
