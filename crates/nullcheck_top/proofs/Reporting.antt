@@ -1,5 +1,5 @@
 -- Reports of files that were read.
-use Rattle.std.proofs.Common.{◌≡◌, ℕ, List, [], ◌∷◌, Option, None, Some, Result, Ok, Err, refl, sym, ap, subst}
+use Rattle.std.proofs.Common.{◌≡◌, ℕ, List, [], ◌∷◌, Option, None, Some, Result, Ok, Err, refl, sym, ap, ◌∙◌, subst}
 use Rattle.std.specs.Prelude.{IfOk, IfErr}
 use Rattle.jn_base.specs.declared.infer.Infer.{Infer}
 use Rattle.jn_base.specs.declared.refusal.OutOfMemory.{OutOfMemory}
@@ -106,10 +106,10 @@ module _ (infer : Infer) (reads : List SourceRead) (names : List (List ℕ)) (tr
   checked_whole (Ok found) = λ others is. whole
   checked_whole (Err e) = tt
 
-  -- no limit is passed
-  pub checked_stand : (made : Made) → IfOk made (λ found. StandIn reads (rows_of found.report))
-  checked_stand (Ok found) = all_stand reads [] (rows_of found.report) (λ files are. sym (typed files are).1.0.of_files.lowered.declared.parsed.within) refl some
-  checked_stand (Err e) = tt
+-- no limit is passed, where what was read has a program
+pub checked_stand : (infer : Infer) (reads : List SourceRead) (names : List (List ℕ)) (trees : List PlacedFile) (rows : List Row) (P : Program) → ((files : List SourceFile) × AreReads reads files) → IsTypedAll infer reads names trees rows (Some P) → (made : Made) → IfOk made (λ found. StandIn reads (rows_of found.report))
+checked_stand infer reads names trees rows P some typed (Ok found) = all_stand reads [] (rows_of found.report) (λ files are. sym (typed files are).1.0.of_files.lowered.declared.parsed.within) refl some
+checked_stand infer reads names trees rows P some typed (Err e) = tt
 
 -- ---- accepted files are safe
 
