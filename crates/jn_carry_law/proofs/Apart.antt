@@ -44,15 +44,15 @@ module _ (lost : ℕ → ℕ) where
   abbrev HasNone : ℕ → Type 0
   HasNone i = lost (i / 21) / 2 ^ (3 * (i % 21)) % 8 ≡ 0
 
-  unlost_left : (xs ys : List ℕ) → AreUnlost lost (xs ++ ys) → AreUnlost lost xs
+  pub unlost_left : (xs ys : List ℕ) → AreUnlost lost (xs ++ ys) → AreUnlost lost xs
   unlost_left [] ys u = tt
   unlost_left (x ∷ xs) ys u = (u.0, unlost_left xs ys u.1)
 
-  unlost_right : (xs ys : List ℕ) → AreUnlost lost (xs ++ ys) → AreUnlost lost ys
+  pub unlost_right : (xs ys : List ℕ) → AreUnlost lost (xs ++ ys) → AreUnlost lost ys
   unlost_right [] ys u = u
   unlost_right (x ∷ xs) ys u = unlost_right xs ys u.1
 
-  unlost_both : (xs ys : List ℕ) → AreUnlost lost xs → AreUnlost lost ys → AreUnlost lost (xs ++ ys)
+  pub unlost_both : (xs ys : List ℕ) → AreUnlost lost xs → AreUnlost lost ys → AreUnlost lost (xs ++ ys)
   unlost_both [] ys u v = v
   unlost_both (x ∷ xs) ys u v = (u.0, unlost_both xs ys u.1 v)
 

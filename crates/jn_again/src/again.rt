@@ -1,0 +1,180 @@
+//! Solving again.
+ghost use Rattle.std.specs.Prelude.{◌≡◌, ◌<◌, ◌≤◌, ◌+◌, ◌^◌, IfOk, List, ℕ, true, length};
+ghost use Rattle.jn_contrib.specs.Entries.{AreOverriders};
+ghost use Rattle.jn_inference_law.specs.Solution.{IsLeastSignature};
+ghost use Rattle.jn_recheck_law.specs.Alike.{SameDeclarations};
+ghost use Rattle.jn_tables_law.specs.Inferable.{IsInferable};
+ghost use Rattle.jn_tables_law.specs.Tasks.{task_count};
+ghost use Rattle.jn_inference_law.specs.Inference.{inference};
+ghost use Rattle.jn_lost.specs.Losing.{told};
+ghost use Rattle.jn_resume.specs.Keepable.{IsEditOf};
+ghost use Rattle.jn_sigtable.specs.System.{least};
+ghost use Rattle.jn_system.specs.Ready.{AreTasks};
+
+use crate::changed::{changed_tasks, same_overriders};
+use crate::reach::ProgramReach;
+use jn_base::OutOfMemory;
+use jn_contrib::{Overrider, overriders};
+use jn_env::OwnFields;
+use jn_gate::Gate;
+use jn_index::indexed::IndexedProgram;
+use jn_lost::{Edit, solve_on};
+use jn_points::Program;
+use jn_reuse::same_declarations;
+use jn_sigs::{Sig, start};
+use jn_system::signature::signature;
+use jn_system::{Nullness, solve_sig};
+use jn_trees::Names;
+use std::alloc::Global;
+use std::thread::Threads;
+
+/// An earlier program, the texts of its names, and its least signature.
+#[derive(Drop)]
+pub struct Earlier<'e> {
+    pub names: &'e Names,
+    pub program: &'e IndexedProgram,
+    pub sig: &'e Sig,
+}
+
+/// Whether the tasks can be numbered.
+fn are_few(bodies: usize, overriders: usize) -> bool
+    ensures { result ≡ true → bodies + overriders < 2 ^ 32 }
+{
+    bodies <= u32::MAX as usize && overriders <= u32::MAX as usize - bodies
+}
+
+/// What a system of inference is made of.
+#[derive(Drop)]
+struct Parts<'p> {
+    program: &'p Program,
+    own: &'p OwnFields,
+    overriders: &'p [Overrider],
+}
+
+/// The least words of the new program, from those of the old one.
+fn solve_words(
+    alloc: Global,
+    old: &Parts,
+    new: &Parts,
+    changed: &[bool],
+    before: &[u64],
+    start: &[u64],
+    last: &[u64],
+) -> Result<Vec<u64>, OutOfMemory>
+    requires old { AreTasks old.now.program.now old.now.own.now old.now.overriders.now }
+    requires new { AreTasks new.now.program.now new.now.own.now new.now.overriders.now }
+    requires flags { length changed.now ≡ task_count old.now.program.now }
+    requires edit { IsEditOf (inference old.now.program.now) (inference new.now.program.now)
+        before.now start.now last.now (told changed.now) }
+    ensures { IfOk result (λ words. words.items ≡ least (inference new.now.program.now) start.now) }
+{
+    let was = Nullness::new(old.program, old.own, old.overriders);
+    let is = Nullness::new(new.program, new.own, new.overriders);
+    let reach = ProgramReach::new(old.program, old.own, old.overriders);
+    let words = solve_on(
+        alloc,
+        &Edit {
+            old: &was,
+            new: &is,
+            reach: &reach,
+            changed,
+            before,
+            start,
+            last,
+        },
+    )?;
+    Ok(words)
+}
+
+/// The least signature of a program that declares what the old one did.
+fn solve_edited(
+    alloc: Global,
+    old: &Program,
+    sig: &Sig,
+    old_overriders: &[Overrider],
+    new: &Program,
+    overriders: &[Overrider],
+) -> Result<Sig, OutOfMemory>
+    requires old { IsInferable old.now }
+    requires new { IsInferable new.now }
+    requires least { IsLeastSignature old.now sig.now }
+    requires old_list { AreOverriders old.now old_overriders.now }
+    requires list { AreOverriders new.now overriders.now }
+    requires lists { old_overriders.now ≡ overriders.now }
+    requires bodies { length old.now.bodies ≡ length new.now.bodies }
+    requires declares { (names : List (List ℕ)) × ((more : List (List ℕ))
+        × SameDeclarations names more old.now new.now) }
+    ensures { IfOk result (λ found. IsLeastSignature new.now found) }
+{
+    if !are_few(old.bodies.len(), old_overriders.len()) {
+        return Err(OutOfMemory);
+    }
+    let before = start(alloc, old)?;
+    let first = start(alloc, new)?;
+    let old_own = OwnFields::new(alloc, old)?;
+    let own = OwnFields::new(alloc, new)?;
+    let tasks = old.bodies.len() + old_overriders.len();
+    let changed = changed_tasks(alloc, old, new, tasks)?;
+    let words = solve_words(
+        alloc,
+        &Parts {
+            program: old,
+            own: &old_own,
+            overriders: old_overriders,
+        },
+        &Parts {
+            program: new,
+            own: &own,
+            overriders,
+        },
+        changed.as_slice(),
+        before.words(),
+        first.words(),
+        sig.words(),
+    )?;
+    let found = signature(alloc, new.slots.len() as u32, words.as_slice())?;
+    Ok(found)
+}
+
+/// The least signature of a program, where an earlier one has been solved. Where both declare the same and have as many bodies, it is found from the
+/// earlier one's on one thread; else anew, by so many workers, 1 to 16, each of which enters the gate when it takes a body.
+///
+/// # Errors
+/// No memory was found, or bodies and methods that override are more than four billion.
+pub fn solve_again<R: Threads + Sync, G: Gate + Sync>(
+    rt: &R,
+    alloc: Global,
+    earlier: &Earlier,
+    names: &Names,
+    program: &IndexedProgram,
+    workers: u32,
+    gate: &G,
+) -> Result<Sig, OutOfMemory>
+    requires old { IsInferable earlier.now.program.now }
+    requires least { IsLeastSignature earlier.now.program.now earlier.now.sig.now }
+    requires inferable { IsInferable program.now }
+    requires workers { (0 < workers) × (workers ≤ 16) }
+    ensures { IfOk result (λ sig. IsLeastSignature program.now sig) }
+{
+    let old = earlier.program.program();
+    let new = program.program();
+    if !same_declarations(earlier.names, old, names, new) {
+        return solve_sig(rt, alloc, program, workers, gate);
+    }
+    if old.bodies.len() != new.bodies.len() {
+        return solve_sig(rt, alloc, program, workers, gate);
+    }
+    let old_overriders = overriders(alloc, earlier.program)?;
+    let list = overriders(alloc, program)?;
+    if !same_overriders(old_overriders.as_slice(), list.as_slice()) {
+        return solve_sig(rt, alloc, program, workers, gate);
+    }
+    solve_edited(
+        alloc,
+        old,
+        earlier.sig,
+        old_overriders.as_slice(),
+        new,
+        list.as_slice(),
+    )
+}
