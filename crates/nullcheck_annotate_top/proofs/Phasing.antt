@@ -1,10 +1,11 @@
 -- What files come to, by what they came to before their rules.
-use Rattle.std.proofs.Common.{◌≡◌, ◌×◌, Bool, List, [], Some, Result, Ok, Err, refl, sym, subst}
+use Rattle.std.proofs.Common.{◌≡◌, ℕ, Bool, List, [], Some, Result, Ok, Err, refl, sym, subst}
 use Rattle.std.specs.Prelude.{IfOk}
 use Rattle.jn_base.specs.declared.infer.Infer.{Infer}
 use Rattle.jn_base.specs.declared.refusal.OutOfMemory.{OutOfMemory}
 use Rattle.jn_base.specs.declared.place.Row.{Row}
 use Rattle.jn_points.specs.declared.program.Program.{Program}
+use Rattle.jn_command.proofs.Standing.{all_stand}
 use Rattle.jn_places.specs.Placed.{PlacedFile}
 use Rattle.jn_front.specs.declared.source.SourceFile.{SourceFile}
 use Rattle.jn_front.specs.declared.source.SourceRead.{SourceRead}
@@ -26,3 +27,10 @@ module _ (infer : Infer) (imports : Bool) (reads : List SourceRead) (names : Lis
   pub study_all : (made : Made) → IfOk made (λ study. IsStudy infer imports (files_of_reads reads) study) → IfOk made (λ study. (files : List SourceFile) → AreReads reads files → IsStudy infer imports files study)
   study_all (Ok study) is = λ files are. subst (λ fs. IsStudy infer imports fs study) (whole files are) is
   study_all (Err e) is = tt
+
+  -- no limit is passed, so rows stand anywhere
+  pub of_made : (made : Made) → IfOk made (λ study. IsOf reads study)
+  of_made (Ok (Refused broken)) = all_stand reads [] broken (λ files are. sym (typed files are).1.0.of_files.lowered.declared.parsed.within) refl some
+  of_made (Ok (Unannotated fault span)) = whole
+  of_made (Ok (Annotated new)) = whole
+  of_made (Err e) = tt
