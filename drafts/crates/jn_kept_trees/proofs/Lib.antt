@@ -1,0 +1,5 @@
+pub mod Ways
+pub mod Renumbering
+pub mod Joins
+pub mod Outcomes
+pub mod Placing

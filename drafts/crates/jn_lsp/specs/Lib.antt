@@ -1,0 +1,5 @@
+pub mod Stand
+pub mod Telling
+pub mod Edits
+pub mod Publications
+pub mod Serving

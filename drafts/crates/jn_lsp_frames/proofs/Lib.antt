@@ -1,0 +1,4 @@
+pub mod Lines
+pub mod OneReading
+pub mod Taking
+pub mod Writing
