@@ -1,5 +1,0 @@
-pub mod Ways
-pub mod Renumbering
-pub mod Joins
-pub mod Outcomes
-pub mod Placing

@@ -1,4 +1,0 @@
-pub mod KeptTrees
-pub mod Shifts
-pub mod Fresh
-pub mod Merges

@@ -1,5 +1,0 @@
-pub mod Stand
-pub mod Telling
-pub mod Edits
-pub mod Publications
-pub mod Serving

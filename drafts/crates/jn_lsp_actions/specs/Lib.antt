@@ -1,4 +1,0 @@
-pub mod Asking
-pub mod Alone
-pub mod Written
-pub mod Offered

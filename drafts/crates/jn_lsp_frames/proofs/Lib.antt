@@ -1,4 +1,0 @@
-pub mod Lines
-pub mod OneReading
-pub mod Taking
-pub mod Writing

@@ -1,6 +1,0 @@
-use Rattle.jn_lsp_frames.specs.Header.{is_digit}
-use Rattle.jn_lsp_frames.proofs.Lines.{Spans}
-use Rattle.jn_lsp_frames.proofs.header.digits_in.Given as goal
-
-abbrev pub invariant-loop-at : goal.invariant-loop-at
-invariant-loop-at l = Spans is_digit l.bytes l.at

@@ -1,3 +1,0 @@
-pub mod Header
-pub mod Frames
-pub mod Reading

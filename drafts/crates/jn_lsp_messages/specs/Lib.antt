@@ -1,4 +1,0 @@
-pub mod Uris
-pub mod Methods
-pub mod Incoming
-pub mod Outgoing

@@ -1,4 +1,0 @@
-pub mod Reading
-pub mod Looking
-pub mod Hearing
-pub mod Answer
