@@ -3,3 +3,4 @@ pub mod KeptRows
 pub mod Found
 pub mod Places
 pub mod Sessions
+pub mod Told

@@ -24,6 +24,9 @@ pub record SessionOf : Type 0 where
   pub last : List SourceFile
   pub kept : Option Solved
 
+abbrev pub session_of : List SourceFile → List SourceFile → Option Solved → SessionOf
+session_of files last kept = record { files = files; last = last; kept = kept }
+
 -- the files' program, the texts of its names and its least signature
 pub record IsSolutionOf (files : List SourceFile) (solved : Solved) : Type 0 where
   pub typed : TypedProgramOf Private files solved.names solved.program

@@ -5,11 +5,13 @@ mod anew;
 mod files;
 mod kept;
 pub mod law;
+mod least;
 mod notes;
 mod reads;
 mod recheck;
 mod rows;
 pub mod session;
 mod shown;
+mod telling;
 
 pub use session::{Checked, Session};

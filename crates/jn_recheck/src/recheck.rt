@@ -9,13 +9,13 @@ ghost use Rattle.jn_typed_files.specs.Phases.{IsTypedOr, TypedProgramOf};
 ghost use Rattle.jn_recheck.specs.Sessions.{IsRecheck};
 
 use crate::kept::Kept;
+use crate::least::least_sig;
 use crate::reads::reads_of;
 use crate::rows::{Rules, rules_again};
 use jn_base::{Infer, OutOfMemory, Row, Seq};
 use jn_command::Report;
 use jn_front::SourceFile;
 use jn_gate::Gate;
-use jn_system::solve_sig;
 use jn_tables_law::law::regular_programs_can_be_inferred;
 use jn_trees::Names;
 use jn_typed::BaseTyped;
@@ -63,7 +63,7 @@ fn check_typed<R: Threads + Sync, G: Gate + Sync, H: Gate + Sync>(
 {
     let _files = files;
     regular_programs_can_be_inferred();
-    let sig = solve_sig(rt, alloc, base.indexed(), workers, solving)?;
+    let sig = least_sig(rt, alloc, workers, kept, &names, &base, solving)?;
     let Rules { rows, kept, made } = rules_again(
         rt, alloc, kept, names, base, sig, workers, bodies,
     )?;

@@ -1,13 +1,13 @@
 //! A session: files that are edited, and reports of them.
 ghost use Rattle.std.specs.Prelude.{◌≡◌, ◌≢◌, ◌≤◌, ◌↔◌, [], None, Some, OnOk, OnErr, IfOk, length, true};
 ghost use Rattle.jn_recheck.specs.Files.{AllFit, HaveOwnNames, changed, place_of, with_file, without_file};
-ghost use Rattle.jn_recheck.specs.Sessions.{AreShown, HaveNotes, Reports, or_else};
+ghost use Rattle.jn_recheck.specs.Sessions.{HaveNotes, Reports, or_else};
 
-use crate::files::{changed, copy_files, remove_file, set_file};
+use crate::files::{copy_files, remove_file, set_file};
 use crate::kept::Kept;
 use crate::notes::notes_of;
 use crate::recheck::{Rechecked, recheck_files};
-use crate::shown::row_texts;
+use crate::telling::{tell, told_again};
 use jn_base::{OutOfMemory, Row};
 use jn_command::Report;
 use jn_diag::{RowText, Verdict};
@@ -33,36 +33,6 @@ pub struct Checked {
     pub bodies: u32,
 }
 
-/// What a report of the files says, beside what its numbers are, and a copy of the files.
-fn tell(
-    alloc: Global,
-    files: &[SourceFile],
-    last: &[SourceFile],
-    report: &Report,
-    made: u32,
-) -> Result<(Checked, Vec<SourceFile>), OutOfMemory>
-    requires fit { AllFit files.now }
-    ensures shown { IfOk result (λ t. AreShown files.now report.now t.0.rows.items t.0.places.items
-        t.0.verdict) }
-    ensures files { IfOk result (λ t. t.0.files ≡ changed last.now files.now) }
-    ensures bodies { IfOk result (λ t. t.0.bodies ≡ made) }
-    ensures copy { IfOk result (λ t. t.1.items ≡ files.now) }
-{
-    let rows = row_texts(alloc, files, report.rows())?;
-    let places = Vec::from_slice(alloc, report.rows())?;
-    let copy = copy_files(alloc, files)?;
-    Ok((
-        Checked {
-            rows,
-            places,
-            verdict: report.verdict(),
-            files: changed(last, files),
-            bodies: made,
-        },
-        copy,
-    ))
-}
-
 /// What is new is kept in place of what was.
 fn keep(kept: &mut Option<Kept>, new: Option<Kept>)
     ensures { kept.new ≡ or_else new kept.old }
@@ -73,24 +43,27 @@ fn keep(kept: &mut Option<Kept>, new: Option<Kept>)
 }
 
 /// Files that are edited name by name, no two of one name, and what is kept of their reports. Contracts see the files, those of the last report,
-/// and the program of the last one that came to the rules, with the texts of its names and its least signature.
+/// and the program of the last one that came to the rules, with the texts of its names and its least signature. What they don't see is the last
+/// report itself, which is given again where no file has changed.
 #[derive(Drop)]
 pub struct Session {
     alloc: Global,
     files: Vec<SourceFile>,
     last: Vec<SourceFile>,
     kept: Option<Kept>,
+    told: Option<Report>,
 }
 
 impl Model for Session {
     ghost use Rattle.jn_recheck.specs.Files.{AllFit, HaveOwnNames};
     ghost use Rattle.jn_recheck.specs.Sessions.{SessionOf};
+    ghost use Rattle.jn_recheck.specs.Told.{IsLastTold};
 
     ghost Value = { SessionOf };
 
     ghost view = { λ s. record { files = s.files.items; last = s.last.items; kept = s.kept } };
 
-    ghost invariant = { λ s. AllFit s.files.items × HaveOwnNames s.files.items };
+    ghost invariant = { λ s. AllFit s.files.items × HaveOwnNames s.files.items × IsLastTold s.last.items s.kept s.told };
 }
 
 impl Session {
@@ -103,6 +76,7 @@ impl Session {
             files: Vec::new(alloc),
             last: Vec::new(alloc),
             kept: None,
+            told: None,
         }
     }
 
@@ -155,8 +129,8 @@ impl Session {
         Ok(())
     }
 
-    /// The report of the files, by so many workers. Each enters the gate `solving` when it takes a file or a body for inference, and `bodies`
-    /// before it makes a body's rows anew.
+    /// The report of the files, by so many workers; the last one again, where no file has changed. Each enters the gate `solving` when it takes a file, or a body where inference
+    /// begins anew, and `bodies` before it makes a body's rows anew.
     ///
     /// # Errors
     /// No memory was found, and the session is as before.
@@ -173,6 +147,16 @@ impl Session {
         ensures unchanged { OnErr result (self.new ≡ self.old) }
     {
         let alloc = self.alloc;
+        let again = told_again(
+            alloc,
+            self.files.as_slice(),
+            self.last.as_slice(),
+            &self.told,
+            &self.kept,
+        )?;
+        if let Some(checked) = again {
+            return Ok(checked);
+        }
         let Rechecked { report, kept, made } = recheck_files(
             rt,
             alloc,
@@ -189,19 +173,21 @@ impl Session {
             &report,
             made,
         );
-        drop(report);
         match told {
             Ok((checked, last)) => {
                 self.last = last;
                 keep(&mut self.kept, kept);
+                self.told = Some(report);
                 return Ok(checked);
             }
             Err(_) => {
+                drop(report);
                 drop(kept);
                 return Err(OutOfMemory);
             }
         }
     }
+
     /// The notes of these rows, in their order, in the program of the last report that came to the rules; none where none did. They are those of
     /// a report's rows where it came to the rules.
     ///

@@ -2,3 +2,4 @@ pub mod Stepping
 pub mod Looping
 pub mod Showing
 pub mod Answering
+pub mod Starting

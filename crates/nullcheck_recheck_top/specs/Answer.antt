@@ -8,7 +8,7 @@ use Rattle.jn_command.specs.declared.status.Status.{Status}
 use Rattle.jn_command.specs.declared.status.Status.TheVariants.{Ok, Rejected, Refused, RunFault, Stopped, ReadFault, WriteFault, OutOfMemory, Usage}
 use Rattle.jn_command.specs.Answer.{Reading}
 use Rattle.jn_front.specs.declared.source.SourceFile.{SourceFile}
-use Rattle.jn_front.specs.Files.{AllHeld, AreHeld, given_of}
+use Rattle.jn_front.specs.Files.{AllHeld, AreHeld, StartsOnly, given_of}
 use Rattle.jn_recheck.specs.Sessions.{SessionOf}
 use Rattle.jn_script.specs.declared.step.Step.{Step}
 use Rattle.jn_script.specs.Script.{IsFirstBad, IsScript}
@@ -125,3 +125,14 @@ Answers read (Some name) old new status = AnswersScript read name old new status
 abbrev pub HoldsAll : Option Holding → Option (List ℕ) → Type 0
 HoldsAll held None = Unit {0}
 HoldsAll held (Some name) = Holds held name × ((script : List ℕ) (steps : List Step) → IsGood held name script steps → AllHeld held (files_of steps))
+
+-- ---- what is started
+
+-- the script alone, or, where it is good, behind it the files that its steps set, in their order; of these names only the first ones
+abbrev pub StartsScript : Option Holding → List ℕ → List Given → List Given → Type 0
+StartsScript held name old new = StartsOnly (name ∷ []) old new ⊎ ((script : List ℕ) × (steps : List Step) × IsGood held name script steps × StartsOnly (name ∷ files_of steps) old new)
+
+-- nothing where the words name no script
+abbrev pub Starts : Option Holding → Option (List ℕ) → List Given → List Given → Type 0
+Starts held None old new = new ≡ old
+Starts held (Some name) old new = StartsScript held name old new

@@ -1,6 +1,6 @@
 //! Scripts that are carried out.
 ghost use Rattle.std.specs.Prelude.{◌≡◌, ◌≢◌};
-ghost use Rattle.jn_front.specs.Files.{AllHeld};
+ghost use Rattle.jn_front.specs.Files.{AllHeld, StartsOnly};
 ghost use Rattle.nullcheck_recheck_top.specs.Carrying.{files_of};
 ghost use Rattle.nullcheck_recheck_top.specs.Stepping.{CarriesOut, world};
 
@@ -26,6 +26,7 @@ pub(crate) fn carry_out<R: Threads + Sync, F: Files, K: Sink, G: Gate + Sync>(
         (world (F.gave files.old) (K.written out.old) (F.faults files.old) (K.faults out.old))
         (world (F.gave files.new) (K.written out.new) (F.faults files.new) (K.faults out.new))
         steps.now result }
+    ensures started { StartsOnly (files_of steps.now) (F.gave files.old) (F.gave files.new) }
     ensures held { F.held files.new ≡ F.held files.old }
     ensures steady { F.steady files.old → AllHeld (F.held files.old) (files_of steps.now)
         → result ≢ Status.ReadFault }

@@ -4,7 +4,8 @@ ghost use Rattle.jn_outside.specs.Causes.{Rose};
 ghost use Rattle.jn_outside.specs.declared.given.Given.{Given};
 ghost use Rattle.jn_outside.specs.Files.{Holding, Holds};
 ghost use Rattle.jn_command.specs.declared.status.Status.{Status as StatusOf};
-ghost use Rattle.jn_front.specs.Files.{AllHeld, CannotRead};
+ghost use Rattle.jn_front.specs.Files.{AllHeld, CannotRead, StartsOnly};
+ghost use Rattle.jn_outside.specs.Gave.{GivesLittle};
 ghost use Rattle.nullcheck_recheck_top.specs.Carrying.{file_of, spaces};
 ghost use Rattle.nullcheck_recheck_top.specs.Stepping.{IsTaken, IsWritten, TextFrom, world};
 
@@ -60,6 +61,7 @@ fn text_of<F: Files>(alloc: Global, files: &mut F, file: &str) -> Result<Vec<u8>
     ensures read { IfOk result (λ text. TextFrom (F.held files.old) file.now (F.gave files.old)
         (F.gave files.new) text.items) }
     ensures small { IfOk result (λ text. length text.items ≤ 1048577) }
+    ensures little { GivesLittle file.now 1048577 (F.gave files.old) (F.gave files.new) }
     ensures held { F.held files.new ≡ F.held files.old }
     ensures failed { CannotRead result → Rose (F.faults files.old) (F.faults files.new) }
     ensures kept { (CannotRead result → ⊥) → F.faults files.new ≡ F.faults files.old }
@@ -76,6 +78,7 @@ fn text_of<F: Files>(alloc: Global, files: &mut F, file: &str) -> Result<Vec<u8>
 }
 
 /// The name gets the text of the file.
+#[tactic(auto, using(crate::proofs::Starting::starts_one))]
 fn set_step<F: Files>(
     alloc: Global,
     session: &mut Session,
@@ -88,6 +91,7 @@ fn set_step<F: Files>(
         (world (F.gave files.old) written (F.faults files.old) writes)
         (world (F.gave files.new) written (F.faults files.new) writes)
         session.old last (Step.Set name.now file.now) session.new result }
+    ensures started { StartsOnly (file.now ∷ []) (F.gave files.old) (F.gave files.new) }
     ensures held { F.held files.new ≡ F.held files.old }
     ensures steady { F.steady files.old → Holds (F.held files.old) file.now
         → (result ≢ Taken.Ends Status.ReadFault) × F.steady files.new }
@@ -177,6 +181,7 @@ pub(crate) fn take_step<R: Threads + Sync, F: Files, K: Sink, G: Gate + Sync>(
         (world (F.gave files.old) (K.written out.old) (F.faults files.old) (K.faults out.old))
         (world (F.gave files.new) (K.written out.new) (F.faults files.new) (K.faults out.new))
         session.old last step.now session.new result }
+    ensures started { StartsOnly (file_of step.now) (F.gave files.old) (F.gave files.new) }
     ensures held { F.held files.new ≡ F.held files.old }
     ensures steady { F.steady files.old → AllHeld (F.held files.old) (file_of step.now)
         → (result ≢ Taken.Ends Status.ReadFault) × F.steady files.new }

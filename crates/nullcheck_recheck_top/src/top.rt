@@ -5,7 +5,7 @@ ghost use Rattle.jn_outside.specs.Causes.{Rose};
 ghost use Rattle.jn_outside.specs.Files.{Gives, Holds};
 ghost use Rattle.jn_front.specs.Files.{AllHeld};
 ghost use Rattle.jn_command.specs.Answer.{reading};
-ghost use Rattle.nullcheck_recheck_top.specs.Answer.{Answers, AnswersScript, HoldsAll, asked_of, is_option};
+ghost use Rattle.nullcheck_recheck_top.specs.Answer.{Answers, AnswersScript, HoldsAll, Starts, StartsScript, asked_of, is_option};
 
 use crate::carrying::carry_out;
 use crate::outputs::bad_output;
@@ -51,6 +51,7 @@ fn script_of<'a>(words: &'a [String]) -> Option<&'a str>
 }
 
 /// Reads the script, judges it whole, and carries it out where it is good.
+#[tactic(auto, using(crate::proofs::Starting::starts_script))]
 fn answer_named<R: Threads + Sync, F: Files, K: Sink, G: Gate + Sync>(
     rt: &R,
     gate: &G,
@@ -66,6 +67,7 @@ fn answer_named<R: Threads + Sync, F: Files, K: Sink, G: Gate + Sync>(
     ensures read_always { F.faults files.old < F.faults files.new → result ≡ Status.ReadFault }
     ensures read_steady { F.steady files.old → HoldsAll (F.held files.old) (Some name.now)
         → result ≢ Status.ReadFault }
+    ensures starts { StartsScript (F.held files.old) name.now (F.gave files.old) (F.gave files.new) }
     ensures write { result ≡ Status.WriteFault → Rose (K.faults out.old) (K.faults out.new) }
     ensures write_always { K.faults out.old < K.faults out.new → result ≡ Status.WriteFault }
 {
@@ -107,6 +109,9 @@ pub fn recheck<R: Threads + Sync, F: Files, K: Sink, G: Gate + Sync>(
     ensures read_steady { F.steady files.old
         → HoldsAll (F.held files.old) (asked_of (map string_bytes words.now))
         → result ≢ Status.ReadFault }
+    // No file is started but the script, and where that is good those that its steps set, in their order, whatever comes of it.
+    ensures starts { Starts (F.held files.old) (asked_of (map string_bytes words.now))
+        (F.gave files.old) (F.gave files.new) }
     // Nothing is read where the words name no script.
     ensures unread { asked_of (map string_bytes words.now) ≡ None
         → (F.faults files.new ≡ F.faults files.old) × (F.gave files.new ≡ F.gave files.old) }

@@ -4,6 +4,7 @@ use Rattle.jn_front.specs.Files.{AllHeld}
 use Rattle.nullcheck_recheck_top.specs.Carrying.{file_of}
 use Rattle.nullcheck_recheck_top.specs.Stepping.{EndsBy, GoesOn, world}
 use Rattle.nullcheck_recheck_top.specs.declared.step.Taken.TheVariants.{Ends}
+use Rattle.nullcheck_recheck_top.proofs.Starting.{starts_all, starts_at}
 use Rattle.nullcheck_recheck_top.proofs.Looping.{did_end, did_more, did_whole, held_at, never_read}
 use Rattle.nullcheck_recheck_top.proofs.carrying.carry_out.Goals as goal
 
@@ -53,3 +54,19 @@ returns-clause-steady g c st all =
     let old = world (g.F.Files.gave c.args.files.now) (g.K.Sink.written c.args.out.now) (g.F.Files.faults c.args.files.now) (g.K.Sink.faults c.args.out.now) in
     let new = world (g.F.Files.gave l.files) (g.K.Sink.written l.out) (g.F.Files.faults l.files) (g.K.Sink.faults l.out) in
     never_read (g.F.Files.held c.args.files.now) old new (take l.step-index c.args.steps.now) l.last l.session l.invariant.0
+
+pub returns-in-Ends-clause-started : goal.returns-in-Ends-clause-started
+returns-in-Ends-clause-started g c =
+    let l = c.loop-step in
+    let held = g.F.Files.held c.args.files.now in
+    let old = world (g.F.Files.gave c.args.files.now) (g.K.Sink.written c.args.out.now) (g.F.Files.faults c.args.files.now) (g.K.Sink.faults c.args.out.now) in
+    let mid = world (g.F.Files.gave l.files) (g.K.Sink.written l.out) (g.F.Files.faults l.files) (g.K.Sink.faults l.out) in
+    starts_at held old mid c.args.steps.now l.step-index c.step-item.result l.last l.session (g.F.Files.gave c.take_step.new.files) c.loop-step-test.true c.step-item.is l.invariant.0 c.in-Ends.ensures.started
+
+pub returns-clause-started : goal.returns-clause-started
+returns-clause-started g c =
+    let l = c.loop-step in
+    let f = c.loop-step-test.false in
+    let old = world (g.F.Files.gave c.args.files.now) (g.K.Sink.written c.args.out.now) (g.F.Files.faults c.args.files.now) (g.K.Sink.faults c.args.out.now) in
+    let new = world (g.F.Files.gave l.files) (g.K.Sink.written l.out) (g.F.Files.faults l.files) (g.K.Sink.faults l.out) in
+    starts_all (g.F.Files.held c.args.files.now) old new c.args.steps.now (take l.step-index c.args.steps.now) l.last l.session (take_all l.step-index c.args.steps.now (omega (arith, f))) l.invariant.0

@@ -1,7 +1,10 @@
-use Rattle.std.proofs.Common.{◌≡◌, sym, subst, ◌∙◌}
+use Rattle.std.proofs.Common.{◌≡◌, refl, sym, subst, ◌∙◌}
 use Rattle.jn_script.specs.declared.step.Step.{Step}
 use Rattle.jn_script.specs.declared.step.Step.TheVariants.{Set, Remove}
+use Rattle.jn_front.specs.Files.{StartsOnly}
+use Rattle.nullcheck_recheck_top.specs.Carrying.{file_of}
 use Rattle.nullcheck_recheck_top.specs.Stepping.{IsTaken, world}
+use Rattle.nullcheck_recheck_top.proofs.Starting.{starts_none}
 use Rattle.nullcheck_recheck_top.proofs.Stepping.{goes_on}
 use Rattle.nullcheck_recheck_top.proofs.step.take_step.Goals as goal
 
@@ -51,3 +54,19 @@ returns-in-Check-clause-taken g c =
 
 pub returns-in-Check-clause-steady : goal.returns-in-Check-clause-steady
 returns-in-Check-clause-steady g c st all = (c.check_step.ensures.unread, st)
+
+pub returns-in-Empty-clause-started : goal.returns-in-Empty-clause-started
+returns-in-Empty-clause-started g c = starts_none (file_of c.args.step.now) (g.F.Files.gave c.args.files.now) (g.F.Files.gave c.args.files.now) refl
+
+pub returns-in-Remove-clause-started : goal.returns-in-Remove-clause-started
+returns-in-Remove-clause-started g c = starts_none (file_of c.args.step.now) (g.F.Files.gave c.args.files.now) (g.F.Files.gave c.args.files.now) refl
+
+pub returns-in-Check-clause-started : goal.returns-in-Check-clause-started
+returns-in-Check-clause-started g c = starts_none (file_of c.args.step.now) (g.F.Files.gave c.args.files.now) (g.F.Files.gave c.args.files.now) refl
+
+pub returns-in-Set-clause-started : goal.returns-in-Set-clause-started
+returns-in-Set-clause-started g c =
+    let old = g.F.Files.gave c.args.files.now in
+    let new = g.F.Files.gave c.set_step.new.files in
+    let same : Set c.as_str.result.now c.as_str-in-Set.result.now ≡ Set c.in-Set.name c.in-Set.file = λ i. Set (c.as_str.ensures i) (c.as_str-in-Set.ensures i) in
+    subst (λ (step : Step). StartsOnly (file_of step) old new) (same ∙ sym c.in-Set.is) c.set_step.ensures.started

@@ -7,6 +7,7 @@ use Rattle.jn_script.specs.Script.{IsFirstBad, IsScript}
 use Rattle.jn_script.specs.declared.step.Step.{Step}
 use Rattle.nullcheck_recheck_top.specs.Stepping.{CarriesOut, world}
 use Rattle.nullcheck_recheck_top.proofs.Answering.{bad_answers, script_answers, small_given}
+use Rattle.nullcheck_recheck_top.proofs.Starting.{starts_script, starts_steps}
 use Rattle.nullcheck_recheck_top.proofs.Stepping.{script_large}
 use Rattle.nullcheck_recheck_top.proofs.top.answer_named.Goals as goal
 
@@ -41,3 +42,13 @@ returns-in-Err-Refused-clause-answer g c =
     let first = subst (λ (f : Fail ℕ). IfRefused f (IsFirstBad c.deref.result.now)) w.field-0-is w.ensures.bad in
     let bad = subst (λ (bs : List ℕ). IsFirstBad bs w.line) c.deref.ensures.value first in
     bad_answers (reading held before now) c.args.name.now c.in-Ok.script.items (g.K.Sink.written c.args.out.now) (g.K.Sink.written c.write-in-Err-Refused.new.out) c.bad_output-in-Err-Refused.result (g.K.Sink.faults c.args.out.now) (g.K.Sink.faults c.write-in-Err-Refused.new.out) c.write-in-Err-Refused.result w.line c.in-Ok.ensures.ok.0 (small_given c.args.name.now c.in-Ok.script.items before now c.in-Ok.ensures.ok.1 c.in-Ok.ensures.gave) (inl (c.in-Ok.ensures.ok.1, bad)) c.bad_output-in-Err-Refused.ensures.status c.bad_output-in-Err-Refused.ensures.bytes c.write-in-Err-Refused.ensures
+
+pub returns-in-Ok-read_script-clause-starts : goal.returns-in-Ok-read_script-clause-starts
+returns-in-Ok-read_script-clause-starts g c =
+    let held = g.F.Files.held c.args.files.now in
+    let before = g.F.Files.gave c.args.files.now in
+    let mid = g.F.Files.gave c.read_whole.new.files in
+    let new = g.F.Files.gave c.carry_out.new.files in
+    let steps = c.deref-in-Ok-read_script.result.now in
+    let are = subst (λ (ss : List Step). IsScript c.in-Ok.script.items ss) (sym c.deref-in-Ok-read_script.ensures.value) (subst (λ (bs : List ℕ). IsScript bs c.in-Ok-read_script.steps.items) c.deref.ensures.value c.in-Ok-read_script.ensures.steps) in
+    starts_steps held c.args.name.now c.in-Ok.script.items steps before mid new (record { told = c.in-Ok.ensures.ok.0; small = c.in-Ok.ensures.ok.1; are = are }) c.in-Ok.ensures.gave c.carry_out.ensures.started

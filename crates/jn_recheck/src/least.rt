@@ -1,0 +1,71 @@
+//! The least signature of a session's program.
+ghost use Rattle.std.specs.Prelude.{◌≤◌, IfOk};
+ghost use Rattle.jn_inference_law.specs.Solution.{IsLeastSignature};
+ghost use Rattle.jn_tables_law.specs.Inferable.{IsInferable};
+
+use crate::kept::Kept;
+use jn_again::{Earlier, solve_again};
+use jn_base::OutOfMemory;
+use jn_gate::Gate;
+use jn_sigs::Sig;
+use jn_system::solve_sig;
+use jn_tables_law::law::regular_programs_can_be_inferred;
+use jn_trees::Names;
+use jn_typed::BaseTyped;
+use std::alloc::Global;
+use std::thread::Threads;
+
+/// The least signature, from that of what is kept.
+fn least_from<R: Threads + Sync, G: Gate + Sync>(
+    rt: &R,
+    alloc: Global,
+    workers: u32,
+    kept: &Kept,
+    names: &Names,
+    base: &BaseTyped,
+    solving: &G,
+) -> Result<Sig, OutOfMemory>
+    requires workers { (1 ≤ workers) × (workers ≤ 16) }
+    requires inferable { IsInferable base.now }
+    ensures { IfOk result (λ sig. IsLeastSignature base.now sig) }
+{
+    regular_programs_can_be_inferred();
+    let earlier = Earlier {
+        names: kept.names(),
+        program: kept.indexed(),
+        sig: kept.sig(),
+    };
+    let sig = solve_again(
+        rt,
+        alloc,
+        &earlier,
+        names,
+        base.indexed(),
+        workers,
+        solving,
+    )?;
+    Ok(sig)
+}
+
+/// The least signature of a program: from that of the last report that came to the rules, where there was one, else anew.
+pub(crate) fn least_sig<R: Threads + Sync, G: Gate + Sync>(
+    rt: &R,
+    alloc: Global,
+    workers: u32,
+    kept: &Option<Kept>,
+    names: &Names,
+    base: &BaseTyped,
+    solving: &G,
+) -> Result<Sig, OutOfMemory>
+    requires workers { (1 ≤ workers) × (workers ≤ 16) }
+    requires inferable { IsInferable base.now }
+    ensures { IfOk result (λ sig. IsLeastSignature base.now sig) }
+{
+    match kept {
+        None => {
+            let sig = solve_sig(rt, alloc, base.indexed(), workers, solving)?;
+            Ok(sig)
+        }
+        Some(kept) => least_from(rt, alloc, workers, kept, names, base, solving),
+    }
+}
