@@ -6,6 +6,7 @@ ghost use Rattle.jn_recheck.specs.Files.{AllFit};
 ghost use Rattle.jn_base.specs.declared.infer.Infer.TheVariants.{Private};
 ghost use Rattle.jn_places.specs.Placed.{PlacedFile};
 ghost use Rattle.jn_typed_files.specs.Phases.{IsTypedOr, TypedProgramOf};
+ghost use Rattle.jn_kept_trees.specs.KeptTrees.{AreKeptTrees};
 ghost use Rattle.jn_recheck.specs.Sessions.{IsRecheck};
 
 use crate::kept::Kept;
@@ -16,10 +17,11 @@ use jn_base::{Infer, OutOfMemory, Row, Seq};
 use jn_command::Report;
 use jn_front::SourceFile;
 use jn_gate::Gate;
+use jn_kept_trees::{KeptTree, TypedAgain, type_files_again};
 use jn_tables_law::law::regular_programs_can_be_inferred;
 use jn_trees::Names;
 use jn_typed::BaseTyped;
-use jn_typed_files::{TypedFiles, too_many_files, type_files};
+use jn_typed_files::too_many_files;
 use std::alloc::Global;
 use std::thread::Threads;
 
@@ -107,33 +109,47 @@ fn finish<R: Threads + Sync, G: Gate + Sync, H: Gate + Sync>(
 }
 
 /// The report of files, by so many workers: those who take a file or infer enter the gate `solving`, and those who make a body's rows
-/// anew the gate `bodies`.
+/// anew the gate `bodies`. `trees` is what was kept of the texts of the files `last`; beside the report comes what is to be kept of the
+/// files' texts.
 pub(crate) fn recheck_files<R: Threads + Sync, G: Gate + Sync, H: Gate + Sync>(
     rt: &R,
     alloc: Global,
     workers: u32,
     files: &[SourceFile],
+    last: &[SourceFile],
+    trees: Vec<Option<KeptTree>>,
     kept: &Option<Kept>,
     solving: &G,
     bodies: &H,
-) -> Result<Rechecked, OutOfMemory>
+) -> Result<(Rechecked, Vec<Option<KeptTree>>), OutOfMemory>
     requires workers { (1 ≤ workers) × (workers ≤ 16) }
-    ensures { IfOk result
-        (λ r. IsRecheck kept.now files.now r.report r.kept r.made) }
+    requires trees { AreKeptTrees last.now trees.items }
+    ensures recheck { IfOk result
+        (λ r. IsRecheck kept.now files.now r.0.report r.0.kept r.0.made) }
+    ensures trees { IfOk result (λ r. AreKeptTrees files.now r.1.items) }
 {
     if files.len() > MOST_FILES {
-        return Ok(refused(too_many_files(alloc)?));
+        return Ok((refused(too_many_files(alloc)?), Vec::new(alloc)));
     }
     let reads = reads_of(alloc, files)?;
-    let TypedFiles {
+    let TypedAgain {
         rows,
         base,
         names,
+        kept: trees,
+    } = type_files_again(
+        rt,
+        solving,
+        alloc,
+        workers,
+        Infer::Private,
+        &reads,
+        last,
         trees,
-    } = type_files(rt, solving, alloc, workers, Infer::Private, &reads)?;
-    drop(trees);
+    )?;
     drop(reads);
-    finish(
+    let rechecked = finish(
         rt, alloc, workers, files, kept, names, rows, base, solving, bodies,
-    )
+    )?;
+    Ok((rechecked, trees))
 }

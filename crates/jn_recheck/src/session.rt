@@ -13,9 +13,11 @@ use jn_command::Report;
 use jn_diag::{RowText, Verdict};
 use jn_front::SourceFile;
 use jn_gate::Gate;
+use jn_kept_trees::KeptTree;
 use jn_notes::Notes;
 use std::alloc::Global;
 use std::marker::Model;
+use std::mem::replace;
 use std::thread::Threads;
 
 /// A report of a session's files.
@@ -44,17 +46,19 @@ fn keep(kept: &mut Option<Kept>, new: Option<Kept>)
 
 /// Files that are edited name by name, no two of one name, and what is kept of their reports. Contracts see the files, those of the last report,
 /// and the program of the last one that came to the rules, with the texts of its names and its least signature. What they don't see is the last
-/// report itself, which is given again where no file has changed.
+/// report itself, which is given again where no file has changed, and the trees of its files, which spare lexing and parsing the texts that stay.
 #[derive(Drop)]
 pub struct Session {
     alloc: Global,
     files: Vec<SourceFile>,
     last: Vec<SourceFile>,
+    trees: Vec<Option<KeptTree>>,
     kept: Option<Kept>,
     told: Option<Report>,
 }
 
 impl Model for Session {
+    ghost use Rattle.jn_kept_trees.specs.KeptTrees.{AreKeptTrees};
     ghost use Rattle.jn_recheck.specs.Files.{AllFit, HaveOwnNames};
     ghost use Rattle.jn_recheck.specs.Sessions.{SessionOf};
     ghost use Rattle.jn_recheck.specs.Told.{IsLastTold};
@@ -63,7 +67,7 @@ impl Model for Session {
 
     ghost view = { λ s. record { files = s.files.items; last = s.last.items; kept = s.kept } };
 
-    ghost invariant = { λ s. AllFit s.files.items × HaveOwnNames s.files.items × IsLastTold s.last.items s.kept s.told };
+    ghost invariant = { λ s. AllFit s.files.items × HaveOwnNames s.files.items × AreKeptTrees s.last.items s.trees.items × IsLastTold s.last.items s.kept s.told };
 }
 
 impl Session {
@@ -75,6 +79,7 @@ impl Session {
             alloc,
             files: Vec::new(alloc),
             last: Vec::new(alloc),
+            trees: Vec::new(alloc),
             kept: None,
             told: None,
         }
@@ -129,8 +134,9 @@ impl Session {
         Ok(())
     }
 
-    /// The report of the files, by so many workers; the last one again, where no file has changed. Each enters the gate `solving` when it takes a file, or a body where inference
-    /// begins anew, and `bodies` before it makes a body's rows anew.
+    /// The report of the files, by so many workers; the last one again, where no file has changed. A file whose text is as it was at the last report, at the same
+    /// place, is neither lexed nor parsed. Each enters the gate `solving` when it takes another file, or a body where inference begins anew, and
+    /// `bodies` before it makes a body's rows anew.
     ///
     /// # Errors
     /// No memory was found, and the session is as before.
@@ -157,15 +163,19 @@ impl Session {
         if let Some(checked) = again {
             return Ok(checked);
         }
-        let Rechecked { report, kept, made } = recheck_files(
+        let trees = replace(&mut self.trees, Vec::new(alloc));
+        let (rechecked, trees) = recheck_files(
             rt,
             alloc,
             workers,
             self.files.as_slice(),
+            self.last.as_slice(),
+            trees,
             &self.kept,
             solving,
             bodies,
         )?;
+        let Rechecked { report, kept, made } = rechecked;
         let told = tell(
             alloc,
             self.files.as_slice(),
@@ -176,12 +186,14 @@ impl Session {
         match told {
             Ok((checked, last)) => {
                 self.last = last;
+                self.trees = trees;
                 keep(&mut self.kept, kept);
                 self.told = Some(report);
                 return Ok(checked);
             }
             Err(_) => {
                 drop(report);
+                drop(trees);
                 drop(kept);
                 return Err(OutOfMemory);
             }
