@@ -85,7 +85,8 @@ fn run_words<R: Threads + Sync>(rt: &HostRuntime, threads: &R, case: &Case) -> i
     println!(rt; "{wrote}-- {number}")
 }
 
-/// Carries out a step by the session, and prints at a check how often the gate of bodies was entered.
+/// Carries out a step by the session, and prints at a check how often one worker entered the gate of files and of bodies that are solved anew, and
+/// how often that of bodies whose rows are made anew.
 fn take_step<R: Threads + Sync>(
     rt: &HostRuntime,
     threads: &R,
@@ -106,12 +107,14 @@ fn take_step<R: Threads + Sync>(
             Ok(())
         }
         Step::Check => {
+            let solving = Counting::new();
             let bodies = Counting::new();
-            if session.report(threads, 4, &Straight, &bodies).is_err() {
+            if session.report(threads, 1, &solving, &bodies).is_err() {
                 return Err(io::Error::from(AllocError));
             }
-            let entries = bodies.entries();
-            println!(rt; "{entries} bodies anew")
+            let taken = solving.entries();
+            let anew = bodies.entries();
+            println!(rt; "{taken} taken, {anew} bodies anew")
         }
     }
 }
