@@ -127,8 +127,8 @@ fn no_notes(alloc: Global) -> Notes
     }
 }
 
-/// The item that a row speaks of.
-fn item_of(
+/// The item that a row speaks of, where a chain says something of it.
+pub fn item_of(
     program: &Program,
     sig: &Sig,
     tables: &[FlowTable],

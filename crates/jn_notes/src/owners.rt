@@ -95,7 +95,7 @@ pub fn find_owners(alloc: Global, program: &Program) -> Result<Vec<Option<Owner>
 }
 
 /// The owner of a slot; none where it is no slot.
-pub(crate) fn owner_at(owners: &[Option<Owner>], slot: u32) -> Option<Owner>
+pub fn owner_at(owners: &[Option<Owner>], slot: u32) -> Option<Owner>
     ensures { result ≡ slice_index_or owners.now slot None }
 {
     match owners.get(slot as usize) {

@@ -74,8 +74,11 @@ fn named(alloc: Global, front: &str, name: &str) -> Result<Vec<u8>, AllocError>
     Ok(words)
 }
 
-/// What has a slot.
-fn owner_words(
+/// What has a slot, in words.
+///
+/// # Errors
+/// No memory was found.
+pub fn owner_words(
     alloc: Global,
     program: &Program,
     names: &Names,

@@ -7,7 +7,7 @@ mod kept;
 pub mod law;
 mod least;
 mod notes;
-mod reads;
+pub mod reads;
 mod recheck;
 mod rows;
 pub mod session;

@@ -1,5 +1,4 @@
 pub mod Changing
-pub mod Relexing
 pub mod Studying
 pub mod Phasing
 pub mod Placing

@@ -10,8 +10,8 @@ pub mod faults;
 pub mod finish;
 pub mod law;
 pub mod output;
-mod relexed;
 pub mod study;
+mod texts;
 pub mod top;
 
 pub use jn_command::Status;

@@ -10,13 +10,14 @@ ghost use Rattle.jn_typed_files.specs.Phases.{IsTypedOr, TypedProgramOf};
 ghost use Rattle.nullcheck_annotate_top.specs.Study.{IsOf, IsStudy, texts_of};
 
 use crate::faults::fault_span;
-use crate::relexed::{lex_all, texts};
+use crate::texts::texts;
 use jn_annotate::{AnnotateFault, annotate};
 use jn_base::{Fail, Infer, OutOfMemory, Row, Seq, Span};
 use jn_front::SourceRead;
 use jn_gate::Gate;
 use jn_inference_law::law::regular_programs_are_inferable;
 use jn_places::law::places_are_forgotten;
+use jn_relexed::lex_all;
 use jn_sigs::Sig;
 use jn_system::solve_sig;
 use jn_trees::{FileTree, Names, Token};

@@ -7,7 +7,6 @@ ghost use Rattle.jn_lexer.specs.Lexed.{Lexed};
 ghost use Rattle.jn_front.specs.Counted.{ReadsFit};
 ghost use Rattle.jn_front.specs.Files.{files_of_reads};
 ghost use Rattle.jn_front.specs.Phases.{LexedFrom};
-ghost use Rattle.nullcheck_annotate_top.specs.Study.{texts_of};
 
 use jn_base::lists::put;
 use jn_base::{Fail, FileNo, OutOfMemory, Seq};
@@ -39,8 +38,12 @@ fn lex_again(
     }
 }
 
-/// The tokens of files that have them, file by file.
-pub(crate) fn lex_all(alloc: Global, reads: &[SourceRead]) -> Result<Vec<Seq<Token>>, OutOfMemory>
+/// The tokens of files that were read and have tokens, file by file, once more: where trees are kept without the tokens that they were
+/// read from.
+///
+/// # Errors
+/// No memory was found.
+pub fn lex_all(alloc: Global, reads: &[SourceRead]) -> Result<Vec<Seq<Token>>, OutOfMemory>
     requires few { length reads.now ≤ 64 }
     requires fit { ReadsFit reads.now }
     requires lexes { (tokens : List (List SpecToken)) × (last : List (List ℕ))
@@ -60,15 +63,4 @@ pub(crate) fn lex_all(alloc: Global, reads: &[SourceRead]) -> Result<Vec<Seq<Tok
         file += 1;
     }
     Ok(all)
-}
-
-/// The texts of files that were read.
-pub(crate) fn texts(alloc: Global, reads: &[SourceRead]) -> Result<Vec<Seq<u8>>, OutOfMemory>
-    ensures { IfOk result (λ ts. ts.items ≡ texts_of (files_of_reads reads.now)) }
-{
-    let mut texts = Vec::new(alloc);
-    for read in reads {
-        put(&mut texts, read.file.bytes.copy(alloc)?)?;
-    }
-    Ok(texts)
 }

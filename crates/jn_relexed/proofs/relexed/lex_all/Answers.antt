@@ -1,8 +1,8 @@
 use Rattle.std.proofs.Common.{◌≡◌, ◌∙◌, length, ap, sym, subst, arith}
 use Rattle.jn_front.specs.declared.source.SourceRead.{SourceRead}
 use Rattle.jn_lexer.specs.Lexed.{Lexed}
-use Rattle.nullcheck_annotate_top.proofs.Relexing.{all_lexed, at_place, fits_at, lexes, next}
-use Rattle.nullcheck_annotate_top.proofs.relexed.lex_all.Goals as goal
+use Rattle.jn_relexed.proofs.Relexing.{all_lexed, at_place, fits_at, lexes, next}
+use Rattle.jn_relexed.proofs.relexed.lex_all.Goals as goal
 
 pub lex_again-requires-clause-few : goal.lex_again-requires-clause-few
 lex_again-requires-clause-few c =

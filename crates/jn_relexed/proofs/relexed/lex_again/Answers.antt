@@ -2,7 +2,7 @@ use Rattle.std.proofs.Common.{subst}
 use Rattle.jn_base.specs.declared.number.FileNo.{FileNo}
 use Rattle.jn_trees.specs.Refused.{IfRefused}
 use Rattle.jn_lexer.specs.Faults.{LexicalFault}
-use Rattle.nullcheck_annotate_top.proofs.relexed.lex_again.Goals as goal
+use Rattle.jn_relexed.proofs.relexed.lex_again.Goals as goal
 
 pub unreachable-requires : goal.unreachable-requires
 unreachable-requires c =

@@ -1,6 +1,6 @@
 use Rattle.std.proofs.Common.{◌-◌, length}
-use Rattle.nullcheck_annotate_top.proofs.Relexing.{IsLexed}
-use Rattle.nullcheck_annotate_top.proofs.relexed.lex_all.Given as goal
+use Rattle.jn_relexed.proofs.Relexing.{IsLexed}
+use Rattle.jn_relexed.proofs.relexed.lex_all.Given as goal
 
 abbrev pub invariant-loop-file : goal.invariant-loop-file
 invariant-loop-file l = IsLexed l.reads l.file l.names l.all.items
