@@ -1,0 +1,5 @@
+pub mod Arrays
+pub mod Finding
+pub mod Named
+pub mod Shallow
+pub mod Whole

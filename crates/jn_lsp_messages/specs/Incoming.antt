@@ -1,0 +1,183 @@
+-- Which message a body is (JSON-RPC 2.0; Language Server Protocol 3.17). Members of a message are found by their paths (RFC 6901).
+use Rattle.std.specs.Prelude.{ℕ, ◌+◌, ◌^◌, ◌≡◌, ◌⊎◌, ◌||◌, Bool, true, false, List, [], ◌∷◌, Option, Some, None, IsUtf8, bytes_eq, codes, is_some, nat_lt, option_and_then, option_map, unwrap_or, if◌then◌else◌}
+use Rattle.serde_json.specs.Data.{Data, null, boolean, number, string, array, object, Items, no_items, item}
+use Rattle.serde_json.specs.Find.{as_array, as_i64, as_number, as_str, as_u64, get, pointer}
+use Rattle.serde_json.specs.Read.{read}
+use Rattle.jn_lsp_text.specs.declared.position.Position.{Position}
+use Rattle.jn_lsp_text.specs.declared.range.Range.{Range}
+use Rattle.jn_lsp_types.specs.declared.id.Id.{Id}
+use Rattle.jn_lsp_types.specs.declared.id.Id.TheVariants as id
+use Rattle.jn_lsp_types.specs.declared.message.Change.{Change}
+use Rattle.jn_lsp_types.specs.declared.message.Change.TheVariants.{Whole, Part}
+use Rattle.jn_lsp_types.specs.declared.message.Message.{Message}
+use Rattle.jn_lsp_types.specs.declared.message.Message.TheVariants as message
+use Rattle.jn_lsp_messages.specs.declared.method.Method.{Method}
+use Rattle.jn_lsp_messages.specs.declared.method.Method.TheVariants.{Initialize, Initialized, DidOpen, DidChange, DidSave, DidClose, WatchedFiles, CodeAction, Shutdown, Exit, Other}
+use Rattle.jn_lsp_messages.specs.Methods.{method_of}
+use Rattle.jn_lsp_messages.specs.Uris.{name_of, or_other}
+
+-- the text of a member, and the text at a path
+abbrev pub text_in : List ℕ → Data → Option (List ℕ)
+text_in name d = option_and_then as_str (get name d)
+
+abbrev pub text_at : List ℕ → Data → Option (List ℕ)
+text_at path d = option_and_then as_str (pointer path d)
+
+-- the values of all items, where each has one
+abbrev pub all_of : {A : Type 0} → (Data → Option A) → Items → Option (List A)
+all_of value no_items = Some []
+all_of value (item d ds) = option_and_then (λ x. option_map (λ xs. x ∷ xs) (all_of value ds)) (value d)
+
+-- ---- positions
+
+-- a uinteger: a whole number from 0 to 2^31 - 1
+abbrev pub small : ℕ → Option ℕ
+small n = if nat_lt n (2 ^ 31) then Some n else None
+
+abbrev pub uinteger : Data → Option ℕ
+uinteger d = option_and_then small (option_and_then as_u64 (as_number d))
+
+abbrev pub uinteger_in : List ℕ → Data → Option ℕ
+uinteger_in name d = option_and_then uinteger (get name d)
+
+abbrev pub position_in : Data → Option Position
+position_in d =
+    option_and_then (λ line. option_map (λ character. record { line = line; character = character })
+    (uinteger_in (codes "character") d)) (uinteger_in (codes "line") d)
+
+abbrev pub range_in : Data → Option Range
+range_in d =
+    option_and_then (λ start. option_map (λ end. record { start = start; end = end })
+    (option_and_then position_in (get (codes "end") d))) (option_and_then position_in (get (codes "start") d))
+
+-- ---- parameters of methods
+
+-- the name that the URI at a path stands for
+abbrev pub name_at : List ℕ → Data → Option (List ℕ)
+name_at path d = option_map name_of (text_at path d)
+
+-- the document that the parameters are about: its name, its text, and a range of it
+unfoldable pub document_name : Data → Option (List ℕ)
+document_name d = name_at (codes "/params/textDocument/uri") d
+
+unfoldable pub document_text : Data → Option (List ℕ)
+document_text d = text_at (codes "/params/textDocument/text") d
+
+unfoldable pub named_range : Data → Option Range
+named_range d = option_and_then range_in (pointer (codes "/params/range") d)
+
+-- a change: of the whole text where no range is named
+abbrev pub change_of : List ℕ → Option Data → Option Change
+change_of text None = Some (Whole text)
+change_of text (Some range) = option_map (λ r. Part r text) (range_in range)
+
+abbrev pub change_in : Data → Option Change
+change_in d = option_and_then (λ text. change_of text (get (codes "range") d)) (text_in (codes "text") d)
+
+abbrev pub all_changes : Data → Option (List Change)
+all_changes d = option_and_then (all_of change_in) (as_array d)
+
+unfoldable pub changes_in : Data → Option (List Change)
+changes_in d = option_and_then all_changes (pointer (codes "/params/contentChanges") d)
+
+-- the workspace's folder: the first of workspaceFolders, else rootUri, else rootPath
+unfoldable pub root_path : Data → Option (List ℕ)
+root_path d = text_at (codes "/params/rootPath") d
+
+unfoldable pub root_in : Data → Option (List ℕ)
+root_in d = or_other (name_at (codes "/params/rootUri") d) (root_path d)
+
+unfoldable pub folder_in : Data → Option (List ℕ)
+folder_in d = or_other (name_at (codes "/params/workspaceFolders/0/uri") d) (root_in d)
+
+-- names of files by the settings; none where nothing is set
+abbrev pub all_texts : Data → Option (List (List ℕ))
+all_texts d = option_and_then (all_of as_str) (as_array d)
+
+abbrev pub files_of : Option Data → Option (List (List ℕ))
+files_of None = Some []
+files_of (Some d) = all_texts d
+
+unfoldable pub files_in : Data → Option (List (List ℕ))
+files_in d = files_of (pointer (codes "/params/initializationOptions/files") d)
+
+-- ---- messages
+
+-- the message, where the parameters have their form
+abbrev pub or_bad : Option Id → Option Message → Message
+or_bad id None = message.BadParams id
+or_bad id (Some m) = m
+
+abbrev pub opened : Data → Option Message
+opened d = option_and_then (λ name. option_map (message.DidOpen name) (document_text d)) (document_name d)
+
+abbrev pub changed : Data → Option Message
+changed d = option_and_then (λ name. option_map (message.DidChange name) (changes_in d)) (document_name d)
+
+abbrev pub asked_actions : Id → Data → Option Message
+asked_actions id d = option_and_then (λ name. option_map (message.CodeAction id name) (named_range d)) (document_name d)
+
+abbrev pub notification : Method → Data → Message
+notification Initialized d = message.Initialized
+notification DidOpen d = or_bad None (opened d)
+notification DidChange d = or_bad None (changed d)
+notification DidSave d = or_bad None (option_map message.DidSave (document_name d))
+notification DidClose d = or_bad None (option_map message.DidClose (document_name d))
+notification WatchedFiles d = message.WatchedFiles
+notification Exit d = message.Exit
+notification Initialize d = message.Ignored
+notification CodeAction d = message.Ignored
+notification Shutdown d = message.Ignored
+notification Other d = message.Ignored
+
+abbrev pub request : Method → Id → Data → Message
+request Initialize id d = or_bad (Some id) (option_map (message.Initialize id (folder_in d)) (files_in d))
+request CodeAction id d = or_bad (Some id) (asked_actions id d)
+request Shutdown id d = message.Shutdown id
+request Initialized id d = message.Unknown id
+request DidOpen id d = message.Unknown id
+request DidChange id d = message.Unknown id
+request DidSave id d = message.Unknown id
+request DidClose id d = message.Unknown id
+request WatchedFiles id d = message.Unknown id
+request Exit id d = message.Unknown id
+request Other id d = message.Unknown id
+
+-- a message without a method is a response where it has a result or an error
+abbrev pub response : Data → Message
+response d = if is_some (get (codes "result") d) || is_some (get (codes "error") d) then message.Ignored else message.NoMessage
+
+-- an id is a whole number or a text
+abbrev pub id_of : Data → Option Id
+id_of d = or_other (option_map id.Number (option_and_then as_i64 (as_number d))) (option_map id.Text (as_str d))
+
+abbrev pub without_id : Option (List ℕ) → Data → Message
+without_id None d = response d
+without_id (Some method) d = notification (method_of method) d
+
+abbrev pub with_id : Option Id → Option (List ℕ) → Data → Message
+with_id None method d = message.NoMessage
+with_id (Some id) None d = response d
+with_id (Some id) (Some method) d = request (method_of method) id d
+
+abbrev pub by_id : Option Data → Data → Message
+by_id None d = without_id (text_in (codes "method") d) d
+by_id (Some id) d = with_id (id_of id) (text_in (codes "method") d) d
+
+abbrev pub is_version : Option (List ℕ) → Bool
+is_version None = false
+is_version (Some version) = bytes_eq version (codes "2.0")
+
+-- the message that JSON is: none where it isn't of version 2.0
+unfoldable pub message_of : Data → Message
+message_of d = if is_version (text_in (codes "jsonrpc") d) then by_id (get (codes "id") d) d else message.NoMessage
+
+-- which message a body is; JSON is UTF-8 (RFC 8259, section 8.1)
+abbrev pub IsJson : List ℕ → Data → Type 0
+IsJson body d = IsUtf8 body × (read body ≡ Some d)
+
+abbrev pub IsNoJson : List ℕ → Type 0
+IsNoJson body = IsUtf8 body → read body ≡ None
+
+abbrev pub IsMessage : List ℕ → Message → Type 0
+IsMessage body m = ((d : Data) × IsJson body d × (m ≡ message_of d)) ⊎ (IsNoJson body × (m ≡ message.NoJson))

@@ -1,0 +1,4 @@
+pub mod Uris
+pub mod Methods
+pub mod Incoming
+pub mod Outgoing

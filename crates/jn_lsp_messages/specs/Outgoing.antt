@@ -1,0 +1,153 @@
+-- Replies as JSON (JSON-RPC 2.0; Language Server Protocol 3.17). The members of an object stand in the order of their names' bytes.
+use Rattle.std.specs.Prelude.{ℕ, ℤ, pos, neg_ℤ, ◌++◌, true, List, Option, Some, None, codes, map}
+use Rattle.serde_json.specs.Data.{Data, null, boolean, number, string, array, object, unsigned, Members, no_members, member}
+use Rattle.serde_json.specs.Find.{of_integer}
+use Rattle.serde_json.specs.View.{items_of}
+use Rattle.jn_base.specs.Codes.{code_name}
+use Rattle.jn_base.specs.Messages.{code_cure, code_message}
+use Rattle.jn_base.specs.declared.code.Code.{Code}
+use Rattle.jn_lsp_text.specs.declared.position.Position.{Position}
+use Rattle.jn_lsp_text.specs.declared.range.Range.{Range}
+use Rattle.jn_lsp_types.specs.declared.id.Id.{Id}
+use Rattle.jn_lsp_types.specs.declared.id.Id.TheVariants as id
+use Rattle.jn_lsp_types.specs.declared.reply.Action.{Action}
+use Rattle.jn_lsp_types.specs.declared.reply.Diagnostic.{Diagnostic}
+use Rattle.jn_lsp_types.specs.declared.reply.Failure.{Failure}
+use Rattle.jn_lsp_types.specs.declared.reply.Failure.TheVariants as failure
+use Rattle.jn_lsp_types.specs.declared.reply.Insertion.{Insertion}
+use Rattle.jn_lsp_types.specs.declared.reply.Related.{Related}
+use Rattle.jn_lsp_types.specs.declared.reply.Reply.{Reply}
+use Rattle.jn_lsp_types.specs.declared.reply.Reply.TheVariants as reply
+use Rattle.jn_lsp_messages.specs.Uris.{uri_of}
+
+-- an object of one member, of two, and so on
+abbrev pub one : List ℕ → Data → Members
+one k d = member k d no_members
+
+-- all items of a list as an array
+abbrev pub list_data : {A : Type 0} → (A → Data) → List A → Data
+list_data value xs = array (items_of (map value xs))
+
+-- ---- places
+
+unfoldable pub position_data : Position → Data
+position_data p = object (member (codes "character") (number (unsigned p.character)) (one (codes "line") (number (unsigned p.line))))
+
+unfoldable pub range_data : Range → Data
+range_data r = object (member (codes "end") (position_data r.end) (one (codes "start") (position_data r.start)))
+
+unfoldable pub location_data : List ℕ → Range → Data
+location_data name range = object (member (codes "range") (range_data range) (one (codes "uri") (string (uri_of name))))
+
+-- ---- diagnostics
+
+unfoldable pub related_data : Related → Data
+related_data r = object (member (codes "location") (location_data r.name r.range) (one (codes "message") (string r.words)))
+
+-- what is wrong, and what to do about it
+abbrev pub told : Code → List ℕ
+told code = code_message code ++ codes "; cure: " ++ code_cure code
+
+-- severity 1 is an error
+unfoldable pub diagnostic_data : Diagnostic → Data
+diagnostic_data d =
+    object (member (codes "code") (string (code_name d.code))
+    (member (codes "message") (string (told d.code))
+    (member (codes "range") (range_data d.range)
+    (member (codes "relatedInformation") (list_data related_data d.related)
+    (member (codes "severity") (number (unsigned 1))
+    (one (codes "source") (string (codes "nullcheck"))))))))
+
+-- ---- code actions
+
+-- an insertion replaces an empty range
+unfoldable pub insertion_data : Insertion → Data
+insertion_data i =
+    object (member (codes "newText") (string i.text)
+    (one (codes "range") (range_data (record { start = i.at; end = i.at }))))
+
+-- a workspace edit of one file
+unfoldable pub edit_data : List ℕ → List Insertion → Data
+edit_data name insertions = object (one (codes "changes") (object (one (uri_of name) (list_data insertion_data insertions))))
+
+unfoldable pub action_data : Action → Data
+action_data a =
+    object (member (codes "edit") (edit_data a.name a.insertions)
+    (member (codes "kind") (string (codes "quickfix"))
+    (one (codes "title") (string a.title))))
+
+-- ---- what the server can do
+
+-- changes come as ranges (TextDocumentSyncKind.Incremental is 2)
+unfoldable pub sync_data : Data
+sync_data = object (member (codes "change") (number (unsigned 2)) (member (codes "openClose") (boolean true) (one (codes "save") (boolean true))))
+
+unfoldable pub capabilities_data : Data
+capabilities_data =
+    object (member (codes "codeActionProvider") (boolean true)
+    (member (codes "positionEncoding") (string (codes "utf-16"))
+    (one (codes "textDocumentSync") sync_data)))
+
+unfoldable pub server_data : Data
+server_data = object (one (codes "name") (string (codes "nullcheck_lsp")))
+
+unfoldable pub initialize_data : Data
+initialize_data = object (member (codes "capabilities") capabilities_data (one (codes "serverInfo") server_data))
+
+-- ---- refusals
+
+-- the codes of errors (JSON-RPC 2.0, section 5.1; the protocol's ErrorCodes), below zero
+abbrev pub failure_code : Failure → ℤ
+failure_code failure.Parse = neg_ℤ (pos 32700)
+failure_code failure.Request = neg_ℤ (pos 32600)
+failure_code failure.Method = neg_ℤ (pos 32601)
+failure_code failure.Params = neg_ℤ (pos 32602)
+failure_code failure.NotInitialized = neg_ℤ (pos 32002)
+
+abbrev pub failure_words : Failure → List ℕ
+failure_words failure.Parse = codes "this is no JSON, or has no legal header"
+failure_words failure.Request = codes "this is no request that can be taken now"
+failure_words failure.Method = codes "this method isn't known"
+failure_words failure.Params = codes "the parameters aren't as the protocol has them"
+failure_words failure.NotInitialized = codes "initialize comes first"
+
+unfoldable pub error_data : Failure → Data
+error_data f = object (member (codes "code") (number (of_integer (failure_code f))) (one (codes "message") (string (failure_words f))))
+
+-- ---- messages
+
+abbrev pub id_data : Id → Data
+id_data (id.Number n) = number (of_integer n)
+id_data (id.Text text) = string text
+
+-- null where no id was read (JSON-RPC 2.0, section 5)
+abbrev pub id_or_null : Option Id → Data
+id_or_null None = null
+id_or_null (Some i) = id_data i
+
+unfoldable pub answer_data : Id → Data → Data
+answer_data i result = object (member (codes "id") (id_data i) (member (codes "jsonrpc") (string (codes "2.0")) (one (codes "result") result)))
+
+unfoldable pub refusal_data : Option Id → Failure → Data
+refusal_data i f = object (member (codes "error") (error_data f) (member (codes "id") (id_or_null i) (one (codes "jsonrpc") (string (codes "2.0")))))
+
+unfoldable pub notice_data : List ℕ → Data → Data
+notice_data method params =
+    object (member (codes "jsonrpc") (string (codes "2.0")) (member (codes "method") (string method) (one (codes "params") params)))
+
+unfoldable pub published_data : List ℕ → List Diagnostic → Data
+published_data name diagnostics =
+    object (member (codes "diagnostics") (list_data diagnostic_data diagnostics) (one (codes "uri") (string (uri_of name))))
+
+-- type 2 is a warning
+unfoldable pub shown_data : List ℕ → Data
+shown_data words = object (member (codes "message") (string words) (one (codes "type") (number (unsigned 2))))
+
+-- what a reply is as JSON
+abbrev pub data_of : Reply → Data
+data_of (reply.Capabilities i) = answer_data i initialize_data
+data_of (reply.Done i) = answer_data i null
+data_of (reply.Refusal i f) = refusal_data i f
+data_of (reply.Publish name diagnostics) = notice_data (codes "textDocument/publishDiagnostics") (published_data name diagnostics)
+data_of (reply.Show words) = notice_data (codes "window/showMessage") (shown_data words)
+data_of (reply.Actions i actions) = answer_data i (list_data action_data actions)

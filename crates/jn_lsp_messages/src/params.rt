@@ -1,0 +1,228 @@
+//! Members of messages, and parameters of methods.
+ghost use Rattle.std.specs.Prelude.{◌≡◌, IfOk, option_map};
+ghost use Rattle.serde_json.specs.Find.{as_str};
+ghost use Rattle.serde_json.specs.View.{items_view, view};
+ghost use Rattle.jn_lsp_messages.specs.Incoming as spec;
+
+use crate::uri::name_of;
+use jn_base::{OutOfMemory, Seq, Text};
+use jn_lsp_text::{Position, Range};
+use jn_lsp_types::Change;
+use serde_json::Value;
+use std::alloc::{AllocError, Global};
+
+/// The text of a member.
+pub(crate) fn text_in<'a>(value: &'a Value, name: &str) -> Option<&'a str>
+    ensures { option_map (λ text. text.now) result ≡ spec.text_in name.now (view value.entry.now) }
+{
+    value.get(name)?.as_str()
+}
+
+/// The text at a path.
+pub(crate) fn text_at<'a>(value: &'a Value, path: &str) -> Option<&'a str>
+    ensures { option_map (λ text. text.now) result ≡ spec.text_at path.now (view value.entry.now) }
+{
+    value.pointer(path)?.as_str()
+}
+
+fn uinteger(value: &Value) -> Option<u32>
+    ensures { result ≡ spec.uinteger (view value.now) }
+{
+    let number = value.as_u64()?;
+    if number < 1 << 31 {
+        Some(number as u32)
+    } else {
+        None
+    }
+}
+
+fn uinteger_in(value: &Value, name: &str) -> Option<u32>
+    ensures { result ≡ spec.uinteger_in name.now (view value.now) }
+{
+    uinteger(value.get(name)?)
+}
+
+fn position_in(value: &Value) -> Option<Position>
+    ensures { result ≡ spec.position_in (view value.now) }
+{
+    let line = uinteger_in(value, "line")?;
+    let character = uinteger_in(value, "character")?;
+    Some(Position { line, character })
+}
+
+fn range_in(value: &Value) -> Option<Range>
+    ensures { result ≡ spec.range_in (view value.now) }
+{
+    let start = position_in(value.get("start")?)?;
+    let end = position_in(value.get("end")?)?;
+    Some(Range { start, end })
+}
+
+/// The range that a message's parameters name.
+#[tactic(auto, unfolding(crate::specs::Incoming::named_range))]
+pub(crate) fn named_range(body: &Value) -> Option<Range>
+    ensures { result ≡ spec.named_range (view body.now) }
+{
+    match body.pointer("/params/range") {
+        None => None,
+        Some(range) => range_in(range),
+    }
+}
+
+/// The name of the document that a message is about.
+#[tactic(auto, unfolding(crate::specs::Incoming::document_name))]
+pub(crate) fn document_name(alloc: Global, body: &Value) -> Result<Option<Text>, OutOfMemory>
+    ensures { IfOk result (λ name. name ≡ spec.document_name (view body.now)) }
+{
+    name_at(alloc, body, "/params/textDocument/uri")
+}
+
+/// The name that the URI at a path stands for.
+fn name_at(alloc: Global, body: &Value, path: &str) -> Result<Option<Text>, OutOfMemory>
+    ensures { IfOk result (λ name. name ≡ spec.name_at path.now (view body.now)) }
+{
+    match text_at(body, path) {
+        None => Ok(None),
+        Some(uri) => Ok(Some(name_of(alloc, uri)?)),
+    }
+}
+
+/// The text of the document that a message opens, as its bytes.
+#[tactic(auto, unfolding(crate::specs::Incoming::document_text))]
+pub(crate) fn document_text(alloc: Global, body: &Value) -> Result<Option<Seq<u8>>, AllocError>
+    ensures { IfOk result (λ text. text ≡ spec.document_text (view body.now)) }
+{
+    match text_at(body, "/params/textDocument/text") {
+        None => Ok(None),
+        Some(text) => Ok(Some(bytes_of(alloc, text)?)),
+    }
+}
+
+fn bytes_of(alloc: Global, text: &str) -> Result<Seq<u8>, AllocError>
+    ensures { IfOk result (λ bytes. bytes ≡ text.now) }
+{
+    Ok(Seq::of_vec(Vec::from_slice(alloc, text.as_bytes())?))
+}
+
+/// The changes of a document's text.
+#[tactic(auto, unfolding(crate::specs::Incoming::changes_in))]
+pub(crate) fn changes_in(alloc: Global, body: &Value) -> Result<Option<Seq<Change>>, AllocError>
+    ensures { IfOk result (λ changes. changes ≡ spec.changes_in (view body.now)) }
+{
+    match body.pointer("/params/contentChanges") {
+        None => Ok(None),
+        Some(changes) => all_changes(alloc, changes),
+    }
+}
+
+fn all_changes(alloc: Global, value: &Value) -> Result<Option<Seq<Change>>, AllocError>
+    ensures { IfOk result (λ changes. changes ≡ spec.all_changes (view value.now)) }
+{
+    match value.as_array() {
+        None => Ok(None),
+        Some(items) => changes_of(alloc, items),
+    }
+}
+
+fn changes_of(alloc: Global, items: &[Value]) -> Result<Option<Seq<Change>>, AllocError>
+    ensures { IfOk result
+        (λ changes. changes ≡ spec.all_of spec.change_in (items_view items.now)) }
+{
+    let mut changes = Seq::new(alloc);
+    for item in items {
+        let Some(change) = change_in(alloc, item)? else {
+            return Ok(None);
+        };
+        changes.push(change)?;
+    }
+    Ok(Some(changes))
+}
+
+fn change_in(alloc: Global, value: &Value) -> Result<Option<Change>, AllocError>
+    ensures { IfOk result (λ change. change ≡ spec.change_in (view value.now)) }
+{
+    match text_in(value, "text") {
+        None => Ok(None),
+        Some(text) => change_of(alloc, text, value.get("range")),
+    }
+}
+
+fn change_of(alloc: Global, text: &str, range: Option<&Value>) -> Result<Option<Change>, AllocError>
+    ensures { IfOk result (λ change. change
+        ≡ spec.change_of text.now (option_map (λ v. view v.now) range.entry)) }
+{
+    let Some(range) = range else {
+        return Ok(Some(Change::Whole(bytes_of(alloc, text)?)));
+    };
+    match range_in(range) {
+        None => Ok(None),
+        Some(range) => Ok(Some(Change::Part {
+            range,
+            text: bytes_of(alloc, text)?,
+        })),
+    }
+}
+
+/// The path of the workspace's folder, where one is named.
+#[tactic(auto, unfolding(crate::specs::Incoming::folder_in))]
+pub(crate) fn folder_in(alloc: Global, body: &Value) -> Result<Option<Text>, OutOfMemory>
+    ensures { IfOk result (λ folder. folder ≡ spec.folder_in (view body.now)) }
+{
+    match name_at(alloc, body, "/params/workspaceFolders/0/uri")? {
+        Some(folder) => Ok(Some(folder)),
+        None => root_in(alloc, body),
+    }
+}
+
+#[tactic(auto, unfolding(crate::specs::Incoming::root_in))]
+fn root_in(alloc: Global, body: &Value) -> Result<Option<Text>, OutOfMemory>
+    ensures { IfOk result (λ folder. folder ≡ spec.root_in (view body.now)) }
+{
+    match name_at(alloc, body, "/params/rootUri")? {
+        Some(folder) => Ok(Some(folder)),
+        None => root_path(alloc, body),
+    }
+}
+
+#[tactic(auto, unfolding(crate::specs::Incoming::root_path))]
+fn root_path(alloc: Global, body: &Value) -> Result<Option<Text>, OutOfMemory>
+    ensures { IfOk result (λ folder. folder ≡ spec.root_path (view body.now)) }
+{
+    match text_at(body, "/params/rootPath") {
+        None => Ok(None),
+        Some(path) => Ok(Some(Text::of_str(alloc, path)?)),
+    }
+}
+
+/// The names of files that the settings give, none where they name none.
+#[tactic(auto, unfolding(crate::specs::Incoming::files_in))]
+pub(crate) fn files_in(alloc: Global, body: &Value) -> Result<Option<Seq<Text>>, AllocError>
+    ensures { IfOk result (λ files. files ≡ spec.files_in (view body.now)) }
+{
+    match body.pointer("/params/initializationOptions/files") {
+        None => Ok(Some(Seq::new(alloc))),
+        Some(files) => all_texts(alloc, files),
+    }
+}
+
+fn all_texts(alloc: Global, value: &Value) -> Result<Option<Seq<Text>>, AllocError>
+    ensures { IfOk result (λ texts. texts ≡ spec.all_texts (view value.now)) }
+{
+    match value.as_array() {
+        None => Ok(None),
+        Some(items) => texts_of(alloc, items),
+    }
+}
+
+fn texts_of(alloc: Global, items: &[Value]) -> Result<Option<Seq<Text>>, AllocError>
+    ensures { IfOk result (λ texts. texts ≡ spec.all_of as_str (items_view items.now)) }
+{
+    let mut texts = Seq::new(alloc);
+    for item in items {
+        let Some(text) = item.as_str() else {
+            return Ok(None);
+        };
+        texts.push(Text::of_str(alloc, text)?)?;
+    }
+    Ok(Some(texts))
+}

@@ -1,0 +1,178 @@
+//! Replies as bodies.
+ghost use Rattle.std.specs.Prelude.{◌≡◌, IfOk, codes};
+ghost use Rattle.serde_json.specs.View.{view};
+ghost use Rattle.serde_json.specs.Written.{compact_text};
+ghost use Rattle.jn_lsp_messages.specs.Incoming.{IsJson};
+ghost use Rattle.jn_lsp_messages.specs.Outgoing as spec;
+
+use crate::actions::actions_value;
+use crate::diagnostics::diagnostics_value;
+use crate::uri::uri_of;
+use jn_base::OutOfMemory;
+use jn_lsp_types::{Diagnostic, Failure, Id, Reply};
+use serde_json::{Value, json};
+use std::alloc::{AllocError, Global};
+
+/// The body of a reply (JSON-RPC 2.0; Language Server Protocol 3.17): JSON without spaces that reads as what the reply tells.
+pub fn write_reply(alloc: Global, reply: &Reply) -> Result<Vec<u8>, OutOfMemory>
+    ensures reads { IfOk result (λ body. IsJson body.items (spec.data_of reply.now)) }
+    ensures text { IfOk result
+        (λ body. body.items ≡ compact_text (spec.data_of reply.now)) }
+{
+    let value = reply_value(alloc, reply)?;
+    Ok(value.to_vec(alloc)?)
+}
+
+fn reply_value(alloc: Global, reply: &Reply) -> Result<Value, OutOfMemory>
+    ensures { IfOk result (λ v. view v ≡ spec.data_of reply.now) }
+{
+    match reply {
+        Reply::Capabilities { id } => capabilities(alloc, id),
+        Reply::Done { id } => Ok(answer(alloc, id, Value::Null)?),
+        Reply::Refusal { id, failure } => Ok(refusal(alloc, id, *failure)?),
+        Reply::Publish { name, diagnostics } => {
+            publish(alloc, name.as_str(), diagnostics.as_slice())
+        }
+        Reply::Show { words } => Ok(show(alloc, words.as_str())?),
+        Reply::Actions { id, actions } => {
+            let actions = actions_value(alloc, actions.as_slice())?;
+            Ok(answer(alloc, id, actions)?)
+        }
+    }
+}
+
+#[tactic(auto, unfolding(crate::specs::Outgoing::answer_data))]
+fn answer(alloc: Global, id: &Id, value: Value) -> Result<Value, AllocError>
+    ensures { IfOk result (λ v. view v ≡ spec.answer_data id.now (view value)) }
+{
+    let id = id_value(alloc, id)?;
+    json!(in alloc; {"id": id, "jsonrpc": "2.0", "result": value})
+}
+
+fn id_value(alloc: Global, id: &Id) -> Result<Value, AllocError>
+    ensures { IfOk result (λ v. view v ≡ spec.id_data id.now) }
+{
+    match id {
+        Id::Number(number) => Ok(Value::from(*number)),
+        Id::Text(text) => Value::try_from_str(alloc, text.as_str()),
+    }
+}
+
+fn id_or_null(alloc: Global, id: &Option<Id>) -> Result<Value, AllocError>
+    ensures { IfOk result (λ v. view v ≡ spec.id_or_null id.now) }
+{
+    match id {
+        None => Ok(Value::Null),
+        Some(id) => id_value(alloc, id),
+    }
+}
+
+#[tactic(auto, unfolding(crate::specs::Outgoing::notice_data))]
+fn notice(alloc: Global, method: &str, params: Value) -> Result<Value, AllocError>
+    ensures { IfOk result (λ v. view v ≡ spec.notice_data method.now (view params)) }
+{
+    json!(in alloc; {"jsonrpc": "2.0", "method": method, "params": params})
+}
+
+#[tactic(auto, unfolding(crate::specs::Outgoing::refusal_data))]
+fn refusal(alloc: Global, id: &Option<Id>, failure: Failure) -> Result<Value, AllocError>
+    ensures { IfOk result (λ v. view v ≡ spec.refusal_data id.now failure) }
+{
+    let error = error_value(alloc, failure)?;
+    let id = id_or_null(alloc, id)?;
+    json!(in alloc; {"error": error, "id": id, "jsonrpc": "2.0"})
+}
+
+#[tactic(auto, unfolding(crate::specs::Outgoing::error_data))]
+fn error_value(alloc: Global, failure: Failure) -> Result<Value, AllocError>
+    ensures { IfOk result (λ v. view v ≡ spec.error_data failure) }
+{
+    json!(in alloc; {"code": failure_code(failure), "message": failure_words(failure)})
+}
+
+fn failure_code(failure: Failure) -> i32
+    ensures { result ≡ spec.failure_code failure }
+{
+    match failure {
+        Failure::Parse => -32700,
+        Failure::Request => -32600,
+        Failure::Method => -32601,
+        Failure::Params => -32602,
+        Failure::NotInitialized => -32002,
+    }
+}
+
+fn failure_words(failure: Failure) -> &'static str
+    ensures { result.now ≡ spec.failure_words failure }
+{
+    match failure {
+        Failure::Parse => "this is no JSON, or has no legal header",
+        Failure::Request => "this is no request that can be taken now",
+        Failure::Method => "this method isn't known",
+        Failure::Params => "the parameters aren't as the protocol has them",
+        Failure::NotInitialized => "initialize comes first",
+    }
+}
+
+/// The answer to `initialize`.
+fn capabilities(alloc: Global, id: &Id) -> Result<Value, OutOfMemory>
+    ensures { IfOk result (λ v. view v ≡ spec.answer_data id.now spec.initialize_data) }
+{
+    let value = initialize_value(alloc)?;
+    Ok(answer(alloc, id, value)?)
+}
+
+#[tactic(auto, unfolding(crate::specs::Outgoing::initialize_data, crate::specs::Outgoing::server_data))]
+fn initialize_value(alloc: Global) -> Result<Value, AllocError>
+    ensures { IfOk result (λ v. view v ≡ spec.initialize_data) }
+{
+    let capabilities = capabilities_value(alloc)?;
+    json!(in alloc; {"capabilities": capabilities, "serverInfo": {"name": "nullcheck_lsp"}})
+}
+
+#[tactic(auto, unfolding(crate::specs::Outgoing::capabilities_data))]
+fn capabilities_value(alloc: Global) -> Result<Value, AllocError>
+    ensures { IfOk result (λ v. view v ≡ spec.capabilities_data) }
+{
+    let sync = sync_value(alloc)?;
+    json!(in alloc; {"codeActionProvider": true, "positionEncoding": "utf-16", "textDocumentSync": sync})
+}
+
+#[tactic(auto, unfolding(crate::specs::Outgoing::sync_data))]
+fn sync_value(alloc: Global) -> Result<Value, AllocError>
+    ensures { IfOk result (λ v. view v ≡ spec.sync_data) }
+{
+    json!(in alloc; {"change": 2u32, "openClose": true, "save": true})
+}
+
+fn publish(alloc: Global, name: &str, diagnostics: &[Diagnostic]) -> Result<Value, OutOfMemory>
+    ensures { IfOk result (λ v.
+        view v ≡ spec.notice_data (codes "textDocument/publishDiagnostics") (spec.published_data name.now diagnostics.now)) }
+{
+    let params = published(alloc, name, diagnostics)?;
+    Ok(notice(alloc, "textDocument/publishDiagnostics", params)?)
+}
+
+#[tactic(auto, unfolding(crate::specs::Outgoing::published_data))]
+fn published(alloc: Global, name: &str, diagnostics: &[Diagnostic]) -> Result<Value, OutOfMemory>
+    ensures { IfOk result (λ v. view v ≡ spec.published_data name.now diagnostics.now) }
+{
+    let uri = uri_of(alloc, name)?;
+    let diagnostics = diagnostics_value(alloc, diagnostics)?;
+    Ok(json!(in alloc; {"diagnostics": diagnostics, "uri": uri.as_str()})?)
+}
+
+fn show(alloc: Global, words: &str) -> Result<Value, AllocError>
+    ensures { IfOk result (λ v.
+        view v ≡ spec.notice_data (codes "window/showMessage") (spec.shown_data words.now)) }
+{
+    let params = shown(alloc, words)?;
+    notice(alloc, "window/showMessage", params)
+}
+
+#[tactic(auto, unfolding(crate::specs::Outgoing::shown_data))]
+fn shown(alloc: Global, words: &str) -> Result<Value, AllocError>
+    ensures { IfOk result (λ v. view v ≡ spec.shown_data words.now) }
+{
+    json!(in alloc; {"message": words, "type": 2u32})
+}
