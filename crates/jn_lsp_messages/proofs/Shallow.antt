@@ -8,6 +8,7 @@ use Rattle.serde_json.specs.View.{items_of}
 use Rattle.serde_json.specs.Read.{max_depth, read}
 use Rattle.serde_json.specs.Written.{compact_text, has_float, items_have_float, members_have_float}
 use Rattle.jn_base.specs.Codes.{code_name}
+use Rattle.jn_base.specs.declared.code.Code.{Code}
 use Rattle.jn_lsp_text.specs.declared.position.Position.{Position}
 use Rattle.jn_lsp_text.specs.declared.range.Range.{Range}
 use Rattle.jn_lsp_types.specs.declared.id.Id.{Id}
@@ -20,7 +21,7 @@ use Rattle.jn_lsp_types.specs.declared.reply.Related.{Related}
 use Rattle.jn_lsp_types.specs.declared.reply.Reply.{Reply}
 use Rattle.jn_lsp_types.specs.declared.reply.Reply.TheVariants as reply
 use Rattle.jn_lsp_messages.specs.Incoming.{IsJson}
-use Rattle.jn_lsp_messages.specs.Outgoing.{position_data, range_data, location_data, related_data, told, diagnostic_data, insertion_data, edit_data, action_data, sync_data, capabilities_data, server_data, initialize_data, failure_code, failure_words, error_data, id_data, id_or_null, answer_data, refusal_data, notice_data, published_data, shown_data, list_data, data_of}
+use Rattle.jn_lsp_messages.specs.Outgoing.{position_data, range_data, location_data, related_data, told, description_data, described, diagnostic_data, insertion_data, edit_data, action_data, sync_data, capabilities_data, server_data, initialize_data, failure_code, failure_words, error_data, id_data, id_or_null, answer_data, refusal_data, notice_data, published_data, shown_data, list_data, data_of}
 use Rattle.jn_lsp_messages.specs.Uris.{uri_of}
 
 -- a value nests at most so deep, and has no float
@@ -106,19 +107,28 @@ related_is : (r : Related) → Is 4 (related_data r)
 unfolding related_data
 related_is r = holding 3 4 _ refl (next 3 _ _ _ (location_is r.name r.range) (last 3 _ _ (text 3 r.words)))
 
-diagnostic_is : (d : Diagnostic) → Is 6 (diagnostic_data d)
+description_is : (address : List ℕ) (code : Code) → Is 5 (description_data address code)
+unfolding description_data
+description_is address code = holding 4 5 _ refl (last 4 _ _ (text 4 _))
+
+described_are : (address : Option (List ℕ)) (code : Code) (ms : Members) → AreMembers 5 ms → AreMembers 5 (described address code ms)
+described_are None code ms are = are
+described_are (Some address) code ms are = next 5 _ _ ms (description_is address code) are
+
+diagnostic_is : (address : Option (List ℕ)) (d : Diagnostic) → Is 6 (diagnostic_data address d)
 unfolding diagnostic_data
-diagnostic_is d =
+diagnostic_is address d =
     holding 5 6 _ refl (next 5 _ _ _ (text 5 (code_name d.code))
+    (described_are address d.code _
     (next 5 _ _ _ (text 5 (told d.code))
     (next 5 _ _ _ (deeper 2 5 _ (omega arith) (range_is d.range))
     (next 5 _ _ _ (listed related_data 4 5 refl related_is d.related)
     (next 5 _ _ _ (natural 5 1)
-    (last 5 _ _ (text 5 (codes "nullcheck"))))))))
+    (last 5 _ _ (text 5 (codes "nullcheck")))))))))
 
-published_is : (name : List ℕ) (ds : List Diagnostic) → Is 8 (published_data name ds)
+published_is : (address : Option (List ℕ)) (name : List ℕ) (ds : List Diagnostic) → Is 8 (published_data address name ds)
 unfolding published_data
-published_is name ds = holding 7 8 _ refl (next 7 _ _ _ (listed diagnostic_data 6 7 refl diagnostic_is ds) (last 7 _ _ (text 7 (uri_of name))))
+published_is address name ds = holding 7 8 _ refl (next 7 _ _ _ (listed (diagnostic_data address) 6 7 refl (diagnostic_is address) ds) (last 7 _ _ (text 7 (uri_of name))))
 
 shown_is : (words : List ℕ) → Is 8 (shown_data words)
 unfolding shown_data
@@ -167,20 +177,20 @@ refusal_is : (i : Option Id) (f : Failure) → Is 9 (refusal_data i f)
 unfolding refusal_data
 refusal_is i f = holding 8 9 _ refl (next 8 _ _ _ (error_is f) (next 8 _ _ _ (id_or_null_is 8 i) (last 8 _ _ (text 8 (codes "2.0")))))
 
-reply_is : (r : Reply) → Is 9 (data_of r)
-reply_is (reply.Capabilities i) = answer_is i initialize_data initialize_is
-reply_is (reply.Done i) = answer_is i null (nothing 8)
-reply_is (reply.Refusal i f) = refusal_is i f
-reply_is (reply.Publish name ds) = notice_is _ _ (published_is name ds)
-reply_is (reply.Show words) = notice_is _ _ (shown_is words)
-reply_is (reply.Actions i actions) = answer_is i _ (listed action_data 7 8 refl action_is actions)
+reply_is : (address : Option (List ℕ)) (r : Reply) → Is 9 (data_of address r)
+reply_is address (reply.Capabilities i) = answer_is i initialize_data initialize_is
+reply_is address (reply.Done i) = answer_is i null (nothing 8)
+reply_is address (reply.Refusal i f) = refusal_is i f
+reply_is address (reply.Publish name ds) = notice_is _ _ (published_is address name ds)
+reply_is address (reply.Show words) = notice_is _ _ (shown_is words)
+reply_is address (reply.Actions i actions) = answer_is i _ (listed action_data 7 8 refl action_is actions)
 
 -- what is written of a value that is a reply's reads as it, and is its compact text
-pub reads_as : (r : Reply) (d : Data) (body : List ℕ) → d ≡ data_of r → (depth d ≤ max_depth → read body ≡ Some d) → IsUtf8 body → IsJson body (data_of r)
-reads_as r d body e reads utf8 = (utf8, reads (subst (λ x. depth x ≤ max_depth) (sym e) (le_trans (reply_is r).shallow nine)) ∙ ap Some e)
+pub reads_as : (address : Option (List ℕ)) (r : Reply) (d : Data) (body : List ℕ) → d ≡ data_of address r → (depth d ≤ max_depth → read body ≡ Some d) → IsUtf8 body → IsJson body (data_of address r)
+reads_as address r d body e reads utf8 = (utf8, reads (subst (λ x. depth x ≤ max_depth) (sym e) (le_trans (reply_is address r).shallow nine)) ∙ ap Some e)
   where
     nine : 9 ≤ max_depth
     nine = omega arith
 
-pub is_compact : (r : Reply) (d : Data) (body : List ℕ) → d ≡ data_of r → (has_float d ≡ false → body ≡ compact_text d) → body ≡ compact_text (data_of r)
-is_compact r d body e written = written (ap has_float e ∙ (reply_is r).whole) ∙ ap compact_text e
+pub is_compact : (address : Option (List ℕ)) (r : Reply) (d : Data) (body : List ℕ) → d ≡ data_of address r → (has_float d ≡ false → body ≡ compact_text d) → body ≡ compact_text (data_of address r)
+is_compact address r d body e written = written (ap has_float e ∙ (reply_is address r).whole) ∙ ap compact_text e

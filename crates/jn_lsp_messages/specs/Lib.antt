@@ -1,4 +1,5 @@
 pub mod Uris
 pub mod Methods
 pub mod Incoming
+pub mod Anchors
 pub mod Outgoing

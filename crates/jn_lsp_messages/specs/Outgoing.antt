@@ -18,6 +18,7 @@ use Rattle.jn_lsp_types.specs.declared.reply.Insertion.{Insertion}
 use Rattle.jn_lsp_types.specs.declared.reply.Related.{Related}
 use Rattle.jn_lsp_types.specs.declared.reply.Reply.{Reply}
 use Rattle.jn_lsp_types.specs.declared.reply.Reply.TheVariants as reply
+use Rattle.jn_lsp_messages.specs.Anchors.{code_anchor}
 use Rattle.jn_lsp_messages.specs.Uris.{uri_of}
 
 -- an object of one member, of two, and so on
@@ -48,15 +49,25 @@ related_data r = object (member (codes "location") (location_data r.name r.range
 abbrev pub told : Code → List ℕ
 told code = code_message code ++ codes "; cure: " ++ code_cure code
 
+-- a link to the code's text, in the document of an address (CodeDescription)
+unfoldable pub description_data : List ℕ → Code → Data
+description_data address code = object (one (codes "href") (string (address ++ codes "#" ++ code_anchor code)))
+
+-- where the address of the codes' document is known
+abbrev pub described : Option (List ℕ) → Code → Members → Members
+described None code ms = ms
+described (Some address) code ms = member (codes "codeDescription") (description_data address code) ms
+
 -- severity 1 is an error
-unfoldable pub diagnostic_data : Diagnostic → Data
-diagnostic_data d =
+unfoldable pub diagnostic_data : Option (List ℕ) → Diagnostic → Data
+diagnostic_data address d =
     object (member (codes "code") (string (code_name d.code))
+    (described address d.code
     (member (codes "message") (string (told d.code))
     (member (codes "range") (range_data d.range)
     (member (codes "relatedInformation") (list_data related_data d.related)
     (member (codes "severity") (number (unsigned 1))
-    (one (codes "source") (string (codes "nullcheck"))))))))
+    (one (codes "source") (string (codes "nullcheck")))))))))
 
 -- ---- code actions
 
@@ -135,19 +146,19 @@ unfoldable pub notice_data : List ℕ → Data → Data
 notice_data method params =
     object (member (codes "jsonrpc") (string (codes "2.0")) (member (codes "method") (string method) (one (codes "params") params)))
 
-unfoldable pub published_data : List ℕ → List Diagnostic → Data
-published_data name diagnostics =
-    object (member (codes "diagnostics") (list_data diagnostic_data diagnostics) (one (codes "uri") (string (uri_of name))))
+unfoldable pub published_data : Option (List ℕ) → List ℕ → List Diagnostic → Data
+published_data address name diagnostics =
+    object (member (codes "diagnostics") (list_data (diagnostic_data address) diagnostics) (one (codes "uri") (string (uri_of name))))
 
 -- type 2 is a warning
 unfoldable pub shown_data : List ℕ → Data
 shown_data words = object (member (codes "message") (string words) (one (codes "type") (number (unsigned 2))))
 
--- what a reply is as JSON
-abbrev pub data_of : Reply → Data
-data_of (reply.Capabilities i) = answer_data i initialize_data
-data_of (reply.Done i) = answer_data i null
-data_of (reply.Refusal i f) = refusal_data i f
-data_of (reply.Publish name diagnostics) = notice_data (codes "textDocument/publishDiagnostics") (published_data name diagnostics)
-data_of (reply.Show words) = notice_data (codes "window/showMessage") (shown_data words)
-data_of (reply.Actions i actions) = answer_data i (list_data action_data actions)
+-- what a reply is as JSON, with links to the codes' texts where the address of their document is given
+abbrev pub data_of : Option (List ℕ) → Reply → Data
+data_of address (reply.Capabilities i) = answer_data i initialize_data
+data_of address (reply.Done i) = answer_data i null
+data_of address (reply.Refusal i f) = refusal_data i f
+data_of address (reply.Publish name diagnostics) = notice_data (codes "textDocument/publishDiagnostics") (published_data address name diagnostics)
+data_of address (reply.Show words) = notice_data (codes "window/showMessage") (shown_data words)
+data_of address (reply.Actions i actions) = answer_data i (list_data action_data actions)

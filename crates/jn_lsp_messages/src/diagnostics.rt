@@ -1,11 +1,14 @@
 //! Diagnostics as JSON.
-ghost use Rattle.std.specs.Prelude.{◌≡◌, IfOk, string_bytes};
+ghost use Rattle.std.specs.Prelude.{◌≡◌, ◌++◌, IfOk, None, Some, codes, string_bytes};
+ghost use Rattle.serde_json.specs.Data.{number, unsigned, string, object, member, no_members};
 ghost use Rattle.serde_json.specs.View.{view};
+ghost use Rattle.jn_lsp_messages.specs.Anchors.{code_anchor};
 ghost use Rattle.jn_lsp_messages.specs.Outgoing as spec;
 
+use crate::anchors::code_anchor;
 use crate::places::{location_value, range_value};
 use jn_base::lists::put;
-use jn_base::{Code, OutOfMemory};
+use jn_base::{Code, OutOfMemory, Text};
 use jn_lsp_types::{Diagnostic, Related};
 use serde_json::{Value, json};
 use std::alloc::{AllocError, Global};
@@ -13,33 +16,130 @@ use std::alloc::{AllocError, Global};
 /// The diagnostics of a file, in their order.
 pub(crate) fn diagnostics_value(
     alloc: Global,
+    address: &Option<Text>,
     diagnostics: &[Diagnostic],
 ) -> Result<Value, OutOfMemory>
     ensures { IfOk result
-        (λ v. view v ≡ spec.list_data spec.diagnostic_data diagnostics.now) }
+        (λ v. view v ≡ spec.list_data (spec.diagnostic_data address.now) diagnostics.now) }
 {
     let mut items = Vec::new(alloc);
     for diagnostic in diagnostics {
-        put(&mut items, diagnostic_value(alloc, diagnostic)?)?;
+        put(&mut items, diagnostic_value(alloc, address, diagnostic)?)?;
     }
     Ok(Value::Array(items))
 }
 
+fn diagnostic_value(
+    alloc: Global,
+    address: &Option<Text>,
+    diagnostic: &Diagnostic,
+) -> Result<Value, OutOfMemory>
+    ensures { IfOk result (λ v. view v ≡ spec.diagnostic_data address.now diagnostic.now) }
+{
+    match address {
+        None => unlinked_value(alloc, diagnostic),
+        Some(address) => linked_value(alloc, address.as_str(), diagnostic),
+    }
+}
+
 #[tactic(auto, unfolding(crate::specs::Outgoing::diagnostic_data))]
-fn diagnostic_value(alloc: Global, diagnostic: &Diagnostic) -> Result<Value, OutOfMemory>
-    ensures { IfOk result (λ v. view v ≡ spec.diagnostic_data diagnostic.now) }
+fn unlinked_value(alloc: Global, diagnostic: &Diagnostic) -> Result<Value, OutOfMemory>
+    ensures { IfOk result (λ v. view v ≡ spec.diagnostic_data None diagnostic.now) }
 {
     let words = told(alloc, diagnostic.code)?;
     let range = range_value(alloc, diagnostic.range)?;
     let related = all_related(alloc, diagnostic.related.as_slice())?;
-    Ok(json!(in alloc; {
-        "code": diagnostic.code.name(),
+    Ok(unlinked(alloc, diagnostic.code.name(), words.as_str(), range, related)?)
+}
+
+#[tactic(auto, unfolding(crate::specs::Outgoing::diagnostic_data))]
+fn linked_value(
+    alloc: Global,
+    address: &str,
+    diagnostic: &Diagnostic,
+) -> Result<Value, OutOfMemory>
+    ensures { IfOk result
+        (λ v. view v ≡ spec.diagnostic_data (Some address.now) diagnostic.now) }
+{
+    let description = description_value(alloc, address, diagnostic.code)?;
+    let words = told(alloc, diagnostic.code)?;
+    let range = range_value(alloc, diagnostic.range)?;
+    let related = all_related(alloc, diagnostic.related.as_slice())?;
+    Ok(linked(alloc, diagnostic.code.name(), description, words.as_str(), range, related)?)
+}
+
+/// The object of a diagnostic without a link, from the values of its members.
+fn unlinked(
+    alloc: Global,
+    code: &str,
+    words: &str,
+    range: Value,
+    related: Value,
+) -> Result<Value, AllocError>
+    ensures { IfOk result (λ v. view v
+        ≡ object (member (codes "code") (string code.now)
+        (member (codes "message") (string words.now)
+        (member (codes "range") (view range)
+        (member (codes "relatedInformation") (view related)
+        (member (codes "severity") (number (unsigned 1))
+        (member (codes "source") (string (codes "nullcheck")) no_members))))))) }
+{
+    json!(in alloc; {
+        "code": code,
         "message": words,
         "range": range,
         "relatedInformation": related,
         "severity": 1u32,
         "source": "nullcheck"
-    })?)
+    })
+}
+
+/// The object of a diagnostic with a link, from the values of its members.
+fn linked(
+    alloc: Global,
+    code: &str,
+    description: Value,
+    words: &str,
+    range: Value,
+    related: Value,
+) -> Result<Value, AllocError>
+    ensures { IfOk result (λ v. view v
+        ≡ object (member (codes "code") (string code.now)
+        (member (codes "codeDescription") (view description)
+        (member (codes "message") (string words.now)
+        (member (codes "range") (view range)
+        (member (codes "relatedInformation") (view related)
+        (member (codes "severity") (number (unsigned 1))
+        (member (codes "source") (string (codes "nullcheck")) no_members)))))))) }
+{
+    json!(in alloc; {
+        "code": code,
+        "codeDescription": description,
+        "message": words,
+        "range": range,
+        "relatedInformation": related,
+        "severity": 1u32,
+        "source": "nullcheck"
+    })
+}
+
+/// The address, and the code's anchor behind it.
+fn link(alloc: Global, address: &str, code: Code) -> Result<String, AllocError>
+    ensures { IfOk result
+        (λ link. string_bytes link ≡ address.now ++ codes "#" ++ code_anchor code) }
+{
+    let mut link = String::from_str(alloc, address)?;
+    link.push_str("#")?;
+    link.push_str(code_anchor(code))?;
+    Ok(link)
+}
+
+#[tactic(auto, unfolding(crate::specs::Outgoing::description_data))]
+fn description_value(alloc: Global, address: &str, code: Code) -> Result<Value, AllocError>
+    ensures { IfOk result (λ v. view v ≡ spec.description_data address.now code) }
+{
+    let link = link(alloc, address, code)?;
+    json!(in alloc; {"href": link})
 }
 
 /// What is wrong, and what to do about it.

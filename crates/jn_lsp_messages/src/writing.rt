@@ -8,30 +8,39 @@ ghost use Rattle.jn_lsp_messages.specs.Outgoing as spec;
 use crate::actions::actions_value;
 use crate::diagnostics::diagnostics_value;
 use crate::uri::uri_of;
-use jn_base::OutOfMemory;
+use jn_base::{OutOfMemory, Text};
 use jn_lsp_types::{Diagnostic, Failure, Id, Reply};
 use serde_json::{Value, json};
 use std::alloc::{AllocError, Global};
 
-/// The body of a reply (JSON-RPC 2.0; Language Server Protocol 3.17): JSON without spaces that reads as what the reply tells.
-pub fn write_reply(alloc: Global, reply: &Reply) -> Result<Vec<u8>, OutOfMemory>
-    ensures reads { IfOk result (λ body. IsJson body.items (spec.data_of reply.now)) }
+/// The body of a reply (JSON-RPC 2.0; Language Server Protocol 3.17): JSON without spaces that reads as what the reply tells. `address`
+/// is the address of docs/CODES.md, an absolute URI without a fragment: where it is given, each diagnostic links to its code's text there
+/// (`codeDescription`, shown by clients that declare `codeDescriptionSupport`).
+///
+/// # Errors
+/// No memory was found.
+pub fn write_reply(
+    alloc: Global,
+    address: &Option<Text>,
+    reply: &Reply,
+) -> Result<Vec<u8>, OutOfMemory>
+    ensures reads { IfOk result (λ body. IsJson body.items (spec.data_of address.now reply.now)) }
     ensures text { IfOk result
-        (λ body. body.items ≡ compact_text (spec.data_of reply.now)) }
+        (λ body. body.items ≡ compact_text (spec.data_of address.now reply.now)) }
 {
-    let value = reply_value(alloc, reply)?;
+    let value = reply_value(alloc, address, reply)?;
     Ok(value.to_vec(alloc)?)
 }
 
-fn reply_value(alloc: Global, reply: &Reply) -> Result<Value, OutOfMemory>
-    ensures { IfOk result (λ v. view v ≡ spec.data_of reply.now) }
+fn reply_value(alloc: Global, address: &Option<Text>, reply: &Reply) -> Result<Value, OutOfMemory>
+    ensures { IfOk result (λ v. view v ≡ spec.data_of address.now reply.now) }
 {
     match reply {
         Reply::Capabilities { id } => capabilities(alloc, id),
         Reply::Done { id } => Ok(answer(alloc, id, Value::Null)?),
         Reply::Refusal { id, failure } => Ok(refusal(alloc, id, *failure)?),
         Reply::Publish { name, diagnostics } => {
-            publish(alloc, name.as_str(), diagnostics.as_slice())
+            publish(alloc, address, name.as_str(), diagnostics.as_slice())
         }
         Reply::Show { words } => Ok(show(alloc, words.as_str())?),
         Reply::Actions { id, actions } => {
@@ -145,20 +154,30 @@ fn sync_value(alloc: Global) -> Result<Value, AllocError>
     json!(in alloc; {"change": 2u32, "openClose": true, "save": true})
 }
 
-fn publish(alloc: Global, name: &str, diagnostics: &[Diagnostic]) -> Result<Value, OutOfMemory>
+fn publish(
+    alloc: Global,
+    address: &Option<Text>,
+    name: &str,
+    diagnostics: &[Diagnostic],
+) -> Result<Value, OutOfMemory>
     ensures { IfOk result (λ v.
-        view v ≡ spec.notice_data (codes "textDocument/publishDiagnostics") (spec.published_data name.now diagnostics.now)) }
+        view v ≡ spec.notice_data (codes "textDocument/publishDiagnostics") (spec.published_data address.now name.now diagnostics.now)) }
 {
-    let params = published(alloc, name, diagnostics)?;
+    let params = published(alloc, address, name, diagnostics)?;
     Ok(notice(alloc, "textDocument/publishDiagnostics", params)?)
 }
 
 #[tactic(auto, unfolding(crate::specs::Outgoing::published_data))]
-fn published(alloc: Global, name: &str, diagnostics: &[Diagnostic]) -> Result<Value, OutOfMemory>
-    ensures { IfOk result (λ v. view v ≡ spec.published_data name.now diagnostics.now) }
+fn published(
+    alloc: Global,
+    address: &Option<Text>,
+    name: &str,
+    diagnostics: &[Diagnostic],
+) -> Result<Value, OutOfMemory>
+    ensures { IfOk result (λ v. view v ≡ spec.published_data address.now name.now diagnostics.now) }
 {
     let uri = uri_of(alloc, name)?;
-    let diagnostics = diagnostics_value(alloc, diagnostics)?;
+    let diagnostics = diagnostics_value(alloc, address, diagnostics)?;
     Ok(json!(in alloc; {"diagnostics": diagnostics, "uri": uri.as_str()})?)
 }
 

@@ -4,4 +4,4 @@ use Rattle.jn_lsp_messages.specs.Outgoing.{diagnostic_data}
 use Rattle.jn_lsp_messages.proofs.diagnostics.diagnostics_value.Given as goal
 
 abbrev pub invariant-loop-diagnostic : goal.invariant-loop-diagnostic
-invariant-loop-diagnostic l = map view l.items.items ≡ map diagnostic_data (take l.diagnostic-index l.diagnostics)
+invariant-loop-diagnostic l = map view l.items.items ≡ map (diagnostic_data l.address) (take l.diagnostic-index l.diagnostics)
