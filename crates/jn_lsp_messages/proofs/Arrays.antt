@@ -1,8 +1,8 @@
 -- Values of a JSON array, written one by one and read one by one.
-use Rattle.std.proofs.Common.{◌≡◌, ℕ, ◌+◌, ◌<◌, ◌≤◌, List, [], ◌∷◌, ◌++◌, length, take, drop, get_or, map, Option, Some, None, option_map, option_and_then, refl, sym, ap, ◌∙◌, append_assoc, append-nil, subst}
+use Rattle.std.proofs.Common.{◌≡◌, ℕ, ◌+◌, ◌<◌, List, [], ◌∷◌, ◌++◌, length, take, drop, get_or, map, Option, Some, None, option_map, option_and_then, refl, sym, ap, ◌∙◌, append_assoc, append-nil, subst}
 use Rattle.std.proofs.lemmas.List.{take_more, drop_more, map-append}
-use Rattle.serde_json.specs.Data.{Data, Items, item, no_items}
-use Rattle.serde_json.specs.View.{items_of, items_view, view}
+use Rattle.serde_json.specs.Data.{Data, item}
+use Rattle.serde_json.specs.View.{items_view, view}
 use Rattle.serde_json.specs.declared.value.Value.{Value}
 use Rattle.jn_lsp_messages.specs.Incoming.{all_of}
 

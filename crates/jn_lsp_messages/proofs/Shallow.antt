@@ -1,8 +1,8 @@
--- Replies nest at most ten deep, and have no floats.
+-- Replies nest at most nine deep, and have no floats.
 use Rattle.std.proofs.Common.{◌≡◌, ℕ, suc, ◌≤◌, ℤ, pos, negsuc, Bool, false, List, [], ◌∷◌, Option, Some, None, map, codes, refl, sym, ap, ◌∙◌, subst, arith, IsUtf8}
 use Rattle.std.specs.Prelude.{◌||◌, max}
 use Rattle.std.proofs.Math.Nat.{le_trans, max-le}
-use Rattle.serde_json.specs.Data.{Data, null, number, unsigned, string, array, object, Items, Members, no_members, member, depth, items_depth, members_depth}
+use Rattle.serde_json.specs.Data.{Data, null, number, unsigned, string, object, Items, Members, no_members, member, depth, items_depth, members_depth}
 use Rattle.serde_json.specs.Find.{of_integer}
 use Rattle.serde_json.specs.View.{items_of}
 use Rattle.serde_json.specs.Read.{max_depth, read}

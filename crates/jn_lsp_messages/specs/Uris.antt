@@ -1,5 +1,5 @@
 -- Names of files and their URIs (RFC 8089, RFC 3986). A name is a path, or a URI of another scheme.
-use Rattle.std.specs.Prelude.{ℕ, ◌==◌, ◌&&◌, ◌++◌, Bool, List, [], ◌∷◌, Option, Some, None, bytes_eq, codes, drop, length, slice_index, take, if◌then◌else◌}
+use Rattle.std.specs.Prelude.{ℕ, ◌==◌, ◌&&◌, ◌++◌, Bool, List, Option, Some, None, bytes_eq, codes, drop, length, slice_index, take, if◌then◌else◌}
 use Rattle.std.specs.Str.{is_utf8}
 use Rattle.percent_encoding.specs.Percent.{percent_decode, percent_encode}
 use Rattle.jn_lsp_messages.specs.declared.uri.TheConstants.{PATH}

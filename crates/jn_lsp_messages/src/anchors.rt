@@ -5,7 +5,7 @@ ghost use Rattle.jn_lsp_messages.specs.Anchors.{code_anchor};
 use jn_base::Code;
 
 /// The anchor of the code's heading in docs/CODES.md.
-pub fn code_anchor(code: Code) -> &'static str
+pub(crate) fn code_anchor(code: Code) -> &'static str
     ensures { result.now ≡ code_anchor code }
 {
     match code {

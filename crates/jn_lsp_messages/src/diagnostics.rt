@@ -49,15 +49,17 @@ fn unlinked_value(alloc: Global, diagnostic: &Diagnostic) -> Result<Value, OutOf
     let words = told(alloc, diagnostic.code)?;
     let range = range_value(alloc, diagnostic.range)?;
     let related = all_related(alloc, diagnostic.related.as_slice())?;
-    Ok(unlinked(alloc, diagnostic.code.name(), words.as_str(), range, related)?)
+    Ok(unlinked(
+        alloc,
+        diagnostic.code.name(),
+        words.as_str(),
+        range,
+        related,
+    )?)
 }
 
 #[tactic(auto, unfolding(crate::specs::Outgoing::diagnostic_data))]
-fn linked_value(
-    alloc: Global,
-    address: &str,
-    diagnostic: &Diagnostic,
-) -> Result<Value, OutOfMemory>
+fn linked_value(alloc: Global, address: &str, diagnostic: &Diagnostic) -> Result<Value, OutOfMemory>
     ensures { IfOk result
         (λ v. view v ≡ spec.diagnostic_data (Some address.now) diagnostic.now) }
 {
@@ -65,7 +67,14 @@ fn linked_value(
     let words = told(alloc, diagnostic.code)?;
     let range = range_value(alloc, diagnostic.range)?;
     let related = all_related(alloc, diagnostic.related.as_slice())?;
-    Ok(linked(alloc, diagnostic.code.name(), description, words.as_str(), range, related)?)
+    Ok(linked(
+        alloc,
+        diagnostic.code.name(),
+        description,
+        words.as_str(),
+        range,
+        related,
+    )?)
 }
 
 /// The object of a diagnostic without a link, from the values of its members.

@@ -5,7 +5,7 @@
 #![tactic(auto)]
 
 mod actions;
-pub mod anchors;
+mod anchors;
 mod diagnostics;
 pub mod law;
 pub mod method;
