@@ -1,0 +1,9 @@
+pub mod Ways
+pub mod Renumbering
+pub mod Joins
+pub mod Outcomes
+pub mod Placing
+pub mod ReadFiles
+pub mod Keeping
+pub mod Found
+pub mod Going

@@ -1,0 +1,4 @@
+pub mod KeptTrees
+pub mod Shifts
+pub mod Fresh
+pub mod Merges

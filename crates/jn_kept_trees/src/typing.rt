@@ -1,0 +1,144 @@
+//! From files that were read to their program, or to the rows of the first phase that has any, where trees of texts that stayed are kept.
+ghost use Rattle.std.specs.Prelude.{◌≡◌, ◌≤◌, [], ℕ, List, None, true, false, length, map, IfOk};
+ghost use Rattle.jn_base.specs.declared.place.Row.{Row as SpecRow};
+ghost use Rattle.jn_diag.specs.Order.{IsOrderOf};
+ghost use Rattle.jn_places.specs.Placed.{PlacedFile};
+ghost use Rattle.jn_places.specs.PlacedView.{placed_file};
+ghost use Rattle.jn_front.specs.Counted.{ReadsFit};
+ghost use Rattle.jn_front.specs.declared.source.SourceFile.{SourceFile as FileOf};
+ghost use Rattle.jn_front.specs.Files.{files_of_reads, AreReads, most_files};
+ghost use Rattle.jn_front.specs.Limits.{limit_rows};
+ghost use Rattle.jn_typed_files.specs.Phases.{IsTypedOr};
+ghost use Rattle.jn_kept_trees.specs.KeptTrees.{AreAllKept, AreKeptTrees};
+ghost use Rattle.jn_kept_trees.specs.Merges.{CanBeKept};
+
+use crate::again::{ParsedAgain, parse_again};
+use crate::kept::KeptTree;
+use crate::merging::TextNames;
+use jn_base::lists::put;
+use jn_base::{Infer, OutOfMemory, Row, Seq};
+use jn_front::{SourceFile, SourceRead, limit_rows};
+use jn_gate::Gate;
+use jn_trees::{FileTree, Names};
+use jn_typed::BaseTyped;
+use jn_typed_files::{TypedFiles, Typing, find_trees, refused_texts};
+use std::alloc::Global;
+use std::thread::Threads;
+
+/// What files come to before their rules are looked at, and what is to be kept of their texts.
+#[derive(Drop)]
+pub struct TypedAgain {
+    /// The rows of the first phase that has any, in order; none where the files have a program.
+    pub rows: Seq<Row>,
+    /// The files' program, whose types fit.
+    pub base: Option<BaseTyped>,
+    /// The texts of their names and strings, by number; none where the files have no trees.
+    pub names: Names,
+    /// What is to be kept of each file.
+    pub kept: Vec<Option<KeptTree>>,
+}
+
+fn no_rows(rows: &Vec<Row>) -> bool
+    ensures some { result ≡ false → rows.now.items ≡ [] → ⊥ }
+    ensures none { result ≡ true → rows.now.items ≡ [] }
+{
+    rows.is_empty()
+}
+
+/// What files come to that are refused by these rows and have no trees.
+fn refused(
+    alloc: Global,
+    rows: Vec<Row>,
+    kept: Vec<Option<KeptTree>>,
+) -> Result<TypedAgain, OutOfMemory>
+    ensures rows { IfOk result
+        (λ typed. (sorted : List SpecRow) × IsOrderOf rows.items sorted × (typed.rows ≡ sorted)) }
+    ensures base { IfOk result (λ typed. typed.base ≡ None) }
+    ensures kept { IfOk result (λ typed. typed.kept.items ≡ kept.items) }
+{
+    let TypedFiles { rows, .. } = refused_texts(alloc, rows)?;
+    Ok(TypedAgain {
+        rows,
+        base: None,
+        names: Names::new(alloc),
+        kept,
+    })
+}
+
+/// The names and trees, file by file, as they are kept.
+fn kept_again(
+    alloc: Global,
+    files: &[SourceRead],
+    texts: Vec<TextNames>,
+    trees: Vec<FileTree>,
+) -> Result<Vec<Option<KeptTree>>, OutOfMemory>
+    requires { CanBeKept (files_of_reads files.now) texts.items trees.items }
+    ensures { IfOk result (λ kept. AreAllKept (files_of_reads files.now) kept.items) }
+{
+    let _files = files;
+    let mut kept = Vec::new(alloc);
+    for (text, tree) in texts.into_iter().zip(trees) {
+        let TextNames { own, numbers } = text;
+        put(
+            &mut kept,
+            Some(KeptTree {
+                own,
+                numbers: Some(numbers),
+                tree,
+            }),
+        )?;
+    }
+    Ok(kept)
+}
+
+/// What files that were read come to before their rules are looked at, at most 64 files, by so many workers, with the choice of members
+/// that are inferred; `trees` is what was kept of the files `last`. The text of a file that has the text of the file at its place among
+/// them is neither lexed nor parsed where its tree was kept. A worker enters the gate when it takes a file.
+///
+/// # Errors
+/// No memory was found.
+pub fn type_files_again<R: Threads + Sync, G: Gate + Sync>(
+    rt: &R,
+    gate: &G,
+    alloc: Global,
+    workers: u32,
+    infer: Infer,
+    reads: &[SourceRead],
+    last: &[SourceFile],
+    trees: Vec<Option<KeptTree>>,
+) -> Result<TypedAgain, OutOfMemory>
+    requires workers { (1 ≤ workers) × (workers ≤ 16) }
+    requires few { length reads.now ≤ most_files }
+    requires fit { ReadsFit reads.now }
+    requires read { (files : List FileOf) × AreReads reads.now files }
+    requires kept { AreKeptTrees last.now trees.items }
+    ensures typed { IfOk result (λ typed. (files : List FileOf) → AreReads reads.now files
+        → (placed : List PlacedFile) × IsTypedOr infer files typed.names placed typed.rows typed.base) }
+    ensures kept { IfOk result (λ typed. (files : List FileOf) → AreReads reads.now files
+        → AreKeptTrees files typed.kept.items) }
+    ensures all { IfOk result (λ typed. (files : List FileOf) → AreReads reads.now files
+        → limit_rows files ≡ [] → AreAllKept files typed.kept.items) }
+{
+    let limits = limit_rows(alloc, reads)?;
+    if !no_rows(&limits) {
+        return refused(alloc, limits, Vec::new(alloc));
+    }
+    let ParsedAgain {
+        trees,
+        names,
+        texts,
+        rows,
+        kept,
+    } = parse_again(rt, alloc, reads, last, trees, workers, gate)?;
+    if !no_rows(&rows) {
+        return refused(alloc, rows, kept);
+    }
+    let Typing { rows, base } = find_trees(rt, alloc, workers, infer, reads, &names, &trees)?;
+    let kept = kept_again(alloc, reads, texts, trees)?;
+    Ok(TypedAgain {
+        rows,
+        base,
+        names,
+        kept,
+    })
+}
