@@ -39,8 +39,8 @@ same_field names i x = record { name = refl; owner = refl; base = refl; is_stati
 same_method : (names : List (List ℕ)) (i : ℕ) (x : Method) → SameMethod names names i x x
 same_method names i x = record { name = λ le. refl; owner = refl; params = refl; result = refl; ctor = refl; is_static = refl; is_private = refl; is_abstract = refl; is_final = refl; is_main = refl; body = refl; receiver = refl; param_slots = refl; result_slot = refl }
 
-same_slot : (i : ℕ) (x : SlotInfo) → SameSlot i x x
-same_slot i x = record { start = refl; inferred = refl }
+same_slot : (names : List (List ℕ)) (i : ℕ) (x : SlotInfo) → SameSlot names names i x x
+same_slot names i x = record { start = refl; inferred = refl }
 
 same_point : (names : List (List ℕ)) (i : ℕ) (x : Point) → SamePoint names names i x x
 same_point names i x = record { span = refl; kind = refl; string = refl }
@@ -50,7 +50,7 @@ same_declarations names P = record {
   classes = all_alike (SameClass names names) (same_class names) 0 P.classes;
   fields = all_alike (SameField names names) (same_field names) 0 P.fields;
   methods = all_alike (SameMethod names names) (same_method names) 0 P.methods;
-  slots = all_alike SameSlot same_slot 0 P.slots;
+  slots = all_alike (SameSlot names names) (same_slot names) 0 P.slots;
 }
 
 same_body : (names : List (List ℕ)) (x : Body) → SameBody names names x x
@@ -74,7 +74,7 @@ unchanged_reusable s b lt = record {
   slots = agree s.signature (rule_reads s.program b);
 }
 
-all_true : List Body → List Bool
+abbrev all_true : List Body → List Bool
 all_true bodies = map (λ (x : Body). true) bodies
 
 true_long : (bodies : List Body) → length (all_true bodies) ≡ length bodies
@@ -99,13 +99,13 @@ none_made s = record {
 }
 
 -- what a recheck of the files that stayed finds
-found_of : Option Solved → Report → Option Solved
+abbrev found_of : Option Solved → Report → Option Solved
 found_of kept (Refused rows) = None
 found_of kept (Checked rows) = kept
 
 told_is : (files : List SourceFile) (kept : Option Solved) (report : Report) → IsTold files kept report → IsRecheck kept files report (found_of kept report) 0
 told_is files kept (Refused rows) is = (is, refl, refl)
-told_is files kept (Checked rows) (is, solved, same, of_files) = (is, solved, same, of_files, subst (λ (k : Option Solved). AreMadeAnew k solved 0) (sym same) (none_made solved))
+told_is files kept (Checked rows) (is, (solved, same, of_files)) = (is, (solved, same, of_files, subst (λ (k : Option Solved). AreMadeAnew k solved 0) (sym same) (none_made solved)))
 
 told_keeps : (kept : Option Solved) (report : Report) → kept ≡ or_else (found_of kept report) kept
 told_keeps kept (Refused rows) = refl
@@ -126,5 +126,5 @@ told_again session files last report count rows places verdict now was same told
 -- a recheck's report is the last one then
 pub settled : (old : Option Solved) (files : List SourceFile) (report : Report) (found : Option Solved) (made : ℕ) → IsRecheck old files report found made → IsTold files (or_else found old) report
 settled old files (Refused rows) found made is = is.0
-settled old files (Checked rows) None made (is, solved, same, of_files, anew) = (is, solved, absurd (let k : None ≡ Some solved = same in cc), of_files)
-settled old files (Checked rows) (Some found) made (is, solved, same, of_files, anew) = (is, solved, same, of_files)
+settled old files (Checked rows) None made (is, (solved, same, of_files, anew)) = absurd (let k : None ≡ Some solved = same in cc)
+settled old files (Checked rows) (Some found) made (is, (solved, same, of_files, anew)) = (is, (solved, same, of_files))

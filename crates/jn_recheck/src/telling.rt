@@ -74,7 +74,8 @@ fn tell_last(
         t.bodies) }
 {
     let _kept = kept;
-    show(alloc, files, last, report, 0)
+    let checked = show(alloc, files, last, report, 0)?;
+    Ok(checked)
 }
 
 /// What the last report says, where the files are as they were.
