@@ -1,0 +1,272 @@
+-- Each request is answered once.
+use Rattle.std.proofs.Common.{◌≡◌, Bool, true, false, List, [], ◌∷◌, ◌++◌, append-nil, cond, Option, Some, None, refl, sym, ap, ◌∙◌, subst, inl, inr}
+use Rattle.std.specs.Prelude.{option_to_list}
+use Rattle.std.proofs.lemmas.Grind.{flat_map-append}
+use Rattle.jn_lsp_types.specs.declared.id.Id.{Id}
+use Rattle.jn_lsp_types.specs.declared.message.Message.{Message}
+use Rattle.jn_lsp_types.specs.declared.message.Message.TheVariants.{Initialize, Initialized, DidOpen, DidChange, DidSave, DidClose, WatchedFiles, CodeAction, Shutdown, Exit, Ignored, Unknown, BadParams, NoMessage, NoJson, BadHeader, TooLarge}
+use Rattle.jn_lsp_types.specs.declared.reply.Failure.{Failure}
+use Rattle.jn_lsp_types.specs.declared.reply.Reply.{Reply}
+use Rattle.jn_lsp.specs.declared.diagnostics.Told.{Told}
+use Rattle.jn_lsp.specs.declared.documents.Workspace.{Workspace}
+use Rattle.jn_lsp.specs.declared.event.Event.{Event}
+use Rattle.jn_lsp.specs.declared.event.Event.TheVariants.{Folder, Message as MessageEvent}
+use Rattle.jn_lsp.specs.declared.phase.Phase.{Phase}
+use Rattle.jn_lsp.specs.declared.phase.Phase.TheVariants.{Waiting, Serving, ShutDown, Exited}
+use Rattle.jn_lsp.specs.Publications.{ArePublished, gone}
+use Rattle.jn_lsp.specs.Requests.{AreAnswered, id_answered, id_asked, id_in, ids_answered, ids_asked, is_exit}
+use Rattle.jn_lsp.specs.Serving.{IsRetold, Serves, ServerOf, Takes, answer_of, answers, late_answer, new_server, next_phase, phase_behind, refusal, serving_answer, waiting_answer}
+
+-- ---- publications answer nothing
+
+published_silent : (before told : List Told) (replies : List Reply) → ArePublished before told replies → ids_answered replies ≡ []
+published_silent before [] replies are = ap ids_answered are
+published_silent before (one ∷ told) replies (inl (same, are)) = published_silent before told replies are
+published_silent before (one ∷ told) replies (inr (differs, (rest, e, are))) = ap ids_answered e ∙ published_silent before told rest are
+
+news_silent : (moved : Option Workspace) (before after : ServerOf) (news : List Reply) → IsRetold moved before news after → ids_answered news ≡ []
+news_silent None before after news (nothing, same, told) = ap ids_answered nothing
+news_silent (Some workspace) before after news (is, told, announces) = published_silent before.told (gone before.told after.told ++ after.told) news announces
+
+both_answered : (one other : List Reply) → ids_answered (one ++ other) ≡ ids_answered one ++ ids_answered other
+both_answered one other = flat_map-append (λ reply. option_to_list (id_answered reply)) one other
+
+-- ---- answers
+
+abbrev IsAnswer : Option Reply → Option Id → Type 0
+IsAnswer reply id = ids_answered (option_to_list reply) ≡ option_to_list id
+
+refused : (failure : Failure) (id : Option Id) → IsAnswer (refusal failure id) id
+refused failure None = refl
+refused failure (Some id) = refl
+
+waiting_one : (message : Message) → IsAnswer (waiting_answer message) (id_asked message)
+waiting_one (Initialize id folder files) = refl
+waiting_one Initialized = refl
+waiting_one (DidOpen name text) = refl
+waiting_one (DidChange name changes) = refl
+waiting_one (DidSave name) = refl
+waiting_one (DidClose name) = refl
+waiting_one WatchedFiles = refl
+waiting_one (CodeAction id name range) = refl
+waiting_one (Shutdown id) = refl
+waiting_one Exit = refl
+waiting_one Ignored = refl
+waiting_one (Unknown id) = refl
+waiting_one (BadParams id) = refused _ id
+waiting_one NoMessage = refl
+waiting_one NoJson = refl
+waiting_one BadHeader = refl
+waiting_one TooLarge = refl
+
+serving_one : (message : Message) → IsAnswer (serving_answer message) (id_asked message)
+serving_one (Initialize id folder files) = refl
+serving_one Initialized = refl
+serving_one (DidOpen name text) = refl
+serving_one (DidChange name changes) = refl
+serving_one (DidSave name) = refl
+serving_one (DidClose name) = refl
+serving_one WatchedFiles = refl
+serving_one (CodeAction id name range) = refl
+serving_one (Shutdown id) = refl
+serving_one Exit = refl
+serving_one Ignored = refl
+serving_one (Unknown id) = refl
+serving_one (BadParams id) = refused _ id
+serving_one NoMessage = refl
+serving_one NoJson = refl
+serving_one BadHeader = refl
+serving_one TooLarge = refl
+
+late_one : (message : Message) → IsAnswer (late_answer message) (id_asked message)
+late_one (Initialize id folder files) = refl
+late_one Initialized = refl
+late_one (DidOpen name text) = refl
+late_one (DidChange name changes) = refl
+late_one (DidSave name) = refl
+late_one (DidClose name) = refl
+late_one WatchedFiles = refl
+late_one (CodeAction id name range) = refl
+late_one (Shutdown id) = refl
+late_one Exit = refl
+late_one Ignored = refl
+late_one (Unknown id) = refl
+late_one (BadParams id) = refused _ id
+late_one NoMessage = refl
+late_one NoJson = refl
+late_one BadHeader = refl
+late_one TooLarge = refl
+
+-- ---- phases
+
+-- no `exit` came yet
+abbrev IsLive : Phase → Type 0
+IsLive Waiting = Unit {0}
+IsLive Serving = Unit {0}
+IsLive ShutDown = Unit {0}
+IsLive (Exited in_order) = ⊥
+
+abbrev IsGone : Phase → Type 0
+IsGone Waiting = ⊥
+IsGone Serving = ⊥
+IsGone ShutDown = ⊥
+IsGone (Exited in_order) = Unit {0}
+
+answer_one : (phase : Phase) (message : Message) → IsLive phase → IsAnswer (answer_of phase message) (id_asked message)
+answer_one Waiting message live = waiting_one message
+answer_one Serving message live = serving_one message
+answer_one ShutDown message live = late_one message
+answer_one (Exited in_order) _ live = absurd live
+
+answers_one : (phase : Phase) (event : Event) → IsLive phase → ids_answered (answers phase event) ≡ option_to_list (id_in event)
+answers_one phase (MessageEvent message) live = answer_one phase message live
+answers_one phase (Folder files) live = refl
+
+answers_none : (phase : Phase) (event : Event) → IsGone phase → ids_answered (answers phase event) ≡ []
+answers_none Waiting event gone = absurd gone
+answers_none Serving event gone = absurd gone
+answers_none ShutDown event gone = absurd gone
+answers_none (Exited in_order) (MessageEvent _) gone = refl
+answers_none (Exited in_order) (Folder files) gone = refl
+
+clash : {X : Type 0} → true ≡ false → X
+clash e = absurd (cc)
+
+waiting_on : (message : Message) → is_exit (MessageEvent message) ≡ false → IsLive (phase_behind Waiting message)
+waiting_on (Initialize id folder files) e = tt
+waiting_on Initialized e = tt
+waiting_on (DidOpen name text) e = tt
+waiting_on (DidChange name changes) e = tt
+waiting_on (DidSave name) e = tt
+waiting_on (DidClose name) e = tt
+waiting_on WatchedFiles e = tt
+waiting_on (CodeAction id name range) e = tt
+waiting_on (Shutdown id) e = tt
+waiting_on Exit e = clash e
+waiting_on Ignored e = tt
+waiting_on (Unknown id) e = tt
+waiting_on (BadParams id) e = tt
+waiting_on NoMessage e = tt
+waiting_on NoJson e = tt
+waiting_on BadHeader e = tt
+waiting_on TooLarge e = tt
+
+serving_on : (message : Message) → is_exit (MessageEvent message) ≡ false → IsLive (phase_behind Serving message)
+serving_on (Initialize id folder files) e = tt
+serving_on Initialized e = tt
+serving_on (DidOpen name text) e = tt
+serving_on (DidChange name changes) e = tt
+serving_on (DidSave name) e = tt
+serving_on (DidClose name) e = tt
+serving_on WatchedFiles e = tt
+serving_on (CodeAction id name range) e = tt
+serving_on (Shutdown id) e = tt
+serving_on Exit e = clash e
+serving_on Ignored e = tt
+serving_on (Unknown id) e = tt
+serving_on (BadParams id) e = tt
+serving_on NoMessage e = tt
+serving_on NoJson e = tt
+serving_on BadHeader e = tt
+serving_on TooLarge e = tt
+
+shut_down_on : (message : Message) → is_exit (MessageEvent message) ≡ false → IsLive (phase_behind ShutDown message)
+shut_down_on (Initialize id folder files) e = tt
+shut_down_on Initialized e = tt
+shut_down_on (DidOpen name text) e = tt
+shut_down_on (DidChange name changes) e = tt
+shut_down_on (DidSave name) e = tt
+shut_down_on (DidClose name) e = tt
+shut_down_on WatchedFiles e = tt
+shut_down_on (CodeAction id name range) e = tt
+shut_down_on (Shutdown id) e = tt
+shut_down_on Exit e = clash e
+shut_down_on Ignored e = tt
+shut_down_on (Unknown id) e = tt
+shut_down_on (BadParams id) e = tt
+shut_down_on NoMessage e = tt
+shut_down_on NoJson e = tt
+shut_down_on BadHeader e = tt
+shut_down_on TooLarge e = tt
+
+live_on : (phase : Phase) (event : Event) → IsLive phase → is_exit event ≡ false → IsLive (next_phase phase event)
+live_on Waiting (MessageEvent message) live e = waiting_on message e
+live_on Serving (MessageEvent message) live e = serving_on message e
+live_on ShutDown (MessageEvent message) live e = shut_down_on message e
+live_on (Exited in_order) event live e = absurd live
+live_on Waiting (Folder files) live e = tt
+live_on Serving (Folder files) live e = tt
+live_on ShutDown (Folder files) live e = tt
+
+exit_is : (message : Message) → is_exit (MessageEvent message) ≡ true → message ≡ Exit
+exit_is (Initialize id folder files) e = clash (sym e)
+exit_is Initialized e = clash (sym e)
+exit_is (DidOpen name text) e = clash (sym e)
+exit_is (DidChange name changes) e = clash (sym e)
+exit_is (DidSave name) e = clash (sym e)
+exit_is (DidClose name) e = clash (sym e)
+exit_is WatchedFiles e = clash (sym e)
+exit_is (CodeAction id name range) e = clash (sym e)
+exit_is (Shutdown id) e = clash (sym e)
+exit_is Exit e = refl
+exit_is Ignored e = clash (sym e)
+exit_is (Unknown id) e = clash (sym e)
+exit_is (BadParams id) e = clash (sym e)
+exit_is NoMessage e = clash (sym e)
+exit_is NoJson e = clash (sym e)
+exit_is BadHeader e = clash (sym e)
+exit_is TooLarge e = clash (sym e)
+
+exits : (phase : Phase) → IsGone (phase_behind phase Exit)
+exits Waiting = tt
+exits Serving = tt
+exits ShutDown = tt
+exits (Exited in_order) = tt
+
+gone_by : (phase : Phase) (event : Event) → is_exit event ≡ true → IsGone (next_phase phase event)
+gone_by phase (MessageEvent message) e = subst (λ m. IsGone (phase_behind phase m)) (sym (exit_is message e)) (exits phase)
+gone_by phase (Folder files) e = clash (sym e)
+
+asks_nothing : (event : Event) → is_exit event ≡ true → option_to_list (id_in event) ≡ []
+asks_nothing (MessageEvent message) e = ap (λ m. option_to_list (id_asked m)) (exit_is message e)
+asks_nothing (Folder files) e = refl
+
+gone_on : (phase : Phase) (event : Event) → IsGone phase → IsGone (next_phase phase event)
+gone_on Waiting event gone = absurd gone
+gone_on Serving event gone = absurd gone
+gone_on ShutDown event gone = absurd gone
+gone_on (Exited in_order) (MessageEvent _) gone = tt
+gone_on (Exited in_order) (Folder files) gone = tt
+
+-- ---- events
+
+-- what is answered behind an event is the answer to it
+taken : (before after : ServerOf) (event : Event) (replies : List Reply) → Takes before event replies after → ids_answered replies ≡ ids_answered (answers before.phase event)
+taken before after event replies takes =
+    ap ids_answered takes.all
+    ∙ both_answered (answers before.phase event) takes.news
+    ∙ ap (λ ids. ids_answered (answers before.phase event) ++ ids) (news_silent takes.moved before after takes.news takes.retold)
+    ∙ append-nil (ids_answered (answers before.phase event))
+
+all_none : (events : List Event) (before after : ServerOf) (replies : List Reply) → IsGone before.phase → Serves before events replies after → ids_answered replies ≡ []
+all_none [] before after replies gone (nothing, same) = ap ids_answered nothing
+all_none (event ∷ events) before after replies gone (first, rest, mid, e, takes, serves) =
+    ap ids_answered e
+    ∙ both_answered first rest
+    ∙ ap (λ ids. ids ++ ids_answered rest) (taken before mid event first takes ∙ answers_none before.phase event gone)
+    ∙ all_none events mid after rest (subst IsGone (sym takes.phase) (gone_on before.phase event gone)) serves
+
+behind : (event : Event) (events : List Event) (rest : List Reply) (b : Bool) → is_exit event ≡ b → (is_exit event ≡ true → ids_answered rest ≡ []) → (is_exit event ≡ false → ids_answered rest ≡ ids_asked events) → option_to_list (id_in event) ++ ids_answered rest ≡ cond b [] (option_to_list (id_in event) ++ ids_asked events)
+behind event events rest true t none more = ap (λ ids. ids ++ ids_answered rest) (asks_nothing event t) ∙ none t
+behind event events rest false t none more = ap (λ ids. option_to_list (id_in event) ++ ids) (more t)
+
+all_answered : (events : List Event) (before after : ServerOf) (replies : List Reply) → IsLive before.phase → Serves before events replies after → AreAnswered events replies
+all_answered [] before after replies live (nothing, same) = ap ids_answered nothing
+all_answered (event ∷ events) before after replies live (first, rest, mid, e, takes, serves) =
+    ap ids_answered e
+    ∙ both_answered first rest
+    ∙ ap (λ ids. ids ++ ids_answered rest) (taken before mid event first takes ∙ answers_one before.phase event live)
+    ∙ behind event events rest (is_exit event) refl (λ t. all_none events mid after rest (subst IsGone (sym takes.phase) (gone_by before.phase event t)) serves) (λ t. all_answered events mid after rest (subst IsLive (sym takes.phase) (live_on before.phase event live t)) serves)
+
+pub answered : (events : List Event) (replies : List Reply) (after : ServerOf) → Serves new_server events replies after → AreAnswered events replies
+answered events replies after serves = all_answered events new_server after replies tt serves

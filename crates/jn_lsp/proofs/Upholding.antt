@@ -1,0 +1,165 @@
+-- A server keeps what is told true to the files, event by event.
+use Rattle.std.proofs.Common.{◌≡◌, ℕ, List, [], ◌∷◌, ◌++◌, Option, Some, None, append-nil, refl, sym, ap, ◌∙◌, subst}
+use Rattle.std.specs.Prelude.{option_to_list}
+use Rattle.jn_front.specs.declared.source.SourceFile.{SourceFile}
+use Rattle.jn_lsp_types.specs.declared.id.Id.{Id}
+use Rattle.jn_lsp_types.specs.declared.message.Message.{Message}
+use Rattle.jn_lsp_types.specs.declared.message.Message.TheVariants.{Initialize, Initialized, DidOpen, DidChange, DidSave, DidClose, WatchedFiles, CodeAction, Shutdown, Exit, Ignored, Unknown, BadParams, NoMessage, NoJson, BadHeader, TooLarge}
+use Rattle.jn_lsp_types.specs.declared.reply.Diagnostic.{Diagnostic}
+use Rattle.jn_lsp_types.specs.declared.reply.Failure.{Failure}
+use Rattle.jn_lsp_types.specs.declared.reply.Reply.{Reply}
+use Rattle.jn_lsp.specs.declared.diagnostics.Told.{Told}
+use Rattle.jn_lsp.specs.declared.documents.Workspace.{Workspace}
+use Rattle.jn_lsp.specs.declared.event.Event.{Event}
+use Rattle.jn_lsp.specs.declared.event.Event.TheVariants.{Folder, Message as MessageEvent}
+use Rattle.jn_lsp.specs.declared.phase.Phase.{Phase}
+use Rattle.jn_lsp.specs.declared.phase.Phase.TheVariants.{Waiting, Serving, ShutDown, Exited}
+use Rattle.jn_lsp.specs.Publications.{Announces, last_published}
+use Rattle.jn_lsp.specs.Serving.{ArePublishedLast, IsInformed, IsMovedIn, IsRetold, IsUpToDate, Serves, ServerOf, Takes, answers, answer_of, files_of, late_answer, new_server, next_phase, refusal, serving_answer, waiting_answer}
+use Rattle.jn_lsp.specs.Telling.{IsTold, told_of}
+use Rattle.jn_lsp.proofs.LastPublished.{announced, last_both, told_own}
+use Rattle.jn_lsp.proofs.Names.{stand_own}
+use Rattle.jn_lsp.proofs.Rows.{told_named}
+
+-- ---- answers publish nothing
+
+module _ (name : List ℕ) (last : List Diagnostic) where
+  abbrev IsSilent : Option Reply → Type 0
+  IsSilent reply = last_published name last (option_to_list reply) ≡ last
+
+  refusal_silent : (failure : Failure) (id : Option Id) → IsSilent (refusal failure id)
+  refusal_silent failure None = refl
+  refusal_silent failure (Some id) = refl
+
+  waiting_silent : (message : Message) → IsSilent (waiting_answer message)
+  waiting_silent (Initialize id folder files) = refl
+  waiting_silent Initialized = refl
+  waiting_silent (DidOpen named text) = refl
+  waiting_silent (DidChange named changes) = refl
+  waiting_silent (DidSave named) = refl
+  waiting_silent (DidClose named) = refl
+  waiting_silent WatchedFiles = refl
+  waiting_silent (CodeAction id named range) = refl
+  waiting_silent (Shutdown id) = refl
+  waiting_silent Exit = refl
+  waiting_silent Ignored = refl
+  waiting_silent (Unknown id) = refl
+  waiting_silent (BadParams id) = refusal_silent _ id
+  waiting_silent NoMessage = refl
+  waiting_silent NoJson = refl
+  waiting_silent BadHeader = refl
+  waiting_silent TooLarge = refl
+
+  serving_silent : (message : Message) → IsSilent (serving_answer message)
+  serving_silent (Initialize id folder files) = refl
+  serving_silent Initialized = refl
+  serving_silent (DidOpen named text) = refl
+  serving_silent (DidChange named changes) = refl
+  serving_silent (DidSave named) = refl
+  serving_silent (DidClose named) = refl
+  serving_silent WatchedFiles = refl
+  serving_silent (CodeAction id named range) = refl
+  serving_silent (Shutdown id) = refl
+  serving_silent Exit = refl
+  serving_silent Ignored = refl
+  serving_silent (Unknown id) = refl
+  serving_silent (BadParams id) = refusal_silent _ id
+  serving_silent NoMessage = refl
+  serving_silent NoJson = refl
+  serving_silent BadHeader = refl
+  serving_silent TooLarge = refl
+
+  late_silent : (message : Message) → IsSilent (late_answer message)
+  late_silent (Initialize id folder files) = refl
+  late_silent Initialized = refl
+  late_silent (DidOpen named text) = refl
+  late_silent (DidChange named changes) = refl
+  late_silent (DidSave named) = refl
+  late_silent (DidClose named) = refl
+  late_silent WatchedFiles = refl
+  late_silent (CodeAction id named range) = refl
+  late_silent (Shutdown id) = refl
+  late_silent Exit = refl
+  late_silent Ignored = refl
+  late_silent (Unknown id) = refl
+  late_silent (BadParams id) = refusal_silent _ id
+  late_silent NoMessage = refl
+  late_silent NoJson = refl
+  late_silent BadHeader = refl
+  late_silent TooLarge = refl
+
+  answer_silent : (phase : Phase) (message : Message) → IsSilent (answer_of phase message)
+  answer_silent Waiting message = waiting_silent message
+  answer_silent Serving message = serving_silent message
+  answer_silent ShutDown message = late_silent message
+  answer_silent (Exited in_order) _ = refl
+
+  answers_silent : (phase : Phase) (event : Event) → last_published name last (answers phase event) ≡ last
+  answers_silent phase (MessageEvent message) = answer_silent phase message
+  answers_silent phase (Folder files) = refl
+
+-- ---- one event
+
+informed_behind : (moved : Option Workspace) (before after : ServerOf) (news : List Reply) → IsRetold moved before news after → IsInformed before → IsInformed after
+informed_behind None before after news (nothing, same, told) informed =
+    subst (λ w. IsTold (files_of w) after.told) (sym same) (subst (IsTold (files_of before.workspace)) (sym told) informed)
+informed_behind (Some workspace) before after news (is, told, announces) informed = subst (λ w. IsTold (files_of w) after.told) (sym is) told
+
+pub informed : (before after : ServerOf) (event : Event) (replies : List Reply) → Takes before event replies after → IsInformed before → IsInformed after
+informed before after event replies takes is = informed_behind takes.moved before after takes.news takes.retold is
+
+news_last : (name : List ℕ) (moved : Option Workspace) (before after : ServerOf) (news : List Reply) → IsRetold moved before news after → last_published name (told_of before.told name) news ≡ told_of after.told name
+news_last name None before after news (nothing, same, told) = ap (last_published name (told_of before.told name)) nothing ∙ ap (λ t. told_of t name) (sym told)
+news_last name (Some workspace) before after news (is, told, announces) =
+    announced before.told after.told news name (told_own (files_of workspace) after.told (stand_own workspace.disk workspace.documents) told) announces
+
+event_last : (name : List ℕ) (before after : ServerOf) (event : Event) (replies : List Reply) → Takes before event replies after → last_published name (told_of before.told name) replies ≡ told_of after.told name
+event_last name before after event replies takes =
+    ap (last_published name (told_of before.told name)) takes.all
+    ∙ last_both name (told_of before.told name) (answers before.phase event) takes.news
+    ∙ ap (λ l. last_published name l takes.news) (answers_silent name (told_of before.told name) before.phase event)
+    ∙ news_last name takes.moved before after takes.news takes.retold
+
+-- files stay as they are
+pub takes_alone : (phase next : Phase) (workspace : Workspace) (told : List Told) (event : Event) (replies : List Reply) (moved : Option Workspace) → next ≡ next_phase phase event → IsMovedIn phase event workspace moved → moved ≡ None → replies ≡ answers phase event → Takes (record { phase = phase; workspace = workspace; told = told }) event replies (record { phase = next; workspace = workspace; told = told })
+takes_alone phase next workspace told event replies moved behind moves none e = record {
+  phase = behind;
+  moved = None;
+  moves = subst (IsMovedIn phase event workspace) none moves;
+  news = [];
+  retold = (refl, refl, refl);
+  all = e ∙ sym (append-nil (answers phase event));
+}
+
+-- files change
+pub takes_all : (phase next : Phase) (workspace new : Workspace) (told more : List Told) (event : Event) (replies news : List Reply) (moved : Option Workspace) → next ≡ next_phase phase event → IsMovedIn phase event workspace moved → moved ≡ Some new → IsTold (files_of new) more → Announces told more news → replies ≡ answers phase event ++ news → Takes (record { phase = phase; workspace = workspace; told = told }) event replies (record { phase = next; workspace = new; told = more })
+takes_all phase next workspace new told more event replies news moved behind moves some is announces e = record {
+  phase = behind;
+  moved = Some new;
+  moves = subst (IsMovedIn phase event workspace) some moves;
+  news = news;
+  retold = (refl, is, announces);
+  all = e;
+}
+
+-- ---- all events
+
+all_informed : (events : List Event) (before after : ServerOf) (replies : List Reply) → Serves before events replies after → IsInformed before → IsInformed after
+all_informed [] before after replies (nothing, same) is = subst IsInformed (sym same) is
+all_informed (event ∷ events) before after replies (first, rest, mid, e, takes, serves) is = all_informed events mid after rest serves (informed before mid event first takes is)
+
+all_last : (name : List ℕ) (events : List Event) (before after : ServerOf) (replies : List Reply) → Serves before events replies after → last_published name (told_of before.told name) replies ≡ told_of after.told name
+all_last name [] before after replies (nothing, same) = ap (last_published name (told_of before.told name)) nothing ∙ ap (λ (s : ServerOf). told_of s.told name) (sym same)
+all_last name (event ∷ events) before after replies (first, rest, mid, e, takes, serves) =
+    ap (last_published name (told_of before.told name)) e
+    ∙ last_both name (told_of before.told name) first rest
+    ∙ ap (λ l. last_published name l rest) (event_last name before mid event first takes)
+    ∙ all_last name events mid after rest serves
+
+as_reported : (files : List SourceFile) (told : List Told) (last : List ℕ → List Diagnostic) → IsTold files told → ((name : List ℕ) → last name ≡ told_of told name) → ArePublishedLast files last
+as_reported [] told last is same = λ name. same name ∙ ap (λ t. told_of t name) is
+as_reported (file ∷ files) told last is same = (is.rows, is.notes, is.found, λ name. same name ∙ ap (λ t. told_of t name) is.are ∙ told_named (file ∷ files) is.rows is.notes name)
+
+pub up_to_date : (events : List Event) (replies : List Reply) (after : ServerOf) → Serves new_server events replies after → IsUpToDate after replies
+up_to_date events replies after serves =
+    as_reported (files_of after.workspace) after.told (λ name. last_published name [] replies) (all_informed events new_server after replies serves refl) (λ name. all_last name events new_server after replies serves)

@@ -1,0 +1,6 @@
+use Rattle.std.proofs.Common.{take}
+use Rattle.jn_lsp.specs.Publications.{ArePublished, gone}
+use Rattle.jn_lsp.proofs.publishing.cleared.Given as goal
+
+abbrev pub invariant-loop-one : goal.invariant-loop-one
+invariant-loop-one l = ArePublished l.before (gone (take l.one-index l.before) l.after) l.replies

@@ -1,0 +1,6 @@
+pub mod Stand
+pub mod Telling
+pub mod Edits
+pub mod Publications
+pub mod Serving
+pub mod Requests

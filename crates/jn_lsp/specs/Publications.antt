@@ -1,0 +1,55 @@
+-- What is published: of each name of which something else was told last, what is told now.
+use Rattle.std.specs.Prelude.{ℕ, ◌≡◌, ◌⊎◌, ◌++◌, Bool, true, false, not, List, [], ◌∷◌, bytes_eq, filter, map, if◌then◌else◌}
+use Rattle.std.specs.List.{list_any}
+use Rattle.jn_lsp_types.specs.declared.reply.Diagnostic.{Diagnostic}
+use Rattle.jn_lsp_types.specs.declared.reply.Reply.{Reply}
+use Rattle.jn_lsp_types.specs.declared.reply.Reply.TheVariants.{Capabilities, Done, Refusal, Publish, Show, Actions}
+use Rattle.jn_lsp.specs.declared.diagnostics.Told.{Told}
+use Rattle.jn_lsp.specs.Telling.{told_of}
+
+abbrev pub is_named : List ℕ → Told → Bool
+is_named name one = bytes_eq one.name name
+
+abbrev pub is_told : List Told → List ℕ → Bool
+is_told told name = list_any (is_named name) told
+
+-- of names of which nothing is told any more: no diagnostics
+abbrev pub gone : List Told → List Told → List Told
+gone before after = map (λ (one : Told). record { name = one.name; diagnostics = [] }) (filter (λ (one : Told). not (is_told after one.name)) before)
+
+-- the replies, with a publication behind them where this wasn't told of the name before
+abbrev pub Adds : List Told → List ℕ → List Diagnostic → List Reply → List Reply → Type 0
+Adds before name diagnostics replies more =
+    ((told_of before name ≡ diagnostics) × (more ≡ replies))
+    ⊎ ((told_of before name ≡ diagnostics → ⊥) × (more ≡ replies ++ Publish name diagnostics ∷ []))
+
+-- the same of no diagnostics, where nothing is told of the name any more
+abbrev pub Clears : List Told → List Told → List ℕ → List Reply → List Reply → Type 0
+Clears before after name replies more =
+    ((is_told after name ≡ true) × (more ≡ replies))
+    ⊎ ((is_told after name ≡ false) × Adds before name [] replies more)
+
+-- a publication for each of these of which something else was told before, in their order
+abbrev pub ArePublished : List Told → List Told → List Reply → Type 0
+ArePublished before [] replies = replies ≡ []
+ArePublished before (one ∷ told) replies =
+    ((told_of before one.name ≡ one.diagnostics) × ArePublished before told replies)
+    ⊎ ((told_of before one.name ≡ one.diagnostics → ⊥) × ((rest : List Reply) × (replies ≡ Publish one.name one.diagnostics ∷ rest) × ArePublished before told rest))
+
+-- what was told before becomes what is told after: first the names that are gone, then all others
+abbrev pub Announces : List Told → List Told → List Reply → Type 0
+Announces before after replies = ArePublished before (gone before after ++ after) replies
+
+-- what is told of a name behind a reply
+abbrev pub published : List ℕ → List Diagnostic → Reply → List Diagnostic
+published name before (Publish other diagnostics) = if bytes_eq other name then diagnostics else before
+published name before (Capabilities id) = before
+published name before (Done id) = before
+published name before (Refusal id failure) = before
+published name before (Show words) = before
+published name before (Actions id actions) = before
+
+-- what was published last of a name; where nothing was, this
+abbrev pub last_published : List ℕ → List Diagnostic → List Reply → List Diagnostic
+last_published name before [] = before
+last_published name before (reply ∷ replies) = last_published name (published name before reply) replies

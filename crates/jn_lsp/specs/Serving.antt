@@ -1,0 +1,182 @@
+-- What an event makes of a server, and what is replied to it (Language Server Protocol 3.17, "Server lifecycle").
+use Rattle.std.specs.Prelude.{ℕ, ◌≡◌, ◌++◌, Bool, true, false, List, [], ◌∷◌, Option, Some, None, option_map, option_to_list}
+use Rattle.jn_base.specs.declared.place.Row.{Row}
+use Rattle.jn_front.specs.declared.source.SourceFile.{SourceFile}
+use Rattle.jn_lsp_types.specs.declared.id.Id.{Id}
+use Rattle.jn_lsp_types.specs.declared.message.Message.{Message}
+use Rattle.jn_lsp_types.specs.declared.message.Message.TheVariants.{Initialize, Initialized, DidOpen, DidChange, DidSave, DidClose, WatchedFiles, CodeAction, Shutdown, Exit, Ignored, Unknown, BadParams, NoMessage, NoJson, BadHeader, TooLarge}
+use Rattle.jn_lsp_types.specs.declared.reply.Diagnostic.{Diagnostic}
+use Rattle.jn_lsp_types.specs.declared.reply.Failure.{Failure}
+use Rattle.jn_lsp_types.specs.declared.reply.Failure.TheVariants.{Parse, Request, Method, Params, NotInitialized}
+use Rattle.jn_lsp_types.specs.declared.reply.Reply.{Reply}
+use Rattle.jn_lsp_types.specs.declared.reply.Reply.TheVariants.{Capabilities, Done, Refusal, Actions}
+use Rattle.jn_notes.specs.declared.note.Notes.{Notes}
+use Rattle.jn_lsp.specs.declared.diagnostics.Told.{Told}
+use Rattle.jn_lsp.specs.declared.event.Event.{Event}
+use Rattle.jn_lsp.specs.declared.event.Event.TheVariants.{Folder, Message as MessageEvent}
+use Rattle.jn_lsp.specs.declared.documents.Workspace.{Workspace}
+use Rattle.jn_lsp.specs.declared.phase.Phase.{Phase}
+use Rattle.jn_lsp.specs.declared.phase.Phase.TheVariants.{Waiting, Serving, ShutDown, Exited}
+use Rattle.jn_lsp.specs.Edits.{AreEdited}
+use Rattle.jn_lsp.specs.Publications.{Announces, last_published}
+use Rattle.jn_lsp.specs.Stand.{stand}
+use Rattle.jn_lsp.specs.Telling.{AreFindings, IsTold, diagnostics_of}
+
+-- ---- requests and phases
+
+-- how a message is refused that can't be read; no id was read
+abbrev pub unread : Message → Option Failure
+unread NoMessage = Some Request
+unread TooLarge = Some Request
+unread NoJson = Some Parse
+unread BadHeader = Some Parse
+unread (Initialize id folder files) = None
+unread Initialized = None
+unread (DidOpen name text) = None
+unread (DidChange name changes) = None
+unread (DidSave name) = None
+unread (DidClose name) = None
+unread WatchedFiles = None
+unread (CodeAction id name range) = None
+unread (Shutdown id) = None
+unread Exit = None
+unread Ignored = None
+unread (Unknown id) = None
+unread (BadParams id) = None
+
+abbrev pub refusal : Failure → Option Id → Option Reply
+refusal failure None = None
+refusal failure (Some id) = Some (Refusal (Some id) failure)
+
+abbrev pub nameless : Option Failure → Option Reply
+nameless None = None
+nameless (Some failure) = Some (Refusal None failure)
+
+-- before `initialize` no other request is served
+abbrev pub waiting_answer : Message → Option Reply
+waiting_answer (Initialize id folder files) = Some (Capabilities id)
+waiting_answer (CodeAction id name range) = refusal NotInitialized (Some id)
+waiting_answer (Shutdown id) = refusal NotInitialized (Some id)
+waiting_answer (Unknown id) = refusal NotInitialized (Some id)
+waiting_answer (BadParams id) = refusal Params id
+waiting_answer other = nameless (unread other)
+
+-- a second `initialize` is refused
+abbrev pub serving_answer : Message → Option Reply
+serving_answer (Initialize id folder files) = refusal Request (Some id)
+serving_answer (CodeAction id name range) = Some (Actions id [])
+serving_answer (Shutdown id) = Some (Done id)
+serving_answer (Unknown id) = refusal Method (Some id)
+serving_answer (BadParams id) = refusal Params id
+serving_answer other = nameless (unread other)
+
+-- behind `shutdown` every request is refused
+abbrev pub late_answer : Message → Option Reply
+late_answer (Initialize id folder files) = refusal Request (Some id)
+late_answer (CodeAction id name range) = refusal Request (Some id)
+late_answer (Shutdown id) = refusal Request (Some id)
+late_answer (Unknown id) = refusal Request (Some id)
+late_answer (BadParams id) = refusal Request id
+late_answer other = nameless (unread other)
+
+-- the answer to a request; notifications have none, but for those that can't be read
+abbrev pub answer_of : Phase → Message → Option Reply
+answer_of Waiting message = waiting_answer message
+answer_of Serving message = serving_answer message
+answer_of ShutDown message = late_answer message
+answer_of (Exited in_order) _ = None
+
+abbrev pub phase_behind : Phase → Message → Phase
+phase_behind Waiting (Initialize id folder files) = Serving
+phase_behind Waiting Exit = Exited false
+phase_behind Waiting _ = Waiting
+phase_behind Serving (Shutdown id) = ShutDown
+phase_behind Serving Exit = Exited false
+phase_behind Serving _ = Serving
+phase_behind ShutDown Exit = Exited true
+phase_behind ShutDown _ = ShutDown
+phase_behind (Exited in_order) _ = Exited in_order
+
+-- ---- events
+
+-- the folder's files may be others behind this message
+abbrev pub wants_folder : Message → Bool
+wants_folder Initialized = true
+wants_folder WatchedFiles = true
+wants_folder (DidSave name) = true
+wants_folder (DidClose name) = true
+wants_folder _ = false
+
+abbrev pub answers : Phase → Event → List Reply
+answers phase (MessageEvent message) = option_to_list (answer_of phase message)
+answers phase (Folder files) = []
+
+abbrev pub next_phase : Phase → Event → Phase
+next_phase phase (MessageEvent message) = phase_behind phase message
+next_phase phase (Folder files) = phase
+
+abbrev pub with_documents : List SourceFile → List SourceFile → Workspace
+with_documents disk documents = record { disk = disk; documents = documents }
+
+-- the folder's files and the open documents behind an event; none where it changes neither
+abbrev pub IsMoved : Event → Workspace → Option Workspace → Type 0
+IsMoved (Folder files) before after = after ≡ Some (with_documents files before.documents)
+IsMoved (MessageEvent message) before after = (documents : Option (List SourceFile)) × AreEdited message before.documents documents × (after ≡ option_map (with_documents before.disk) documents)
+
+-- files change only while the server serves
+abbrev pub IsMovedIn : Phase → Event → Workspace → Option Workspace → Type 0
+IsMovedIn Waiting event before after = after ≡ None
+IsMovedIn Serving event before after = IsMoved event before after
+IsMovedIn ShutDown event before after = after ≡ None
+IsMovedIn (Exited in_order) event before after = after ≡ None
+
+-- ---- servers
+
+-- what a server is: its phase, the folder's files and the open documents, and what was told of the files that stand
+pub record ServerOf : Type 0 where
+  pub phase : Phase
+  pub workspace : Workspace
+  pub told : List Told
+
+abbrev pub new_server : ServerOf
+new_server = record { phase = Waiting; workspace = record { disk = []; documents = [] }; told = [] }
+
+-- the files as they stand
+abbrev pub files_of : Workspace → List SourceFile
+files_of workspace = stand workspace.disk workspace.documents
+
+-- where files change, their report is told, and what of it wasn't told before is published
+abbrev pub IsRetold : Option Workspace → ServerOf → List Reply → ServerOf → Type 0
+IsRetold None before news after = (news ≡ []) × (after.workspace ≡ before.workspace) × (after.told ≡ before.told)
+IsRetold (Some workspace) before news after = (after.workspace ≡ workspace) × IsTold (files_of workspace) after.told × Announces before.told after.told news
+
+-- a server takes an event, and gives these replies
+pub record Takes (before : ServerOf) (event : Event) (replies : List Reply) (after : ServerOf) : Type 0 where
+  pub phase : after.phase ≡ next_phase before.phase event
+  pub moved : Option Workspace
+  pub moves : IsMovedIn before.phase event before.workspace moved
+  pub news : List Reply
+  pub retold : IsRetold moved before news after
+  pub all : replies ≡ answers before.phase event ++ news
+
+-- it takes events, one after the other
+abbrev pub Serves : ServerOf → List Event → List Reply → ServerOf → Type 0
+Serves before [] replies after = (replies ≡ []) × (after ≡ before)
+Serves before (event ∷ events) replies after =
+    (first : List Reply) × (rest : List Reply) × (mid : ServerOf)
+    × (replies ≡ first ++ rest) × Takes before event first mid × Serves mid events rest after
+
+-- what is told is the report of the files as they stand
+abbrev pub IsInformed : ServerOf → Type 0
+IsInformed server = IsTold (files_of server.workspace) server.told
+
+-- ---- the theorem
+
+-- of each name this was published last: of no files nothing, else the diagnostics of the files' report; a name that doesn't stand has none
+abbrev pub ArePublishedLast : List SourceFile → (List ℕ → List Diagnostic) → Type 0
+ArePublishedLast [] last = (name : List ℕ) → last name ≡ []
+ArePublishedLast (file ∷ files) last =
+    (rows : List Row) × (notes : List Notes) × AreFindings (file ∷ files) rows notes × ((name : List ℕ) → last name ≡ diagnostics_of (file ∷ files) rows notes name)
+
+abbrev pub IsUpToDate : ServerOf → List Reply → Type 0
+IsUpToDate server replies = ArePublishedLast (files_of server.workspace) (λ name. last_published name [] replies)

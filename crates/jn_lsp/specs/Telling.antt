@@ -1,0 +1,145 @@
+-- What is told of files: the rows of their report, each with its notes, at the files where they stand.
+use Rattle.std.specs.Prelude.{ℕ, ◌+◌, ◌-◌, ◌==◌, ◌≡◌, List, [], ◌∷◌, ◌++◌, codes, drop, length, map, nat_eq, nat_lt, bytes_eq, slice_index_or, take, Option, Some, None, if◌then◌else◌}
+use Rattle.std.specs.List.{ends_with}
+use Rattle.std.specs.Str.Lossy.{utf8_lossy}
+use Rattle.jn_base.specs.declared.infer.Infer.TheVariants.{Private}
+use Rattle.jn_base.specs.declared.place.Row.{Row}
+use Rattle.jn_base.specs.declared.place.Span.{Span}
+use Rattle.jn_command.specs.declared.report.Report.{Report}
+use Rattle.jn_command.specs.declared.report.Report.TheVariants.{Refused, Checked}
+use Rattle.jn_command.specs.Reports.{rows_of, verdict_of}
+use Rattle.jn_diag.specs.declared.shown.Verdict.{Verdict}
+use Rattle.jn_front.specs.declared.source.SourceFile.{SourceFile}
+use Rattle.jn_lsp_text.specs.declared.range.Range.{Range}
+use Rattle.jn_lsp_text.specs.Ranges.{range_at}
+use Rattle.jn_lsp_types.specs.declared.reply.Diagnostic.{Diagnostic}
+use Rattle.jn_lsp_types.specs.declared.reply.Related.{Related}
+use Rattle.jn_notes.specs.declared.note.Note.{Note}
+use Rattle.jn_notes.specs.declared.note.Notes.{Notes}
+use Rattle.jn_notes.specs.Noted.{AreNotesOf}
+use Rattle.jn_recheck.specs.Files.{place_of}
+use Rattle.jn_recheck.specs.Sessions.{IsSolutionOf}
+use Rattle.jn_recheck_law.specs.Reusable.{Solved}
+use Rattle.jn_typed_files.specs.Report.{IsReport}
+use Rattle.jn_lsp.specs.declared.diagnostics.Told.{Told}
+
+-- ---- places
+
+-- the number of the file where a span stands: of no file, the first
+abbrev pub home : List SourceFile → Span → ℕ
+home files span = if nat_lt span.file.0 (length files) then span.file.0 else 0
+
+abbrev pub no_file : SourceFile
+no_file = record { name = []; bytes = [] }
+
+abbrev pub home_of : List SourceFile → Span → SourceFile
+home_of files span = slice_index_or files (home files span) no_file
+
+abbrev pub range_in : List SourceFile → Span → Range
+range_in files span = range_at (home_of files span).bytes span.from span.to
+
+-- ---- diagnostics
+
+-- a text without this ending, where it has it
+abbrev pub without_ending : List ℕ → List ℕ → List ℕ
+without_ending ending text = if ends_with nat_eq text ending then take (length text - length ending) text else text
+
+-- a note's words without what leads to the place that a report has behind them
+abbrev pub without_lead : List ℕ → List ℕ
+without_lead words = without_ending (codes ":") (without_ending (codes " at") words)
+
+-- a note at its file and its range; what is no UTF-8 in its words is replaced
+abbrev pub related_of : List SourceFile → Note → Related
+related_of files note = record { name = (home_of files note.span).name; range = range_in files note.span; words = utf8_lossy (without_lead note.words) }
+
+-- a row at its range, with these notes
+abbrev pub diagnostic_of : List SourceFile → Row → List Note → Diagnostic
+diagnostic_of files row shown = record { range = range_in files row.span; code = row.code; related = map (related_of files) shown }
+
+-- the notes that are shown of a list's first row; none where the list is shorter
+abbrev pub first_shown : List Notes → List Note
+first_shown [] = []
+first_shown (first ∷ notes) = first.shown
+
+abbrev pub notes_behind : List Notes → List Notes
+notes_behind [] = []
+notes_behind (first ∷ notes) = notes
+
+-- that of a row which stands at the file of a number; none elsewhere
+abbrev pub diagnostics_of_row : List SourceFile → Row → List Note → ℕ → List Diagnostic
+diagnostics_of_row files row shown at = if home files row.span == at then diagnostic_of files row shown ∷ [] else []
+
+-- those of the rows that stand at the file of a number, in their order, each with the notes at its place
+abbrev pub diagnostics_at : List SourceFile → List Row → List Notes → ℕ → List Diagnostic
+diagnostics_at files [] notes at = []
+diagnostics_at files (row ∷ rows) notes at = diagnostics_of_row files row (first_shown notes) at ++ diagnostics_at files rows (notes_behind notes) at
+
+abbrev pub diagnostics_of_place : List SourceFile → List Row → List Notes → Option ℕ → List Diagnostic
+diagnostics_of_place files rows notes None = []
+diagnostics_of_place files rows notes (Some at) = diagnostics_at files rows notes at
+
+-- those of a name; a name that doesn't stand has none
+abbrev pub diagnostics_of : List SourceFile → List Row → List Notes → List ℕ → List Diagnostic
+diagnostics_of files rows notes name = diagnostics_of_place files rows notes (place_of name files)
+
+-- the notes that are shown of the row of a number
+abbrev pub shown_at : List Notes → ℕ → List Note
+shown_at notes at = first_shown (drop at notes)
+
+-- ---- what is told
+
+-- of the files from a number on
+abbrev pub told_from : List SourceFile → List Row → List Notes → ℕ → List SourceFile → List Told
+told_from all rows notes at [] = []
+told_from all rows notes at (file ∷ files) = record { name = file.name; diagnostics = diagnostics_at all rows notes at } ∷ told_from all rows notes (at + 1) files
+
+-- what is told of a name; none where nothing is
+abbrev pub told_of : List Told → List ℕ → List Diagnostic
+told_of [] name = []
+told_of (one ∷ told) name = if bytes_eq one.name name then one.diagnostics else told_of told name
+
+-- ---- reports
+
+-- the notes of rows of the rules: those under the least signature
+pub record RuleNotes (files : List SourceFile) (rows : List Row) (notes : List Notes) : Type 0 where
+  pub solved : Solved
+  pub is : IsSolutionOf files solved
+  pub are : AreNotesOf solved.program solved.names solved.signature rows notes
+
+-- the notes of a report's rows: only those of the rules have any
+abbrev pub AreReportNotes : List SourceFile → Report → List Notes → Type 0
+AreReportNotes files (Refused rows) notes = notes ≡ []
+AreReportNotes files (Checked []) notes = notes ≡ []
+AreReportNotes files (Checked (row ∷ rows)) notes = RuleNotes files (row ∷ rows) notes
+
+-- the rows of these files' report, and their notes
+pub record AreFindings (files : List SourceFile) (rows : List Row) (notes : List Notes) : Type 0 where
+  pub report : Report
+  pub is : IsReport Private files report
+  pub rows_are : rows ≡ rows_of report
+  pub notes_are : AreReportNotes files report notes
+
+-- of each file, in their order, what the files' report says
+pub record AreTold (files : List SourceFile) (told : List Told) : Type 0 where
+  pub rows : List Row
+  pub notes : List Notes
+  pub found : AreFindings files rows notes
+  pub are : told ≡ told_from files rows notes 0 files
+
+-- what is kept of a report of these files that came to the rules
+abbrev pub IsKeptOf : List SourceFile → Report → Option Solved → Type 0
+IsKeptOf files (Refused rows) kept = Unit {0}
+IsKeptOf files (Checked rows) kept = (solved : Solved) × (kept ≡ Some solved) × IsSolutionOf files solved
+
+-- rows and verdict are those of the files' report, and this is kept behind it
+pub record IsReported (files : List SourceFile) (kept : Option Solved) (rows : List Row) (verdict : Verdict) : Type 0 where
+  pub report : Report
+  pub is : IsReport Private files report
+  pub rows_are : rows ≡ rows_of report
+  pub verdict_is : verdict ≡ verdict_of report
+  pub keeps : IsKeptOf files report kept
+
+-- of no files nothing
+abbrev pub IsTold : List SourceFile → List Told → Type 0
+IsTold [] told = told ≡ []
+IsTold (file ∷ files) told = AreTold (file ∷ files) told

@@ -1,0 +1,123 @@
+//! Answers to requests.
+ghost use Rattle.std.specs.Prelude.{◌≡◌, IfOk, option_to_list};
+ghost use Rattle.jn_lsp.specs.Serving as spec;
+
+use crate::event::Event;
+use crate::phase::Phase;
+use jn_base::{OutOfMemory, Seq};
+use jn_lsp_types::{Failure, Id, Message, Reply};
+use std::alloc::Global;
+
+/// The refusal of a request; a notification, which has no id, is dropped.
+fn refusal(alloc: Global, failure: Failure, id: &Option<Id>) -> Result<Option<Reply>, OutOfMemory>
+    ensures { IfOk result (λ answer. answer ≡ spec.refusal failure id.now) }
+{
+    match id {
+        None => Ok(None),
+        Some(id) => refused(alloc, failure, id),
+    }
+}
+
+fn refused(alloc: Global, failure: Failure, id: &Id) -> Result<Option<Reply>, OutOfMemory>
+    ensures { IfOk result (λ answer. answer ≡ spec.refusal failure (Some id.now)) }
+{
+    Ok(Some(Reply::Refusal {
+        id: Some(id.copy(alloc)?),
+        failure,
+    }))
+}
+
+/// The refusal of a message that can't be read.
+fn unread(message: &Message) -> Option<Reply>
+    ensures { result ≡ spec.nameless (spec.unread message.now) }
+{
+    let failure = match message {
+        Message::NoMessage => Failure::Request,
+        Message::TooLarge => Failure::Request,
+        Message::NoJson => Failure::Parse,
+        Message::BadHeader => Failure::Parse,
+        _ => return None,
+    };
+    Some(Reply::Refusal { id: None, failure })
+}
+
+fn waiting_answer(alloc: Global, message: &Message) -> Result<Option<Reply>, OutOfMemory>
+    ensures { IfOk result (λ answer. answer ≡ spec.waiting_answer message.now) }
+{
+    match message {
+        Message::Initialize { id, .. } => Ok(Some(Reply::Capabilities {
+            id: id.copy(alloc)?,
+        })),
+        Message::CodeAction { id, .. } => refused(alloc, Failure::NotInitialized, id),
+        Message::Shutdown { id } => refused(alloc, Failure::NotInitialized, id),
+        Message::Unknown { id } => refused(alloc, Failure::NotInitialized, id),
+        Message::BadParams { id } => refusal(alloc, Failure::Params, id),
+        _ => Ok(unread(message)),
+    }
+}
+
+fn serving_answer(alloc: Global, message: &Message) -> Result<Option<Reply>, OutOfMemory>
+    ensures { IfOk result (λ answer. answer ≡ spec.serving_answer message.now) }
+{
+    match message {
+        Message::Initialize { id, .. } => refused(alloc, Failure::Request, id),
+        Message::CodeAction { id, .. } => Ok(Some(Reply::Actions {
+            id: id.copy(alloc)?,
+            actions: Seq::new(alloc),
+        })),
+        Message::Shutdown { id } => Ok(Some(Reply::Done {
+            id: id.copy(alloc)?,
+        })),
+        Message::Unknown { id } => refused(alloc, Failure::Method, id),
+        Message::BadParams { id } => refusal(alloc, Failure::Params, id),
+        _ => Ok(unread(message)),
+    }
+}
+
+fn late_answer(alloc: Global, message: &Message) -> Result<Option<Reply>, OutOfMemory>
+    ensures { IfOk result (λ answer. answer ≡ spec.late_answer message.now) }
+{
+    match message {
+        Message::Initialize { id, .. } => refused(alloc, Failure::Request, id),
+        Message::CodeAction { id, .. } => refused(alloc, Failure::Request, id),
+        Message::Shutdown { id } => refused(alloc, Failure::Request, id),
+        Message::Unknown { id } => refused(alloc, Failure::Request, id),
+        Message::BadParams { id } => refusal(alloc, Failure::Request, id),
+        _ => Ok(unread(message)),
+    }
+}
+
+/// The answer to a message, where it has one.
+fn answer_of(alloc: Global, phase: Phase, message: &Message) -> Result<Option<Reply>, OutOfMemory>
+    ensures { IfOk result (λ answer. answer ≡ spec.answer_of phase message.now) }
+{
+    match phase {
+        Phase::Waiting => waiting_answer(alloc, message),
+        Phase::Serving => serving_answer(alloc, message),
+        Phase::ShutDown => late_answer(alloc, message),
+        Phase::Exited { .. } => Ok(None),
+    }
+}
+
+fn listed(alloc: Global, answer: Option<Reply>) -> Result<Seq<Reply>, OutOfMemory>
+    ensures { IfOk result (λ replies. replies ≡ option_to_list answer) }
+{
+    let mut replies = Seq::new(alloc);
+    if let Some(answer) = answer {
+        replies.push(answer)?;
+    }
+    Ok(replies)
+}
+
+/// The answers to an event.
+pub(crate) fn answers(alloc: Global, phase: Phase, event: &Event) -> Result<Seq<Reply>, OutOfMemory>
+    ensures { IfOk result (λ replies. replies ≡ spec.answers phase event.now) }
+{
+    match event {
+        Event::Message(message) => {
+            let answer = answer_of(alloc, phase, message)?;
+            listed(alloc, answer)
+        }
+        Event::Folder(_) => Ok(Seq::new(alloc)),
+    }
+}

@@ -1,0 +1,210 @@
+//! From a report's rows to what is told of files.
+ghost use Rattle.std.specs.Prelude.{◌≡◌, ◌<◌, IfOk, OnOk, map, length, ◌++◌, ◌∷◌, []};
+ghost use Rattle.jn_lsp.specs.Telling as spec;
+ghost use Rattle.jn_recheck.specs.Files.{AllFit};
+
+use jn_base::{OutOfMemory, Row, Seq, Span, Text};
+use jn_front::SourceFile;
+use jn_lsp_text::{Range, range_of};
+use jn_lsp_types::{Diagnostic, Related};
+use jn_notes::{Note, Notes};
+use std::alloc::{AllocError, Global};
+
+/// What is told of a file: its diagnostics in the order of the report.
+#[derive(Drop)]
+pub struct Told {
+    pub name: Text,
+    pub diagnostics: Seq<Diagnostic>,
+}
+
+// ---- places
+
+/// The number of the file where the span stands: of no file, the first.
+fn home(files: &[SourceFile], span: &Span) -> usize
+    ensures { result ≡ spec.home files.now span.now }
+{
+    let file = span.file.0 as usize;
+    if file < files.len() { file } else { 0 }
+}
+
+fn name_of<'a>(files: &'a [SourceFile], span: &Span) -> &'a str
+    ensures { result.now ≡ (spec.home_of files.now span.now).name }
+{
+    match files.get(home(files, span)) {
+        None => "",
+        Some(file) => file.name.as_str(),
+    }
+}
+
+fn range_in(files: &[SourceFile], span: &Span) -> Range
+    requires fit { AllFit files.now }
+    ensures { result ≡ spec.range_in files.now span.now }
+{
+    match files.get(home(files, span)) {
+        None => range_of(&[], span.from, span.to),
+        Some(file) => range_of(file.bytes.as_slice(), span.from, span.to),
+    }
+}
+
+// ---- words
+
+/// The text without this ending, where it has it.
+fn without_ending<'a>(text: &'a [u8], ending: &[u8]) -> &'a [u8]
+    ensures { result.now ≡ spec.without_ending ending.now text.now }
+{
+    if text.ends_with(ending) {
+        &text[..text.len() - ending.len()]
+    } else {
+        text
+    }
+}
+
+/// A note's words, which lead to the place that a report has behind them, without that end.
+fn without_lead(words: &[u8]) -> &[u8]
+    ensures { result.now ≡ spec.without_lead words.now }
+{
+    without_ending(without_ending(words, b" at"), b":")
+}
+
+// ---- diagnostics
+
+fn related_of(alloc: Global, files: &[SourceFile], note: &Note) -> Result<Related, AllocError>
+    requires fit { AllFit files.now }
+    ensures { IfOk result (λ related. related ≡ spec.related_of files.now note.now) }
+{
+    Ok(Related {
+        name: Text::of_str(alloc, name_of(files, &note.span))?,
+        range: range_in(files, &note.span),
+        words: Text::of_string(String::from_utf8_lossy(
+            alloc,
+            without_lead(note.words.as_slice()),
+        )?),
+    })
+}
+
+fn all_related(
+    alloc: Global,
+    files: &[SourceFile],
+    notes: &[Note],
+) -> Result<Seq<Related>, AllocError>
+    requires fit { AllFit files.now }
+    ensures { IfOk result (λ related. related ≡ map (spec.related_of files.now) notes.now) }
+{
+    let mut related = Seq::new(alloc);
+    for note in notes {
+        related.push(related_of(alloc, files, note)?)?;
+    }
+    Ok(related)
+}
+
+/// The notes of the row of this number; none where the list is shorter.
+fn shown_at(notes: &[Notes], at: usize) -> &[Note]
+    ensures { result.now ≡ spec.shown_at notes.now at }
+{
+    match notes.get(at) {
+        None => &[],
+        Some(notes) => notes.shown.as_slice(),
+    }
+}
+
+fn diagnostic_of(
+    alloc: Global,
+    files: &[SourceFile],
+    row: &Row,
+    notes: &[Note],
+) -> Result<Diagnostic, AllocError>
+    requires fit { AllFit files.now }
+    ensures { IfOk result (λ diagnostic. diagnostic
+        ≡ spec.diagnostic_of files.now row.now notes.now) }
+{
+    Ok(Diagnostic {
+        range: range_in(files, &row.span),
+        code: row.code,
+        related: all_related(alloc, files, notes)?,
+    })
+}
+
+/// Puts a row's diagnostic behind the others, where the row stands at the file of this number.
+fn add_row(
+    alloc: Global,
+    files: &[SourceFile],
+    row: &Row,
+    notes: &[Note],
+    file: usize,
+    diagnostics: &mut Seq<Diagnostic>,
+) -> Result<(), AllocError>
+    requires fit { AllFit files.now }
+    ensures { OnOk result (diagnostics.new
+        ≡ diagnostics.old ++ spec.diagnostics_of_row files.now row.now notes.now file) }
+{
+    if home(files, &row.span) == file {
+        diagnostics.push(diagnostic_of(alloc, files, row, notes)?)?;
+    }
+    Ok(())
+}
+
+/// The diagnostics of the rows that stand at the file of this number.
+fn diagnostics_at(
+    alloc: Global,
+    files: &[SourceFile],
+    rows: &[Row],
+    notes: &[Notes],
+    file: usize,
+) -> Result<Seq<Diagnostic>, AllocError>
+    requires fit { AllFit files.now }
+    ensures { IfOk result (λ diagnostics. diagnostics
+        ≡ spec.diagnostics_at files.now rows.now notes.now file) }
+{
+    let mut diagnostics = Seq::new(alloc);
+    for at in 0..rows.len() {
+        add_row(
+            alloc,
+            files,
+            &rows[at],
+            shown_at(notes, at),
+            file,
+            &mut diagnostics,
+        )?;
+    }
+    Ok(diagnostics)
+}
+
+fn told_of(
+    alloc: Global,
+    file: &SourceFile,
+    diagnostics: Seq<Diagnostic>,
+) -> Result<Told, AllocError>
+    ensures { IfOk result (λ told. told
+        ≡ record { name = file.now.name; diagnostics = diagnostics }) }
+{
+    Ok(Told {
+        name: file.name.copy(alloc)?,
+        diagnostics,
+    })
+}
+
+fn push(told: &mut Vec<Told>, one: Told) -> Result<(), AllocError>
+    ensures { OnOk result (told.new.items ≡ told.old.items ++ one ∷ []) }
+{
+    told.push(one)?;
+    Ok(())
+}
+
+/// What is told of each file: of the report's rows those that stand there.
+pub(crate) fn told_of_all(
+    alloc: Global,
+    files: &[SourceFile],
+    rows: &[Row],
+    notes: &[Notes],
+) -> Result<Vec<Told>, OutOfMemory>
+    requires fit { AllFit files.now }
+    ensures { IfOk result (λ told. told.items
+        ≡ spec.told_from files.now rows.now notes.now 0 files.now) }
+{
+    let mut told = Vec::new(alloc);
+    for at in 0..files.len() {
+        let diagnostics = diagnostics_at(alloc, files, rows, notes, at)?;
+        push(&mut told, told_of(alloc, &files[at], diagnostics)?)?;
+    }
+    Ok(told)
+}

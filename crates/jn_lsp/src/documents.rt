@@ -1,0 +1,266 @@
+//! The documents that a client has open.
+ghost use Rattle.std.specs.Prelude.{◌≡◌, IfOk, MatchOption, None, Some, option_map, length, ◌<◌, true};
+ghost use Rattle.jn_lsp.specs.Edits as spec;
+ghost use Rattle.jn_lsp.specs.Serving as serving;
+ghost use Rattle.jn_lsp.specs.Stand.{document_of};
+ghost use Rattle.jn_recheck.specs.Files.{with_file, without_file, place_of, is_named};
+
+use crate::event::Event;
+use crate::phase::Phase;
+use jn_base::{OutOfMemory, Seq, Text};
+use jn_front::SourceFile;
+use jn_lsp_text::replace;
+use jn_lsp_types::{Change, Message};
+use std::alloc::{AllocError, Global};
+
+/// The folder's files as they were last read, and the documents that the client has open, in the order in which they were opened.
+#[derive(Drop)]
+pub struct Workspace {
+    pub disk: Seq<SourceFile>,
+    pub documents: Seq<SourceFile>,
+}
+
+// ---- texts
+
+fn copy_bytes(alloc: Global, bytes: &[u8]) -> Result<Seq<u8>, AllocError>
+    ensures { IfOk result (λ copy. copy ≡ bytes.now) }
+{
+    Ok(Seq::of_vec(Vec::from_slice(alloc, bytes)?))
+}
+
+/// The text behind a change.
+fn changed(alloc: Global, change: &Change, text: &[u8]) -> Result<Seq<u8>, OutOfMemory>
+    ensures { IfOk result (λ made. spec.IsChanged change.now text.now made) }
+{
+    match change {
+        Change::Whole(new) => Ok(copy_bytes(alloc, new.as_slice())?),
+        Change::Part { range, text: new } => {
+            Ok(Seq::of_vec(replace(alloc, text, *range, new.as_slice())?))
+        }
+    }
+}
+
+/// The text behind the changes, each of the text behind the one before.
+fn changed_by_all(alloc: Global, changes: &[Change], text: &[u8]) -> Result<Seq<u8>, OutOfMemory>
+    ensures { IfOk result (λ made. spec.AreChanged changes.now text.now made) }
+{
+    let mut made = copy_bytes(alloc, text)?;
+    for change in changes {
+        made = changed(alloc, change, made.as_slice())?;
+    }
+    Ok(made)
+}
+
+// ---- documents
+
+/// Where the document of this name stands.
+#[tactic(auto, using(jn_recheck::proofs::Going::place_found, jn_recheck::proofs::Going::place_later))]
+pub(crate) fn place_of(documents: &[SourceFile], name: &str) -> Option<usize>
+    ensures is { result ≡ place_of name.now documents.now }
+    ensures below { MatchOption result (Unit {0}) (λ at. at < length documents.now) }
+{
+    for at in 0..documents.len() {
+        if is_named(&documents[at], name) {
+            return Some(at);
+        }
+    }
+    None
+}
+
+pub(crate) fn is_named(file: &SourceFile, name: &str) -> bool
+    ensures { result ≡ is_named name.now file.now }
+{
+    file.name.as_str() == name
+}
+
+fn document(alloc: Global, name: &str, text: &[u8]) -> Result<SourceFile, AllocError>
+    ensures { IfOk result (λ file. file ≡ record { name = name.now; bytes = text.now }) }
+{
+    Ok(SourceFile {
+        name: Text::of_str(alloc, name)?,
+        bytes: copy_bytes(alloc, text)?,
+    })
+}
+
+fn copy_documents(alloc: Global, documents: &[SourceFile]) -> Result<Vec<SourceFile>, AllocError>
+    ensures { IfOk result (λ copy. copy.items ≡ documents.now) }
+{
+    let mut copy = Vec::new(alloc);
+    for file in documents {
+        copy.push(document(alloc, file.name.as_str(), file.bytes.as_slice())?)?;
+    }
+    Ok(copy)
+}
+
+/// The documents once more, where the name has this text: a known name in its place, a new one last.
+fn with_document(
+    alloc: Global,
+    documents: &[SourceFile],
+    name: &str,
+    text: &[u8],
+) -> Result<Seq<SourceFile>, AllocError>
+    ensures { IfOk result (λ made. made ≡ with_file name.now text.now documents.now) }
+{
+    let mut made = copy_documents(alloc, documents)?;
+    let new = document(alloc, name, text)?;
+    match place_of(documents, name) {
+        None => made.push(new)?,
+        Some(at) => made[at] = new,
+    }
+    Ok(Seq::of_vec(made))
+}
+
+/// The documents once more without this name.
+fn without_document(
+    alloc: Global,
+    documents: &[SourceFile],
+    name: &str,
+) -> Result<Seq<SourceFile>, AllocError>
+    ensures { IfOk result (λ made. made ≡ without_file name.now documents.now) }
+{
+    let mut made = copy_documents(alloc, documents)?;
+    if let Some(at) = place_of(documents, name) {
+        made.remove(at);
+    }
+    Ok(Seq::of_vec(made))
+}
+
+// ---- messages
+
+fn is_java(name: &str) -> bool
+    ensures { result ≡ spec.is_java name.now }
+{
+    name.as_bytes().ends_with(b".java")
+}
+
+fn opened(
+    alloc: Global,
+    documents: &[SourceFile],
+    name: &str,
+    text: &[u8],
+) -> Result<Option<Seq<SourceFile>>, OutOfMemory>
+    ensures { IfOk result (λ made. made ≡ spec.opened name.now text.now documents.now) }
+{
+    if is_java(name) {
+        Ok(Some(with_document(alloc, documents, name, text)?))
+    } else {
+        Ok(None)
+    }
+}
+
+fn typed(
+    alloc: Global,
+    documents: &[SourceFile],
+    name: &str,
+    changes: &[Change],
+) -> Result<Option<Seq<SourceFile>>, OutOfMemory>
+    ensures { IfOk result (λ made. spec.IsTyped name.now changes.now documents.now
+        (document_of name.now documents.now) made) }
+{
+    match place_of(documents, name) {
+        None => Ok(None),
+        Some(at) => {
+            let text = changed_by_all(alloc, changes, documents[at].bytes.as_slice())?;
+            Ok(Some(with_document(alloc, documents, name, text.as_slice())?))
+        }
+    }
+}
+
+fn closed(
+    alloc: Global,
+    documents: &[SourceFile],
+    name: &str,
+) -> Result<Option<Seq<SourceFile>>, OutOfMemory>
+    ensures { IfOk result (λ made. made ≡ spec.closed name.now documents.now) }
+{
+    match place_of(documents, name) {
+        None => Ok(None),
+        Some(_) => Ok(Some(without_document(alloc, documents, name)?)),
+    }
+}
+
+/// The open documents behind a message, where it changes them.
+fn edited(
+    alloc: Global,
+    documents: &[SourceFile],
+    message: &Message,
+) -> Result<Option<Seq<SourceFile>>, OutOfMemory>
+    ensures { IfOk result (λ made. spec.AreEdited message.now documents.now made) }
+{
+    match message {
+        Message::DidOpen { name, text } => opened(alloc, documents, name.as_str(), text.as_slice()),
+        Message::DidChange { name, changes } => {
+            typed(alloc, documents, name.as_str(), changes.as_slice())
+        }
+        Message::DidClose { name } => closed(alloc, documents, name.as_str()),
+        _ => Ok(None),
+    }
+}
+
+// ---- events
+
+impl Workspace {
+    /// What no client has told anything of.
+    pub(crate) fn new(alloc: Global) -> Workspace
+        ensures { result ≡ serving.new_server.workspace }
+    {
+        Workspace {
+            disk: Seq::new(alloc),
+            documents: Seq::new(alloc),
+        }
+    }
+
+    fn with_disk(&self, alloc: Global, disk: &[SourceFile]) -> Result<Workspace, OutOfMemory>
+        ensures { IfOk result (λ made. made ≡ serving.with_documents disk.now self.now.documents) }
+    {
+        Ok(Workspace {
+            disk: Seq::of_vec(copy_documents(alloc, disk)?),
+            documents: Seq::of_vec(copy_documents(alloc, self.documents.as_slice())?),
+        })
+    }
+
+    fn with_documents(
+        &self,
+        alloc: Global,
+        documents: Option<Seq<SourceFile>>,
+    ) -> Result<Option<Workspace>, OutOfMemory>
+        ensures { IfOk result (λ made. made ≡ option_map (serving.with_documents self.now.disk) documents) }
+    {
+        match documents {
+            None => Ok(None),
+            Some(documents) => Ok(Some(Workspace {
+                disk: Seq::of_vec(copy_documents(alloc, self.disk.as_slice())?),
+                documents,
+            })),
+        }
+    }
+
+    fn moved_by(&self, alloc: Global, event: &Event) -> Result<Option<Workspace>, OutOfMemory>
+        ensures { IfOk result (λ moved. serving.IsMoved event.now self.now moved) }
+    {
+        match event {
+            Event::Message(message) => {
+                let documents = edited(alloc, self.documents.as_slice(), message)?;
+                self.with_documents(alloc, documents)
+            }
+            Event::Folder(files) => Ok(Some(self.with_disk(alloc, files.as_slice())?)),
+        }
+    }
+
+    /// What stands behind an event that is taken in this phase, where it changes anything.
+    pub(crate) fn moved(
+        &self,
+        alloc: Global,
+        phase: Phase,
+        event: &Event,
+    ) -> Result<Option<Workspace>, OutOfMemory>
+        ensures { IfOk result (λ moved. serving.IsMovedIn phase event.now self.now moved) }
+    {
+        match phase {
+            Phase::Waiting => Ok(None),
+            Phase::Serving => self.moved_by(alloc, event),
+            Phase::ShutDown => Ok(None),
+            Phase::Exited { .. } => Ok(None),
+        }
+    }
+}

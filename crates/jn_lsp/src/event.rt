@@ -1,0 +1,30 @@
+//! What a server is told.
+ghost use Rattle.std.specs.Prelude.{◌≡◌};
+ghost use Rattle.jn_lsp.specs.Serving.{wants_folder};
+
+use jn_base::Seq;
+use jn_front::SourceFile;
+use jn_lsp_types::Message;
+
+/// What a server is told.
+#[derive(Drop)]
+pub enum Event {
+    /// A message of the client.
+    Message(Message),
+    /// The folder's files as they were read just now, in the order in which they are to stand. Of several files of one name the first
+    /// stands.
+    Folder(Seq<SourceFile>),
+}
+
+/// Whether the folder is to be read behind this message: its files may be others than they were.
+pub fn wants_folder(message: &Message) -> bool
+    ensures { result ≡ wants_folder message.now }
+{
+    match message {
+        Message::Initialized => true,
+        Message::WatchedFiles => true,
+        Message::DidSave { .. } => true,
+        Message::DidClose { .. } => true,
+        _ => false,
+    }
+}

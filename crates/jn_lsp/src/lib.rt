@@ -1,0 +1,24 @@
+//! The core of a language server (Language Server Protocol 3.17): a [`Server`] takes an [`Event`] and gives the replies to it.
+//!
+//! Files stand as the client has them open, the others as they were last read of the folder. Behind each event that changes them their
+//! report is told: [`law::last_published_is_the_report`] says that what was published last of each name is always what the report of the
+//! files as they stand says of it, and [`law::requests_are_answered_once`] that each request is answered once, in order.
+#![tactic(auto)]
+
+mod answers;
+mod comparing;
+pub mod diagnostics;
+pub mod documents;
+pub mod event;
+pub mod law;
+pub mod phase;
+mod publishing;
+mod reporting;
+pub mod server;
+mod standing;
+
+pub use diagnostics::Told;
+pub use documents::Workspace;
+pub use event::{Event, wants_folder};
+pub use phase::Phase;
+pub use server::Server;

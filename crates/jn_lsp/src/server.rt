@@ -1,0 +1,147 @@
+//! The server.
+ghost use Rattle.std.specs.Prelude.{◌≡◌, ◌++◌, IfOk, OnErr, OnOk, [], None, Some};
+ghost use Rattle.jn_lsp.specs.Publications.{Announces};
+ghost use Rattle.jn_lsp.specs.Serving.{IsInformed, Takes, files_of, new_server};
+ghost use Rattle.jn_lsp.specs.Telling.{IsTold};
+
+use crate::answers::answers;
+use crate::diagnostics::Told;
+use crate::documents::Workspace;
+use crate::event::Event;
+use crate::phase::Phase;
+use crate::publishing::announce;
+use crate::reporting::tell;
+use crate::standing::stand;
+use jn_base::{OutOfMemory, Seq};
+use jn_gate::Gate;
+use jn_lsp_types::Reply;
+use jn_recheck::Session;
+use std::alloc::{AllocError, Global};
+use std::marker::Model;
+use std::thread::Threads;
+
+/// What is told behind an event, and what of it is published.
+#[derive(Drop)]
+struct News {
+    told: Vec<Told>,
+    publications: Seq<Reply>,
+}
+
+fn retell<R: Threads + Sync, G: Gate + Sync>(
+    rt: &R,
+    gate: &G,
+    alloc: Global,
+    session: &mut Session,
+    before: &[Told],
+    workspace: &Workspace,
+) -> Result<News, OutOfMemory>
+    ensures told { IfOk result (λ news. IsTold (files_of workspace.now) news.told.items) }
+    ensures announced { IfOk result (λ news. Announces before.now news.told.items news.publications) }
+{
+    let files = stand(alloc, workspace)?;
+    let told = tell(rt, gate, alloc, session, files.as_slice())?;
+    let publications = announce(alloc, before, told.as_slice())?;
+    Ok(News { told, publications })
+}
+
+/// The replies, one list behind the other.
+fn joined(replies: Seq<Reply>, more: Seq<Reply>) -> Result<Vec<Reply>, AllocError>
+    ensures { IfOk result (λ all. all.items ≡ replies ++ more) }
+{
+    let mut all = replies.into_vec();
+    let mut more = more.into_vec();
+    all.append(&mut more)?;
+    Ok(all)
+}
+
+/// A language server: what it is told is in [`Event`]s. Contracts see its phase, the folder's files and the open documents, and what was
+/// told of the files that stand.
+#[derive(Drop)]
+pub struct Server {
+    alloc: Global,
+    phase: Phase,
+    workspace: Workspace,
+    told: Vec<Told>,
+    session: Session,
+}
+
+impl Model for Server {
+    ghost use Rattle.jn_lsp.specs.Serving.{IsInformed, ServerOf};
+
+    ghost Value = { ServerOf };
+
+    ghost view = { λ s. record { phase = s.phase; workspace = s.workspace; told = s.told.items } };
+
+    ghost invariant = { λ s. IsInformed (record { phase = s.phase; workspace = s.workspace; told = s.told.items }) };
+}
+
+impl Server {
+    /// A server to which no client has spoken yet.
+    pub fn new(alloc: Global) -> Server
+        ensures { result ≡ new_server }
+    {
+        Server {
+            alloc,
+            phase: Phase::Waiting,
+            workspace: Workspace::new(alloc),
+            told: Vec::new(alloc),
+            session: Session::new(alloc),
+        }
+    }
+
+    /// Where the server is in its life.
+    pub fn phase(&self) -> Phase
+        ensures { result ≡ self.now.phase }
+    {
+        self.phase
+    }
+
+    /// What was told last of the files that stand, in their order: the diagnostics of their report.
+    pub fn told(&self) -> &[Told]
+        ensures are { result.now ≡ self.now.told }
+        ensures informed { IsInformed self.now }
+    {
+        self.told.as_slice()
+    }
+
+    /// Takes an event, and gives the replies to it in order. Where the event changes the files that stand, their report is made anew, and
+    /// each name of which something else is told than before gets a publication. Workers enter the gate where they take a file or a body.
+    ///
+    /// # Errors
+    /// No memory was found, and the server is as before.
+    pub fn take<R: Threads + Sync, G: Gate + Sync>(
+        &mut self,
+        rt: &R,
+        gate: &G,
+        event: &Event,
+    ) -> Result<Vec<Reply>, OutOfMemory>
+        ensures takes { IfOk result (λ replies. Takes self.old event.now replies.items self.new) }
+        ensures unchanged { OnErr result (self.new ≡ self.old) }
+    {
+        let alloc = self.alloc;
+        let next = self.phase.behind_event(event);
+        let direct = answers(alloc, self.phase, event)?;
+        let moved = self.workspace.moved(alloc, self.phase, event)?;
+        match moved {
+            None => {
+                self.phase = next;
+                Ok(direct.into_vec())
+            }
+            Some(workspace) => {
+                let News { told, publications } = retell(
+                    rt,
+                    gate,
+                    alloc,
+                    &mut self.session,
+                    self.told.as_slice(),
+                    &workspace,
+                )?;
+                let replies = joined(direct, publications)?;
+                self.phase = next;
+                self.workspace = workspace;
+                self.told = told;
+                Ok(replies)
+            }
+        }
+    }
+}

@@ -1,0 +1,3 @@
+pub mod RowByRow
+pub mod Offering
+pub mod Fitting

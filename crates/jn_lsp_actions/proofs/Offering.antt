@@ -1,0 +1,60 @@
+-- Actions of the files' report.
+use Rattle.std.proofs.Common.{◌≡◌, ℕ, true, List, [], ◌∷◌, map, Some, None, refl, sym, ap, ◌∙◌, subst}
+use Rattle.std.proofs.lemmas.Bool.{false≢true}
+use Rattle.jn_annotate.specs.Shared.{IsLeast, is_among, shared_slots}
+use Rattle.jn_base.specs.declared.infer.Infer.TheVariants.{Private}
+use Rattle.jn_base.specs.declared.place.Row.{Row}
+use Rattle.jn_command.specs.declared.report.Report.TheVariants.{Refused, Checked}
+use Rattle.jn_front.specs.declared.source.SourceFile.{SourceFile}
+use Rattle.jn_inference_law.specs.Solution.{IsLeastSignature}
+use Rattle.jn_lsp_text.specs.declared.range.Range.{Range}
+use Rattle.jn_lsp_types.specs.declared.reply.Action.{Action}
+use Rattle.jn_places.specs.Forget.{forget_file}
+use Rattle.jn_places.specs.PlacedView.{placed_file}
+use Rattle.jn_points.specs.declared.program.Program.{Program}
+use Rattle.jn_quals.specs.Qualifier.{Qualifier}
+use Rattle.jn_system.specs.Rows.{AreBroken}
+use Rattle.jn_trees.specs.declared.declaration.FileTree.{FileTree}
+use Rattle.jn_trees.specs.declared.token.Token.{Token}
+use Rattle.jn_trees.specs.Trees.{SourceTree}
+use Rattle.jn_trees.specs.View.{file_view}
+use Rattle.jn_typed_files.specs.Phases.{IsPhase, TypedProgramOf}
+use Rattle.jn_typed_files.specs.Report.{IsCheckedBy}
+use Rattle.jn_lsp_actions.specs.Offered.{AreActions, AreOfRules, AreUnlessShared, AreWritten}
+
+views : ((tree : FileTree) → forget_file (placed_file tree) ≡ file_view tree) → (trees : List FileTree) → map file_view trees ≡ map forget_file (map placed_file trees)
+views view [] = refl
+views view (tree ∷ trees) = λ i. sym (view tree) i ∷ views view trees i
+
+module _ (files : List SourceFile) (name : List ℕ) (range : Range) (names : List (List ℕ)) (tokens : List (List Token)) (trees : List SourceTree) (P : Program) (s : List Qualifier) where
+  shared : (n : ℕ) (ns : List ℕ) (rows : List Row) (actions : List Action) → is_among n ns ≡ true → actions ≡ [] → AreUnlessShared files name range names tokens trees P s ns rows actions
+  shared n [] rows actions h e = absurd (false≢true h)
+  shared n (m ∷ ns) rows actions h e = e
+
+  -- where a type is shared
+  pub some_shared : (n : ℕ) (rows : List Row) (actions : List Action) → IsLeast (Some n) (shared_slots P s trees P.fields) → actions ≡ [] → AreOfRules files name range names tokens trees P s rows actions
+  some_shared n rows actions h e = shared n (shared_slots P s trees P.fields) rows actions h.0 e
+
+  -- where none is
+  pub none_shared : (rows : List Row) (actions : List Action) → IsLeast None (shared_slots P s trees P.fields) → AreWritten files name range names tokens trees P s rows actions → AreOfRules files name range names tokens trees P s rows actions
+  none_shared rows actions e h = subst (λ (ns : List ℕ). AreUnlessShared files name range names tokens trees P s ns rows actions) (sym e) h
+
+module _ (files : List SourceFile) (name : List ℕ) (range : Range) where
+  -- of files that were checked
+  pub of_checked : (names : List (List ℕ)) (P : Program) (s : List Qualifier) (tokens : List (List Token)) (trees : List FileTree) (rows : List Row) (actions : List Action)
+      → ((tree : FileTree) → forget_file (placed_file tree) ≡ file_view tree)
+      → (typed : TypedProgramOf Private files names P) → typed.of_files.trees ≡ map placed_file trees → tokens ≡ typed.of_files.tokens
+      → IsLeastSignature P s → AreBroken P s rows
+      → AreOfRules files name range names tokens (map file_view trees) P s rows actions → AreActions files name range actions
+  of_checked names P s tokens trees rows actions view typed these same least broken are =
+      let checked : IsCheckedBy Private files rows = record { names = names; P = P; of_files = typed; rules = record { signature = s; least = least; broken = broken.all; breaks = broken.broken; order = broken.ordered } } in
+      let forgotten : map file_view trees ≡ map forget_file typed.of_files.trees = views view trees ∙ ap (map forget_file) (sym these) in
+      record {
+        report = Checked rows;
+        is = checked;
+        offered = (checked, subst (λ (ts : List SourceTree). AreOfRules files name range names typed.of_files.tokens ts P s rows actions) forgotten (subst (λ (tss : List (List Token)). AreOfRules files name range names tss (map file_view trees) P s rows actions) same are));
+      }
+
+  -- of files that are refused
+  pub of_refused : (rows : List Row) (actions : List Action) → IsPhase Private files rows → actions ≡ [] → AreActions files name range actions
+  of_refused rows actions phase none = record { report = Refused rows; is = phase; offered = none }

@@ -1,0 +1,4 @@
+pub mod Asking
+pub mod Alone
+pub mod Written
+pub mod Offered

@@ -1,0 +1,73 @@
+-- What writes the annotation of one slot: the words that annotating puts where that slot alone is inferred, with lines that import them, at their positions
+-- in the file that declares the slot.
+use Rattle.std.specs.Prelude.{ℕ, cond, codes, Bool, true, is_some, List, [], ◌∷◌, ◌++◌, drop, map, Option, Some, None, slice_index_or}
+use Rattle.std.specs.Str.Lossy.{utf8_lossy}
+use Rattle.jn_front.specs.declared.source.SourceFile.{SourceFile}
+use Rattle.jn_quals.specs.Qualifier.{Qualifier}
+use Rattle.jn_quals.specs.Order.{no_qual}
+use Rattle.jn_points.specs.declared.program.Field.{Field}
+use Rattle.jn_points.specs.declared.program.Method.{Method}
+use Rattle.jn_points.specs.declared.program.SlotInfo.{SlotInfo}
+use Rattle.jn_points.specs.declared.program.Program.{Program}
+use Rattle.jn_trees.specs.declared.token.Token.{Token}
+use Rattle.jn_trees.specs.Trees.{SourceTree}
+use Rattle.jn_splice_law.specs.Inserted.{Insertion as Words}
+use Rattle.jn_annotate.specs.Words.{is_unspelled}
+use Rattle.jn_annotate.specs.Imports.{with_lines}
+use Rattle.jn_annotate.specs.Insertions.{file_fields, file_methods, in_file}
+use Rattle.jn_notes.specs.Owned.{owner_of}
+use Rattle.jn_notes.specs.Worded.{owner_words}
+use Rattle.jn_lsp_text.specs.Positions.{position_at}
+use Rattle.jn_lsp_types.specs.declared.reply.Action.{Action}
+use Rattle.jn_lsp_types.specs.declared.reply.Insertion.{Insertion}
+use Rattle.jn_lsp_actions.specs.declared.edits.Edit.{Edit}
+use Rattle.jn_lsp_actions.specs.Alone.{alone}
+
+-- words at their position; what is no UTF-8 in them is replaced
+abbrev pub insertion_at : List ℕ → Words → Insertion
+insertion_at text words = record { at = position_at text words.at; text = utf8_lossy words.words }
+
+-- no edit where there are no words
+abbrev pub edit_of : SourceFile → List Words → Option Edit
+edit_of file [] = None
+edit_of file (first ∷ more) = Some (record { name = file.name; insertions = map (insertion_at file.bytes) (first ∷ more) })
+
+abbrev pub or_edit : Option Edit → Option Edit → Option Edit
+or_edit None other = other
+or_edit (Some edit) other = Some edit
+
+module _ (slots : List SlotInfo) (s : List Qualifier) where
+  -- the words of a file that declares the first of these fields and methods, and lines that import them where the file doesn't
+  abbrev pub words_in : SourceFile → List Token → SourceTree → List Field → List Method → List Words
+  words_in file tokens tree fields methods = with_lines true file.bytes tokens tree (in_file slots s file.bytes tokens tree fields methods)
+
+  -- of the first file that gets words
+  abbrev pub first_edit : List SourceFile → List (List Token) → List SourceTree → List Field → List Method → Option Edit
+  first_edit [] tokens trees fields methods = None
+  first_edit (file ∷ files) [] trees fields methods = None
+  first_edit (file ∷ files) (ts ∷ tokens) [] fields methods = None
+  first_edit (file ∷ files) (ts ∷ tokens) (tree ∷ trees) fields methods = or_edit (edit_of file (words_in file ts tree fields methods)) (first_edit files tokens trees (drop (file_fields tree.types) fields) (drop (file_methods tree.types) methods))
+
+module _ (files : List SourceFile) (tokens : List (List Token)) (trees : List SourceTree) (P : Program) (s : List Qualifier) where
+  -- what writes the annotation of a slot; none of one that isn't inferred, that no annotation says, or that has no words of its own since
+  -- those of another field of its declaration are its words, too
+  abbrev pub edit_of_slot : ℕ → Option Edit
+  edit_of_slot slot = cond (is_unspelled (slice_index_or s slot no_qual)) None (first_edit (alone slot P.slots) s files tokens trees P.fields (drop 1 P.methods))
+
+  abbrev pub is_written : ℕ → Bool
+  is_written slot = is_some (edit_of_slot slot)
+
+abbrev pub title_of : Program → List (List ℕ) → ℕ → List ℕ
+title_of P names slot = utf8_lossy (codes "write what is inferred of " ++ owner_words P names (owner_of P slot))
+
+abbrev pub action_of : List ℕ → Edit → Action
+action_of title edit = record { title = title; name = edit.name; insertions = edit.insertions }
+
+-- the action of an edit, where there is one
+abbrev pub actions_of : List ℕ → Option Edit → List Action
+actions_of title None = []
+actions_of title (Some edit) = action_of title edit ∷ []
+
+-- what is given for a slot
+abbrev pub give : List SourceFile → List (List ℕ) → List (List Token) → List SourceTree → Program → List Qualifier → ℕ → List Action
+give files names tokens trees P s slot = actions_of (title_of P names slot) (edit_of_slot files tokens trees P s slot)

@@ -1,0 +1,227 @@
+//! What writes the annotation of a slot.
+ghost use Rattle.std.specs.Prelude.{◌≡◌, ◌<◌, ◌^◌, length, map, option_to_list, IfOk};
+ghost use Rattle.jn_recheck.specs.Files.{AllFit};
+ghost use Rattle.jn_trees.specs.View.{file_view};
+ghost use Rattle.jn_annotate.specs.Puts.{insertion, insertions};
+ghost use Rattle.jn_lsp_text.specs.Positions.{position_at};
+ghost use Rattle.jn_notes.specs.Owned.{AreOwners};
+ghost use Rattle.jn_lsp_actions.specs.Written as spec;
+
+use crate::alone::alone_program;
+use jn_annotate::files::{fields_behind_types, file_puts, methods_behind_types};
+use jn_annotate::insert::Put;
+use jn_annotate::lines::with_lines;
+use jn_annotate::members::next_methods;
+use jn_annotate::words::is_unspelled;
+use jn_base::{OutOfMemory, Seq, SlotNo, Text};
+use jn_front::SourceFile;
+use jn_lsp_text::{Position, position_of};
+use jn_lsp_types::{Action, Insertion};
+use jn_notes::owners::{Owner, owner_at};
+use jn_notes::words::owner_words;
+use jn_points::{Field, Method, Program};
+use jn_sigs::Sig;
+use jn_trees::{FileTree, Names, Token};
+use std::alloc::{AllocError, Global};
+
+/// Insertions into the file of a name.
+#[derive(Drop)]
+pub struct Edit {
+    pub name: Text,
+    pub insertions: Seq<Insertion>,
+}
+
+/// Files, with the tokens and trees of each, with their program, the texts of its names, its least signature, and whose slots are whose.
+#[derive(Drop)]
+pub struct Solved<'a> {
+    pub files: &'a [SourceFile],
+    pub tokens: &'a [Seq<Token>],
+    pub trees: &'a [FileTree],
+    pub names: &'a Names,
+    pub program: &'a Program,
+    pub sig: &'a Sig,
+    pub owners: &'a [Option<Owner>],
+}
+
+/// The position of a byte; that of the text's end where the text is shorter.
+fn position_within(text: &[u8], at: usize) -> Position
+    requires small { length text.now < 2 ^ 30 }
+    ensures { result ≡ position_at text.now at }
+{
+    position_of(text, at.min(text.len()))
+}
+
+fn insertion_of(alloc: Global, text: &[u8], put: &Put) -> Result<Insertion, AllocError>
+    requires small { length text.now < 2 ^ 30 }
+    ensures { IfOk result (λ made. made ≡ spec.insertion_at text.now (insertion put.now)) }
+{
+    Ok(Insertion {
+        at: position_within(text, put.at),
+        text: Text::of_string(String::from_utf8_lossy(alloc, put.words.as_slice())?),
+    })
+}
+
+fn insertions_of(alloc: Global, text: &[u8], puts: &[Put]) -> Result<Seq<Insertion>, AllocError>
+    requires small { length text.now < 2 ^ 30 }
+    ensures { IfOk result (λ made. made ≡ map (spec.insertion_at text.now) (insertions puts.now)) }
+{
+    let mut made = Seq::new(alloc);
+    for put in puts {
+        made.push(insertion_of(alloc, text, put)?)?;
+    }
+    Ok(made)
+}
+
+/// The edit of a file that gets these words.
+fn edit_of(alloc: Global, file: &SourceFile, puts: &[Put]) -> Result<Option<Edit>, AllocError>
+    requires small { length file.now.bytes < 2 ^ 30 }
+    ensures { IfOk result (λ edit. edit ≡ spec.edit_of file.now (insertions puts.now)) }
+{
+    match puts {
+        [] => Ok(None),
+        [_, ..] => Ok(Some(Edit {
+            name: file.name.copy(alloc)?,
+            insertions: insertions_of(alloc, file.bytes.as_slice(), puts)?,
+        })),
+    }
+}
+
+/// The edit of a file that declares the first of these fields and methods.
+fn file_edit(
+    alloc: Global,
+    program: &Program,
+    sig: &Sig,
+    file: &SourceFile,
+    tokens: &[Token],
+    tree: &FileTree,
+    fields: &[Field],
+    methods: &[Method],
+) -> Result<Option<Edit>, OutOfMemory>
+    requires small { length file.now.bytes < 2 ^ 30 }
+    ensures { IfOk result (λ edit. edit
+        ≡ spec.edit_of file.now
+        (spec.words_in program.now.slots sig.now file.now tokens.now (file_view tree.now)
+        fields.now methods.now)) }
+{
+    let text = file.bytes.as_slice();
+    let puts = file_puts(alloc, program, sig, text, tokens, tree, fields, methods)?;
+    let puts = with_lines(alloc, true, text, tokens, tree, puts)?;
+    Ok(edit_of(alloc, file, &puts)?)
+}
+
+/// The edit of the first file that gets words; the first fields and methods are those that the files declare.
+fn first_edit(
+    files: &[SourceFile],
+    alloc: Global,
+    program: &Program,
+    sig: &Sig,
+    tokens: &[Seq<Token>],
+    trees: &[FileTree],
+    fields: &[Field],
+    methods: &[Method],
+) -> Result<Option<Edit>, OutOfMemory>
+    requires fit { AllFit files.now }
+    ensures { IfOk result (λ edit. edit
+        ≡ spec.first_edit program.now.slots sig.now files.now tokens.now
+        (map file_view trees.now) fields.now methods.now) }
+{
+    match files {
+        [] => Ok(None),
+        [file, other_files @ ..] => match tokens {
+            [] => Ok(None),
+            [first, other_tokens @ ..] => match trees {
+                [] => Ok(None),
+                [tree, other_trees @ ..] => {
+                    let first = first.as_slice();
+                    match file_edit(alloc, program, sig, file, first, tree, fields, methods)? {
+                        Some(edit) => Ok(Some(edit)),
+                        None => first_edit(
+                            other_files,
+                            alloc,
+                            program,
+                            sig,
+                            other_tokens,
+                            other_trees,
+                            fields_behind_types(fields, &tree.types),
+                            methods_behind_types(methods, &tree.types),
+                        ),
+                    }
+                }
+            },
+        },
+    }
+}
+
+impl<'a> Solved<'a> {
+    /// What writes the annotation of a slot; none of one that isn't inferred, that no annotation says, or that has no words of its own.
+    ///
+    /// # Errors
+    /// No memory was found.
+    pub fn edit_of_slot(&self, alloc: Global, slot: u32) -> Result<Option<Edit>, OutOfMemory>
+        requires fit { AllFit self.now.files.now }
+        ensures { IfOk result (λ edit. edit
+            ≡ spec.edit_of_slot self.now.files.now self.now.tokens.now
+            (map file_view self.now.trees.now) self.now.program.now self.now.sig.now slot) }
+    {
+        if is_unspelled(self.sig.get(SlotNo(slot))) {
+            return Ok(None);
+        }
+        let alone = alone_program(alloc, self.program, slot)?;
+        first_edit(
+            self.files,
+            alloc,
+            &alone,
+            self.sig,
+            self.tokens,
+            self.trees,
+            self.program.fields.as_slice(),
+            next_methods(self.program.methods.as_slice()),
+        )
+    }
+
+    /// Whether the slot's annotation can be written.
+    ///
+    /// # Errors
+    /// No memory was found.
+    pub fn is_written(&self, alloc: Global, slot: u32) -> Result<bool, OutOfMemory>
+        requires fit { AllFit self.now.files.now }
+        ensures { IfOk result (λ written. written
+            ≡ spec.is_written self.now.files.now self.now.tokens.now
+            (map file_view self.now.trees.now) self.now.program.now self.now.sig.now slot) }
+    {
+        let edit = self.edit_of_slot(alloc, slot)?;
+        Ok(edit.is_some())
+    }
+
+    fn title_of(&self, alloc: Global, slot: u32) -> Result<Text, AllocError>
+        requires owners { AreOwners self.now.program.now self.now.owners.now }
+        ensures { IfOk result (λ title. title ≡ spec.title_of self.now.program.now self.now.names.now slot) }
+    {
+        let mut words = Vec::from_slice(alloc, b"write what is inferred of ")?;
+        let owner = owner_at(self.owners, slot);
+        let owner = owner_words(alloc, self.program, self.names, owner)?;
+        words.extend_from_slice(&owner)?;
+        Ok(Text::of_string(String::from_utf8_lossy(alloc, &words)?))
+    }
+
+    /// The action of a slot, where its annotation can be written.
+    ///
+    /// # Errors
+    /// No memory was found.
+    pub fn action_of_slot(&self, alloc: Global, slot: u32) -> Result<Option<Action>, OutOfMemory>
+        requires fit { AllFit self.now.files.now }
+        requires owners { AreOwners self.now.program.now self.now.owners.now }
+        ensures { IfOk result (λ action. option_to_list action
+            ≡ spec.give self.now.files.now self.now.names.now self.now.tokens.now
+            (map file_view self.now.trees.now) self.now.program.now self.now.sig.now slot) }
+    {
+        match self.edit_of_slot(alloc, slot)? {
+            None => Ok(None),
+            Some(edit) => Ok(Some(Action {
+                title: self.title_of(alloc, slot)?,
+                name: edit.name,
+                insertions: edit.insertions,
+            })),
+        }
+    }
+}

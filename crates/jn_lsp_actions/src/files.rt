@@ -1,0 +1,247 @@
+//! From files to the actions that are offered in one of them.
+ghost use Rattle.std.specs.Prelude.{◌≡◌, ◌≤◌, length, map, IfOk, IsSome};
+ghost use Rattle.jn_base.specs.declared.infer.Infer.TheVariants.{Private};
+ghost use Rattle.jn_front.specs.Counted.{ReadsFit};
+ghost use Rattle.jn_front.specs.Files.{files_of_reads};
+ghost use Rattle.jn_inference_law.specs.Solution.{IsLeastSignature};
+ghost use Rattle.jn_notes.specs.Owned.{AreOwners};
+ghost use Rattle.jn_places.specs.PlacedView.{placed_file};
+ghost use Rattle.jn_recheck.specs.Files.{AllFit};
+ghost use Rattle.jn_system.specs.Rows.{AreBroken};
+ghost use Rattle.jn_tables_law.specs.Inferable.{IsInferable};
+ghost use Rattle.jn_trees.specs.View.{file_view};
+ghost use Rattle.jn_typed_files.specs.Phases.{IsTypedOr, TypedProgramOf};
+ghost use Rattle.jn_lsp_actions.specs.Offered.{AreActions, AreOfRules, AreWritten};
+
+use crate::choosing::{Asked, slots_of};
+use crate::edits::Solved;
+use crate::giving::given;
+use jn_annotate::shared::first_shared;
+use jn_base::{Infer, OutOfMemory, Row, Seq};
+use jn_contrib::overriders;
+use jn_front::{SourceFile, SourceRead};
+use jn_gate::Gate;
+use jn_index::indexed::IndexedProgram;
+use jn_lsp_text::Range;
+use jn_lsp_types::Action;
+use jn_notes::owners::find_owners;
+use jn_notes::tables::least_tables;
+use jn_origins::LeastOrigins;
+use jn_origins::law::least_tables_are_sized;
+use jn_places::law::places_are_forgotten;
+use jn_recheck::reads::reads_of;
+use jn_relexed::lex_all;
+use jn_sigs::Sig;
+use jn_system::{check_all, solve_sig};
+use jn_tables_law::law::regular_programs_can_be_inferred;
+use jn_trees::{FileTree, Names};
+use jn_typed::BaseTyped;
+use jn_typed_files::{TypedFiles, too_many_files, type_files};
+use std::alloc::Global;
+use std::thread::Threads;
+
+/// The greatest number of files.
+const MOST_FILES: usize = 64;
+
+/// The actions of rows of files none of whose fields shares its type with one of another qualifier.
+fn written_at(
+    alloc: Global,
+    solved: &Solved,
+    indexed: &IndexedProgram,
+    asked: &Asked,
+    rows: &[Row],
+) -> Result<Seq<Action>, OutOfMemory>
+    requires fit { AllFit solved.now.files.now }
+    requires inferable { IsInferable solved.now.program.now }
+    requires least { IsLeastSignature solved.now.program.now solved.now.sig.now }
+    requires owners { AreOwners solved.now.program.now solved.now.owners.now }
+    requires indexed { indexed.now ≡ solved.now.program.now }
+    ensures { IfOk result (λ actions.
+        AreWritten solved.now.files.now asked.now.name.now asked.now.range solved.now.names.now
+        solved.now.tokens.now (map file_view solved.now.trees.now) solved.now.program.now
+        solved.now.sig.now rows.now actions) }
+{
+    least_tables_are_sized();
+    let tables = least_tables(alloc, solved.program, solved.sig)?;
+    let overriders = overriders(alloc, indexed)?;
+    let origins = LeastOrigins::new(alloc, indexed, solved.sig, &tables)?;
+    let slots = slots_of(alloc, solved, &tables, &overriders, &origins, asked, rows)?;
+    given(alloc, solved, &slots)
+}
+
+/// The actions of rows of the rules.
+#[tactic(auto, using(crate::proofs::Offering::some_shared, crate::proofs::Offering::none_shared))]
+fn of_rules(
+    alloc: Global,
+    solved: &Solved,
+    indexed: &IndexedProgram,
+    asked: &Asked,
+    rows: &[Row],
+) -> Result<Seq<Action>, OutOfMemory>
+    requires fit { AllFit solved.now.files.now }
+    requires inferable { IsInferable solved.now.program.now }
+    requires least { IsLeastSignature solved.now.program.now solved.now.sig.now }
+    requires owners { AreOwners solved.now.program.now solved.now.owners.now }
+    requires indexed { indexed.now ≡ solved.now.program.now }
+    ensures { IfOk result (λ actions.
+        AreOfRules solved.now.files.now asked.now.name.now asked.now.range solved.now.names.now
+        solved.now.tokens.now (map file_view solved.now.trees.now) solved.now.program.now
+        solved.now.sig.now rows.now actions) }
+{
+    match first_shared(alloc, solved.program, solved.sig, solved.trees)? {
+        Some(_) => Ok(Seq::new(alloc)),
+        None => written_at(alloc, solved, indexed, asked, rows),
+    }
+}
+
+/// The actions of files with this program, whose least signature and rows these are.
+fn of_solved(
+    alloc: Global,
+    reads: &[SourceRead],
+    files: &[SourceFile],
+    names: &Names,
+    trees: &[FileTree],
+    base: &BaseTyped,
+    sig: &Sig,
+    asked: &Asked,
+    rows: &[Row],
+) -> Result<Seq<Action>, OutOfMemory>
+    requires fit { AllFit files.now }
+    requires few { length reads.now ≤ 64 }
+    requires reads { ReadsFit reads.now }
+    requires whole { files_of_reads reads.now ≡ files.now }
+    requires program { (typed : TypedProgramOf Private files.now names.now base.now)
+        × (typed.of_files.trees ≡ map placed_file trees.now) }
+    requires inferable { IsInferable base.now }
+    requires least { IsLeastSignature base.now sig.now }
+    requires rows { AreBroken base.now sig.now rows.now }
+    ensures { IfOk result (λ actions.
+        AreActions files.now asked.now.name.now asked.now.range actions) }
+{
+    places_are_forgotten();
+    let tokens = lex_all(alloc, reads)?;
+    let owners = find_owners(alloc, base.program())?;
+    let solved = Solved {
+        files,
+        tokens: &tokens,
+        trees,
+        names,
+        program: base.program(),
+        sig,
+        owners: &owners,
+    };
+    let actions = of_rules(alloc, &solved, base.indexed(), asked, rows)?;
+    Ok(actions)
+}
+
+/// The actions of files with this program.
+fn of_program<R: Threads + Sync, G: Gate + Sync>(
+    rt: &R,
+    gate: &G,
+    alloc: Global,
+    workers: u32,
+    reads: &[SourceRead],
+    files: &[SourceFile],
+    names: &Names,
+    trees: &[FileTree],
+    base: &BaseTyped,
+    asked: &Asked,
+) -> Result<Seq<Action>, OutOfMemory>
+    requires workers { (1 ≤ workers) × (workers ≤ 16) }
+    requires fit { AllFit files.now }
+    requires few { length reads.now ≤ 64 }
+    requires reads { ReadsFit reads.now }
+    requires whole { files_of_reads reads.now ≡ files.now }
+    requires program { (typed : TypedProgramOf Private files.now names.now base.now)
+        × (typed.of_files.trees ≡ map placed_file trees.now) }
+    ensures { IfOk result (λ actions.
+        AreActions files.now asked.now.name.now asked.now.range actions) }
+{
+    regular_programs_can_be_inferred();
+    let indexed = base.indexed();
+    let sig = solve_sig(rt, alloc, indexed, workers, gate)?;
+    let rows = check_all(rt, alloc, indexed, &sig, workers, gate)?;
+    of_solved(alloc, reads, files, names, trees, base, &sig, asked, &rows)
+}
+
+/// The actions of files of which this was found before their rules.
+#[tactic(auto, using(crate::proofs::Offering::of_refused))]
+fn finish<R: Threads + Sync, G: Gate + Sync>(
+    rt: &R,
+    gate: &G,
+    alloc: Global,
+    workers: u32,
+    reads: &[SourceRead],
+    files: &[SourceFile],
+    found: &TypedFiles,
+    asked: &Asked,
+) -> Result<Seq<Action>, OutOfMemory>
+    requires workers { (1 ≤ workers) × (workers ≤ 16) }
+    requires fit { AllFit files.now }
+    requires few { length reads.now ≤ 64 }
+    requires reads { ReadsFit reads.now }
+    requires whole { IsSome found.now.base → files_of_reads reads.now ≡ files.now }
+    requires typed { IsTypedOr Private files.now found.now.names
+        (map placed_file found.now.trees.items) found.now.rows found.now.base }
+    ensures { IfOk result (λ actions.
+        AreActions files.now asked.now.name.now asked.now.range actions) }
+{
+    match &found.base {
+        None => Ok(Seq::new(alloc)),
+        Some(base) => of_program(
+            rt,
+            gate,
+            alloc,
+            workers,
+            reads,
+            files,
+            &found.names,
+            &found.trees,
+            base,
+            asked,
+        ),
+    }
+}
+
+/// The edits that are offered in a range of the file of a name, among files that are checked anew by so many workers. For each row there, the
+/// first slot of the row's first chain of causes that is inferred and whose annotation can be written alone gives one edit, once for all rows
+/// that come to that slot; edits stand in the order of the report, each at the last of its rows. An edit puts the words that annotating the
+/// files puts for that slot ([`jn_annotate::annotate`]), with lines that import them where the file doesn't, into the file that declares the
+/// slot, which may be another one. A worker enters the gate when it takes a file, infers, or checks a body.
+///
+/// None is offered where the files are refused, where the row speaks of no value and of no overriding pair, where its chain has no slot
+/// whose annotation can be written, and, as [`jn_annotate::annotate`] refuses such files, where a field shares its type with one of another
+/// qualifier.
+///
+/// # Errors
+/// No memory was found.
+pub fn actions_for<R: Threads + Sync, G: Gate + Sync>(
+    rt: &R,
+    gate: &G,
+    alloc: Global,
+    workers: u32,
+    files: &[SourceFile],
+    name: &str,
+    range: Range,
+) -> Result<Seq<Action>, OutOfMemory>
+    requires workers { (1 ≤ workers) × (workers ≤ 16) }
+    requires fit { AllFit files.now }
+    ensures { IfOk result (λ actions. AreActions files.now name.now range actions) }
+{
+    if files.len() > MOST_FILES {
+        too_many_files(alloc)?;
+        return Ok(Seq::new(alloc));
+    }
+    let reads = reads_of(alloc, files)?;
+    let found = type_files(rt, gate, alloc, workers, Infer::Private, &reads)?;
+    finish(
+        rt,
+        gate,
+        alloc,
+        workers,
+        &reads,
+        files,
+        &found,
+        &Asked { name, range },
+    )
+}

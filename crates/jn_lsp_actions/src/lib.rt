@@ -1,0 +1,16 @@
+//! Edits that a language server offers at a row (Language Server Protocol 3.17, "Code Action Request"): those that write what is inferred of
+//! the slot where the qualifier that the row speaks of was left open.
+//!
+//! [`actions_for`] checks the files anew. For each row of a file that meets the range it goes along the row's first chain of causes
+//! ([`jn_chain::first_chain`]) to the first slot whose annotation can be written alone, and offers the words that [`jn_annotate`] puts for that
+//! slot. Nothing is claimed of what the files mean with these words.
+#![tactic(auto)]
+
+pub mod alone;
+pub mod asking;
+pub mod choosing;
+pub mod edits;
+pub mod files;
+pub mod giving;
+
+pub use files::actions_for;

@@ -1,0 +1,13 @@
+use Rattle.std.proofs.Common.{◌≡◌, ◌-◌, ◌≤◌, length}
+use Rattle.jn_lsp_frames.specs.Reading.{Takes}
+use Rattle.jn_lsp_frames.proofs.reader.FrameReader.read_body.Given as goal
+
+abbrev pub invariant-loop-body : goal.invariant-loop-body
+invariant-loop-body g l = let s = g.S.Stream in record {
+  taken : Takes (s.given l.fn.input) l.fn.self.pending.items (s.given l.input) l.self.pending.items l.body.items;
+  few : length l.body.items ≤ l.length;
+  faults : s.faults l.input ≡ s.faults l.fn.input;
+}
+
+abbrev pub decreases-loop-body : goal.decreases-loop-body
+decreases-loop-body g l = l.length - length l.body.items

@@ -1,0 +1,4 @@
+pub mod Header
+pub mod Lines
+pub mod Frames
+pub mod Reading
