@@ -4,4 +4,4 @@ mod Finding
 mod Leaving
 mod Noting
 mod Solving
-mod Standing
+pub mod Standing
