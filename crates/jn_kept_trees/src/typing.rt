@@ -34,7 +34,7 @@ pub struct TypedAgain {
     pub base: Option<BaseTyped>,
     /// The texts of their names and strings, by number; none where the files have no trees.
     pub names: Names,
-    /// What is to be kept of each file.
+    /// What is to be kept of each file; nothing where a limit is passed.
     pub kept: Vec<Option<KeptTree>>,
 }
 
@@ -95,8 +95,11 @@ fn kept_again(
 /// that are inferred; `trees` is what was kept of the files `last`. The text of a file that has the text of the file at its place among
 /// them is neither lexed nor parsed where its tree was kept. A worker enters the gate when it takes a file.
 ///
+/// To be kept are the trees of all files whose texts have one, or none where the files pass a limit (`limit_rows`). Nothing need have been
+/// kept of the files `last`: an empty list does for any of them.
+///
 /// # Errors
-/// No memory was found.
+/// No memory was found. `trees` is gone then, and an empty list does in its place.
 pub fn type_files_again<R: Threads + Sync, G: Gate + Sync>(
     rt: &R,
     gate: &G,

@@ -1,7 +1,6 @@
 -- Files that stay have the report that they had, and each body of their program is reusable.
 use Rattle.std.proofs.Common.{◌≡◌, ℕ, zero, suc, ◌+◌, ◌<◌, Bool, false, true, List, [], ◌∷◌, length, map, get_or, Option, Some, None, refl, sym, ap, ◌∙◌, subst, arith}
 use Rattle.std.specs.Prelude.{slice_get}
-use Rattle.jn_base.specs.declared.infer.Infer.TheVariants.{Private}
 use Rattle.jn_base.specs.declared.place.Row.{Row}
 use Rattle.jn_quals.specs.Qualifier.{Qualifier}
 use Rattle.jn_points.specs.declared.point.Point.{Point}
@@ -22,7 +21,7 @@ use Rattle.jn_recheck_law.specs.RuleReads.{rule_reads}
 use Rattle.jn_recheck_law.specs.Slots.{Agree}
 use Rattle.jn_recheck.specs.Files.{changed}
 use Rattle.jn_recheck.specs.KeptRows.{AreMadeAnew, count_false}
-use Rattle.jn_recheck.specs.Sessions.{AreShown, IsRecheck, IsSolutionOf, Reports, SessionOf, or_else}
+use Rattle.jn_recheck.specs.Sessions.{AreShown, IsRecheck, Reports, SessionOf, or_else}
 use Rattle.jn_recheck.specs.Told.{IsTold}
 use Rattle.jn_recheck.proofs.Rechecking.{session_reports}
 
@@ -88,7 +87,7 @@ true_at (x ∷ bodies) (suc b) lt = true_at bodies b (omega (arith, lt))
 
 none_false : (bodies : List Body) → 0 ≡ count_false (all_true bodies)
 none_false [] = refl
-none_false (x ∷ bodies) = none_false bodies
+none_false (x ∷ bodies) = let e = none_false bodies in omega (arith, e)
 
 none_made : (s : Solved) → AreMadeAnew (Some s) s 0
 none_made s = record {

@@ -35,15 +35,7 @@ fn least_from<R: Threads + Sync, G: Gate + Sync>(
         program: kept.indexed(),
         sig: kept.sig(),
     };
-    let sig = solve_again(
-        rt,
-        alloc,
-        &earlier,
-        names,
-        base.indexed(),
-        workers,
-        solving,
-    )?;
+    let sig = solve_again(rt, alloc, &earlier, names, base.indexed(), workers, solving)?;
     Ok(sig)
 }
 

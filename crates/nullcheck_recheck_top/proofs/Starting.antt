@@ -124,8 +124,13 @@ pub starts_script : (held : Option Holding) (name : List ℕ) (most : ℕ) (old 
 starts_script held name most old new g = inl (starts_one name [] most old new g)
 
 pub starts_steps : (held : Option Holding) (name script : List ℕ) (steps : List Step) (old mid new : List Given) → IsGood held name script steps → mid ≡ old ++ given name script ∷ [] → StartsOnly (files_of steps) mid new → StartsScript held name old new
-starts_steps held name script steps old mid new good gave s = inr (script, steps, good, record {
-  added = given name script ∷ s.added;
-  gave = s.gave ∙ ap (λ g. g ++ s.added) gave ∙ append_assoc old (given name script ∷ []) s.added;
-  named = ap (λ ns. name ∷ ns) s.named;
-})
+starts_steps held name script steps old mid new good gave s = inr (
+  script,
+  steps,
+  good,
+  record {
+    added = given name script ∷ s.added;
+    gave = s.gave ∙ ap (λ g. g ++ s.added) gave ∙ append_assoc old (given name script ∷ []) s.added;
+    named = ap (λ ns. name ∷ ns) s.named;
+  },
+)

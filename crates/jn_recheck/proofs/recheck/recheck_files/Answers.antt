@@ -1,4 +1,4 @@
-use Rattle.std.proofs.Common.{◌≤◌, length, map, sym, subst, arith}
+use Rattle.std.proofs.Common.{◌≤◌, length, sym, subst, arith}
 use Rattle.jn_front.specs.Files.{AreReads}
 use Rattle.jn_recheck.proofs.Reading.{reads_long}
 use Rattle.jn_recheck.proofs.recheck.recheck_files.Goals as goal
