@@ -5,6 +5,7 @@ use Rattle.std.proofs.lemmas.Grind.{flat_map-append}
 use Rattle.jn_lsp_types.specs.declared.id.Id.{Id}
 use Rattle.jn_lsp_types.specs.declared.message.Message.{Message}
 use Rattle.jn_lsp_types.specs.declared.message.Message.TheVariants.{Initialize, Initialized, DidOpen, DidChange, DidSave, DidClose, WatchedFiles, CodeAction, Shutdown, Exit, Ignored, Unknown, BadParams, NoMessage, NoJson, BadHeader, TooLarge}
+use Rattle.jn_lsp_types.specs.declared.reply.Action.{Action}
 use Rattle.jn_lsp_types.specs.declared.reply.Failure.{Failure}
 use Rattle.jn_lsp_types.specs.declared.reply.Reply.{Reply}
 use Rattle.jn_lsp.specs.declared.diagnostics.Told.{Told}
@@ -15,7 +16,7 @@ use Rattle.jn_lsp.specs.declared.phase.Phase.{Phase}
 use Rattle.jn_lsp.specs.declared.phase.Phase.TheVariants.{Waiting, Serving, ShutDown, Exited}
 use Rattle.jn_lsp.specs.Publications.{ArePublished, gone}
 use Rattle.jn_lsp.specs.Requests.{AreAnswered, id_answered, id_asked, id_in, ids_answered, ids_asked, is_exit}
-use Rattle.jn_lsp.specs.Serving.{IsRetold, Serves, ServerOf, Takes, answer_of, answers, late_answer, new_server, next_phase, phase_behind, refusal, serving_answer, waiting_answer}
+use Rattle.jn_lsp.specs.Serving.{AreAnswers, IsRetold, Serves, ServerOf, Takes, answer_of, late_answer, new_server, next_phase, phase_behind, refusal, serving_answer, waiting_answer}
 
 -- ---- publications answer nothing
 
@@ -59,24 +60,24 @@ waiting_one NoJson = refl
 waiting_one BadHeader = refl
 waiting_one TooLarge = refl
 
-serving_one : (message : Message) → IsAnswer (serving_answer message) (id_asked message)
-serving_one (Initialize id folder files) = refl
-serving_one Initialized = refl
-serving_one (DidOpen name text) = refl
-serving_one (DidChange name changes) = refl
-serving_one (DidSave name) = refl
-serving_one (DidClose name) = refl
-serving_one WatchedFiles = refl
-serving_one (CodeAction id name range) = refl
-serving_one (Shutdown id) = refl
-serving_one Exit = refl
-serving_one Ignored = refl
-serving_one (Unknown id) = refl
-serving_one (BadParams id) = refused _ id
-serving_one NoMessage = refl
-serving_one NoJson = refl
-serving_one BadHeader = refl
-serving_one TooLarge = refl
+serving_one : (actions : List Action) (message : Message) → IsAnswer (serving_answer actions message) (id_asked message)
+serving_one actions (Initialize id folder files) = refl
+serving_one actions Initialized = refl
+serving_one actions (DidOpen name text) = refl
+serving_one actions (DidChange name changes) = refl
+serving_one actions (DidSave name) = refl
+serving_one actions (DidClose name) = refl
+serving_one actions WatchedFiles = refl
+serving_one actions (CodeAction id name range) = refl
+serving_one actions (Shutdown id) = refl
+serving_one actions Exit = refl
+serving_one actions Ignored = refl
+serving_one actions (Unknown id) = refl
+serving_one actions (BadParams id) = refused _ id
+serving_one actions NoMessage = refl
+serving_one actions NoJson = refl
+serving_one actions BadHeader = refl
+serving_one actions TooLarge = refl
 
 late_one : (message : Message) → IsAnswer (late_answer message) (id_asked message)
 late_one (Initialize id folder files) = refl
@@ -112,22 +113,25 @@ IsGone Serving = ⊥
 IsGone ShutDown = ⊥
 IsGone (Exited in_order) = Unit {0}
 
-answer_one : (phase : Phase) (message : Message) → IsLive phase → IsAnswer (answer_of phase message) (id_asked message)
-answer_one Waiting message live = waiting_one message
-answer_one Serving message live = serving_one message
-answer_one ShutDown message live = late_one message
-answer_one (Exited in_order) _ live = absurd live
+answer_one : (actions : List Action) (phase : Phase) (message : Message) → IsLive phase → IsAnswer (answer_of actions phase message) (id_asked message)
+answer_one actions Waiting message live = waiting_one message
+answer_one actions Serving message live = serving_one actions message
+answer_one actions ShutDown message live = late_one message
+answer_one actions (Exited in_order) _ live = absurd live
 
-answers_one : (phase : Phase) (event : Event) → IsLive phase → ids_answered (answers phase event) ≡ option_to_list (id_in event)
-answers_one phase (MessageEvent message) live = answer_one phase message live
-answers_one phase (Folder files) live = refl
+answers_one : (server : ServerOf) (event : Event) (direct : List Reply) → AreAnswers server event direct → IsLive server.phase → ids_answered direct ≡ option_to_list (id_in event)
+answers_one server (MessageEvent message) direct (actions, offered, e) live = ap ids_answered e ∙ answer_one actions server.phase message live
+answers_one server (Folder files) direct e live = ap ids_answered e
 
-answers_none : (phase : Phase) (event : Event) → IsGone phase → ids_answered (answers phase event) ≡ []
-answers_none Waiting event gone = absurd gone
-answers_none Serving event gone = absurd gone
-answers_none ShutDown event gone = absurd gone
-answers_none (Exited in_order) (MessageEvent _) gone = refl
-answers_none (Exited in_order) (Folder files) gone = refl
+answer_none : (actions : List Action) (phase : Phase) (message : Message) → IsGone phase → IsAnswer (answer_of actions phase message) None
+answer_none actions Waiting _ gone = absurd gone
+answer_none actions Serving _ gone = absurd gone
+answer_none actions ShutDown _ gone = absurd gone
+answer_none actions (Exited in_order) _ gone = refl
+
+answers_none : (server : ServerOf) (event : Event) (direct : List Reply) → AreAnswers server event direct → IsGone server.phase → ids_answered direct ≡ []
+answers_none server (MessageEvent message) direct (actions, offered, e) gone = ap ids_answered e ∙ answer_none actions server.phase message gone
+answers_none server (Folder files) direct e gone = ap ids_answered e
 
 clash : {X : Type 0} → true ≡ false → X
 clash e = absurd (cc)
@@ -240,20 +244,20 @@ gone_on (Exited in_order) (Folder files) gone = tt
 
 -- ---- events
 
--- what is answered behind an event is the answer to it
-taken : (before after : ServerOf) (event : Event) (replies : List Reply) → Takes before event replies after → ids_answered replies ≡ ids_answered (answers before.phase event)
+-- what is answered behind an event are its answers
+taken : (before after : ServerOf) (event : Event) (replies : List Reply) (takes : Takes before event replies after) → ids_answered replies ≡ ids_answered takes.direct
 taken before after event replies takes =
     ap ids_answered takes.all
-    ∙ both_answered (answers before.phase event) takes.news
-    ∙ ap (λ ids. ids_answered (answers before.phase event) ++ ids) (news_silent takes.moved before after takes.news takes.retold)
-    ∙ append-nil (ids_answered (answers before.phase event))
+    ∙ both_answered takes.direct takes.news
+    ∙ ap (λ ids. ids_answered takes.direct ++ ids) (news_silent takes.moved before after takes.news takes.retold)
+    ∙ append-nil (ids_answered takes.direct)
 
 all_none : (events : List Event) (before after : ServerOf) (replies : List Reply) → IsGone before.phase → Serves before events replies after → ids_answered replies ≡ []
 all_none [] before after replies gone (nothing, same) = ap ids_answered nothing
 all_none (event ∷ events) before after replies gone (first, rest, mid, e, takes, serves) =
     ap ids_answered e
     ∙ both_answered first rest
-    ∙ ap (λ ids. ids ++ ids_answered rest) (taken before mid event first takes ∙ answers_none before.phase event gone)
+    ∙ ap (λ ids. ids ++ ids_answered rest) (taken before mid event first takes ∙ answers_none before event takes.direct takes.answers gone)
     ∙ all_none events mid after rest (subst IsGone (sym takes.phase) (gone_on before.phase event gone)) serves
 
 behind : (event : Event) (events : List Event) (rest : List Reply) (b : Bool) → is_exit event ≡ b → (is_exit event ≡ true → ids_answered rest ≡ []) → (is_exit event ≡ false → ids_answered rest ≡ ids_asked events) → option_to_list (id_in event) ++ ids_answered rest ≡ cond b [] (option_to_list (id_in event) ++ ids_asked events)
@@ -265,7 +269,7 @@ all_answered [] before after replies live (nothing, same) = ap ids_answered noth
 all_answered (event ∷ events) before after replies live (first, rest, mid, e, takes, serves) =
     ap ids_answered e
     ∙ both_answered first rest
-    ∙ ap (λ ids. ids ++ ids_answered rest) (taken before mid event first takes ∙ answers_one before.phase event live)
+    ∙ ap (λ ids. ids ++ ids_answered rest) (taken before mid event first takes ∙ answers_one before event takes.direct takes.answers live)
     ∙ behind event events rest (is_exit event) refl (λ t. all_none events mid after rest (subst IsGone (sym takes.phase) (gone_by before.phase event t)) serves) (λ t. all_answered events mid after rest (subst IsLive (sym takes.phase) (live_on before.phase event live t)) serves)
 
 pub answered : (events : List Event) (replies : List Reply) (after : ServerOf) → Serves new_server events replies after → AreAnswered events replies

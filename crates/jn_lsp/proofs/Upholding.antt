@@ -5,6 +5,7 @@ use Rattle.jn_front.specs.declared.source.SourceFile.{SourceFile}
 use Rattle.jn_lsp_types.specs.declared.id.Id.{Id}
 use Rattle.jn_lsp_types.specs.declared.message.Message.{Message}
 use Rattle.jn_lsp_types.specs.declared.message.Message.TheVariants.{Initialize, Initialized, DidOpen, DidChange, DidSave, DidClose, WatchedFiles, CodeAction, Shutdown, Exit, Ignored, Unknown, BadParams, NoMessage, NoJson, BadHeader, TooLarge}
+use Rattle.jn_lsp_types.specs.declared.reply.Action.{Action}
 use Rattle.jn_lsp_types.specs.declared.reply.Diagnostic.{Diagnostic}
 use Rattle.jn_lsp_types.specs.declared.reply.Failure.{Failure}
 use Rattle.jn_lsp_types.specs.declared.reply.Reply.{Reply}
@@ -15,7 +16,7 @@ use Rattle.jn_lsp.specs.declared.event.Event.TheVariants.{Folder, Message as Mes
 use Rattle.jn_lsp.specs.declared.phase.Phase.{Phase}
 use Rattle.jn_lsp.specs.declared.phase.Phase.TheVariants.{Waiting, Serving, ShutDown, Exited}
 use Rattle.jn_lsp.specs.Publications.{Announces, last_published}
-use Rattle.jn_lsp.specs.Serving.{ArePublishedLast, IsInformed, IsMovedIn, IsRetold, IsUpToDate, Serves, ServerOf, Takes, answers, answer_of, files_of, late_answer, new_server, next_phase, refusal, serving_answer, waiting_answer}
+use Rattle.jn_lsp.specs.Serving.{AreAnswers, ArePublishedLast, IsInformed, IsMovedIn, IsRetold, IsUpToDate, Serves, ServerOf, Takes, answer_of, files_of, late_answer, new_server, next_phase, refusal, serving_answer, waiting_answer}
 use Rattle.jn_lsp.specs.Telling.{IsTold, told_of}
 use Rattle.jn_lsp.proofs.LastPublished.{announced, last_both, told_own}
 use Rattle.jn_lsp.proofs.Names.{stand_own}
@@ -50,24 +51,24 @@ module _ (name : List ℕ) (last : List Diagnostic) where
   waiting_silent BadHeader = refl
   waiting_silent TooLarge = refl
 
-  serving_silent : (message : Message) → IsSilent (serving_answer message)
-  serving_silent (Initialize id folder files) = refl
-  serving_silent Initialized = refl
-  serving_silent (DidOpen named text) = refl
-  serving_silent (DidChange named changes) = refl
-  serving_silent (DidSave named) = refl
-  serving_silent (DidClose named) = refl
-  serving_silent WatchedFiles = refl
-  serving_silent (CodeAction id named range) = refl
-  serving_silent (Shutdown id) = refl
-  serving_silent Exit = refl
-  serving_silent Ignored = refl
-  serving_silent (Unknown id) = refl
-  serving_silent (BadParams id) = refusal_silent _ id
-  serving_silent NoMessage = refl
-  serving_silent NoJson = refl
-  serving_silent BadHeader = refl
-  serving_silent TooLarge = refl
+  serving_silent : (actions : List Action) (message : Message) → IsSilent (serving_answer actions message)
+  serving_silent actions (Initialize id folder files) = refl
+  serving_silent actions Initialized = refl
+  serving_silent actions (DidOpen named text) = refl
+  serving_silent actions (DidChange named changes) = refl
+  serving_silent actions (DidSave named) = refl
+  serving_silent actions (DidClose named) = refl
+  serving_silent actions WatchedFiles = refl
+  serving_silent actions (CodeAction id named range) = refl
+  serving_silent actions (Shutdown id) = refl
+  serving_silent actions Exit = refl
+  serving_silent actions Ignored = refl
+  serving_silent actions (Unknown id) = refl
+  serving_silent actions (BadParams id) = refusal_silent _ id
+  serving_silent actions NoMessage = refl
+  serving_silent actions NoJson = refl
+  serving_silent actions BadHeader = refl
+  serving_silent actions TooLarge = refl
 
   late_silent : (message : Message) → IsSilent (late_answer message)
   late_silent (Initialize id folder files) = refl
@@ -88,15 +89,15 @@ module _ (name : List ℕ) (last : List Diagnostic) where
   late_silent BadHeader = refl
   late_silent TooLarge = refl
 
-  answer_silent : (phase : Phase) (message : Message) → IsSilent (answer_of phase message)
-  answer_silent Waiting message = waiting_silent message
-  answer_silent Serving message = serving_silent message
-  answer_silent ShutDown message = late_silent message
-  answer_silent (Exited in_order) _ = refl
+  answer_silent : (actions : List Action) (phase : Phase) (message : Message) → IsSilent (answer_of actions phase message)
+  answer_silent actions Waiting message = waiting_silent message
+  answer_silent actions Serving message = serving_silent actions message
+  answer_silent actions ShutDown message = late_silent message
+  answer_silent actions (Exited in_order) _ = refl
 
-  answers_silent : (phase : Phase) (event : Event) → last_published name last (answers phase event) ≡ last
-  answers_silent phase (MessageEvent message) = answer_silent phase message
-  answers_silent phase (Folder files) = refl
+  answers_silent : (server : ServerOf) (event : Event) (direct : List Reply) → AreAnswers server event direct → last_published name last direct ≡ last
+  answers_silent server (MessageEvent message) direct (actions, offered, e) = ap (last_published name last) e ∙ answer_silent actions server.phase message
+  answers_silent server (Folder files) direct e = ap (last_published name last) e
 
 -- ---- one event
 
@@ -116,25 +117,29 @@ news_last name (Some workspace) before after news (is, told, announces) =
 event_last : (name : List ℕ) (before after : ServerOf) (event : Event) (replies : List Reply) → Takes before event replies after → last_published name (told_of before.told name) replies ≡ told_of after.told name
 event_last name before after event replies takes =
     ap (last_published name (told_of before.told name)) takes.all
-    ∙ last_both name (told_of before.told name) (answers before.phase event) takes.news
-    ∙ ap (λ l. last_published name l takes.news) (answers_silent name (told_of before.told name) before.phase event)
+    ∙ last_both name (told_of before.told name) takes.direct takes.news
+    ∙ ap (λ l. last_published name l takes.news) (answers_silent name (told_of before.told name) before event takes.direct takes.answers)
     ∙ news_last name takes.moved before after takes.news takes.retold
 
 -- files stay as they are
-pub takes_alone : (phase next : Phase) (workspace : Workspace) (told : List Told) (event : Event) (replies : List Reply) (moved : Option Workspace) → next ≡ next_phase phase event → IsMovedIn phase event workspace moved → moved ≡ None → replies ≡ answers phase event → Takes (record { phase = phase; workspace = workspace; told = told }) event replies (record { phase = next; workspace = workspace; told = told })
-takes_alone phase next workspace told event replies moved behind moves none e = record {
+pub takes_alone : (phase next : Phase) (workspace : Workspace) (told : List Told) (event : Event) (direct replies : List Reply) (moved : Option Workspace) → next ≡ next_phase phase event → AreAnswers (record { phase = phase; workspace = workspace; told = told }) event direct → IsMovedIn phase event workspace moved → moved ≡ None → replies ≡ direct → Takes (record { phase = phase; workspace = workspace; told = told }) event replies (record { phase = next; workspace = workspace; told = told })
+takes_alone phase next workspace told event direct replies moved behind answers moves none e = record {
   phase = behind;
+  direct = direct;
+  answers = answers;
   moved = None;
   moves = subst (IsMovedIn phase event workspace) none moves;
   news = [];
   retold = (refl, refl, refl);
-  all = e ∙ sym (append-nil (answers phase event));
+  all = e ∙ sym (append-nil direct);
 }
 
 -- files change
-pub takes_all : (phase next : Phase) (workspace new : Workspace) (told more : List Told) (event : Event) (replies news : List Reply) (moved : Option Workspace) → next ≡ next_phase phase event → IsMovedIn phase event workspace moved → moved ≡ Some new → IsTold (files_of new) more → Announces told more news → replies ≡ answers phase event ++ news → Takes (record { phase = phase; workspace = workspace; told = told }) event replies (record { phase = next; workspace = new; told = more })
-takes_all phase next workspace new told more event replies news moved behind moves some is announces e = record {
+pub takes_all : (phase next : Phase) (workspace new : Workspace) (told more : List Told) (event : Event) (direct replies news : List Reply) (moved : Option Workspace) → next ≡ next_phase phase event → AreAnswers (record { phase = phase; workspace = workspace; told = told }) event direct → IsMovedIn phase event workspace moved → moved ≡ Some new → IsTold (files_of new) more → Announces told more news → replies ≡ direct ++ news → Takes (record { phase = phase; workspace = workspace; told = told }) event replies (record { phase = next; workspace = new; told = more })
+takes_all phase next workspace new told more event direct replies news moved behind answers moves some is announces e = record {
   phase = behind;
+  direct = direct;
+  answers = answers;
   moved = Some new;
   moves = subst (IsMovedIn phase event workspace) some moves;
   news = news;

@@ -1,10 +1,15 @@
 -- What an event makes of a server, and what is replied to it (Language Server Protocol 3.17, "Server lifecycle").
 use Rattle.std.specs.Prelude.{ℕ, ◌≡◌, ◌++◌, Bool, true, false, List, [], ◌∷◌, Option, Some, None, option_map, option_to_list}
+use Rattle.std.specs.List.{list_any}
 use Rattle.jn_base.specs.declared.place.Row.{Row}
 use Rattle.jn_front.specs.declared.source.SourceFile.{SourceFile}
+use Rattle.jn_lsp_actions.specs.Asking.{meets}
+use Rattle.jn_lsp_actions.specs.Offered.{AreActions}
+use Rattle.jn_lsp_text.specs.declared.range.Range.{Range}
 use Rattle.jn_lsp_types.specs.declared.id.Id.{Id}
 use Rattle.jn_lsp_types.specs.declared.message.Message.{Message}
 use Rattle.jn_lsp_types.specs.declared.message.Message.TheVariants.{Initialize, Initialized, DidOpen, DidChange, DidSave, DidClose, WatchedFiles, CodeAction, Shutdown, Exit, Ignored, Unknown, BadParams, NoMessage, NoJson, BadHeader, TooLarge}
+use Rattle.jn_lsp_types.specs.declared.reply.Action.{Action}
 use Rattle.jn_lsp_types.specs.declared.reply.Diagnostic.{Diagnostic}
 use Rattle.jn_lsp_types.specs.declared.reply.Failure.{Failure}
 use Rattle.jn_lsp_types.specs.declared.reply.Failure.TheVariants.{Parse, Request, Method, Params, NotInitialized}
@@ -20,7 +25,7 @@ use Rattle.jn_lsp.specs.declared.phase.Phase.TheVariants.{Waiting, Serving, Shut
 use Rattle.jn_lsp.specs.Edits.{AreEdited}
 use Rattle.jn_lsp.specs.Publications.{Announces, last_published}
 use Rattle.jn_lsp.specs.Stand.{stand}
-use Rattle.jn_lsp.specs.Telling.{AreFindings, IsTold, diagnostics_of}
+use Rattle.jn_lsp.specs.Telling.{AreFindings, IsTold, diagnostics_of, told_of}
 
 -- ---- requests and phases
 
@@ -61,14 +66,14 @@ waiting_answer (Unknown id) = refusal NotInitialized (Some id)
 waiting_answer (BadParams id) = refusal Params id
 waiting_answer other = nameless (unread other)
 
--- a second `initialize` is refused
-abbrev pub serving_answer : Message → Option Reply
-serving_answer (Initialize id folder files) = refusal Request (Some id)
-serving_answer (CodeAction id name range) = Some (Actions id [])
-serving_answer (Shutdown id) = Some (Done id)
-serving_answer (Unknown id) = refusal Method (Some id)
-serving_answer (BadParams id) = refusal Params id
-serving_answer other = nameless (unread other)
+-- a second `initialize` is refused, and these are the actions for a request of actions
+abbrev pub serving_answer : List Action → Message → Option Reply
+serving_answer actions (Initialize id folder files) = refusal Request (Some id)
+serving_answer actions (CodeAction id name range) = Some (Actions id actions)
+serving_answer actions (Shutdown id) = Some (Done id)
+serving_answer actions (Unknown id) = refusal Method (Some id)
+serving_answer actions (BadParams id) = refusal Params id
+serving_answer actions other = nameless (unread other)
 
 -- behind `shutdown` every request is refused
 abbrev pub late_answer : Message → Option Reply
@@ -79,12 +84,12 @@ late_answer (Unknown id) = refusal Request (Some id)
 late_answer (BadParams id) = refusal Request id
 late_answer other = nameless (unread other)
 
--- the answer to a request; notifications have none, but for those that can't be read
-abbrev pub answer_of : Phase → Message → Option Reply
-answer_of Waiting message = waiting_answer message
-answer_of Serving message = serving_answer message
-answer_of ShutDown message = late_answer message
-answer_of (Exited in_order) _ = None
+-- the answer to a request, where these actions are offered; notifications have none, but for those that can't be read
+abbrev pub answer_of : List Action → Phase → Message → Option Reply
+answer_of actions Waiting message = waiting_answer message
+answer_of actions Serving message = serving_answer actions message
+answer_of actions ShutDown message = late_answer message
+answer_of actions (Exited in_order) _ = None
 
 abbrev pub phase_behind : Phase → Message → Phase
 phase_behind Waiting (Initialize id folder files) = Serving
@@ -106,10 +111,6 @@ wants_folder WatchedFiles = true
 wants_folder (DidSave name) = true
 wants_folder (DidClose name) = true
 wants_folder _ = false
-
-abbrev pub answers : Phase → Event → List Reply
-answers phase (MessageEvent message) = option_to_list (answer_of phase message)
-answers phase (Folder files) = []
 
 abbrev pub next_phase : Phase → Event → Phase
 next_phase phase (MessageEvent message) = phase_behind phase message
@@ -145,6 +146,38 @@ new_server = record { phase = Waiting; workspace = record { disk = []; documents
 abbrev pub files_of : Workspace → List SourceFile
 files_of workspace = stand workspace.disk workspace.documents
 
+-- ---- actions
+
+abbrev pub is_at : Range → Diagnostic → Bool
+is_at range diagnostic = meets diagnostic.range range
+
+-- a diagnostic that is told of the name meets the range; a cursor is a range without characters
+abbrev pub is_told_at : List Told → List ℕ → Range → Bool
+is_told_at told name range = list_any (is_at range) (told_of told name)
+
+-- the files' actions, where something is told at the range; else none
+abbrev pub AreActionsIf : Bool → List SourceFile → List ℕ → Range → List Action → Type 0
+AreActionsIf false files name range actions = actions ≡ []
+AreActionsIf true files name range actions = AreActions files name range actions
+
+-- the actions for a request of actions; other messages have none
+abbrev pub AreActionsFor : List Told → List SourceFile → Message → List Action → Type 0
+AreActionsFor told files (CodeAction id name range) actions = AreActionsIf (is_told_at told name range) files name range actions
+AreActionsFor told files other actions = actions ≡ []
+
+-- actions are offered only while the server serves
+abbrev pub AreActionsIn : Phase → List Told → List SourceFile → Message → List Action → Type 0
+AreActionsIn Serving told files message actions = AreActionsFor told files message actions
+AreActionsIn _ _ _ _ actions = actions ≡ []
+
+-- the answers to an event: to a message one at most
+abbrev pub AreAnswers : ServerOf → Event → List Reply → Type 0
+AreAnswers server (MessageEvent message) replies =
+    (actions : List Action) × AreActionsIn server.phase server.told (files_of server.workspace) message actions × (replies ≡ option_to_list (answer_of actions server.phase message))
+AreAnswers server (Folder files) replies = replies ≡ []
+
+-- ---- what a server does
+
 -- where files change, their report is told, and what of it wasn't told before is published
 abbrev pub IsRetold : Option Workspace → ServerOf → List Reply → ServerOf → Type 0
 IsRetold None before news after = (news ≡ []) × (after.workspace ≡ before.workspace) × (after.told ≡ before.told)
@@ -153,11 +186,13 @@ IsRetold (Some workspace) before news after = (after.workspace ≡ workspace) ×
 -- a server takes an event, and gives these replies
 pub record Takes (before : ServerOf) (event : Event) (replies : List Reply) (after : ServerOf) : Type 0 where
   pub phase : after.phase ≡ next_phase before.phase event
+  pub direct : List Reply
+  pub answers : AreAnswers before event direct
   pub moved : Option Workspace
   pub moves : IsMovedIn before.phase event before.workspace moved
   pub news : List Reply
   pub retold : IsRetold moved before news after
-  pub all : replies ≡ answers before.phase event ++ news
+  pub all : replies ≡ direct ++ news
 
 -- it takes events, one after the other
 abbrev pub Serves : ServerOf → List Event → List Reply → ServerOf → Type 0

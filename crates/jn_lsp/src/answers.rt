@@ -2,11 +2,16 @@
 ghost use Rattle.std.specs.Prelude.{◌≡◌, IfOk, option_to_list};
 ghost use Rattle.jn_lsp.specs.Serving as spec;
 
+use crate::diagnostics::Told;
+use crate::documents::Workspace;
 use crate::event::Event;
+use crate::offering::offered;
 use crate::phase::Phase;
 use jn_base::{OutOfMemory, Seq};
-use jn_lsp_types::{Failure, Id, Message, Reply};
+use jn_gate::Gate;
+use jn_lsp_types::{Action, Failure, Id, Message, Reply};
 use std::alloc::Global;
+use std::thread::Threads;
 
 /// The refusal of a request; a notification, which has no id, is dropped.
 fn refusal(alloc: Global, failure: Failure, id: &Option<Id>) -> Result<Option<Reply>, OutOfMemory>
@@ -56,14 +61,18 @@ fn waiting_answer(alloc: Global, message: &Message) -> Result<Option<Reply>, Out
     }
 }
 
-fn serving_answer(alloc: Global, message: &Message) -> Result<Option<Reply>, OutOfMemory>
-    ensures { IfOk result (λ answer. answer ≡ spec.serving_answer message.now) }
+fn serving_answer(
+    alloc: Global,
+    message: &Message,
+    actions: Seq<Action>,
+) -> Result<Option<Reply>, OutOfMemory>
+    ensures { IfOk result (λ answer. answer ≡ spec.serving_answer actions message.now) }
 {
     match message {
         Message::Initialize { id, .. } => refused(alloc, Failure::Request, id),
         Message::CodeAction { id, .. } => Ok(Some(Reply::Actions {
             id: id.copy(alloc)?,
-            actions: Seq::new(alloc),
+            actions,
         })),
         Message::Shutdown { id } => Ok(Some(Reply::Done {
             id: id.copy(alloc)?,
@@ -87,13 +96,18 @@ fn late_answer(alloc: Global, message: &Message) -> Result<Option<Reply>, OutOfM
     }
 }
 
-/// The answer to a message, where it has one.
-fn answer_of(alloc: Global, phase: Phase, message: &Message) -> Result<Option<Reply>, OutOfMemory>
-    ensures { IfOk result (λ answer. answer ≡ spec.answer_of phase message.now) }
+/// The answer to a message, where it has one and these actions are offered.
+fn answer_of(
+    alloc: Global,
+    phase: Phase,
+    message: &Message,
+    actions: Seq<Action>,
+) -> Result<Option<Reply>, OutOfMemory>
+    ensures { IfOk result (λ answer. answer ≡ spec.answer_of actions phase message.now) }
 {
     match phase {
         Phase::Waiting => waiting_answer(alloc, message),
-        Phase::Serving => serving_answer(alloc, message),
+        Phase::Serving => serving_answer(alloc, message, actions),
         Phase::ShutDown => late_answer(alloc, message),
         Phase::Exited { .. } => Ok(None),
     }
@@ -110,12 +124,22 @@ fn listed(alloc: Global, answer: Option<Reply>) -> Result<Seq<Reply>, OutOfMemor
 }
 
 /// The answers to an event.
-pub(crate) fn answers(alloc: Global, phase: Phase, event: &Event) -> Result<Seq<Reply>, OutOfMemory>
-    ensures { IfOk result (λ replies. replies ≡ spec.answers phase event.now) }
+pub(crate) fn answers<R: Threads + Sync, G: Gate + Sync>(
+    rt: &R,
+    gate: &G,
+    alloc: Global,
+    phase: Phase,
+    told: &[Told],
+    workspace: &Workspace,
+    event: &Event,
+) -> Result<Seq<Reply>, OutOfMemory>
+    ensures { IfOk result (λ replies. spec.AreAnswers
+        (record { phase = phase; workspace = workspace.now; told = told.now }) event.now replies) }
 {
     match event {
         Event::Message(message) => {
-            let answer = answer_of(alloc, phase, message)?;
+            let actions = offered(rt, gate, alloc, phase, told, workspace, message)?;
+            let answer = answer_of(alloc, phase, message, actions)?;
             listed(alloc, answer)
         }
         Event::Folder(_) => Ok(Seq::new(alloc)),

@@ -22,7 +22,7 @@ fn is_told(told: &[Told], name: &str) -> bool
 }
 
 /// What is told of a name.
-fn told_of<'a>(told: &'a [Told], name: &str) -> &'a [Diagnostic]
+pub(crate) fn told_of<'a>(told: &'a [Told], name: &str) -> &'a [Diagnostic]
     ensures { result.now ≡ told_of told.now name.now }
 {
     for one in told {

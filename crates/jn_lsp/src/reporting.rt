@@ -13,8 +13,8 @@ use jn_recheck::{Checked, Session};
 use std::alloc::Global;
 use std::thread::Threads;
 
-/// How many workers share the work of a report.
-const WORKERS: u32 = 4;
+/// How many workers share the work of a report, and of what is offered.
+pub(crate) const WORKERS: u32 = 4;
 
 /// The notes of a report's rows: only those of the rules have any.
 fn notes_of(

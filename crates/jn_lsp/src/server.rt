@@ -105,7 +105,8 @@ impl Server {
     }
 
     /// Takes an event, and gives the replies to it in order. Where the event changes the files that stand, their report is made anew, and
-    /// each name of which something else is told than before gets a publication. Workers enter the gate where they take a file or a body.
+    /// each name of which something else is told than before gets a publication. For a request of actions the files are checked anew where
+    /// something is told at its range. Workers enter the gate where they take a file or a body.
     ///
     /// # Errors
     /// No memory was found, and the server is as before.
@@ -120,7 +121,15 @@ impl Server {
     {
         let alloc = self.alloc;
         let next = self.phase.behind_event(event);
-        let direct = answers(alloc, self.phase, event)?;
+        let direct = answers(
+            rt,
+            gate,
+            alloc,
+            self.phase,
+            self.told.as_slice(),
+            &self.workspace,
+            event,
+        )?;
         let moved = self.workspace.moved(alloc, self.phase, event)?;
         match moved {
             None => {

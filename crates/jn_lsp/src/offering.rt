@@ -1,0 +1,113 @@
+//! The actions that are offered at a range of a file.
+ghost use Rattle.std.specs.Prelude.{◌≡◌, IfOk};
+ghost use Rattle.jn_lsp.specs.Serving as spec;
+ghost use Rattle.jn_lsp_actions.specs.Offered.{AreActions};
+
+use crate::diagnostics::Told;
+use crate::documents::Workspace;
+use crate::phase::Phase;
+use crate::publishing::told_of;
+use crate::reporting::WORKERS;
+use crate::standing::stand;
+use jn_base::{OutOfMemory, Seq};
+use jn_gate::Gate;
+use jn_lsp_actions::actions_for;
+use jn_lsp_actions::asking::meets;
+use jn_lsp_text::Range;
+use jn_lsp_types::{Action, Diagnostic, Message};
+use std::alloc::Global;
+use std::thread::Threads;
+
+fn is_at(diagnostic: &Diagnostic, range: Range) -> bool
+    ensures { result ≡ spec.is_at range diagnostic.now }
+{
+    meets(diagnostic.range, range)
+}
+
+/// Whether a diagnostic that is told of the name meets the range.
+fn is_told_at(told: &[Told], name: &str, range: Range) -> bool
+    ensures { result ≡ spec.is_told_at told.now name.now range }
+{
+    told_of(told, name)
+        .iter()
+        .any(|diagnostic| is_at(diagnostic, range))
+}
+
+/// The actions of the files as they stand at a range of the file of a name.
+fn actions_of<R: Threads + Sync, G: Gate + Sync>(
+    rt: &R,
+    gate: &G,
+    alloc: Global,
+    workspace: &Workspace,
+    name: &str,
+    range: Range,
+) -> Result<Seq<Action>, OutOfMemory>
+    ensures { IfOk result (λ actions. AreActions (spec.files_of workspace.now) name.now range
+        actions) }
+{
+    let files = stand(alloc, workspace)?;
+    let actions = actions_for(rt, gate, alloc, WORKERS, files.as_slice(), name, range)?;
+    Ok(actions)
+}
+
+/// The actions at a range of the file of a name. Files are checked for them only where something is told there, since editors ask at each
+/// move of the cursor.
+fn actions_at<R: Threads + Sync, G: Gate + Sync>(
+    rt: &R,
+    gate: &G,
+    alloc: Global,
+    told: &[Told],
+    workspace: &Workspace,
+    name: &str,
+    range: Range,
+) -> Result<Seq<Action>, OutOfMemory>
+    ensures { IfOk result (λ actions. spec.AreActionsIf (spec.is_told_at told.now name.now range)
+        (spec.files_of workspace.now) name.now range actions) }
+{
+    if is_told_at(told, name, range) {
+        actions_of(rt, gate, alloc, workspace, name, range)
+    } else {
+        Ok(Seq::new(alloc))
+    }
+}
+
+/// The actions for a message: those for a request of actions.
+fn actions_for_message<R: Threads + Sync, G: Gate + Sync>(
+    rt: &R,
+    gate: &G,
+    alloc: Global,
+    told: &[Told],
+    workspace: &Workspace,
+    message: &Message,
+) -> Result<Seq<Action>, OutOfMemory>
+    ensures { IfOk result (λ actions. spec.AreActionsFor told.now (spec.files_of workspace.now)
+        message.now actions) }
+{
+    match message {
+        Message::CodeAction { name, range, .. } => {
+            actions_at(rt, gate, alloc, told, workspace, name.as_str(), *range)
+        }
+        _ => Ok(Seq::new(alloc)),
+    }
+}
+
+/// The actions for a message that is taken in this phase.
+pub(crate) fn offered<R: Threads + Sync, G: Gate + Sync>(
+    rt: &R,
+    gate: &G,
+    alloc: Global,
+    phase: Phase,
+    told: &[Told],
+    workspace: &Workspace,
+    message: &Message,
+) -> Result<Seq<Action>, OutOfMemory>
+    ensures { IfOk result (λ actions. spec.AreActionsIn phase told.now (spec.files_of workspace.now)
+        message.now actions) }
+{
+    match phase {
+        Phase::Waiting => Ok(Seq::new(alloc)),
+        Phase::Serving => actions_for_message(rt, gate, alloc, told, workspace, message),
+        Phase::ShutDown => Ok(Seq::new(alloc)),
+        Phase::Exited { .. } => Ok(Seq::new(alloc)),
+    }
+}
