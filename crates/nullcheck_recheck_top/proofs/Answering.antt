@@ -1,12 +1,11 @@
 -- What is written answers the script.
-use Rattle.std.proofs.Common.{◌≡◌, ℕ, ◌+◌, ◌<◌, ◌≤◌, List, [], ◌∷◌, ◌++◌, length, map, take, Option, Result, Ok as Made, Err, inl, inr, refl, sym, ap, ◌∙◌, subst, arith, append_assoc}
+use Rattle.std.proofs.Common.{◌≡◌, ℕ, ◌+◌, ◌≤◌, List, [], ◌∷◌, ◌++◌, length, map, Option, Result, Ok as Made, Err, inl, inr, sym, ap, ◌∙◌, subst, arith, append_assoc}
 use Rattle.std.specs.Prelude.{IfOk}
 use Rattle.std.proofs.lemmas.List.{take_all}
 use Rattle.jn_base.specs.declared.refusal.OutOfMemory.{OutOfMemory as NoMemory}
 use Rattle.jn_outside.specs.declared.given.Given.{Given}
 use Rattle.jn_outside.specs.Files.{Holding, Gives}
 use Rattle.jn_outside.specs.Gave.{given}
-use Rattle.jn_outside.specs.Sink.{Appends, AppendsPrefix}
 use Rattle.jn_command.specs.declared.output.Output.{Output}
 use Rattle.jn_command.specs.declared.status.Status.{Status}
 use Rattle.jn_command.specs.declared.status.Status.TheVariants.{Ok, Rejected, Refused, RunFault, Stopped, ReadFault, WriteFault, OutOfMemory, Usage}
@@ -16,7 +15,7 @@ use Rattle.jn_front.specs.Files.{given_of}
 use Rattle.jn_recheck.specs.Sessions.{SessionOf}
 use Rattle.jn_script.specs.declared.step.Step.{Step}
 use Rattle.jn_script.specs.Script.{IsScript}
-use Rattle.nullcheck_recheck_top.specs.Answer.{AnswersScript, IsBadAt, IsCarried, IsGood, IsPartly, IsRefusedScript, bad_line, given_script, script_limit}
+use Rattle.nullcheck_recheck_top.specs.Answer.{AnswersScript, IsBadAt, IsCarried, IsGood, IsPartly, bad_line, given_script, script_limit}
 use Rattle.nullcheck_recheck_top.specs.Stepping.{CarriesOut, DidAll, DidFirst, World}
 
 -- ---- a bad script

@@ -1,8 +1,6 @@
 -- Scripts that are carried out step by step.
-use Rattle.std.proofs.Common.{◌≡◌, ℕ, zero, suc, ◌+◌, ◌<◌, ◌≤◌, List, [], ◌∷◌, ◌++◌, length, map, take, drop, get_or, Option, Some, None, inl, inr, refl, sym, ap, ◌∙◌, subst, arith, append_assoc, append-nil}
-use Rattle.std.specs.Prelude.{◌⊎◌}
-use Rattle.std.proofs.lemmas.List.{drop_more, take_more}
-use Rattle.jn_outside.specs.declared.given.Given.{Given}
+use Rattle.std.proofs.Common.{◌≡◌, ℕ, zero, suc, ◌+◌, ◌<◌, List, [], ◌∷◌, ◌++◌, length, map, take, drop, get_or, Option, Some, None, refl, sym, ap, ◌∙◌, subst, arith, append_assoc, append-nil}
+use Rattle.std.proofs.lemmas.List.{take_more}
 use Rattle.jn_outside.specs.Causes.{Rose}
 use Rattle.jn_outside.specs.Files.{Holding}
 use Rattle.jn_outside.specs.Sink.{Appends, AppendsPrefix}
@@ -16,7 +14,7 @@ use Rattle.jn_recheck.specs.Sessions.{SessionOf}
 use Rattle.jn_script.specs.declared.step.Step.{Step}
 use Rattle.jn_script.specs.declared.step.Step.TheVariants.{Empty, Set, Remove, Check}
 use Rattle.nullcheck_recheck_top.specs.Carrying.{Does, DoAll, file_of, files_of, new_session, status_of}
-use Rattle.nullcheck_recheck_top.specs.Stepping.{Breaks, CarriesOut, DidAll, DidFirst, EndsBy, GoesOn, Lacks, Misses, Moves, Whole, World}
+use Rattle.nullcheck_recheck_top.specs.Stepping.{CarriesOut, DidAll, DidFirst, EndsBy, GoesOn, Moves, World}
 
 held_both : (held : Option Holding) (xs ys : List SourceFile) → AreHeld held xs → AreHeld held ys → AreHeld held (xs ++ ys)
 held_both None xs ys a b = tt

@@ -1,10 +1,10 @@
 -- Rows as the plain reporter shows them.
-use Rattle.std.proofs.Common.{◌≡◌, ℕ, List, [], ◌∷◌, ◌++◌, map, Option, Some, Result, Ok, Err, refl, sym, ap, ◌∙◌}
+use Rattle.std.proofs.Common.{◌≡◌, ℕ, List, [], ◌∷◌, ◌++◌, Option, Some, Result, Ok, Err, refl, ap, ◌∙◌}
 use Rattle.std.specs.Prelude.{OnOk}
 use Rattle.std.specs.List.{flat_map}
 use Rattle.jn_diag.specs.declared.shown.RowText.{RowText}
 use Rattle.jn_diag.specs.declared.shown.Verdict.{Verdict}
-use Rattle.jn_reporters.specs.Reports.{end_line, plain_line, plain_row, plain_shown, verdict_line}
+use Rattle.jn_reporters.specs.Reports.{plain_line, plain_row, plain_shown, verdict_line}
 use Rattle.jn_reporters.specs.declared.shown.ShownRow.{ShownRow}
 use Rattle.nullcheck_recheck_top.specs.Carrying.{plain_text, texts_of}
 

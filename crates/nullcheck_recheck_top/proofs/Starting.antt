@@ -1,6 +1,5 @@
 -- Which files are started.
-use Rattle.std.proofs.Common.{◌≡◌, ℕ, zero, suc, ◌+◌, ◌<◌, List, [], ◌∷◌, ◌++◌, length, map, take, drop, get_or, Option, inl, inr, refl, sym, ap, ◌∙◌, subst, arith, append_assoc, append-nil}
-use Rattle.std.specs.Prelude.{◌⊎◌}
+use Rattle.std.proofs.Common.{◌≡◌, ℕ, zero, suc, ◌+◌, ◌<◌, ◌≤◌, List, [], ◌∷◌, ◌++◌, length, map, take, drop, get_or, Option, inl, inr, refl, sym, ap, ◌∙◌, subst, arith, append_assoc, append-nil}
 use Rattle.std.proofs.lemmas.List.{take_all}
 use Rattle.jn_outside.specs.declared.given.Given.{Given}
 use Rattle.jn_outside.specs.Files.{Holding}
@@ -99,7 +98,11 @@ started_more first next behind old mid new one gave named s = record {
 split : (steps : List Step) (i : ℕ) (step : Step) → i < length steps → step ≡ get_or steps i step → files_of steps ≡ files_of (take i steps) ++ (file_of step ++ files_of (drop (i + 1) steps))
 split [] i step lt is = absurd (omega (arith, lt))
 split (x ∷ xs) zero step lt is = ap (λ (y : Step). file_of y ++ files_of xs) (sym is)
-split (x ∷ xs) (suc i) step lt is = ap (λ ns. file_of x ++ ns) (split xs i step (omega (arith, lt)) is) ∙ sym (append_assoc (file_of x) (files_of (take i xs)) (file_of step ++ files_of (drop (i + 1) xs)))
+split (x ∷ xs) (suc i) step lt is =
+    let next : suc (i + 1) ≡ suc i + 1 = omega arith in
+    ap (λ ns. file_of x ++ ns) (split xs i step (omega (arith, lt)) is)
+    ∙ sym (append_assoc (file_of x) (files_of (take i xs)) (file_of step ++ files_of (drop (i + 1) xs)))
+    ∙ ap (λ n. files_of (take (suc i) (x ∷ xs)) ++ (file_of step ++ files_of (drop n (x ∷ xs)))) next
 
 -- the steps before were carried out, and what this one starts is started
 pub starts_at : (held : Option Holding) (old mid : World) (steps : List Step) (i : ℕ) (step : Step) (last : Status) (t : SessionOf) (new : List Given) → i < length steps → step ≡ get_or steps i step → DidAll held old mid (take i steps) last t → StartsOnly (file_of step) mid.gave new → StartsOnly (files_of steps) old.gave new

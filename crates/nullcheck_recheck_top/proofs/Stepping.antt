@@ -1,29 +1,26 @@
 -- Steps that are carried out one after the other.
-use Rattle.std.proofs.Common.{◌≡◌, ℕ, zero, suc, ◌+◌, ◌<◌, ◌≤◌, true, false, List, [], ◌∷◌, ◌++◌, length, map, take, drop, get_or, Option, Some, None, Ok as Made, Err, inl, inr, refl, sym, ap, ◌∙◌, subst, arith, append_assoc, append-nil}
-use Rattle.std.specs.Prelude.{◌⊎◌, Bool, IfOk, Result, replicate}
-use Rattle.std.proofs.lemmas.List.{length-replicate}
+use Rattle.std.proofs.Common.{◌≡◌, ℕ, ◌+◌, ◌<◌, ◌≤◌, true, false, List, [], ◌∷◌, ◌++◌, length, map, take, Option, Some, None, Ok as Made, Err, inl, inr, refl, sym, ap, ◌∙◌, subst, arith, append-nil}
+use Rattle.std.specs.Prelude.{IfOk, Result, replicate}
 use Rattle.jn_outside.specs.declared.given.Given.{Given}
-use Rattle.jn_outside.specs.Causes.{Rose}
 use Rattle.jn_outside.specs.Files.{Holding}
 use Rattle.jn_outside.specs.Gave.{given, GivesTooMany}
-use Rattle.jn_outside.specs.Sink.{Appends, AppendsPrefix}
+use Rattle.jn_outside.specs.Sink.{Appends}
 use Rattle.jn_outside.specs.Files.{Gives}
 use Rattle.jn_base.specs.declared.place.Row.{Row}
 use Rattle.jn_command.specs.declared.status.Status.{Status}
-use Rattle.jn_command.specs.declared.status.Status.TheVariants.{Ok, Rejected, Refused, RunFault, Stopped, ReadFault, WriteFault, OutOfMemory, Usage}
+use Rattle.jn_command.specs.declared.status.Status.TheVariants.{ReadFault}
 use Rattle.jn_diag.specs.declared.shown.RowText.{RowText}
 use Rattle.jn_diag.specs.declared.shown.Verdict.{Verdict}
 use Rattle.jn_front.specs.declared.source.SourceFile.{SourceFile}
 use Rattle.jn_front.specs.declared.source.SourceRead.{SourceRead}
-use Rattle.jn_front.specs.Files.{AllHeld, AreHeld, AreReads, IsReadOf, ReadFrom, file_limit, given_of, names_of, read_as}
+use Rattle.jn_front.specs.Files.{AreHeld, AreReads, file_limit, given_of, names_of, read_as}
 use Rattle.jn_front.proofs.Reading.{read_large_from, read_whole_from}
 use Rattle.jn_recheck.specs.Sessions.{Reports, SessionOf}
-use Rattle.jn_script.specs.declared.step.Step.{Step}
 use Rattle.jn_script.specs.declared.step.Step.TheVariants.{Empty, Set, Remove, Check}
-use Rattle.nullcheck_recheck_top.specs.Carrying.{Does, DoAll, IsCheck, IsSet, IsTextOf, check_text, file_of, files_of, new_session, spaces, status_of, with_text, without_name}
+use Rattle.nullcheck_recheck_top.specs.Carrying.{check_text, spaces, status_of, with_text, without_name}
 use Rattle.nullcheck_recheck_top.specs.declared.step.Taken.{Taken}
 use Rattle.nullcheck_recheck_top.specs.declared.step.Taken.TheVariants.{Goes, Ends}
-use Rattle.nullcheck_recheck_top.specs.Stepping.{Breaks, DidAll, DidFirst, GoesOn, IsTaken, IsWritten, Lacks, Misses, Moves, TextFrom, World, world}
+use Rattle.nullcheck_recheck_top.specs.Stepping.{IsTaken, IsWritten, Moves, TextFrom, world}
 
 -- ---- the text of a file
 

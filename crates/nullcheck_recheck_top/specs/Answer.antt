@@ -1,5 +1,5 @@
 -- What an answer says of the words, of what was read and of the output.
-use Rattle.std.specs.Prelude.{ℕ, ◌+◌, ◌≡◌, ◌≤◌, ◌<◌, ◌⊎◌, ◌++◌, ◌==◌, Bool, true, false, List, [], ◌∷◌, Option, Some, None, codes, decimal, length, map, take, if◌then◌else◌}
+use Rattle.std.specs.Prelude.{ℕ, ◌+◌, ◌≡◌, ◌≤◌, ◌<◌, ◌⊎◌, ◌++◌, ◌==◌, Bool, false, List, [], ◌∷◌, Option, Some, None, codes, decimal, length, map, take, if◌then◌else◌}
 use Rattle.jn_outside.specs.declared.given.Given.{Given}
 use Rattle.jn_outside.specs.Files.{Holding, Holds, Gives}
 use Rattle.jn_outside.specs.Gave.{given}

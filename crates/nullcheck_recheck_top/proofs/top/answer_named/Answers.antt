@@ -7,7 +7,7 @@ use Rattle.jn_script.specs.Script.{IsFirstBad, IsScript}
 use Rattle.jn_script.specs.declared.step.Step.{Step}
 use Rattle.nullcheck_recheck_top.specs.Stepping.{CarriesOut, world}
 use Rattle.nullcheck_recheck_top.proofs.Answering.{bad_answers, script_answers, small_given}
-use Rattle.nullcheck_recheck_top.proofs.Starting.{starts_script, starts_steps}
+use Rattle.nullcheck_recheck_top.proofs.Starting.{starts_steps}
 use Rattle.nullcheck_recheck_top.proofs.Stepping.{script_large}
 use Rattle.nullcheck_recheck_top.proofs.top.answer_named.Goals as goal
 
