@@ -4,5 +4,6 @@ pub mod Numbers
 pub mod OneReading
 pub mod Taking
 pub mod Telling
+pub mod Waiting
 pub mod Writing
 pub mod Written

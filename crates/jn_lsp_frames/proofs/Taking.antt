@@ -112,12 +112,12 @@ module _ (ended : Bool) (gave pending now left : List ℕ) where
   reads_between t h none = (h.0, left, t, none)
 
 -- a frame in the making: where no header ends
-partial_header : (rest : List ℕ) → length rest < 8192 → HasNoBlock rest → IsPartial rest
+pub partial_header : (rest : List ℕ) → length rest < 8192 → HasNoBlock rest → IsPartial rest
 partial_header rest few none own behind frame (inl h) e = none h.block (h.body ++ behind) (record { lines = h.lines; is = h.is }) (e ∙ ap (λ l. l ++ behind) h.parts ∙ append_assoc h.block h.body behind)
 partial_header rest few none own behind frame (inr o) e = omega (arith, few, ap length e, length-append own behind, o.0.many)
 
 -- and where fewer bytes follow than it says
-partial_body : (lines : List (List ℕ)) (block front : List ℕ) (count : ℕ) → IsHeader lines block → Says lines (Some count) → length front < count → IsPartial (block ++ front)
+pub partial_body : (lines : List (List ℕ)) (block front : List ℕ) (count : ℕ) → IsHeader lines block → Says lines (Some count) → length front < count → IsPartial (block ++ front)
 partial_body lines block front count is says few own behind frame (inl h) e =
     let all : block ++ front ≡ h.block ++ (h.body ++ behind) = e ∙ ap (λ l. l ++ behind) h.parts ∙ append_assoc h.block h.body behind in
     let one = one_block lines h.lines block h.block front (h.body ++ behind) is h.is all in

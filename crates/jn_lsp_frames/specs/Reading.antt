@@ -33,6 +33,14 @@ abbrev pub HasRead : Bool → List ℕ → List ℕ → List ℕ → List ℕ �
 HasRead ended gave pending now left (next.Frame frame) = (own : List ℕ) × FrameOf own frame × Takes gave pending now left own
 HasRead ended gave pending now left (next.End end) = (ended ≡ true) × (rest : List ℕ) × Takes gave pending now rest [] × EndsSo end rest
 
+-- a frame stands at the front of what is pending
+abbrev pub StandsFrame : List ℕ → Type 0
+StandsFrame pending = (own : List ℕ) × (behind : List ℕ) × (frame : Frame) × FrameOf own frame × (pending ≡ own ++ behind)
+
+-- a header stands there, or none can
+abbrev pub IsKnown : List ℕ → Type 0
+IsKnown pending = HasNoBlock pending → length pending < 8192 → ⊥
+
 -- behind the start the input gave these frames, and what is pending
 pub record Gives (start now : List ℕ) (frames : List Frame) (pending : List ℕ) : Type 0 where
   pub bytes : List ℕ

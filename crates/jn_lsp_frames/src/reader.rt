@@ -1,7 +1,7 @@
 //! A reader of frames.
 ghost use Rattle.std.specs.Prelude.{◌≡◌, ◌<◌, ◌≤◌, ◌+◌, ◌++◌, [], List, ℕ, length, take, drop, true, false, IfOk, IfSome, OnOk, option_map};
 ghost use Rattle.jn_lsp_frames.specs.Header.{IsBlock};
-ghost use Rattle.jn_lsp_frames.specs.Reading.{Grows, Takes, HasRead, Counts, Passes, TakesBody, IsHead, StandsSome, TakesSome, HasRest};
+ghost use Rattle.jn_lsp_frames.specs.Reading.{Grows, Takes, HasRead, Counts, Passes, TakesBody, IsHead, StandsSome, StandsFrame, IsKnown, TakesSome, HasRest};
 
 use crate::frame::{End, Frame, Next};
 use crate::header;
@@ -40,8 +40,7 @@ impl FrameReader {
         }
     }
 
-    /// The next frame (base protocol of LSP 3.17), or the input's end. No more is read than the frame needs: where the bytes that
-    /// came have it whole, the input isn't asked.
+    /// The next frame (base protocol of LSP 3.17), or the input's end. Where the pending bytes have a frame whole, the input isn't asked.
     ///
     /// # Errors
     /// `Refused` only where the input's count of faults rose; or no memory was found. Behind an `Err`, and behind an end within a
@@ -53,6 +52,7 @@ impl FrameReader {
             self.new.pending.items) }
         ensures grows { Grows (S.given input.old) (S.given input.new) }
         ensures cause { Counts (S.faults input.old) (S.faults input.new) result }
+        ensures unasked { StandsFrame self.old.pending.items → input.new ≡ input.old }
     {
         match self.read_head(input)? {
             Head::Block(end) => self.read_behind(input, alloc, end),
@@ -80,12 +80,13 @@ impl FrameReader {
             self.new.pending.items) }
         ensures grows { Grows (S.given input.old) (S.given input.new) }
         ensures cause { Counts (S.faults input.old) (S.faults input.new) result }
+        ensures unasked { StandsFrame self.old.pending.items → input.new ≡ input.old }
     {
         let says = header::content_length(&self.pending[..end]);
         self.pass(end);
         match says {
             None => Ok(Next::Frame(Frame::BadHeader)),
-            Some(length) => self.read_rest(input, alloc, length),
+            Some(total) => self.read_rest(input, alloc, total),
         }
     }
 
@@ -95,21 +96,22 @@ impl FrameReader {
         &mut self,
         input: &mut S,
         alloc: Global,
-        length: u32,
+        total: u32,
     ) -> Result<Next, Fail<Failed>>
         ensures read { IfOk result
             (HasRest (S.ended input.new) (S.given input.old) self.old.pending.items (S.given input.new)
-            self.new.pending.items length) }
+            self.new.pending.items total) }
         ensures grows { Grows (S.given input.old) (S.given input.new) }
         ensures cause { Counts (S.faults input.old) (S.faults input.new) result }
+        ensures unasked { total ≤ length self.old.pending.items → input.new ≡ input.old }
     {
-        if length > LIMIT {
-            if self.skip(input, length)? {
+        if total > LIMIT {
+            if self.skip(input, total)? {
                 return Ok(Next::Frame(Frame::TooLarge));
             }
             return Ok(Next::End(End::Within));
         }
-        match self.read_body(input, alloc, length)? {
+        match self.read_body(input, alloc, total)? {
             Some(body) => Ok(Next::Frame(Frame::Body(Seq::of_vec(body)))),
             None => Ok(Next::End(End::Within)),
         }
@@ -124,6 +126,8 @@ impl FrameReader {
         ensures head { IfOk result (IsHead (S.ended input.new) self.new.pending.items) }
         ensures grows { Grows (S.given input.old) (S.given input.new) }
         ensures cause { Counts (S.faults input.old) (S.faults input.new) result }
+        ensures unasked { IsKnown self.old.pending.items → (input.new ≡ input.old)
+            × (self.new.pending.items ≡ self.old.pending.items) }
     {
         while self.pending.len() < header::MOST {
             if let Some(end) = header::find_end(&self.pending) {
@@ -145,21 +149,22 @@ impl FrameReader {
         &mut self,
         input: &mut S,
         alloc: Global,
-        length: u32,
+        total: u32,
     ) -> Result<Option<Vec<u8>>, Fail<Failed>>
         ensures taken { IfOk result
             (λ body. TakesBody (S.ended input.new) (S.given input.old) self.old.pending.items
-            (S.given input.new) self.new.pending.items length (option_map (λ v. v.items) body)) }
+            (S.given input.new) self.new.pending.items total (option_map (λ v. v.items) body)) }
         ensures grows { Grows (S.given input.old) (S.given input.new) }
         ensures cause { Counts (S.faults input.old) (S.faults input.new) result }
+        ensures unasked { total ≤ length self.old.pending.items → input.new ≡ input.old }
     {
-        let length = length as usize;
-        let Ok(body) = Vec::with_capacity(alloc, length) else {
+        let total = total as usize;
+        let Ok(body) = Vec::with_capacity(alloc, total) else {
             return Err(Fail::OutOfMemory);
         };
         let mut body = body;
-        while body.len() < length {
-            let most = length - body.len();
+        while body.len() < total {
+            let most = total - body.len();
             let count = self.take_some(input, &mut body, most)?;
             if count == 0 {
                 return Ok(None);
@@ -170,14 +175,15 @@ impl FrameReader {
 
     /// Passes over the next bytes, so many; false where the input ends before.
     #[tactic(auto, using(crate::proofs::Taking::takings, crate::proofs::Taking::ends_here, crate::proofs::Taking::passes_all))]
-    fn skip<S: Stream>(&mut self, input: &mut S, length: u32) -> Result<bool, Fail<Failed>>
+    fn skip<S: Stream>(&mut self, input: &mut S, total: u32) -> Result<bool, Fail<Failed>>
         ensures passed { IfOk result
             (Passes (S.ended input.new) (S.given input.old) self.old.pending.items
-            (S.given input.new) self.new.pending.items length) }
+            (S.given input.new) self.new.pending.items total) }
         ensures grows { Grows (S.given input.old) (S.given input.new) }
         ensures cause { Counts (S.faults input.old) (S.faults input.new) result }
+        ensures unasked { total ≤ length self.old.pending.items → input.new ≡ input.old }
     {
-        let mut left = length as usize;
+        let mut left = total as usize;
         while left > 0 {
             let count = self.pass_some(input, left)?;
             if count == 0 {
@@ -202,6 +208,7 @@ impl FrameReader {
             (S.given input.new) self.new.pending.items most n own) }
         ensures grows { Grows (S.given input.old) (S.given input.new) }
         ensures cause { Counts (S.faults input.old) (S.faults input.new) result }
+        ensures unasked { 0 < length self.old.pending.items → input.new ≡ input.old }
     {
         if self.has_some(input)? {
             let count = self.pending.len().min(most);
@@ -223,6 +230,7 @@ impl FrameReader {
             (S.given input.new) self.new.pending.items most n own) }
         ensures grows { Grows (S.given input.old) (S.given input.new) }
         ensures cause { Counts (S.faults input.old) (S.faults input.new) result }
+        ensures unasked { 0 < length self.old.pending.items → input.new ≡ input.old }
     {
         if self.has_some(input)? {
             let count = self.pending.len().min(most);
@@ -241,6 +249,7 @@ impl FrameReader {
         ensures some { IfOk result (StandsSome (S.ended input.new) self.new.pending.items) }
         ensures grows { Grows (S.given input.old) (S.given input.new) }
         ensures cause { Counts (S.faults input.old) (S.faults input.new) result }
+        ensures unasked { 0 < length self.old.pending.items → input.new ≡ input.old }
     {
         if self.pending.len() > 0 {
             return Ok(true);

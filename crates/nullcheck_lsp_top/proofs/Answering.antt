@@ -1,0 +1,105 @@
+-- Each request that frames bring is answered once.
+use Rattle.std.proofs.Common.{◌≡◌, ℕ, ◌++◌, Bool, true, false, List, [], ◌∷◌, map, Option, refl, sym, ap, ◌∙◌, subst, append_assoc}
+use Rattle.std.specs.Prelude.{filter, not, option_to_list, if◌then◌else◌}
+use Rattle.std.specs.List.{AllZip}
+use Rattle.std.proofs.lemmas.Grind.{flat_map-append}
+use Rattle.jn_outside.specs.Files.{Holding}
+use Rattle.jn_lsp_frames.specs.declared.frame.Frame.{Frame}
+use Rattle.jn_lsp_types.specs.declared.message.Message.{Message}
+use Rattle.jn_lsp_types.specs.declared.reply.Reply.{Reply}
+use Rattle.jn_lsp_types.specs.declared.reply.Reply.TheVariants.{Show}
+use Rattle.jn_lsp.specs.declared.event.Event.{Event}
+use Rattle.jn_lsp.specs.declared.event.Event.TheVariants.{Folder, Message as MessageEvent}
+use Rattle.jn_lsp.specs.Requests.{AreAnswered, id_answered, id_asked, ids_answered, ids_asked, is_exit}
+use Rattle.jn_lsp.specs.Serving.{ServerOf, Serves, Takes, new_server}
+use Rattle.nullcheck_lsp_top.specs.declared.client.Client.{Client}
+use Rattle.nullcheck_lsp_top.specs.Hearing.{AnsweredOnce, Hears, HearsAll, IsMessageOf, Looks, LooksWhere, looks}
+use Rattle.nullcheck_lsp_top.specs.Looking.{Outside, new_client}
+use Rattle.nullcheck_lsp_top.specs.Reading.{is_among, shows}
+
+-- what is shown answers nothing
+shown_none : (words : List (List ℕ)) → ids_answered (map Show words) ≡ []
+shown_none [] = refl
+shown_none (w ∷ words) = shown_none words
+
+both_answered : (xs ys : List Reply) → ids_answered (xs ++ ys) ≡ ids_answered xs ++ ids_answered ys
+both_answered xs ys = flat_map-append (λ reply. option_to_list (id_answered reply)) xs ys
+
+-- replies answer the same behind the same
+same_behind : (xs ys zs : List Reply) → ids_answered ys ≡ ids_answered zs → ids_answered (xs ++ ys) ≡ ids_answered (xs ++ zs)
+same_behind xs ys zs e = both_answered xs ys ∙ ap (λ ids. ids_answered xs ++ ids) e ∙ sym (both_answered xs zs)
+
+-- files that are read ask nothing
+asked_more : (message : Message) (es fs : List Event) → ids_asked es ≡ ids_asked fs → ids_asked (MessageEvent message ∷ es) ≡ ids_asked (MessageEvent message ∷ fs)
+asked_more message es fs e = ap (λ ids. if is_exit (MessageEvent message) then [] else option_to_list (id_asked message) ++ ids) e
+
+-- events that a server took, which ask the same as these messages, and replies that answer the same as these
+record Served (before after : ServerOf) (messages : List Message) (replies : List Reply) : Type 0 where
+  pub events : List Event
+  pub said : List Reply
+  pub serves : Serves before events said after
+  pub asked : ids_asked events ≡ ids_asked (map MessageEvent messages)
+  pub answered : ids_answered replies ≡ ids_answered said
+
+served_none : (before after : ServerOf) (replies : List Reply) → replies ≡ [] → after ≡ before → Served before after [] replies
+served_none before after replies none is = record { events = []; said = []; serves = (refl, is); asked = refl; answered = ap ids_answered none }
+
+module _ (held : Option Holding) (before last : ServerOf) (mid after : Client) (message : Message) (messages : List Message) (first more rest : List Reply) (takes : Takes before (MessageEvent message) first mid.server) (others : Served after.server last messages rest) where
+  -- without files
+  plain : after ≡ mid → more ≡ [] → Served before last (message ∷ messages) ((first ++ more) ++ rest)
+  plain is none = record {
+    events = MessageEvent message ∷ others.events;
+    said = first ++ others.said;
+    serves = (first, others.said, mid.server, refl, takes, subst (λ (c : Client). Serves c.server others.events others.said last) is others.serves);
+    asked = asked_more message others.events (map MessageEvent messages) others.asked;
+    answered = ap (λ (rs : List Reply). ids_answered rs) (append_assoc first more rest ∙ ap (λ (rs : List Reply). first ++ (rs ++ rest)) none) ∙ same_behind first rest others.said others.answered;
+  }
+
+  -- with files that were read
+  looked : (old new : Outside) → Looks held old new mid after more → Served before last (message ∷ messages) ((first ++ more) ++ rest)
+  looked old new l = record {
+    events = MessageEvent message ∷ Folder l.files ∷ others.events;
+    said = first ++ (l.news ++ others.said);
+    serves = (first, l.news ++ others.said, mid.server, refl, takes, (l.news, others.said, after.server, refl, l.takes, others.serves));
+    asked = asked_more message (Folder l.files ∷ others.events) (map MessageEvent messages) others.asked;
+    answered = ap (λ (rs : List Reply). ids_answered rs) (append_assoc first more rest) ∙ same_behind first (more ++ rest) (l.news ++ others.said) (answered_more l);
+  }
+    where
+      words : List (List ℕ)
+      words = filter (λ w. not (is_among mid.shown w)) after.shown
+
+      answered_more : Looks held old new mid after more → ids_answered (more ++ rest) ≡ ids_answered (l.news ++ others.said)
+      answered_more m =
+          ap (λ (rs : List Reply). ids_answered (rs ++ rest)) l.all
+          ∙ ap (λ (rs : List Reply). ids_answered rs) (append_assoc (shows mid.shown after.shown) l.news rest)
+          ∙ both_answered (shows mid.shown after.shown) (l.news ++ rest)
+          ∙ ap (λ ids. ids ++ ids_answered (l.news ++ rest)) (shown_none words)
+          ∙ same_behind l.news rest others.said others.answered
+
+  by_files : (b : Bool) (old new : Outside) → LooksWhere b held old new mid after more → Served before last (message ∷ messages) ((first ++ more) ++ rest)
+  by_files false old new (same, is, none) = plain is none
+  by_files true old new l = looked old new l
+
+-- the messages that frames were
+record Heard (held : Option Holding) (before after : Client) (frames : List Frame) (replies : List Reply) : Type 0 where
+  pub messages : List Message
+  pub are : AllZip IsMessageOf frames messages
+  pub served : Served before.server after.server messages replies
+
+heard_frame : (held : Option Holding) (old new : Outside) (before client after : Client) (frame : Frame) (frames : List Frame) (message : Message) (replies first rest : List Reply) → IsMessageOf frame message → Hears held old new before message first client → replies ≡ first ++ rest → Heard held client after frames rest → Heard held before after (frame ∷ frames) replies
+heard_frame held old new before client after frame frames message replies first rest is h all others = record {
+  messages = message ∷ others.messages;
+  are = (is, others.are);
+  served = subst (λ (rs : List Reply). Served before.server after.server (message ∷ others.messages) rs) (sym (all ∙ ap (λ (rs : List Reply). rs ++ rest) h.all))
+      (by_files held before.server after.server h.mid client message others.messages h.first h.more rest h.takes others.served (looks before.server.phase message) old new h.behind);
+}
+
+heard_all : (held : Option Holding) (old new : Outside) (before after : Client) (frames : List Frame) (replies : List Reply) → HearsAll held old new before frames replies after → Heard held before after frames replies
+heard_all held old new before after [] replies (same, none, is) = record { messages = []; are = tt; served = served_none before.server after.server replies none (ap (λ (c : Client). c.server) is) }
+heard_all held old new before after (frame ∷ frames) replies (mid, client, message, first, rest, is, hears, all, others) =
+    heard_frame held old mid before client after frame frames message replies first rest is hears all (heard_all held mid new client after frames rest others)
+
+pub answered_once : ((events : List Event) (replies : List Reply) (after : ServerOf) → Serves new_server events replies after → AreAnswered events replies) → (held : Option Holding) (old new : Outside) (client : Client) (frames : List Frame) (replies : List Reply) → HearsAll held old new new_client frames replies client → AnsweredOnce frames replies
+answered_once law held old new client frames replies h =
+    let all = heard_all held old new new_client client frames replies h in
+    (all.messages, all.are, all.served.answered ∙ law all.served.events all.served.said client.server all.served.serves ∙ all.served.asked)

@@ -1,0 +1,71 @@
+-- One message and then another.
+use Rattle.std.proofs.Common.{◌≡◌, Bool, ℕ, ◌++◌, List, [], ◌∷◌, Option, refl, sym, ap, ◌∙◌, subst, append_assoc, append-nil}
+use Rattle.std.proofs.lemmas.Grind.{flat_map-append}
+use Rattle.jn_outside.specs.Files.{Holding}
+use Rattle.jn_front.specs.declared.source.SourceFile.{SourceFile}
+use Rattle.jn_lsp_frames.specs.declared.frame.Frame.{Frame}
+use Rattle.jn_lsp_types.specs.declared.message.Message.{Message}
+use Rattle.jn_lsp_types.specs.declared.reply.Reply.{Reply}
+use Rattle.jn_lsp.specs.declared.event.Event.TheVariants.{Folder, Message as MessageEvent}
+use Rattle.jn_lsp.specs.declared.phase.Phase.{Phase}
+use Rattle.jn_lsp.specs.Serving.{Takes}
+use Rattle.nullcheck_lsp_top.specs.declared.client.Client.{Client}
+use Rattle.nullcheck_lsp_top.specs.Hearing.{Hears, HearsAll, IsMessageOf, Looks, LooksWhere, framed, looks, settled, written}
+use Rattle.nullcheck_lsp_top.specs.Looking.{IsFound, Outside}
+use Rattle.nullcheck_lsp_top.specs.Reading.{shows}
+
+pub framed_both : (address : Option (List ℕ)) (xs ys : List Reply) → framed address (xs ++ ys) ≡ framed address xs ++ framed address ys
+framed_both address xs ys = flat_map-append (written address) xs ys
+
+-- files were read, and the server was told of them
+pub looks_from : (held : Option Holding) (old new : Outside) (before after : Client) (files : List SourceFile) (warnings : List (List ℕ)) (told news replies : List Reply) → IsFound held before.root old new files warnings → told ≡ shows before.shown warnings → Takes before.server (Folder files) news after.server → after.root ≡ before.root → after.shown ≡ warnings → replies ≡ told ++ news → Looks held old new before after replies
+looks_from held old new before after files warnings told news replies found says takes root shown all = record {
+  files = files;
+  news = news;
+  found = subst (λ (ws : List (List ℕ)). IsFound held before.root old new files ws) (sym shown) found;
+  takes = takes;
+  root = root;
+  all = all ∙ ap (λ (rs : List Reply). rs ++ news) (says ∙ ap (λ (ws : List (List ℕ)). shows before.shown ws) (sym shown));
+}
+
+-- a message was taken, behind where the files are
+pub hears_from : (held : Option Holding) (old new : Outside) (before start mid after : Client) (message : Message) (first more replies : List Reply) → start ≡ settled message before → Takes start.server (MessageEvent message) first mid.server → mid.root ≡ start.root → mid.shown ≡ start.shown → LooksWhere (looks before.server.phase message) held old new mid after more → replies ≡ first ++ more → Hears held old new before message replies after
+hears_from held old new before start mid after message first more replies is takes root shown behind all = record {
+  first = first;
+  more = more;
+  mid = mid;
+  takes = subst (λ (c : Client). Takes c.server (MessageEvent message) first mid.server) is takes;
+  root = root ∙ ap (λ (c : Client). c.root) is;
+  shown = shown ∙ ap (λ (c : Client). c.shown) is;
+  behind = behind;
+  all = all;
+}
+
+-- a frame more
+pub hears_more : (held : Option Holding) (old mid new : Outside) (before client after : Client) (frames : List Frame) (frame : Frame) (message : Message) (replies more : List Reply) → HearsAll held old mid before frames replies client → IsMessageOf frame message → Hears held mid new client message more after → HearsAll held old new before (frames ++ frame ∷ []) (replies ++ more) after
+hears_more held old mid new before client after [] frame message replies more (same, none, is) reads hears = (
+  new,
+  after,
+  message,
+  more,
+  [],
+  reads,
+  subst (λ (o : Outside). Hears held o new before message more after) same (subst (λ (c : Client). Hears held mid new c message more after) is hears),
+  ap (λ (rs : List Reply). rs ++ more) none ∙ sym (append-nil more),
+  (refl, refl, refl),
+)
+hears_more held old mid new before client after (other ∷ frames) frame message replies more (m, c, asked, first, rest, reads_other, hears_other, all, others) reads hears = (
+  m,
+  c,
+  asked,
+  first,
+  rest ++ more,
+  reads_other,
+  hears_other,
+  ap (λ (rs : List Reply). rs ++ more) all ∙ append_assoc first rest more,
+  hears_more held m mid new c client after frames frame message rest more others reads hears,
+)
+
+-- by the phase before the message
+pub looks_by : (b : Bool) (phase before : Phase) (message : Message) → b ≡ looks phase message → phase ≡ before → b ≡ looks before message
+looks_by b phase before message is same = is ∙ ap (λ p. looks p message) same

@@ -1,0 +1,235 @@
+-- The loop, frame by frame.
+use Rattle.std.proofs.Common.{◌≡◌, ℕ, suc, ◌+◌, ◌≤◌, ◌++◌, true, false, List, [], ◌∷◌, length, take, Option, Some, None, Err, inl, inr, refl, sym, ap, ◌∙◌, subst, append_assoc, append-nil, arith, length-append}
+use Rattle.std.specs.Prelude.{◌⊎◌}
+use Rattle.jn_base.specs.declared.refusal.Fail.{Fail}
+use Rattle.jn_base.specs.declared.refusal.Fail.TheVariants.{Refused, OutOfMemory as Short}
+use Rattle.jn_outside.specs.Causes.{Rose}
+use Rattle.jn_outside.specs.Files.{Holding}
+use Rattle.jn_outside.specs.Sink.{Appends, AppendsPrefix}
+use Rattle.jn_lsp_frames.specs.declared.frame.End.{End}
+use Rattle.jn_lsp_frames.specs.declared.frame.End.TheVariants.{Between, Within}
+use Rattle.jn_lsp_frames.specs.declared.frame.Frame.{Frame}
+use Rattle.jn_lsp_frames.specs.declared.frame.Next.TheVariants as next
+use Rattle.jn_lsp_frames.specs.Frames.{IsPartial}
+use Rattle.jn_lsp_frames.specs.Reading.{Counts, EndsSo, Gives, Grows, HasRead}
+use Rattle.jn_lsp_frames.proofs.OneReading.{gives_end, gives_more, gives_none}
+use Rattle.jn_lsp_types.specs.declared.message.Message.{Message}
+use Rattle.jn_lsp_types.specs.declared.reply.Reply.{Reply}
+use Rattle.jn_lsp.specs.declared.phase.Phase.{Phase}
+use Rattle.jn_lsp.specs.declared.phase.Phase.TheVariants.{Waiting, Serving, ShutDown, Exited}
+use Rattle.nullcheck_lsp_top.specs.declared.client.Client.{Client}
+use Rattle.nullcheck_lsp_top.specs.declared.frames.Heard.{Heard}
+use Rattle.nullcheck_lsp_top.specs.declared.frames.Heard.TheVariants.{Ends}
+use Rattle.nullcheck_lsp_top.specs.declared.status.Status.{Status}
+use Rattle.nullcheck_lsp_top.specs.declared.status.Status.TheVariants.{Done, Ended, ReadFault, WriteFault, OutOfMemory, Usage}
+use Rattle.nullcheck_lsp_top.specs.Answer.{Answered, AnsweredFirst, Answers, Channels, EndsBy, IsAnswer, IsDone, IsEnded, IsHeard, Served, Takes, goes_on, most_messages}
+use Rattle.nullcheck_lsp_top.specs.Hearing.{Hears, IsMessageOf, framed}
+use Rattle.nullcheck_lsp_top.specs.Looking.{Outside, new_client}
+use Rattle.nullcheck_lsp_top.proofs.Hearing.{framed_both, hears_more}
+
+-- ---- bytes that are written
+
+taken_none : (written : Option (List ℕ)) → Appends written written []
+taken_none None = refl
+taken_none (Some bytes) = ap Some (sym (append-nil bytes))
+
+taken_more : (old mid new : Option (List ℕ)) (front back : List ℕ) → Appends old mid front → Appends mid new back → Appends old new (front ++ back)
+taken_more None mid new front back a b = subst (λ (m : Option (List ℕ)). Appends m new back) a b
+taken_more (Some bytes) mid new front back a b = subst (λ (m : Option (List ℕ)). Appends m new back) a b ∙ ap Some (append_assoc bytes front back)
+
+take_behind : (front back : List ℕ) (n : ℕ) → take (length front + n) (front ++ back) ≡ front ++ take n back
+take_behind [] back n = let s : length {A = ℕ} [] + n ≡ n = omega arith in ap (λ m. take m back) s
+take_behind (x ∷ xs) back n = let s : length (x ∷ xs) + n ≡ suc (length xs + n) = omega arith in ap (λ m. take m (x ∷ (xs ++ back))) s ∙ ap (λ ys. x ∷ ys) (take_behind xs back n)
+
+prefix_more : (old mid new : Option (List ℕ)) (front back : List ℕ) → Appends old mid front → AppendsPrefix mid new back → AppendsPrefix old new (front ++ back)
+prefix_more old mid new front back a b = record {
+  count = length front + b.count;
+  within = (let l = length-append front back in let w = b.within in omega (arith, l, w));
+  taken = subst (Appends old new) (sym (take_behind front back b.count)) (taken_more old mid new front (take b.count back) a b.taken);
+}
+
+-- ---- counts of faults
+
+pub counts_refused : (T E : Type 0) (before now : ℕ) (fail : Fail E) (error : E) → fail ≡ Refused error → Counts {T = T} before now (Err fail) → Rose before now
+counts_refused T E before now fail error is counts = (subst (λ f. Counts {T = T} before now (Err f)) is counts).1
+
+pub counts_short : (T E : Type 0) (before now : ℕ) (fail : Fail E) → fail ≡ Short → Counts {T = T} before now (Err fail) → now ≡ before
+counts_short T E before now fail is counts = subst (λ f. Counts {T = T} before now (Err f)) is counts
+
+-- ---- a frame
+
+module _ (address : Option (List ℕ)) (held : Option Holding) (from to : Option (List ℕ)) (before now : ℕ) (old new : Outside) (client : Client) (frame : Frame) (after : Client) where
+  takes_by : (bytes : List ℕ) (Took : Option (List ℕ) → Option (List ℕ) → List ℕ → Type 0) → IsAnswer address held old new client frame after bytes → Took from to bytes → Takes address held from to before now old new client frame after Took
+  takes_by bytes Took a took = record { message = a.message; is = a.is; replies = a.replies; hears = a.hears; taken = subst (Took from to) a.are took }
+
+  by_phase : (phase : Phase) → after.server.phase ≡ phase → Takes address held from to before now old new client frame after Appends → now ≡ before → IsHeard address held from to before now old new client frame after (goes_on phase)
+  by_phase Waiting is t same = (t, same)
+  by_phase Serving is t same = (t, same)
+  by_phase ShutDown is t same = (t, same)
+  by_phase (Exited true) is t same = (t, is, same)
+  by_phase (Exited false) is t same = (t, is, same)
+
+  -- the replies were written
+  pub heard_whole : (bytes : List ℕ) (phase : Phase) (result : Heard) → IsAnswer address held old new client frame after bytes → Appends from to bytes → now ≡ before → phase ≡ after.server.phase → result ≡ goes_on phase → IsHeard address held from to before now old new client frame after result
+  heard_whole bytes phase result a took same is goes = subst (λ (r : Heard). IsHeard address held from to before now old new client frame after r) (sym goes) (by_phase phase (sym is) (takes_by bytes Appends a took) same)
+
+  -- a prefix of them was
+  pub heard_broken : (bytes : List ℕ) → IsAnswer address held old new client frame after bytes → AppendsPrefix from to bytes → Rose before now → IsHeard address held from to before now old new client frame after (Ends WriteFault)
+  heard_broken bytes a took rose = (takes_by bytes AppendsPrefix a took, rose)
+
+-- ---- the loop
+
+-- so much was read, taken and written
+pub record Running (address : Option (List ℕ)) (held : Option Holding) (from to : Channels) (old new : Outside) (turns : ℕ) (pending : List ℕ) (client : Client) : Type 0 where
+  pub frames : List Frame
+  pub replies : List Reply
+  pub served : Served held from.given to.given old new frames pending replies client
+  pub taken : Appends from.written to.written (framed address replies)
+  pub hears : to.hears ≡ from.hears
+  pub writes : to.writes ≡ from.writes
+  pub many : length frames ≡ turns
+
+pub runs_none : (address : Option (List ℕ)) (held : Option Holding) (at : Channels) (old : Outside) (pending : List ℕ) (client : Client) → pending ≡ [] → client ≡ new_client → Running address held at at old old 0 pending client
+runs_none address held at old pending client none new = record {
+  frames = [];
+  replies = [];
+  served = record { gives = subst (λ (p : List ℕ). Gives at.given at.given [] p) (sym none) (gives_none at.given); hears = (refl, refl, new) };
+  taken = taken_none at.written;
+  hears = refl;
+  writes = refl;
+  many = refl;
+}
+
+module _ (address : Option (List ℕ)) (held : Option Holding) (from mid : Channels) (old out : Outside) (turns : ℕ) (pending : List ℕ) (client : Client) (run : Running address held from mid old out turns pending client) where
+  -- what was read before the input failed, or memory wasn't found
+  first_of : (Took : Option (List ℕ) → Option (List ℕ) → List ℕ → Type 0) (to : Channels) (new : Outside) → Grows mid.given to.given → Took from.written to.written (framed address run.replies) → AnsweredFirst address held from to old new Took
+  first_of Took to new grows taken = record {
+    heard = mid.given;
+    grows = grows;
+    mid = out;
+    frames = run.frames;
+    pending = pending;
+    replies = run.replies;
+    client = client;
+    served = run.served;
+    taken = taken;
+  }
+
+  same_taken : (to : Channels) → to.written ≡ mid.written → Appends from.written to.written (framed address run.replies)
+  same_taken to same = subst (λ (w : Option (List ℕ)). Appends from.written w (framed address run.replies)) (sym same) run.taken
+
+  rose_on : (a b c : ℕ) → b ≡ a → Rose b c → Rose a c
+  rose_on a b c e r = subst (λ n. Rose n c) e r
+
+  -- the next frame couldn't be read
+  pub ends_unread : (to : Channels) → Grows mid.given to.given → to.written ≡ mid.written → to.writes ≡ mid.writes → Rose mid.hears to.hears → Answers address held from to old out ReadFault
+  ends_unread to grows same writes rose = (first_of Appends to out grows (same_taken to same), rose_on from.hears mid.hears to.hears run.hears rose, writes ∙ run.writes)
+
+  pub ends_short : (to : Channels) → Grows mid.given to.given → to.written ≡ mid.written → to.writes ≡ mid.writes → to.hears ≡ mid.hears → Answers address held from to old out OutOfMemory
+  ends_short to grows same writes hears = (first_of Appends to out grows (same_taken to same), hears ∙ run.hears, writes ∙ run.writes)
+
+  ends_so : (end : End) (rest : List ℕ) → EndsSo end rest → (rest ≡ []) ⊎ IsPartial rest
+  ends_so Between rest so = inl so
+  ends_so Within rest so = inr so.1
+
+  -- the input ended
+  pub ends_input : (to : Channels) (left : List ℕ) (end : End) → HasRead to.ended mid.given pending to.given left (next.End end) → to.written ≡ mid.written → to.writes ≡ mid.writes → to.hears ≡ mid.hears → Answers address held from to old out Ended
+  ends_input to left end (ended, rest, takes, so) same writes hears = (
+    record {
+      frames = run.frames;
+      pending = rest;
+      replies = run.replies;
+      client = client;
+      served = record { gives = gives_end from.given mid.given to.given run.frames pending rest run.served.gives takes; hears = run.served.hears };
+      taken = same_taken to same;
+      ends = inr (inl (ended, ends_so end rest so));
+    },
+    hears ∙ run.hears,
+    writes ∙ run.writes,
+  )
+
+  pub ends_turns : most_messages ≤ turns → Answers address held from mid old out Ended
+  ends_turns many = (
+    record {
+      frames = run.frames;
+      pending = pending;
+      replies = run.replies;
+      client = client;
+      served = run.served;
+      taken = run.taken;
+      ends = inr (inr (let e = run.many in omega (arith, many, e)));
+    },
+    run.hears,
+    run.writes,
+  )
+
+  -- a frame was read, from `mid` to `read`, and taken, from there to `to`
+  module _ (read to : Channels) (new : Outside) (left : List ℕ) (frame : Frame) (after : Client) (has : HasRead read.ended mid.given pending read.given left (next.Frame frame)) (written : read.written ≡ mid.written) (writes : read.writes ≡ mid.writes) (hears : read.hears ≡ mid.hears) (given : to.given ≡ read.given) (heard_same : to.hears ≡ read.hears) where
+    Taken : (Option (List ℕ) → Option (List ℕ) → List ℕ → Type 0) → Type 0
+    Taken Took = Takes address held read.written to.written read.writes to.writes out new client frame after Took
+
+    served_more : (message : Message) (replies : List Reply) → IsMessageOf frame message → Hears held out new client message replies after → Served held from.given to.given old new (run.frames ++ frame ∷ []) left (run.replies ++ replies) after
+    served_more message replies is hears_it = record {
+      gives = subst (λ (b : List ℕ). Gives from.given b (run.frames ++ frame ∷ []) left) (sym given) (gives_more from.given mid.given read.given run.frames frame pending left has.0 run.served.gives has.1 has.2);
+      hears = hears_more held old out new new_client client after run.frames frame message run.replies replies run.served.hears is hears_it;
+    }
+
+    taken_on : (replies : List Reply) → Appends read.written to.written (framed address replies) → Appends from.written to.written (framed address (run.replies ++ replies))
+    taken_on replies a = subst (Appends from.written to.written) (sym (framed_both address run.replies replies)) (taken_more from.written mid.written to.written (framed address run.replies) (framed address replies) run.taken (subst (λ (w : Option (List ℕ)). Appends w to.written (framed address replies)) written a))
+
+    prefix_on : (replies : List Reply) → AppendsPrefix read.written to.written (framed address replies) → AppendsPrefix from.written to.written (framed address (run.replies ++ replies))
+    prefix_on replies a = subst (AppendsPrefix from.written to.written) (sym (framed_both address run.replies replies)) (prefix_more from.written mid.written to.written (framed address run.replies) (framed address replies) run.taken (subst (λ (w : Option (List ℕ)). AppendsPrefix w to.written (framed address replies)) written a))
+
+    pub runs_more : Takes address held read.written to.written read.writes to.writes out new client frame after Appends → to.writes ≡ read.writes → Running address held from to old new (turns + 1) left after
+    runs_more t same = record {
+      frames = run.frames ++ frame ∷ [];
+      replies = run.replies ++ t.replies;
+      served = served_more t.message t.replies t.is t.hears;
+      taken = taken_on t.replies t.taken;
+      hears = heard_same ∙ hears ∙ run.hears;
+      writes = same ∙ writes ∙ run.writes;
+      many = (let l = length-append run.frames (frame ∷ []) in let m = run.many in omega (arith, l, m));
+    }
+
+    answered : (IsEnd : List Frame → List ℕ → Client → Type 0) (t : Takes address held read.written to.written read.writes to.writes out new client frame after Appends) → IsEnd (run.frames ++ frame ∷ []) left after → Answered address held from to old new IsEnd
+    answered IsEnd t ends = record {
+      frames = run.frames ++ frame ∷ [];
+      pending = left;
+      replies = run.replies ++ t.replies;
+      client = after;
+      served = served_more t.message t.replies t.is t.hears;
+      taken = taken_on t.replies t.taken;
+      ends = ends;
+    }
+
+    no_more : (given : List ℕ) → Grows given given
+    no_more given = ([], sym (append-nil given))
+
+    grown : Grows mid.given to.given
+    grown = (has.2.more, given ∙ has.2.given)
+
+    pub ends_frame : (status : Status) → EndsBy address held read.written to.written read.writes to.writes out new client frame after status → Answers address held from to old new status
+    ends_frame Done (t, phase, same) = (answered (IsDone address held from to old new) t phase, heard_same ∙ hears ∙ run.hears, same ∙ writes ∙ run.writes)
+    ends_frame Ended (t, phase, same) = (answered (IsEnded address held from to old new) t (inl phase), heard_same ∙ hears ∙ run.hears, same ∙ writes ∙ run.writes)
+    ends_frame WriteFault (t, rose) = (
+      record {
+        heard = to.given;
+        grows = no_more to.given;
+        mid = new;
+        frames = run.frames ++ frame ∷ [];
+        pending = left;
+        replies = run.replies ++ t.replies;
+        client = after;
+        served = served_more t.message t.replies t.is t.hears;
+        taken = prefix_on t.replies t.taken;
+      },
+      heard_same ∙ hears ∙ run.hears,
+      rose_on from.writes read.writes to.writes (writes ∙ run.writes) rose,
+    )
+    ends_frame OutOfMemory (same, kept) = (first_of Appends to new grown (same_taken to (same ∙ written)), heard_same ∙ hears ∙ run.hears, kept ∙ writes ∙ run.writes)
+    ends_frame ReadFault none = absurd none
+    ends_frame Usage none = absurd none
+
+-- no memory was found before the first frame
+pub short_at_start : (address : Option (List ℕ)) (held : Option Holding) (at : Channels) (old : Outside) → Answers address held at at old old OutOfMemory
+short_at_start address held at old = ends_short address held at at old old 0 [] new_client (runs_none address held at old [] new_client refl refl) at ([], sym (append-nil at.given)) refl refl refl

@@ -1,0 +1,21 @@
+use Rattle.std.proofs.Common.{◌≡◌, [], ◌∷◌, ◌++◌, ◌+◌, ap, sym, ◌∙◌, take, subst}
+use Rattle.std.proofs.lemmas.List.{take_more}
+use Rattle.nullcheck_lsp_top.specs.Reading.{AreRead, ReadsMore, source}
+use Rattle.nullcheck_lsp_top.proofs.Reading.{read_more}
+use Rattle.nullcheck_lsp_top.proofs.texts.read_files.Goals as goal
+
+pub loop-name-preserved : goal.loop-name-preserved
+loop-name-preserved g c =
+    let held = g.F.Files.held c.args.files.now in
+    let old = source (g.F.Files.gave c.args.files.now) (g.F.Files.faults c.args.files.now) in
+    let mid = source (g.F.Files.gave c.loop-name.files) (g.F.Files.faults c.loop-name.files) in
+    let new = source (g.F.Files.gave c.read_one.new.files) (g.F.Files.faults c.read_one.new.files) in
+    let names = c.args.names.now in
+    let i = c.loop-name.name-index in
+    let name = c.name-item.result in
+    let front : take i names ++ name ∷ [] ≡ take (i + 1) names = ap (λ n. take i names ++ n ∷ []) c.name-item.is ∙ sym (take_more names i name c.loop-name-test.true) in
+    let more : ReadsMore held (name ∷ []) mid new c.loop-name.reads.files c.read_one.new.reads.files c.loop-name.reads.lost c.read_one.new.reads.lost = subst (λ h. ReadsMore h (name ∷ []) mid new c.loop-name.reads.files c.read_one.new.reads.files c.loop-name.reads.lost c.read_one.new.reads.lost) c.loop-name.invariant.held c.in_ok-read_one.ensures.reads in
+    record {
+      held = c.in_ok-read_one.ensures.held ∙ c.loop-name.invariant.held;
+      read = subst (λ ns. AreRead held ns old new c.read_one.new.reads.files c.read_one.new.reads.lost) front (read_more held (take i names) (name ∷ []) old mid new c.loop-name.reads.files c.read_one.new.reads.files c.loop-name.reads.lost c.read_one.new.reads.lost c.loop-name.invariant.read more);
+    }

@@ -1,0 +1,167 @@
+-- What stands behind each status.
+use Rattle.std.specs.Prelude.{ℕ, ◌-◌, ◌^◌, ◌≡◌, ◌≤◌, ◌⊎◌, Bool, true, false, List, [], ◌∷◌, Option, Some, None, codes, length}
+use Rattle.jn_outside.specs.Causes.{Rose}
+use Rattle.jn_outside.specs.Files.{Holding}
+use Rattle.jn_outside.specs.Sink.{Appends, AppendsPrefix}
+use Rattle.jn_lsp_frames.specs.declared.frame.Frame.{Frame}
+use Rattle.jn_lsp_frames.specs.Frames.{IsPartial}
+use Rattle.jn_lsp_frames.specs.Reading.{Gives, Grows}
+use Rattle.jn_lsp_types.specs.declared.message.Message.{Message}
+use Rattle.jn_lsp_types.specs.declared.reply.Reply.{Reply}
+use Rattle.jn_lsp.specs.declared.phase.Phase.{Phase}
+use Rattle.jn_lsp.specs.declared.phase.Phase.TheVariants.{Waiting, Serving, ShutDown, Exited}
+use Rattle.nullcheck_lsp_top.specs.declared.client.Client.{Client}
+use Rattle.nullcheck_lsp_top.specs.declared.frames.Heard.{Heard}
+use Rattle.nullcheck_lsp_top.specs.declared.frames.Heard.TheVariants.{Goes, Ends}
+use Rattle.nullcheck_lsp_top.specs.declared.status.Status.{Status}
+use Rattle.nullcheck_lsp_top.specs.declared.status.Status.TheVariants.{Done, Ended, ReadFault, WriteFault, OutOfMemory, Usage}
+use Rattle.nullcheck_lsp_top.specs.declared.words.Asked.{Asked}
+use Rattle.nullcheck_lsp_top.specs.declared.words.Asked.TheVariants as asked
+use Rattle.nullcheck_lsp_top.specs.Hearing.{Hears, HearsAll, IsMessageOf, framed}
+use Rattle.nullcheck_lsp_top.specs.Looking.{Outside, new_client}
+
+abbrev pub number_of : Status → ℕ
+number_of Done = 0
+number_of Ended = 1
+number_of ReadFault = 5
+number_of WriteFault = 6
+number_of OutOfMemory = 7
+number_of Usage = 64
+
+abbrev pub usage_line : List ℕ
+usage_line = codes "usage: nullcheck_lsp [--codes ADDRESS]\n"
+
+-- there are no words, or the address of the document of the codes is given
+abbrev pub SaysAddress : List (List ℕ) → Option (List ℕ) → Type 0
+SaysAddress words None = words ≡ []
+SaysAddress words (Some address) = words ≡ codes "--codes" ∷ address ∷ []
+
+-- what the words ask for
+abbrev pub IsAsked : List (List ℕ) → Asked → Type 0
+IsAsked words (asked.Serving address) = SaysAddress words address
+IsAsked words asked.Other = (address : Option (List ℕ)) → SaysAddress words address → ⊥
+
+-- what the input and the output tell: the bytes that reads gave, whether they came to the end, the bytes that were taken, and the counts of faults
+pub record Channels : Type 0 where
+  pub given : List ℕ
+  pub ended : Bool
+  pub hears : ℕ
+  pub written : Option (List ℕ)
+  pub writes : ℕ
+
+abbrev pub channels : List ℕ → Bool → ℕ → Option (List ℕ) → ℕ → Channels
+channels given ended hears written writes = record { given = given; ended = ended; hears = hears; written = written; writes = writes }
+
+-- the frames of the bytes that the input gave were taken, with these replies
+pub record Served (held : Option Holding) (before now : List ℕ) (old new : Outside) (frames : List Frame) (pending : List ℕ) (replies : List Reply) (client : Client) : Type 0 where
+  pub gives : Gives before now frames pending
+  pub hears : HearsAll held old new new_client frames replies client
+
+-- as many messages as are taken at all
+abbrev pub most_messages : ℕ
+most_messages = 2 ^ 64 - 1
+
+-- no fault of the input, and none of the output
+abbrev pub IsHeardWhole : Channels → Channels → Type 0
+IsHeardWhole from to = to.hears ≡ from.hears
+
+abbrev pub IsWrittenWhole : Channels → Channels → Type 0
+IsWrittenWhole from to = to.writes ≡ from.writes
+
+-- what stands behind each status, by what the input and the output told before and behind, and what files and folders did
+module _ (address : Option (List ℕ)) (held : Option Holding) (from to : Channels) (old new : Outside) where
+  -- all frames that were read were taken, and all replies written
+  pub record Answered (IsEnd : List Frame → List ℕ → Client → Type 0) : Type 0 where
+    pub frames : List Frame
+    pub pending : List ℕ
+    pub replies : List Reply
+    pub client : Client
+    pub served : Served held from.given to.given old new frames pending replies client
+    pub taken : Appends from.written to.written (framed address replies)
+    pub ends : IsEnd frames pending client
+
+  -- the client exited behind `shutdown`
+  abbrev pub IsDone : List Frame → List ℕ → Client → Type 0
+  IsDone frames pending client = client.server.phase ≡ Exited true
+
+  -- the input ended, behind a frame or in the middle of one
+  abbrev pub IsInputEnd : List ℕ → Type 0
+  IsInputEnd pending = (to.ended ≡ true) × ((pending ≡ []) ⊎ IsPartial pending)
+
+  -- the client exited without it, the input ended, or so many messages came as are taken at all
+  abbrev pub IsEnded : List Frame → List ℕ → Client → Type 0
+  IsEnded frames pending client = (client.server.phase ≡ Exited false) ⊎ IsInputEnd pending ⊎ (most_messages ≤ length frames)
+
+  -- the first frames of the input were taken, and of their replies so much was written
+  pub record AnsweredFirst (Took : Option (List ℕ) → Option (List ℕ) → List ℕ → Type 0) : Type 0 where
+    pub heard : List ℕ
+    pub grows : Grows heard to.given
+    pub mid : Outside
+    pub frames : List Frame
+    pub pending : List ℕ
+    pub replies : List Reply
+    pub client : Client
+    pub served : Served held from.given heard old mid frames pending replies client
+    pub taken : Took from.written to.written (framed address replies)
+
+  abbrev pub Answers : Status → Type 0
+  Answers Done = Answered IsDone × IsHeardWhole from to × IsWrittenWhole from to
+  Answers Ended = Answered IsEnded × IsHeardWhole from to × IsWrittenWhole from to
+  Answers ReadFault = AnsweredFirst Appends × Rose from.hears to.hears × IsWrittenWhole from to
+  Answers WriteFault = AnsweredFirst AppendsPrefix × IsHeardWhole from to × Rose from.writes to.writes
+  Answers OutOfMemory = AnsweredFirst Appends × IsHeardWhole from to × IsWrittenWhole from to
+  Answers Usage = ⊥
+
+-- words are wrong: nothing is heard or read
+pub record AnswersUsage (from to : Channels) (old new : Outside) (status : Status) : Type 0 where
+  pub given : to.given ≡ from.given
+  pub hears : IsHeardWhole from to
+  pub outside : new ≡ old
+  pub written :
+      ((status ≡ Usage) × Appends from.written to.written usage_line × IsWrittenWhole from to)
+      ⊎ ((status ≡ WriteFault) × AppendsPrefix from.written to.written usage_line × Rose from.writes to.writes)
+
+-- replies link to the document that the words name; other words are wrong
+abbrev pub AnswersWords : Option Holding → Channels → Channels → Outside → Outside → List (List ℕ) → Status → Type 0
+AnswersWords held from to old new words status =
+    ((address : Option (List ℕ)) × SaysAddress words address × Answers address held from to old new status)
+    ⊎ (((address : Option (List ℕ)) → SaysAddress words address → ⊥) × AnswersUsage from to old new status)
+
+-- ---- one frame
+
+-- the bytes are the written replies to the frame
+pub record IsAnswer (address : Option (List ℕ)) (held : Option Holding) (old new : Outside) (client : Client) (frame : Frame) (after : Client) (bytes : List ℕ) : Type 0 where
+  pub message : Message
+  pub is : IsMessageOf frame message
+  pub replies : List Reply
+  pub hears : Hears held old new client message replies after
+  pub are : bytes ≡ framed address replies
+
+-- how a server in this phase goes on
+abbrev pub goes_on : Phase → Heard
+goes_on Waiting = Goes
+goes_on Serving = Goes
+goes_on ShutDown = Goes
+goes_on (Exited true) = Ends Done
+goes_on (Exited false) = Ends Ended
+
+module _ (address : Option (List ℕ)) (held : Option Holding) (from to : Option (List ℕ)) (before now : ℕ) (old new : Outside) (client : Client) (frame : Frame) (after : Client) where
+  -- the frame was taken, and of the replies so much was written
+  pub record Takes (Took : Option (List ℕ) → Option (List ℕ) → List ℕ → Type 0) : Type 0 where
+    pub message : Message
+    pub is : IsMessageOf frame message
+    pub replies : List Reply
+    pub hears : Hears held old new client message replies after
+    pub taken : Took from to (framed address replies)
+
+  abbrev pub EndsBy : Status → Type 0
+  EndsBy Done = Takes Appends × (after.server.phase ≡ Exited true) × (now ≡ before)
+  EndsBy Ended = Takes Appends × (after.server.phase ≡ Exited false) × (now ≡ before)
+  EndsBy WriteFault = Takes AppendsPrefix × Rose before now
+  EndsBy OutOfMemory = (to ≡ from) × (now ≡ before)
+  EndsBy ReadFault = ⊥
+  EndsBy Usage = ⊥
+
+  abbrev pub IsHeard : Heard → Type 0
+  IsHeard Goes = Takes Appends × (now ≡ before)
+  IsHeard (Ends status) = EndsBy status

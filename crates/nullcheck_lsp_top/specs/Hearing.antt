@@ -1,0 +1,87 @@
+-- What a client's messages make of a server, what is read for them, and what is replied.
+use Rattle.std.specs.Prelude.{ℕ, ◌≡◌, ◌++◌, Bool, true, false, List, [], ◌∷◌, Option, map}
+use Rattle.std.specs.List.{AllZip, flat_map}
+use Rattle.serde_json.specs.Written.{compact_text}
+use Rattle.jn_outside.specs.Files.{Holding}
+use Rattle.jn_front.specs.declared.source.SourceFile.{SourceFile}
+use Rattle.jn_lsp_frames.specs.declared.frame.Frame.{Frame}
+use Rattle.jn_lsp_frames.specs.declared.frame.Frame.TheVariants as frame
+use Rattle.jn_lsp_frames.specs.Frames.{frame_of}
+use Rattle.jn_lsp_messages.specs.Incoming.{IsMessage}
+use Rattle.jn_lsp_messages.specs.Outgoing.{data_of}
+use Rattle.jn_lsp_types.specs.declared.message.Message.{Message}
+use Rattle.jn_lsp_types.specs.declared.message.Message.TheVariants.{BadHeader, TooLarge}
+use Rattle.jn_lsp_types.specs.declared.reply.Reply.{Reply}
+use Rattle.jn_lsp.specs.declared.event.Event.TheVariants.{Folder, Message as MessageEvent}
+use Rattle.jn_lsp.specs.declared.phase.Phase.{Phase}
+use Rattle.jn_lsp.specs.declared.phase.Phase.TheVariants.{Waiting, Serving, ShutDown, Exited}
+use Rattle.jn_lsp.specs.Requests.{ids_answered, ids_asked}
+use Rattle.jn_lsp.specs.Serving.{Takes, wants_folder}
+use Rattle.nullcheck_lsp_top.specs.declared.client.Client.{Client}
+use Rattle.nullcheck_lsp_top.specs.Looking.{IsFound, Outside, root_or, told_root}
+use Rattle.nullcheck_lsp_top.specs.Reading.{shows}
+
+-- ---- messages
+
+-- the message that a frame is
+abbrev pub IsMessageOf : Frame → Message → Type 0
+IsMessageOf (frame.Body body) message = IsMessage body message
+IsMessageOf frame.BadHeader message = message ≡ BadHeader
+IsMessageOf frame.TooLarge message = message ≡ TooLarge
+
+-- while the server serves, files are read behind the messages that want it
+abbrev pub looks : Phase → Message → Bool
+looks Waiting m = false
+looks Serving m = wants_folder m
+looks ShutDown m = false
+looks (Exited in_order) m = false
+
+-- ---- one message
+
+-- the workspace's files are read, and the server is told of them
+pub record Looks (held : Option Holding) (old new : Outside) (before after : Client) (replies : List Reply) : Type 0 where
+  pub files : List SourceFile
+  pub news : List Reply
+  pub found : IsFound held before.root old new files after.shown
+  pub takes : Takes before.server (Folder files) news after.server
+  pub root : after.root ≡ before.root
+  pub all : replies ≡ shows before.shown after.shown ++ news
+
+abbrev pub LooksWhere : Bool → Option Holding → Outside → Outside → Client → Client → List Reply → Type 0
+LooksWhere false held old new before after replies = (new ≡ old) × (after ≡ before) × (replies ≡ [])
+LooksWhere true held old new before after replies = Looks held old new before after replies
+
+-- where the files are is kept, where the message says so
+abbrev pub settled : Message → Client → Client
+settled message client = record { server = client.server; root = root_or (told_root client.server.phase message) client.root; shown = client.shown }
+
+-- the server takes the message, and where files are to be read behind it, those
+pub record Hears (held : Option Holding) (old new : Outside) (before : Client) (message : Message) (replies : List Reply) (after : Client) : Type 0 where
+  pub first : List Reply
+  pub more : List Reply
+  pub mid : Client
+  pub takes : Takes before.server (MessageEvent message) first mid.server
+  pub root : mid.root ≡ (settled message before).root
+  pub shown : mid.shown ≡ before.shown
+  pub behind : LooksWhere (looks before.server.phase message) held old new mid after more
+  pub all : replies ≡ first ++ more
+
+-- ---- frames
+
+-- the replies as they are written, each in a frame, with links to the document of the codes where its address is given
+abbrev pub written : Option (List ℕ) → Reply → List ℕ
+written address reply = frame_of (compact_text (data_of address reply))
+
+abbrev pub framed : Option (List ℕ) → List Reply → List ℕ
+framed address replies = flat_map (written address) replies
+
+-- frame by frame, these replies
+abbrev pub HearsAll : Option Holding → Outside → Outside → Client → List Frame → List Reply → Client → Type 0
+HearsAll held old new before [] replies after = (new ≡ old) × (replies ≡ []) × (after ≡ before)
+HearsAll held old new before (frame ∷ frames) replies after =
+    (mid : Outside) × (client : Client) × (message : Message) × (first : List Reply) × (rest : List Reply)
+    × IsMessageOf frame message × Hears held old mid before message first client × (replies ≡ first ++ rest) × HearsAll held mid new client frames rest after
+
+-- each request among the messages that frames are is answered once, in their order, and nothing else is
+abbrev pub AnsweredOnce : List Frame → List Reply → Type 0
+AnsweredOnce frames replies = (messages : List Message) × AllZip IsMessageOf frames messages × (ids_answered replies ≡ ids_asked (map MessageEvent messages))

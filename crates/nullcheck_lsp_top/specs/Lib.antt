@@ -1,0 +1,4 @@
+pub mod Reading
+pub mod Looking
+pub mod Hearing
+pub mod Answer

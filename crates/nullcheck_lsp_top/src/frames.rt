@@ -1,0 +1,161 @@
+//! The loop of a server.
+ghost use Rattle.std.specs.Prelude.{◌≡◌, [], IfOk};
+ghost use Rattle.nullcheck_lsp_top.specs.Answer.{Answers, IsHeard, channels};
+ghost use Rattle.nullcheck_lsp_top.specs.Answer as spec;
+ghost use Rattle.nullcheck_lsp_top.specs.Looking.{new_client, outside};
+
+use crate::client::Client;
+use crate::messages::{hear, message_of};
+use crate::status::Status;
+use crate::writing::framed;
+use jn_base::{Fail, OutOfMemory, Text};
+use jn_folder::Folder;
+use jn_gate::Gate;
+use jn_lsp::Phase;
+use jn_lsp_frames::{Frame, FrameReader, Next, Stream};
+use jn_outside::{Files, Sink, write_whole};
+use std::alloc::Global;
+use std::thread::Threads;
+
+/// Whether the server goes on behind a frame.
+#[derive(Clone, Copy, Debug, PartialEq, Eq)]
+pub(crate) enum Heard {
+    /// It does.
+    Goes,
+    /// It ends, with this status.
+    Ends(Status),
+}
+
+/// The bytes that are written in answer to a frame.
+fn answer<R: Threads + Sync, F: Files, D: Folder, G: Gate + Sync>(
+    rt: &R,
+    gate: &G,
+    alloc: Global,
+    address: &Option<Text>,
+    client: &mut Client,
+    frame: &Frame,
+    files: &mut F,
+    folder: &mut D,
+) -> Result<Vec<u8>, OutOfMemory>
+    ensures held { F.held files.new ≡ F.held files.old }
+    ensures answers { IfOk result (λ bytes. spec.IsAnswer address.now (F.held files.old)
+        (outside (D.told folder.old) (D.faults folder.old) (F.gave files.old) (F.faults files.old))
+        (outside (D.told folder.new) (D.faults folder.new) (F.gave files.new) (F.faults files.new))
+        client.old frame.now client.new bytes.items) }
+{
+    let message = message_of(alloc, frame)?;
+    let replies = hear(rt, gate, alloc, client, message, files, folder)?;
+    framed(alloc, address, &replies)
+}
+
+/// How a server in this phase goes on.
+fn goes_on(phase: Phase) -> Heard
+    ensures { result ≡ spec.goes_on phase }
+{
+    match phase {
+        Phase::Exited { in_order: true } => Heard::Ends(Status::Done),
+        Phase::Exited { in_order: false } => Heard::Ends(Status::Ended),
+        _ => Heard::Goes,
+    }
+}
+
+/// Takes a frame, and writes what is replied to it.
+fn take_frame<R: Threads + Sync, F: Files, D: Folder, K: Sink, G: Gate + Sync>(
+    rt: &R,
+    gate: &G,
+    alloc: Global,
+    address: &Option<Text>,
+    client: &mut Client,
+    frame: &Frame,
+    files: &mut F,
+    folder: &mut D,
+    out: &mut K,
+) -> Heard
+    ensures held { F.held files.new ≡ F.held files.old }
+    ensures heard { IsHeard address.now (F.held files.old) (K.written out.old) (K.written out.new)
+        (K.faults out.old) (K.faults out.new)
+        (outside (D.told folder.old) (D.faults folder.old) (F.gave files.old) (F.faults files.old))
+        (outside (D.told folder.new) (D.faults folder.new) (F.gave files.new) (F.faults files.new))
+        client.old frame.now client.new result }
+{
+    let Ok(bytes) = answer(rt, gate, alloc, address, client, frame, files, folder) else {
+        return Heard::Ends(Status::OutOfMemory);
+    };
+    match write_whole(out, &bytes) {
+        Ok(()) => goes_on(client.server.phase()),
+        Err(_) => Heard::Ends(Status::WriteFault),
+    }
+}
+
+/// Takes the frames of the input, one after the other, until the client exits or the input ends.
+fn take_frames<R: Threads + Sync, S: Stream, F: Files, D: Folder, K: Sink, G: Gate + Sync>(
+    rt: &R,
+    gate: &G,
+    alloc: Global,
+    address: &Option<Text>,
+    reader: &mut FrameReader,
+    client: &mut Client,
+    input: &mut S,
+    files: &mut F,
+    folder: &mut D,
+    out: &mut K,
+) -> Status
+    requires fresh { reader.old.pending.items ≡ [] }
+    requires silent { client.old ≡ new_client }
+    ensures held { F.held files.new ≡ F.held files.old }
+    ensures answer { Answers address.now (F.held files.old)
+        (channels (S.given input.old) (S.ended input.old) (S.faults input.old) (K.written out.old) (K.faults out.old))
+        (channels (S.given input.new) (S.ended input.new) (S.faults input.new) (K.written out.new) (K.faults out.new))
+        (outside (D.told folder.old) (D.faults folder.old) (F.gave files.old) (F.faults files.old))
+        (outside (D.told folder.new) (D.faults folder.new) (F.gave files.new) (F.faults files.new))
+        result }
+{
+    for _turn in 0..u64::MAX {
+        let frame = match reader.next(input, alloc) {
+            Ok(Next::Frame(frame)) => frame,
+            Ok(Next::End(_)) => return Status::Ended,
+            Err(Fail::Refused(_)) => return Status::ReadFault,
+            Err(Fail::OutOfMemory) => return Status::OutOfMemory,
+        };
+        match take_frame(rt, gate, alloc, address, client, &frame, files, folder, out) {
+            Heard::Goes => {}
+            Heard::Ends(status) => return status,
+        }
+    }
+    Status::Ended
+}
+
+/// Serves a client that didn't speak yet.
+pub(crate) fn serve_all<R: Threads + Sync, S: Stream, F: Files, D: Folder, K: Sink, G: Gate + Sync>(
+    rt: &R,
+    gate: &G,
+    alloc: Global,
+    address: &Option<Text>,
+    input: &mut S,
+    files: &mut F,
+    folder: &mut D,
+    out: &mut K,
+) -> Status
+    ensures held { F.held files.new ≡ F.held files.old }
+    ensures answer { Answers address.now (F.held files.old)
+        (channels (S.given input.old) (S.ended input.old) (S.faults input.old) (K.written out.old) (K.faults out.old))
+        (channels (S.given input.new) (S.ended input.new) (S.faults input.new) (K.written out.new) (K.faults out.new))
+        (outside (D.told folder.old) (D.faults folder.old) (F.gave files.old) (F.faults files.old))
+        (outside (D.told folder.new) (D.faults folder.new) (F.gave files.new) (F.faults files.new))
+        result }
+{
+    let mut reader = FrameReader::new(alloc);
+    let mut client = Client::new(alloc);
+    take_frames(
+        rt,
+        gate,
+        alloc,
+        address,
+        &mut reader,
+        &mut client,
+        input,
+        files,
+        folder,
+        out,
+    )
+}

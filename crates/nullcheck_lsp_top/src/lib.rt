@@ -1,0 +1,20 @@
+//! A language server (Language Server Protocol 3.17) over an input, files, folders and an output.
+//!
+//! [`serve`] reads messages, answers them, and publishes the diagnostics of all files of the workspace; `specs/Answer.antt` says what each
+//! status means.
+#![tactic(auto)]
+
+mod client;
+mod finding;
+mod frames;
+pub mod law;
+mod messages;
+mod status;
+mod texts;
+pub mod top;
+mod warning;
+mod words;
+mod writing;
+
+pub use status::Status;
+pub use top::serve;

@@ -1,0 +1,128 @@
+//! Messages that are heard.
+ghost use Rattle.std.specs.Prelude.{◌≡◌, ◌++◌, IfOk, OnOk};
+ghost use Rattle.nullcheck_lsp_top.specs.Hearing as spec;
+ghost use Rattle.nullcheck_lsp_top.specs.Looking.{outside};
+
+use crate::client::{Client, told_root};
+use crate::finding::read_workspace;
+use crate::warning::show;
+use jn_base::OutOfMemory;
+use jn_folder::Folder;
+use jn_gate::Gate;
+use jn_lsp::{Event, Phase, wants_folder};
+use jn_lsp_frames::Frame;
+use jn_lsp_messages::read_message;
+use jn_lsp_types::{Message, Reply};
+use jn_outside::Files;
+use std::alloc::{AllocError, Global};
+use std::thread::Threads;
+
+/// The message that a frame is.
+pub(crate) fn message_of(alloc: Global, frame: &Frame) -> Result<Message, OutOfMemory>
+    ensures { IfOk result (λ message. spec.IsMessageOf frame.now message) }
+{
+    match frame {
+        Frame::Body(body) => read_message(alloc, body.as_slice()),
+        Frame::BadHeader => Ok(Message::BadHeader),
+        Frame::TooLarge => Ok(Message::TooLarge),
+    }
+}
+
+/// Puts more replies behind others.
+fn joined(replies: Vec<Reply>, more: Vec<Reply>) -> Result<Vec<Reply>, AllocError>
+    ensures { IfOk result (λ all. all.items ≡ replies.items ++ more.items) }
+{
+    let mut all = replies;
+    for reply in more {
+        all.push(reply)?;
+    }
+    Ok(all)
+}
+
+/// Whether the workspace's files are read behind a message that comes in this phase.
+fn looks(phase: Phase, message: &Message) -> bool
+    ensures { result ≡ spec.looks phase message.now }
+{
+    match phase {
+        Phase::Serving => wants_folder(message),
+        _ => false,
+    }
+}
+
+/// Reads the workspace's files, and tells the server of them.
+fn look<R: Threads + Sync, F: Files, D: Folder, G: Gate + Sync>(
+    rt: &R,
+    gate: &G,
+    alloc: Global,
+    client: &mut Client,
+    files: &mut F,
+    folder: &mut D,
+) -> Result<Vec<Reply>, OutOfMemory>
+    ensures held { F.held files.new ≡ F.held files.old }
+    ensures looks { IfOk result (λ replies. spec.Looks (F.held files.old)
+        (outside (D.told folder.old) (D.faults folder.old) (F.gave files.old) (F.faults files.old))
+        (outside (D.told folder.new) (D.faults folder.new) (F.gave files.new) (F.faults files.new))
+        client.old client.new replies.items) }
+{
+    let found = read_workspace(alloc, &client.root, files, folder)?;
+    let shows = show(alloc, client.shown.as_slice(), found.warnings.as_slice())?;
+    let news = client.server.take(rt, gate, &Event::Folder(found.files))?;
+    client.shown = found.warnings;
+    Ok(joined(shows, news)?)
+}
+
+/// Reads the workspace's files where that is wanted.
+fn look_where<R: Threads + Sync, F: Files, D: Folder, G: Gate + Sync>(
+    rt: &R,
+    gate: &G,
+    alloc: Global,
+    wanted: bool,
+    client: &mut Client,
+    files: &mut F,
+    folder: &mut D,
+) -> Result<Vec<Reply>, OutOfMemory>
+    ensures held { F.held files.new ≡ F.held files.old }
+    ensures looks { IfOk result (λ replies. spec.LooksWhere wanted (F.held files.old)
+        (outside (D.told folder.old) (D.faults folder.old) (F.gave files.old) (F.faults files.old))
+        (outside (D.told folder.new) (D.faults folder.new) (F.gave files.new) (F.faults files.new))
+        client.old client.new replies.items) }
+{
+    if wanted {
+        look(rt, gate, alloc, client, files, folder)
+    } else {
+        Ok(Vec::new(alloc))
+    }
+}
+
+/// Keeps where the files are, where the message says so.
+fn settle(alloc: Global, client: &mut Client, message: &Message) -> Result<(), AllocError>
+    ensures { OnOk result (client.new ≡ spec.settled message.now client.old) }
+{
+    if let Some(root) = told_root(alloc, client.server.phase(), message)? {
+        client.root = root;
+    }
+    Ok(())
+}
+
+/// Takes a message, and gives the replies to it.
+pub(crate) fn hear<R: Threads + Sync, F: Files, D: Folder, G: Gate + Sync>(
+    rt: &R,
+    gate: &G,
+    alloc: Global,
+    client: &mut Client,
+    message: Message,
+    files: &mut F,
+    folder: &mut D,
+) -> Result<Vec<Reply>, OutOfMemory>
+    ensures held { F.held files.new ≡ F.held files.old }
+    ensures hears { IfOk result (λ replies. spec.Hears (F.held files.old)
+        (outside (D.told folder.old) (D.faults folder.old) (F.gave files.old) (F.faults files.old))
+        (outside (D.told folder.new) (D.faults folder.new) (F.gave files.new) (F.faults files.new))
+        client.old message replies.items client.new) }
+{
+    let looks = looks(client.server.phase(), &message);
+    settle(alloc, client, &message)?;
+    let replies = client.server.take(rt, gate, &Event::Message(message))?;
+    let more = look_where(rt, gate, alloc, looks, client, files, folder)?;
+    Ok(joined(replies, more)?)
+}
