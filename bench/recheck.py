@@ -70,7 +70,7 @@ def edits_of(name, kind):
         elif kind == "a body, with a new name":
             texts.append(text(shape, run, file, f"int fresh{i} = n; n = fresh{i};"))
         elif kind == "a member's head":
-            texts.append(text(shape, run, file).replace("int six(int n)", f"int six(int n{', int more' * (i % 2 + 1)})", 1))
+            texts.append(text(shape, run, file).replace("int six(int n)", f"int six(int n, int more{', int most' * (i % 2)})", 1))
         elif kind == "a line above a file's classes":
             texts.append("\n" * (i + 1) + text(shape, run, file))
         else:
