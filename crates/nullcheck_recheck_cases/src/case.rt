@@ -1,6 +1,6 @@
 //! A case is one line: the words of a command. Three words set what lies around it: `read=N` has the Nth call on the source fail, `write=N`
-//! the Nth write, and `anew` carries out the script by a session alone, and prints at each check how often a worker took a
-//! file, or a body where all are solved anew, and how often a body's rows were made anew.
+//! the Nth write, and `anew` carries out the script by a session alone, and prints at each check how often a body's rows
+//! were made anew, and at all but the first how often a worker took a file, or a body where all are solved anew.
 use std::alloc::{AllocError, Global};
 
 #[derive(Drop)]

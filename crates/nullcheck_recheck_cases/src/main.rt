@@ -85,13 +85,14 @@ fn run_words<R: Threads + Sync>(rt: &HostRuntime, threads: &R, case: &Case) -> i
     println!(rt; "{wrote}-- {number}")
 }
 
-/// Carries out a step by the session, and prints at a check how often one worker entered the gate of files and of bodies that are solved anew, and
-/// how often that of bodies whose rows are made anew.
+/// Carries out a step by the session, and prints at a check how often one worker entered the gate of bodies whose rows are made anew, and at all but
+/// the first one how often that of files and of bodies that are solved anew.
 fn take_step<R: Threads + Sync>(
     rt: &HostRuntime,
     threads: &R,
     session: &mut Session,
     step: &Step,
+    first: bool,
 ) -> io::Result<()> {
     match step {
         Step::Empty => Ok(()),
@@ -114,6 +115,9 @@ fn take_step<R: Threads + Sync>(
             }
             let taken = solving.entries();
             let anew = bodies.entries();
+            if first {
+                return println!(rt; "{anew} bodies anew");
+            }
             println!(rt; "{taken} taken, {anew} bodies anew")
         }
     }
@@ -123,8 +127,12 @@ fn take_step<R: Threads + Sync>(
 fn run_anew<R: Threads + Sync>(rt: &HostRuntime, threads: &R, case: &Case) -> io::Result<()> {
     for word in &case.words {
         let mut session = Session::new(rt.alloc());
+        let mut first = true;
         for step in &steps_of(rt, word.as_str())? {
-            take_step(rt, threads, &mut session, step)?;
+            take_step(rt, threads, &mut session, step, first)?;
+            if let Step::Check = step {
+                first = false;
+            }
         }
     }
     Ok(())
