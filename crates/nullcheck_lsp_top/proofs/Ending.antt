@@ -1,12 +1,10 @@
 -- A count of faults rises only where the status says so.
-use Rattle.std.proofs.Common.{◌≡◌, ℕ, ◌<◌, List, inl, inr, refl, arith}
-use Rattle.std.specs.Prelude.{◌⊎◌, Option}
+use Rattle.std.proofs.Common.{◌≡◌, ℕ, ◌<◌, List, inl, inr, refl, ap, arith}
+use Rattle.std.specs.Prelude.{Option}
 use Rattle.jn_outside.specs.Files.{Holding}
-use Rattle.jn_outside.specs.Sink.{Appends, AppendsPrefix}
-use Rattle.jn_outside.specs.Causes.{Rose}
 use Rattle.nullcheck_lsp_top.specs.declared.status.Status.{Status}
 use Rattle.nullcheck_lsp_top.specs.declared.status.Status.TheVariants.{Done, Ended, ReadFault, WriteFault, OutOfMemory, Usage}
-use Rattle.nullcheck_lsp_top.specs.Answer.{Answers, AnswersWords, Channels, usage_line}
+use Rattle.nullcheck_lsp_top.specs.Answer.{Answers, AnswersWords, Channels}
 use Rattle.nullcheck_lsp_top.specs.Looking.{Outside}
 
 same_never : (a b : ℕ) → b ≡ a → a < b → ⊥
@@ -30,14 +28,10 @@ module _ (address : Option (List ℕ)) (held : Option Holding) (from to : Channe
   write_rose Usage a lt = absurd a
 
 module _ (held : Option Holding) (from to : Channels) (old new : Outside) where
-  usage_write_rose : (status : Status) → ((status ≡ Usage) × Appends from.written to.written usage_line × (to.writes ≡ from.writes)) ⊎ ((status ≡ WriteFault) × AppendsPrefix from.written to.written usage_line × Rose from.writes to.writes) → from.writes < to.writes → status ≡ WriteFault
-  usage_write_rose status (inl a) lt = absurd (same_never from.writes to.writes a.2 lt)
-  usage_write_rose status (inr a) lt = a.0
-
   pub read_always : (words : List (List ℕ)) (status : Status) → AnswersWords held from to old new words status → from.hears < to.hears → status ≡ ReadFault
   read_always words status (inl a) lt = read_rose a.0 held from to old new status a.2 lt
-  read_always words status (inr a) lt = absurd (same_never from.hears to.hears a.1.hears lt)
+  read_always words status (inr a) lt = absurd (same_never from.hears to.hears (ap (λ (c : Channels). c.hears) a.1.0) lt)
 
   pub write_always : (words : List (List ℕ)) (status : Status) → AnswersWords held from to old new words status → from.writes < to.writes → status ≡ WriteFault
   write_always words status (inl a) lt = write_rose a.0 held from to old new status a.2 lt
-  write_always words status (inr a) lt = usage_write_rose status a.1.written lt
+  write_always words status (inr a) lt = absurd (same_never from.writes to.writes (ap (λ (c : Channels). c.writes) a.1.0) lt)

@@ -28,9 +28,6 @@ number_of WriteFault = 6
 number_of OutOfMemory = 7
 number_of Usage = 64
 
-abbrev pub usage_line : List ℕ
-usage_line = codes "usage: nullcheck_lsp [--codes ADDRESS]\n"
-
 -- there are no words, or the address of the document of the codes is given
 abbrev pub SaysAddress : List (List ℕ) → Option (List ℕ) → Type 0
 SaysAddress words None = words ≡ []
@@ -112,14 +109,9 @@ module _ (address : Option (List ℕ)) (held : Option Holding) (from to : Channe
   Answers OutOfMemory = AnsweredFirst Appends × IsHeardWhole from to × IsWrittenWhole from to
   Answers Usage = ⊥
 
--- words are wrong: nothing is heard or read
-pub record AnswersUsage (from to : Channels) (old new : Outside) (status : Status) : Type 0 where
-  pub given : to.given ≡ from.given
-  pub hears : IsHeardWhole from to
-  pub outside : new ≡ old
-  pub written :
-      ((status ≡ Usage) × Appends from.written to.written usage_line × IsWrittenWhole from to)
-      ⊎ ((status ≡ WriteFault) × AppendsPrefix from.written to.written usage_line × Rose from.writes to.writes)
+-- words are wrong: nothing is heard, read or written
+abbrev pub AnswersUsage : Channels → Channels → Outside → Outside → Status → Type 0
+AnswersUsage from to old new status = (to ≡ from) × (new ≡ old) × (status ≡ Usage)
 
 -- replies link to the document that the words name; other words are wrong
 abbrev pub AnswersWords : Option Holding → Channels → Channels → Outside → Outside → List (List ℕ) → Status → Type 0

@@ -15,7 +15,7 @@ pub enum Status {
     WriteFault,
     /// No memory was found.
     OutOfMemory,
-    /// There are words, and none are wanted.
+    /// There are other words than those that are known.
     Usage,
 }
 

@@ -1,8 +1,8 @@
 //! A language server over an input and an output.
-ghost use Rattle.std.specs.Prelude.{◌≡◌, ◌<◌, ℕ, List, Bool, map};
+ghost use Rattle.std.specs.Prelude.{◌≡◌, ◌<◌, map};
 ghost use Rattle.std.specs.String.{string_bytes};
-ghost use Rattle.nullcheck_lsp_top.specs.Answer.{AnswersUsage, AnswersWords, channels};
-ghost use Rattle.nullcheck_lsp_top.specs.Looking.{Outside, outside};
+ghost use Rattle.nullcheck_lsp_top.specs.Answer.{AnswersWords, channels};
+ghost use Rattle.nullcheck_lsp_top.specs.Looking.{outside};
 
 use crate::frames::serve_all;
 use crate::status::Status;
@@ -10,26 +10,12 @@ use crate::words::{Asked, read_words};
 use jn_folder::Folder;
 use jn_gate::Gate;
 use jn_lsp_frames::Stream;
-use jn_outside::{Files, Sink, write_whole};
+use jn_outside::{Files, Sink};
 use std::alloc::Global;
 use std::thread::Threads;
 
-const USAGE: &str = "usage: nullcheck_lsp [--codes ADDRESS]\n";
-
-/// Says how the program is used.
-fn tell_usage<K: Sink>(out: &mut K) -> Status
-    ensures { (given : List ℕ) (ended : Bool) (hears : ℕ) (at : Outside) → AnswersUsage
-        (channels given ended hears (K.written out.old) (K.faults out.old))
-        (channels given ended hears (K.written out.new) (K.faults out.new)) at at result }
-{
-    match write_whole(out, USAGE.as_bytes()) {
-        Ok(()) => Status::Usage,
-        Err(_) => Status::WriteFault,
-    }
-}
-
 /// Serves a client (Language Server Protocol 3.17): messages come from the input, replies go to the output. The words are none, or
-/// `--codes` and the address of the document of the codes: each diagnostic links to its code there.
+/// `--codes` and the address of the document of the codes: each diagnostic links to its code there. With others nothing is read or written.
 ///
 /// `rt` gives the threads of four workers, who call `gate` when they take a file, a body for inference, or a body whose rows are made anew.
 pub fn serve<R: Threads + Sync, S: Stream, F: Files, D: Folder, K: Sink, G: Gate + Sync>(
@@ -56,7 +42,7 @@ pub fn serve<R: Threads + Sync, S: Stream, F: Files, D: Folder, K: Sink, G: Gate
 {
     match read_words(alloc, words) {
         Err(_) => Status::OutOfMemory,
-        Ok(Asked::Other) => tell_usage(out),
+        Ok(Asked::Other) => Status::Usage,
         Ok(Asked::Serving { address }) => {
             serve_all(rt, gate, alloc, &address, input, files, folder, out)
         }

@@ -1,8 +1,7 @@
-use Rattle.std.proofs.Common.{ℕ, List, Option, Some, map, inl, inr, subst}
+use Rattle.std.proofs.Common.{ℕ, List, Option, Some, map, inl, inr, refl, subst}
 use Rattle.std.specs.String.{string_bytes}
 use Rattle.nullcheck_lsp_top.specs.Answer.{IsAsked, SaysAddress, channels}
 use Rattle.nullcheck_lsp_top.specs.Looking.{outside}
-use Rattle.nullcheck_lsp_top.proofs.Ending.{write_always}
 use Rattle.nullcheck_lsp_top.proofs.Looping.{short_at_start}
 use Rattle.nullcheck_lsp_top.proofs.top.serve.Goals as goal
 
@@ -16,21 +15,6 @@ returns-in-Err-clause-answer g c =
 
 pub returns-in-Ok-Other-clause-answer : goal.returns-in-Ok-Other-clause-answer
 returns-in-Ok-Other-clause-answer g c =
-    let held = g.F.Files.held c.args.files.now in
-    let from = channels (g.S.Stream.given c.args.input.now) (g.S.Stream.ended c.args.input.now) (g.S.Stream.faults c.args.input.now) (g.K.Sink.written c.args.out.now) (g.K.Sink.faults c.args.out.now) in
-    let old = outside (g.D.Folder.told c.args.folder.now) (g.D.Folder.faults c.args.folder.now) (g.F.Files.gave c.args.files.now) (g.F.Files.faults c.args.files.now) in
     let words = map string_bytes c.args.words.now in
     let other : (address : Option (List ℕ)) → SaysAddress words address → ⊥ = subst (IsAsked words) c.in-Ok-Other.field-0-is c.in-Ok-Other.ensures.is in
-    let usage = c.tell_usage.ensures (g.S.Stream.given c.args.input.now) (g.S.Stream.ended c.args.input.now) (g.S.Stream.faults c.args.input.now) old in
-    inr (other, usage)
-
-pub returns-in-Ok-Other-clause-write_always : goal.returns-in-Ok-Other-clause-write_always
-returns-in-Ok-Other-clause-write_always g c lt =
-    let held = g.F.Files.held c.args.files.now in
-    let from = channels (g.S.Stream.given c.args.input.now) (g.S.Stream.ended c.args.input.now) (g.S.Stream.faults c.args.input.now) (g.K.Sink.written c.args.out.now) (g.K.Sink.faults c.args.out.now) in
-    let old = outside (g.D.Folder.told c.args.folder.now) (g.D.Folder.faults c.args.folder.now) (g.F.Files.gave c.args.files.now) (g.F.Files.faults c.args.files.now) in
-    let to = channels (g.S.Stream.given c.args.input.now) (g.S.Stream.ended c.args.input.now) (g.S.Stream.faults c.args.input.now) (g.K.Sink.written c.tell_usage.new.out) (g.K.Sink.faults c.tell_usage.new.out) in
-    let words = map string_bytes c.args.words.now in
-    let other : (address : Option (List ℕ)) → SaysAddress words address → ⊥ = subst (IsAsked words) c.in-Ok-Other.field-0-is c.in-Ok-Other.ensures.is in
-    let usage = c.tell_usage.ensures (g.S.Stream.given c.args.input.now) (g.S.Stream.ended c.args.input.now) (g.S.Stream.faults c.args.input.now) old in
-    write_always held from to old old words c.tell_usage.result (inr (other, usage)) lt
+    inr (other, (refl, refl, refl))
