@@ -1,0 +1,99 @@
+//! Serves the recorded session of each line of the tables that the words name, and prints the bodies that are written and the status.
+#![tactic(auto)]
+
+mod case;
+mod session;
+
+use case::{Case, case_of};
+use jn_folder::MemFolder;
+use jn_gate::Straight;
+use jn_lsp_frames::{End, Frame, FrameReader, MemStream, Next};
+use jn_outside::{MemFiles, MemSink};
+use nullcheck_lsp_top::{Status, serve};
+use session::{Recorded, read_session};
+use std::alloc::{AllocError, Global};
+use std::thread::Threads;
+use std::{env, fs, io};
+
+/// The room of a sink that never fills.
+const WIDE: u32 = 1_000_000;
+
+/// The most bytes that one write takes.
+const MOST: u32 = 1000;
+
+/// Calls of which the one of this number fails; 0 where none does.
+fn failing(alloc: Global, call: u32) -> Result<Vec<u32>, AllocError> {
+    let mut calls = Vec::new(alloc);
+    if call > 0 {
+        calls.push(call)?;
+    }
+    Ok(calls)
+}
+
+/// Prints the bodies of the frames, each on a line, and where the bytes end in the middle of a frame.
+fn print_bodies(rt: &HostRuntime, bytes: Vec<u8>) -> io::Result<()> {
+    let alloc = rt.alloc();
+    let mut input = MemStream::new(bytes, WIDE, Vec::new(alloc));
+    let mut reader = FrameReader::new(alloc);
+    for _frame in 0..1000 {
+        match reader.next(&mut input, alloc) {
+            Ok(Next::Frame(Frame::Body(body))) => {
+                let text = String::from_utf8_lossy(alloc, body.as_slice())?;
+                println!(rt; "{text}")?;
+            }
+            Ok(Next::Frame(_)) => println!(rt; "no frame")?,
+            Ok(Next::End(End::Between)) => return Ok(()),
+            Ok(Next::End(End::Within)) => return println!(rt; "cut"),
+            Err(_) => return Err(io::Error::from(AllocError)),
+        }
+    }
+    Ok(())
+}
+
+/// Serves the session with these threads, and gives the status and the bytes that were written.
+fn served<R: Threads + Sync>(
+    alloc: Global,
+    threads: &R,
+    case: &Case,
+    session: Recorded,
+) -> Result<(Status, Vec<u8>), AllocError> {
+    let most = case.most.max(1);
+    let mut input = MemStream::new(session.sent, most, failing(alloc, case.input)?);
+    let mut files = MemFiles::new(alloc, session.held, failing(alloc, case.read)?);
+    let mut folder = MemFolder::new(session.folders, u64::from(case.list));
+    let Ok(mut sink) = MemSink::new(alloc, failing(alloc, case.write)?, MOST, WIDE) else {
+        return Err(AllocError);
+    };
+    let status = serve(
+        threads,
+        &Straight,
+        alloc,
+        &case.words,
+        &mut input,
+        &mut files,
+        &mut folder,
+        &mut sink,
+    );
+    Ok((status, Vec::from_slice(alloc, sink.bytes())?))
+}
+
+/// Serves the session of a line with these threads, and prints the line, the bodies and the status.
+fn run<R: Threads + Sync>(rt: &HostRuntime, threads: &R, line: &str) -> io::Result<()> {
+    let case = case_of(rt.alloc(), line)?;
+    let session = read_session(rt, case.name.as_str())?;
+    println!(rt; "== {line}")?;
+    let (status, bytes) = served(rt.alloc(), threads, &case, session)?;
+    print_bodies(rt, bytes)?;
+    let number = status.number();
+    println!(rt; "-- {number}")
+}
+
+fn main(rt: HostRuntime) -> io::Result<()> {
+    for table in env::args(&rt)?.skip(1) {
+        let text = fs::read_to_string(&rt, table.as_str())?;
+        for line in text.lines() {
+            run(&rt, &rt, line)?;
+        }
+    }
+    Ok(())
+}
