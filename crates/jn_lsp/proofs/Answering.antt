@@ -1,5 +1,5 @@
 -- Each request is answered once.
-use Rattle.std.proofs.Common.{◌≡◌, Bool, true, false, List, [], ◌∷◌, ◌++◌, append-nil, cond, Option, Some, None, refl, sym, ap, ◌∙◌, subst, inl, inr}
+use Rattle.std.proofs.Common.{◌≡◌, ℕ, Bool, true, false, List, [], ◌∷◌, ◌++◌, append-nil, cond, Option, Some, None, refl, sym, ap, ◌∙◌, subst, inl, inr}
 use Rattle.std.specs.Prelude.{option_to_list}
 use Rattle.std.proofs.lemmas.Grind.{flat_map-append}
 use Rattle.jn_lsp_types.specs.declared.id.Id.{Id}
@@ -16,18 +16,18 @@ use Rattle.jn_lsp.specs.declared.phase.Phase.{Phase}
 use Rattle.jn_lsp.specs.declared.phase.Phase.TheVariants.{Waiting, Serving, ShutDown, Exited}
 use Rattle.jn_lsp.specs.Publications.{ArePublished, gone}
 use Rattle.jn_lsp.specs.Requests.{AreAnswered, id_answered, id_asked, id_in, ids_answered, ids_asked, is_exit}
-use Rattle.jn_lsp.specs.Serving.{AreAnswers, IsRetold, Serves, ServerOf, Takes, answer_of, late_answer, new_server, next_phase, phase_behind, refusal, serving_answer, waiting_answer}
+use Rattle.jn_lsp.specs.Serving.{AreAnswers, IsRetold, Serves, ServerOf, Takes, answer_of, late_answer, opened_by, new_server, next_phase, phase_behind, refusal, serving_answer, waiting_answer}
 
 -- ---- publications answer nothing
 
-published_silent : (before told : List Told) (replies : List Reply) → ArePublished before told replies → ids_answered replies ≡ []
-published_silent before [] replies are = ap ids_answered are
-published_silent before (one ∷ told) replies (inl (same, are)) = published_silent before told replies are
-published_silent before (one ∷ told) replies (inr (differs, (rest, e, are))) = ap ids_answered e ∙ published_silent before told rest are
+published_silent : (opened : Option (List ℕ)) (before told : List Told) (replies : List Reply) → ArePublished opened before told replies → ids_answered replies ≡ []
+published_silent opened before [] replies are = ap ids_answered are
+published_silent opened before (one ∷ told) replies (inl (same, are)) = published_silent opened before told replies are
+published_silent opened before (one ∷ told) replies (inr (differs, (rest, e, are))) = ap ids_answered e ∙ published_silent opened before told rest are
 
-news_silent : (moved : Option Workspace) (before after : ServerOf) (news : List Reply) → IsRetold moved before news after → ids_answered news ≡ []
-news_silent None before after news (nothing, same, told) = ap ids_answered nothing
-news_silent (Some workspace) before after news (is, told, announces) = published_silent before.told (gone before.told after.told ++ after.told) news announces
+news_silent : (opened : Option (List ℕ)) (moved : Option Workspace) (before after : ServerOf) (news : List Reply) → IsRetold opened moved before news after → ids_answered news ≡ []
+news_silent opened None before after news (nothing, same, told) = ap ids_answered nothing
+news_silent opened (Some workspace) before after news (is, told, announces) = published_silent opened before.told (gone before.told after.told ++ after.told) news announces
 
 both_answered : (one other : List Reply) → ids_answered (one ++ other) ≡ ids_answered one ++ ids_answered other
 both_answered one other = flat_map-append (λ reply. option_to_list (id_answered reply)) one other
@@ -249,7 +249,7 @@ taken : (before after : ServerOf) (event : Event) (replies : List Reply) (takes 
 taken before after event replies takes =
     ap ids_answered takes.all
     ∙ both_answered takes.direct takes.news
-    ∙ ap (λ ids. ids_answered takes.direct ++ ids) (news_silent takes.moved before after takes.news takes.retold)
+    ∙ ap (λ ids. ids_answered takes.direct ++ ids) (news_silent (opened_by event) takes.moved before after takes.news takes.retold)
     ∙ append-nil (ids_answered takes.direct)
 
 all_none : (events : List Event) (before after : ServerOf) (replies : List Reply) → IsGone before.phase → Serves before events replies after → ids_answered replies ≡ []

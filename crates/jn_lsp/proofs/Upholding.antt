@@ -1,5 +1,5 @@
 -- A server keeps what is told true to the files, event by event.
-use Rattle.std.proofs.Common.{◌≡◌, ℕ, List, [], ◌∷◌, ◌++◌, Option, Some, None, append-nil, refl, sym, ap, ◌∙◌, subst}
+use Rattle.std.proofs.Common.{◌≡◌, ℕ, List, [], ◌∷◌, Option, Some, None, append-nil, refl, sym, ap, ◌∙◌, subst}
 use Rattle.std.specs.Prelude.{option_to_list}
 use Rattle.jn_front.specs.declared.source.SourceFile.{SourceFile}
 use Rattle.jn_lsp_types.specs.declared.id.Id.{Id}
@@ -15,8 +15,8 @@ use Rattle.jn_lsp.specs.declared.event.Event.{Event}
 use Rattle.jn_lsp.specs.declared.event.Event.TheVariants.{Folder, Message as MessageEvent}
 use Rattle.jn_lsp.specs.declared.phase.Phase.{Phase}
 use Rattle.jn_lsp.specs.declared.phase.Phase.TheVariants.{Waiting, Serving, ShutDown, Exited}
-use Rattle.jn_lsp.specs.Publications.{Announces, last_published}
-use Rattle.jn_lsp.specs.Serving.{AreAnswers, ArePublishedLast, IsInformed, IsMovedIn, IsRetold, IsUpToDate, Serves, ServerOf, Takes, answer_of, files_of, late_answer, new_server, next_phase, refusal, serving_answer, waiting_answer}
+use Rattle.jn_lsp.specs.Publications.{last_published}
+use Rattle.jn_lsp.specs.Serving.{AreAnswers, ArePublishedLast, IsInformed, IsMovedIn, IsRetold, IsUpToDate, Serves, ServerOf, Takes, answer_of, files_of, late_answer, opened_by, new_server, next_phase, refusal, serving_answer, waiting_answer}
 use Rattle.jn_lsp.specs.Telling.{IsTold, told_of}
 use Rattle.jn_lsp.proofs.LastPublished.{announced, last_both, told_own}
 use Rattle.jn_lsp.proofs.Names.{stand_own}
@@ -101,25 +101,25 @@ module _ (name : List ℕ) (last : List Diagnostic) where
 
 -- ---- one event
 
-informed_behind : (moved : Option Workspace) (before after : ServerOf) (news : List Reply) → IsRetold moved before news after → IsInformed before → IsInformed after
-informed_behind None before after news (nothing, same, told) informed =
+informed_behind : (opened : Option (List ℕ)) (moved : Option Workspace) (before after : ServerOf) (news : List Reply) → IsRetold opened moved before news after → IsInformed before → IsInformed after
+informed_behind opened None before after news (nothing, same, told) informed =
     subst (λ w. IsTold (files_of w) after.told) (sym same) (subst (IsTold (files_of before.workspace)) (sym told) informed)
-informed_behind (Some workspace) before after news (is, told, announces) informed = subst (λ w. IsTold (files_of w) after.told) (sym is) told
+informed_behind opened (Some workspace) before after news (is, told, announces) informed = subst (λ w. IsTold (files_of w) after.told) (sym is) told
 
 pub informed : (before after : ServerOf) (event : Event) (replies : List Reply) → Takes before event replies after → IsInformed before → IsInformed after
-informed before after event replies takes is = informed_behind takes.moved before after takes.news takes.retold is
+informed before after event replies takes is = informed_behind (opened_by event) takes.moved before after takes.news takes.retold is
 
-news_last : (name : List ℕ) (moved : Option Workspace) (before after : ServerOf) (news : List Reply) → IsRetold moved before news after → last_published name (told_of before.told name) news ≡ told_of after.told name
-news_last name None before after news (nothing, same, told) = ap (last_published name (told_of before.told name)) nothing ∙ ap (λ t. told_of t name) (sym told)
-news_last name (Some workspace) before after news (is, told, announces) =
-    announced before.told after.told news name (told_own (files_of workspace) after.told (stand_own workspace.disk workspace.documents) told) announces
+news_last : (opened : Option (List ℕ)) (name : List ℕ) (moved : Option Workspace) (before after : ServerOf) (news : List Reply) → IsRetold opened moved before news after → last_published name (told_of before.told name) news ≡ told_of after.told name
+news_last opened name None before after news (nothing, same, told) = ap (last_published name (told_of before.told name)) nothing ∙ ap (λ t. told_of t name) (sym told)
+news_last opened name (Some workspace) before after news (is, told, announces) =
+    announced opened before.told after.told news name (told_own (files_of workspace) after.told (stand_own workspace.disk workspace.documents) told) announces
 
 event_last : (name : List ℕ) (before after : ServerOf) (event : Event) (replies : List Reply) → Takes before event replies after → last_published name (told_of before.told name) replies ≡ told_of after.told name
 event_last name before after event replies takes =
     ap (last_published name (told_of before.told name)) takes.all
     ∙ last_both name (told_of before.told name) takes.direct takes.news
     ∙ ap (λ l. last_published name l takes.news) (answers_silent name (told_of before.told name) before event takes.direct takes.answers)
-    ∙ news_last name takes.moved before after takes.news takes.retold
+    ∙ news_last (opened_by event) name takes.moved before after takes.news takes.retold
 
 -- files stay as they are
 pub takes_alone : (phase next : Phase) (workspace : Workspace) (told : List Told) (event : Event) (direct replies : List Reply) (moved : Option Workspace) → next ≡ next_phase phase event → AreAnswers (record { phase = phase; workspace = workspace; told = told }) event direct → IsMovedIn phase event workspace moved → moved ≡ None → replies ≡ direct → Takes (record { phase = phase; workspace = workspace; told = told }) event replies (record { phase = next; workspace = workspace; told = told })
@@ -132,19 +132,6 @@ takes_alone phase next workspace told event direct replies moved behind answers 
   news = [];
   retold = (refl, refl, refl);
   all = e ∙ sym (append-nil direct);
-}
-
--- files change
-pub takes_all : (phase next : Phase) (workspace new : Workspace) (told more : List Told) (event : Event) (direct replies news : List Reply) (moved : Option Workspace) → next ≡ next_phase phase event → AreAnswers (record { phase = phase; workspace = workspace; told = told }) event direct → IsMovedIn phase event workspace moved → moved ≡ Some new → IsTold (files_of new) more → Announces told more news → replies ≡ direct ++ news → Takes (record { phase = phase; workspace = workspace; told = told }) event replies (record { phase = next; workspace = new; told = more })
-takes_all phase next workspace new told more event direct replies news moved behind answers moves some is announces e = record {
-  phase = behind;
-  direct = direct;
-  answers = answers;
-  moved = Some new;
-  moves = subst (IsMovedIn phase event workspace) some moves;
-  news = news;
-  retold = (refl, is, announces);
-  all = e;
 }
 
 -- ---- all events

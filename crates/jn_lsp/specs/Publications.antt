@@ -1,5 +1,5 @@
--- What is published: of each name of which something else was told last, what is told now.
-use Rattle.std.specs.Prelude.{ℕ, ◌≡◌, ◌⊎◌, ◌++◌, Bool, true, false, not, List, [], ◌∷◌, bytes_eq, filter, map, if◌then◌else◌}
+-- What is published: of each name of which something else was told last, and of a document that is opened, what is told now.
+use Rattle.std.specs.Prelude.{ℕ, ◌≡◌, ◌⊎◌, ◌++◌, Bool, true, false, not, List, [], ◌∷◌, Option, Some, None, bytes_eq, filter, map, if◌then◌else◌}
 use Rattle.std.specs.List.{list_any}
 use Rattle.jn_lsp_types.specs.declared.reply.Diagnostic.{Diagnostic}
 use Rattle.jn_lsp_types.specs.declared.reply.Reply.{Reply}
@@ -17,28 +17,42 @@ is_told told name = list_any (is_named name) told
 abbrev pub gone : List Told → List Told → List Told
 gone before after = map (λ (one : Told). record { name = one.name; diagnostics = [] }) (filter (λ (one : Told). not (is_told after one.name)) before)
 
--- the replies, with a publication behind them where this wasn't told of the name before
-abbrev pub Adds : List Told → List ℕ → List Diagnostic → List Reply → List Reply → Type 0
-Adds before name diagnostics replies more =
-    ((told_of before name ≡ diagnostics) × (more ≡ replies))
-    ⊎ ((told_of before name ≡ diagnostics → ⊥) × (more ≡ replies ++ Publish name diagnostics ∷ []))
+-- the document of this name is opened now
+abbrev pub is_opened : Option (List ℕ) → List ℕ → Bool
+is_opened None name = false
+is_opened (Some opened) name = bytes_eq opened name
 
--- the same of no diagnostics, where nothing is told of the name any more
-abbrev pub Clears : List Told → List Told → List ℕ → List Reply → List Reply → Type 0
-Clears before after name replies more =
-    ((is_told after name ≡ true) × (more ≡ replies))
-    ⊎ ((is_told after name ≡ false) × Adds before name [] replies more)
+-- what is told of a name is published where something else was told before; of a document that is opened in any case, as a client may
+-- show what is told of a file only while it has that open
+module _ (opened : Option (List ℕ)) (before : List Told) where
+  abbrev pub IsKnown : List ℕ → List Diagnostic → Type 0
+  IsKnown name diagnostics = (told_of before name ≡ diagnostics) × (is_opened opened name ≡ false)
 
--- a publication for each of these of which something else was told before, in their order
-abbrev pub ArePublished : List Told → List Told → List Reply → Type 0
-ArePublished before [] replies = replies ≡ []
-ArePublished before (one ∷ told) replies =
-    ((told_of before one.name ≡ one.diagnostics) × ArePublished before told replies)
-    ⊎ ((told_of before one.name ≡ one.diagnostics → ⊥) × ((rest : List Reply) × (replies ≡ Publish one.name one.diagnostics ∷ rest) × ArePublished before told rest))
+  abbrev pub IsNews : List ℕ → List Diagnostic → Type 0
+  IsNews name diagnostics = (told_of before name ≡ diagnostics → ⊥) ⊎ (is_opened opened name ≡ true)
 
--- what was told before becomes what is told after: first the names that are gone, then all others
-abbrev pub Announces : List Told → List Told → List Reply → Type 0
-Announces before after replies = ArePublished before (gone before after ++ after) replies
+  -- the replies, with a publication behind them where this is news of the name
+  abbrev pub Adds : List ℕ → List Diagnostic → List Reply → List Reply → Type 0
+  Adds name diagnostics replies more =
+      (IsKnown name diagnostics × (more ≡ replies))
+      ⊎ (IsNews name diagnostics × (more ≡ replies ++ Publish name diagnostics ∷ []))
+
+  -- the same of no diagnostics, where nothing is told of the name any more
+  abbrev pub Clears : List Told → List ℕ → List Reply → List Reply → Type 0
+  Clears after name replies more =
+      ((is_told after name ≡ true) × (more ≡ replies))
+      ⊎ ((is_told after name ≡ false) × Adds name [] replies more)
+
+  -- a publication for each of these that is news, in their order
+  abbrev pub ArePublished : List Told → List Reply → Type 0
+  ArePublished [] replies = replies ≡ []
+  ArePublished (one ∷ told) replies =
+      (IsKnown one.name one.diagnostics × ArePublished told replies)
+      ⊎ (IsNews one.name one.diagnostics × ((rest : List Reply) × (replies ≡ Publish one.name one.diagnostics ∷ rest) × ArePublished told rest))
+
+  -- what was told before becomes what is told after: first the names that are gone, then all others
+  abbrev pub Announces : List Told → List Reply → Type 0
+  Announces after replies = ArePublished (gone before after ++ after) replies
 
 -- what is told of a name behind a reply
 abbrev pub published : List ℕ → List Diagnostic → Reply → List Diagnostic

@@ -178,10 +178,15 @@ AreAnswers server (Folder files) replies = replies ≡ []
 
 -- ---- what a server does
 
--- where files change, their report is told, and what of it wasn't told before is published
-abbrev pub IsRetold : Option Workspace → ServerOf → List Reply → ServerOf → Type 0
-IsRetold None before news after = (news ≡ []) × (after.workspace ≡ before.workspace) × (after.told ≡ before.told)
-IsRetold (Some workspace) before news after = (after.workspace ≡ workspace) × IsTold (files_of workspace) after.told × Announces before.told after.told news
+-- the name of the document that an event opens
+abbrev pub opened_by : Event → Option (List ℕ)
+opened_by (MessageEvent (DidOpen name text)) = Some name
+opened_by _ = None
+
+-- where files change, their report is told, and what of it wasn't told before is published, with that of the document that is opened
+abbrev pub IsRetold : Option (List ℕ) → Option Workspace → ServerOf → List Reply → ServerOf → Type 0
+IsRetold opened None before news after = (news ≡ []) × (after.workspace ≡ before.workspace) × (after.told ≡ before.told)
+IsRetold opened (Some workspace) before news after = (after.workspace ≡ workspace) × IsTold (files_of workspace) after.told × Announces opened before.told after.told news
 
 -- a server takes an event, and gives these replies
 pub record Takes (before : ServerOf) (event : Event) (replies : List Reply) (after : ServerOf) : Type 0 where
@@ -191,7 +196,7 @@ pub record Takes (before : ServerOf) (event : Event) (replies : List Reply) (aft
   pub moved : Option Workspace
   pub moves : IsMovedIn before.phase event before.workspace moved
   pub news : List Reply
-  pub retold : IsRetold moved before news after
+  pub retold : IsRetold (opened_by event) moved before news after
   pub all : replies ≡ direct ++ news
 
 -- it takes events, one after the other

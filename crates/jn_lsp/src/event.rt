@@ -1,10 +1,11 @@
 //! What a server is told.
-ghost use Rattle.std.specs.Prelude.{◌≡◌};
-ghost use Rattle.jn_lsp.specs.Serving.{wants_folder};
+ghost use Rattle.std.specs.Prelude.{◌≡◌, IfOk};
+ghost use Rattle.jn_lsp.specs.Serving.{opened_by, wants_folder};
 
-use jn_base::Seq;
+use jn_base::{Seq, Text};
 use jn_front::SourceFile;
 use jn_lsp_types::Message;
+use std::alloc::{AllocError, Global};
 
 /// What a server is told.
 #[derive(Drop)]
@@ -26,5 +27,15 @@ pub fn wants_folder(message: &Message) -> bool
         Message::DidSave { .. } => true,
         Message::DidClose { .. } => true,
         _ => false,
+    }
+}
+
+/// The name of the document that an event opens.
+pub(crate) fn opened_by(alloc: Global, event: &Event) -> Result<Option<Text>, AllocError>
+    ensures { IfOk result (λ name. name ≡ opened_by event.now) }
+{
+    match event {
+        Event::Message(Message::DidOpen { name, .. }) => Ok(Some(name.copy(alloc)?)),
+        _ => Ok(None),
     }
 }

@@ -33,17 +33,28 @@ pub(crate) fn told_of<'a>(told: &'a [Told], name: &str) -> &'a [Diagnostic]
     &[]
 }
 
-/// Publishes what is told of a name, where something else was told before.
+/// Whether the document of this name is opened now.
+fn is_opened(opened: &Option<Text>, name: &str) -> bool
+    ensures { result ≡ spec.is_opened opened.now name.now }
+{
+    match opened {
+        None => false,
+        Some(opened) => opened.as_str() == name,
+    }
+}
+
+/// Publishes what is told of a name, where something else was told before, or its document is opened now.
 fn publish(
     alloc: Global,
+    opened: &Option<Text>,
     before: &[Told],
     name: &str,
     diagnostics: &[Diagnostic],
     replies: &mut Seq<Reply>,
 ) -> Result<(), AllocError>
-    ensures { OnOk result (spec.Adds before.now name.now diagnostics.now replies.old replies.new) }
+    ensures { OnOk result (spec.Adds opened.now before.now name.now diagnostics.now replies.old replies.new) }
 {
-    if are_same(told_of(before, name), diagnostics) {
+    if !is_opened(opened, name) && are_same(told_of(before, name), diagnostics) {
         return Ok(());
     }
     replies.push(Reply::Publish {
@@ -55,44 +66,59 @@ fn publish(
 /// Publishes that nothing is told of a name any more, where it is gone.
 fn clear(
     alloc: Global,
+    opened: &Option<Text>,
     before: &[Told],
     after: &[Told],
     name: &str,
     replies: &mut Seq<Reply>,
 ) -> Result<(), AllocError>
-    ensures { OnOk result (spec.Clears before.now after.now name.now replies.old replies.new) }
+    ensures { OnOk result (spec.Clears opened.now before.now after.now name.now replies.old replies.new) }
 {
     if is_told(after, name) {
         return Ok(());
     }
-    publish(alloc, before, name, &[], replies)
+    publish(alloc, opened, before, name, &[], replies)
 }
 
 /// Publications for the names that are gone: nothing is told of them.
-fn cleared(alloc: Global, before: &[Told], after: &[Told]) -> Result<Seq<Reply>, AllocError>
-    ensures { IfOk result (λ replies. spec.ArePublished before.now (spec.gone before.now after.now)
-        replies) }
+fn cleared(
+    alloc: Global,
+    opened: &Option<Text>,
+    before: &[Told],
+    after: &[Told],
+) -> Result<Seq<Reply>, AllocError>
+    ensures { IfOk result (λ replies. spec.ArePublished opened.now before.now
+        (spec.gone before.now after.now) replies) }
 {
     let mut replies = Seq::new(alloc);
     for one in before {
-        clear(alloc, before, after, one.name.as_str(), &mut replies)?;
+        clear(
+            alloc,
+            opened,
+            before,
+            after,
+            one.name.as_str(),
+            &mut replies,
+        )?;
     }
     Ok(replies)
 }
 
-/// What is published where this was told before, and that is told now.
+/// What is published where this was told before, and that is told now; of the document that is opened in any case.
 pub(crate) fn announce(
     alloc: Global,
+    opened: &Option<Text>,
     before: &[Told],
     after: &[Told],
 ) -> Result<Seq<Reply>, OutOfMemory>
-    ensures { IfOk result (λ replies. spec.Announces before.now after.now replies) }
+    ensures { IfOk result (λ replies. spec.Announces opened.now before.now after.now replies) }
 {
-    let mut replies = cleared(alloc, before, after)?;
+    let mut replies = cleared(alloc, opened, before, after)?;
     for one in after {
         let name = one.name.as_str();
         publish(
             alloc,
+            opened,
             before,
             name,
             one.diagnostics.as_slice(),

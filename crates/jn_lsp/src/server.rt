@@ -7,12 +7,12 @@ ghost use Rattle.jn_lsp.specs.Telling.{IsTold};
 use crate::answers::answers;
 use crate::diagnostics::Told;
 use crate::documents::Workspace;
-use crate::event::Event;
+use crate::event::{Event, opened_by};
 use crate::phase::Phase;
 use crate::publishing::announce;
 use crate::reporting::tell;
 use crate::standing::stand;
-use jn_base::{OutOfMemory, Seq};
+use jn_base::{OutOfMemory, Seq, Text};
 use jn_gate::Gate;
 use jn_lsp_types::Reply;
 use jn_recheck::Session;
@@ -32,15 +32,16 @@ fn retell<R: Threads + Sync, G: Gate + Sync>(
     gate: &G,
     alloc: Global,
     session: &mut Session,
+    opened: &Option<Text>,
     before: &[Told],
     workspace: &Workspace,
 ) -> Result<News, OutOfMemory>
     ensures told { IfOk result (λ news. IsTold (files_of workspace.now) news.told.items) }
-    ensures announced { IfOk result (λ news. Announces before.now news.told.items news.publications) }
+    ensures announced { IfOk result (λ news. Announces opened.now before.now news.told.items news.publications) }
 {
     let files = stand(alloc, workspace)?;
     let told = tell(rt, gate, alloc, session, files.as_slice())?;
-    let publications = announce(alloc, before, told.as_slice())?;
+    let publications = announce(alloc, opened, before, told.as_slice())?;
     Ok(News { told, publications })
 }
 
@@ -105,7 +106,7 @@ impl Server {
     }
 
     /// Takes an event, and gives the replies to it in order. Where the event changes the files that stand, their report is made anew, and
-    /// each name of which something else is told than before gets a publication. For a request of actions the files are checked anew where
+    /// each name of which something else is told than before gets a publication, and a document that is opened in any case. For a request of actions the files are checked anew where
     /// something is told at its range. Workers enter the gate where they take a file or a body.
     ///
     /// # Errors
@@ -121,6 +122,7 @@ impl Server {
     {
         let alloc = self.alloc;
         let next = self.phase.behind_event(event);
+        let opened = opened_by(alloc, event)?;
         let direct = answers(
             rt,
             gate,
@@ -142,6 +144,7 @@ impl Server {
                     gate,
                     alloc,
                     &mut self.session,
+                    &opened,
                     self.told.as_slice(),
                     &workspace,
                 )?;

@@ -1,7 +1,6 @@
 use Rattle.std.proofs.Common.{subst}
-use Rattle.jn_lsp.specs.Publications.{Announces}
 use Rattle.jn_lsp.specs.Serving.{AreAnswers, ServerOf, Takes}
-use Rattle.jn_lsp.proofs.Upholding.{takes_all, takes_alone}
+use Rattle.jn_lsp.proofs.Upholding.{takes_alone}
 use Rattle.jn_lsp.proofs.server.Server.take.Goals as goal
 
 pub returns-in-None-clause-takes : goal.returns-in-None-clause-takes
@@ -13,13 +12,3 @@ returns-in-None-clause-takes g c =
     subst (λ (b : ServerOf). Takes b c.args.event.now c.into_vec.result.items after) c.self.view_is
     (takes_alone i.phase next i.workspace i.told.items c.args.event.now c.in_ok-direct.direct c.into_vec.result.items c.in_ok-moved.moved c.behind_event-next.ensures answers c.in_ok-moved.ensures c.in-None.is c.into_vec.ensures)
 
-pub returns-in_ok-replies-in-Some-clause-takes : goal.returns-in_ok-replies-in-Some-clause-takes
-returns-in_ok-replies-in-Some-clause-takes g c =
-    let i = c.self.inside in
-    let next = c.behind_event-next.result in
-    let answers = subst (λ t. AreAnswers (record { phase = i.phase; workspace = i.workspace; told = t }) c.args.event.now c.in_ok-direct.direct) c.as_slice.ensures.value c.in_ok-direct.ensures in
-    let news = c.in_ok-told-in-Some.field-0 in
-    let after : ServerOf = record { phase = next; workspace = c.in-Some.workspace; told = news.told.items } in
-    let announced = subst (λ t. Announces t news.told.items news.publications) c.as_slice-in-Some.ensures.value c.in_ok-told-in-Some.ensures.announced in
-    subst (λ (b : ServerOf). Takes b c.args.event.now c.in_ok-replies-in-Some.replies.items after) c.self.view_is
-    (takes_all i.phase next i.workspace c.in-Some.workspace i.told.items news.told.items c.args.event.now c.in_ok-direct.direct c.in_ok-replies-in-Some.replies.items news.publications c.in_ok-moved.moved c.behind_event-next.ensures answers c.in_ok-moved.ensures c.in-Some.is c.in_ok-told-in-Some.ensures.told announced c.in_ok-replies-in-Some.ensures)
