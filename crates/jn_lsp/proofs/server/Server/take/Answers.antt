@@ -11,4 +11,3 @@ returns-in-None-clause-takes g c =
     let after : ServerOf = record { phase = next; workspace = i.workspace; told = i.told.items } in
     subst (λ (b : ServerOf). Takes b c.args.event.now c.into_vec.result.items after) c.self.view_is
     (takes_alone i.phase next i.workspace i.told.items c.args.event.now c.in_ok-direct.direct c.into_vec.result.items c.in_ok-moved.moved c.behind_event-next.ensures answers c.in_ok-moved.ensures c.in-None.is c.into_vec.ensures)
-
