@@ -14,26 +14,26 @@ ghost use Rattle.jn_system.specs.Ready.{AreTasks};
 use crate::changed::{changed_tasks, same_overriders};
 use crate::reach::ProgramReach;
 use jn_base::OutOfMemory;
-use jn_contrib::{Overrider, overriders};
+use jn_contrib::Overrider;
 use jn_env::OwnFields;
 use jn_gate::Gate;
-use jn_index::indexed::IndexedProgram;
 use jn_lost::{Edit, solve_on};
 use jn_points::Program;
 use jn_reuse::same_declarations;
 use jn_sigs::{Sig, start};
 use jn_system::signature::signature;
-use jn_system::{Nullness, solve_sig};
+use jn_system::{Nullness, solve_with};
 use jn_trees::Names;
 use std::alloc::Global;
 use std::thread::Threads;
 
-/// An earlier program, the texts of its names, and its least signature.
+/// An earlier program, the texts of its names, its least signature, and its methods that override.
 #[derive(Drop)]
 pub struct Earlier<'e> {
     pub names: &'e Names,
-    pub program: &'e IndexedProgram,
+    pub program: &'e Program,
     pub sig: &'e Sig,
+    pub overriders: &'e [Overrider],
 }
 
 /// Whether the tasks can be numbered.
@@ -136,8 +136,9 @@ fn solve_edited(
     Ok(found)
 }
 
-/// The least signature of a program, where an earlier one has been solved. Where both declare the same and have as many bodies, it is found from the
-/// earlier one's on one thread; else anew, by so many workers, 1 to 16, each of which enters the gate when it takes a body.
+/// The least signature of a program, where an earlier one has been solved, and these are its methods that override. Where both declare the same and
+/// have as many bodies, it is found from the earlier one's on one thread; else anew, by so many workers, 1 to 16, each of which enters the gate
+/// when it takes a body.
 ///
 /// # Errors
 /// No memory was found, or bodies and methods that override are more than four billion.
@@ -146,35 +147,35 @@ pub fn solve_again<R: Threads + Sync, G: Gate + Sync>(
     alloc: Global,
     earlier: &Earlier,
     names: &Names,
-    program: &IndexedProgram,
+    program: &Program,
+    overriders: &[Overrider],
     workers: u32,
     gate: &G,
 ) -> Result<Sig, OutOfMemory>
     requires old { IsInferable earlier.now.program.now }
     requires least { IsLeastSignature earlier.now.program.now earlier.now.sig.now }
+    requires old_list { AreOverriders earlier.now.program.now earlier.now.overriders.now }
     requires inferable { IsInferable program.now }
+    requires list { AreOverriders program.now overriders.now }
     requires workers { (0 < workers) × (workers ≤ 16) }
     ensures { IfOk result (λ sig. IsLeastSignature program.now sig) }
 {
-    let old = earlier.program.program();
-    let new = program.program();
-    if !same_declarations(earlier.names, old, names, new) {
-        return solve_sig(rt, alloc, program, workers, gate);
+    let old = earlier.program;
+    if !same_declarations(earlier.names, old, names, program) {
+        return solve_with(rt, alloc, program, overriders, workers, gate);
     }
-    if old.bodies.len() != new.bodies.len() {
-        return solve_sig(rt, alloc, program, workers, gate);
+    if old.bodies.len() != program.bodies.len() {
+        return solve_with(rt, alloc, program, overriders, workers, gate);
     }
-    let old_overriders = overriders(alloc, earlier.program)?;
-    let list = overriders(alloc, program)?;
-    if !same_overriders(old_overriders.as_slice(), list.as_slice()) {
-        return solve_sig(rt, alloc, program, workers, gate);
+    if !same_overriders(earlier.overriders, overriders) {
+        return solve_with(rt, alloc, program, overriders, workers, gate);
     }
     solve_edited(
         alloc,
         old,
         earlier.sig,
-        old_overriders.as_slice(),
-        new,
-        list.as_slice(),
+        earlier.overriders,
+        program,
+        overriders,
     )
 }

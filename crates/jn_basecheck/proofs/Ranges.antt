@@ -1,10 +1,10 @@
 -- Rows of ranges of bodies, one behind the other.
-use Rattle.std.proofs.Common.{ℕ, ◌+◌, ◌≡◌, ◌<◌, ◌≤◌, ◌↔◌, inl, inr, List, [], ◌++◌, length, subst, arith, Contains}
+use Rattle.std.proofs.Common.{ℕ, ◌+◌, ◌≡◌, ◌<◌, ◌≤◌, ◌↔◌, inl, inr, true, false, Bool, List, [], ◌++◌, length, get_or, ap, ◌∙◌, subst, arith, Contains}
 use Rattle.std.proofs.lemmas.List.Elements.{Contains-append_left, Contains-append_right, Contains-append_cases}
 use Rattle.jn_base.specs.declared.place.Row.{Row}
 use Rattle.jn_points.specs.declared.program.Program.{Program}
 use Rattle.jn_points.specs.BaseRows.{IsBaseRow}
-use Rattle.jn_basecheck.specs.Rows.{Adds, BodyRow, AreRowsOf}
+use Rattle.jn_basecheck.specs.Rows.{Adds, AreTyped, BodyRow, AreRowsOf}
 use Rattle.jn_basecheck.proofs.Gather.{last_or}
 use Rattle.jn_basecheck.proofs.Meant.{none_in, below_or, base_rows}
 
@@ -24,6 +24,13 @@ rows_of_more P from n old new le here more row = (
     | inl lt ↦ inl ((here row).1 (q.0, q.1, lt, q.3))
     | inr same ↦ inr (subst (λ b. BodyRow P b row) same q.3)
   ]),
+)
+
+-- a body that is told to have no row has none
+pub no_rows_told : (P : Program) (typed : List Bool) (b : ℕ) (rows : List Row) → AreTyped P typed → get_or typed b false ≡ true → rows ≡ [] → AreRowsOf P b (b + 1) rows
+no_rows_told P typed b rows are told none row = (
+  λ h. absurd (none_in row (subst (λ rs. Contains rs row) none h)),
+  λ q. let low : b ≤ q.0 = q.1 in let high : q.0 < b + 1 = q.2 in let same : q.0 ≡ b = omega (arith, low, high) in absurd (are q.0 row (ap (λ n. get_or typed n false) same ∙ told) q.3),
 )
 
 pub behind_each_other : (P : Program) (from middle to : ℕ) (front back : List Row) → from ≤ middle → middle ≤ to → AreRowsOf P from middle front → AreRowsOf P middle to back → AreRowsOf P from to (front ++ back)

@@ -1,5 +1,5 @@
 -- The rows J7 to J10 body by body and point by point.
-use Rattle.std.specs.Prelude.{ℕ, ◌≡◌, ◌<◌, ◌≤◌, ◌⊎◌, ◌↔◌, ◌&&◌, not, cond, ltb, List, [], ◌∷◌, length, Bool, Option, Some}
+use Rattle.std.specs.Prelude.{ℕ, ◌≡◌, ◌<◌, ◌≤◌, ◌⊎◌, ◌↔◌, ◌&&◌, true, false, not, cond, ltb, List, [], ◌∷◌, get_or, length, Bool, Option, Some}
 use Rattle.std.specs.List.{Contains}
 use Rattle.jn_base.specs.declared.place.Row.{Row}
 use Rattle.jn_base.specs.declared.code.Code.TheVariants.{J8}
@@ -76,3 +76,7 @@ BodyRow P b row = TypeRows P b row ⊎ PathRow P b row
 -- just the rows of the bodies from one up to another, without that one
 abbrev pub AreRowsOf : Program → ℕ → ℕ → List Row → Type 0
 AreRowsOf P from to rows = (row : Row) → Contains rows row ↔ ((b : ℕ) × (from ≤ b) × (b < to) × BodyRow P b row)
+
+-- those that are told have no row
+abbrev pub AreTyped : Program → List Bool → Type 0
+AreTyped P typed = (b : ℕ) (row : Row) → get_or typed b false ≡ true → BodyRow P b row → ⊥

@@ -4,6 +4,7 @@ ghost use Rattle.jn_base.specs.declared.place.Row.{Row as RowOf};
 ghost use Rattle.jn_points.specs.BaseRows.{IsBaseRow, NoBaseRows};
 ghost use Rattle.jn_points.specs.Regular.{Regular};
 ghost use Rattle.jn_basecheck.specs.Refusal.{IsRefusedFor};
+ghost use Rattle.jn_basecheck.specs.Rows.{AreTyped};
 
 use crate::sharing::all_rows;
 use jn_base::{Fail, Row};
@@ -50,7 +51,28 @@ pub fn base_check<R: Threads + Sync>(
     ensures typed { IfOk result (λ typed. NoBaseRows program) }
     ensures refused { IfErr result (λ fail. IsRefusedFor program fail) }
 {
-    match all_rows(rt, alloc, &program, workers) {
+    base_check_others(rt, alloc, program, &[], workers)
+}
+
+/// Does what [`base_check`] does, where bodies are told to have no row (`typed`, by their numbers): those aren't looked at.
+///
+/// # Errors
+/// Those of [`base_check`].
+pub fn base_check_others<R: Threads + Sync>(
+    rt: &R,
+    alloc: Global,
+    program: IndexedProgram,
+    typed: &[bool],
+    workers: u32,
+) -> Result<BaseTyped, Fail<Vec<Row>>>
+    requires regular { Regular program }
+    requires typed { AreTyped program typed.now }
+    requires workers { (1 ≤ workers) × (workers ≤ 16) }
+    ensures program { IfOk result (λ typed. typed ≡ program) }
+    ensures typed { IfOk result (λ typed. NoBaseRows program) }
+    ensures refused { IfErr result (λ fail. IsRefusedFor program fail) }
+{
+    match all_rows(rt, alloc, &program, typed, workers) {
         Err(_) => {
             drop(program);
             Err(Fail::OutOfMemory)

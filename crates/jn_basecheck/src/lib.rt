@@ -11,4 +11,4 @@ mod results;
 mod sharing;
 mod types;
 
-pub use check::base_check;
+pub use check::{base_check, base_check_others};

@@ -75,6 +75,19 @@ impl ClassTable {
         self.program.with_slots(self.slots)
     }
 
+    /// Gives up the table for its heads and its program, as `into_indexed` gives it.
+    pub fn into_parts(self) -> (Seq<ClassHead>, IndexedProgram)
+        ensures heads { result.0 ≡ self.heads }
+        ensures program { result.1 ≡ record (table self.heads) { slots = self.slots } }
+    {
+        let ClassTable {
+            declared,
+            program,
+            slots,
+        } = self;
+        (declared.into_heads(), program.with_slots(slots))
+    }
+
     /// What the types declare, in the order of files and text.
     pub fn heads(&self) -> &[ClassHead]
         ensures { result.now ≡ self.now.heads }

@@ -99,6 +99,14 @@ impl IndexedProgram {
         self.index.as_ref()
     }
 
+    /// Takes the index out of the program, whose lists are then all there is to search.
+    pub fn take_index(&mut self) -> Option<Index>
+        ensures program { self.new ≡ self.old }
+        ensures index { IfSome result (λ i. IsIndex self.old i) }
+    {
+        self.index.take()
+    }
+
     /// Whether one base type is within another (JLS 4.10).
     pub fn is_sub(&self, low: BaseType, high: BaseType) -> bool
         ensures { result ≡ fits self.now low high }

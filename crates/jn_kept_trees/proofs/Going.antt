@@ -42,7 +42,7 @@ goes_on files kept after text tree texts rest trees others x t put goes =
     record {
       many_texts = omega (arith, long, a, many);
       many_trees = omega (arith, long, b, others_many);
-      so_far = λ n lt. one_more (λ n (o : Option KeptTree). (file : SourceFile) → slice_get files n ≡ Some file → IsKeptOrRefused n file o) kept after one (length kept) refl put goes.so_far
+      so_far = λ n lt. one_more None (λ n (o : Option KeptTree). (file : SourceFile) → slice_get files n ≡ Some file → IsKeptOrRefused n file o) kept after one (length kept) refl put goes.so_far
           (λ file f. subst (λ n. IsKeptTree n file (kept_with text tree)) here (goes.left 0 file text tree (subst (λ n. slice_get files n ≡ Some file) (sym here) f) (ap (λ xs. slice_get xs 0) x) (ap (λ ts. slice_get ts 0) t)))
           n (subst (λ m. n < m) long lt);
       left = λ n file other root f y u. (let next : length after + n ≡ length kept + suc n = omega (arith, long) in subst (λ m. IsKeptTree m file (kept_with other root)) (sym next) (goes.left (suc n) file other root (subst (λ m. slice_get files m ≡ Some file) next f) (ap (λ xs. slice_get xs (suc n)) x ∙ y) (ap (λ ts. slice_get ts (suc n)) t ∙ u)));

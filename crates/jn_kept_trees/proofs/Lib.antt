@@ -4,6 +4,7 @@ pub mod Joins
 pub mod Outcomes
 pub mod Placing
 pub mod ReadFiles
+pub mod Stays
 pub mod Keeping
 pub mod Found
 pub mod Going

@@ -1,15 +1,17 @@
 -- Outcomes of the texts of files of which some have kept trees.
-use Rattle.std.proofs.Common.{◌≡◌, ℕ, zero, suc, ◌+◌, ◌<◌, Bool, true, false, List, [], ◌∷◌, length, map, Option, Some, None, inl, inr, refl, sym, ap, ◌∙◌, subst, arith}
-use Rattle.std.specs.Prelude.{get_or, slice_get}
+use Rattle.std.proofs.Common.{◌≡◌, ℕ, zero, suc, ◌+◌, ◌<◌, Bool, true, false, List, [], ◌∷◌, length, map, Option, Some, None, Result, Ok, Err, inl, inr, refl, sym, ap, ◌∙◌, subst, arith}
+use Rattle.std.specs.Prelude.{IfOk, get_or, slice_get}
 use Rattle.std.proofs.lemmas.Bool.{false≢true}
 use Rattle.jn_base.specs.declared.number.FileNo.{FileNo}
 use Rattle.jn_base.specs.declared.place.Row.{Row}
+use Rattle.jn_base.specs.declared.refusal.OutOfMemory.{OutOfMemory}
 use Rattle.jn_known.specs.Known.{known_names}
 use Rattle.jn_trees.specs.declared.token.Token.{Token}
 use Rattle.jn_trees.specs.Pieces.{IsSyntaxRow}
 use Rattle.jn_lexer.specs.Lexed.{Lexed}
 use Rattle.jn_lexer.specs.Faults.{LexicalFault}
 use Rattle.jn_places.specs.Placed.{PlacedFile}
+use Rattle.jn_places.specs.PlacedView.{placed_file}
 use Rattle.jn_places.specs.Places.{IsPlacedFile}
 use Rattle.jn_renumber.specs.Merged.{merged, merged_numbers}
 use Rattle.jn_renumber.specs.Renumbered.{renumbered_file}
@@ -23,12 +25,15 @@ use Rattle.jn_front.specs.Outcomes.{AreOutcomes, IsOutcome}
 use Rattle.jn_front.specs.Outcomes as front
 use Rattle.jn_front.specs.Phases.{FaultRows, SyntaxRows, TextRows}
 use Rattle.jn_front.proofs.Joining.{faults_are, rows_are}
+use Rattle.jn_kept_trees.specs.declared.again.ParsedAgain.{ParsedAgain}
 use Rattle.jn_kept_trees.specs.declared.kept.KeptTree.{KeptTree}
 use Rattle.jn_kept_trees.specs.KeptTrees.{AreAllKept, AreKeptTrees, IsKeptOrNone, IsKeptOrRefused, IsKeptTree}
 use Rattle.jn_kept_trees.specs.Fresh.{AreFresh, IsFreshOf, has_tree, lexical_of, lexical_rows, syntax_of, syntax_rows, updated}
 use Rattle.jn_kept_trees.specs.Merges.{AreAll}
+use Rattle.jn_kept_trees.specs.Staying.{AreAmong, StayPlaced, WereKept}
 use Rattle.jn_kept_trees.proofs.Ways.{same_some}
 use Rattle.jn_kept_trees.proofs.ReadFiles.{inside, read_file}
+use Rattle.jn_kept_trees.proofs.Stays.{tree_within}
 
 -- ---- each file
 
@@ -106,6 +111,23 @@ module _ (reads : List SourceRead) (before : List (Option KeptTree)) (flags : Li
         here n (Some (Lexical row)) h t = absurd t
         here n (Some (Syntax row)) h t = absurd t
         here n (Some (Tree own tree)) h t = refl
+
+    -- where a tree was kept, it still is
+    still_same : (n : ℕ) → get_or flags n false ≡ true → get_or after n None ≡ get_or before n None
+    still_same n flag =
+        let lt = tree_within before n (has n flag) in
+        each n lt ∙ here (get_or fresh n None) (found.each n (subst (λ m. n < m) many lt))
+      where
+        here : (one : Option Outcome) → IsFreshOf reads flags n one → updated (get_or before n None) one ≡ get_or before n None
+        here None h = refl
+        here (Some outcome) h = absurd (false≢true (sym h.0 ∙ flag))
+
+    -- trees that stay as they are now kept stay as they were
+    pub stay_since : (trees : List (Option KeptTree)) (made : Result ParsedAgain OutOfMemory) → WereKept trees before → IfOk made (λ p. p.rows.items ≡ [] → AreAmong p.same.items flags) → IfOk made (λ p. p.rows.items ≡ [] → StayPlaced after p.same.items (map placed_file p.trees.items)) → IfOk made (λ p. p.rows.items ≡ [] → StayPlaced trees p.same.items (map placed_file p.trees.items))
+    stay_since trees (Err failure) were among stay = tt
+    stay_since trees (Ok parsed) were among stay = λ rowless n e.
+        let old = stay rowless n e in
+        (old.0, were n old.0 (sym (still_same n (among rowless n e)) ∙ old.1), old.2)
 
 -- ---- rows
 

@@ -2,3 +2,4 @@ pub mod KeptTrees
 pub mod Shifts
 pub mod Fresh
 pub mod Merges
+pub mod Staying

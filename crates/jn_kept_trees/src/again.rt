@@ -6,12 +6,14 @@ ghost use Rattle.jn_front.specs.Files.{files_of_reads};
 ghost use Rattle.jn_front.specs.Phases.{AreTreesOf, TextRows};
 ghost use Rattle.jn_kept_trees.specs.KeptTrees.{AreAllKept, AreKeptTrees};
 ghost use Rattle.jn_kept_trees.specs.Merges.{AreAll, CanBeKept};
+ghost use Rattle.jn_kept_trees.specs.Staying.{AreAmong, StayPlaced};
 
 use crate::kept::KeptTree;
 use crate::merging::{Merged, TextNames, merge_all};
 use crate::parsing::{parse_others, which_are_kept};
 use crate::rows::{lexical_rows, syntax_rows};
 use crate::same::still_kept;
+use crate::unchanged::which_stay;
 use crate::updating::update_all;
 use jn_base::{OutOfMemory, Row};
 use jn_front::renumbering::renumber_by;
@@ -36,6 +38,8 @@ pub struct ParsedAgain {
     pub rows: Vec<Row>,
     /// What is kept of each file, where there are rows.
     pub kept: Vec<Option<KeptTree>>,
+    /// For each file whether its tree is the one that was kept of it, names' numbers and places included; nothing where there are rows.
+    pub same: Vec<bool>,
 }
 
 fn no_rows(rows: &Vec<Row>) -> bool
@@ -56,15 +60,17 @@ fn refused(alloc: Global, rows: Vec<Row>, kept: Vec<Option<KeptTree>>) -> Parsed
         texts: Vec::new(alloc),
         rows,
         kept,
+        same: Vec::new(alloc),
     }
 }
 
-/// The names and trees of files that all have one; so many workers renumber the trees.
+/// The names and trees of files that all have one; `flags` tells which trees were kept before, and so many workers renumber the trees.
 fn merged<R: Threads + Sync>(
     rt: &R,
     alloc: Global,
     reads: &[SourceRead],
     kept: Vec<Option<KeptTree>>,
+    flags: &[bool],
     workers: u32,
 ) -> Result<ParsedAgain, OutOfMemory>
     requires few { length reads.now ≤ 64 }
@@ -78,6 +84,9 @@ fn merged<R: Threads + Sync>(
         (λ p. AreTreesOf (files_of_reads reads.now) p.names (map placed_file p.trees.items)) }
     ensures texts { IfOk result
         (λ p. CanBeKept (files_of_reads reads.now) p.texts.items p.trees.items) }
+    ensures among { IfOk result (λ p. AreAmong p.same.items flags.now) }
+    ensures same { IfOk result
+        (λ p. StayPlaced kept.items p.same.items (map placed_file p.trees.items)) }
 {
     let _reads = reads;
     texts_have_few_tokens();
@@ -88,6 +97,7 @@ fn merged<R: Threads + Sync>(
         trees,
         texts,
     } = merge_all(alloc, kept)?;
+    let same = which_stay(alloc, trees.as_slice(), flags)?;
     let trees = renumber_by(rt, alloc, trees, workers as usize)?;
     Ok(ParsedAgain {
         trees,
@@ -95,15 +105,18 @@ fn merged<R: Threads + Sync>(
         texts,
         rows: Vec::new(alloc),
         kept: Vec::new(alloc),
+        same,
     })
 }
 
-/// The rows of texts, where there are some, else the names and trees of files that then all have one.
+/// The rows of texts, where there are some, else the names and trees of files that then all have one; `flags` tells which trees were
+/// kept before.
 fn put_together<R: Threads + Sync>(
     rt: &R,
     alloc: Global,
     reads: &[SourceRead],
     kept: Vec<Option<KeptTree>>,
+    flags: &[bool],
     faults: Vec<Row>,
     syntax: Vec<Row>,
     workers: u32,
@@ -124,6 +137,9 @@ fn put_together<R: Threads + Sync>(
         → CanBeKept (files_of_reads reads.now) p.texts.items p.trees.items) }
     ensures kept { IfOk result (λ p. (p.rows.items ≡ [] → ⊥)
         → AreAllKept (files_of_reads reads.now) p.kept.items) }
+    ensures among { IfOk result (λ p. p.rows.items ≡ [] → AreAmong p.same.items flags.now) }
+    ensures same { IfOk result (λ p. p.rows.items ≡ []
+        → StayPlaced kept.items p.same.items (map placed_file p.trees.items)) }
 {
     if !no_rows(&faults) {
         return Ok(refused(alloc, faults, kept));
@@ -131,7 +147,7 @@ fn put_together<R: Threads + Sync>(
     if !no_rows(&syntax) {
         return Ok(refused(alloc, syntax, kept));
     }
-    merged(rt, alloc, reads, kept, workers)
+    merged(rt, alloc, reads, kept, flags, workers)
 }
 
 /// The tree of each file that was read (JLS 7.3) with its places and all names, or the rows of their texts, as
@@ -161,6 +177,8 @@ pub fn parse_again<R: Threads + Sync, G: Gate + Sync>(
         → CanBeKept (files_of_reads reads.now) p.texts.items p.trees.items) }
     ensures kept { IfOk result (λ p. (p.rows.items ≡ [] → ⊥)
         → AreAllKept (files_of_reads reads.now) p.kept.items) }
+    ensures same { IfOk result (λ p. p.rows.items ≡ []
+        → StayPlaced trees.items p.same.items (map placed_file p.trees.items)) }
 {
     texts_have_one_reading();
     own_names_can_be_merged();
@@ -171,5 +189,5 @@ pub fn parse_again<R: Threads + Sync, G: Gate + Sync>(
     let faults = lexical_rows(alloc, &fresh)?;
     let syntax = syntax_rows(alloc, &fresh)?;
     let kept = update_all(before, fresh);
-    put_together(rt, alloc, reads, kept, faults, syntax, workers)
+    put_together(rt, alloc, reads, kept, &flags, faults, syntax, workers)
 }

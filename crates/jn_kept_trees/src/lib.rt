@@ -13,7 +13,8 @@ mod rows;
 pub mod same;
 pub mod shifting;
 pub mod typing;
+mod unchanged;
 pub mod updating;
 
 pub use kept::KeptTree;
-pub use typing::{TypedAgain, type_files_again};
+pub use typing::{TypedAgain, type_files_again, type_files_on};

@@ -8,6 +8,7 @@ ghost use Rattle.jn_front.specs.declared.source.SourceFile.{SourceFile};
 ghost use Rattle.jn_kept_trees.specs.KeptTrees.{AreNumbersOf, IsKeptTree};
 ghost use Rattle.jn_kept_trees.specs.Shifts.{AreConsistent, LeadsFrom};
 ghost use Rattle.jn_kept_trees.specs.Merges.{AreFit, AreMerged, HasWay, IsFit, IsJoined, IsWay};
+ghost use Rattle.jn_kept_trees.specs.Staying.{raw_of, raw_tree, raw_trees};
 
 use crate::kept::KeptTree;
 use crate::shifting::{are_same, shift};
@@ -116,6 +117,8 @@ fn put_parts(
 ) -> Result<(), AllocError>
     ensures trees { OnOk result (map numbered_tree trees.new.items
         ≡ map numbered_tree trees.old.items ++ numbered_by next.by (placed_file kept.tree) ∷ []) }
+    ensures raw { OnOk result (map raw_tree trees.new.items
+        ≡ map raw_tree trees.old.items ++ placed_file kept.tree ∷ []) }
     ensures texts { OnOk result (texts.new.items
         ≡ texts.old.items ++ (record { own = kept.own; numbers = next.numbers }) ∷ []) }
 {
@@ -139,9 +142,11 @@ fn join_tree(
 ) -> Result<(), OutOfMemory>
     requires room { length names.old < 2 ^ 31 }
     requires fit { IsFit (Some kept) }
-    ensures { OnOk result (IsJoined (Some kept) names.old names.new
+    ensures joined { OnOk result (IsJoined (Some kept) names.old names.new
         (map numbered_tree trees.old.items) (map numbered_tree trees.new.items) texts.old.items
         texts.new.items) }
+    ensures raw { OnOk result (map raw_tree trees.new.items
+        ≡ map raw_tree trees.old.items ++ placed_file kept.tree ∷ []) }
 {
     files_have_one_placed_tree();
     let next = next_numbers(alloc, names, &kept)?;
@@ -158,8 +163,11 @@ fn join_next(
 ) -> Result<(), OutOfMemory>
     requires room { length names.old < 2 ^ 31 }
     requires fit { IsFit kept }
-    ensures { OnOk result (IsJoined kept names.old names.new (map numbered_tree trees.old.items)
-        (map numbered_tree trees.new.items) texts.old.items texts.new.items) }
+    ensures joined { OnOk result (IsJoined kept names.old names.new
+        (map numbered_tree trees.old.items) (map numbered_tree trees.new.items) texts.old.items
+        texts.new.items) }
+    ensures raw { OnOk result
+        (map raw_tree trees.new.items ≡ map raw_tree trees.old.items ++ raw_of kept) }
 {
     match kept {
         None => Ok(()),
@@ -182,8 +190,9 @@ pub struct Merged {
 pub fn merge_all(alloc: Global, kept: Vec<Option<KeptTree>>) -> Result<Merged, OutOfMemory>
     requires many { length kept.items ≤ 64 }
     requires fit { AreFit kept.items }
-    ensures { IfOk result (λ m. AreMerged known_names kept.items
+    ensures joined { IfOk result (λ m. AreMerged known_names kept.items
         (map numbered_tree m.trees.items) m.texts.items m.names) }
+    ensures raw { IfOk result (λ m. map raw_tree m.trees.items ≡ raw_trees kept.items) }
 {
     let mut names = known_names(alloc)?;
     let mut trees = Vec::new(alloc);

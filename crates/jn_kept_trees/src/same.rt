@@ -2,7 +2,9 @@
 ghost use Rattle.std.specs.Prelude.{◌≡◌, ◌<◌, ℕ, true, false, None, Some, length, get_or, slice_get, IfOk};
 ghost use Rattle.jn_front.specs.declared.source.SourceFile.{SourceFile as FileOf};
 ghost use Rattle.jn_front.specs.Files.{files_of_reads};
+ghost use Rattle.jn_kept_trees.specs.declared.kept.KeptTree.{KeptTree as KeptTreeOf};
 ghost use Rattle.jn_kept_trees.specs.KeptTrees.{AreKeptTrees, IsKeptOrNone, StayKept};
+ghost use Rattle.jn_kept_trees.specs.Staying.{WereKept};
 
 use crate::kept::KeptTree;
 use jn_base::OutOfMemory;
@@ -55,6 +57,8 @@ fn still_kept_at(
     ensures kept { IsKeptOrNone at read.now.file result }
     ensures stays { (old : FileOf) → slice_get last.now at ≡ Some old
         → old.bytes ≡ read.now.file.bytes → result ≡ get_or trees.old.items at None }
+    ensures before { (one : KeptTreeOf) → result ≡ Some one
+        → get_or trees.old.items at None ≡ Some one }
     ensures others { (n : ℕ) → at < n → get_or trees.new.items n None ≡ get_or trees.old.items n None }
 {
     if had_text(last, at, &read.file) {
@@ -79,6 +83,7 @@ pub fn still_kept(
     ensures kept { IfOk result (λ kept. AreKeptTrees (files_of_reads reads.now) kept.items) }
     ensures stay { IfOk result
         (λ kept. StayKept last.now trees.items (files_of_reads reads.now) kept.items) }
+    ensures before { IfOk result (λ kept. WereKept trees.items kept.items) }
 {
     let mut trees = trees;
     let mut kept = Vec::new(alloc);

@@ -1,5 +1,5 @@
 //! From files that were read to their program, or to the rows of the first phase that has any, where trees of texts that stayed are kept.
-ghost use Rattle.std.specs.Prelude.{◌≡◌, ◌≤◌, [], ℕ, List, None, true, false, length, map, IfOk};
+ghost use Rattle.std.specs.Prelude.{◌≡◌, ◌≤◌, [], ℕ, List, None, true, false, length, map, IfOk, IsSome};
 ghost use Rattle.jn_base.specs.declared.place.Row.{Row as SpecRow};
 ghost use Rattle.jn_diag.specs.Order.{IsOrderOf};
 ghost use Rattle.jn_places.specs.Placed.{PlacedFile};
@@ -9,8 +9,10 @@ ghost use Rattle.jn_front.specs.declared.source.SourceFile.{SourceFile as FileOf
 ghost use Rattle.jn_front.specs.Files.{files_of_reads, AreReads, most_files};
 ghost use Rattle.jn_front.specs.Limits.{limit_rows};
 ghost use Rattle.jn_typed_files.specs.Phases.{IsTypedOr};
+ghost use Rattle.jn_kept_points.specs.Typings.{IsKeptOf, IsTypingOf};
 ghost use Rattle.jn_kept_trees.specs.KeptTrees.{AreAllKept, AreKeptTrees};
 ghost use Rattle.jn_kept_trees.specs.Merges.{CanBeKept};
+ghost use Rattle.jn_kept_trees.specs.Staying.{HaveTrees};
 
 use crate::again::{ParsedAgain, parse_again};
 use crate::kept::KeptTree;
@@ -19,9 +21,10 @@ use jn_base::lists::put;
 use jn_base::{Infer, OutOfMemory, Row, Seq};
 use jn_front::{SourceFile, SourceRead, limit_rows};
 use jn_gate::Gate;
+use jn_kept_points::{KeptTyping, TypedTrees, find_trees_again, find_trees_anew};
 use jn_trees::{FileTree, Names};
 use jn_typed::BaseTyped;
-use jn_typed_files::{TypedFiles, Typing, find_trees, refused_texts};
+use jn_typed_files::{TypedFiles, Typing, refused_texts};
 use std::alloc::Global;
 use std::thread::Threads;
 
@@ -36,6 +39,8 @@ pub struct TypedAgain {
     pub names: Names,
     /// What is to be kept of each file; nothing where a limit is passed.
     pub kept: Vec<Option<KeptTree>>,
+    /// What is to be kept beside the program; it is there where there is a program.
+    pub typing: Option<KeptTyping>,
 }
 
 fn no_rows(rows: &Vec<Row>) -> bool
@@ -62,6 +67,7 @@ fn refused(
         base: None,
         names: Names::new(alloc),
         kept,
+        typing: None,
     })
 }
 
@@ -73,7 +79,8 @@ fn kept_again(
     trees: Vec<FileTree>,
 ) -> Result<Vec<Option<KeptTree>>, OutOfMemory>
     requires { CanBeKept (files_of_reads files.now) texts.items trees.items }
-    ensures { IfOk result (λ kept. AreAllKept (files_of_reads files.now) kept.items) }
+    ensures kept { IfOk result (λ kept. AreAllKept (files_of_reads files.now) kept.items) }
+    ensures trees { IfOk result (λ kept. HaveTrees kept.items (map placed_file trees.items)) }
 {
     let _files = files;
     let mut kept = Vec::new(alloc);
@@ -89,6 +96,28 @@ fn kept_again(
         )?;
     }
     Ok(kept)
+}
+
+/// What was found of files with trees, with what is to be kept of them.
+fn typed_again(found: TypedTrees, names: Names, kept: Vec<Option<KeptTree>>) -> TypedAgain
+    ensures rows { result.rows ≡ found.typing.rows }
+    ensures base { result.base ≡ found.typing.base }
+    ensures names { result.names ≡ names }
+    ensures kept { result.kept.items ≡ kept.items }
+    ensures typing { result.typing ≡ found.kept }
+{
+    let TypedTrees {
+        typing,
+        kept: beside,
+    } = found;
+    let Typing { rows, base } = typing;
+    TypedAgain {
+        rows,
+        base,
+        names,
+        kept,
+        typing: beside,
+    }
 }
 
 /// What files that were read come to before their rules are looked at, at most 64 files, by so many workers, with the choice of members
@@ -121,6 +150,8 @@ pub fn type_files_again<R: Threads + Sync, G: Gate + Sync>(
         → AreKeptTrees files typed.kept.items) }
     ensures all { IfOk result (λ typed. (files : List FileOf) → AreReads reads.now files
         → limit_rows files ≡ [] → AreAllKept files typed.kept.items) }
+    ensures typing { IfOk result (λ typed. IsSome typed.base → (placed : List PlacedFile)
+        × HaveTrees typed.kept.items placed × IsKeptOf infer placed typed.base typed.typing) }
 {
     let limits = limit_rows(alloc, reads)?;
     if !no_rows(&limits) {
@@ -132,16 +163,69 @@ pub fn type_files_again<R: Threads + Sync, G: Gate + Sync>(
         texts,
         rows,
         kept,
+        ..
     } = parse_again(rt, alloc, reads, last, trees, workers, gate)?;
     if !no_rows(&rows) {
         return refused(alloc, rows, kept);
     }
-    let Typing { rows, base } = find_trees(rt, alloc, workers, infer, reads, &names, &trees)?;
+    let found = find_trees_anew(rt, alloc, workers, infer, reads, &names, &trees)?;
     let kept = kept_again(alloc, reads, texts, trees)?;
-    Ok(TypedAgain {
-        rows,
-        base,
+    Ok(typed_again(found, names, kept))
+}
+
+/// Does what [`type_files_again`] does, where the program `base` is that of files whose trees were kept in `trees`, and `typing` what was kept beside
+/// it: rows and index of a class table that is alike, and bodies of files whose trees stay, aren't made anew
+/// ([`jn_kept_points::find_trees_again`]).
+///
+/// # Errors
+/// Those of [`type_files_again`].
+pub fn type_files_on<R: Threads + Sync, G: Gate + Sync>(
+    rt: &R,
+    gate: &G,
+    alloc: Global,
+    workers: u32,
+    infer: Infer,
+    reads: &[SourceRead],
+    last: &[SourceFile],
+    trees: Vec<Option<KeptTree>>,
+    base: &mut BaseTyped,
+    typing: &KeptTyping,
+) -> Result<TypedAgain, OutOfMemory>
+    requires workers { (1 ≤ workers) × (workers ≤ 16) }
+    requires few { length reads.now ≤ most_files }
+    requires fit { ReadsFit reads.now }
+    requires read { (files : List FileOf) × AreReads reads.now files }
+    requires kept { AreKeptTrees last.now trees.items }
+    requires earlier { (before : List PlacedFile) × HaveTrees trees.items before
+        × IsTypingOf infer before base.old typing.now }
+    ensures typed { IfOk result (λ typed. (files : List FileOf) → AreReads reads.now files
+        → (placed : List PlacedFile) × IsTypedOr infer files typed.names placed typed.rows typed.base) }
+    ensures kept { IfOk result (λ typed. (files : List FileOf) → AreReads reads.now files
+        → AreKeptTrees files typed.kept.items) }
+    ensures all { IfOk result (λ typed. (files : List FileOf) → AreReads reads.now files
+        → limit_rows files ≡ [] → AreAllKept files typed.kept.items) }
+    ensures typing { IfOk result (λ typed. IsSome typed.base → (placed : List PlacedFile)
+        × HaveTrees typed.kept.items placed × IsKeptOf infer placed typed.base typed.typing) }
+    ensures base { base.new ≡ base.old }
+{
+    let limits = limit_rows(alloc, reads)?;
+    if !no_rows(&limits) {
+        return refused(alloc, limits, Vec::new(alloc));
+    }
+    let ParsedAgain {
+        trees,
         names,
+        texts,
+        rows,
         kept,
-    })
+        same,
+    } = parse_again(rt, alloc, reads, last, trees, workers, gate)?;
+    if !no_rows(&rows) {
+        return refused(alloc, rows, kept);
+    }
+    let found = find_trees_again(
+        rt, alloc, workers, infer, reads, &names, &trees, &same, base, typing,
+    )?;
+    let kept = kept_again(alloc, reads, texts, trees)?;
+    Ok(typed_again(found, names, kept))
 }

@@ -53,7 +53,8 @@ type_more n k m ts i t lt is one h =
     ∙ sym (ap (λ xs. gathered n (flat_map type_trees (map placed_type xs))) (drop_more ts i t lt ∙ ap (λ x. x ∷ drop (i + 1) ts) (sym is)))
     ∙ h
 
-trees_append : (xs ys : List PlacedType) → flat_map type_trees (xs ++ ys) ≡ flat_map type_trees xs ++ flat_map type_trees ys
+-- the trees of types behind others
+pub trees_append : (xs ys : List PlacedType) → flat_map type_trees (xs ++ ys) ≡ flat_map type_trees xs ++ flat_map type_trees ys
 trees_append [] ys = refl
 trees_append (x ∷ xs) ys = ap (λ r. type_trees x ++ r) (trees_append xs ys) ∙ sym (append_assoc (type_trees x) (flat_map type_trees xs) (flat_map type_trees ys))
 

@@ -1,3 +1,5 @@
 pub mod Gathering
 pub mod Lowered
 pub mod Ranges
+pub mod Known
+pub mod Starts

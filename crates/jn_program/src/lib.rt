@@ -2,6 +2,7 @@
 #![tactic(auto)]
 
 mod bodies;
+mod copying;
 pub mod expressions;
 pub mod lowering;
 mod rows;

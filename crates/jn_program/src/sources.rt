@@ -1,11 +1,13 @@
 //! What the bodies of files are made of, in the order of their numbers (JLS 8.4, 8.8 and 8.8.9).
-ghost use Rattle.std.specs.Prelude.{◌≡◌, ◌++◌, ◌∷◌, [], false, flat_map, map, Some, None, IfOk, OnOk};
+ghost use Rattle.std.specs.Prelude.{◌≡◌, ◌++◌, ◌∷◌, [], false, flat_map, length, map, Some, None, IfOk, OnOk};
 ghost use Rattle.jn_classtable.specs.Extract.{has_constructor, method_heads};
 ghost use Rattle.jn_places.specs.PlacedView.{placed_file, placed_member, placed_members, placed_parameters, placed_statements, placed_type};
 ghost use Rattle.jn_program_law.specs.FileSources as spec;
 ghost use Rattle.jn_program.specs.Gathering.{class_trees, gathered, numbered_of};
+ghost use Rattle.jn_program.specs.Starts.{AreStarts};
 ghost use Rattle.jn_lower_stmt.specs.Sources.{source_of, sources_of};
 
+use jn_base::lists::put;
 use jn_base::{MethodNo, OutOfMemory};
 use jn_lower_stmt::body::Source;
 use jn_trees::{FileTree, Member, Parameter, Stmt, TypeTree};
@@ -200,4 +202,42 @@ pub fn sources_of_files<'a>(
     made.add(&[], &[], &[])?;
     all_types(&mut made, files)?;
     Ok(made.sources)
+}
+
+/// Where the methods and the bodies of a file begin, by the numbers that they have through all files.
+#[derive(Clone, Copy, Debug, PartialEq, Eq)]
+pub struct Start {
+    pub method: u32,
+    pub body: usize,
+}
+
+/// Where the next file would begin.
+fn start_of(made: &Gathered) -> Start
+    ensures { result ≡ record { method = made.now.next; body = length made.now.sources.items } }
+{
+    Start {
+        method: made.next,
+        body: made.sources.len(),
+    }
+}
+
+/// Where each file begins, and where one behind the last would.
+///
+/// # Errors
+/// No memory was found, or there are more than 2^32 - 1 methods.
+pub fn starts_of_files(alloc: Global, files: &[FileTree]) -> Result<Vec<Start>, OutOfMemory>
+    ensures { IfOk result (λ starts. AreStarts (map placed_file files.now) starts.items) }
+{
+    let mut made = Gathered {
+        sources: Vec::new(alloc),
+        next: 0,
+    };
+    made.add(&[], &[], &[])?;
+    let mut starts = Vec::new(alloc);
+    for at in 0..files.len() {
+        put(&mut starts, start_of(&made))?;
+        types(&mut made, &files[at].types)?;
+    }
+    put(&mut starts, start_of(&made))?;
+    Ok(starts)
 }

@@ -4,3 +4,4 @@ pub mod Found
 pub mod Places
 pub mod Sessions
 pub mod Told
+pub mod Standing

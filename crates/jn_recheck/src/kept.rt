@@ -1,48 +1,74 @@
 //! What is kept of a report that came to the rules.
-ghost use Rattle.std.specs.Prelude.{◌≡◌, ◌<◌, length};
+ghost use Rattle.std.specs.Prelude.{◌≡◌, ◌≤◌, ◌<◌, IfOk, IsSome, List, length};
+ghost use Rattle.jn_base.specs.declared.infer.Infer.TheVariants.{Private};
+ghost use Rattle.jn_contrib.specs.Entries.{AreOverriders};
+ghost use Rattle.jn_front.specs.Counted.{ReadsFit};
+ghost use Rattle.jn_front.specs.Files.{AreReads, most_files};
+ghost use Rattle.jn_front.specs.declared.source.SourceFile.{SourceFile as FileOf};
+ghost use Rattle.jn_kept_points.specs.Typings.{IsKeptOf, IsTypingOf};
+ghost use Rattle.jn_kept_trees.specs.KeptTrees.{AreKeptTrees};
+ghost use Rattle.jn_kept_trees.specs.Staying.{HaveTrees};
+ghost use Rattle.jn_places.specs.Placed.{PlacedFile};
+ghost use Rattle.jn_typed_files.specs.Phases.{IsTypedOr};
 ghost use Rattle.jn_points.specs.BaseRows.{NoBaseRows};
 ghost use Rattle.jn_points.specs.Regular.{Regular};
 ghost use Rattle.jn_inference_law.specs.Solution.{IsLeastSignature};
 ghost use Rattle.jn_recheck.specs.KeptRows.{AreKept};
 ghost use Rattle.jn_system.specs.Rows.{least_rows};
 
-use jn_base::{Row, Seq};
+use jn_base::{Infer, OutOfMemory, Row, Seq};
+use jn_contrib::Overrider;
+use jn_front::{SourceFile, SourceRead};
+use jn_gate::Gate;
 use jn_index::indexed::IndexedProgram;
+use jn_kept_points::KeptTyping;
+use jn_kept_trees::{KeptTree, TypedAgain, type_files_on};
 use jn_points::Program;
 use jn_sigs::Sig;
 use jn_trees::Names;
 use jn_typed::BaseTyped;
+use std::alloc::Global;
 use std::marker::Model;
+use std::thread::Threads;
 
-/// The program of the last report that came to the rules, with the texts of its names, its least signature, and the rows of each of its
-/// bodies. Contracts see the first three.
+/// The program of the last report that came to the rules, with the texts of its names, its least signature, the rows of each of its bodies, and
+/// its methods that override. Contracts see the first three.
 #[derive(Drop)]
 pub struct Kept {
     names: Names,
     base: BaseTyped,
     sig: Sig,
     rows: Vec<Seq<Row>>,
+    overriders: Vec<Overrider>,
 }
 
 impl Model for Kept {
     ghost use Rattle.jn_points.specs.Regular.{Regular};
     ghost use Rattle.jn_inference_law.specs.Solution.{IsLeastSignature};
     ghost use Rattle.jn_recheck_law.specs.Reusable.{Solved};
+    ghost use Rattle.jn_contrib.specs.Entries.{AreOverriders};
     ghost use Rattle.jn_recheck.specs.KeptRows.{AreKept};
 
     ghost Value = { Solved };
 
     ghost view = { λ k. record { names = k.names; program = k.base; signature = k.sig } };
 
-    ghost invariant = { λ k. Regular k.base × IsLeastSignature k.base k.sig × AreKept k.base k.sig k.rows.items };
+    ghost invariant = { λ k. Regular k.base × IsLeastSignature k.base k.sig × AreKept k.base k.sig k.rows.items × AreOverriders k.base k.overriders.items };
 }
 
 impl Kept {
-    /// What is kept of a program whose bodies have these rows under its least signature.
-    pub(crate) fn of(names: Names, base: BaseTyped, sig: Sig, rows: Vec<Seq<Row>>) -> Kept
+    /// What is kept of a program whose bodies have these rows under its least signature, and which has these methods that override.
+    pub(crate) fn of(
+        names: Names,
+        base: BaseTyped,
+        sig: Sig,
+        rows: Vec<Seq<Row>>,
+        overriders: Vec<Overrider>,
+    ) -> Kept
         requires regular { Regular base }
         requires least { IsLeastSignature base sig }
         requires rows { AreKept base sig rows.items }
+        requires overriders { AreOverriders base overriders.items }
         ensures { result ≡ record { names = names; program = base; signature = sig } }
     {
         Kept {
@@ -50,6 +76,7 @@ impl Kept {
             base,
             sig,
             rows,
+            overriders,
         }
     }
 
@@ -94,5 +121,53 @@ impl Kept {
             None => &[],
             Some(rows) => rows.as_slice(),
         }
+    }
+
+    /// The program's methods that override.
+    pub(crate) fn overriders(&self) -> &[Overrider]
+        ensures { AreOverriders self.now.program result.now }
+    {
+        self.overriders.as_slice()
+    }
+
+    /// What files come to before their rules are looked at, as [`type_files_on`] finds it over the program.
+    pub(crate) fn type_on<R: Threads + Sync, G: Gate + Sync>(
+        &mut self,
+        rt: &R,
+        gate: &G,
+        alloc: Global,
+        workers: u32,
+        reads: &[SourceRead],
+        last: &[SourceFile],
+        trees: Vec<Option<KeptTree>>,
+        typing: &KeptTyping,
+    ) -> Result<TypedAgain, OutOfMemory>
+        requires workers { (1 ≤ workers) × (workers ≤ 16) }
+        requires few { length reads.now ≤ most_files }
+        requires fit { ReadsFit reads.now }
+        requires read { (files : List FileOf) × AreReads reads.now files }
+        requires kept { AreKeptTrees last.now trees.items }
+        requires earlier { (before : List PlacedFile) × HaveTrees trees.items before
+            × IsTypingOf Private before self.old.program typing.now }
+        ensures typed { IfOk result (λ typed. (files : List FileOf) → AreReads reads.now files
+            → (placed : List PlacedFile) × IsTypedOr Private files typed.names placed typed.rows typed.base) }
+        ensures kept { IfOk result (λ typed. (files : List FileOf) → AreReads reads.now files
+            → AreKeptTrees files typed.kept.items) }
+        ensures typing { IfOk result (λ typed. IsSome typed.base → (placed : List PlacedFile)
+            × HaveTrees typed.kept.items placed × IsKeptOf Private placed typed.base typed.typing) }
+        ensures same { self.new ≡ self.old }
+    {
+        type_files_on(
+            rt,
+            gate,
+            alloc,
+            workers,
+            Infer::Private,
+            reads,
+            last,
+            trees,
+            &mut self.base,
+            typing,
+        )
     }
 }

@@ -1,14 +1,16 @@
 //! The least signature of a session's program.
 ghost use Rattle.std.specs.Prelude.{◌≤◌, IfOk};
+ghost use Rattle.jn_contrib.specs.Entries.{AreOverriders};
 ghost use Rattle.jn_inference_law.specs.Solution.{IsLeastSignature};
 ghost use Rattle.jn_tables_law.specs.Inferable.{IsInferable};
 
 use crate::kept::Kept;
 use jn_again::{Earlier, solve_again};
 use jn_base::OutOfMemory;
+use jn_contrib::Overrider;
 use jn_gate::Gate;
 use jn_sigs::Sig;
-use jn_system::solve_sig;
+use jn_system::solve_with;
 use jn_tables_law::law::regular_programs_can_be_inferred;
 use jn_trees::Names;
 use jn_typed::BaseTyped;
@@ -23,19 +25,31 @@ fn least_from<R: Threads + Sync, G: Gate + Sync>(
     kept: &Kept,
     names: &Names,
     base: &BaseTyped,
+    overriders: &[Overrider],
     solving: &G,
 ) -> Result<Sig, OutOfMemory>
     requires workers { (1 ≤ workers) × (workers ≤ 16) }
     requires inferable { IsInferable base.now }
+    requires overriders { AreOverriders base.now overriders.now }
     ensures { IfOk result (λ sig. IsLeastSignature base.now sig) }
 {
     regular_programs_can_be_inferred();
     let earlier = Earlier {
         names: kept.names(),
-        program: kept.indexed(),
+        program: kept.program(),
         sig: kept.sig(),
+        overriders: kept.overriders(),
     };
-    let sig = solve_again(rt, alloc, &earlier, names, base.indexed(), workers, solving)?;
+    let sig = solve_again(
+        rt,
+        alloc,
+        &earlier,
+        names,
+        base.program(),
+        overriders,
+        workers,
+        solving,
+    )?;
     Ok(sig)
 }
 
@@ -47,17 +61,21 @@ pub(crate) fn least_sig<R: Threads + Sync, G: Gate + Sync>(
     kept: &Option<Kept>,
     names: &Names,
     base: &BaseTyped,
+    overriders: &[Overrider],
     solving: &G,
 ) -> Result<Sig, OutOfMemory>
     requires workers { (1 ≤ workers) × (workers ≤ 16) }
     requires inferable { IsInferable base.now }
+    requires overriders { AreOverriders base.now overriders.now }
     ensures { IfOk result (λ sig. IsLeastSignature base.now sig) }
 {
     match kept {
         None => {
-            let sig = solve_sig(rt, alloc, base.indexed(), workers, solving)?;
+            let sig = solve_with(rt, alloc, base.program(), overriders, workers, solving)?;
             Ok(sig)
         }
-        Some(kept) => least_from(rt, alloc, workers, kept, names, base, solving),
+        Some(kept) => least_from(
+            rt, alloc, workers, kept, names, base, overriders, solving,
+        ),
     }
 }

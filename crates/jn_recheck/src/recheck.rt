@@ -1,13 +1,18 @@
 //! A report of files, for which the rows of reusable bodies aren't made anew.
-ghost use Rattle.std.specs.Prelude.{◌≡◌, ◌≤◌, ◌<◌, IfOk, None, Some, List, ℕ, length};
+ghost use Rattle.std.specs.Prelude.{◌≡◌, ◌≤◌, ◌<◌, IfOk, IsSome, None, Some, List, ℕ, length};
 ghost use Rattle.jn_command.specs.declared.report.Report.TheVariants.{Refused, Checked};
 ghost use Rattle.jn_front.specs.declared.source.SourceFile.{SourceFile as FileOf};
 ghost use Rattle.jn_recheck.specs.Files.{AllFit};
 ghost use Rattle.jn_base.specs.declared.infer.Infer.TheVariants.{Private};
+ghost use Rattle.jn_front.specs.Counted.{ReadsFit};
+ghost use Rattle.jn_front.specs.Files.{AreReads, most_files};
+ghost use Rattle.jn_kept_points.specs.Typings.{IsKeptOf};
+ghost use Rattle.jn_kept_trees.specs.Staying.{HaveTrees};
 ghost use Rattle.jn_places.specs.Placed.{PlacedFile};
 ghost use Rattle.jn_typed_files.specs.Phases.{IsTypedOr, TypedProgramOf};
 ghost use Rattle.jn_kept_trees.specs.KeptTrees.{AreKeptTrees};
 ghost use Rattle.jn_recheck.specs.Sessions.{IsRecheck};
+ghost use Rattle.jn_recheck.specs.Standing.{KeepsBase, KeepsProgram, StandsOn, beside};
 
 use crate::kept::Kept;
 use crate::least::least_sig;
@@ -15,8 +20,10 @@ use crate::reads::reads_of;
 use crate::rows::{Rules, rules_again};
 use jn_base::{Infer, OutOfMemory, Row, Seq};
 use jn_command::Report;
-use jn_front::SourceFile;
+use jn_contrib::overriders;
+use jn_front::{SourceFile, SourceRead};
 use jn_gate::Gate;
+use jn_kept_points::KeptTyping;
 use jn_kept_trees::{KeptTree, TypedAgain, type_files_again};
 use jn_tables_law::law::regular_programs_can_be_inferred;
 use jn_trees::Names;
@@ -60,20 +67,30 @@ fn check_typed<R: Threads + Sync, G: Gate + Sync, H: Gate + Sync>(
 ) -> Result<Rechecked, OutOfMemory>
     requires workers { (1 ≤ workers) × (workers ≤ 16) }
     requires program { TypedProgramOf Private files.now names base }
-    ensures { IfOk result
+    ensures recheck { IfOk result
         (λ r. IsRecheck kept.now files.now r.report r.kept r.made) }
+    ensures program { IfOk result (λ r. KeepsProgram r.kept base) }
 {
     let _files = files;
     regular_programs_can_be_inferred();
-    let sig = least_sig(rt, alloc, workers, kept, &names, &base, solving)?;
+    let list = overriders(alloc, base.indexed())?;
+    let sig = least_sig(rt, alloc, workers, kept, &names, &base, list.as_slice(), solving)?;
     let Rules { rows, kept, made } = rules_again(
-        rt, alloc, kept, names, base, sig, workers, bodies,
+        rt, alloc, kept, names, base, list, sig, workers, bodies,
     )?;
     Ok(Rechecked {
         report: Report::Checked(Seq::of_vec(rows)),
         kept: Some(kept),
         made,
     })
+}
+
+/// What is found of files, what is to be kept of their texts, and what beside their program.
+#[derive(Drop)]
+pub(crate) struct FilesAgain {
+    pub found: Rechecked,
+    pub trees: Vec<Option<KeptTree>>,
+    pub typing: Option<KeptTyping>,
 }
 
 /// The report of files of which this was found before their rules.
@@ -91,8 +108,9 @@ fn finish<R: Threads + Sync, G: Gate + Sync, H: Gate + Sync>(
 ) -> Result<Rechecked, OutOfMemory>
     requires workers { (1 ≤ workers) × (workers ≤ 16) }
     requires typed { (trees : List PlacedFile) × IsTypedOr Private files.now names trees rows base }
-    ensures { IfOk result
+    ensures recheck { IfOk result
         (λ r. IsRecheck kept.now files.now r.report r.kept r.made) }
+    ensures program { IfOk result (λ r. KeepsBase r.kept base) }
 {
     match base {
         None => {
@@ -108,9 +126,63 @@ fn finish<R: Threads + Sync, G: Gate + Sync, H: Gate + Sync>(
     }
 }
 
+/// What files come to before their rules are looked at: over the kept program, where the trees are those of its files.
+fn type_again<R: Threads + Sync, G: Gate + Sync>(
+    rt: &R,
+    alloc: Global,
+    workers: u32,
+    reads: &[SourceRead],
+    last: &[SourceFile],
+    trees: Vec<Option<KeptTree>>,
+    kept: &mut Option<Kept>,
+    typing: &Option<KeptTyping>,
+    solving: &G,
+) -> Result<TypedAgain, OutOfMemory>
+    requires workers { (1 ≤ workers) × (workers ≤ 16) }
+    requires few { length reads.now ≤ most_files }
+    requires fit { ReadsFit reads.now }
+    requires read { (files : List FileOf) × AreReads reads.now files }
+    requires trees { AreKeptTrees last.now trees.items }
+    requires stands { StandsOn trees.items kept.old typing.now }
+    ensures typed { IfOk result (λ typed. (files : List FileOf) → AreReads reads.now files
+        → (placed : List PlacedFile) × IsTypedOr Private files typed.names placed typed.rows typed.base) }
+    ensures kept { IfOk result (λ typed. (files : List FileOf) → AreReads reads.now files
+        → AreKeptTrees files typed.kept.items) }
+    ensures typing { IfOk result (λ typed. IsSome typed.base → (placed : List PlacedFile)
+        × HaveTrees typed.kept.items placed × IsKeptOf Private placed typed.base typed.typing) }
+    ensures same { kept.new ≡ kept.old }
+{
+    if let Some(typing) = typing {
+        if let Some(kept) = kept {
+            return kept.type_on(rt, solving, alloc, workers, reads, last, trees, typing);
+        }
+    }
+    type_files_again(
+        rt,
+        solving,
+        alloc,
+        workers,
+        Infer::Private,
+        reads,
+        last,
+        trees,
+    )
+}
+
+/// What is kept beside a program that is kept; nothing where none is.
+fn beside(found: &Rechecked, typing: Option<KeptTyping>) -> Option<KeptTyping>
+    ensures { result ≡ beside found.now.kept typing }
+{
+    if found.kept.is_some() {
+        typing
+    } else {
+        None
+    }
+}
+
 /// The report of files, by so many workers: those who take a file or infer enter the gate `solving`, and those who make a body's rows
-/// anew the gate `bodies`. `trees` is what was kept of the texts of the files `last`; beside the report comes what is to be kept of the
-/// files' texts.
+/// anew the gate `bodies`. `trees` is what was kept of the texts of the files `last`, and `typing` what was kept beside the program in `kept` where
+/// it is that of these files. With the report comes what is to be kept then.
 pub(crate) fn recheck_files<R: Threads + Sync, G: Gate + Sync, H: Gate + Sync>(
     rt: &R,
     alloc: Global,
@@ -118,18 +190,26 @@ pub(crate) fn recheck_files<R: Threads + Sync, G: Gate + Sync, H: Gate + Sync>(
     files: &[SourceFile],
     last: &[SourceFile],
     trees: Vec<Option<KeptTree>>,
-    kept: &Option<Kept>,
+    kept: &mut Option<Kept>,
+    typing: &Option<KeptTyping>,
     solving: &G,
     bodies: &H,
-) -> Result<(Rechecked, Vec<Option<KeptTree>>), OutOfMemory>
+) -> Result<FilesAgain, OutOfMemory>
     requires workers { (1 ≤ workers) × (workers ≤ 16) }
     requires trees { AreKeptTrees last.now trees.items }
+    requires stands { StandsOn trees.items kept.old typing.now }
     ensures recheck { IfOk result
-        (λ r. IsRecheck kept.now files.now r.0.report r.0.kept r.0.made) }
-    ensures trees { IfOk result (λ r. AreKeptTrees files.now r.1.items) }
+        (λ r. IsRecheck kept.old files.now r.found.report r.found.kept r.found.made) }
+    ensures trees { IfOk result (λ r. AreKeptTrees files.now r.trees.items) }
+    ensures stands { IfOk result (λ r. StandsOn r.trees.items r.found.kept r.typing) }
+    ensures same { kept.new ≡ kept.old }
 {
     if files.len() > MOST_FILES {
-        return Ok((refused(too_many_files(alloc)?), Vec::new(alloc)));
+        return Ok(FilesAgain {
+            found: refused(too_many_files(alloc)?),
+            trees: Vec::new(alloc),
+            typing: None,
+        });
     }
     let reads = reads_of(alloc, files)?;
     let TypedAgain {
@@ -137,19 +217,16 @@ pub(crate) fn recheck_files<R: Threads + Sync, G: Gate + Sync, H: Gate + Sync>(
         base,
         names,
         kept: trees,
-    } = type_files_again(
-        rt,
-        solving,
-        alloc,
-        workers,
-        Infer::Private,
-        &reads,
-        last,
-        trees,
-    )?;
+        typing,
+    } = type_again(rt, alloc, workers, &reads, last, trees, kept, typing, solving)?;
     drop(reads);
-    let rechecked = finish(
+    let found = finish(
         rt, alloc, workers, files, kept, names, rows, base, solving, bodies,
     )?;
-    Ok((rechecked, trees))
+    let typing = beside(&found, typing);
+    Ok(FilesAgain {
+        found,
+        trees,
+        typing,
+    })
 }

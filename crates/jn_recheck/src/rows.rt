@@ -1,6 +1,7 @@
 //! The rows of all bodies, of which those that are reusable aren't made anew.
 ghost use Rattle.std.specs.Prelude.{◌≡◌, ◌≤◌, ◌<◌, ◌^◌, ◌↔◌, ◌++◌, ◌∷◌, [], ℕ, List, flat_map, IfOk, MatchOption, OnOk, None, Some, length, true};
 ghost use Rattle.jn_base.specs.declared.place.Row.{Row as RowOf};
+ghost use Rattle.jn_contrib.specs.Entries.{AreOverriders};
 ghost use Rattle.jn_tables_law.specs.Inferable.{IsInferable};
 ghost use Rattle.jn_points.specs.Regular.{Regular};
 ghost use Rattle.jn_inference_law.specs.Solution.{IsLeastSignature};
@@ -18,6 +19,7 @@ use crate::anew::rows_of;
 use crate::kept::Kept;
 use jn_base::{BodyNo, OutOfMemory, Row, Seq};
 use jn_checks::override_rows;
+use jn_contrib::Overrider;
 use jn_diag::order;
 use jn_env::OwnFields;
 use jn_gate::Gate;
@@ -308,11 +310,13 @@ pub(crate) fn rules_again<R: Threads + Sync, G: Gate + Sync>(
     kept: &Option<Kept>,
     names: Names,
     base: BaseTyped,
+    overriders: Vec<Overrider>,
     sig: Sig,
     workers: u32,
     gate: &G,
 ) -> Result<Rules, OutOfMemory>
     requires inferable { IsInferable base }
+    requires overriders { AreOverriders base overriders.items }
     requires regular { Regular base }
     requires least { IsLeastSignature base sig }
     requires workers { 0 < workers }
@@ -334,7 +338,7 @@ pub(crate) fn rules_again<R: Threads + Sync, G: Gate + Sync>(
     let all = in_order(alloc, base.program(), &sig, &rows, &pairs)?;
     Ok(Rules {
         rows: all,
-        kept: Kept::of(names, base, sig, rows),
+        kept: Kept::of(names, base, sig, rows, overriders),
         made,
     })
 }

@@ -6,13 +6,14 @@ ghost use Rattle.jn_recheck.specs.Sessions.{HaveNotes, Reports, or_else};
 use crate::files::{copy_files, remove_file, set_file};
 use crate::kept::Kept;
 use crate::notes::notes_of;
-use crate::recheck::{Rechecked, recheck_files};
+use crate::recheck::{FilesAgain, Rechecked, recheck_files};
 use crate::telling::{tell, told_again};
 use jn_base::{OutOfMemory, Row};
 use jn_command::Report;
 use jn_diag::{RowText, Verdict};
 use jn_front::SourceFile;
 use jn_gate::Gate;
+use jn_kept_points::KeptTyping;
 use jn_kept_trees::KeptTree;
 use jn_notes::Notes;
 use std::alloc::Global;
@@ -46,7 +47,8 @@ fn keep(kept: &mut Option<Kept>, new: Option<Kept>)
 
 /// Files that are edited name by name, no two of one name, and what is kept of their reports. Contracts see the files, those of the last report,
 /// and the program of the last one that came to the rules, with the texts of its names and its least signature. What they don't see is the last
-/// report itself, which is given again where no file has changed, and the trees of its files, which spare lexing and parsing the texts that stay.
+/// report itself, which is given again where no file has changed, the trees of its files, which spare lexing and parsing the texts that stay, and what is
+/// kept beside the program, which spares rows and index of its class table where that stays, and lowering and typing bodies.
 #[derive(Drop)]
 pub struct Session {
     alloc: Global,
@@ -54,6 +56,7 @@ pub struct Session {
     last: Vec<SourceFile>,
     trees: Vec<Option<KeptTree>>,
     kept: Option<Kept>,
+    typing: Option<KeptTyping>,
     told: Option<Report>,
 }
 
@@ -62,12 +65,13 @@ impl Model for Session {
     ghost use Rattle.jn_recheck.specs.Files.{AllFit, HaveOwnNames};
     ghost use Rattle.jn_recheck.specs.Sessions.{SessionOf};
     ghost use Rattle.jn_recheck.specs.Told.{IsLastTold};
+    ghost use Rattle.jn_recheck.specs.Standing.{StandsOn};
 
     ghost Value = { SessionOf };
 
     ghost view = { λ s. record { files = s.files.items; last = s.last.items; kept = s.kept } };
 
-    ghost invariant = { λ s. AllFit s.files.items × HaveOwnNames s.files.items × AreKeptTrees s.last.items s.trees.items × IsLastTold s.last.items s.kept s.told };
+    ghost invariant = { λ s. AllFit s.files.items × HaveOwnNames s.files.items × AreKeptTrees s.last.items s.trees.items × IsLastTold s.last.items s.kept s.told × StandsOn s.trees.items s.kept s.typing };
 }
 
 impl Session {
@@ -81,6 +85,7 @@ impl Session {
             last: Vec::new(alloc),
             trees: Vec::new(alloc),
             kept: None,
+            typing: None,
             told: None,
         }
     }
@@ -164,18 +169,23 @@ impl Session {
             return Ok(checked);
         }
         let trees = replace(&mut self.trees, Vec::new(alloc));
-        let (rechecked, trees) = recheck_files(
+        let FilesAgain {
+            found,
+            trees,
+            typing,
+        } = recheck_files(
             rt,
             alloc,
             workers,
             self.files.as_slice(),
             self.last.as_slice(),
             trees,
-            &self.kept,
+            &mut self.kept,
+            &self.typing,
             solving,
             bodies,
         )?;
-        let Rechecked { report, kept, made } = rechecked;
+        let Rechecked { report, kept, made } = found;
         let told = tell(
             alloc,
             self.files.as_slice(),
@@ -187,6 +197,7 @@ impl Session {
             Ok((checked, last)) => {
                 self.last = last;
                 self.trees = trees;
+                self.typing = typing;
                 keep(&mut self.kept, kept);
                 self.told = Some(report);
                 return Ok(checked);
@@ -194,6 +205,7 @@ impl Session {
             Err(_) => {
                 drop(report);
                 drop(trees);
+                drop(typing);
                 drop(kept);
                 return Err(OutOfMemory);
             }

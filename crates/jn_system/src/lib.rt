@@ -15,4 +15,4 @@ pub mod tasks;
 pub use checking::check_all;
 pub use inferable::is_inferable;
 pub use nullness::Nullness;
-pub use solving::solve_sig;
+pub use solving::{solve_sig, solve_with};

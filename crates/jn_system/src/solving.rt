@@ -31,8 +31,11 @@ fn is_none(bodies: usize, overriders: usize) -> bool
     bodies == 0 && overriders == 0
 }
 
-/// The least signature of a program, where these are its methods that override.
-fn solve_with<R: Threads + Sync, G: Gate + Sync>(
+/// The least signature of a program, as [`solve_sig`] finds it, where these are its methods that override.
+///
+/// # Errors
+/// Those of [`solve_sig`].
+pub fn solve_with<R: Threads + Sync, G: Gate + Sync>(
     rt: &R,
     alloc: Global,
     program: &Program,

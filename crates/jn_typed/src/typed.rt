@@ -1,8 +1,10 @@
 //! Base-typed programs.
-ghost use Rattle.std.specs.Prelude.{◌≡◌};
+ghost use Rattle.std.specs.Prelude.{◌≡◌, IfSome};
+ghost use Rattle.jn_index.specs.Index.{IsIndex};
 ghost use Rattle.jn_points.specs.BaseRows.{NoBaseRows};
 ghost use Rattle.jn_points.specs.Regular.{Regular};
 
+use jn_index::index::Index;
 use jn_index::indexed::IndexedProgram;
 use jn_points::Program;
 use std::marker::Model;
@@ -52,5 +54,13 @@ impl BaseTyped {
         ensures typed { NoBaseRows self.now }
     {
         &self.program
+    }
+
+    /// Takes the index out of the program, whose lists are then all there is to search.
+    pub fn take_index(&mut self) -> Option<Index>
+        ensures program { self.new ≡ self.old }
+        ensures index { IfSome result (λ i. IsIndex self.old i) }
+    {
+        self.program.take_index()
     }
 }

@@ -20,7 +20,7 @@ use Rattle.jn_command.specs.Stands.{StandIn}
 use Rattle.jn_command.proofs.Standing.{Limited, all_stand, limited_stand, many_limit, one_ordered, within_limits}
 use Rattle.jn_typed_files.specs.declared.typing.TypedFiles.{TypedFiles}
 use Rattle.jn_typed_files.specs.declared.typing.Typing.{Typing}
-use Rattle.jn_typed_files.specs.Phases.{AreDeclared, IsPhase, IsTypedOr, PhaseRows, ProgramOf, lowering_rows, table_rows}
+use Rattle.jn_typed_files.specs.Phases.{AreDeclared, IsPhase, IsTypedOr, PhaseRows, ProgramOf, lowering_rows}
 use Rattle.jn_typed_files.specs.Typing.{IsTyping}
 
 -- ---- the texts' phases
@@ -112,11 +112,6 @@ module _ (infer : Infer) (files : List SourceFile) (names : List (List ℕ)) (tr
   refused_made : (rows : List Row) (made : MadeTyping) → PhaseRows infer files rows → RefusesFound rows made → IfOk made (IsTyping infer files names trees)
   refused_made rows (Ok r) phase by = subst (IsTyping infer files names trees) (sym by.2) (is_phase infer files rows by.0 by.0 phase by.1 refl)
   refused_made rows (Err e) phase by = tt
-
-  -- rows of classes and members
-  pub table_made : (tokens : List (List Token)) (rows : List Row) (made : MadeTyping) → AreParsed files names tokens trees → rows ≡ table_rows trees → (table_rows trees ≡ [] → ⊥) → RefusesFound rows made → IfOk made (IsTyping infer files names trees)
-  table_made tokens rows made parsed are some by =
-      refused_made rows made (inr (inl (record { names = names; tokens = tokens; trees = trees; parsed = parsed; are = are; some = λ none. some (sym are ∙ none) }))) by
 
   -- rows of bodies and of what stands around them
   pub lowering_made : (tokens : List (List Token)) (rows : List Row) (made : MadeTyping) → AreDeclared files names tokens trees → rows ≡ lowering_rows trees → (lowering_rows trees ≡ [] → ⊥) → RefusesFound rows made → IfOk made (IsTyping infer files names trees)

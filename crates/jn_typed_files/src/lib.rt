@@ -7,4 +7,7 @@
 pub mod law;
 pub mod typing;
 
-pub use typing::{TypedFiles, Typing, find_trees, refused_texts, too_many_files, type_files};
+pub use typing::{
+    TypedFiles, TypedTable, Typing, find_table, find_trees, refused_texts, refused_types,
+    too_many_files, type_files,
+};

@@ -5,7 +5,15 @@ ghost use Rattle.jn_base.specs.declared.place.Row.{Row as SpecRow};
 ghost use Rattle.jn_base.specs.declared.code.Code.TheVariants.{B1};
 ghost use Rattle.jn_trees.specs.declared.token.Token.{Token as SpecToken};
 ghost use Rattle.jn_places.specs.PlacedView.{placed_file};
+ghost use Rattle.jn_points.specs.declared.program.Program.{Program};
+ghost use Rattle.jn_basecheck.specs.Rows.{AreTyped};
+ghost use Rattle.jn_classtable.specs.Built.{IsRefused};
+ghost use Rattle.jn_classtable.specs.Extract.{heads};
 ghost use Rattle.jn_classtable.specs.Inferred.{tabled};
+ghost use Rattle.jn_classtable.specs.Table as tables;
+ghost use Rattle.jn_program.specs.Known.{AreKnown};
+ghost use Rattle.jn_program.specs.Lowered.{IsProgram};
+ghost use Rattle.jn_program_law.specs.FileSources.{sources};
 ghost use Rattle.jn_command.specs.Stands.{StandIn};
 ghost use Rattle.jn_diag.specs.Order.{IsOrderOf};
 ghost use Rattle.jn_front.specs.Counted.{ReadsFit};
@@ -17,13 +25,14 @@ ghost use Rattle.jn_typed_files.specs.Phases.{AreDeclared, IsPhase, IsTypedOr, P
 ghost use Rattle.jn_typed_files.specs.Typing.{IsTyping};
 
 use jn_base::{Code, Fail, Infer, OutOfMemory, Row, Seq};
-use jn_basecheck::base_check;
-use jn_classtable::{ClassTable, build};
+use jn_basecheck::base_check_others;
+use jn_classtable::{ClassHead, ClassTable, build};
 use jn_diag::order;
 use jn_front::{SourceRead, limit_rows, parse_files, row_at};
 use jn_gate::Gate;
 use jn_index::indexed::IndexedProgram;
-use jn_program::lowering::lower;
+use jn_points::Body;
+use jn_program::lowering::{LoweredProgram, lower_others};
 use jn_trees::{FileTree, Names};
 use jn_typed::BaseTyped;
 use std::alloc::Global;
@@ -93,7 +102,7 @@ fn typed(alloc: Global, base: BaseTyped) -> Typing
     }
 }
 
-/// What is found of files with this program.
+/// What is found of files with this program, of whose bodies those that are told (`known`) have no row.
 fn find_program<R: Threads + Sync>(
     rt: &R,
     alloc: Global,
@@ -103,9 +112,11 @@ fn find_program<R: Threads + Sync>(
     names: &Names,
     trees: &[FileTree],
     program: IndexedProgram,
+    known: &[bool],
 ) -> Result<Typing, OutOfMemory>
     requires program { (of : ProgramOf infer (files_of_reads reads.now) names.now program)
         × (of.trees ≡ map placed_file trees.now) }
+    requires known { AreTyped program known.now }
     requires workers { (1 ≤ workers) × (workers ≤ 16) }
     ensures { IfOk result (λ typing.
         IsTyping infer (files_of_reads reads.now) names.now (map placed_file trees.now) typing) }
@@ -114,15 +125,62 @@ fn find_program<R: Threads + Sync>(
     let _reads = reads;
     let _names = names;
     let _trees = trees;
-    match base_check(rt, alloc, program, workers) {
+    match base_check_others(rt, alloc, program, known, workers) {
         Ok(base) => return Ok(typed(alloc, base)),
         Err(Fail::Refused(rows)) => return refused(alloc, rows),
         Err(Fail::OutOfMemory) => return Err(OutOfMemory),
     }
 }
 
-/// What is found of files with these trees, whose classes and members have no row.
-fn find_table<R: Threads + Sync>(
+/// What is found of files with a class table, and what their types declare.
+#[derive(Drop)]
+pub struct TypedTable {
+    /// The rows of the first phase that has any, or the files' program.
+    pub typing: Typing,
+    /// What the types declare, in the order of files and text, where there is a program.
+    pub heads: Seq<ClassHead>,
+}
+
+/// What is found of files with this program, and what their types declare.
+fn find_lowered<R: Threads + Sync>(
+    rt: &R,
+    alloc: Global,
+    workers: u32,
+    infer: Infer,
+    reads: &[SourceRead],
+    names: &Names,
+    trees: &[FileTree],
+    lowered: LoweredProgram,
+    known: &[bool],
+) -> Result<TypedTable, OutOfMemory>
+    requires program { (of : ProgramOf infer (files_of_reads reads.now) names.now lowered.program)
+        × (of.trees ≡ map placed_file trees.now) }
+    requires heads { lowered.heads ≡ heads (map placed_file trees.now) }
+    requires known { AreTyped lowered.program known.now }
+    requires workers { (1 ≤ workers) × (workers ≤ 16) }
+    ensures typing { IfOk result (λ found.
+        IsTyping infer (files_of_reads reads.now) names.now (map placed_file trees.now) found.typing) }
+    ensures heads { IfOk result
+        (λ found. IsSome found.typing.base → found.heads ≡ heads (map placed_file trees.now)) }
+{
+    let LoweredProgram { heads, program } = lowered;
+    match find_program(
+        rt, alloc, workers, infer, reads, names, trees, program, known,
+    ) {
+        Err(_) => {
+            drop(heads);
+            return Err(OutOfMemory);
+        }
+        Ok(typing) => return Ok(TypedTable { typing, heads }),
+    }
+}
+
+/// What is found of files with these trees, whose classes and members have no row. Bodies may be known: that of number `n` is `bodies[n]`
+/// where `known[n]` holds, and has no row of base typing; it is neither lowered nor typed.
+///
+/// # Errors
+/// No memory was found.
+pub fn find_table<R: Threads + Sync>(
     rt: &R,
     alloc: Global,
     workers: u32,
@@ -131,21 +189,63 @@ fn find_table<R: Threads + Sync>(
     names: &Names,
     trees: &[FileTree],
     table: ClassTable,
-) -> Result<Typing, OutOfMemory>
+    bodies: &[Body],
+    known: &[bool],
+) -> Result<TypedTable, OutOfMemory>
     requires declared { (tokens : List (List SpecToken))
         × AreDeclared (files_of_reads reads.now) names.now tokens (map placed_file trees.now) }
     requires table { table ≡ tabled infer (map placed_file trees.now) }
+    requires known { AreKnown (tables.table (heads (map placed_file trees.now)))
+        (sources (map placed_file trees.now)) bodies.now known.now }
+    requires typed { (P : Program) → IsProgram infer (map placed_file trees.now) P
+        → AreTyped P known.now }
     requires workers { (1 ≤ workers) × (workers ≤ 16) }
-    ensures { IfOk result (λ typing.
-        IsTyping infer (files_of_reads reads.now) names.now (map placed_file trees.now) typing) }
+    ensures typing { IfOk result (λ found.
+        IsTyping infer (files_of_reads reads.now) names.now (map placed_file trees.now) found.typing) }
+    ensures heads { IfOk result
+        (λ found. IsSome found.typing.base → found.heads ≡ heads (map placed_file trees.now)) }
 {
-    match lower(rt, alloc, table, trees, workers) {
-        Ok(program) => {
-            return find_program(rt, alloc, workers, infer, reads, names, trees, program);
+    match lower_others(rt, alloc, table, trees, bodies, known, workers) {
+        Ok(lowered) => {
+            return find_lowered(
+                rt, alloc, workers, infer, reads, names, trees, lowered, known,
+            );
         }
-        Err(Fail::Refused(rows)) => return refused(alloc, rows.into_vec()),
+        Err(Fail::Refused(rows)) => {
+            let typing = refused(alloc, rows.into_vec())?;
+            return Ok(TypedTable {
+                typing,
+                heads: Seq::new(alloc),
+            });
+        }
         Err(Fail::OutOfMemory) => return Err(OutOfMemory),
     }
+}
+
+/// What is found of files that are refused by the rows of their classes and members.
+///
+/// # Errors
+/// No memory was found.
+pub fn refused_types(
+    alloc: Global,
+    reads: &[SourceRead],
+    names: &Names,
+    trees: &[FileTree],
+    infer: Infer,
+    rows: Seq<Row>,
+) -> Result<Typing, OutOfMemory>
+    requires parsed { (tokens : List (List SpecToken))
+        × AreParsed (files_of_reads reads.now) names.now tokens (map placed_file trees.now) }
+    requires rows { IsRefused (heads (map placed_file trees.now)) rows }
+    ensures typing { IfOk result (λ typing.
+        IsTyping infer (files_of_reads reads.now) names.now (map placed_file trees.now) typing) }
+    ensures base { IfOk result (λ typing. typing.base ≡ None) }
+{
+    let _reads = reads;
+    let _names = names;
+    let _trees = trees;
+    let _infer = infer;
+    refused(alloc, rows.into_vec())
 }
 
 /// What is found of files with these trees: their program, whose types fit, or the rows of the first phase that has any.
@@ -168,8 +268,24 @@ pub fn find_trees<R: Threads + Sync>(
         IsTyping infer (files_of_reads reads.now) names.now (map placed_file trees.now) typing) }
 {
     match build(alloc, trees, infer) {
-        Ok(table) => return find_table(rt, alloc, workers, infer, reads, names, trees, table),
-        Err(Fail::Refused(rows)) => return refused(alloc, rows.into_vec()),
+        Ok(table) => {
+            let found = find_table(
+                rt,
+                alloc,
+                workers,
+                infer,
+                reads,
+                names,
+                trees,
+                table,
+                &[],
+                &[],
+            )?;
+            return Ok(found.typing);
+        }
+        Err(Fail::Refused(rows)) => {
+            return refused_types(alloc, reads, names, trees, infer, rows);
+        }
         Err(Fail::OutOfMemory) => return Err(OutOfMemory),
     }
 }

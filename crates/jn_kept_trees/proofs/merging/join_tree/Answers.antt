@@ -6,8 +6,8 @@ use Rattle.jn_kept_trees.specs.Merges.{IsWay}
 use Rattle.jn_kept_trees.proofs.Renumbering.{numbered_way}
 use Rattle.jn_kept_trees.proofs.merging.join_tree.Goals as goal
 
-pub returns : goal.returns
-returns c =
+pub returns-clause-joined : goal.returns-clause-joined
+returns-clause-joined c =
     let kept = c.args.kept in
     let next = c.in_ok-next.next in
     let numbers = merged_numbers c.args.names.now kept.own in

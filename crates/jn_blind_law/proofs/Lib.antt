@@ -1,0 +1,12 @@
+pub mod Meanings
+pub mod Forms
+pub mod Expressions
+pub mod Statements
+pub mod Bodies
+pub mod RowForms
+pub mod ExpressionRows
+pub mod StatementRows
+pub mod BodyRows
+pub mod Heads
+pub mod Typing
+pub mod Indexes

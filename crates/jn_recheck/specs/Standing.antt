@@ -1,0 +1,31 @@
+-- What is kept beside the kept program, where that is the program of the files whose trees are kept.
+use Rattle.std.specs.Prelude.{◌≡◌, List, Option, Some, None}
+use Rattle.jn_base.specs.declared.infer.Infer.TheVariants.{Private}
+use Rattle.jn_places.specs.Placed.{PlacedFile}
+use Rattle.jn_points.specs.declared.program.Program.{Program}
+use Rattle.jn_kept_points.specs.declared.typing.KeptTyping.{KeptTyping}
+use Rattle.jn_kept_points.specs.Typings.{IsTypingOf}
+use Rattle.jn_kept_trees.specs.declared.kept.KeptTree.{KeptTree}
+use Rattle.jn_kept_trees.specs.Staying.{HaveTrees}
+use Rattle.jn_recheck_law.specs.Reusable.{Solved}
+
+-- where something is kept, the program is that of files with the trees that are kept of them
+abbrev pub StandsOn : List (Option KeptTree) → Option Solved → Option KeptTyping → Type 0
+StandsOn trees kept None = Unit {0}
+StandsOn trees None (Some typing) = ⊥
+StandsOn trees (Some solved) (Some typing) = (placed : List PlacedFile) × HaveTrees trees placed × IsTypingOf Private placed solved.program typing
+
+-- the program is what is kept
+abbrev pub KeepsProgram : Option Solved → Program → Type 0
+KeepsProgram None P = ⊥
+KeepsProgram (Some solved) P = solved.program ≡ P
+
+-- so it is where there is one; else nothing is kept
+abbrev pub KeepsBase : Option Solved → Option Program → Type 0
+KeepsBase kept None = kept ≡ None
+KeepsBase kept (Some P) = KeepsProgram kept P
+
+-- nothing is kept beside nothing
+abbrev pub beside : Option Solved → Option KeptTyping → Option KeptTyping
+beside None typing = None
+beside (Some solved) typing = typing
