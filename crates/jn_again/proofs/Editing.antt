@@ -1,10 +1,9 @@
 -- An edited program's system is an edit of the old one's.
-use Rattle.std.proofs.Common.{◌≡◌, ℕ, zero, suc, ◌+◌, ◌-◌, ◌^◌, ◌<◌, ◌≤◌, Bool, true, false, List, [], ◌∷◌, length, map, Some, ⊎_elim, refl, sym, ap, ◌∙◌, subst, lit<, arith}
-use Rattle.std.specs.Prelude.{slice_get, slice_index, slice_index_or}
+use Rattle.std.proofs.Common.{◌≡◌, ℕ, zero, suc, ◌+◌, ◌-◌, ◌^◌, ◌<◌, ◌≤◌, Bool, true, false, List, [], ◌∷◌, length, ⊎_elim, refl, sym, ap, ◌∙◌, subst, arith}
+use Rattle.std.specs.Prelude.{slice_index_or}
 use Rattle.std.proofs.lemmas.Bool.{cases_lt, lt-ltb, ltb-true}
 use Rattle.jn_quals.specs.Qualifier.{Qualifier}
 use Rattle.jn_points.specs.declared.program.Program.{Program}
-use Rattle.jn_points.specs.Lookup.{body_at}
 use Rattle.jn_sigs.specs.Packed.{ArePacked, unpacked}
 use Rattle.jn_sigs.specs.Signature.{start_signature}
 use Rattle.jn_contrib.specs.declared.listed.Overrider.{Overrider}
@@ -14,19 +13,17 @@ use Rattle.jn_env.specs.Order.{QualsWithin}
 use Rattle.jn_transfer.specs.Pairs.{overriders, under}
 use Rattle.jn_tables_law.specs.Inferable.{IsInferable}
 use Rattle.jn_tables_law.specs.Tasks.{is_body_task, task_count, task_method}
-use Rattle.jn_sigtable.specs.System.{System, least}
-use Rattle.jn_inference_law.specs.Inference.{inference, words_for}
+use Rattle.jn_inference_law.specs.Inference.{inference}
 use Rattle.jn_inference_law.specs.Solution.{IsLeastSignature}
 use Rattle.jn_inference_law.proofs.InferenceLaws.{inference_lawful}
 use Rattle.jn_inference_law.proofs.LeastSignature.{length-start}
 use Rattle.jn_recheck_law.specs.Alike.{SameDeclarations}
-use Rattle.jn_recheck_law.specs.Reusable.{ActAlike}
 use Rattle.jn_resume.specs.Keepable.{AreSmall, IsEditOf}
 use Rattle.jn_lost.specs.Losing.{told}
 use Rattle.jn_carry_law.specs.Carried.{DoesTheSame, HaveSameTasks}
 use Rattle.jn_carry_law.proofs.LeastWords.{words_are_least}
 use Rattle.jn_carry_law.proofs.SameOutputs.{count_alike, outputs_alike, words_alike}
-use Rattle.jn_system.specs.Ready.{AreReady, AreTasks}
+use Rattle.jn_system.specs.Ready.{AreTasks}
 use Rattle.jn_system.proofs.TaskSteps.{as_many, is_overrider}
 use Rattle.jn_again.specs.Flags.{AreChangedBelow}
 

@@ -1,5 +1,5 @@
 -- What a task can reach.
-use Rattle.std.proofs.Common.{◌≡◌, ℕ, Bool, true, cond, sym, ap, subst}
+use Rattle.std.proofs.Common.{◌≡◌, ℕ, Bool, true, cond, sym, subst}
 use Rattle.std.specs.Prelude.{◌↔◌}
 use Rattle.jn_points.specs.declared.program.Program.{Program}
 use Rattle.jn_contrib.specs.declared.listed.Overrider.{Overrider}

@@ -1,19 +1,23 @@
 -- Trees whose names keep their numbers are those that were kept.
-use Rattle.std.proofs.Common.{◌≡◌, ℕ, zero, suc, ◌<◌, ◌≤◌, ◌⊎◌, inl, inr, Bool, true, false, List, [], ◌∷◌, length, map, Option, Some, None, refl, sym, ap, ◌∙◌, arith}
-use Rattle.std.specs.Prelude.{get_or, is_none, slice_get, Vec}
+use Rattle.std.proofs.Common.{◌≡◌, ℕ, zero, suc, ◌<◌, ◌≤◌, ◌⊎◌, inl, inr, Bool, true, false, List, [], ◌∷◌, length, map, Option, Some, None, Result, Ok, refl, sym, ap, ◌∙◌, subst, arith}
+use Rattle.std.specs.Prelude.{get_or, is_none, slice_get, IfOk, Vec}
 use Rattle.std.specs.declared.alloc.Global.{Global}
 use Rattle.std.proofs.lemmas.Bool.{false≢true}
 use Rattle.std.proofs.lemmas.List.{get_or_past}
 use Rattle.std.proofs.lemmas.Option.{slice_get_cases}
 use Rattle.jn_base.specs.declared.number.NameNo.{NameNo}
+use Rattle.jn_trees.specs.declared.declaration.FileTree.{FileTree}
 use Rattle.jn_places.specs.Placed.{PlacedFile}
 use Rattle.jn_places.specs.PlacedView.{placed_file}
 use Rattle.jn_front.specs.declared.renumbering.Numbered.{Numbered}
 use Rattle.jn_front.specs.Numbered.{numbered_by, numbered_tree}
+use Rattle.jn_kept_trees.specs.declared.again.ParsedAgain.{ParsedAgain}
 use Rattle.jn_kept_trees.specs.declared.kept.KeptTree.{KeptTree}
+use Rattle.jn_kept_trees.specs.declared.typing.TypedAgain.{TypedAgain}
 use Rattle.jn_kept_trees.specs.Fresh.{has_tree}
 use Rattle.jn_kept_trees.specs.Merges.{AreAll}
-use Rattle.jn_kept_trees.specs.Staying.{AreAmong, StayPlaced, raw_tree, raw_trees, stays_as_it_was}
+use Rattle.jn_kept_points.specs.Typings.{SameTrees}
+use Rattle.jn_kept_trees.specs.Staying.{AreAmong, HaveTrees, StayPlaced, raw_tree, raw_trees, stays_as_it_was}
 use Rattle.jn_kept_trees.proofs.Ways.{none_is_some, same_some}
 
 -- behind the last file there is no tree
@@ -22,7 +26,7 @@ tree_within [] n has = absurd (false≢true has)
 tree_within (one ∷ kept) zero has = omega arith
 tree_within (one ∷ kept) (suc n) has = let lt = tree_within kept n has in omega (arith, lt)
 
-mapped_at : {A B : Type 0} (f : A → B) (xs : List A) (n : ℕ) (x : A) → slice_get xs n ≡ Some x → slice_get (map f xs) n ≡ Some (f x)
+pub mapped_at : {A B : Type 0} (f : A → B) (xs : List A) (n : ℕ) (x : A) → slice_get xs n ≡ Some x → slice_get (map f xs) n ≡ Some (f x)
 mapped_at f [] n x e = absurd (none_is_some x e)
 mapped_at f (y ∷ xs) zero x e = ap (λ z. Some (f z)) (same_some y x e)
 mapped_at f (y ∷ xs) (suc n) x e = mapped_at f xs n x e
@@ -65,3 +69,13 @@ module _ (flags same : List Bool) (made : List Numbered) (each : AreTold flags s
       let one = stays.1 in
       let old = raw_at kept n (placed_file one.tree) all (ap (λ ts. slice_get ts n) (sym raw) ∙ mapped_at raw_tree made n one stays.2) in
       (old.0, old.1, ap (λ ts. slice_get ts n) are ∙ mapped_at numbered_tree made n one stays.2 ∙ ap Some (stays.3 ∙ old.2))
+
+-- where what is kept of files is their tree, those that are told have the tree that they had
+pub same_trees : (kept : List (Option KeptTree)) (same : List Bool) (before trees : List PlacedFile) → HaveTrees kept before → StayPlaced kept same trees → SameTrees before same trees
+same_trees kept same before trees have stay = λ n told. (let old = stay n told in (placed_file old.0.tree, have n old.0 old.1, old.2))
+
+-- so it is where names and trees are found
+pub same_parsed : (kept : List (Option KeptTree)) (before : List PlacedFile) (all : Result ParsedAgain TypedAgain) (parsed : ParsedAgain) (trees : List FileTree) (same : List Bool) → all ≡ Ok parsed → trees ≡ parsed.trees.items → same ≡ parsed.same.items → HaveTrees kept before → IfOk all (λ parsed. StayPlaced kept parsed.same.items (map placed_file parsed.trees.items)) → SameTrees before same (map placed_file trees)
+same_parsed kept before all parsed trees same is t s have stay =
+    subst (λ ts. SameTrees before same (map placed_file ts)) (sym t) (subst (λ told. SameTrees before told (map placed_file parsed.trees.items)) (sym s)
+    (same_trees kept parsed.same.items before (map placed_file parsed.trees.items) have (subst (λ (r : Result ParsedAgain TypedAgain). IfOk r (λ p. StayPlaced kept p.same.items (map placed_file p.trees.items))) is stay)))

@@ -3,3 +3,4 @@ pub mod Shifts
 pub mod Fresh
 pub mod Merges
 pub mod Staying
+pub mod Retyped

@@ -1,5 +1,5 @@
 //! From files that were read to their program, or to the rows of the first phase that has any, where trees of texts that stayed are kept.
-ghost use Rattle.std.specs.Prelude.{◌≡◌, ◌≤◌, [], ℕ, List, None, true, false, length, map, IfOk, IsSome};
+ghost use Rattle.std.specs.Prelude.{◌≡◌, ◌≤◌, [], ℕ, List, None, true, false, length, map, IfErr, IfOk, IsSome};
 ghost use Rattle.jn_base.specs.declared.place.Row.{Row as SpecRow};
 ghost use Rattle.jn_diag.specs.Order.{IsOrderOf};
 ghost use Rattle.jn_places.specs.Placed.{PlacedFile};
@@ -9,10 +9,12 @@ ghost use Rattle.jn_front.specs.declared.source.SourceFile.{SourceFile as FileOf
 ghost use Rattle.jn_front.specs.Files.{files_of_reads, AreReads, most_files};
 ghost use Rattle.jn_front.specs.Limits.{limit_rows};
 ghost use Rattle.jn_typed_files.specs.Phases.{IsTypedOr};
+ghost use Rattle.jn_typed_files.specs.Typing.{IsTyping};
 ghost use Rattle.jn_kept_points.specs.Typings.{IsKeptOf, IsTypingOf};
 ghost use Rattle.jn_kept_trees.specs.KeptTrees.{AreAllKept, AreKeptTrees};
 ghost use Rattle.jn_kept_trees.specs.Merges.{CanBeKept};
-ghost use Rattle.jn_kept_trees.specs.Staying.{HaveTrees};
+ghost use Rattle.jn_kept_trees.specs.Retyped.{AreParsedAgain, AreTypedAgain};
+ghost use Rattle.jn_kept_trees.specs.Staying.{HaveTrees, StayPlaced};
 
 use crate::again::{ParsedAgain, parse_again};
 use crate::kept::KeptTree;
@@ -120,6 +122,66 @@ fn typed_again(found: TypedTrees, names: Names, kept: Vec<Option<KeptTree>>) -> 
     }
 }
 
+/// What was found of files with trees, with what is to be kept.
+fn keep(
+    alloc: Global,
+    infer: Infer,
+    reads: &[SourceRead],
+    parsed: ParsedAgain,
+    found: TypedTrees,
+) -> Result<TypedAgain, OutOfMemory>
+    requires parsed { AreParsedAgain reads.now parsed }
+    requires typing { IsTyping infer (files_of_reads reads.now) parsed.names (map placed_file parsed.trees.items) found.typing }
+    requires kept { IsKeptOf infer (map placed_file parsed.trees.items) found.typing.base found.kept }
+    ensures { IfOk result (λ typed. AreTypedAgain infer reads.now typed) }
+{
+    let _infer = infer;
+    let ParsedAgain {
+        trees,
+        names,
+        texts,
+        ..
+    } = parsed;
+    let kept = kept_again(alloc, reads, texts, trees)?;
+    Ok(typed_again(found, names, kept))
+}
+
+/// The names and trees of files that pass no limit and all have trees; what the others come to.
+fn parse_or_refuse<R: Threads + Sync, G: Gate + Sync>(
+    rt: &R,
+    gate: &G,
+    alloc: Global,
+    workers: u32,
+    infer: Infer,
+    reads: &[SourceRead],
+    last: &[SourceFile],
+    trees: Vec<Option<KeptTree>>,
+) -> Result<Result<ParsedAgain, TypedAgain>, OutOfMemory>
+    requires workers { (1 ≤ workers) × (workers ≤ 16) }
+    requires few { length reads.now ≤ most_files }
+    requires fit { ReadsFit reads.now }
+    requires read { (files : List FileOf) × AreReads reads.now files }
+    requires kept { AreKeptTrees last.now trees.items }
+    ensures parsed { IfOk result (λ all. IfOk all (λ parsed. AreParsedAgain reads.now parsed)) }
+    ensures same { IfOk result (λ all. IfOk all (λ parsed.
+        StayPlaced trees.items parsed.same.items (map placed_file parsed.trees.items))) }
+    ensures refused { IfOk result (λ all. IfErr all (λ typed. AreTypedAgain infer reads.now typed)) }
+{
+    let _infer = infer;
+    let limits = limit_rows(alloc, reads)?;
+    if !no_rows(&limits) {
+        let typed = refused(alloc, limits, Vec::new(alloc))?;
+        return Ok(Err(typed));
+    }
+    let parsed = parse_again(rt, alloc, reads, last, trees, workers, gate)?;
+    if no_rows(&parsed.rows) {
+        return Ok(Ok(parsed));
+    }
+    let ParsedAgain { rows, kept, .. } = parsed;
+    let typed = refused(alloc, rows, kept)?;
+    Ok(Err(typed))
+}
+
 /// What files that were read come to before their rules are looked at, at most 64 files, by so many workers, with the choice of members
 /// that are inferred; `trees` is what was kept of the files `last`. The text of a file that has the text of the file at its place among
 /// them is neither lexed nor parsed where its tree was kept. A worker enters the gate when it takes a file.
@@ -153,24 +215,20 @@ pub fn type_files_again<R: Threads + Sync, G: Gate + Sync>(
     ensures typing { IfOk result (λ typed. IsSome typed.base → (placed : List PlacedFile)
         × HaveTrees typed.kept.items placed × IsKeptOf infer placed typed.base typed.typing) }
 {
-    let limits = limit_rows(alloc, reads)?;
-    if !no_rows(&limits) {
-        return refused(alloc, limits, Vec::new(alloc));
-    }
-    let ParsedAgain {
-        trees,
-        names,
-        texts,
-        rows,
-        kept,
-        ..
-    } = parse_again(rt, alloc, reads, last, trees, workers, gate)?;
-    if !no_rows(&rows) {
-        return refused(alloc, rows, kept);
-    }
-    let found = find_trees_anew(rt, alloc, workers, infer, reads, &names, &trees)?;
-    let kept = kept_again(alloc, reads, texts, trees)?;
-    Ok(typed_again(found, names, kept))
+    let parsed = match parse_or_refuse(rt, gate, alloc, workers, infer, reads, last, trees)? {
+        Ok(parsed) => parsed,
+        Err(typed) => return Ok(typed),
+    };
+    let found = find_trees_anew(
+        rt,
+        alloc,
+        workers,
+        infer,
+        reads,
+        &parsed.names,
+        &parsed.trees,
+    )?;
+    keep(alloc, infer, reads, parsed, found)
 }
 
 /// Does what [`type_files_again`] does, where the program `base` is that of files whose trees were kept in `trees`, and `typing` what was kept beside
@@ -208,24 +266,21 @@ pub fn type_files_on<R: Threads + Sync, G: Gate + Sync>(
         × HaveTrees typed.kept.items placed × IsKeptOf infer placed typed.base typed.typing) }
     ensures base { base.new ≡ base.old }
 {
-    let limits = limit_rows(alloc, reads)?;
-    if !no_rows(&limits) {
-        return refused(alloc, limits, Vec::new(alloc));
-    }
-    let ParsedAgain {
-        trees,
-        names,
-        texts,
-        rows,
-        kept,
-        same,
-    } = parse_again(rt, alloc, reads, last, trees, workers, gate)?;
-    if !no_rows(&rows) {
-        return refused(alloc, rows, kept);
-    }
+    let parsed = match parse_or_refuse(rt, gate, alloc, workers, infer, reads, last, trees)? {
+        Ok(parsed) => parsed,
+        Err(typed) => return Ok(typed),
+    };
     let found = find_trees_again(
-        rt, alloc, workers, infer, reads, &names, &trees, &same, base, typing,
+        rt,
+        alloc,
+        workers,
+        infer,
+        reads,
+        &parsed.names,
+        &parsed.trees,
+        &parsed.same,
+        base,
+        typing,
     )?;
-    let kept = kept_again(alloc, reads, texts, trees)?;
-    Ok(typed_again(found, names, kept))
+    keep(alloc, infer, reads, parsed, found)
 }

@@ -1,11 +1,10 @@
-use Rattle.std.proofs.Common.{◌≡◌, ℕ, ◌<◌, ◌^◌, Bool, List, length, refl, sym, ap, ◌∙◌, subst, arith}
+use Rattle.std.proofs.Common.{ℕ, Bool, List, length, refl, sym, ap, ◌∙◌, subst}
 use Rattle.jn_contrib.specs.declared.listed.Overrider.{Overrider}
 use Rattle.jn_inference_law.specs.Inference.{inference, words_for}
 use Rattle.jn_inference_law.proofs.LeastSignature.{found_count, found_signature}
 use Rattle.jn_lost.specs.Losing.{told}
 use Rattle.jn_resume.specs.Keepable.{IsEditOf}
 use Rattle.jn_sigs.specs.Packed.{unpacked}
-use Rattle.jn_tables_law.specs.Tasks.{task_count}
 use Rattle.jn_again.specs.Flags.{AreChangedBelow}
 use Rattle.jn_again.proofs.Editing.{is_edit, least_words, start_words, task_list, tasks_are}
 use Rattle.jn_again.proofs.again.solve_edited.Goals as goal
