@@ -2,6 +2,7 @@ pub mod Going
 pub mod Reading
 pub mod Keeping
 pub mod Splitting
+pub mod Standing
 pub mod Showing
 pub mod Rechecking
 pub mod Fitting

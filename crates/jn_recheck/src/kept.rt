@@ -91,6 +91,7 @@ impl Kept {
     pub(crate) fn program(&self) -> &Program
         ensures is { result.now ≡ self.now.program }
         ensures regular { Regular self.now.program }
+        ensures least { IsLeastSignature self.now.program self.now.signature }
     {
         self.base.program()
     }

@@ -74,8 +74,6 @@ pub(crate) fn least_sig<R: Threads + Sync, G: Gate + Sync>(
             let sig = solve_with(rt, alloc, base.program(), overriders, workers, solving)?;
             Ok(sig)
         }
-        Some(kept) => least_from(
-            rt, alloc, workers, kept, names, base, overriders, solving,
-        ),
+        Some(kept) => least_from(rt, alloc, workers, kept, names, base, overriders, solving),
     }
 }

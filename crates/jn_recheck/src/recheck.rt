@@ -74,7 +74,16 @@ fn check_typed<R: Threads + Sync, G: Gate + Sync, H: Gate + Sync>(
     let _files = files;
     regular_programs_can_be_inferred();
     let list = overriders(alloc, base.indexed())?;
-    let sig = least_sig(rt, alloc, workers, kept, &names, &base, list.as_slice(), solving)?;
+    let sig = least_sig(
+        rt,
+        alloc,
+        workers,
+        kept,
+        &names,
+        &base,
+        list.as_slice(),
+        solving,
+    )?;
     let Rules { rows, kept, made } = rules_again(
         rt, alloc, kept, names, base, list, sig, workers, bodies,
     )?;
@@ -126,6 +135,47 @@ fn finish<R: Threads + Sync, G: Gate + Sync, H: Gate + Sync>(
     }
 }
 
+/// What files come to before their rules are looked at, over the kept program, beside which this is kept: the trees are those of its files.
+fn type_beside<R: Threads + Sync, G: Gate + Sync>(
+    rt: &R,
+    alloc: Global,
+    workers: u32,
+    reads: &[SourceRead],
+    last: &[SourceFile],
+    trees: Vec<Option<KeptTree>>,
+    kept: &mut Option<Kept>,
+    typing: &KeptTyping,
+    solving: &G,
+) -> Result<TypedAgain, OutOfMemory>
+    requires workers { (1 ≤ workers) × (workers ≤ 16) }
+    requires few { length reads.now ≤ most_files }
+    requires fit { ReadsFit reads.now }
+    requires read { (files : List FileOf) × AreReads reads.now files }
+    requires trees { AreKeptTrees last.now trees.items }
+    requires stands { StandsOn trees.items kept.old (Some typing.now) }
+    ensures typed { IfOk result (λ typed. (files : List FileOf) → AreReads reads.now files
+        → (placed : List PlacedFile) × IsTypedOr Private files typed.names placed typed.rows typed.base) }
+    ensures kept { IfOk result (λ typed. (files : List FileOf) → AreReads reads.now files
+        → AreKeptTrees files typed.kept.items) }
+    ensures typing { IfOk result (λ typed. IsSome typed.base → (placed : List PlacedFile)
+        × HaveTrees typed.kept.items placed × IsKeptOf Private placed typed.base typed.typing) }
+    ensures same { kept.new ≡ kept.old }
+{
+    match kept {
+        None => type_files_again(
+            rt,
+            solving,
+            alloc,
+            workers,
+            Infer::Private,
+            reads,
+            last,
+            trees,
+        ),
+        Some(kept) => kept.type_on(rt, solving, alloc, workers, reads, last, trees, typing),
+    }
+}
+
 /// What files come to before their rules are looked at: over the kept program, where the trees are those of its files.
 fn type_again<R: Threads + Sync, G: Gate + Sync>(
     rt: &R,
@@ -152,31 +202,33 @@ fn type_again<R: Threads + Sync, G: Gate + Sync>(
         × HaveTrees typed.kept.items placed × IsKeptOf Private placed typed.base typed.typing) }
     ensures same { kept.new ≡ kept.old }
 {
-    if let Some(typing) = typing {
-        if let Some(kept) = kept {
-            return kept.type_on(rt, solving, alloc, workers, reads, last, trees, typing);
-        }
+    match typing {
+        None => type_files_again(
+            rt,
+            solving,
+            alloc,
+            workers,
+            Infer::Private,
+            reads,
+            last,
+            trees,
+        ),
+        Some(typing) => type_beside(
+            rt, alloc, workers, reads, last, trees, kept, typing, solving,
+        ),
     }
-    type_files_again(
-        rt,
-        solving,
-        alloc,
-        workers,
-        Infer::Private,
-        reads,
-        last,
-        trees,
-    )
 }
 
 /// What is kept beside a program that is kept; nothing where none is.
 fn beside(found: &Rechecked, typing: Option<KeptTyping>) -> Option<KeptTyping>
     ensures { result ≡ beside found.now.kept typing }
 {
-    if found.kept.is_some() {
-        typing
-    } else {
-        None
+    match &found.kept {
+        None => {
+            drop(typing);
+            None
+        }
+        Some(_) => typing,
     }
 }
 
@@ -218,7 +270,9 @@ pub(crate) fn recheck_files<R: Threads + Sync, G: Gate + Sync, H: Gate + Sync>(
         names,
         kept: trees,
         typing,
-    } = type_again(rt, alloc, workers, &reads, last, trees, kept, typing, solving)?;
+    } = type_again(
+        rt, alloc, workers, &reads, last, trees, kept, typing, solving,
+    )?;
     drop(reads);
     let found = finish(
         rt, alloc, workers, files, kept, names, rows, base, solving, bodies,

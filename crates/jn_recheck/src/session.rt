@@ -145,6 +145,7 @@ impl Session {
     ///
     /// # Errors
     /// No memory was found, and the session is as before.
+    #[tactic(auto, using(crate::proofs::Standing::stands_without))]
     pub fn report<R: Threads + Sync, G: Gate + Sync, H: Gate + Sync>(
         &mut self,
         rt: &R,

@@ -1,10 +1,15 @@
-use Rattle.std.proofs.Common.{◌≤◌, length, sym, subst, arith}
+use Rattle.std.proofs.Common.{◌≤◌, length, Option, sym, subst, arith}
 use Rattle.jn_front.specs.Files.{AreReads}
+use Rattle.jn_kept_points.specs.declared.typing.KeptTyping.{KeptTyping}
+use Rattle.jn_recheck_law.specs.Reusable.{Solved}
+use Rattle.jn_recheck.specs.Sessions.{IsRecheck}
+use Rattle.jn_recheck.specs.Standing.{StandsOn}
 use Rattle.jn_recheck.proofs.Reading.{reads_long}
+use Rattle.jn_recheck.proofs.Standing.{stands_beside}
 use Rattle.jn_recheck.proofs.recheck.recheck_files.Goals as goal
 
-pub type_files_again-requires-clause-few : goal.type_files_again-requires-clause-few
-type_files_again-requires-clause-few g c κs within =
+pub type_again-requires-clause-few : goal.type_again-requires-clause-few
+type_again-requires-clause-few g c κs within =
     let long = reads_long c.in_ok-reads.reads.items c.args.files.now c.in_ok-reads.ensures.are in
     let few = c.if-files-gt-MOST_FILES.false in
     subst (λ rs. length rs ≤ 64) (sym c.deref.ensures.value) (omega (arith, long, few))
@@ -14,7 +19,19 @@ finish-requires-clause-typed g c κs within =
     let are = subst (λ rs. AreReads rs c.args.files.now) (sym c.deref.ensures.value) c.in_ok-reads.ensures.are in
     c.in_ok-rows.ensures.typed c.args.files.now are
 
+pub returns-clause-recheck : goal.returns-clause-recheck
+returns-clause-recheck g c =
+    let found = c.in_ok-found.found in
+    subst (λ (k : Option Solved). IsRecheck k c.args.files.now found.report found.kept found.made) c.in_ok-rows.ensures.same c.in_ok-found.ensures.recheck
+
 pub returns-clause-trees : goal.returns-clause-trees
 returns-clause-trees g c =
     let are = subst (λ rs. AreReads rs c.args.files.now) (sym c.deref.ensures.value) c.in_ok-reads.ensures.are in
     c.in_ok-rows.ensures.kept c.args.files.now are
+
+pub returns-clause-stands : goal.returns-clause-stands
+returns-clause-stands g c =
+    let again = c.in_ok-rows.field-0 in
+    let found = c.in_ok-found.found in
+    subst (λ (t : Option KeptTyping). StandsOn again.kept.items found.kept t) (sym c.beside.ensures)
+    (stands_beside again.kept.items again.base found.kept again.typing c.in_ok-rows.ensures.typing c.in_ok-found.ensures.program)
