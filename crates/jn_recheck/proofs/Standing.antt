@@ -1,5 +1,5 @@
 -- What is kept beside the kept program stands on it.
-use Rattle.std.proofs.Common.{◌≡◌, ℕ, List, [], Option, Some, None, refl, sym, subst}
+use Rattle.std.proofs.Common.{◌≡◌, List, [], Option, Some, None, refl, sym, subst}
 use Rattle.std.specs.Prelude.{IsSome}
 use Rattle.jn_base.specs.declared.infer.Infer.TheVariants.{Private}
 use Rattle.jn_places.specs.Placed.{PlacedFile}
@@ -12,23 +12,23 @@ use Rattle.jn_recheck_law.specs.Reusable.{Solved}
 use Rattle.jn_recheck.specs.Sessions.{or_else}
 use Rattle.jn_recheck.specs.Standing.{KeepsBase, StandsOn, beside}
 
--- any files have the trees of which none is kept
+-- where no tree is kept, any files have the kept trees
 none_has : (placed : List PlacedFile) → HaveTrees [] placed
 none_has placed n one e = absurd (let k : None ≡ Some one = e in cc)
 
--- it does where no tree is kept any more
+-- what stands on kept trees stands where none is kept any more
 pub stands_without : (trees : List (Option KeptTree)) (kept : Option Solved) (typing : Option KeptTyping) → StandsOn trees kept typing → StandsOn [] kept typing
 stands_without trees kept None stands = tt
 stands_without trees None (Some typing) stands = absurd stands
 stands_without trees (Some solved) (Some typing) (placed, have, is) = (placed, none_has placed, is)
 
--- what is found is kept in place of what was
+-- it stands where what was found is kept in place of what was
 pub stands_instead : (trees : List (Option KeptTree)) (found old : Option Solved) (typing : Option KeptTyping) → StandsOn trees found typing → StandsOn trees (or_else found old) typing
 stands_instead trees found old None stands = tt
 stands_instead trees None old (Some typing) stands = absurd stands
 stands_instead trees (Some solved) old (Some typing) stands = stands
 
--- what is kept of the files' program stands on what is found of it
+-- what comes beside the files' program stands on what is kept of it
 pub stands_beside : (trees : List (Option KeptTree)) (base : Option Program) (kept : Option Solved) (typing : Option KeptTyping) → (IsSome base → (placed : List PlacedFile) × HaveTrees trees placed × IsKeptOf Private placed base typing) → KeepsBase kept base → StandsOn trees kept (beside kept typing)
 stands_beside trees base None typing found keeps = tt
 stands_beside trees base (Some solved) None found keeps = tt

@@ -33,5 +33,5 @@ pub returns-clause-stands : goal.returns-clause-stands
 returns-clause-stands g c =
     let again = c.in_ok-rows.field-0 in
     let found = c.in_ok-found.found in
-    subst (λ (t : Option KeptTyping). StandsOn again.kept.items found.kept t) (sym c.beside.ensures)
+    subst (λ (t : Option KeptTyping). StandsOn again.kept.items found.kept t) (sym c.beside-typing.ensures)
     (stands_beside again.kept.items again.base found.kept again.typing c.in_ok-rows.ensures.typing c.in_ok-found.ensures.program)
