@@ -1,0 +1,5 @@
+pub mod Lists
+pub mod Types
+pub mod Flags
+pub mod Cutting
+pub mod Knowing
