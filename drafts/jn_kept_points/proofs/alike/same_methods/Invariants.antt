@@ -1,6 +1,0 @@
-use Rattle.jn_annotate_law.specs.Plain.{plain_method}
-use Rattle.jn_kept_points.proofs.Lists.{LeftSame}
-use Rattle.jn_kept_points.proofs.alike.same_methods.Given as goal
-
-abbrev pub invariant-loop-at : goal.invariant-loop-at
-invariant-loop-at l = LeftSame plain_method l.one l.other l.at

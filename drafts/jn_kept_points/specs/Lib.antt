@@ -1,2 +1,0 @@
-pub mod Typings
-pub mod Stays
