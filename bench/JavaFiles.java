@@ -94,9 +94,13 @@ final class JavaFiles {
       return files;
     }
 
+    /** Loads the classes that the compiler made. */
+    URLClassLoader loader() throws IOException {
+      return new URLClassLoader(new URL[] {folder.toUri().toURL(), stubs.toUri().toURL()});
+    }
+
     private void findMains() throws Exception {
-      URL[] path = {folder.toUri().toURL(), stubs.toUri().toURL()};
-      try (URLClassLoader loader = new URLClassLoader(path); Stream<Path> files = Files.walk(folder)) {
+      try (URLClassLoader loader = loader(); Stream<Path> files = Files.walk(folder)) {
         for (Path file : files.filter(one -> one.toString().endsWith(".class")).sorted().collect(Collectors.toList())) {
           String name = folder.relativize(file).toString().replaceAll("\\.class$", "").replace(File.separatorChar, '.');
           for (Method method : Class.forName(name, false, loader).getDeclaredMethods()) {

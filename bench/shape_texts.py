@@ -230,6 +230,21 @@ def _(n, k):
     return (f"class C{k} {{\n" + times(n, lambda i: f"  String a{i};\n") + f"  C{k}(boolean b, String s) {{\n"
             + times(n, lambda i: f"    if (b) a{i} = s; else a{i} = s;\n") + "  }\n}\n")
 
+@shape("fields and returns", 250, 2000, copies=16)
+def _(n, k):
+    return (f"class C{k} {{\n" + times(n, lambda i: f"  String a{i};\n") + f"  C{k}(int x, String s) {{\n" + times(n, lambda i: f"    a{i} = s;\n")
+            + times(n, lambda i: f"    if (x == {i}) return;\n") + "  }\n}\n")
+
+@shape("fields and calls", 250, 2000, copies=16)
+def _(n, k):
+    return (f"class C{k} {{\n  static void g() {{ }}\n" + times(n, lambda i: f"  String a{i};\n") + f"  C{k}(String s) {{\n"
+            + times(n, lambda i: f"    a{i} = s;\n") + "    g();\n" * n + "  }\n}\n")
+
+@shape("static fields that are read", 250, 4000, copies=16)
+def _(n, k):
+    return (f"class C{k} {{\n" + times(n, lambda i: f"  static int a{i};\n") + "  static int f() {\n    int x = 0;\n"
+            + times(n, lambda i: f"    x = a{i};\n") + "    return x;\n  }\n}\n")
+
 @shape("too many fields", 4500, copies=16, says="refused")
 def _(n, k):
     return f"class C{k} {{\n" + times(n, lambda i: f'  String a{i} = "{i}";\n') + "}\n"
@@ -252,6 +267,10 @@ def _(n, k):
 def _(n, k):
     return (f"class C{k} {{\n" + times(n, lambda i: f"  void f(" + times(i, lambda j: f"int x{j}", ", ") + ") { f("
             + times((i * 7) % n, lambda j: "1", ", ") + "); }\n") + "}\n")
+
+@shape("overloads by arity", 60, 500)
+def _(n, k):
+    return f"class C{k} {{\n" + times(n, lambda i: "  void f(" + times(i, lambda j: f"int x{j}", ", ") + ") { }\n") + "}\n"
 
 @shape("methods that call the next", 500)
 def _(n, k):
@@ -340,6 +359,17 @@ def _(n, k):
 def _(n, k):
     return "interface A0 { void f(); }\n" + times(n - 1, lambda i: f"interface A{i + 1} extends A{i} {{ void f(); }}\n")
 
+@shape("last of a chain of interfaces", 64, 4000, copies=1)
+def _(n, k):
+    return ("interface I0 { void m0(); }\n" + times(n - 1, lambda i: f"interface I{i + 1} extends I{i} {{ void m{i + 1}(); }}\n")
+            + f"class A implements I{n - 1} {{ " + times(n, lambda i: f"public void m{i}() {{ }} ") + "}\n")
+
+@shape("last of a chain of abstract classes", 64, 4000, copies=1)
+def _(n, k):
+    return ("abstract class A0 { abstract void m0(); }\n"
+            + times(n - 1, lambda i: f"abstract class A{i + 1} extends A{i} {{ abstract void m{i + 1}(); }}\n")
+            + f"class B extends A{n - 1} {{ " + times(n, lambda i: f"void m{i}() {{ }} ") + "}\n")
+
 @shape("interfaces by two ways", 64, 4000, copies=1)
 def _(n, k):
     return ("interface A0 { void f(); }\ninterface B0 { void g(); }\n"
@@ -354,6 +384,11 @@ def _(n, k):
 def _(n, k):
     return (times(50, lambda i: f"interface I{i} {{ void m{i}(); }}\n")
             + times(n, lambda i: f"abstract class A{i} implements " + times(50, lambda j: f"I{j}", ", ") + " { }\n"))
+
+@shape("fifty interfaces, inherited", 64, 4000, copies=1)
+def _(n, k):
+    return (times(50, lambda i: f"interface I{i} {{ void m{i}(); }}\n") + "class A { " + times(50, lambda j: f"public void m{j}() {{ }} ") + "}\n"
+            + times(n, lambda i: f"class A{i} extends A implements " + times(50, lambda j: f"I{j}", ", ") + " { }\n"))
 
 @shape("fifty interfaces, missing", 64, 4000, copies=1, says="refused")
 def _(n, k):

@@ -35,6 +35,8 @@ MOST_LANES = 12
 PROCESS_MEMORY = 2_000_000_000
 # Lines that a crate counts for beside its own, since each check has a start.
 START_LINES = 100
+# Seconds of a processor that a proof takes for each of these lines (docs/TIMES.md).
+LINE_SECONDS = 0.14
 # Signals that end a build.
 SIGNALS = (signal.SIGINT, signal.SIGTERM, signal.SIGHUP)
 UNAVAILABLE = 70
@@ -319,6 +321,31 @@ def install(lanes, as_of):
     os.replace(f"{lanes.room}/{PROGRAM}", f"{out}/{PROGRAM}")
 
 
+def is_kept(crate):
+    """Whether a build before this one left the crate's library; where its text changed since, it is proved again."""
+    return os.path.isfile(f"{ROOT}/crates/{crate.name}/out/rlib/stamp")
+
+
+def forecast(crates, processes):
+    """How much there is to prove, and how long that is likely to take."""
+    left = [it for it in crates if not is_kept(it)]
+    seconds = LINE_SECONDS * max(sum(it.work for it in left) / processes, longest_chain(left))
+    if not left:
+        return f"building the program: its {len(crates)} crates were proved before, and those that changed are proved again"
+    return (
+        f"proving and building the program: {len(left)} of its {len(crates)} crates are to be proved, {processes} at a time, which takes"
+        f" some {max(1, round(seconds / 60))} minutes; a build that is interrupted goes on where it was"
+    )
+
+
+def longest_chain(left):
+    """The greatest work of crates of which each waits for the one before; they are given lowest first."""
+    chains = {}
+    for crate in left:
+        chains[crate.name] = crate.work + max((chains[it] for it in crate.uses if it in chains), default=0)
+    return max(chains.values(), default=0)
+
+
 def build():
     as_of = time.time()
     if not shutil.which("rt"):
@@ -326,9 +353,9 @@ def build():
     crates, processes = needed_crates(), processes_at_once()
     lanes = Lanes(crates, min(processes, MOST_LANES))
     work = Build(crates, lanes, processes)
-    say(f"proving and building the program: {len(crates)} crates, {processes} processes at a time")
     try:
         lanes.fill()
+        say(forecast(crates, processes))
         work.run()
         install(lanes, as_of)
     finally:

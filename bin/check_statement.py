@@ -4,7 +4,10 @@
 Follows the imports of the contracts of crates/nullcheck_top/src/top.rt and src/law.rt through the specs/ folders of
 all crates, but for the standard library and the ported crates, which stand elsewhere. Types that the code declares
 (specs.declared) are counted apart: they are read where src/ declares them. Prints for each crate its files with their
-lines, and what the page names but isn't reached, or leaves out. Ends with 1 where there is such a difference.
+lines, what the page names but isn't reached, or leaves out, and each number of lines of the page that isn't that of its row's
+files. Ends with 1 where there is such a difference.
+
+usage: bin/check_statement.py [--write]   with --write: puts the numbers of lines into the page
 """
 import re
 import sys
@@ -56,6 +59,23 @@ def lines_of(file):
     return len(file.read_text(encoding="utf-8").splitlines())
 
 
+def named_in(text):
+    """The files that a text names."""
+    return {CRATES / crate / "specs" / f"{name}.antt" for crate, names in NAMED.findall(text) for name in names.strip("{}").split(",")}
+
+
+def with_numbers(page, reached):
+    """The page with the number of lines in each row, and with the number of all files and their lines."""
+
+    def row(found):
+        files = [file for file in named_in(found[2]) if file.is_file()]
+        return f"{found[1]}{found[2]}{sum(map(lines_of, files))}{found[4]}" if files else found[0]
+
+    page = re.sub(r"^(\| \d+ \|)(.*`\w+/specs/.*\| )(\d+)( \|)", row, page, flags=re.MULTILINE)
+    lines = sum(map(lines_of, reached))
+    return re.sub(r"^\d+ files, \d+ lines, so some \d+ pages", f"{len(reached)} files, {lines} lines, so some {round(lines / 50)} pages", page, flags=re.MULTILINE)
+
+
 def main():
     reached, types = closure()
     for crate in sorted({file.parent.parent.name for file in reached}):
@@ -69,6 +89,15 @@ def main():
         for file in sorted(files):
             print(f"{text}: {file.relative_to(CRATES)}")
             differences += 1
+    page = PAGE.read_text(encoding="utf-8")
+    wanted = with_numbers(page, reached)
+    if "--write" in sys.argv[1:]:
+        PAGE.write_text(wanted, encoding="utf-8")
+    else:
+        for one, other in zip(page.splitlines(), wanted.splitlines()):
+            if one != other:
+                print(f"numbers: {one[:80]} .. wants {other[:80]}")
+                differences += 1
     return 1 if differences else 0
 
 
