@@ -1,5 +1,6 @@
 //! A case is one line: what is shown, if not shapes; its kind, with a number if not the greatest depth; and its text.
 use crate::expressions::expression_text;
+use crate::lowered::lowered_text;
 use crate::outcome::{FILE, LIMIT, fail_text, tree_text};
 use crate::page::Shown;
 use crate::shape::statement_text;
@@ -45,6 +46,8 @@ fn reading_text<R: Threads + Sync>(
         "names" => names_text(alloc, names),
         "expression" => expression_text(alloc, names, tokens, 0, depth, shown),
         "from" => expression_text(alloc, names, tokens, number, DEEPEST, shown),
+        "value" => lowered_text(alloc, tokens, false),
+        "condition" => lowered_text(alloc, tokens, true),
         "block" | "loop" | "leading" => {
             statement_text(alloc, names, tokens, depth, context_of(reading.kind), shown)
         }

@@ -5,6 +5,7 @@
 mod case;
 mod expressions;
 mod files;
+mod lowered;
 mod outcome;
 mod page;
 mod places;

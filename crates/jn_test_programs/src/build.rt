@@ -1,6 +1,6 @@
 //! Programs made by hand. Class 0 is Object, with its constructor without parameters, and class 1 is String.
 //! A constructor that Java gives a class without one is left out where nothing calls it.
-use crate::lines::{array_of, call, construct, create, end, span};
+use crate::lines::{call, construct, create, end, span};
 use jn_base::{BodyNo, ClassNo, FieldNo, MethodNo, NameNo, RegNo, Seq, SlotNo};
 use jn_points::{BaseType, Body, Class, Elem, Field, Method, Operand, Point, Program, SlotInfo};
 use jn_quals::Qual;
@@ -67,11 +67,6 @@ pub fn committed(base: BaseType) -> Typed {
 /// A `@Nullable` reference.
 pub fn nullable(base: BaseType) -> Typed {
     with(base, Qual::null_or_committed())
-}
-
-/// An `@UnderInitialization` reference.
-pub fn free(base: BaseType) -> Typed {
-    with(base, Qual::free_only())
 }
 
 /// A reference without annotations, of a private member.
@@ -204,11 +199,6 @@ impl Hand {
         self.push_class(Some(parent), interfaces, false, false)
     }
 
-    /// `abstract class C`
-    pub fn abstract_class(&mut self) -> ClassNo {
-        self.push_class(Some(OBJECT), &[], false, true)
-    }
-
     /// `interface I extends J, ..`
     pub fn interface(&mut self, interfaces: &[ClassNo]) -> ClassNo {
         self.push_class(None, interfaces, true, true)
@@ -306,12 +296,6 @@ impl Hand {
     /// A point of the next body.
     pub fn point(&mut self, point: Point) {
         put(&mut self.points, point, &mut self.is_short)
-    }
-
-    /// `dst = new B[] { values }`
-    pub fn array_of(&mut self, dst: u32, base: BaseType, values: &[Operand]) {
-        let values = copied(self.alloc, values, &mut self.is_short);
-        self.point(array_of(dst, base, values))
     }
 
     /// `dst = new C(args)`

@@ -1,7 +1,6 @@
 //! Points of bodies made by hand. A place is a number: line times 100 plus column, where its program stands in a file.
-use jn_base::{ClassNo, Code, FieldNo, FileNo, MethodNo, NameNo, PointNo, RegNo, Row, Seq, Span};
-use jn_points::{BaseType, Literal, Operand, Operator, Origin, Point, PointKind, StrOperation};
-use jn_quals::Qual;
+use jn_base::{ClassNo, Code, FieldNo, FileNo, MethodNo, NameNo, RegNo, Row, Seq, Span};
+use jn_points::{BaseType, Literal, Operand, Operator, Point, PointKind, StrOperation};
 
 pub fn span(from: u32) -> Span {
     Span {
@@ -51,20 +50,6 @@ pub fn null(dst: u32) -> Point {
     literal(dst, Literal::Null)
 }
 
-/// `dst = from`
-pub fn store(dst: u32, from: Operand) -> Point {
-    bounded(dst, from, None)
-}
-
-/// `dst = from`, where the local has annotations with this bound.
-pub fn bounded(dst: u32, from: Operand, bound: Option<Qual>) -> Point {
-    point(PointKind::Move {
-        dst: RegNo(dst),
-        from,
-        bound,
-    })
-}
-
 pub fn binary(dst: u32, operator: Operator, left: Operand, right: Operand) -> Point {
     point(PointKind::Binary {
         dst: RegNo(dst),
@@ -72,15 +57,6 @@ pub fn binary(dst: u32, operator: Operator, left: Operand, right: Operand) -> Po
         left,
         right,
     })
-}
-
-pub fn add(dst: u32, left: Operand, right: Operand) -> Point {
-    binary(dst, Operator::Add, left, right)
-}
-
-/// `left == right` where one isn't a reference.
-pub fn equal(dst: u32, left: Operand, right: Operand) -> Point {
-    binary(dst, Operator::Equal, left, right)
 }
 
 /// `left + right` of texts.
@@ -167,15 +143,6 @@ pub fn new_array(dst: u32, base: BaseType, length: Operand, from: u32) -> Point 
     }
 }
 
-/// `dst = new B[] { values }`
-pub fn array_of(dst: u32, base: BaseType, values: Seq<Operand>) -> Point {
-    point(PointKind::ArrayOf {
-        dst: RegNo(dst),
-        base,
-        values,
-    })
-}
-
 /// `dst = new C(args)`
 pub fn create(dst: u32, ctor: MethodNo, args: Seq<Operand>) -> Point {
     point(PointKind::New {
@@ -217,59 +184,8 @@ pub fn length(dst: u32, of: Operand) -> Point {
     })
 }
 
-/// `dst = of.equals(other)`
-pub fn equals(dst: u32, of: Operand, other: Operand) -> Point {
-    point(PointKind::StrOp {
-        dst: RegNo(dst),
-        op: StrOperation::Equals,
-        of,
-        other: Some(other),
-    })
-}
-
 pub fn print(of: Operand) -> Point {
     point(PointKind::Print { of })
-}
-
-/// The field of a local that a test reads.
-pub fn origin(reg: u32, field: FieldNo) -> Option<Origin> {
-    Some(Origin {
-        reg: RegNo(reg),
-        field,
-    })
-}
-
-/// Where `of` is null, one goes on at the first point, else at the second.
-pub fn test_null(of: Operand, origin: Option<Origin>, null: u32, non_null: u32) -> Point {
-    point(PointKind::TestNull {
-        of,
-        origin,
-        null: PointNo(null),
-        non_null: PointNo(non_null),
-    })
-}
-
-/// Where `of` is an object of the class, one goes on at the first point, else at the second.
-pub fn test_inst(of: Operand, class: ClassNo, yes: u32, no: u32) -> Point {
-    point(PointKind::TestInst {
-        of,
-        class,
-        origin: None,
-        yes: PointNo(yes),
-        no: PointNo(no),
-    })
-}
-
-pub fn branch(of: Operand, yes: u32, no: u32) -> Point {
-    point(PointKind::Branch {
-        of,
-        yes: PointNo(yes),
-        no: PointNo(no),
-    })
-}
-
-pub fn goto(to: u32) -> Point {
-    point(PointKind::Goto { to: PointNo(to) })
 }
 
 /// `return value;`
