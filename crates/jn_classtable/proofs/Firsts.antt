@@ -3,11 +3,12 @@ use Rattle.std.proofs.Common.{◌≡◌, ◌≤◌, ◌+◌, ℕ, zero, suc, Boo
 use Rattle.std.proofs.lemmas.Bool.{le-ltb, lt-ltb}
 use Rattle.jn_points.specs.declared.program.Class.{Class}
 use Rattle.jn_points.specs.Members.{first_at, some_of}
-use Rattle.jn_classtable.specs.declared.head.ClassHead.{ClassHead}
-use Rattle.jn_classtable.specs.Heads.{number, object_head, string_head}
+use Rattle.jn_heads.specs.declared.head.ClassHead.{ClassHead}
+use Rattle.jn_heads.specs.Heads.{number, object_head, string_head}
 use Rattle.jn_classtable.specs.Table.{declared_class, table}
-use Rattle.jn_classtable.specs.TypePlaces.{is_before}
-use Rattle.jn_classtable.specs.Rows.{earlier, same_class_name}
+use Rattle.jn_heads.specs.TypePlaces.{is_before}
+use Rattle.jn_declaration_rules.specs.Rows.{earlier}
+use Rattle.jn_classtable.specs.Rows.{same_class_name}
 
 -- a first place isn't below the one from which it is looked for
 from_place : {A : Type 0} (test : A → Bool) (n : ℕ) (xs : List A) → is_before (first_at test n xs) n ≡ false

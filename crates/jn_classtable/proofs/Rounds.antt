@@ -3,10 +3,10 @@ use Rattle.std.proofs.Common.{◌≡◌, ◌≤◌, ◌+◌, ◌-◌, ℕ, zero,
 use Rattle.std.specs.Prelude.{slice_index_or}
 use Rattle.std.proofs.lemmas.Bool.{or_left}
 use Rattle.jn_points.specs.Members.{some_of}
-use Rattle.jn_classtable.specs.Rows.{reach}
+use Rattle.jn_declaration_rules.specs.Rows.{reach}
 use Rattle.jn_classtable.specs.Calls.{call_at, IsBehind}
-use Rattle.jn_classtable.proofs.Tests.{or_true, true_or_not, not_both, some_member}
-use Rattle.jn_classtable.proofs.Graph.{reach_by}
+use Rattle.jn_declaration_rules.proofs.Tests.{or_true, true_or_not, not_both, some_member}
+use Rattle.jn_declaration_rules.proofs.Graph.{reach_by}
 use Rattle.jn_classtable.proofs.Follow.{chain_step, chain_found}
 
 module _ (next : ℕ → List ℕ) where

@@ -4,13 +4,13 @@ use Rattle.std.specs.Prelude.{slice_get}
 use Rattle.std.proofs.lemmas.List.{length-map}
 use Rattle.jn_points.specs.declared.program.Method.{Method}
 use Rattle.jn_points.specs.declared.program.SlotInfo.{SlotInfo}
-use Rattle.jn_classtable.specs.declared.head.FieldHead.{FieldHead}
-use Rattle.jn_classtable.specs.declared.head.ParamHead.{ParamHead}
-use Rattle.jn_classtable.specs.declared.head.MethodHead.{MethodHead}
-use Rattle.jn_classtable.specs.declared.head.ClassHead.{ClassHead}
-use Rattle.jn_classtable.specs.declared.head.TypeHead.{TypeHead}
-use Rattle.jn_classtable.specs.Heads.{all_heads}
-use Rattle.jn_classtable.specs.Types.{base_of, is_position, has_receiver, field_slots, value_slots, result_slots, receiver_slots, params_slots, method_slots, fields_slots, methods_slots, class_slots, slots_of_all}
+use Rattle.jn_heads.specs.declared.head.FieldHead.{FieldHead}
+use Rattle.jn_heads.specs.declared.head.ParamHead.{ParamHead}
+use Rattle.jn_heads.specs.declared.head.MethodHead.{MethodHead}
+use Rattle.jn_heads.specs.declared.head.ClassHead.{ClassHead}
+use Rattle.jn_heads.specs.declared.head.TypeHead.{TypeHead}
+use Rattle.jn_heads.specs.Heads.{all_heads}
+use Rattle.jn_heads.specs.Types.{base_of, is_position, has_receiver, field_slots, value_slots, result_slots, receiver_slots, params_slots, method_slots, fields_slots, methods_slots, class_slots, slots_of_all}
 use Rattle.jn_classtable.specs.Table.{count, bodies_of, bodies_of_all, fields_of, fields_from, methods_of, methods_from, table}
 use Rattle.jn_classtable.specs.Items.{methods_items, items, IsSmall}
 use Rattle.jn_classtable.specs.Built.{SmallTable}

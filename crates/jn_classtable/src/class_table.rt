@@ -2,15 +2,16 @@
 ghost use Rattle.std.specs.Prelude.{◌≡◌, ◌<◌, ◌^◌, List, [], length, IfSome};
 ghost use Rattle.jn_points.specs.declared.program.Body.{Body as BodyOf};
 ghost use Rattle.jn_index.specs.Index.{IsIndex};
-ghost use Rattle.jn_classtable.specs.Heads.{all_heads};
+ghost use Rattle.jn_heads.specs.Heads.{all_heads};
 ghost use Rattle.jn_classtable.specs.Table.{bodies_of_all, program_with, table};
 ghost use Rattle.jn_classtable.specs.Rows.{called, t_rows};
-ghost use Rattle.jn_classtable.specs.RegularTable.{ParamsFit, RegularTable};
+ghost use Rattle.jn_declaration_rules.specs.Sizes.{ParamsFit};
+ghost use Rattle.jn_classtable.specs.RegularTable.{RegularTable};
 ghost use Rattle.jn_classtable.specs.Built.{IsTable};
 
-use crate::declarations::Declarations;
-use crate::head::ClassHead;
 use jn_base::Seq;
+use jn_heads::declarations::Declarations;
+use jn_heads::head::ClassHead;
 use jn_index::index::Index;
 use jn_index::indexed::IndexedProgram;
 use jn_points::{Program, SlotInfo};
@@ -26,7 +27,7 @@ pub struct ClassTable {
 }
 
 impl Model for ClassTable {
-    ghost use Rattle.jn_classtable.specs.Inferred.{Tabled};
+    ghost use Rattle.jn_heads.specs.Inferred.{Tabled};
     ghost use Rattle.jn_classtable.specs.Built.{IsTable};
 
     ghost Value = { Tabled };
@@ -68,14 +69,7 @@ impl ClassTable {
         &self.program
     }
 
-    /// Gives up the table for its program, which has no bodies yet, with the slots by the choice and its index.
-    pub fn into_indexed(self) -> IndexedProgram
-        ensures { result ≡ record (table self.heads) { slots = self.slots } }
-    {
-        self.program.with_slots(self.slots)
-    }
-
-    /// Gives up the table for its heads and its program, as `into_indexed` gives it.
+    /// Gives up the table for its heads and its program, which has no bodies yet, with the slots by the choice and its index.
     pub fn into_parts(self) -> (Seq<ClassHead>, IndexedProgram)
         ensures heads { result.0 ≡ self.heads }
         ensures program { result.1 ≡ record (table self.heads) { slots = self.slots } }

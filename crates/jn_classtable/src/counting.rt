@@ -3,7 +3,7 @@ ghost use Rattle.std.specs.Prelude.{◌≡◌, ◌<◌, ◌≤◌, ◌+◌, ◌-
 ghost use Rattle.jn_classtable.specs.Items as spec;
 ghost use Rattle.jn_classtable.specs.Built.{SmallTable};
 
-use crate::head::{ClassHead, MethodHead};
+use jn_heads::head::{ClassHead, MethodHead};
 
 /// The greatest count at which numbers of 32 bits are enough, also with what Object and String add.
 const MOST: u32 = u32::MAX - 8;

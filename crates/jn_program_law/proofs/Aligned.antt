@@ -7,7 +7,7 @@ use Rattle.jn_points.specs.declared.program.Program.{Program}
 use Rattle.jn_points.specs.Members.{constructor_of}
 use Rattle.jn_places.specs.Placed.{NoPlacedStatements}
 use Rattle.jn_classtable.specs.Table.{body_at, count}
-use Rattle.jn_classtable.proofs.Tests.{member}
+use Rattle.jn_declaration_rules.proofs.Tests.{member}
 use Rattle.jn_lowering.specs.Bodies.{Source, own_arity}
 use Rattle.jn_program_law.specs.FileSources.{BodyTree, numbered}
 

@@ -18,17 +18,17 @@ use Rattle.jn_points.specs.Lookup.{class_info, field_info, interface_of}
 use Rattle.jn_points.specs.BaseRows.{is_primitive}
 use Rattle.jn_points.specs.Regular.{StaticField}
 use Rattle.jn_places.specs.Placed.{PlacedTree, PlacedLiteral, PlacedDeclarator, PlacedTypeUse, PlacedFile, PlacedDotted, PlacedMember, PlacedMethod, PlacedConstructor, PlacedFieldMember, PlacedType, PlacedClass, PlacedInterface}
-use Rattle.jn_classtable.specs.declared.head.FieldHead.{FieldHead}
-use Rattle.jn_classtable.specs.declared.head.ClassHead.{ClassHead}
-use Rattle.jn_classtable.specs.declared.notes.Word.TheVariants.{Static as StaticWord}
-use Rattle.jn_classtable.specs.Heads.{all_heads, object_head, string_head}
-use Rattle.jn_classtable.specs.declared.head.Notes.{Notes}
-use Rattle.jn_classtable.specs.Extract.{class_head, field_head, field_heads, first_value, has_word, heads, is_word, literal_value, modifier_notes, tree_value, type_head_of}
-use Rattle.jn_classtable.specs.Types.{base_of}
+use Rattle.jn_heads.specs.declared.head.FieldHead.{FieldHead}
+use Rattle.jn_heads.specs.declared.head.ClassHead.{ClassHead}
+use Rattle.jn_heads.specs.declared.notes.Word.TheVariants.{Static as StaticWord}
+use Rattle.jn_heads.specs.Heads.{all_heads, object_head, string_head}
+use Rattle.jn_heads.specs.declared.head.Notes.{Notes}
+use Rattle.jn_heads.specs.Extract.{class_head, field_head, field_heads, first_value, has_word, heads, is_word, literal_value, modifier_notes, tree_value, type_head_of}
+use Rattle.jn_heads.specs.Types.{base_of}
 use Rattle.jn_classtable.specs.Table.{program_with, table}
 use Rattle.jn_classtable.specs.RegularTable.{FieldsAllowed}
-use Rattle.jn_classtable.proofs.Tests.{and_true}
-use Rattle.jn_classtable.proofs.Lists.{append_at, append_empty, map_at}
+use Rattle.jn_declaration_rules.proofs.Tests.{and_true}
+use Rattle.jn_declaration_rules.proofs.Lists.{append_at, append_empty, map_at}
 use Rattle.jn_classtable.proofs.Classes.{head_interface}
 use Rattle.jn_classtable.proofs.Numbering.{FieldFrom, fields_from_at}
 use Rattle.jn_lowering.specs.Annotations.{annotation_rows, both_kinds, name_row, of_field, row, type_rows, when}

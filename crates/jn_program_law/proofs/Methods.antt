@@ -5,14 +5,14 @@ use Rattle.std.proofs.lemmas.Bool.{eq-eqb, or_left}
 use Rattle.jn_points.specs.declared.program.Program.{Program}
 use Rattle.jn_points.specs.Members.{constructor_of}
 use Rattle.jn_places.specs.Placed.{PlacedType, PlacedFile, NoPlacedStatements}
-use Rattle.jn_classtable.specs.declared.head.MethodHead.{MethodHead}
-use Rattle.jn_classtable.specs.declared.head.ClassHead.{ClassHead}
-use Rattle.jn_classtable.specs.Heads.{all_heads}
-use Rattle.jn_classtable.specs.Types.{fields_slots, class_slots, method_slots}
+use Rattle.jn_heads.specs.declared.head.MethodHead.{MethodHead}
+use Rattle.jn_heads.specs.declared.head.ClassHead.{ClassHead}
+use Rattle.jn_heads.specs.Heads.{all_heads}
+use Rattle.jn_heads.specs.Types.{fields_slots, class_slots, method_slots}
 use Rattle.jn_classtable.specs.Table.{body_at, bodies_of, bodies_of_all, count, method_of, methods_of, methods_from, table}
 use Rattle.jn_classtable.specs.Rows.{found_number, called_with, called_of, called_from}
-use Rattle.jn_classtable.specs.Extract.{class_head, heads}
-use Rattle.jn_classtable.proofs.Tests.{member}
+use Rattle.jn_heads.specs.Extract.{class_head, heads}
+use Rattle.jn_declaration_rules.proofs.Tests.{member}
 use Rattle.jn_lowering.specs.Bodies.{own_arity}
 use Rattle.jn_program_law.specs.FileSources.{BodyTree, type_trees, types_of, body_trees, unwritten_tree}
 use Rattle.jn_program_law.proofs.Aligned.{Agrees, AllAgree, agree_append}

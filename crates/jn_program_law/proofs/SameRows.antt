@@ -18,7 +18,7 @@ use Rattle.jn_points.specs.declared.program.Program.{Program}
 use Rattle.jn_points.specs.Lookup.{class_of, elem_base, field_base, method_at, owner, params_of, reg_base}
 use Rattle.jn_points.specs.Paths.{Avoids, Lacks, Path, Reached, Step}
 use Rattle.jn_points.specs.BaseRows.{Want, Within, Primitive, Same, Reference, Elements, Joinable, Printable, Valued, is_void, other_nullity, returned, string_base, suits, operand_rows, all_rows, argument_rows, optional_rows, binary_rows, type_rows, result_rows, IsUnassigned, TypeRow, UnassignedRow, ResultRow, IsBaseRow, NoBaseRows}
-use Rattle.jn_classtable.specs.Inferred.{slots_by}
+use Rattle.jn_heads.specs.Inferred.{slots_by}
 use Rattle.jn_program_law.specs.FileProgram.{inferring, program_of_files}
 use Rattle.jn_program_law.proofs.SameSlots.{fits_same, other}
 

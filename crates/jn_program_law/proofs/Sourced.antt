@@ -14,15 +14,15 @@ use Rattle.jn_points.specs.Lookup.{body_no, body_of, class_info, class_of, ctor_
 use Rattle.jn_points.specs.Members.{constructor_of}
 use Rattle.jn_points.specs.Regular.{has_body}
 use Rattle.jn_places.specs.Placed.{PlacedFile, PlacedMember, PlacedMethod, PlacedConstructor, PlacedFieldMember, PlacedType, PlacedClass, PlacedInterface}
-use Rattle.jn_classtable.specs.declared.head.MethodHead.{MethodHead}
-use Rattle.jn_classtable.specs.declared.head.ClassHead.{ClassHead}
-use Rattle.jn_classtable.specs.Heads.{all_heads, object_head, string_head}
-use Rattle.jn_classtable.specs.Extract.{class_head, heads, method_heads}
+use Rattle.jn_heads.specs.declared.head.MethodHead.{MethodHead}
+use Rattle.jn_heads.specs.declared.head.ClassHead.{ClassHead}
+use Rattle.jn_heads.specs.Heads.{all_heads, object_head, string_head}
+use Rattle.jn_heads.specs.Extract.{class_head, heads, method_heads}
 use Rattle.jn_classtable.specs.Table.{bodies_of_all, class_under, declared_class, parent_class, program_with, table}
 use Rattle.jn_classtable.specs.Rows.{called, called_from}
 use Rattle.jn_classtable.specs.RegularTable.{RegularTable}
-use Rattle.jn_classtable.proofs.Tests.{and_true, member}
-use Rattle.jn_classtable.proofs.Lists.{append_at, first_at_passes, map_at}
+use Rattle.jn_declaration_rules.proofs.Tests.{and_true, member}
+use Rattle.jn_declaration_rules.proofs.Lists.{append_at, first_at_passes, map_at}
 use Rattle.jn_classtable.proofs.Classes.{class_is, head_interface}
 use Rattle.jn_classtable.proofs.Numbering.{MethodFrom, methods_from_at}
 use Rattle.jn_lowering.specs.Bodies.{Source, class, own_arity}

@@ -3,9 +3,9 @@ use Rattle.std.proofs.Common.{◌≡◌, suc, Bool, true, false, cond, List, [],
 use Rattle.std.specs.Prelude.{flat_map}
 use Rattle.jn_trees.specs.declared.expression.Identifier.{Identifier}
 use Rattle.jn_places.specs.Placed.{PlacedTrees, NoPlacedTrees, MorePlacedTrees, PlacedThisCall, PlacedStatements, NoPlacedStatements, MorePlacedStatements, PlacedMember, PlacedFieldMember, PlacedMethod, PlacedConstructor, PlacedType, PlacedClass, PlacedInterface, PlacedFile}
-use Rattle.jn_classtable.specs.declared.head.MethodHead.{MethodHead}
-use Rattle.jn_classtable.specs.Heads.{unwritten_constructor}
-use Rattle.jn_classtable.specs.Extract.{count, first_call, has_constructor, method_heads, class_head, heads}
+use Rattle.jn_heads.specs.declared.head.MethodHead.{MethodHead}
+use Rattle.jn_heads.specs.Heads.{unwritten_constructor}
+use Rattle.jn_heads.specs.Extract.{count, first_call, has_constructor, method_heads, class_head, heads}
 use Rattle.jn_lowering.specs.Scopes.{count as count_of}
 use Rattle.jn_lowering.specs.Bodies.{own_arity}
 use Rattle.jn_program_law.specs.FileSources.{BodyTree, member_trees, members_trees, unwritten_tree, type_trees, types_of}

@@ -4,10 +4,11 @@ use Rattle.jn_base.specs.declared.infer.Infer.{Infer}
 use Rattle.jn_base.specs.declared.place.Row.{Row}
 use Rattle.jn_points.specs.declared.program.Program.{Program}
 use Rattle.jn_places.specs.Placed.{PlacedFile}
-use Rattle.jn_classtable.specs.Extract.{heads}
-use Rattle.jn_classtable.specs.Inferred.{slots_by}
+use Rattle.jn_heads.specs.Extract.{heads}
+use Rattle.jn_heads.specs.Inferred.{slots_by}
 use Rattle.jn_classtable.specs.Table.{table}
-use Rattle.jn_classtable.specs.Rows.{no_rows, t_rows}
+use Rattle.jn_declaration_rules.specs.Rows.{no_rows}
+use Rattle.jn_classtable.specs.Rows.{t_rows}
 use Rattle.jn_lowering.specs.Bodies.{with_bodies}
 use Rattle.jn_lowering.specs.BodyRows.{rows_of_bodies}
 use Rattle.jn_lowering.specs.FileRows.{outside_rows}

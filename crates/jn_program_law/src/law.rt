@@ -4,8 +4,8 @@ ghost use Rattle.std.specs.Prelude.{◌≡◌, ◌↔◌, ◌<◌, ◌^◌, [], 
 ghost use Rattle.jn_base.specs.declared.infer.Infer.{Infer};
 ghost use Rattle.jn_base.specs.declared.place.Row.{Row};
 ghost use Rattle.jn_base.specs.declared.infer.Infer.TheVariants.{Private, Package};
-ghost use Rattle.jn_classtable.specs.Extract.{heads};
-ghost use Rattle.jn_classtable.specs.Inferred.{Opens, slots_by, tabled};
+ghost use Rattle.jn_heads.specs.Extract.{heads};
+ghost use Rattle.jn_heads.specs.Inferred.{Opens, slots_by, tabled};
 ghost use Rattle.jn_classtable.specs.Table.{table};
 ghost use Rattle.jn_places.specs.Placed.{PlacedFile};
 ghost use Rattle.jn_points.specs.BaseRows.{IsBaseRow, NoBaseRows};

@@ -1,10 +1,11 @@
 use Rattle.std.proofs.Common.{◌≡◌, ◌<◌, ◌^◌, List, length, subst, arith}
 use Rattle.jn_points.specs.declared.program.Body.{Body}
-use Rattle.jn_classtable.specs.Inferred.{Tabled}
-use Rattle.jn_classtable.specs.Heads.{all_heads}
+use Rattle.jn_heads.specs.Inferred.{Tabled}
+use Rattle.jn_heads.specs.Heads.{all_heads}
 use Rattle.jn_classtable.specs.Table.{bodies_of_all, program_with, table}
 use Rattle.jn_classtable.specs.Rows.{called}
-use Rattle.jn_classtable.specs.RegularTable.{ParamsFit, RegularTable}
+use Rattle.jn_declaration_rules.specs.Sizes.{ParamsFit}
+use Rattle.jn_classtable.specs.RegularTable.{RegularTable}
 use Rattle.jn_classtable.proofs.Classes.{size_is}
 use Rattle.jn_classtable.proofs.Whole.{table_regular}
 use Rattle.jn_classtable.proofs.class_table.ClassTable.facts.Goals as goal

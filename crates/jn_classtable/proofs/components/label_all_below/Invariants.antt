@@ -1,5 +1,0 @@
-use Rattle.jn_classtable.specs.Ranks as spec
-use Rattle.jn_classtable.proofs.components.label_all_below.Given as goal
-
-abbrev pub invariant-loop-place : goal.invariant-loop-place
-invariant-loop-place l = spec.AreBelow l.program l.labels

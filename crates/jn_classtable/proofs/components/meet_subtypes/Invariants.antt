@@ -1,5 +1,0 @@
-use Rattle.jn_classtable.specs.Ranks as spec
-use Rattle.jn_classtable.proofs.components.meet_subtypes.Given as goal
-
-abbrev pub invariant-loop-at : goal.invariant-loop-at
-invariant-loop-at l = spec.AreBelow l.program l.labels

@@ -1,5 +1,0 @@
-use Rattle.jn_classtable.specs.Ranks as spec
-use Rattle.jn_classtable.proofs.components.spread_below.Given as goal
-
-abbrev pub invariant-loop-next : goal.invariant-loop-next
-invariant-loop-next l = spec.AreBelow l.program l.labels

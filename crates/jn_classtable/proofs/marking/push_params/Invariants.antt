@@ -1,6 +1,0 @@
-use Rattle.std.proofs.Common.{◌≡◌, ◌++◌, drop}
-use Rattle.jn_classtable.specs.Types as types
-use Rattle.jn_classtable.proofs.marking.push_params.Given as goal
-
-abbrev pub invariant-loop-param : goal.invariant-loop-param
-invariant-loop-param l = l.slots ++ types.params_slots l.declared l.mark (drop l.param-index l.params) ≡ l.fn.slots ++ types.params_slots l.declared l.mark l.params

@@ -1,0 +1,15 @@
+pub mod Above
+pub mod ByName
+pub mod Falling
+pub mod FoundOwners
+pub mod Graph
+pub mod HiddenAbove
+pub mod HiddenFields
+pub mod Listed
+pub mod Lists
+pub mod Named
+pub mod OwnMethods
+pub mod Partners
+pub mod Strong
+pub mod Subtypes
+pub mod Tests

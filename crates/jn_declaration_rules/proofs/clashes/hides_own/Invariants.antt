@@ -1,0 +1,10 @@
+use Rattle.std.proofs.Common.{◌≡◌, ◌&&◌, not, drop}
+use Rattle.jn_points.specs.declared.program.Method.{Method}
+use Rattle.jn_points.specs.Lookup.{method_at}
+use Rattle.jn_points.specs.Members as members
+use Rattle.jn_index.specs.Numbers.{passes}
+use Rattle.jn_declaration_rules.specs.Rows as spec
+use Rattle.jn_declaration_rules.proofs.clashes.hides_own.Given as goal
+
+abbrev pub invariant-loop-k : goal.invariant-loop-k
+invariant-loop-k l = members.some_of (λ k. passes (λ (y : Method). spec.over_static l.program l.over y && not (spec.hides_well l.program l.over y)) (method_at l.program k)) (drop l.k-index l.own) ≡ members.some_of (λ k. passes (λ (y : Method). spec.over_static l.program l.over y && not (spec.hides_well l.program l.over y)) (method_at l.program k)) l.own

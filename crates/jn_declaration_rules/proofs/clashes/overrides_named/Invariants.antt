@@ -1,0 +1,9 @@
+use Rattle.std.proofs.Common.{◌≡◌, ◌&&◌, not, drop}
+use Rattle.jn_points.specs.Lookup.{method_at}
+use Rattle.jn_points.specs.Members as members
+use Rattle.jn_index.specs.Numbers.{passes}
+use Rattle.jn_declaration_rules.specs.Rows as spec
+use Rattle.jn_declaration_rules.proofs.clashes.overrides_named.Given as goal
+
+abbrev pub invariant-loop-k : goal.invariant-loop-k
+invariant-loop-k l = members.some_of (λ k. passes (λ y. members.is_pair l.program l.m k && not (spec.agrees l.program l.over y)) (method_at l.program k)) (drop l.k-index l.named) ≡ spec.overrides_badly l.program l.m l.over

@@ -1,0 +1,5 @@
+pub mod Hidden
+pub mod Listed
+pub mod Ranks
+pub mod Rows
+pub mod Sizes

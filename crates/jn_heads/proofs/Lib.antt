@@ -1,0 +1,4 @@
+pub mod Places
+pub mod PrivateMarks
+pub mod SlotLoops
+pub mod Views

@@ -1,0 +1,8 @@
+use Rattle.std.proofs.Common.{◌≡◌, ◌++◌, drop}
+use Rattle.std.specs.Prelude.{flat_map}
+use Rattle.jn_places.specs.PlacedView.{placed_members}
+use Rattle.jn_heads.specs.Extract as spec
+use Rattle.jn_heads.proofs.extract.method_heads.Given as goal
+
+abbrev pub invariant-loop-member : goal.invariant-loop-member
+invariant-loop-member l = l.heads ++ flat_map (spec.method_heads l.interface) (placed_members (drop l.member-index l.members)) ≡ flat_map (spec.method_heads l.interface) (placed_members l.members)
