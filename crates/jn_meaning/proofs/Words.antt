@@ -1,5 +1,5 @@
 -- A worked program with fields, constructors, calls on objects and loops, by computation: a stack that prints its words from the last to the first.
-use Rattle.std.specs.Prelude.{◌≡◌, true, false, List, [], ◌∷◌, Some, None, pos}
+use Rattle.std.specs.Prelude.{ℕ, ◌≡◌, true, false, List, [], ◌∷◌, Some, None, pos}
 use Rattle.std.proofs.Common.{refl}
 use Rattle.jn_trees.specs.declared.expression.Base.TheVariants.{Class as ClassUse}
 use Rattle.jn_trees.specs.declared.expression.Literal.TheVariants.{Null as NullLiteral}
@@ -12,7 +12,8 @@ use Rattle.jn_points.specs.declared.program.Program.{Program}
 use Rattle.jn_places.specs.Placed.{NoPlacedTrees, MorePlacedTrees, PlacedLiteral, PlacedName, PlacedThis, PlacedField, PlacedCall, PlacedNew, PlacedPostfix, PlacedBinary, PlacedAssign, PlacedExpression, PlacedReturn, PlacedLocalStatement, PlacedIf, PlacedWhile, PlacedForEach, PlacedBlock, PlacedStatements, NoPlacedStatements, MorePlacedStatements}
 use Rattle.jn_lowering.specs.Bodies.{Source}
 use Rattle.jn_lowering.specs.BodyRows.{rows_of_bodies}
-use Rattle.jn_meaning.specs.Bodies.{Out, Returned, tree}
+use Rattle.jn_heap.specs.Values.{Limits, usual_limits}
+use Rattle.jn_meaning.specs.Bodies.{Deep, Out, Returned, tree}
 use Rattle.jn_meaning.proofs.Rows.{at, id}
 
 abbrev stack : Program
@@ -79,16 +80,26 @@ sources =
     record { method = 5; parameters = record { marks = []; type_use = record { base = ClassUse (id 0 38 39); array = None; span = at 0 0 }; name = (id 29 38 39) } ∷ record { marks = []; type_use = record { base = ClassUse (id 37 38 39); array = None; span = at 0 0 }; name = (id 32 38 39) } ∷ []; body = cell_body; members = [] } ∷ []
 
 -- c, b, a
-prints_words : tree stack sources [] 16777216 3 ((97 ∷ []) ∷ (98 ∷ []) ∷ (99 ∷ []) ∷ []) 1000 ≡ record { end = Returned; text = 99 ∷ 10 ∷ 98 ∷ 10 ∷ 97 ∷ 10 ∷ [] }
+prints_words : tree stack sources [] usual_limits 3 ((97 ∷ []) ∷ (98 ∷ []) ∷ (99 ∷ []) ∷ []) 1000 ≡ record { end = Returned; text = 99 ∷ 10 ∷ 98 ∷ 10 ∷ 97 ∷ 10 ∷ [] }
 prints_words = refl
 
 -- main, `new Stack()`, four conditions, three calls of push with a constructor each, four of pop, and four conditions: twenty units
-takes_twenty : tree stack sources [] 16777216 3 ((97 ∷ []) ∷ (98 ∷ []) ∷ (99 ∷ []) ∷ []) 20 ≡ record { end = Returned; text = 99 ∷ 10 ∷ 98 ∷ 10 ∷ 97 ∷ 10 ∷ [] }
+takes_twenty : tree stack sources [] usual_limits 3 ((97 ∷ []) ∷ (98 ∷ []) ∷ (99 ∷ []) ∷ []) 20 ≡ record { end = Returned; text = 99 ∷ 10 ∷ 98 ∷ 10 ∷ 97 ∷ 10 ∷ [] }
 takes_twenty = refl
 
 -- the last condition has no unit
-nineteen_are_few : tree stack sources [] 16777216 3 ((97 ∷ []) ∷ (98 ∷ []) ∷ (99 ∷ []) ∷ []) 19 ≡ record { end = Out; text = 99 ∷ 10 ∷ 98 ∷ 10 ∷ 97 ∷ 10 ∷ [] }
+nineteen_are_few : tree stack sources [] usual_limits 3 ((97 ∷ []) ∷ (98 ∷ []) ∷ (99 ∷ []) ∷ []) 19 ≡ record { end = Out; text = 99 ∷ 10 ∷ 98 ∷ 10 ∷ 97 ∷ 10 ∷ [] }
 nineteen_are_few = refl
+
+-- main calls push, which calls a constructor: three frames, of which two are too few
+abbrev frames : ℕ → Limits
+frames deepest = record { deepest = deepest; longest = usual_limits.longest }
+
+three_are_enough : tree stack sources [] (frames 3) 3 ((97 ∷ []) ∷ []) 1000 ≡ record { end = Returned; text = 97 ∷ 10 ∷ [] }
+three_are_enough = refl
+
+two_are_few : tree stack sources [] (frames 2) 3 ((97 ∷ []) ∷ []) 1000 ≡ record { end = Deep; text = [] }
+two_are_few = refl
 
 -- no row stands in it
 no_rows : rows_of_bodies stack sources ≡ []

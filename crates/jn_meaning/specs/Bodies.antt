@@ -11,7 +11,7 @@ use Rattle.jn_lowering.specs.Calls.{is_static}
 use Rattle.jn_lowering.specs.Expressions.{span_of}
 use Rattle.jn_lowering.specs.Statements.{through}
 use Rattle.jn_lowering.specs.Bodies.{Source, at_entry, calls_own, class, declarators_of, is_under_object, local_count, parent}
-use Rattle.jn_heap.specs.Values.{Value, At, Elems, End, Done, Arithmetic, Index, NegativeSize, ClassCast, ArrayStore, Deep as DeepEnd, Long, statics_of}
+use Rattle.jn_heap.specs.Values.{Prim, Value, At, Thing, Elems, End, Done, Arithmetic, Index, NegativeSize, ClassCast, ArrayStore, Deep as DeepEnd, Limits, Long, statics_of}
 use Rattle.jn_heap.specs.State.{value_at}
 use Rattle.jn_heap.specs.Calls.{pad}
 use Rattle.jn_heap.specs.Runs.{texts, words_base}
@@ -19,10 +19,6 @@ use Rattle.jn_meaning.specs.Worlds.{World, Result, Has, Stops, Stop, Faulted, Nu
 use Rattle.jn_meaning.specs.Operations.{FieldPlace, all_there, write_place}
 use Rattle.jn_meaning.specs.Expressions.{Caller, evaluated, meant}
 use Rattle.jn_meaning.specs.Statements.{Flow, Onward, Returns, Standing, all_executed, in_turn}
-
--- the greatest number of frames
-abbrev pub most_frames : ℕ
-most_frames = 256
 
 -- what a body gives: a returned value, or none where it falls off its end
 abbrev pub given : Flow → Option Value
@@ -99,12 +95,13 @@ module _ (P : Program) (sources : List Source) (names : List (List ℕ)) (longes
   source_of None = None
   source_of (Some b) = slice_get sources b
 
-  -- a method's body in a further frame, unless there are too many: that takes a unit of fuel. Calls within each other are at most as many as units of fuel
-  abbrev pub entered : ℕ → ℕ → Caller
-  entered zero frames m vs w = cond (ltb frames most_frames) (Stops FuelOut w.out) (Stops TooDeep w.out)
-  entered (suc turns) frames m vs w = cond (ltb frames most_frames) (spent w (in_frame (entered turns (frames + 1)) turns (source_of (body_of (method_at P m))) m vs)) (Stops TooDeep w.out)
+  module _ (deepest : ℕ) where
+    -- a method's body in a further frame, unless there are more than the most: that takes a unit of fuel. Calls within each other are at most as many as units of fuel
+    abbrev pub entered : ℕ → ℕ → Caller
+    entered zero frames m vs w = cond (ltb frames deepest) (Stops FuelOut w.out) (Stops TooDeep w.out)
+    entered (suc turns) frames m vs w = cond (ltb frames deepest) (spent w (in_frame (entered turns (frames + 1)) turns (source_of (body_of (method_at P m))) m vs)) (Stops TooDeep w.out)
 
--- how a main ends over trees
+-- how a main, or another call from outside, ends over trees
 pub data TreeEnd : Type 0 where
   Returned : TreeEnd
   Fault : (kind : End) (span : Span) → TreeEnd
@@ -141,11 +138,21 @@ abbrev pub told : Result (Option Value) → Told
 told (Has v w) = record { end = Returned; text = w.out }
 told (Stops stop out) = record { end = end_of stop; text = out }
 
+-- the world in which a call from outside begins: this heap, these static numbers and this text printed
+abbrev pub outer_world : List Thing → List Prim → List ℕ → ℕ → World
+outer_world heap statics out n = record { heap = heap; statics = statics; out = out; locals = []; fuel = n }
+
 module _ (P : Program) (sources : List Source) (names : List (List ℕ)) where
   -- an array of the words, static fields at their initializers, and nothing printed (JLS 8, 12.1.4)
   abbrev pub start_world : List (List ℕ) → ℕ → World
-  start_world words n = record { heap = Elems words_base (texts words) ∷ []; statics = statics_of P.fields; out = []; locals = []; fuel = n }
+  start_world words n = outer_world (Elems words_base (texts words) ∷ []) (statics_of P.fields) [] n
 
-  -- the main, with these words and so many units of fuel; arrays and texts have at most the longest length
-  abbrev pub tree : ℕ → ℕ → List (List ℕ) → ℕ → Told
-  tree longest main words n = told (entered P sources names longest n 0 main (At 0 ∷ []) (start_world words n))
+  -- with at most the deepest limit's frames, and arrays and texts of at most the longest length
+  module _ (limits : Limits) where
+    -- a method's or constructor's body with these values, called from outside: its frame is the first
+    abbrev pub called : ℕ → List Value → World → Told
+    called m vs w = told (entered P sources names limits.longest limits.deepest w.fuel 0 m vs w)
+
+    -- the main, with these words and so many units of fuel
+    abbrev pub tree : ℕ → List (List ℕ) → ℕ → Told
+    tree main words n = called main (At 0 ∷ []) (start_world words n)

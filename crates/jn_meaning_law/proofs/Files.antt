@@ -11,14 +11,15 @@ use Rattle.jn_points.specs.declared.program.Program.{Program}
 use Rattle.jn_points.specs.Lookup.{body_no, body_of, method_at}
 use Rattle.jn_points.specs.Regular.{BodyBelow, Regular}
 use Rattle.jn_places.specs.Placed.{PlacedFile}
-use Rattle.jn_classtable.specs.declared.head.ClassHead.{ClassHead}
-use Rattle.jn_classtable.specs.Extract.{heads}
-use Rattle.jn_classtable.specs.Inferred.{slots_by}
+use Rattle.jn_heads.specs.declared.head.ClassHead.{ClassHead}
+use Rattle.jn_heads.specs.Extract.{heads}
+use Rattle.jn_heads.specs.Inferred.{slots_by}
 use Rattle.jn_classtable.specs.Table.{program_with, table}
-use Rattle.jn_classtable.specs.Rows.{called, no_rows, t_rows}
+use Rattle.jn_declaration_rules.specs.Rows.{no_rows}
+use Rattle.jn_classtable.specs.Rows.{called, t_rows}
 use Rattle.jn_classtable.specs.RegularTable.{RegularTable}
 use Rattle.jn_classtable.proofs.Fits.{heads_fit}
-use Rattle.jn_classtable.proofs.Lists.{append_empty}
+use Rattle.jn_declaration_rules.proofs.Lists.{append_empty}
 use Rattle.jn_classtable.proofs.Whole.{table_regular}
 use Rattle.jn_lowering.specs.Bodies.{Source, bodies_of}
 use Rattle.jn_lowering.specs.BodyRows.{rows_of_bodies, rows_of_source}

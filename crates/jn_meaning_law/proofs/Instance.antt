@@ -15,6 +15,7 @@ use Rattle.jn_program_law.specs.FileProgram.{inferring, rows_of_files}
 use Rattle.jn_program_law.specs.FileSources.{sources as sources_of}
 use Rattle.jn_soundness.proofs.Finite.{points_each}
 use Rattle.jn_regular_law.proofs.Given.{EachAssigned, no_base_rows, written_before}
+use Rattle.jn_heap.specs.Values.{usual_limits}
 use Rattle.jn_heap.specs.Runs.{MainForm}
 use Rattle.jn_meaning.specs.Bodies.{Returned, tree}
 use Rattle.jn_meaning.proofs.Rows.{order}
@@ -98,5 +99,5 @@ main : MainForm P 1 1
 main = record { method = _; there = refl; is_main = refl; body = refl; slot = record { 0 = 0 }; info = _; param = refl; start = refl; written = refl; committed = refl }
 
 -- and its trees print 10
-prints_10 : tree P (sources_of files) [] 16777216 1 [] 1 ≡ record { end = Returned; text = signed_decimal (pos 10) ++ 10 ∷ [] }
+prints_10 : tree P (sources_of files) [] usual_limits 1 [] 1 ≡ record { end = Returned; text = signed_decimal (pos 10) ++ 10 ∷ [] }
 prints_10 = refl

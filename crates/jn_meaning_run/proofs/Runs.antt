@@ -10,13 +10,12 @@ use Rattle.jn_heap.specs.Runs.{MainForm, run, start_state, then_step}
 use Rattle.jn_accept.specs.Mains.{IsOnlyMain}
 use Rattle.jn_front.specs.declared.source.SourceFile.{SourceFile}
 use Rattle.jn_command.specs.declared.status.Status.{Status}
-use Rattle.jn_command.specs.declared.status.Status.TheVariants.{Stopped}
 use Rattle.jn_run.specs.Line.{end_line, end_status}
 use Rattle.jn_run.specs.Main.{IsToldBy, RunsTo}
-use Rattle.jn_meaning.specs.Agreement.{Agrees, Shallow, Tells}
-use Rattle.jn_meaning.specs.Bodies.{TreeEnd, Returned, Fault, TooLong, Told, tree}
+use Rattle.jn_meaning.specs.Agreement.{Agrees, Tells}
+use Rattle.jn_meaning.specs.Bodies.{TreeEnd, Returned, Fault, TooLong, Deep, Told, tree}
 use Rattle.jn_meaning.proofs.Running.{run_on}
-use Rattle.jn_meaning_run.specs.Written.{IsOver, IsWritten, RunsWrite}
+use Rattle.jn_meaning_run.specs.Written.{IsOver, IsRunOver, IsWritten, RunsWrite}
 
 same_number : (a b : ℕ) → Some a ≡ Some b → a ≡ b
 same_number a b e = cc
@@ -24,12 +23,15 @@ same_number a b e = cc
 same_point : (x y : Point) → Some x ≡ Some y → x ≡ y
 same_point x y e = cc
 
--- an exception of Java is neither the end of main nor Long
+-- an exception of Java is neither the end of main nor a limit
 not_done : (e : End) → end_status e ≡ end_status Arithmetic → e ≡ Done → ⊥
 not_done e faulted is = (let z : end_status Done ≡ end_status Arithmetic = subst (λ e. end_status e ≡ end_status Arithmetic) is faulted in cc)
 
 not_long : (e : End) → end_status e ≡ end_status Arithmetic → e ≡ Long → ⊥
 not_long e faulted is = (let z : end_status Long ≡ end_status Arithmetic = subst (λ e. end_status e ≡ end_status Arithmetic) is faulted in cc)
+
+not_deep : (e : End) → end_status e ≡ end_status Arithmetic → e ≡ DeepEnd → ⊥
+not_deep e faulted is = (let z : end_status DeepEnd ≡ end_status Arithmetic = subst (λ e. end_status e ≡ end_status Arithmetic) is faulted in cc)
 
 module _ (P : Program) (names : List (List ℕ)) where
   over_stays : (e : End) (u : State) (j : ℕ) → run P names (Ends e u) j ≡ Ends e u
@@ -71,29 +73,30 @@ module _ (files : List SourceFile) (P : Program) (names words : List (List ℕ))
         (t.2, t.3 ∙ (ap (λ o. o ++ end_line files kind t.0.span) h.3 ∙ ap (λ s. text ++ end_line files kind s) (ap (λ (x : Point). x.span) same ∙ h.4.2)))),
   )
   runs_over n TooLong text h over = (h.0, λ steps status bytes l r. (let t = ended Long h.1 h.0 steps status bytes h.2 l r in (t.2, t.3 ∙ ap (λ o. o ++ end_line files Long t.0.span) h.3)))
+  runs_over n Deep text h over = (h.0, λ steps status bytes l r. (let t = ended DeepEnd h.1 h.0 steps status bytes h.2 l r in (t.2, t.3 ∙ ap (λ o. o ++ end_line files DeepEnd t.0.span) h.3)))
   runs_over n end text h over = absurd over
 
   -- where a run is over, so are the trees
-  module _ (sources : List Source) (agrees : Agrees P names sources m b usual_limits words) (steps : ℕ) (status : Status) (bytes : List ℕ) (few : Shallow P names start steps) (moved : status ≡ Stopped → ⊥) where
+  module _ (sources : List Source) (agrees : Agrees P names sources m b usual_limits words) (steps : ℕ) (status : Status) (bytes : List ℕ) (over : IsRunOver status bytes) where
     abbrev Says : Told → Type 0
     Says t = IsWritten files t.end t.text status bytes
 
     abbrev meant : Told
-    meant = tree P sources names usual_limits.longest m words (steps + 1)
+    meant = tree P sources names usual_limits m words (steps + 1)
 
     faulted : (e : End) (u : State) → end_status e ≡ end_status Arithmetic → run P names (Goes start) steps ≡ Ends e u → IsToldBy files P (Ends e u) status bytes → Says meant
-    faulted e u f is t = subst Says (sym (agrees.faulted steps e u t.0.span few is (not_done e f) (not_long e f) (t.0, t.1, refl))) (t.2, t.3)
+    faulted e u f is t = subst Says (sym (agrees.faulted steps e u t.0.span is (not_done e f) (not_long e f) (not_deep e f) (t.0, t.1, refl))) (t.2, t.3)
 
     come : (x : Next) → run P names (Goes start) steps ≡ x → IsToldBy files P x status bytes → Says meant
-    come (Goes st) is t = absurd (moved t.0)
-    come (Ends Done u) is t = subst Says (sym (agrees.returned steps u few is)) (t.2, t.3)
+    come (Goes st) is t = absurd (over t.0 st.out t.1)
+    come (Ends Done u) is t = subst Says (sym (agrees.returned steps u is)) (t.2, t.3)
     come (Ends Arithmetic u) is t = faulted Arithmetic u refl is t
     come (Ends Index u) is t = faulted Index u refl is t
     come (Ends NegativeSize u) is t = faulted NegativeSize u refl is t
     come (Ends ClassCast u) is t = faulted ClassCast u refl is t
     come (Ends ArrayStore u) is t = faulted ArrayStore u refl is t
-    come (Ends DeepEnd u) is t = absurd (moved t.2)
-    come (Ends Long u) is t = absurd (moved t.2)
+    come (Ends DeepEnd u) is t = subst Says (sym (agrees.deep steps u is)) (t.2, t.3)
+    come (Ends Long u) is t = subst Says (sym (agrees.long steps u is)) (t.2, t.3)
     come StuckNext is t = absurd t
 
     pub trees_over : RunsTo files P names words steps status bytes → Says meant

@@ -38,7 +38,7 @@ construction_other P names longest call turns m s (SuperCall es at) rest w h i =
 construction_other P names longest call turns m s x rest w h i = refl
 
 -- a further frame that isn't one too many takes a unit of fuel
-pub enters : (run : Run) (left frames method : ℕ) (vs : List Value) (w : World) → frames < 256 → entered_in run (suc left) frames method vs w ≡ then_do (spends w) (λ u v. framed_in run (entered_in run left (frames + 1)) left method vs v)
+pub enters : (run : Run) (left frames method : ℕ) (vs : List Value) (w : World) → frames < run.deepest → entered_in run (suc left) frames method vs w ≡ then_do (spends w) (λ u v. framed_in run (entered_in run left (frames + 1)) left method vs v)
 enters run left frames method vs w lt =
-    let few : ltb frames spec.most_frames ≡ true = lt-ltb frames 256 lt in
+    let few : ltb frames run.deepest ≡ true = lt-ltb frames run.deepest lt in
     rw few (spent_first w (framed_in run (entered_in run left (frames + 1)) left method vs))

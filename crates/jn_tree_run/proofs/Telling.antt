@@ -3,7 +3,7 @@ use Rattle.std.proofs.Common.{◌≡◌, ℕ, List, [], Ok, Err, sym, ap, subst}
 use Rattle.std.specs.Prelude.{Option, Result as Answer, IfOk}
 use Rattle.jn_accept.specs.Mains.{IsMain}
 use Rattle.jn_base.specs.declared.infer.Infer.{Infer}
-use Rattle.jn_heap.specs.Values.{Value}
+use Rattle.jn_heap.specs.Values.{Limits, Value}
 use Rattle.jn_meaning.specs.Bodies.{Stuck, told, tree}
 use Rattle.jn_meaning.specs.Worlds.{Result, World}
 use Rattle.jn_meaning_law.specs.Safety.{NeverStuckByTrees}
@@ -40,5 +40,5 @@ ok_then (Err e) P Q f h = tt
 abbrev pub MeansAlways : Type 0
 MeansAlways = (infer : Infer) (files : List PlacedFile) → rows_of_files files ≡ [] → Regular (inferring infer files) → NoBaseRows (inferring infer files) → NeverStuckByTrees (inferring infer files) (sources files)
 
-pub never_stuck : MeansAlways → (files : List PlacedFile) (P : Program) → HasTrees files P → Regular P → NoBaseRows P → (m : ℕ) → IsMain P m → (names : List (List ℕ)) (longest : ℕ) (words : List (List ℕ)) (n : ℕ) → (tree P (sources files) names longest m words n).end ≡ Stuck → ⊥
-never_stuck law files P has = subst (λ (Q : Program). Regular Q → NoBaseRows Q → (m : ℕ) → IsMain Q m → (names : List (List ℕ)) (longest : ℕ) (words : List (List ℕ)) (n : ℕ) → (tree Q (sources files) names longest m words n).end ≡ Stuck → ⊥) (sym has.program) (λ regular typed m main names longest words n. law has.infer files has.rows regular typed m main.0 main.1 names longest words n)
+pub never_stuck : MeansAlways → (files : List PlacedFile) (P : Program) → HasTrees files P → Regular P → NoBaseRows P → (m : ℕ) → IsMain P m → (names : List (List ℕ)) (limits : Limits) (words : List (List ℕ)) (n : ℕ) → (tree P (sources files) names limits m words n).end ≡ Stuck → ⊥
+never_stuck law files P has = subst (λ (Q : Program). Regular Q → NoBaseRows Q → (m : ℕ) → IsMain Q m → (names : List (List ℕ)) (limits : Limits) (words : List (List ℕ)) (n : ℕ) → (tree Q (sources files) names limits m words n).end ≡ Stuck → ⊥) (sym has.program) (λ regular typed m main names limits words n. law has.infer files has.rows regular typed m main.0 main.1 names limits words n)

@@ -1,7 +1,7 @@
 -- With what a body begins, and what a method's body means in a run.
 use Rattle.std.specs.Prelude.{ℕ, ◌≡◌, ◌<◌, ◌^◌, List, [], Option, Some, length}
 use Rattle.jn_base.specs.declared.infer.Infer.{Infer}
-use Rattle.jn_heap.specs.Values.{Value, usual_limits}
+use Rattle.jn_heap.specs.Values.{Limits, Value, usual_limits}
 use Rattle.jn_lowering.specs.Bodies.{Source, at_entry}
 use Rattle.jn_lower_stmt.specs.Sources.{sources_of}
 use Rattle.jn_meaning.specs.Bodies as spec
@@ -30,11 +30,15 @@ framed_in run call turns m vs w = spec.in_frame run.program.now (sources_of run.
 
 -- a method's body in a further frame
 abbrev pub entered_in : Run → ℕ → ℕ → Caller
-entered_in run turns frames m vs w = spec.entered run.program.now (sources_of run.sources.now) run.names.now usual_limits.longest turns frames m vs w
+entered_in run turns frames m vs w = spec.entered run.program.now (sources_of run.sources.now) run.names.now usual_limits.longest run.deepest turns frames m vs w
+
+-- so many frames at most, and arrays and texts of the interpreter's longest length
+abbrev pub within_frames : ℕ → Limits
+within_frames deepest = record { deepest = deepest; longest = usual_limits.longest }
 
 -- what a main means, with these words and so many units of fuel
 abbrev pub told_in : Run → ℕ → List (List ℕ) → ℕ → spec.Told
-told_in run main words n = spec.tree run.program.now (sources_of run.sources.now) run.names.now usual_limits.longest main words n
+told_in run main words n = spec.tree run.program.now (sources_of run.sources.now) run.names.now (within_frames run.deepest) main words n
 
 -- no method has more parameters than a number of 32 bits counts
 abbrev pub ParamsFit : Program → Type 0

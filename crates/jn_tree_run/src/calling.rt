@@ -1,5 +1,5 @@
 //! Calls within each other: a method's body in a frame of its own (JLS 15.12.4.5).
-ghost use Rattle.std.specs.Prelude.{◌≡◌, ◌<◌, ◌+◌, None, Some, MatchOption, slice_get};
+ghost use Rattle.std.specs.Prelude.{◌≡◌, ◌<◌, ◌+◌, ◌^◌, None, Some, MatchOption, slice_get};
 ghost use Rattle.jn_lower_stmt.specs.Sources.{source_of as seen_source, sources_of};
 ghost use Rattle.jn_meaning.specs.Expressions.{Caller};
 ghost use Rattle.jn_scopes.specs.Views.{Few};
@@ -22,15 +22,13 @@ use jn_trees::Names;
 use std::alloc::Global;
 use std::mem::replace;
 
-/// The greatest number of frames.
-const MOST_FRAMES: u64 = 256;
-
-/// What doesn't change in a run: the program, the sources of its bodies, and the texts of its strings.
+/// What doesn't change in a run: the program, the sources of its bodies, the texts of its strings, and the greatest number of frames.
 #[derive(Clone, Copy)]
 pub struct Run<'a> {
     pub program: &'a IndexedProgram,
     pub sources: &'a [Source<'a>],
     pub names: &'a Names,
+    pub deepest: u64,
     pub alloc: Global,
 }
 
@@ -99,7 +97,7 @@ fn in_frame<F: Fn(usize, Vec<Value>, &mut World) -> Result<Option<Value>, Halt>>
     Ok(given(flow))
 }
 
-/// A method's body in a further frame, unless there are too many: that takes a unit of fuel. A loop makes at most so many turns, and
+/// A method's body in a further frame, unless there are more than the most: that takes a unit of fuel. A loop makes at most so many turns, and
 /// calls within each other are at most as many.
 pub fn enter(
     run: &Run,
@@ -113,7 +111,7 @@ pub fn enter(
     ensures { Means (entered_in run.now turns frames method values.items (world_of w.old)) result
         (world_of w.new) }
 {
-    if frames >= MOST_FRAMES {
+    if frames >= run.deepest {
         return Err(Halt::TooDeep);
     }
     if turns == 0 {
@@ -122,7 +120,7 @@ pub fn enter(
     w.spend()?;
     let left = turns - 1;
     let call = |method: usize, values: Vec<Value>, w: &mut World| -> Result<Option<Value>, Halt>
-        requires { Few run.now.program.now × (frames < 256) }
+        requires { Few run.now.program.now × (frames + 1 < 2 ^ 64) }
         ensures { Means
             (entered_in run.entry.now left (frames + 1) method values.items (world_of w.old)) result
             (world_of w.new) }

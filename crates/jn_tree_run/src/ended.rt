@@ -36,7 +36,7 @@ pub enum TreeEnd {
     Null(Span),
     /// A unit of fuel wasn't there.
     Out,
-    /// A call would make more than 256 frames.
+    /// A call would make one frame too many.
     Deep,
     /// The sink failed, and a prefix of the text went out.
     WriteFault,

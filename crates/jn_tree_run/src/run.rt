@@ -1,8 +1,7 @@
 //! The run of a main by its trees.
-ghost use Rattle.std.specs.Prelude.{◌≡◌, ◌≢◌, ◌≤◌, ◌∷◌, [], map, true, IfOk, Option};
+ghost use Rattle.std.specs.Prelude.{◌≡◌, ◌↔◌, ◌≢◌, ◌≤◌, ◌∷◌, [], map, true, IfOk, Option};
 ghost use Rattle.jn_accept.specs.Mains.{IsMain};
 ghost use Rattle.jn_heap.specs.Values as value;
-ghost use Rattle.jn_heap.specs.Values.{usual_limits};
 ghost use Rattle.jn_meaning.specs.Bodies as spec;
 ghost use Rattle.jn_outside.specs.Causes.{Rose};
 ghost use Rattle.jn_places.specs.PlacedView.{placed_file};
@@ -11,7 +10,7 @@ ghost use Rattle.jn_scopes.specs.Views.{Few};
 ghost use Rattle.jn_meaning.specs.Worlds as worlds;
 ghost use Rattle.jn_tree_world.specs.Outcomes.{Means};
 ghost use Rattle.jn_tree_run.specs.Ends.{Answers, EndsAs, IsTold};
-ghost use Rattle.jn_tree_run.specs.Beginning.{HasTrees, ParamsFit, told_in};
+ghost use Rattle.jn_tree_run.specs.Beginning.{HasTrees, ParamsFit, told_in, within_frames};
 
 use crate::calling::{Run, enter};
 use crate::ended::{TreeEnd, stopped};
@@ -27,12 +26,15 @@ use jn_trees::{FileTree, Names};
 use jn_typed::BaseTyped;
 use std::alloc::{AllocError, Global};
 
+/// The most parameters that a number of 32 bits counts.
+const MOST_PARAMETERS: usize = 0xFFFF_FFFF;
+
 /// Whether no method has more parameters than a number of 32 bits counts.
 fn counts_parameters(program: &Program) -> bool
-    ensures { result ≡ true → ParamsFit program.now }
+    ensures { (result ≡ true) ↔ ParamsFit program.now }
 {
     for method in program.methods.as_slice() {
-        if method.params.len() > 0xFFFF_FFFF {
+        if method.params.len() > MOST_PARAMETERS {
             return false;
         }
     }
@@ -41,7 +43,7 @@ fn counts_parameters(program: &Program) -> bool
 
 /// Whether all that names and members are looked up by has numbers of 32 bits, as in all that fits into memory.
 fn is_counted(base: &BaseTyped) -> bool
-    ensures { result ≡ true → Few base.now }
+    ensures { (result ≡ true) ↔ Few base.now }
 {
     counts_parameters(base.program())
 }
@@ -110,8 +112,8 @@ fn tell<K: Sink>(end: TreeEnd, text: &[u8], out: &mut K) -> TreeEnd
     }
 }
 
-/// Runs a main of base-typed files by the meaning of their trees, with these words and so many units of fuel: one is spent where a
-/// body is entered, and one at each turn of a loop. The text that it prints is written behind the run, and the end is that of the
+/// Runs a main of base-typed files by the meaning of their trees, with these words, so many frames at most and so many units of
+/// fuel: one is spent where a body is entered, and one at each turn of a loop. The text that it prints is written behind the run, and the end is that of the
 /// trees, by the definition `jn_meaning::specs::Bodies::tree`. Trees of such files always have a meaning.
 ///
 /// Behind `WriteFault`, which comes exactly where the sink's count of faults rose, a prefix of the text went out, and behind
@@ -123,13 +125,14 @@ pub fn tree_run<K: Sink>(
     names: &Names,
     main: MethodNo,
     words: &[Text],
+    frames: u64,
     fuel: u64,
     out: &mut K,
 ) -> TreeEnd
     requires program { HasTrees (map placed_file trees.now) base.now }
     requires main { IsMain base.now main.0 }
     ensures answer { Answers
-        (spec.tree base.now (sources (map placed_file trees.now)) names.now usual_limits.longest
+        (spec.tree base.now (sources (map placed_file trees.now)) names.now (within_frames frames)
         main.0 words.now fuel)
         (K.written out.old) (K.written out.new) result }
     ensures write { result ≡ TreeEnd.WriteFault → Rose (K.faults out.old) (K.faults out.new) }
@@ -147,6 +150,7 @@ pub fn tree_run<K: Sink>(
         program: base.indexed(),
         sources: &all,
         names,
+        deepest: frames,
         alloc,
     };
     match play(&run, main, words, fuel) {

@@ -11,7 +11,7 @@ pub enum Halt {
     NullAt(Span),
     /// A unit of fuel isn't there.
     FuelOut,
-    /// A call would make more than 256 frames.
+    /// A call would make one frame too many.
     TooDeep,
     /// A value, field or body that is needed isn't there. No base-typed program comes to it.
     Senseless,
