@@ -1,6 +1,6 @@
 mod Straight
 mod Calling
 mod Marks
-mod Chains
+pub mod Chains
 mod Constructing
 mod Kept

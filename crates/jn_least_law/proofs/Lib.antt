@@ -1,0 +1,6 @@
+mod Existing
+mod Slots
+mod Narrowing
+mod Pairs
+mod Tables
+mod Lowering
