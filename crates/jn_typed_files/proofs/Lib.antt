@@ -1,5 +1,4 @@
+pub mod Fitting
 pub mod TypeRows
 pub mod OneTyping
 pub mod Reporting
-pub mod RuleRows
-pub mod OneReport

@@ -1,3 +1,2 @@
 pub mod Phases
-pub mod Report
 pub mod Typing

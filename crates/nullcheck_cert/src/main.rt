@@ -38,14 +38,19 @@ fn tell_read(rt: &HostRuntime, fault: Option<&HostFault>) -> io::Result<()> {
     eprintln!(rt; "nullcheck_cert: can't {call} {name}: {reason}")
 }
 
-/// Says why a file can't be stored.
+/// Says why a file can't be stored, and what to remove where something stands in the way.
 fn tell_store(rt: &HostRuntime, fault: &TargetFault) -> io::Result<()> {
     let name = match &fault.name {
         Some(name) => name.as_str(),
         None => "a file",
     };
     let reason = fault.reason;
-    eprintln!(rt; "nullcheck_cert: can't write {name}: {reason}")
+    eprintln!(rt; "nullcheck_cert: can't write {name}: {reason}")?;
+    if let Some(left) = &fault.left {
+        let left = left.as_str();
+        eprintln!(rt; "nullcheck_cert: {left} stands in the way: remove it")?;
+    }
+    Ok(())
 }
 
 /// Says why the output can't be written, or the file that was to be stored.

@@ -1,4 +1,7 @@
 pub mod Readings
-pub mod Fitting
-pub mod Refusing
+pub mod Counted
+pub mod Empty
+pub mod Certified
+pub mod Accepted
+pub mod OneVerdict
 pub mod Answering

@@ -67,7 +67,7 @@ abbrev pub HoldsInputs : Option Holding → Option Command → Type 0
 HoldsInputs held None = Unit {0}
 HoldsInputs held (Some c) = AllHeld held (c.cert ∷ c.files)
 
--- the files that were read have a program of which the bytes that were read are a certificate, so no run of it dereferences null or gets stuck
+-- the files that were read have a program of which the bytes that were read are a certificate, so the files are safe
 pub record IsCertifiedOf (read : Reading) (c : Command) : Type 0 where
   pub cert : List ℕ
   pub files : List SourceFile

@@ -8,11 +8,11 @@ use Rattle.jn_command.specs.declared.status.Status.TheVariants.{Refused as Refus
 use Rattle.jn_command.specs.Shown.{shown}
 use Rattle.jn_front.specs.declared.source.SourceFile.{SourceFile}
 use Rattle.jn_reporters.specs.Reports.{plain_shown}
-use Rattle.nullcheck_cert_check.specs.Verdicts.{AreRefusal}
+use Rattle.jn_typed_files.specs.Phases.{IsPhase}
 
 -- the rows of the first phase that has any, as the plain reporter shows them
 pub record IsRefusalOf (infer : Infer) (files : List SourceFile) (status : Status) (bytes : List ℕ) : Type 0 where
   pub rows : List Row
-  pub are : AreRefusal infer files rows
+  pub are : IsPhase infer files rows
   pub ends : status ≡ RefusedStatus
   pub shows : bytes ≡ shown plain_shown files (RefusedReport rows)

@@ -1,20 +1,15 @@
 -- What is found of a certificate and files: the rows of the first phase that has any, what fails of the certificate, or that it holds.
-use Rattle.std.specs.Prelude.{ℕ, ◌≤◌, ◌<◌, ◌⊎◌, List, [], length}
+use Rattle.std.specs.Prelude.{ℕ, ◌≡◌, ◌≤◌, ◌<◌, List, [], length}
 use Rattle.jn_base.specs.declared.infer.Infer.{Infer}
 use Rattle.jn_base.specs.declared.place.Row.{Row}
-use Rattle.jn_trees.specs.declared.token.Token.{Token}
-use Rattle.jn_places.specs.Placed.{PlacedFile}
 use Rattle.jn_points.specs.declared.program.Program.{Program}
-use Rattle.jn_heap.specs.Runs.{NeverNull}
-use Rattle.jn_progress_law.specs.Progress.{NeverStuck}
-use Rattle.jn_diag.specs.Order.{IsOrderOf}
 use Rattle.jn_cert_law.specs.Certificate.{CertHolds}
 use Rattle.jn_cert_judge.specs.declared.fault.CertFault.{CertFault}
 use Rattle.jn_base.specs.declared.refusal.Fail.TheVariants.{Refused as RefusedFor}
 use Rattle.jn_cert.specs.Checking.{IsWhyRefused}
-use Rattle.jn_certify.specs.Certifying.{ArePhaseRows, IsTypedOf}
 use Rattle.jn_front.specs.declared.source.SourceFile.{SourceFile}
-use Rattle.jn_front.specs.Phases.{AreParsed, FrontRows}
+use Rattle.jn_typed_files.specs.Phases.{IsPhase, TypedProgramOf}
+use Rattle.jn_safe_files.specs.Safe.{IsSafe}
 use Rattle.nullcheck_cert_check.specs.Inputs.{cert_limit}
 use Rattle.nullcheck_cert_check.specs.declared.verdict.CertVerdict.{CertVerdict}
 use Rattle.nullcheck_cert_check.specs.declared.verdict.CertVerdict.TheVariants.{Refused, TooLarge, Faulty, Certified}
@@ -28,24 +23,7 @@ module _ (infer : Infer) (files : List SourceFile) where
   -- the program of files without rows of the phases before the rules, whose slots go by the members that are inferred
   pub record IsProgramOfFiles (P : Program) : Type 0 where
     pub names : List (List ℕ)
-    pub tokens : List (List Token)
-    pub trees : List PlacedFile
-    pub parsed : AreParsed files names tokens trees
-    pub of_trees : IsTypedOf infer trees P
-
-  -- the rows of classes and members, of bodies or of types, of files that have trees
-  pub record AreTreeRows (rows : List Row) : Type 0 where
-    pub names : List (List ℕ)
-    pub tokens : List (List Token)
-    pub trees : List PlacedFile
-    pub parsed : AreParsed files names tokens trees
-    pub of_trees : ArePhaseRows infer trees rows
-
-  -- the rows of the first phase that has any, in order
-  pub record AreRefusal (rows : List Row) : Type 0 where
-    pub broken : List Row
-    pub phase : FrontRows files broken ⊎ AreTreeRows broken
-    pub order : IsOrderOf broken rows
+    pub typed : TypedProgramOf infer files names P
 
   module _ (cert : List ℕ) where
     -- the certificate is too large
@@ -61,15 +39,15 @@ module _ (infer : Infer) (files : List SourceFile) where
       pub why : IsWhyRefused P cert (RefusedFor fault)
       pub never : CertHolds P cert → ⊥
 
-    -- it is one, so no run of the program dereferences null or gets stuck, whoever made the certificate
+    -- it is one, so the files are safe, whoever made the certificate
     pub record IsCertifiedBy (P : Program) : Type 0 where
       pub of_files : IsProgramOfFiles P
       pub certificate : IsCertificate P cert
-      pub never_null : NeverNull P
-      pub never_stuck : NeverStuck P
+      pub safe : IsSafe infer files
+      pub same : safe.P ≡ P
 
     abbrev pub IsVerdict : CertVerdict → Type 0
-    IsVerdict (Refused rows) = AreRefusal rows
+    IsVerdict (Refused rows) = IsPhase infer files rows
     IsVerdict TooLarge = IsTooLarge
     IsVerdict (Faulty P fault) = IsFaultyBy P fault
     IsVerdict (Certified accepted) = IsCertifiedBy accepted.0
@@ -93,3 +71,22 @@ refused_rows (Refused rows) = rows
 refused_rows TooLarge = []
 refused_rows (Faulty P fault) = []
 refused_rows (Certified accepted) = []
+
+-- two verdicts say the same: the same rows, that the certificate is too large, the same fault of one program, or the same program that is certified
+abbrev pub IsSameVerdict : CertVerdict → CertVerdict → Type 0
+IsSameVerdict (Refused rows) (Refused others) = rows ≡ others
+IsSameVerdict (Refused rows) TooLarge = ⊥
+IsSameVerdict (Refused rows) (Faulty Q other) = ⊥
+IsSameVerdict (Refused rows) (Certified other) = ⊥
+IsSameVerdict TooLarge (Refused others) = ⊥
+IsSameVerdict TooLarge TooLarge = Unit {0}
+IsSameVerdict TooLarge (Faulty Q other) = ⊥
+IsSameVerdict TooLarge (Certified other) = ⊥
+IsSameVerdict (Faulty P fault) (Refused others) = ⊥
+IsSameVerdict (Faulty P fault) TooLarge = ⊥
+IsSameVerdict (Faulty P fault) (Faulty Q other) = (P ≡ Q) × (fault ≡ other)
+IsSameVerdict (Faulty P fault) (Certified other) = ⊥
+IsSameVerdict (Certified accepted) (Refused others) = ⊥
+IsSameVerdict (Certified accepted) TooLarge = ⊥
+IsSameVerdict (Certified accepted) (Faulty Q other) = ⊥
+IsSameVerdict (Certified accepted) (Certified other) = accepted.0 ≡ other.0

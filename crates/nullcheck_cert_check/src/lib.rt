@@ -5,11 +5,12 @@
 #![tactic(auto)]
 
 pub mod certificate;
+mod certifying;
 pub mod command;
 mod inputs;
+pub mod law;
 mod lines;
 mod outputs;
-mod phases;
 mod reason;
 pub mod top;
 pub mod verdict;

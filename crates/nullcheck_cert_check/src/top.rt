@@ -10,10 +10,10 @@ ghost use Rattle.nullcheck_cert_check.specs.Inputs.{IsCertRead};
 ghost use Rattle.nullcheck_cert_check.specs.Words.{asked_of, command};
 ghost use Rattle.nullcheck_cert_check.specs.Answer.{Answers, AnswersInputs, Certified, Completes, HoldsInputs, ReadsNothing, Starts, Uncertified};
 
+use crate::certifying::find;
 use crate::command::read_command;
 use crate::inputs::{Inputs, read_inputs};
 use crate::outputs::{MOST_FILES, number_output, verdict_output};
-use crate::phases::find;
 use jn_base::{Fail, Infer};
 use jn_command::Status;
 use jn_command::output::{finish, write};
@@ -115,8 +115,8 @@ pub fn check<R: Threads + Sync, F: Files, K: Sink>(
     ensures answer { Answers (reading (F.held files.old) (F.gave files.old) (F.gave files.new))
         (asked_of (codes "check") (map string_bytes words.now)) (K.written out.old)
         (K.written out.new) result }
-    // Status 0: the files that were read have a program of which the bytes that were read are a certificate, whoever made it; no run
-    // of it dereferences null or gets stuck.
+    // Status 0: the files that were read have a program of which the bytes that were read are a certificate, whoever made it; so the
+    // files are safe, in the sense in which accepted files are: by runs, by the meaning of their trees, and for every caller.
     ensures certified { result ≡ Status.Ok
         → Certified (reading (F.held files.old) (F.gave files.old) (F.gave files.new))
         (asked_of (codes "check") (map string_bytes words.now)) }

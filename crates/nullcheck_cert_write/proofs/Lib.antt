@@ -1,2 +1,3 @@
+pub mod Solving
 pub mod Finding
 pub mod Telling

@@ -18,8 +18,8 @@ use Rattle.jn_command.specs.Answer.{Finished, Reading}
 use Rattle.jn_command.specs.Outputs.{IfMade}
 use Rattle.jn_command.specs.Reports.{status_of}
 use Rattle.jn_command.specs.Shown.{shown}
-use Rattle.jn_cert_make.specs.declared.made.CertMade.{CertMade}
-use Rattle.jn_cert_make.specs.declared.made.CertMade.TheVariants.{Refused, Rejected, TooLarge, Made}
+use Rattle.nullcheck_cert_write.specs.declared.made.CertMade.{CertMade}
+use Rattle.nullcheck_cert_write.specs.declared.made.CertMade.TheVariants.{Refused, Rejected, TooLarge, Made}
 use Rattle.nullcheck_cert_check.specs.Told.{IsRefusalOf}
 use Rattle.nullcheck_cert_check.specs.Words.{Command, command, usage_line}
 use Rattle.nullcheck_cert_write.specs.Answer.{Answers, AnswersFiles, IsTold, Outcome, Tells}

@@ -15,8 +15,8 @@ use Rattle.jn_command.specs.declared.status.Status.{Status}
 use Rattle.jn_command.specs.declared.status.Status.TheVariants.{Ok, Rejected as RejectedStatus, Refused as RefusedStatus, RunFault, Stopped, ReadFault, WriteFault, OutOfMemory, Usage}
 use Rattle.jn_command.specs.Answer.{AreFiles, Reading}
 use Rattle.jn_command.specs.Shown.{shown}
-use Rattle.jn_cert_make.specs.declared.made.CertMade.{CertMade}
-use Rattle.jn_cert_make.specs.declared.made.CertMade.TheVariants.{Refused, Rejected, TooLarge, Made}
+use Rattle.nullcheck_cert_write.specs.declared.made.CertMade.{CertMade}
+use Rattle.nullcheck_cert_write.specs.declared.made.CertMade.TheVariants.{Refused, Rejected, TooLarge, Made}
 use Rattle.nullcheck_cert_check.specs.Words.{Command, usage_line}
 use Rattle.nullcheck_cert_write.specs.Verdicts.{IsVerdict}
 

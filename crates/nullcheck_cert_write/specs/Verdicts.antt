@@ -3,11 +3,12 @@ use Rattle.std.specs.Prelude.{List, []}
 use Rattle.jn_base.specs.declared.infer.Infer.{Infer}
 use Rattle.jn_base.specs.declared.place.Row.{Row}
 use Rattle.jn_points.specs.declared.program.Program.{Program}
-use Rattle.jn_cert_make.specs.declared.made.CertMade.{CertMade}
-use Rattle.jn_cert_make.specs.declared.made.CertMade.TheVariants.{Refused, Rejected, TooLarge, Made}
-use Rattle.jn_cert_make.specs.Making.{IsMadeOf}
+use Rattle.nullcheck_cert_write.specs.declared.made.CertMade.{CertMade}
+use Rattle.nullcheck_cert_write.specs.declared.made.CertMade.TheVariants.{Refused, Rejected, TooLarge, Made}
+use Rattle.nullcheck_cert_write.specs.Making.{IsMadeOf}
 use Rattle.jn_front.specs.declared.source.SourceFile.{SourceFile}
-use Rattle.nullcheck_cert_check.specs.Verdicts.{AreRefusal, IsProgramOfFiles}
+use Rattle.jn_typed_files.specs.Phases.{IsPhase}
+use Rattle.nullcheck_cert_check.specs.Verdicts.{IsProgramOfFiles}
 
 module _ (infer : Infer) (files : List SourceFile) where
   -- what the files' program comes to: rows of the rules under the least signature, or a certificate that holds
@@ -18,7 +19,7 @@ module _ (infer : Infer) (files : List SourceFile) where
 
   -- the rows of the first phase that has any, in order, or what the files' program comes to
   abbrev pub IsVerdict : CertMade → Type 0
-  IsVerdict (Refused rows) = AreRefusal infer files rows
+  IsVerdict (Refused rows) = IsPhase infer files rows
   IsVerdict (Rejected rows) = IsSolved (Rejected rows)
   IsVerdict TooLarge = IsSolved TooLarge
   IsVerdict (Made cert) = IsSolved (Made cert)

@@ -4,8 +4,10 @@
 //! each answer means.
 #![tactic(auto)]
 
+pub mod made;
+pub mod making;
 mod outputs;
-pub mod phases;
+mod tables;
 pub mod top;
 
 pub use top::write_cert;

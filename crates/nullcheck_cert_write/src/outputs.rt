@@ -10,12 +10,12 @@ ghost use Rattle.jn_front.specs.Counted.{ReadsFit};
 ghost use Rattle.jn_front.specs.Files.{AreReads, most_files, names_of};
 ghost use Rattle.nullcheck_cert_check.specs.Told.{IsRefusalOf};
 ghost use Rattle.jn_reporters.specs.Reports.{plain_shown};
-ghost use Rattle.jn_cert_make.specs.declared.made.CertMade.TheVariants.{Made};
+ghost use Rattle.nullcheck_cert_write.specs.declared.made.CertMade.TheVariants.{Made};
 ghost use Rattle.nullcheck_cert_write.specs.Answer.{AnswersFiles, outcome};
 ghost use Rattle.nullcheck_cert_write.specs.Verdicts.{IsVerdict, rows_of};
 
+use crate::made::CertMade;
 use jn_base::{OutOfMemory, Seq};
-use jn_cert_make::CertMade;
 use jn_command::output::{Output, finish, write};
 use jn_command::show::{show, show_number};
 use jn_command::{Report, Status};

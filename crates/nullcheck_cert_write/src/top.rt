@@ -9,8 +9,8 @@ ghost use Rattle.jn_front.specs.Files.{AllHeld, AreReads, StartsOnly, most_files
 ghost use Rattle.nullcheck_cert_check.specs.Words.{asked_of, command};
 ghost use Rattle.nullcheck_cert_write.specs.Answer.{Answers, AnswersFiles, HoldsFiles, Starts, outcome};
 
+use crate::making::find;
 use crate::outputs::{MOST_FILES, number_output, tell};
-use crate::phases::find;
 use jn_base::{Fail, Infer};
 use jn_command::Status;
 use jn_command::output::{finish, write};

@@ -1,6 +1,6 @@
 use Rattle.std.proofs.Common.{map, refl, ◌∙◌, ap, subst, Ok}
 use Rattle.jn_places.specs.PlacedView.{placed_file}
-use Rattle.jn_classtable.specs.Inferred.{Tabled}
+use Rattle.jn_heads.specs.Inferred.{Tabled}
 use Rattle.jn_front.specs.Files.{files_of_reads}
 use Rattle.jn_program.specs.Lowered.{IsRefusedFor}
 use Rattle.jn_typed_files.proofs.Reporting.{lowering_made}

@@ -9,8 +9,8 @@ use Rattle.jn_command.specs.Shown.{shown}
 use Rattle.jn_command.proofs.Showing.{length_is, name_there, number_text}
 use Rattle.jn_reporters.specs.Reports.{plain_shown}
 use Rattle.jn_reporters.specs.Sheet.{Taken}
-use Rattle.nullcheck_cert_check.proofs.Refusing.{many_refused}
-use Rattle.nullcheck_cert_check.proofs.Fitting.{map_length}
+use Rattle.jn_typed_files.proofs.Reporting.{too_many}
+use Rattle.std.proofs.lemmas.List.{length-map}
 use Rattle.nullcheck_cert_check.proofs.outputs.number_output.Goals as goal
 
 pub returns : goal.returns
@@ -21,12 +21,12 @@ returns c infer files named =
     let there = name_there c.args.names.now 64 c.index-names-64.result c.as_str.result.now c.requires.many c.index-names-64.is c.as_str.ensures.value in
     let long = length_is files in
     let long_names = ap length named in
-    let long_words = map_length c.args.names.now in
+    let long_words = length-map c.args.names.now string_bytes in
     let many = c.requires.many in
     let text = number_text plain_shown plain_shown c.new.result.rows files names c.as_str.result.now report shower.rows shower.verdict refl named there refl c.in_ok-shower.ensures.rows c.in_ok-shower.ensures.verdict in
     record {
       rows = row_at most_files B1 ∷ [];
-      are = many_refused infer files (omega (arith, many, long, long_names, long_words));
+      are = too_many infer files (row_at most_files B1 ∷ []) (omega (arith, many, long, long_names, long_words)) refl;
       ends = refl;
       shows = c.of_vec.ensures ∙ (c.in_ok-text.ensures.items ∙ (c.bytes.ensures ∙ (text ∙ ap (λ (t : Taken). shown (shown_behind t.rows plain_shown) files report) c.new.ensures)));
     }

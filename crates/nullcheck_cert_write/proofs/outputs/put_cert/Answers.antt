@@ -1,6 +1,6 @@
 use Rattle.std.proofs.Common.{sym, refl, ◌∙◌}
 use Rattle.jn_command.specs.declared.status.Status.TheVariants.{Ok}
-use Rattle.jn_cert_make.specs.declared.made.CertMade.TheVariants.{Made}
+use Rattle.nullcheck_cert_write.specs.declared.made.CertMade.TheVariants.{Made}
 use Rattle.nullcheck_cert_write.specs.Answer.{outcome}
 use Rattle.nullcheck_cert_write.proofs.Telling.{finished}
 use Rattle.nullcheck_cert_write.proofs.outputs.put_cert.Goals as goal

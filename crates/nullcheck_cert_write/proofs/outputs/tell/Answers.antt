@@ -1,5 +1,5 @@
 use Rattle.std.proofs.Common.{refl, subst}
-use Rattle.jn_cert_make.specs.declared.made.CertMade.TheVariants.{Refused, Rejected, TooLarge}
+use Rattle.nullcheck_cert_write.specs.declared.made.CertMade.TheVariants.{Refused, Rejected, TooLarge}
 use Rattle.nullcheck_cert_write.specs.Answer.{outcome}
 use Rattle.nullcheck_cert_write.specs.Verdicts.{IsVerdict}
 use Rattle.nullcheck_cert_write.proofs.Telling.{by_made, told_large, told_refused, told_rejected}

@@ -1,5 +1,0 @@
-use Rattle.jn_cert_make.proofs.Solving.{AreFirst}
-use Rattle.jn_cert_make.proofs.tables.least_tables.Given as goal
-
-abbrev pub invariant-loop-body : goal.invariant-loop-body
-invariant-loop-body l = AreFirst l.program l.sig l.body l.tables.items

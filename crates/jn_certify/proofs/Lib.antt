@@ -1,4 +1,0 @@
-pub mod Types
-pub mod Empty
-pub mod Counted
-pub mod OneFound
