@@ -6,7 +6,7 @@ use Rattle.jn_reasons_law.specs.declared.item.Item.{Item}
 use Rattle.jn_reasons_law.specs.declared.item.Place.{Place}
 use Rattle.jn_reasons_law.specs.Sources.{IsOneOf}
 use Rattle.jn_chain.specs.Search.{Ground, IsSeen, level_at, IsNext, IsReached, IsNextLevel, Reaches, IsWithin, AreLevels, AreAllLevels}
-use Rattle.jn_chain.proofs.Members.{seen_where}
+use Rattle.jn_chain.proofs.Members.{once_more, seen_where}
 
 abbrev Source : Type 0
 Source = Option Item
@@ -20,6 +20,7 @@ module _ (G : Ground) where
     all = λ m y z p lt. absurd (omega (arith, lt));
     endless = λ m lt. absurd (omega (arith, lt));
     reached = λ m z lt. absurd (omega (arith, lt));
+    once = (λ m. m, tt);
   }
 
   -- one level more
@@ -76,6 +77,7 @@ module _ (G : Ground) where
       all = all_more;
       endless = endless_more;
       reached = reached_more;
+      once = once_more ls next L.once N.once;
     }
 
     at_end : (m : ℕ) → m ≤ n → IsOneOf None (level_at ls m) → ⊥

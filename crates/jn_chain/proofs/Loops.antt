@@ -8,7 +8,7 @@ use Rattle.jn_reasons_law.specs.Chains.{HasChain}
 use Rattle.jn_reasons.specs.declared.causes.Cause.{Cause}
 use Rattle.jn_reasons.specs.Listed.{IsListed, cause_at}
 use Rattle.jn_chain.specs.Search.{Ground, IsSeen, level_at, IsLeastAmong, IsUnwanted, IsWanted, IsPushedIf, IsAdded, AreAdded, IsNext, AreCauses, Leads, IsNextLevel, AreLeading, AreLevels, AreAllLevels, IsLeastStep}
-use Rattle.jn_chain.proofs.Members.{one_left, pushed, push_cases, front_cases, front_kept, front_new, at_place, causes_cases, causes_kept, causes_new, levels_cases, seen_at}
+use Rattle.jn_chain.proofs.Members.{one_left, pushed, push_cases, front_cases, front_kept, front_new, new_pushed, at_place, causes_cases, causes_kept, causes_new, levels_cases, seen_at}
 use Rattle.jn_chain.proofs.Leveling.{dry, item_among, levels_start, levels_more, levels_end}
 use Rattle.jn_chain.proofs.Walks.{chain_reaches}
 
@@ -30,8 +30,9 @@ seen_there z xs i l v lt e f h = seen_at z xs i lt (subst (IsOneOf z) (level_is 
 pub not_seen : (z : Source) (xs : List (List Source)) (i : ℕ) (l v : List Source) → i < length xs → v ≡ l → l ≡ slice_index_or xs i l → (IsOneOf z v → ⊥) → (IsSeen z (take i xs) → ⊥) → IsSeen z (take (i + 1) xs) → ⊥
 not_seen z xs i l v lt e f g k h = ⊎_elim (λ a. k a) (λ m. g (subst (IsOneOf z) (sym (level_is xs i l v lt e f)) m)) (levels_cases z xs i lt h)
 
-pub added_new : (seen : List (List Source)) (z : Source) (old new : List Source) → new ≡ old ++ z ∷ [] → IsAdded seen z old new
-added_new seen z old new e = subst (IsAdded seen z old) (sym e) (record { kept = λ w h. one_left w old (z ∷ []) h; there = inr (pushed z old); from = λ w h. push_cases w z old h })
+pub added_new : (seen : List (List Source)) (z : Source) (old new : List Source) → (IsSeen z seen → ⊥) → (IsOneOf z old → ⊥) → new ≡ old ++ z ∷ [] → IsAdded seen z old new
+added_new seen z old new unseen absent e =
+    subst (IsAdded seen z old) (sym e) (record { kept = λ w h. one_left w old (z ∷ []) h; there = inr (pushed z old); from = λ w h. push_cases w z old h; once = λ n. new_pushed seen z old unseen absent n })
 
 pub added_more : (seen : List (List Source)) (causes : List Cause) (i : ℕ) (d : Cause) (old mid new : List Source) → i < length causes → AreAdded seen (take i causes) old mid → IsAdded seen (slice_index_or causes i d).source mid new → AreAdded seen (take (i + 1) causes) old new
 added_more seen causes i d old mid new lt A B = record {
@@ -44,6 +45,7 @@ added_more seen causes i d old mid new lt A B = record {
       (λ a. ⊎_elim (λ m. inl m) (λ p. inr (p.0, causes_kept (cause_at p.0 w) causes i d lt p.1)) (A.from w a))
       (λ e. inr ((slice_index_or causes i d).place, subst (λ (z : Source). IsListed (cause_at (slice_index_or causes i d).place z) (take (i + 1) causes)) (sym e) (causes_new causes i d lt)))
       (B.from w h);
+  once = λ n. B.once (A.once n);
 }
 
 module _ (G : Ground) where
@@ -57,6 +59,7 @@ module _ (G : Ground) where
         (λ a. let r = N.reached z a in record { from = r.from; place = r.place; among = front_kept r.from last i d lt r.among; next = r.next })
         (λ p. record { from = slice_index_or last i d; place = p.0; among = front_new last i d lt; next = C.none_else p.0 z (subst (IsListed (cause_at p.0 z)) e p.1) })
         (A.from z h);
+    once = A.once N.once;
   }
 
   pub leading_more : (level wanted : List Source) (i : ℕ) (d : Source) (causes listed : List Cause) (old new : List Source) → i < length level → AreCauses G (slice_index_or level i d) causes → listed ≡ causes → AreLeading G (take i level) wanted old → IsPushedIf listed wanted (slice_index_or level i d) old new → AreLeading G (take (i + 1) level) wanted new

@@ -1,12 +1,14 @@
 -- Members of lists that grow by one item, and of the front of a list that a loop has passed.
-use Rattle.std.proofs.Common.{◌≡◌, ℕ, zero, suc, ◌+◌, ◌<◌, ◌≤◌, ◌⊎◌, inl, inr, ⊎_elim, List, [], ◌∷◌, ◌++◌, length, take, Option, refl, sym, ap, subst, arith}
+use Rattle.std.proofs.Common.{◌≡◌, ℕ, zero, suc, ◌+◌, ◌<◌, ◌≤◌, ◌⊎◌, inl, inr, ⊎_elim, List, [], ◌∷◌, ◌++◌, length, take, Option, refl, sym, ap, subst, arith, append-nil}
 use Rattle.std.specs.Prelude.{slice_index_or}
+use Rattle.std.specs.List.{flat_map}
+use Rattle.std.proofs.lemmas.Grind.{flat_map-append}
 use Rattle.std.proofs.lemmas.List.{take_more}
 use Rattle.jn_reasons_law.specs.declared.item.Item.{Item}
 use Rattle.jn_reasons_law.specs.Sources.{IsOneOf}
 use Rattle.jn_reasons.specs.declared.causes.Cause.{Cause}
 use Rattle.jn_reasons.specs.Listed.{IsListed}
-use Rattle.jn_chain.specs.Search.{IsSeen, level_at}
+use Rattle.jn_chain.specs.Search.{AreNew, AreOnce, IsSeen, level_at}
 
 abbrev Source : Type 0
 Source = Option Item
@@ -35,6 +37,34 @@ push_cases z y xs h = ⊎_elim (λ a. inl a) (λ c. inr (alone c)) (one_cases z 
     alone : IsOneOf z (y ∷ []) → z ≡ y
     alone (inl e) = e
     alone (inr m) = absurd m
+
+-- ---- each once
+
+pub once_append : (xs ys : List Source) → AreOnce xs → AreOnce ys → ((z : Source) → IsOneOf z xs → IsOneOf z ys → ⊥) → AreOnce (xs ++ ys)
+once_append [] ys h g apart = g
+once_append (x ∷ xs) ys h g apart = (λ m. ⊎_elim (λ a. h.0 a) (λ b. apart x (inl refl) b) (one_cases x xs ys m), once_append xs ys h.1 g (λ z a b. apart z (inr a) b))
+
+-- of all levels, one that stands there is seen
+pub all_seen : (z : Source) (ls : List (List Source)) → IsOneOf z (flat_map (λ (l : List Source). l) ls) → IsSeen z ls
+all_seen z [] h = h
+all_seen z (l ∷ ls) h = ⊎_elim (λ a. inl a) (λ b. inr (all_seen z ls b)) (one_cases z l (flat_map (λ (l : List Source). l) ls) h)
+
+-- a level more, of which none is seen
+pub once_more : (ls : List (List Source)) (next : List Source) → AreOnce (flat_map (λ (l : List Source). l) ls) → AreNew ls next → AreOnce (flat_map (λ (l : List Source). l) (ls ++ next ∷ []))
+once_more ls next h n =
+    subst AreOnce (sym (flat_map-append (λ (l : List Source). l) ls (next ∷ [])))
+    (once_append (flat_map (λ (l : List Source). l) ls) (next ++ []) h (subst AreOnce (sym (append-nil next)) n.0)
+    (λ z a b. n.1 z (subst (IsOneOf z) (append-nil next) b) (all_seen z ls a)))
+
+pub new_pushed : (seen : List (List Source)) (z : Source) (old : List Source) → (IsSeen z seen → ⊥) → (IsOneOf z old → ⊥) → AreNew seen old → AreNew seen (old ++ z ∷ [])
+new_pushed seen z old unseen absent n = (
+  once_append old (z ∷ []) n.0 (λ m. m, tt) (λ w a b. absent (subst (λ (y : Source). IsOneOf y old) (alone w b) a)),
+  λ w m s. ⊎_elim (λ a. n.1 w a s) (λ e. unseen (subst (λ (y : Source). IsSeen y seen) e s)) (push_cases w z old m),
+)
+  where
+    alone : (w : Source) → IsOneOf w (z ∷ []) → w ≡ z
+    alone w (inl e) = e
+    alone w (inr m) = absurd m
 
 pub front_cases : (z : Source) (xs : List Source) (i : ℕ) (d : Source) → i < length xs → IsOneOf z (take (i + 1) xs) → IsOneOf z (take i xs) ⊎ (z ≡ slice_index_or xs i d)
 front_cases z xs i d lt h = push_cases z (slice_index_or xs i d) (take i xs) (subst (IsOneOf z) (take_more xs i d lt) h)

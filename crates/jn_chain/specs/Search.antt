@@ -1,5 +1,6 @@
 -- Searching for the first chain, by levels: what items come from, the text among it (None); how far that is from the text; and the least way to it.
 use Rattle.std.specs.Prelude.{ℕ, zero, suc, ◌+◌, ◌-◌, ◌≡◌, ◌<◌, ◌≤◌, ◌⊎◌, true, false, List, [], ◌∷◌, ◌++◌, length, Option, Some, None, slice_index_or}
+use Rattle.std.specs.List.{flat_map}
 use Rattle.jn_quals.specs.Qualifier.{Qualifier}
 use Rattle.jn_points.specs.declared.program.Program.{Program}
 use Rattle.jn_env.specs.Order.{Table}
@@ -68,17 +69,28 @@ pub record IsWanted (causes : List Cause) (wanted : List (Option Item)) : Type 0
 abbrev pub IsPushedIf : List Cause → List (Option Item) → Option Item → List (Option Item) → List (Option Item) → Type 0
 IsPushedIf causes wanted z old new = (IsUnwanted causes wanted × (new ≡ old)) ⊎ (IsWanted causes wanted × (new ≡ old ++ z ∷ []))
 
--- the source is seen, or new; and nothing else is new
+-- no source stands twice
+abbrev pub AreOnce : List (Option Item) → Type 0
+AreOnce [] = Unit {0}
+AreOnce (z ∷ zs) = (IsOneOf z zs → ⊥) × AreOnce zs
+
+-- no source stands twice in a list, and none of it is seen
+abbrev pub AreNew : List (List (Option Item)) → List (Option Item) → Type 0
+AreNew seen list = AreOnce list × ((w : Option Item) → IsOneOf w list → IsSeen w seen → ⊥)
+
+-- the source is seen, or new; nothing else is new, and what is new stands once
 pub record IsAdded (seen : List (List (Option Item))) (z : Option Item) (old new : List (Option Item)) : Type 0 where
   pub kept : (w : Option Item) → IsOneOf w old → IsOneOf w new
   pub there : IsSeen z seen ⊎ IsOneOf z new
   pub from : (w : Option Item) → IsOneOf w new → IsOneOf w old ⊎ (w ≡ z)
+  pub once : AreNew seen old → AreNew seen new
 
 -- of each of the causes
 pub record AreAdded (seen : List (List (Option Item))) (causes : List Cause) (old new : List (Option Item)) : Type 0 where
   pub kept : (w : Option Item) → IsOneOf w old → IsOneOf w new
   pub there : (c : Cause) → IsListed c causes → IsSeen c.source seen ⊎ IsOneOf c.source new
   pub from : (w : Option Item) → IsOneOf w new → IsOneOf w old ⊎ ((p : Place) × IsListed (cause_at p w) causes)
+  pub once : AreNew seen old → AreNew seen new
 
 module _ (G : Ground) where
   abbrev pub IsThere : Option Item → Type 0
@@ -109,10 +121,11 @@ module _ (G : Ground) where
     pub among : IsOneOf from list
     pub next : IsNext from place z
 
-  -- the next level: all that the items of the last one come from, as far as it isn't seen
+  -- the next level: all that the items of the last one come from, as far as it isn't seen, each once
   pub record IsNextLevel (seen : List (List (Option Item))) (last next : List (Option Item)) : Type 0 where
     pub all : (x z : Option Item) (p : Place) → IsOneOf x last → IsNext x p z → IsSeen z seen ⊎ IsOneOf z next
     pub reached : (z : Option Item) → IsOneOf z next → IsReached last z
+    pub once : AreNew seen next
 
   -- those of a level that come from what is wanted
   pub record AreLeading (level wanted marks : List (Option Item)) : Type 0 where
@@ -132,13 +145,14 @@ module _ (G : Ground) where
       pub within : level ≤ m
       pub among : IsOneOf z (level_at levels level)
 
-    -- levels 0 to n: the item, what it comes from, and so on, each at its first; the text isn't before level n
+    -- levels 0 to n: the item, what it comes from, and so on, each at its first and nowhere else; the text isn't before level n
     pub record AreLevels (x : Item) (n : ℕ) : Type 0 where
       pub long : length levels ≡ n + 1
       pub first : level_at levels 0 ≡ Some x ∷ []
       pub all : (m : ℕ) (y z : Option Item) (p : Place) → m < n → IsOneOf y (level_at levels m) → IsNext y p z → IsWithin (m + 1) z
       pub endless : (m : ℕ) → m < n → IsOneOf None (level_at levels m) → ⊥
       pub reached : (m : ℕ) (z : Option Item) → m < n → IsOneOf z (level_at levels (m + 1)) → IsReached (level_at levels m) z
+      pub once : AreOnce (flat_map (λ level. level) levels)
 
     -- those of level i that are j steps away from the text
     pub record AreMarked (i j : ℕ) (marks : List (Option Item)) : Type 0 where

@@ -59,8 +59,8 @@ fn next_level<O: Origins>(
     Ok(next)
 }
 
-/// The levels from an item on, to the first that has the text. An item that has a chain always has a next level until then; and each level has an
-/// item that no other has, so memory ends long before 2^32 levels.
+/// The levels from an item on, to the first that has the text. An item that has a chain always has a next level until then; and no source stands
+/// twice in them, so there are at most as many levels as sources.
 pub(crate) fn find_levels<O: Origins>(
     alloc: Global,
     origins: &O,
@@ -72,7 +72,8 @@ pub(crate) fn find_levels<O: Origins>(
 {
     let mut levels = Vec::new(alloc);
     push(&mut levels, only(alloc, Some(item))?)?;
-    for at in 0..u32::MAX as usize {
+    let mut at = 0;
+    while at < levels.len() {
         let next = next_level(alloc, origins, &levels, levels[at].as_slice())?;
         if is_none(&next) {
             unreachable!();
@@ -82,6 +83,7 @@ pub(crate) fn find_levels<O: Origins>(
         if ends {
             return Ok(levels);
         }
+        at += 1;
     }
-    Err(OutOfMemory)
+    unreachable!()
 }
