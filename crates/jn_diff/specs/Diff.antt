@@ -3,6 +3,7 @@ use Rattle.std.specs.Prelude.{ℕ, ◌+◌, ◌-◌, ◌==◌, Bool, cond, bytes
 use Rattle.std.specs.List.{flat_map}
 use Rattle.jn_diff.specs.declared.line.Line.{Line}
 use Rattle.jn_diff.specs.Lines.{is_there, paired}
+use Rattle.jn_diff.specs.Names.{side_name}
 use Rattle.jn_diff.specs.Hunks.{Hunk, hunks, is_changed}
 
 -- its last byte is a line feed
@@ -48,7 +49,7 @@ hunks_text back [] = []
 hunks_text back (h ∷ hs) = hunk_text back h ++ hunks_text (back + added_count h.lines) hs
 
 abbrev pub names_text : List ℕ → List ℕ
-names_text name = codes "--- a/" ++ name ++ codes "\n+++ b/" ++ name ++ codes "\n"
+names_text name = codes "--- " ++ side_name (codes "a/") name ++ codes "\n+++ " ++ side_name (codes "b/") name ++ codes "\n"
 
 -- what makes the first text the second one, where they differ: a file of this name is patched
 abbrev pub file_diff : List ℕ → List ℕ → List ℕ → List ℕ

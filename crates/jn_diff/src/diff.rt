@@ -6,6 +6,7 @@ ghost use Rattle.jn_diff.specs.Lines as lines_spec;
 
 use crate::hunks::shown_count;
 use crate::line::{Line, are_same, paired};
+use crate::names::put_side;
 use crate::texts::{added_count, hunk_text};
 use jn_base::OutOfMemory;
 use std::alloc::{AllocError, Global};
@@ -55,10 +56,10 @@ fn hunks_text(alloc: Global, lines: &[Line]) -> Result<Vec<u8>, AllocError>
 fn names_text(alloc: Global, name: &str) -> Result<Vec<u8>, AllocError>
     ensures { IfOk result (λ text. text.items ≡ spec.names_text name.now) }
 {
-    let mut text = Vec::from_slice(alloc, b"--- a/")?;
-    text.extend_from_slice(name.as_bytes())?;
-    text.extend_from_slice(b"\n+++ b/")?;
-    text.extend_from_slice(name.as_bytes())?;
+    let mut text = Vec::from_slice(alloc, b"--- ")?;
+    put_side(alloc, &mut text, b"a/", name)?;
+    text.extend_from_slice(b"\n+++ ")?;
+    put_side(alloc, &mut text, b"b/", name)?;
     text.extend_from_slice(b"\n")?;
     Ok(text)
 }

@@ -1,5 +1,6 @@
 -- Files that are replaced, in their order.
-use Rattle.std.specs.Prelude.{ℕ, ◌≡◌, ◌≤◌, List, [], ◌∷◌, ◌++◌, length, take}
+use Rattle.std.specs.Prelude.{ℕ, ◌≡◌, ◌≤◌, Bool, bytes_eq, List, [], ◌∷◌, ◌++◌, length, take}
+use Rattle.std.specs.List.{list_any}
 use Rattle.jn_targets.specs.declared.replaced.Replaced.{Replaced}
 
 abbrev pub replacement : List ℕ → List ℕ → Replaced
@@ -14,3 +15,11 @@ pub record ReplacesFirst (before now wanted : List Replaced) : Type 0 where
   pub count : ℕ
   pub within : count ≤ length wanted
   pub are : now ≡ before ++ take count wanted
+
+-- the name is one of these
+abbrev pub is_one : List (List ℕ) → List ℕ → Bool
+is_one names name = list_any (bytes_eq name) names
+
+-- the file has one of these names
+abbrev pub is_refused : List (List ℕ) → Replaced → Bool
+is_refused names file = is_one names file.name

@@ -2,30 +2,28 @@
 ghost use Rattle.std.specs.Prelude.{◌≡◌, ◌≤◌, []};
 ghost use Rattle.jn_outside.specs.Causes.{Rose};
 
+use crate::beside::{Hindrance, replace_file};
 use crate::replaced::{Replaced, with_replaced};
 use crate::targets::Targets;
 use jn_outside::{Failed, Told};
 use std::alloc::Global;
-use std::fs::{File, OpenFile};
-use std::io::{ErrorKind, Write};
-use std::path::AsPath;
-use std::{fs, io, rt};
-
-/// What stands behind a name in that of the file beside it.
-const BESIDE: &str = ".nullcheck";
+use std::fs::File;
+use std::{io, rt};
 
 /// What the host's targets failed at, for a message to a person; no clause speaks of it.
 #[derive(Drop)]
 pub struct TargetFault {
     /// The name of the file that is as it was, where memory was found for it.
     pub name: Option<String>,
-    /// The operating system's reason.
+    /// The operating system's reason, or what stands in the way.
     pub reason: io::Error,
+    /// The file beside it that stands in the way, where one does: it is to be removed.
+    pub left: Option<String>,
 }
 
-/// The files of the host. Its count of faults rises at each `Err`.
+/// The files of the host. Its count of faults rises at each `Err`. What is no plain file isn't known before the host is asked.
 #[derive(Drop)]
-pub struct HostTargets<'a, R: rt::Files> {
+pub struct HostTargets<'a, R: rt::Files<File = File>> {
     rt: &'a R,
     alloc: Global,
     names: Vec<String>,
@@ -34,7 +32,7 @@ pub struct HostTargets<'a, R: rt::Files> {
     replaced: Told<Replaced>,
 }
 
-impl<'a, R: rt::Files> HostTargets<'a, R> {
+impl<'a, R: rt::Files<File = File>> HostTargets<'a, R> {
     /// Targets with no fault counted, of which none was replaced.
     pub fn new(rt: &'a R, alloc: Global) -> HostTargets<'a, R>
         ensures faults { result.faults ≡ 0 }
@@ -71,93 +69,24 @@ impl<'a, R: rt::Files> HostTargets<'a, R> {
     }
 
     /// Counts a fault at the file of this name.
-    fn count(&mut self, name: &str, reason: io::Error)
+    fn count(&mut self, name: &str, hindrance: Hindrance)
         ensures replaced { self.new.replaced ≡ self.old.replaced }
         ensures later { self.old.faults ≤ self.new.faults }
         ensures rose { Rose self.old.faults self.new.faults }
     {
         self.fault = Some(TargetFault {
             name: String::from_str(self.alloc, name).ok(),
-            reason,
+            reason: hindrance.reason,
+            left: hindrance.left,
         });
         self.faults = self.faults.saturating_add(1);
     }
 }
 
-/// The name of the file beside the one of this name.
-fn beside(alloc: Global, name: &str) -> io::Result<String> {
-    let mut beside = String::from_str(alloc, name)?;
-    beside.push_str(BESIDE)?;
-    Ok(beside)
-}
-
-/// The name of the file to which this name leads; the name itself where it isn't there yet.
-fn place_of<R: rt::Files>(rt: &R, alloc: Global, name: &str) -> io::Result<String> {
-    match rt.canonicalize(alloc, name) {
-        Ok(place) => Ok(String::from_str(alloc, place.path_text())?),
-        Err(reason) if reason.kind() == ErrorKind::NotFound => Ok(String::from_str(alloc, name)?),
-        Err(reason) => Err(reason),
-    }
-}
-
-/// The rights of the file of this name; none where it isn't there yet.
-fn rights_of<R: rt::Files>(rt: &R, name: &str) -> io::Result<Option<fs::Permissions>> {
-    match fs::metadata(rt, name) {
-        Ok(about) => Ok(Some(about.permissions())),
-        Err(reason) if reason.kind() == ErrorKind::NotFound => Ok(None),
-        Err(reason) => Err(reason),
-    }
-}
-
-/// Writes the bytes into a new file, with the rights of the old one where there is one, up to the disk.
-fn fill<F: OpenFile + Write>(
-    file: &mut F,
-    rights: Option<fs::Permissions>,
-    bytes: &[u8],
-) -> io::Result<()> {
-    if let Some(rights) = rights {
-        file.set_permissions(rights)?;
-    }
-    file.write_all(bytes)?;
-    file.sync_all()
-}
-
-/// Fills the file beside, which then takes the name.
-fn fill_and_rename<R: rt::Files>(
-    rt: &R,
-    file: &mut R::File,
-    beside: &str,
-    name: &str,
-    rights: Option<fs::Permissions>,
-    bytes: &[u8],
-) -> io::Result<()> {
-    fill(file, rights, bytes)?;
-    fs::rename(rt, beside, name)
-}
-
-/// Gives the file of this name these bytes: a new file beside it is filled and takes its name in one step, or is removed. Where the name
-/// is a link, the file to which it leads is replaced; where it isn't there yet, it is there behind the call.
-fn replace_file<R: rt::Files>(rt: &R, alloc: Global, name: &str, bytes: &[u8]) -> io::Result<()> {
-    let place = place_of(rt, alloc, name)?;
-    let rights = rights_of(rt, place.as_str())?;
-    let beside = beside(alloc, place.as_str())?;
-    let mut file = File::create_new(rt, beside.as_str())?;
-    let done = fill_and_rename(
-        rt,
-        &mut file,
-        beside.as_str(),
-        place.as_str(),
-        rights,
-        bytes,
-    );
-    if done.is_err() {
-        let _removed = fs::remove_file(rt, beside.as_str());
-    }
-    done
-}
-
-impl<'a, R: rt::Files> Targets for HostTargets<'a, R> {
+impl<'a, R: rt::Files<File = File>> Targets for HostTargets<'a, R> {
     ghost replaced = { λ s. s.replaced.items };
+
+    ghost special = { λ s. [] };
 
     ghost faults = { λ s. s.faults };
 
@@ -168,8 +97,8 @@ impl<'a, R: rt::Files> Targets for HostTargets<'a, R> {
                 self.replaced = with_replaced(&self.replaced, name, bytes);
                 Ok(())
             }
-            Err(reason) => {
-                self.count(name, reason);
+            Err(hindrance) => {
+                self.count(name, hindrance);
                 Err(Failed)
             }
         }

@@ -4,6 +4,7 @@
 //! stands for the host, [`MemTargets`] for tests, which say where they fail. Targets tell only clauses what was replaced.
 #![tactic(auto)]
 
+mod beside;
 pub mod host;
 pub mod memory;
 pub mod replaced;

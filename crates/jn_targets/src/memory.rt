@@ -1,10 +1,11 @@
 //! Targets in memory, which tell all and fail where they are told to.
-ghost use Rattle.std.specs.Prelude.{◌≡◌, []};
+ghost use Rattle.std.specs.Prelude.{◌≡◌, [], OnErr, OnOk};
+ghost use Rattle.jn_targets.specs.Replacing.{is_one, with_replaced};
 
-use crate::replaced::{Replaced, with_replaced};
+use crate::replaced::Replaced;
 use crate::targets::Targets;
 use jn_base::{Seq, Text};
-use jn_outside::{Failed, Told};
+use jn_outside::Failed;
 use std::alloc::{AllocError, Global};
 
 /// Targets in memory: the names and bytes that were put there, in their order.
@@ -12,37 +13,59 @@ use std::alloc::{AllocError, Global};
 pub struct MemTargets {
     alloc: Global,
     files: Vec<Replaced>,
+    /// Names that lead to what is no plain file.
+    special: Vec<Text>,
     /// The number, from 1, of the call that fails; 0 where none does.
     failing: u64,
     calls: u64,
     faults: u64,
-    replaced: Told<Replaced>,
 }
 
 impl MemTargets {
     /// Targets of which the call of this number fails, from 1; 0 where none does.
     pub fn new(alloc: Global, failing: u64) -> MemTargets
         ensures faults { result.faults ≡ 0 }
-        ensures replaced { result.replaced.items ≡ [] }
+        ensures files { result.files.items ≡ [] }
+        ensures special { result.special.items ≡ [] }
+    {
+        MemTargets::with_special(alloc, failing, Vec::new(alloc))
+    }
+
+    /// The same, where these names lead to what is no plain file.
+    pub fn with_special(alloc: Global, failing: u64, special: Vec<Text>) -> MemTargets
+        ensures faults { result.faults ≡ 0 }
+        ensures files { result.files.items ≡ [] }
+        ensures special { result.special ≡ special }
     {
         MemTargets {
             alloc,
             files: Vec::new(alloc),
+            special,
             failing,
             calls: 0,
             faults: 0,
-            replaced: Told::none(),
         }
     }
 
-    /// What was replaced so far.
-    pub fn files(&self) -> &[Replaced] {
+    /// What was replaced so far, in its order.
+    pub fn files(&self) -> &[Replaced]
+        ensures { result.now ≡ self.now.files.items }
+    {
         &self.files
+    }
+
+    fn is_special(&self, name: &str) -> bool
+        ensures { result ≡ is_one self.now.special.items name.now }
+    {
+        self.special.iter().any(|one| name == one.as_str())
     }
 
     /// Keeps a name and its bytes.
     fn keep(&mut self, name: &str, bytes: &[u8]) -> Result<(), AllocError>
-        ensures replaced { self.new.replaced ≡ self.old.replaced }
+        ensures ok { OnOk result
+            (self.new.files.items ≡ with_replaced self.old.files.items name.now bytes.now) }
+        ensures err { OnErr result (self.new.files.items ≡ self.old.files.items) }
+        ensures special { self.new.special ≡ self.old.special }
         ensures faults { self.new.faults ≡ self.old.faults }
     {
         let file = Replaced {
@@ -55,17 +78,18 @@ impl MemTargets {
 }
 
 impl Targets for MemTargets {
-    ghost replaced = { λ s. s.replaced.items };
+    ghost replaced = { λ s. s.files.items };
+
+    ghost special = { λ s. s.special.items };
 
     ghost faults = { λ s. s.faults };
 
     fn replace(&mut self, name: &str, bytes: &[u8]) -> Result<(), Failed> {
         self.calls = self.calls.saturating_add(1);
-        if self.calls == self.failing || self.keep(name, bytes).is_err() {
+        if self.calls == self.failing || self.is_special(name) || self.keep(name, bytes).is_err() {
             self.faults = self.faults.saturating_add(1);
             return Err(Failed);
         }
-        self.replaced = with_replaced(&self.replaced, name, bytes);
         Ok(())
     }
 }

@@ -38,14 +38,19 @@ fn tell_read(rt: &HostRuntime, fault: Option<&HostFault>) -> io::Result<()> {
     eprintln!(rt; "nullcheck_annotate: can't {call} {name}: {reason}")
 }
 
-/// Says which file couldn't be replaced, and why.
+/// Says which file couldn't be replaced, why, and what to remove where something stands in the way.
 fn tell_target(rt: &HostRuntime, fault: &TargetFault) -> io::Result<()> {
     let name = match &fault.name {
         Some(name) => name.as_str(),
         None => "a file",
     };
     let reason = fault.reason;
-    eprintln!(rt; "nullcheck_annotate: can't replace {name}, which is as it was: {reason}")
+    eprintln!(rt; "nullcheck_annotate: can't replace {name}, which is as it was: {reason}")?;
+    if let Some(left) = &fault.left {
+        let left = left.as_str();
+        eprintln!(rt; "nullcheck_annotate: {left} stands in the way: remove it")?;
+    }
+    Ok(())
 }
 
 /// Says which files were replaced before.

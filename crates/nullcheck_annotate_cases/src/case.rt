@@ -1,6 +1,6 @@
-//! A case is one line: the words of a command. Four words set what lies around it: `read=N` has the Nth call on the source fail,
-//! `write=N` the Nth write and `replace=N` the Nth file that is replaced, and `again` takes the words once more over the files as they are
-//! then, with their report before and behind.
+//! A case is one line: the words of a command. Five words set what lies around it: `read=N` has the Nth call on the source fail,
+//! `write=N` the Nth write and `replace=N` the Nth file that is replaced, `special=NAME` has the name lead to what is no plain file, and
+//! `again` takes the words once more over the files as they are then, with their report before and after. `%` stands for a tab in a name.
 use std::alloc::{AllocError, Global};
 
 #[derive(Drop)]
@@ -14,6 +14,8 @@ pub struct Case {
     pub write: u32,
     /// The replacement that fails, from 1; 0 where none does.
     pub replace: u32,
+    /// The names that lead to what is no plain file.
+    pub special: Vec<String>,
     pub again: bool,
 }
 
@@ -21,6 +23,19 @@ pub struct Case {
 fn number(word: &str, name: &str) -> Option<u32> {
     match word.split_once('=') {
         Some((front, digits)) if front == name => digits.parse().ok(),
+        _ => None,
+    }
+}
+
+/// Whether the word says what is done with the files.
+fn is_mode(word: &str) -> bool {
+    word == "--imports" || word == "--write" || word == "--check"
+}
+
+/// The name that leads to what is no plain file, where the word sets one.
+fn special_name(word: &str) -> Option<&str> {
+    match word.split_once('=') {
+        Some((front, name)) if front == "special" => Some(name),
         _ => None,
     }
 }
@@ -46,10 +61,15 @@ fn take(alloc: Global, case: &mut Case, word: &str) -> Result<(), AllocError> {
     if take_setting(case, word) {
         return Ok(());
     }
-    case.words.push(String::from_str(alloc, word)?)?;
-    if word != "--imports" && word != "--write" && word != "--check" {
-        case.files.push(String::from_str(alloc, word)?)?;
+    if let Some(name) = special_name(word) {
+        case.special.push(String::from_str(alloc, name)?)?;
+        return Ok(());
     }
+    let word = word.replace(alloc, "%", "\t")?;
+    if !is_mode(word.as_str()) {
+        case.files.push(word.clone()?)?;
+    }
+    case.words.push(word)?;
     Ok(())
 }
 
@@ -60,6 +80,7 @@ pub fn case_of(alloc: Global, line: &str) -> Result<Case, AllocError> {
         read: 0,
         write: 0,
         replace: 0,
+        special: Vec::new(alloc),
         again: false,
     };
     for word in line.split_whitespace() {

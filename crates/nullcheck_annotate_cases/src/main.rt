@@ -5,6 +5,7 @@
 mod case;
 
 use case::{Case, case_of};
+use jn_base::Text;
 use jn_gate::Straight;
 use jn_outside::{MemFile, MemFiles, MemSink};
 use jn_reporters::{Plain, Reporter};
@@ -21,11 +22,28 @@ const WIDE: u32 = 1_000_000;
 /// The most bytes that one write takes.
 const MOST: u32 = 1000;
 
+/// The file that stands for one of this name: its name has no tab, quote or backslash.
+fn path_of(alloc: Global, name: &str) -> Result<String, AllocError> {
+    let path = name.replace(alloc, "\t", "")?;
+    let path = path.replace(alloc, "\"", "")?;
+    path.replace(alloc, "\\", "")
+}
+
+/// The names as texts.
+fn texts(alloc: Global, names: &[String]) -> Result<Vec<Text>, AllocError> {
+    let mut texts = Vec::new(alloc);
+    for name in names {
+        texts.push(Text::of_str(alloc, name.as_str())?)?;
+    }
+    Ok(texts)
+}
+
 /// The files that stand beside the tables under the words that name some.
 fn held_files(rt: &HostRuntime, words: &[String]) -> io::Result<Vec<MemFile>> {
     let mut held = Vec::new(rt.alloc());
     for word in words {
-        if let Ok(bytes) = fs::read(rt, word.as_str()) {
+        let path = path_of(rt.alloc(), word.as_str())?;
+        if let Ok(bytes) = fs::read(rt, path.as_str()) {
             let name = word.clone()?;
             held.push(MemFile { name, bytes })?;
         }
@@ -96,7 +114,8 @@ fn run_over<R: Threads + Sync>(
     }
     let mut files = MemFiles::new(alloc, held, failing);
     let mut sink = sink_of(alloc, case.write)?;
-    let mut targets = MemTargets::new(alloc, case.replace.into());
+    let special = texts(alloc, &case.special)?;
+    let mut targets = MemTargets::with_special(alloc, case.replace.into(), special);
     let status = annotate_files(
         threads,
         alloc,

@@ -10,7 +10,7 @@ use Rattle.jn_places.specs.Forget.{forget_file}
 use Rattle.jn_points.specs.declared.program.Program.{Program}
 use Rattle.jn_points.specs.Regular.{Regular}
 use Rattle.jn_inference_law.specs.Solution.{IsLeastSignature}
-use Rattle.jn_classtable.specs.Rows.{no_rows}
+use Rattle.jn_declaration_rules.specs.Rows.{no_rows}
 use Rattle.jn_program_law.specs.FileProgram.{inferring, j_rows, rows_of_files}
 use Rattle.jn_front.specs.declared.source.SourceFile.{SourceFile}
 use Rattle.jn_front.specs.Phases.{ArePlaced, LexedFrom}

@@ -10,13 +10,13 @@ use Rattle.jn_front.specs.declared.source.SourceRead.{SourceRead}
 use Rattle.jn_front.specs.Files.{AreReads, ReadFrom, most_files}
 use Rattle.jn_command.specs.Answer.{reading}
 use Rattle.jn_annotate_cli.specs.declared.wanted.Wanted.{Wanted}
-use Rattle.nullcheck_top.proofs.Written.{map_length}
+use Rattle.std.proofs.lemmas.List.{length-map}
 use Rattle.nullcheck_annotate_top.specs.declared.output.Output.{Output}
 use Rattle.nullcheck_annotate_top.specs.Answer.{IsOutputOf}
 use Rattle.nullcheck_annotate_top.specs.Output.{IsOutput}
 
 pub few_words : (words : List (String Global)) (files : List (List ℕ)) → map string_bytes words ≡ files → length files ≤ 64 → length words ≤ most_files
-few_words words files named few = let long = map_length words in let same : length (map string_bytes words) ≡ length files = ap length named in omega (arith, long, same, few)
+few_words words files named few = let long = length-map words string_bytes in let same : length (map string_bytes words) ≡ length files = ap length named in omega (arith, long, same, few)
 
 -- the output of what was read is that of the files that are asked for
 pub output_of_read : (held : Option Holding) (before now : List Given) (names : List (List ℕ)) (reads : List SourceRead) (wanted : Wanted) (output : Output) → names ≡ wanted.files → (from : ReadFrom held names before now reads) → ((files : List SourceFile) → AreReads reads files → IsOutput wanted.infer wanted.imports wanted.mode files output) → IsOutputOf (reading held before now) wanted output

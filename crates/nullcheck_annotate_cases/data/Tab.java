@@ -1,0 +1,3 @@
+class Tab {
+  private String s = "s";
+}
