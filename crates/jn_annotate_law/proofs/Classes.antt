@@ -4,7 +4,7 @@ use Rattle.std.specs.Prelude.{drop, map, flat_map}
 use Rattle.std.proofs.lemmas.Bool.{false≢true}
 use Rattle.std.proofs.lemmas.List.{append-nil, drop_at}
 use Rattle.jn_base.specs.declared.infer.Infer.{Infer}
-use Rattle.jn_classtable.specs.Inferred.{class_marks}
+use Rattle.jn_heads.specs.Inferred.{class_marks}
 use Rattle.jn_annotate_law.proofs.Marked.{constructors_same, fields_at, fields_long, marks_at, methods_at, methods_long}
 use Rattle.jn_quals.specs.Qualifier.{Qualifier}
 use Rattle.jn_points.specs.declared.program.Field.{Field}
@@ -18,17 +18,17 @@ use Rattle.jn_trees.specs.Trees.{MemberTree, FieldMember, MethodMember, Construc
 use Rattle.jn_trees.specs.WellFormed.{GoodMembers, GoodType, GoodTypes}
 use Rattle.jn_trees.specs.Spelling.{spell_all_marks, spell_type_use, spell_declarator, spell_parent, spell_names, spell_member, spell_type}
 use Rattle.jn_places.specs.Places.{behind, place_name, place_member, place_members, place_type, place_marks, place_type_use}
-use Rattle.jn_classtable.specs.declared.head.FieldHead.{FieldHead}
-use Rattle.jn_classtable.specs.declared.head.MethodHead.{MethodHead}
-use Rattle.jn_classtable.specs.declared.head.ClassHead.{ClassHead}
-use Rattle.jn_classtable.specs.Heads.{unwritten_constructor}
-use Rattle.jn_classtable.specs.Types.{fields_slots, method_slots, methods_slots, class_slots, slots_of_all}
+use Rattle.jn_heads.specs.declared.head.FieldHead.{FieldHead}
+use Rattle.jn_heads.specs.declared.head.MethodHead.{MethodHead}
+use Rattle.jn_heads.specs.declared.head.ClassHead.{ClassHead}
+use Rattle.jn_heads.specs.Heads.{unwritten_constructor}
+use Rattle.jn_heads.specs.Types.{fields_slots, method_slots, methods_slots, class_slots, slots_of_all}
 use Rattle.jn_classtable.specs.Table.{fields_of, fields_from, method_of, methods_of, methods_from, bodies_of, count}
-use Rattle.jn_classtable.specs.Extract.{field_heads, method_heads, has_constructor, with_constructor, class_head}
+use Rattle.jn_heads.specs.Extract.{field_heads, method_heads, has_constructor, with_constructor, class_head}
 use Rattle.jn_bare_law.specs.Written.{written_slot}
 use Rattle.jn_annotate.specs.Insertions.{fields_in, methods_in, constructors_in, in_all, unwritten, type_fields, type_methods}
 use Rattle.jn_annotate_law.specs.Trees.{noted_members, noted_type, noted_types}
-use Rattle.jn_annotate_law.specs.Plain.{plain_head}
+use Rattle.jn_blind_law.specs.Plain.{plain_head}
 use Rattle.jn_annotate_law.specs.Says.{Spelled, MembersSay, TypeSays, TypesSay}
 use Rattle.jn_annotate_law.proofs.Positions.{quals_from, Stands, stands_left, stands_right, slots_append}
 use Rattle.jn_annotate_law.proofs.Walks.{methods_walk}

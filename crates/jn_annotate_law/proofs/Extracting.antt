@@ -23,21 +23,21 @@ use Rattle.jn_places.specs.Placed.{PlacedFile, PlacedMember, PlacedMethod, Place
 use Rattle.jn_places.specs.Forget.{forget_file}
 use Rattle.jn_annotate_law.specs.Meaning.{AllPlaced}
 use Rattle.jn_places.specs.Places.{behind, over, place, place_list, place_name, place_base, place_type_use, place_value, place_declarator, place_next_declarator, place_more_declarators, spell_next_declarator, place_statement, place_body, place_mark, place_marks, place_local_mark, spell_local_mark, place_local_marks, place_parameter, place_parameters, spell_parameter_through, place_receiver, spell_receiver, place_result, place_method_body, place_member, place_members, place_next_names, place_parent, place_type, place_file, place_each, place_annotations, spell_annotation}
-use Rattle.jn_classtable.specs.declared.head.Notes.{Notes}
-use Rattle.jn_classtable.specs.declared.notes.Word.{Word}
-use Rattle.jn_classtable.specs.declared.notes.Word.TheVariants.{Public as PublicWord, Private as PrivateWord, Static as StaticWord, Final as FinalWord, Abstract as AbstractWord}
-use Rattle.jn_classtable.specs.declared.head.TypeHead.{TypeHead}
-use Rattle.jn_classtable.specs.declared.head.FieldHead.{FieldHead}
-use Rattle.jn_classtable.specs.declared.head.ParamHead.{ParamHead}
-use Rattle.jn_classtable.specs.declared.head.MethodHead.{MethodHead}
-use Rattle.jn_classtable.specs.declared.head.ClassHead.{ClassHead}
-use Rattle.jn_classtable.specs.Heads.{no_notes, no_span, unwritten_constructor}
-use Rattle.jn_classtable.specs.Extract.{is_word, has_word, is_named, is_note, is_local_note, count, negated_tree, tree_value, first_value, this_call, first_call, has_statements, has_constructor, with_constructor, notes_by, modifier_notes, local_notes, type_head, field_head, param_head, result_head, field_heads, method_heads, class_head, heads}
+use Rattle.jn_heads.specs.declared.head.Notes.{Notes}
+use Rattle.jn_heads.specs.declared.notes.Word.{Word}
+use Rattle.jn_heads.specs.declared.notes.Word.TheVariants.{Public as PublicWord, Private as PrivateWord, Static as StaticWord, Final as FinalWord, Abstract as AbstractWord}
+use Rattle.jn_heads.specs.declared.head.TypeHead.{TypeHead}
+use Rattle.jn_heads.specs.declared.head.FieldHead.{FieldHead}
+use Rattle.jn_heads.specs.declared.head.ParamHead.{ParamHead}
+use Rattle.jn_heads.specs.declared.head.MethodHead.{MethodHead}
+use Rattle.jn_heads.specs.declared.head.ClassHead.{ClassHead}
+use Rattle.jn_heads.specs.Heads.{no_notes, no_span, unwritten_constructor}
+use Rattle.jn_heads.specs.Extract.{is_word, has_word, is_named, is_note, is_local_note, count, negated_tree, tree_value, first_value, this_call, first_call, has_statements, has_constructor, with_constructor, notes_by, modifier_notes, local_notes, type_head, field_head, param_head, result_head, field_heads, method_heads, class_head, heads}
 use Rattle.jn_annotate.specs.Insertions.{fields_in, methods_in, type_fields, type_methods, file_fields, file_methods, first_slot, inferred_qual}
 use Rattle.jn_annotate_law.specs.Trees.{nullity_names, names_of, leading, at_brackets, noted_use, noted_marks, noted_parameter, noted_receiver, noted_result, noted_result_marks, both_at, noted_parameters, noted_member, noted_members, noted_type, noted_types, noted_file, noted_files}
 use Rattle.jn_annotate_law.specs.Noted.{has_name}
 use Rattle.jn_annotate_law.proofs.Meanings.{modifiers_more, annotations_more}
-use Rattle.jn_annotate_law.specs.Plain.{plain_name, plain_use, plain_type, plain_kind, plain_field, plain_param, plain_method, plain_head}
+use Rattle.jn_blind_law.specs.Plain.{plain_name, plain_use, plain_type, plain_kind, plain_field, plain_param, plain_method, plain_head}
 
 -- ---- modifiers
 

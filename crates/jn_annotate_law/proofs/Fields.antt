@@ -5,7 +5,7 @@ use Rattle.std.proofs.lemmas.List.{take_at, drop_at}
 use Rattle.jn_base.specs.declared.number.NameNo.{NameNo}
 use Rattle.jn_base.specs.declared.number.SlotNo.{SlotNo}
 use Rattle.jn_base.specs.declared.infer.Infer.{Infer}
-use Rattle.jn_classtable.specs.Inferred.{infers, mark_field}
+use Rattle.jn_heads.specs.Inferred.{infers, mark_field}
 use Rattle.jn_annotate_law.proofs.Marked.{a_head, fields_at, infers_more, some_heads}
 use Rattle.std.proofs.lemmas.List.{length-map}
 use Rattle.jn_quals.specs.Qualifier.{Qualifier}
@@ -18,16 +18,16 @@ use Rattle.jn_trees.specs.Spelling.{spell_all_marks, spell_type_use, spell_decla
 use Rattle.jn_trees.specs.declared.declaration.Modifier.{Modifier}
 use Rattle.jn_places.specs.Placed.{PlacedTypeUse, PlacedDeclarator}
 use Rattle.jn_places.specs.Places.{behind, place_marks, place_type_use, place_declarator, place_next_declarator, spell_next_declarator, place_more_declarators}
-use Rattle.jn_classtable.specs.declared.head.TypeHead.{TypeHead}
-use Rattle.jn_classtable.specs.declared.head.FieldHead.{FieldHead}
-use Rattle.jn_classtable.specs.declared.head.ClassHead.{ClassHead}
-use Rattle.jn_classtable.specs.Types.{field_qual, is_position, field_slots, fields_slots}
+use Rattle.jn_heads.specs.declared.head.TypeHead.{TypeHead}
+use Rattle.jn_heads.specs.declared.head.FieldHead.{FieldHead}
+use Rattle.jn_heads.specs.declared.head.ClassHead.{ClassHead}
+use Rattle.jn_heads.specs.Types.{field_qual, is_position, field_slots, fields_slots}
 use Rattle.jn_classtable.specs.Table.{slot_at, field_of, fields_of}
-use Rattle.jn_classtable.specs.Extract.{modifier_notes, type_head, field_head}
+use Rattle.jn_heads.specs.Extract.{modifier_notes, type_head, field_head}
 use Rattle.jn_bare_law.specs.Written.{written_slot}
 use Rattle.jn_annotate.specs.Insertions.{inferred_qual}
 use Rattle.jn_annotate_law.specs.Trees.{nullity_names, names_of, leading, noted_use, noted_marks, noted_members}
-use Rattle.jn_annotate_law.specs.Plain.{plain_type, plain_head}
+use Rattle.jn_blind_law.specs.Plain.{plain_type, plain_head}
 use Rattle.jn_annotate_law.specs.Says.{Spelled, FieldsSay, MembersSay}
 use Rattle.jn_annotate_law.proofs.Meanings.{field_slot}
 use Rattle.jn_annotate_law.proofs.Extracting.{marked_same}

@@ -15,16 +15,16 @@ use Rattle.jn_trees.specs.Spelling.{spell_mark, spell_all_marks, spell_parent, s
 use Rattle.jn_places.specs.Placed.{PlacedFile}
 use Rattle.jn_places.specs.Places.{behind, place_name, place_marks, place_member, place_members, place_type}
 use Rattle.jn_places.specs.Forget.{forget_file}
-use Rattle.jn_classtable.specs.declared.notes.Word.TheVariants.{Static as StaticWord}
-use Rattle.jn_classtable.specs.declared.head.MethodHead.{MethodHead}
-use Rattle.jn_classtable.specs.declared.head.ClassHead.{ClassHead}
-use Rattle.jn_classtable.specs.Types.{fields_slots, method_slots, class_slots, slots_of_all}
+use Rattle.jn_heads.specs.declared.notes.Word.TheVariants.{Static as StaticWord}
+use Rattle.jn_heads.specs.declared.head.MethodHead.{MethodHead}
+use Rattle.jn_heads.specs.declared.head.ClassHead.{ClassHead}
+use Rattle.jn_heads.specs.Types.{fields_slots, method_slots, class_slots, slots_of_all}
 use Rattle.jn_classtable.specs.Table.{slot_at, methods_of, methods_from, bodies_of, bodies_of_all, count, table}
-use Rattle.jn_classtable.specs.Extract.{has_word, method_heads, class_head, heads}
+use Rattle.jn_heads.specs.Extract.{has_word, method_heads, class_head, heads}
 use Rattle.jn_annotate.specs.Insertions.{type_methods, file_methods, inferred_qual}
 use Rattle.jn_annotate_law.specs.Fits.{MembersFit, TypeFits, TypesFit, FilesFit}
 use Rattle.jn_annotate_law.specs.Meaning.{AllPlaced}
-use Rattle.jn_classtable.specs.Heads.{unplaced, unwritten_constructor}
+use Rattle.jn_heads.specs.Heads.{unplaced, unwritten_constructor}
 use Rattle.jn_annotate_law.proofs.Classes.{with_methods, type_methods_long}
 use Rattle.jn_annotate_law.proofs.Written.{heads_at, methods_from_append, methods_from_long}
 

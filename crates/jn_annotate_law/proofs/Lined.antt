@@ -11,13 +11,14 @@ use Rattle.jn_trees.specs.declared.token.Token.{Token}
 use Rattle.jn_trees.specs.declared.token.TokenKind.{TokenKind}
 use Rattle.jn_places.specs.Placed.{PlacedDotted, PlacedFile, PlacedType}
 use Rattle.jn_places.specs.Places.{behind, place_each, place_file, place_import, place_type}
-use Rattle.jn_classtable.specs.declared.head.ClassHead.{ClassHead}
-use Rattle.jn_classtable.specs.Extract.{class_head, heads}
-use Rattle.jn_classtable.specs.Inferred.{class_marks, marks}
-use Rattle.jn_classtable.specs.Rows.{no_rows, t_rows}
-use Rattle.jn_classtable.specs.Heads.{all_heads}
+use Rattle.jn_heads.specs.declared.head.ClassHead.{ClassHead}
+use Rattle.jn_heads.specs.Extract.{class_head, heads}
+use Rattle.jn_heads.specs.Inferred.{class_marks, marks}
+use Rattle.jn_declaration_rules.specs.Rows.{no_rows}
+use Rattle.jn_classtable.specs.Rows.{t_rows}
+use Rattle.jn_heads.specs.Heads.{all_heads}
 use Rattle.jn_classtable.specs.Table.{table}
-use Rattle.jn_classtable.specs.Types.{slots_of_all}
+use Rattle.jn_heads.specs.Types.{slots_of_all}
 use Rattle.jn_lowering.specs.Bodies.{with_bodies}
 use Rattle.jn_lowering.specs.BodyRows.{rows_of_bodies}
 use Rattle.jn_lowering.specs.FileRows.{files_rows, import_rows, outside_rows, package_behind, package_row, types_rows}

@@ -12,12 +12,12 @@ use Rattle.jn_trees.specs.Trees.{TypeUseTree, Mark, NoteMark, PublicMark, Protec
 use Rattle.jn_trees.specs.Spelling.{spell_mark, spell_type}
 use Rattle.jn_places.specs.Placed.{PlacedDeclarator, PlacedMember, PlacedTypeUse}
 use Rattle.jn_places.specs.Places.{behind, place_each, place_mark, place_marks, place_members, place_type}
-use Rattle.jn_classtable.specs.declared.notes.Word.TheVariants.{Private as PrivateWord}
-use Rattle.jn_classtable.specs.declared.head.FieldHead.{FieldHead}
-use Rattle.jn_classtable.specs.declared.head.MethodHead.{MethodHead}
-use Rattle.jn_classtable.specs.declared.head.ClassHead.{ClassHead}
-use Rattle.jn_classtable.specs.Extract.{field_head, field_heads, has_constructor, has_word, method_heads}
-use Rattle.jn_classtable.specs.Inferred.{class_marks, field_marks, infers, is_access, is_open, mark_field, mark_method, method_marks, modifiers_of}
+use Rattle.jn_heads.specs.declared.notes.Word.TheVariants.{Private as PrivateWord}
+use Rattle.jn_heads.specs.declared.head.FieldHead.{FieldHead}
+use Rattle.jn_heads.specs.declared.head.MethodHead.{MethodHead}
+use Rattle.jn_heads.specs.declared.head.ClassHead.{ClassHead}
+use Rattle.jn_heads.specs.Extract.{field_head, field_heads, has_constructor, has_word, method_heads}
+use Rattle.jn_heads.specs.Inferred.{class_marks, field_marks, infers, is_access, is_open, mark_field, mark_method, method_marks, modifiers_of}
 use Rattle.jn_annotate_law.specs.Trees.{leading, noted_result_marks}
 use Rattle.jn_annotate_law.proofs.Extracting.{words_same}
 

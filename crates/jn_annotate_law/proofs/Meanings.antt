@@ -10,9 +10,9 @@ use Rattle.jn_trees.specs.declared.token.Token.{Token}
 use Rattle.jn_trees.specs.Trees.{Mark, NoteMark, LocalMark, AnnotationMark}
 use Rattle.jn_trees.specs.Spelling.{spell_mark}
 use Rattle.jn_places.specs.Places.{behind, place_marks, place_mark, place_local_marks, place_local_mark, spell_local_mark, place_annotations, spell_annotation}
-use Rattle.jn_classtable.specs.declared.head.Notes.{Notes}
-use Rattle.jn_classtable.specs.Types.{is_written, written_qual, field_qual, receiver_qual, slot_of}
-use Rattle.jn_classtable.specs.Extract.{is_named, is_note, is_local_note, notes_by, notes_of, modifier_notes, local_notes}
+use Rattle.jn_heads.specs.declared.head.Notes.{Notes}
+use Rattle.jn_heads.specs.Types.{is_written, written_qual, field_qual, receiver_qual, slot_of}
+use Rattle.jn_heads.specs.Extract.{is_named, is_note, is_local_note, notes_by, notes_of, modifier_notes, local_notes}
 use Rattle.std.proofs.Math.Path.{fun_ext}
 use Rattle.jn_bare_law.specs.Written.{written_slot}
 use Rattle.jn_annotate.specs.Words.{is_unspelled, initialization_name}

@@ -16,12 +16,12 @@ use Rattle.jn_trees.specs.Trees.{BaseTree, ClassBase, IntBase, BooleanBase, Tree
 use Rattle.jn_trees.specs.declared.expression.UnaryOperator.TheVariants.{Plus as PlusSign, Minus as MinusSign, Not as NotSign}
 use Rattle.jn_trees.specs.Spelling.{spell_mark, spell_all_marks, spell_type_use, spell_declarator}
 use Rattle.jn_places.specs.Places.{behind, place, place_base, place_type_use, place_value, place_mark, place_marks, place_declarator, place_next_declarator, spell_next_declarator, place_more_declarators, place_result, place_member}
-use Rattle.jn_classtable.specs.declared.head.Notes.{Notes}
-use Rattle.jn_classtable.specs.declared.head.TypeHead.{TypeHead}
-use Rattle.jn_classtable.specs.declared.head.ClassHead.{ClassHead}
-use Rattle.jn_classtable.specs.Types.{slot_of, field_qual, written_qual, is_position, result_slots}
+use Rattle.jn_heads.specs.declared.head.Notes.{Notes}
+use Rattle.jn_heads.specs.declared.head.TypeHead.{TypeHead}
+use Rattle.jn_heads.specs.declared.head.ClassHead.{ClassHead}
+use Rattle.jn_heads.specs.Types.{slot_of, field_qual, written_qual, is_position, result_slots}
 use Rattle.jn_classtable.specs.Table.{slot_at, result_slot}
-use Rattle.jn_classtable.specs.Extract.{modifier_notes, type_head, result_head}
+use Rattle.jn_heads.specs.Extract.{modifier_notes, type_head, result_head}
 use Rattle.jn_lowering.specs.Annotations.{Allowed, row, when, both_kinds, of_field, annotation_rows, type_rows, name_row}
 use Rattle.jn_lowering.specs.FileRows.{notes_of, is_static_mark, has_static, without_override, is_number_tree, is_int_start, is_truth_start, starts, all_start, is_primitive_base, is_plain, is_static_start, names_rows, result_rows, head_rows, first_mark}
 use Rattle.jn_annotate.specs.Insertions.{inferred_qual}

@@ -17,10 +17,10 @@ use Rattle.jn_trees.specs.declared.expression.Annotation.{Annotation}
 use Rattle.jn_trees.specs.Trees.{BaseTree, ClassBase, IntBase, BooleanBase, TypeUseTree, LocalMark, FinalMark, AnnotationMark, Mark, NoteMark, PublicMark, ProtectedMark, PrivateMark, StaticMark, ConstantMark, AbstractMark}
 use Rattle.jn_trees.specs.Spelling.{spell_mark}
 use Rattle.jn_places.specs.Places.{behind, place_base, place_type_use, place_marks, place_local_marks, spell_local_mark, place_annotations, spell_annotation}
-use Rattle.jn_classtable.specs.declared.head.Notes.{Notes}
-use Rattle.jn_classtable.specs.Types.{is_written, slot_of}
+use Rattle.jn_heads.specs.declared.head.Notes.{Notes}
+use Rattle.jn_heads.specs.Types.{is_written, slot_of}
 use Rattle.jn_classtable.specs.Table.{slot_at}
-use Rattle.jn_classtable.specs.Extract.{notes_by}
+use Rattle.jn_heads.specs.Extract.{notes_by}
 use Rattle.jn_lowering.specs.Annotations.{Allowed, row, when, both_kinds, nullity_alone, of_field, is_of_nullity, is_initialization, is_allowed, some_named, doubled, not_allowed, annotation_rows, type_rows}
 use Rattle.jn_lowering.specs.Bases.{is_class_use}
 use Rattle.jn_lowering.specs.Locals.{annotations_of}

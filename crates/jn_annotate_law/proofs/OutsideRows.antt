@@ -5,7 +5,7 @@ use Rattle.std.proofs.lemmas.List.{append-nil}
 use Rattle.jn_base.specs.declared.place.Row.{Row}
 use Rattle.jn_base.specs.declared.number.NameNo.{NameNo}
 use Rattle.jn_base.specs.declared.infer.Infer.{Infer}
-use Rattle.jn_classtable.specs.Inferred.{class_marks, marks}
+use Rattle.jn_heads.specs.Inferred.{class_marks, marks}
 use Rattle.jn_annotate_law.proofs.Marked.{marks_at}
 use Rattle.jn_annotate_law.proofs.Tabled.{table_by}
 use Rattle.jn_quals.specs.Qualifier.{Qualifier}
@@ -20,10 +20,10 @@ use Rattle.jn_trees.specs.Spelling.{spell_type, spell_import, spell_package_line
 use Rattle.jn_places.specs.Placed.{PlacedDotted, PlacedFile}
 use Rattle.jn_places.specs.Places.{behind, spell_next_name, place_next_names, place_dotted, place_package, place_import, place_file, place_type, place_each}
 use Rattle.jn_places.specs.Forget.{forget_file}
-use Rattle.jn_classtable.specs.declared.head.ClassHead.{ClassHead}
-use Rattle.jn_classtable.specs.Types.{slots_of_all}
+use Rattle.jn_heads.specs.declared.head.ClassHead.{ClassHead}
+use Rattle.jn_heads.specs.Types.{slots_of_all}
 use Rattle.jn_classtable.specs.Table.{fields_from, methods_from, bodies_of_all}
-use Rattle.jn_classtable.specs.Extract.{heads}
+use Rattle.jn_heads.specs.Extract.{heads}
 use Rattle.jn_lowering.specs.FileRows.{types_rows, is_under, import_row, import_rows, same_names, same_package, package_row, package_behind, files_rows, outside_rows}
 use Rattle.jn_annotate.specs.Insertions.{file_fields, file_methods}
 use Rattle.jn_annotate_law.specs.Trees.{noted_types, noted_file, noted_files}

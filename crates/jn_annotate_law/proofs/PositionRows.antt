@@ -17,12 +17,12 @@ use Rattle.jn_trees.specs.declared.expression.Annotation.{Annotation}
 use Rattle.jn_trees.specs.Trees.{BaseTree, ClassBase, IntBase, BooleanBase, TypeUseTree, LocalMark, FinalMark, AnnotationMark, Mark, NoteMark, PublicMark, ProtectedMark, PrivateMark, StaticMark, ConstantMark, AbstractMark, ParameterTree, ReceiverTree}
 use Rattle.jn_trees.specs.Spelling.{spell_mark, spell_marks}
 use Rattle.jn_places.specs.Places.{behind, place_base, place_type_use, place_marks, place_local_marks, spell_local_mark, place_annotations, spell_annotation, place_parameter, place_parameters, spell_parameter_through, place_receiver}
-use Rattle.jn_classtable.specs.declared.head.Notes.{Notes}
-use Rattle.jn_classtable.specs.declared.head.TypeHead.{TypeHead}
-use Rattle.jn_classtable.specs.declared.head.ClassHead.{ClassHead}
-use Rattle.jn_classtable.specs.Types.{is_written, slot_of, written_qual, is_position, value_slots, params_slots}
+use Rattle.jn_heads.specs.declared.head.Notes.{Notes}
+use Rattle.jn_heads.specs.declared.head.TypeHead.{TypeHead}
+use Rattle.jn_heads.specs.declared.head.ClassHead.{ClassHead}
+use Rattle.jn_heads.specs.Types.{is_written, slot_of, written_qual, is_position, value_slots, params_slots}
 use Rattle.jn_classtable.specs.Table.{slot_at, param_slots}
-use Rattle.jn_classtable.specs.Extract.{is_named, is_note, is_local_note, notes_by, modifier_notes, local_notes, type_head, param_head, receiver_notes}
+use Rattle.jn_heads.specs.Extract.{is_named, is_note, is_local_note, notes_by, modifier_notes, local_notes, type_head, param_head, receiver_notes}
 use Rattle.jn_lowering.specs.Annotations.{Allowed, row, when, both_kinds, nullity_alone, annotation_rows, type_rows, name_row}
 use Rattle.jn_lowering.specs.Bases.{is_class_use}
 use Rattle.jn_lowering.specs.Locals.{annotations_of}

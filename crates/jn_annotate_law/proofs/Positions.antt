@@ -12,21 +12,21 @@ use Rattle.jn_trees.specs.declared.token.Token.{Token}
 use Rattle.jn_trees.specs.Trees.{BaseTree, LocalMark, AnnotationMark, Mark, NoteMark, ParameterTree}
 use Rattle.jn_trees.specs.Spelling.{spell_marks}
 use Rattle.jn_places.specs.Places.{behind, place_type_use, place_marks, place_local_marks, place_annotations, spell_annotation, place_parameter, place_parameters, spell_parameter_through}
-use Rattle.jn_classtable.specs.declared.head.Notes.{Notes}
-use Rattle.jn_classtable.specs.declared.head.TypeHead.{TypeHead}
-use Rattle.jn_classtable.specs.declared.head.ParamHead.{ParamHead}
-use Rattle.jn_classtable.specs.declared.head.ClassHead.{ClassHead}
-use Rattle.jn_classtable.specs.Types.{is_written, written_qual, slot_of, is_position, value_slots, params_slots}
+use Rattle.jn_heads.specs.declared.head.Notes.{Notes}
+use Rattle.jn_heads.specs.declared.head.TypeHead.{TypeHead}
+use Rattle.jn_heads.specs.declared.head.ParamHead.{ParamHead}
+use Rattle.jn_heads.specs.declared.head.ClassHead.{ClassHead}
+use Rattle.jn_heads.specs.Types.{is_written, written_qual, slot_of, is_position, value_slots, params_slots}
 use Rattle.jn_classtable.specs.Table.{slot_at, param_slots}
-use Rattle.jn_classtable.specs.Extract.{is_named, is_note, is_local_note, notes_by, notes_of, modifier_notes, local_notes, type_head, param_head}
+use Rattle.jn_heads.specs.Extract.{is_named, is_note, is_local_note, notes_by, notes_of, modifier_notes, local_notes, type_head, param_head}
 use Rattle.jn_bare_law.specs.Written.{written_slot}
 use Rattle.jn_annotate.specs.Words.{is_unspelled}
 use Rattle.jn_annotate.specs.Insertions.{qual_where, inferred_qual}
 use Rattle.jn_annotate_law.specs.Trees.{both_names, names_of, leading, at_brackets, noted_parameter, both_at, noted_parameters}
 use Rattle.jn_annotate_law.specs.Says.{Spelled}
 use Rattle.jn_annotate_law.specs.Noted.{notes_with}
-use Rattle.jn_annotate_law.specs.Plain.{plain_type, plain_head}
-use Rattle.jn_annotate_law.proofs.Tables.{position_is}
+use Rattle.jn_blind_law.specs.Plain.{plain_type, plain_head}
+use Rattle.jn_blind_law.proofs.Tables.{position_is}
 use Rattle.jn_annotate_law.proofs.Meanings.{modifiers_more, locals_more, annotations_more, value_slot}
 use Rattle.jn_annotate_law.proofs.Extracting.{modifiers_same, locals_same, param_same}
 

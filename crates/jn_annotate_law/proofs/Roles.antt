@@ -10,12 +10,12 @@ use Rattle.jn_quals.specs.Order.{no_qual}
 use Rattle.jn_points.specs.Lookup.{slots_of}
 use Rattle.jn_transfer.specs.Contributions.{field_slot_of, receiver_slot_of, result_slot_of}
 use Rattle.jn_bare_law.proofs.Sent.{Each, each_append}
-use Rattle.jn_classtable.specs.declared.head.TypeHead.{TypeHead}
-use Rattle.jn_classtable.specs.declared.head.FieldHead.{FieldHead}
-use Rattle.jn_classtable.specs.declared.head.ParamHead.{ParamHead}
-use Rattle.jn_classtable.specs.declared.head.MethodHead.{MethodHead}
-use Rattle.jn_classtable.specs.declared.head.ClassHead.{ClassHead}
-use Rattle.jn_classtable.specs.Types.{is_written, slot_of, written_qual, receiver_qual, is_position, has_receiver, field_slots, value_slots, params_slots, result_slots, receiver_slots, method_slots, fields_slots, methods_slots, class_slots, slots_of_all}
+use Rattle.jn_heads.specs.declared.head.TypeHead.{TypeHead}
+use Rattle.jn_heads.specs.declared.head.FieldHead.{FieldHead}
+use Rattle.jn_heads.specs.declared.head.ParamHead.{ParamHead}
+use Rattle.jn_heads.specs.declared.head.MethodHead.{MethodHead}
+use Rattle.jn_heads.specs.declared.head.ClassHead.{ClassHead}
+use Rattle.jn_heads.specs.Types.{is_written, slot_of, written_qual, receiver_qual, is_position, has_receiver, field_slots, value_slots, params_slots, result_slots, receiver_slots, method_slots, fields_slots, methods_slots, class_slots, slots_of_all}
 use Rattle.jn_classtable.specs.Table.{slot_at, count, bodies_of, fields_of, fields_from, param_slots, result_slot, method_of, methods_of, methods_from}
 
 pub each_drop : {A : Type 0} (F : A → Type 0) (xs : List A) (n : ℕ) → Each F xs → Each F (drop n xs)

@@ -10,7 +10,7 @@ use Rattle.jn_trees.specs.declared.token.TokenKind.{TokenKind}
 use Rattle.jn_trees.specs.declared.token.TokenKind.TheVariants.{Package as PackageWord, Id, Class, Private, Final, Void, Semicolon, LeftParen, RightParen, LeftBrace, RightBrace, LeftBracket, RightBracket}
 use Rattle.jn_trees.specs.Trees.{ClassBase, TypeUseTree, FinalMark, PrivateMark, StaticMark, MemberTree, FieldMember, MethodMember, ClassType, NoStatements, SourceTree}
 use Rattle.jn_places.specs.Places.{place_file}
-use Rattle.jn_classtable.specs.Extract.{heads}
+use Rattle.jn_heads.specs.Extract.{heads}
 use Rattle.jn_classtable.specs.Table.{table}
 use Rattle.jn_annotate.specs.Imports.{with_lines}
 use Rattle.jn_annotate.specs.Annotated.{annotated, has_no_spelling, has_shared_type}

@@ -22,15 +22,15 @@ use Rattle.jn_trees.specs.View.{file_view}
 use Rattle.jn_places.specs.Forget.{forget_file}
 use Rattle.jn_places.specs.PlacedView.{placed_file}
 use Rattle.jn_places.proofs.ViewForgotten.{file_seen}
-use Rattle.jn_classtable.specs.Extract.{heads}
+use Rattle.jn_heads.specs.Extract.{heads}
 use Rattle.jn_program_law.specs.FileProgram.{inferring, rows_of_files}
 use Rattle.jn_program_law.proofs.Marks.{inferring_regular}
 use Rattle.jn_program_law.proofs.Program.{program_regular}
 use Rattle.jn_tables_law.proofs.Inferring.{regular_inferable}
 use Rattle.jn_base.specs.declared.infer.Infer.{Infer}
-use Rattle.jn_classtable.specs.Heads.{all_heads}
-use Rattle.jn_classtable.specs.declared.head.ClassHead.{ClassHead}
-use Rattle.jn_classtable.specs.Inferred.{marks}
+use Rattle.jn_heads.specs.Heads.{all_heads}
+use Rattle.jn_heads.specs.declared.head.ClassHead.{ClassHead}
+use Rattle.jn_heads.specs.Inferred.{marks}
 use Rattle.jn_annotate_law.proofs.Tabled.{fields_play_too, methods_play_too, says_same, shared_same, table_by}
 use Rattle.jn_tables_law.specs.Inferable.{IsInferable}
 use Rattle.jn_inference_law.specs.Solution.{IsLeastSignature}

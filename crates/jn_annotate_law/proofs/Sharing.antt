@@ -4,7 +4,7 @@ use Rattle.std.specs.Prelude.{drop, take, map, slice_get}
 use Rattle.std.proofs.lemmas.List.{append-nil, take_at, drop_at}
 use Rattle.jn_base.specs.declared.number.SlotNo.{SlotNo}
 use Rattle.jn_base.specs.declared.infer.Infer.{Infer}
-use Rattle.jn_classtable.specs.Inferred.{class_marks, infers, marks, slots_by}
+use Rattle.jn_heads.specs.Inferred.{class_marks, infers, marks, slots_by}
 use Rattle.jn_annotate_law.proofs.Marked.{a_head, fields_at, marks_at, some_heads}
 use Rattle.jn_annotate_law.proofs.Tabled.{table_by}
 use Rattle.jn_quals.specs.Qualifier.{Qualifier}
@@ -18,12 +18,12 @@ use Rattle.jn_trees.specs.Spelling.{spell_all_marks, spell_parent, spell_names, 
 use Rattle.jn_places.specs.Placed.{PlacedTypeUse, PlacedDeclarator, PlacedFile}
 use Rattle.jn_places.specs.Places.{behind, place_marks, place_type_use, place_declarator, place_next_declarator, spell_next_declarator, place_more_declarators, place_type}
 use Rattle.jn_places.specs.Forget.{forget_file}
-use Rattle.jn_classtable.specs.declared.head.TypeHead.{TypeHead}
-use Rattle.jn_classtable.specs.declared.head.FieldHead.{FieldHead}
-use Rattle.jn_classtable.specs.declared.head.ClassHead.{ClassHead}
-use Rattle.jn_classtable.specs.Types.{slot_of, field_qual, is_position, field_slots, fields_slots, methods_slots, class_slots, slots_of_all}
+use Rattle.jn_heads.specs.declared.head.TypeHead.{TypeHead}
+use Rattle.jn_heads.specs.declared.head.FieldHead.{FieldHead}
+use Rattle.jn_heads.specs.declared.head.ClassHead.{ClassHead}
+use Rattle.jn_heads.specs.Types.{slot_of, field_qual, is_position, field_slots, fields_slots, methods_slots, class_slots, slots_of_all}
 use Rattle.jn_classtable.specs.Table.{slot_at, field_of, fields_of, fields_from}
-use Rattle.jn_classtable.specs.Extract.{modifier_notes, type_head, heads}
+use Rattle.jn_heads.specs.Extract.{modifier_notes, type_head, heads}
 use Rattle.jn_annotate.specs.Insertions.{fields_in, type_fields, file_fields, first_slot}
 use Rattle.jn_annotate.specs.Annotated.{members_of}
 use Rattle.jn_annotate_law.specs.Meaning.{AllPlaced}

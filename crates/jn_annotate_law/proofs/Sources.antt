@@ -18,7 +18,7 @@ use Rattle.jn_trees.specs.Spelling.{spell_type_use, spell_declarator, spell_all_
 use Rattle.jn_places.specs.Placed.{PlacedMember, PlacedParameter, PlacedFile}
 use Rattle.jn_places.specs.Forget.{forget_file}
 use Rattle.jn_places.specs.Places.{behind, place_each, spell_local_mark, place_local_marks, spell_parameter_through, place_parameters, spell_receiver, place_body, place_method_body, place_member, place_members, place_type, place_file}
-use Rattle.jn_classtable.specs.Extract.{has_constructor, method_heads, heads}
+use Rattle.jn_heads.specs.Extract.{has_constructor, method_heads, heads}
 use Rattle.jn_classtable.specs.Table.{table}
 use Rattle.jn_lowering.specs.Locals.{State, has_final, parameters_from}
 use Rattle.jn_lowering.specs.Scopes.{Scope}

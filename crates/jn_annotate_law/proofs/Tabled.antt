@@ -15,15 +15,15 @@ use Rattle.jn_points.specs.declared.program.Program.{Program}
 use Rattle.jn_sigs.specs.Signature.{slot_qual}
 use Rattle.jn_trees.specs.Trees.{MemberTree, FieldMember, MethodMember, ConstructorMember, TypeDeclaration, ClassType, InterfaceType, SourceTree}
 use Rattle.jn_places.specs.Placed.{PlacedMember, PlacedType, PlacedClass, PlacedInterface, PlacedFile}
-use Rattle.jn_classtable.specs.declared.head.TypeHead.{TypeHead}
-use Rattle.jn_classtable.specs.declared.head.FieldHead.{FieldHead}
-use Rattle.jn_classtable.specs.declared.head.ParamHead.{ParamHead}
-use Rattle.jn_classtable.specs.declared.head.MethodHead.{MethodHead}
-use Rattle.jn_classtable.specs.declared.head.ClassHead.{ClassHead}
-use Rattle.jn_classtable.specs.Heads.{all_heads, object_head, string_head, unwritten_constructor}
-use Rattle.jn_classtable.specs.Extract.{class_head, field_heads, has_constructor, heads, method_heads, with_constructor}
-use Rattle.jn_classtable.specs.Inferred.{class_marks, field_marks, infers, mark_field, mark_method, marks, method_marks, modifiers_of, slots_by}
-use Rattle.jn_classtable.specs.Types.{class_slots, field_slots, fields_slots, has_receiver, is_position, method_slots, methods_slots, params_slots, receiver_slots, result_slots, value_slots}
+use Rattle.jn_heads.specs.declared.head.TypeHead.{TypeHead}
+use Rattle.jn_heads.specs.declared.head.FieldHead.{FieldHead}
+use Rattle.jn_heads.specs.declared.head.ParamHead.{ParamHead}
+use Rattle.jn_heads.specs.declared.head.MethodHead.{MethodHead}
+use Rattle.jn_heads.specs.declared.head.ClassHead.{ClassHead}
+use Rattle.jn_heads.specs.Heads.{all_heads, object_head, string_head, unwritten_constructor}
+use Rattle.jn_heads.specs.Extract.{class_head, field_heads, has_constructor, heads, method_heads, with_constructor}
+use Rattle.jn_heads.specs.Inferred.{class_marks, field_marks, infers, mark_field, mark_method, marks, method_marks, modifiers_of, slots_by}
+use Rattle.jn_heads.specs.Types.{class_slots, field_slots, fields_slots, has_receiver, is_position, method_slots, methods_slots, params_slots, receiver_slots, result_slots, value_slots}
 use Rattle.jn_classtable.specs.Table.{bodies_of, count, field_of, fields_from, fields_of, method_of, methods_from, methods_of, param_slots, result_slot, slot_at, table}
 use Rattle.jn_annotate.specs.Insertions.{fields_in, file_fields, file_methods, first_slot, methods_in, type_fields, type_methods}
 use Rattle.jn_annotate.specs.Annotated.{differs, members_of, shared_from, shared_in, shared_in_members, shared_in_types}

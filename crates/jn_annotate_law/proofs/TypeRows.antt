@@ -6,7 +6,7 @@ use Rattle.std.proofs.lemmas.List.{drop_at}
 use Rattle.jn_base.specs.declared.place.Row.{Row}
 use Rattle.jn_base.specs.declared.number.NameNo.{NameNo}
 use Rattle.jn_base.specs.declared.infer.Infer.{Infer}
-use Rattle.jn_classtable.specs.Inferred.{class_marks, infers, method_marks}
+use Rattle.jn_heads.specs.Inferred.{class_marks, infers, method_marks}
 use Rattle.jn_annotate_law.proofs.Marked.{a_head, fields_at, marks_at, methods_at, some_heads}
 use Rattle.jn_quals.specs.Qualifier.{Qualifier}
 use Rattle.jn_points.specs.declared.program.Field.{Field}
@@ -21,14 +21,14 @@ use Rattle.jn_trees.specs.WellFormed.{GoodMembers, GoodType, GoodTypes}
 use Rattle.jn_trees.specs.Spelling.{spell_all_marks, spell_type_use, spell_declarator, spell_result, spell_member, spell_parent, spell_names, spell_type}
 use Rattle.jn_places.specs.Placed.{PlacedTypeUse}
 use Rattle.jn_places.specs.Places.{behind, place_name, place_type_use, place_marks, place_declarator, place_more_declarators, place_parameters, place_receiver, spell_receiver, place_result, place_member, place_members, place_type, place_each}
-use Rattle.jn_classtable.specs.declared.head.TypeHead.{TypeHead}
-use Rattle.jn_classtable.specs.declared.head.FieldHead.{FieldHead}
-use Rattle.jn_classtable.specs.declared.head.MethodHead.{MethodHead}
-use Rattle.jn_classtable.specs.declared.head.ClassHead.{ClassHead}
-use Rattle.jn_classtable.specs.Heads.{unplaced, unwritten_constructor}
-use Rattle.jn_classtable.specs.Types.{is_position, receiver_qual, has_receiver, field_slots, fields_slots, receiver_slots, params_slots, result_slots, method_slots, methods_slots, class_slots, slots_of_all}
+use Rattle.jn_heads.specs.declared.head.TypeHead.{TypeHead}
+use Rattle.jn_heads.specs.declared.head.FieldHead.{FieldHead}
+use Rattle.jn_heads.specs.declared.head.MethodHead.{MethodHead}
+use Rattle.jn_heads.specs.declared.head.ClassHead.{ClassHead}
+use Rattle.jn_heads.specs.Heads.{unplaced, unwritten_constructor}
+use Rattle.jn_heads.specs.Types.{is_position, receiver_qual, has_receiver, field_slots, fields_slots, receiver_slots, params_slots, result_slots, method_slots, methods_slots, class_slots, slots_of_all}
 use Rattle.jn_classtable.specs.Table.{slot_at, count, bodies_of, fields_of, fields_from, param_slots, method_of, methods_of, methods_from}
-use Rattle.jn_classtable.specs.Extract.{modifier_notes, type_head, param_head, result_head, receiver_notes, with_constructor}
+use Rattle.jn_heads.specs.Extract.{modifier_notes, type_head, param_head, result_head, receiver_notes, with_constructor}
 use Rattle.jn_lowering.specs.Annotations.{both_kinds, annotation_rows, name_row}
 use Rattle.jn_lowering.specs.FileRows.{notes_of, without_override, parameter_rows, result_rows, receiver_rows, head_rows, heads_rows, declared_type_rows, types_rows}
 use Rattle.jn_annotate.specs.Insertions.{type_fields, type_methods, inferred_qual}

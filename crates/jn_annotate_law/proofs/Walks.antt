@@ -6,7 +6,7 @@ use Rattle.std.proofs.lemmas.List.{append-nil}
 use Rattle.jn_base.specs.declared.number.NameNo.{NameNo}
 use Rattle.jn_base.specs.declared.number.SlotNo.{SlotNo}
 use Rattle.jn_base.specs.declared.infer.Infer.{Infer}
-use Rattle.jn_classtable.specs.Inferred.{infers, method_marks}
+use Rattle.jn_heads.specs.Inferred.{infers, method_marks}
 use Rattle.jn_annotate_law.proofs.Marked.{infers_alone, infers_result, methods_at}
 use Rattle.jn_quals.specs.Qualifier.{Qualifier}
 use Rattle.jn_points.specs.declared.program.Field.{Field}
@@ -19,20 +19,20 @@ use Rattle.jn_trees.specs.Trees.{TypeUseTree, Mark, ReceiverTree, MemberTree, Fi
 use Rattle.jn_trees.specs.WellFormed.{GoodMembers}
 use Rattle.jn_trees.specs.Spelling.{spell_all_marks, spell_result, spell_member}
 use Rattle.jn_places.specs.Places.{behind, place_marks, place_type_use, place_annotations, place_parameters, place_receiver, spell_receiver, place_result, place_member}
-use Rattle.jn_classtable.specs.declared.head.Notes.{Notes}
-use Rattle.jn_classtable.specs.declared.notes.Word.TheVariants.{Static as StaticWord}
-use Rattle.jn_classtable.specs.declared.head.TypeHead.{TypeHead}
-use Rattle.jn_classtable.specs.declared.head.MethodHead.{MethodHead}
-use Rattle.jn_classtable.specs.declared.head.ClassHead.{ClassHead}
-use Rattle.jn_classtable.specs.Heads.{unplaced, unwritten_constructor}
-use Rattle.jn_classtable.specs.Types.{receiver_qual, slot_of, is_position, receiver_slots, has_receiver, result_slots, params_slots, method_slots, methods_slots}
+use Rattle.jn_heads.specs.declared.head.Notes.{Notes}
+use Rattle.jn_heads.specs.declared.notes.Word.TheVariants.{Static as StaticWord}
+use Rattle.jn_heads.specs.declared.head.TypeHead.{TypeHead}
+use Rattle.jn_heads.specs.declared.head.MethodHead.{MethodHead}
+use Rattle.jn_heads.specs.declared.head.ClassHead.{ClassHead}
+use Rattle.jn_heads.specs.Heads.{unplaced, unwritten_constructor}
+use Rattle.jn_heads.specs.Types.{receiver_qual, slot_of, is_position, receiver_slots, has_receiver, result_slots, params_slots, method_slots, methods_slots}
 use Rattle.jn_classtable.specs.Table.{slot_at, param_slots, result_slot, method_of, methods_of, count}
-use Rattle.jn_classtable.specs.Extract.{has_word, notes_of, modifier_notes, type_head, param_head, result_head, receiver_notes}
+use Rattle.jn_heads.specs.Extract.{has_word, notes_of, modifier_notes, type_head, param_head, result_head, receiver_notes}
 use Rattle.jn_bare_law.specs.Written.{written_slot}
 use Rattle.jn_annotate.specs.Words.{is_unspelled, initialization_name}
 use Rattle.jn_annotate.specs.Insertions.{fields_in, inferred_qual}
 use Rattle.jn_annotate_law.specs.Trees.{names_of, leading, noted_use, noted_marks, noted_receiver, noted_result, noted_result_marks, both_at, noted_parameters, noted_members}
-use Rattle.jn_annotate_law.specs.Plain.{plain_head}
+use Rattle.jn_blind_law.specs.Plain.{plain_head}
 use Rattle.jn_annotate_law.specs.Says.{Spelled, MembersSay}
 use Rattle.jn_annotate_law.proofs.Meanings.{receiver_slot, annotations_more}
 use Rattle.jn_annotate_law.proofs.Extracting.{marked_same, result_words}

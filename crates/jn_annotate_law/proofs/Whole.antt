@@ -14,11 +14,11 @@ use Rattle.jn_trees.specs.declared.token.Token.{Token}
 use Rattle.jn_places.specs.Placed.{PlacedFile}
 use Rattle.jn_places.specs.Forget.{forget_file}
 use Rattle.jn_transfer.specs.Contributions.{is_inferred}
-use Rattle.jn_classtable.specs.Extract.{heads}
+use Rattle.jn_heads.specs.Extract.{heads}
 use Rattle.jn_base.specs.declared.infer.Infer.{Infer}
 use Rattle.std.proofs.lemmas.List.{length-map}
 use Rattle.jn_trees.specs.Trees.{SourceTree}
-use Rattle.jn_classtable.specs.Inferred.{slots_by}
+use Rattle.jn_heads.specs.Inferred.{slots_by}
 use Rattle.jn_program_law.specs.FileProgram.{inferring, program_of_files, rows_of_files}
 use Rattle.jn_bare_law.specs.Bare.{Alike, bare, bare_slot}
 use Rattle.jn_bare_law.specs.Written.{written_slot}
@@ -39,7 +39,7 @@ use Rattle.jn_annotate_law.proofs.AllRows.{no_rows_more}
 use Rattle.jn_annotate_law.proofs.Lined.{lined_rows, program_same}
 use Rattle.jn_annotate_law.proofs.Fitting.{all_fit}
 use Rattle.jn_annotate_law.proofs.Extracting.{heads_plain}
-use Rattle.jn_annotate_law.proofs.Tables.{tables_alike}
+use Rattle.jn_blind_law.proofs.Tables.{tables_alike}
 use Rattle.jn_annotate_law.proofs.Sources.{alike_programs}
 use Rattle.jn_annotate_law.proofs.Written.{all_written}
 use Rattle.jn_annotate_law.proofs.Roles.{Agree, starts_agree}

@@ -1,7 +1,6 @@
 pub mod Trees
 pub mod Fits
 pub mod Meaning
-pub mod Plain
 pub mod Noted
 pub mod Says
 pub mod Kept

@@ -20,12 +20,11 @@ ghost use Rattle.jn_places.specs.Placed.{PlacedFile};
 ghost use Rattle.jn_splice_law.specs.Inserted.{inserted};
 ghost use Rattle.jn_splice_law.specs.Woven.{IsNamed};
 ghost use Rattle.jn_bare_law.specs.Bare.{Alike, codes_of};
-ghost use Rattle.jn_classtable.specs.declared.head.ClassHead.{ClassHead};
 ghost use Rattle.jn_classtable.specs.Rows.{t_rows};
-ghost use Rattle.jn_classtable.specs.Extract.{heads, notes_by};
+ghost use Rattle.jn_heads.specs.Extract.{heads, notes_by};
 ghost use Rattle.jn_classtable.specs.Table.{table};
 ghost use Rattle.jn_bare_law.specs.Written.{IsWritten, written_slot};
-ghost use Rattle.jn_classtable.specs.Types.{field_qual, is_written, receiver_qual, slot_of, written_qual};
+ghost use Rattle.jn_heads.specs.Types.{field_qual, is_written, receiver_qual, slot_of, written_qual};
 ghost use Rattle.jn_tables_law.specs.Inferable.{IsInferable};
 ghost use Rattle.jn_quals.specs.Order.{no_qual};
 ghost use Rattle.jn_sigs.specs.Signature.{start_signature};
@@ -43,7 +42,6 @@ ghost use Rattle.jn_lowering.specs.BodyRows.{rows_of_bodies};
 ghost use Rattle.jn_program_law.specs.FileSources.{sources};
 ghost use Rattle.jn_program_law.specs.FileProgram.{inferring, j_rows, program_of_files, rows_of_files};
 ghost use Rattle.jn_annotate_law.specs.Noted.{notes_with};
-ghost use Rattle.jn_annotate_law.specs.Plain.{plain_head};
 ghost use Rattle.jn_annotate.specs.Words.{initialization_name, is_unspelled};
 
 use jn_classtable::ClassTable;
@@ -106,15 +104,6 @@ pub fn annotated_files_have_alike_programs()
         → AllPlaced tokens trees → AllPlaced others places
         → map forget_file places ≡ noted_files slots s (map forget_file trees) fields methods
         → Alike (program_of_files trees) (program_of_files places) }
-{}
-
-/// Heads that are the same but for places and what is written of nullness and initialization have class tables that differ in no more, and rows T1
-/// to T10 of the same codes, in one order.
-pub fn alike_heads_have_alike_tables()
-    ensures tables { (hs gs : List ClassHead) → map plain_head hs ≡ map plain_head gs
-        → Alike (table hs) (table gs) }
-    ensures rows { (hs gs : List ClassHead) → map plain_head hs ≡ map plain_head gs
-        → codes_of (t_rows hs) ≡ codes_of (t_rows gs) }
 {}
 
 /// Their class tables have the same codes of rows T1 to T10, in one order: none where the files had none.

@@ -100,7 +100,7 @@ truth_parts q span dst =
     ∷ plain (does span (Const (register dst) (Truth false)))
     ∷ []
 
-base_is : (f : Option Field) → field_base_of (option_map bare_field f) ≡ field_base_of f
+pub base_is : (f : Option Field) → field_base_of (option_map bare_field f) ≡ field_base_of f
 base_is None = refl
 base_is (Some f) = refl
 

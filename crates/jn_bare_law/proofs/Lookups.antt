@@ -83,11 +83,11 @@ pub body_bare : (m : Option Method) → body_of (option_map bare_method m) ≡ b
 body_bare None = refl
 body_bare (Some m) = refl
 
-supers_bare : (c : Option Class) → supers_of (option_map bare_class c) ≡ supers_of c
+pub supers_bare : (c : Option Class) → supers_of (option_map bare_class c) ≡ supers_of c
 supers_bare None = refl
 supers_bare (Some c) = refl
 
-parent_bare : (c : Option Class) → parent_of (option_map bare_class c) ≡ parent_of c
+pub parent_bare : (c : Option Class) → parent_of (option_map bare_class c) ≡ parent_of c
 parent_bare None = refl
 parent_bare (Some c) = refl
 

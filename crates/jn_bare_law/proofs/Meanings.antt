@@ -164,7 +164,7 @@ module _ (P : Program) where
   field_or_class_is (Some f) n = refl
   field_or_class_is None n = ap (λ k. class_or_system (bare P) k n) (class_named_is n) ∙ class_or_system_is (class_named P n) n
 
-  access_of_is : (b : BaseType) (n : ℕ) → access_of (bare P) b n ≡ access_of P b n
+  pub access_of_is : (b : BaseType) (n : ℕ) → access_of (bare P) b n ≡ access_of P b n
   access_of_is (Ref k) n = ap object_access (field_of_is k.0 n)
   access_of_is (Array e nullable) n = refl
   access_of_is Int n = refl
@@ -179,7 +179,7 @@ module _ (P : Program) where
   access_by_is (FieldMeant f) b n = access_of_is b n
   access_by_is NothingMeant b n = access_of_is b n
 
-  callee_of_is : (b : BaseType) (n arity : ℕ) → callee_of (bare P) b n arity ≡ callee_of P b n arity
+  pub callee_of_is : (b : BaseType) (n arity : ℕ) → callee_of (bare P) b n arity ≡ callee_of P b n arity
   callee_of_is (Ref k) n arity = ap (λ m. cond (eqb k.0 1) (text_callee n arity) (object_callee m)) (method_of_is P k.0 n arity)
   callee_of_is (Array e nullable) n arity = refl
   callee_of_is Int n arity = refl
@@ -208,17 +208,17 @@ module _ (P : Program) where
       ∙ ap (λ b. Array (elem_type P base as') (b && has_annotation nullable_name (bare_annotations as'))) (class_use_bare base)
       ∙ ap (λ b. Array (elem_type P base as') (is_class_use base && b)) (annotation_bare nullable_name as')
 
-  access_type_is : (a : Access) → access_type (bare P) a ≡ access_type P a
+  pub access_type_is : (a : Access) → access_type (bare P) a ≡ access_type P a
   access_type_is (ClassField f) = base_of_field f
   access_type_is (ObjectField f) = base_of_field f
   access_type_is ArrayLength = refl
   access_type_is NoField = refl
 
-  result_type_is : (m : Option ℕ) → result_type (bare P) m ≡ result_type P m
+  pub result_type_is : (m : Option ℕ) → result_type (bare P) m ≡ result_type P m
   result_type_is None = refl
   result_type_is (Some m) = result_is m
 
-  callee_type_is : (k : Callee) → callee_type (bare P) k ≡ callee_type P k
+  pub callee_type_is : (k : Callee) → callee_type (bare P) k ≡ callee_type P k
   callee_type_is Println = refl
   callee_type_is (OfText op) = refl
   callee_type_is (ClassMethod m) = result_is m
@@ -473,7 +473,7 @@ module _ (P : Program) where
     register_is s (PlacedConditional q a b span) = refl
     register_is s (PlacedAssign target o e span) = refl
 
-    own_origin_is : (b : Bool) (f : ℕ) → own_origin (bare P) c b f ≡ own_origin P c b f
+    pub own_origin_is : (b : Bool) (f : ℕ) → own_origin (bare P) c b f ≡ own_origin P c b f
     own_origin_is true f = refl
     own_origin_is false f = refl
 
@@ -484,7 +484,7 @@ module _ (P : Program) where
     name_origin_is SystemMeant = refl
     name_origin_is NothingMeant = refl
 
-    access_origin_is : (r : Option ℕ) (a : Access) → access_origin (bare P) c r a ≡ access_origin P c r a
+    pub access_origin_is : (r : Option ℕ) (a : Access) → access_origin (bare P) c r a ≡ access_origin P c r a
     access_origin_is None a = refl
     access_origin_is (Some r) (ClassField f) = refl
     access_origin_is (Some r) (ObjectField f) = refl

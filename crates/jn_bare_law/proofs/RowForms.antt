@@ -86,19 +86,19 @@ notes_same allowed b d as' bs h k = notes_bare allowed b as' ∙ ap (λ x. codes
 
 -- ---- items
 
-private_field_bare : (f : Option Field) → private_field (option_map bare_field f) ≡ private_field f
+pub private_field_bare : (f : Option Field) → private_field (option_map bare_field f) ≡ private_field f
 private_field_bare None = refl
 private_field_bare (Some f) = refl
 
-final_field_bare : (f : Option Field) → final_field (option_map bare_field f) ≡ final_field f
+pub final_field_bare : (f : Option Field) → final_field (option_map bare_field f) ≡ final_field f
 final_field_bare None = refl
 final_field_bare (Some f) = refl
 
-abstract_method_bare : (m : Option Method) → abstract_method (option_map bare_method m) ≡ abstract_method m
+pub abstract_method_bare : (m : Option Method) → abstract_method (option_map bare_method m) ≡ abstract_method m
 abstract_method_bare None = refl
 abstract_method_bare (Some m) = refl
 
-abstract_class_bare : (c : Option Class) → abstract_class (option_map bare_class c) ≡ abstract_class c
+pub abstract_class_bare : (c : Option Class) → abstract_class (option_map bare_class c) ≡ abstract_class c
 abstract_class_bare None = refl
 abstract_class_bare (Some c) = refl
 

@@ -20,9 +20,10 @@ use Rattle.jn_lowering.specs.Statements.{Step, back, both_steps, fresh, no_step,
 use Rattle.jn_lowering.specs.Bodies.{Source, calls_own, is_under_object, declarators_of, class, parent, name_span, at_entry, local_count, called_ctor, arguments, ctor_call, unwritten_call, construction, initializer_value, writes_field, initializes, initializers_of, initializers, body_of_parts, call_of, fields_of, whole, code_of, registers_of, body_of_source}
 use Rattle.jn_bare_law.specs.Bare.{Alike}
 use Rattle.jn_bare_law.proofs.Lookups.{parent_is}
-use Rattle.jn_blind_law.proofs.Meanings.{carried, params_is, class_at_is, ctor_at_is, static_method_is, static_is, declared_field_is, constructor_is, parent_class_is, given_is}
+use Rattle.jn_blind_law.proofs.Meanings.{carried, params_is, class_at_is, ctor_at_is, given_is}
 use Rattle.jn_blind_law.proofs.Expressions.{lower_is, operands_is}
 use Rattle.jn_blind_law.proofs.Statements.{statements_is}
+use Rattle.jn_bare_law.proofs.Meanings.{static_method_is, static_is, declared_field_is, constructor_is, parent_class_is}
 
 -- the state in which a body begins
 abbrev begins : Scope → List BaseType → State

@@ -20,11 +20,12 @@ use Rattle.jn_lowering.specs.StatementRows.{all_rows}
 use Rattle.jn_lowering.specs.BodyRows.{construction_rows, ctor_call_rows, facts, field_rows, in_body, in_initializer, initializer_rows, initializers_rows, is_too_large, limit_rows, member_rows, no_this, own_fields, rows_of_body, rows_of_source, whole_rows}
 use Rattle.jn_bare_law.specs.Bare.{Alike, bare, bare_field}
 use Rattle.jn_bare_law.proofs.Lookups.{owner_is, parent_is, ref_field_is}
-use Rattle.jn_blind_law.proofs.Meanings.{carried, class_at_is, ctor_at_is, declared_field_is, parent_class_is, static_is, static_method_is}
+use Rattle.jn_blind_law.proofs.Meanings.{carried, class_at_is, ctor_at_is}
 use Rattle.jn_blind_law.proofs.RowForms.{ctor_rows_is}
+use Rattle.jn_blind_law.proofs.Bodies.{count_same, entry_same, whole_same}
+use Rattle.jn_bare_law.proofs.Meanings.{static_method_is, static_is, declared_field_is, parent_class_is}
 use Rattle.jn_blind_law.proofs.ExpressionRows as expressions
 use Rattle.jn_blind_law.proofs.StatementRows as statements
-use Rattle.jn_blind_law.proofs.Bodies.{count_same, entry_same, whole_same}
 
 -- `super()` where neither it nor `this(..)` is written
 abbrev unwritten_rows : Program → ℕ → State → Span → List Row

@@ -11,8 +11,9 @@ use Rattle.jn_lowering.specs.Annotations.{row, unless, when}
 use Rattle.jn_lowering.specs.ExpressionRows.{Setting, assigned_rows, equality_rows, index_rows, inner_span, is_this, rows_of, rows_of_all}
 use Rattle.jn_bare_law.specs.Bare.{bare}
 use Rattle.jn_bare_law.proofs.Lookups.{method_of_is}
-use Rattle.jn_blind_law.proofs.Meanings.{access_is, base_rows_is, before_is, callee_is, meaning_is, super_method_is, type_is}
+use Rattle.jn_blind_law.proofs.Meanings.{access_is, base_rows_is, before_is, callee_is, meaning_is, type_is}
 use Rattle.jn_blind_law.proofs.RowForms.{access_rows_is, array_rows_is, assigned_access_is, assigned_name_is, dotted_is, name_rows_is, new_rows_is, own_method_is, super_rows_is}
+use Rattle.jn_bare_law.proofs.Meanings.{super_method_is}
 
 module _ (P : Program) (c : ℕ) (at : Setting) where
   mutual

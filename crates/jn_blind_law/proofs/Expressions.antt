@@ -20,8 +20,9 @@ use Rattle.jn_lowering.specs.Calls.{chosen, class_no, instance_tested, with_oper
 use Rattle.jn_lowering.specs.Expressions.{is_null, span_of, element, binary, unary, assignment, lower, operands}
 use Rattle.jn_bare_law.specs.Bare.{bare}
 use Rattle.jn_bare_law.proofs.Lookups.{method_of_is}
-use Rattle.jn_blind_law.proofs.Meanings.{wider_is, array_is, constructor_is, class_named_is, meaning_is, super_method_is, access_is, callee_is, type_is, assigns_is, any_is, origin_is}
+use Rattle.jn_blind_law.proofs.Meanings.{array_is, meaning_is, access_is, callee_is, type_is, assigns_is, any_is, origin_is}
 use Rattle.jn_blind_law.proofs.Forms.{name_spot_is, read_of_is, as_place_is, access_place_is, dotted_is, own_call_is, super_call_is, created_is, simply_is, compound_is, prefixed_is, old_value_is, postfixed_is}
+use Rattle.jn_bare_law.proofs.Meanings.{constructor_is, class_named_is, wider_is, super_method_is}
 
 -- where the identifier's value stands
 abbrev located : Spot → Temporaries → Located

@@ -15,7 +15,7 @@ use Rattle.jn_lowering.specs.Scopes.{Meaning, LocalMeant, FieldMeant, ClassMeant
 use Rattle.jn_lowering.specs.Forms.{Value, Spot, LocalSpot, StaticSpot, FieldSpot, ElementSpot, LengthSpot, NoSpot, Located, Lowered, field_no, none_later, branch, step_operator, gives, void, read, write, read_of, as_place, combined}
 use Rattle.jn_lowering.specs.Calls.{Operands, method_no, this_operand, own_field, name_spot, access_place, called, println_of, dotted_call, own_receiver, own_call, super_call, created, assigned_operand, simply_assigned, written, compound, one, stepped, prefixed, old_value, with_result, postfixed}
 use Rattle.jn_bare_law.specs.Bare.{bare}
-use Rattle.jn_blind_law.proofs.Meanings.{base_of_field, static_is, static_method_is, private_is, result_is}
+use Rattle.jn_bare_law.proofs.Meanings.{result_is, private_is, static_method_is, static_is, base_of_field}
 
 abbrev a_value : Fragment → Operand → Temporaries → Value
 a_value f o t = record { fragment = f; operand = o; behind = t }

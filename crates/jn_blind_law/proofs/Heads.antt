@@ -11,7 +11,7 @@ use Rattle.jn_points.specs.declared.program.Program.{Program}
 use Rattle.jn_points.specs.Lookup.{supers_of, parent_of, class_info, field_info, method_at}
 use Rattle.jn_points.specs.Members.{some_of, first_at, is_class, reaches, sub, interfaces, walk_parent, walk_by, walk}
 use Rattle.jn_bare_law.specs.Bare.{Alike, bare_class, bare_field, bare_method}
-use Rattle.jn_bare_law.proofs.Lookups.{first_at-map}
+use Rattle.jn_bare_law.proofs.Lookups.{first_at-map, supers_bare, parent_bare}
 use Rattle.jn_blind_law.specs.Heads.{HeadsAlike}
 
 -- programs that are alike declare the same but for places
@@ -43,14 +43,6 @@ module _ {A : Type 0} (bare : A → A) where
     -- and so is the first item that passes a test
     pub first_same : (test : A → Bool) → ((x : A) → test (bare x) ≡ test x) → first_at test 0 xs ≡ first_at test 0 ys
     first_same test p = sym (first_bare test p xs) ∙ ap (first_at test 0) h ∙ first_bare test p ys
-
-supers_bare : (c : Option Class) → supers_of (option_map bare_class c) ≡ supers_of c
-supers_bare None = refl
-supers_bare (Some c) = refl
-
-parent_bare : (c : Option Class) → parent_of (option_map bare_class c) ≡ parent_of c
-parent_bare None = refl
-parent_bare (Some c) = refl
 
 module _ (P Q : Program) (h : HeadsAlike P Q) where
   pub class_same : {B : Type 0} (f : Option Class → B) → ((x : Option Class) → f (option_map bare_class x) ≡ f x) → (c : ℕ) → f (class_info P c) ≡ f (class_info Q c)

@@ -10,3 +10,6 @@ pub mod BodyRows
 pub mod Heads
 pub mod Typing
 pub mod Indexes
+pub mod Tables
+pub mod ClassRows
+pub mod HeadRows

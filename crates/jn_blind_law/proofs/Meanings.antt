@@ -1,51 +1,32 @@
 -- What names mean, what types forms have and what a body is given don't depend on the places of the class table.
-use Rattle.std.proofs.Common.{◌≡◌, ℕ, Bool, true, false, cond, not, ◌&&◌, ◌||◌, List, ◌∷◌, length, Option, Some, None, refl, sym, ap, ◌∙◌}
-use Rattle.std.specs.Prelude.{eqb, option_map}
-use Rattle.std.proofs.Math.Path.{fun_ext}
-use Rattle.jn_base.specs.declared.number.ClassNo.{ClassNo}
+use Rattle.std.proofs.Common.{◌≡◌, ℕ, Bool, cond, ◌&&◌, ◌||◌, List, ◌∷◌, Option, Some, None, refl, sym, ap, ◌∙◌}
+use Rattle.std.specs.Prelude.{eqb}
 use Rattle.jn_base.specs.declared.place.Span.{Span}
 use Rattle.jn_trees.specs.declared.expression.Annotation.{Annotation}
 use Rattle.jn_trees.specs.declared.expression.Base.{Base}
 use Rattle.jn_trees.specs.declared.expression.Base.TheVariants.{Class as ClassUse, Int as IntUse, Boolean as BooleanUse}
 use Rattle.jn_points.specs.declared.point.BaseType.{BaseType}
-use Rattle.jn_points.specs.declared.point.BaseType.TheVariants.{Int, Bool as BoolBase, Void, Null, Ref, Array}
+use Rattle.jn_points.specs.declared.point.BaseType.TheVariants.{Ref, Array}
 use Rattle.jn_points.specs.declared.point.Elem.TheVariants.{Ref as RefElem}
-use Rattle.jn_points.specs.declared.program.Field.{Field}
-use Rattle.jn_points.specs.declared.program.Method.{Method}
 use Rattle.jn_points.specs.declared.program.Program.{Program}
 use Rattle.jn_points.specs.BaseTyping.{given_bases}
-use Rattle.jn_points.specs.Lookup.{class_of, ctor_of, elem_base, field_base, field_base_of, field_info, method_at, params_of, result_base_of, private_of, static_of, parent_of, class_info}
-use Rattle.jn_points.specs.Members.{first_some, walk, declared_field, field_of, method_of, constructor_of, type_within}
-use Rattle.jn_points.specs.Regular.{static_field}
+use Rattle.jn_points.specs.Lookup.{class_of, ctor_of, elem_base, method_at, params_of, static_of}
+use Rattle.jn_points.specs.Members.{field_of, method_of}
 use Rattle.jn_known.specs.Known.{out_name, println_name, nullable_name}
 use Rattle.jn_places.specs.Placed.{PlacedTree, PlacedTrees, NoPlacedTrees, MorePlacedTrees, PlacedLiteral, PlacedName, PlacedThis, PlacedParen, PlacedField, PlacedCall, PlacedOwnCall, PlacedSuperCall, PlacedIndex, PlacedNew, PlacedNewArray, PlacedArrayOf, PlacedPostfix, PlacedPrefix, PlacedUnary, PlacedCast, PlacedBinary, PlacedInstanceOf, PlacedConditional, PlacedAssign, PlacedTypeUse}
-use Rattle.jn_lowering.specs.Scopes.{Local, Scope, local_in, Meaning, LocalMeant, FieldMeant, ClassMeant, SystemMeant, NothingMeant, is_system, Access, ClassField, ObjectField, ArrayLength, NoField, Callee, Println, OfText, ClassMethod, ObjectMethod, NoMethod, or_zero, count, object_access, class_access, text_callee, object_callee, class_callee, class_named, class_or_system, field_or_class, access_of, access_by, callee_of, callee_by, parent_class, local_or_field, meaning, before_dot, access, is_output, callee, super_method}
+use Rattle.jn_lowering.specs.Scopes.{Local, Scope, local_in, Meaning, LocalMeant, FieldMeant, ClassMeant, SystemMeant, NothingMeant, is_system, Println, or_zero, count, class_access, class_callee, class_named, class_or_system, field_or_class, access_by, callee_by, local_or_field, meaning, before_dot, access, is_output, callee, super_method}
 use Rattle.jn_lowering.specs.Bases.{ref, elem_type, array_type, simple_type, type_by, type_of_use, has_annotation, is_class_use, access_type, result_type, callee_type, meaning_type, wider, is_local, is_local_meaning, binary_type, assign_type, operator_of, type_of}
 use Rattle.jn_lowering.specs.Annotations.{known_class, base_rows}
 use Rattle.jn_lowering.specs.Calls.{is_static}
 use Rattle.jn_lowering.specs.Expressions.{is_register, names_register, assigns, assigns_any, local_register, register_of, own_origin, name_origin, access_origin, origin_of}
-use Rattle.jn_bare_law.specs.Bare.{Alike, bare, bare_class, bare_field, bare_method}
-use Rattle.jn_bare_law.proofs.Lookups.{first_at-map, field_info_is, method_at_is, class_bare, ctor_bare, static_bare, parent_is, sub_is, walk_is, method_of_is}
+use Rattle.jn_bare_law.specs.Bare.{Alike, bare}
+use Rattle.jn_bare_law.proofs.Lookups.{method_at_is, class_bare, ctor_bare, method_of_is}
+use Rattle.jn_bare_law.proofs.Meanings.{static_method_is, static_is, base_of_field, field_of_is, class_named_is, access_of_is, callee_of_is, wider_is, access_type_is, result_type_is, callee_type_is, super_method_is, own_origin_is, access_origin_is}
+use Rattle.jn_bare_law.proofs.Bodies.{params_bare}
 
 -- what doesn't depend on places is the same in programs that are alike
 pub carried : {A : Type 0} (f : Program → A) (P Q : Program) → Alike P Q → f (bare P) ≡ f P → f (bare Q) ≡ f Q → f P ≡ f Q
 carried f P Q h p q = sym p ∙ ap f h ∙ q
-
-pub result_bare : (m : Option Method) → result_base_of (option_map bare_method m) ≡ result_base_of m
-result_bare None = refl
-result_bare (Some m) = refl
-
-pub private_bare : (m : Option Method) → private_of (option_map bare_method m) ≡ private_of m
-private_bare None = refl
-private_bare (Some m) = refl
-
-pub base_bare : (f : Option Field) → field_base_of (option_map bare_field f) ≡ field_base_of f
-base_bare None = refl
-base_bare (Some f) = refl
-
-pub params_bare : (m : Option Method) → params_of (option_map bare_method m) ≡ params_of m
-params_bare None = refl
-params_bare (Some m) = refl
 
 module _ (P : Program) where
   pub params_is : (m : ℕ) → params_of (method_at (bare P) m) ≡ params_of (method_at P m)
@@ -57,127 +38,50 @@ module _ (P : Program) where
   pub ctor_at_is : (m : ℕ) → ctor_of (method_at (bare P) m) ≡ ctor_of (method_at P m)
   ctor_at_is m = ap ctor_of (method_at_is P m) ∙ ctor_bare (method_at P m)
 
-  pub result_is : (m : ℕ) → result_base_of (method_at (bare P) m) ≡ result_base_of (method_at P m)
-  result_is m = ap result_base_of (method_at_is P m) ∙ result_bare (method_at P m)
-
-  pub private_is : (m : ℕ) → private_of (method_at (bare P) m) ≡ private_of (method_at P m)
-  private_is m = ap private_of (method_at_is P m) ∙ private_bare (method_at P m)
-
-  pub static_method_is : (m : ℕ) → static_of (method_at (bare P) m) ≡ static_of (method_at P m)
-  static_method_is m = ap static_of (method_at_is P m) ∙ static_bare (method_at P m)
-
-  pub static_field_bare : (f : Option Field) → static_field (bare P) (option_map bare_field f) ≡ static_field P f
-  static_field_bare None = refl
-  static_field_bare (Some f) = refl
-
-  pub static_is : (f : ℕ) → is_static (bare P) f ≡ is_static P f
-  static_is f = ap (static_field (bare P)) (field_info_is P f) ∙ static_field_bare (field_info P f)
-
-  pub base_of_field : (f : ℕ) → field_base (bare P) f ≡ field_base P f
-  base_of_field f = ap field_base_of (field_info_is P f) ∙ base_bare (field_info P f)
-
-  pub declared_field_is : (c name d : ℕ) → declared_field (bare P) c name d ≡ declared_field P c name d
-  declared_field_is c name d = first_at-map bare_field (λ f. eqb f.name.0 name && eqb f.owner.0 d && (not f.is_private || eqb d c)) 0 P.fields
-
-  pub field_of_is : (c name : ℕ) → field_of (bare P) c name ≡ field_of P c name
-  field_of_is c name = ap (λ f. first_some f (walk (bare P) c)) (fun_ext (declared_field_is c name)) ∙ ap (first_some (declared_field P c name)) (walk_is P c)
-
-  pub constructor_is : (c arity : ℕ) → constructor_of (bare P) c arity ≡ constructor_of P c arity
-  constructor_is c arity = first_at-map bare_method (λ m. m.ctor && eqb m.owner.0 c && eqb (length m.params) arity) 0 P.methods
-
-  pub class_named_is : (n : ℕ) → class_named (bare P) n ≡ class_named P n
-  class_named_is n = first_at-map bare_class (λ k. eqb k.name.0 n) 0 P.classes
-
   pub class_or_system_is : (k : Option ℕ) (n : ℕ) → class_or_system (bare P) k n ≡ class_or_system P k n
   class_or_system_is (Some k) n = refl
   class_or_system_is None n = refl
 
   pub field_or_class_is : (f : Option ℕ) (n : ℕ) → field_or_class (bare P) f n ≡ field_or_class P f n
   field_or_class_is (Some f) n = refl
-  field_or_class_is None n = ap (λ k. class_or_system (bare P) k n) (class_named_is n) ∙ class_or_system_is (class_named P n) n
-
-  pub access_of_is : (b : BaseType) (n : ℕ) → access_of (bare P) b n ≡ access_of P b n
-  access_of_is (Ref k) n = ap object_access (field_of_is k.0 n)
-  access_of_is (Array e nullable) n = refl
-  access_of_is Int n = refl
-  access_of_is BoolBase n = refl
-  access_of_is Void n = refl
-  access_of_is Null n = refl
+  field_or_class_is None n = ap (λ k. class_or_system (bare P) k n) (class_named_is P n) ∙ class_or_system_is (class_named P n) n
 
   pub access_by_is : (m : Meaning) (b : BaseType) (n : ℕ) → access_by (bare P) m b n ≡ access_by P m b n
-  access_by_is (ClassMeant k) b n = ap class_access (field_of_is k n)
+  access_by_is (ClassMeant k) b n = ap class_access (field_of_is P k n)
   access_by_is SystemMeant b n = refl
-  access_by_is (LocalMeant l) b n = access_of_is b n
-  access_by_is (FieldMeant f) b n = access_of_is b n
-  access_by_is NothingMeant b n = access_of_is b n
-
-  pub callee_of_is : (b : BaseType) (n arity : ℕ) → callee_of (bare P) b n arity ≡ callee_of P b n arity
-  callee_of_is (Ref k) n arity = ap (λ m. cond (eqb k.0 1) (text_callee n arity) (object_callee m)) (method_of_is P k.0 n arity)
-  callee_of_is (Array e nullable) n arity = refl
-  callee_of_is Int n arity = refl
-  callee_of_is BoolBase n arity = refl
-  callee_of_is Void n arity = refl
-  callee_of_is Null n arity = refl
+  access_by_is (LocalMeant l) b n = access_of_is P b n
+  access_by_is (FieldMeant f) b n = access_of_is P b n
+  access_by_is NothingMeant b n = access_of_is P b n
 
   pub callee_by_is : (m : Meaning) (b : BaseType) (n arity : ℕ) → callee_by (bare P) m b n arity ≡ callee_by P m b n arity
   callee_by_is (ClassMeant k) b n arity = ap class_callee (method_of_is P k n arity)
   callee_by_is SystemMeant b n arity = refl
-  callee_by_is (LocalMeant l) b n arity = callee_of_is b n arity
-  callee_by_is (FieldMeant f) b n arity = callee_of_is b n arity
-  callee_by_is NothingMeant b n arity = callee_of_is b n arity
-
-  pub wider_is : (a b : BaseType) → wider (bare P) a b ≡ wider P a b
-  wider_is a b = ap (λ (r : ℕ → ℕ → Bool). cond (type_within r a b) b a) (fun_ext (λ c. fun_ext (sub_is P c)))
+  callee_by_is (LocalMeant l) b n arity = callee_of_is P b n arity
+  callee_by_is (FieldMeant f) b n arity = callee_of_is P b n arity
+  callee_by_is NothingMeant b n arity = callee_of_is P b n arity
 
   pub elem_is : (base : Base) (as' : List Annotation) → elem_type (bare P) base as' ≡ elem_type P base as'
-  elem_is (ClassUse n) as' = ap (λ (k : Option ℕ). RefElem (record { 0 = or_zero k })) (class_named_is n.name.0)
+  elem_is (ClassUse n) as' = ap (λ (k : Option ℕ). RefElem (record { 0 = or_zero k })) (class_named_is P n.name.0)
   elem_is (IntUse s) as' = refl
   elem_is (BooleanUse s) as' = refl
 
   pub array_is : (base : Base) (as' : List Annotation) → array_type (bare P) base as' ≡ array_type P base as'
   array_is base as' = ap (λ e. Array e (is_class_use base && has_annotation nullable_name as')) (elem_is base as')
 
-  pub access_type_is : (a : Access) → access_type (bare P) a ≡ access_type P a
-  access_type_is (ClassField f) = base_of_field f
-  access_type_is (ObjectField f) = base_of_field f
-  access_type_is ArrayLength = refl
-  access_type_is NoField = refl
-
-  pub result_type_is : (m : Option ℕ) → result_type (bare P) m ≡ result_type P m
-  result_type_is None = refl
-  result_type_is (Some m) = result_is m
-
-  pub callee_type_is : (k : Callee) → callee_type (bare P) k ≡ callee_type P k
-  callee_type_is Println = refl
-  callee_type_is (OfText op) = refl
-  callee_type_is (ClassMethod m) = result_is m
-  callee_type_is (ObjectMethod m) = result_is m
-  callee_type_is NoMethod = refl
-
   pub meaning_type_is : (m : Meaning) → meaning_type (bare P) m ≡ meaning_type P m
   meaning_type_is (LocalMeant l) = refl
-  meaning_type_is (FieldMeant f) = base_of_field f
+  meaning_type_is (FieldMeant f) = base_of_field P f
   meaning_type_is (ClassMeant k) = refl
   meaning_type_is SystemMeant = refl
   meaning_type_is NothingMeant = refl
 
-  pub parent_class_is : (c : ℕ) → parent_class (bare P) (parent_of (class_info (bare P) c)) ≡ parent_class P (parent_of (class_info P c))
-  parent_class_is c = ap (parent_class (bare P)) (parent_is P c) ∙ same (parent_of (class_info P c))
-    where
-      same : (k : Option ClassNo) → parent_class (bare P) k ≡ parent_class P k
-      same None = refl
-      same (Some k) = refl
-
   module _ (c : ℕ) where
     pub local_or_field_is : (l : Option Local) (n : ℕ) → local_or_field (bare P) c l n ≡ local_or_field P c l n
     local_or_field_is (Some l) n = refl
-    local_or_field_is None n = ap (λ f. field_or_class (bare P) f n) (field_of_is c n) ∙ field_or_class_is (field_of P c n) n
+    local_or_field_is None n = ap (λ f. field_or_class (bare P) f n) (field_of_is P c n) ∙ field_or_class_is (field_of P c n) n
 
     pub meaning_is : (s : Scope) (n : ℕ) → meaning (bare P) c s n ≡ meaning P c s n
     meaning_is s n = local_or_field_is (local_in s n) n
-
-    pub super_method_is : (n arity : ℕ) → super_method (bare P) c n arity ≡ super_method P c n arity
-    super_method_is n arity = ap (λ k. method_of (bare P) k n arity) (parent_class_is c) ∙ method_of_is P (parent_class P (parent_of (class_info P c))) n arity
 
     pub before_is : (s : Scope) (e : PlacedTree) → before_dot (bare P) c s e ≡ before_dot P c s e
     before_is s (PlacedLiteral l span) = refl
@@ -281,28 +185,28 @@ module _ (P : Program) where
     type_is s (PlacedField e n span) =
         ap (λ b. access_type (bare P) (access (bare P) c s e b n.name.0)) (type_is s e)
         ∙ ap (access_type (bare P)) (access_is s e (type_of P c s e) n.name.0)
-        ∙ access_type_is (access P c s e (type_of P c s e) n.name.0)
+        ∙ access_type_is P (access P c s e (type_of P c s e) n.name.0)
     type_is s (PlacedCall e n es span) =
         ap (λ b. callee_type (bare P) (callee (bare P) c s e b n.name.0 (count es))) (type_is s e)
         ∙ ap (callee_type (bare P)) (callee_is s e (type_of P c s e) n.name.0 (count es))
-        ∙ callee_type_is (callee P c s e (type_of P c s e) n.name.0 (count es))
+        ∙ callee_type_is P (callee P c s e (type_of P c s e) n.name.0 (count es))
     type_is s (PlacedOwnCall n es span) =
         ap (result_type (bare P)) (method_of_is P c n.name.0 (count es))
-        ∙ result_type_is (method_of P c n.name.0 (count es))
+        ∙ result_type_is P (method_of P c n.name.0 (count es))
     type_is s (PlacedSuperCall n es span) =
-        ap (result_type (bare P)) (super_method_is n.name.0 (count es))
-        ∙ result_type_is (super_method P c n.name.0 (count es))
+        ap (result_type (bare P)) (super_method_is P c n.name.0 (count es))
+        ∙ result_type_is P (super_method P c n.name.0 (count es))
     type_is s (PlacedIndex a i span) = ap elem_base (type_is s a)
-    type_is s (PlacedNew n es span) = ap (λ k. ref (or_zero k)) (class_named_is n.name.0)
+    type_is s (PlacedNew n es span) = ap (λ k. ref (or_zero k)) (class_named_is P n.name.0)
     type_is s (PlacedNewArray annotations base size span) = array_is base annotations
     type_is s (PlacedArrayOf annotations base es span) = array_is base annotations
     type_is s (PlacedPostfix e step span) = type_is s e
     type_is s (PlacedPrefix step e span) = refl
     type_is s (PlacedUnary o e span) = refl
-    type_is s (PlacedCast n e span) = ap (λ k. ref (or_zero k)) (class_named_is n.name.0)
+    type_is s (PlacedCast n e span) = ap (λ k. ref (or_zero k)) (class_named_is P n.name.0)
     type_is s (PlacedBinary a o b span) = ap (λ x. binary_type (operator_of o) x (type_of (bare P) c s b)) (type_is s a) ∙ ap (binary_type (operator_of o) (type_of P c s a)) (type_is s b)
     type_is s (PlacedInstanceOf e n span) = refl
-    type_is s (PlacedConditional q a b span) = ap (λ x. wider (bare P) x (type_of (bare P) c s b)) (type_is s a) ∙ ap (wider (bare P) (type_of P c s a)) (type_is s b) ∙ wider_is (type_of P c s a) (type_of P c s b)
+    type_is s (PlacedConditional q a b span) = ap (λ x. wider (bare P) x (type_of (bare P) c s b)) (type_is s a) ∙ ap (wider (bare P) (type_of P c s a)) (type_is s b) ∙ wider_is P (type_of P c s a) (type_of P c s b)
     type_is s (PlacedAssign target o e span) =
         ap (λ x. assign_type (bare P) c o x (type_of (bare P) c s target) (type_of (bare P) c s e)) (local_is s target)
         ∙ ap (λ x. assign_type (bare P) c o (is_local P c s target) x (type_of (bare P) c s e)) (type_is s target)
@@ -396,23 +300,12 @@ module _ (P : Program) where
     register_is s (PlacedConditional q a b span) = refl
     register_is s (PlacedAssign target o e span) = refl
 
-    pub own_origin_is : (b : Bool) (f : ℕ) → own_origin (bare P) c b f ≡ own_origin P c b f
-    own_origin_is true f = refl
-    own_origin_is false f = refl
-
     pub name_origin_is : (m : Meaning) → name_origin (bare P) c m ≡ name_origin P c m
     name_origin_is (LocalMeant l) = refl
-    name_origin_is (FieldMeant f) = ap (λ b. own_origin (bare P) c b f) (static_is f) ∙ own_origin_is (is_static P f) f
+    name_origin_is (FieldMeant f) = ap (λ b. own_origin (bare P) c b f) (static_is P f) ∙ own_origin_is P c (is_static P f) f
     name_origin_is (ClassMeant k) = refl
     name_origin_is SystemMeant = refl
     name_origin_is NothingMeant = refl
-
-    pub access_origin_is : (r : Option ℕ) (a : Access) → access_origin (bare P) c r a ≡ access_origin P c r a
-    access_origin_is None a = refl
-    access_origin_is (Some r) (ClassField f) = refl
-    access_origin_is (Some r) (ObjectField f) = refl
-    access_origin_is (Some r) ArrayLength = refl
-    access_origin_is (Some r) NoField = refl
 
     pub origin_is : (s : Scope) (e : PlacedTree) → origin_of (bare P) c s e ≡ origin_of P c s e
     origin_is s (PlacedLiteral l span) = refl
@@ -423,7 +316,7 @@ module _ (P : Program) where
         ap (λ r. access_origin (bare P) c r (access (bare P) c s e (type_of (bare P) c s e) n.name.0)) (register_is s e)
         ∙ ap (λ b. access_origin (bare P) c (register_of P c s e) (access (bare P) c s e b n.name.0)) (type_is s e)
         ∙ ap (access_origin (bare P) c (register_of P c s e)) (access_is s e (type_of P c s e) n.name.0)
-        ∙ access_origin_is (register_of P c s e) (access P c s e (type_of P c s e) n.name.0)
+        ∙ access_origin_is P c (register_of P c s e) (access P c s e (type_of P c s e) n.name.0)
     origin_is s (PlacedCall e n es span) = refl
     origin_is s (PlacedOwnCall n es span) = refl
     origin_is s (PlacedSuperCall n es span) = refl
@@ -443,7 +336,7 @@ module _ (P : Program) where
   -- the types and the qualifiers that are written
 
   simple_is : (base : Base) → simple_type (bare P) base ≡ simple_type P base
-  simple_is (ClassUse n) = ap (λ k. ref (or_zero k)) (class_named_is n.name.0)
+  simple_is (ClassUse n) = ap (λ k. ref (or_zero k)) (class_named_is P n.name.0)
   simple_is (IntUse s) = refl
   simple_is (BooleanUse s) = refl
 
@@ -459,7 +352,7 @@ module _ (P : Program) where
   known_class_is (Some k) span = refl
 
   pub base_rows_is : (base : Base) → base_rows (bare P) base ≡ base_rows P base
-  base_rows_is (ClassUse n) = ap (λ k. known_class (bare P) k n.span) (class_named_is n.name.0) ∙ known_class_is (class_named P n.name.0) n.span
+  base_rows_is (ClassUse n) = ap (λ k. known_class (bare P) k n.span) (class_named_is P n.name.0) ∙ known_class_is (class_named P n.name.0) n.span
   base_rows_is (IntUse s) = refl
   base_rows_is (BooleanUse s) = refl
 
@@ -467,6 +360,6 @@ module _ (P : Program) where
 
   pub given_is : (m : ℕ) → given_bases (bare P) m ≡ given_bases P m
   given_is m =
-      ap (λ b. cond b (params_of (method_at (bare P) m)) (Ref (record { 0 = class_of (method_at (bare P) m) }) ∷ params_of (method_at (bare P) m))) (static_method_is m)
+      ap (λ b. cond b (params_of (method_at (bare P) m)) (Ref (record { 0 = class_of (method_at (bare P) m) }) ∷ params_of (method_at (bare P) m))) (static_method_is P m)
       ∙ ap (λ ps. cond (static_of (method_at P m)) ps (Ref (record { 0 = class_of (method_at (bare P) m) }) ∷ ps)) (params_is m)
       ∙ ap (λ k. cond (static_of (method_at P m)) (params_of (method_at P m)) (Ref (record { 0 = k }) ∷ params_of (method_at P m))) (class_at_is m)

@@ -1,14 +1,11 @@
 -- Rows by what is named are the same of a bare program, places included, form by form.
 use Rattle.std.proofs.Common.{◌≡◌, ℕ, Bool, true, not, cond, ◌&&◌, ◌||◌, List, ◌++◌, Option, Some, None, refl, ap, ◌∙◌}
-use Rattle.std.specs.Prelude.{eqb, option_map}
+use Rattle.std.specs.Prelude.{eqb}
 use Rattle.jn_base.specs.declared.code.Code.TheVariants.{J1, J2, J4, J5}
 use Rattle.jn_base.specs.declared.place.Row.{Row}
 use Rattle.jn_base.specs.declared.place.Span.{Span}
 use Rattle.jn_points.specs.declared.point.BaseType.{BaseType}
 use Rattle.jn_points.specs.declared.point.BaseType.TheVariants.{Int, Bool as BoolBase, Void, Null, Ref, Array}
-use Rattle.jn_points.specs.declared.program.Class.{Class}
-use Rattle.jn_points.specs.declared.program.Field.{Field}
-use Rattle.jn_points.specs.declared.program.Method.{Method}
 use Rattle.jn_points.specs.declared.program.Program.{Program}
 use Rattle.jn_points.specs.BaseRows.{is_string}
 use Rattle.jn_points.specs.Members.{constructor_of}
@@ -20,27 +17,13 @@ use Rattle.jn_lowering.specs.Scopes.{Meaning, LocalMeant, FieldMeant, ClassMeant
 use Rattle.jn_lowering.specs.Bases.{is_class_use}
 use Rattle.jn_lowering.specs.Annotations.{annotation_rows, nullity_alone, row, unless, when}
 use Rattle.jn_lowering.specs.ExpressionRows.{Setting, abstract_class, abstract_method, access_rows, array_rows, assigned_access_rows, assigned_name_rows, call_rows, class_field_rows, class_method_rows, ctor_rows, dotted_call_rows, field_private, final_field, final_rows, is_text, method_private, name_rows, new_rows, object_field_rows, object_method_rows, own_field_rows, own_method_rows, private_field, private_row, reference_method_rows, string_method_rows, super_method_rows, value_field_rows, value_method_rows}
-use Rattle.jn_bare_law.specs.Bare.{bare, bare_class, bare_field, bare_method}
+use Rattle.jn_bare_law.specs.Bare.{bare}
 use Rattle.jn_bare_law.proofs.Lookups.{class_info_is, field_info_is, interface_is, method_at_is, method_of_is, owner_is}
-use Rattle.jn_blind_law.proofs.Meanings.{base_rows_is, class_at_is, class_named_is, constructor_is, field_of_is, private_is, static_is, static_method_is}
+use Rattle.jn_blind_law.proofs.Meanings.{base_rows_is, class_at_is}
+use Rattle.jn_bare_law.proofs.Meanings.{private_is, static_method_is, static_is, field_of_is, constructor_is, class_named_is}
+use Rattle.jn_bare_law.proofs.RowForms.{private_field_bare, final_field_bare, abstract_method_bare, abstract_class_bare}
 
 -- ---- items
-
-private_field_bare : (f : Option Field) → private_field (option_map bare_field f) ≡ private_field f
-private_field_bare None = refl
-private_field_bare (Some f) = refl
-
-final_field_bare : (f : Option Field) → final_field (option_map bare_field f) ≡ final_field f
-final_field_bare None = refl
-final_field_bare (Some f) = refl
-
-abstract_method_bare : (m : Option Method) → abstract_method (option_map bare_method m) ≡ abstract_method m
-abstract_method_bare None = refl
-abstract_method_bare (Some m) = refl
-
-abstract_class_bare : (c : Option Class) → abstract_class (option_map bare_class c) ≡ abstract_class c
-abstract_class_bare None = refl
-abstract_class_bare (Some c) = refl
 
 module _ (P : Program) where
   private_field_is : (f : ℕ) → private_field (field_info (bare P) f) ≡ private_field (field_info P f)

@@ -23,7 +23,9 @@ use Rattle.jn_bare_law.specs.Bare.{bare_method}
 use Rattle.jn_bare_law.proofs.Lookups.{class_bare, owner_bare}
 use Rattle.jn_blind_law.specs.Heads.{HeadsAlike}
 use Rattle.jn_blind_law.proofs.Heads.{field_same, method_same, sub_same}
-use Rattle.jn_blind_law.proofs.Meanings.{base_bare, params_bare, result_bare}
+use Rattle.jn_bare_law.proofs.Meanings.{result_bare}
+use Rattle.jn_bare_law.proofs.Bodies.{params_bare}
+use Rattle.jn_bare_law.proofs.Forms.{base_is}
 
 given_bare : (m : Option Method) → given_count (option_map bare_method m) ≡ given_count m
 given_bare None = refl
@@ -53,7 +55,7 @@ module _ (P Q : Program) (h : HeadsAlike P Q) (b : ℕ) (same : body_at P b ≡ 
   owner_same f = field_same P Q h owner_of owner_bare f
 
   base_same : (f : ℕ) → field_base P f ≡ field_base Q f
-  base_same f = field_same P Q h field_base_of base_bare f
+  base_same f = field_same P Q h field_base_of base_is f
 
   class_same : (m : ℕ) → class_of (method_at P m) ≡ class_of (method_at Q m)
   class_same m = method_same P Q h class_of class_bare m

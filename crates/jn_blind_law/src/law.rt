@@ -1,15 +1,19 @@
-//! Laws of lowering, base typing and indexes over class tables that differ in places.
-ghost use Rattle.std.specs.Prelude.{◌≡◌, ℕ};
+//! Laws of lowering, base typing, indexes and rows of classes over class tables that differ in places.
+ghost use Rattle.std.specs.Prelude.{◌≡◌, ℕ, List, map};
 ghost use Rattle.jn_base.specs.declared.place.Row.{Row};
 ghost use Rattle.jn_points.specs.declared.program.Program.{Program};
 ghost use Rattle.jn_points.specs.BaseRows.{NoBaseRows};
 ghost use Rattle.jn_points.specs.Lookup.{body_at};
 ghost use Rattle.jn_index.specs.Index.{IsIndex, Lists};
+ghost use Rattle.jn_heads.specs.declared.head.ClassHead.{ClassHead};
+ghost use Rattle.jn_classtable.specs.Rows.{t_rows};
+ghost use Rattle.jn_classtable.specs.Table.{table};
 ghost use Rattle.jn_lowering.specs.Bodies.{Source, body_of_source, name_span};
 ghost use Rattle.jn_lowering.specs.BodyRows.{rows_of_body};
 ghost use Rattle.jn_basecheck.specs.Rows.{BodyRow};
-ghost use Rattle.jn_bare_law.specs.Bare.{Alike};
+ghost use Rattle.jn_bare_law.specs.Bare.{Alike, codes_of};
 ghost use Rattle.jn_blind_law.specs.Heads.{HeadsAlike};
+ghost use Rattle.jn_blind_law.specs.Plain.{plain_head};
 
 /// In programs that differ in places alone a source is lowered to the same body, places included, where the name of its method stands at one
 /// place in both; so lowering looks at no other place of the class table.
@@ -34,4 +38,13 @@ pub fn base_typing_looks_at_no_place_of_the_class_table()
 pub fn indexes_serve_alike_programs()
     ensures { (P Q : Program) (x : Lists) → HeadsAlike P Q
         → IsIndex P x → IsIndex Q x }
+{}
+
+/// Heads that are the same but for places and what is written of nullness and initialization have class tables that differ in no more, and rows T1
+/// to T10 of the same codes, in one order.
+pub fn alike_heads_have_alike_tables()
+    ensures tables { (hs gs : List ClassHead) → map plain_head hs ≡ map plain_head gs
+        → Alike (table hs) (table gs) }
+    ensures rows { (hs gs : List ClassHead) → map plain_head hs ≡ map plain_head gs
+        → codes_of (t_rows hs) ≡ codes_of (t_rows gs) }
 {}

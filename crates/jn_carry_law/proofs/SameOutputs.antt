@@ -25,8 +25,7 @@ use Rattle.jn_recheck_law.proofs.Seeing.{alike_long, receiver_slot_seen, result_
 use Rattle.jn_resend_law.proofs.ReadTables.{least_kept}
 use Rattle.jn_resend_law.proofs.SameSends.{send_same, sends_kept}
 use Rattle.jn_carry_law.specs.Carried.{DoesTheSame, HaveSameTasks}
-use Rattle.jn_memo.specs.declared.run.Run.{Run}
-use Rattle.jn_memo.specs.Runs.{AreRunsOf}
+use Rattle.jn_carry_law.specs.Runs.{AreRunsOf, Run}
 
 agree_same : (s : List Qualifier) (xs : List ℕ) → Agree s s xs
 agree_same s [] = tt

@@ -8,8 +8,8 @@ use Rattle.jn_points.specs.declared.program.Body.{Body}
 use Rattle.jn_points.specs.declared.program.Program.{Program}
 use Rattle.jn_points.specs.BaseRows.{NoBaseRows}
 use Rattle.jn_points.specs.Lookup.{body_at}
-use Rattle.jn_classtable.specs.Extract.{heads}
-use Rattle.jn_classtable.specs.declared.head.ClassHead.{ClassHead}
+use Rattle.jn_heads.specs.Extract.{heads}
+use Rattle.jn_heads.specs.declared.head.ClassHead.{ClassHead}
 use Rattle.jn_classtable.specs.Rows.{t_rows}
 use Rattle.jn_classtable.specs.Table.{table}
 use Rattle.jn_lowering.specs.Bodies.{Source, bodies_of, body_of_source, name_span}

@@ -3,10 +3,10 @@ use Rattle.std.specs.Prelude.{ℕ, ◌≡◌, Bool, true, false, List, [], Optio
 use Rattle.jn_base.specs.declared.infer.Infer.{Infer}
 use Rattle.jn_places.specs.Placed.{PlacedFile}
 use Rattle.jn_points.specs.declared.program.Program.{Program}
-use Rattle.jn_classtable.specs.declared.head.ClassHead.{ClassHead}
-use Rattle.jn_classtable.specs.Extract.{heads}
+use Rattle.jn_heads.specs.declared.head.ClassHead.{ClassHead}
+use Rattle.jn_heads.specs.Extract.{heads}
 use Rattle.jn_classtable.specs.Rows.{t_rows}
-use Rattle.jn_annotate_law.specs.Plain.{plain_head}
+use Rattle.jn_blind_law.specs.Plain.{plain_head}
 use Rattle.jn_program.specs.Starts.{AreStarts}
 use Rattle.jn_program_law.specs.FileProgram.{inferring, j_rows}
 use Rattle.jn_kept_points.specs.declared.typing.KeptTyping.{KeptTyping}

@@ -2,7 +2,7 @@
 //! alone, and the points and the types of bodies whose sources stayed, aren't made anew.
 //!
 //! [`find_trees_again`] gives what [`jn_typed_files::find_trees`] gives. What is kept is a function of what it was made from, and the laws of
-//! `jn_blind_law` and `jn_annotate_law` say that it looks at nothing else (`specs/Typings.antt`).
+//! `jn_blind_law` say that it looks at nothing else (`specs/Typings.antt`).
 #![tactic(auto)]
 
 pub mod alike;

@@ -3,8 +3,8 @@ ghost use Rattle.std.specs.Prelude.{◌≡◌, ◌≤◌, [], IsSome, List, map,
 ghost use Rattle.jn_trees.specs.declared.token.Token.{Token as SpecToken};
 ghost use Rattle.jn_points.specs.declared.program.Program.{Program};
 ghost use Rattle.jn_basecheck.specs.Rows.{AreTyped};
-ghost use Rattle.jn_classtable.specs.Extract.{heads as heads_of};
-ghost use Rattle.jn_classtable.specs.Inferred.{tabled};
+ghost use Rattle.jn_heads.specs.Extract.{heads as heads_of};
+ghost use Rattle.jn_heads.specs.Inferred.{tabled};
 ghost use Rattle.jn_classtable.specs.Rows.{t_rows};
 ghost use Rattle.jn_classtable.specs.Table as tables;
 ghost use Rattle.jn_front.specs.Files.{files_of_reads};
@@ -21,15 +21,15 @@ ghost use Rattle.jn_kept_points.specs.Typings.{IsAlike, IsKeptOf, IsTypingOf, Sa
 
 use crate::alike::same_heads;
 use crate::known::{known_bodies, same_starts};
-use jn_annotate_law::law::alike_heads_have_alike_tables;
 use jn_base::{Fail, Infer, OutOfMemory, Row, Seq};
 use jn_blind_law::law::{
-    base_typing_looks_at_no_place_of_the_class_table, indexes_serve_alike_programs,
-    lowering_looks_at_no_other_place,
+    alike_heads_have_alike_tables, base_typing_looks_at_no_place_of_the_class_table,
+    indexes_serve_alike_programs, lowering_looks_at_no_other_place,
 };
-use jn_classtable::extract::heads;
-use jn_classtable::{ClassHead, ClassTable, build_of, rebuild};
+use jn_classtable::{ClassTable, build_of, rebuild};
 use jn_front::SourceRead;
+use jn_heads::ClassHead;
+use jn_heads::extract::heads;
 use jn_index::index::Index;
 use jn_index::indexed::IndexedProgram;
 use jn_points::Body;

@@ -16,7 +16,7 @@ use Rattle.jn_command.specs.Reports.{rows_of, verdict_of}
 use Rattle.jn_typed_files.specs.Phases.{ProgramOf}
 use Rattle.jn_recheck_law.specs.Reusable.{Solved}
 use Rattle.jn_recheck.specs.KeptRows.{AreMadeAnew, count_false}
-use Rattle.jn_typed_files.specs.Report.{IsReport}
+use Rattle.jn_report.specs.Report.{IsReport}
 use Rattle.jn_recheck.specs.Sessions.{IsRecheck, IsSolutionOf, Reports, SessionOf, or_else, text_of_row}
 
 -- ---- numbers

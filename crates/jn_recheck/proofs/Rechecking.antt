@@ -15,7 +15,7 @@ use Rattle.jn_recheck_law.specs.Reusable.{Solved}
 use Rattle.jn_recheck.specs.Files.{changed}
 use Rattle.jn_recheck.specs.KeptRows.{AreMadeAnew}
 use Rattle.jn_typed_files.specs.Phases.{TypedProgramOf}
-use Rattle.jn_typed_files.specs.Report.{IsCheckedBy, IsReport}
+use Rattle.jn_report.specs.Report.{IsCheckedBy, IsReport}
 use Rattle.jn_recheck.specs.Sessions.{AreShown, IsRecheck, Reports, SessionOf, or_else}
 
 pub checked_again : (files : List SourceFile) (names : List (List ℕ)) (P : Program) (s : List Qualifier) (rows shown : List Row) (old : Option Solved) (kept : Solved) (made : ℕ) → TypedProgramOf Private files names P → IsLeastSignature P s → AreBroken P s rows → kept ≡ record { names = names; program = P; signature = s } → AreMadeAnew old (record { names = names; program = P; signature = s }) made → shown ≡ rows → IsRecheck old files (Checked shown) (Some kept) made

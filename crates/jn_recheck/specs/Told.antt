@@ -6,7 +6,7 @@ use Rattle.jn_command.specs.declared.report.Report.TheVariants.{Refused, Checked
 use Rattle.jn_front.specs.declared.source.SourceFile.{SourceFile}
 use Rattle.jn_recheck_law.specs.Reusable.{Solved}
 use Rattle.jn_recheck.specs.Sessions.{IsSolutionOf}
-use Rattle.jn_typed_files.specs.Report.{IsReport}
+use Rattle.jn_report.specs.Report.{IsReport}
 
 -- a report of these files; where it came to the rules, what is kept is their solution
 abbrev pub IsTold : List SourceFile → Option Solved → Report → Type 0

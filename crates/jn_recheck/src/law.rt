@@ -6,11 +6,12 @@ ghost use Rattle.jn_command.specs.declared.report.Report.{Report};
 ghost use Rattle.jn_diag.specs.declared.shown.RowText.{RowText};
 ghost use Rattle.jn_diag.specs.declared.shown.Verdict.{Verdict};
 ghost use Rattle.jn_front.specs.declared.source.SourceFile.{SourceFile};
-ghost use Rattle.jn_typed_files.specs.Report.{IsReport};
+ghost use Rattle.jn_report.specs.Report.{IsReport};
 ghost use Rattle.jn_recheck.specs.Sessions.{Reports, SessionOf};
 
 use jn_inference_law::law::least_signatures_are_unique;
-use jn_typed_files::law::{files_have_one_report, files_have_one_typing};
+use jn_report::law::files_have_one_report;
+use jn_typed_files::law::files_have_one_typing;
 
 /// Files have at most one report, and a session reports in one way: its rows, its verdict, its numbers and what is kept are those of the
 /// session, whatever the number of workers, and whoever of them did what.

@@ -1,6 +1,6 @@
 -- What a class table hands on has the premises of the theorem.
 use Rattle.std.proofs.Common.{◌≡◌, ◌<◌, ◌^◌, List, [], length, subst}
-use Rattle.jn_classtable.specs.declared.head.ClassHead.{ClassHead}
+use Rattle.jn_heads.specs.declared.head.ClassHead.{ClassHead}
 use Rattle.jn_classtable.specs.Table.{table}
 use Rattle.jn_classtable.specs.Rows.{t_rows}
 use Rattle.jn_program_law.proofs.Program.{together}

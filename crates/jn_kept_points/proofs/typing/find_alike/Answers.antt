@@ -3,10 +3,10 @@ use Rattle.jn_points.specs.declared.program.Body.{Body}
 use Rattle.jn_points.specs.declared.program.Program.{Program}
 use Rattle.jn_places.specs.Placed.{PlacedFile}
 use Rattle.jn_places.specs.PlacedView.{placed_file}
-use Rattle.jn_classtable.specs.Extract.{heads as heads_of}
-use Rattle.jn_classtable.specs.Inferred.{Tabled}
+use Rattle.jn_heads.specs.Extract.{heads as heads_of}
+use Rattle.jn_heads.specs.Inferred.{Tabled}
 use Rattle.jn_classtable.specs.Table as tables
-use Rattle.jn_annotate_law.specs.Plain.{plain_head}
+use Rattle.jn_blind_law.specs.Plain.{plain_head}
 use Rattle.jn_bare_law.specs.Bare.{Alike}
 use Rattle.jn_program.specs.declared.sources.Start.{Start}
 use Rattle.jn_program.specs.Known.{AreKnown}

@@ -14,18 +14,18 @@ use Rattle.jn_points.specs.Lookup.{is_ref_base}
 use Rattle.jn_trees.specs.declared.expression.Identifier.{Identifier}
 use Rattle.jn_trees.specs.declared.expression.Base.{Base}
 use Rattle.jn_trees.specs.declared.expression.Base.TheVariants.{Class as ClassUse, Int as IntUse, Boolean as BooleanUse}
-use Rattle.jn_classtable.specs.declared.head.TypeHead.{TypeHead}
-use Rattle.jn_classtable.specs.declared.head.FieldHead.{FieldHead}
-use Rattle.jn_classtable.specs.declared.head.ParamHead.{ParamHead}
-use Rattle.jn_classtable.specs.declared.head.MethodHead.{MethodHead}
-use Rattle.jn_classtable.specs.declared.head.ClassHead.{ClassHead}
-use Rattle.jn_classtable.specs.Heads.{all_heads, object_head, string_head, number}
-use Rattle.jn_classtable.specs.Types.{class_or_object, class_of_name, plain_base, array_base, base_of, result_base, param_bases, is_position, has_receiver, receiver_slots, field_slots, value_slots, result_slots, params_slots, method_slots, fields_slots, methods_slots, class_slots, slots_of_all}
+use Rattle.jn_heads.specs.declared.head.TypeHead.{TypeHead}
+use Rattle.jn_heads.specs.declared.head.FieldHead.{FieldHead}
+use Rattle.jn_heads.specs.declared.head.ParamHead.{ParamHead}
+use Rattle.jn_heads.specs.declared.head.MethodHead.{MethodHead}
+use Rattle.jn_heads.specs.declared.head.ClassHead.{ClassHead}
+use Rattle.jn_heads.specs.Heads.{all_heads, object_head, string_head, number}
+use Rattle.jn_heads.specs.Types.{class_or_object, class_of_name, plain_base, array_base, base_of, result_base, param_bases, is_position, has_receiver, receiver_slots, field_slots, value_slots, result_slots, params_slots, method_slots, fields_slots, methods_slots, class_slots, slots_of_all}
 use Rattle.jn_classtable.specs.Table.{slot_at, body_at, count, bodies_of, with_class, named_classes, is_words, parent_list, no_result, parent_class, class_under, declared_class, classes, field_of, fields_of, fields_from, param_slots, result_slot, is_main, method_of, methods_of, methods_from, table}
 use Rattle.jn_known.specs.Known.{main_name}
 use Rattle.jn_bare_law.specs.Bare.{no_span, Alike, bare, bare_class, bare_field, bare_method, bare_slot}
 use Rattle.jn_bare_law.proofs.Lookups.{first_at-map}
-use Rattle.jn_annotate_law.specs.Plain.{plain_name, plain_use, plain_type, plain_field, plain_param, plain_method, plain_head}
+use Rattle.jn_blind_law.specs.Plain.{plain_name, plain_use, plain_type, plain_field, plain_param, plain_method, plain_head}
 
 -- ---- lists
 

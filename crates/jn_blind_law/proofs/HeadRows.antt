@@ -13,21 +13,22 @@ use Rattle.jn_points.specs.Regular.{has_number}
 use Rattle.jn_trees.specs.declared.expression.Identifier.{Identifier}
 use Rattle.jn_trees.specs.declared.expression.Base.{Base}
 use Rattle.jn_trees.specs.declared.expression.Base.TheVariants.{Class as ClassUse, Int as IntUse, Boolean as BooleanUse}
-use Rattle.jn_classtable.specs.declared.head.TypeHead.{TypeHead}
-use Rattle.jn_classtable.specs.declared.head.FieldHead.{FieldHead}
-use Rattle.jn_classtable.specs.declared.head.ParamHead.{ParamHead}
-use Rattle.jn_classtable.specs.declared.head.MethodHead.{MethodHead}
-use Rattle.jn_classtable.specs.declared.head.ClassHead.{ClassHead}
-use Rattle.jn_classtable.specs.Heads.{all_heads, number}
-use Rattle.jn_classtable.specs.Types.{class_slots}
+use Rattle.jn_heads.specs.declared.head.TypeHead.{TypeHead}
+use Rattle.jn_heads.specs.declared.head.FieldHead.{FieldHead}
+use Rattle.jn_heads.specs.declared.head.ParamHead.{ParamHead}
+use Rattle.jn_heads.specs.declared.head.MethodHead.{MethodHead}
+use Rattle.jn_heads.specs.declared.head.ClassHead.{ClassHead}
+use Rattle.jn_heads.specs.Heads.{all_heads, number}
+use Rattle.jn_heads.specs.Types.{class_slots}
 use Rattle.jn_classtable.specs.Table.{bodies_of, count, table}
-use Rattle.jn_classtable.specs.Rows.{rows_at, earlier, unless, no_rows, reach, found_number, called_with, called_of, called_from, limit_rows, same_param_name, param_place, param_rows, unless_found, second_classes, second_fields, second_params, t1_rows, name_rows, base_rows, result_rows, signature_rows, is_kind, kind_rows, parent_rows, head_rows, t2_rows, t3_rows, t4_rows, t5_rows, lacking_classes, bad_abstracts, t6_rows, t7_rows, called, t8_rows, t9_rows, t10_rows, basic_rows, t_rows}
+use Rattle.jn_declaration_rules.specs.Rows.{rows_at, earlier, unless, no_rows, reach}
+use Rattle.jn_classtable.specs.Rows.{found_number, called_with, called_of, called_from, limit_rows, same_param_name, param_place, param_rows, unless_found, second_classes, second_fields, second_params, t1_rows, name_rows, base_rows, result_rows, signature_rows, is_kind, kind_rows, parent_rows, head_rows, t2_rows, t3_rows, t4_rows, t5_rows, lacking_classes, bad_abstracts, t6_rows, t7_rows, called, t8_rows, t9_rows, t10_rows, basic_rows, t_rows}
 use Rattle.jn_bare_law.specs.Bare.{bare, Alike, bare_method, codes_of}
 use Rattle.jn_bare_law.proofs.Lookups.{interface_is}
 use Rattle.jn_bare_law.proofs.Meanings.{constructor_is}
-use Rattle.jn_annotate_law.specs.Plain.{plain_name, plain_use, plain_type, plain_field, plain_param, plain_method, plain_head}
-use Rattle.jn_annotate_law.proofs.Tables.{number_is, class_long, table_is}
-use Rattle.jn_annotate_law.proofs.ClassRows.{one_row, rows_bare, earlier_bare, no_rows_same, codes_append, table_rows, field_rows, circle_rows, method_rows, override_rows, lacking_rows, abstract_rows, hiding_rows, final_rows, table_bare, field_bare, circle_bare, method_bare, override_bare, lacking_bare, abstract_bare, hiding_bare, final_rows_bare}
+use Rattle.jn_blind_law.specs.Plain.{plain_name, plain_use, plain_type, plain_field, plain_param, plain_method, plain_head}
+use Rattle.jn_blind_law.proofs.Tables.{number_is, class_long, table_is}
+use Rattle.jn_blind_law.proofs.ClassRows.{one_row, rows_bare, earlier_bare, no_rows_same, codes_append, table_rows, field_rows, circle_rows, method_rows, override_rows, lacking_rows, abstract_rows, hiding_rows, final_rows, table_bare, field_bare, circle_bare, method_bare, override_bare, lacking_bare, abstract_bare, hiding_bare, final_rows_bare}
 
 three : (a b c d e f : List Row) → codes_of a ≡ codes_of d → codes_of b ≡ codes_of e → codes_of c ≡ codes_of f → codes_of (a ++ b ++ c) ≡ codes_of (d ++ e ++ f)
 three a b c d e f h k g = codes_append (a ++ b) c (d ++ e) f (codes_append a b d e h k) g
