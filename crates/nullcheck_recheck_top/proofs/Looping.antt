@@ -3,7 +3,7 @@ use Rattle.std.proofs.Common.{◌≡◌, ℕ, zero, suc, ◌+◌, ◌<◌, List,
 use Rattle.std.proofs.lemmas.List.{take_more}
 use Rattle.jn_outside.specs.Causes.{Rose}
 use Rattle.jn_outside.specs.Files.{Holding}
-use Rattle.jn_outside.specs.Sink.{Appends, AppendsPrefix}
+use Rattle.jn_outside.specs.Sink.{Appends}
 use Rattle.jn_command.specs.declared.status.Status.{Status}
 use Rattle.jn_command.specs.declared.status.Status.TheVariants.{Ok, Rejected, Refused, RunFault, Stopped, ReadFault, WriteFault, OutOfMemory, Usage}
 use Rattle.jn_diag.specs.declared.shown.Verdict.{Verdict}
@@ -14,7 +14,7 @@ use Rattle.jn_recheck.specs.Sessions.{SessionOf}
 use Rattle.jn_script.specs.declared.step.Step.{Step}
 use Rattle.jn_script.specs.declared.step.Step.TheVariants.{Empty, Set, Remove, Check}
 use Rattle.nullcheck_recheck_top.specs.Carrying.{Does, DoAll, file_of, files_of, new_session, status_of}
-use Rattle.nullcheck_recheck_top.specs.Stepping.{CarriesOut, DidAll, DidFirst, EndsBy, GoesOn, Moves, World}
+use Rattle.nullcheck_recheck_top.specs.Stepping.{CarriesOut, DidAll, EndsAt, EndsBy, GoesOn, Moves, World}
 
 held_both : (held : Option Holding) (xs ys : List SourceFile) → AreHeld held xs → AreHeld held ys → AreHeld held (xs ++ ys)
 held_both None xs ys a b = tt
@@ -51,24 +51,9 @@ do_more s last (first ∷ front) read bytes mid u step one text end t (a, others
 
 -- ---- what is taken
 
-taken_more : (old mid new : Option (List ℕ)) (front back : List ℕ) → Appends old mid front → Appends mid new back → Appends old new (front ++ back)
+pub taken_more : (old mid new : Option (List ℕ)) (front back : List ℕ) → Appends old mid front → Appends mid new back → Appends old new (front ++ back)
 taken_more None mid new front back a b = subst (λ (m : Option (List ℕ)). Appends m new back) a b
 taken_more (Some bytes) mid new front back a b = subst (λ (m : Option (List ℕ)). Appends m new back) a b ∙ ap Some (append_assoc bytes front back)
-
-take_behind : (front back : List ℕ) (n : ℕ) → take (length front + n) (front ++ back) ≡ front ++ take n back
-take_behind [] back n = let s : length {A = ℕ} [] + n ≡ n = omega arith in ap (λ m. take m back) s
-take_behind (x ∷ xs) back n = let s : length (x ∷ xs) + n ≡ suc (length xs + n) = omega arith in ap (λ m. take m (x ∷ (xs ++ back))) s ∙ ap (λ ys. x ∷ ys) (take_behind xs back n)
-
-longer : (front back : List ℕ) → length (front ++ back) ≡ length front + length back
-longer [] back = omega arith
-longer (x ∷ xs) back = let e = longer xs back in omega (arith, e)
-
-prefix_more : (old mid new : Option (List ℕ)) (front back : List ℕ) → Appends old mid front → AppendsPrefix mid new back → AppendsPrefix old new (front ++ back)
-prefix_more old mid new front back a b = record {
-  count = length front + b.count;
-  within = (let l = longer front back in let w = b.within in omega (arith, l, w));
-  taken = subst (Appends old new) (sym (take_behind front back b.count)) (taken_more old mid new front (take b.count back) a b.taken);
-}
 
 map_both : (xs ys : List SourceFile) → map given_of (xs ++ ys) ≡ map given_of xs ++ map given_of ys
 map_both [] ys = refl
@@ -114,43 +99,27 @@ module _ (held : Option Holding) (old mid : World) (steps : List Step) (i : ℕ)
   split (x ∷ xs) zero = refl
   split (x ∷ xs) (suc n) = ap (λ ys. x ∷ ys) (split xs n)
 
-  -- the steps before it were carried out, and nothing of it was written
-  first : (new : World) → new.written ≡ mid.written → DidFirst held old new steps Appends
-  first new same = record {
+  -- the steps before it were carried out, and it ended the script
+  ends_here : (new : World) (status : Status) → EndsBy held mid new u step status → EndsAt held old new steps status
+  ends_here new status end = record {
     front = take i steps;
-    back = drop i steps;
-    split = split steps i;
-    files = did.files;
-    told = did.moves.told;
-    bytes = did.bytes;
-    end = last;
+    step = step;
+    back = drop (i + 1) steps;
+    split = split steps (i + 1) ∙ ap (λ ss. ss ++ drop (i + 1) steps) more ∙ append_assoc (take i steps) (step ∷ []) (drop (i + 1) steps);
+    mid = mid;
+    last = last;
     session = u;
-    does = did.does;
-    taken = subst (λ (w : Option (List ℕ)). Appends old.written w did.bytes) (sym same) did.moves.taken;
+    did = did;
+    ends = end;
   }
 
   rose_on : (a b c : ℕ) → b ≡ a → Rose b c → Rose a c
   rose_on a b c e r = subst (λ n. Rose n c) e r
 
-  pub did_end : (new : World) (status : Status) → EndsBy held mid new u last step status → CarriesOut held old new steps status
-  did_end new ReadFault end = (first new end.taken, rose_on old.reads mid.reads new.reads did.moves.reads end.rose, end.writes ∙ did.moves.writes)
-  did_end new OutOfMemory end = (first new end.taken, end.reads ∙ did.moves.reads, end.writes ∙ did.moves.writes)
-  did_end new WriteFault end = (
-    record {
-      front = take i steps ++ step ∷ [];
-      back = drop (i + 1) steps;
-      split = split steps (i + 1) ∙ ap (λ ss. ss ++ drop (i + 1) steps) more;
-      files = did.files ++ [];
-      told = held_both held did.files [] did.moves.told (none_held held);
-      bytes = did.bytes ++ end.bytes;
-      end = end.end;
-      session = end.session;
-      does = do_more new_session Ok (take i steps) did.files did.bytes last u step [] end.bytes end.end end.session did.does end.does;
-      taken = prefix_more old.written mid.written new.written did.bytes end.bytes did.moves.taken end.taken;
-    },
-    end.reads ∙ did.moves.reads,
-    rose_on old.writes mid.writes new.writes did.moves.writes end.rose,
-  )
+  pub did_end : (new : World) (status : Status) → EndsBy held mid new u step status → CarriesOut held old new steps status
+  did_end new ReadFault end = (ends_here new ReadFault end, rose_on old.reads mid.reads new.reads did.moves.reads end.rose, end.writes ∙ did.moves.writes)
+  did_end new OutOfMemory end = (ends_here new OutOfMemory end, end.reads ∙ did.moves.reads, end.writes ∙ did.moves.writes)
+  did_end new WriteFault end = (ends_here new WriteFault end, end.reads ∙ did.moves.reads, rose_on old.writes mid.writes new.writes did.moves.writes end.rose)
   did_end new Ok end = absurd end
   did_end new Rejected end = absurd end
   did_end new Refused end = absurd end
@@ -202,6 +171,18 @@ did_whole held old new steps done status t same did = carried held old new steps
 -- it is no read fault
 pub never_read : (held : Option Holding) (old new : World) (done : List Step) (status : Status) (t : SessionOf) → DidAll held old new done status t → status ≡ ReadFault → ⊥
 never_read held old new done status t did e = subst IsVerdictStatus e (all_status new_session Ok done did.files did.bytes status t tt did.does)
+
+-- but for a read fault the count of these stands still
+pub unmoved : (held : Option Holding) (old new : World) (steps : List Step) (status : Status) → CarriesOut held old new steps status → (status ≡ ReadFault → ⊥) → new.reads ≡ old.reads
+unmoved held old new steps Ok did other = did.1.moves.reads
+unmoved held old new steps Rejected did other = did.1.moves.reads
+unmoved held old new steps Refused did other = did.1.moves.reads
+unmoved held old new steps ReadFault did other = absurd (other refl)
+unmoved held old new steps WriteFault did other = did.1
+unmoved held old new steps OutOfMemory did other = did.1
+unmoved held old new steps RunFault did other = absurd did
+unmoved held old new steps Stopped did other = absurd did
+unmoved held old new steps Usage did other = absurd did
 
 -- ---- a source that holds all files
 

@@ -11,7 +11,7 @@ use Rattle.jn_front.specs.Files.{StartsOnly, given_of, names_of}
 use Rattle.jn_recheck.specs.Sessions.{SessionOf}
 use Rattle.jn_script.specs.declared.step.Step.{Step}
 use Rattle.jn_script.specs.declared.step.Step.TheVariants.{Empty, Set, Remove, Check}
-use Rattle.nullcheck_recheck_top.specs.Answer.{IsGood, StartsScript}
+use Rattle.nullcheck_recheck_top.specs.Answer.{IsGood, StartsScript, given_script}
 use Rattle.nullcheck_recheck_top.specs.Carrying.{Does, DoAll, file_of, files_of, new_session}
 use Rattle.nullcheck_recheck_top.specs.Stepping.{DidAll, World}
 
@@ -126,14 +126,5 @@ starts_all held old new steps done last t same did =
 pub starts_script : (held : Option Holding) (name : List ℕ) (most : ℕ) (old new : List Given) → GivesLittle name most old new → StartsScript held name old new
 starts_script held name most old new g = inl (starts_one name [] most old new g)
 
-pub starts_steps : (held : Option Holding) (name script : List ℕ) (steps : List Step) (old mid new : List Given) → IsGood held name script steps → mid ≡ old ++ given name script ∷ [] → StartsOnly (files_of steps) mid new → StartsScript held name old new
-starts_steps held name script steps old mid new good gave s = inr (
-  script,
-  steps,
-  good,
-  record {
-    added = given name script ∷ s.added;
-    gave = s.gave ∙ ap (λ g. g ++ s.added) gave ∙ append_assoc old (given name script ∷ []) s.added;
-    named = ap (λ ns. name ∷ ns) s.named;
-  },
-)
+pub starts_steps : (held : Option Holding) (name script : List ℕ) (steps : List Step) (old mid new : List Given) → IsGood held name script steps → mid ≡ old ++ given_script name script ∷ [] → StartsOnly (files_of steps) mid new → StartsScript held name old new
+starts_steps held name script steps old mid new good gave s = inr (script, steps, good, subst (λ from. StartsOnly (files_of steps) from new) gave s)

@@ -158,10 +158,12 @@ check_taken held gave old new reads before now s t last rows places verdict file
     })
 check_taken held gave old new reads before now s t last rows places verdict files bodies bytes end taken reports ends text (inr w) =
     subst (λ (x : Taken). IsTaken held (world gave old reads before) (world gave new reads now) s last Check t x) (sym w.0) (record {
+      asked = refl;
       bytes = bytes;
       end = end;
       session = t;
-      does = (refl, record { rows = rows; places = places; verdict = verdict; files = files; bodies = bodies; reports = reports; text = text; ends = ends });
+      check = record { rows = rows; places = places; verdict = verdict; files = files; bodies = bodies; reports = reports; text = text; ends = ends };
+      given = refl;
       taken = w.1;
       reads = refl;
       rose = w.2;

@@ -2,7 +2,7 @@
 use Rattle.std.specs.Prelude.{ℕ, ◌+◌, ◌≡◌, ◌≤◌, ◌<◌, ◌⊎◌, ◌++◌, ◌==◌, Bool, false, List, [], ◌∷◌, Option, Some, None, codes, decimal, length, map, take, if◌then◌else◌}
 use Rattle.jn_outside.specs.declared.given.Given.{Given}
 use Rattle.jn_outside.specs.Files.{Holding, Holds, Gives}
-use Rattle.jn_outside.specs.Gave.{given}
+use Rattle.jn_outside.specs.Gave.{GivesLittle, given}
 use Rattle.jn_outside.specs.Sink.{Appends, AppendsPrefix}
 use Rattle.jn_command.specs.declared.status.Status.{Status}
 use Rattle.jn_command.specs.declared.status.Status.TheVariants.{Ok, Rejected, Refused, RunFault, Stopped, ReadFault, WriteFault, OutOfMemory, Usage}
@@ -12,7 +12,8 @@ use Rattle.jn_front.specs.Files.{AllHeld, AreHeld, StartsOnly, given_of}
 use Rattle.jn_recheck.specs.Sessions.{SessionOf}
 use Rattle.jn_script.specs.declared.step.Step.{Step}
 use Rattle.jn_script.specs.Script.{IsFirstBad, IsScript}
-use Rattle.nullcheck_recheck_top.specs.Carrying.{DoAll, files_of, new_session}
+use Rattle.jn_script.specs.declared.step.Step.TheVariants.{Check}
+use Rattle.nullcheck_recheck_top.specs.Carrying.{DoAll, IsCheck, LacksAt, MissesAt, files_of, new_session}
 
 -- ---- words
 
@@ -74,16 +75,16 @@ pub record IsCarried (read : Reading) (name : List ℕ) (status : Status) (bytes
   pub session : SessionOf
   pub does : DoAll new_session Ok steps files bytes status session
 
--- some first steps of it were
-pub record IsPartly (read : Reading) (name bytes : List ℕ) : Type 0 where
+-- the steps before this one were carried out: the files that they set have the bytes that the source tells, and that its reads gave, and their checks' reports are these bytes
+pub record IsBefore (read : Reading) (name : List ℕ) (step : Step) (gave : List Given) (bytes : List ℕ) (session : SessionOf) : Type 0 where
   pub script : List ℕ
   pub front : List Step
   pub back : List Step
-  pub good : IsGood read.held name script (front ++ back)
+  pub good : IsGood read.held name script (front ++ step ∷ back)
   pub files : List SourceFile
   pub told : AreHeld read.held files
+  pub given : gave ≡ read.before ++ given_script name script ∷ map given_of files
   pub status : Status
-  pub session : SessionOf
   pub does : DoAll new_session Ok front files bytes status session
 
 -- what stands behind each status, of a script
@@ -95,13 +96,36 @@ module _ (read : Reading) (name : List ℕ) (old new : Option (List ℕ)) where
   abbrev pub Refuses : Type 0
   Refuses = (bytes : List ℕ) × IsRefusedScript read name bytes × Appends old new bytes
 
-  -- nothing was written, or the reports of the first checks
-  abbrev pub CarriesFirst : Type 0
-  CarriesFirst = (new ≡ old) ⊎ ((bytes : List ℕ) × IsPartly read name bytes × Appends old new bytes)
+  -- no step was taken: nothing was written, and of the script alone something may have been read
+  abbrev pub IsUnbegun : Type 0
+  IsUnbegun = (new ≡ old) × GivesLittle name (script_limit + 1) read.before read.now
 
-  -- a prefix of the line of a bad script, or of the reports of the first checks
-  abbrev pub WritesPrefix : Type 0
-  WritesPrefix = (bytes : List ℕ) × (IsRefusedScript read name bytes ⊎ IsPartly read name bytes) × AppendsPrefix old new bytes
+  -- a step ended the script: the reports of all checks before it were written whole, and this holds of what was read after them
+  pub record StopsAt (At : Step → List Given → List Given → Type 0) : Type 0 where
+    pub step : Step
+    pub gave : List Given
+    pub bytes : List ℕ
+    pub session : SessionOf
+    pub before : IsBefore read name step gave bytes session
+    pub at : At step gave read.now
+    pub written : Appends old new bytes
+
+  -- the first bytes of a check's report were written, after the whole reports of all checks before it
+  pub record BreaksAt : Type 0 where
+    pub bytes : List ℕ
+    pub session : SessionOf
+    pub before : IsBefore read name Check read.now bytes session
+    pub text : List ℕ
+    pub end : Status
+    pub after : SessionOf
+    pub check : IsCheck session text end after
+    pub count : ℕ
+    pub within : count ≤ length text
+    pub written : Appends old new (bytes ++ take count text)
+
+  -- a prefix of the line of a bad script was written
+  abbrev pub RefusesPrefix : Type 0
+  RefusesPrefix = (bytes : List ℕ) × IsRefusedScript read name bytes × AppendsPrefix old new bytes
 
   abbrev pub AnswersScript : Status → Type 0
   AnswersScript Ok = Carries Ok
@@ -109,9 +133,9 @@ module _ (read : Reading) (name : List ℕ) (old new : Option (List ℕ)) where
   AnswersScript Refused = Carries Refused ⊎ Refuses
   AnswersScript RunFault = ⊥
   AnswersScript Stopped = ⊥
-  AnswersScript ReadFault = CarriesFirst
-  AnswersScript WriteFault = WritesPrefix
-  AnswersScript OutOfMemory = CarriesFirst
+  AnswersScript ReadFault = IsUnbegun ⊎ StopsAt MissesAt
+  AnswersScript WriteFault = RefusesPrefix ⊎ BreaksAt
+  AnswersScript OutOfMemory = IsUnbegun ⊎ StopsAt LacksAt
   AnswersScript Usage = ⊥
 
 abbrev pub AnswersUsage : Option (List ℕ) → Option (List ℕ) → Status → Type 0
@@ -128,9 +152,11 @@ HoldsAll held (Some name) = Holds held name × ((script : List ℕ) (steps : Lis
 
 -- ---- what is started
 
--- the script alone, or, where it is good, behind it the files that its steps set, in their order; of these names only the first ones
+-- the script alone, or, where what its reads gave is good, after it the files that its steps set, in their order; of these only the first ones
 abbrev pub StartsScript : Option Holding → List ℕ → List Given → List Given → Type 0
-StartsScript held name old new = StartsOnly (name ∷ []) old new ⊎ ((script : List ℕ) × (steps : List Step) × IsGood held name script steps × StartsOnly (name ∷ files_of steps) old new)
+StartsScript held name old new =
+    StartsOnly (name ∷ []) old new
+    ⊎ ((script : List ℕ) × (steps : List Step) × IsGood held name script steps × StartsOnly (files_of steps) (old ++ given_script name script ∷ []) new)
 
 -- nothing where the words name no script
 abbrev pub Starts : Option Holding → Option (List ℕ) → List Given → List Given → Type 0

@@ -7,6 +7,8 @@ use Rattle.jn_command.specs.declared.status.Status.TheVariants.{Ok, Rejected as 
 use Rattle.jn_diag.specs.declared.shown.RowText.{RowText}
 use Rattle.jn_diag.specs.declared.shown.Verdict.{Verdict}
 use Rattle.jn_diag.specs.declared.shown.Verdict.TheVariants.{Accepted, Rejected, Refused}
+use Rattle.jn_outside.specs.declared.given.Given.{Given}
+use Rattle.jn_outside.specs.Gave.{GivesLittle}
 use Rattle.jn_front.specs.declared.source.SourceFile.{SourceFile}
 use Rattle.jn_front.specs.Files.{file_limit}
 use Rattle.jn_recheck.specs.Files.{with_file, without_file}
@@ -100,3 +102,19 @@ file_of Check = []
 abbrev pub files_of : List Step → List (List ℕ)
 files_of [] = []
 files_of (step ∷ steps) = file_of step ++ files_of steps
+
+-- ---- steps that aren't carried out
+
+-- what is given of a file that can't be read, at most one byte more than the limit: a `set` alone reads
+abbrev pub MissesAt : Step → List Given → List Given → Type 0
+MissesAt Empty old new = ⊥
+MissesAt (Set name file) old new = GivesLittle file (file_limit + 1) old new
+MissesAt (Remove name) old new = ⊥
+MissesAt Check old new = ⊥
+
+-- what is given where memory ends: at a `check` nothing
+abbrev pub LacksAt : Step → List Given → List Given → Type 0
+LacksAt Empty old new = ⊥
+LacksAt (Set name file) old new = GivesLittle file (file_limit + 1) old new
+LacksAt (Remove name) old new = ⊥
+LacksAt Check old new = new ≡ old

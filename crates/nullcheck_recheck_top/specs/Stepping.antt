@@ -10,9 +10,10 @@ use Rattle.jn_front.specs.declared.source.SourceFile.{SourceFile}
 use Rattle.jn_front.specs.Files.{AreHeld, given_of}
 use Rattle.jn_recheck.specs.Sessions.{SessionOf}
 use Rattle.jn_script.specs.declared.step.Step.{Step}
+use Rattle.jn_script.specs.declared.step.Step.TheVariants.{Check}
 use Rattle.nullcheck_recheck_top.specs.declared.step.Taken.{Taken}
 use Rattle.nullcheck_recheck_top.specs.declared.step.Taken.TheVariants.{Goes, Ends}
-use Rattle.nullcheck_recheck_top.specs.Carrying.{Does, DoAll, IsTextOf, new_session}
+use Rattle.nullcheck_recheck_top.specs.Carrying.{Does, DoAll, IsCheck, IsTextOf, LacksAt, MissesAt, new_session}
 
 -- the text that a name gets of a file of this name, whose bytes are those that the source tells, and that its reads gave
 pub record TextFrom (held : Option Holding) (name : List ℕ) (old new : List Given) (text : List ℕ) : Type 0 where
@@ -52,42 +53,48 @@ module _ (held : Option Holding) (old new : World) where
     pub does : Does s last step read bytes end t
     pub moves : Moves read bytes
 
-  -- its bytes were not all taken
-  pub record Breaks (s : SessionOf) (last : Status) (step : Step) : Type 0 where
+  -- a check's bytes were not all taken
+  pub record Breaks (s : SessionOf) (step : Step) : Type 0 where
+    pub asked : step ≡ Check
     pub bytes : List ℕ
     pub end : Status
     pub session : SessionOf
-    pub does : Does s last step [] bytes end session
+    pub check : IsCheck s bytes end session
+    pub given : new.gave ≡ old.gave
     pub taken : AppendsPrefix old.written new.written bytes
     pub reads : new.reads ≡ old.reads
     pub rose : Rose old.writes new.writes
 
   -- a file couldn't be read
-  pub record Misses : Type 0 where
+  pub record Misses (step : Step) : Type 0 where
+    pub given : MissesAt step old.gave new.gave
     pub taken : new.written ≡ old.written
     pub rose : Rose old.reads new.reads
     pub writes : new.writes ≡ old.writes
 
   -- no memory was found
-  pub record Lacks : Type 0 where
+  pub record Lacks (step : Step) : Type 0 where
+    pub given : LacksAt step old.gave new.gave
     pub taken : new.written ≡ old.written
     pub reads : new.reads ≡ old.reads
     pub writes : new.writes ≡ old.writes
 
-  abbrev pub EndsBy : SessionOf → Status → Step → Status → Type 0
-  EndsBy s last step ReadFault = Misses
-  EndsBy s last step WriteFault = Breaks s last step
-  EndsBy s last step OutOfMemory = Lacks
-  EndsBy s last step Ok = ⊥
-  EndsBy s last step Rejected = ⊥
-  EndsBy s last step Refused = ⊥
-  EndsBy s last step RunFault = ⊥
-  EndsBy s last step Stopped = ⊥
-  EndsBy s last step Usage = ⊥
+  -- the step ended the script, with this status
+  abbrev pub EndsBy : SessionOf → Step → Status → Type 0
+  EndsBy s step ReadFault = Misses step
+  EndsBy s step WriteFault = Breaks s step
+  EndsBy s step OutOfMemory = Lacks step
+  EndsBy s step Ok = ⊥
+  EndsBy s step Rejected = ⊥
+  EndsBy s step Refused = ⊥
+  EndsBy s step RunFault = ⊥
+  EndsBy s step Stopped = ⊥
+  EndsBy s step Usage = ⊥
 
+  -- what stands behind each end of a step
   abbrev pub IsTaken : SessionOf → Status → Step → SessionOf → Taken → Type 0
   IsTaken s last step t (Goes end) = GoesOn s last step end t
-  IsTaken s last step t (Ends status) = EndsBy s last step status
+  IsTaken s last step t (Ends status) = EndsBy s step status
 
   -- the steps were carried out, one after the other
   pub record DidAll (steps : List Step) (end : Status) (t : SessionOf) : Type 0 where
@@ -96,30 +103,30 @@ module _ (held : Option Holding) (old new : World) where
     pub does : DoAll new_session Ok steps files bytes end t
     pub moves : Moves files bytes
 
-  -- the first ones were
-  pub record DidFirst (steps : List Step) (Took : Option (List ℕ) → Option (List ℕ) → List ℕ → Type 0) : Type 0 where
+module _ (held : Option Holding) (old new : World) where
+  -- the steps before one were carried out, and this one ended the script, with this status
+  pub record EndsAt (steps : List Step) (status : Status) : Type 0 where
     pub front : List Step
+    pub step : Step
     pub back : List Step
-    pub split : steps ≡ front ++ back
-    pub files : List SourceFile
-    pub told : AreHeld held files
-    pub bytes : List ℕ
-    pub end : Status
+    pub split : steps ≡ front ++ step ∷ back
+    pub mid : World
+    pub last : Status
     pub session : SessionOf
-    pub does : DoAll new_session Ok front files bytes end session
-    pub taken : Took old.written new.written bytes
+    pub did : DidAll held old mid front last session
+    pub ends : EndsBy held mid new session step status
 
   abbrev pub Whole : List Step → Status → Type 0
-  Whole steps status = (t : SessionOf) × DidAll steps status t
+  Whole steps status = (t : SessionOf) × DidAll held old new steps status t
 
   -- what stands behind each status
   abbrev pub CarriesOut : List Step → Status → Type 0
   CarriesOut steps Ok = Whole steps Ok
   CarriesOut steps Rejected = Whole steps Rejected
   CarriesOut steps Refused = Whole steps Refused
-  CarriesOut steps ReadFault = DidFirst steps Appends × Rose old.reads new.reads × (new.writes ≡ old.writes)
-  CarriesOut steps WriteFault = DidFirst steps AppendsPrefix × (new.reads ≡ old.reads) × Rose old.writes new.writes
-  CarriesOut steps OutOfMemory = DidFirst steps Appends × (new.reads ≡ old.reads) × (new.writes ≡ old.writes)
+  CarriesOut steps ReadFault = EndsAt steps ReadFault × Rose old.reads new.reads × (new.writes ≡ old.writes)
+  CarriesOut steps WriteFault = EndsAt steps WriteFault × (new.reads ≡ old.reads) × Rose old.writes new.writes
+  CarriesOut steps OutOfMemory = EndsAt steps OutOfMemory × (new.reads ≡ old.reads) × (new.writes ≡ old.writes)
   CarriesOut steps RunFault = ⊥
   CarriesOut steps Stopped = ⊥
   CarriesOut steps Usage = ⊥

@@ -30,6 +30,8 @@ pub(crate) fn carry_out<R: Threads + Sync, F: Files, K: Sink, G: Gate + Sync>(
     ensures held { F.held files.new ≡ F.held files.old }
     ensures steady { F.steady files.old → AllHeld (F.held files.old) (files_of steps.now)
         → result ≢ Status.ReadFault }
+    ensures count { F.steady files.old → AllHeld (F.held files.old) (files_of steps.now)
+        → F.faults files.new ≡ F.faults files.old }
 {
     let mut session = Session::new(alloc);
     let mut last = Status::Ok;

@@ -67,6 +67,8 @@ fn answer_named<R: Threads + Sync, F: Files, K: Sink, G: Gate + Sync>(
     ensures read_always { F.faults files.old < F.faults files.new → result ≡ Status.ReadFault }
     ensures read_steady { F.steady files.old → HoldsAll (F.held files.old) (Some name.now)
         → result ≢ Status.ReadFault }
+    ensures read_count { F.steady files.old → HoldsAll (F.held files.old) (Some name.now)
+        → F.faults files.new ≡ F.faults files.old }
     ensures starts { StartsScript (F.held files.old) name.now (F.gave files.old) (F.gave files.new) }
     ensures write { result ≡ Status.WriteFault → Rose (K.faults out.old) (K.faults out.new) }
     ensures write_always { K.faults out.old < K.faults out.new → result ≡ Status.WriteFault }
@@ -101,7 +103,8 @@ pub fn recheck<R: Threads + Sync, F: Files, K: Sink, G: Gate + Sync>(
 ) -> Status
     // Status and bytes are those that the words, the script and the files define: check by check the report of the files that stand
     // there, with the bytes that the reads of this call gave, and the status of the last. A script with a bad line is refused by that
-    // line. Behind a read fault or want of memory the reports of the checks before were written, and behind a write fault a prefix.
+    // line. After a read fault the reports of all checks before the `set` whose file couldn't be read were written, after want of memory
+    // those of all checks before the step that wanted it, and after a write fault a part of one report more.
     ensures answer { Answers (reading (F.held files.old) (F.gave files.old) (F.gave files.new))
         (asked_of (map string_bytes words.now)) (K.written out.old) (K.written out.new) result }
     ensures read { result ≡ Status.ReadFault → Rose (F.faults files.old) (F.faults files.new) }
@@ -109,7 +112,10 @@ pub fn recheck<R: Threads + Sync, F: Files, K: Sink, G: Gate + Sync>(
     ensures read_steady { F.steady files.old
         → HoldsAll (F.held files.old) (asked_of (map string_bytes words.now))
         → result ≢ Status.ReadFault }
-    // No file is started but the script, and where that is good those that its steps set, in their order, whatever comes of it.
+    ensures read_count { F.steady files.old
+        → HoldsAll (F.held files.old) (asked_of (map string_bytes words.now))
+        → F.faults files.new ≡ F.faults files.old }
+    // No file is started but the script, and where what its reads gave is good those that its steps set, in their order, whatever comes of it.
     ensures starts { Starts (F.held files.old) (asked_of (map string_bytes words.now))
         (F.gave files.old) (F.gave files.new) }
     // Nothing is read where the words name no script.

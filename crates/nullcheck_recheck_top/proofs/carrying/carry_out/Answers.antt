@@ -5,7 +5,7 @@ use Rattle.nullcheck_recheck_top.specs.Carrying.{file_of}
 use Rattle.nullcheck_recheck_top.specs.Stepping.{EndsBy, GoesOn, world}
 use Rattle.nullcheck_recheck_top.specs.declared.step.Taken.TheVariants.{Ends}
 use Rattle.nullcheck_recheck_top.proofs.Starting.{starts_all, starts_at}
-use Rattle.nullcheck_recheck_top.proofs.Looping.{did_end, did_more, did_whole, held_at, never_read}
+use Rattle.nullcheck_recheck_top.proofs.Looping.{did_end, did_more, did_whole, held_at, never_read, unmoved}
 use Rattle.nullcheck_recheck_top.proofs.carrying.carry_out.Goals as goal
 
 pub returns-in-Ends-clause-carried : goal.returns-in-Ends-clause-carried
@@ -15,7 +15,7 @@ returns-in-Ends-clause-carried g c =
     let old = world (g.F.Files.gave c.args.files.now) (g.K.Sink.written c.args.out.now) (g.F.Files.faults c.args.files.now) (g.K.Sink.faults c.args.out.now) in
     let mid = world (g.F.Files.gave l.files) (g.K.Sink.written l.out) (g.F.Files.faults l.files) (g.K.Sink.faults l.out) in
     let new = world (g.F.Files.gave c.take_step.new.files) (g.K.Sink.written c.take_step.new.out) (g.F.Files.faults c.take_step.new.files) (g.K.Sink.faults c.take_step.new.out) in
-    let end = subst (λ h. EndsBy h mid new l.session l.last c.step-item.result c.in-Ends.status) l.invariant.1 c.in-Ends.ensures.taken in
+    let end = subst (λ h. EndsBy h mid new l.session c.step-item.result c.in-Ends.status) l.invariant.1 c.in-Ends.ensures.taken in
     did_end held old mid c.args.steps.now l.step-index c.step-item.result c.loop-step-test.true c.step-item.is l.last l.session l.invariant.0 new c.in-Ends.status end
 
 pub returns-in-Ends-clause-steady : goal.returns-in-Ends-clause-steady
@@ -70,3 +70,16 @@ returns-clause-started g c =
     let old = world (g.F.Files.gave c.args.files.now) (g.K.Sink.written c.args.out.now) (g.F.Files.faults c.args.files.now) (g.K.Sink.faults c.args.out.now) in
     let new = world (g.F.Files.gave l.files) (g.K.Sink.written l.out) (g.F.Files.faults l.files) (g.K.Sink.faults l.out) in
     starts_all (g.F.Files.held c.args.files.now) old new c.args.steps.now (take l.step-index c.args.steps.now) l.last l.session (take_all l.step-index c.args.steps.now (omega (arith, f))) l.invariant.0
+
+pub returns-in-Ends-clause-count : goal.returns-in-Ends-clause-count
+returns-in-Ends-clause-count g c st all =
+    let old = world (g.F.Files.gave c.args.files.now) (g.K.Sink.written c.args.out.now) (g.F.Files.faults c.args.files.now) (g.K.Sink.faults c.args.out.now) in
+    let new = world (g.F.Files.gave c.take_step.new.files) (g.K.Sink.written c.take_step.new.out) (g.F.Files.faults c.take_step.new.files) (g.K.Sink.faults c.take_step.new.out) in
+    unmoved (g.F.Files.held c.args.files.now) old new c.args.steps.now c.in-Ends.status (returns-in-Ends-clause-carried g c) (returns-in-Ends-clause-steady g c st all)
+
+pub returns-clause-count : goal.returns-clause-count
+returns-clause-count g c st all =
+    let l = c.loop-step in
+    let old = world (g.F.Files.gave c.args.files.now) (g.K.Sink.written c.args.out.now) (g.F.Files.faults c.args.files.now) (g.K.Sink.faults c.args.out.now) in
+    let new = world (g.F.Files.gave l.files) (g.K.Sink.written l.out) (g.F.Files.faults l.files) (g.K.Sink.faults l.out) in
+    unmoved (g.F.Files.held c.args.files.now) old new c.args.steps.now l.last (returns-clause-carried g c) (returns-clause-steady g c st all)

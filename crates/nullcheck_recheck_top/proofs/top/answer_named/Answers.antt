@@ -51,4 +51,4 @@ returns-in-Ok-read_script-clause-starts g c =
     let new = g.F.Files.gave c.carry_out.new.files in
     let steps = c.deref-in-Ok-read_script.result.now in
     let are = subst (λ (ss : List Step). IsScript c.in-Ok.script.items ss) (sym c.deref-in-Ok-read_script.ensures.value) (subst (λ (bs : List ℕ). IsScript bs c.in-Ok-read_script.steps.items) c.deref.ensures.value c.in-Ok-read_script.ensures.steps) in
-    starts_steps held c.args.name.now c.in-Ok.script.items steps before mid new (record { told = c.in-Ok.ensures.ok.0; small = c.in-Ok.ensures.ok.1; are = are }) c.in-Ok.ensures.gave c.carry_out.ensures.started
+    starts_steps held c.args.name.now c.in-Ok.script.items steps before mid new (record { told = c.in-Ok.ensures.ok.0; small = c.in-Ok.ensures.ok.1; are = are }) (small_given c.args.name.now c.in-Ok.script.items before mid c.in-Ok.ensures.ok.1 c.in-Ok.ensures.gave) c.carry_out.ensures.started
