@@ -6,7 +6,7 @@ use Rattle.jn_outside.specs.Causes.{Rose}
 use Rattle.jn_folder.specs.declared.listed.Entry.{Entry}
 use Rattle.jn_folder.specs.declared.listed.Listed.{Listed}
 use Rattle.jn_folder.specs.Listing.{files_in, files_of, folders_in, folders_of, listed}
-use Rattle.jn_folder.specs.Walking.{AreAsked, AreBelow, Asks, AsksBelow, Counts, IsOrderOf, Seen, Walks, most_levels}
+use Rattle.jn_folder.specs.Walking.{AreAsked, AreBelow, Asks, AsksBelow, Counts, IsOrderOf, RoseForEach, Seen, Walks, most_levels}
 
 files_both : (xs ys : List Listed) → files_of (xs ++ ys) ≡ files_of xs ++ files_of ys
 files_both xs ys = flat_map-append (λ (l : Listed). files_in l.path l.entries) xs ys
@@ -21,7 +21,7 @@ behind old mid new front back a b = b ∙ ap (λ xs. xs ++ back) a ∙ append_as
 -- ---- counts
 
 pub none_missed : (n : ℕ) → Counts [] n n
-none_missed n = record { later = omega arith; kept = (λ e. refl); rose = (λ e. absurd (e refl)) }
+none_missed n = record { later = omega arith; kept = (λ e. refl); rose = (λ e. absurd (e refl)); each = refl }
 
 lt_or_same : (b c : ℕ) → b ≤ c → (b < c) ⊎ (b ≡ c)
 lt_or_same b c le = grind arith
@@ -37,12 +37,17 @@ rose_on a b c (inr e) le more = top_stays a b c e le (lt_or_same b c more)
 some_not_none : (x : List ℕ) (xs : List (List ℕ)) → x ∷ xs ≡ [] → ⊥
 some_not_none x xs e = cc
 
+each_more : (xs ys : List (List ℕ)) (a b c : ℕ) → RoseForEach xs a b → RoseForEach ys b c → RoseForEach (xs ++ ys) a c
+each_more [] ys a b c same q = subst (λ n. RoseForEach ys n c) same q
+each_more (x ∷ xs) ys a b c (mid, rose, rest) q = (mid, rose, each_more xs ys mid b c rest q)
+
 pub counts_more : (xs ys : List (List ℕ)) (a b c : ℕ) → Counts xs a b → Counts ys b c → Counts (xs ++ ys) a c
 counts_more [] ys a b c p q = subst (λ n. Counts ys n c) (p.kept refl) q
 counts_more (x ∷ xs) ys a b c p q = record {
   later = (let f = p.later in let s = q.later in omega (arith, f, s));
   kept = (λ e. absurd (some_not_none x (xs ++ ys) e));
   rose = (λ e. rose_on a b c (p.rose (λ e. some_not_none x xs e)) p.later q.later);
+  each = each_more (x ∷ xs) ys a b c p.each q.each;
 }
 
 -- ---- one level
@@ -99,7 +104,7 @@ asks_missed path s t gave files below missed later rose = record {
   files = files ∙ sym (append-nil s.files);
   below = below ∙ sym (append-nil s.below);
   missed = missed;
-  counts = record { later = later; kept = (λ e. absurd (some_not_none path [] e)); rose = (λ e. rose) };
+  counts = record { later = later; kept = (λ e. absurd (some_not_none path [] e)); rose = (λ e. rose); each = (t.faults, rose, refl) };
 }
 
 -- ---- level by level

@@ -1,5 +1,5 @@
 -- What folders list, and the paths of what stands in them.
-use Rattle.std.specs.Prelude.{ℕ, ◌≡◌, ◌==◌, ◌++◌, ◌&&◌, Bool, true, false, List, [], ◌∷◌, Result, Ok, Err, codes, eqb, if◌then◌else◌, not}
+use Rattle.std.specs.Prelude.{ℕ, ◌≡◌, ◌==◌, ◌++◌, ◌&&◌, Bool, true, false, List, [], ◌∷◌, Option, Some, None, Result, Ok, Err, bytes_eq, codes, eqb, if◌then◌else◌, not}
 use Rattle.std.specs.List.{ends_with, flat_map}
 use Rattle.jn_base.specs.declared.refusal.Fail.{Fail}
 use Rattle.jn_base.specs.declared.refusal.Fail.TheVariants.{Refused, OutOfMemory}
@@ -59,3 +59,8 @@ files_of told = flat_map (λ (l : Listed). files_in l.path l.entries) told
 
 abbrev pub folders_of : List Listed → List (List ℕ)
 folders_of told = flat_map (λ (l : Listed). folders_in l.path l.entries) told
+
+-- the entries of the first of these folders that has this path
+abbrev pub entries_at : List Listed → List ℕ → Option (List Entry)
+entries_at [] path = None
+entries_at (folder ∷ folders) path = if bytes_eq folder.path path then Some folder.entries else entries_at folders path

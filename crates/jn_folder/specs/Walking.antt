@@ -38,11 +38,17 @@ pub record Walks (root : List ℕ) (old new : List Listed) (names missed : List 
   pub below : AreBelow most_levels (root ∷ []) told missed
   pub order : IsOrderOf (files_of told) names
 
--- the count of faults rose where folders were missed, and only there
+-- the count of faults rose once for each folder that was missed
+abbrev pub RoseForEach : List (List ℕ) → ℕ → ℕ → Type 0
+RoseForEach [] before now = now ≡ before
+RoseForEach (path ∷ missed) before now = (mid : ℕ) × Rose before mid × RoseForEach missed mid now
+
+-- the count of faults rose where folders were missed, for each of them, and only there
 pub record Counts (missed : List (List ℕ)) (before now : ℕ) : Type 0 where
   pub later : before ≤ now
   pub kept : missed ≡ [] → now ≡ before
   pub rose : missed ≢ [] → Rose before now
+  pub each : RoseForEach missed before now
 
 -- what was listed, the count of faults, the files and the folders that were found, and the folders that were missed
 pub record Seen : Type 0 where

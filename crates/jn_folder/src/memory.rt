@@ -1,5 +1,8 @@
 //! Folders in memory, which tell all and fail where they are told to.
-ghost use Rattle.std.specs.Prelude.{◌≡◌, [], IfOk};
+ghost use Rattle.std.specs.Prelude.{◌≡◌, ◌≤◌, [], Some, IfOk, OnErr, option_map};
+ghost use Rattle.jn_outside.specs.Causes.{Rose};
+ghost use Rattle.jn_folder.specs.Listing.{CannotList, entries_at};
+ghost use Rattle.jn_folder.specs.Listing as spec;
 
 use crate::folder::Folder;
 use crate::listed::{Entry, Listed, with_listed};
@@ -36,14 +39,23 @@ impl MemFolder {
     }
 
     /// The entries of the folder of this path, where it is there.
-    fn find(&self, path: &str) -> Option<&[Entry]> {
-        for folder in &self.folders {
-            if folder.path.as_str() == path {
-                return Some(folder.entries.as_slice());
-            }
-        }
-        None
+    fn find(&self, path: &str) -> Option<&[Entry]>
+        ensures { option_map (λ entries. entries.now) result ≡ entries_at self.now.folders.items path.now }
+    {
+        found(self.folders.as_slice(), path)
     }
+}
+
+/// The entries of the first of these folders that has this path.
+fn found<'a>(folders: &'a [Listed], path: &str) -> Option<&'a [Entry]>
+    ensures { option_map (λ entries. entries.now) result ≡ entries_at folders.now path.now }
+{
+    for folder in folders {
+        if folder.path.as_str() == path {
+            return Some(folder.entries.as_slice());
+        }
+    }
+    None
 }
 
 /// A copy of the entries.
@@ -62,7 +74,17 @@ impl Folder for MemFolder {
 
     ghost faults = { λ s. s.faults };
 
-    fn entries(&mut self, alloc: Global, path: &str) -> Result<Vec<Entry>, Fail<Failed>> {
+    fn entries(&mut self, alloc: Global, path: &str) -> Result<Vec<Entry>, Fail<Failed>>
+        ensures listed { IfOk result
+            (λ entries. self.new.told.items ≡ spec.with_listed self.old.told.items path.now entries.items) }
+        ensures spared { OnErr result (self.new.told.items ≡ self.old.told.items) }
+        ensures later { self.old.faults ≤ self.new.faults }
+        ensures failed { CannotList result → Rose self.old.faults self.new.faults }
+        ensures kept { (CannotList result → ⊥) → self.new.faults ≡ self.old.faults }
+        ensures folders { self.new.folders ≡ self.old.folders }
+        ensures held { IfOk result
+            (λ entries. Some entries.items ≡ entries_at self.old.folders.items path.now) }
+    {
         self.calls = self.calls.saturating_add(1);
         if self.calls == self.failing {
             self.faults = self.faults.saturating_add(1);
