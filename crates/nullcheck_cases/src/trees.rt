@@ -1,8 +1,8 @@
 //! The run of the one main by the meaning of its trees: its text, and a line of its end as `--run` writes it, but for `null`, with the
-//! place of the operand, `out`, where a unit of fuel isn't there, and `deep`, which comes at 256 frames.
+//! place of the operand, `out`, where a unit of fuel isn't there, and `deep`, where a call would make one frame too many.
 ghost use Rattle.std.specs.Prelude.{◌≡◌, ◌≤◌, [], length, map};
-ghost use Rattle.jn_classtable.specs.Extract.{heads};
-ghost use Rattle.jn_classtable.specs.Inferred.{tabled};
+ghost use Rattle.jn_heads.specs.Extract.{heads};
+ghost use Rattle.jn_heads.specs.Inferred.{tabled};
 ghost use Rattle.jn_classtable.specs.Rows.{t_rows};
 ghost use Rattle.jn_front.specs.Counted.{ReadsFit};
 ghost use Rattle.jn_places.specs.PlacedView.{placed_file};
@@ -34,6 +34,13 @@ const ROOM: u32 = 100_000;
 
 /// The most bytes that one write takes.
 const MOST: u32 = 1000;
+
+/// Within what a main runs by its trees: so many frames at most, and so many units of fuel.
+#[derive(Clone, Copy)]
+pub struct Bounds {
+    pub frames: u64,
+    pub fuel: u64,
+}
 
 /// The class of an exception, by its simple name (java.lang).
 fn class_name(kind: FaultKind) -> &'static str {
@@ -86,7 +93,7 @@ fn run_typed(
     reads: &[SourceRead],
     parsed: &ParsedFiles,
     base: &BaseTyped,
-    fuel: u64,
+    bounds: Bounds,
 ) -> Result<String, AllocError>
     requires program { HasTrees (map placed_file parsed.now.trees.items) base.now }
 {
@@ -103,7 +110,8 @@ fn run_typed(
         &parsed.names,
         main,
         command.args.as_slice(),
-        fuel,
+        bounds.frames,
+        bounds.fuel,
         &mut sink,
     );
     let line = end_line(alloc, reads, end)?;
@@ -119,7 +127,7 @@ fn run_program<R: Threads + Sync>(
     reads: &[SourceRead],
     parsed: &ParsedFiles,
     program: IndexedProgram,
-    fuel: u64,
+    bounds: Bounds,
 ) -> Result<String, AllocError>
     requires declared { t_rows (heads (map placed_file parsed.now.trees.items)) ≡ [] }
     requires program { IsProgram command.now.infer (map placed_file parsed.now.trees.items) program }
@@ -127,7 +135,7 @@ fn run_program<R: Threads + Sync>(
     match base_check(rt, alloc, program, 1) {
         Err(_) => "not base-typed\n".to_string(alloc),
         Ok(base) => {
-            let shown = run_typed(alloc, command, reads, parsed, &base, fuel);
+            let shown = run_typed(alloc, command, reads, parsed, &base, bounds);
             drop(base);
             shown
         }
@@ -142,14 +150,14 @@ fn run_table<R: Threads + Sync>(
     reads: &[SourceRead],
     parsed: &ParsedFiles,
     table: ClassTable,
-    fuel: u64,
+    bounds: Bounds,
 ) -> Result<String, AllocError>
     requires declared { t_rows (heads (map placed_file parsed.now.trees.items)) ≡ [] }
     requires table { table ≡ tabled command.now.infer (map placed_file parsed.now.trees.items) }
 {
     match lower(rt, alloc, table, &parsed.trees, 1) {
         Err(_) => "not lowered\n".to_string(alloc),
-        Ok(program) => run_program(rt, alloc, command, reads, parsed, program, fuel),
+        Ok(program) => run_program(rt, alloc, command, reads, parsed, program, bounds),
     }
 }
 
@@ -159,7 +167,7 @@ fn run_reads<R: Threads + Sync>(
     alloc: Global,
     command: &Command,
     reads: &[SourceRead],
-    fuel: u64,
+    bounds: Bounds,
 ) -> Result<String, AllocError>
     requires few { length reads.now ≤ 64 }
     requires fit { ReadsFit reads.now }
@@ -172,7 +180,7 @@ fn run_reads<R: Threads + Sync>(
     }
     match build(alloc, &parsed.trees, command.infer) {
         Err(_) => "no table\n".to_string(alloc),
-        Ok(table) => run_table(rt, alloc, command, reads, &parsed, table, fuel),
+        Ok(table) => run_table(rt, alloc, command, reads, &parsed, table, bounds),
     }
 }
 
@@ -185,12 +193,12 @@ fn file_names(alloc: Global, command: &Command) -> Result<Vec<String>, AllocErro
     Ok(names)
 }
 
-/// What the one main of the files that the words name prints by its trees, with so many units of fuel, and the line of its end.
+/// What the one main of the files that the words name prints by its trees, within these bounds, and the line of its end.
 pub fn trees_text<R: Threads + Sync>(
     rt: &HostRuntime,
     threads: &R,
     words: &[String],
-    fuel: u64,
+    bounds: Bounds,
 ) -> io::Result<String> {
     let alloc = rt.alloc();
     let Ok(command) = read_words(alloc, words) else {
@@ -205,5 +213,5 @@ pub fn trees_text<R: Threads + Sync>(
     if reads.len() > FILES {
         return Ok("too many files\n".to_string(alloc)?);
     }
-    Ok(run_reads(threads, alloc, &command, &reads, fuel)?)
+    Ok(run_reads(threads, alloc, &command, &reads, bounds)?)
 }

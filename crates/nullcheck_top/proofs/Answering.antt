@@ -20,8 +20,9 @@ use Rattle.jn_command.specs.Outputs.{IfMade}
 use Rattle.jn_command.specs.Shown.{shown_noted}
 use Rattle.jn_command.proofs.Showing.{shown_is_noted}
 use Rattle.nullcheck_top.specs.Found.{IsRefusalOf}
-use Rattle.jn_typed_files.specs.Report.{IsReport}
-use Rattle.nullcheck_top.specs.Report.{AreNotes, IsSafe, RunsTo, Prints}
+use Rattle.jn_report.specs.Report.{IsReport}
+use Rattle.jn_safe_files.specs.Safe.{IsSafe}
+use Rattle.nullcheck_top.specs.Report.{AreNotes, RunsTo, Prints}
 use Rattle.nullcheck_top.specs.Answers.{AnswersFiles}
 use Rattle.nullcheck_top.proofs.Written.{Ends, MadeFor, Written, answers_files, report_shown, files_named, named_are}
 

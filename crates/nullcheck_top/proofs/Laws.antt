@@ -1,14 +1,11 @@
--- Programs of files without a broken rule are accepted.
-use Rattle.std.proofs.Common.{◌≡◌, ℕ, ◌<◌, arith, List, [], ◌∷◌, length, refl, subst}
-use Rattle.jn_base.specs.declared.infer.Infer.{Infer}
+-- Programs of files without a row break no rule.
+use Rattle.std.proofs.Common.{◌≡◌, ◌<◌, arith, List, [], ◌∷◌, length, refl, subst}
 use Rattle.jn_base.specs.declared.place.Row.{Row}
 use Rattle.jn_points.specs.declared.program.Program.{Program}
 use Rattle.jn_transfer.specs.Rules.{Breaks}
-use Rattle.jn_soundness.specs.Accepting.{IsAccepted}
 use Rattle.jn_diag.specs.Order.{IsOrderOf}
-use Rattle.jn_front.specs.declared.source.SourceFile.{SourceFile}
-use Rattle.jn_typed_files.specs.Phases.{TypedProgramOf}
-use Rattle.jn_typed_files.specs.Report.{RulesGive}
+use Rattle.jn_report.specs.Report.{RulesGive}
+use Rattle.jn_safe_files.specs.Safe.{BreaksNone}
 
 none_in_order : (broken : List Row) → IsOrderOf broken [] → broken ≡ []
 none_in_order [] order = refl
@@ -18,12 +15,5 @@ none_in_order (row ∷ rows) order =
     let below : there.0 < 0 = there.1 in
     absurd (omega arith)
 
--- it is accepted under its least signature
-pub accepted : (infer : Infer) (files : List SourceFile) (names : List (List ℕ)) (P : Program) → TypedProgramOf infer files names P → (rules : RulesGive P []) → IsAccepted P rules.signature
-accepted infer files names P of_files rules = record {
-  regular = of_files.of_files.regular;
-  typed = of_files.typed;
-  closed = rules.least.closed;
-  starts = rules.least.starts;
-  unbroken = subst (λ rows. Breaks P rules.signature rows) (none_in_order rules.broken rules.order) rules.breaks;
-}
+pub breaks_none : (P : Program) → RulesGive P [] → BreaksNone P
+breaks_none P rules = (rules.signature, rules.least, subst (λ rows. Breaks P rules.signature rows) (none_in_order rules.broken rules.order) rules.breaks)

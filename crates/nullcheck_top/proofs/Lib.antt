@@ -3,5 +3,4 @@ pub mod Laws
 pub mod Running
 pub mod Written
 pub mod Answering
-pub mod Trees
 pub mod Noting

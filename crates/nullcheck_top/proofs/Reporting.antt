@@ -6,8 +6,6 @@ use Rattle.jn_base.specs.declared.refusal.OutOfMemory.{OutOfMemory}
 use Rattle.jn_base.specs.declared.place.Row.{Row}
 use Rattle.jn_places.specs.Placed.{PlacedFile}
 use Rattle.jn_points.specs.declared.program.Program.{Program}
-use Rattle.jn_heap.specs.Runs.{NeverNull}
-use Rattle.jn_progress_law.specs.Progress.{NeverStuck}
 use Rattle.jn_quals.specs.Qualifier.{Qualifier}
 use Rattle.jn_accept.specs.Accepting.{AreRowsOf}
 use Rattle.jn_inference_law.specs.Solution.{IsLeastSignature}
@@ -23,10 +21,9 @@ use Rattle.jn_command.proofs.Standing.{all_stand}
 use Rattle.nullcheck_top.specs.declared.found.Found.{Found}
 use Rattle.nullcheck_top.specs.Found.{AreWhole, IsBroken, IsFinding, found_of}
 use Rattle.jn_typed_files.specs.Phases.{IsPhase, IsTypedOr, TypedProgramOf}
-use Rattle.jn_typed_files.specs.Report.{IsReport, RulesGive}
-use Rattle.nullcheck_top.specs.Report.{IsSafe, trees_of}
-use Rattle.jn_lowering.specs.Bodies.{Source}
-use Rattle.jn_meaning_law.specs.Safety.{NeverNullByTrees, NeverStuckByTrees}
+use Rattle.jn_report.specs.Report.{IsReport}
+use Rattle.jn_safe_files.specs.Safe.{BreaksNone, IsSafe}
+use Rattle.nullcheck_top.proofs.Laws.{breaks_none}
 
 never_checked : (rows others : List Row) → Refused rows ≡ Checked others → ⊥
 never_checked rows others e = cc
@@ -113,27 +110,12 @@ checked_stand infer reads names trees rows P some typed (Err e) = tt
 
 -- ---- accepted files are safe
 
-abbrev Keeps : Infer → (Program → Type 0) → Type 0
-Keeps infer Kept = (files : List SourceFile) (names : List (List ℕ)) (P : Program) → TypedProgramOf infer files names P → RulesGive P [] → Kept P
-
--- what the laws say of each program of files without a broken rule
-abbrev KeepsTrees : Infer → (Program → List Source → Type 0) → Type 0
-KeepsTrees infer Kept = (files : List SourceFile) (names : List (List ℕ)) (P : Program) (typed : TypedProgramOf infer files names P) → RulesGive P [] → Kept P (trees_of infer files names P typed)
-
-module _ (infer : Infer) (null : Keeps infer NeverNull) (stuck : Keeps infer NeverStuck) (trees_null : KeepsTrees infer NeverNullByTrees) (trees_stuck : KeepsTrees infer NeverStuckByTrees) where
+module _ (infer : Infer) (law : (files : List SourceFile) (names : List (List ℕ)) (P : Program) → TypedProgramOf infer files names P → BreaksNone P → IsSafe infer files) where
   safe_report : (files : List SourceFile) (report : Report) → report ≡ Checked [] → IsReport infer files report → IsSafe infer files
   safe_report files report none is = accepted (subst (IsReport infer files) none is)
     where
       accepted : IsReport infer files (Checked []) → IsSafe infer files
-      accepted by = record {
-        names = by.names;
-        P = by.P;
-        of_files = by.of_files;
-        never_null = null files by.names by.P by.of_files by.rules;
-        never_stuck = stuck files by.names by.P by.of_files by.rules;
-        trees_never_null = trees_null files by.names by.P by.of_files by.rules;
-        trees_never_stuck = trees_stuck files by.names by.P by.of_files by.rules;
-      }
+      accepted by = law files by.names by.P by.of_files (breaks_none by.P by.rules)
 
   pub safe_found : (reads : List SourceRead) (names : List (List ℕ)) (found : Found) → FindsAll infer reads names found → found.report ≡ Checked [] → (files : List SourceFile) → AreReads reads files → IsSafe infer files
   safe_found reads names found all none files are = safe_report files found.report none (all files are).report

@@ -1,8 +1,6 @@
 -- What is written answers the words.
 use Rattle.std.proofs.Common.{◌≡◌, ℕ, zero, suc, ◌<◌, ◌≤◌, inl, inr, List, [], ◌∷◌, ◌++◌, length, Bool, true, false, Option, Some, None, Result, Ok as Made, Err, refl, sym, ◌∙◌, subst, arith, ap, append-nil}
-use Rattle.std.specs.Prelude.{map, IfOk, string_bytes}
-use Rattle.std.specs.declared.string.String.{String}
-use Rattle.std.specs.declared.alloc.Global.{Global}
+use Rattle.std.specs.Prelude.{IfOk}
 use Rattle.jn_base.specs.declared.infer.Infer.{Infer}
 use Rattle.jn_base.specs.declared.refusal.OutOfMemory.{OutOfMemory as NoMemory}
 use Rattle.jn_outside.specs.Causes.{Rose}
@@ -11,8 +9,7 @@ use Rattle.jn_outside.specs.Files.{Holding}
 use Rattle.jn_outside.specs.Sink.{Appends}
 use Rattle.jn_front.specs.declared.source.SourceFile.{SourceFile}
 use Rattle.jn_front.specs.declared.source.SourceRead.{SourceRead}
-use Rattle.jn_front.specs.Files.{names_of, most_files, ReadFrom, StartsOnly, AllHeld, AreReads, IsReadOf}
-use Rattle.jn_front.specs.Counted.{ReadsFit}
+use Rattle.jn_front.specs.Files.{names_of, most_files, StartsOnly, AllHeld, AreReads}
 use Rattle.jn_command.specs.declared.status.Status.{Status}
 use Rattle.jn_command.specs.declared.status.Status.TheVariants.{Ok, Rejected, Refused as RefusedStatus, RunFault, Stopped, ReadFault, WriteFault, OutOfMemory, Usage}
 use Rattle.jn_command.specs.declared.output.Output.{Output}
@@ -225,39 +222,6 @@ always_fault old new before now result (Err e) f lt = absurd (omega (arith, lt, 
 -- nothing was started
 pub starts_none : (names : List (List ℕ)) (before now : List Given) → now ≡ before → StartsOnly names before now
 starts_none names before now same = record { added = []; gave = same ∙ sym (append-nil before); named = refl }
-
--- as many as there are names
-as_many_reads : (reads : List SourceRead) (files : List SourceFile) → AreReads reads files → length reads ≡ length (names_of files)
-as_many_reads [] [] are = refl
-as_many_reads [] (file ∷ files) are = absurd are
-as_many_reads (read ∷ reads) [] are = absurd are
-as_many_reads (read ∷ reads) (file ∷ files) are = ap suc (as_many_reads reads files are.1)
-
--- no bytes beyond the limit are kept
-one_fits : (read : SourceRead) (file : SourceFile) → IsReadOf read file → length read.file.bytes ≤ 1048576
-one_fits read file (inl w) = let same = ap (λ (f : SourceFile). length f.bytes) w.1 in omega (arith, same, w.2)
-one_fits read file (inr l) = let same = ap (λ (f : SourceFile). length f.bytes) l.1 in omega (arith, same)
-
-pub reads_fit : (reads : List SourceRead) (files : List SourceFile) → AreReads reads files → ReadsFit reads
-reads_fit [] [] are = tt
-reads_fit [] (file ∷ files) are = absurd are
-reads_fit (read ∷ reads) [] are = absurd are
-reads_fit (read ∷ reads) (file ∷ files) are = (one_fits read file are.0, reads_fit reads files are.1)
-
-pub map_length : (xs : List (String Global)) → length (map string_bytes xs) ≡ length xs
-map_length [] = refl
-map_length (x ∷ xs) = ap suc (map_length xs)
-
--- at most so many were read
-pub few_reads : (held : Option Holding) (before now : List Given) (words : List (String Global)) (reads : List SourceRead) → length words ≤ most_files → ReadFrom held (map string_bytes words) before now reads → length reads ≤ most_files
-few_reads held before now words reads le from =
-    let many = as_many_reads reads from.files from.are in
-    let named = ap length from.named in
-    let long = map_length words in
-    omega (arith, many, named, long, le)
-
-pub many_names : (words : List (String Global)) → most_files < length words → most_files < length (map string_bytes words)
-many_names words lt = let long = map_length words in omega (arith, long, lt)
 
 -- the files of a command that makes no program
 abbrev Named : Asked → List (List ℕ) → Type 0

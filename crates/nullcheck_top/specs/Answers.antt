@@ -4,8 +4,9 @@ use Rattle.jn_command.specs.declared.status.Status.{Status}
 use Rattle.jn_command.specs.Asked.{Asked}
 use Rattle.jn_command.specs.Answer.{Reading, Answers as CommandAnswers, AnswersFiles as CommandAnswersFiles, Completes as CommandCompletes, Safe as CommandSafe}
 use Rattle.jn_front.specs.declared.source.SourceFile.{SourceFile}
-use Rattle.jn_typed_files.specs.Report.{IsReport}
-use Rattle.nullcheck_top.specs.Report.{AreNotes, IsSafe, RunsTo, Prints}
+use Rattle.jn_report.specs.Report.{IsReport}
+use Rattle.jn_safe_files.specs.Safe.{IsSafe}
+use Rattle.nullcheck_top.specs.Report.{AreNotes, RunsTo, Prints}
 
 abbrev pub Answers : Reading → Option Asked → Option (List ℕ) → Option (List ℕ) → Status → Type 0
 Answers = CommandAnswers IsReport AreNotes IsSafe RunsTo Prints

@@ -20,7 +20,7 @@ use Rattle.jn_quals.specs.Qualifier.{Qualifier}
 use Rattle.jn_reporters.specs.declared.shown.ShownRow.{ShownRow}
 use Rattle.nullcheck_top.specs.declared.found.Found.{Found}
 use Rattle.jn_typed_files.specs.Phases.{TypedProgramOf}
-use Rattle.jn_typed_files.specs.Report.{IsReport}
+use Rattle.jn_report.specs.Report.{IsReport}
 use Rattle.nullcheck_top.specs.Report.{AreNotes}
 
 -- the program of accepted files is at hand, and none where they aren't accepted

@@ -1,11 +1,8 @@
--- What is promised of files beside their report: the notes of its rows, that they are safe, and what their main does.
+-- What is promised of files beside their report and their safety: the notes of its rows, and what their main does.
 use Rattle.std.specs.Prelude.{ℕ, ◌≡◌, List, [], ◌∷◌, map}
 use Rattle.jn_base.specs.declared.place.Row.{Row}
 use Rattle.jn_points.specs.declared.program.Program.{Program}
 use Rattle.jn_base.specs.declared.infer.Infer.{Infer}
-use Rattle.jn_program_law.specs.FileSources.{sources as sources_of}
-use Rattle.jn_lowering.specs.Bodies.{Source}
-use Rattle.jn_meaning_law.specs.Safety.{NeverNullByTrees, NeverStuckByTrees}
 use Rattle.jn_quals.specs.Qualifier.{Qualifier}
 use Rattle.jn_command.specs.declared.noted.Noted.{Noted}
 use Rattle.jn_command.specs.declared.report.Report.{Report}
@@ -17,8 +14,6 @@ use Rattle.jn_notes.specs.Noted.{AreNotesOf}
 use Rattle.jn_reporters.specs.declared.shown.ShownNote.{ShownNote}
 use Rattle.jn_command.specs.declared.report.Report.TheVariants.{Refused, Checked}
 use Rattle.jn_inference_law.specs.Solution.{IsLeastSignature}
-use Rattle.jn_heap.specs.Runs.{NeverNull}
-use Rattle.jn_progress_law.specs.Progress.{NeverStuck}
 use Rattle.jn_run.specs.Main.{RunsTo as ProgramRunsTo, Prints as ProgramPrints}
 use Rattle.jn_front.specs.declared.source.SourceFile.{SourceFile}
 use Rattle.jn_typed_files.specs.Phases.{TypedProgramOf}
@@ -46,20 +41,6 @@ abbrev pub AreNotes : Infer → List SourceFile → Report → List Noted → Ty
 AreNotes infer files (Refused rows) noted = noted ≡ []
 AreNotes infer files (Checked []) noted = noted ≡ []
 AreNotes infer files (Checked (row ∷ rows)) noted = RuleNotes infer files (row ∷ rows) noted
-
--- the sources of its bodies, as its trees have them
-abbrev pub trees_of : (infer : Infer) (files : List SourceFile) (names : List (List ℕ)) (P : Program) → TypedProgramOf infer files names P → List Source
-trees_of infer files names P of_files = sources_of of_files.of_files.trees
-
--- the files' own program has no null fault in any run, and no run gets stuck; nor does the meaning of its trees come to a null, or to what has none
-pub record IsSafe (infer : Infer) (files : List SourceFile) : Type 0 where
-  pub names : List (List ℕ)
-  pub P : Program
-  pub of_files : TypedProgramOf infer files names P
-  pub never_null : NeverNull P
-  pub never_stuck : NeverStuck P
-  pub trees_never_null : NeverNullByTrees P (trees_of infer files names P of_files)
-  pub trees_never_stuck : NeverStuckByTrees P (trees_of infer files names P of_files)
 
 -- so many steps of the files' one main with these words come to the status, and write the bytes
 pub record RunsTo (infer : Infer) (files : List SourceFile) (words : List (List ℕ)) (steps : ℕ) (status : Status) (bytes : List ℕ) : Type 0 where

@@ -14,7 +14,7 @@ ghost use Rattle.jn_front.specs.declared.source.SourceFile.{SourceFile as FileOf
 ghost use Rattle.jn_front.specs.Files.{AllHeld, AreReads, IsReadOf, StartsOnly, most_files};
 ghost use Rattle.nullcheck_top.specs.Answers.{Answers, AnswersFiles};
 ghost use Rattle.nullcheck_top.specs.Found.{AreWhole, IsFinding};
-ghost use Rattle.nullcheck_top.specs.Report.{IsSafe};
+ghost use Rattle.jn_safe_files.specs.Safe.{IsSafe};
 
 use crate::check::check;
 use crate::found::{CheckedFiles, Found};

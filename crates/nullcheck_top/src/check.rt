@@ -12,8 +12,8 @@ ghost use Rattle.jn_command.specs.Reports.{rows_of};
 ghost use Rattle.jn_command.specs.Stands.{StandIn};
 ghost use Rattle.nullcheck_top.specs.Found.{AreWhole, IsFinding, found_of};
 ghost use Rattle.jn_typed_files.specs.Phases.{IsTypedOr, TypedProgramOf};
-ghost use Rattle.jn_typed_files.specs.Report.{IsReport};
-ghost use Rattle.nullcheck_top.specs.Report.{IsSafe};
+ghost use Rattle.jn_report.specs.Report.{IsReport};
+ghost use Rattle.jn_safe_files.specs.Safe.{IsSafe};
 
 use crate::found::{CheckedFiles, Found};
 use crate::law::accepted_files_are_safe;

@@ -1,5 +1,5 @@
 use Rattle.std.proofs.Common.{◌≡◌, List, map, sym, ap, subst}
-use Rattle.jn_classtable.specs.Inferred.{Tabled, slots_by}
+use Rattle.jn_heads.specs.Inferred.{Tabled, slots_by}
 use Rattle.jn_places.specs.PlacedView.{placed_file}
 use Rattle.jn_program.specs.Lowered.{IsProgram}
 use Rattle.jn_trees.specs.declared.declaration.FileTree.{FileTree}

@@ -1,6 +1,6 @@
 use Rattle.std.proofs.Common.{sym, subst}
 use Rattle.jn_front.specs.Counted.{ReadsFit}
-use Rattle.nullcheck_top.proofs.Written.{reads_fit}
+use Rattle.jn_typed_files.proofs.Fitting.{reads_fit}
 use Rattle.nullcheck_cases.proofs.trees.trees_text.Goals as goal
 
 pub run_reads-requires-clause-fit : goal.run_reads-requires-clause-fit

@@ -4,8 +4,9 @@ use Rattle.jn_command.specs.Asked.{asked}
 use Rattle.jn_command.specs.Reporters.{shown_behind}
 use Rattle.jn_run.specs.Main.{Answers as RunAnswers}
 use Rattle.nullcheck_top.specs.Found.{IsAtHand}
-use Rattle.jn_typed_files.specs.Report.{IsReport}
-use Rattle.nullcheck_top.specs.Report.{AreNotes, IsSafe, RunsTo, Prints}
+use Rattle.jn_report.specs.Report.{IsReport}
+use Rattle.jn_safe_files.specs.Safe.{IsSafe}
+use Rattle.nullcheck_top.specs.Report.{AreNotes, RunsTo, Prints}
 use Rattle.nullcheck_top.proofs.Running.{run_answers}
 use Rattle.nullcheck_top.proofs.Written.{answers_files, no_fault, shown_made, status_written}
 use Rattle.nullcheck_top.proofs.answers.answer_checked.Goals as goal

@@ -3,8 +3,9 @@ use Rattle.jn_command.specs.Asked.{asked}
 use Rattle.jn_command.specs.Answer.{reading}
 use Rattle.jn_command.specs.Made.{made_file, made_text}
 use Rattle.jn_command.specs.Reporters.{shown_behind}
-use Rattle.jn_typed_files.specs.Report.{IsReport}
-use Rattle.nullcheck_top.specs.Report.{AreNotes, IsSafe, RunsTo, Prints}
+use Rattle.jn_report.specs.Report.{IsReport}
+use Rattle.jn_safe_files.specs.Safe.{IsSafe}
+use Rattle.nullcheck_top.specs.Report.{AreNotes, RunsTo, Prints}
 use Rattle.nullcheck_top.proofs.Answering.{checked_made}
 use Rattle.nullcheck_top.proofs.Written.{of_files, never_read}
 use Rattle.nullcheck_top.proofs.answers.answer_command.Goals as goal

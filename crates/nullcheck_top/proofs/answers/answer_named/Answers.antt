@@ -5,9 +5,11 @@ use Rattle.jn_command.specs.Asked.{asked}
 use Rattle.jn_command.specs.Answer.{reading}
 use Rattle.jn_command.specs.Reporters.{shown_behind}
 use Rattle.nullcheck_top.proofs.Answering.{checked_many, checked_read, many_answers, many_written}
-use Rattle.nullcheck_top.proofs.Written.{files_named, few_reads, many_names, never_read, no_fault, of_files, reads_fit, starts_none}
-use Rattle.jn_typed_files.specs.Report.{IsReport}
-use Rattle.nullcheck_top.specs.Report.{AreNotes, IsSafe, RunsTo, Prints}
+use Rattle.nullcheck_top.proofs.Written.{files_named, never_read, no_fault, of_files, starts_none}
+use Rattle.jn_typed_files.proofs.Fitting.{few_reads, many_names, reads_fit}
+use Rattle.jn_report.specs.Report.{IsReport}
+use Rattle.jn_safe_files.specs.Safe.{IsSafe}
+use Rattle.nullcheck_top.specs.Report.{AreNotes, RunsTo, Prints}
 use Rattle.nullcheck_top.proofs.answers.answer_named.Goals as goal
 
 pub returns-then-names-gt-MOST_FILES-clause-answer : goal.returns-then-names-gt-MOST_FILES-clause-answer
@@ -51,7 +53,7 @@ answer_reads-requires-clause-few g c κs lives =
     let before = g.F.Files.gave c.args.files.now in
     let now = g.F.Files.gave c.read_all.new.files in
     let from = subst (λ rs. ReadFrom held (map string_bytes c.args.names.now) before now rs) (sym c.deref.ensures.value) c.in-Ok.ensures.ok in
-    few_reads held before now c.args.names.now c.deref.result.now c.if-names-gt-MOST_FILES.false from
+    few_reads c.args.names.now c.deref.result.now from.files c.if-names-gt-MOST_FILES.false from.named from.are
 
 pub answer_reads-requires-clause-fit : goal.answer_reads-requires-clause-fit
 answer_reads-requires-clause-fit g c κs lives =

@@ -7,8 +7,8 @@ use Rattle.jn_command.specs.Reporters.{shown_behind}
 use Rattle.jn_command.specs.Reports.{status_of}
 use Rattle.jn_command.specs.Shown.{shown}
 use Rattle.jn_command.proofs.Showing.{number_text, name_there, length_is}
-use Rattle.nullcheck_top.proofs.Written.{map_length}
-use Rattle.jn_typed_files.specs.Report.{IsReport}
+use Rattle.std.proofs.lemmas.List.{length-map}
+use Rattle.jn_report.specs.Report.{IsReport}
 use Rattle.nullcheck_top.proofs.outputs.number_output.Goals as goal
 
 pub returns : goal.returns
@@ -20,7 +20,7 @@ returns g c infer files named =
     let there = name_there c.args.names.now 64 c.index-names-64.result c.as_str.result.now c.requires.many c.index-names-64.is c.as_str.ensures.value in
     let long = length_is files in
     let long_names = ap length named in
-    let long_words = map_length c.args.names.now in
+    let long_words = length-map c.args.names.now string_bytes in
     let taken = g.P.Reporter.rows c.args.reporter in
     let text = number_text (g.P.Reporter.shown c.args.reporter) (g.P.Reporter.shown shower) taken files names c.as_str.result.now report (g.P.Reporter.rows shower) (g.P.Reporter.given shower) c.in_ok-shower.ensures.shown named there found.row c.in_ok-shower.ensures.rows c.in_ok-shower.ensures.verdict in
     record {

@@ -2,8 +2,9 @@ use Rattle.std.proofs.Common.{sym, subst}
 use Rattle.jn_command.specs.Answer.{reading}
 use Rattle.jn_command.proofs.Asking.{by_refused}
 use Rattle.nullcheck_top.specs.Answers.{Answers}
-use Rattle.jn_typed_files.specs.Report.{IsReport}
-use Rattle.nullcheck_top.specs.Report.{AreNotes, IsSafe, RunsTo, Prints}
+use Rattle.jn_report.specs.Report.{IsReport}
+use Rattle.jn_safe_files.specs.Safe.{IsSafe}
+use Rattle.nullcheck_top.specs.Report.{AreNotes, RunsTo, Prints}
 use Rattle.nullcheck_top.proofs.Written.{completes, nothing, safe, usage}
 use Rattle.nullcheck_top.proofs.top.nullcheck.Goals as goal
 
