@@ -26,9 +26,9 @@ fn renumber_tokens(numbers: &[NameNo], tokens: &mut Vec<Token>)
     }
 }
 
-/// Moves the others behind the tokens, with the entries of their names' numbers.
+/// Moves the others to the tokens' end, with the entries of their names' numbers.
 ///
-/// Where no memory is found, the tokens are as before, and the others have the entries of their names' numbers.
+/// Where no memory is found, the tokens are as before, and nothing is said of the others.
 pub fn put_renumbered(
     tokens: &mut Vec<Token>,
     others: &mut Vec<Token>,

@@ -13,7 +13,7 @@ use Rattle.jn_notes.specs.declared.note.Notes.{Notes}
 use Rattle.jn_notes.specs.Noted.{AreNotesOf}
 use Rattle.jn_recheck.specs.Sessions.{HaveNotes, IsRecheck, Reports, SessionOf, or_else}
 use Rattle.jn_recheck_law.specs.Reusable.{Solved}
-use Rattle.jn_typed_files.specs.Report.{IsReport}
+use Rattle.jn_report.specs.Report.{IsReport}
 use Rattle.jn_lsp.specs.declared.diagnostics.Told.{Told}
 use Rattle.jn_lsp.specs.Telling.{AreFindings, AreReportNotes, AreTold, IsKeptOf, IsReported, IsTold, told_from}
 

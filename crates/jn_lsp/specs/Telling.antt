@@ -20,7 +20,7 @@ use Rattle.jn_notes.specs.Noted.{AreNotesOf}
 use Rattle.jn_recheck.specs.Files.{place_of}
 use Rattle.jn_recheck.specs.Sessions.{IsSolutionOf}
 use Rattle.jn_recheck_law.specs.Reusable.{Solved}
-use Rattle.jn_typed_files.specs.Report.{IsReport}
+use Rattle.jn_report.specs.Report.{IsReport}
 use Rattle.jn_lsp.specs.declared.diagnostics.Told.{Told}
 
 -- ---- places

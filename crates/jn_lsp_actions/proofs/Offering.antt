@@ -19,7 +19,7 @@ use Rattle.jn_trees.specs.declared.token.Token.{Token}
 use Rattle.jn_trees.specs.Trees.{SourceTree}
 use Rattle.jn_trees.specs.View.{file_view}
 use Rattle.jn_typed_files.specs.Phases.{IsPhase, TypedProgramOf}
-use Rattle.jn_typed_files.specs.Report.{IsCheckedBy}
+use Rattle.jn_report.specs.Report.{IsCheckedBy}
 use Rattle.jn_lsp_actions.specs.Offered.{AreActions, AreOfRules, AreUnlessShared, AreWritten}
 
 views : ((tree : FileTree) → forget_file (placed_file tree) ≡ file_view tree) → (trees : List FileTree) → map file_view trees ≡ map forget_file (map placed_file trees)

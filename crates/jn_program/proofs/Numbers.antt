@@ -6,8 +6,8 @@ use Rattle.jn_trees.specs.declared.declaration.TypeTree.{TypeTree}
 use Rattle.jn_trees.specs.declared.declaration.FileTree.{FileTree}
 use Rattle.jn_places.specs.Placed.{PlacedMember, PlacedFieldMember, PlacedMethod, PlacedConstructor, PlacedType}
 use Rattle.jn_places.specs.PlacedView.{placed_file, placed_type}
-use Rattle.jn_classtable.specs.declared.head.MethodHead.{MethodHead}
-use Rattle.jn_classtable.specs.Extract.{has_constructor, method_heads}
+use Rattle.jn_heads.specs.declared.head.MethodHead.{MethodHead}
+use Rattle.jn_heads.specs.Extract.{has_constructor, method_heads}
 use Rattle.jn_lowering.specs.Bodies as spec
 use Rattle.jn_program_law.specs.FileSources.{BodyTree, members_trees, numbered, type_trees, types_of, unwritten_tree}
 use Rattle.jn_lower_stmt.specs.declared.body.Source.{Source}

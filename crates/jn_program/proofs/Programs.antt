@@ -5,8 +5,8 @@ use Rattle.jn_points.specs.declared.program.Body.{Body}
 use Rattle.jn_points.specs.declared.program.Program.{Program}
 use Rattle.jn_points.specs.declared.program.SlotInfo.{SlotInfo}
 use Rattle.jn_places.specs.Placed.{PlacedFile}
-use Rattle.jn_classtable.specs.Extract.{heads}
-use Rattle.jn_classtable.specs.Inferred.{slots_by}
+use Rattle.jn_heads.specs.Extract.{heads}
+use Rattle.jn_heads.specs.Inferred.{slots_by}
 use Rattle.jn_classtable.specs.Table.{table}
 use Rattle.jn_lowering.specs.Bodies.{bodies_of}
 use Rattle.jn_program_law.specs.FileProgram.{inferring}

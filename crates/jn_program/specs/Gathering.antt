@@ -1,7 +1,7 @@
 -- Bodies that are numbered in turn.
 use Rattle.std.specs.Prelude.{ℕ, suc, false, cond, List, [], ◌∷◌, ◌++◌, flat_map, Option, Some, None}
 use Rattle.jn_places.specs.Placed.{PlacedMember}
-use Rattle.jn_classtable.specs.Extract.{has_constructor, method_heads}
+use Rattle.jn_heads.specs.Extract.{has_constructor, method_heads}
 use Rattle.jn_lowering.specs.Bodies.{Source}
 use Rattle.jn_program_law.specs.FileSources.{BodyTree, members_trees, unwritten_tree}
 use Rattle.jn_lower_stmt.specs.Sources.{sources_of}

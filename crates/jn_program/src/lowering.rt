@@ -1,8 +1,8 @@
 //! The program of files, or its rows J1 to J6.
 ghost use Rattle.std.specs.Prelude.{◌≡◌, ◌≤◌, map, IfErr, IfOk};
 ghost use Rattle.jn_base.specs.declared.infer.Infer.{Infer};
-ghost use Rattle.jn_classtable.specs.Extract.{heads};
-ghost use Rattle.jn_classtable.specs.Inferred.{slots_by};
+ghost use Rattle.jn_heads.specs.Extract.{heads};
+ghost use Rattle.jn_heads.specs.Inferred.{slots_by};
 ghost use Rattle.jn_lowering.specs.Bodies.{bodies_of};
 ghost use Rattle.jn_places.specs.PlacedView.{placed_file};
 ghost use Rattle.jn_program.specs.Known.{AreKnown};
@@ -16,7 +16,8 @@ use crate::rows::{is_empty, push_all};
 use crate::sharing::lower_by;
 use crate::sources::sources_of_files;
 use jn_base::{Fail, OutOfMemory, Row, Seq};
-use jn_classtable::{ClassHead, ClassTable};
+use jn_classtable::ClassTable;
+use jn_heads::ClassHead;
 use jn_index::indexed::IndexedProgram;
 use jn_lower_rows::files::file_rows;
 use jn_points::Body;

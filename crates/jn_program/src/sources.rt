@@ -1,6 +1,6 @@
 //! What the bodies of files are made of, in the order of their numbers (JLS 8.4, 8.8 and 8.8.9).
 ghost use Rattle.std.specs.Prelude.{◌≡◌, ◌++◌, ◌∷◌, [], false, flat_map, length, map, Some, None, IfOk, OnOk};
-ghost use Rattle.jn_classtable.specs.Extract.{has_constructor, method_heads};
+ghost use Rattle.jn_heads.specs.Extract.{has_constructor, method_heads};
 ghost use Rattle.jn_places.specs.PlacedView.{placed_file, placed_member, placed_members, placed_parameters, placed_statements, placed_type};
 ghost use Rattle.jn_program_law.specs.FileSources as spec;
 ghost use Rattle.jn_program.specs.Gathering.{class_trees, gathered, numbered_of};

@@ -97,7 +97,7 @@ fn steal_by<R: Threads + Sync, X: Send + Drop, W: Fn(usize, u32) -> Result<X, Ou
     both(ours, theirs, work)
 }
 
-/// What was made, laid out by the numbers below `count`. What was made last of a number takes the place of what was before.
+/// What was made, laid out by the numbers below `count`. Of a number that was made twice, one value stays.
 fn laid_out<X: Send + Drop, W: Fn(usize, u32) -> Result<X, OutOfMemory>>(
     alloc: Global,
     mut made: Vec<(usize, X)>,

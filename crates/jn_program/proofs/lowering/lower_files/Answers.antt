@@ -1,5 +1,5 @@
 use Rattle.std.proofs.Common.{ap, ◌∙◌, ◌++◌, map}
-use Rattle.jn_classtable.specs.Extract.{heads}
+use Rattle.jn_heads.specs.Extract.{heads}
 use Rattle.jn_classtable.specs.Table as tables
 use Rattle.jn_places.specs.PlacedView.{placed_file}
 use Rattle.jn_lowering.specs.BodyRows.{rows_of_bodies}

@@ -1,6 +1,6 @@
 use Rattle.std.proofs.Common.{◌≡◌, false, drop}
 use Rattle.std.specs.Prelude.{flat_map}
-use Rattle.jn_classtable.specs.Extract.{has_constructor, method_heads}
+use Rattle.jn_heads.specs.Extract.{has_constructor, method_heads}
 use Rattle.jn_places.specs.PlacedView.{placed_members}
 use Rattle.jn_program.proofs.sources.writes_constructor.Given as goal
 
