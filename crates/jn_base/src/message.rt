@@ -54,7 +54,7 @@ impl Code {
             Code::RecvInit =>
                 "the receiver is under construction or whole where the method takes the other",
             Code::Return => "this may be null, and the result is not @Nullable",
-            Code::ReturnInit => "this may be under construction, and the result is a whole object",
+            Code::ReturnInit => "this is under construction or whole where the result is the other",
             Code::Local => "this may be null, and the local is marked @NonNull",
             Code::LocalInit =>
                 "this is under construction or whole where the local is marked as the other",

@@ -12,11 +12,11 @@ ghost use Rattle.jn_declaration_rules.specs.Rows as spec;
 use crate::candidates::candidates;
 use crate::overrides::{override_rows, same_bases};
 use crate::rows::push_if;
-use jn_base::{Code, Row, Seq};
+use jn_base::{ClassNo, Code, Row, Seq};
 use jn_index::fits::is_sub;
 use jn_index::index::Index as Members;
 use jn_index::lookup::is_subclass;
-use jn_index::overridden::{declare_fewer, has_partner};
+use jn_index::overridden::has_partner;
 use jn_index::pairs::{is_pair_of, users};
 use jn_points::lookup::method_at;
 use jn_points::members::is_named;
@@ -235,8 +235,33 @@ fn is_bad_along(
     Ok(overrides || hides)
 }
 
-/// Looks among the methods of the name, unless they are many more than those along the walks of the classes that
-/// have the method. A method that is alone with its name and arity is soon done.
+/// How many methods and classes stand along a walk, counted on from those before, and no further than to the limit.
+fn count_along(index: &Members, walk: &[u32], before: usize, limit: usize) -> usize {
+    let mut count = before;
+    for class in walk {
+        if count >= limit {
+            return count;
+        }
+        count = count.saturating_add(index.own(*class).len() + 1);
+    }
+    count
+}
+
+/// Whether the candidates' classes and their methods together are fewer than the limit. It decides which of two
+/// ways is shorter, and nothing else.
+fn are_fewer(index: &Members, owner: ClassNo, users: &[u32], limit: usize) -> bool {
+    let mut count = count_along(index, index.walk(owner.0), index.own(0).len(), limit);
+    for user in users {
+        if count >= limit {
+            return false;
+        }
+        count = count_along(index, index.walk(*user), count, limit);
+    }
+    count < limit
+}
+
+/// Looks among the methods of the name, or among those along the walks of the classes that have the method,
+/// where these are fewer. A method that is alone with its name and arity is soon done.
 #[tactic(auto, using(crate::proofs::Partners::alone_is_well))]
 fn is_bad_override(
     alloc: Global,
@@ -253,8 +278,8 @@ fn is_bad_override(
         return Ok(false);
     }
     let users = users(alloc, program, index, m, over)?;
-    let few = index.named(over.name.0).len() / 8;
-    let is_shorter = few > users.len() && declare_fewer(index, users.as_slice(), few);
+    let named = index.named(over.name.0).len();
+    let is_shorter = are_fewer(index, over.owner, users.as_slice(), named);
     if is_shorter && (over.owner.0 as usize) < program.classes.len() {
         return is_bad_along(alloc, program, index, users.as_slice(), m, over);
     }
