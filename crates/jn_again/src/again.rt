@@ -1,5 +1,5 @@
 //! Solving again.
-ghost use Rattle.std.specs.Prelude.{◌≡◌, ◌<◌, ◌≤◌, ◌+◌, ◌^◌, IfOk, List, ℕ, true, length};
+ghost use Rattle.std.specs.Prelude.{◌≡◌, ◌<◌, ◌≤◌, IfOk, List, ℕ, length};
 ghost use Rattle.jn_contrib.specs.Entries.{AreOverriders};
 ghost use Rattle.jn_inference_law.specs.Solution.{IsLeastSignature};
 ghost use Rattle.jn_recheck_law.specs.Alike.{SameDeclarations};
@@ -22,6 +22,7 @@ use jn_points::Program;
 use jn_reuse::same_declarations;
 use jn_sigs::{Sig, start};
 use jn_system::signature::signature;
+use jn_system::solving::are_few;
 use jn_system::{Nullness, solve_with};
 use jn_trees::Names;
 use std::alloc::Global;
@@ -34,13 +35,6 @@ pub struct Earlier<'e> {
     pub program: &'e Program,
     pub sig: &'e Sig,
     pub overriders: &'e [Overrider],
-}
-
-/// Whether the tasks can be numbered.
-fn are_few(bodies: usize, overriders: usize) -> bool
-    ensures { result ≡ true → bodies + overriders < 2 ^ 32 }
-{
-    bodies <= u32::MAX as usize && overriders <= u32::MAX as usize - bodies
 }
 
 /// What a system of inference is made of.

@@ -1,9 +1,9 @@
 //! What the tasks of a program's inference can reach.
-ghost use Rattle.std.specs.Prelude.{◌≡◌, ◌↔◌, ◌<◌, IfOk, MatchOption, length, slice_index, true};
+ghost use Rattle.std.specs.Prelude.{◌≡◌, ◌↔◌, ◌<◌, IfOk, slice_index, true};
 ghost use Rattle.jn_carry_law.specs.Unread.{AreUnlost, task_slots};
 ghost use Rattle.jn_contrib.specs.Entries.{AreOverriders};
-ghost use Rattle.jn_system.specs.Ready.{AreReady, AreTasks, IsOverriderOf, tasks_prop};
-ghost use Rattle.jn_tables_law.specs.Tasks.{is_body_task, task_count};
+ghost use Rattle.jn_system.specs.Ready.{AreReady, AreTasks, tasks_prop};
+ghost use Rattle.jn_tables_law.specs.Tasks.{task_count};
 
 use jn_base::{BodyNo, MethodNo, OutOfMemory};
 use jn_contrib::Overrider;
@@ -11,29 +11,8 @@ use jn_env::OwnFields;
 use jn_lost::Reach;
 use jn_points::Program;
 use jn_reach::{off_body, off_pair};
+use jn_system::tasks::overrider_of;
 use std::alloc::Global;
-
-/// The overriding method of a task behind the bodies; None for a body.
-#[tactic(auto, using(jn_system::proofs::TaskSteps::is_body, jn_system::proofs::TaskSteps::is_overrider))]
-fn overrider_of<'a>(
-    program: &Program,
-    overriders: &'a [Overrider],
-    task: BodyNo,
-) -> Option<&'a Overrider>
-    requires overriders { AreOverriders program.now overriders.now }
-    requires task { task.0 < task_count program.now }
-    ensures { MatchOption result
-        ((task.0 < length program.now.bodies) × (is_body_task program.now task.0 ≡ true))
-        (λ o. IsOverriderOf program.now task.0 o.now) }
-{
-    let bodies = program.bodies.len();
-    let at = task.0 as usize;
-    if at < bodies {
-        None
-    } else {
-        Some(&overriders[at - bodies])
-    }
-}
 
 /// Whether the masks have no bit of the slots that a task can reach.
 #[tactic(auto, using(crate::proofs::Reaching::body_off, crate::proofs::Reaching::pair_off))]

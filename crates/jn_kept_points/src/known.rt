@@ -33,10 +33,11 @@ pub fn same_starts(one: &[Start], other: &[Start]) -> bool
     true
 }
 
-fn is_told(same: &[bool], file: usize) -> bool
-    ensures { result ≡ get_or same.now file false }
+/// Whether the flag at this place is set; past the last one none is.
+pub fn is_told(flags: &[bool], at: usize) -> bool
+    ensures { result ≡ get_or flags.now at false }
 {
-    match same.get(file) {
+    match flags.get(at) {
         None => false,
         Some(told) => *told,
     }

@@ -5,14 +5,8 @@ ghost use Rattle.jn_kept_trees.specs.Staying.{stays_as_it_was};
 use jn_base::OutOfMemory;
 use jn_base::lists::put;
 use jn_front::renumbering::Numbered;
+use jn_kept_points::known::is_told;
 use std::alloc::Global;
-
-/// Whether the flag at this place is set.
-fn is_set(flags: &[bool], at: usize) -> bool
-    ensures { result ≡ get_or flags.now at false }
-{
-    if at < flags.len() { flags[at] } else { false }
-}
 
 /// Whether a tree stays as it was, that was kept or not.
 fn stays(kept: bool, tree: &Numbered) -> bool
@@ -35,7 +29,7 @@ pub(crate) fn which_stay(
 {
     let mut same = Vec::new(alloc);
     for at in 0..trees.len() {
-        let one = stays(is_set(kept, at), &trees[at]);
+        let one = stays(is_told(kept, at), &trees[at]);
         put(&mut same, one)?;
     }
     Ok(same)

@@ -8,5 +8,4 @@ pub mod Rechecking
 pub mod Fitting
 pub mod OneReport
 pub mod OwnNames
-pub mod Same
 pub mod Unchanged

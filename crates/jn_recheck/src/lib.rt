@@ -1,7 +1,6 @@
 //! Rechecking after edits: a [`Session`] keeps files, and of its reports what serves the next one.
 #![tactic(auto)]
 
-mod anew;
 mod files;
 mod kept;
 pub mod law;

@@ -15,7 +15,6 @@ ghost use Rattle.jn_points.specs.Members.{below};
 ghost use Rattle.jn_system.specs.Rows.{AreBroken, least_rows};
 ghost use Rattle.jn_transfer.specs.Rules.{pairs_rows};
 
-use crate::anew::rows_of;
 use crate::kept::Kept;
 use jn_base::{BodyNo, OutOfMemory, Row, Seq};
 use jn_checks::override_rows;
@@ -28,6 +27,7 @@ use jn_reuse::{Solved, is_reusable, same_declarations};
 use jn_sharing::share_out;
 use jn_sigs::Sig;
 use jn_system::bodies::Bodies;
+use jn_system::checking::rows_of;
 use jn_tables_law::law::regular_programs_can_be_inferred;
 use jn_trees::Names;
 use jn_typed::BaseTyped;

@@ -45,7 +45,7 @@ fn rows_by(
 }
 
 /// One body's rows under its least table. The worker enters the gate with the body's number first.
-fn rows_of<G: Gate>(
+pub fn rows_of<G: Gate>(
     alloc: Global,
     bodies: &Bodies,
     body: u32,

@@ -17,8 +17,9 @@ use std::alloc::Global;
 use std::thread::Threads;
 
 /// Whether the tasks can be numbered.
-fn are_few(bodies: usize, overriders: usize) -> bool
-    ensures { result ≡ true → bodies + overriders < 2 ^ 32 }
+pub fn are_few(bodies: usize, overriders: usize) -> bool
+    ensures few { result ≡ true → bodies + overriders < 2 ^ 32 }
+    ensures many { result ≡ false → 2 ^ 32 ≤ bodies + overriders }
 {
     bodies <= u32::MAX as usize && overriders <= u32::MAX as usize - bodies
 }

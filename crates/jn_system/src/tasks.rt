@@ -23,7 +23,7 @@ use std::alloc::{AllocError, Global};
 
 /// The overriding method of a task behind the bodies; None for a body.
 #[tactic(auto, using(crate::proofs::TaskSteps::is_body, crate::proofs::TaskSteps::is_overrider))]
-fn overrider_of<'a>(
+pub fn overrider_of<'a>(
     program: &Program,
     overriders: &'a [Overrider],
     task: BodyNo,

@@ -10,10 +10,10 @@ use Rattle.jn_again.proofs.Editing.{is_edit, least_words, start_words, task_list
 use Rattle.jn_again.proofs.again.solve_edited.Goals as goal
 
 pub solve_words-requires-clause-old : goal.solve_words-requires-clause-old
-solve_words-requires-clause-old c = task_list c.args.old.now c.in_ok-old_own.old_own c.args.old_overriders.now c.len.result (length c.args.old_overriders.now) c.requires.old c.in_ok-old_own.ensures c.requires.old_list c.len.ensures refl (c.are_few.ensures c.if-not-are_few.false)
+solve_words-requires-clause-old c = task_list c.args.old.now c.in_ok-old_own.old_own c.args.old_overriders.now c.len.result (length c.args.old_overriders.now) c.requires.old c.in_ok-old_own.ensures c.requires.old_list c.len.ensures refl (c.are_few.ensures.few c.if-not-are_few.false)
 
 pub solve_words-requires-clause-new : goal.solve_words-requires-clause-new
-solve_words-requires-clause-new c = task_list c.args.new.now c.in_ok-own.own c.args.overriders.now c.len.result (length c.args.old_overriders.now) c.requires.new c.in_ok-own.ensures c.requires.list (c.len.ensures ∙ c.requires.bodies) (ap (λ (os : List Overrider). length os) c.requires.lists) (c.are_few.ensures c.if-not-are_few.false)
+solve_words-requires-clause-new c = task_list c.args.new.now c.in_ok-own.own c.args.overriders.now c.len.result (length c.args.old_overriders.now) c.requires.new c.in_ok-own.ensures c.requires.list (c.len.ensures ∙ c.requires.bodies) (ap (λ (os : List Overrider). length os) c.requires.lists) (c.are_few.ensures.few c.if-not-are_few.false)
 
 pub solve_words-requires-clause-flags : goal.solve_words-requires-clause-flags
 solve_words-requires-clause-flags c = ap (λ (l : List Bool). length l) c.as_slice.ensures.value ∙ c.in_ok-changed.ensures.count ∙ tasks_are c.args.old.now c.args.old_overriders.now c.len-2.result (length c.args.old_overriders.now) c.requires.old_list c.len-2.ensures refl

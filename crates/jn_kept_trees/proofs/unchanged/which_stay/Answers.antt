@@ -14,7 +14,7 @@ loop-at-preserved c =
     let flags = c.args.kept.now in
     let one = c.stays-one.result in
     let there = slice_get_read trees (length trees) at c.index-trees-at.result refl c.loop-at-test.true c.index-trees-at.is in
-    let is : one ≡ stays_as_it_was (get_or flags at false) (slice_get trees at) = c.stays-one.ensures ∙ ap (λ b. stays_as_it_was b (Some c.index-trees-at.result)) c.is_set.ensures ∙ ap (stays_as_it_was (get_or flags at false)) (sym there) in
+    let is : one ≡ stays_as_it_was (get_or flags at false) (slice_get trees at) = c.stays-one.ensures ∙ ap (λ b. stays_as_it_was b (Some c.index-trees-at.result)) c.is_told.ensures ∙ ap (stays_as_it_was (get_or flags at false)) (sym there) in
     let after = c.put.new.items.items in
     let put : after ≡ loop.same.items ++ one ∷ [] = c.in_ok-put.ensures in
     record {
