@@ -42,7 +42,7 @@ fn counts_parameters(program: &Program) -> bool
 }
 
 /// Whether all that names and members are looked up by has numbers of 32 bits, as in all that fits into memory.
-fn is_counted(base: &BaseTyped) -> bool
+pub fn is_counted(base: &BaseTyped) -> bool
     ensures { (result ≡ true) ↔ Few base.now }
 {
     counts_parameters(base.program())
