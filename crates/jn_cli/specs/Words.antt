@@ -29,9 +29,9 @@ bare_app = on_top (λ s. record s { no_binary_name = true; disable_help_flag = t
 
 unfoldable pub nullcheck_app : App
 nullcheck_app =
-    with_rule (with_rule (with_rule (with_rule (with_rule (with_rule (with_rule (with_rule bare_app
+    with_rule (with_rule (with_rule (with_rule (with_rule (with_rule (with_rule (with_rule (with_rule bare_app
     (single (codes "workers"))) (single (codes "report"))) (single (codes "infer"))) run_flag)
-    (single (codes "steps"))) (single (codes "words"))) (single (codes "gen"))) file_rule
+    (single (codes "steps"))) (single (codes "words"))) (single (codes "gen"))) (single (codes "codes"))) file_rule
 
 abbrev pub no_fault : Kinds → Bool
 no_fault [] = true
@@ -53,6 +53,7 @@ options_in rows = record {
   steps = first_of (codes "steps") rows;
   words = first_of (codes "words") rows;
   classes = first_of (codes "gen") rows;
+  codes = first_of (codes "codes") rows;
   files = unwrap_or (all_of (codes "FILE") rows) [];
 }
 
@@ -92,6 +93,10 @@ is_empty xs = length xs == 0
 abbrev pub is_report : List ℕ → Bool
 is_report name = not (is_empty name)
 
+-- an address where codes may be explained: any but the empty one
+abbrev pub is_address : List ℕ → Bool
+is_address address = not (is_empty address)
+
 -- a name of members that are inferred
 abbrev pub is_infer : List ℕ → Bool
 is_infer name = bytes_eq name (codes "private") || bytes_eq name (codes "package")
@@ -109,6 +114,7 @@ has_bad_value o =
     || not (fits 1 500 o.classes)
     || not (option_map_or is_report o.report true)
     || not (option_map_or is_infer o.infer true)
+    || not (option_map_or is_address o.codes true)
 
 -- neither a FILE nor --gen; --gen with a FILE or with --run; --steps or --words without --run
 abbrev pub is_bad_mix : Options → Bool
@@ -138,5 +144,6 @@ command_of o = record {
   steps = number_or 1000000 o.steps;
   args = pieces_of (unwrap_or o.words []);
   classes = number_or 0 o.classes;
+  codes = o.codes;
   files = o.files;
 }

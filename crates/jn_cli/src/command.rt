@@ -26,6 +26,8 @@ pub struct Command {
     pub args: Seq<Text>,
     /// 1 to 500, or 0 where no program is to be made.
     pub classes: u32,
+    /// Where codes are explained, not empty, for a reporter that shows links.
+    pub codes: Option<Text>,
     pub files: Seq<Text>,
 }
 
@@ -73,6 +75,7 @@ fn command_from(alloc: Global, options: Options) -> Result<Command, OutOfMemory>
         steps: number_or(&options.steps, 1_000_000),
         args: pieces(alloc, words.as_str())?,
         classes: number_or(&options.classes, 0) as u32,
+        codes: options.codes,
         files: options.files,
     })
 }

@@ -15,6 +15,7 @@ pub struct Options {
     pub steps: Option<Text>,
     pub words: Option<Text>,
     pub classes: Option<Text>,
+    pub codes: Option<Text>,
     pub files: Seq<Text>,
 }
 
@@ -32,6 +33,13 @@ fn is_infer(name: &str) -> bool
     name == "private" || name == "package"
 }
 
+/// Whether codes may be explained at the address.
+fn is_address(address: &str) -> bool
+    ensures { result ≡ spec.is_address address.now }
+{
+    address.len() != 0
+}
+
 fn has_bad_value(options: &Options) -> bool
     ensures { result ≡ spec.has_bad_value options.now }
 {
@@ -43,11 +51,16 @@ fn has_bad_value(options: &Options) -> bool
         None => true,
         Some(name) => is_infer(name.as_str()),
     };
+    let is_addressed = match &options.codes {
+        None => true,
+        Some(address) => is_address(address.as_str()),
+    };
     !fits(&options.workers, 1, 16)
         || !fits(&options.steps, 1, 1_000_000_000)
         || !fits(&options.classes, 1, 500)
         || !is_named
         || !is_chosen
+        || !is_addressed
 }
 
 fn is_bad_mix(options: &Options) -> bool

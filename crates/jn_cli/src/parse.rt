@@ -58,6 +58,7 @@ pub fn command<'a>(alloc: Global) -> Result<Command<'a>, AllocError>
     let command = command.arg(single(alloc, "steps"))?;
     let command = command.arg(single(alloc, "words"))?;
     let command = command.arg(single(alloc, "gen"))?;
+    let command = command.arg(single(alloc, "codes"))?;
     command.arg(file(alloc))
 }
 
@@ -93,6 +94,7 @@ pub fn options_in(alloc: Global, matches: &ArgMatches) -> Result<Options, OutOfM
         steps: text_of(alloc, matches, "steps")?,
         words: text_of(alloc, matches, "words")?,
         classes: text_of(alloc, matches, "gen")?,
+        codes: text_of(alloc, matches, "codes")?,
         files: texts_of(alloc, matches, "FILE")?,
     })
 }

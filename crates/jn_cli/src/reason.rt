@@ -16,6 +16,11 @@ fn bad_value(options: &Options) -> Option<&'static str> {
     if !fits(&options.classes, 1, 500) {
         return Some("--gen takes a number from 1 to 500");
     }
+    if let Some(address) = &options.codes {
+        if address.len() == 0 {
+            return Some("--codes takes an address");
+        }
+    }
     match &options.infer {
         Some(name) if name.as_str() != "private" && name.as_str() != "package" => {
             Some("--infer takes `private` or `package`")

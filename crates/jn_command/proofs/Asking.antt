@@ -1,13 +1,14 @@
 -- What words ask for.
-use Rattle.std.proofs.Common.{◌≡◌, ℕ, true, false, List, Option, Some, None, Err, refl, sym, ap, ◌∙◌, subst}
+use Rattle.std.proofs.Common.{◌≡◌, ℕ, true, false, List, Option, Some, None, Err, sym, ap, ◌∙◌, subst}
 use Rattle.std.specs.Prelude.{if◌then◌else◌}
 use Rattle.jn_base.specs.declared.refusal.Fail.{Fail}
 use Rattle.jn_base.specs.declared.refusal.Fail.TheVariants.{Refused}
 use Rattle.jn_cli.specs.Refused.{IfRefused}
 use Rattle.jn_cli.specs.declared.command.Command.{Command}
 use Rattle.jn_cli.specs.Words.{command_of, is_usage, options_of}
-use Rattle.jn_command.specs.Asked.{Asked, asked, asked_by, asked_of, shown_by}
-use Rattle.jn_command.specs.Reporters.{Form, first_named, shown_behind}
+use Rattle.jn_command.specs.Asked.{asked_by, asked_of, asked_with, linked_with, shown_by}
+use Rattle.jn_command.specs.Reporters.{first_named}
+use Rattle.jn_reporters.specs.Forms.{Form}
 
 -- what a refusal tells
 pub by_refused : {E P : Type 0} (fail : Fail E) (cause : E) → fail ≡ Refused cause → IfRefused {T = Unit {0}} (Err fail) P → P
@@ -30,5 +31,5 @@ module _ (forms : List Form) (words : List (List ℕ)) (command : Command) (take
   pub name_refused : (name : List ℕ) → name ≡ command.report → first_named name forms ≡ None → asked_of forms words ≡ None
   name_refused name same e = by_name None name same e
 
-  pub words_taken : (form : Form) (name : List ℕ) → name ≡ command.report → first_named name forms ≡ Some form → asked_of forms words ≡ Some (asked command form.document form.notes (shown_behind form.rows form.shown))
+  pub words_taken : (form : Form) (name : List ℕ) → name ≡ command.report → first_named name forms ≡ Some form → asked_of forms words ≡ Some (asked_with command (linked_with command.codes form))
   words_taken form name same e = by_name (Some form) name same e

@@ -2,7 +2,8 @@
 use Rattle.std.proofs.Common.{◌≡◌, ℕ, Bool, true, false, List, [], ◌∷◌, ◌++◌, map, Option, Some, None, refl, sym, ap, ◌∙◌, append_assoc}
 use Rattle.std.specs.Prelude.{if◌then◌else◌}
 use Rattle.std.specs.Str.{bytes_eq}
-use Rattle.jn_command.specs.Reporters.{Form, first_named}
+use Rattle.jn_command.specs.Reporters.{first_named}
+use Rattle.jn_reporters.specs.Forms.{Form}
 
 none_picked : (b : Bool) (form : Form) (rest : Option Form) → (if b then Some form else rest) ≡ None → (b ≡ false) × (rest ≡ None)
 none_picked true form rest e = absurd (no_some e)

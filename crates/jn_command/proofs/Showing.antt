@@ -6,7 +6,6 @@ use Rattle.std.specs.declared.alloc.Global.{Global}
 use Rattle.std.proofs.lemmas.List.{take_more}
 use Rattle.jn_base.specs.declared.place.Row.{Row}
 use Rattle.jn_base.specs.declared.place.Span.{Span}
-use Rattle.jn_base.specs.declared.code.Code.{Code}
 use Rattle.jn_base.specs.declared.code.Code.TheVariants.{B1}
 use Rattle.jn_base.specs.Place.{place_behind}
 use Rattle.jn_diag.specs.declared.shown.RowText.{RowText}
@@ -21,7 +20,7 @@ use Rattle.jn_front.specs.Files.{names_of, files_of_reads, AreReads, IsReadOf, m
 use Rattle.jn_front.specs.Limits.{row_at}
 use Rattle.jn_command.specs.declared.noted.Noted.{Noted}
 use Rattle.jn_command.specs.declared.report.Report.{Report}
-use Rattle.jn_command.specs.declared.report.Report.TheVariants.{Refused, Checked}
+use Rattle.jn_command.specs.declared.report.Report.TheVariants.{Refused}
 use Rattle.jn_command.specs.declared.show.Place.{Place}
 use Rattle.jn_command.specs.Reporters.{shown_behind}
 use Rattle.jn_command.specs.Reports.{rows_of, verdict_of}
@@ -29,7 +28,8 @@ use Rattle.jn_command.specs.Shown.{no_notes, note_of_file, note_of, noted_at, no
 use Rattle.jn_command.specs.Stands.{StandsIn, StandIn, IsPlace, bytes_of}
 use Rattle.jn_reporters.specs.Excerpts.{extract_at, extract_for, is_limit}
 use Rattle.jn_reporters.specs.declared.shown.Extract.{Extract}
-use Rattle.jn_reporters.specs.Views.{row_view}
+use Rattle.jn_base.specs.declared.place.Place.{Place as Ending}
+use Rattle.jn_reporters.specs.Views.{end_in, end_of, row_view}
 use Rattle.jn_reporters.specs.declared.shown.ShownNote.{ShownNote}
 use Rattle.jn_reporters.specs.declared.shown.ShownRow.{ShownRow}
 use Rattle.jn_reporters.proofs.Limits.{b1_is_limit}
@@ -137,11 +137,20 @@ pub at_start : (name one other : List ℕ) (row : Row) → row.span.from ≡ 0 �
 at_start name one other row e =
     ap (λ before. record { name = name; line = (place_behind before row.span).line; col = (place_behind before row.span).col; code = row.code }) (none_taken row.span.from one e ∙ sym (none_taken row.span.from other e))
 
--- and no line, where it is one of a limit
+-- and ends there, where it is one of a limit
+end_at_start : (one other : List ℕ) (row : Row) → row.span.from ≡ 0 → is_limit row.code ≡ true → end_in row.code one row.span ≡ end_in row.code other row.span
+end_at_start one other row from limit =
+    let here : end_of row.code row.span ≡ 0 = ap (λ (b : Bool). if b then row.span.from else row.span.to) limit ∙ from in
+    ap (λ before. place_behind before (record row.span { from = end_of row.code row.span })) (none_taken (end_of row.code row.span) one here ∙ sym (none_taken (end_of row.code row.span) other here))
+
+-- and shows no line
 pub view_at_start : (name one other : List ℕ) (row : Row) → row.span.from ≡ 0 → is_limit row.code ≡ true → row_view name one row ≡ row_view name other row
 view_at_start name one other row from limit =
-    ap (λ (t : RowText). record { text = t; extract = extract_for row.code one row.span; notes = []; more = 0 }) (at_start name one other row from)
-    ∙ ap (λ (x : Option Extract). record { text = row_shown name other row; extract = x; notes = []; more = 0 }) (none one ∙ sym (none other))
+    let end = end_in row.code one row.span in
+    let same = end_in row.code other row.span in
+    ap (λ (t : RowText). record { text = t; end_line = end.line; end_col = end.col; extract = extract_for row.code one row.span; notes = []; more = 0 }) (at_start name one other row from)
+    ∙ ap (λ (p : Ending). record { text = row_shown name other row; end_line = p.line; end_col = p.col; extract = extract_for row.code one row.span; notes = []; more = 0 }) (end_at_start one other row from limit)
+    ∙ ap (λ (x : Option Extract). record { text = row_shown name other row; end_line = same.line; end_col = same.col; extract = x; notes = []; more = 0 }) (none one ∙ sym (none other))
   where
     none : (bytes : List ℕ) → extract_for row.code bytes row.span ≡ None
     none bytes = ap (λ (b : Bool). if b then None else Some (extract_at bytes row.span.from row.span.to)) limit

@@ -6,8 +6,6 @@ use Rattle.jn_outside.specs.Causes.{Rose}
 use Rattle.jn_outside.specs.Sink.{Appends, AppendsPrefix}
 use Rattle.jn_command.specs.declared.status.Status.{Status}
 use Rattle.jn_command.specs.declared.status.Status.TheVariants.{Ok, Rejected, Refused, RunFault, Stopped, ReadFault, WriteFault, OutOfMemory, Usage}
-use Rattle.jn_cli.specs.declared.command.Command.{Command}
-use Rattle.jn_diag.specs.declared.shown.Verdict.{Verdict}
 use Rattle.jn_base.specs.declared.infer.Infer.{Infer}
 use Rattle.jn_command.specs.Asked.{Asked, usage_line}
 use Rattle.jn_command.specs.Made.{front_of, made_file, made_text}

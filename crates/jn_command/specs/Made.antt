@@ -1,5 +1,5 @@
 -- The program that a command makes in place of files.
-use Rattle.std.specs.Prelude.{◌≡◌, ℕ, Bool, zero, suc, ◌++◌, List, [], ◌∷◌, length, codes, decimal, if◌then◌else◌}
+use Rattle.std.specs.Prelude.{ℕ, Bool, zero, suc, ◌++◌, List, [], length, codes, decimal, if◌then◌else◌}
 use Rattle.jn_gen.specs.Generated.{program_lines, text_of}
 use Rattle.jn_front.specs.declared.source.SourceFile.{SourceFile}
 

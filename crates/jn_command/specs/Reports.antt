@@ -1,5 +1,5 @@
 -- What a check of files comes to.
-use Rattle.std.specs.Prelude.{ℕ, List, [], ◌∷◌, length}
+use Rattle.std.specs.Prelude.{List, [], ◌∷◌, length}
 use Rattle.jn_base.specs.declared.place.Row.{Row}
 use Rattle.jn_diag.specs.declared.shown.Verdict.{Verdict}
 use Rattle.jn_diag.specs.declared.shown.Verdict.TheVariants.{Accepted as AcceptedVerdict, Rejected as RejectedVerdict, Refused as RefusedVerdict}

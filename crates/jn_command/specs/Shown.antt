@@ -16,7 +16,7 @@ use Rattle.jn_reporters.specs.declared.shown.ShownRow.{ShownRow}
 
 -- a row as a reporter is given it, with what is shown of its line, and without notes; one of no file has no name, and stands at its beginning
 abbrev pub row_of_file : Option SourceFile → Row → ShownRow
-row_of_file None row = record { text = record { name = []; line = 1; col = 1; code = row.code }; extract = None; notes = []; more = 0 }
+row_of_file None row = record { text = record { name = []; line = 1; col = 1; code = row.code }; end_line = 1; end_col = 1; extract = None; notes = []; more = 0 }
 row_of_file (Some file) row = row_view file.name file.bytes row
 
 abbrev pub row_of : List SourceFile → Row → ShownRow

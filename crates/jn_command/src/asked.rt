@@ -1,12 +1,11 @@
 //! What the words of the command line ask for.
-ghost use Rattle.std.specs.Prelude.{◌≡◌, ◌≤◌, map, None, Some, IfOk};
+ghost use Rattle.std.specs.Prelude.{◌≡◌, ◌≤◌, map, None, Some, IfOk, OnOk};
 ghost use Rattle.std.specs.String.{string_bytes};
 ghost use Rattle.jn_cli.specs.Refused.{IfRefused};
-ghost use Rattle.jn_command.specs.Asked.{asked, asked_of};
-ghost use Rattle.jn_command.specs.Reporters.{shown_behind};
+ghost use Rattle.jn_command.specs.Asked.{asked_of, asked_with, linked_with};
 
 use crate::choose::{Chosen, choose};
-use jn_base::Fail;
+use jn_base::{Fail, OutOfMemory, Text};
 use jn_cli::{Command, Usage, read_words};
 use jn_reporters::Reporter;
 use std::alloc::Global;
@@ -29,28 +28,11 @@ pub fn read_asked(
     reporters: Vec<Box<dyn Reporter>>,
 ) -> Result<Asked, Fail<Usage>>
     ensures asked { IfOk result (λ a. asked_of
-        (map
-        (λ b. record {
-          title = title b;
-          document = document b;
-          notes = notes b;
-          rows = rows b;
-          shown = shown b;
-        })
-        reporters.items)
+        (map (λ b. form b) reporters.items)
         (map string_bytes words.now)
-        ≡ Some (asked a.command (document a.reporter.reporter) (notes a.reporter.reporter)
-        (shown_behind (rows a.reporter.reporter) (shown a.reporter.reporter)))) }
+        ≡ Some (asked_with a.command (form a.reporter.reporter))) }
     ensures usage { IfRefused result (asked_of
-        (map
-        (λ b. record {
-          title = title b;
-          document = document b;
-          notes = notes b;
-          rows = rows b;
-          shown = shown b;
-        })
-        reporters.items)
+        (map (λ b. form b) reporters.items)
         (map string_bytes words.now)
         ≡ None) }
     ensures workers { IfOk result (λ a. (1 ≤ a.command.workers) × (a.command.workers ≤ 16)) }
@@ -63,6 +45,30 @@ pub fn read_asked(
     };
     match choose(reporters, command.report.as_str()) {
         None => Err(Fail::Refused(Usage)),
-        Some(reporter) => Ok(Asked { command, reporter }),
+        Some(reporter) => match linked(reporter, &command.codes) {
+            Err(OutOfMemory) => Err(Fail::OutOfMemory),
+            Ok(reporter) => Ok(Asked { command, reporter }),
+        },
+    }
+}
+
+/// The reporter, which is told where codes are explained, if that is known.
+fn linked(reporter: Chosen, address: &Option<Text>) -> Result<Chosen, OutOfMemory>
+    ensures { IfOk result (λ told. form told.reporter
+        ≡ linked_with address.now (form reporter.reporter)) }
+{
+    let mut told = reporter;
+    link(&mut told, address)?;
+    Ok(told)
+}
+
+/// Tells the reporter where codes are explained, if that is known.
+fn link(reporter: &mut Chosen, address: &Option<Text>) -> Result<(), OutOfMemory>
+    ensures { OnOk result
+        (form reporter.new.reporter ≡ linked_with address.now (form reporter.old.reporter)) }
+{
+    match address {
+        None => Ok(()),
+        Some(address) => reporter.link(address.as_str()),
     }
 }

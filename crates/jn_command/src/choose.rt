@@ -14,17 +14,9 @@ pub struct Chosen {
 }
 
 impl Reporter for Chosen {
-    ghost rows = { λ a. (Reporter-box a.reporter).rows a.reporter.value };
-
     ghost given = { λ a. (Reporter-box a.reporter).given a.reporter.value };
 
-    ghost title = { λ a. (Reporter-box a.reporter).title a.reporter.value };
-
-    ghost document = { λ a. (Reporter-box a.reporter).document a.reporter.value };
-
-    ghost notes = { λ a. (Reporter-box a.reporter).notes a.reporter.value };
-
-    ghost shown = { λ a. (Reporter-box a.reporter).shown a.reporter.value };
+    ghost form = { λ a. (Reporter-box a.reporter).form a.reporter.value };
 
     fn name(&self) -> &str {
         self.reporter.name()
@@ -36,6 +28,10 @@ impl Reporter for Chosen {
 
     fn shows_notes(&self) -> bool {
         self.reporter.shows_notes()
+    }
+
+    fn link(&mut self, address: &str) -> Result<(), OutOfMemory> {
+        self.reporter.link(address)
     }
 
     fn take(&mut self, row: &RowView<'_>) -> Result<(), OutOfMemory> {
@@ -54,24 +50,8 @@ impl Reporter for Chosen {
 /// The first reporter of the list that has the name.
 pub fn choose(reporters: Vec<Box<dyn Reporter>>, name: &str) -> Option<Chosen>
     ensures { first_named name.now
-        (map
-        (λ b. record {
-          title = title b;
-          document = document b;
-          notes = notes b;
-          rows = rows b;
-          shown = shown b;
-        })
-        reporters.items)
-        ≡ option_map
-        (λ a. record {
-          title = title a.reporter;
-          document = document a.reporter;
-          notes = notes a.reporter;
-          rows = rows a.reporter;
-          shown = shown a.reporter;
-        })
-        result }
+        (map (λ b. form b) reporters.items)
+        ≡ option_map (λ a. form a.reporter) result }
 {
     for reporter in reporters {
         if reporter.name() == name {

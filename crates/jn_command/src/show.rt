@@ -9,14 +9,14 @@ ghost use Rattle.jn_front.specs.Limits.{row_at};
 ghost use Rattle.jn_command.specs.Reports.{rows_of, verdict_of};
 ghost use Rattle.jn_command.specs.Shown.{row_of, row_of_file, rows_with, with_notes};
 ghost use Rattle.jn_command.specs.Stands.{IsPlace};
-ghost use Rattle.jn_reporters.specs.Views.{row_view};
+ghost use Rattle.jn_reporters.specs.Views.{end_in, row_view};
 
 use crate::noted::{NoNotes, Noted, Notes};
 use crate::report::Report;
 use jn_base::{Code, OutOfMemory, Row, Span, Text};
 use jn_diag::{Position, RowText, Verdict, place_behind};
 use jn_front::{SourceRead, row_at};
-use jn_reporters::{Reporter, RowView, excerpt_for};
+use jn_reporters::{Reporter, RowView, end_of, excerpt_for};
 use std::alloc::Global;
 
 /// A place in one of the files that were read: rows come in order, so that each file is swept once.
@@ -87,8 +87,32 @@ fn row_in<'a>(
     ensures is { IsPosition read.now.file.bytes position.new }
 {
     let text = text_in(alloc, read, row, position)?;
+    let end = end_in(read, row, *position);
     let excerpt = excerpt_for(row.code, read.file.bytes.as_slice(), &row.span);
-    Ok(RowView::noted(text, excerpt, noted.notes.as_slice(), noted.more))
+    Ok(RowView::noted(
+        text,
+        end.line,
+        end.col,
+        excerpt,
+        noted.notes.as_slice(),
+        noted.more,
+    ))
+}
+
+/// The place of what stands behind the row, of a file that was read; it is sought from the position on.
+fn end_in(read: &SourceRead, row: &Row, position: Position) -> jn_base::Place
+    requires fits { length read.now.file.bytes ≤ 1048576 }
+    requires is { IsPosition read.now.file.bytes position }
+    ensures { result ≡ end_in row.now.code read.now.file.bytes row.now.span }
+{
+    let text = read.file.bytes.as_slice();
+    let at = Span {
+        file: row.span.file,
+        from: end_of(row.code, &row.span).min(text.len() as u32),
+        to: row.span.to,
+    };
+    let mut position = position;
+    place_behind(text, &mut position, &at)
 }
 
 /// The row of no file: it has no name, and no line is shown.
@@ -101,7 +125,7 @@ fn row_nowhere<'a>(alloc: Global, row: &Row, noted: &'a Noted) -> Result<RowView
         col: 1,
         code: row.code,
     };
-    Ok(RowView::noted(text, None, noted.notes.as_slice(), noted.more))
+    Ok(RowView::noted(text, 1, 1, None, noted.notes.as_slice(), noted.more))
 }
 
 /// The row as a reporter is given it, with these notes; one of no file has no name, and one behind its file's end stands at the end.
@@ -136,11 +160,11 @@ pub fn show_noted<P: Reporter, N: Notes>(
     reporter: P,
 ) -> Result<P, OutOfMemory>
     requires fit { ReadsFit reads.now }
-    ensures rows { IfOk result (λ shower. P.rows shower
-        ≡ P.rows reporter
+    ensures rows { IfOk result (λ shower. (P.form shower).rows
+        ≡ (P.form reporter).rows
         ++ rows_with (files_of_reads reads.now) (N.told notes.now) (rows_of report.now)) }
     ensures verdict { IfOk result (λ shower. P.given shower ≡ Some (verdict_of report.now)) }
-    ensures shown { IfOk result (λ shower. P.shown shower ≡ P.shown reporter) }
+    ensures shown { IfOk result (λ shower. (P.form shower).shown ≡ (P.form reporter).shown) }
 {
     let rows = report.rows();
     let mut shower = reporter;
@@ -167,10 +191,10 @@ pub fn show<P: Reporter>(
     reporter: P,
 ) -> Result<P, OutOfMemory>
     requires fit { ReadsFit reads.now }
-    ensures rows { IfOk result (λ shower. P.rows shower
-        ≡ P.rows reporter ++ map (row_of (files_of_reads reads.now)) (rows_of report.now)) }
+    ensures rows { IfOk result (λ shower. (P.form shower).rows
+        ≡ (P.form reporter).rows ++ map (row_of (files_of_reads reads.now)) (rows_of report.now)) }
     ensures verdict { IfOk result (λ shower. P.given shower ≡ Some (verdict_of report.now)) }
-    ensures shown { IfOk result (λ shower. P.shown shower ≡ P.shown reporter) }
+    ensures shown { IfOk result (λ shower. (P.form shower).shown ≡ (P.form reporter).shown) }
 {
     show_noted(alloc, reads, report, &NoNotes, reporter)
 }
@@ -192,9 +216,9 @@ fn row_too_many<'a>(alloc: Global, name: &str) -> Result<RowView<'a>, OutOfMemor
 /// Hands the report of more files than there may be to a reporter; this is the name of the first that is too many.
 pub fn show_number<P: Reporter>(alloc: Global, name: &str, reporter: P) -> Result<P, OutOfMemory>
     ensures rows { IfOk result
-        (λ shower. P.rows shower ≡ P.rows reporter ++ row_view name.now [] (row_at 64 B1) ∷ []) }
+        (λ shower. (P.form shower).rows ≡ (P.form reporter).rows ++ row_view name.now [] (row_at 64 B1) ∷ []) }
     ensures verdict { IfOk result (λ shower. P.given shower ≡ Some (Verdict.Refused 1)) }
-    ensures shown { IfOk result (λ shower. P.shown shower ≡ P.shown reporter) }
+    ensures shown { IfOk result (λ shower. (P.form shower).shown ≡ (P.form reporter).shown) }
 {
     let shown = row_too_many(alloc, name)?;
     let mut shower = reporter;

@@ -5,7 +5,8 @@ use Rattle.jn_base.specs.declared.code.Code.{Code}
 use Rattle.jn_diag.specs.declared.shown.Verdict.{Verdict}
 use Rattle.jn_reporters.specs.Escapes.{xml_text}
 use Rattle.jn_reporters.specs.Sheet.{documented}
-use Rattle.jn_reporters.specs.Words.{told}
+use Rattle.jn_reporters.specs.Words.{told_noted}
+use Rattle.jn_reporters.specs.declared.shown.ShownNote.{ShownNote}
 use Rattle.jn_reporters.specs.declared.shown.ShownRow.{ShownRow}
 use Rattle.jn_reporters.specs.declared.kept.KeptRow.{KeptRow}
 
@@ -13,13 +14,13 @@ use Rattle.jn_reporters.specs.declared.kept.KeptRow.{KeptRow}
 abbrev pub error_place : KeptRow → List ℕ
 error_place row = codes "    <error line=\"" ++ decimal row.line ++ codes "\" column=\"" ++ decimal row.col ++ codes "\""
 
--- what is wrong and what to do about it, as an attribute's value
-unfoldable pub error_words : Code → List ℕ
-error_words code = xml_text (told code)
+-- what is wrong, what to do about it, and the first note, as an attribute's value
+unfoldable pub error_words : Code → List ShownNote → List ℕ
+error_words code notes = xml_text (told_noted code notes)
 
 abbrev pub error_meaning : KeptRow → List ℕ
 error_meaning row =
-    codes " severity=\"error\" message=\"" ++ code_name row.code ++ codes ": " ++ error_words row.code
+    codes " severity=\"error\" message=\"" ++ code_name row.code ++ codes ": " ++ error_words row.code row.notes
     ++ codes "\" source=\"nullcheck." ++ code_name row.code ++ codes "\"/>\n"
 
 abbrev pub error_element : KeptRow → List ℕ

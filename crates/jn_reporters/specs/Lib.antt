@@ -1,8 +1,10 @@
+pub mod Anchors
 pub mod Checkstyle
 pub mod Counts
 pub mod Escapes
 pub mod Excerpts
 pub mod Fingerprints
+pub mod Forms
 pub mod Github
 pub mod Longs
 pub mod Reports

@@ -1,11 +1,12 @@
 -- The report as a log of one run in SARIF (Static Analysis Results Interchange Format, version 2.1.0, OASIS).
-use Rattle.std.specs.Prelude.{ℕ, ◌+◌, ◌==◌, ◌++◌, Bool, List, [], ◌∷◌, Option, Some, None, codes, decimal, filter, if◌then◌else◌}
+use Rattle.std.specs.Prelude.{ℕ, zero, suc, ◌+◌, ◌==◌, ◌++◌, Bool, List, [], ◌∷◌, Option, Some, None, codes, decimal, filter, if◌then◌else◌}
 use Rattle.std.specs.List.{flat_map, list_any}
 use Rattle.jn_base.specs.Codes.{code_name}
 use Rattle.jn_base.specs.Messages.{code_cure, code_message}
 use Rattle.jn_base.specs.declared.code.Code.{Code}
 use Rattle.jn_diag.specs.Order.{code_place}
 use Rattle.jn_diag.specs.declared.shown.Verdict.{Verdict}
+use Rattle.jn_reporters.specs.Anchors.{code_anchor}
 use Rattle.jn_reporters.specs.Escapes.{escaped}
 use Rattle.jn_reporters.specs.Reports.{all_codes}
 use Rattle.jn_reporters.specs.declared.escapes.Escape.TheVariants.{Json, Uri}
@@ -45,10 +46,19 @@ abbrev pub rule_full : Code → List ℕ
 rule_full code = codes "\"fullDescription\": {\"text\": \"" ++ escaped Json (told code) ++ codes "\"}, "
 
 abbrev pub rule_help : Code → List ℕ
-rule_help code = codes "\"help\": {\"text\": \"" ++ escaped Json (code_cure code) ++ codes "\"}}"
+rule_help code = codes "\"help\": {\"text\": \"" ++ escaped Json (code_cure code) ++ codes "\"}"
 
-abbrev pub rule_object : Code → List ℕ
-rule_object code = rule_short code ++ rule_full code ++ rule_help code
+-- where the code is explained (3.49.12): the anchor of its text behind the address; nothing where no address is known
+unfoldable pub uri_member : Option (List ℕ) → Code → List ℕ
+uri_member None code = codes "}"
+uri_member (Some address) code = codes ", \"helpUri\": \"" ++ escaped Json (address ++ codes "#" ++ code_anchor code) ++ codes "\"}"
+
+-- a rule without where it is explained
+unfoldable pub rule_words : Code → List ℕ
+rule_words code = rule_short code ++ rule_full code ++ rule_help code
+
+abbrev pub rule_object : Option (List ℕ) → Code → List ℕ
+rule_object address code = rule_words code ++ uri_member address code
 
 -- a result (3.27): its rule and its message, and its one location (3.28), a file and a region, whose lines and columns are from 1
 abbrev pub result_meaning : KeptRow → List ℕ
@@ -63,11 +73,18 @@ abbrev pub numbered : List ℕ → ℕ → List ℕ
 numbered front number = front ++ decimal number
 
 -- a region (3.30), and the end of the physical location (3.29) that it stands in
+abbrev pub region_start : ℕ → ℕ → List ℕ
+region_start line col = numbered (codes "\"region\": {\"startLine\": ") line ++ numbered (codes ", \"startColumn\": ") col
+
 abbrev pub region : ℕ → ℕ → List ℕ
-region line col = numbered (codes "\"region\": {\"startLine\": ") line ++ numbered (codes ", \"startColumn\": ") col ++ codes "}}"
+region line col = region_start line col ++ codes "}}"
+
+-- the same with its end: the column behind the last character
+abbrev pub region_end : ℕ → ℕ → List ℕ
+region_end line col = numbered (codes ", \"endLine\": ") line ++ numbered (codes ", \"endColumn\": ") col ++ codes "}}"
 
 abbrev pub result_region : KeptRow → List ℕ
-result_region row = region row.line row.col ++ codes "}]"
+result_region row = region_start row.line row.col ++ region_end row.end_line row.end_col ++ codes "}]"
 
 abbrev pub result_place : KeptRow → List ℕ
 result_place row = result_file row ++ result_region row
@@ -110,8 +127,13 @@ unfoldable pub related_member : List ShownNote → List ℕ
 related_member [] = []
 related_member (note ∷ notes) = related_some (note ∷ notes)
 
+-- how many notes were left out, in the result's property bag (3.8); nothing where none was
+unfoldable pub more_member : ℕ → List ℕ
+more_member zero = []
+more_member (suc n) = codes ", \"properties\": {\"moreNotes\": " ++ decimal (suc n) ++ codes "}"
+
 abbrev pub result_object : KeptRow → List ℕ
-result_object row = result_meaning row ++ result_place row ++ related_member row.notes ++ print_member row.fingerprint
+result_object row = result_meaning row ++ result_place row ++ related_member row.notes ++ more_member row.more ++ print_member row.fingerprint
 
 -- what stands before the rules: the log (3.13), its run (3.14) and the run's tool (3.18, 3.19)
 unfoldable pub before_rules : List ℕ
@@ -124,8 +146,8 @@ before_results = codes "\n          ]\n        }\n      },\n      \"columnKind\"
 unfoldable pub behind_results : List ℕ
 behind_results = codes "\n      ]\n    }\n  ]\n}\n"
 
-abbrev pub sarif_document : List KeptRow → List ℕ
-sarif_document rows = before_rules ++ listed rule_object (occurring rows all_codes) ++ before_results ++ listed result_object rows ++ behind_results
+abbrev pub sarif_document : Option (List ℕ) → List KeptRow → List ℕ
+sarif_document address rows = before_rules ++ listed (rule_object address) (occurring rows all_codes) ++ before_results ++ listed result_object rows ++ behind_results
 
-abbrev pub sarif_shown : List ShownRow → Option Verdict → List ℕ
-sarif_shown = documented sarif_document
+abbrev pub sarif_shown : Option (List ℕ) → List ShownRow → Option Verdict → List ℕ
+sarif_shown address = documented (sarif_document address)

@@ -10,7 +10,13 @@ pub record Taken : Type 0 where
   pub rows : List ShownRow
   pub verdict : Option Verdict
 
--- the same, with the text that was made of the rows
+-- the same of a document, with the address at which codes are explained, where one is known
+pub record Documented : Type 0 where
+  pub rows : List ShownRow
+  pub verdict : Option Verdict
+  pub address : Option (List ℕ)
+
+-- rows and a verdict with the text that was made of the rows
 pub record Lined : Type 0 where
   pub rows : List ShownRow
   pub verdict : Option Verdict
@@ -21,6 +27,9 @@ taken_of sheet = record { rows = sheet.rows; verdict = sheet.verdict }
 
 abbrev pub nothing_taken : Taken
 nothing_taken = record { rows = []; verdict = None }
+
+abbrev pub nothing_documented : Documented
+nothing_documented = record { rows = []; verdict = None; address = None }
 
 abbrev pub nothing_lined : Lined
 nothing_lined = record { rows = []; verdict = None; lines = [] }
@@ -36,7 +45,7 @@ with_verdict sheet verdict = record sheet { verdict = Some verdict }
 
 -- what a document keeps of a row
 abbrev pub kept_of : ShownRow → KeptRow
-kept_of row = record { name = row.text.name; line = row.text.line; col = row.text.col; code = row.text.code; fingerprint = print_for row.text.code row.extract; notes = row.notes }
+kept_of row = record { name = row.text.name; line = row.text.line; col = row.text.col; end_line = row.end_line; end_col = row.end_col; code = row.text.code; fingerprint = print_for row.text.code row.extract; notes = row.notes; more = row.more }
 
 abbrev pub all_kept : List ShownRow → List KeptRow
 all_kept rows = map kept_of rows

@@ -1,14 +1,15 @@
 //! The report as the XML of Checkstyle.
-ghost use Rattle.std.specs.Prelude.{◌≡◌, ◌++◌, true, false, IfOk, OnOk};
+ghost use Rattle.std.specs.Prelude.{◌≡◌, ◌++◌, true, IfOk, OnOk};
 ghost use Rattle.jn_reporters.specs.Checkstyle as spec;
 
 use crate::attribute::put_value;
 use crate::document::{Document, Format};
 use crate::kept::KeptRow;
 use crate::reporter::Reporter;
-use crate::telling::told;
+use crate::shown::ShownNote;
+use crate::telling::told_noted;
 use itoa::{Buffer, Integer};
-use jn_base::Code;
+use jn_base::{Code, Text};
 use std::alloc::{AllocError, Global};
 
 /// Shows the XML of Checkstyle.
@@ -16,34 +17,38 @@ pub type Checkstyle = Document<CheckstyleXml>;
 
 /// What it shows of rows and a verdict is `checkstyle_shown`, one document.
 pub fn checkstyle_shows(reporter: &Checkstyle)
-    ensures shown { ⟦<Checkstyle as Reporter>⟧.shown reporter.now ≡ spec.checkstyle_shown }
-    ensures document { ⟦<Checkstyle as Reporter>⟧.document reporter.now ≡ true }
-    ensures notes { ⟦<Checkstyle as Reporter>⟧.notes reporter.now ≡ false }
+    ensures shown { (⟦<Checkstyle as Reporter>⟧.form reporter.now).shown ≡ spec.checkstyle_shown }
+    ensures document { (⟦<Checkstyle as Reporter>⟧.form reporter.now).document ≡ true }
+    ensures notes { (⟦<Checkstyle as Reporter>⟧.form reporter.now).notes ≡ true }
 {}
 
-/// The XML of Checkstyle: an element for each run of rows of one file, and in it one for each row.
+/// The XML of Checkstyle: an element for each run of rows of one file, and in it one for each row, with its first note.
 #[derive(Drop)]
 pub struct CheckstyleXml;
 
 impl Format for CheckstyleXml {
-    ghost use Rattle.std.specs.Prelude.{codes, false};
+    ghost use Rattle.std.specs.Prelude.{codes, true};
     ghost use Rattle.jn_reporters.specs.Checkstyle.{checkstyle_document};
 
     ghost title = { codes "checkstyle" };
 
-    ghost notes = { false };
+    ghost notes = { true };
 
-    ghost written = { checkstyle_document };
+    ghost written = { λ address. checkstyle_document };
 
     fn name() -> &'static str {
         "checkstyle"
     }
 
     fn shows_notes() -> bool {
-        false
+        true
     }
 
-    fn document(alloc: Global, rows: &[KeptRow]) -> Result<Vec<u8>, AllocError> {
+    fn document(
+        alloc: Global,
+        _address: &Option<Text>,
+        rows: &[KeptRow],
+    ) -> Result<Vec<u8>, AllocError> {
         let mut text = Vec::from_slice(
             alloc,
             b"<?xml version=\"1.0\" encoding=\"UTF-8\"?>\n<checkstyle version=\"4.3\">\n",
@@ -153,10 +158,10 @@ fn error_place(alloc: Global, row: &KeptRow) -> Result<Vec<u8>, AllocError>
 }
 
 #[tactic(auto, unfolding(crate::specs::Checkstyle::error_words))]
-fn error_words(alloc: Global, code: Code) -> Result<Vec<u8>, AllocError>
-    ensures { IfOk result (λ text. text.items ≡ spec.error_words code) }
+fn error_words(alloc: Global, code: Code, notes: &[ShownNote]) -> Result<Vec<u8>, AllocError>
+    ensures { IfOk result (λ text. text.items ≡ spec.error_words code notes.now) }
 {
-    let words = told(alloc, code)?;
+    let words = told_noted(alloc, code, notes)?;
     let mut text = Vec::new(alloc);
     put_value(&mut text, &words)?;
     Ok(text)
@@ -165,7 +170,7 @@ fn error_words(alloc: Global, code: Code) -> Result<Vec<u8>, AllocError>
 fn error_meaning(alloc: Global, row: &KeptRow) -> Result<Vec<u8>, AllocError>
     ensures { IfOk result (λ text. text.items ≡ spec.error_meaning row.now) }
 {
-    let words = error_words(alloc, row.code)?;
+    let words = error_words(alloc, row.code, row.notes.as_slice())?;
     let mut text = Vec::from_slice(alloc, b" severity=\"error\" message=\"")?;
     text.extend_from_slice(row.code.name().as_bytes())?;
     text.extend_from_slice(b": ")?;

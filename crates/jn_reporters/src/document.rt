@@ -1,13 +1,13 @@
 //! Reports that are one document of all rows.
-ghost use Rattle.std.specs.Prelude.{◌≡◌, ℕ, Bool, List, IfOk};
+ghost use Rattle.std.specs.Prelude.{◌≡◌, ℕ, Bool, List, Option, IfOk};
 ghost use Rattle.jn_reporters.specs.declared.kept.KeptRow.{KeptRow};
-ghost use Rattle.jn_reporters.specs.Sheet.{document_shown, nothing_taken};
+ghost use Rattle.jn_reporters.specs.Sheet.{document_shown, nothing_documented};
 
 use crate::kept::{KeptRow, keep};
 use crate::reporter::Reporter;
 use crate::taken::{TakenRows, with_row};
 use crate::view::RowView;
-use jn_base::OutOfMemory;
+use jn_base::{OutOfMemory, Text};
 use jn_diag::Verdict;
 use jn_outside::Told;
 use std::alloc::{AllocError, Global};
@@ -21,8 +21,8 @@ pub trait Format: Drop {
     /// Whether notes are shown.
     ghost notes: { Bool };
 
-    /// The document of the rows.
-    ghost written: { List KeptRow → List ℕ };
+    /// The document of the rows, where codes are explained at this address, if one is known.
+    ghost written: { Option (List ℕ) → List KeptRow → List ℕ };
 
     /// The name by which the reporter is chosen.
     fn name() -> &'static str
@@ -33,8 +33,12 @@ pub trait Format: Drop {
         ensures { result ≡ notes };
 
     /// The document of the rows, made in time linear in its size.
-    fn document(alloc: Global, rows: &[KeptRow]) -> Result<Vec<u8>, AllocError>
-        ensures { IfOk result (λ text. text.items ≡ written rows.now) };
+    fn document(
+        alloc: Global,
+        address: &Option<Text>,
+        rows: &[KeptRow],
+    ) -> Result<Vec<u8>, AllocError>
+        ensures { IfOk result (λ text. text.items ≡ written address.now rows.now) };
 }
 
 /// Shows the document of the rows in this format, and nothing before a verdict is given.
@@ -46,6 +50,8 @@ pub struct Document<F: Format> {
     /// What is kept of the rows.
     kept: Vec<KeptRow>,
     verdict: Option<Verdict>,
+    /// Where codes are explained, if that is known.
+    address: Option<Text>,
     /// The document of the rows, or nothing where no verdict was given.
     text: Vec<u8>,
     format: PhantomData<F>,
@@ -53,24 +59,25 @@ pub struct Document<F: Format> {
 
 impl<F: Format> Model for Document<F> {
     ghost use Rattle.std.specs.Prelude.{◌≡◌};
-    ghost use Rattle.jn_reporters.specs.Sheet.{Taken, document_shown, all_kept};
+    ghost use Rattle.jn_reporters.specs.Sheet.{Documented, document_shown, all_kept};
 
-    ghost Value = { Taken };
+    ghost Value = { Documented };
 
-    ghost view = { λ a. record { rows = a.rows.items; verdict = a.verdict } };
+    ghost view = { λ a. record { rows = a.rows.items; verdict = a.verdict; address = a.address } };
 
-    ghost invariant = { λ a. (a.kept.items ≡ all_kept a.rows.items) × (a.text.items ≡ document_shown F.written a.kept.items a.verdict) };
+    ghost invariant = { λ a. (a.kept.items ≡ all_kept a.rows.items) × (a.text.items ≡ document_shown (F.written a.address) a.kept.items a.verdict) };
 }
 
 impl<F: Format> Document<F> {
     pub fn new(alloc: Global) -> Self
-        ensures { result ≡ nothing_taken }
+        ensures { result ≡ nothing_documented }
     {
         Document {
             alloc,
             rows: Told::none(),
             kept: Vec::new(alloc),
             verdict: None,
+            address: None,
             text: Vec::new(alloc),
             format: PhantomData,
         }
@@ -78,20 +85,19 @@ impl<F: Format> Document<F> {
 }
 
 impl<F: Format> Reporter for Document<F> {
-    ghost use Rattle.std.specs.Prelude.{true};
+    ghost use Rattle.std.specs.Prelude.{Some, true};
     ghost use Rattle.jn_reporters.specs.Sheet.{documented};
 
-    ghost rows = { λ a. a.rows };
+    ghost form = { λ a. record {
+      title = F.title;
+      document = true;
+      notes = F.notes;
+      rows = a.rows;
+      shown = documented (F.written a.address);
+      linked = λ address. documented (F.written (Some address));
+    } };
 
     ghost given = { λ a. a.verdict };
-
-    ghost title = { λ a. F.title };
-
-    ghost document = { λ a. true };
-
-    ghost notes = { λ a. F.notes };
-
-    ghost shown = { λ a. documented F.written };
 
     fn name(&self) -> &str {
         F::name()
@@ -105,9 +111,17 @@ impl<F: Format> Reporter for Document<F> {
         F::shows_notes()
     }
 
+    fn link(&mut self, address: &str) -> Result<(), OutOfMemory> {
+        let address = Some(Text::of_str(self.alloc, address)?);
+        let text = shown::<F>(self.alloc, &address, &self.kept, self.verdict)?;
+        self.text = text;
+        self.address = address;
+        Ok(())
+    }
+
     fn take(&mut self, row: &RowView<'_>) -> Result<(), OutOfMemory> {
         keep(self.alloc, &mut self.kept, row)?;
-        match shown::<F>(self.alloc, &self.kept, self.verdict) {
+        match shown::<F>(self.alloc, &self.address, &self.kept, self.verdict) {
             Ok(text) => {
                 self.text = text;
                 self.rows = with_row(&self.rows, row);
@@ -121,7 +135,7 @@ impl<F: Format> Reporter for Document<F> {
     }
 
     fn finish(&mut self, verdict: Verdict) -> Result<(), OutOfMemory> {
-        let text = shown::<F>(self.alloc, &self.kept, Some(verdict))?;
+        let text = shown::<F>(self.alloc, &self.address, &self.kept, Some(verdict))?;
         self.text = text;
         self.verdict = Some(verdict);
         Ok(())
@@ -135,13 +149,15 @@ impl<F: Format> Reporter for Document<F> {
 /// The document of the rows, or nothing where no verdict was given.
 fn shown<F: Format>(
     alloc: Global,
+    address: &Option<Text>,
     rows: &[KeptRow],
     verdict: Option<Verdict>,
 ) -> Result<Vec<u8>, AllocError>
-    ensures { IfOk result (λ text. text.items ≡ document_shown F.written rows.now verdict) }
+    ensures { IfOk result
+        (λ text. text.items ≡ document_shown (F.written address.now) rows.now verdict) }
 {
     match verdict {
         None => Ok(Vec::new(alloc)),
-        Some(_) => F::document(alloc, rows),
+        Some(_) => F::document(alloc, address, rows),
     }
 }

@@ -3,6 +3,7 @@ ghost use Rattle.std.specs.Prelude.{◌≡◌, ◌++◌, ◌≤◌, [], true, fa
 ghost use Rattle.std.specs.Option.{option_map};
 ghost use Rattle.jn_base.specs.Place as place;
 ghost use Rattle.jn_reporters.specs.Excerpts as spec;
+ghost use Rattle.jn_reporters.specs.Views.{end_of};
 ghost use Rattle.jn_reporters.specs.Excerpts.{extract_of};
 ghost use Rattle.jn_reporters.specs.Walks.{is_nothing, GoesBack, GoesOn};
 
@@ -149,6 +150,14 @@ fn parted(text: &[u8], long: usize) -> (&[u8], &[u8])
     ensures { (result.0.now ≡ take long text.now) × (result.1.now ≡ drop long text.now) }
 {
     text.split_at(long.min(text.len()))
+}
+
+/// How many bytes stand before the end of a row of this code, which stands at these bytes. One of the limits B1, B2 and B3 ends where it
+/// begins.
+pub fn end_of(code: Code, at: &Span) -> u32
+    ensures { result ≡ end_of code at.now }
+{
+    if place(code) <= 2 { at.from } else { at.to }
 }
 
 /// The excerpt for a row of this code, which stands at these bytes of the text; none for the limits B1, B2 and B3.

@@ -7,7 +7,8 @@ ghost use Rattle.jn_reporters.specs.Sheet.{nothing_taken};
 use crate::escapes::{Escape, put};
 use crate::reporter::Reporter;
 use crate::sheet::Sheet;
-use crate::telling::told;
+use crate::shown::ShownNote;
+use crate::telling::told_noted;
 use crate::view::RowView;
 use itoa::{Buffer, Integer};
 use jn_base::OutOfMemory;
@@ -15,7 +16,8 @@ use jn_diag::{RowText, Verdict};
 use std::alloc::{AllocError, Global};
 use std::marker::Model;
 
-/// Shows a workflow command of GitHub Actions for each row, which marks the row's line as an error, and then the verdict.
+/// Shows a workflow command of GitHub Actions for each row, which marks the row's line as an error and tells the row's first note, and then
+/// the verdict.
 #[derive(Drop)]
 pub struct Github {
     sheet: Sheet,
@@ -45,20 +47,19 @@ impl Github {
 }
 
 impl Reporter for Github {
-    ghost use Rattle.std.specs.Prelude.{codes, false};
+    ghost use Rattle.std.specs.Prelude.{codes, false, true};
     ghost use Rattle.jn_reporters.specs.Github.{github_shown};
 
-    ghost rows = { λ a. a.rows };
+    ghost form = { λ a. record {
+      title = codes "github";
+      document = false;
+      notes = true;
+      rows = a.rows;
+      shown = github_shown;
+      linked = λ address. github_shown;
+    } };
 
     ghost given = { λ a. a.verdict };
-
-    ghost title = { λ a. codes "github" };
-
-    ghost document = { λ a. false };
-
-    ghost notes = { λ a. false };
-
-    ghost shown = { λ a. github_shown };
 
     fn name(&self) -> &str {
         "github"
@@ -69,11 +70,15 @@ impl Reporter for Github {
     }
 
     fn shows_notes(&self) -> bool {
-        false
+        true
+    }
+
+    fn link(&mut self, _address: &str) -> Result<(), OutOfMemory> {
+        Ok(())
     }
 
     fn take(&mut self, row: &RowView<'_>) -> Result<(), OutOfMemory> {
-        let line = github_line(self.sheet.alloc(), row.row())?;
+        let line = github_line(self.sheet.alloc(), row.row(), row.notes())?;
         self.sheet.take(row, &line)
     }
 
@@ -86,11 +91,11 @@ impl Reporter for Github {
     }
 }
 
-/// `::error file=FILE,line=LINE,col=COL::CODE MESSAGE; cure: CURE` and a line feed.
-fn github_line(alloc: Global, row: &RowText) -> Result<Vec<u8>, AllocError>
-    ensures { IfOk result (λ line. line.items ≡ spec.github_line row.now) }
+/// `::error file=FILE,line=LINE,col=COL::CODE MESSAGE; cure: CURE; note: NOTE` and a line feed.
+fn github_line(alloc: Global, row: &RowText, notes: &[ShownNote]) -> Result<Vec<u8>, AllocError>
+    ensures { IfOk result (λ line. line.items ≡ spec.github_line row.now notes.now) }
 {
-    let words = told(alloc, row.code)?;
+    let words = told_noted(alloc, row.code, notes)?;
     let mut line = Vec::from_slice(alloc, b"::error file=")?;
     put(&mut line, Escape::Property, row.name.as_str().as_bytes())?;
     line.extend_from_slice(b",line=")?;

@@ -8,17 +8,21 @@ use crate::view::RowView;
 use jn_base::{Code, OutOfMemory, Seq, Text};
 use std::alloc::Global;
 
-/// A row with the name of its file, and the line and the column, both from 1, of its first byte.
+/// A row with the name of its file, and the line and the column, both from 1, of its first byte and of what stands behind its last.
 #[derive(Drop)]
 pub struct KeptRow {
     pub name: Text,
     pub line: u32,
     pub col: u32,
+    pub end_line: u32,
+    pub end_col: u32,
     pub code: Code,
     /// The fingerprint of the code and of what is shown of the row's line; none where no line is shown.
     pub fingerprint: Option<u64>,
     /// The notes, in their order.
     pub notes: Seq<ShownNote>,
+    /// How many notes were left out behind them.
+    pub more: usize,
 }
 
 fn copied(alloc: Global, notes: &[ShownNote]) -> Result<Seq<ShownNote>, OutOfMemory>
@@ -40,9 +44,12 @@ fn kept_of(alloc: Global, row: &RowView<'_>) -> Result<KeptRow, OutOfMemory>
         name: text.name.copy(alloc)?,
         line: text.line,
         col: text.col,
+        end_line: row.end_line(),
+        end_col: row.end_col(),
         code: text.code,
         fingerprint,
         notes: copied(alloc, row.notes())?,
+        more: row.more(),
     })
 }
 

@@ -5,6 +5,7 @@
 //! [`Github`], [`Checkstyle`] and [`Sarif`]. `docs/HOWTO.md` says how to add one.
 #![tactic(auto)]
 
+pub mod anchors;
 mod attribute;
 pub mod checkstyle;
 mod codes;
@@ -28,9 +29,10 @@ mod taken;
 mod telling;
 pub mod view;
 
+pub use anchors::code_anchor;
 pub use checkstyle::Checkstyle;
 pub use document::{Document, Format};
-pub use excerpt::{Excerpt, excerpt_for};
+pub use excerpt::{Excerpt, end_of, excerpt_for};
 pub use github::Github;
 pub use kept::KeptRow;
 pub use long::Long;

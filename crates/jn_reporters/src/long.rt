@@ -53,17 +53,16 @@ impl Reporter for Long {
     ghost use Rattle.std.specs.Prelude.{codes, false, true};
     ghost use Rattle.jn_reporters.specs.Longs.{long_shown};
 
-    ghost rows = { λ a. a.rows };
+    ghost form = { λ a. record {
+      title = codes "long";
+      document = false;
+      notes = true;
+      rows = a.rows;
+      shown = long_shown;
+      linked = λ address. long_shown;
+    } };
 
     ghost given = { λ a. a.verdict };
-
-    ghost title = { λ a. codes "long" };
-
-    ghost document = { λ a. false };
-
-    ghost notes = { λ a. true };
-
-    ghost shown = { λ a. long_shown };
 
     fn name(&self) -> &str {
         "long"
@@ -75,6 +74,10 @@ impl Reporter for Long {
 
     fn shows_notes(&self) -> bool {
         true
+    }
+
+    fn link(&mut self, _address: &str) -> Result<(), OutOfMemory> {
+        Ok(())
     }
 
     fn take(&mut self, row: &RowView<'_>) -> Result<(), OutOfMemory> {

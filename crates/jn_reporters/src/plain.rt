@@ -45,17 +45,16 @@ impl Reporter for Plain {
     ghost use Rattle.std.specs.Prelude.{codes, false};
     ghost use Rattle.jn_reporters.specs.Reports.{plain_shown};
 
-    ghost rows = { λ a. a.rows };
+    ghost form = { λ a. record {
+      title = codes "plain";
+      document = false;
+      notes = false;
+      rows = a.rows;
+      shown = plain_shown;
+      linked = λ address. plain_shown;
+    } };
 
     ghost given = { λ a. a.verdict };
-
-    ghost title = { λ a. codes "plain" };
-
-    ghost document = { λ a. false };
-
-    ghost notes = { λ a. false };
-
-    ghost shown = { λ a. plain_shown };
 
     fn name(&self) -> &str {
         "plain"
@@ -67,6 +66,10 @@ impl Reporter for Plain {
 
     fn shows_notes(&self) -> bool {
         false
+    }
+
+    fn link(&mut self, _address: &str) -> Result<(), OutOfMemory> {
+        Ok(())
     }
 
     fn take(&mut self, row: &RowView<'_>) -> Result<(), OutOfMemory> {

@@ -1,7 +1,9 @@
 //! The report in SARIF.
-ghost use Rattle.std.specs.Prelude.{◌≡◌, ◌++◌, ◌∷◌, [], true, IfOk, OnOk};
+ghost use Rattle.std.specs.Prelude.{◌≡◌, ◌<◌, ◌++◌, ◌∷◌, [], true, codes, Some, IfOk, OnOk};
+ghost use Rattle.jn_reporters.specs.Anchors.{code_anchor};
 ghost use Rattle.jn_reporters.specs.Sarif as spec;
 
+use crate::anchors::code_anchor;
 use crate::codes::{all, place};
 use crate::document::{Document, Format};
 use crate::escapes::{Escape, put};
@@ -10,17 +12,20 @@ use crate::reporter::Reporter;
 use crate::shown::ShownNote;
 use crate::telling::{noted, told};
 use itoa::{Buffer, Integer};
-use jn_base::Code;
+use jn_base::{Code, Text};
 use std::alloc::{AllocError, Global};
 
 /// Shows a log of one run in SARIF 2.1.0.
 pub type Sarif = Document<SarifLog>;
 
-/// What it shows of rows and a verdict is `sarif_shown`, one document.
+/// What it shows of rows and a verdict is `sarif_shown`, one document, with links where it was told an address.
 pub fn sarif_shows(reporter: &Sarif)
-    ensures shown { ⟦<Sarif as Reporter>⟧.shown reporter.now ≡ spec.sarif_shown }
-    ensures document { ⟦<Sarif as Reporter>⟧.document reporter.now ≡ true }
-    ensures notes { ⟦<Sarif as Reporter>⟧.notes reporter.now ≡ true }
+    ensures shown { (⟦<Sarif as Reporter>⟧.form reporter.now).shown
+        ≡ spec.sarif_shown reporter.now.address }
+    ensures linked { (⟦<Sarif as Reporter>⟧.form reporter.now).linked
+        ≡ (λ address. spec.sarif_shown (Some address)) }
+    ensures document { (⟦<Sarif as Reporter>⟧.form reporter.now).document ≡ true }
+    ensures notes { (⟦<Sarif as Reporter>⟧.form reporter.now).notes ≡ true }
 {}
 
 /// A log of one run in SARIF 2.1.0: a rule for each code that occurs, and a result for each row.
@@ -45,11 +50,15 @@ impl Format for SarifLog {
         true
     }
 
-    fn document(alloc: Global, rows: &[KeptRow]) -> Result<Vec<u8>, AllocError> {
+    fn document(
+        alloc: Global,
+        address: &Option<Text>,
+        rows: &[KeptRow],
+    ) -> Result<Vec<u8>, AllocError> {
         let codes = occurring(alloc, rows, &all())?;
         let mut text = Vec::new(alloc);
         put_before_rules(&mut text)?;
-        put_rules(&mut text, alloc, &codes)?;
+        put_rules(&mut text, alloc, address, &codes)?;
         put_before_results(&mut text)?;
         put_results(&mut text, alloc, rows)?;
         put_behind_results(&mut text)?;
@@ -114,40 +123,66 @@ fn put_behind_results(out: &mut Vec<u8>) -> Result<(), AllocError>
     out.extend_from_slice(b"\n      ]\n    }\n  ]\n}\n")
 }
 
-fn put_rules(out: &mut Vec<u8>, alloc: Global, codes: &[Code]) -> Result<(), AllocError>
-    ensures { OnOk result
-        (out.new.items ≡ out.old.items ++ spec.listed spec.rule_object codes.now) }
+fn put_rules(
+    out: &mut Vec<u8>,
+    alloc: Global,
+    address: &Option<Text>,
+    codes: &[Code],
+) -> Result<(), AllocError>
+    ensures { OnOk result (out.new.items
+        ≡ out.old.items ++ spec.listed (spec.rule_object address.now) codes.now) }
 {
     let Some((first, rest)) = codes.split_first() else {
         return Ok(());
     };
-    let object = rule_object(alloc, *first)?;
+    let object = rule_object(alloc, address, *first)?;
     out.extend_from_slice(&object)?;
-    put_further_rules(out, alloc, rest)
+    put_further_rules(out, alloc, address, rest)
 }
 
-fn put_further_rules(out: &mut Vec<u8>, alloc: Global, codes: &[Code]) -> Result<(), AllocError>
-    ensures { OnOk result
-        (out.new.items ≡ out.old.items ++ spec.further spec.rule_object codes.now) }
+fn put_further_rules(
+    out: &mut Vec<u8>,
+    alloc: Global,
+    address: &Option<Text>,
+    codes: &[Code],
+) -> Result<(), AllocError>
+    ensures { OnOk result (out.new.items
+        ≡ out.old.items ++ spec.further (spec.rule_object address.now) codes.now) }
 {
     for code in codes {
-        put_next_rule(out, alloc, *code)?;
+        put_next_rule(out, alloc, address, *code)?;
     }
     Ok(())
 }
 
 #[tactic(auto, unfolding(crate::specs::Sarif::next))]
-fn put_next_rule(out: &mut Vec<u8>, alloc: Global, code: Code) -> Result<(), AllocError>
-    ensures { OnOk result (out.new.items ≡ out.old.items ++ spec.next spec.rule_object code) }
+fn put_next_rule(
+    out: &mut Vec<u8>,
+    alloc: Global,
+    address: &Option<Text>,
+    code: Code,
+) -> Result<(), AllocError>
+    ensures { OnOk result (out.new.items
+        ≡ out.old.items ++ spec.next (spec.rule_object address.now) code) }
 {
     let mut text = Vec::from_slice(alloc, b",\n")?;
-    let object = rule_object(alloc, code)?;
+    let object = rule_object(alloc, address, code)?;
     text.extend_from_slice(&object)?;
     out.extend_from_slice(&text)
 }
 
-fn rule_object(alloc: Global, code: Code) -> Result<Vec<u8>, AllocError>
-    ensures { IfOk result (λ text. text.items ≡ spec.rule_object code) }
+fn rule_object(alloc: Global, address: &Option<Text>, code: Code) -> Result<Vec<u8>, AllocError>
+    ensures { IfOk result (λ text. text.items ≡ spec.rule_object address.now code) }
+{
+    let mut text = rule_words(alloc, code)?;
+    let member = uri_member(alloc, address, code)?;
+    text.extend_from_slice(&member)?;
+    Ok(text)
+}
+
+#[tactic(auto, unfolding(crate::specs::Sarif::rule_words))]
+fn rule_words(alloc: Global, code: Code) -> Result<Vec<u8>, AllocError>
+    ensures { IfOk result (λ text. text.items ≡ spec.rule_words code) }
 {
     let mut text = rule_short(alloc, code)?;
     let full = rule_full(alloc, code)?;
@@ -183,8 +218,34 @@ fn rule_help(alloc: Global, code: Code) -> Result<Vec<u8>, AllocError>
 {
     let mut text = Vec::from_slice(alloc, b"\"help\": {\"text\": \"")?;
     put(&mut text, Escape::Json, code.cure().as_bytes())?;
-    text.extend_from_slice(b"\"}}")?;
+    text.extend_from_slice(b"\"}")?;
     Ok(text)
+}
+
+/// Where the code is explained, if an address is known, and the end of the rule.
+#[tactic(auto, unfolding(crate::specs::Sarif::uri_member))]
+fn uri_member(alloc: Global, address: &Option<Text>, code: Code) -> Result<Vec<u8>, AllocError>
+    ensures { IfOk result (λ text. text.items ≡ spec.uri_member address.now code) }
+{
+    let Some(address) = address else {
+        return Vec::from_slice(alloc, b"}");
+    };
+    let link = link(alloc, address.as_str(), code)?;
+    let mut text = Vec::from_slice(alloc, b", \"helpUri\": \"")?;
+    put(&mut text, Escape::Json, &link)?;
+    text.extend_from_slice(b"\"}")?;
+    Ok(text)
+}
+
+/// The address, and the code's anchor behind it.
+fn link(alloc: Global, address: &str, code: Code) -> Result<Vec<u8>, AllocError>
+    ensures { IfOk result
+        (λ link. link.items ≡ address.now ++ codes "#" ++ code_anchor code) }
+{
+    let mut link = Vec::from_slice(alloc, address.as_bytes())?;
+    link.extend_from_slice(b"#")?;
+    link.extend_from_slice(code_anchor(code).as_bytes())?;
+    Ok(link)
 }
 
 fn put_results(out: &mut Vec<u8>, alloc: Global, rows: &[KeptRow]) -> Result<(), AllocError>
@@ -227,6 +288,8 @@ fn result_object(alloc: Global, row: &KeptRow) -> Result<Vec<u8>, AllocError>
     text.extend_from_slice(&place)?;
     let related = related_member(alloc, row.notes.as_slice())?;
     text.extend_from_slice(&related)?;
+    let more = more_member(alloc, row.more)?;
+    text.extend_from_slice(&more)?;
     let member = print_member(alloc, row.fingerprint)?;
     text.extend_from_slice(&member)?;
     Ok(text)
@@ -268,18 +331,38 @@ fn result_file(alloc: Global, row: &KeptRow) -> Result<Vec<u8>, AllocError>
 fn result_region(alloc: Global, row: &KeptRow) -> Result<Vec<u8>, AllocError>
     ensures { IfOk result (λ text. text.items ≡ spec.result_region row.now) }
 {
-    let mut text = region(alloc, row.line, row.col)?;
+    let mut text = region_start(alloc, row.line, row.col)?;
+    let end = region_end(alloc, row.end_line, row.end_col)?;
+    text.extend_from_slice(&end)?;
     text.extend_from_slice(b"}]")?;
     Ok(text)
 }
 
-/// A region, and the end of the physical location that it stands in.
-fn region(alloc: Global, line: u32, col: u32) -> Result<Vec<u8>, AllocError>
-    ensures { IfOk result (λ text. text.items ≡ spec.region line col) }
+fn region_start(alloc: Global, line: u32, col: u32) -> Result<Vec<u8>, AllocError>
+    ensures { IfOk result (λ text. text.items ≡ spec.region_start line col) }
 {
     let mut text = numbered(alloc, b"\"region\": {\"startLine\": ", line)?;
     let column = numbered(alloc, b", \"startColumn\": ", col)?;
     text.extend_from_slice(&column)?;
+    Ok(text)
+}
+
+/// The end of a region, and of the physical location that it stands in.
+fn region_end(alloc: Global, line: u32, col: u32) -> Result<Vec<u8>, AllocError>
+    ensures { IfOk result (λ text. text.items ≡ spec.region_end line col) }
+{
+    let mut text = numbered(alloc, b", \"endLine\": ", line)?;
+    let column = numbered(alloc, b", \"endColumn\": ", col)?;
+    text.extend_from_slice(&column)?;
+    text.extend_from_slice(b"}}")?;
+    Ok(text)
+}
+
+/// A region that says where it begins alone, and the end of the physical location that it stands in.
+fn region(alloc: Global, line: u32, col: u32) -> Result<Vec<u8>, AllocError>
+    ensures { IfOk result (λ text. text.items ≡ spec.region line col) }
+{
+    let mut text = region_start(alloc, line, col)?;
     text.extend_from_slice(b"}}")?;
     Ok(text)
 }
@@ -386,6 +469,28 @@ fn numbered(alloc: Global, front: &[u8], number: u32) -> Result<Vec<u8>, AllocEr
 {
     let mut text = Vec::from_slice(alloc, front)?;
     text.extend_from_slice(Buffer::new().format(number).as_bytes())?;
+    Ok(text)
+}
+
+/// How many notes were left out; nothing where none was.
+#[tactic(auto, unfolding(crate::specs::Sarif::more_member))]
+fn more_member(alloc: Global, more: usize) -> Result<Vec<u8>, AllocError>
+    ensures { IfOk result (λ text. text.items ≡ spec.more_member more) }
+{
+    if more == 0 {
+        return Ok(Vec::new(alloc));
+    }
+    more_some(alloc, more)
+}
+
+#[tactic(auto, unfolding(crate::specs::Sarif::more_member))]
+fn more_some(alloc: Global, more: usize) -> Result<Vec<u8>, AllocError>
+    requires { 0 < more }
+    ensures { IfOk result (λ text. text.items ≡ spec.more_member more) }
+{
+    let mut text = Vec::from_slice(alloc, b", \"properties\": {\"moreNotes\": ")?;
+    text.extend_from_slice(Buffer::new().format(more).as_bytes())?;
+    text.extend_from_slice(b"}")?;
     Ok(text)
 }
 

@@ -41,11 +41,14 @@ pub struct Extract {
     pub ends: bool,
 }
 
-/// A row's text, what is shown of the line on which it begins, if anything is, its notes in order, and how many notes were left out.
+/// A row's text, the line and the column, both from 1, of what stands behind its last byte, what is shown of the line on which it begins, if
+/// anything is, its notes in order, and how many notes were left out.
 /// Only clauses have such values; they have no lifetime, so that a reporter can be boxed as `dyn Reporter`.
 #[derive(Drop)]
 pub struct ShownRow {
     pub text: RowText,
+    pub end_line: u32,
+    pub end_col: u32,
     pub extract: Option<Extract>,
     pub notes: Seq<ShownNote>,
     pub more: usize,

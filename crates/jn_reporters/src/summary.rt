@@ -19,21 +19,21 @@ use std::marker::Model;
 #[derive(Drop)]
 pub struct Summary {
     sheet: Sheet,
+    /// The codes of the rows, a byte each, so that there are fewer than a number counts.
+    codes: Vec<Code>,
     /// How many rows have each code, by its place in the order of the codes.
     counts: [u64; 49],
 }
 
 impl Model for Summary {
-    ghost use Rattle.std.specs.Prelude.{◌≡◌};
-    ghost use Rattle.jn_reporters.specs.Counts.{Counts};
-    ghost use Rattle.jn_reporters.specs.Reports.{summary_lines};
+    ghost use Rattle.jn_reporters.specs.Counts.{IsCounted};
     ghost use Rattle.jn_reporters.specs.Sheet.{Taken, taken_of};
 
     ghost Value = { Taken };
 
     ghost view = { λ a. taken_of a.sheet };
 
-    ghost invariant = { λ a. (a.sheet.lines ≡ summary_lines a.sheet.rows) × Counts a.sheet.rows a.counts };
+    ghost invariant = { λ a. IsCounted a.sheet a.codes.items a.counts };
 }
 
 impl Summary {
@@ -42,6 +42,7 @@ impl Summary {
     {
         Summary {
             sheet: Sheet::new(alloc),
+            codes: Vec::new(alloc),
             counts: [0; 49],
         }
     }
@@ -51,17 +52,16 @@ impl Reporter for Summary {
     ghost use Rattle.std.specs.Prelude.{codes, false};
     ghost use Rattle.jn_reporters.specs.Reports.{summary_shown};
 
-    ghost rows = { λ a. a.rows };
+    ghost form = { λ a. record {
+      title = codes "summary";
+      document = false;
+      notes = false;
+      rows = a.rows;
+      shown = summary_shown;
+      linked = λ address. summary_shown;
+    } };
 
     ghost given = { λ a. a.verdict };
-
-    ghost title = { λ a. codes "summary" };
-
-    ghost document = { λ a. false };
-
-    ghost notes = { λ a. false };
-
-    ghost shown = { λ a. summary_shown };
 
     fn name(&self) -> &str {
         "summary"
@@ -75,8 +75,16 @@ impl Reporter for Summary {
         false
     }
 
+    fn link(&mut self, _address: &str) -> Result<(), OutOfMemory> {
+        Ok(())
+    }
+
     fn take(&mut self, row: &RowView<'_>) -> Result<(), OutOfMemory> {
-        let counts = one_more(&self.counts, row.row().code)?;
+        let code = row.row().code;
+        if self.codes.push(code).is_err() {
+            return Err(OutOfMemory);
+        }
+        let counts = one_more(&self.counts, code, &self.codes);
         let lines = count_lines(self.sheet.alloc(), &CODES, &counts)?;
         self.sheet.take_anew(row, &lines)?;
         self.counts = counts;
@@ -92,18 +100,17 @@ impl Reporter for Summary {
     }
 }
 
-/// The counts with one row more of this code. Where there are more rows than a number holds, no memory would hold them either.
-fn one_more(counts: &[u64; 49], code: Code) -> Result<[u64; 49], OutOfMemory>
-    ensures more { IfOk result (λ more. more
-        ≡ slice_set counts.now (code_place code) (slice_index counts.now (code_place code) + 1)) }
+/// The counts with one row more of this code, which is the last of all codes.
+fn one_more(counts: &[u64; 49], code: Code, codes: &[Code]) -> [u64; 49]
+    requires { slice_index counts.now (code_place code) < length codes.now }
+    ensures more { result
+        ≡ slice_set counts.now (code_place code) (slice_index counts.now (code_place code) + 1) }
     ensures within { code_place code < length counts.now }
 {
-    let Some(count) = counts[place(code)].checked_add(1) else {
-        return Err(OutOfMemory);
-    };
+    let _codes = codes;
     let mut more = *counts;
-    more[place(code)] = count;
-    Ok(more)
+    more[place(code)] += 1;
+    more
 }
 
 fn count_lines(alloc: Global, codes: &[Code], counts: &[u64; 49]) -> Result<Vec<u8>, AllocError>

@@ -45,17 +45,16 @@ impl Reporter for Tabbed {
     ghost use Rattle.std.specs.Prelude.{codes, false};
     ghost use Rattle.jn_reporters.specs.Reports.{tabbed_shown};
 
-    ghost rows = { λ a. a.rows };
+    ghost form = { λ a. record {
+      title = codes "tabbed";
+      document = false;
+      notes = false;
+      rows = a.rows;
+      shown = tabbed_shown;
+      linked = λ address. tabbed_shown;
+    } };
 
     ghost given = { λ a. a.verdict };
-
-    ghost title = { λ a. codes "tabbed" };
-
-    ghost document = { λ a. false };
-
-    ghost notes = { λ a. false };
-
-    ghost shown = { λ a. tabbed_shown };
 
     fn name(&self) -> &str {
         "tabbed"
@@ -67,6 +66,10 @@ impl Reporter for Tabbed {
 
     fn shows_notes(&self) -> bool {
         false
+    }
+
+    fn link(&mut self, _address: &str) -> Result<(), OutOfMemory> {
+        Ok(())
     }
 
     fn take(&mut self, row: &RowView<'_>) -> Result<(), OutOfMemory> {

@@ -8,11 +8,13 @@ use crate::shown::ShownNote;
 use jn_diag::RowText;
 use std::marker::Model;
 
-/// A row, with what is shown of the line on which it begins, and its notes. The line is the file's, and none of it is copied; the notes
-/// are those of this row alone.
+/// A row, with where it ends, what is shown of the line on which it begins, and its notes. The line is the file's, and none of it is copied;
+/// the notes are those of this row alone.
 #[derive(Drop)]
 pub struct RowView<'a> {
     row: RowText,
+    end_line: u32,
+    end_col: u32,
     excerpt: Option<Excerpt<'a>>,
     notes: &'a [ShownNote],
     more: usize,
@@ -25,31 +27,38 @@ impl<'a> Model for RowView<'a> {
 
     ghost Value = { ShownRow };
 
-    ghost view = { λ a. record { text = a.row; extract = option_map extract_of a.excerpt; notes = a.notes.now; more = a.more } };
+    ghost view = { λ a. record { text = a.row; end_line = a.end_line; end_col = a.end_col; extract = option_map extract_of a.excerpt; notes = a.notes.now; more = a.more } };
 }
 
 impl<'a> RowView<'a> {
-    /// The row with its excerpt, or without, as one of a limit; it has no notes.
+    /// The row with its excerpt, or without, as one of a limit; it ends where it begins, and has no notes.
     pub fn new(row: RowText, excerpt: Option<Excerpt<'a>>) -> RowView<'a>
         ensures { result ≡ record {
           text = row;
+          end_line = row.line;
+          end_col = row.col;
           extract = option_map extract_of excerpt.entry;
           notes = [];
           more = 0;
         } }
     {
-        RowView::noted(row, excerpt, &[], 0)
+        let (line, col) = (row.line, row.col);
+        RowView::noted(row, line, col, excerpt, &[], 0)
     }
 
-    /// The same with these notes, and with how many more were left out.
+    /// The row with the line and the column of what stands behind it, with these notes, and with how many more were left out.
     pub fn noted(
         row: RowText,
+        end_line: u32,
+        end_col: u32,
         excerpt: Option<Excerpt<'a>>,
         notes: &'a [ShownNote],
         more: usize,
     ) -> RowView<'a>
         ensures { result ≡ record {
           text = row;
+          end_line = end_line;
+          end_col = end_col;
           extract = option_map extract_of excerpt.entry;
           notes = notes.now;
           more = more;
@@ -57,6 +66,8 @@ impl<'a> RowView<'a> {
     {
         RowView {
             row,
+            end_line,
+            end_col,
             excerpt,
             notes,
             more,
@@ -68,6 +79,20 @@ impl<'a> RowView<'a> {
         ensures { result.now ≡ self.now.text }
     {
         &self.row
+    }
+
+    /// The line of what stands behind the row's last byte.
+    pub fn end_line(&self) -> u32
+        ensures { result ≡ self.now.end_line }
+    {
+        self.end_line
+    }
+
+    /// The column of what stands behind the row's last byte.
+    pub fn end_col(&self) -> u32
+        ensures { result ≡ self.now.end_col }
+    {
+        self.end_col
     }
 
     /// What is shown of the line on which the row begins.

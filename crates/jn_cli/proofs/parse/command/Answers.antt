@@ -18,6 +18,7 @@ returns c =
     let r4 : rule_of c.single-4.result ≡ single (codes "steps") = search rules in
     let r5 : rule_of c.single-5.result ≡ single (codes "words") = search rules in
     let r6 : rule_of c.single-6.result ≡ single (codes "gen") = search rules in
+    let r7 : rule_of c.single-7.result ≡ single (codes "codes") = search rules in
     let s1 = added _ _ _ _ _ c.in_ok-command.ensures c.single.ensures.local bare r1 in
     let s2 = added _ _ _ _ _ c.in_ok-command-2.ensures c.single-2.ensures.local s1 r2 in
     let s3 = added _ _ _ _ _ c.in_ok-command-3.ensures c.single-3.ensures.local s2 r3 in
@@ -25,4 +26,5 @@ returns c =
     let s5 = added _ _ _ _ _ c.in_ok-command-5.ensures c.single-4.ensures.local s4 r4 in
     let s6 = added _ _ _ _ _ c.in_ok-command-6.ensures c.single-5.ensures.local s5 r5 in
     let s7 = added _ _ _ _ _ c.in_ok-command-7.ensures c.single-6.ensures.local s6 r6 in
-    IfOk-weaker c.arg-8.result _ _ (λ r h. added _ _ _ _ _ h c.file.ensures.local s7 c.file.ensures.rule) c.arg-8.ensures
+    let s8 = added _ _ _ _ _ c.in_ok-command-8.ensures c.single-7.ensures.local s7 r7 in
+    IfOk-weaker c.arg-9.result _ _ (λ r h. added _ _ _ _ _ h c.file.ensures.local s8 c.file.ensures.rule) c.arg-9.ensures

@@ -1,5 +1,6 @@
 use Rattle.std.proofs.Common.{◌≡◌, ◌++◌, map, None}
-use Rattle.jn_command.specs.Reporters.{Form, first_named}
+use Rattle.jn_command.specs.Reporters.{first_named}
+use Rattle.jn_reporters.specs.Forms.{Form}
 use Rattle.jn_command.proofs.choose.choose.Given as goal
 
 abbrev pub invariant-loop-reporter : goal.invariant-loop-reporter
@@ -7,4 +8,4 @@ invariant-loop-reporter g l =
     (goal.iterator-loop-reporter g).can_next l.reporter-iterator ×
     (goal.iterator-loop-reporter g).is_finite l.reporter-iterator ×
     (l.yielded ++ l.reporter-iterator.rest.items ≡ l.fn.reporters.items) ×
-    (first_named l.name (map {B = Form} (λ b. record { title = (goal.Reporter-dyn g (b.vtable, b.value)).title b.value; document = (goal.Reporter-dyn g (b.vtable, b.value)).document b.value; notes = (goal.Reporter-dyn g (b.vtable, b.value)).notes b.value; rows = (goal.Reporter-dyn g (b.vtable, b.value)).rows b.value; shown = (goal.Reporter-dyn g (b.vtable, b.value)).shown b.value }) l.yielded) ≡ None)
+    (first_named l.name (map {B = Form} (λ b. (goal.Reporter-dyn g (b.vtable, b.value)).form b.value) l.yielded) ≡ None)

@@ -8,8 +8,8 @@ abbrev pub invariant-loop-at : goal.invariant-loop-at
 invariant-loop-at g l = record {
   place : IsPlace l.reads l.place;
   within : l.at ≤ length l.rows;
-  taken : g.P.Reporter.rows l.shower ≡ g.P.Reporter.rows l.fn.reporter ++ rows_with (files_of_reads l.reads) (g.N.Notes.told l.notes) (take l.at l.rows);
-  shown : g.P.Reporter.shown l.shower ≡ g.P.Reporter.shown l.fn.reporter;
+  taken : (g.P.Reporter.form l.shower).rows ≡ (g.P.Reporter.form l.fn.reporter).rows ++ rows_with (files_of_reads l.reads) (g.N.Notes.told l.notes) (take l.at l.rows);
+  shown : (g.P.Reporter.form l.shower).shown ≡ (g.P.Reporter.form l.fn.reporter).shown;
 }
 
 abbrev pub decreases-loop-at : goal.decreases-loop-at

@@ -3,4 +3,4 @@ use Rattle.jn_reporters.specs.Sarif as spec
 use Rattle.jn_reporters.proofs.sarif.put_further_rules.Given as goal
 
 abbrev pub invariant-loop-code : goal.invariant-loop-code
-invariant-loop-code l = l.out.items ≡ l.fn.out.items ++ spec.further spec.rule_object (take l.code-index l.codes)
+invariant-loop-code l = l.out.items ≡ l.fn.out.items ++ spec.further (spec.rule_object l.address) (take l.code-index l.codes)
