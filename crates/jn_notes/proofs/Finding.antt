@@ -15,10 +15,12 @@ use Rattle.jn_env.specs.Order.{Table, env_in}
 use Rattle.jn_transfer.specs.Pairs.{overriders, under}
 use Rattle.jn_contrib.specs.declared.listed.Overrider.{Overrider}
 use Rattle.jn_contrib.specs.Entries.{AreOverriders}
-use Rattle.jn_reasons_law.specs.declared.item.Bit.{Bit}
 use Rattle.jn_reasons_law.specs.declared.item.Item.{Item}
+use Rattle.jn_sigs.specs.Signature.{slot_qual, slot_quals}
+use Rattle.jn_notes.specs.Asks.{Ask, ask, ask_args, ask_each}
+use Rattle.jn_notes.specs.declared.reads.Sought.{Sought}
 use Rattle.jn_notes.specs.declared.pairs.Part.{Part}
-use Rattle.jn_notes.specs.Asked.{or_item, first_item, by_operand, by_operands, by_point, by_number, lacking, some_lacking, by_under, by_overriders}
+use Rattle.jn_notes.specs.Asked.{or_item, first_item, by_ask, by_asks, by_point, by_number, lacking, some_lacking, by_under, by_overriders}
 
 pub item_or_none : (x : Option Item) → or_item x None ≡ x
 item_or_none None = refl
@@ -57,27 +59,83 @@ none_is f (suc n) m le h = by (λ (low : m ≤ n). none_is f n m low (first_none
 
 -- ---- operands
 
-module _ (span : Span) (bit : Bit) (b p : ℕ) (e : Env) where
-  pub operand_none : (list : List Operand) (i : ℕ) (d : Operand) (r whole : Option Item) → i < length list → r ≡ by_operand span bit b p e (slice_index_or list i d) → is_some r ≡ false
-      → by_operands span bit b p e (drop i list) ≡ whole → by_operands span bit b p e (drop (i + 1) list) ≡ whole
-  operand_none list i d (Some x) whole lt is lacks h = absurd (false≢true (sym lacks))
-  operand_none list i d None whole lt is lacks h =
-      ap (λ (o : Option Item). or_item o (by_operands span bit b p e (drop (i + 1) list))) is ∙ sym (ap (by_operands span bit b p e) (drop_more list i d lt)) ∙ h
+past : (A : Type 0) (xs : List A) (j : ℕ) → length xs ≤ j → drop j xs ≡ []
+past A [] zero low = refl
+past A [] (suc j) low = refl
+past A (x ∷ xs) zero low = absurd (omega (arith, low))
+past A (x ∷ xs) (suc j) low = past A xs j (omega (arith, low))
 
-  pub operand_found : (list : List Operand) (i : ℕ) (d : Operand) (r whole : Option Item) → i < length list → r ≡ by_operand span bit b p e (slice_index_or list i d) → is_some r ≡ true
-      → by_operands span bit b p e (drop i list) ≡ whole → r ≡ whole
-  operand_found list i d None whole lt is some h = absurd (false≢true some)
-  operand_found list i d (Some x) whole lt is some h =
-      ap (λ (o : Option Item). or_item o (by_operands span bit b p e (drop (i + 1) list))) is ∙ sym (ap (by_operands span bit b p e) (drop_more list i d lt)) ∙ h
+module _ (q : Sought) (b p : ℕ) (e : Env) where
+  -- a value gives none, or one
+  one_none : (a : Ask) (rest whole r : Option Item) → r ≡ by_ask q b p e a → is_some r ≡ false → or_item (by_ask q b p e a) rest ≡ whole → rest ≡ whole
+  one_none a rest whole (Some x) is lacks h = absurd (false≢true (sym lacks))
+  one_none a rest whole None is lacks h = ap (λ (o : Option Item). or_item o rest) is ∙ h
 
-  pub operands_done : (list : List Operand) (i : ℕ) (whole : Option Item) → length list ≤ i → by_operands span bit b p e (drop i list) ≡ whole → None ≡ whole
-  operands_done list i whole le h = sym (ap (by_operands span bit b p e) (past list i le)) ∙ h
-    where
-      past : (xs : List Operand) (j : ℕ) → length xs ≤ j → drop j xs ≡ []
-      past [] zero low = refl
-      past [] (suc j) low = refl
-      past (x ∷ xs) zero low = absurd (omega (arith, low))
-      past (x ∷ xs) (suc j) low = past xs j (omega (arith, low))
+  one_found : (a : Ask) (rest whole r : Option Item) → r ≡ by_ask q b p e a → is_some r ≡ true → or_item (by_ask q b p e a) rest ≡ whole → r ≡ whole
+  one_found a rest whole None is some h = absurd (false≢true some)
+  one_found a rest whole (Some x) is some h = ap (λ (o : Option Item). or_item o rest) is ∙ h
+
+  module _ (taken : Qualifier) where
+    abbrev each : List Operand → Option Item
+    each values = by_asks q b p e (ask_each values taken)
+
+    next_each : (list : List Operand) (i : ℕ) (d : Operand) (whole : Option Item) → i < length list → each (drop i list) ≡ whole → or_item (by_ask q b p e (ask (slice_index_or list i d) taken)) (each (drop (i + 1) list)) ≡ whole
+    next_each list i d whole lt h = sym (ap each (drop_more list i d lt)) ∙ h
+
+    pub each_none : (list : List Operand) (i : ℕ) (d : Operand) (r whole : Option Item) → i < length list → r ≡ by_ask q b p e (ask (slice_index_or list i d) taken) → is_some r ≡ false
+        → each (drop i list) ≡ whole → each (drop (i + 1) list) ≡ whole
+    each_none list i d r whole lt is lacks h = one_none (ask (slice_index_or list i d) taken) (each (drop (i + 1) list)) whole r is lacks (next_each list i d whole lt h)
+
+    pub each_found : (list : List Operand) (i : ℕ) (d : Operand) (r whole : Option Item) → i < length list → r ≡ by_ask q b p e (ask (slice_index_or list i d) taken) → is_some r ≡ true
+        → each (drop i list) ≡ whole → r ≡ whole
+    each_found list i d r whole lt is some h = one_found (ask (slice_index_or list i d) taken) (each (drop (i + 1) list)) whole r is some (next_each list i d whole lt h)
+
+    pub each_done : (list : List Operand) (i : ℕ) (whole : Option Item) → length list ≤ i → each (drop i list) ≡ whole → None ≡ whole
+    each_done list i whole le h = sym (ap each (past Operand list i le)) ∙ h
+
+  module _ (s : List Qualifier) where
+    abbrev args : List (Option SlotNo) → List Operand → Option Item
+    args slots values = by_asks q b p e (ask_args (slot_quals s slots) values)
+
+    next_args : (xs : List (Option SlotNo)) (ys : List Operand) (i : ℕ) (c : Option SlotNo) (d : Operand) (whole : Option Item) → i < length xs → i < length ys → args (drop i xs) (drop i ys) ≡ whole
+        → or_item (by_ask q b p e (ask (slice_index_or ys i d) (slot_qual s (slice_index_or xs i c)))) (args (drop (i + 1) xs) (drop (i + 1) ys)) ≡ whole
+    next_args xs ys i c d whole l m h =
+        sym (ap (λ (zs : List (Option SlotNo)). args zs (slice_index_or ys i d ∷ drop (i + 1) ys)) (drop_more xs i c l))
+        ∙ sym (ap (args (drop i xs)) (drop_more ys i d m)) ∙ h
+
+    pub args_none : (xs : List (Option SlotNo)) (ys : List Operand) (i : ℕ) (c : Option SlotNo) (d : Operand) (r whole : Option Item) → i < length xs → i < length ys
+        → r ≡ by_ask q b p e (ask (slice_index_or ys i d) (slot_qual s (slice_index_or xs i c))) → is_some r ≡ false
+        → args (drop i xs) (drop i ys) ≡ whole → args (drop (i + 1) xs) (drop (i + 1) ys) ≡ whole
+    args_none xs ys i c d r whole l m is lacks h =
+        one_none (ask (slice_index_or ys i d) (slot_qual s (slice_index_or xs i c))) (args (drop (i + 1) xs) (drop (i + 1) ys)) whole r is lacks (next_args xs ys i c d whole l m h)
+
+    pub args_found : (xs : List (Option SlotNo)) (ys : List Operand) (i : ℕ) (c : Option SlotNo) (d : Operand) (r whole : Option Item) → i < length xs → i < length ys
+        → r ≡ by_ask q b p e (ask (slice_index_or ys i d) (slot_qual s (slice_index_or xs i c))) → is_some r ≡ true
+        → args (drop i xs) (drop i ys) ≡ whole → r ≡ whole
+    args_found xs ys i c d r whole l m is some h =
+        one_found (ask (slice_index_or ys i d) (slot_qual s (slice_index_or xs i c))) (args (drop (i + 1) xs) (drop (i + 1) ys)) whole r is some (next_args xs ys i c d whole l m h)
+
+    past_args : (xs : List (Option SlotNo)) (ys : List Operand) (i : ℕ) → (length xs ≤ i) ⊎ (length ys ≤ i) → args (drop i xs) (drop i ys) ≡ None
+    past_args [] ys zero h = refl
+    past_args [] ys (suc i) h = refl
+    past_args (x ∷ xs) [] zero h = refl
+    past_args (x ∷ xs) [] (suc i) h = none_right (drop i xs)
+      where
+        none_right : (zs : List (Option SlotNo)) → args zs [] ≡ None
+        none_right [] = refl
+        none_right (z ∷ zs) = refl
+    past_args (x ∷ xs) (y ∷ ys) zero (inl le) = absurd (omega (arith, le))
+    past_args (x ∷ xs) (y ∷ ys) zero (inr le) = absurd (omega (arith, le))
+    past_args (x ∷ xs) (y ∷ ys) (suc i) (inl le) = past_args xs ys i (inl (omega (arith, le)))
+    past_args (x ∷ xs) (y ∷ ys) (suc i) (inr le) = past_args xs ys i (inr (omega (arith, le)))
+
+    pub args_done : (xs : List (Option SlotNo)) (ys : List Operand) (i n : ℕ) (whole : Option Item) → n ≤ i → (length xs ≤ n) ⊎ (length ys ≤ n)
+        → args (drop i xs) (drop i ys) ≡ whole → None ≡ whole
+    args_done xs ys i n whole le h e = sym (past_args xs ys i (by h)) ∙ e
+      where
+        by : (length xs ≤ n) ⊎ (length ys ≤ n) → (length xs ≤ i) ⊎ (length ys ≤ i)
+        by (inl l) = inl (omega (arith, l, le))
+        by (inr r) = inr (omega (arith, r, le))
 
 -- ---- points
 
@@ -92,11 +150,11 @@ any_default A [] i x d lt is = absurd (omega (arith, lt))
 any_default A (y ∷ xs) zero x d lt is = is
 any_default A (y ∷ xs) (suc i) x d lt is = any_default A xs i x d (omega (arith, lt)) is
 
-pub point_is : (span : Span) (bit : Bit) (P : Program) (b : ℕ) (T : Table) (points : List Point) (i : ℕ) (pt : Point) (r : Option Item)
+pub point_is : (P : Program) (s : List Qualifier) (q : Sought) (b : ℕ) (T : Table) (points : List Point) (i : ℕ) (pt : Point) (r : Option Item)
     → points ≡ points_of (body_at P b) → i < length points → pt ≡ slice_index_or points i pt
-    → r ≡ by_point span bit b i (Some pt) (env_in T i) → r ≡ by_number span bit b P T i
-point_is span bit P b T points i pt r is lt e h =
-    h ∙ ap (λ (o : Option Point). by_point span bit b i o (env_in T i)) (ap Some e ∙ sym (there Point points i pt lt) ∙ ap (λ (l : List Point). slice_get l i) is)
+    → r ≡ by_point P s q b i (Some pt) (env_in T i) → r ≡ by_number P s q b T i
+point_is P s q b T points i pt r is lt e h =
+    h ∙ ap (λ (o : Option Point). by_point P s q b i o (env_in T i)) (ap Some e ∙ sym (there Point points i pt lt) ∙ ap (λ (l : List Point). slice_get l i) is)
 
 -- ---- overriding pairs
 

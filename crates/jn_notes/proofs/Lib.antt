@@ -1,6 +1,7 @@
 mod Alike
 mod Filling
 mod Finding
+mod Lacking
 mod Leaving
 mod Noting
 mod Solving

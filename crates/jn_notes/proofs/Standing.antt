@@ -7,34 +7,33 @@ use Rattle.jn_base.specs.declared.place.Span.{Span}
 use Rattle.jn_base.specs.declared.place.Row.{Row}
 use Rattle.jn_quals.specs.Qualifier.{Qualifier}
 use Rattle.jn_quals.specs.Order.{no_qual}
-use Rattle.jn_points.specs.declared.point.Operand.{Operand}
 use Rattle.jn_points.specs.declared.point.Point.{Point}
 use Rattle.jn_points.specs.declared.program.Method.{Method}
 use Rattle.jn_points.specs.declared.program.Program.{Program}
 use Rattle.jn_points.specs.Lookup.{body_at, method_at, point_at, points_of}
-use Rattle.jn_points.specs.Operands.{operands}
 use Rattle.jn_sigs.specs.Signature.{slot_qual}
 use Rattle.jn_env.specs.Environment.{Env}
 use Rattle.jn_env.specs.Order.{Table, env_in, qual_at}
 use Rattle.jn_transfer.specs.Pairs.{overriders, under}
 use Rattle.jn_transfer.specs.Rules.{lacks_null}
-use Rattle.jn_reasons_law.specs.declared.item.Bit.{Bit}
 use Rattle.jn_reasons_law.specs.declared.item.Bit.TheVariants.{Nullable, Free}
 use Rattle.jn_reasons_law.specs.declared.item.Item.{Item}
 use Rattle.jn_reasons_law.specs.declared.item.Item.TheVariants.{AtSlot, AtRegister}
 use Rattle.jn_reasons_law.specs.Items.{on, Stands}
+use Rattle.jn_notes.specs.Asks.{Ask, asks}
+use Rattle.jn_notes.specs.declared.reads.Sought.{Sought}
 use Rattle.jn_notes.specs.declared.pairs.Part.{Part}
 use Rattle.jn_notes.specs.declared.pairs.Part.TheVariants.{OverParameters, OverReceiver, OverResult}
-use Rattle.jn_notes.specs.Asked.{bit_of, part_of, same_span, or_item, first_item, by_operand, by_operands, by_point, by_number, by_body, lacking, lacking_bit, some_lacking, by_part, by_override, by_lower, by_under, by_overriders, slot_item, item_by, item_of, stands_at}
+use Rattle.jn_notes.specs.Asked.{sought_of, part_of, same_span, or_item, first_item, by_ask, by_asks, by_point, by_number, by_body, lacking, lacking_bit, some_lacking, by_part, by_override, by_lower, by_under, by_overriders, slot_item, item_by, item_of, stands_at}
 
 abbrev is_nothing : Option Item → Bool
 is_nothing None = true
 is_nothing (Some x) = false
 
-none_some : (x : Item) → None ≡ Some x → ⊥
+pub none_some : (x : Item) → None ≡ Some x → ⊥
 none_some x e = true≢false (ap is_nothing e)
 
-split_or : (u v : Option Item) (x : Item) → or_item u v ≡ Some x → (u ≡ Some x) ⊎ (v ≡ Some x)
+pub split_or : (u v : Option Item) (x : Item) → or_item u v ≡ Some x → (u ≡ Some x) ⊎ (v ≡ Some x)
 split_or None v x e = inr e
 split_or (Some y) v x e = inl e
 
@@ -47,15 +46,15 @@ given_by f (suc n) x e = by (λ h. given_by f n x h) (split_or (first_item f n) 
     by before (inl h) = before h
     by before (inr h) = (n, h)
 
-and_right : (a b : Bool) → (a && b) ≡ true → b ≡ true
+pub and_right : (a b : Bool) → (a && b) ≡ true → b ≡ true
 and_right true b e = e
 and_right false b e = absurd (false≢true e)
 
-and_left : (a b : Bool) → (a && b) ≡ true → a ≡ true
+pub and_left : (a b : Bool) → (a && b) ≡ true → a ≡ true
 and_left true b e = refl
 and_left false b e = absurd (false≢true e)
 
-if_there : (t : Bool) (y x : Item) → cond t (Some y) None ≡ Some x → (t ≡ true) × (y ≡ x)
+pub if_there : (t : Bool) (y x : Item) → cond t (Some y) None ≡ Some x → (t ≡ true) × (y ≡ x)
 if_there true y x e = (refl, some_is e)
   where
     get : Option Item → Item
@@ -67,23 +66,25 @@ if_there true y x e = (refl, some_is e)
 if_there false y x e = absurd (none_some x e)
 
 module _ (s : List Qualifier) (tables : List Table) where
-  module _ (span : Span) (bit : Bit) (b : ℕ) where
+  module _ (q : Sought) (b : ℕ) where
     abbrev T : Table
     T = slice_index_or tables b []
 
-    operand_stands : (p : ℕ) (e : Env) (a : Operand) (x : Item) → env_in T p ≡ Some e → by_operand span bit b p e a ≡ Some x → Stands s tables x
-    operand_stands p e a x reached h =
-        let r = if_there (same_span a.span span && on bit (qual_at e a.reg.0)) (AtRegister b p a.reg.0 bit) x h in
-        subst (Stands s tables) r.1 (record { env = e; reached = reached; has = and_right (same_span a.span span) (on bit (qual_at e a.reg.0)) r.0 })
+    ask_stands : (p : ℕ) (e : Env) (a : Ask) (x : Item) → env_in T p ≡ Some e → by_ask q b p e a ≡ Some x → Stands s tables x
+    ask_stands p e a x reached h =
+        let here = same_span a.value.span q.span in
+        let has = on q.bit (qual_at e a.value.reg.0) in
+        let r = if_there (here && has && not (on q.bit a.taken)) (AtRegister b p a.value.reg.0 q.bit) x h in
+        subst (Stands s tables) r.1 (record { env = e; reached = reached; has = and_right here has (and_left (here && has) (not (on q.bit a.taken)) r.0) })
 
-    operands_stand : (p : ℕ) (e : Env) (list : List Operand) (x : Item) → env_in T p ≡ Some e → by_operands span bit b p e list ≡ Some x → Stands s tables x
-    operands_stand p e [] x reached h = absurd (none_some x h)
-    operands_stand p e (a ∷ list) x reached h = ⊎_elim (λ g. operand_stands p e a x reached g) (λ g. operands_stand p e list x reached g) (split_or (by_operand span bit b p e a) (by_operands span bit b p e list) x h)
+    asks_stand : (p : ℕ) (e : Env) (list : List Ask) (x : Item) → env_in T p ≡ Some e → by_asks q b p e list ≡ Some x → Stands s tables x
+    asks_stand p e [] x reached h = absurd (none_some x h)
+    asks_stand p e (a ∷ list) x reached h = ⊎_elim (λ g. ask_stands p e a x reached g) (λ g. asks_stand p e list x reached g) (split_or (by_ask q b p e a) (by_asks q b p e list) x h)
 
-    point_stands : (p : ℕ) (o : Option Point) (q : Option Env) (x : Item) → env_in T p ≡ q → by_point span bit b p o q ≡ Some x → Stands s tables x
-    point_stands p None q x reached h = absurd (none_some x h)
-    point_stands p (Some pt) None x reached h = absurd (none_some x h)
-    point_stands p (Some pt) (Some e) x reached h = operands_stand p e (operands pt.kind) x reached h
+    point_stands : (P : Program) (p : ℕ) (o : Option Point) (slot : Option Env) (x : Item) → env_in T p ≡ slot → by_point P s q b p o slot ≡ Some x → Stands s tables x
+    point_stands P p None slot x reached h = absurd (none_some x h)
+    point_stands P p (Some pt) None x reached h = absurd (none_some x h)
+    point_stands P p (Some pt) (Some e) x reached h = asks_stand p e (asks P s q.rule b e pt.kind) x reached h
 
   abbrev slot_bit : ℕ → Qualifier
   slot_bit k = slice_index_or s k no_qual
@@ -131,13 +132,13 @@ module _ (s : List Qualifier) (tables : List Table) where
         let m = slice_index_or (overriders P) r.0 0 in
         under_stands span part (method_at P m) (under P m) x r.1
 
-    item_stands : (row : Row) (bit : Option Bit) (x : Item) → item_by P s row tables bit ≡ Some x → Stands s tables x
+    item_stands : (row : Row) (q : Option Sought) (x : Item) → item_by P s row tables q ≡ Some x → Stands s tables x
     item_stands row None x h = pair_stands row.span (part_of row.code) x h
-    item_stands row (Some bit) x h =
-        let r = given_by (λ b. by_body row.span bit b P (slice_index_or tables b [])) (length P.bodies) x h in
-        let q = given_by (by_number row.span bit r.0 P (slice_index_or tables r.0 [])) (length (points_of (body_at P r.0))) x r.1 in
-        point_stands row.span bit r.0 q.0 (point_at P r.0 q.0) (env_in (slice_index_or tables r.0 []) q.0) x refl q.1
+    item_stands row (Some q) x h =
+        let r = given_by (λ b. by_body P s q b (slice_index_or tables b [])) (length P.bodies) x h in
+        let p = given_by (by_number P s q r.0 (slice_index_or tables r.0 [])) (length (points_of (body_at P r.0))) x r.1 in
+        point_stands q r.0 P p.0 (point_at P r.0 p.0) (env_in (slice_index_or tables r.0 []) p.0) x refl p.1
 
     -- what a row speaks of stands
     pub row_stands : (row : Row) (x : Item) → item_of P s row tables ≡ Some x → Stands s tables x
-    row_stands row x h = item_stands row (bit_of row.code) x h
+    row_stands row x h = item_stands row (sought_of row.span row.code) x h

@@ -1,5 +1,5 @@
 -- The item that a row speaks of. A row that speaks of a value points to an operand: its item is the first register that is read there and has the
--- bit, by body, point and operand. A row of an overriding pair points to the overrider: its item is the slot that has a bit which its partner lacks.
+-- bit, where the row's rule doesn't take it, by body, point and operand. A row of an overriding pair points to the overrider: its item is the slot that has a bit which its partner lacks.
 use Rattle.std.specs.Prelude.{ℕ, zero, suc, Bool, false, cond, not, ◌&&◌, eqb, List, [], ◌∷◌, length, Option, Some, None, slice_index_or}
 use Rattle.jn_base.specs.declared.place.Span.{Span}
 use Rattle.jn_base.specs.declared.place.Row.{Row}
@@ -8,12 +8,10 @@ use Rattle.jn_base.specs.declared.code.Code.TheVariants.{Deref, Field as FieldCo
 use Rattle.jn_base.specs.declared.number.SlotNo.{SlotNo}
 use Rattle.jn_quals.specs.Qualifier.{Qualifier}
 use Rattle.jn_quals.specs.Order.{no_qual}
-use Rattle.jn_points.specs.declared.point.Operand.{Operand}
 use Rattle.jn_points.specs.declared.point.Point.{Point}
 use Rattle.jn_points.specs.declared.program.Method.{Method}
 use Rattle.jn_points.specs.declared.program.Program.{Program}
 use Rattle.jn_points.specs.Lookup.{body_at, method_at, point_at, points_of}
-use Rattle.jn_points.specs.Operands.{operands}
 use Rattle.jn_sigs.specs.Signature.{slot_qual}
 use Rattle.jn_env.specs.Environment.{Env}
 use Rattle.jn_env.specs.Order.{Table, env_in, qual_at}
@@ -24,24 +22,31 @@ use Rattle.jn_reasons_law.specs.declared.item.Bit.TheVariants.{Nullable, Free}
 use Rattle.jn_reasons_law.specs.declared.item.Item.{Item}
 use Rattle.jn_reasons_law.specs.declared.item.Item.TheVariants.{AtSlot, AtRegister}
 use Rattle.jn_reasons_law.specs.Items.{on}
+use Rattle.jn_notes.specs.Asks.{Ask, asks}
+use Rattle.jn_notes.specs.declared.reads.Rule.{Rule}
+use Rattle.jn_notes.specs.declared.reads.Rule.TheVariants.{Dereference, Write, Argument, Receiver, Result as ResultRule, Local as LocalRule, Element}
+use Rattle.jn_notes.specs.declared.reads.Sought.{Sought}
 use Rattle.jn_notes.specs.declared.pairs.Part.{Part}
 use Rattle.jn_notes.specs.declared.pairs.Part.TheVariants.{OverParameters, OverReceiver, OverResult}
 
--- the bit of a value that a code speaks of. Of what is whole where the other is taken there is no note: it ends at its `new`
-abbrev pub bit_of : Code → Option Bit
-bit_of Deref = Some Nullable
-bit_of FieldCode = Some Nullable
-bit_of FieldInit = Some Free
-bit_of Arg = Some Nullable
-bit_of ArgInit = Some Free
-bit_of RecvInit = Some Free
-bit_of ReturnCode = Some Nullable
-bit_of ReturnInit = Some Free
-bit_of Local = Some Nullable
-bit_of LocalInit = Some Free
-bit_of Elem = Some Nullable
-bit_of ElemInit = Some Free
-bit_of code = None
+abbrev pub seeks : Span → Rule → Bit → Option Sought
+seeks span rule bit = Some (record { span = span; rule = rule; bit = bit })
+
+-- what a row of a value speaks of: the rule, and the bit that a note explains. What is whole where it isn't taken needs no note: it ends at its `new`
+abbrev pub sought_of : Span → Code → Option Sought
+sought_of span Deref = seeks span Dereference Nullable
+sought_of span FieldCode = seeks span Write Nullable
+sought_of span FieldInit = seeks span Write Free
+sought_of span Arg = seeks span Argument Nullable
+sought_of span ArgInit = seeks span Argument Free
+sought_of span RecvInit = seeks span Receiver Free
+sought_of span ReturnCode = seeks span ResultRule Nullable
+sought_of span ReturnInit = seeks span ResultRule Free
+sought_of span Local = seeks span LocalRule Nullable
+sought_of span LocalInit = seeks span LocalRule Free
+sought_of span Elem = seeks span Element Nullable
+sought_of span ElemInit = seeks span Element Free
+sought_of span code = None
 
 -- the part of an overriding pair that a code speaks of
 abbrev pub part_of : Code → Option Part
@@ -63,33 +68,33 @@ abbrev pub first_item : (ℕ → Option Item) → ℕ → Option Item
 first_item f zero = None
 first_item f (suc n) = or_item (first_item f n) (f n)
 
-module _ (span : Span) (bit : Bit) where
-  module _ (b p : ℕ) (e : Env) where
-    -- an operand that stands there and has the bit
-    abbrev pub by_operand : Operand → Option Item
-    by_operand a = cond (same_span a.span span && on bit (qual_at e a.reg.0)) (Some (AtRegister b p a.reg.0 bit)) None
+module _ (q : Sought) (b p : ℕ) (e : Env) where
+  -- a value that stands there and has the bit, which isn't taken
+  abbrev pub by_ask : Ask → Option Item
+  by_ask a = cond (same_span a.value.span q.span && on q.bit (qual_at e a.value.reg.0) && not (on q.bit a.taken)) (Some (AtRegister b p a.value.reg.0 q.bit)) None
 
-    abbrev pub by_operands : List Operand → Option Item
-    by_operands [] = None
-    by_operands (a ∷ as') = or_item (by_operand a) (by_operands as')
+  abbrev pub by_asks : List Ask → Option Item
+  by_asks [] = None
+  by_asks (a ∷ as') = or_item (by_ask a) (by_asks as')
 
+module _ (P : Program) (s : List Qualifier) (q : Sought) where
   module _ (b : ℕ) where
     -- a point, where it is reached
     abbrev pub by_point : ℕ → Option Point → Option Env → Option Item
     by_point p None o = None
     by_point p (Some pt) None = None
-    by_point p (Some pt) (Some e) = by_operands b p e (operands pt.kind)
+    by_point p (Some pt) (Some e) = by_asks q b p e (asks P s q.rule b e pt.kind)
 
-    module _ (P : Program) (T : Table) where
+    module _ (T : Table) where
       abbrev pub by_number : ℕ → Option Item
       by_number p = by_point p (point_at P b p) (env_in T p)
 
       abbrev pub by_body : Option Item
       by_body = first_item by_number (length (points_of (body_at P b)))
 
-  -- the first register that is read there and has the bit
-  abbrev pub register_item : Program → List Table → Option Item
-  register_item P tables = first_item (λ b. by_body b P (slice_index_or tables b [])) (length P.bodies)
+  -- the first register that is read where the rule finds the bit lacking
+  abbrev pub register_item : List Table → Option Item
+  register_item tables = first_item (λ b. by_body b (slice_index_or tables b [])) (length P.bodies)
 
 -- what the first qualifier has and the second lacks: null before under construction
 abbrev pub lacking_bit : ℕ → Qualifier → Qualifier → Option Item
@@ -141,10 +146,10 @@ module _ (P : Program) (s : List Qualifier) where
   slot_item span None = None
   slot_item span (Some part) = first_item (by_overriders span part) (length (overriders P))
 
-  abbrev pub item_by : Row → List Table → Option Bit → Option Item
+  abbrev pub item_by : Row → List Table → Option Sought → Option Item
   item_by row tables None = slot_item row.span (part_of row.code)
-  item_by row tables (Some bit) = register_item row.span bit P tables
+  item_by row tables (Some q) = register_item P s q tables
 
   -- the item that the row speaks of, where a chain says something of it
   abbrev pub item_of : Row → List Table → Option Item
-  item_of row tables = item_by row tables (bit_of row.code)
+  item_of row tables = item_by row tables (sought_of row.span row.code)

@@ -1,5 +1,7 @@
 pub mod Owned
+pub mod Asks
 pub mod Asked
+pub mod Lacking
 pub mod Worded
 pub mod Voids
 pub mod Noted

@@ -11,7 +11,7 @@ use Rattle.jn_env.specs.Keys.{Key}
 use Rattle.jn_env.specs.Order.{Table}
 use Rattle.jn_reasons_law.specs.declared.item.Bit.TheVariants.{Nullable}
 use Rattle.jn_reasons_law.specs.declared.item.Item.{Item}
-use Rattle.jn_reasons_law.specs.declared.item.Item.TheVariants.{AtSlot, AtRegister}
+use Rattle.jn_reasons_law.specs.declared.item.Item.TheVariants.{AtRegister}
 use Rattle.jn_reasons_law.specs.declared.item.Place.{Place}
 use Rattle.jn_reasons_law.specs.declared.item.Place.TheVariants.{OfPoint}
 use Rattle.jn_reasons_law.specs.declared.item.Step.{Step}

@@ -13,7 +13,7 @@ ghost use Rattle.jn_origins.specs.Standing.{AreSized};
 use crate::note::{Note, Notes};
 use crate::owners::{Owner, find_owners};
 use crate::pairs::{part_of, slot_item};
-use crate::reads::{Sought, bit_of, register_item};
+use crate::reads::{register_item, sought_of};
 use crate::spans::place_span;
 use crate::tables::least_tables;
 use crate::voids::find_voids;
@@ -139,12 +139,9 @@ pub fn item_of(
     requires overriders { AreOverriders program.now overriders.now }
     ensures { result ≡ item_of program.now sig.now row tables.now }
 {
-    match bit_of(row.code) {
+    match sought_of(row) {
         None => slot_item(sig, row.span, part_of(row.code), program, overriders),
-        Some(bit) => {
-            let span = row.span;
-            register_item(Sought { span, bit }, program, tables)
-        }
+        Some(sought) => register_item(sought, program, sig, tables),
     }
 }
 

@@ -1,9 +1,14 @@
 //! Laws of notes.
-ghost use Rattle.std.specs.Prelude.{◌≡◌, ℕ, List};
+ghost use Rattle.std.specs.Prelude.{◌≡◌, ℕ, List, None, Some};
 ghost use Rattle.jn_base.specs.declared.place.Row.{Row};
 ghost use Rattle.jn_quals.specs.Qualifier.{Qualifier};
 ghost use Rattle.jn_points.specs.declared.program.Program.{Program};
+ghost use Rattle.jn_env.specs.Order.{Table};
+ghost use Rattle.jn_reasons_law.specs.declared.item.Item.{Item};
 ghost use Rattle.jn_notes.specs.declared.note.Notes.{Notes};
+ghost use Rattle.jn_notes.specs.declared.reads.Sought.{Sought};
+ghost use Rattle.jn_notes.specs.Asked.{item_of, sought_of};
+ghost use Rattle.jn_notes.specs.Lacking.{IsLacking, TakesAll};
 ghost use Rattle.jn_notes.specs.Noted.{AreNotesOf};
 
 use jn_reasons_law::law::first_chains_are_unique;
@@ -20,3 +25,12 @@ pub fn rows_have_one_list_of_notes()
     first_chains_are_unique();
     first_pairs_are_unique();
 }
+
+/// A row of a value speaks of the bit for which its rule has the row: the rule has this row at a point where the value has the bit, which isn't
+/// taken there. Where it speaks of none, that bit is taken wherever the rule asks something of the value: what it lacks is what is whole.
+pub fn notes_speak_of_what_is_lacking()
+    ensures item { (P : Program) (s : List Qualifier) (tables : List Table) (row : Row) (q : Sought) (x : Item)
+        → sought_of row.span row.code ≡ Some q → item_of P s row tables ≡ Some x → IsLacking P s tables row q x }
+    ensures none { (P : Program) (s : List Qualifier) (tables : List Table) (row : Row) (q : Sought)
+        → sought_of row.span row.code ≡ Some q → item_of P s row tables ≡ None → TakesAll P s tables q }
+{}

@@ -10,8 +10,8 @@ returns-then-is_some c =
     let points = c.args.points.now in
     let lt : c.loop-at.at < length points = omega (arith, c.loop-at-test.true) in
     let many : length points ≡ length (points_of (body_at P c.args.body.0)) = ap length c.requires.points in
-    found_is (by_number c.args.sought.span c.args.sought.bit c.args.body.0 P c.args.slots.now) c.loop-at.at (length (points_of (body_at P c.args.body.0))) c.by_point-found.result (omega (arith, lt, many)) c.loop-at.invariant
-    (point_is c.args.sought.span c.args.sought.bit P c.args.body.0 c.args.slots.now points c.loop-at.at c.index-points-at.result c.by_point-found.result c.requires.points lt c.index-points-at.is c.by_point-found.ensures)
+    found_is (by_number P c.args.sig.now c.args.sought c.args.body.0 c.args.slots.now) c.loop-at.at (length (points_of (body_at P c.args.body.0))) c.by_point-found.result (omega (arith, lt, many)) c.loop-at.invariant
+    (point_is P c.args.sig.now c.args.sought c.args.body.0 c.args.slots.now points c.loop-at.at c.index-points-at.result c.by_point-found.result c.requires.points lt c.index-points-at.is c.by_point-found.ensures)
     (sym c.is_some.ensures ∙ c.if-is_some.true)
 
 pub loop-at-preserved : goal.loop-at-preserved
@@ -19,6 +19,6 @@ loop-at-preserved c =
     let P = c.args.program.now in
     let points = c.args.points.now in
     let lt : c.loop-at.at < length points = omega (arith, c.loop-at-test.true) in
-    none_more (by_number c.args.sought.span c.args.sought.bit c.args.body.0 P c.args.slots.now) c.loop-at.at c.by_point-found.result c.loop-at.invariant
-    (point_is c.args.sought.span c.args.sought.bit P c.args.body.0 c.args.slots.now points c.loop-at.at c.index-points-at.result c.by_point-found.result c.requires.points lt c.index-points-at.is c.by_point-found.ensures)
+    none_more (by_number P c.args.sig.now c.args.sought c.args.body.0 c.args.slots.now) c.loop-at.at c.by_point-found.result c.loop-at.invariant
+    (point_is P c.args.sig.now c.args.sought c.args.body.0 c.args.slots.now points c.loop-at.at c.index-points-at.result c.by_point-found.result c.requires.points lt c.index-points-at.is c.by_point-found.ensures)
     (sym c.is_some.ensures ∙ c.if-is_some.false)

@@ -9,5 +9,5 @@ returns-then-is_some c =
     let P = c.args.program.now in
     let many = c.len-body-end.ensures in
     let lt : c.loop-body.body < length P.bodies = omega (arith, c.loop-body-test.true, many) in
-    found_is (λ b. by_body c.args.sought.span c.args.sought.bit b P (slice_index_or c.args.tables.now b [])) c.loop-body.body (length P.bodies) c.by_body-found.result lt c.loop-body.invariant
+    found_is (λ b. by_body P c.args.sig.now c.args.sought b (slice_index_or c.args.tables.now b [])) c.loop-body.body (length P.bodies) c.by_body-found.result lt c.loop-body.invariant
     c.by_body-found.ensures (sym c.is_some.ensures ∙ c.if-is_some.true)
