@@ -4,7 +4,7 @@
 //! run removes it.
 use std::alloc::Global;
 use std::fs::{File, Metadata, TryLockError};
-use std::io::{ErrorKind, Write};
+use std::io::{ErrorKind, Read, Write};
 use std::os::unix::fs::{MetadataExt, lchown};
 use std::path::AsPath;
 use std::{fs, io, rt};
@@ -29,6 +29,14 @@ impl From<io::Error> for Hindrance {
 /// The name leads to what can't be replaced.
 fn special() -> io::Error {
     io::Error::new(ErrorKind::InvalidInput, "it is no plain file")
+}
+
+/// What is there is another file.
+fn other() -> io::Error {
+    io::Error::new(
+        ErrorKind::InvalidData,
+        "it is there, and doesn't begin as what is to be written",
+    )
 }
 
 /// Another run is at work on the same file.
@@ -189,4 +197,30 @@ pub(crate) fn replace_file<R: rt::Files<File = File>>(
         let _removed = fs::remove_file(rt, beside.as_str());
     }
     Ok(done?)
+}
+
+/// Fails where the open file doesn't begin so.
+fn check_open(file: &mut File, front: &[u8]) -> io::Result<()> {
+    for byte in front {
+        let mut next = [0u8; 1];
+        if file.read(&mut next)? == 0 || next[0] != *byte {
+            return Err(other());
+        }
+    }
+    Ok(())
+}
+
+/// Fails where a file of this name is there that doesn't begin so.
+pub(crate) fn check_front<R: rt::Files<File = File>>(
+    rt: &R,
+    alloc: Global,
+    name: &str,
+    front: &[u8],
+) -> io::Result<()> {
+    let place = place_of(rt, alloc, name)?;
+    if plain_file(rt, place.as_str())?.is_none() {
+        return Ok(());
+    }
+    let mut file = File::open(rt, place.as_str())?;
+    check_open(&mut file, front)
 }

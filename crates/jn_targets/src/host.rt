@@ -2,7 +2,7 @@
 ghost use Rattle.std.specs.Prelude.{◌≡◌, ◌≤◌, []};
 ghost use Rattle.jn_outside.specs.Causes.{Rose};
 
-use crate::beside::{Hindrance, replace_file};
+use crate::beside::{Hindrance, check_front, replace_file};
 use crate::replaced::{Replaced, with_replaced};
 use crate::targets::Targets;
 use jn_outside::{Failed, Told};
@@ -21,7 +21,7 @@ pub struct TargetFault {
     pub left: Option<String>,
 }
 
-/// The files of the host. Its count of faults rises at each `Err`. What is no plain file isn't known before the host is asked.
+/// The files of the host. Its count of faults rises at each `Err`. What is there, and what is no plain file, isn't known before the host is asked.
 #[derive(Drop)]
 pub struct HostTargets<'a, R: rt::Files<File = File>> {
     rt: &'a R,
@@ -88,6 +88,8 @@ impl<'a, R: rt::Files<File = File>> Targets for HostTargets<'a, R> {
 
     ghost special = { λ s. [] };
 
+    ghost there = { λ s. [] };
+
     ghost faults = { λ s. s.faults };
 
     fn replace(&mut self, name: &str, bytes: &[u8]) -> Result<(), Failed> {
@@ -99,6 +101,16 @@ impl<'a, R: rt::Files<File = File>> Targets for HostTargets<'a, R> {
             }
             Err(hindrance) => {
                 self.count(name, hindrance);
+                Err(Failed)
+            }
+        }
+    }
+
+    fn replace_alike(&mut self, name: &str, front: &[u8], bytes: &[u8]) -> Result<(), Failed> {
+        match check_front(self.rt, self.alloc, name, front) {
+            Ok(()) => self.replace(name, bytes),
+            Err(reason) => {
+                self.count(name, Hindrance::from(reason));
                 Err(Failed)
             }
         }

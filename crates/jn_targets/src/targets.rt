@@ -2,7 +2,7 @@
 ghost use Rattle.std.specs.Prelude.{◌≡◌, ◌++◌, ℕ, List, true, IsErr, OnErr, OnOk};
 ghost use Rattle.std.specs.List.{list_any};
 ghost use Rattle.jn_outside.specs.Causes.{HasCause};
-ghost use Rattle.jn_targets.specs.Replacing.{is_one, is_refused, ReplacesFirst, with_replaced};
+ghost use Rattle.jn_targets.specs.Replacing.{is_one, is_refused, takes_other, ReplacesFirst, with_replaced};
 ghost use Rattle.jn_targets.specs.declared.replaced.Replaced.{Replaced as ReplacedOf};
 
 use crate::replaced::Replaced;
@@ -16,6 +16,9 @@ pub trait Targets {
     /// Names that are known to lead to what is there and is no plain file, as a folder, a pipe or a device.
     ghost special: { Self → List (List ℕ) };
 
+    /// Files that are known to have been there when the targets were made.
+    ghost there: { Self → List ReplacedOf };
+
     /// How often a replacement has failed; the count stands still at its last value.
     ghost faults: { Self → ℕ };
 
@@ -27,6 +30,19 @@ pub trait Targets {
         ensures err { OnErr result (replaced self.new ≡ replaced self.old) }
         ensures plain { is_one (special self.old) name.now ≡ true → IsErr result }
         ensures special { special self.new ≡ special self.old }
+        ensures there { there self.new ≡ there self.old }
+        ensures cause { HasCause (faults self.old) (faults self.new) result };
+
+    /// Gives the file of this name these bytes as `replace` does, where it isn't there yet, or begins with `front`. Another file isn't
+    /// replaced: that is a fault, too.
+    fn replace_alike(&mut self, name: &str, front: &[u8], bytes: &[u8]) -> Result<(), Failed>
+        ensures ok { OnOk result
+            (replaced self.new ≡ with_replaced (replaced self.old) name.now bytes.now) }
+        ensures err { OnErr result (replaced self.new ≡ replaced self.old) }
+        ensures plain { is_one (special self.old) name.now ≡ true → IsErr result }
+        ensures alike { takes_other (there self.old) name.now front.now ≡ true → IsErr result }
+        ensures special { special self.new ≡ special self.old }
+        ensures there { there self.new ≡ there self.old }
         ensures cause { HasCause (faults self.old) (faults self.new) result };
 }
 
