@@ -13,6 +13,8 @@ use Rattle.jn_transfer.specs.Contributions.{is_inferred}
 use Rattle.jn_trees.specs.declared.token.Token.{Token}
 use Rattle.jn_trees.specs.Trees.{MemberTree, FieldMember, TypeDeclaration, ClassType, InterfaceType, SourceTree}
 use Rattle.jn_annotate.specs.Words.{is_unspelled}
+use Rattle.jn_annotate.specs.Taken.{is_taken, taken_words}
+use Rattle.jn_annotate.specs.declared.taken.TakenWords.{TakenWords}
 use Rattle.jn_splice_law.specs.Inserted.{inserted}
 use Rattle.jn_annotate.specs.Imports.{with_lines}
 use Rattle.jn_annotate.specs.Insertions.{fields_in, type_fields, file_fields, file_methods, first_slot, in_file}
@@ -42,6 +44,14 @@ HasNone test = (i : ℕ) → test i ≡ false
 -- the slot is inferred, and its qualifier has neither C nor F
 abbrev pub has_no_spelling : Program → List Qualifier → ℕ → Bool
 has_no_spelling P s i = is_inferred (slice_get P.slots i) && is_unspelled (slice_index_or s i no_qual)
+
+-- the slot is inferred, imports are asked for, and it gets a word that is taken
+abbrev pub has_taken_word : Bool → TakenWords → Program → List Qualifier → ℕ → Bool
+has_taken_word imports taken P s i = is_inferred (slice_get P.slots i) && imports && is_taken taken P (slice_index_or s i no_qual) i
+
+-- a type of the files has the word's name
+abbrev pub has_taken_name : Bool → Program → List Qualifier → List SourceTree → ℕ → Bool
+has_taken_name imports P s trees i = has_taken_word imports (taken_words trees) P s i
 
 abbrev pub same_qual : Qualifier → Qualifier → Bool
 same_qual a b = within a b && within b a
@@ -85,19 +95,23 @@ longest_text = 1048576
 abbrev pub is_too_large : List (List ℕ) → ℕ → Bool
 is_too_large texts k = ltb longest_text (length (slice_index_or texts k []))
 
--- the three refusals, in their order, and the texts where none is
+-- the four refusals, in their order, and the texts where none is
 
 abbrev pub IsNoSpelling : Program → List Qualifier → ℕ → Type 0
 IsNoSpelling P s i = IsFirst (has_no_spelling P s) i
 
-abbrev pub IsSharedType : Program → List Qualifier → List SourceTree → ℕ → Type 0
-IsSharedType P s trees i = HasNone (has_no_spelling P s) × IsFirst (has_shared_type P s trees) i
+abbrev pub IsNameTaken : Bool → Program → List Qualifier → List SourceTree → ℕ → Type 0
+IsNameTaken imports P s trees i = HasNone (has_no_spelling P s) × IsFirst (has_taken_name imports P s trees) i
+
+abbrev pub IsSharedType : Bool → Program → List Qualifier → List SourceTree → ℕ → Type 0
+IsSharedType imports P s trees i = HasNone (has_no_spelling P s) × HasNone (has_taken_name imports P s trees) × IsFirst (has_shared_type P s trees) i
 
 abbrev pub IsTooLarge : Bool → Program → List Qualifier → List (List ℕ) → List (List Token) → List SourceTree → ℕ → Type 0
-IsTooLarge imports P s texts tokens trees k = HasNone (has_no_spelling P s) × HasNone (has_shared_type P s trees) × IsFirst (is_too_large (annotated imports P s texts tokens trees)) k
+IsTooLarge imports P s texts tokens trees k = HasNone (has_no_spelling P s) × HasNone (has_taken_name imports P s trees) × HasNone (has_shared_type P s trees) × IsFirst (is_too_large (annotated imports P s texts tokens trees)) k
 
 pub record Annotated (imports : Bool) (P : Program) (s : List Qualifier) (texts : List (List ℕ)) (tokens : List (List Token)) (trees : List SourceTree) (new : List (List ℕ)) : Type 0 where
   pub spelled : HasNone (has_no_spelling P s)
+  pub named : HasNone (has_taken_name imports P s trees)
   pub alone : HasNone (has_shared_type P s trees)
   pub are : new ≡ annotated imports P s texts tokens trees
   pub small : HasNone (is_too_large new)

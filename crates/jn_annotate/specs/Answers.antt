@@ -7,16 +7,17 @@ use Rattle.jn_points.specs.declared.program.Program.{Program}
 use Rattle.jn_trees.specs.declared.token.Token.{Token}
 use Rattle.jn_trees.specs.Trees.{SourceTree}
 use Rattle.jn_annotate.specs.declared.annotating.AnnotateFault.{AnnotateFault}
-use Rattle.jn_annotate.specs.declared.annotating.AnnotateFault.TheVariants.{NoSpelling, SharedType, TooLarge}
-use Rattle.jn_annotate.specs.Annotated.{IsNoSpelling, IsSharedType, IsTooLarge, IsFirst, is_too_large}
+use Rattle.jn_annotate.specs.declared.annotating.AnnotateFault.TheVariants.{NoSpelling, NameTaken, SharedType, TooLarge}
+use Rattle.jn_annotate.specs.Annotated.{IsNoSpelling, IsNameTaken, IsSharedType, IsTooLarge, IsFirst, is_too_large}
 
 module _ (imports : Bool) (P : Program) (s : List Qualifier) (texts : List (List ℕ)) (tokens : List (List Token)) (trees : List SourceTree) where
   abbrev pub IsFaultOf : AnnotateFault → Type 0
   IsFaultOf (NoSpelling slot) = IsNoSpelling P s slot.0
-  IsFaultOf (SharedType slot) = IsSharedType P s trees slot.0
+  IsFaultOf (NameTaken slot) = IsNameTaken imports P s trees slot.0
+  IsFaultOf (SharedType slot) = IsSharedType imports P s trees slot.0
   IsFaultOf (TooLarge file) = IsTooLarge imports P s texts tokens trees file.0
 
-  -- want of memory tells nothing
+  -- want of memory says nothing
   abbrev pub IsWhyRefused : Fail AnnotateFault → Type 0
   IsWhyRefused (Refused fault) = IsFaultOf fault
   IsWhyRefused OutOfMemory = Unit {0}
@@ -25,5 +26,6 @@ module _ (imports : Bool) (P : Program) (s : List Qualifier) (texts : List (List
 abbrev pub IsLargeOf : List (List ℕ) → Fail AnnotateFault → Type 0
 IsLargeOf texts (Refused (TooLarge file)) = IsFirst (is_too_large texts) file.0
 IsLargeOf texts (Refused (NoSpelling slot)) = ⊥
+IsLargeOf texts (Refused (NameTaken slot)) = ⊥
 IsLargeOf texts (Refused (SharedType slot)) = ⊥
 IsLargeOf texts OutOfMemory = Unit {0}

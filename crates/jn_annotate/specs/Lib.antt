@@ -1,6 +1,7 @@
 pub mod Words
 pub mod Insertions
 pub mod Imports
+pub mod Taken
 pub mod Annotated
 pub mod Puts
 pub mod Shared

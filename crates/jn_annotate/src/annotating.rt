@@ -1,7 +1,7 @@
 //! The texts of files with the words of what was inferred of them.
 ghost use Rattle.std.specs.Prelude.{◌≡◌, ◌<◌, ◌^◌, drop, length, map, IfErr, IfOk};
 ghost use Rattle.jn_trees.specs.View.{file_view};
-ghost use Rattle.jn_annotate.specs.Annotated.{annotated_from, Annotated, has_no_spelling, HasNone, is_too_large};
+ghost use Rattle.jn_annotate.specs.Annotated.{annotated_from, Annotated, has_no_spelling, has_taken_name, HasNone, is_too_large};
 ghost use Rattle.jn_annotate.specs.Answers.{IsLargeOf, IsWhyRefused};
 ghost use Rattle.jn_annotate.specs.Imports.{with_lines};
 ghost use Rattle.jn_annotate.specs.Insertions.{in_file};
@@ -13,6 +13,7 @@ use crate::lines;
 use crate::members::next_methods;
 use crate::refusals::{first_too_large, first_unspelled};
 use crate::shared::first_shared;
+use crate::taken::first_taken;
 use jn_base::lists::put;
 use jn_base::{Fail, FileNo, OutOfMemory, Seq, SlotNo};
 use jn_points::{Field, Method, Program};
@@ -25,6 +26,8 @@ use std::alloc::Global;
 pub enum AnnotateFault {
     /// No annotation says the qualifier of this slot: it is inferred, and nothing but null, or nothing at all, is sent to it.
     NoSpelling(SlotNo),
+    /// Imports are asked for, and a type of the files has the name of an annotation that says the qualifier of this slot (JLS 6.4.1).
+    NameTaken(SlotNo),
     /// The slot is of a field that shares its type with one of another qualifier (JLS 8.3).
     SharedType(SlotNo),
     /// The file's new text has more than 1,048,576 bytes.
@@ -120,9 +123,9 @@ fn sized(texts: Vec<Seq<u8>>) -> Result<Vec<Seq<u8>>, Fail<AnnotateFault>>
     }
 }
 
-/// The same of files each of whose inferred slots has a spelling.
+/// The same of files each of whose inferred slots has a spelling by words that can be imported, where imports are asked for.
 #[tactic(auto, using(crate::proofs::Texts::is_annotated, crate::proofs::Texts::is_large))]
-fn annotate_spelled(
+fn annotate_named(
     alloc: Global,
     imports: bool,
     texts: &[Seq<u8>],
@@ -132,6 +135,8 @@ fn annotate_spelled(
     sig: &Sig,
 ) -> Result<Vec<Seq<u8>>, Fail<AnnotateFault>>
     requires spelled { HasNone (has_no_spelling program.now sig.now) }
+    requires named { HasNone
+        (has_taken_name imports program.now sig.now (map file_view trees.now)) }
     requires files { length texts.now < 2 ^ 32 }
     ensures annotated { IfOk result (λ new. Annotated imports program.now sig.now texts.now
         tokens.now
@@ -153,6 +158,32 @@ fn annotate_spelled(
     }
 }
 
+/// The same of files each of whose inferred slots has a spelling.
+fn annotate_spelled(
+    alloc: Global,
+    imports: bool,
+    texts: &[Seq<u8>],
+    tokens: &[Seq<Token>],
+    trees: &[FileTree],
+    program: &Program,
+    sig: &Sig,
+) -> Result<Vec<Seq<u8>>, Fail<AnnotateFault>>
+    requires slots { length sig.now ≡ length program.now.slots }
+    requires spelled { HasNone (has_no_spelling program.now sig.now) }
+    requires files { length texts.now < 2 ^ 32 }
+    ensures annotated { IfOk result (λ new. Annotated imports program.now sig.now texts.now
+        tokens.now
+        (map file_view trees.now) new.items) }
+    ensures refused { IfErr result (λ fail. IsWhyRefused imports program.now sig.now texts.now
+        tokens.now
+        (map file_view trees.now) fail) }
+{
+    match first_taken(imports, program, sig, trees) {
+        Some(slot) => Err(Fail::Refused(AnnotateFault::NameTaken(SlotNo(slot)))),
+        None => annotate_named(alloc, imports, texts, tokens, trees, program, sig),
+    }
+}
+
 /// The texts of files with the words of what was inferred of them: for each inferred slot what says its qualifier, before its type, or as a receiver
 /// (Checker Framework manual, 3.2 and 3.8). The program and its signature are those of the trees, by either choice of what is inferred, and
 /// the tokens are those of the texts. Where imports are asked for, a file that gets a word which it doesn't import gets a line that imports
@@ -160,7 +191,8 @@ fn annotate_spelled(
 ///
 /// # Errors
 ///
-/// In this order: the least inferred slot that no annotation says; the least slot of an inferred field whose qualifier isn't that of the
+/// In this order: the least inferred slot that no annotation says; where imports are asked for, the least inferred slot of which a type of
+/// the files has the name of an annotation that says it; the least slot of an inferred field whose qualifier isn't that of the
 /// first field of its declaration; the first file whose new text is larger than 1 MiB; want of memory.
 pub fn annotate(
     alloc: Global,

@@ -12,6 +12,7 @@ pub mod positions;
 pub mod refusals;
 pub mod shared;
 pub mod steps;
+pub mod taken;
 pub mod words;
 
 pub use annotating::{AnnotateFault, annotate};

@@ -22,7 +22,7 @@ use Rattle.jn_heads.specs.Types.{slots_of_all}
 use Rattle.jn_lowering.specs.Bodies.{with_bodies}
 use Rattle.jn_lowering.specs.BodyRows.{rows_of_bodies}
 use Rattle.jn_lowering.specs.FileRows.{files_rows, import_rows, outside_rows, package_behind, package_row, types_rows}
-use Rattle.jn_program_law.specs.FileProgram.{inferring, j_rows, rows_of_files}
+use Rattle.jn_program_law.specs.FileProgram.{inferring, j_rows, program_of_files, rows_of_files}
 use Rattle.jn_program_law.specs.FileSources.{numbered, sources, type_trees, types_of, unwritten_tree}
 use Rattle.jn_annotate.specs.declared.imports.Package.{Package}
 use Rattle.jn_annotate.specs.Imports.{import_of}
@@ -135,6 +135,9 @@ module _ (xs ys : List PlacedFile) (h : AllLined xs ys) where
       ap (λ z. built z (marks infer ys) (types_of ys)) heads_same
       ∙ ap (λ z. built (heads xs) z (types_of ys)) (by_types (map (class_marks infer)) xs ys h)
       ∙ ap (built (heads xs) (marks infer xs)) types_same
+
+  pub files_same : program_of_files ys ≡ program_of_files xs
+  files_same = ap (λ z. with_bodies (table z) (sources ys)) heads_same ∙ ap (λ z. with_bodies (table (heads xs)) (numbered 0 (unwritten_tree [] ∷ flat_map type_trees z))) types_same
 
   bodies_same : rows_of_bodies (table (heads ys)) (sources ys) ≡ rows_of_bodies (table (heads xs)) (sources xs)
   bodies_same = ap (λ z. rows_of_bodies (table z) (sources ys)) heads_same ∙ ap (λ z. rows_of_bodies (table (heads xs)) (numbered 0 (unwritten_tree [] ∷ flat_map type_trees z))) types_same

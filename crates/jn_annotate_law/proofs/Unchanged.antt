@@ -22,8 +22,9 @@ use Rattle.jn_splice_law.specs.Inserted.{inserted}
 use Rattle.jn_splice_law.specs.Woven.{piece}
 use Rattle.jn_annotate.specs.Words.{both_texts, is_unspelled, nullity_text}
 use Rattle.jn_annotate.specs.Imports.{with_lines}
+use Rattle.jn_annotate.specs.Taken.{is_taken, taken_words}
 use Rattle.jn_annotate.specs.Insertions.{at_head, at_member, at_members, at_parameters, at_receiver, at_result, at_type, fields_in, file_fields, file_methods, first_slot, in_file, in_type, in_types, inferred_qual, methods_in, qual_where, type_fields, type_methods}
-use Rattle.jn_annotate.specs.Annotated.{Annotated, HasNone, annotated, annotated_from, differs, has_no_spelling, is_too_large, members_of, same_qual, shared_from, shared_in, shared_in_members, shared_in_types, slot_inferred}
+use Rattle.jn_annotate.specs.Annotated.{Annotated, HasNone, annotated, annotated_from, differs, has_no_spelling, has_taken_name, is_too_large, members_of, same_qual, shared_from, shared_in, shared_in_members, shared_in_types, slot_inferred}
 use Rattle.jn_annotate_law.specs.Meaning.{AllPlaced, TextsLexed}
 use Rattle.jn_annotate_law.specs.Again.{NoneInferred}
 
@@ -121,6 +122,10 @@ module _ (P : Program) (s : List Qualifier) (none : NoneInferred P.slots) where
   spelled_all : HasNone (has_no_spelling P s)
   spelled_all i = ap (λ b. b && is_unspelled (slice_index_or s i no_qual)) (none i)
 
+  -- where no slot is inferred, none gets a word that is taken
+  named_all : (imports : Bool) (trees : List SourceTree) → HasNone (has_taken_name imports P s trees)
+  named_all imports trees i = ap (λ b. b && imports && is_taken (taken_words trees) P (slice_index_or s i no_qual) i) (none i)
+
   differs_none : (q : Qualifier) (i : ℕ) (f : Field) → differs P s q i f ≡ false
   differs_none q i f = ap (λ b. is_slot i f.slot && b && not (same_qual (slot_qual s f.slot) q)) (not_inferred f.slot) ∙ either (is_slot i f.slot)
     where
@@ -152,6 +157,7 @@ module _ (P : Program) (s : List Qualifier) (none : NoneInferred P.slots) where
   pub annotated_again : (imports : Bool) (texts names : List (List ℕ)) (tokens : List (List Token)) (trees : List PlacedFile) (known : List (List ℕ)) → TextsLexed 0 known texts tokens names → AllPlaced tokens trees → HasNone (is_too_large texts) → Annotated imports P s texts tokens (map forget_file trees) texts
   annotated_again imports texts names tokens trees known l p small = record {
     spelled = spelled_all;
+    named = named_all imports (map forget_file trees);
     alone = λ i. files_share_none (map forget_file trees) P.fields i;
     are = sym (unchanged imports P s texts names tokens trees known none l p);
     small = small;

@@ -1,5 +1,5 @@
 //! Laws of annotated files.
-ghost use Rattle.std.specs.Prelude.{◌≡◌, ◌<◌, ◌^◌, ◌∷◌, [], Bool, drop, false, length, List, map, slice_get, slice_index_or, true, ℕ};
+ghost use Rattle.std.specs.Prelude.{◌≡◌, ◌<◌, ◌^◌, ◌∷◌, ◌++◌, [], Bool, drop, false, length, List, map, slice_get, slice_index_or, take, true, ℕ};
 ghost use Rattle.jn_base.specs.declared.number.FileNo.{FileNo};
 ghost use Rattle.jn_base.specs.declared.infer.Infer.{Infer};
 ghost use Rattle.jn_annotate_law.specs.Again.{NoneInferred};
@@ -249,6 +249,22 @@ pub fn annotating_keeps_meaning()
         (noted_files (inferring infer trees).slots s (map forget_file trees)
         (inferring infer trees).fields (drop 1 (inferring infer trees).methods))
         new }
+{}
+
+/// Where only the first files were replaced by their annotated texts, however many, the files as they stand then lex and parse, with the
+/// same names, and have the program of the files but for places and for what is inferred of it and what slots start with.
+pub fn mixed_files_have_alike_programs()
+    ensures { (imports : Bool) (slots : List SlotInfo) (s : List Qualifier)
+        (texts names : List (List ℕ)) (tokens : List (List Token)) (trees : List PlacedFile) (count : ℕ)
+        → TextsLexed 0 known_names texts tokens names → AllPlaced tokens trees
+        → (others : List (List Token)) × (places : List PlacedFile)
+        × TextsLexed 0 known_names
+        (take count
+        (annotated_from imports slots s texts tokens (map forget_file trees)
+        (program_of_files trees).fields (drop 1 (program_of_files trees).methods))
+        ++ drop count texts) others names
+        × AllPlaced others places
+        × Alike (program_of_files trees) (program_of_files places) }
 {}
 
 /// So does what `annotate` answers, of trees in memory.

@@ -115,7 +115,7 @@ fn run_over<R: Threads + Sync>(
     let mut files = MemFiles::new(alloc, held, failing);
     let mut sink = sink_of(alloc, case.write)?;
     let special = texts(alloc, &case.special)?;
-    let mut targets = MemTargets::with_special(alloc, case.replace.into(), special);
+    let mut targets = MemTargets::over(alloc, case.replace.into(), special, Vec::new(alloc));
     let status = annotate_files(
         threads,
         alloc,

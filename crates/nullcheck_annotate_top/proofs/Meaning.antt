@@ -1,5 +1,5 @@
 -- Annotated texts of files mean what the files do.
-use Rattle.std.proofs.Common.{◌≡◌, ℕ, Bool, ◌+◌, ◌<◌, ◌^◌, List, [], ◌∷◌, cond, length, map, ap, ◌∙◌, subst}
+use Rattle.std.proofs.Common.{◌≡◌, ℕ, Bool, ◌+◌, ◌<◌, ◌^◌, List, [], ◌∷◌, ◌++◌, cond, drop, length, map, take, sym, ap, ◌∙◌, subst}
 use Rattle.jn_base.specs.declared.infer.Infer.{Infer}
 use Rattle.jn_base.specs.declared.place.Row.{Row}
 use Rattle.jn_known.specs.Known.{known_names}
@@ -8,16 +8,17 @@ use Rattle.jn_trees.specs.declared.token.Token.{Token}
 use Rattle.jn_places.specs.Placed.{PlacedFile}
 use Rattle.jn_places.specs.Forget.{forget_file}
 use Rattle.jn_points.specs.declared.program.Program.{Program}
+use Rattle.jn_points.specs.declared.program.SlotInfo.{SlotInfo}
 use Rattle.jn_points.specs.Regular.{Regular}
 use Rattle.jn_inference_law.specs.Solution.{IsLeastSignature}
 use Rattle.jn_declaration_rules.specs.Rows.{no_rows}
-use Rattle.jn_program_law.specs.FileProgram.{inferring, j_rows, rows_of_files}
+use Rattle.jn_program_law.specs.FileProgram.{inferring, j_rows, program_of_files, rows_of_files}
 use Rattle.jn_front.specs.declared.source.SourceFile.{SourceFile}
 use Rattle.jn_front.specs.Phases.{ArePlaced, LexedFrom}
-use Rattle.jn_annotate.specs.Annotated.{Annotated}
+use Rattle.jn_annotate.specs.Annotated.{Annotated, annotated, annotated_from}
 use Rattle.jn_annotate_law.specs.Meaning.{AllPlaced, TextsLexed}
 use Rattle.jn_typed_files.specs.Phases.{ProgramOf, lowering_rows, table_rows}
-use Rattle.nullcheck_annotate_top.specs.Kept.{KeptFiles, KeptTrees}
+use Rattle.nullcheck_annotate_top.specs.Kept.{HaveProgram, KeptBetween, KeptFiles, KeptTrees}
 use Rattle.nullcheck_annotate_top.specs.Study.{AreAnnotated, texts_of, tokens_of, trees_of}
 
 -- the law of what annotating keeps
@@ -57,3 +58,21 @@ keeps_meaning law infer imports files new a =
     regular.few.methods
     (subst (λ (Q : Program). IsLeastSignature Q a.solved.signature) of.is a.solved.least)
     (subst (λ (Q : Program). Annotated imports Q a.solved.signature (texts_of files) (tokens_of infer files a.solved) (trees_of infer files a.solved) new) of.is a.are)
+
+-- the law of files of which only the first ones were replaced
+abbrev pub KeepsProgram : Type 0
+KeepsProgram =
+    (imports : Bool) (slots : List SlotInfo) (s : List Qualifier) (texts names : List (List ℕ)) (tokens : List (List Token)) (trees : List PlacedFile) (count : ℕ)
+    → TextsLexed 0 known_names texts tokens names → AllPlaced tokens trees
+    → HaveProgram names trees (take count (annotated_from imports slots s texts tokens (map forget_file trees) (program_of_files trees).fields (drop 1 (program_of_files trees).methods)) ++ drop count texts)
+
+pub keeps_program : KeepsProgram → (infer : Infer) (imports : Bool) (files : List SourceFile) (new : List (List ℕ)) (a : AreAnnotated infer imports files new) (count : ℕ) → KeptBetween infer imports files new a count
+keeps_program law infer imports files new a count =
+    let of : ProgramOf infer files a.solved.names a.solved.P = a.solved.of_files.of_files in
+    let parsed = of.lowered.declared.parsed in
+    let s = a.solved.signature in
+    let tokens = of.tokens in
+    let bare = trees_of infer files a.solved in
+    let made : new ≡ annotated imports (inferring infer of.trees) s (texts_of files) tokens bare = a.are.are ∙ ap (λ (Q : Program). annotated imports Q s (texts_of files) tokens bare) of.is in
+    subst (λ xs. HaveProgram a.solved.names of.trees (take count xs ++ drop count (texts_of files))) (sym made)
+    (law imports (inferring infer of.trees).slots s (texts_of files) a.solved.names tokens of.trees count (lexed_texts 0 _ files tokens a.solved.names parsed.lexed) (placed_all tokens of.trees parsed.parsed))

@@ -5,7 +5,7 @@ use Rattle.jn_base.specs.declared.place.Place.{Place}
 use Rattle.jn_base.specs.declared.place.Span.{Span}
 use Rattle.jn_base.specs.Place.{place_in}
 use Rattle.jn_annotate.specs.declared.annotating.AnnotateFault.{AnnotateFault}
-use Rattle.jn_annotate.specs.declared.annotating.AnnotateFault.TheVariants.{NoSpelling, SharedType, TooLarge}
+use Rattle.jn_annotate.specs.declared.annotating.AnnotateFault.TheVariants.{NoSpelling, NameTaken, SharedType, TooLarge}
 use Rattle.jn_annotate_cli.specs.declared.wanted.Mode.{Mode}
 use Rattle.jn_annotate_cli.specs.declared.wanted.Mode.TheVariants.{Show, Check, Write}
 use Rattle.jn_command.specs.declared.report.Report.TheVariants.{Refused as RefusedReport}
@@ -25,6 +25,7 @@ use Rattle.nullcheck_annotate_top.specs.Study.{IsStudy}
 
 abbrev pub fault_code : AnnotateFault → List ℕ
 fault_code (NoSpelling slot) = codes "NO-SPELLING"
+fault_code (NameTaken slot) = codes "NAME-TAKEN"
 fault_code (SharedType slot) = codes "SHARED-TYPE"
 fault_code (TooLarge file) = codes "TOO-LARGE"
 
@@ -42,6 +43,7 @@ place_line files fault span = line_in (slice_get files span.file.0) span (fault_
 -- what can be done about it, in a line of its own
 abbrev pub fault_cure : AnnotateFault → List ℕ
 fault_cure (NoSpelling slot) = codes "cure: write the annotation that is meant, or leave out what takes nothing but null\n"
+fault_cure (NameTaken slot) = codes "cure: give the type that has the annotation's name another one, or leave --imports out\n"
 fault_cure (SharedType slot) = codes "cure: declare the fields one by one\n"
 fault_cure (TooLarge file) = codes "cure: split the file\n"
 

@@ -101,6 +101,7 @@ pub(crate) fn fault_span(program: &Program, fault: AnnotateFault) -> Span
 {
     match fault {
         AnnotateFault::NoSpelling(slot) => slot_span(program, slot.0),
+        AnnotateFault::NameTaken(slot) => slot_span(program, slot.0),
         AnnotateFault::SharedType(slot) => slot_span(program, slot.0),
         AnnotateFault::TooLarge(file) => file_start(file.0),
     }
@@ -112,6 +113,7 @@ fn fault_code(fault: AnnotateFault) -> &'static [u8]
 {
     match fault {
         AnnotateFault::NoSpelling(_) => b"NO-SPELLING",
+        AnnotateFault::NameTaken(_) => b"NAME-TAKEN",
         AnnotateFault::SharedType(_) => b"SHARED-TYPE",
         AnnotateFault::TooLarge(_) => b"TOO-LARGE",
     }
@@ -182,6 +184,9 @@ fn fault_cure(fault: AnnotateFault) -> &'static [u8]
     match fault {
         AnnotateFault::NoSpelling(_) => {
             b"cure: write the annotation that is meant, or leave out what takes nothing but null\n"
+        }
+        AnnotateFault::NameTaken(_) => {
+            b"cure: give the type that has the annotation's name another one, or leave --imports out\n"
         }
         AnnotateFault::SharedType(_) => b"cure: declare the fields one by one\n",
         AnnotateFault::TooLarge(_) => b"cure: split the file\n",

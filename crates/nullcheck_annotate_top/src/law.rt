@@ -1,11 +1,11 @@
-//! A law of annotated files.
+//! Laws of annotated files.
 ghost use Rattle.std.specs.Prelude.{Bool, List, ℕ};
 ghost use Rattle.jn_base.specs.declared.infer.Infer.{Infer};
 ghost use Rattle.jn_front.specs.declared.source.SourceFile.{SourceFile};
-ghost use Rattle.nullcheck_annotate_top.specs.Kept.{KeptFiles};
+ghost use Rattle.nullcheck_annotate_top.specs.Kept.{KeptBetween, KeptFiles};
 ghost use Rattle.nullcheck_annotate_top.specs.Study.{AreAnnotated};
 
-use jn_annotate_law::law::annotating_keeps_meaning;
+use jn_annotate_law::law::{annotating_keeps_meaning, mixed_files_have_alike_programs};
 
 /// What is shown or written of files means the same as they do: the new texts lex and parse, with the same names, and have no row T or J
 /// before types; their program is that of the files but for places, nothing of it is inferred, what is written is its least signature,
@@ -16,4 +16,14 @@ pub fn annotated_files_mean_the_same()
         (a : AreAnnotated infer imports files new) → KeptFiles infer imports files new a }
 {
     annotating_keeps_meaning();
+}
+
+/// Where a fault of writing left only the first files replaced, however many, the files as they stand then lex and parse, with the same
+/// names, and have the program of the files but for places and for what is inferred of it.
+pub fn partly_written_files_have_the_program()
+    ensures { (infer : Infer) (imports : Bool) (files : List SourceFile) (new : List (List ℕ))
+        (a : AreAnnotated infer imports files new) (count : ℕ)
+        → KeptBetween infer imports files new a count }
+{
+    mixed_files_have_alike_programs();
 }

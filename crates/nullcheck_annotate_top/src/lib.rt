@@ -1,7 +1,7 @@
 //! The top call of annotated sources: words in, a unified diff or replaced files out.
 //!
 //! [`annotate_files`] reads the files that the words name, finds what they come to ([`study::study_files`]: `specs/Study.antt`), and shows, counts or
-//! writes what changes in them (`specs/Output.antt`). `specs/Answer.antt` says what stands behind each status.
+//! writes what changes in them (`specs/Output.antt`). `specs/Answer.antt` says what each status means.
 #![tactic(auto)]
 
 pub mod answer;

@@ -50,7 +50,7 @@ pub fn annotate_files<R: Threads + Sync, F: Files, K: Sink, T: Targets, G: Gate 
 ) -> Status
     // What is written, what is replaced and the status are those that the words and the files define: the files that the words name, with
     // the bytes that the reads of this call gave; their annotated texts, under the least signature of their program. Nothing is written or
-    // replaced before all of it is known: behind a read fault or want of memory nothing was. Behind a write fault a prefix of the bytes
+    // replaced before all of it is known: after a read fault or want of memory nothing was. After a write fault a prefix of the bytes
     // went out, or the first ones of the files were replaced, each whole.
     ensures answer { Answers (reading (F.held files.old) (F.gave files.old) (F.gave files.new))
         (wanted_of (map string_bytes words.now))

@@ -1,0 +1,5 @@
+class Held {
+  private int n() { return 1; }
+  int m() { return this.n(); }
+}
+class NonNull { }

@@ -1,0 +1,4 @@
+class Named {
+  private String s = "s";
+}
+class NonNull { }

@@ -1,0 +1,4 @@
+class Nulls {
+  private String s = "s";
+}
+class Nullable { }

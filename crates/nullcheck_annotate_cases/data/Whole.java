@@ -1,0 +1,4 @@
+class Whole {
+  private String s = "s";
+}
+class Initialized { }
