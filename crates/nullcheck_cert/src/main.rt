@@ -1,95 +1,60 @@
 //! Does what the words ask for, says on standard error what went wrong, and ends with the status's number.
 #![tactic(auto)]
 
-use jn_base::OutOfMemory;
+mod input;
+
+use input::InputFiles;
 use jn_gate::Straight;
-use jn_outside::{HostFault, HostFiles, HostSink};
+use jn_host::Host;
+use jn_outside::{HostFiles, HostSink};
 use jn_targets::{HostTargets, TargetFault};
-use nullcheck_cert_check::{Status, check, usage_reason};
-use nullcheck_cert_write::write_cert;
-use std::env;
-use std::io::{self, ErrorKind};
+use nullcheck_cert_check::{Status, check};
+use nullcheck_cert_write::{write_cert, write_reason};
+use std::io;
 use std::process::ExitCode;
 use std::thread::Threads;
 
-/// The number with which the program ends where a word is not text.
-const NOT_TEXT: u8 = 8;
-
-/// The words behind the program's name.
-fn words(rt: &HostRuntime) -> io::Result<Vec<String>> {
-    let mut words = Vec::new(rt.alloc());
-    for word in env::args(rt)?.skip(1) {
-        words.push(word)?;
-    }
-    Ok(words)
-}
-
-/// Says which file couldn't be opened or read, and why.
-fn tell_read(rt: &HostRuntime, fault: Option<&HostFault>) -> io::Result<()> {
-    let Some(fault) = fault else {
-        return eprintln!(rt; "nullcheck_cert: a file can't be read");
-    };
-    let name = match &fault.name {
-        Some(name) => name.as_str(),
-        None => "a file",
-    };
-    let call = if fault.opening { "open" } else { "read" };
-    let reason = fault.reason;
-    eprintln!(rt; "nullcheck_cert: can't {call} {name}: {reason}")
-}
-
 /// Says why a file can't be stored, and what to remove where something stands in the way.
-fn tell_store(rt: &HostRuntime, fault: &TargetFault) -> io::Result<()> {
+fn say_store(host: &Host<HostRuntime>, fault: &TargetFault) {
     let name = match &fault.name {
         Some(name) => name.as_str(),
         None => "a file",
     };
     let reason = fault.reason;
-    eprintln!(rt; "nullcheck_cert: can't write {name}: {reason}")?;
+    host.say(format_args!("can't write {name}: {reason}"));
     if let Some(left) = &fault.left {
         let left = left.as_str();
-        eprintln!(rt; "nullcheck_cert: {left} stands in the way: remove it")?;
+        host.say(format_args!("{left} stands in the way: remove it"));
     }
-    Ok(())
 }
 
 /// Says why the output can't be written, or the file that was to be stored.
-fn tell_write(
-    rt: &HostRuntime,
-    fault: Option<io::Error>,
-    stored: Option<&TargetFault>,
-) -> io::Result<()> {
-    if let Some(stored) = stored {
-        return tell_store(rt, stored);
-    }
-    match fault {
-        Some(reason) => {
-            eprintln!(rt; "nullcheck_cert: can't write to standard output: {reason}")
-        }
-        None => eprintln!(rt; "nullcheck_cert: can't write to standard output"),
-    }
-}
-
-fn tell_no_memory(rt: &HostRuntime) -> io::Result<()> {
-    eprintln!(rt; "nullcheck_cert: no memory was found")
-}
-
-/// Says on standard error what went wrong, where the status is none of a verdict. A fault there is none of the program's.
-fn tell(
-    rt: &HostRuntime,
-    status: Status,
-    words: &[String],
-    files: &HostFiles<HostRuntime>,
-    out: &HostSink<HostRuntime>,
+fn say_write(
+    host: &Host<HostRuntime>,
+    reason: Option<io::Error>,
     target: &HostTargets<HostRuntime>,
 ) {
-    let _told = match status {
-        Status::ReadFault => tell_read(rt, files.fault()),
-        Status::WriteFault => tell_write(rt, out.fault(), target.fault()),
-        Status::OutOfMemory => tell_no_memory(rt),
-        Status::Usage => eprintln!(rt; "nullcheck_cert: {}", usage_reason(words)),
-        _ => Ok(()),
-    };
+    match target.fault() {
+        Some(fault) => say_store(host, fault),
+        None => host.cannot_write(reason),
+    }
+}
+
+/// Says why the certificate or a file couldn't be read.
+fn say_read(host: &Host<HostRuntime>, files: &InputFiles<HostRuntime>) {
+    match files.input_fault() {
+        Some(reason) => host.cannot_hear(Some(reason)),
+        None => host.cannot_read(files.fault()),
+    }
+}
+
+/// Says what went wrong, where the status is none of a verdict and of no fault.
+fn say_other(host: &Host<HostRuntime>, status: Status, words: &[String]) {
+    match status {
+        Status::OutOfMemory => host.no_memory(),
+        Status::Usage => host.say(write_reason(words)),
+        _ => {}
+    }
 }
 
 /// Whether the words ask for a certificate to be written.
@@ -100,40 +65,71 @@ fn is_write(words: &[String]) -> bool {
     }
 }
 
-/// Does what the words ask for.
-fn done<R: Threads + Sync>(rt: &HostRuntime, threads: &R, words: &[String]) -> Status {
+/// Writes the certificate that the words ask for, and says why it can't.
+fn done_write<R: Threads + Sync>(
+    rt: &HostRuntime,
+    threads: &R,
+    host: &Host<HostRuntime>,
+    words: &[String],
+) -> Status {
     let alloc = rt.alloc();
     let mut files = HostFiles::new(rt, alloc);
     let mut out = HostSink::new(rt);
     let mut target = HostTargets::new(rt, alloc);
-    let status = if is_write(words) {
-        write_cert(
-            threads,
-            &Straight,
-            alloc,
-            words,
-            &mut files,
-            &mut out,
-            &mut target,
-        )
-    } else {
-        check(threads, alloc, words, &mut files, &mut out)
-    };
-    tell(rt, status, words, &files, &out, &target);
+    let status = write_cert(
+        threads,
+        &Straight,
+        alloc,
+        words,
+        &mut files,
+        &mut out,
+        &mut target,
+    );
+    match status {
+        Status::ReadFault => host.cannot_read(files.fault()),
+        Status::WriteFault => say_write(host, out.fault(), &target),
+        _ => say_other(host, status, words),
+    }
     status
 }
 
+/// Checks the certificate that the words name, which is the standard input where they say `-`, and says why it can't.
+fn done_check<R: Threads + Sync>(
+    rt: &HostRuntime,
+    threads: &R,
+    host: &Host<HostRuntime>,
+    words: &[String],
+) -> Status {
+    let alloc = rt.alloc();
+    let mut files = InputFiles::new(rt, alloc);
+    let mut out = HostSink::new(rt);
+    let status = check(threads, alloc, words, &mut files, &mut out);
+    match status {
+        Status::ReadFault => say_read(host, &files),
+        Status::WriteFault => host.cannot_write(out.fault()),
+        _ => say_other(host, status, words),
+    }
+    status
+}
+
+/// Does what the words ask for.
+fn done<R: Threads + Sync>(
+    rt: &HostRuntime,
+    threads: &R,
+    host: &Host<HostRuntime>,
+    words: &[String],
+) -> Status {
+    if is_write(words) {
+        done_write(rt, threads, host, words)
+    } else {
+        done_check(rt, threads, host, words)
+    }
+}
+
 fn main(rt: HostRuntime) -> ExitCode {
-    let words = match words(&rt) {
-        Ok(words) => words,
-        Err(error) if error.kind() == ErrorKind::OutOfMemory => {
-            let _told = tell_no_memory(&rt);
-            return ExitCode::from(Status::OutOfMemory.number());
-        }
-        Err(_) => {
-            let _told = eprintln!(rt; "nullcheck_cert: a word of the command line isn't text");
-            return ExitCode::from(NOT_TEXT);
-        }
-    };
-    ExitCode::from(done(&rt, &rt, &words).number())
+    let host = Host::new(&rt, "nullcheck_cert");
+    match host.words() {
+        Ok(words) => ExitCode::from(done(&rt, &rt, &host, &words).number()),
+        Err(number) => ExitCode::from(number),
+    }
 }

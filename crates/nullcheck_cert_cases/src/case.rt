@@ -1,9 +1,10 @@
-//! A case is one line: the words of a command. Nine words set what lies around it: `hex=FILE` gives the certificate `CERT` the bytes
+//! A case is one line: the words of a command. Ten words set what lies around it: `hex=FILE` gives the certificate `CERT` the bytes
 //! that FILE writes in hexadecimal digits, and `zeros=N` so many zero bytes; `set=AT:VALUE` changes a byte of it, `cut=N` leaves
 //! its first N bytes and `more=N` puts N zero bytes behind them; `read=N` has the Nth call on the source fail, `write=N` the Nth
-//! write, `store=N` the Nth file that is put in place, and `room=N` gives the sink room for N bytes. `times=N` takes the last word
-//! N times.
-use std::alloc::AllocError;
+//! write, `store=N` the Nth file that is put in place, and `room=N` gives the sink room for N bytes. `special=NAME` says that the name
+//! leads to no plain file. `times=N` takes the last word N times.
+use jn_base::Text;
+use std::alloc::{AllocError, Global};
 use std::{fs, io};
 
 /// The room of a sink that never fills.
@@ -24,6 +25,8 @@ pub struct Case {
     pub writes: Vec<u32>,
     /// The file that isn't put in place, from 1; 0 where all are.
     pub store: u32,
+    /// Names that lead to no plain file.
+    pub special: Vec<Text>,
     pub room: u32,
 }
 
@@ -91,7 +94,7 @@ fn take_change(case: &mut Case, word: &str) -> Result<bool, AllocError> {
 }
 
 /// Whether the word says which call fails or how much room there is, which is put into the case then.
-fn take_failure(case: &mut Case, word: &str) -> Result<bool, AllocError> {
+fn take_failure(alloc: Global, case: &mut Case, word: &str) -> Result<bool, AllocError> {
     if let Some(call) = number(word, "read") {
         case.reads.push(call)?;
     } else if let Some(call) = number(word, "write") {
@@ -100,6 +103,8 @@ fn take_failure(case: &mut Case, word: &str) -> Result<bool, AllocError> {
         case.store = call;
     } else if let Some(room) = number(word, "room") {
         case.room = room;
+    } else if let Some(name) = text(word, "special") {
+        case.special.push(Text::of_str(alloc, name)?)?;
     } else {
         return Ok(false);
     }
@@ -137,12 +142,13 @@ pub fn case_of(rt: &HostRuntime, line: &str) -> io::Result<Case> {
         reads: Vec::new(alloc),
         writes: Vec::new(alloc),
         store: 0,
+        special: Vec::new(alloc),
         room: WIDE,
     };
     for word in line.split_whitespace() {
         if take_cert(rt, &mut case, word)?
             || take_change(&mut case, word)?
-            || take_failure(&mut case, word)?
+            || take_failure(alloc, &mut case, word)?
         {
             continue;
         }

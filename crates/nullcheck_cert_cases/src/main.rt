@@ -5,9 +5,10 @@
 mod case;
 
 use case::{Case, case_of};
+use jn_base::{Seq, Text};
 use jn_gate::Straight;
 use jn_outside::{MemFile, MemFiles, MemSink};
-use jn_targets::MemTargets;
+use jn_targets::{MemTargets, Replaced};
 use nullcheck_cert_check::{Status, check};
 use nullcheck_cert_write::write_cert;
 use std::alloc::AllocError;
@@ -43,6 +44,19 @@ fn sink_of(rt: &HostRuntime, case: &Case) -> io::Result<MemSink> {
     }
 }
 
+/// What stands at names before a certificate is written: the case's own certificate, where it has one.
+fn there_of(rt: &HostRuntime, case: &Case) -> io::Result<Vec<Replaced>> {
+    let alloc = rt.alloc();
+    let mut there = Vec::new(alloc);
+    if let Some(bytes) = &case.cert {
+        there.push(Replaced {
+            name: Text::of_str(alloc, CERT)?,
+            bytes: Seq::of_vec(Vec::from_slice(alloc, bytes)?),
+        })?;
+    }
+    Ok(there)
+}
+
 /// Prints bytes in hexadecimal digits, sixteen a line.
 fn print_bytes(rt: &HostRuntime, bytes: &[u8]) -> io::Result<()> {
     for line in bytes.chunks(16) {
@@ -68,11 +82,16 @@ fn run_write<R: Threads + Sync>(
     rt: &HostRuntime,
     threads: &R,
     case: &Case,
+    there: Vec<Replaced>,
     files: &mut MemFiles,
     sink: &mut MemSink,
 ) -> io::Result<()> {
     let alloc = rt.alloc();
-    let mut targets = MemTargets::new(alloc, case.store as u64);
+    let mut special = Vec::new(alloc);
+    for name in &case.special {
+        special.push(Text::of_str(alloc, name.as_str())?)?;
+    }
+    let mut targets = MemTargets::over(alloc, case.store as u64, special, there);
     let status = write_cert(
         threads,
         &Straight,
@@ -119,12 +138,13 @@ fn run<R: Threads + Sync>(rt: &HostRuntime, threads: &R, line: &str) -> io::Resu
     let alloc = rt.alloc();
     println!(rt; "== {line}")?;
     let mut case = case_of(rt, line)?;
+    let there = there_of(rt, &case)?;
     let held = held_files(rt, &mut case)?;
     let failing = Vec::from_slice(alloc, &case.reads)?;
     let mut files = MemFiles::new(alloc, held, failing);
     let mut sink = sink_of(rt, &case)?;
     if is_write(&case.words) {
-        run_write(rt, threads, &case, &mut files, &mut sink)
+        run_write(rt, threads, &case, there, &mut files, &mut sink)
     } else {
         run_check(rt, threads, &case, &mut files, &mut sink)
     }

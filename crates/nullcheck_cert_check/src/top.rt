@@ -56,7 +56,7 @@ fn answer_inputs<R: Threads + Sync, K: Sink>(
     }
 }
 
-/// Reads a certificate and the files of these names, and tells the verdict.
+/// Reads a certificate and the files of these names, and says the verdict.
 fn answer_command<R: Threads + Sync, F: Files, K: Sink>(
     rt: &R,
     alloc: Global,
@@ -96,7 +96,7 @@ fn answer_command<R: Threads + Sync, F: Files, K: Sink>(
 }
 
 /// Does what the words ask for: `check [--infer NAME] CERT FILE..`. Reads the certificate CERT and then the files, makes the files'
-/// program with the choice of members that are inferred, and tells whether the bytes are a certificate of it: at most 67,108,864
+/// program with the choice of members that are inferred, and says whether the bytes are a certificate of it: at most 67,108,864
 /// bytes that are the form of a signature and of tables that hold. It solves for nothing and searches for nothing: it looks at each
 /// point of the program once. One worker does all of it, so that no thread is started, whatever `rt` could give.
 ///
@@ -110,7 +110,7 @@ pub fn check<R: Threads + Sync, F: Files, K: Sink>(
 ) -> Status
     // Status and bytes are those of the verdict on the certificate and the files that the words name, with the bytes that the reads
     // of this call gave: the rows of the first phase that has any; or what fails first of the certificate, exactly as `check_cert`
-    // judges it; or that it holds. Behind a write fault a prefix of the bytes went out, and nothing behind a read fault or want of
+    // judges it; or that it holds. After a write fault a prefix of the bytes went out, and nothing after a read fault or want of
     // memory.
     ensures answer { Answers (reading (F.held files.old) (F.gave files.old) (F.gave files.new))
         (asked_of (codes "check") (map string_bytes words.now)) (K.written out.old)
@@ -124,7 +124,7 @@ pub fn check<R: Threads + Sync, F: Files, K: Sink>(
     ensures uncertified { result ≡ Status.Rejected
         → Uncertified (reading (F.held files.old) (F.gave files.old) (F.gave files.new))
         (asked_of (codes "check") (map string_bytes words.now)) }
-    // No other status stands behind a verdict but that of files that are refused.
+    // A verdict has no other status but that of files that are refused.
     ensures never { (result ≡ Status.RunFault → ⊥) × (result ≡ Status.Stopped → ⊥) }
     // Where the words are a command's and no fault is counted, all is written, or no memory was found.
     ensures complete { (Rose (F.faults files.old) (F.faults files.new) → ⊥)

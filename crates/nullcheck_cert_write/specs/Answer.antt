@@ -6,7 +6,8 @@ use Rattle.jn_outside.specs.declared.given.Given.{Given}
 use Rattle.jn_outside.specs.Files.{Holding}
 use Rattle.jn_outside.specs.Sink.{Appends, AppendsPrefix}
 use Rattle.jn_targets.specs.declared.replaced.Replaced.{Replaced}
-use Rattle.jn_targets.specs.Replacing.{replacement}
+use Rattle.jn_targets.specs.Replacing.{replacement, takes_other}
+use Rattle.jn_cert_form.specs.Form.{magic}
 use Rattle.jn_front.specs.declared.source.SourceFile.{SourceFile}
 use Rattle.jn_front.specs.Files.{most_files, AllHeld, StartsOnly}
 use Rattle.jn_reporters.specs.Reports.{plain_shown}
@@ -110,3 +111,8 @@ Starts (Some c) before now = StartsOnly c.files before now
 abbrev pub HoldsFiles : Option Holding → Option Command → Type 0
 HoldsFiles held None = Unit {0}
 HoldsFiles held (Some c) = AllHeld held c.files
+
+-- the certificate has the name of a file that is there and doesn't begin as a certificate
+abbrev pub TakesOther : List Replaced → Option Command → Type 0
+TakesOther there None = ⊥
+TakesOther there (Some c) = takes_other there c.cert magic ≡ true

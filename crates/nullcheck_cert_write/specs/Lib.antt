@@ -1,3 +1,4 @@
 pub mod Making
 pub mod Verdicts
 pub mod Answer
+pub mod Words

@@ -1,5 +1,5 @@
 //! What is told and stored of a verdict.
-ghost use Rattle.std.specs.Prelude.{◌≡◌, ◌<◌, ◌⊎◌, ◌++◌, List, IfOk, codes, length, map, string_bytes};
+ghost use Rattle.std.specs.Prelude.{◌≡◌, ◌<◌, ◌⊎◌, ◌++◌, List, IfOk, codes, length, map, string_bytes, true};
 ghost use Rattle.jn_base.specs.declared.infer.Infer.{Infer};
 ghost use Rattle.jn_outside.specs.Causes.{Rose};
 ghost use Rattle.jn_command.specs.Shown.{shown};
@@ -11,6 +11,8 @@ ghost use Rattle.jn_front.specs.Files.{AreReads, most_files, names_of};
 ghost use Rattle.nullcheck_cert_check.specs.Told.{IsRefusalOf};
 ghost use Rattle.jn_reporters.specs.Reports.{plain_shown};
 ghost use Rattle.nullcheck_cert_write.specs.declared.made.CertMade.TheVariants.{Made};
+ghost use Rattle.jn_cert_form.specs.Form.{magic};
+ghost use Rattle.jn_targets.specs.Replacing.{takes_other};
 ghost use Rattle.nullcheck_cert_write.specs.Answer.{AnswersFiles, outcome};
 ghost use Rattle.nullcheck_cert_write.specs.Verdicts.{IsVerdict, rows_of};
 
@@ -82,7 +84,14 @@ fn large_output(alloc: Global, name: &str) -> Result<Output, OutOfMemory>
     })
 }
 
-/// Writes the certificate to the output where its name is `-`, and else stores it under the name.
+/// How a certificate begins.
+fn front() -> &'static [u8]
+    ensures { result.now ≡ magic }
+{
+    b"JNCERT1\n"
+}
+
+/// Writes the certificate to the output where its name is `-`, and else stores it under the name, where no other file is there.
 fn put_cert<K: Sink, T: Targets>(name: &str, cert: &[u8], out: &mut K, target: &mut T) -> Status
     ensures answer { (infer : Infer) (files : List FileOf) → IsVerdict infer files (Made cert.now)
         → AnswersFiles infer name.now files
@@ -93,11 +102,13 @@ fn put_cert<K: Sink, T: Targets>(name: &str, cert: &[u8], out: &mut K, target: &
     ensures write_always { K.faults out.old < K.faults out.new → result ≡ Status.WriteFault }
     ensures store_always { T.faults target.old < T.faults target.new
         → result ≡ Status.WriteFault }
+    ensures other { takes_other (T.there target.old) name.now magic ≡ true
+        → T.replaced target.new ≡ T.replaced target.old }
 {
     if name == "-" {
         return finish(out, cert, Status::Ok);
     }
-    match target.replace(name, cert) {
+    match target.replace_alike(name, front(), cert) {
         Ok(()) => Status::Ok,
         Err(_) => Status::WriteFault,
     }
@@ -124,6 +135,8 @@ pub(crate) fn tell<K: Sink, T: Targets>(
     ensures write_always { K.faults out.old < K.faults out.new → result ≡ Status.WriteFault }
     ensures store_always { T.faults target.old < T.faults target.new
         → result ≡ Status.WriteFault }
+    ensures other { takes_other (T.there target.old) name.now magic ≡ true
+        → T.replaced target.new ≡ T.replaced target.old }
 {
     match made {
         CertMade::Refused(rows) => write(report_output(alloc, reads, Report::Refused(rows)), out),

@@ -1,14 +1,18 @@
 //! Words in, a certificate of accepted files out.
-ghost use Rattle.std.specs.Prelude.{◌≡◌, ◌≢◌, ◌<◌, ◌≤◌, ◌⊎◌, List, Some, map, length, codes};
+ghost use Rattle.std.specs.Prelude.{◌≡◌, ◌≢◌, ◌<◌, ◌≤◌, ◌⊎◌, List, Some, map, length, true};
 ghost use Rattle.std.specs.String.{string_bytes};
 ghost use Rattle.jn_outside.specs.Causes.{Rose};
 ghost use Rattle.jn_command.specs.Answer.{reading};
 ghost use Rattle.jn_front.specs.declared.source.SourceFile.{SourceFile as FileOf};
 ghost use Rattle.jn_front.specs.Counted.{ReadsFit};
 ghost use Rattle.jn_front.specs.Files.{AllHeld, AreReads, StartsOnly, most_files};
-ghost use Rattle.nullcheck_cert_check.specs.Words.{asked_of, command};
-ghost use Rattle.nullcheck_cert_write.specs.Answer.{Answers, AnswersFiles, HoldsFiles, Starts, outcome};
+ghost use Rattle.jn_cert_form.specs.Form.{magic};
+ghost use Rattle.jn_targets.specs.Replacing.{takes_other};
+ghost use Rattle.nullcheck_cert_check.specs.Words.{command};
+ghost use Rattle.nullcheck_cert_write.specs.Words.{write_asked};
+ghost use Rattle.nullcheck_cert_write.specs.Answer.{Answers, AnswersFiles, HoldsFiles, Starts, TakesOther, outcome};
 
+use crate::command::read_write;
 use crate::making::find;
 use crate::outputs::{MOST_FILES, number_output, tell};
 use jn_base::{Fail, Infer};
@@ -18,7 +22,6 @@ use jn_front::{SourceRead, read_all};
 use jn_gate::Gate;
 use jn_outside::{Files, Sink};
 use jn_targets::Targets;
-use nullcheck_cert_check::command::read_command;
 use std::alloc::Global;
 use std::thread::Threads;
 
@@ -28,7 +31,7 @@ const USAGE: &str =
 /// How many workers share the work.
 const WORKERS: u32 = 4;
 
-/// Checks files that were read, at most 64, and stores or tells what they come to.
+/// Checks files that were read, at most 64, and stores or says what they come to.
 fn answer_reads<R: Threads + Sync, G: Gate + Sync, K: Sink, T: Targets>(
     rt: &R,
     gate: &G,
@@ -51,6 +54,8 @@ fn answer_reads<R: Threads + Sync, G: Gate + Sync, K: Sink, T: Targets>(
     ensures write_always { K.faults out.old < K.faults out.new → result ≡ Status.WriteFault }
     ensures store_always { T.faults target.old < T.faults target.new
         → result ≡ Status.WriteFault }
+    ensures other { takes_other (T.there target.old) name.now magic ≡ true
+        → T.replaced target.new ≡ T.replaced target.old }
 {
     match find(rt, gate, alloc, WORKERS, infer, reads) {
         Ok(made) => tell(alloc, name, reads, made, out, target),
@@ -58,7 +63,7 @@ fn answer_reads<R: Threads + Sync, G: Gate + Sync, K: Sink, T: Targets>(
     }
 }
 
-/// Checks the files of these names, and stores the certificate under its name or tells what the files come to.
+/// Checks the files of these names, and stores the certificate under its name or says what the files come to.
 fn answer_command<R: Threads + Sync, G: Gate + Sync, F: Files, K: Sink, T: Targets>(
     rt: &R,
     gate: &G,
@@ -84,6 +89,8 @@ fn answer_command<R: Threads + Sync, G: Gate + Sync, F: Files, K: Sink, T: Targe
     ensures write_always { K.faults out.old < K.faults out.new → result ≡ Status.WriteFault }
     ensures store_always { T.faults target.old < T.faults target.new
         → result ≡ Status.WriteFault }
+    ensures other { takes_other (T.there target.old) cert.now magic ≡ true
+        → T.replaced target.new ≡ T.replaced target.old }
 {
     if names.len() > MOST_FILES {
         return write(number_output(alloc, names), out);
@@ -97,8 +104,9 @@ fn answer_command<R: Threads + Sync, G: Gate + Sync, F: Files, K: Sink, T: Targe
 }
 
 /// Does what the words ask for: `write [--infer NAME] CERT FILE..`. Checks the files, and where they are accepted stores the certificate
-/// of their program under the name CERT, or writes it to the output where that is `-`; else tells their report, by the plain reporter.
-/// The certificate holds, so that `check` takes it.
+/// of their program under the name CERT, or writes it to the output where that is `-`; else writes their report, by the plain reporter.
+/// The certificate holds, so that `check` takes it. No source loses its place to one: CERT is none of the files, doesn't end in `.java`,
+/// and where a file of its name is there, that one begins as a certificate.
 ///
 /// The memory of a check is left to the end of the process: a program that calls this often keeps that of every call.
 pub fn write_cert<R: Threads + Sync, G: Gate + Sync, F: Files, K: Sink, T: Targets>(
@@ -112,25 +120,29 @@ pub fn write_cert<R: Threads + Sync, G: Gate + Sync, F: Files, K: Sink, T: Targe
 ) -> Status
     // Status, bytes and what is stored are those of the files that the words name, with the bytes that the reads of this call gave.
     // Status 0: no rule is broken under the least signature of their program, and the certificate, which holds, is stored or written
-    // whole. Behind another status nothing is stored.
+    // whole. With another status nothing is stored.
     ensures answer { Answers (reading (F.held files.old) (F.gave files.old) (F.gave files.new))
-        (asked_of (codes "write") (map string_bytes words.now))
+        (write_asked (map string_bytes words.now))
         (outcome (K.written out.old) (K.written out.new) (T.replaced target.old) (T.replaced target.new))
         result }
     ensures read { result ≡ Status.ReadFault → Rose (F.faults files.old) (F.faults files.new) }
     ensures read_always { F.faults files.old < F.faults files.new → result ≡ Status.ReadFault }
     ensures read_steady { F.steady files.old
-        → HoldsFiles (F.held files.old) (asked_of (codes "write") (map string_bytes words.now))
+        → HoldsFiles (F.held files.old) (write_asked (map string_bytes words.now))
         → result ≢ Status.ReadFault }
-    ensures starts { Starts (asked_of (codes "write") (map string_bytes words.now))
+    ensures starts { Starts (write_asked (map string_bytes words.now))
         (F.gave files.old) (F.gave files.new) }
     ensures write { result ≡ Status.WriteFault → Rose (K.faults out.old) (K.faults out.new)
         ⊎ Rose (T.faults target.old) (T.faults target.new) }
     ensures write_always { K.faults out.old < K.faults out.new → result ≡ Status.WriteFault }
     ensures store_always { T.faults target.old < T.faults target.new
         → result ≡ Status.WriteFault }
+    // A file that is there and doesn't begin as a certificate is never replaced: where its certificate would be stored the status is that
+    // of a write fault.
+    ensures other { TakesOther (T.there target.old) (write_asked (map string_bytes words.now))
+        → T.replaced target.new ≡ T.replaced target.old }
 {
-    match read_command("write", words) {
+    match read_write(words) {
         None => finish(out, USAGE.as_bytes(), Status::Usage),
         Some(command) => answer_command(
             rt,
