@@ -1,4 +1,5 @@
 pub mod Header
 pub mod Lines
 pub mod Frames
+pub mod Asking
 pub mod Reading

@@ -41,6 +41,17 @@ StandsFrame pending = (own : List ℕ) × (behind : List ℕ) × (frame : Frame)
 abbrev pub IsKnown : List ℕ → Type 0
 IsKnown pending = HasNoBlock pending → length pending < 8192 → ⊥
 
+-- no header stands there yet, and one can
+abbrev pub IsUnknown : List ℕ → Type 0
+IsUnknown bytes = HasNoBlock bytes × (length bytes < 8192)
+
+-- there are fewer bytes than these
+abbrev pub IsShorter : ℕ → List ℕ → Type 0
+IsShorter count bytes = length bytes < count
+
+abbrev pub IsNone : List ℕ → Type 0
+IsNone bytes = bytes ≡ []
+
 -- behind the start the input gave these frames, and what is pending
 pub record Gives (start now : List ℕ) (frames : List Frame) (pending : List ℕ) : Type 0 where
   pub bytes : List ℕ
@@ -52,6 +63,18 @@ abbrev pub Counts : {T E : Type 0} → ℕ → ℕ → Result T (Fail E) → Typ
 Counts before now (Ok x) = now ≡ before
 Counts before now (Err OutOfMemory) = now ≡ before
 Counts before now (Err (Refused e)) = (before ≤ now) × Rose before now
+
+-- a call is refused only where the input gave nothing more
+abbrev pub Spares : {T E : Type 0} → List ℕ → List ℕ → Result T (Fail E) → Type 0
+Spares gave now (Ok x) = Unit {0}
+Spares gave now (Err OutOfMemory) = Unit {0}
+Spares gave now (Err (Refused e)) = now ≡ gave
+
+-- a call is refused only where what was pending and what the input gave since is such bytes
+abbrev pub Lacks : {T E : Type 0} → (List ℕ → Type 0) → List ℕ → List ℕ → List ℕ → Result T (Fail E) → Type 0
+Lacks Such gave pending now (Ok x) = Unit {0}
+Lacks Such gave pending now (Err OutOfMemory) = Unit {0}
+Lacks Such gave pending now (Err (Refused e)) = (more : List ℕ) × (now ≡ gave ++ more) × Such (pending ++ more)
 
 -- a byte is pending; or none is, and the input ended
 abbrev pub StandsSome : Bool → List ℕ → Bool → Type 0

@@ -1,10 +1,12 @@
 //! The standard input of the host.
 ghost use Rattle.std.specs.Prelude.{◌≡◌, ◌≤◌, ◌+◌, ◌-◌, ◌^◌, ◌++◌, ◌==◌, [], false, length, take, min, IfOk, OnErr};
 ghost use Rattle.jn_outside.specs.Causes.{HasCause};
+ghost use Rattle.jn_lsp_frames.specs.Asking as spec;
 
+use crate::asking::{Asking, with_asking};
 use crate::stream::Stream;
 use jn_outside::told::with_bytes;
-use jn_outside::{Failed, Told};
+use jn_outside::{Failed, Sink, Told};
 use std::io;
 use std::io::{ErrorKind, Input, Read};
 
@@ -32,6 +34,7 @@ pub struct HostStream<R: Input> {
     faults: u64,
     gave: Told<u8>,
     ended: bool,
+    asked: Told<Asking>,
 }
 
 impl<R: Input> HostStream<R> {
@@ -40,6 +43,7 @@ impl<R: Input> HostStream<R> {
         ensures faults { result.faults ≡ 0 }
         ensures gave { result.gave.items ≡ [] }
         ensures unended { result.ended ≡ false }
+        ensures unasked { result.asked.items ≡ [] }
     {
         HostStream {
             input: rt.reader(),
@@ -47,6 +51,7 @@ impl<R: Input> HostStream<R> {
             faults: 0,
             gave: Told::none(),
             ended: false,
+            asked: Told::none(),
         }
     }
 
@@ -56,22 +61,27 @@ impl<R: Input> HostStream<R> {
     }
 }
 
-impl<R: Input> Stream for HostStream<R> {
+impl<R: Input, K: Sink> Stream<K> for HostStream<R> {
     ghost given = { λ s. s.gave.items };
 
     ghost ended = { λ s. s.ended };
 
     ghost faults = { λ s. s.faults };
 
-    fn read(&mut self, buf: &mut [u8]) -> Result<usize, Failed>
+    ghost asked = { λ s. s.asked.items };
+
+    fn read(&mut self, out: &K, buf: &mut [u8]) -> Result<usize, Failed>
         ensures bound { IfOk result (λ n. n ≤ length buf.new) }
         ensures given { IfOk result
             (λ n. self.new.gave.items ≡ self.old.gave.items ++ take n buf.new) }
         ensures spared { OnErr result (self.new.gave.items ≡ self.old.gave.items) }
         ensures ended { IfOk result (λ n. self.new.ended ≡ (n == 0)) }
         ensures cause { HasCause self.old.faults self.new.faults result }
+        ensures asked { self.new.asked.items
+            ≡ spec.with_asking self.old.asked.items self.old.gave.items (K.written out.now) }
         ensures counted { OnErr result (self.new.faults ≡ min (self.old.faults + 1) (2 ^ 64 - 1)) }
     {
+        self.asked = with_asking(&self.asked, &self.gave, out);
         match read_on(&mut self.input, buf) {
             Ok(count) => {
                 self.gave = with_bytes(&self.gave, &buf[..count]);

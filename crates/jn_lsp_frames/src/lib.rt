@@ -4,6 +4,7 @@
 //! [`MemStream`] stands for it in tests, which say where it fails.
 #![tactic(auto)]
 
+pub mod asking;
 pub mod frame;
 mod header;
 pub mod host_stream;
@@ -13,6 +14,7 @@ pub mod reader;
 pub mod stream;
 pub mod writer;
 
+pub use asking::Asking;
 pub use frame::{End, Frame, Next};
 pub use host_stream::HostStream;
 pub use mem_stream::MemStream;

@@ -2,10 +2,12 @@
 ghost use Rattle.std.specs.Prelude.{◌≡◌, ◌<◌, ◌≤◌, ◌+◌, ◌-◌, ◌^◌, ◌++◌, ◌==◌, [], false, length, take, drop, min, IfOk, OnErr, is_err};
 ghost use Rattle.jn_outside.specs.Causes.{HasCause};
 ghost use Rattle.jn_outside.specs.Calls.{fails_at};
+ghost use Rattle.jn_lsp_frames.specs.Asking as spec;
 
+use crate::asking::{Asking, with_asking};
 use crate::stream::Stream;
 use jn_outside::told::with_bytes;
-use jn_outside::{Failed, Told};
+use jn_outside::{Failed, Sink, Told};
 
 /// An input in memory.
 #[derive(Drop)]
@@ -20,6 +22,7 @@ pub struct MemStream {
     faults: u64,
     gave: Told<u8>,
     ended: bool,
+    asked: Told<Asking>,
     ghost gives: { 0 < most },
 }
 
@@ -53,6 +56,7 @@ impl MemStream {
         ensures faults { result.faults ≡ 0 }
         ensures gave { result.gave.items ≡ [] }
         ensures unended { result.ended ≡ false }
+        ensures unasked { result.asked.items ≡ [] }
     {
         MemStream {
             bytes,
@@ -63,6 +67,7 @@ impl MemStream {
             faults: 0,
             gave: Told::none(),
             ended: false,
+            asked: Told::none(),
         }
     }
 
@@ -75,21 +80,25 @@ impl MemStream {
     }
 }
 
-impl Stream for MemStream {
+impl<K: Sink> Stream<K> for MemStream {
     ghost given = { λ s. s.gave.items };
 
     ghost ended = { λ s. s.ended };
 
     ghost faults = { λ s. s.faults };
 
+    ghost asked = { λ s. s.asked.items };
+
     /// It fails exactly where its number is in `failing`.
-    fn read(&mut self, buf: &mut [u8]) -> Result<usize, Failed>
+    fn read(&mut self, out: &K, buf: &mut [u8]) -> Result<usize, Failed>
         ensures bound { IfOk result (λ n. n ≤ length buf.new) }
         ensures given { IfOk result
             (λ n. self.new.gave.items ≡ self.old.gave.items ++ take n buf.new) }
         ensures spared { OnErr result (self.new.gave.items ≡ self.old.gave.items) }
         ensures ended { IfOk result (λ n. self.new.ended ≡ (n == 0)) }
         ensures cause { HasCause self.old.faults self.new.faults result }
+        ensures asked { self.new.asked.items
+            ≡ spec.with_asking self.old.asked.items self.old.gave.items (K.written out.now) }
         ensures bytes { self.new.bytes ≡ self.old.bytes }
         ensures most { self.new.most ≡ self.old.most }
         ensures failing { self.new.failing ≡ self.old.failing }
@@ -102,6 +111,7 @@ impl Stream for MemStream {
         ensures place { IfOk result (λ n. self.new.place ≡ self.old.place + n) }
         ensures counted { OnErr result (self.new.faults ≡ min (self.old.faults + 1) (2 ^ 64 - 1)) }
     {
+        self.asked = with_asking(&self.asked, &self.gave, out);
         self.calls = self.calls.saturating_add(1);
         if is_failing(&self.failing, self.calls) {
             self.faults = self.faults.saturating_add(1);

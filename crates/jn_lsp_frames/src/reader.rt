@@ -1,13 +1,15 @@
 //! A reader of frames.
 ghost use Rattle.std.specs.Prelude.{◌≡◌, ◌<◌, ◌≤◌, ◌+◌, ◌++◌, [], List, ℕ, length, take, drop, true, false, IfOk, IfSome, OnOk, option_map};
+ghost use Rattle.jn_lsp_frames.specs.Asking.{Asks, with_asking};
+ghost use Rattle.jn_lsp_frames.specs.Frames.{IsPartial};
 ghost use Rattle.jn_lsp_frames.specs.Header.{IsBlock};
-ghost use Rattle.jn_lsp_frames.specs.Reading.{Grows, Takes, HasRead, Counts, Passes, TakesBody, IsHead, StandsSome, StandsFrame, IsKnown, TakesSome, HasRest};
+ghost use Rattle.jn_lsp_frames.specs.Reading.{Grows, Takes, HasRead, Counts, Passes, TakesBody, IsHead, IsNone, IsShorter, IsUnknown, Lacks, Spares, StandsSome, StandsFrame, IsKnown, TakesSome, HasRest};
 
 use crate::frame::{End, Frame, Next};
 use crate::header;
 use crate::stream::Stream;
 use jn_base::{Fail, Seq};
-use jn_outside::Failed;
+use jn_outside::{Failed, Sink};
 use std::alloc::Global;
 
 /// The most bytes that a body has.
@@ -40,22 +42,31 @@ impl FrameReader {
         }
     }
 
-    /// The next frame (base protocol of LSP 3.17), or the input's end. Where the pending bytes have a frame whole, the input isn't asked.
+    /// The next frame (base protocol of LSP 3.17), or the input's end. Where the pending bytes have a frame whole, the input isn't asked;
+    /// and each time that it is asked, no frame is whole in what is pending and what it gave: the last piece that was read is needed.
     ///
     /// # Errors
     /// `Refused` only where the input's count of faults rose; or no memory was found. Behind an `Err`, and behind an end within a
     /// frame, the reader has lost a part of the input.
     #[tactic(auto, using(crate::proofs::Taking::grows_on, crate::proofs::Taking::counts_behind, crate::proofs::Taking::counts_err, crate::proofs::Taking::reads_between, crate::proofs::Taking::reads_missing, crate::proofs::Taking::reads_overlong, crate::proofs::Taking::reads_behind))]
-    pub fn next<S: Stream>(&mut self, input: &mut S, alloc: Global) -> Result<Next, Fail<Failed>>
+    pub fn next<K: Sink, S: Stream<K>>(
+        &mut self,
+        input: &mut S,
+        out: &K,
+        alloc: Global,
+    ) -> Result<Next, Fail<Failed>>
         ensures read { IfOk result
             (HasRead (S.ended input.new) (S.given input.old) self.old.pending.items (S.given input.new)
             self.new.pending.items) }
         ensures grows { Grows (S.given input.old) (S.given input.new) }
         ensures cause { Counts (S.faults input.old) (S.faults input.new) result }
         ensures unasked { StandsFrame self.old.pending.items → input.new ≡ input.old }
+        ensures asked { Asks IsPartial (S.given input.old) self.old.pending.items (K.written out.now)
+            (S.asked input.old) (S.asked input.new) }
+        ensures lacks { Lacks IsPartial (S.given input.old) self.old.pending.items (S.given input.new) result }
     {
-        match self.read_head(input)? {
-            Head::Block(end) => self.read_behind(input, alloc, end),
+        match self.read_head(input, out)? {
+            Head::Block(end) => self.read_behind(input, out, alloc, end),
             Head::Overlong => {
                 self.pass(header::MOST);
                 Ok(Next::Frame(Frame::BadHeader))
@@ -66,10 +77,11 @@ impl FrameReader {
     }
 
     /// The frame whose header has so many bytes.
-    #[tactic(auto, using(crate::proofs::Taking::grows_same, crate::proofs::Taking::reads_bad, crate::proofs::Taking::reads_rest))]
-    fn read_behind<S: Stream>(
+    #[tactic(auto, using(crate::proofs::Taking::grows_same, crate::proofs::Taking::reads_bad, crate::proofs::Taking::reads_rest, crate::proofs::Asked::asks_none))]
+    fn read_behind<K: Sink, S: Stream<K>>(
         &mut self,
         input: &mut S,
+        out: &K,
         alloc: Global,
         end: usize,
     ) -> Result<Next, Fail<Failed>>
@@ -81,20 +93,24 @@ impl FrameReader {
         ensures grows { Grows (S.given input.old) (S.given input.new) }
         ensures cause { Counts (S.faults input.old) (S.faults input.new) result }
         ensures unasked { StandsFrame self.old.pending.items → input.new ≡ input.old }
+        ensures asked { Asks IsPartial (S.given input.old) self.old.pending.items (K.written out.now)
+            (S.asked input.old) (S.asked input.new) }
+        ensures lacks { Lacks IsPartial (S.given input.old) self.old.pending.items (S.given input.new) result }
     {
         let says = header::content_length(&self.pending[..end]);
         self.pass(end);
         match says {
             None => Ok(Next::Frame(Frame::BadHeader)),
-            Some(total) => self.read_rest(input, alloc, total),
+            Some(total) => self.read_rest(input, out, alloc, total),
         }
     }
 
     /// What stands behind a header that says so many bytes.
-    #[tactic(auto, using(crate::proofs::Taking::grows_on, crate::proofs::Taking::counts_behind, crate::proofs::Taking::counts_err, crate::proofs::Taking::rest_large, crate::proofs::Taking::rest_body, crate::proofs::Taking::rest_within))]
-    fn read_rest<S: Stream>(
+    #[tactic(auto, using(crate::proofs::Taking::grows_on, crate::proofs::Taking::counts_behind, crate::proofs::Taking::counts_err, crate::proofs::Taking::rest_large, crate::proofs::Taking::rest_body, crate::proofs::Taking::rest_within, crate::proofs::Asked::lacks_err))]
+    fn read_rest<K: Sink, S: Stream<K>>(
         &mut self,
         input: &mut S,
+        out: &K,
         alloc: Global,
         total: u32,
     ) -> Result<Next, Fail<Failed>>
@@ -104,22 +120,29 @@ impl FrameReader {
         ensures grows { Grows (S.given input.old) (S.given input.new) }
         ensures cause { Counts (S.faults input.old) (S.faults input.new) result }
         ensures unasked { total ≤ length self.old.pending.items → input.new ≡ input.old }
+        ensures asked { Asks (IsShorter total) (S.given input.old) self.old.pending.items (K.written out.now)
+            (S.asked input.old) (S.asked input.new) }
+        ensures lacks { Lacks (IsShorter total) (S.given input.old) self.old.pending.items (S.given input.new) result }
     {
         if total > LIMIT {
-            if self.skip(input, total)? {
+            if self.skip(input, out, total)? {
                 return Ok(Next::Frame(Frame::TooLarge));
             }
             return Ok(Next::End(End::Within));
         }
-        match self.read_body(input, alloc, total)? {
+        match self.read_body(input, out, alloc, total)? {
             Some(body) => Ok(Next::Frame(Frame::Body(Seq::of_vec(body)))),
             None => Ok(Next::End(End::Within)),
         }
     }
 
     /// Reads until what stands at the front is known.
-    #[tactic(auto, using(crate::proofs::Taking::takings, crate::proofs::Taking::head_missing, crate::proofs::Taking::head_overlong))]
-    fn read_head<S: Stream>(&mut self, input: &mut S) -> Result<Head, Fail<Failed>>
+    #[tactic(auto, using(crate::proofs::Taking::takings, crate::proofs::Taking::head_missing, crate::proofs::Taking::head_overlong, crate::proofs::Asked::asks_none))]
+    fn read_head<K: Sink, S: Stream<K>>(
+        &mut self,
+        input: &mut S,
+        out: &K,
+    ) -> Result<Head, Fail<Failed>>
         ensures taken { OnOk result
             (Takes (S.given input.old) self.old.pending.items (S.given input.new)
             self.new.pending.items []) }
@@ -128,12 +151,15 @@ impl FrameReader {
         ensures cause { Counts (S.faults input.old) (S.faults input.new) result }
         ensures unasked { IsKnown self.old.pending.items → (input.new ≡ input.old)
             × (self.new.pending.items ≡ self.old.pending.items) }
+        ensures asked { Asks IsUnknown (S.given input.old) self.old.pending.items (K.written out.now)
+            (S.asked input.old) (S.asked input.new) }
+        ensures lacks { Lacks IsUnknown (S.given input.old) self.old.pending.items (S.given input.new) result }
     {
         while self.pending.len() < header::MOST {
             if let Some(end) = header::find_end(&self.pending) {
                 return Ok(Head::Block(end));
             }
-            if self.fill(input)? == 0 {
+            if self.fill(input, out)? == 0 {
                 return Ok(Head::Missing);
             }
         }
@@ -144,10 +170,11 @@ impl FrameReader {
     }
 
     /// The next bytes, so many; none where the input ends before.
-    #[tactic(auto, using(crate::proofs::Taking::takings, crate::proofs::Taking::ends_here))]
-    fn read_body<S: Stream>(
+    #[tactic(auto, using(crate::proofs::Taking::takings, crate::proofs::Taking::ends_here, crate::proofs::Asked::asks_none))]
+    fn read_body<K: Sink, S: Stream<K>>(
         &mut self,
         input: &mut S,
+        out: &K,
         alloc: Global,
         total: u32,
     ) -> Result<Option<Vec<u8>>, Fail<Failed>>
@@ -157,6 +184,9 @@ impl FrameReader {
         ensures grows { Grows (S.given input.old) (S.given input.new) }
         ensures cause { Counts (S.faults input.old) (S.faults input.new) result }
         ensures unasked { total ≤ length self.old.pending.items → input.new ≡ input.old }
+        ensures asked { Asks (IsShorter total) (S.given input.old) self.old.pending.items (K.written out.now)
+            (S.asked input.old) (S.asked input.new) }
+        ensures lacks { Lacks (IsShorter total) (S.given input.old) self.old.pending.items (S.given input.new) result }
     {
         let total = total as usize;
         let Ok(body) = Vec::with_capacity(alloc, total) else {
@@ -165,7 +195,7 @@ impl FrameReader {
         let mut body = body;
         while body.len() < total {
             let most = total - body.len();
-            let count = self.take_some(input, &mut body, most)?;
+            let count = self.take_some(input, out, &mut body, most)?;
             if count == 0 {
                 return Ok(None);
             }
@@ -174,18 +204,26 @@ impl FrameReader {
     }
 
     /// Passes over the next bytes, so many; false where the input ends before.
-    #[tactic(auto, using(crate::proofs::Taking::takings, crate::proofs::Taking::ends_here, crate::proofs::Taking::passes_all))]
-    fn skip<S: Stream>(&mut self, input: &mut S, total: u32) -> Result<bool, Fail<Failed>>
+    #[tactic(auto, using(crate::proofs::Taking::takings, crate::proofs::Taking::ends_here, crate::proofs::Taking::passes_all, crate::proofs::Asked::asks_none))]
+    fn skip<K: Sink, S: Stream<K>>(
+        &mut self,
+        input: &mut S,
+        out: &K,
+        total: u32,
+    ) -> Result<bool, Fail<Failed>>
         ensures passed { IfOk result
             (Passes (S.ended input.new) (S.given input.old) self.old.pending.items
             (S.given input.new) self.new.pending.items total) }
         ensures grows { Grows (S.given input.old) (S.given input.new) }
         ensures cause { Counts (S.faults input.old) (S.faults input.new) result }
         ensures unasked { total ≤ length self.old.pending.items → input.new ≡ input.old }
+        ensures asked { Asks (IsShorter total) (S.given input.old) self.old.pending.items (K.written out.now)
+            (S.asked input.old) (S.asked input.new) }
+        ensures lacks { Lacks (IsShorter total) (S.given input.old) self.old.pending.items (S.given input.new) result }
     {
         let mut left = total as usize;
         while left > 0 {
-            let count = self.pass_some(input, left)?;
+            let count = self.pass_some(input, out, left)?;
             if count == 0 {
                 return Ok(false);
             }
@@ -195,10 +233,11 @@ impl FrameReader {
     }
 
     /// Moves the next bytes, at most so many, behind the body, and gives their number; 0 is the input's end.
-    #[tactic(auto, using(crate::proofs::Taking::takings, crate::proofs::Taking::some_none, crate::proofs::Taking::some_front))]
-    fn take_some<S: Stream>(
+    #[tactic(auto, using(crate::proofs::Taking::takings, crate::proofs::Taking::some_none, crate::proofs::Taking::some_front, crate::proofs::Asked::lacks_err))]
+    fn take_some<K: Sink, S: Stream<K>>(
         &mut self,
         input: &mut S,
+        out: &K,
         body: &mut Vec<u8>,
         most: usize,
     ) -> Result<usize, Fail<Failed>>
@@ -209,8 +248,11 @@ impl FrameReader {
         ensures grows { Grows (S.given input.old) (S.given input.new) }
         ensures cause { Counts (S.faults input.old) (S.faults input.new) result }
         ensures unasked { 0 < length self.old.pending.items → input.new ≡ input.old }
+        ensures asked { Asks IsNone (S.given input.old) self.old.pending.items (K.written out.now)
+            (S.asked input.old) (S.asked input.new) }
+        ensures lacks { Lacks IsNone (S.given input.old) self.old.pending.items (S.given input.new) result }
     {
-        if self.has_some(input)? {
+        if self.has_some(input, out)? {
             let count = self.pending.len().min(most);
             if body.extend_from_slice(&self.pending[..count]).is_err() {
                 return Err(Fail::OutOfMemory);
@@ -222,8 +264,13 @@ impl FrameReader {
     }
 
     /// Passes over the next bytes, at most so many, and gives their number; 0 is the input's end.
-    #[tactic(auto, using(crate::proofs::Taking::takings, crate::proofs::Taking::some_none, crate::proofs::Taking::some_front))]
-    fn pass_some<S: Stream>(&mut self, input: &mut S, most: usize) -> Result<usize, Fail<Failed>>
+    #[tactic(auto, using(crate::proofs::Taking::takings, crate::proofs::Taking::some_none, crate::proofs::Taking::some_front, crate::proofs::Asked::lacks_err))]
+    fn pass_some<K: Sink, S: Stream<K>>(
+        &mut self,
+        input: &mut S,
+        out: &K,
+        most: usize,
+    ) -> Result<usize, Fail<Failed>>
         requires { 0 < most }
         ensures passed { IfOk result (λ n. (own : List ℕ)
             × TakesSome (S.ended input.new) (S.given input.old) self.old.pending.items
@@ -231,8 +278,11 @@ impl FrameReader {
         ensures grows { Grows (S.given input.old) (S.given input.new) }
         ensures cause { Counts (S.faults input.old) (S.faults input.new) result }
         ensures unasked { 0 < length self.old.pending.items → input.new ≡ input.old }
+        ensures asked { Asks IsNone (S.given input.old) self.old.pending.items (K.written out.now)
+            (S.asked input.old) (S.asked input.new) }
+        ensures lacks { Lacks IsNone (S.given input.old) self.old.pending.items (S.given input.new) result }
     {
-        if self.has_some(input)? {
+        if self.has_some(input, out)? {
             let count = self.pending.len().min(most);
             self.pass(count);
             return Ok(count);
@@ -241,8 +291,12 @@ impl FrameReader {
     }
 
     /// Whether a byte is pending; where none is, the input is read.
-    #[tactic(auto, using(crate::proofs::Taking::takings, crate::proofs::Taking::none_stands))]
-    fn has_some<S: Stream>(&mut self, input: &mut S) -> Result<bool, Fail<Failed>>
+    #[tactic(auto, using(crate::proofs::Taking::takings, crate::proofs::Taking::none_stands, crate::proofs::Asked::asks_none, crate::proofs::Asked::asks_empty))]
+    fn has_some<K: Sink, S: Stream<K>>(
+        &mut self,
+        input: &mut S,
+        out: &K,
+    ) -> Result<bool, Fail<Failed>>
         ensures taken { OnOk result
             (Takes (S.given input.old) self.old.pending.items (S.given input.new)
             self.new.pending.items []) }
@@ -250,11 +304,15 @@ impl FrameReader {
         ensures grows { Grows (S.given input.old) (S.given input.new) }
         ensures cause { Counts (S.faults input.old) (S.faults input.new) result }
         ensures unasked { 0 < length self.old.pending.items → input.new ≡ input.old }
+        ensures asked { Asks IsNone (S.given input.old) self.old.pending.items (K.written out.now)
+            (S.asked input.old) (S.asked input.new) }
+        ensures lacks { Lacks IsNone (S.given input.old) self.old.pending.items (S.given input.new) result }
     {
         if self.pending.len() > 0 {
             return Ok(true);
         }
-        if self.fill(input)? == 0 {
+        let count = self.fill(input, out)?;
+        if count == 0 {
             return Ok(false);
         }
         Ok(true)
@@ -262,7 +320,7 @@ impl FrameReader {
 
     /// Reads the next piece behind the pending bytes, and gives its length; 0 is the input's end.
     #[tactic(auto, using(crate::proofs::Taking::takings))]
-    fn fill<S: Stream>(&mut self, input: &mut S) -> Result<usize, Fail<Failed>>
+    fn fill<K: Sink, S: Stream<K>>(&mut self, input: &mut S, out: &K) -> Result<usize, Fail<Failed>>
         ensures taken { OnOk result
             (Takes (S.given input.old) self.old.pending.items (S.given input.new)
             self.new.pending.items []) }
@@ -272,9 +330,12 @@ impl FrameReader {
             × (self.new.pending.items ≡ self.old.pending.items)) }
         ensures grows { Grows (S.given input.old) (S.given input.new) }
         ensures cause { Counts (S.faults input.old) (S.faults input.new) result }
+        ensures asked { S.asked input.new
+            ≡ with_asking (S.asked input.old) (S.given input.old) (K.written out.now) }
+        ensures spared { Spares (S.given input.old) (S.given input.new) result }
     {
         let mut buf = [0u8; 8192];
-        match input.read(&mut buf) {
+        match input.read(out, &mut buf) {
             Err(failed) => Err(Fail::Refused(failed)),
             Ok(count) => match self.pending.extend_from_slice(&buf[..count]) {
                 Err(_) => Err(Fail::OutOfMemory),

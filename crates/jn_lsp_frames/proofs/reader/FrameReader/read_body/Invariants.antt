@@ -1,5 +1,6 @@
 use Rattle.std.proofs.Common.{◌≡◌, ◌-◌, ◌≤◌, length}
-use Rattle.jn_lsp_frames.specs.Reading.{Takes}
+use Rattle.jn_lsp_frames.specs.Asking.{Asks}
+use Rattle.jn_lsp_frames.specs.Reading.{IsShorter, Takes}
 use Rattle.jn_lsp_frames.proofs.reader.FrameReader.read_body.Given as goal
 
 abbrev pub invariant-loop-body : goal.invariant-loop-body
@@ -7,6 +8,7 @@ invariant-loop-body g l = let s = g.S.Stream in record {
   taken : Takes (s.given l.fn.input) l.fn.self.pending.items (s.given l.input) l.self.pending.items l.body.items;
   few : length l.body.items ≤ l.total;
   faults : s.faults l.input ≡ s.faults l.fn.input;
+  asked : Asks (IsShorter l.total) (s.given l.fn.input) l.fn.self.pending.items (g.K.Sink.written l.fn.out) (s.asked l.fn.input) (s.asked l.input);
   unasked : l.total ≤ length l.fn.self.pending.items → l.input ≡ l.fn.input;
 }
 
