@@ -1,12 +1,12 @@
 -- What folders list, and the paths of what stands in them.
-use Rattle.std.specs.Prelude.{ℕ, ◌≡◌, ◌==◌, ◌++◌, ◌&&◌, Bool, true, false, List, [], ◌∷◌, Option, Some, None, Result, Ok, Err, bytes_eq, codes, eqb, if◌then◌else◌, not}
-use Rattle.std.specs.List.{ends_with, flat_map}
+use Rattle.std.specs.Prelude.{ℕ, ◌≡◌, ◌==◌, ◌++◌, ◌&&◌, ◌||◌, Bool, true, false, List, [], ◌∷◌, Option, Some, None, Result, Ok, Err, bytes_eq, codes, eqb, if◌then◌else◌, not}
+use Rattle.std.specs.List.{ends_with, flat_map, fold, list_any}
 use Rattle.jn_base.specs.declared.refusal.Fail.{Fail}
 use Rattle.jn_base.specs.declared.refusal.Fail.TheVariants.{Refused, OutOfMemory}
 use Rattle.jn_outside.specs.declared.files.Failed.{Failed}
 use Rattle.jn_folder.specs.declared.listed.Entry.{Entry}
 use Rattle.jn_folder.specs.declared.listed.Kind.{Kind}
-use Rattle.jn_folder.specs.declared.listed.Kind.TheVariants.{File, Folder, Other}
+use Rattle.jn_folder.specs.declared.listed.Kind.TheVariants.{File, Folder, Other, Unnamed}
 use Rattle.jn_folder.specs.declared.listed.Listed.{Listed}
 
 abbrev pub listed : List ℕ → List Entry → Listed
@@ -35,30 +35,61 @@ is_java name = ends_with eqb name (codes ".java")
 abbrev pub joined : List ℕ → List ℕ → List ℕ
 joined path name = if ends_with eqb path (codes "/") then path ++ name else path ++ codes "/" ++ name
 
--- the paths of the Java files, and of the folders, that an entry is; none of a hidden one
+-- the name is one of these
+abbrev pub is_among : List (List ℕ) → List ℕ → Bool
+is_among names name = list_any (λ other. bytes_eq other name) names
+
+-- the names, each where it stands first
+abbrev pub with_name : List (List ℕ) → List ℕ → List (List ℕ)
+with_name names name = if is_among names name then names else names ++ name ∷ []
+
+abbrev pub each_once : List (List ℕ) → List (List ℕ)
+each_once names = fold with_name [] names
+
+-- the name is hidden, or is one of those that are left out
+abbrev pub is_skipped : List (List ℕ) → List ℕ → Bool
+is_skipped skipped name = is_hidden name || is_among skipped name
+
+-- the paths of the Java files that an entry is; none of a hidden one
 abbrev pub file_at : List ℕ → List ℕ → Kind → List (List ℕ)
 file_at path name File = if not (is_hidden name) && is_java name then joined path name ∷ [] else []
 file_at path name Folder = []
 file_at path name Other = []
+file_at path name Unnamed = []
 
-abbrev pub folder_at : List ℕ → List ℕ → Kind → List (List ℕ)
-folder_at path name File = []
-folder_at path name Folder = if is_hidden name then [] else joined path name ∷ []
-folder_at path name Other = []
+-- those of the folders; none of one that is left out
+abbrev pub folder_at : List (List ℕ) → List ℕ → List ℕ → Kind → List (List ℕ)
+folder_at skipped path name File = []
+folder_at skipped path name Folder = if is_skipped skipped name then [] else joined path name ∷ []
+folder_at skipped path name Other = []
+folder_at skipped path name Unnamed = []
+
+-- the folder's own path, where an entry's name is no text
+abbrev pub unnamed_at : List ℕ → Kind → List (List ℕ)
+unnamed_at path File = []
+unnamed_at path Folder = []
+unnamed_at path Other = []
+unnamed_at path Unnamed = path ∷ []
 
 -- those that a folder lists, in its order
 abbrev pub files_in : List ℕ → List Entry → List (List ℕ)
 files_in path entries = flat_map (λ (entry : Entry). file_at path entry.name entry.kind) entries
 
-abbrev pub folders_in : List ℕ → List Entry → List (List ℕ)
-folders_in path entries = flat_map (λ (entry : Entry). folder_at path entry.name entry.kind) entries
+abbrev pub folders_in : List (List ℕ) → List ℕ → List Entry → List (List ℕ)
+folders_in skipped path entries = flat_map (λ (entry : Entry). folder_at skipped path entry.name entry.kind) entries
+
+abbrev pub unnamed_in : List ℕ → List Entry → List (List ℕ)
+unnamed_in path entries = flat_map (λ (entry : Entry). unnamed_at path entry.kind) entries
 
 -- those that folders list
 abbrev pub files_of : List Listed → List (List ℕ)
 files_of told = flat_map (λ (l : Listed). files_in l.path l.entries) told
 
-abbrev pub folders_of : List Listed → List (List ℕ)
-folders_of told = flat_map (λ (l : Listed). folders_in l.path l.entries) told
+abbrev pub folders_of : List (List ℕ) → List Listed → List (List ℕ)
+folders_of skipped told = flat_map (λ (l : Listed). folders_in skipped l.path l.entries) told
+
+abbrev pub unnamed_of : List Listed → List (List ℕ)
+unnamed_of told = flat_map (λ (l : Listed). unnamed_in l.path l.entries) told
 
 -- the entries of the first of these folders that has this path
 abbrev pub entries_at : List Listed → List ℕ → Option (List Entry)

@@ -53,7 +53,16 @@ fn entry_of<R: rt::Files>(alloc: Global, entry: &DirEntry<R>) -> io::Result<Entr
     Ok(Entry { name, kind })
 }
 
-/// Reads the entries to their end. Names that aren't text are left out.
+/// An entry whose name is no text.
+fn unnamed(alloc: Global) -> io::Result<Entry> {
+    let name = Text::of_str(alloc, "")?;
+    Ok(Entry {
+        name,
+        kind: Kind::Unnamed,
+    })
+}
+
+/// Reads the entries to their end.
 fn read_entries<R: rt::Files + Clone + Drop>(
     alloc: Global,
     listing: ReadDir<R>,
@@ -62,7 +71,9 @@ fn read_entries<R: rt::Files + Clone + Drop>(
     for entry in listing {
         match entry {
             Ok(entry) => entries.push(entry_of(alloc, &entry)?)?,
-            Err(reason) if reason.kind() == ErrorKind::InvalidFilename => {}
+            Err(reason) if reason.kind() == ErrorKind::InvalidFilename => {
+                entries.push(unnamed(alloc)?)?;
+            }
             Err(reason) => return Err(reason),
         }
     }

@@ -11,10 +11,12 @@ pub mod host;
 pub mod listed;
 pub mod memory;
 pub mod paths;
+pub mod route;
 
 pub use below::{Walked, walk};
 pub use folder::Folder;
 pub use host::HostFolder;
 pub use listed::{Entry, Kind, Listed};
 pub use memory::MemFolder;
-pub use paths::joined;
+pub use paths::{each_once, is_among, joined};
+pub use route::{is_below, is_whole, plain};

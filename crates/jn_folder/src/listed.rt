@@ -15,6 +15,8 @@ pub enum Kind {
     Folder,
     /// Something else, as a link, which isn't followed.
     Other,
+    /// Something whose name is no text. The entry has an empty name.
+    Unnamed,
 }
 
 /// A name in a folder, and what stands under it.

@@ -4,7 +4,7 @@ use Rattle.std.specs.Prelude.{option_to_list}
 use Rattle.std.proofs.lemmas.Grind.{flat_map-append}
 use Rattle.jn_lsp_types.specs.declared.id.Id.{Id}
 use Rattle.jn_lsp_types.specs.declared.message.Message.{Message}
-use Rattle.jn_lsp_types.specs.declared.message.Message.TheVariants.{Initialize, Initialized, DidOpen, DidChange, DidSave, DidClose, WatchedFiles, CodeAction, Shutdown, Exit, Ignored, Unknown, BadParams, NoMessage, NoJson, BadHeader, TooLarge}
+use Rattle.jn_lsp_types.specs.declared.message.Message.TheVariants.{Initialize, Initialized, DidOpen, DidChange, DidSave, DidClose, WatchedFiles, CodeAction, Shutdown, Exit, Ignored, Unknown, BadDocument, BadParams, NoMessage, NoJson, BadHeader, TooLarge}
 use Rattle.jn_lsp_types.specs.declared.reply.Action.{Action}
 use Rattle.jn_lsp_types.specs.declared.reply.Failure.{Failure}
 use Rattle.jn_lsp_types.specs.declared.reply.Reply.{Reply}
@@ -16,6 +16,8 @@ use Rattle.jn_lsp.specs.declared.phase.Phase.{Phase}
 use Rattle.jn_lsp.specs.declared.phase.Phase.TheVariants.{Waiting, Serving, ShutDown, Exited}
 use Rattle.jn_lsp.specs.Publications.{ArePublished, gone}
 use Rattle.jn_lsp.specs.Requests.{AreAnswered, id_answered, id_asked, id_in, ids_answered, ids_asked, is_exit}
+use Rattle.jn_lsp.specs.Unknown.{doubts_in}
+use Rattle.jn_lsp.proofs.Hushing.{doubts_unasked}
 use Rattle.jn_lsp.specs.Serving.{AreAnswers, IsRetold, Serves, ServerOf, Takes, answer_of, late_answer, opened_by, new_server, next_phase, phase_behind, refusal, serving_answer, waiting_answer}
 
 -- ---- publications answer nothing
@@ -42,7 +44,7 @@ refused failure None = refl
 refused failure (Some id) = refl
 
 waiting_one : (message : Message) → IsAnswer (waiting_answer message) (id_asked message)
-waiting_one (Initialize id folder files) = refl
+waiting_one (Initialize id folder files exclude) = refl
 waiting_one Initialized = refl
 waiting_one (DidOpen name text) = refl
 waiting_one (DidChange name changes) = refl
@@ -54,6 +56,7 @@ waiting_one (Shutdown id) = refl
 waiting_one Exit = refl
 waiting_one Ignored = refl
 waiting_one (Unknown id) = refl
+waiting_one (BadDocument name) = refl
 waiting_one (BadParams id) = refused _ id
 waiting_one NoMessage = refl
 waiting_one NoJson = refl
@@ -61,7 +64,7 @@ waiting_one BadHeader = refl
 waiting_one TooLarge = refl
 
 serving_one : (actions : List Action) (message : Message) → IsAnswer (serving_answer actions message) (id_asked message)
-serving_one actions (Initialize id folder files) = refl
+serving_one actions (Initialize id folder files exclude) = refl
 serving_one actions Initialized = refl
 serving_one actions (DidOpen name text) = refl
 serving_one actions (DidChange name changes) = refl
@@ -73,6 +76,7 @@ serving_one actions (Shutdown id) = refl
 serving_one actions Exit = refl
 serving_one actions Ignored = refl
 serving_one actions (Unknown id) = refl
+serving_one actions (BadDocument name) = refl
 serving_one actions (BadParams id) = refused _ id
 serving_one actions NoMessage = refl
 serving_one actions NoJson = refl
@@ -80,7 +84,7 @@ serving_one actions BadHeader = refl
 serving_one actions TooLarge = refl
 
 late_one : (message : Message) → IsAnswer (late_answer message) (id_asked message)
-late_one (Initialize id folder files) = refl
+late_one (Initialize id folder files exclude) = refl
 late_one Initialized = refl
 late_one (DidOpen name text) = refl
 late_one (DidChange name changes) = refl
@@ -92,6 +96,7 @@ late_one (Shutdown id) = refl
 late_one Exit = refl
 late_one Ignored = refl
 late_one (Unknown id) = refl
+late_one (BadDocument name) = refl
 late_one (BadParams id) = refused _ id
 late_one NoMessage = refl
 late_one NoJson = refl
@@ -119,8 +124,17 @@ answer_one actions Serving message live = serving_one actions message
 answer_one actions ShutDown message live = late_one message
 answer_one actions (Exited in_order) _ live = absurd live
 
+-- warnings answer nothing
+warned : (server : ServerOf) (message : Message) (answer : Option Reply) → ids_answered (option_to_list answer ++ doubts_in server.phase message server.workspace.documents server.workspace.unknown) ≡ ids_answered (option_to_list answer)
+warned server message answer =
+    let documents = server.workspace.documents in
+    let unknown = server.workspace.unknown in
+    both_answered (option_to_list answer) (doubts_in server.phase message documents unknown)
+    ∙ ap (λ ids. ids_answered (option_to_list answer) ++ ids) (doubts_unasked server.phase message documents unknown)
+    ∙ append-nil (ids_answered (option_to_list answer))
+
 answers_one : (server : ServerOf) (event : Event) (direct : List Reply) → AreAnswers server event direct → IsLive server.phase → ids_answered direct ≡ option_to_list (id_in event)
-answers_one server (MessageEvent message) direct (actions, offered, e) live = ap ids_answered e ∙ answer_one actions server.phase message live
+answers_one server (MessageEvent message) direct (actions, offered, e) live = ap ids_answered e ∙ warned server message (answer_of actions server.phase message) ∙ answer_one actions server.phase message live
 answers_one server (Folder files) direct e live = ap ids_answered e
 
 answer_none : (actions : List Action) (phase : Phase) (message : Message) → IsGone phase → IsAnswer (answer_of actions phase message) None
@@ -130,14 +144,14 @@ answer_none actions ShutDown _ gone = absurd gone
 answer_none actions (Exited in_order) _ gone = refl
 
 answers_none : (server : ServerOf) (event : Event) (direct : List Reply) → AreAnswers server event direct → IsGone server.phase → ids_answered direct ≡ []
-answers_none server (MessageEvent message) direct (actions, offered, e) gone = ap ids_answered e ∙ answer_none actions server.phase message gone
+answers_none server (MessageEvent message) direct (actions, offered, e) gone = ap ids_answered e ∙ warned server message (answer_of actions server.phase message) ∙ answer_none actions server.phase message gone
 answers_none server (Folder files) direct e gone = ap ids_answered e
 
 clash : {X : Type 0} → true ≡ false → X
 clash e = absurd (cc)
 
 waiting_on : (message : Message) → is_exit (MessageEvent message) ≡ false → IsLive (phase_behind Waiting message)
-waiting_on (Initialize id folder files) e = tt
+waiting_on (Initialize id folder files exclude) e = tt
 waiting_on Initialized e = tt
 waiting_on (DidOpen name text) e = tt
 waiting_on (DidChange name changes) e = tt
@@ -149,6 +163,7 @@ waiting_on (Shutdown id) e = tt
 waiting_on Exit e = clash e
 waiting_on Ignored e = tt
 waiting_on (Unknown id) e = tt
+waiting_on (BadDocument name) e = tt
 waiting_on (BadParams id) e = tt
 waiting_on NoMessage e = tt
 waiting_on NoJson e = tt
@@ -156,7 +171,7 @@ waiting_on BadHeader e = tt
 waiting_on TooLarge e = tt
 
 serving_on : (message : Message) → is_exit (MessageEvent message) ≡ false → IsLive (phase_behind Serving message)
-serving_on (Initialize id folder files) e = tt
+serving_on (Initialize id folder files exclude) e = tt
 serving_on Initialized e = tt
 serving_on (DidOpen name text) e = tt
 serving_on (DidChange name changes) e = tt
@@ -168,6 +183,7 @@ serving_on (Shutdown id) e = tt
 serving_on Exit e = clash e
 serving_on Ignored e = tt
 serving_on (Unknown id) e = tt
+serving_on (BadDocument name) e = tt
 serving_on (BadParams id) e = tt
 serving_on NoMessage e = tt
 serving_on NoJson e = tt
@@ -175,7 +191,7 @@ serving_on BadHeader e = tt
 serving_on TooLarge e = tt
 
 shut_down_on : (message : Message) → is_exit (MessageEvent message) ≡ false → IsLive (phase_behind ShutDown message)
-shut_down_on (Initialize id folder files) e = tt
+shut_down_on (Initialize id folder files exclude) e = tt
 shut_down_on Initialized e = tt
 shut_down_on (DidOpen name text) e = tt
 shut_down_on (DidChange name changes) e = tt
@@ -187,6 +203,7 @@ shut_down_on (Shutdown id) e = tt
 shut_down_on Exit e = clash e
 shut_down_on Ignored e = tt
 shut_down_on (Unknown id) e = tt
+shut_down_on (BadDocument name) e = tt
 shut_down_on (BadParams id) e = tt
 shut_down_on NoMessage e = tt
 shut_down_on NoJson e = tt
@@ -203,7 +220,7 @@ live_on Serving (Folder files) live e = tt
 live_on ShutDown (Folder files) live e = tt
 
 exit_is : (message : Message) → is_exit (MessageEvent message) ≡ true → message ≡ Exit
-exit_is (Initialize id folder files) e = clash (sym e)
+exit_is (Initialize id folder files exclude) e = clash (sym e)
 exit_is Initialized e = clash (sym e)
 exit_is (DidOpen name text) e = clash (sym e)
 exit_is (DidChange name changes) e = clash (sym e)
@@ -215,6 +232,7 @@ exit_is (Shutdown id) e = clash (sym e)
 exit_is Exit e = refl
 exit_is Ignored e = clash (sym e)
 exit_is (Unknown id) e = clash (sym e)
+exit_is (BadDocument name) e = clash (sym e)
 exit_is (BadParams id) e = clash (sym e)
 exit_is NoMessage e = clash (sym e)
 exit_is NoJson e = clash (sym e)

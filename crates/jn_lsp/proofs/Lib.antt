@@ -3,6 +3,7 @@ pub mod Names
 pub mod Announcing
 pub mod Rows
 pub mod LastPublished
+pub mod Hushing
 pub mod Upholding
 pub mod Finding
 pub mod Answering

@@ -4,7 +4,7 @@ use Rattle.std.specs.Prelude.{option_to_list}
 use Rattle.jn_front.specs.declared.source.SourceFile.{SourceFile}
 use Rattle.jn_lsp_types.specs.declared.id.Id.{Id}
 use Rattle.jn_lsp_types.specs.declared.message.Message.{Message}
-use Rattle.jn_lsp_types.specs.declared.message.Message.TheVariants.{Initialize, Initialized, DidOpen, DidChange, DidSave, DidClose, WatchedFiles, CodeAction, Shutdown, Exit, Ignored, Unknown, BadParams, NoMessage, NoJson, BadHeader, TooLarge}
+use Rattle.jn_lsp_types.specs.declared.message.Message.TheVariants.{Initialize, Initialized, DidOpen, DidChange, DidSave, DidClose, WatchedFiles, CodeAction, Shutdown, Exit, Ignored, Unknown, BadDocument, BadParams, NoMessage, NoJson, BadHeader, TooLarge}
 use Rattle.jn_lsp_types.specs.declared.reply.Action.{Action}
 use Rattle.jn_lsp_types.specs.declared.reply.Diagnostic.{Diagnostic}
 use Rattle.jn_lsp_types.specs.declared.reply.Failure.{Failure}
@@ -16,9 +16,11 @@ use Rattle.jn_lsp.specs.declared.event.Event.TheVariants.{Folder, Message as Mes
 use Rattle.jn_lsp.specs.declared.phase.Phase.{Phase}
 use Rattle.jn_lsp.specs.declared.phase.Phase.TheVariants.{Waiting, Serving, ShutDown, Exited}
 use Rattle.jn_lsp.specs.Publications.{last_published}
-use Rattle.jn_lsp.specs.Serving.{AreAnswers, ArePublishedLast, IsInformed, IsMovedIn, IsRetold, IsUpToDate, Serves, ServerOf, Takes, answer_of, files_of, late_answer, opened_by, new_server, next_phase, refusal, serving_answer, waiting_answer}
+use Rattle.jn_lsp.specs.Serving.{AreAnswers, ArePublishedLast, AreToldOf, IsInformed, IsMovedIn, IsRetold, IsUpToDate, Serves, ServerOf, Takes, answer_of, files_of, late_answer, opened_by, new_server, next_phase, refusal, serving_answer, waiting_answer}
 use Rattle.jn_lsp.specs.Telling.{IsTold, told_of}
-use Rattle.jn_lsp.proofs.LastPublished.{announced, last_both, told_own}
+use Rattle.jn_lsp.specs.Unknown.{doubts_in, hushed, unless_unknown}
+use Rattle.jn_lsp.proofs.Hushing.{doubts_silent, hushed_told, own_hushed}
+use Rattle.jn_lsp.proofs.LastPublished.{AreOwnTold, announced, last_both, told_own}
 use Rattle.jn_lsp.proofs.Names.{stand_own}
 use Rattle.jn_lsp.proofs.Rows.{told_named}
 
@@ -33,7 +35,7 @@ module _ (name : List ℕ) (last : List Diagnostic) where
   refusal_silent failure (Some id) = refl
 
   waiting_silent : (message : Message) → IsSilent (waiting_answer message)
-  waiting_silent (Initialize id folder files) = refl
+  waiting_silent (Initialize id folder files exclude) = refl
   waiting_silent Initialized = refl
   waiting_silent (DidOpen named text) = refl
   waiting_silent (DidChange named changes) = refl
@@ -45,6 +47,7 @@ module _ (name : List ℕ) (last : List Diagnostic) where
   waiting_silent Exit = refl
   waiting_silent Ignored = refl
   waiting_silent (Unknown id) = refl
+  waiting_silent (BadDocument named) = refl
   waiting_silent (BadParams id) = refusal_silent _ id
   waiting_silent NoMessage = refl
   waiting_silent NoJson = refl
@@ -52,7 +55,7 @@ module _ (name : List ℕ) (last : List Diagnostic) where
   waiting_silent TooLarge = refl
 
   serving_silent : (actions : List Action) (message : Message) → IsSilent (serving_answer actions message)
-  serving_silent actions (Initialize id folder files) = refl
+  serving_silent actions (Initialize id folder files exclude) = refl
   serving_silent actions Initialized = refl
   serving_silent actions (DidOpen named text) = refl
   serving_silent actions (DidChange named changes) = refl
@@ -64,6 +67,7 @@ module _ (name : List ℕ) (last : List Diagnostic) where
   serving_silent actions Exit = refl
   serving_silent actions Ignored = refl
   serving_silent actions (Unknown id) = refl
+  serving_silent actions (BadDocument named) = refl
   serving_silent actions (BadParams id) = refusal_silent _ id
   serving_silent actions NoMessage = refl
   serving_silent actions NoJson = refl
@@ -71,7 +75,7 @@ module _ (name : List ℕ) (last : List Diagnostic) where
   serving_silent actions TooLarge = refl
 
   late_silent : (message : Message) → IsSilent (late_answer message)
-  late_silent (Initialize id folder files) = refl
+  late_silent (Initialize id folder files exclude) = refl
   late_silent Initialized = refl
   late_silent (DidOpen named text) = refl
   late_silent (DidChange named changes) = refl
@@ -83,6 +87,7 @@ module _ (name : List ℕ) (last : List Diagnostic) where
   late_silent Exit = refl
   late_silent Ignored = refl
   late_silent (Unknown id) = refl
+  late_silent (BadDocument named) = refl
   late_silent (BadParams id) = refusal_silent _ id
   late_silent NoMessage = refl
   late_silent NoJson = refl
@@ -96,15 +101,21 @@ module _ (name : List ℕ) (last : List Diagnostic) where
   answer_silent actions (Exited in_order) _ = refl
 
   answers_silent : (server : ServerOf) (event : Event) (direct : List Reply) → AreAnswers server event direct → last_published name last direct ≡ last
-  answers_silent server (MessageEvent message) direct (actions, offered, e) = ap (last_published name last) e ∙ answer_silent actions server.phase message
+  answers_silent server (MessageEvent message) direct (actions, offered, e) =
+      let answer = option_to_list (answer_of actions server.phase message) in
+      let warnings = doubts_in server.phase message server.workspace.documents server.workspace.unknown in
+      ap (last_published name last) e
+      ∙ last_both name last answer warnings
+      ∙ ap (λ l. last_published name l warnings) (answer_silent actions server.phase message)
+      ∙ doubts_silent name last server.phase message server.workspace.documents server.workspace.unknown
   answers_silent server (Folder files) direct e = ap (last_published name last) e
 
 -- ---- one event
 
 informed_behind : (opened : Option (List ℕ)) (moved : Option Workspace) (before after : ServerOf) (news : List Reply) → IsRetold opened moved before news after → IsInformed before → IsInformed after
 informed_behind opened None before after news (nothing, same, told) informed =
-    subst (λ w. IsTold (files_of w) after.told) (sym same) (subst (IsTold (files_of before.workspace)) (sym told) informed)
-informed_behind opened (Some workspace) before after news (is, told, announces) informed = subst (λ w. IsTold (files_of w) after.told) (sym is) told
+    subst (λ w. AreToldOf w after.told) (sym same) (subst (AreToldOf before.workspace) (sym told) informed)
+informed_behind opened (Some workspace) before after news (is, told, announces) informed = subst (λ w. AreToldOf w after.told) (sym is) told
 
 pub informed : (before after : ServerOf) (event : Event) (replies : List Reply) → Takes before event replies after → IsInformed before → IsInformed after
 informed before after event replies takes is = informed_behind (opened_by event) takes.moved before after takes.news takes.retold is
@@ -112,7 +123,8 @@ informed before after event replies takes is = informed_behind (opened_by event)
 news_last : (opened : Option (List ℕ)) (name : List ℕ) (moved : Option Workspace) (before after : ServerOf) (news : List Reply) → IsRetold opened moved before news after → last_published name (told_of before.told name) news ≡ told_of after.told name
 news_last opened name None before after news (nothing, same, told) = ap (last_published name (told_of before.told name)) nothing ∙ ap (λ t. told_of t name) (sym told)
 news_last opened name (Some workspace) before after news (is, told, announces) =
-    announced opened before.told after.told news name (told_own (files_of workspace) after.told (stand_own workspace.disk workspace.documents) told) announces
+    let own = own_hushed workspace.unknown told.0 (told_own (files_of workspace) told.0 (stand_own workspace.disk workspace.documents) told.1) in
+    announced opened before.told after.told news name (subst AreOwnTold (sym told.2) own) announces
 
 event_last : (name : List ℕ) (before after : ServerOf) (event : Event) (replies : List Reply) → Takes before event replies after → last_published name (told_of before.told name) replies ≡ told_of after.told name
 event_last name before after event replies takes =
@@ -148,10 +160,20 @@ all_last name (event ∷ events) before after replies (first, rest, mid, e, take
     ∙ ap (λ l. last_published name l rest) (event_last name before mid event first takes)
     ∙ all_last name events mid after rest serves
 
-as_reported : (files : List SourceFile) (told : List Told) (last : List ℕ → List Diagnostic) → IsTold files told → ((name : List ℕ) → last name ≡ told_of told name) → ArePublishedLast files last
-as_reported [] told last is same = λ name. same name ∙ ap (λ t. told_of t name) is
-as_reported (file ∷ files) told last is same = (is.rows, is.notes, is.found, λ name. same name ∙ ap (λ t. told_of t name) is.are ∙ told_named (file ∷ files) is.rows is.notes name)
+as_reported : (unknown : List (List ℕ)) (files : List SourceFile) (all told : List Told) (last : List ℕ → List Diagnostic) → IsTold files all → told ≡ hushed unknown all → ((name : List ℕ) → last name ≡ told_of told name) → ArePublishedLast unknown files last
+as_reported unknown [] all told last is e same = λ name. same name ∙ ap (λ t. told_of t name) (e ∙ ap (hushed unknown) is)
+as_reported unknown (file ∷ files) all told last is e same = (
+  is.rows,
+  is.notes,
+  is.found,
+  λ name.
+      same name
+      ∙ ap (λ t. told_of t name) e
+      ∙ hushed_told unknown all name
+      ∙ ap (unless_unknown unknown name) (ap (λ t. told_of t name) is.are ∙ told_named (file ∷ files) is.rows is.notes name),
+)
 
 pub up_to_date : (events : List Event) (replies : List Reply) (after : ServerOf) → Serves new_server events replies after → IsUpToDate after replies
 up_to_date events replies after serves =
-    as_reported (files_of after.workspace) after.told (λ name. last_published name [] replies) (all_informed events new_server after replies serves refl) (λ name. all_last name events new_server after replies serves)
+    let informed = all_informed events new_server after replies serves ([], refl, refl) in
+    as_reported after.workspace.unknown (files_of after.workspace) informed.0 after.told (λ name. last_published name [] replies) informed.1 informed.2 (λ name. all_last name events new_server after replies serves)

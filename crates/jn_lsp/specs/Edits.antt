@@ -6,8 +6,9 @@ use Rattle.jn_lsp_text.specs.Ranges.{IsReplaced}
 use Rattle.jn_lsp_types.specs.declared.message.Change.{Change}
 use Rattle.jn_lsp_types.specs.declared.message.Change.TheVariants.{Whole, Part}
 use Rattle.jn_lsp_types.specs.declared.message.Message.{Message}
-use Rattle.jn_lsp_types.specs.declared.message.Message.TheVariants.{Initialize, Initialized, DidOpen, DidChange, DidSave, DidClose, WatchedFiles, CodeAction, Shutdown, Exit, Ignored, Unknown, BadParams, NoMessage, NoJson, BadHeader, TooLarge}
+use Rattle.jn_lsp_types.specs.declared.message.Message.TheVariants.{Initialize, Initialized, DidOpen, DidChange, DidSave, DidClose, WatchedFiles, CodeAction, Shutdown, Exit, Ignored, Unknown, BadDocument, BadParams, NoMessage, NoJson, BadHeader, TooLarge}
 use Rattle.jn_recheck.specs.Files.{with_file, without_file}
+use Rattle.jn_lsp.specs.Names.{is_among}
 use Rattle.jn_lsp.specs.Stand.{document_of}
 
 -- ---- texts
@@ -32,7 +33,11 @@ is_java name = ends_with nat_eq name (codes ".java")
 abbrev pub opened : List ℕ → List ℕ → List SourceFile → Option (List SourceFile)
 opened name text documents = if is_java name then Some (with_file name text documents) else None
 
--- the open document gets the text behind the changes; a document that isn't open has none
+-- the open document of a name, where its text is known
+abbrev pub known_document : List (List ℕ) → List ℕ → List SourceFile → Option SourceFile
+known_document unknown name documents = if is_among unknown name then None else document_of name documents
+
+-- the open document gets the text behind the changes; a document that isn't open, or whose text isn't known, has none
 abbrev pub IsTyped : List ℕ → List Change → List SourceFile → Option SourceFile → Option (List SourceFile) → Type 0
 IsTyped name changes documents None after = after ≡ None
 IsTyped name changes documents (Some document) after = (text : List ℕ) × AreChanged changes document.bytes text × (after ≡ Some (with_file name text documents))
@@ -46,21 +51,22 @@ abbrev pub closed : List ℕ → List SourceFile → Option (List SourceFile)
 closed name documents = closed_as name documents (document_of name documents)
 
 -- the open documents behind a message, in the order in which they were opened; none where it doesn't change them
-abbrev pub AreEdited : Message → List SourceFile → Option (List SourceFile) → Type 0
-AreEdited (DidOpen name text) documents after = after ≡ opened name text documents
-AreEdited (DidChange name changes) documents after = IsTyped name changes documents (document_of name documents) after
-AreEdited (DidClose name) documents after = after ≡ closed name documents
-AreEdited (Initialize id folder files) documents after = after ≡ None
-AreEdited Initialized documents after = after ≡ None
-AreEdited (DidSave name) documents after = after ≡ None
-AreEdited WatchedFiles documents after = after ≡ None
-AreEdited (CodeAction id name range) documents after = after ≡ None
-AreEdited (Shutdown id) documents after = after ≡ None
-AreEdited Exit documents after = after ≡ None
-AreEdited Ignored documents after = after ≡ None
-AreEdited (Unknown id) documents after = after ≡ None
-AreEdited (BadParams id) documents after = after ≡ None
-AreEdited NoMessage documents after = after ≡ None
-AreEdited NoJson documents after = after ≡ None
-AreEdited BadHeader documents after = after ≡ None
-AreEdited TooLarge documents after = after ≡ None
+abbrev pub AreEdited : List (List ℕ) → Message → List SourceFile → Option (List SourceFile) → Type 0
+AreEdited unknown (DidOpen name text) documents after = after ≡ opened name text documents
+AreEdited unknown (DidChange name changes) documents after = IsTyped name changes documents (known_document unknown name documents) after
+AreEdited unknown (DidClose name) documents after = after ≡ closed name documents
+AreEdited unknown (Initialize id folder files exclude) documents after = after ≡ None
+AreEdited unknown Initialized documents after = after ≡ None
+AreEdited unknown (DidSave name) documents after = after ≡ None
+AreEdited unknown WatchedFiles documents after = after ≡ None
+AreEdited unknown (CodeAction id name range) documents after = after ≡ None
+AreEdited unknown (Shutdown id) documents after = after ≡ None
+AreEdited unknown Exit documents after = after ≡ None
+AreEdited unknown Ignored documents after = after ≡ None
+AreEdited unknown (Unknown id) documents after = after ≡ None
+AreEdited unknown (BadDocument name) documents after = after ≡ None
+AreEdited unknown (BadParams id) documents after = after ≡ None
+AreEdited unknown NoMessage documents after = after ≡ None
+AreEdited unknown NoJson documents after = after ≡ None
+AreEdited unknown BadHeader documents after = after ≡ None
+AreEdited unknown TooLarge documents after = after ≡ None

@@ -1,5 +1,5 @@
 -- What an event makes of a server, and what is replied to it (Language Server Protocol 3.17, "Server lifecycle").
-use Rattle.std.specs.Prelude.{ℕ, ◌≡◌, ◌++◌, Bool, true, false, List, [], ◌∷◌, Option, Some, None, option_map, option_to_list}
+use Rattle.std.specs.Prelude.{ℕ, ◌≡◌, ◌++◌, Bool, true, false, List, [], ◌∷◌, Option, Some, None, ◌&&◌, if◌then◌else◌, option_to_list}
 use Rattle.std.specs.List.{list_any}
 use Rattle.jn_base.specs.declared.place.Row.{Row}
 use Rattle.jn_front.specs.declared.source.SourceFile.{SourceFile}
@@ -8,7 +8,7 @@ use Rattle.jn_lsp_actions.specs.Offered.{AreActions}
 use Rattle.jn_lsp_text.specs.declared.range.Range.{Range}
 use Rattle.jn_lsp_types.specs.declared.id.Id.{Id}
 use Rattle.jn_lsp_types.specs.declared.message.Message.{Message}
-use Rattle.jn_lsp_types.specs.declared.message.Message.TheVariants.{Initialize, Initialized, DidOpen, DidChange, DidSave, DidClose, WatchedFiles, CodeAction, Shutdown, Exit, Ignored, Unknown, BadParams, NoMessage, NoJson, BadHeader, TooLarge}
+use Rattle.jn_lsp_types.specs.declared.message.Message.TheVariants.{Initialize, Initialized, DidOpen, DidChange, DidSave, DidClose, WatchedFiles, CodeAction, Shutdown, Exit, Ignored, Unknown, BadDocument, BadParams, NoMessage, NoJson, BadHeader, TooLarge}
 use Rattle.jn_lsp_types.specs.declared.reply.Action.{Action}
 use Rattle.jn_lsp_types.specs.declared.reply.Diagnostic.{Diagnostic}
 use Rattle.jn_lsp_types.specs.declared.reply.Failure.{Failure}
@@ -23,9 +23,11 @@ use Rattle.jn_lsp.specs.declared.documents.Workspace.{Workspace}
 use Rattle.jn_lsp.specs.declared.phase.Phase.{Phase}
 use Rattle.jn_lsp.specs.declared.phase.Phase.TheVariants.{Waiting, Serving, ShutDown, Exited}
 use Rattle.jn_lsp.specs.Edits.{AreEdited}
+use Rattle.jn_lsp.specs.Names.{is_empty}
 use Rattle.jn_lsp.specs.Publications.{Announces, last_published}
 use Rattle.jn_lsp.specs.Stand.{stand}
 use Rattle.jn_lsp.specs.Telling.{AreFindings, IsTold, diagnostics_of, told_of}
+use Rattle.jn_lsp.specs.Unknown.{doubts_in, hushed, touches, unknown_behind, unless_unknown}
 
 -- ---- requests and phases
 
@@ -35,7 +37,7 @@ unread NoMessage = Some Request
 unread TooLarge = Some Request
 unread NoJson = Some Parse
 unread BadHeader = Some Parse
-unread (Initialize id folder files) = None
+unread (Initialize id folder files exclude) = None
 unread Initialized = None
 unread (DidOpen name text) = None
 unread (DidChange name changes) = None
@@ -47,6 +49,7 @@ unread (Shutdown id) = None
 unread Exit = None
 unread Ignored = None
 unread (Unknown id) = None
+unread (BadDocument name) = None
 unread (BadParams id) = None
 
 abbrev pub refusal : Failure → Option Id → Option Reply
@@ -59,7 +62,7 @@ nameless (Some failure) = Some (Refusal None failure)
 
 -- before `initialize` no other request is served
 abbrev pub waiting_answer : Message → Option Reply
-waiting_answer (Initialize id folder files) = Some (Capabilities id)
+waiting_answer (Initialize id folder files exclude) = Some (Capabilities id)
 waiting_answer (CodeAction id name range) = refusal NotInitialized (Some id)
 waiting_answer (Shutdown id) = refusal NotInitialized (Some id)
 waiting_answer (Unknown id) = refusal NotInitialized (Some id)
@@ -68,7 +71,7 @@ waiting_answer other = nameless (unread other)
 
 -- a second `initialize` is refused, and these are the actions for a request of actions
 abbrev pub serving_answer : List Action → Message → Option Reply
-serving_answer actions (Initialize id folder files) = refusal Request (Some id)
+serving_answer actions (Initialize id folder files exclude) = refusal Request (Some id)
 serving_answer actions (CodeAction id name range) = Some (Actions id actions)
 serving_answer actions (Shutdown id) = Some (Done id)
 serving_answer actions (Unknown id) = refusal Method (Some id)
@@ -77,7 +80,7 @@ serving_answer actions other = nameless (unread other)
 
 -- behind `shutdown` every request is refused
 abbrev pub late_answer : Message → Option Reply
-late_answer (Initialize id folder files) = refusal Request (Some id)
+late_answer (Initialize id folder files exclude) = refusal Request (Some id)
 late_answer (CodeAction id name range) = refusal Request (Some id)
 late_answer (Shutdown id) = refusal Request (Some id)
 late_answer (Unknown id) = refusal Request (Some id)
@@ -92,7 +95,7 @@ answer_of actions ShutDown message = late_answer message
 answer_of actions (Exited in_order) _ = None
 
 abbrev pub phase_behind : Phase → Message → Phase
-phase_behind Waiting (Initialize id folder files) = Serving
+phase_behind Waiting (Initialize id folder files exclude) = Serving
 phase_behind Waiting Exit = Exited false
 phase_behind Waiting _ = Waiting
 phase_behind Serving (Shutdown id) = ShutDown
@@ -116,13 +119,18 @@ abbrev pub next_phase : Phase → Event → Phase
 next_phase phase (MessageEvent message) = phase_behind phase message
 next_phase phase (Folder files) = phase
 
-abbrev pub with_documents : List SourceFile → List SourceFile → Workspace
-with_documents disk documents = record { disk = disk; documents = documents }
+abbrev pub workspace_of : List SourceFile → List SourceFile → List (List ℕ) → Workspace
+workspace_of disk documents unknown = record { disk = disk; documents = documents; unknown = unknown }
 
--- the folder's files and the open documents behind an event; none where it changes neither
+-- a workspace behind a message that makes of its documents these, or leaves them; none where it doesn't touch which texts are unknown either
+abbrev pub moved_by : Message → Workspace → Option (List SourceFile) → Option Workspace
+moved_by message before None = if touches message then Some (workspace_of before.disk before.documents (unknown_behind message before.documents before.unknown)) else None
+moved_by message before (Some documents) = Some (workspace_of before.disk documents (unknown_behind message before.documents before.unknown))
+
+-- the folder's files, the open documents, and those of unknown texts, behind an event; none where it changes none of them
 abbrev pub IsMoved : Event → Workspace → Option Workspace → Type 0
-IsMoved (Folder files) before after = after ≡ Some (with_documents files before.documents)
-IsMoved (MessageEvent message) before after = (documents : Option (List SourceFile)) × AreEdited message before.documents documents × (after ≡ option_map (with_documents before.disk) documents)
+IsMoved (Folder files) before after = after ≡ Some (workspace_of files before.documents before.unknown)
+IsMoved (MessageEvent message) before after = (documents : Option (List SourceFile)) × AreEdited before.unknown message before.documents documents × (after ≡ moved_by message before documents)
 
 -- files change only while the server serves
 abbrev pub IsMovedIn : Phase → Event → Workspace → Option Workspace → Type 0
@@ -140,7 +148,7 @@ pub record ServerOf : Type 0 where
   pub told : List Told
 
 abbrev pub new_server : ServerOf
-new_server = record { phase = Waiting; workspace = record { disk = []; documents = [] }; told = [] }
+new_server = record { phase = Waiting; workspace = workspace_of [] [] []; told = [] }
 
 -- the files as they stand
 abbrev pub files_of : Workspace → List SourceFile
@@ -155,25 +163,30 @@ is_at range diagnostic = meets diagnostic.range range
 abbrev pub is_told_at : List Told → List ℕ → Range → Bool
 is_told_at told name range = list_any (is_at range) (told_of told name)
 
--- the files' actions, where something is told at the range; else none
+-- something is told there, and all texts are known, since an edit of one that isn't would go astray
+abbrev pub is_offered : List Told → Workspace → List ℕ → Range → Bool
+is_offered told workspace name range = is_empty workspace.unknown && is_told_at told name range
+
+-- the files' actions, where they are offered; else none
 abbrev pub AreActionsIf : Bool → List SourceFile → List ℕ → Range → List Action → Type 0
 AreActionsIf false files name range actions = actions ≡ []
 AreActionsIf true files name range actions = AreActions files name range actions
 
 -- the actions for a request of actions; other messages have none
-abbrev pub AreActionsFor : List Told → List SourceFile → Message → List Action → Type 0
-AreActionsFor told files (CodeAction id name range) actions = AreActionsIf (is_told_at told name range) files name range actions
-AreActionsFor told files other actions = actions ≡ []
+abbrev pub AreActionsFor : List Told → Workspace → Message → List Action → Type 0
+AreActionsFor told workspace (CodeAction id name range) actions = AreActionsIf (is_offered told workspace name range) (files_of workspace) name range actions
+AreActionsFor told workspace other actions = actions ≡ []
 
 -- actions are offered only while the server serves
-abbrev pub AreActionsIn : Phase → List Told → List SourceFile → Message → List Action → Type 0
-AreActionsIn Serving told files message actions = AreActionsFor told files message actions
+abbrev pub AreActionsIn : Phase → List Told → Workspace → Message → List Action → Type 0
+AreActionsIn Serving told workspace message actions = AreActionsFor told workspace message actions
 AreActionsIn _ _ _ _ actions = actions ≡ []
 
--- the answers to an event: to a message one at most
+-- the answers to an event: to a message one at most, and a warning for each document whose text it leaves open
 abbrev pub AreAnswers : ServerOf → Event → List Reply → Type 0
 AreAnswers server (MessageEvent message) replies =
-    (actions : List Action) × AreActionsIn server.phase server.told (files_of server.workspace) message actions × (replies ≡ option_to_list (answer_of actions server.phase message))
+    (actions : List Action) × AreActionsIn server.phase server.told server.workspace message actions
+    × (replies ≡ option_to_list (answer_of actions server.phase message) ++ doubts_in server.phase message server.workspace.documents server.workspace.unknown)
 AreAnswers server (Folder files) replies = replies ≡ []
 
 -- ---- what a server does
@@ -183,10 +196,14 @@ abbrev pub opened_by : Event → Option (List ℕ)
 opened_by (MessageEvent (DidOpen name text)) = Some name
 opened_by _ = None
 
+-- what is told of a workspace: the report of its files as they stand, and of those whose text isn't known nothing
+abbrev pub AreToldOf : Workspace → List Told → Type 0
+AreToldOf workspace told = (all : List Told) × IsTold (files_of workspace) all × (told ≡ hushed workspace.unknown all)
+
 -- where files change, their report is told, and what of it wasn't told before is published, with that of the document that is opened
 abbrev pub IsRetold : Option (List ℕ) → Option Workspace → ServerOf → List Reply → ServerOf → Type 0
 IsRetold opened None before news after = (news ≡ []) × (after.workspace ≡ before.workspace) × (after.told ≡ before.told)
-IsRetold opened (Some workspace) before news after = (after.workspace ≡ workspace) × IsTold (files_of workspace) after.told × Announces opened before.told after.told news
+IsRetold opened (Some workspace) before news after = (after.workspace ≡ workspace) × AreToldOf workspace after.told × Announces opened before.told after.told news
 
 -- a server takes an event, and gives these replies
 pub record Takes (before : ServerOf) (event : Event) (replies : List Reply) (after : ServerOf) : Type 0 where
@@ -208,15 +225,16 @@ Serves before (event ∷ events) replies after =
 
 -- what is told is the report of the files as they stand
 abbrev pub IsInformed : ServerOf → Type 0
-IsInformed server = IsTold (files_of server.workspace) server.told
+IsInformed server = AreToldOf server.workspace server.told
 
 -- ---- the theorem
 
--- of each name this was published last: of no files nothing, else the diagnostics of the files' report; a name that doesn't stand has none
-abbrev pub ArePublishedLast : List SourceFile → (List ℕ → List Diagnostic) → Type 0
-ArePublishedLast [] last = (name : List ℕ) → last name ≡ []
-ArePublishedLast (file ∷ files) last =
-    (rows : List Row) × (notes : List Notes) × AreFindings (file ∷ files) rows notes × ((name : List ℕ) → last name ≡ diagnostics_of (file ∷ files) rows notes name)
+-- of each name this was published last: of no files nothing, else the diagnostics of the files' report; a name that doesn't stand has none,
+-- nor one whose text isn't known
+abbrev pub ArePublishedLast : List (List ℕ) → List SourceFile → (List ℕ → List Diagnostic) → Type 0
+ArePublishedLast unknown [] last = (name : List ℕ) → last name ≡ []
+ArePublishedLast unknown (file ∷ files) last =
+    (rows : List Row) × (notes : List Notes) × AreFindings (file ∷ files) rows notes × ((name : List ℕ) → last name ≡ unless_unknown unknown name (diagnostics_of (file ∷ files) rows notes name))
 
 abbrev pub IsUpToDate : ServerOf → List Reply → Type 0
-IsUpToDate server replies = ArePublishedLast (files_of server.workspace) (λ name. last_published name [] replies)
+IsUpToDate server replies = ArePublishedLast server.workspace.unknown (files_of server.workspace) (λ name. last_published name [] replies)

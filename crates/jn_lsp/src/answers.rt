@@ -7,6 +7,7 @@ use crate::documents::Workspace;
 use crate::event::Event;
 use crate::offering::offered;
 use crate::phase::Phase;
+use crate::unknown::warn;
 use jn_base::{OutOfMemory, Seq};
 use jn_gate::Gate;
 use jn_lsp_types::{Action, Failure, Id, Message, Reply};
@@ -140,7 +141,16 @@ pub(crate) fn answers<R: Threads + Sync, G: Gate + Sync>(
         Event::Message(message) => {
             let actions = offered(rt, gate, alloc, phase, told, workspace, message)?;
             let answer = answer_of(alloc, phase, message, actions)?;
-            listed(alloc, answer)
+            let mut replies = listed(alloc, answer)?;
+            warn(
+                alloc,
+                phase,
+                message,
+                workspace.documents.as_slice(),
+                workspace.unknown.as_slice(),
+                &mut replies,
+            )?;
+            Ok(replies)
         }
         Event::Folder(_) => Ok(Seq::new(alloc)),
     }

@@ -1,12 +1,13 @@
 //! The documents that a client has open.
-ghost use Rattle.std.specs.Prelude.{◌≡◌, IfOk, MatchOption, None, Some, option_map, length, ◌<◌, true};
+ghost use Rattle.std.specs.Prelude.{◌≡◌, IfOk, MatchOption, None, Some, length, ◌<◌, true};
 ghost use Rattle.jn_lsp.specs.Edits as spec;
 ghost use Rattle.jn_lsp.specs.Serving as serving;
-ghost use Rattle.jn_lsp.specs.Stand.{document_of};
+ghost use Rattle.jn_lsp.specs.Unknown.{unknown_behind};
 ghost use Rattle.jn_recheck.specs.Files.{with_file, without_file, place_of, is_named};
 
 use crate::event::Event;
 use crate::phase::Phase;
+use crate::unknown::{copy_names, is_among, touches, unknown_behind};
 use jn_base::{OutOfMemory, Seq, Text};
 use jn_front::SourceFile;
 use jn_lsp_text::replace;
@@ -18,6 +19,8 @@ use std::alloc::{AllocError, Global};
 pub struct Workspace {
     pub disk: Seq<SourceFile>,
     pub documents: Seq<SourceFile>,
+    /// The names of documents whose texts aren't known, since what the client sent of them can't be read.
+    pub unknown: Seq<Text>,
 }
 
 // ---- texts
@@ -127,7 +130,7 @@ fn without_document(
 
 // ---- messages
 
-fn is_java(name: &str) -> bool
+pub(crate) fn is_java(name: &str) -> bool
     ensures { result ≡ spec.is_java name.now }
 {
     name.as_bytes().ends_with(b".java")
@@ -150,13 +153,17 @@ fn opened(
 
 fn typed(
     alloc: Global,
+    unknown: &[Text],
     documents: &[SourceFile],
     name: &str,
     changes: &[Change],
 ) -> Result<Option<Seq<SourceFile>>, OutOfMemory>
     ensures { IfOk result (λ made. spec.IsTyped name.now changes.now documents.now
-        (document_of name.now documents.now) made) }
+        (spec.known_document unknown.now name.now documents.now) made) }
 {
+    if is_among(unknown, name) {
+        return Ok(None);
+    }
     match place_of(documents, name) {
         None => Ok(None),
         Some(at) => {
@@ -182,15 +189,16 @@ fn closed(
 /// The open documents behind a message, where it changes them.
 fn edited(
     alloc: Global,
+    unknown: &[Text],
     documents: &[SourceFile],
     message: &Message,
 ) -> Result<Option<Seq<SourceFile>>, OutOfMemory>
-    ensures { IfOk result (λ made. spec.AreEdited message.now documents.now made) }
+    ensures { IfOk result (λ made. spec.AreEdited unknown.now message.now documents.now made) }
 {
     match message {
         Message::DidOpen { name, text } => opened(alloc, documents, name.as_str(), text.as_slice()),
         Message::DidChange { name, changes } => {
-            typed(alloc, documents, name.as_str(), changes.as_slice())
+            typed(alloc, unknown, documents, name.as_str(), changes.as_slice())
         }
         Message::DidClose { name } => closed(alloc, documents, name.as_str()),
         _ => Ok(None),
@@ -207,31 +215,67 @@ impl Workspace {
         Workspace {
             disk: Seq::new(alloc),
             documents: Seq::new(alloc),
+            unknown: Seq::new(alloc),
         }
     }
 
     fn with_disk(&self, alloc: Global, disk: &[SourceFile]) -> Result<Workspace, OutOfMemory>
-        ensures { IfOk result (λ made. made ≡ serving.with_documents disk.now self.now.documents) }
+        ensures { IfOk result (λ made. made
+            ≡ serving.workspace_of disk.now self.now.documents self.now.unknown) }
     {
         Ok(Workspace {
             disk: Seq::of_vec(copy_documents(alloc, disk)?),
             documents: Seq::of_vec(copy_documents(alloc, self.documents.as_slice())?),
+            unknown: copy_names(alloc, self.unknown.as_slice())?,
         })
     }
 
+    /// The workspace with these documents behind a message.
     fn with_documents(
         &self,
         alloc: Global,
+        message: &Message,
+        documents: Seq<SourceFile>,
+    ) -> Result<Workspace, OutOfMemory>
+        ensures { IfOk result (λ made. made ≡ serving.workspace_of self.now.disk documents
+            (unknown_behind message.now self.now.documents self.now.unknown)) }
+    {
+        let unknown = unknown_behind(
+            alloc,
+            message,
+            self.documents.as_slice(),
+            self.unknown.as_slice(),
+        )?;
+        Ok(Workspace {
+            disk: Seq::of_vec(copy_documents(alloc, self.disk.as_slice())?),
+            documents,
+            unknown,
+        })
+    }
+
+    /// The workspace behind a message that leaves the documents, where it may change which texts are unknown.
+    fn touched_by(&self, alloc: Global, message: &Message) -> Result<Option<Workspace>, OutOfMemory>
+        ensures { IfOk result (λ made. made ≡ serving.moved_by message.now self.now None) }
+    {
+        if !touches(message) {
+            return Ok(None);
+        }
+        let documents = Seq::of_vec(copy_documents(alloc, self.documents.as_slice())?);
+        Ok(Some(self.with_documents(alloc, message, documents)?))
+    }
+
+    /// The workspace behind a message that makes of its documents these, or leaves them.
+    fn moved_to(
+        &self,
+        alloc: Global,
+        message: &Message,
         documents: Option<Seq<SourceFile>>,
     ) -> Result<Option<Workspace>, OutOfMemory>
-        ensures { IfOk result (λ made. made ≡ option_map (serving.with_documents self.now.disk) documents) }
+        ensures { IfOk result (λ made. made ≡ serving.moved_by message.now self.now documents) }
     {
         match documents {
-            None => Ok(None),
-            Some(documents) => Ok(Some(Workspace {
-                disk: Seq::of_vec(copy_documents(alloc, self.disk.as_slice())?),
-                documents,
-            })),
+            None => self.touched_by(alloc, message),
+            Some(documents) => Ok(Some(self.with_documents(alloc, message, documents)?)),
         }
     }
 
@@ -240,8 +284,13 @@ impl Workspace {
     {
         match event {
             Event::Message(message) => {
-                let documents = edited(alloc, self.documents.as_slice(), message)?;
-                self.with_documents(alloc, documents)
+                let documents = edited(
+                    alloc,
+                    self.unknown.as_slice(),
+                    self.documents.as_slice(),
+                    message,
+                )?;
+                self.moved_to(alloc, message, documents)
             }
             Event::Folder(files) => Ok(Some(self.with_disk(alloc, files.as_slice())?)),
         }

@@ -18,6 +18,7 @@ mod publishing;
 mod reporting;
 pub mod server;
 mod standing;
+mod unknown;
 
 pub use diagnostics::Told;
 pub use documents::Workspace;

@@ -9,6 +9,7 @@ use crate::phase::Phase;
 use crate::publishing::told_of;
 use crate::reporting::WORKERS;
 use crate::standing::stand;
+use crate::unknown::is_empty;
 use jn_base::{OutOfMemory, Seq};
 use jn_gate::Gate;
 use jn_lsp_actions::actions_for;
@@ -50,7 +51,7 @@ fn actions_of<R: Threads + Sync, G: Gate + Sync>(
     Ok(actions)
 }
 
-/// The actions at a range of the file of a name. Files are checked for them only where something is told there, since editors ask at each
+/// The actions at a range of the file of a name: none while a document's text isn't known. Files are checked for them only where something is told there, since editors ask at each
 /// move of the cursor.
 fn actions_at<R: Threads + Sync, G: Gate + Sync>(
     rt: &R,
@@ -61,10 +62,11 @@ fn actions_at<R: Threads + Sync, G: Gate + Sync>(
     name: &str,
     range: Range,
 ) -> Result<Seq<Action>, OutOfMemory>
-    ensures { IfOk result (λ actions. spec.AreActionsIf (spec.is_told_at told.now name.now range)
+    ensures { IfOk result (λ actions. spec.AreActionsIf
+        (spec.is_offered told.now workspace.now name.now range)
         (spec.files_of workspace.now) name.now range actions) }
 {
-    if is_told_at(told, name, range) {
+    if is_empty(workspace.unknown.as_slice()) && is_told_at(told, name, range) {
         actions_of(rt, gate, alloc, workspace, name, range)
     } else {
         Ok(Seq::new(alloc))
@@ -80,7 +82,7 @@ fn actions_for_message<R: Threads + Sync, G: Gate + Sync>(
     workspace: &Workspace,
     message: &Message,
 ) -> Result<Seq<Action>, OutOfMemory>
-    ensures { IfOk result (λ actions. spec.AreActionsFor told.now (spec.files_of workspace.now)
+    ensures { IfOk result (λ actions. spec.AreActionsFor told.now workspace.now
         message.now actions) }
 {
     match message {
@@ -101,7 +103,7 @@ pub(crate) fn offered<R: Threads + Sync, G: Gate + Sync>(
     workspace: &Workspace,
     message: &Message,
 ) -> Result<Seq<Action>, OutOfMemory>
-    ensures { IfOk result (λ actions. spec.AreActionsIn phase told.now (spec.files_of workspace.now)
+    ensures { IfOk result (λ actions. spec.AreActionsIn phase told.now workspace.now
         message.now actions) }
 {
     match phase {

@@ -1,8 +1,7 @@
 //! The server.
 ghost use Rattle.std.specs.Prelude.{◌≡◌, ◌++◌, IfOk, OnErr, OnOk, [], None, Some};
 ghost use Rattle.jn_lsp.specs.Publications.{Announces};
-ghost use Rattle.jn_lsp.specs.Serving.{IsInformed, Takes, files_of, new_server};
-ghost use Rattle.jn_lsp.specs.Telling.{IsTold};
+ghost use Rattle.jn_lsp.specs.Serving.{AreToldOf, IsInformed, Takes, new_server};
 
 use crate::answers::answers;
 use crate::diagnostics::Told;
@@ -12,6 +11,7 @@ use crate::phase::Phase;
 use crate::publishing::announce;
 use crate::reporting::tell;
 use crate::standing::stand;
+use crate::unknown::hushed;
 use jn_base::{OutOfMemory, Seq, Text};
 use jn_gate::Gate;
 use jn_lsp_types::Reply;
@@ -27,6 +27,7 @@ struct News {
     publications: Seq<Reply>,
 }
 
+/// The report of a workspace as it is told, and what of it is published.
 fn retell<R: Threads + Sync, G: Gate + Sync>(
     rt: &R,
     gate: &G,
@@ -36,11 +37,12 @@ fn retell<R: Threads + Sync, G: Gate + Sync>(
     before: &[Told],
     workspace: &Workspace,
 ) -> Result<News, OutOfMemory>
-    ensures told { IfOk result (λ news. IsTold (files_of workspace.now) news.told.items) }
+    ensures told { IfOk result (λ news. AreToldOf workspace.now news.told.items) }
     ensures announced { IfOk result (λ news. Announces opened.now before.now news.told.items news.publications) }
 {
     let files = stand(alloc, workspace)?;
-    let told = tell(rt, gate, alloc, session, files.as_slice())?;
+    let all = tell(rt, gate, alloc, session, files.as_slice())?;
+    let told = hushed(alloc, workspace.unknown.as_slice(), all.as_slice())?;
     let publications = announce(alloc, opened, before, told.as_slice())?;
     Ok(News { told, publications })
 }
@@ -78,6 +80,7 @@ impl Model for Server {
 
 impl Server {
     /// A server to which no client has spoken yet.
+    #[tactic(auto, using(crate::proofs::Hushing::told_nothing))]
     pub fn new(alloc: Global) -> Server
         ensures { result ≡ new_server }
     {

@@ -1,7 +1,7 @@
 -- Which message a body is (JSON-RPC 2.0; Language Server Protocol 3.17). Members of a message are found by their paths (RFC 6901).
 use Rattle.std.specs.Prelude.{ℕ, ◌^◌, ◌≡◌, ◌⊎◌, ◌||◌, Bool, false, List, [], ◌∷◌, Option, Some, None, IsUtf8, bytes_eq, codes, is_some, nat_lt, option_and_then, option_map, if◌then◌else◌}
 use Rattle.serde_json.specs.Data.{Data, Items, no_items, item}
-use Rattle.serde_json.specs.Find.{as_array, as_i64, as_number, as_str, as_u64, get, pointer}
+use Rattle.serde_json.specs.Find.{as_array, as_i64, as_null, as_number, as_str, as_u64, get, pointer}
 use Rattle.serde_json.specs.Read.{read}
 use Rattle.jn_lsp_text.specs.declared.position.Position.{Position}
 use Rattle.jn_lsp_text.specs.declared.range.Range.{Range}
@@ -90,16 +90,24 @@ root_in d = or_other (name_at (codes "/params/rootUri") d) (root_path d)
 unfoldable pub folder_in : Data → Option (List ℕ)
 folder_in d = or_other (name_at (codes "/params/workspaceFolders/0/uri") d) (root_in d)
 
--- names of files by the settings; none where nothing is set
+-- texts by the settings; these where nothing is set, or null
 abbrev pub all_texts : Data → Option (List (List ℕ))
 all_texts d = option_and_then (all_of as_str) (as_array d)
 
-abbrev pub files_of : Option Data → Option (List (List ℕ))
-files_of None = Some []
-files_of (Some d) = all_texts d
+abbrev pub texts_or : List (List ℕ) → Option Data → Option (List (List ℕ))
+texts_or usual None = Some usual
+texts_or usual (Some d) = if is_some (as_null d) then Some usual else all_texts d
 
+-- names of files by the settings
 unfoldable pub files_in : Data → Option (List (List ℕ))
-files_in d = files_of (pointer (codes "/params/initializationOptions/files") d)
+files_in d = texts_or [] (pointer (codes "/params/initializationOptions/files") d)
+
+-- names of folders that are left out: by the settings, else those in which tools put what they make or fetch
+abbrev pub usual_exclude : List (List ℕ)
+usual_exclude = codes "target" ∷ codes "build" ∷ codes "node_modules" ∷ codes "out" ∷ []
+
+unfoldable pub exclude_in : Data → Option (List (List ℕ))
+exclude_in d = texts_or usual_exclude (pointer (codes "/params/initializationOptions/exclude") d)
 
 -- ---- messages
 
@@ -108,19 +116,31 @@ abbrev pub or_bad : Option Id → Option Message → Message
 or_bad id None = message.BadParams id
 or_bad id (Some m) = m
 
-abbrev pub opened : Data → Option Message
-opened d = option_and_then (λ name. option_map (message.DidOpen name) (document_text d)) (document_name d)
+-- that of a document which is named; else it can't be said which one it is about
+abbrev pub or_unread : List ℕ → Option Message → Message
+or_unread name None = message.BadDocument name
+or_unread name (Some m) = m
 
-abbrev pub changed : Data → Option Message
-changed d = option_and_then (λ name. option_map (message.DidChange name) (changes_in d)) (document_name d)
+abbrev pub about : (List ℕ → Option Message) → Option (List ℕ) → Message
+about m None = message.BadParams None
+about m (Some name) = or_unread name (m name)
+
+abbrev pub opened : Data → Message
+opened d = about (λ name. option_map (message.DidOpen name) (document_text d)) (document_name d)
+
+abbrev pub changed : Data → Message
+changed d = about (λ name. option_map (message.DidChange name) (changes_in d)) (document_name d)
+
+abbrev pub asked_start : Id → Data → Option Message
+asked_start id d = option_and_then (λ files. option_map (message.Initialize id (folder_in d) files) (exclude_in d)) (files_in d)
 
 abbrev pub asked_actions : Id → Data → Option Message
 asked_actions id d = option_and_then (λ name. option_map (message.CodeAction id name) (named_range d)) (document_name d)
 
 abbrev pub notification : Method → Data → Message
 notification Initialized d = message.Initialized
-notification DidOpen d = or_bad None (opened d)
-notification DidChange d = or_bad None (changed d)
+notification DidOpen d = opened d
+notification DidChange d = changed d
 notification DidSave d = or_bad None (option_map message.DidSave (document_name d))
 notification DidClose d = or_bad None (option_map message.DidClose (document_name d))
 notification WatchedFiles d = message.WatchedFiles
@@ -131,7 +151,7 @@ notification Shutdown d = message.Ignored
 notification Other d = message.Ignored
 
 abbrev pub request : Method → Id → Data → Message
-request Initialize id d = or_bad (Some id) (option_map (message.Initialize id (folder_in d)) (files_in d))
+request Initialize id d = or_bad (Some id) (asked_start id d)
 request CodeAction id d = or_bad (Some id) (asked_actions id d)
 request Shutdown id d = message.Shutdown id
 request Initialized id d = message.Unknown id

@@ -18,7 +18,7 @@ use Rattle.jn_lsp_types.specs.declared.reply.Insertion.{Insertion}
 use Rattle.jn_lsp_types.specs.declared.reply.Related.{Related}
 use Rattle.jn_lsp_types.specs.declared.reply.Reply.{Reply}
 use Rattle.jn_lsp_types.specs.declared.reply.Reply.TheVariants as reply
-use Rattle.jn_lsp_messages.specs.Anchors.{code_anchor}
+use Rattle.jn_reporters.specs.Anchors.{code_anchor}
 use Rattle.jn_lsp_messages.specs.Uris.{uri_of}
 
 -- an object of one member, of two, and so on

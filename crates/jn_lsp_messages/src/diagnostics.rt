@@ -2,14 +2,14 @@
 ghost use Rattle.std.specs.Prelude.{◌≡◌, ◌++◌, IfOk, None, Some, codes, string_bytes};
 ghost use Rattle.serde_json.specs.Data.{number, unsigned, string, object, member, no_members};
 ghost use Rattle.serde_json.specs.View.{view};
-ghost use Rattle.jn_lsp_messages.specs.Anchors.{code_anchor};
+ghost use Rattle.jn_reporters.specs.Anchors.{code_anchor};
 ghost use Rattle.jn_lsp_messages.specs.Outgoing as spec;
 
-use crate::anchors::code_anchor;
 use crate::places::{location_value, range_value};
 use jn_base::lists::put;
 use jn_base::{Code, OutOfMemory, Text};
 use jn_lsp_types::{Diagnostic, Related};
+use jn_reporters::code_anchor;
 use serde_json::{Value, json};
 use std::alloc::{AllocError, Global};
 

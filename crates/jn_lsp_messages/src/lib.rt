@@ -5,7 +5,6 @@
 #![tactic(auto)]
 
 mod actions;
-mod anchors;
 mod diagnostics;
 pub mod law;
 pub mod method;

@@ -201,8 +201,32 @@ pub(crate) fn files_in(alloc: Global, body: &Value) -> Result<Option<Seq<Text>>,
 {
     match body.pointer("/params/initializationOptions/files") {
         None => Ok(Some(Seq::new(alloc))),
+        Some(files) if files.is_null() => Ok(Some(Seq::new(alloc))),
         Some(files) => all_texts(alloc, files),
     }
+}
+
+/// The names of the folders that are left out by the settings, else those in which tools put what they make or fetch.
+#[tactic(auto, unfolding(crate::specs::Incoming::exclude_in))]
+pub(crate) fn exclude_in(alloc: Global, body: &Value) -> Result<Option<Seq<Text>>, AllocError>
+    ensures { IfOk result (λ exclude. exclude ≡ spec.exclude_in (view body.now)) }
+{
+    match body.pointer("/params/initializationOptions/exclude") {
+        None => Ok(Some(usual_exclude(alloc)?)),
+        Some(exclude) if exclude.is_null() => Ok(Some(usual_exclude(alloc)?)),
+        Some(exclude) => all_texts(alloc, exclude),
+    }
+}
+
+fn usual_exclude(alloc: Global) -> Result<Seq<Text>, AllocError>
+    ensures { IfOk result (λ names. names ≡ spec.usual_exclude) }
+{
+    let mut names = Seq::new(alloc);
+    names.push(Text::of_str(alloc, "target")?)?;
+    names.push(Text::of_str(alloc, "build")?)?;
+    names.push(Text::of_str(alloc, "node_modules")?)?;
+    names.push(Text::of_str(alloc, "out")?)?;
+    Ok(names)
 }
 
 fn all_texts(alloc: Global, value: &Value) -> Result<Option<Seq<Text>>, AllocError>

@@ -5,7 +5,7 @@ ghost use Rattle.jn_lsp_messages.specs.Incoming as spec;
 
 use crate::method::{Method, method_of};
 use crate::params::{
-    changes_in, document_name, document_text, files_in, folder_in, named_range, text_in,
+    changes_in, document_name, document_text, exclude_in, files_in, folder_in, named_range, text_in,
 };
 use jn_base::{OutOfMemory, Text};
 use jn_lsp_types::{Id, Message};
@@ -135,7 +135,7 @@ fn did_open(alloc: Global, body: &Value) -> Result<Message, OutOfMemory>
         return Ok(Message::BadParams { id: None });
     };
     match document_text(alloc, body)? {
-        None => Ok(Message::BadParams { id: None }),
+        None => Ok(Message::BadDocument { name }),
         Some(text) => Ok(Message::DidOpen { name, text }),
     }
 }
@@ -147,7 +147,7 @@ fn did_change(alloc: Global, body: &Value) -> Result<Message, OutOfMemory>
         return Ok(Message::BadParams { id: None });
     };
     match changes_in(alloc, body)? {
-        None => Ok(Message::BadParams { id: None }),
+        None => Ok(Message::BadDocument { name }),
         Some(changes) => Ok(Message::DidChange { name, changes }),
     }
 }
@@ -192,9 +192,17 @@ fn initialize(alloc: Global, id: Id, body: &Value) -> Result<Message, OutOfMemor
     ensures { IfOk result (λ m. m ≡ spec.request Method.Initialize id (view body.now)) }
 {
     let folder = folder_in(alloc, body)?;
-    match files_in(alloc, body)? {
+    let Some(files) = files_in(alloc, body)? else {
+        return Ok(Message::BadParams { id: Some(id) });
+    };
+    match exclude_in(alloc, body)? {
         None => Ok(Message::BadParams { id: Some(id) }),
-        Some(files) => Ok(Message::Initialize { id, folder, files }),
+        Some(exclude) => Ok(Message::Initialize {
+            id,
+            folder,
+            files,
+            exclude,
+        }),
     }
 }
 

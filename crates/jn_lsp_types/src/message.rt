@@ -16,11 +16,13 @@ pub enum Change {
 #[derive(Drop)]
 pub enum Message {
     /// `initialize`: the path of the workspace's folder, where one is named, and the names of files by the settings
-    /// (`initializationOptions.files`), each whole or relative to the folder.
+    /// (`initializationOptions.files`), each whole or relative to the folder, and the names of folders that are left out
+    /// (`initializationOptions.exclude`).
     Initialize {
         id: Id,
         folder: Option<Text>,
         files: Seq<Text>,
+        exclude: Seq<Text>,
     },
     /// `initialized`.
     Initialized,
@@ -62,7 +64,12 @@ pub enum Message {
     Unknown {
         id: Id,
     },
-    /// A request, or a notification, which has no id, whose parameters aren't as the protocol has them.
+    /// `textDocument/didOpen` or `didChange` whose text or changes aren't as the protocol has them.
+    BadDocument {
+        name: Text,
+    },
+    /// A request, or a notification, which has no id, whose parameters aren't as the protocol has them. Such a notification is about a
+    /// document that it doesn't name.
     BadParams {
         id: Option<Id>,
     },

@@ -34,9 +34,12 @@ fn failing(alloc: Global, call: u32) -> Result<Vec<u32>, AllocError> {
 fn print_bodies(rt: &HostRuntime, bytes: Vec<u8>) -> io::Result<()> {
     let alloc = rt.alloc();
     let mut input = MemStream::new(bytes, WIDE, Vec::new(alloc));
+    let Ok(out) = MemSink::new(alloc, Vec::new(alloc), MOST, WIDE) else {
+        return Err(io::Error::from(AllocError));
+    };
     let mut reader = FrameReader::new(alloc);
     for _frame in 0..1000 {
-        match reader.next(&mut input, alloc) {
+        match reader.next(&mut input, &out, alloc) {
             Ok(Next::Frame(Frame::Body(body))) => {
                 let text = String::from_utf8_lossy(alloc, body.as_slice())?;
                 println!(rt; "{text}")?;

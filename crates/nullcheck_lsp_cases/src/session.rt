@@ -1,7 +1,8 @@
 //! A recorded session: what lies in the workspace, and what the client sends. Each line is one of
 //!
 //! - `hold PATH FILE`: the bytes of a file that lies beside the tables stand under this path,
-//! - `list PATH NAME..`: a folder has these entries; `NAME/` is a folder, `NAME@` something else, any other a file,
+//! - `list PATH NAME..`: a folder has these entries; `NAME/` is a folder, `NAME@` something else, `?` one whose name is
+//!   no text, any other a file,
 //! - `raw TEXT`: the client sends this text, where `\r`, `\n` and `\!` are the bytes 13, 10 and 255, which is none of UTF-8,
 //! - `fill N`: the client sends so many spaces,
 //! - anything else: the client sends this line as a body, behind a header.
@@ -31,7 +32,9 @@ fn hold(rt: &HostRuntime, recorded: &mut Recorded, rest: &str) -> io::Result<()>
 
 /// The entry of a word.
 fn entry_of(alloc: Global, word: &str) -> Result<Entry, AllocError> {
-    let (name, kind) = if let Some(name) = word.strip_suffix('/') {
+    let (name, kind) = if word == "?" {
+        ("", Kind::Unnamed)
+    } else if let Some(name) = word.strip_suffix('/') {
         (name, Kind::Folder)
     } else if let Some(name) = word.strip_suffix('@') {
         (name, Kind::Other)

@@ -1,11 +1,13 @@
 -- Each request that frames bring is answered once.
-use Rattle.std.proofs.Common.{◌≡◌, ℕ, ◌++◌, Bool, true, false, List, [], ◌∷◌, map, Option, refl, sym, ap, ◌∙◌, subst, append_assoc}
-use Rattle.std.specs.Prelude.{filter, not, option_to_list, if◌then◌else◌}
+use Rattle.std.proofs.Common.{◌≡◌, ℕ, ◌++◌, Bool, true, false, List, [], ◌∷◌, map, Option, Some, None, refl, sym, ap, ◌∙◌, subst, append_assoc}
+use Rattle.std.specs.Prelude.{filter, not, option_map, option_to_list, if◌then◌else◌}
 use Rattle.std.specs.List.{AllZip}
 use Rattle.std.proofs.lemmas.Grind.{flat_map-append}
 use Rattle.jn_outside.specs.Files.{Holding}
 use Rattle.jn_lsp_frames.specs.declared.frame.Frame.{Frame}
+use Rattle.jn_lsp_types.specs.declared.message.Change.{Change}
 use Rattle.jn_lsp_types.specs.declared.message.Message.{Message}
+use Rattle.jn_lsp_types.specs.declared.message.Message.TheVariants.{Initialize, Initialized, DidOpen, DidChange, DidSave, DidClose, WatchedFiles, CodeAction, Shutdown, Exit, Ignored, Unknown, BadDocument, BadParams, NoMessage, NoJson, BadHeader, TooLarge}
 use Rattle.jn_lsp_types.specs.declared.reply.Reply.{Reply}
 use Rattle.jn_lsp_types.specs.declared.reply.Reply.TheVariants.{Show}
 use Rattle.jn_lsp.specs.declared.event.Event.{Event}
@@ -13,8 +15,10 @@ use Rattle.jn_lsp.specs.declared.event.Event.TheVariants.{Folder, Message as Mes
 use Rattle.jn_lsp.specs.Requests.{AreAnswered, id_answered, id_asked, ids_answered, ids_asked, is_exit}
 use Rattle.jn_lsp.specs.Serving.{ServerOf, Serves, Takes, new_server}
 use Rattle.nullcheck_lsp_top.specs.declared.client.Client.{Client}
-use Rattle.nullcheck_lsp_top.specs.Hearing.{AnsweredOnce, Hears, HearsAll, IsMessageOf, Looks, LooksWhere, looks}
+use Rattle.nullcheck_lsp_top.specs.Hearing.{AnsweredOnce, Hears, HearsAll, IsMessageOf, Looks, LooksWhere, foreign, looks}
 use Rattle.nullcheck_lsp_top.specs.Looking.{Outside, new_client}
+use Rattle.nullcheck_lsp_top.specs.declared.client.Root.{Root}
+use Rattle.nullcheck_lsp_top.specs.Placing.{or_ignored, placed, placed_name, says}
 use Rattle.nullcheck_lsp_top.specs.Reading.{is_among, shows}
 
 -- what is shown answers nothing
@@ -33,6 +37,52 @@ same_behind xs ys zs e = both_answered xs ys ∙ ap (λ ids. ids_answered xs ++ 
 asked_more : (message : Message) (es fs : List Event) → ids_asked es ≡ ids_asked fs → ids_asked (MessageEvent message ∷ es) ≡ ids_asked (MessageEvent message ∷ fs)
 asked_more message es fs e = ap (λ ids. if is_exit (MessageEvent message) then [] else option_to_list (id_asked message) ++ ids) e
 
+-- a message that asks the same
+asked_same : (one other : Message) (es : List Event) → is_exit (MessageEvent one) ≡ is_exit (MessageEvent other) → id_asked one ≡ id_asked other → ids_asked (MessageEvent one ∷ es) ≡ ids_asked (MessageEvent other ∷ es)
+asked_same one other es e f =
+    ap (λ b. if b then [] else option_to_list (id_asked one) ++ ids_asked es) e
+    ∙ ap (λ i. if is_exit (MessageEvent other) then [] else option_to_list i ++ ids_asked es) f
+
+-- a message as the server takes it asks what it asked
+abbrev AsksAs : Message → Message → Type 0
+AsksAs one other = (is_exit (MessageEvent one) ≡ is_exit (MessageEvent other)) × (id_asked one ≡ id_asked other)
+
+opened_as : (place : Option (List ℕ)) (name text : List ℕ) → AsksAs (or_ignored (option_map (λ n. DidOpen n text) place)) (DidOpen name text)
+opened_as None name text = (refl, refl)
+opened_as (Some place) name text = (refl, refl)
+
+changed_as : (place : Option (List ℕ)) (name : List ℕ) (changes : List Change) → AsksAs (or_ignored (option_map (λ n. DidChange n changes) place)) (DidChange name changes)
+changed_as None name changes = (refl, refl)
+changed_as (Some place) name changes = (refl, refl)
+
+closed_as : (place : Option (List ℕ)) (name : List ℕ) → AsksAs (or_ignored (option_map DidClose place)) (DidClose name)
+closed_as None name = (refl, refl)
+closed_as (Some place) name = (refl, refl)
+
+doubted_as : (place : Option (List ℕ)) (name : List ℕ) → AsksAs (or_ignored (option_map BadDocument place)) (BadDocument name)
+doubted_as None name = (refl, refl)
+doubted_as (Some place) name = (refl, refl)
+
+placed_asks : (root : Root) (message : Message) → AsksAs (placed root message) message
+placed_asks root (Initialize id folder files exclude) = (refl, refl)
+placed_asks root Initialized = (refl, refl)
+placed_asks root (DidOpen name text) = opened_as (placed_name root name) name text
+placed_asks root (DidChange name changes) = changed_as (placed_name root name) name changes
+placed_asks root (DidSave name) = (refl, refl)
+placed_asks root (DidClose name) = closed_as (placed_name root name) name
+placed_asks root WatchedFiles = (refl, refl)
+placed_asks root (CodeAction id name range) = (refl, refl)
+placed_asks root (Shutdown id) = (refl, refl)
+placed_asks root Exit = (refl, refl)
+placed_asks root Ignored = (refl, refl)
+placed_asks root (Unknown id) = (refl, refl)
+placed_asks root (BadDocument name) = doubted_as (placed_name root name) name
+placed_asks root (BadParams id) = (refl, refl)
+placed_asks root NoMessage = (refl, refl)
+placed_asks root NoJson = (refl, refl)
+placed_asks root BadHeader = (refl, refl)
+placed_asks root TooLarge = (refl, refl)
+
 -- events that a server took, which ask the same as these messages, and replies that answer the same as these
 record Served (before after : ServerOf) (messages : List Message) (replies : List Reply) : Type 0 where
   pub events : List Event
@@ -44,24 +94,24 @@ record Served (before after : ServerOf) (messages : List Message) (replies : Lis
 served_none : (before after : ServerOf) (replies : List Reply) → replies ≡ [] → after ≡ before → Served before after [] replies
 served_none before after replies none is = record { events = []; said = []; serves = (refl, is); asked = refl; answered = ap ids_answered none }
 
-module _ (held : Option Holding) (before last : ServerOf) (mid after : Client) (message : Message) (messages : List Message) (first more rest : List Reply) (takes : Takes before (MessageEvent message) first mid.server) (others : Served after.server last messages rest) where
+module _ (held : Option Holding) (before last : ServerOf) (mid after : Client) (taken message : Message) (asks : AsksAs taken message) (messages : List Message) (first more rest : List Reply) (takes : Takes before (MessageEvent taken) first mid.server) (others : Served after.server last messages rest) where
   -- without files
   plain : after ≡ mid → more ≡ [] → Served before last (message ∷ messages) ((first ++ more) ++ rest)
   plain is none = record {
-    events = MessageEvent message ∷ others.events;
+    events = MessageEvent taken ∷ others.events;
     said = first ++ others.said;
     serves = (first, others.said, mid.server, refl, takes, subst (λ (c : Client). Serves c.server others.events others.said last) is others.serves);
-    asked = asked_more message others.events (map MessageEvent messages) others.asked;
+    asked = asked_more taken others.events (map MessageEvent messages) others.asked ∙ asked_same taken message (map MessageEvent messages) asks.0 asks.1;
     answered = ap (λ (rs : List Reply). ids_answered rs) (append_assoc first more rest ∙ ap (λ (rs : List Reply). first ++ (rs ++ rest)) none) ∙ same_behind first rest others.said others.answered;
   }
 
   -- with files that were read
   looked : (old new : Outside) → Looks held old new mid after more → Served before last (message ∷ messages) ((first ++ more) ++ rest)
   looked old new l = record {
-    events = MessageEvent message ∷ Folder l.files ∷ others.events;
+    events = MessageEvent taken ∷ Folder l.files ∷ others.events;
     said = first ++ (l.news ++ others.said);
     serves = (first, l.news ++ others.said, mid.server, refl, takes, (l.news, others.said, after.server, refl, l.takes, others.serves));
-    asked = asked_more message (Folder l.files ∷ others.events) (map MessageEvent messages) others.asked;
+    asked = asked_more taken (Folder l.files ∷ others.events) (map MessageEvent messages) others.asked ∙ asked_same taken message (map MessageEvent messages) asks.0 asks.1;
     answered = ap (λ (rs : List Reply). ids_answered rs) (append_assoc first more rest) ∙ same_behind first (more ++ rest) (l.news ++ others.said) (answered_more l);
   }
     where
@@ -80,6 +130,25 @@ module _ (held : Option Holding) (before last : ServerOf) (mid after : Client) (
   by_files false old new (same, is, none) = plain is none
   by_files true old new l = looked old new l
 
+-- what is said of documents that aren't of the workspace answers nothing
+says_unasked : (said : Bool) (foreign_ : Option (List ℕ)) → ids_answered (says said foreign_) ≡ []
+says_unasked said None = refl
+says_unasked true (Some name) = refl
+says_unasked false (Some name) = refl
+
+served_said : (before last : ServerOf) (messages : List Message) (said : Bool) (foreign_ : Option (List ℕ)) (one rest : List Reply) → Served before last messages (one ++ rest) → Served before last messages ((says said foreign_ ++ one) ++ rest)
+served_said before last messages said foreign_ one rest s = record {
+  events = s.events;
+  said = s.said;
+  serves = s.serves;
+  asked = s.asked;
+  answered =
+      ap (λ (rs : List Reply). ids_answered rs) (append_assoc (says said foreign_) one rest)
+      ∙ both_answered (says said foreign_) (one ++ rest)
+      ∙ ap (λ ids. ids ++ ids_answered (one ++ rest)) (says_unasked said foreign_)
+      ∙ s.answered;
+}
+
 -- the messages that frames were
 record Heard (held : Option Holding) (before after : Client) (frames : List Frame) (replies : List Reply) : Type 0 where
   pub messages : List Message
@@ -91,7 +160,8 @@ heard_frame held old new before client after frame frames message replies first 
   messages = message ∷ others.messages;
   are = (is, others.are);
   served = subst (λ (rs : List Reply). Served before.server after.server (message ∷ others.messages) rs) (sym (all ∙ ap (λ (rs : List Reply). rs ++ rest) h.all))
-      (by_files held before.server after.server h.mid client message others.messages h.first h.more rest h.takes others.served (looks before.server.phase message) old new h.behind);
+      (served_said before.server after.server (message ∷ others.messages) before.said (foreign before message) (h.first ++ h.more) rest
+      (by_files held before.server after.server h.mid client (placed before.root message) message (placed_asks before.root message) others.messages h.first h.more rest h.takes others.served (looks before.server.phase (placed before.root message)) old new h.behind));
 }
 
 heard_all : (held : Option Holding) (old new : Outside) (before after : Client) (frames : List Frame) (replies : List Reply) → HearsAll held old new before frames replies after → Heard held before after frames replies

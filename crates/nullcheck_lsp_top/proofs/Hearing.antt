@@ -1,5 +1,6 @@
 -- One message and then another.
 use Rattle.std.proofs.Common.{◌≡◌, Bool, ℕ, ◌++◌, List, [], ◌∷◌, Option, refl, sym, ap, ◌∙◌, subst, append_assoc, append-nil}
+use Rattle.std.specs.Prelude.{◌||◌, is_some}
 use Rattle.std.proofs.lemmas.Grind.{flat_map-append}
 use Rattle.jn_outside.specs.Files.{Holding}
 use Rattle.jn_front.specs.declared.source.SourceFile.{SourceFile}
@@ -8,38 +9,42 @@ use Rattle.jn_lsp_types.specs.declared.message.Message.{Message}
 use Rattle.jn_lsp_types.specs.declared.reply.Reply.{Reply}
 use Rattle.jn_lsp.specs.declared.event.Event.TheVariants.{Folder, Message as MessageEvent}
 use Rattle.jn_lsp.specs.declared.phase.Phase.{Phase}
-use Rattle.jn_lsp.specs.Serving.{Takes}
+use Rattle.jn_lsp.specs.Serving.{ServerOf, Takes}
 use Rattle.nullcheck_lsp_top.specs.declared.client.Client.{Client}
-use Rattle.nullcheck_lsp_top.specs.Hearing.{Hears, HearsAll, IsMessageOf, Looks, LooksWhere, framed, looks, settled, written}
+use Rattle.nullcheck_lsp_top.specs.Hearing.{Hears, HearsAll, IsMessageOf, Looks, LooksWhere, foreign, framed, looks, settled, written}
 use Rattle.nullcheck_lsp_top.specs.Looking.{IsFound, Outside}
+use Rattle.nullcheck_lsp_top.specs.Placing.{placed, says}
 use Rattle.nullcheck_lsp_top.specs.Reading.{shows}
 
 pub framed_both : (address : Option (List ℕ)) (xs ys : List Reply) → framed address (xs ++ ys) ≡ framed address xs ++ framed address ys
 framed_both address xs ys = flat_map-append (written address) xs ys
 
 -- files were read, and the server was told of them
-pub looks_from : (held : Option Holding) (old new : Outside) (before after : Client) (files : List SourceFile) (warnings : List (List ℕ)) (told news replies : List Reply) → IsFound held before.root old new files warnings → told ≡ shows before.shown warnings → Takes before.server (Folder files) news after.server → after.root ≡ before.root → after.shown ≡ warnings → replies ≡ told ++ news → Looks held old new before after replies
-looks_from held old new before after files warnings told news replies found says takes root shown all = record {
+pub looks_from : (held : Option Holding) (old new : Outside) (before after : Client) (files : List SourceFile) (warnings : List (List ℕ)) (told news replies : List Reply) → IsFound held before.root old new files warnings → told ≡ shows before.shown warnings → Takes before.server (Folder files) news after.server → after.root ≡ before.root → after.said ≡ before.said → after.shown ≡ warnings → replies ≡ told ++ news → Looks held old new before after replies
+looks_from held old new before after files warnings told news replies found says_ takes root said shown all = record {
   files = files;
   news = news;
   found = subst (λ (ws : List (List ℕ)). IsFound held before.root old new files ws) (sym shown) found;
   takes = takes;
   root = root;
-  all = all ∙ ap (λ (rs : List Reply). rs ++ news) (says ∙ ap (λ (ws : List (List ℕ)). shows before.shown ws) (sym shown));
+  said = said;
+  all = all ∙ ap (λ (rs : List Reply). rs ++ news) (says_ ∙ ap (λ (ws : List (List ℕ)). shows before.shown ws) (sym shown));
 }
 
--- a message was taken, behind where the files are
-pub hears_from : (held : Option Holding) (old new : Outside) (before start mid after : Client) (message : Message) (first more replies : List Reply) → start ≡ settled message before → Takes start.server (MessageEvent message) first mid.server → mid.root ≡ start.root → mid.shown ≡ start.shown → LooksWhere (looks before.server.phase message) held old new mid after more → replies ≡ first ++ more → Hears held old new before message replies after
-hears_from held old new before start mid after message first more replies is takes root shown behind all = record {
-  first = first;
-  more = more;
-  mid = mid;
-  takes = subst (λ (c : Client). Takes c.server (MessageEvent message) first mid.server) is takes;
-  root = root ∙ ap (λ (c : Client). c.root) is;
-  shown = shown ∙ ap (λ (c : Client). c.shown) is;
-  behind = behind;
-  all = all;
-}
+-- a message was taken, as far as it is about the workspace
+module _ (held : Option Holding) (old new : Outside) (before start mid after : Client) (message taken : Message) (notices first more answers replies : List Reply) where
+  pub hears_from : start.server ≡ before.server → start.root ≡ (settled message before).root → start.shown ≡ before.shown → start.said ≡ (before.said || is_some (foreign before message)) → taken ≡ placed before.root message → Takes start.server (MessageEvent taken) first mid.server → mid.root ≡ start.root → mid.shown ≡ start.shown → mid.said ≡ start.said → LooksWhere (looks before.server.phase taken) held old new mid after more → notices ≡ says before.said (foreign before message) → answers ≡ first ++ more → replies ≡ notices ++ answers → Hears held old new before message replies after
+  hears_from server root shown said is takes same_root same_shown same_said behind noticed joined all = record {
+    first = first;
+    more = more;
+    mid = mid;
+    takes = subst (λ (m : Message). Takes before.server (MessageEvent m) first mid.server) is (subst (λ (s : ServerOf). Takes s (MessageEvent taken) first mid.server) server takes);
+    root = same_root ∙ root;
+    shown = same_shown ∙ shown;
+    said = same_said ∙ said;
+    behind = subst (λ (m : Message). LooksWhere (looks before.server.phase m) held old new mid after more) is behind;
+    all = all ∙ ap (λ (rs : List Reply). notices ++ rs) joined ∙ ap (λ (rs : List Reply). rs ++ (first ++ more)) noticed;
+  }
 
 -- a frame more
 pub hears_more : (held : Option Holding) (old mid new : Outside) (before client after : Client) (frames : List Frame) (frame : Frame) (message : Message) (replies more : List Reply) → HearsAll held old mid before frames replies client → IsMessageOf frame message → Hears held mid new client message more after → HearsAll held old new before (frames ++ frame ∷ []) (replies ++ more) after

@@ -6,3 +6,4 @@ pub mod Looping
 pub mod Ending
 pub mod UpToDate
 pub mod TwoWords
+pub mod Starting

@@ -1,18 +1,21 @@
 -- The loop, frame by frame.
-use Rattle.std.proofs.Common.{◌≡◌, ℕ, suc, ◌+◌, ◌≤◌, ◌++◌, true, false, List, [], ◌∷◌, length, take, Option, Some, None, Err, inl, inr, refl, sym, ap, ◌∙◌, subst, append_assoc, append-nil, arith, length-append}
+use Rattle.std.proofs.Common.{◌≡◌, ℕ, suc, ◌+◌, ◌≤◌, ◌++◌, true, false, List, [], ◌∷◌, get_or, length, take, Option, Some, None, Err, inl, inr, refl, sym, ap, ◌∙◌, subst, append_assoc, append-nil, arith, length-append}
 use Rattle.std.specs.Prelude.{◌⊎◌}
+use Rattle.std.proofs.lemmas.List.Elements.{All-append, All-nil}
 use Rattle.jn_base.specs.declared.refusal.Fail.{Fail}
 use Rattle.jn_base.specs.declared.refusal.Fail.TheVariants.{Refused, OutOfMemory as Short}
 use Rattle.jn_outside.specs.Causes.{Rose}
 use Rattle.jn_outside.specs.Files.{Holding}
 use Rattle.jn_outside.specs.Sink.{Appends, AppendsPrefix}
+use Rattle.jn_lsp_frames.specs.Asking.{Asks, IsAsked}
+use Rattle.jn_lsp_frames.specs.declared.asking.Asking.{Asking}
 use Rattle.jn_lsp_frames.specs.declared.frame.End.{End}
 use Rattle.jn_lsp_frames.specs.declared.frame.End.TheVariants.{Between, Within}
 use Rattle.jn_lsp_frames.specs.declared.frame.Frame.{Frame}
 use Rattle.jn_lsp_frames.specs.declared.frame.Next.TheVariants as next
 use Rattle.jn_lsp_frames.specs.Frames.{IsPartial}
-use Rattle.jn_lsp_frames.specs.Reading.{Counts, EndsSo, Gives, Grows, HasRead}
-use Rattle.jn_lsp_frames.proofs.OneReading.{gives_end, gives_more, gives_none}
+use Rattle.jn_lsp_frames.specs.Reading.{Counts, EndsSo, Gives, Grows, HasRead, Lacks}
+use Rattle.jn_lsp_frames.proofs.OneReading.{gives_end, gives_grown, gives_more, gives_none}
 use Rattle.jn_lsp_types.specs.declared.message.Message.{Message}
 use Rattle.jn_lsp_types.specs.declared.reply.Reply.{Reply}
 use Rattle.jn_lsp.specs.declared.phase.Phase.{Phase}
@@ -22,8 +25,8 @@ use Rattle.nullcheck_lsp_top.specs.declared.frames.Heard.{Heard}
 use Rattle.nullcheck_lsp_top.specs.declared.frames.Heard.TheVariants.{Ends}
 use Rattle.nullcheck_lsp_top.specs.declared.status.Status.{Status}
 use Rattle.nullcheck_lsp_top.specs.declared.status.Status.TheVariants.{Done, Ended, ReadFault, WriteFault, OutOfMemory, Usage}
-use Rattle.nullcheck_lsp_top.specs.Answer.{Answered, AnsweredFirst, Answers, Channels, EndsBy, IsAnswer, IsDone, IsEnded, IsHeard, Served, Takes, goes_on, most_messages}
-use Rattle.nullcheck_lsp_top.specs.Hearing.{Hears, IsMessageOf, framed}
+use Rattle.nullcheck_lsp_top.specs.Answer.{Answered, AnsweredFirst, Answers, AsksInTime, Channels, EndsBy, IsAnswer, IsCut, IsDone, IsEnded, IsHeard, IsInTime, Served, StartsOne, Takes, goes_on, most_messages}
+use Rattle.nullcheck_lsp_top.specs.Hearing.{Hears, IsMessageOf, StartsFor, framed}
 use Rattle.nullcheck_lsp_top.specs.Looking.{Outside, new_client}
 use Rattle.nullcheck_lsp_top.proofs.Hearing.{framed_both, hears_more}
 
@@ -77,6 +80,10 @@ module _ (address : Option (List ℕ)) (held : Option Holding) (from to : Option
   pub heard_broken : (bytes : List ℕ) → IsAnswer address held old new client frame after bytes → AppendsPrefix from to bytes → Rose before now → IsHeard address held from to before now old new client frame after (Ends WriteFault)
   heard_broken bytes a took rose = (takes_by bytes AppendsPrefix a took, rose)
 
+-- the input failed where no frame was whole
+pub lacks_refused : (T E : Type 0) (Such : List ℕ → Type 0) (gave pending now : List ℕ) (fail : Fail E) (error : E) → fail ≡ Refused error → Lacks {T = T} Such gave pending now (Err fail) → (more : List ℕ) × (now ≡ gave ++ more) × Such (pending ++ more)
+lacks_refused T E Such gave pending now fail error is lacks = subst (λ f. Lacks {T = T} Such gave pending now (Err f)) is lacks
+
 -- ---- the loop
 
 -- so much was read, taken and written
@@ -101,9 +108,9 @@ runs_none address held at old pending client none new = record {
 }
 
 module _ (address : Option (List ℕ)) (held : Option Holding) (from mid : Channels) (old out : Outside) (turns : ℕ) (pending : List ℕ) (client : Client) (run : Running address held from mid old out turns pending client) where
-  -- what was read before the input failed, or memory wasn't found
-  first_of : (Took : Option (List ℕ) → Option (List ℕ) → List ℕ → Type 0) (to : Channels) (new : Outside) → Grows mid.given to.given → Took from.written to.written (framed address run.replies) → AnsweredFirst address held from to old new Took
-  first_of Took to new grows taken = record {
+  -- what was read before memory wasn't found
+  first_of : (to : Channels) (new : Outside) → Grows mid.given to.given → (new ≡ out) ⊎ StartsOne address held from to old new out run.frames client → Appends from.written to.written (framed address run.replies) → AnsweredFirst address held from to old new
+  first_of to new grows starts taken = record {
     heard = mid.given;
     grows = grows;
     mid = out;
@@ -112,6 +119,7 @@ module _ (address : Option (List ℕ)) (held : Option Holding) (from mid : Chann
     replies = run.replies;
     client = client;
     served = run.served;
+    starts = starts;
     taken = taken;
   }
 
@@ -122,11 +130,23 @@ module _ (address : Option (List ℕ)) (held : Option Holding) (from mid : Chann
   rose_on a b c e r = subst (λ n. Rose n c) e r
 
   -- the next frame couldn't be read
-  pub ends_unread : (to : Channels) → Grows mid.given to.given → to.written ≡ mid.written → to.writes ≡ mid.writes → Rose mid.hears to.hears → Answers address held from to old out ReadFault
-  ends_unread to grows same writes rose = (first_of Appends to out grows (same_taken to same), rose_on from.hears mid.hears to.hears run.hears rose, writes ∙ run.writes)
+  pub ends_unread : (to : Channels) (more : List ℕ) → to.given ≡ mid.given ++ more → IsPartial (pending ++ more) → to.written ≡ mid.written → to.writes ≡ mid.writes → Rose mid.hears to.hears → Answers address held from to old out ReadFault
+  ends_unread to more gave partial same writes rose = (
+    record {
+      frames = run.frames;
+      pending = pending ++ more;
+      replies = run.replies;
+      client = client;
+      served = record { gives = gives_grown from.given mid.given to.given more run.frames pending run.served.gives gave; hears = run.served.hears };
+      taken = same_taken to same;
+      ends = partial;
+    },
+    rose_on from.hears mid.hears to.hears run.hears rose,
+    writes ∙ run.writes,
+  )
 
   pub ends_short : (to : Channels) → Grows mid.given to.given → to.written ≡ mid.written → to.writes ≡ mid.writes → to.hears ≡ mid.hears → Answers address held from to old out OutOfMemory
-  ends_short to grows same writes hears = (first_of Appends to out grows (same_taken to same), hears ∙ run.hears, writes ∙ run.writes)
+  ends_short to grows same writes hears = (first_of to out grows (inl refl) (same_taken to same), hears ∙ run.hears, writes ∙ run.writes)
 
   ends_so : (end : End) (rest : List ℕ) → EndsSo end rest → (rest ≡ []) ⊎ IsPartial rest
   ends_so Between rest so = inl so
@@ -191,44 +211,62 @@ module _ (address : Option (List ℕ)) (held : Option Holding) (from mid : Chann
       many = (let l = length-append run.frames (frame ∷ []) in let m = run.many in omega (arith, l, m));
     }
 
-    answered : (IsEnd : List Frame → List ℕ → Client → Type 0) (t : Takes address held read.written to.written read.writes to.writes out new client frame after Appends) → IsEnd (run.frames ++ frame ∷ []) left after → Answered address held from to old new IsEnd
-    answered IsEnd t ends = record {
+    answered : (Took : Option (List ℕ) → Option (List ℕ) → List ℕ → Type 0) (IsEnd : List Frame → List ℕ → Client → Type 0) (t : Takes address held read.written to.written read.writes to.writes out new client frame after Took) → Took from.written to.written (framed address (run.replies ++ t.replies)) → IsEnd (run.frames ++ frame ∷ []) left after → Answered address held from to old new Took IsEnd
+    answered Took IsEnd t taken ends = record {
       frames = run.frames ++ frame ∷ [];
       pending = left;
       replies = run.replies ++ t.replies;
       client = after;
       served = served_more t.message t.replies t.is t.hears;
-      taken = taken_on t.replies t.taken;
+      taken = taken;
       ends = ends;
     }
-
-    no_more : (given : List ℕ) → Grows given given
-    no_more given = ([], sym (append-nil given))
 
     grown : Grows mid.given to.given
     grown = (has.2.more, given ∙ has.2.given)
 
+    -- one frame more was read, and memory wasn't found for it
+    starts_one : (new ≡ out) ⊎ StartsFor held out new client frame → (new ≡ out) ⊎ StartsOne address held from to old new out run.frames client
+    starts_one (inl same) = inl same
+    starts_one (inr starts) = inr (record {
+      frame = frame;
+      left = left;
+      gives = subst (λ (b : List ℕ). Gives from.given b (run.frames ++ frame ∷ []) left) (sym given) (gives_more from.given mid.given read.given run.frames frame pending left has.0 run.served.gives has.1 has.2);
+      starts = starts;
+    })
+
     pub ends_frame : (status : Status) → EndsBy address held read.written to.written read.writes to.writes out new client frame after status → Answers address held from to old new status
-    ends_frame Done (t, phase, same) = (answered (IsDone address held from to old new) t phase, heard_same ∙ hears ∙ run.hears, same ∙ writes ∙ run.writes)
-    ends_frame Ended (t, phase, same) = (answered (IsEnded address held from to old new) t (inl phase), heard_same ∙ hears ∙ run.hears, same ∙ writes ∙ run.writes)
-    ends_frame WriteFault (t, rose) = (
-      record {
-        heard = to.given;
-        grows = no_more to.given;
-        mid = new;
-        frames = run.frames ++ frame ∷ [];
-        pending = left;
-        replies = run.replies ++ t.replies;
-        client = after;
-        served = served_more t.message t.replies t.is t.hears;
-        taken = prefix_on t.replies t.taken;
-      },
-      heard_same ∙ hears ∙ run.hears,
-      rose_on from.writes read.writes to.writes (writes ∙ run.writes) rose,
-    )
-    ends_frame OutOfMemory (same, kept) = (first_of Appends to new grown (same_taken to (same ∙ written)), heard_same ∙ hears ∙ run.hears, kept ∙ writes ∙ run.writes)
+    ends_frame Done (t, phase, same) = (answered Appends (IsDone address held from to old new) t (taken_on t.replies t.taken) phase, heard_same ∙ hears ∙ run.hears, same ∙ writes ∙ run.writes)
+    ends_frame Ended (t, phase, same) = (answered Appends (IsEnded address held from to old new) t (taken_on t.replies t.taken) (inl phase), heard_same ∙ hears ∙ run.hears, same ∙ writes ∙ run.writes)
+    ends_frame WriteFault (t, rose) = (answered AppendsPrefix (IsCut address held from to old new) t (prefix_on t.replies t.taken) tt, heard_same ∙ hears ∙ run.hears, rose_on from.writes read.writes to.writes (writes ∙ run.writes) rose)
+    ends_frame OutOfMemory (starts, same, kept) = (first_of to new grown (starts_one starts) (same_taken to (same ∙ written)), heard_same ∙ hears ∙ run.hears, kept ∙ writes ∙ run.writes)
     ends_frame ReadFault none = absurd none
     ends_frame Usage none = absurd none
+
+-- ---- in time
+
+pub in_time_none : (address : Option (List ℕ)) (held : Option Holding) (from to : Channels) (old : Outside) → to.asks ≡ from.asks → AsksInTime address held from to old
+in_time_none address held from to old same = record { own = []; all = same ∙ sym (append-nil from.asks); each = All-nil (IsInTime address held from old) }
+
+-- the calls for one frame more
+pub in_time_more : (address : Option (List ℕ)) (held : Option Holding) (from mid to : Channels) (old out : Outside) (turns : ℕ) (pending : List ℕ) (client : Client) → Running address held from mid old out turns pending client → AsksInTime address held from mid old → Asks IsPartial mid.given pending mid.written mid.asks to.asks → AsksInTime address held from to old
+in_time_more address held from mid to old out turns pending client run before asks = record {
+  own = before.own ++ asks.own;
+  all = asks.all ∙ ap (λ (l : List Asking). l ++ asks.own) before.all ∙ append_assoc from.asks before.own asks.own;
+  each = All-append (IsInTime address held from old) before.own asks.own before.each (λ k d lt. by (get_or asks.own k d) (asks.each k d lt));
+}
+  where
+    by : (asking : Asking) → IsAsked IsPartial mid.given pending mid.written asking → IsInTime address held from old asking
+    by asking a = record {
+      mid = out;
+      frames = run.frames;
+      pending = pending ++ a.more;
+      replies = run.replies;
+      client = client;
+      served = record { gives = gives_grown from.given mid.given asking.given a.more run.frames pending run.served.gives a.given; hears = run.served.hears };
+      partial = a.such;
+      taken = subst (λ (w : Option (List ℕ)). Appends from.written w (framed address run.replies)) (sym a.stands) run.taken;
+    }
 
 -- no memory was found before the first frame
 pub short_at_start : (address : Option (List ℕ)) (held : Option Holding) (at : Channels) (old : Outside) → Answers address held at at old old OutOfMemory

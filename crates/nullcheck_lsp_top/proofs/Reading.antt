@@ -68,5 +68,6 @@ warned_more f paths i path words start before after lt item so pushed is =
     ∙ ap (λ w. start ++ (map f (take i paths) ++ w ∷ [])) (is ∙ ap f item)
     ∙ ap (λ l. start ++ l) (sym (map_more f paths i path lt))
 
-pub warned_by : (words : List (List ℕ)) (count many : ℕ) (listed missed read lost : List (List ℕ)) → words ≡ warnings_of count listed read → count ≡ many → listed ≡ missed → read ≡ lost → words ≡ warnings_of many missed lost
-warned_by words count many listed missed read lost is e f h = is ∙ ap (λ n. warnings_of n listed read) e ∙ ap (λ l. warnings_of many l read) f ∙ ap (warnings_of many missed) h
+pub warned_by : (words : List (List ℕ)) (count many : ℕ) (listed missed strange unnamed read lost : List (List ℕ)) → words ≡ warnings_of count listed strange read → count ≡ many → listed ≡ missed → strange ≡ unnamed → read ≡ lost → words ≡ warnings_of many missed unnamed lost
+warned_by words count many listed missed strange unnamed read lost is e f s h =
+    is ∙ ap (λ n. warnings_of n listed strange read) e ∙ ap (λ l. warnings_of many l strange read) f ∙ ap (λ l. warnings_of many missed l read) s ∙ ap (warnings_of many missed unnamed) h

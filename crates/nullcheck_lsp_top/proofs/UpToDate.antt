@@ -1,5 +1,5 @@
 -- What was published last is the report of the files as they stand.
-use Rattle.std.proofs.Common.{◌≡◌, ℕ, ◌++◌, Bool, true, false, List, [], ◌∷◌, map, Option, refl, sym, ap, ◌∙◌, subst, append_assoc, append-nil}
+use Rattle.std.proofs.Common.{◌≡◌, ℕ, ◌++◌, Bool, true, false, List, [], ◌∷◌, map, Option, Some, None, refl, sym, ap, ◌∙◌, subst, append_assoc, append-nil}
 use Rattle.std.specs.Prelude.{filter, not}
 use Rattle.jn_outside.specs.Files.{Holding}
 use Rattle.jn_lsp_frames.specs.declared.frame.Frame.{Frame}
@@ -12,8 +12,9 @@ use Rattle.jn_lsp.specs.declared.event.Event.TheVariants.{Folder, Message as Mes
 use Rattle.jn_lsp.specs.Publications.{last_published, published}
 use Rattle.jn_lsp.specs.Serving.{ArePublishedLast, IsUpToDate, ServerOf, Serves, Takes, files_of, new_server}
 use Rattle.nullcheck_lsp_top.specs.declared.client.Client.{Client}
-use Rattle.nullcheck_lsp_top.specs.Hearing.{Hears, HearsAll, LooksWhere, looks}
+use Rattle.nullcheck_lsp_top.specs.Hearing.{Hears, HearsAll, LooksWhere, foreign, looks}
 use Rattle.nullcheck_lsp_top.specs.Looking.{Outside, new_client}
+use Rattle.nullcheck_lsp_top.specs.Placing.{placed, says}
 use Rattle.nullcheck_lsp_top.specs.Reading.{is_among, shows}
 
 -- ---- what was published last
@@ -86,10 +87,26 @@ looked true held old new before after replies l =
     is_taken before.server after.server replies (shows before.shown after.shown ++ l.news) l.all
     (took_shown before.server after.server (filter (λ words. not (is_among before.shown words)) after.shown) l.news (took_one before.server after.server (Folder l.files) l.news l.takes))
 
+-- what is said of documents that aren't of the workspace publishes nothing
+says_silent : (said : Bool) (foreign_ : Option (List ℕ)) (name : List ℕ) (before : List Diagnostic) → last_published name before (says said foreign_) ≡ before
+says_silent said None name before = refl
+says_silent true (Some other) name before = refl
+says_silent false (Some other) name before = refl
+
+took_said : (before after : ServerOf) (said : Bool) (foreign_ : Option (List ℕ)) (replies : List Reply) → Took before replies after → Took before (says said foreign_ ++ replies) after
+took_said before after said foreign_ replies p = record {
+  events = p.events;
+  said = p.said;
+  serves = p.serves;
+  same = (λ name d. last_both name d (says said foreign_) replies ∙ ap (λ (e : List Diagnostic). last_published name e replies) (says_silent said foreign_ name d) ∙ p.same name d);
+}
+
 heard_one : (held : Option Holding) (old new : Outside) (before after : Client) (message : Message) (replies : List Reply) → Hears held old new before message replies after → Took before.server replies after.server
 heard_one held old new before after message replies h =
-    is_taken before.server after.server replies (h.first ++ h.more) h.all
-    (took_both before.server h.mid.server after.server h.first h.more (took_one before.server h.mid.server (MessageEvent message) h.first h.takes) (looked (looks before.server.phase message) held old new h.mid after h.more h.behind))
+    let taken = placed before.root message in
+    is_taken before.server after.server replies (says before.said (foreign before message) ++ (h.first ++ h.more)) h.all
+    (took_said before.server after.server before.said (foreign before message) (h.first ++ h.more)
+    (took_both before.server h.mid.server after.server h.first h.more (took_one before.server h.mid.server (MessageEvent taken) h.first h.takes) (looked (looks before.server.phase taken) held old new h.mid after h.more h.behind)))
 
 heard_all : (held : Option Holding) (old new : Outside) (before after : Client) (frames : List Frame) (replies : List Reply) → HearsAll held old new before frames replies after → Took before.server replies after.server
 heard_all held old new before after [] replies (same, none, is) = took_none before.server after.server replies (ap (λ (c : Client). c.server) is) none
@@ -101,4 +118,4 @@ pub up_to_date : ((events : List Event) (replies : List Reply) (after : ServerOf
 up_to_date law held old new client frames replies h =
     let t = heard_all held old new new_client client frames replies h in
     let last : (λ name. last_published name [] t.said) ≡ (λ name. last_published name [] replies) = λ i name. sym (t.same name []) i in
-    subst (ArePublishedLast (files_of client.server.workspace)) last (law t.events t.said client.server t.serves)
+    subst (ArePublishedLast client.server.workspace.unknown (files_of client.server.workspace)) last (law t.events t.said client.server t.serves)

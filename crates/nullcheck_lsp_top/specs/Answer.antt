@@ -1,8 +1,10 @@
 -- What stands behind each status.
-use Rattle.std.specs.Prelude.{ℕ, ◌-◌, ◌^◌, ◌≡◌, ◌≤◌, ◌⊎◌, Bool, true, false, List, [], ◌∷◌, Option, Some, None, codes, length}
+use Rattle.std.specs.Prelude.{ℕ, ◌-◌, ◌^◌, ◌≡◌, ◌≤◌, ◌⊎◌, ◌++◌, Bool, true, false, List, [], ◌∷◌, Option, Some, None, codes, length}
+use Rattle.std.specs.List.{All}
 use Rattle.jn_outside.specs.Causes.{Rose}
 use Rattle.jn_outside.specs.Files.{Holding}
 use Rattle.jn_outside.specs.Sink.{Appends, AppendsPrefix}
+use Rattle.jn_lsp_frames.specs.declared.asking.Asking.{Asking}
 use Rattle.jn_lsp_frames.specs.declared.frame.Frame.{Frame}
 use Rattle.jn_lsp_frames.specs.Frames.{IsPartial}
 use Rattle.jn_lsp_frames.specs.Reading.{Gives, Grows}
@@ -17,7 +19,7 @@ use Rattle.nullcheck_lsp_top.specs.declared.status.Status.{Status}
 use Rattle.nullcheck_lsp_top.specs.declared.status.Status.TheVariants.{Done, Ended, ReadFault, WriteFault, OutOfMemory, Usage}
 use Rattle.nullcheck_lsp_top.specs.declared.words.Asked.{Asked}
 use Rattle.nullcheck_lsp_top.specs.declared.words.Asked.TheVariants as asked
-use Rattle.nullcheck_lsp_top.specs.Hearing.{Hears, HearsAll, IsMessageOf, framed}
+use Rattle.nullcheck_lsp_top.specs.Hearing.{Hears, HearsAll, IsMessageOf, StartsFor, framed}
 use Rattle.nullcheck_lsp_top.specs.Looking.{Outside, new_client}
 
 abbrev pub number_of : Status → ℕ
@@ -38,16 +40,18 @@ abbrev pub IsAsked : List (List ℕ) → Asked → Type 0
 IsAsked words (asked.Serving address) = SaysAddress words address
 IsAsked words asked.Other = (address : Option (List ℕ)) → SaysAddress words address → ⊥
 
--- what the input and the output tell: the bytes that reads gave, whether they came to the end, the bytes that were taken, and the counts of faults
+-- what the input and the output tell: the bytes that reads gave, whether they came to the end, the bytes that were taken, and the counts of
+-- faults; and how both stood at each read
 pub record Channels : Type 0 where
   pub given : List ℕ
   pub ended : Bool
   pub hears : ℕ
+  pub asks : List Asking
   pub written : Option (List ℕ)
   pub writes : ℕ
 
-abbrev pub channels : List ℕ → Bool → ℕ → Option (List ℕ) → ℕ → Channels
-channels given ended hears written writes = record { given = given; ended = ended; hears = hears; written = written; writes = writes }
+abbrev pub channels : List ℕ → Bool → ℕ → List Asking → Option (List ℕ) → ℕ → Channels
+channels given ended hears asks written writes = record { given = given; ended = ended; hears = hears; asks = asks; written = written; writes = writes }
 
 -- the frames of the bytes that the input gave were taken, with these replies
 pub record Served (held : Option Holding) (before now : List ℕ) (old new : Outside) (frames : List Frame) (pending : List ℕ) (replies : List Reply) (client : Client) : Type 0 where
@@ -67,14 +71,15 @@ IsWrittenWhole from to = to.writes ≡ from.writes
 
 -- what stands behind each status, by what the input and the output told before and behind, and what files and folders did
 module _ (address : Option (List ℕ)) (held : Option Holding) (from to : Channels) (old new : Outside) where
-  -- all frames that were read were taken, and all replies written
-  pub record Answered (IsEnd : List Frame → List ℕ → Client → Type 0) : Type 0 where
+  -- all that the input gave is these frames and what is pending; folders and files were read for them and for no other, and of the replies so
+  -- much was written
+  pub record Answered (Took : Option (List ℕ) → Option (List ℕ) → List ℕ → Type 0) (IsEnd : List Frame → List ℕ → Client → Type 0) : Type 0 where
     pub frames : List Frame
     pub pending : List ℕ
     pub replies : List Reply
     pub client : Client
     pub served : Served held from.given to.given old new frames pending replies client
-    pub taken : Appends from.written to.written (framed address replies)
+    pub taken : Took from.written to.written (framed address replies)
     pub ends : IsEnd frames pending client
 
   -- the client exited behind `shutdown`
@@ -89,8 +94,23 @@ module _ (address : Option (List ℕ)) (held : Option Holding) (from to : Channe
   abbrev pub IsEnded : List Frame → List ℕ → Client → Type 0
   IsEnded frames pending client = (client.server.phase ≡ Exited false) ⊎ IsInputEnd pending ⊎ (most_messages ≤ length frames)
 
-  -- the first frames of the input were taken, and of their replies so much was written
-  pub record AnsweredFirst (Took : Option (List ℕ) → Option (List ℕ) → List ℕ → Type 0) : Type 0 where
+  -- no other frame is whole
+  abbrev pub IsAllRead : List Frame → List ℕ → Client → Type 0
+  IsAllRead frames pending client = IsPartial pending
+
+  -- behind a write fault whole frames may be pending
+  abbrev pub IsCut : List Frame → List ℕ → Client → Type 0
+  IsCut frames pending client = Unit {0}
+
+  -- one frame more was read, for which folders and files were asked
+  pub record StartsOne (mid : Outside) (frames : List Frame) (client : Client) : Type 0 where
+    pub frame : Frame
+    pub left : List ℕ
+    pub gives : Gives from.given to.given (frames ++ frame ∷ []) left
+    pub starts : StartsFor held mid new client frame
+
+  -- the first frames of the input were taken, and their replies were written; folders and files were read for them, and for one more at most
+  pub record AnsweredFirst : Type 0 where
     pub heard : List ℕ
     pub grows : Grows heard to.given
     pub mid : Outside
@@ -99,15 +119,35 @@ module _ (address : Option (List ℕ)) (held : Option Holding) (from to : Channe
     pub replies : List Reply
     pub client : Client
     pub served : Served held from.given heard old mid frames pending replies client
-    pub taken : Took from.written to.written (framed address replies)
+    pub starts : (new ≡ mid) ⊎ StartsOne mid frames client
+    pub taken : Appends from.written to.written (framed address replies)
 
   abbrev pub Answers : Status → Type 0
-  Answers Done = Answered IsDone × IsHeardWhole from to × IsWrittenWhole from to
-  Answers Ended = Answered IsEnded × IsHeardWhole from to × IsWrittenWhole from to
-  Answers ReadFault = AnsweredFirst Appends × Rose from.hears to.hears × IsWrittenWhole from to
-  Answers WriteFault = AnsweredFirst AppendsPrefix × IsHeardWhole from to × Rose from.writes to.writes
-  Answers OutOfMemory = AnsweredFirst Appends × IsHeardWhole from to × IsWrittenWhole from to
+  Answers Done = Answered Appends IsDone × IsHeardWhole from to × IsWrittenWhole from to
+  Answers Ended = Answered Appends IsEnded × IsHeardWhole from to × IsWrittenWhole from to
+  Answers ReadFault = Answered Appends IsAllRead × Rose from.hears to.hears × IsWrittenWhole from to
+  Answers WriteFault = Answered AppendsPrefix IsCut × IsHeardWhole from to × Rose from.writes to.writes
+  Answers OutOfMemory = AnsweredFirst × IsHeardWhole from to × IsWrittenWhole from to
   Answers Usage = ⊥
+
+-- ---- in time
+
+-- when the input was asked for more, all frames that it had given whole had been taken, and all replies to them written
+pub record IsInTime (address : Option (List ℕ)) (held : Option Holding) (from : Channels) (old : Outside) (asking : Asking) : Type 0 where
+  pub mid : Outside
+  pub frames : List Frame
+  pub pending : List ℕ
+  pub replies : List Reply
+  pub client : Client
+  pub served : Served held from.given asking.given old mid frames pending replies client
+  pub partial : IsPartial pending
+  pub taken : Appends from.written asking.written (framed address replies)
+
+-- so it was each time
+pub record AsksInTime (address : Option (List ℕ)) (held : Option Holding) (from to : Channels) (old : Outside) : Type 0 where
+  pub own : List Asking
+  pub all : to.asks ≡ from.asks ++ own
+  pub each : All (IsInTime address held from old) own
 
 -- words are wrong: nothing is heard, read or written
 abbrev pub AnswersUsage : Channels → Channels → Outside → Outside → Status → Type 0
@@ -116,7 +156,7 @@ AnswersUsage from to old new status = (to ≡ from) × (new ≡ old) × (status 
 -- replies link to the document that the words name; other words are wrong
 abbrev pub AnswersWords : Option Holding → Channels → Channels → Outside → Outside → List (List ℕ) → Status → Type 0
 AnswersWords held from to old new words status =
-    ((address : Option (List ℕ)) × SaysAddress words address × Answers address held from to old new status)
+    ((address : Option (List ℕ)) × SaysAddress words address × Answers address held from to old new status × AsksInTime address held from to old)
     ⊎ (((address : Option (List ℕ)) → SaysAddress words address → ⊥) × AnswersUsage from to old new status)
 
 -- ---- one frame
@@ -150,7 +190,7 @@ module _ (address : Option (List ℕ)) (held : Option Holding) (from to : Option
   EndsBy Done = Takes Appends × (after.server.phase ≡ Exited true) × (now ≡ before)
   EndsBy Ended = Takes Appends × (after.server.phase ≡ Exited false) × (now ≡ before)
   EndsBy WriteFault = Takes AppendsPrefix × Rose before now
-  EndsBy OutOfMemory = (to ≡ from) × (now ≡ before)
+  EndsBy OutOfMemory = ((new ≡ old) ⊎ StartsFor held old new client frame) × (to ≡ from) × (now ≡ before)
   EndsBy ReadFault = ⊥
   EndsBy Usage = ⊥
 

@@ -1,5 +1,5 @@
 -- What a client's messages make of a server, what is read for them, and what is replied.
-use Rattle.std.specs.Prelude.{ℕ, ◌≡◌, ◌++◌, Bool, true, false, List, [], ◌∷◌, Option, map}
+use Rattle.std.specs.Prelude.{ℕ, ◌≡◌, ◌++◌, ◌||◌, is_some, Bool, true, false, List, [], ◌∷◌, Option, map}
 use Rattle.std.specs.List.{AllZip, flat_map}
 use Rattle.serde_json.specs.Written.{compact_text}
 use Rattle.jn_outside.specs.Files.{Holding}
@@ -18,7 +18,8 @@ use Rattle.jn_lsp.specs.declared.phase.Phase.TheVariants.{Waiting, Serving, Shut
 use Rattle.jn_lsp.specs.Requests.{ids_answered, ids_asked}
 use Rattle.jn_lsp.specs.Serving.{Takes, wants_folder}
 use Rattle.nullcheck_lsp_top.specs.declared.client.Client.{Client}
-use Rattle.nullcheck_lsp_top.specs.Looking.{IsFound, Outside, root_or, told_root}
+use Rattle.nullcheck_lsp_top.specs.Looking.{IsFound, Outside, StartsWhere, root_or, told_root}
+use Rattle.nullcheck_lsp_top.specs.Placing.{foreign_in, placed, says}
 use Rattle.nullcheck_lsp_top.specs.Reading.{shows}
 
 -- ---- messages
@@ -45,6 +46,7 @@ pub record Looks (held : Option Holding) (old new : Outside) (before after : Cli
   pub found : IsFound held before.root old new files after.shown
   pub takes : Takes before.server (Folder files) news after.server
   pub root : after.root ≡ before.root
+  pub said : after.said ≡ before.said
   pub all : replies ≡ shows before.shown after.shown ++ news
 
 abbrev pub LooksWhere : Bool → Option Holding → Outside → Outside → Client → Client → List Reply → Type 0
@@ -53,20 +55,33 @@ LooksWhere true held old new before after replies = Looks held old new before af
 
 -- where the files are is kept, where the message says so
 abbrev pub settled : Message → Client → Client
-settled message client = record { server = client.server; root = root_or (told_root client.server.phase message) client.root; shown = client.shown }
+settled message client = record { server = client.server; root = root_or (told_root client.server.phase message) client.root; shown = client.shown; said = client.said }
 
--- the server takes the message, and where files are to be read behind it, those
+-- the document that a message opens, where it is none of the workspace's
+abbrev pub foreign : Client → Message → Option (List ℕ)
+foreign client message = foreign_in client.server.phase client.root message
+
+-- the server takes the message as far as it is about the workspace, and where files are to be read behind it, those
 pub record Hears (held : Option Holding) (old new : Outside) (before : Client) (message : Message) (replies : List Reply) (after : Client) : Type 0 where
   pub first : List Reply
   pub more : List Reply
   pub mid : Client
-  pub takes : Takes before.server (MessageEvent message) first mid.server
+  pub takes : Takes before.server (MessageEvent (placed before.root message)) first mid.server
   pub root : mid.root ≡ (settled message before).root
   pub shown : mid.shown ≡ before.shown
-  pub behind : LooksWhere (looks before.server.phase message) held old new mid after more
-  pub all : replies ≡ first ++ more
+  pub said : mid.said ≡ (before.said || is_some (foreign before message))
+  pub behind : LooksWhere (looks before.server.phase (placed before.root message)) held old new mid after more
+  pub all : replies ≡ says before.said (foreign before message) ++ (first ++ more)
+
+-- what was asked of folders and files is what the message asks for, or the first of that
+abbrev pub StartsBy : Option Holding → Outside → Outside → Client → Message → Type 0
+StartsBy held old new before message = StartsWhere (looks before.server.phase (placed before.root message)) held (settled message before).root old new
 
 -- ---- frames
+
+-- so it is of the message that a frame is
+abbrev pub StartsFor : Option Holding → Outside → Outside → Client → Frame → Type 0
+StartsFor held old new before frame = (message : Message) × IsMessageOf frame message × StartsBy held old new before message
 
 -- the replies as they are written, each in a frame, with links to the document of the codes where its address is given
 abbrev pub written : Option (List ℕ) → Reply → List ℕ

@@ -1,4 +1,5 @@
 pub mod Reading
+pub mod Placing
 pub mod Looking
 pub mod Hearing
 pub mod Answer

@@ -1,32 +1,32 @@
 -- Where a workspace's files are, and what is found there.
-use Rattle.std.specs.Prelude.{ℕ, ◌≡◌, ◌==◌, Bool, false, List, [], ◌∷◌, Option, Some, None, length, map, take, if◌then◌else◌}
+use Rattle.std.specs.Prelude.{ℕ, ◌≡◌, ◌⊎◌, Bool, false, true, List, [], ◌∷◌, Option, Some, None, length, option_map}
 use Rattle.jn_outside.specs.Files.{Holding}
 use Rattle.jn_outside.specs.declared.given.Given.{Given}
 use Rattle.jn_folder.specs.declared.listed.Listed.{Listed}
-use Rattle.jn_folder.specs.Listing.{joined}
-use Rattle.jn_folder.specs.Walking.{Counts, Walks}
+use Rattle.jn_folder.specs.Plain.{plain}
+use Rattle.jn_folder.specs.Walking.{BeginsWalk, Counts, Walks, telling}
 use Rattle.jn_front.specs.declared.source.SourceFile.{SourceFile}
-use Rattle.jn_front.specs.Files.{most_files}
 use Rattle.jn_lsp_types.specs.declared.message.Message.{Message}
-use Rattle.jn_lsp_types.specs.declared.message.Message.TheVariants.{Initialize, Initialized, DidOpen, DidChange, DidSave, DidClose, WatchedFiles, CodeAction, Shutdown, Exit, Ignored, Unknown, BadParams, NoMessage, NoJson, BadHeader, TooLarge}
+use Rattle.jn_lsp_types.specs.declared.message.Message.TheVariants.{Initialize, Initialized, DidOpen, DidChange, DidSave, DidClose, WatchedFiles, CodeAction, Shutdown, Exit, Ignored, Unknown, BadDocument, BadParams, NoMessage, NoJson, BadHeader, TooLarge}
 use Rattle.jn_lsp.specs.declared.phase.Phase.{Phase}
 use Rattle.jn_lsp.specs.declared.phase.Phase.TheVariants.{Waiting, Serving, ShutDown, Exited}
 use Rattle.jn_lsp.specs.Serving.{new_server}
 use Rattle.nullcheck_lsp_top.specs.declared.client.Client.{Client}
 use Rattle.nullcheck_lsp_top.specs.declared.client.Root.{Root}
-use Rattle.nullcheck_lsp_top.specs.Reading.{AreRead, source, warnings_of}
+use Rattle.nullcheck_lsp_top.specs.Placing.{named_paths}
+use Rattle.nullcheck_lsp_top.specs.Reading.{AreTaken, ReadsFirst, is_many, names_taken, source, warnings_of}
 
 -- ---- where files are
 
-abbrev pub root_of : Option (List ℕ) → List (List ℕ) → Root
-root_of folder files = record { folder = folder; files = files }
+abbrev pub root_of : Option (List ℕ) → List (List ℕ) → List (List ℕ) → Root
+root_of folder files exclude = record { folder = option_map plain folder; files = files; exclude = exclude }
 
 abbrev pub new_client : Client
-new_client = record { server = new_server; root = root_of None []; shown = [] }
+new_client = record { server = new_server; root = root_of None [] []; shown = []; said = false }
 
 -- `initialize` says where the files are
 abbrev pub root_in : Message → Option Root
-root_in (Initialize id folder files) = Some (root_of folder files)
+root_in (Initialize id folder files exclude) = Some (root_of folder files exclude)
 root_in Initialized = None
 root_in (DidOpen name text) = None
 root_in (DidChange name changes) = None
@@ -38,6 +38,7 @@ root_in (Shutdown id) = None
 root_in Exit = None
 root_in Ignored = None
 root_in (Unknown id) = None
+root_in (BadDocument name) = None
 root_in (BadParams id) = None
 root_in NoMessage = None
 root_in NoJson = None
@@ -57,15 +58,6 @@ root_or (Some told) root = told
 
 -- ---- names
 
-abbrev pub is_whole : List ℕ → Bool
-is_whole [] = false
-is_whole (byte ∷ bytes) = byte == 47
-
--- the path of a file that the settings name: in the folder, where it isn't whole
-abbrev pub named_path : Option (List ℕ) → List ℕ → List ℕ
-named_path None name = name
-named_path (Some folder) name = if is_whole name then name else joined folder name
-
 -- what files and folders tell
 pub record Outside : Type 0 where
   pub told : List Listed
@@ -77,22 +69,51 @@ abbrev pub outside : List Listed → ℕ → List Given → ℕ → Outside
 outside told lists gave reads = record { told = told; lists = lists; gave = gave; reads = reads }
 
 -- without settings the names are those of the Java files below the folder
-abbrev pub AreInFolder : Option (List ℕ) → Outside → Outside → List (List ℕ) → List (List ℕ) → Type 0
-AreInFolder None old new names missed = (names ≡ []) × (missed ≡ []) × (new.told ≡ old.told) × (new.lists ≡ old.lists)
-AreInFolder (Some folder) old new names missed = Walks folder old.told new.told names missed × Counts missed old.lists new.lists
+abbrev pub AreInFolder : List (List ℕ) → Option (List ℕ) → Outside → Outside → List (List ℕ) → List (List ℕ) → List (List ℕ) → Type 0
+AreInFolder exclude None old new names missed unnamed = (names ≡ []) × (missed ≡ []) × (unnamed ≡ []) × (new.told ≡ old.told) × (new.lists ≡ old.lists)
+AreInFolder exclude (Some folder) old new names missed unnamed = Walks exclude folder (telling old.told new.told old.lists new.lists) names missed unnamed × Counts missed old.lists new.lists
 
-abbrev pub AreNamedBy : Option (List ℕ) → List (List ℕ) → Outside → Outside → List (List ℕ) → List (List ℕ) → Type 0
-AreNamedBy folder [] old new names missed = AreInFolder folder old new names missed
-AreNamedBy folder (file ∷ files) old new names missed =
-    (names ≡ map (named_path folder) (file ∷ files)) × (missed ≡ []) × (new.told ≡ old.told) × (new.lists ≡ old.lists)
+abbrev pub AreNamedBy : Root → List (List ℕ) → Outside → Outside → List (List ℕ) → List (List ℕ) → List (List ℕ) → Type 0
+AreNamedBy root [] old new names missed unnamed = AreInFolder root.exclude root.folder old new names missed unnamed
+AreNamedBy root (file ∷ files) old new names missed unnamed =
+    (names ≡ named_paths root.folder (file ∷ files)) × (missed ≡ []) × (unnamed ≡ []) × (new.told ≡ old.told) × (new.lists ≡ old.lists)
 
 -- ---- files
 
--- the first 64 of these names are read, and these are the files and the warnings
+-- these files and warnings are found: those of all names, in order
 pub record IsFound (held : Option Holding) (root : Root) (old new : Outside) (files : List SourceFile) (warnings : List (List ℕ)) : Type 0 where
   pub names : List (List ℕ)
   pub missed : List (List ℕ)
+  pub unnamed : List (List ℕ)
   pub lost : List (List ℕ)
-  pub named : AreNamedBy root.folder root.files old new names missed
-  pub read : AreRead held (take most_files names) (source old.gave old.reads) (source new.gave new.reads) files lost
-  pub warned : warnings ≡ warnings_of (length names) missed lost
+  pub named : AreNamedBy root root.files old new names missed unnamed
+  pub read : AreTaken held (is_many names) names (source old.gave old.reads) (source new.gave new.reads) files lost
+  pub warned : warnings ≡ warnings_of (length names) missed unnamed lost
+
+-- ---- where a search stops, as memory is wanted
+
+-- folders were listed as a walk below the root begins
+abbrev pub BeginsInFolder : List (List ℕ) → Option (List ℕ) → Outside → Outside → Type 0
+BeginsInFolder exclude None old new = new.told ≡ old.told
+BeginsInFolder exclude (Some folder) old new = BeginsWalk exclude folder old.lists old.told new.told
+
+-- none where the settings name files
+abbrev pub BeginsNamed : Root → List (List ℕ) → Outside → Outside → Type 0
+BeginsNamed root [] old new = BeginsInFolder root.exclude root.folder old new
+BeginsNamed root (file ∷ files) old new = new.told ≡ old.told
+
+-- names were found, and the first of them were read
+pub record ReadsNamed (held : Option Holding) (root : Root) (old new : Outside) : Type 0 where
+  pub names : List (List ℕ)
+  pub missed : List (List ℕ)
+  pub unnamed : List (List ℕ)
+  pub named : AreNamedBy root root.files old new names missed unnamed
+  pub read : ReadsFirst held (names_taken (is_many names) names) (source old.gave old.reads) new.gave
+
+-- what was asked of folders and files is what the workspace's search asks first
+abbrev pub Starts : Option Holding → Root → Outside → Outside → Type 0
+Starts held root old new = (BeginsNamed root root.files old new × (new.gave ≡ old.gave)) ⊎ ReadsNamed held root old new
+
+abbrev pub StartsWhere : Bool → Option Holding → Root → Outside → Outside → Type 0
+StartsWhere false held root old new = new ≡ old
+StartsWhere true held root old new = Starts held root old new

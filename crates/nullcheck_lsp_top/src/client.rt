@@ -1,8 +1,10 @@
 //! What is kept of a client.
-ghost use Rattle.std.specs.Prelude.{◌≡◌, IfOk};
+ghost use Rattle.std.specs.Prelude.{◌≡◌, IfOk, option_map};
+ghost use Rattle.jn_folder.specs.Plain.{plain};
 ghost use Rattle.nullcheck_lsp_top.specs.Looking as spec;
 
 use jn_base::{Seq, Text};
+use jn_folder::plain;
 use jn_lsp::{Phase, Server};
 use jn_lsp_types::Message;
 use std::alloc::{AllocError, Global};
@@ -14,14 +16,18 @@ pub struct Root {
     pub folder: Option<Text>,
     /// The names of the files by the settings, each whole or relative to the folder; none where nothing is set.
     pub files: Seq<Text>,
+    /// The names of folders that are left out.
+    pub exclude: Seq<Text>,
 }
 
-/// A client: the server that it speaks to, where its files are, and the warnings of the last reading of them.
+/// A client: the server that it speaks to, where its files are, the warnings of the last reading of them, and whether it was said that
+/// documents which aren't of the workspace aren't checked.
 #[derive(Drop)]
 pub struct Client {
     pub server: Server,
     pub root: Root,
     pub shown: Seq<Text>,
+    pub said: bool,
 }
 
 impl Client {
@@ -34,8 +40,10 @@ impl Client {
             root: Root {
                 folder: None,
                 files: Seq::new(alloc),
+                exclude: Seq::new(alloc),
             },
             shown: Seq::new(alloc),
+            said: false,
         }
     }
 }
@@ -51,23 +59,29 @@ pub(crate) fn copy_texts(alloc: Global, texts: &[Text]) -> Result<Seq<Text>, All
     Ok(copy)
 }
 
-/// A copy of a path, where there is one.
-fn copy_path(alloc: Global, path: &Option<Text>) -> Result<Option<Text>, AllocError>
-    ensures { IfOk result (λ copy. copy ≡ path.now) }
+/// The path made plain, where there is one.
+fn plain_path(alloc: Global, path: &Option<Text>) -> Result<Option<Text>, AllocError>
+    ensures { IfOk result (λ made. made ≡ option_map plain path.now) }
 {
     match path {
         None => Ok(None),
-        Some(path) => Ok(Some(path.copy(alloc)?)),
+        Some(path) => Ok(Some(plain(alloc, path.as_str())?)),
     }
 }
 
 /// A copy of what says where files are.
-fn copy_root(alloc: Global, folder: &Option<Text>, files: &[Text]) -> Result<Root, AllocError>
-    ensures { IfOk result (λ root. root ≡ spec.root_of folder.now files.now) }
+fn copy_root(
+    alloc: Global,
+    folder: &Option<Text>,
+    files: &[Text],
+    exclude: &[Text],
+) -> Result<Root, AllocError>
+    ensures { IfOk result (λ root. root ≡ spec.root_of folder.now files.now exclude.now) }
 {
     Ok(Root {
-        folder: copy_path(alloc, folder)?,
+        folder: plain_path(alloc, folder)?,
         files: copy_texts(alloc, files)?,
+        exclude: copy_texts(alloc, exclude)?,
     })
 }
 
@@ -76,8 +90,14 @@ fn root_in(alloc: Global, message: &Message) -> Result<Option<Root>, AllocError>
     ensures { IfOk result (λ root. root ≡ spec.root_in message.now) }
 {
     match message {
-        Message::Initialize { folder, files, .. } => {
-            Ok(Some(copy_root(alloc, folder, files.as_slice())?))
+        Message::Initialize {
+            folder,
+            files,
+            exclude,
+            ..
+        } => {
+            let root = copy_root(alloc, folder, files.as_slice(), exclude.as_slice())?;
+            Ok(Some(root))
         }
         _ => Ok(None),
     }

@@ -1,7 +1,8 @@
 //! The loop of a server.
-ghost use Rattle.std.specs.Prelude.{◌≡◌, [], IfOk};
-ghost use Rattle.nullcheck_lsp_top.specs.Answer.{Answers, IsHeard, channels};
+ghost use Rattle.std.specs.Prelude.{◌≡◌, ◌⊎◌, [], IfOk};
+ghost use Rattle.nullcheck_lsp_top.specs.Answer.{Answers, AsksInTime, IsHeard, channels};
 ghost use Rattle.nullcheck_lsp_top.specs.Answer as spec;
+ghost use Rattle.nullcheck_lsp_top.specs.Hearing.{StartsFor};
 ghost use Rattle.nullcheck_lsp_top.specs.Looking.{new_client, outside};
 
 use crate::client::Client;
@@ -42,6 +43,12 @@ fn answer<R: Threads + Sync, F: Files, D: Folder, G: Gate + Sync>(
         (outside (D.told folder.old) (D.faults folder.old) (F.gave files.old) (F.faults files.old))
         (outside (D.told folder.new) (D.faults folder.new) (F.gave files.new) (F.faults files.new))
         client.old frame.now client.new bytes.items) }
+    ensures starts { (outside (D.told folder.new) (D.faults folder.new) (F.gave files.new) (F.faults files.new)
+        ≡ outside (D.told folder.old) (D.faults folder.old) (F.gave files.old) (F.faults files.old))
+        ⊎ StartsFor (F.held files.old)
+        (outside (D.told folder.old) (D.faults folder.old) (F.gave files.old) (F.faults files.old))
+        (outside (D.told folder.new) (D.faults folder.new) (F.gave files.new) (F.faults files.new))
+        client.old frame.now }
 {
     let message = message_of(alloc, frame)?;
     let replies = hear(rt, gate, alloc, client, message, files, folder)?;
@@ -88,7 +95,7 @@ fn take_frame<R: Threads + Sync, F: Files, D: Folder, K: Sink, G: Gate + Sync>(
 }
 
 /// Takes the frames of the input, one after the other, until the client exits or the input ends.
-fn take_frames<R: Threads + Sync, S: Stream, F: Files, D: Folder, K: Sink, G: Gate + Sync>(
+fn take_frames<R: Threads + Sync, K: Sink, S: Stream<K>, F: Files, D: Folder, G: Gate + Sync>(
     rt: &R,
     gate: &G,
     alloc: Global,
@@ -104,14 +111,18 @@ fn take_frames<R: Threads + Sync, S: Stream, F: Files, D: Folder, K: Sink, G: Ga
     requires silent { client.old ≡ new_client }
     ensures held { F.held files.new ≡ F.held files.old }
     ensures answer { Answers address.now (F.held files.old)
-        (channels (S.given input.old) (S.ended input.old) (S.faults input.old) (K.written out.old) (K.faults out.old))
-        (channels (S.given input.new) (S.ended input.new) (S.faults input.new) (K.written out.new) (K.faults out.new))
+        (channels (S.given input.old) (S.ended input.old) (S.faults input.old) (S.asked input.old) (K.written out.old) (K.faults out.old))
+        (channels (S.given input.new) (S.ended input.new) (S.faults input.new) (S.asked input.new) (K.written out.new) (K.faults out.new))
         (outside (D.told folder.old) (D.faults folder.old) (F.gave files.old) (F.faults files.old))
         (outside (D.told folder.new) (D.faults folder.new) (F.gave files.new) (F.faults files.new))
         result }
+    ensures in_time { AsksInTime address.now (F.held files.old)
+        (channels (S.given input.old) (S.ended input.old) (S.faults input.old) (S.asked input.old) (K.written out.old) (K.faults out.old))
+        (channels (S.given input.new) (S.ended input.new) (S.faults input.new) (S.asked input.new) (K.written out.new) (K.faults out.new))
+        (outside (D.told folder.old) (D.faults folder.old) (F.gave files.old) (F.faults files.old)) }
 {
     for _turn in 0..u64::MAX {
-        let frame = match reader.next(input, alloc) {
+        let frame = match reader.next(input, out, alloc) {
             Ok(Next::Frame(frame)) => frame,
             Ok(Next::End(_)) => return Status::Ended,
             Err(Fail::Refused(_)) => return Status::ReadFault,
@@ -126,7 +137,14 @@ fn take_frames<R: Threads + Sync, S: Stream, F: Files, D: Folder, K: Sink, G: Ga
 }
 
 /// Serves a client that didn't speak yet.
-pub(crate) fn serve_all<R: Threads + Sync, S: Stream, F: Files, D: Folder, K: Sink, G: Gate + Sync>(
+pub(crate) fn serve_all<
+    R: Threads + Sync,
+    K: Sink,
+    S: Stream<K>,
+    F: Files,
+    D: Folder,
+    G: Gate + Sync,
+>(
     rt: &R,
     gate: &G,
     alloc: Global,
@@ -138,11 +156,15 @@ pub(crate) fn serve_all<R: Threads + Sync, S: Stream, F: Files, D: Folder, K: Si
 ) -> Status
     ensures held { F.held files.new ≡ F.held files.old }
     ensures answer { Answers address.now (F.held files.old)
-        (channels (S.given input.old) (S.ended input.old) (S.faults input.old) (K.written out.old) (K.faults out.old))
-        (channels (S.given input.new) (S.ended input.new) (S.faults input.new) (K.written out.new) (K.faults out.new))
+        (channels (S.given input.old) (S.ended input.old) (S.faults input.old) (S.asked input.old) (K.written out.old) (K.faults out.old))
+        (channels (S.given input.new) (S.ended input.new) (S.faults input.new) (S.asked input.new) (K.written out.new) (K.faults out.new))
         (outside (D.told folder.old) (D.faults folder.old) (F.gave files.old) (F.faults files.old))
         (outside (D.told folder.new) (D.faults folder.new) (F.gave files.new) (F.faults files.new))
         result }
+    ensures in_time { AsksInTime address.now (F.held files.old)
+        (channels (S.given input.old) (S.ended input.old) (S.faults input.old) (S.asked input.old) (K.written out.old) (K.faults out.old))
+        (channels (S.given input.new) (S.ended input.new) (S.faults input.new) (S.asked input.new) (K.written out.new) (K.faults out.new))
+        (outside (D.told folder.old) (D.faults folder.old) (F.gave files.old) (F.faults files.old)) }
 {
     let mut reader = FrameReader::new(alloc);
     let mut client = Client::new(alloc);

@@ -9,6 +9,7 @@ mod finding;
 mod frames;
 pub mod law;
 mod messages;
+mod placing;
 mod status;
 mod texts;
 pub mod top;

@@ -1,12 +1,13 @@
 //! Messages that are heard.
-ghost use Rattle.std.specs.Prelude.{◌≡◌, ◌++◌, IfOk, OnOk};
+ghost use Rattle.std.specs.Prelude.{◌≡◌, ◌++◌, ◌||◌, IfOk, is_some};
 ghost use Rattle.nullcheck_lsp_top.specs.Hearing as spec;
-ghost use Rattle.nullcheck_lsp_top.specs.Looking.{outside};
+ghost use Rattle.nullcheck_lsp_top.specs.Looking.{Starts, StartsWhere, outside, root_or};
 
-use crate::client::{Client, told_root};
+use crate::client::{Client, Root, told_root};
 use crate::finding::read_workspace;
+use crate::placing::{foreign_in, placed, says};
 use crate::warning::show;
-use jn_base::OutOfMemory;
+use jn_base::{OutOfMemory, Text};
 use jn_folder::Folder;
 use jn_gate::Gate;
 use jn_lsp::{Event, Phase, wants_folder};
@@ -63,6 +64,9 @@ fn look<R: Threads + Sync, F: Files, D: Folder, G: Gate + Sync>(
         (outside (D.told folder.old) (D.faults folder.old) (F.gave files.old) (F.faults files.old))
         (outside (D.told folder.new) (D.faults folder.new) (F.gave files.new) (F.faults files.new))
         client.old client.new replies.items) }
+    ensures starts { Starts (F.held files.old) client.old.root
+        (outside (D.told folder.old) (D.faults folder.old) (F.gave files.old) (F.faults files.old))
+        (outside (D.told folder.new) (D.faults folder.new) (F.gave files.new) (F.faults files.new)) }
 {
     let found = read_workspace(alloc, &client.root, files, folder)?;
     let shows = show(alloc, client.shown.as_slice(), found.warnings.as_slice())?;
@@ -86,6 +90,9 @@ fn look_where<R: Threads + Sync, F: Files, D: Folder, G: Gate + Sync>(
         (outside (D.told folder.old) (D.faults folder.old) (F.gave files.old) (F.faults files.old))
         (outside (D.told folder.new) (D.faults folder.new) (F.gave files.new) (F.faults files.new))
         client.old client.new replies.items) }
+    ensures starts { StartsWhere wanted (F.held files.old) client.old.root
+        (outside (D.told folder.old) (D.faults folder.old) (F.gave files.old) (F.faults files.old))
+        (outside (D.told folder.new) (D.faults folder.new) (F.gave files.new) (F.faults files.new)) }
 {
     if wanted {
         look(rt, gate, alloc, client, files, folder)
@@ -94,14 +101,17 @@ fn look_where<R: Threads + Sync, F: Files, D: Folder, G: Gate + Sync>(
     }
 }
 
-/// Keeps where the files are, where the message says so.
-fn settle(alloc: Global, client: &mut Client, message: &Message) -> Result<(), AllocError>
-    ensures { OnOk result (client.new ≡ spec.settled message.now client.old) }
+/// Keeps where the files are, where that is told, and whether it was said that some documents aren't checked.
+fn settle(client: &mut Client, told: Option<Root>, foreign: &Option<Text>)
+    ensures server { client.new.server ≡ client.old.server }
+    ensures root { client.new.root ≡ root_or told client.old.root }
+    ensures shown { client.new.shown ≡ client.old.shown }
+    ensures said { client.new.said ≡ (client.old.said || is_some foreign.now) }
 {
-    if let Some(root) = told_root(alloc, client.server.phase(), message)? {
+    if let Some(root) = told {
         client.root = root;
     }
-    Ok(())
+    client.said = client.said || foreign.is_some();
 }
 
 /// Takes a message, and gives the replies to it.
@@ -119,10 +129,20 @@ pub(crate) fn hear<R: Threads + Sync, F: Files, D: Folder, G: Gate + Sync>(
         (outside (D.told folder.old) (D.faults folder.old) (F.gave files.old) (F.faults files.old))
         (outside (D.told folder.new) (D.faults folder.new) (F.gave files.new) (F.faults files.new))
         client.old message replies.items client.new) }
+    ensures starts { spec.StartsBy (F.held files.old)
+        (outside (D.told folder.old) (D.faults folder.old) (F.gave files.old) (F.faults files.old))
+        (outside (D.told folder.new) (D.faults folder.new) (F.gave files.new) (F.faults files.new))
+        client.old message }
 {
+    let foreign = foreign_in(alloc, client.server.phase(), &client.root, &message)?;
+    let notices = says(alloc, client.said, &foreign)?;
+    let settled = told_root(alloc, client.server.phase(), &message)?;
+    let message = placed(alloc, &client.root, message)?;
     let looks = looks(client.server.phase(), &message);
-    settle(alloc, client, &message)?;
+    settle(client, settled, &foreign);
     let replies = client.server.take(rt, gate, &Event::Message(message))?;
     let more = look_where(rt, gate, alloc, looks, client, files, folder)?;
-    Ok(joined(replies, more)?)
+    let answers = joined(replies, more)?;
+    let all = joined(notices, answers)?;
+    Ok(all)
 }

@@ -2,10 +2,10 @@
 ghost use Rattle.std.specs.Prelude.{◌≡◌};
 ghost use Rattle.nullcheck_lsp_top.specs.Answer as spec;
 
-/// How a server ends (Language Server Protocol 3.17, "exit": 0 behind `shutdown`, else 1).
+/// How a server ends (Language Server Protocol 3.17, "exit": 0 after `shutdown`, else 1).
 #[derive(Clone, Copy, Debug, PartialEq, Eq)]
 pub enum Status {
-    /// `exit` came behind `shutdown`.
+    /// `exit` came after `shutdown`.
     Done,
     /// `exit` came without it, or the input ended.
     Ended,

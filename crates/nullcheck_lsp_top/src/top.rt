@@ -18,7 +18,7 @@ use std::thread::Threads;
 /// `--codes` and the address of the document of the codes: each diagnostic links to its code there. With others nothing is read or written.
 ///
 /// `rt` gives the threads of four workers, who call `gate` when they take a file, a body for inference, or a body whose rows are made anew.
-pub fn serve<R: Threads + Sync, S: Stream, F: Files, D: Folder, K: Sink, G: Gate + Sync>(
+pub fn serve<R: Threads + Sync, K: Sink, S: Stream<K>, F: Files, D: Folder, G: Gate + Sync>(
     rt: &R,
     gate: &G,
     alloc: Global,
@@ -29,11 +29,11 @@ pub fn serve<R: Threads + Sync, S: Stream, F: Files, D: Folder, K: Sink, G: Gate
     out: &mut K,
 ) -> Status
     // The frames of the input are taken one after the other. Each is a message, and the server is what the messages and the files that
-    // were read for them make of it; what is written are the replies, in frames of their own, all of them or behind a write fault a
+    // were read for them make of it; what is written are the replies, in frames of their own, all of them or after a write fault a
     // prefix. By the law of servers the diagnostics that were published last of each file are those of the files' report.
     ensures answer { AnswersWords (F.held files.old)
-        (channels (S.given input.old) (S.ended input.old) (S.faults input.old) (K.written out.old) (K.faults out.old))
-        (channels (S.given input.new) (S.ended input.new) (S.faults input.new) (K.written out.new) (K.faults out.new))
+        (channels (S.given input.old) (S.ended input.old) (S.faults input.old) (S.asked input.old) (K.written out.old) (K.faults out.old))
+        (channels (S.given input.new) (S.ended input.new) (S.faults input.new) (S.asked input.new) (K.written out.new) (K.faults out.new))
         (outside (D.told folder.old) (D.faults folder.old) (F.gave files.old) (F.faults files.old))
         (outside (D.told folder.new) (D.faults folder.new) (F.gave files.new) (F.faults files.new))
         (map string_bytes words.now) result }

@@ -3,6 +3,7 @@ ghost use Rattle.std.specs.Prelude.{◌≡◌, ◌++◌, ◌∷◌, [], IfOk, On
 ghost use Rattle.nullcheck_lsp_top.specs.Reading as spec;
 
 use jn_base::{Seq, Text};
+use jn_folder::each_once;
 use jn_lsp_types::Reply;
 use std::alloc::{AllocError, Global};
 
@@ -10,7 +11,7 @@ use std::alloc::{AllocError, Global};
 const PROGRAM: &str = "nullcheck: ";
 
 const MANY: &str =
-    "nullcheck: there are more than 64 files; the first 64 are checked; name others in initializationOptions.files";
+    "nullcheck: there are more than 64 files, so none is checked; name those that are wanted in initializationOptions.files";
 
 /// The most files that are checked.
 pub(crate) const MOST: usize = 64;
@@ -41,6 +42,22 @@ fn warn_unlisted(alloc: Global, paths: &[Text], warnings: &mut Seq<Text>) -> Res
     Ok(())
 }
 
+/// Puts a warning for each of these folders behind the others, in which a name is no text.
+fn warn_unnamed(alloc: Global, paths: &[Text], warnings: &mut Seq<Text>) -> Result<(), AllocError>
+    ensures { OnOk result (warnings.new ≡ warnings.old ++ map spec.unnamed_words paths.now) }
+{
+    for path in paths {
+        let words = sentence(
+            alloc,
+            PROGRAM,
+            path.as_str(),
+            ": a name in this folder is no text (UTF-8), so it is left out",
+        )?;
+        warnings.push(words)?;
+    }
+    Ok(())
+}
+
 /// Puts a warning for each of these files behind the others.
 fn warn_unread(alloc: Global, paths: &[Text], warnings: &mut Seq<Text>) -> Result<(), AllocError>
     ensures { OnOk result (warnings.new ≡ warnings.old ++ map spec.unread_words paths.now) }
@@ -63,17 +80,22 @@ fn warn_many(alloc: Global, count: usize) -> Result<Seq<Text>, AllocError>
     Ok(warnings)
 }
 
-/// The warnings: where there are too many files, then of folders that can't be listed, then of files that can't be read.
+/// The warnings: where there are too many files, then of folders that can't be listed, or in which a name is no text, then of files that
+/// can't be read.
 pub(crate) fn warnings_of(
     alloc: Global,
     count: usize,
     missed: &[Text],
+    unnamed: &[Text],
     lost: &[Text],
 ) -> Result<Seq<Text>, AllocError>
-    ensures { IfOk result (λ warnings. warnings ≡ spec.warnings_of count missed.now lost.now) }
+    ensures { IfOk result (λ warnings. warnings
+        ≡ spec.warnings_of count missed.now unnamed.now lost.now) }
 {
     let mut warnings = warn_many(alloc, count)?;
     warn_unlisted(alloc, missed, &mut warnings)?;
+    let strange = each_once(alloc, unnamed)?;
+    warn_unnamed(alloc, strange.as_slice(), &mut warnings)?;
     warn_unread(alloc, lost, &mut warnings)?;
     Ok(warnings)
 }

@@ -1,0 +1,119 @@
+-- What is asked of folders and files, also where memory is wanted.
+use Rattle.std.proofs.Common.{◌≡◌, ℕ, ◌+◌, ◌<◌, ◌++◌, Bool, true, false, List, [], ◌∷◌, drop, get_or, length, take, Option, Some, None, inl, inr, refl, sym, ap, ◌∙◌, subst, append-nil}
+use Rattle.std.proofs.lemmas.List.{drop_more, take-append-drop}
+use Rattle.jn_outside.specs.declared.given.Given.{Given}
+use Rattle.jn_outside.specs.Files.{Holding}
+use Rattle.jn_outside.specs.Gave.{GivesLittle}
+use Rattle.jn_folder.specs.declared.listed.Listed.{Listed}
+use Rattle.jn_folder.proofs.Stopping.{walk_none}
+use Rattle.jn_front.specs.declared.source.SourceFile.{SourceFile}
+use Rattle.jn_front.specs.Files.{file_limit}
+use Rattle.jn_lsp_types.specs.declared.message.Message.{Message}
+use Rattle.nullcheck_lsp_top.specs.declared.client.Client.{Client}
+use Rattle.nullcheck_lsp_top.specs.declared.client.Root.{Root}
+use Rattle.nullcheck_lsp_top.specs.Hearing.{StartsBy, looks, settled}
+use Rattle.nullcheck_lsp_top.specs.Looking.{AreNamedBy, BeginsInFolder, BeginsNamed, Outside, Starts, StartsWhere, outside}
+use Rattle.nullcheck_lsp_top.specs.Placing.{placed}
+use Rattle.nullcheck_lsp_top.specs.Reading.{AreRead, GivesNext, ReadsFirst, Source, is_many, names_taken, source}
+use Rattle.nullcheck_lsp_top.proofs.Locating.{named_so}
+
+-- ---- files
+
+-- nothing was read
+pub reads_none : (held : Option Holding) (names : List (List ℕ)) (old : Source) (new : List Given) → new ≡ old.gave → ReadsFirst held names old new
+reads_none held names old new same = record {
+  done = [];
+  left = names;
+  parts = refl;
+  mid = old;
+  files = [];
+  lost = [];
+  read = (refl, refl, refl);
+  next = by names;
+}
+  where
+    by : (names : List (List ℕ)) → GivesNext names old.gave new
+    by [] = same
+    by (name ∷ others) = inl same
+
+-- as many as are taken
+pub reads_taken : (held : Option Holding) (names : List (List ℕ)) (many : Bool) (old : Source) (new : List Given) → many ≡ false → ReadsFirst held names old new → ReadsFirst held (names_taken many names) old new
+reads_taken held names many old new few read = subst (λ b. ReadsFirst held (names_taken b names) old new) (sym few) read
+
+-- all were
+pub reads_all : (held : Option Holding) (names : List (List ℕ)) (old mid : Source) (files : List SourceFile) (lost : List (List ℕ)) (new : List Given) → AreRead held names old mid files lost → new ≡ mid.gave → ReadsFirst held names old new
+reads_all held names old mid files lost new read same = record {
+  done = names;
+  left = [];
+  parts = sym (append-nil names);
+  mid = mid;
+  files = files;
+  lost = lost;
+  read = read;
+  next = same;
+}
+
+-- so many were, and one more in part
+pub reads_part : (held : Option Holding) (names : List (List ℕ)) (i : ℕ) (name : List ℕ) (old mid : Source) (files : List SourceFile) (lost : List (List ℕ)) (new : List Given) → i < length names → name ≡ get_or names i name → AreRead held (take i names) old mid files lost → GivesLittle name (file_limit + 1) mid.gave new → ReadsFirst held names old new
+reads_part held names i name old mid files lost new lt item read little = record {
+  done = take i names;
+  left = name ∷ drop (i + 1) names;
+  parts = sym (take-append-drop i names) ∙ ap (λ l. take i names ++ l) (drop_more names i name lt ∙ ap (λ n. n ∷ drop (i + 1) names) (sym item));
+  mid = mid;
+  files = files;
+  lost = lost;
+  read = read;
+  next = little;
+}
+
+-- ---- folders
+
+begins_none : (root : Root) (files : List (List ℕ)) (old : Outside) → BeginsNamed root files old old
+begins_none root [] old = in_folder root.folder
+  where
+    in_folder : (folder : Option (List ℕ)) → BeginsInFolder root.exclude folder old old
+    in_folder None = refl
+    in_folder (Some path) = walk_none root.exclude path old.lists old.told old.told refl
+begins_none root (file ∷ files) old = refl
+
+pub begins_so : (root : Root) (files : List (List ℕ)) (told then_ : List Listed) (lists now : ℕ) (gave left right : List Given) (reads one other : ℕ) → BeginsNamed root files (outside told lists gave reads) (outside then_ now gave reads) → BeginsNamed root files (outside told lists left one) (outside then_ now right other)
+begins_so root [] told then_ lists now gave left right reads one other is = in_folder root.folder is
+  where
+    in_folder : (folder : Option (List ℕ)) → BeginsInFolder root.exclude folder (outside told lists gave reads) (outside then_ now gave reads) → BeginsInFolder root.exclude folder (outside told lists left one) (outside then_ now right other)
+    in_folder None is = is
+    in_folder (Some path) is = is
+begins_so root (file ∷ files) told then_ lists now gave left right reads one other is = is
+
+-- ---- both
+
+pub starts_none : (held : Option Holding) (root : Root) (old : Outside) → Starts held root old old
+starts_none held root old = inl (begins_none root root.files old, refl)
+
+pub where_none : (wanted : Bool) (held : Option Holding) (root : Root) (old : Outside) → StartsWhere wanted held root old old
+where_none false held root old = refl
+where_none true held root old = starts_none held root old
+
+-- folders were asked, and no file
+pub starts_folders : (held : Option Holding) (root : Root) (told then_ : List Listed) (lists now : ℕ) (gave : List Given) (reads : ℕ) → BeginsNamed root root.files (outside told lists gave reads) (outside then_ now gave reads) → Starts held root (outside told lists gave reads) (outside then_ now gave reads)
+starts_folders held root told then_ lists now gave reads begins = inl (begins, refl)
+
+-- names were found, and files were read
+pub starts_files : (held : Option Holding) (root : Root) (told then_ : List Listed) (lists now : ℕ) (gave right : List Given) (reads other : ℕ) (names missed unnamed : List (List ℕ)) (many : Bool) → AreNamedBy root root.files (outside told lists gave reads) (outside then_ now gave reads) names missed unnamed → many ≡ is_many names → ReadsFirst held (names_taken many names) (source gave reads) right → Starts held root (outside told lists gave reads) (outside then_ now right other)
+starts_files held root told then_ lists now gave right reads other names missed unnamed many named is read = inr (record {
+  names = names;
+  missed = missed;
+  unnamed = unnamed;
+  named = named_so root root.files told then_ lists now gave gave right reads reads other names missed unnamed named;
+  read = subst (λ b. ReadsFirst held (names_taken b names) (source gave reads) right) is read;
+})
+
+-- ---- a message
+
+pub starts_from : (held : Option Holding) (old new : Outside) (before : Client) (message taken : Message) (wanted : Bool) (root : Root) → wanted ≡ looks before.server.phase taken → taken ≡ placed before.root message → root ≡ (settled message before).root → StartsWhere wanted held root old new → StartsBy held old new before message
+starts_from held old new before message taken wanted root e f g starts =
+    subst (λ (m : Message). StartsWhere (looks before.server.phase m) held (settled message before).root old new) f
+    (subst (λ (r : Root). StartsWhere (looks before.server.phase taken) held r old new) g
+    (subst (λ b. StartsWhere b held root old new) e starts))
+
+pub starts_not : (held : Option Holding) (old : Outside) (before : Client) (message : Message) → StartsBy held old old before message
+starts_not held old before message = where_none (looks before.server.phase (placed before.root message)) held (settled message before).root old

@@ -1,0 +1,196 @@
+//! Which documents are of the workspace.
+ghost use Rattle.std.specs.Prelude.{◌≡◌, ◌++◌, IfOk, OnOk, map};
+ghost use Rattle.nullcheck_lsp_top.specs.Placing as spec;
+
+use crate::client::Root;
+use jn_base::Text;
+use jn_folder::{each_once, is_among, is_below, is_whole, joined, plain};
+use jn_lsp::Phase;
+use jn_lsp_types::{Message, Reply};
+use std::alloc::{AllocError, Global};
+
+// ---- names
+
+/// The path of a file that the settings name: as it is where it begins with a slash or there is no folder, else in the folder.
+fn path_in(alloc: Global, folder: &Option<Text>, name: &Text) -> Result<Text, AllocError>
+    ensures { IfOk result (λ path. path ≡ spec.path_in folder.now name.now) }
+{
+    match folder {
+        Some(folder) if !is_whole(name.as_str()) => {
+            joined(alloc, folder.as_str(), name.as_str())
+        }
+        _ => name.copy(alloc),
+    }
+}
+
+/// The same path made plain.
+fn named_path(alloc: Global, folder: &Option<Text>, name: &Text) -> Result<Text, AllocError>
+    ensures { IfOk result (λ path. path ≡ spec.named_path folder.now name.now) }
+{
+    let path = path_in(alloc, folder, name)?;
+    plain(alloc, path.as_str())
+}
+
+/// The plain paths of these names.
+fn all_paths(alloc: Global, folder: &Option<Text>, names: &[Text]) -> Result<Vec<Text>, AllocError>
+    ensures { IfOk result (λ paths. paths.items ≡ map (spec.named_path folder.now) names.now) }
+{
+    let mut paths = Vec::new(alloc);
+    for name in names {
+        paths.push(named_path(alloc, folder, name)?)?;
+    }
+    Ok(paths)
+}
+
+/// The plain paths of the files that the settings name, each once.
+pub(crate) fn named_paths(
+    alloc: Global,
+    folder: &Option<Text>,
+    names: &[Text],
+) -> Result<Vec<Text>, AllocError>
+    ensures { IfOk result (λ paths. paths.items ≡ spec.named_paths folder.now names.now) }
+{
+    let paths = all_paths(alloc, folder, names)?;
+    each_once(alloc, paths.as_slice())
+}
+
+// ---- documents
+
+/// Whether a plain path lies in the folder, where there is one.
+fn is_in_folder(
+    alloc: Global,
+    skipped: &[Text],
+    folder: &Option<Text>,
+    path: &str,
+) -> Result<bool, AllocError>
+    ensures { IfOk result (λ is. is ≡ spec.is_in_folder skipped.now folder.now path.now) }
+{
+    match folder {
+        None => Ok(is_whole(path)),
+        Some(folder) => is_below(alloc, skipped, folder.as_str(), path),
+    }
+}
+
+fn is_of(alloc: Global, root: &Root, path: &str) -> Result<bool, AllocError>
+    ensures { IfOk result (λ is. is ≡ spec.is_of root.now path.now) }
+{
+    let named = named_paths(alloc, &root.folder, root.files.as_slice())?;
+    if is_among(named.as_slice(), path) {
+        return Ok(true);
+    }
+    is_in_folder(alloc, root.exclude.as_slice(), &root.folder, path)
+}
+
+/// The name by which a document is one of the workspace's.
+fn placed_name(alloc: Global, root: &Root, name: &Text) -> Result<Option<Text>, AllocError>
+    ensures { IfOk result (λ placed. placed ≡ spec.placed_name root.now name.now) }
+{
+    let path = plain(alloc, name.as_str())?;
+    if is_of(alloc, root, path.as_str())? {
+        Ok(Some(path))
+    } else {
+        Ok(None)
+    }
+}
+
+fn or_same(placed: Option<Text>, name: Text) -> Text
+    ensures { result ≡ spec.or_same placed name }
+{
+    match placed {
+        None => name,
+        Some(placed) => placed,
+    }
+}
+
+/// The message as the server takes it: documents by the names of the workspace's files, and nothing of others.
+pub(crate) fn placed(alloc: Global, root: &Root, message: Message) -> Result<Message, AllocError>
+    ensures { IfOk result (λ placed. placed ≡ spec.placed root.now message) }
+{
+    match message {
+        Message::DidOpen { name, text } => match placed_name(alloc, root, &name)? {
+            None => Ok(Message::Ignored),
+            Some(name) => Ok(Message::DidOpen { name, text }),
+        },
+        Message::DidChange { name, changes } => match placed_name(alloc, root, &name)? {
+            None => Ok(Message::Ignored),
+            Some(name) => Ok(Message::DidChange { name, changes }),
+        },
+        Message::DidClose { name } => match placed_name(alloc, root, &name)? {
+            None => Ok(Message::Ignored),
+            Some(name) => Ok(Message::DidClose { name }),
+        },
+        Message::BadDocument { name } => match placed_name(alloc, root, &name)? {
+            None => Ok(Message::Ignored),
+            Some(name) => Ok(Message::BadDocument { name }),
+        },
+        Message::CodeAction { id, name, range } => {
+            let placed = placed_name(alloc, root, &name)?;
+            Ok(Message::CodeAction {
+                id,
+                name: or_same(placed, name),
+                range,
+            })
+        }
+        other => Ok(other),
+    }
+}
+
+// ---- what is said of others
+
+/// The document that a message opens, where it is none of the workspace's.
+fn foreign_by(alloc: Global, root: &Root, message: &Message) -> Result<Option<Text>, AllocError>
+    ensures { IfOk result (λ foreign. foreign ≡ spec.foreign_by root.now message.now) }
+{
+    match message {
+        Message::DidOpen { name, .. } => match placed_name(alloc, root, name)? {
+            None => Ok(Some(name.copy(alloc)?)),
+            Some(_) => Ok(None),
+        },
+        _ => Ok(None),
+    }
+}
+
+/// The document that a message opens in this phase, where it is none of the workspace's.
+pub(crate) fn foreign_in(
+    alloc: Global,
+    phase: Phase,
+    root: &Root,
+    message: &Message,
+) -> Result<Option<Text>, AllocError>
+    ensures { IfOk result (λ foreign. foreign ≡ spec.foreign_in phase root.now message.now) }
+{
+    match phase {
+        Phase::Serving => foreign_by(alloc, root, message),
+        _ => Ok(None),
+    }
+}
+
+fn foreign_words(alloc: Global, name: &str) -> Result<Text, AllocError>
+    ensures { IfOk result (λ words. words ≡ spec.foreign_words name.now) }
+{
+    let mut words = String::from_str(alloc, "nullcheck: ")?;
+    words.push_str(name)?;
+    words.push_str(
+        ": this document is none of the workspace's files, so it isn't checked, nor are others like it",
+    )?;
+    Ok(Text::of_string(words))
+}
+
+/// What is said of the first document that is none of the workspace's.
+pub(crate) fn says(
+    alloc: Global,
+    said: bool,
+    foreign: &Option<Text>,
+) -> Result<Vec<Reply>, AllocError>
+    ensures { IfOk result (λ replies. replies.items ≡ spec.says said foreign.now) }
+{
+    let mut replies = Vec::new(alloc);
+    match foreign {
+        Some(name) if !said => {
+            let words = foreign_words(alloc, name.as_str())?;
+            replies.push(Reply::Show { words })?;
+        }
+        _ => {}
+    }
+    Ok(replies)
+}
