@@ -4,117 +4,70 @@
 use jn_annotate_cli::usage_reason;
 use jn_base::OutOfMemory;
 use jn_gate::Straight;
-use jn_outside::{HostFault, HostFiles, HostSink};
+use jn_host::Host;
+use jn_outside::{HostFiles, HostSink};
 use jn_targets::{HostTargets, TargetFault};
 use nullcheck_annotate_top::{Status, annotate_files};
-use std::env;
-use std::io::{self, ErrorKind};
+use std::alloc::Global;
+use std::io;
 use std::process::ExitCode;
 use std::thread::Threads;
 
-/// The number with which the program ends where a word is not text.
-const NOT_TEXT: u8 = 8;
-
-/// The words behind the program's name.
-fn words(rt: &HostRuntime) -> io::Result<Vec<String>> {
-    let mut words = Vec::new(rt.alloc());
-    for word in env::args(rt)?.skip(1) {
-        words.push(word)?;
-    }
-    Ok(words)
-}
-
-/// Says which file couldn't be opened or read, and why.
-fn tell_read(rt: &HostRuntime, fault: Option<&HostFault>) -> io::Result<()> {
-    let Some(fault) = fault else {
-        return eprintln!(rt; "nullcheck_annotate: a file can't be read");
-    };
-    let name = match &fault.name {
-        Some(name) => name.as_str(),
-        None => "a file",
-    };
-    let call = if fault.opening { "open" } else { "read" };
-    let reason = fault.reason;
-    eprintln!(rt; "nullcheck_annotate: can't {call} {name}: {reason}")
-}
-
 /// Says which file couldn't be replaced, why, and what to remove where something stands in the way.
-fn tell_target(rt: &HostRuntime, fault: &TargetFault) -> io::Result<()> {
+fn say_target(host: &Host<HostRuntime>, fault: &TargetFault) {
     let name = match &fault.name {
         Some(name) => name.as_str(),
         None => "a file",
     };
     let reason = fault.reason;
-    eprintln!(rt; "nullcheck_annotate: can't replace {name}, which is as it was: {reason}")?;
+    host.say(format_args!("can't replace {name}, which is as it was: {reason}"));
     if let Some(left) = &fault.left {
         let left = left.as_str();
-        eprintln!(rt; "nullcheck_annotate: {left} stands in the way: remove it")?;
+        host.say(format_args!("{left} stands in the way: remove it"));
     }
-    Ok(())
 }
 
 /// Says which files were replaced before.
-fn tell_replaced(rt: &HostRuntime, names: &[String]) -> io::Result<()> {
+fn say_replaced(host: &Host<HostRuntime>, names: &[String]) {
     if names.is_empty() {
-        return eprintln!(rt; "nullcheck_annotate: no file was replaced");
+        host.say("no file was replaced");
     }
     for name in names {
         let name = name.as_str();
-        eprintln!(rt; "nullcheck_annotate: replaced {name}")?;
+        host.say(format_args!("replaced {name}"));
     }
-    Ok(())
 }
 
 /// Says why the output can't be written, or which files were replaced before one that can't be.
-fn tell_write(
-    rt: &HostRuntime,
+fn say_written(
+    host: &Host<HostRuntime>,
     reason: Option<io::Error>,
     targets: &HostTargets<HostRuntime>,
-) -> io::Result<()> {
-    if let Some(fault) = targets.fault() {
-        tell_target(rt, fault)?;
-        return tell_replaced(rt, targets.names());
-    }
-    match reason {
-        Some(reason) => {
-            eprintln!(rt; "nullcheck_annotate: can't write to standard output: {reason}")
+) {
+    match targets.fault() {
+        Some(fault) => {
+            say_target(host, fault);
+            say_replaced(host, targets.names());
         }
-        None => eprintln!(rt; "nullcheck_annotate: can't write to standard output"),
+        None => host.cannot_write(reason),
     }
 }
 
 /// Says which word isn't taken, or what is missing.
-fn tell_usage(rt: &HostRuntime, words: &[String]) -> io::Result<()> {
-    match usage_reason(rt.alloc(), words) {
-        Ok(reason) => eprintln!(rt; "nullcheck_annotate: {reason}"),
-        Err(OutOfMemory) => tell_no_memory(rt),
+fn say_usage(host: &Host<HostRuntime>, alloc: Global, words: &[String]) {
+    match usage_reason(alloc, words) {
+        Ok(reason) => host.say(reason),
+        Err(OutOfMemory) => host.no_memory(),
     }
 }
 
-fn tell_no_memory(rt: &HostRuntime) -> io::Result<()> {
-    eprintln!(rt; "nullcheck_annotate: no memory was found")
-}
-
-/// Says on standard error what went wrong, where the status is none of an output. A fault there is none of the program's.
-fn tell(
+/// Does what the words ask for, and says what went wrong.
+fn done<R: Threads + Sync>(
     rt: &HostRuntime,
-    status: Status,
+    threads: &R,
+    host: &Host<HostRuntime>,
     words: &[String],
-    files: &HostFiles<HostRuntime>,
-    out: &HostSink<HostRuntime>,
-    targets: &HostTargets<HostRuntime>,
-) {
-    let _told = match status {
-        Status::ReadFault => tell_read(rt, files.fault()),
-        Status::WriteFault => tell_write(rt, out.fault(), targets),
-        Status::OutOfMemory => tell_no_memory(rt),
-        Status::Usage => tell_usage(rt, words),
-        _ => Ok(()),
-    };
-}
-
-/// Does what the words ask for.
-fn done<R: Threads + Sync>(rt: &HostRuntime, threads: &R, words: &[String]) -> Status {
+) -> Status {
     let alloc = rt.alloc();
     let mut files = HostFiles::new(rt, alloc);
     let mut out = HostSink::new(rt);
@@ -128,21 +81,20 @@ fn done<R: Threads + Sync>(rt: &HostRuntime, threads: &R, words: &[String]) -> S
         &mut targets,
         &Straight,
     );
-    tell(rt, status, words, &files, &out, &targets);
+    match status {
+        Status::ReadFault => host.cannot_read(files.fault()),
+        Status::WriteFault => say_written(host, out.fault(), &targets),
+        Status::OutOfMemory => host.no_memory(),
+        Status::Usage => say_usage(host, alloc, words),
+        _ => {}
+    }
     status
 }
 
 fn main(rt: HostRuntime) -> ExitCode {
-    let words = match words(&rt) {
-        Ok(words) => words,
-        Err(error) if error.kind() == ErrorKind::OutOfMemory => {
-            let _told = tell_no_memory(&rt);
-            return ExitCode::from(Status::OutOfMemory.number());
-        }
-        Err(_) => {
-            let _told = eprintln!(rt; "nullcheck_annotate: a word of the command line isn't text");
-            return ExitCode::from(NOT_TEXT);
-        }
-    };
-    ExitCode::from(done(&rt, &rt, &words).number())
+    let host = Host::new(&rt, "nullcheck_annotate");
+    match host.words() {
+        Ok(words) => ExitCode::from(done(&rt, &rt, &host, &words).number()),
+        Err(number) => ExitCode::from(number),
+    }
 }

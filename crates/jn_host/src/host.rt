@@ -1,0 +1,93 @@
+//! A program before its host.
+
+use jn_outside::HostFault;
+use std::alloc::Global;
+use std::env::{self, Env};
+use std::fmt::Display;
+use std::io::{self, ErrorKind};
+use std::process::ExitCode;
+
+/// The number with which a program ends where a word of its command line isn't text.
+pub const NOT_TEXT: u8 = 8;
+
+/// The number with which a program ends where it found no memory.
+pub const OUT_OF_MEMORY: u8 = 7;
+
+/// The host of a program, under whose name it speaks on standard error.
+#[derive(Drop)]
+pub struct Host<'a, R> {
+    rt: &'a R,
+    name: &'a str,
+}
+
+impl<'a, R: Env + Alloc<A = Global> + Eprint> Host<'a, R> {
+    /// The host of the program of this name.
+    pub fn new(rt: &'a R, name: &'a str) -> Host<'a, R> {
+        Host { rt, name }
+    }
+
+    /// Says a line.
+    pub fn say<D: Display + Drop>(&self, line: D) {
+        let name = self.name;
+        let _said = eprintln!(self.rt; "{name}: {line}");
+    }
+
+    /// Says that no memory was found.
+    pub fn no_memory(&self) {
+        self.say("no memory was found");
+    }
+
+    /// Says which file couldn't be opened or read, and why.
+    pub fn cannot_read(&self, fault: Option<&HostFault>) {
+        let Some(fault) = fault else {
+            return self.say("a file can't be read");
+        };
+        let name = match &fault.name {
+            Some(name) => name.as_str(),
+            None => "a file",
+        };
+        let call = if fault.opening { "open" } else { "read" };
+        let reason = fault.reason;
+        self.say(format_args!("can't {call} {name}: {reason}"));
+    }
+
+    /// Says why standard input can't be read.
+    pub fn cannot_hear(&self, reason: Option<io::Error>) {
+        match reason {
+            Some(reason) => self.say(format_args!("can't read standard input: {reason}")),
+            None => self.say("can't read standard input"),
+        }
+    }
+
+    /// Says why standard output can't be written.
+    pub fn cannot_write(&self, reason: Option<io::Error>) {
+        match reason {
+            Some(reason) => self.say(format_args!("can't write to standard output: {reason}")),
+            None => self.say("can't write to standard output"),
+        }
+    }
+
+    /// The words after the program's name, or the number with which the program ends where there are none to go by: it is said why.
+    pub fn words(&self) -> Result<Vec<String>, u8> {
+        match listed(self.rt) {
+            Ok(words) => Ok(words),
+            Err(error) if error.kind() == ErrorKind::OutOfMemory => {
+                self.no_memory();
+                Err(OUT_OF_MEMORY)
+            }
+            Err(_) => {
+                self.say("a word of the command line isn't text");
+                Err(NOT_TEXT)
+            }
+        }
+    }
+}
+
+/// The words after the program's name.
+fn listed<R: Env + Alloc<A = Global>>(rt: &R) -> io::Result<Vec<String>> {
+    let mut words = Vec::new(rt.alloc());
+    for word in env::args(rt)?.skip(1) {
+        words.push(word)?;
+    }
+    Ok(words)
+}
