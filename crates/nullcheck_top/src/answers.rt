@@ -3,10 +3,9 @@ ghost use Rattle.std.specs.Prelude.{◌≡◌, ◌≢◌, ◌<◌, ◌≤◌, �
 ghost use Rattle.std.specs.String.{string_bytes};
 ghost use Rattle.jn_outside.specs.Causes.{Rose};
 ghost use Rattle.jn_command.specs.declared.report.Report.TheVariants.{Checked};
-ghost use Rattle.jn_command.specs.Asked.{asked};
+ghost use Rattle.jn_command.specs.Asked.{asked_with};
 ghost use Rattle.jn_command.specs.Answer.{reading, HoldsFiles, ReadsNothing, Starts};
 ghost use Rattle.jn_command.specs.Made.{front_of, made_file, made_text};
-ghost use Rattle.jn_command.specs.Reporters.{shown_behind};
 ghost use Rattle.jn_command.specs.Reports.{rows_of};
 ghost use Rattle.jn_command.specs.Stands.{StandIn};
 ghost use Rattle.jn_front.specs.Counted.{ReadsFit};
@@ -64,7 +63,7 @@ fn answer_checked<P: Reporter, K: Sink>(
     checked: &CheckedFiles,
     out: &mut K,
 ) -> Status
-    requires front { front.now ≡ front_of (P.document reporter) command.now.classes }
+    requires front { front.now ≡ front_of (P.form reporter).document command.now.classes }
     requires fit { ReadsFit reads.now }
     requires stand { StandIn reads.now (rows_of checked.now.found.report) }
     requires found { (files : List FileOf) → AreReads reads.now files
@@ -74,7 +73,7 @@ fn answer_checked<P: Reporter, K: Sink>(
     requires safe { checked.now.found.report ≡ Checked [] → (files : List FileOf)
         → AreReads reads.now files → IsSafe command.now.infer files }
     ensures answer { (files : List FileOf) → AreReads reads.now files
-        → AnswersFiles (asked command.now (P.document reporter) (P.notes reporter) (shown_behind (P.rows reporter) (P.shown reporter))) files
+        → AnswersFiles (asked_with command.now (P.form reporter)) files
         (K.written out.old) (K.written out.new) result }
     ensures write { result ≡ Status.WriteFault → Rose (K.faults out.old) (K.faults out.new) }
     ensures write_always { K.faults out.old < K.faults out.new → result ≡ Status.WriteFault }
@@ -119,12 +118,12 @@ fn answer_reads<R: Threads + Sync, G: Gate + Sync, P: Reporter, K: Sink>(
     out: &mut K,
 ) -> Status
     requires workers { (1 ≤ command.now.workers) × (command.now.workers ≤ 16) }
-    requires front { front.now ≡ front_of (P.document reporter) command.now.classes }
+    requires front { front.now ≡ front_of (P.form reporter).document command.now.classes }
     requires few { length reads.now ≤ most_files }
     requires fit { ReadsFit reads.now }
     requires read { (files : List FileOf) × AreReads reads.now files }
     ensures answer { (files : List FileOf) → AreReads reads.now files
-        → AnswersFiles (asked command.now (P.document reporter) (P.notes reporter) (shown_behind (P.rows reporter) (P.shown reporter))) files
+        → AnswersFiles (asked_with command.now (P.form reporter)) files
         (K.written out.old) (K.written out.new) result }
     ensures write { result ≡ Status.WriteFault → Rose (K.faults out.old) (K.faults out.new) }
     ensures write_always { K.faults out.old < K.faults out.new → result ≡ Status.WriteFault }
@@ -167,7 +166,7 @@ fn answer_made<R: Threads + Sync, G: Gate + Sync, P: Reporter, K: Sink>(
     requires some { 1 ≤ command.now.classes }
     requires most { command.now.classes ≤ 500 }
     ensures answer { AnswersFiles
-        (asked command.now (P.document reporter) (P.notes reporter) (shown_behind (P.rows reporter) (P.shown reporter)))
+        (asked_with command.now (P.form reporter))
         (made_file (made_text command.now.classes) ∷ []) (K.written out.old) (K.written out.new)
         result }
     ensures write { result ≡ Status.WriteFault → Rose (K.faults out.old) (K.faults out.new) }
@@ -196,7 +195,7 @@ fn answer_named<R: Threads + Sync, G: Gate + Sync, P: Reporter, F: Files, K: Sin
     requires named { map string_bytes names.now ≡ command.now.files }
     requires workers { (1 ≤ command.now.workers) × (command.now.workers ≤ 16) }
     ensures answer { Answers (reading (F.held files.old) (F.gave files.old) (F.gave files.new))
-        (Some (asked command.now (P.document reporter) (P.notes reporter) (shown_behind (P.rows reporter) (P.shown reporter))))
+        (Some (asked_with command.now (P.form reporter)))
         (K.written out.old) (K.written out.new) result }
     ensures read { result ≡ Status.ReadFault → Rose (F.faults files.old) (F.faults files.new) }
     ensures read_always { F.faults files.old < F.faults files.new → result ≡ Status.ReadFault }
@@ -235,23 +234,23 @@ pub fn answer_command<R: Threads + Sync, G: Gate + Sync, P: Reporter, F: Files, 
     requires workers { (1 ≤ command.now.workers) × (command.now.workers ≤ 16) }
     requires classes { command.now.classes ≤ 500 }
     ensures answer { Answers (reading (F.held files.old) (F.gave files.old) (F.gave files.new))
-        (Some (asked command.now (P.document reporter) (P.notes reporter) (shown_behind (P.rows reporter) (P.shown reporter))))
+        (Some (asked_with command.now (P.form reporter)))
         (K.written out.old) (K.written out.new) result }
     ensures read { result ≡ Status.ReadFault → Rose (F.faults files.old) (F.faults files.new) }
     ensures read_always { F.faults files.old < F.faults files.new → result ≡ Status.ReadFault }
     ensures read_steady { F.steady files.old
         → HoldsFiles (F.held files.old)
-        (Some (asked command.now (P.document reporter) (P.notes reporter) (shown_behind (P.rows reporter) (P.shown reporter))))
+        (Some (asked_with command.now (P.form reporter)))
         → result ≢ Status.ReadFault }
     ensures read_count { F.steady files.old
         → HoldsFiles (F.held files.old)
-        (Some (asked command.now (P.document reporter) (P.notes reporter) (shown_behind (P.rows reporter) (P.shown reporter))))
+        (Some (asked_with command.now (P.form reporter)))
         → F.faults files.new ≡ F.faults files.old }
     ensures starts { Starts
-        (Some (asked command.now (P.document reporter) (P.notes reporter) (shown_behind (P.rows reporter) (P.shown reporter))))
+        (Some (asked_with command.now (P.form reporter)))
         (F.gave files.old) (F.gave files.new) }
     ensures unread { ReadsNothing
-        (Some (asked command.now (P.document reporter) (P.notes reporter) (shown_behind (P.rows reporter) (P.shown reporter))))
+        (Some (asked_with command.now (P.form reporter)))
         → (F.faults files.new ≡ F.faults files.old) × (F.gave files.new ≡ F.gave files.old) }
     ensures write { result ≡ Status.WriteFault → Rose (K.faults out.old) (K.faults out.new) }
     ensures write_always { K.faults out.old < K.faults out.new → result ≡ Status.WriteFault }

@@ -2,7 +2,7 @@
 #![tactic(auto)]
 
 mod answers;
-mod check;
+pub mod check;
 pub mod found;
 pub mod law;
 mod marks;

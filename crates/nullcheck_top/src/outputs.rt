@@ -57,11 +57,11 @@ fn show_found<P: Reporter>(
     requires whole { AreWhole found.now.report reads.now }
     ensures rows { IfOk result (λ shower. (infer : Infer) (files : List FileOf)
         → AreReads reads.now files → IsFinding infer files names.now found.now
-        → IsGiven (P.notes reporter) (P.rows reporter) infer reads.now files found.now.report
-        (P.rows shower)) }
+        → IsGiven (P.form reporter).notes (P.form reporter).rows infer reads.now files found.now.report
+        (P.form shower).rows) }
     ensures verdict { IfOk result
         (λ shower. P.given shower ≡ Some (verdict_of found.now.report)) }
-    ensures shown { IfOk result (λ shower. P.shown shower ≡ P.shown reporter) }
+    ensures shown { IfOk result (λ shower. (P.form shower).shown ≡ (P.form reporter).shown) }
 {
     match left_for(reporter.shows_notes(), found) {
         None => show(alloc, reads, &found.report, reporter),
@@ -82,12 +82,12 @@ fn show_with<P: Reporter>(
     reporter: P,
 ) -> Result<P, OutOfMemory>
     requires fit { ReadsFit reads.now }
-    ensures rows { IfOk result (λ shower. P.rows shower
-        ≡ P.rows reporter
+    ensures rows { IfOk result (λ shower. (P.form shower).rows
+        ≡ (P.form reporter).rows
         ++ rows_with (files_of_reads reads.now) (map (placed (files_of_reads reads.now)) notes.now)
         (rows_of report.now)) }
     ensures verdict { IfOk result (λ shower. P.given shower ≡ Some (verdict_of report.now)) }
-    ensures shown { IfOk result (λ shower. P.shown shower ≡ P.shown reporter) }
+    ensures shown { IfOk result (λ shower. (P.form shower).shown ≡ (P.form reporter).shown) }
 {
     let files = marked(alloc, reads)?;
     let placed = PlacedNotes::new(&files, notes);
@@ -140,7 +140,7 @@ pub(crate) fn report_output<P: Reporter>(
     ensures status { IfOk result (λ o. o.status ≡ status_of found.now.report) }
     ensures bytes { IfOk result (λ o. (infer : Infer) (files : List FileOf)
         → AreReads reads.now files → IsFinding infer files names.now found.now
-        → ShowsReport (P.notes reporter) (shown_behind (P.rows reporter) (P.shown reporter)) infer
+        → ShowsReport (P.form reporter).notes (shown_behind (P.form reporter).rows (P.form reporter).shown) infer
         files found.now.report front.now o.bytes) }
 {
     let shower = show_found(alloc, reads, names, found, reporter)?;
@@ -159,7 +159,7 @@ pub(crate) fn number_output<P: Reporter>(
     requires many { most_files < length names.now }
     ensures { IfOk result (λ o. (infer : Infer) (files : List FileOf)
         → names_of files ≡ map string_bytes names.now
-        → IsRefusalOf (shown_behind (P.rows reporter) (P.shown reporter)) infer files o.status
+        → IsRefusalOf (shown_behind (P.form reporter).rows (P.form reporter).shown) infer files o.status
         o.bytes) }
 {
     let report = refuse_number(alloc)?;

@@ -19,7 +19,7 @@ use std::alloc::Global;
 use std::thread::Threads;
 
 const USAGE: &str =
-    "usage: nullcheck [--workers N] [--report NAME] [--infer NAME] [--run] [--steps N] [--words TEXT] [--gen N] FILE..\n";
+    "usage: nullcheck [--workers N] [--report NAME] [--codes ADDRESS] [--infer NAME] [--run] [--steps N] [--words TEXT] [--gen N] FILE..\n";
 
 /// Checks what the words ask for, and writes the report by the first of these reporters that has the name; or runs the main of
 /// accepted files where a run is asked for.
@@ -39,118 +39,54 @@ pub fn nullcheck<R: Threads + Sync, F: Files, K: Sink, G: Gate + Sync>(
 ) -> Status
     // Status and bytes are those that the words and the files define: the files that the words name, with the bytes that the reads of
     // this call gave, or the program that they ask for; their report, or where a run is asked for the run of accepted files' main.
-    // Behind a write fault a prefix of the bytes went out, behind a read fault nothing, behind want of memory nothing or the text of
+    // After a write fault a prefix of the bytes went out, after a read fault nothing, after want of memory nothing or the text of
     // some of the run's steps. Accepted files are safe.
     ensures answer { Answers (reading (F.held files.old) (F.gave files.old) (F.gave files.new))
         (asked_of
-        (map
-        (λ b. record {
-          title = title b;
-          document = document b;
-          notes = notes b;
-          rows = rows b;
-          shown = shown b;
-        })
-        reporters.items)
+        (map (λ b. form b) reporters.items)
         (map string_bytes words.now))
         (K.written out.old) (K.written out.new) result }
     // So no run of accepted files dereferences null or gets stuck, with any words and any number of steps, the one that was asked for
     // among them.
     ensures safe { IsAcceptance result
         → Safe (reading (F.held files.old) (F.gave files.old) (F.gave files.new)) (asked_of
-        (map
-        (λ b. record {
-          title = title b;
-          document = document b;
-          notes = notes b;
-          rows = rows b;
-          shown = shown b;
-        })
-        reporters.items)
+        (map (λ b. form b) reporters.items)
         (map string_bytes words.now)) }
     // Where the words are a command's and no fault is counted, all is written, or no memory was found.
     ensures complete { (Rose (F.faults files.old) (F.faults files.new) → ⊥)
         → (Rose (K.faults out.old) (K.faults out.new) → ⊥)
         → Completes (reading (F.held files.old) (F.gave files.old) (F.gave files.new))
         (asked_of
-        (map
-        (λ b. record {
-          title = title b;
-          document = document b;
-          notes = notes b;
-          rows = rows b;
-          shown = shown b;
-        })
-        reporters.items)
+        (map (λ b. form b) reporters.items)
         (map string_bytes words.now))
         (K.written out.old) (K.written out.new) result }
-    // A report is whole before its first byte goes out: where no run is asked for, nothing was written behind want of memory.
+    // A report is whole before its first byte goes out: where no run is asked for, nothing was written after want of memory.
     ensures nothing { result ≡ Status.OutOfMemory
         → (AsksRun (asked_of
-        (map
-        (λ b. record {
-          title = title b;
-          document = document b;
-          notes = notes b;
-          rows = rows b;
-          shown = shown b;
-        })
-        reporters.items)
+        (map (λ b. form b) reporters.items)
         (map string_bytes words.now)) → ⊥)
         → K.written out.new ≡ K.written out.old }
     ensures read { result ≡ Status.ReadFault → Rose (F.faults files.old) (F.faults files.new) }
     ensures read_always { F.faults files.old < F.faults files.new → result ≡ Status.ReadFault }
     ensures read_steady { F.steady files.old
         → HoldsFiles (F.held files.old) (asked_of
-        (map
-        (λ b. record {
-          title = title b;
-          document = document b;
-          notes = notes b;
-          rows = rows b;
-          shown = shown b;
-        })
-        reporters.items)
+        (map (λ b. form b) reporters.items)
         (map string_bytes words.now))
         → result ≢ Status.ReadFault }
     ensures read_count { F.steady files.old
         → HoldsFiles (F.held files.old) (asked_of
-        (map
-        (λ b. record {
-          title = title b;
-          document = document b;
-          notes = notes b;
-          rows = rows b;
-          shown = shown b;
-        })
-        reporters.items)
+        (map (λ b. form b) reporters.items)
         (map string_bytes words.now))
         → F.faults files.new ≡ F.faults files.old }
     // No file is started but those that the words name, in their order, whatever comes of it.
     ensures starts { Starts
         (asked_of
-        (map
-        (λ b. record {
-          title = title b;
-          document = document b;
-          notes = notes b;
-          rows = rows b;
-          shown = shown b;
-        })
-        reporters.items)
+        (map (λ b. form b) reporters.items)
         (map string_bytes words.now))
         (F.gave files.old) (F.gave files.new) }
     // Nothing is read where the words are no command's, name too many files, or ask for a program.
     ensures unread { ReadsNothing (asked_of
-        (map
-        (λ b. record {
-          title = title b;
-          document = document b;
-          notes = notes b;
-          rows = rows b;
-          shown = shown b;
-        })
-        reporters.items)
+        (map (λ b. form b) reporters.items)
         (map string_bytes words.now))
         → (F.faults files.new ≡ F.faults files.old) × (F.gave files.new ≡ F.gave files.old) }
     ensures write { result ≡ Status.WriteFault → Rose (K.faults out.old) (K.faults out.new) }

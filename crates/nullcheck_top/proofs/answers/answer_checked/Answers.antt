@@ -1,7 +1,6 @@
 use Rattle.std.proofs.Common.{[], subst}
 use Rattle.std.proofs.lemmas.Result.{IfOk-weaker}
-use Rattle.jn_command.specs.Asked.{asked}
-use Rattle.jn_command.specs.Reporters.{shown_behind}
+use Rattle.jn_command.specs.Asked.{asked_with}
 use Rattle.jn_run.specs.Main.{Answers as RunAnswers}
 use Rattle.nullcheck_top.specs.Found.{IsAtHand}
 use Rattle.jn_report.specs.Report.{IsReport}
@@ -21,11 +20,11 @@ returns-in-Some-clause-answer g c files are =
     let new = g.K.Sink.written c.run_files.new.out in
     let ran = subst (λ fs. RunAnswers fs accepted.0 names c.as_slice.result.now c.args.command.now.steps old new c.run_files.result) (c.requires.whole [] of_files.0 files are) c.run_files.ensures.answer in
     let told = subst (λ words. RunAnswers files accepted.0 names words c.args.command.now.steps old new c.run_files.result) c.as_slice.ensures ran in
-    run_answers (asked c.args.command.now (g.P.Reporter.document c.args.reporter) (g.P.Reporter.notes c.args.reporter) (shown_behind (g.P.Reporter.rows c.args.reporter) (g.P.Reporter.shown c.args.reporter))) files names accepted.0 c.in-Some.ensures.0 (subst (IsReport c.args.command.now.infer files) of_files.0 finding.report) (c.requires.safe of_files.0 files are) of_files.1 old new c.run_files.result told
+    run_answers (asked_with c.args.command.now (g.P.Reporter.form c.args.reporter)) files names accepted.0 c.in-Some.ensures.0 (subst (IsReport c.args.command.now.infer files) of_files.0 finding.report) (c.requires.safe of_files.0 files are) of_files.1 old new c.run_files.result told
 
 pub returns-in-None-clause-answer : goal.returns-in-None-clause-answer
 returns-in-None-clause-answer g c files are =
-    let a = asked c.args.command.now (g.P.Reporter.document c.args.reporter) (g.P.Reporter.notes c.args.reporter) (shown_behind (g.P.Reporter.rows c.args.reporter) (g.P.Reporter.shown c.args.reporter)) in
+    let a = asked_with c.args.command.now (g.P.Reporter.form c.args.reporter) in
     let report = c.args.checked.now.found.report in
     let finding = c.requires.found files are in
     let made = shown_made IsReport AreNotes IsSafe RunsTo Prints a files c.args.reads.now report c.args.front.now c.report_output.result are c.requires.front finding.report (λ none. c.requires.safe none files are) (λ run. subst (IsAtHand c.args.command.now.infer files c.args.checked.now.names report) (c.in-None.ensures run) finding.accepted) c.report_output.ensures.status (IfOk-weaker c.report_output.result _ _ (λ o h fs rs. h c.args.command.now.infer fs rs (c.requires.found fs rs)) c.report_output.ensures.bytes) in

@@ -1,9 +1,8 @@
 use Rattle.std.proofs.Common.{map, refl, sym, subst}
 use Rattle.std.specs.Prelude.{string_bytes}
 use Rattle.jn_front.specs.Files.{ReadFrom}
-use Rattle.jn_command.specs.Asked.{asked}
+use Rattle.jn_command.specs.Asked.{asked_with}
 use Rattle.jn_command.specs.Answer.{reading}
-use Rattle.jn_command.specs.Reporters.{shown_behind}
 use Rattle.nullcheck_top.proofs.Answering.{checked_many, checked_read, many_answers, many_written}
 use Rattle.nullcheck_top.proofs.Written.{files_named, never_read, no_fault, of_files, starts_none}
 use Rattle.jn_typed_files.proofs.Fitting.{few_reads, many_names, reads_fit}
@@ -16,7 +15,7 @@ pub returns-then-names-gt-MOST_FILES-clause-answer : goal.returns-then-names-gt-
 returns-then-names-gt-MOST_FILES-clause-answer g c =
     let read = reading (g.F.Files.held c.args.files.now) (g.F.Files.gave c.args.files.now) (g.F.Files.gave c.args.files.now) in
     let names = map string_bytes c.args.names.now in
-    let a = asked c.args.command.now (g.P.Reporter.document c.args.reporter) (g.P.Reporter.notes c.args.reporter) (shown_behind (g.P.Reporter.rows c.args.reporter) (g.P.Reporter.shown c.args.reporter)) in
+    let a = asked_with c.args.command.now (g.P.Reporter.form c.args.reporter) in
     let old = g.K.Sink.written c.args.out.now in
     let new = g.K.Sink.written c.write.new.out in
     of_files IsReport AreNotes IsSafe RunsTo Prints read a (files_named names) old new c.write.result (checked_many read a names c.requires.classes c.requires.named (many_names c.args.names.now c.if-names-gt-MOST_FILES.true))
@@ -28,7 +27,7 @@ returns-then-names-gt-MOST_FILES-clause-starts g c = starts_none (map string_byt
 pub returns-then-names-gt-MOST_FILES-clause-read : goal.returns-then-names-gt-MOST_FILES-clause-read
 returns-then-names-gt-MOST_FILES-clause-read g c e =
     let names = map string_bytes c.args.names.now in
-    let a = asked c.args.command.now (g.P.Reporter.document c.args.reporter) (g.P.Reporter.notes c.args.reporter) (shown_behind (g.P.Reporter.rows c.args.reporter) (g.P.Reporter.shown c.args.reporter)) in
+    let a = asked_with c.args.command.now (g.P.Reporter.form c.args.reporter) in
     let old = g.K.Sink.written c.args.out.now in
     let new = g.K.Sink.written c.write.new.out in
     absurd (never_read IsReport AreNotes IsSafe RunsTo Prints a (files_named names) old new c.write.result (many_answers a names old new (g.K.Sink.faults c.args.out.now) (g.K.Sink.faults c.write.new.out) c.write.result c.number_output.result c.requires.classes c.number_output.ensures c.write.ensures) e)
@@ -36,7 +35,7 @@ returns-then-names-gt-MOST_FILES-clause-read g c e =
 pub returns-then-names-gt-MOST_FILES-clause-read_steady : goal.returns-then-names-gt-MOST_FILES-clause-read_steady
 returns-then-names-gt-MOST_FILES-clause-read_steady g c steady all e =
     let names = map string_bytes c.args.names.now in
-    let a = asked c.args.command.now (g.P.Reporter.document c.args.reporter) (g.P.Reporter.notes c.args.reporter) (shown_behind (g.P.Reporter.rows c.args.reporter) (g.P.Reporter.shown c.args.reporter)) in
+    let a = asked_with c.args.command.now (g.P.Reporter.form c.args.reporter) in
     let old = g.K.Sink.written c.args.out.now in
     let new = g.K.Sink.written c.write.new.out in
     never_read IsReport AreNotes IsSafe RunsTo Prints a (files_named names) old new c.write.result (many_answers a names old new (g.K.Sink.faults c.args.out.now) (g.K.Sink.faults c.write.new.out) c.write.result c.number_output.result c.requires.classes c.number_output.ensures c.write.ensures) e
@@ -44,7 +43,7 @@ returns-then-names-gt-MOST_FILES-clause-read_steady g c steady all e =
 pub returns-then-names-gt-MOST_FILES-clause-write : goal.returns-then-names-gt-MOST_FILES-clause-write
 returns-then-names-gt-MOST_FILES-clause-write g c e =
     let names = map string_bytes c.args.names.now in
-    let a = asked c.args.command.now (g.P.Reporter.document c.args.reporter) (g.P.Reporter.notes c.args.reporter) (shown_behind (g.P.Reporter.rows c.args.reporter) (g.P.Reporter.shown c.args.reporter)) in
+    let a = asked_with c.args.command.now (g.P.Reporter.form c.args.reporter) in
     no_fault (g.K.Sink.written c.args.out.now) (g.K.Sink.written c.write.new.out) (g.K.Sink.faults c.args.out.now) (g.K.Sink.faults c.write.new.out) c.write.result c.number_output.result (many_written a names c.number_output.result c.number_output.ensures) c.write.ensures e
 
 pub answer_reads-requires-clause-few : goal.answer_reads-requires-clause-few
@@ -66,7 +65,7 @@ returns-clause-answer g c =
     let before = g.F.Files.gave c.args.files.now in
     let now = g.F.Files.gave c.read_all.new.files in
     let names = map string_bytes c.args.names.now in
-    let a = asked c.args.command.now (g.P.Reporter.document c.args.reporter) (g.P.Reporter.notes c.args.reporter) (shown_behind (g.P.Reporter.rows c.args.reporter) (g.P.Reporter.shown c.args.reporter)) in
+    let a = asked_with c.args.command.now (g.P.Reporter.form c.args.reporter) in
     let from = subst (λ rs. ReadFrom held names before now rs) (sym c.deref.ensures.value) c.in-Ok.ensures.ok in
     of_files IsReport AreNotes IsSafe RunsTo Prints (reading held before now) a from.files (g.K.Sink.written c.args.out.now) (g.K.Sink.written c.answer_reads.new.out) c.answer_reads.result
     (checked_read held before now a names c.deref.result.now c.requires.classes c.requires.named from) (c.answer_reads.ensures.answer from.files from.are)

@@ -21,11 +21,11 @@ returns g c infer files named =
     let long = length_is files in
     let long_names = ap length named in
     let long_words = length-map c.args.names.now string_bytes in
-    let taken = g.P.Reporter.rows c.args.reporter in
-    let text = number_text (g.P.Reporter.shown c.args.reporter) (g.P.Reporter.shown shower) taken files names c.as_str.result.now report (g.P.Reporter.rows shower) (g.P.Reporter.given shower) c.in_ok-shower.ensures.shown named there found.row c.in_ok-shower.ensures.rows c.in_ok-shower.ensures.verdict in
+    let taken = (g.P.Reporter.form c.args.reporter).rows in
+    let text = number_text (g.P.Reporter.form c.args.reporter).shown (g.P.Reporter.form shower).shown taken files names c.as_str.result.now report (g.P.Reporter.form shower).rows (g.P.Reporter.given shower) c.in_ok-shower.ensures.shown named there found.row c.in_ok-shower.ensures.rows c.in_ok-shower.ensures.verdict in
     record {
       rows = row_at most_files B1 ∷ [];
       is = subst (IsReport infer files) found.row (found.report infer files (omega (arith, c.requires.many, long, long_names, long_words)));
       ends = c.status.ensures ∙ ap status_of found.row;
-      shows = c.in_ok-joined.ensures ∙ (c.bytes.ensures ∙ (text ∙ ap (shown (shown_behind taken (g.P.Reporter.shown c.args.reporter)) files) found.row));
+      shows = c.in_ok-joined.ensures ∙ (c.bytes.ensures ∙ (text ∙ ap (shown (shown_behind taken (g.P.Reporter.form c.args.reporter).shown) files) found.row));
     }
