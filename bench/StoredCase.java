@@ -17,8 +17,8 @@ final class StoredCase {
   /** A word that sets what lies around the command. */
   private static final Pattern AROUND = Pattern.compile("(read|write|most|room|times|spaces|meet|cuts|boxes|refused)=\\d+");
 
-  /** A word by which the files' main is also run by its trees, beside the command. */
-  private static final Pattern BESIDE = Pattern.compile("fuel=\\d+");
+  /** A word by which the files' main is also run by its trees, or by single steps, beside the command. */
+  private static final Pattern BESIDE = Pattern.compile("(fuel|ones)=\\d+");
 
   private static final List<String> VALUED = Arrays.asList("--workers", "--infer", "--report", "--steps", "--words", "--gen");
 

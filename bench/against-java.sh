@@ -15,6 +15,8 @@
 # same class, whose line is that of the first place that Java tells (Java tells no column). Behind `steps`, `deep` and
 # `long` Java has to have printed the same text first. Files without a single main may have none in Java either: one
 # that takes an array of non-null words, neither nullable nor under construction.
+# The calls from outside of the table `callers` are made by Java, too: each has to print and to come to what is stored, and none may end in a
+# NullPointerException of the files.
 # Prints for each answer how many sets of files there are, how many compiled, and how their mains ended; how many runs
 # were compared, by their ends; then what differs. Ends with 1 where a run differs, or where accepted files whose main
 # ended in a NullPointerException are among them, and with 0 where no Java is found. Accepted files that don't compile
@@ -47,6 +49,8 @@ compare() {
 
 status=0
 compare cases "$cases/data" "$cases/stdout" || status=1
+mkdir "$scratch/callers"
+java -Dfile.encoding=UTF-8 -cp "$scratch/driver" Callers "$cases/data" callers "$cases/stdout" "$scratch/callers" || status=1
 if [ -n "$program" ]; then
   for file in "$root"/examples/*.java; do
     name=${file##*/}

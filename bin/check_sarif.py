@@ -21,7 +21,7 @@ def uri(value):
 
 
 def from_one(value):
-    """3.30.5, 3.30.6."""
+    """3.30.5 to 3.30.8."""
     return isinstance(value, int) and not isinstance(value, bool) and value >= 1
 
 
@@ -65,8 +65,11 @@ OBJECTS = {
             "locations": ["location"],
             "relatedLocations": ["location"],
             "partialFingerprints": texts,
+            "properties": "propertyBag",
         },
     ),
+    # 3.8: what the reporter says beside the standard
+    "propertyBag": ({}, {"moreNotes": from_one}),
     # 3.11
     "message": ({"text": text}, {}),
     # 3.28
@@ -76,7 +79,7 @@ OBJECTS = {
     # 3.4
     "artifactLocation": ({"uri": uri}, {}),
     # 3.30
-    "region": ({"startLine": from_one}, {"startColumn": from_one}),
+    "region": ({"startLine": from_one}, {"startColumn": from_one, "endLine": from_one, "endColumn": from_one}),
 }
 
 
@@ -104,7 +107,7 @@ def faults_of(form, value, path):
 
 
 def faults_between(log):
-    """What objects say of one another: 3.19.23 (ids of rules), 3.27.5 (a result's rule), 3.28.2 (ids of locations)."""
+    """What objects say of one another: 3.19.23 (ids of rules), 3.27.5 (a result's rule), 3.28.2 (ids of locations), 3.30.7 and 3.30.8 (ends of regions)."""
     found = []
     for run in log["runs"]:
         rules = [rule["id"] for rule in run["tool"]["driver"].get("rules", [])]
@@ -117,6 +120,9 @@ def faults_between(log):
             ids = [place["id"] for place in places if "id" in place]
             if len(set(ids)) != len(ids):
                 found.append(f"results[{i}]: an id of a location twice")
+            regions = [place["physicalLocation"]["region"] for place in places]
+            if any("endLine" in region and (region["endLine"], region["endColumn"]) < (region["startLine"], region["startColumn"]) for region in regions):
+                found.append(f"results[{i}]: a region ends before it begins")
     return found
 
 

@@ -81,17 +81,16 @@ impl Reporter for Counted {
     ghost use Rattle.std.specs.Prelude.{codes, false};
     ghost use Rattle.jn_reporters.specs.Reports.{plain_shown};
 
-    ghost rows = { λ a. a.plain.rows };
+    ghost form = { λ a. record {
+      title = codes "plain";
+      document = false;
+      notes = false;
+      rows = a.plain.rows;
+      shown = plain_shown;
+      linked = λ address. plain_shown;
+    } };
 
     ghost given = { λ a. a.plain.verdict };
-
-    ghost title = { λ a. codes "plain" };
-
-    ghost document = { λ a. false };
-
-    ghost notes = { λ a. false };
-
-    ghost shown = { λ a. plain_shown };
 
     fn name(&self) -> &str {
         self.plain.name()
@@ -103,6 +102,10 @@ impl Reporter for Counted {
 
     fn shows_notes(&self) -> bool {
         self.plain.shows_notes()
+    }
+
+    fn link(&mut self, address: &str) -> Result<(), OutOfMemory> {
+        self.plain.link(address)
     }
 
     fn take(&mut self, row: &RowView<'_>) -> Result<(), OutOfMemory> {

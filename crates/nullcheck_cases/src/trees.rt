@@ -9,25 +9,22 @@ ghost use Rattle.jn_places.specs.PlacedView.{placed_file};
 ghost use Rattle.jn_program.specs.Lowered.{IsProgram};
 ghost use Rattle.jn_tree_run.specs.Beginning.{HasTrees};
 
-use crate::held::held_files;
+use crate::reading::{file_names, reads_of};
 use jn_accept::mains::only_main;
 use jn_base::{Span, place_of};
 use jn_basecheck::base_check;
 use jn_classtable::{ClassTable, build};
 use jn_cli::{Command, read_words};
-use jn_front::{ParsedFiles, SourceRead, parse_files, read_all};
+use jn_front::{ParsedFiles, SourceRead, parse_files};
 use jn_gate::Straight;
 use jn_index::indexed::IndexedProgram;
-use jn_outside::{MemFiles, MemSink};
+use jn_outside::MemSink;
 use jn_program::lowering::lower;
 use jn_tree_run::{FaultKind, TreeEnd, tree_run};
 use jn_typed::BaseTyped;
 use std::alloc::{AllocError, Global};
 use std::io;
 use std::thread::Threads;
-
-/// The most files.
-const FILES: usize = 64;
 
 /// The bytes for which the sink of a run has room.
 const ROOM: u32 = 100_000;
@@ -184,15 +181,6 @@ fn run_reads<R: Threads + Sync>(
     }
 }
 
-/// The names of the files of a command.
-fn file_names(alloc: Global, command: &Command) -> Result<Vec<String>, AllocError> {
-    let mut names = Vec::new(alloc);
-    for name in command.files.as_slice() {
-        names.push(name.as_str().to_string(alloc)?)?;
-    }
-    Ok(names)
-}
-
 /// What the one main of the files that the words name prints by its trees, within these bounds, and the line of its end.
 pub fn trees_text<R: Threads + Sync>(
     rt: &HostRuntime,
@@ -205,13 +193,8 @@ pub fn trees_text<R: Threads + Sync>(
         return Ok("no command\n".to_string(alloc)?);
     };
     let names = file_names(alloc, &command)?;
-    let held = held_files(rt, &names, 0, u32::MAX)?;
-    let mut files = MemFiles::new(alloc, held, Vec::new(alloc));
-    let Ok(reads) = read_all(alloc, &mut files, &names) else {
+    let Some(reads) = reads_of(rt, &names)? else {
         return Ok("not read\n".to_string(alloc)?);
     };
-    if reads.len() > FILES {
-        return Ok("too many files\n".to_string(alloc)?);
-    }
     Ok(run_reads(threads, alloc, &command, &reads, bounds)?)
 }
