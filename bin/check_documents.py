@@ -2,10 +2,12 @@
 """Holds README.md and docs/ against the repository.
 
 Looks that each file, crate, module and definition that a page names in backticks exists; that each link to a file or a
-heading holds; that each crate has a line in README's list, and each line a crate; that the table of wrong bodies in
-docs/PROVING.md and the folders must-fail and wrong-bodies have the same; and, for each indented block of README.md and
-docs/INTEGRATION.md that begins with a command of bin/ whose program is built, that its output is what stands below it (a
-line `..` stands for any lines). Prints what doesn't hold, and ends with 1 where something doesn't.
+heading holds; that README's list of crates is the one that bin/list_crates.py makes; that each example is named; that names
+which docs/HOWTO.md gives to bin/touched.py are there; that the files of docs/GLOSSARY.md have their terms' names; that
+numbers of kinds and of crates above each other are so; that the table of wrong bodies in docs/PROVING.md and the folders
+must-fail and wrong-bodies have the same; and, for each indented block of README.md and docs/INTEGRATION.md that begins with
+a command of bin/ whose program is built, that its output is what stands below it (a line `..` stands for any lines). Prints
+what doesn't hold, and ends with 1 where something doesn't.
 
 usage: bin/check_documents.py [--commands]   with --commands: runs the blocks, too, with the programs that are built"""
 import re
@@ -107,11 +109,64 @@ def check_links():
                     yield f"{page.relative_to(ROOT)}:{number}: {target}: no such heading"
 
 
-def check_crates(known):
-    listed = re.findall(r"^- ((?:`\w+`(?:, )?)+)", (ROOT / "README.md").read_text(encoding="utf-8"), re.MULTILINE)
-    listed = {name for line in listed for name in re.findall(r"`(\w+)`", line)}
-    yield from (f"README.md: no line for {name}" for name in known if name not in listed)
-    yield from (f"README.md: {name} is no crate" for name in sorted(listed) if name.startswith(("jn_", "nullcheck_")) and name not in known)
+def check_crates():
+    run = subprocess.run([ROOT / "bin/list_crates.py"], capture_output=True, text=True, check=False)
+    yield from run.stdout.splitlines()
+
+
+def check_examples():
+    pages = "".join(page.read_text(encoding="utf-8") for page in PAGES)
+    for file in sorted((ROOT / "examples").glob("*.java")):
+        if not re.search(rf"`(?:examples/)?{file.stem}(?:\.java)?`|examples/{file.name}", pages):
+            yield f"examples/{file.name}: no page names it"
+
+
+def check_touched(words):
+    """The names that pages give to bin/touched.py are there."""
+    for page in PAGES:
+        for line, command in backticked(page.read_text(encoding="utf-8")):
+            if command.startswith("bin/touched.py ") and "NAME" not in command:
+                yield from (f"{page.relative_to(ROOT)}:{line}: nothing is called {word}" for word in command.split()[1:] if word not in words)
+
+
+def check_glossary():
+    """Each file of docs/GLOSSARY.md has the names that stand after it."""
+    for number, line in enumerate((ROOT / "docs/GLOSSARY.md").read_text(encoding="utf-8").splitlines(), 1):
+        crate = ""
+        for files, names in re.findall(r"`([\w.{},/]+\.(?:antt|rt))`: ((?:`\w+`(?:, )?)+)", line):
+            crate = files.split("/")[0] if (CRATES / files.split("/")[0] / "src").is_dir() else crate
+            paths = [CRATES / top / it for it in spread(files) for top in ("", crate, f"{crate}/specs")]
+            text = "".join(path.read_text(encoding="utf-8") for path in paths if path.is_file())
+            yield from (f"docs/GLOSSARY.md:{number}: {files} has no {name}" for name in re.findall(r"\w+", names) if not re.search(rf"\b{name}\b", text))
+
+
+def variants(file, name):
+    """How many variants an enum of the code has."""
+    text = (CRATES / file).read_text(encoding="utf-8")
+    body = re.search(rf"pub enum {name} \{{\n(.*?)^\}}", text, re.MULTILINE | re.DOTALL)[1]
+    return len(re.findall(r"^    [A-Z]\w*", body, re.MULTILINE))
+
+
+def chain(crate, lines, found):
+    """How many crates stand one above the other up to this one."""
+    if crate not in found:
+        found[crate] = 1 + max((chain(it, lines, found) for it in lines[crate].split() if it in lines), default=0)
+    return found[crate]
+
+
+def check_counts():
+    """Numbers that the repository gives."""
+    lines = dict(re.findall(r"^(\w+)[^:#]*:(.*)$", (ROOT / "crates.txt").read_text(encoding="utf-8"), re.MULTILINE))
+    counts = [
+        (r"\b(\d+) kinds of rows", variants("jn_base/src/code.rt", "Code")),
+        (r"\b(\d+) kinds\b(?! of rows)", variants("jn_points/src/point.rt", "PointKind")),
+        (r"\((\d+) for `nullcheck`,", chain("nullcheck", lines, {})),
+        (r", (\d+) for the language server\)", chain("nullcheck_lsp", lines, {})),
+    ]
+    for page in PAGES:
+        for number, line in enumerate(page.read_text(encoding="utf-8").splitlines(), 1):
+            for pattern, count in counts:
+                yield from (f"{page.relative_to(ROOT)}:{number}: {said}, and there are {count}" for said in re.findall(pattern, line) if int(said) != count)
 
 
 def check_edits():
@@ -128,36 +183,44 @@ def check_edits():
 
 
 def blocks(text):
-    """Indented blocks that are a command of bin/, each with the block that follows it, if one does."""
-    parts = re.split(r"\n\s*\n", text)
-    for one, other in zip(parts, parts[1:] + [""]):
-        if one.startswith("    bin/") and "\n" not in one.strip("\n"):
-            yield one.strip(), "\n".join(line[4:] for line in other.splitlines()) if other.startswith("    ") else None
+    """Indented lines that are a command of bin/ by themselves, each with the indented block that follows it, if one does."""
+    lines = text.splitlines()
+    for at, line in enumerate(lines):
+        is_alone = not any(0 <= it < len(lines) and lines[it].startswith("    ") for it in (at - 1, at + 1))
+        if not line.startswith("    bin/") or not is_alone:
+            continue
+        end = at + 1
+        while end < len(lines) and (not lines[end].strip() or lines[end].startswith("    ")) and not lines[end].startswith("    bin/"):
+            end += 1
+        wanted = "\n".join(it[4:] for it in lines[at + 1 : end]).strip("\n")
+        yield line.strip(), wanted or None
 
 
 def matches(wanted, given):
-    """Whether the text is as wanted, where `..` alone on a line stands for any lines."""
-    parts = [re.escape(part.strip("\n")) for part in re.split(r"^\s*[.]{2}\s*$", wanted, flags=re.MULTILINE)]
-    return re.fullmatch(r"[\s\S]*".join(parts), given.strip("\n")) is not None
+    """Whether the text is as wanted but for blanks at line ends, where `..` alone on a line stands for any lines."""
+    given = "\n".join(line.rstrip() for line in given.splitlines()).strip("\n")
+    parts = [re.escape("\n".join(it.rstrip() for it in part.splitlines()).strip("\n")) for part in re.split(r"^\s*[.]{2}\s*$", wanted, flags=re.MULTILINE)]
+    return re.fullmatch(r"[\s\S]*".join(parts), given) is not None
 
 
 def check_commands():
     for page in (ROOT / "README.md", ROOT / "docs/INTEGRATION.md"):
         for command, wanted in blocks(page.read_text(encoding="utf-8")):
             name = re.match(r"bin/(\w+)", command)[1]
-            if wanted is None or wanted.startswith("bin/") or re.search(r"\b(FILE|CERT|SCRIPT|N|NAME)\b", command):
+            if wanted is None or re.search(r"\b(FILE|CERT|SCRIPT|N|NAME)\b", command):
                 continue
             if not any((CRATES / name / "out" / it).is_file() for it in (name, f"{name}.unproved")):
                 continue
+            plain = command.replace(" --unproved", "")
             proved = (CRATES / name / "out" / name).is_file()
-            run = subprocess.run(command if proved else command.replace(f"bin/{name}", f"bin/{name} --unproved", 1), shell=True, cwd=ROOT, capture_output=True, text=True, check=False)
+            run = subprocess.run(plain if proved else plain.replace(f"bin/{name}", f"bin/{name} --unproved", 1), shell=True, cwd=ROOT, capture_output=True, text=True, check=False)
             if not matches(wanted, run.stdout):
                 yield f"{page.relative_to(ROOT)}: {command}: writes\n{run.stdout}"
 
 
 def main():
-    known = crates()
-    faults = [*check_names(known, words_of_code()), *check_links(), *check_crates(known), *check_edits()]
+    words = words_of_code()
+    faults = [*check_names(crates(), words), *check_links(), *check_crates(), *check_examples(), *check_touched(words), *check_glossary(), *check_counts(), *check_edits()]
     if "--commands" in sys.argv[1:]:
         faults += check_commands()
     print("\n".join(faults))

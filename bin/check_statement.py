@@ -5,7 +5,7 @@ Follows the imports of the contracts of crates/nullcheck_top/src/top.rt and src/
 all crates, but for the standard library and the ported crates, which stand elsewhere. Types that the code declares
 (specs.declared) are counted apart: they are read where src/ declares them. Prints for each crate its files with their
 lines, what the page names but isn't reached, or leaves out, and each number of lines of the page that isn't that of its row's
-files. Ends with 1 where there is such a difference.
+files, also of the rows of the other programs. Ends with 1 where there is such a difference.
 
 usage: bin/check_statement.py [--write]   with --write: puts the numbers of lines into the page
 """
@@ -18,6 +18,8 @@ CRATES = ROOT / "crates"
 PAGE = ROOT / "docs" / "STATEMENT.md"
 STARTS = [CRATES / "nullcheck_top/src/top.rt", CRATES / "nullcheck_top/src/law.rt"]
 IMPORT = re.compile(r"^\s*(?:pub )?(?:ghost )?use Rattle\.(\w+)\.specs\.([\w.]+)", re.MULTILINE)
+# A row of the other programs, or of the shorter road: folders, each with the names of files in it, and a number of lines.
+BESIDE = re.compile(r"^(\| )((?:`\w+/specs/`: [^|;]*;? ?)+)( \| )(\d+)( \|)", re.MULTILINE)
 NAMED = re.compile(r"`(\w+)/specs/(\{[\w,]+\}|\w+)\.antt`")
 
 
@@ -72,6 +74,15 @@ def with_numbers(page, reached):
         return f"{found[1]}{found[2]}{sum(map(lines_of, files))}{found[4]}" if files else found[0]
 
     page = re.sub(r"^(\| \d+ \|)(.*`\w+/specs/.*\| )(\d+)( \|)", row, page, flags=re.MULTILINE)
+    def row_beside(found):
+        parts = re.findall(r"`(\w+)/specs/`: ([^;|]*)", found[2])
+        files = [CRATES / crate / "specs" / f"{name}.antt" for crate, names in parts for name in re.findall(r"`(\w+)`", names)]
+        missing = [file for file in files if not file.is_file()]
+        for file in missing:
+            print(f"no such file: {file.relative_to(CRATES)}")
+        return found[0] if missing else f"{found[1]}{found[2]}{found[3]}{sum(map(lines_of, files))}{found[5]}"
+
+    page = BESIDE.sub(row_beside, page)
     lines = sum(map(lines_of, reached))
     return re.sub(r"^\d+ files, \d+ lines, so some \d+ pages", f"{len(reached)} files, {lines} lines, so some {round(lines / 50)} pages", page, flags=re.MULTILINE)
 
