@@ -1,6 +1,6 @@
 #!/usr/bin/env python3
 """Holds docs/CODES.md against definitions: the table of what reporters say of each code against jn_base/specs/Messages.antt, and the headings
-against the anchors of jn_lsp_messages/specs/Anchors.antt.
+against the anchors of jn_reporters/specs/Anchors.antt.
 
 Prints each row and each anchor that differs, and ends with 1 where there is one, or where a code has no row or no heading.
 """
@@ -54,7 +54,7 @@ def main():
     for code in told:
         print(f"{code}: docs/CODES.md has a row, and there is no such code")
         wrong += 1
-    anchors = texts_of("crates/jn_lsp_messages/specs/Anchors.antt")["code_anchor"]
+    anchors = texts_of("crates/jn_reporters/specs/Anchors.antt")["code_anchor"]
     headings = anchors_of(page)
     for variant, code in names.items():
         if anchors.get(variant) != headings.get(code):
