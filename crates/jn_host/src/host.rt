@@ -1,17 +1,34 @@
 //! A program before its host.
+ghost use Rattle.std.specs.Prelude.{◌≡◌};
+ghost use Rattle.jn_host.specs.Ends as spec;
 
+use jn_base::OutOfMemory;
 use jn_outside::HostFault;
 use std::alloc::Global;
 use std::env::{self, Env};
 use std::fmt::Display;
 use std::io::{self, ErrorKind};
-use std::process::ExitCode;
 
-/// The number with which a program ends where a word of its command line isn't text.
-pub const NOT_TEXT: u8 = 8;
+/// Why there are no words to go by.
+#[derive(Clone, Copy, Debug, PartialEq, Eq)]
+pub enum NoWords {
+    /// No memory was found for them.
+    OutOfMemory,
+    /// One of them isn't text.
+    NotText,
+}
 
-/// The number with which a program ends where it found no memory.
-pub const OUT_OF_MEMORY: u8 = 7;
+impl NoWords {
+    /// The number with which the program then ends.
+    pub fn number(self) -> u8
+        ensures { result ≡ spec.number self }
+    {
+        match self {
+            NoWords::OutOfMemory => 7,
+            NoWords::NotText => 8,
+        }
+    }
+}
 
 /// The host of a program, under whose name it speaks on standard error.
 #[derive(Drop)]
@@ -35,6 +52,14 @@ impl<'a, R: Env + Alloc<A = Global> + Eprint> Host<'a, R> {
     /// Says that no memory was found.
     pub fn no_memory(&self) {
         self.say("no memory was found");
+    }
+
+    /// Says why words are no command's, or that no memory was found to say it.
+    pub fn refused(&self, reason: Result<String, OutOfMemory>) {
+        match reason {
+            Ok(reason) => self.say(reason),
+            Err(OutOfMemory) => self.no_memory(),
+        }
     }
 
     /// Says which file couldn't be opened or read, and why.
@@ -67,17 +92,21 @@ impl<'a, R: Env + Alloc<A = Global> + Eprint> Host<'a, R> {
         }
     }
 
-    /// The words after the program's name, or the number with which the program ends where there are none to go by: it is said why.
-    pub fn words(&self) -> Result<Vec<String>, u8> {
+    /// The words after the program's name.
+    ///
+    /// # Errors
+    ///
+    /// A word isn't text, or no memory was found for them; a line says which.
+    pub fn words(&self) -> Result<Vec<String>, NoWords> {
         match listed(self.rt) {
             Ok(words) => Ok(words),
             Err(error) if error.kind() == ErrorKind::OutOfMemory => {
                 self.no_memory();
-                Err(OUT_OF_MEMORY)
+                Err(NoWords::OutOfMemory)
             }
             Err(_) => {
                 self.say("a word of the command line isn't text");
-                Err(NOT_TEXT)
+                Err(NoWords::NotText)
             }
         }
     }

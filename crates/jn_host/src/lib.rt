@@ -6,4 +6,4 @@
 
 mod host;
 
-pub use host::{Host, NOT_TEXT, OUT_OF_MEMORY};
+pub use host::{Host, NoWords};

@@ -1,24 +1,15 @@
 //! Does what the words ask for, says on standard error what went wrong, and ends with the status's number.
 #![tactic(auto)]
 
-use jn_base::OutOfMemory;
 use jn_cli::usage_reason;
 use jn_gate::Straight;
-use jn_host::{Host, OUT_OF_MEMORY};
+use jn_host::Host;
 use jn_outside::{HostFiles, HostSink};
 use jn_reporters::{Checkstyle, Github, Long, Plain, Reporter, Sarif, Summary, Tabbed};
 use nullcheck_top::{Status, nullcheck};
-use std::alloc::{AllocError, Global};
+use std::alloc::AllocError;
 use std::process::ExitCode;
 use std::thread::Threads;
-
-/// Says which word isn't taken, or what is missing.
-fn say_usage(host: &Host<HostRuntime>, alloc: Global, words: &[String]) {
-    match usage_reason(alloc, words) {
-        Ok(reason) => host.say(reason),
-        Err(OutOfMemory) => host.no_memory(),
-    }
-}
 
 /// Does what the words ask for, and says what went wrong. The reporters are made here, of which a command takes one by its name.
 fn done<R: Threads + Sync>(
@@ -45,7 +36,7 @@ fn done<R: Threads + Sync>(
         Status::ReadFault => host.cannot_read(files.fault()),
         Status::WriteFault => host.cannot_write(out.fault()),
         Status::OutOfMemory => host.no_memory(),
-        Status::Usage => say_usage(host, alloc, words),
+        Status::Usage => host.refused(usage_reason(alloc, words)),
         _ => {}
     }
     Ok(status)
@@ -55,13 +46,13 @@ fn main(rt: HostRuntime) -> ExitCode {
     let host = Host::new(&rt, "nullcheck");
     let words = match host.words() {
         Ok(words) => words,
-        Err(number) => return ExitCode::from(number),
+        Err(none) => return ExitCode::from(none.number()),
     };
     match done(&rt, &rt, &host, &words) {
         Ok(status) => ExitCode::from(status.number()),
         Err(AllocError) => {
             host.no_memory();
-            ExitCode::from(OUT_OF_MEMORY)
+            ExitCode::from(Status::OutOfMemory.number())
         }
     }
 }

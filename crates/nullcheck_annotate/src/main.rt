@@ -2,13 +2,11 @@
 #![tactic(auto)]
 
 use jn_annotate_cli::usage_reason;
-use jn_base::OutOfMemory;
 use jn_gate::Straight;
 use jn_host::Host;
 use jn_outside::{HostFiles, HostSink};
 use jn_targets::{HostTargets, TargetFault};
 use nullcheck_annotate_top::{Status, annotate_files};
-use std::alloc::Global;
 use std::io;
 use std::process::ExitCode;
 use std::thread::Threads;
@@ -53,14 +51,6 @@ fn say_written(
     }
 }
 
-/// Says which word isn't taken, or what is missing.
-fn say_usage(host: &Host<HostRuntime>, alloc: Global, words: &[String]) {
-    match usage_reason(alloc, words) {
-        Ok(reason) => host.say(reason),
-        Err(OutOfMemory) => host.no_memory(),
-    }
-}
-
 /// Does what the words ask for, and says what went wrong.
 fn done<R: Threads + Sync>(
     rt: &HostRuntime,
@@ -85,7 +75,7 @@ fn done<R: Threads + Sync>(
         Status::ReadFault => host.cannot_read(files.fault()),
         Status::WriteFault => say_written(host, out.fault(), &targets),
         Status::OutOfMemory => host.no_memory(),
-        Status::Usage => say_usage(host, alloc, words),
+        Status::Usage => host.refused(usage_reason(alloc, words)),
         _ => {}
     }
     status
@@ -95,6 +85,6 @@ fn main(rt: HostRuntime) -> ExitCode {
     let host = Host::new(&rt, "nullcheck_annotate");
     match host.words() {
         Ok(words) => ExitCode::from(done(&rt, &rt, &host, &words).number()),
-        Err(number) => ExitCode::from(number),
+        Err(none) => ExitCode::from(none.number()),
     }
 }

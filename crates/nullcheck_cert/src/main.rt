@@ -130,6 +130,6 @@ fn main(rt: HostRuntime) -> ExitCode {
     let host = Host::new(&rt, "nullcheck_cert");
     match host.words() {
         Ok(words) => ExitCode::from(done(&rt, &rt, &host, &words).number()),
-        Err(number) => ExitCode::from(number),
+        Err(none) => ExitCode::from(none.number()),
     }
 }

@@ -33,6 +33,6 @@ fn main(rt: HostRuntime) -> ExitCode {
     let host = Host::new(&rt, "nullcheck_recheck");
     match host.words() {
         Ok(words) => ExitCode::from(done(&rt, &rt, &host, &words).number()),
-        Err(number) => ExitCode::from(number),
+        Err(none) => ExitCode::from(none.number()),
     }
 }
