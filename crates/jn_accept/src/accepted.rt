@@ -3,10 +3,10 @@ ghost use Rattle.std.specs.Prelude.{◌≡◌};
 
 use crate::mains::only_main;
 use jn_base::MethodNo;
+use jn_index::BaseTyped;
 use jn_points::Program;
 use jn_progress_law::law::{accepted_programs_never_fault, accepted_programs_never_stick};
 use jn_sigs::Sig;
-use jn_typed::BaseTyped;
 use std::marker::Model;
 
 /// A program that is accepted under a signature: regular and base-typed, the signature closed and not below the start,

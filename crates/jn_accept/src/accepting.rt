@@ -5,8 +5,8 @@ ghost use Rattle.jn_transfer.specs.Closing.{IsClosed, IsNotBelowStart};
 
 use crate::accepted::Accepted;
 use jn_base::Row;
+use jn_index::BaseTyped;
 use jn_sigs::Sig;
-use jn_typed::BaseTyped;
 
 /// Accepts a base-typed program under a signature exactly where there is no row; else gives both back. The rows are those
 /// of the rules under the least tables, in any order; the signature has all that the bodies send under them and that overriding methods send, and is not

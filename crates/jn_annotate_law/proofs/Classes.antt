@@ -25,10 +25,10 @@ use Rattle.jn_heads.specs.Heads.{unwritten_constructor}
 use Rattle.jn_heads.specs.Types.{fields_slots, method_slots, methods_slots, class_slots, slots_of_all}
 use Rattle.jn_classtable.specs.Table.{fields_of, fields_from, method_of, methods_of, methods_from, bodies_of, count}
 use Rattle.jn_heads.specs.Extract.{field_heads, method_heads, has_constructor, with_constructor, class_head}
-use Rattle.jn_bare_law.specs.Written.{written_slot}
+use Rattle.jn_places_law.specs.Written.{written_slot}
 use Rattle.jn_annotate.specs.Insertions.{fields_in, methods_in, constructors_in, in_all, unwritten, type_fields, type_methods}
 use Rattle.jn_annotate_law.specs.Trees.{noted_members, noted_type, noted_types}
-use Rattle.jn_blind_law.specs.Plain.{plain_head}
+use Rattle.jn_heads_law.specs.Plain.{plain_head}
 use Rattle.jn_annotate_law.specs.Says.{Spelled, MembersSay, TypeSays, TypesSay}
 use Rattle.jn_annotate_law.proofs.Positions.{quals_from, Stands, stands_left, stands_right, slots_append}
 use Rattle.jn_annotate_law.proofs.Walks.{methods_walk}

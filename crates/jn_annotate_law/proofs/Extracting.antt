@@ -37,7 +37,7 @@ use Rattle.jn_annotate.specs.Insertions.{fields_in, methods_in, type_fields, typ
 use Rattle.jn_annotate_law.specs.Trees.{nullity_names, names_of, leading, at_brackets, noted_use, noted_marks, noted_parameter, noted_receiver, noted_result, noted_result_marks, both_at, noted_parameters, noted_member, noted_members, noted_type, noted_types, noted_file, noted_files}
 use Rattle.jn_annotate_law.specs.Noted.{has_name}
 use Rattle.jn_annotate_law.proofs.Meanings.{modifiers_more, annotations_more}
-use Rattle.jn_blind_law.specs.Plain.{plain_name, plain_use, plain_type, plain_kind, plain_field, plain_param, plain_method, plain_head}
+use Rattle.jn_heads_law.specs.Plain.{plain_name, plain_use, plain_type, plain_kind, plain_field, plain_param, plain_method, plain_head}
 
 -- ---- modifiers
 

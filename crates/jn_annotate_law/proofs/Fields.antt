@@ -24,10 +24,10 @@ use Rattle.jn_heads.specs.declared.head.ClassHead.{ClassHead}
 use Rattle.jn_heads.specs.Types.{field_qual, is_position, field_slots, fields_slots}
 use Rattle.jn_classtable.specs.Table.{slot_at, field_of, fields_of}
 use Rattle.jn_heads.specs.Extract.{modifier_notes, type_head, field_head}
-use Rattle.jn_bare_law.specs.Written.{written_slot}
+use Rattle.jn_places_law.specs.Written.{written_slot}
 use Rattle.jn_annotate.specs.Insertions.{inferred_qual}
 use Rattle.jn_annotate_law.specs.Trees.{nullity_names, names_of, leading, noted_use, noted_marks, noted_members}
-use Rattle.jn_blind_law.specs.Plain.{plain_type, plain_head}
+use Rattle.jn_heads_law.specs.Plain.{plain_type, plain_head}
 use Rattle.jn_annotate_law.specs.Says.{Spelled, FieldsSay, MembersSay}
 use Rattle.jn_annotate_law.proofs.Meanings.{field_slot}
 use Rattle.jn_annotate_law.proofs.Extracting.{marked_same}

@@ -14,7 +14,7 @@ use Rattle.jn_heads.specs.declared.head.Notes.{Notes}
 use Rattle.jn_heads.specs.Types.{is_written, written_qual, field_qual, receiver_qual, slot_of}
 use Rattle.jn_heads.specs.Extract.{is_named, is_note, is_local_note, notes_by, notes_of, modifier_notes, local_notes}
 use Rattle.std.proofs.Math.Path.{fun_ext}
-use Rattle.jn_bare_law.specs.Written.{written_slot}
+use Rattle.jn_places_law.specs.Written.{written_slot}
 use Rattle.jn_annotate.specs.Words.{is_unspelled, initialization_name}
 use Rattle.jn_annotate_law.specs.Trees.{nullity_names, both_names}
 use Rattle.jn_annotate_law.specs.Noted.{has_name, notes_with}

@@ -23,7 +23,7 @@ use Rattle.jn_annotate.specs.Words.{nullity_text}
 use Rattle.jn_annotate.specs.Annotated.{annotated_from}
 use Rattle.jn_annotate_law.specs.Fits.{FilesFit, MemberFits, MembersFit, TypeFits, TypesFit}
 use Rattle.jn_annotate_law.specs.Meaning.{AllPlaced, TextsLexed}
-use Rattle.jn_bare_law.specs.Bare.{Alike}
+use Rattle.jn_places_law.specs.Bare.{Alike}
 use Rattle.jn_heads.specs.Extract.{heads}
 use Rattle.jn_program_law.specs.FileProgram.{program_of_files}
 use Rattle.jn_annotate_law.proofs.Extracting.{heads_plain}
@@ -31,7 +31,7 @@ use Rattle.jn_annotate_law.proofs.Files.{all_of}
 use Rattle.jn_annotate_law.proofs.Fitting.{all_fit}
 use Rattle.jn_annotate_law.proofs.Lined.{files_same}
 use Rattle.jn_annotate_law.proofs.Sources.{alike_programs}
-use Rattle.jn_blind_law.proofs.Tables.{tables_alike}
+use Rattle.jn_heads_law.proofs.Tables.{tables_alike}
 
 -- ---- lists of one beginning
 

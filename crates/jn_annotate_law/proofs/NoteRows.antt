@@ -28,7 +28,7 @@ use Rattle.jn_lowering.specs.FileRows.{initialization_alone, notes_of}
 use Rattle.jn_annotate.specs.Words.{initialization_name}
 use Rattle.jn_annotate.specs.Insertions.{qual_where, inferred_qual}
 use Rattle.jn_annotate_law.specs.Trees.{nullity_names, both_names, leading, noted_use}
-use Rattle.jn_bare_law.proofs.Sent.{Each, each_append}
+use Rattle.jn_places_law.proofs.Sent.{Each, each_append}
 use Rattle.jn_annotate_law.proofs.Positions.{Stands, stands_one}
 
 -- ---- annotations by their numbers

@@ -19,14 +19,14 @@ use Rattle.jn_heads.specs.declared.head.ClassHead.{ClassHead}
 use Rattle.jn_heads.specs.Types.{is_written, written_qual, slot_of, is_position, value_slots, params_slots}
 use Rattle.jn_classtable.specs.Table.{slot_at, param_slots}
 use Rattle.jn_heads.specs.Extract.{is_named, is_note, is_local_note, notes_by, notes_of, modifier_notes, local_notes, type_head, param_head}
-use Rattle.jn_bare_law.specs.Written.{written_slot}
+use Rattle.jn_places_law.specs.Written.{written_slot}
 use Rattle.jn_annotate.specs.Words.{is_unspelled}
 use Rattle.jn_annotate.specs.Insertions.{qual_where, inferred_qual}
 use Rattle.jn_annotate_law.specs.Trees.{both_names, names_of, leading, at_brackets, noted_parameter, both_at, noted_parameters}
 use Rattle.jn_annotate_law.specs.Says.{Spelled}
 use Rattle.jn_annotate_law.specs.Noted.{notes_with}
-use Rattle.jn_blind_law.specs.Plain.{plain_type, plain_head}
-use Rattle.jn_blind_law.proofs.Tables.{position_is}
+use Rattle.jn_heads_law.specs.Plain.{plain_type, plain_head}
+use Rattle.jn_heads_law.proofs.Tables.{position_is}
 use Rattle.jn_annotate_law.proofs.Meanings.{modifiers_more, locals_more, annotations_more, value_slot}
 use Rattle.jn_annotate_law.proofs.Extracting.{modifiers_same, locals_same, param_same}
 

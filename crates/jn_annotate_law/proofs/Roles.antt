@@ -9,7 +9,7 @@ use Rattle.jn_points.specs.declared.program.SlotInfo.{SlotInfo}
 use Rattle.jn_quals.specs.Order.{no_qual}
 use Rattle.jn_points.specs.Lookup.{slots_of}
 use Rattle.jn_transfer.specs.Contributions.{field_slot_of, receiver_slot_of, result_slot_of}
-use Rattle.jn_bare_law.proofs.Sent.{Each, each_append}
+use Rattle.jn_places_law.proofs.Sent.{Each, each_append}
 use Rattle.jn_heads.specs.declared.head.TypeHead.{TypeHead}
 use Rattle.jn_heads.specs.declared.head.FieldHead.{FieldHead}
 use Rattle.jn_heads.specs.declared.head.ParamHead.{ParamHead}

@@ -40,7 +40,7 @@ use Rattle.jn_annotate_law.specs.Meaning.{TextsLexed, AllPlaced}
 use Rattle.jn_annotate_law.specs.Kept.{Kept, KeptRowless}
 use Rattle.jn_annotate_law.specs.Trees.{noted_files}
 use Rattle.jn_annotate_law.specs.Says.{FieldsSay, MembersSay, TypeSays, TypesSay, FilesSay}
-use Rattle.jn_bare_law.proofs.Sent.{Each}
+use Rattle.jn_places_law.proofs.Sent.{Each}
 use Rattle.jn_annotate_law.proofs.Roles.{each_drop, each_take, Plays, FieldPlays, MethodPlays, roles_of_all, table_fields_play, table_methods_play, Agree, all_agree}
 use Rattle.jn_annotate_law.proofs.Sending.{field_not_free, receiver_not_null}
 use Rattle.jn_annotate_law.proofs.Sharing.{info_at, Has, MembersShare, TypesShare, FilesShare, all_share}

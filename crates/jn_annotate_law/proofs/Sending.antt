@@ -20,7 +20,7 @@ use Rattle.jn_transfer.specs.Pairs.{under, slot_sends, slots_sends, override_sen
 use Rattle.jn_contrib.proofs.Sent.{of_a_point}
 use Rattle.jn_tables_law.specs.Inferable.{IsInferable, least_table, least_sends}
 use Rattle.jn_inference_law.specs.Solution.{IsLeastSignature}
-use Rattle.jn_bare_law.proofs.Sent.{Each, HoldsOfSends, each_append, each_sent, points_send}
+use Rattle.jn_places_law.proofs.Sent.{Each, HoldsOfSends, each_append, each_sent, points_send}
 use Rattle.jn_annotate_law.proofs.Roles.{Plays, FieldPlays, MethodPlays, MethodAt, field_plays, method_at_plays}
 use Rattle.jn_annotate_law.proofs.Trimmed.{trims, trims_at, trims_past, IsNeedless, trimmed, written_stays}
 

@@ -27,7 +27,7 @@ use Rattle.jn_heads.specs.Extract.{modifier_notes, type_head, heads}
 use Rattle.jn_annotate.specs.Insertions.{fields_in, type_fields, file_fields, first_slot}
 use Rattle.jn_annotate.specs.Annotated.{members_of}
 use Rattle.jn_annotate_law.specs.Meaning.{AllPlaced}
-use Rattle.jn_bare_law.proofs.Sent.{Each}
+use Rattle.jn_places_law.proofs.Sent.{Each}
 use Rattle.jn_annotate_law.proofs.Positions.{Stands, stands_left, stands_right, stands_one}
 use Rattle.jn_annotate_law.proofs.Fields.{fields_slots_append, fields_of_append, fields_of_long, marked_declarators_long}
 use Rattle.jn_annotate_law.proofs.Classes.{marked_fields_long}

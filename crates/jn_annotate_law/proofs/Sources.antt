@@ -27,13 +27,13 @@ use Rattle.jn_lowering.specs.BodyRows.{initializers_rows, member_rows, rows_of_b
 use Rattle.jn_lowering.specs.Bodies.{Source, declarators_of, initializers_of, initializers, body_of_source, bodies_of, with_bodies}
 use Rattle.jn_program_law.specs.FileSources.{BodyTree, tree_of, member_trees, members_trees, unwritten_tree, type_trees, types_of, body_trees, numbered, sources}
 use Rattle.jn_program_law.specs.FileProgram.{program_of_files}
-use Rattle.jn_bare_law.specs.Bare.{bare, Alike, bare_body}
-use Rattle.jn_bare_law.specs.Erased.{bare_state, bare_step}
-use Rattle.jn_bare_law.proofs.Statements.{both_alike, final_same}
-use Rattle.jn_bare_law.proofs.Bodies.{fields_alike, body_alike}
-use Rattle.jn_bare_law.proofs.BodyRows.{body_rows_same, fields_same, source_rows_same}
-use Rattle.jn_bare_law.proofs.RowForms.{Same}
-use Rattle.jn_bare_law.proofs.RowForms.{both as both_rows}
+use Rattle.jn_places_law.specs.Bare.{bare, Alike, bare_body}
+use Rattle.jn_places_law.specs.Erased.{bare_state, bare_step}
+use Rattle.jn_places_law.proofs.Statements.{both_alike, final_same}
+use Rattle.jn_places_law.proofs.Bodies.{fields_alike, body_alike}
+use Rattle.jn_places_law.proofs.BodyRows.{body_rows_same, fields_same, source_rows_same}
+use Rattle.jn_places_law.proofs.RowForms.{Same}
+use Rattle.jn_places_law.proofs.RowForms.{both as both_rows}
 use Rattle.jn_annotate.specs.Insertions.{fields_in, methods_in, type_fields, type_methods, file_fields, file_methods, first_slot, inferred_qual}
 use Rattle.jn_annotate_law.specs.Trees.{nullity_names, names_of, leading, noted_use, noted_marks, noted_parameter, noted_receiver, noted_result, noted_result_marks, both_at, noted_parameters, noted_member, noted_members, noted_type, noted_types, noted_file, noted_files}
 use Rattle.jn_annotate_law.specs.Meaning.{AllPlaced}

@@ -29,7 +29,7 @@ use Rattle.jn_annotate.specs.Insertions.{fields_in, file_fields, file_methods, f
 use Rattle.jn_annotate.specs.Annotated.{differs, members_of, shared_from, shared_in, shared_in_members, shared_in_types}
 use Rattle.jn_annotate_law.specs.Trees.{noted_file, noted_files, noted_member, noted_members, noted_type, noted_types}
 use Rattle.jn_annotate_law.specs.Says.{FieldsSay, FilesSay, MemberSays, MembersSay, TypeSays, TypesSay}
-use Rattle.jn_bare_law.proofs.Sent.{Each}
+use Rattle.jn_places_law.proofs.Sent.{Each}
 use Rattle.jn_annotate_law.proofs.Roles.{FieldPlays, MethodPlays}
 
 -- its fields, methods and slots

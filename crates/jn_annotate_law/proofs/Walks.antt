@@ -28,11 +28,11 @@ use Rattle.jn_heads.specs.Heads.{unplaced, unwritten_constructor}
 use Rattle.jn_heads.specs.Types.{receiver_qual, slot_of, is_position, receiver_slots, has_receiver, result_slots, params_slots, method_slots, methods_slots}
 use Rattle.jn_classtable.specs.Table.{slot_at, param_slots, result_slot, method_of, methods_of, count}
 use Rattle.jn_heads.specs.Extract.{has_word, notes_of, modifier_notes, type_head, param_head, result_head, receiver_notes}
-use Rattle.jn_bare_law.specs.Written.{written_slot}
+use Rattle.jn_places_law.specs.Written.{written_slot}
 use Rattle.jn_annotate.specs.Words.{is_unspelled, initialization_name}
 use Rattle.jn_annotate.specs.Insertions.{fields_in, inferred_qual}
 use Rattle.jn_annotate_law.specs.Trees.{names_of, leading, noted_use, noted_marks, noted_receiver, noted_result, noted_result_marks, both_at, noted_parameters, noted_members}
-use Rattle.jn_blind_law.specs.Plain.{plain_head}
+use Rattle.jn_heads_law.specs.Plain.{plain_head}
 use Rattle.jn_annotate_law.specs.Says.{Spelled, MembersSay}
 use Rattle.jn_annotate_law.proofs.Meanings.{receiver_slot, annotations_more}
 use Rattle.jn_annotate_law.proofs.Extracting.{marked_same, result_words}

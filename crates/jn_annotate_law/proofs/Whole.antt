@@ -20,8 +20,8 @@ use Rattle.std.proofs.lemmas.List.{length-map}
 use Rattle.jn_trees.specs.Trees.{SourceTree}
 use Rattle.jn_heads.specs.Inferred.{slots_by}
 use Rattle.jn_program_law.specs.FileProgram.{inferring, program_of_files, rows_of_files}
-use Rattle.jn_bare_law.specs.Bare.{Alike, bare, bare_slot}
-use Rattle.jn_bare_law.specs.Written.{written_slot}
+use Rattle.jn_places_law.specs.Bare.{Alike, bare, bare_slot}
+use Rattle.jn_places_law.specs.Written.{written_slot}
 use Rattle.jn_annotate_law.specs.Again.{NoneInferred}
 use Rattle.jn_annotate_law.proofs.Tabled.{noted_same, says_same}
 use Rattle.jn_annotate_law.proofs.Unchanged.{annotated_again}
@@ -39,7 +39,7 @@ use Rattle.jn_annotate_law.proofs.AllRows.{no_rows_more}
 use Rattle.jn_annotate_law.proofs.Lined.{lined_rows, program_same}
 use Rattle.jn_annotate_law.proofs.Fitting.{all_fit}
 use Rattle.jn_annotate_law.proofs.Extracting.{heads_plain}
-use Rattle.jn_blind_law.proofs.Tables.{tables_alike}
+use Rattle.jn_heads_law.proofs.Tables.{tables_alike}
 use Rattle.jn_annotate_law.proofs.Sources.{alike_programs}
 use Rattle.jn_annotate_law.proofs.Written.{all_written}
 use Rattle.jn_annotate_law.proofs.Roles.{Agree, starts_agree}

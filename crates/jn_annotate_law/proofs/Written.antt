@@ -22,11 +22,11 @@ use Rattle.jn_heads.specs.declared.head.ClassHead.{ClassHead}
 use Rattle.jn_heads.specs.Types.{fields_slots, class_slots, slots_of_all}
 use Rattle.jn_classtable.specs.Table.{fields_of, fields_from, methods_of, methods_from, bodies_of, bodies_of_all}
 use Rattle.jn_heads.specs.Extract.{class_head, heads}
-use Rattle.jn_bare_law.specs.Written.{written_slot}
+use Rattle.jn_places_law.specs.Written.{written_slot}
 use Rattle.jn_annotate.specs.Insertions.{type_fields, type_methods, file_fields, file_methods}
 use Rattle.jn_annotate_law.specs.Trees.{noted_types, noted_file, noted_files}
 use Rattle.jn_annotate_law.specs.Meaning.{AllPlaced}
-use Rattle.jn_blind_law.specs.Plain.{plain_head}
+use Rattle.jn_heads_law.specs.Plain.{plain_head}
 use Rattle.jn_annotate_law.specs.Says.{Spelled, FilesSay}
 use Rattle.jn_annotate_law.proofs.Extracting.{heads_plain}
 use Rattle.jn_annotate_law.proofs.Positions.{quals_from, Stands, stands_left, stands_right, slots_append}

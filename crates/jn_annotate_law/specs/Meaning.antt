@@ -15,8 +15,8 @@ use Rattle.jn_lexer.specs.Lexed.{Lexed}
 use Rattle.jn_trees.specs.declared.token.Token.{Token}
 use Rattle.jn_places.specs.Placed.{PlacedFile}
 use Rattle.jn_places.specs.Places.{IsPlacedFile}
-use Rattle.jn_bare_law.specs.Bare.{Alike, codes_of}
-use Rattle.jn_bare_law.specs.Written.{IsWritten}
+use Rattle.jn_places_law.specs.Bare.{Alike, codes_of}
+use Rattle.jn_places_law.specs.Written.{IsWritten}
 
 -- the same rows but for their places
 abbrev pub BreaksAlike : Program → Program → List Qualifier → Type 0

@@ -8,8 +8,8 @@ ghost use Rattle.jn_basecheck.specs.Rows.{AreTyped};
 
 use crate::sharing::all_rows;
 use jn_base::{Fail, Row};
+use jn_index::BaseTyped;
 use jn_index::indexed::IndexedProgram;
-use jn_typed::BaseTyped;
 use std::alloc::Global;
 use std::thread::Threads;
 

@@ -1,4 +1,4 @@
-//! Folders, which tell what they list and count their faults, and a walk over all files below one.
+//! Folders, which say what they list and count their faults, and a walk over all files below one.
 //!
 //! [`Folder`] is what a program asks of the outside; [`walk`] gives the names of the Java files below a root, over any of them.
 //! [`HostFolder`] stands for the host, [`MemFolder`] for tests, which say where it fails. A folder tells only clauses what its calls

@@ -7,3 +7,4 @@ pub mod First
 pub mod Sending
 pub mod Numbering
 pub mod Reading
+pub mod Relexing

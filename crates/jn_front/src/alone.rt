@@ -5,10 +5,10 @@ ghost use Rattle.jn_front.specs.Outcomes.{IsOutcome};
 use crate::outcome::Outcome;
 use crate::source::SourceRead;
 use jn_base::{BodyNo, Fail, FileNo, OutOfMemory};
-use jn_gate::Gate;
 use jn_lex_shared::lex_shared;
 use jn_lexer::law::texts_have_few_tokens;
 use jn_parse_placed::parse_placed;
+use jn_sharing::Gate;
 use std::alloc::Global;
 use std::thread::Threads;
 

@@ -9,8 +9,7 @@ use crate::alone::outcome_of;
 use crate::outcome::Outcome;
 use crate::source::SourceRead;
 use jn_base::OutOfMemory;
-use jn_gate::Gate;
-use jn_sharing::share_out;
+use jn_sharing::{Gate, share_out};
 use std::alloc::Global;
 use std::thread::Threads;
 

@@ -17,9 +17,9 @@ use Rattle.jn_lowering.specs.BodyRows.{rows_of_bodies, rows_of_body}
 use Rattle.jn_lowering.specs.FileRows.{outside_rows}
 use Rattle.jn_program_law.specs.FileProgram.{inferring}
 use Rattle.jn_program_law.specs.FileSources.{sources}
-use Rattle.jn_bare_law.specs.Bare.{Alike, codes_of}
-use Rattle.jn_blind_law.specs.Heads.{HeadsAlike}
-use Rattle.jn_blind_law.proofs.Heads.{alike_heads}
+use Rattle.jn_places_law.specs.Bare.{Alike, codes_of}
+use Rattle.jn_heads_law.specs.Heads.{HeadsAlike}
+use Rattle.jn_heads_law.proofs.Heads.{alike_heads}
 use Rattle.jn_basecheck.specs.Rows.{AreTyped, BodyRow}
 use Rattle.jn_program.specs.declared.sources.Start.{Start}
 use Rattle.jn_program.specs.Known.{AreKnown, IsKnown}

@@ -3,7 +3,7 @@ use Rattle.std.proofs.Common.{◌≡◌, false}
 use Rattle.jn_heads.specs.declared.head.Notes.{Notes}
 use Rattle.jn_heads.specs.declared.head.TypeHead.{TypeHead}
 use Rattle.jn_heads.specs.Heads.{no_notes}
-use Rattle.jn_blind_law.specs.Plain.{plain_use, plain_type, plain_kind}
+use Rattle.jn_heads_law.specs.Plain.{plain_use, plain_type, plain_kind}
 
 pub same_words : (m n : Notes) → m.non_null ≡ n.non_null → m.nullable ≡ n.nullable → m.initialized ≡ n.initialized → m.under ≡ n.under → m.unknown ≡ n.unknown → m.monotonic ≡ n.monotonic → m ≡ n
 same_words m n a b c d e f = λ i. record { non_null = a i; nullable = b i; initialized = c i; under = d i; unknown = e i; monotonic = f i }

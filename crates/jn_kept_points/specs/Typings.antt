@@ -6,7 +6,7 @@ use Rattle.jn_points.specs.declared.program.Program.{Program}
 use Rattle.jn_heads.specs.declared.head.ClassHead.{ClassHead}
 use Rattle.jn_heads.specs.Extract.{heads}
 use Rattle.jn_classtable.specs.Rows.{t_rows}
-use Rattle.jn_blind_law.specs.Plain.{plain_head}
+use Rattle.jn_heads_law.specs.Plain.{plain_head}
 use Rattle.jn_program.specs.Starts.{AreStarts}
 use Rattle.jn_program_law.specs.FileProgram.{inferring, j_rows}
 use Rattle.jn_kept_points.specs.declared.typing.KeptTyping.{KeptTyping}

@@ -1,6 +1,6 @@
 //! Whether types declare the same but for places and what is written of nullness and initialization.
 ghost use Rattle.std.specs.Prelude.{◌≡◌, map, option_map, true};
-ghost use Rattle.jn_blind_law.specs.Plain.{plain_field, plain_head, plain_kind, plain_method, plain_name, plain_param, plain_type, plain_use};
+ghost use Rattle.jn_heads_law.specs.Plain.{plain_field, plain_head, plain_kind, plain_method, plain_name, plain_param, plain_type, plain_use};
 
 use jn_heads::{ClassHead, FieldHead, MethodHead, Notes, ParamHead, TypeHead};
 use jn_trees::{Base, Identifier};

@@ -15,28 +15,28 @@ ghost use Rattle.jn_program.specs.Known.{AreKnown};
 ghost use Rattle.jn_program.specs.Lowered.{IsProgram};
 ghost use Rattle.jn_program.specs.Starts.{AreStarts};
 ghost use Rattle.jn_program_law.specs.FileSources.{sources};
-ghost use Rattle.jn_typed_files.specs.Typing.{IsTyping};
+ghost use Rattle.jn_phases.specs.Typing.{IsTyping};
 ghost use Rattle.jn_kept_points.specs.Stays.{KnownFrom};
 ghost use Rattle.jn_kept_points.specs.Typings.{IsAlike, IsKeptOf, IsTypingOf, SameTrees};
 
 use crate::alike::same_heads;
 use crate::known::{known_bodies, same_starts};
 use jn_base::{Fail, Infer, OutOfMemory, Row, Seq};
-use jn_blind_law::law::{
-    alike_heads_have_alike_tables, base_typing_looks_at_no_place_of_the_class_table,
-    indexes_serve_alike_programs, lowering_looks_at_no_other_place,
-};
 use jn_classtable::{ClassTable, build_of, rebuild};
 use jn_front::SourceRead;
 use jn_heads::ClassHead;
 use jn_heads::extract::heads;
+use jn_heads_law::law::{
+    alike_heads_have_alike_tables, base_typing_looks_at_no_place_of_the_class_table,
+    indexes_serve_alike_programs, lowering_looks_at_no_other_place,
+};
+use jn_index::BaseTyped;
 use jn_index::index::Index;
 use jn_index::indexed::IndexedProgram;
+use jn_phases::{TypedTable, Typing, find_table, refused_types};
 use jn_points::Body;
 use jn_program::sources::{Start, starts_of_files};
 use jn_trees::{FileTree, Names};
-use jn_typed::BaseTyped;
-use jn_typed_files::{TypedTable, Typing, find_table, refused_types};
 use std::alloc::Global;
 use std::thread::Threads;
 
@@ -222,7 +222,7 @@ fn find_of_table<R: Threads + Sync>(
     }
 }
 
-/// What is found of files with these trees, as [`jn_typed_files::find_trees`] finds it, with what is to be kept beside their program.
+/// What is found of files with these trees, as [`jn_phases::find_trees`] finds it, with what is to be kept beside their program.
 ///
 /// # Errors
 /// No memory was found.
@@ -333,7 +333,7 @@ fn find_alike<R: Threads + Sync>(
     }
 }
 
-/// What is found of files with these trees, as [`jn_typed_files::find_trees`] finds it, where the program `base` is that of files with earlier
+/// What is found of files with these trees, as [`jn_phases::find_trees`] finds it, where the program `base` is that of files with earlier
 /// trees, and `kept` what was kept beside it. Those files that are told (`same`) have the tree that they had.
 ///
 /// Where the types declare what they did, but for places and what is written of nullness and initialization, the rows T1 to T10 aren't looked for,

@@ -11,10 +11,10 @@ use Rattle.jn_front.specs.declared.source.SourceRead.{SourceRead}
 use Rattle.jn_front.specs.Files.{files_of_reads, AreReads}
 use Rattle.jn_front.specs.Limits.{limit_rows}
 use Rattle.jn_front.specs.Phases.{AreTreesOf, TextRows}
-use Rattle.jn_typed_files.specs.declared.typing.Typing.{Typing}
-use Rattle.jn_typed_files.specs.Phases.{IsPhase, IsTypedOr, PhaseRows}
-use Rattle.jn_typed_files.specs.Typing.{IsTyping}
-use Rattle.jn_typed_files.proofs.Reporting.{are_parsed, found_whole}
+use Rattle.jn_phases.specs.declared.typing.Typing.{Typing}
+use Rattle.jn_phases.specs.Phases.{IsPhase, IsTypedOr, PhaseRows}
+use Rattle.jn_phases.specs.Typing.{IsTyping}
+use Rattle.jn_phases.proofs.Reporting.{are_parsed, found_whole}
 use Rattle.jn_kept_points.specs.declared.typing.TypedTrees.{TypedTrees}
 use Rattle.jn_kept_points.specs.Typings.{IsKeptOf}
 use Rattle.jn_kept_trees.specs.declared.again.ParsedAgain.{ParsedAgain}

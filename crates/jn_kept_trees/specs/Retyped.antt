@@ -9,7 +9,7 @@ use Rattle.jn_front.specs.declared.source.SourceRead.{SourceRead}
 use Rattle.jn_front.specs.Files.{files_of_reads, AreReads}
 use Rattle.jn_front.specs.Limits.{limit_rows}
 use Rattle.jn_front.specs.Phases.{AreParsed}
-use Rattle.jn_typed_files.specs.Phases.{IsTypedOr}
+use Rattle.jn_phases.specs.Phases.{IsTypedOr}
 use Rattle.jn_kept_points.specs.Typings.{IsKeptOf}
 use Rattle.jn_kept_trees.specs.declared.again.ParsedAgain.{ParsedAgain}
 use Rattle.jn_kept_trees.specs.declared.typing.TypedAgain.{TypedAgain}

@@ -9,8 +9,7 @@ use jn_base::OutOfMemory;
 use jn_base::lists::put;
 use jn_front::parsing::{more_workers, others_of_each};
 use jn_front::{Outcome, SourceRead, outcome_of};
-use jn_gate::Gate;
-use jn_sharing::share_out;
+use jn_sharing::{Gate, share_out};
 use std::alloc::Global;
 use std::thread::Threads;
 

@@ -1,4 +1,4 @@
-//! Names that have a number before any file is read, so that a number tells the name.
+//! Names that have a number before any file is read, so that a number says which name it is.
 //!
 //! `KNOWN_NAMES` is numbered first, in its order; a constant of this crate is the number of its text (`law::numbers_tell_names`).
 #![tactic(auto)]

@@ -17,7 +17,7 @@ use Rattle.jn_inference_law.specs.Solution.{IsLeastSignature}
 use Rattle.jn_inference_law.proofs.LeastSignature.{length-start}
 use Rattle.jn_cert_law.specs.Holds.{KeepsWritten}
 use Rattle.jn_cert_law.proofs.Shrink.{bodies_below, no_left, no_right, none_both}
-use Rattle.jn_plain_law.proofs.Written.{length-within}
+use Rattle.jn_cert_exists_law.proofs.Written.{length-within}
 use Rattle.jn_least_law.proofs.Narrowing.{bodies_none}
 use Rattle.jn_least_law.proofs.Pairs.{pairs_none}
 use Rattle.jn_least_law.proofs.Tables.{least_within}

@@ -7,7 +7,7 @@ ghost use Rattle.jn_soundness.specs.Accepting.{IsAccepted};
 ghost use Rattle.jn_inference_law.specs.Solution.{IsLeastSignature};
 ghost use Rattle.jn_cert_law.specs.Holds.{KeepsWritten};
 
-use jn_plain_law::law::least_signatures_keep_what_is_written;
+use jn_cert_exists_law::law::least_signatures_keep_what_is_written;
 
 /// Each regular program has a least signature.
 pub fn programs_have_a_least_signature()

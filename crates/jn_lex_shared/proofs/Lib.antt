@@ -5,3 +5,4 @@ pub mod Further
 pub mod Known
 pub mod Parts
 pub mod Windows
+pub mod Lexing

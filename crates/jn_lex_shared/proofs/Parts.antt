@@ -12,7 +12,7 @@ use Rattle.jn_lexer.specs.Moved.{moved, LexedOnto}
 use Rattle.jn_renumber.specs.Merged.{merged, merged_numbers}
 use Rattle.jn_renumber.specs.Tokens.{tokens_by}
 use Rattle.jn_renumber.proofs.Entries.{still_known}
-use Rattle.jn_renumber_law.proofs.Lexing.{lexed, only_lexed}
+use Rattle.jn_lex_shared.proofs.Lexing.{lexed, only_lexed}
 use Rattle.jn_lex_shared.specs.Cut.{EndsLine, IsCut}
 use Rattle.jn_lex_shared.proofs.Appending.{lexed_append}
 use Rattle.jn_lex_shared.proofs.Further.{renumbered_moved}

@@ -3,9 +3,9 @@ use Rattle.std.proofs.Common.{◌≡◌, ℕ, ◌+◌, ◌<◌, true, false, not
 use Rattle.std.proofs.Common.{inl, inr}
 use Rattle.std.proofs.lemmas.List.{map-append, take_more}
 use Rattle.std.proofs.lemmas.List.Elements.{filter_more}
-use Rattle.jn_lsp_types.specs.declared.reply.Diagnostic.{Diagnostic}
-use Rattle.jn_lsp_types.specs.declared.reply.Reply.{Reply}
-use Rattle.jn_lsp_types.specs.declared.reply.Reply.TheVariants.{Publish}
+use Rattle.jn_lsp_text.specs.declared.reply.Diagnostic.{Diagnostic}
+use Rattle.jn_lsp_text.specs.declared.reply.Reply.{Reply}
+use Rattle.jn_lsp_text.specs.declared.reply.Reply.TheVariants.{Publish}
 use Rattle.jn_lsp.specs.declared.diagnostics.Told.{Told}
 use Rattle.jn_lsp.specs.Publications.{Adds, ArePublished, Clears, gone, is_told}
 

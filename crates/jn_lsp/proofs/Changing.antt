@@ -1,7 +1,7 @@
 -- Changes, one behind the other.
 use Rattle.std.proofs.Common.{◌≡◌, ℕ, ◌+◌, ◌<◌, List, [], ◌∷◌, ◌++◌, length, get_or, take, refl, sym, subst}
 use Rattle.std.proofs.lemmas.List.{take_more}
-use Rattle.jn_lsp_types.specs.declared.message.Change.{Change}
+use Rattle.jn_lsp_text.specs.declared.message.Change.{Change}
 use Rattle.jn_lsp.specs.Edits.{AreChanged, IsChanged}
 
 one_more : (changes : List Change) (change : Change) (text mid made : List ℕ) → AreChanged changes text mid → IsChanged change mid made → AreChanged (changes ++ change ∷ []) text made

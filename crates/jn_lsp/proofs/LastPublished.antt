@@ -4,9 +4,9 @@ use Rattle.std.specs.Prelude.{◌⊎◌}
 use Rattle.std.proofs.lemmas.Slice.Eq.{bytes_eq-Decides}
 use Rattle.jn_base.specs.declared.place.Row.{Row}
 use Rattle.jn_front.specs.declared.source.SourceFile.{SourceFile}
-use Rattle.jn_lsp_types.specs.declared.reply.Diagnostic.{Diagnostic}
-use Rattle.jn_lsp_types.specs.declared.reply.Reply.{Reply}
-use Rattle.jn_lsp_types.specs.declared.reply.Reply.TheVariants.{Publish}
+use Rattle.jn_lsp_text.specs.declared.reply.Diagnostic.{Diagnostic}
+use Rattle.jn_lsp_text.specs.declared.reply.Reply.{Reply}
+use Rattle.jn_lsp_text.specs.declared.reply.Reply.TheVariants.{Publish}
 use Rattle.jn_notes.specs.declared.note.Notes.{Notes}
 use Rattle.jn_lsp.specs.declared.diagnostics.Told.{Told}
 use Rattle.jn_lsp.specs.Publications.{Announces, ArePublished, gone, is_named, is_told, last_published, published}

@@ -5,7 +5,7 @@ use Rattle.std.specs.List.{position_from}
 use Rattle.std.proofs.lemmas.List.{drop_more}
 use Rattle.jn_base.specs.declared.place.Row.{Row}
 use Rattle.jn_front.specs.declared.source.SourceFile.{SourceFile}
-use Rattle.jn_lsp_types.specs.declared.reply.Diagnostic.{Diagnostic}
+use Rattle.jn_lsp_text.specs.declared.reply.Diagnostic.{Diagnostic}
 use Rattle.jn_notes.specs.declared.note.Note.{Note}
 use Rattle.jn_notes.specs.declared.note.Notes.{Notes}
 use Rattle.jn_recheck.specs.Files.{is_named}

@@ -3,10 +3,10 @@ use Rattle.std.specs.Prelude.{ℕ, ◌≡◌, Bool, List, [], ◌∷◌, Option,
 use Rattle.std.specs.List.{ends_with}
 use Rattle.jn_front.specs.declared.source.SourceFile.{SourceFile}
 use Rattle.jn_lsp_text.specs.Ranges.{IsReplaced}
-use Rattle.jn_lsp_types.specs.declared.message.Change.{Change}
-use Rattle.jn_lsp_types.specs.declared.message.Change.TheVariants.{Whole, Part}
-use Rattle.jn_lsp_types.specs.declared.message.Message.{Message}
-use Rattle.jn_lsp_types.specs.declared.message.Message.TheVariants.{Initialize, Initialized, DidOpen, DidChange, DidSave, DidClose, WatchedFiles, CodeAction, Shutdown, Exit, Ignored, Unknown, BadDocument, BadParams, NoMessage, NoJson, BadHeader, TooLarge}
+use Rattle.jn_lsp_text.specs.declared.message.Change.{Change}
+use Rattle.jn_lsp_text.specs.declared.message.Change.TheVariants.{Whole, Part}
+use Rattle.jn_lsp_text.specs.declared.message.Message.{Message}
+use Rattle.jn_lsp_text.specs.declared.message.Message.TheVariants.{Initialize, Initialized, DidOpen, DidChange, DidSave, DidClose, WatchedFiles, CodeAction, Shutdown, Exit, Ignored, Unknown, BadDocument, BadParams, NoMessage, NoJson, BadHeader, TooLarge}
 use Rattle.jn_recheck.specs.Files.{with_file, without_file}
 use Rattle.jn_lsp.specs.Names.{is_among}
 use Rattle.jn_lsp.specs.Stand.{document_of}

@@ -2,11 +2,11 @@
 use Rattle.std.specs.Prelude.{ℕ, ◌++◌, Bool, true, false, not, List, [], ◌∷◌, Option, Some, None, bytes_eq, codes, filter, map, if◌then◌else◌}
 use Rattle.jn_front.specs.declared.source.SourceFile.{SourceFile}
 use Rattle.jn_front.specs.Files.{names_of}
-use Rattle.jn_lsp_types.specs.declared.message.Message.{Message}
-use Rattle.jn_lsp_types.specs.declared.message.Message.TheVariants.{DidOpen, DidClose, BadDocument, BadParams, NoMessage, NoJson, BadHeader, TooLarge}
-use Rattle.jn_lsp_types.specs.declared.reply.Diagnostic.{Diagnostic}
-use Rattle.jn_lsp_types.specs.declared.reply.Reply.{Reply}
-use Rattle.jn_lsp_types.specs.declared.reply.Reply.TheVariants.{Show}
+use Rattle.jn_lsp_text.specs.declared.message.Message.{Message}
+use Rattle.jn_lsp_text.specs.declared.message.Message.TheVariants.{DidOpen, DidClose, BadDocument, BadParams, NoMessage, NoJson, BadHeader, TooLarge}
+use Rattle.jn_lsp_text.specs.declared.reply.Diagnostic.{Diagnostic}
+use Rattle.jn_lsp_text.specs.declared.reply.Reply.{Reply}
+use Rattle.jn_lsp_text.specs.declared.reply.Reply.TheVariants.{Show}
 use Rattle.jn_lsp.specs.declared.diagnostics.Told.{Told}
 use Rattle.jn_lsp.specs.declared.phase.Phase.{Phase}
 use Rattle.jn_lsp.specs.declared.phase.Phase.TheVariants.{Waiting, Serving, ShutDown, Exited}

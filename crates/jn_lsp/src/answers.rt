@@ -9,8 +9,8 @@ use crate::offering::offered;
 use crate::phase::Phase;
 use crate::unknown::warn;
 use jn_base::{OutOfMemory, Seq};
-use jn_gate::Gate;
-use jn_lsp_types::{Action, Failure, Id, Message, Reply};
+use jn_lsp_text::{Action, Failure, Id, Message, Reply};
+use jn_sharing::Gate;
 use std::alloc::Global;
 use std::thread::Threads;
 

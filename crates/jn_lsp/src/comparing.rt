@@ -1,7 +1,7 @@
 //! Whether two lists of diagnostics are the same.
 ghost use Rattle.std.specs.Prelude.{◌≡◌, ◌↔◌, IsTrue, true};
 
-use jn_lsp_types::{Diagnostic, Related};
+use jn_lsp_text::{Diagnostic, Related};
 
 fn is_same_related(one: &Related, other: &Related) -> bool
     ensures { IsTrue result ↔ (one.now ≡ other.now) }

@@ -5,8 +5,7 @@ ghost use Rattle.jn_recheck.specs.Files.{AllFit};
 
 use jn_base::{OutOfMemory, Row, Seq, Span, Text};
 use jn_front::SourceFile;
-use jn_lsp_text::{Range, range_of};
-use jn_lsp_types::{Diagnostic, Related};
+use jn_lsp_text::{Diagnostic, Range, Related, range_of};
 use jn_notes::{Note, Notes};
 use std::alloc::{AllocError, Global};
 

@@ -10,8 +10,7 @@ use crate::phase::Phase;
 use crate::unknown::{copy_names, is_among, touches, unknown_behind};
 use jn_base::{OutOfMemory, Seq, Text};
 use jn_front::SourceFile;
-use jn_lsp_text::replace;
-use jn_lsp_types::{Change, Message};
+use jn_lsp_text::{Change, Message, replace};
 use std::alloc::{AllocError, Global};
 
 /// The folder's files as they were last read, and the documents that the client has open, in the order in which they were opened.

@@ -4,7 +4,7 @@ ghost use Rattle.jn_lsp.specs.Serving.{opened_by, wants_folder};
 
 use jn_base::{Seq, Text};
 use jn_front::SourceFile;
-use jn_lsp_types::Message;
+use jn_lsp_text::Message;
 use std::alloc::{AllocError, Global};
 
 /// What a server is told.

@@ -1,6 +1,6 @@
 //! The laws of servers.
 ghost use Rattle.std.specs.Prelude.{List};
-ghost use Rattle.jn_lsp_types.specs.declared.reply.Reply.{Reply as SpecReply};
+ghost use Rattle.jn_lsp_text.specs.declared.reply.Reply.{Reply as SpecReply};
 ghost use Rattle.jn_lsp.specs.declared.event.Event.{Event as SpecEvent};
 ghost use Rattle.jn_lsp.specs.Requests.{AreAnswered};
 ghost use Rattle.jn_lsp.specs.Serving.{IsUpToDate, Serves, ServerOf, new_server};

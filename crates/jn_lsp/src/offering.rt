@@ -11,11 +11,10 @@ use crate::reporting::WORKERS;
 use crate::standing::stand;
 use crate::unknown::is_empty;
 use jn_base::{OutOfMemory, Seq};
-use jn_gate::Gate;
 use jn_lsp_actions::actions_for;
 use jn_lsp_actions::asking::meets;
-use jn_lsp_text::Range;
-use jn_lsp_types::{Action, Diagnostic, Message};
+use jn_lsp_text::{Action, Diagnostic, Message, Range};
+use jn_sharing::Gate;
 use std::alloc::Global;
 use std::thread::Threads;
 

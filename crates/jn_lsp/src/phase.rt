@@ -3,7 +3,7 @@ ghost use Rattle.std.specs.Prelude.{◌≡◌};
 ghost use Rattle.jn_lsp.specs.Serving.{next_phase, phase_behind};
 
 use crate::event::Event;
-use jn_lsp_types::Message;
+use jn_lsp_text::Message;
 
 /// Where a server is in its life (Language Server Protocol 3.17, "Server lifecycle").
 #[derive(Clone, Copy, Debug, PartialEq, Eq)]

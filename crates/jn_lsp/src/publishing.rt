@@ -6,7 +6,7 @@ ghost use Rattle.jn_lsp.specs.Telling.{told_of};
 use crate::comparing::are_same;
 use crate::diagnostics::Told;
 use jn_base::{OutOfMemory, Seq, Text};
-use jn_lsp_types::{Diagnostic, Reply, copy_diagnostics};
+use jn_lsp_text::{Diagnostic, Reply, copy_diagnostics};
 use std::alloc::{AllocError, Global};
 
 fn is_named(told: &Told, name: &str) -> bool

@@ -7,9 +7,9 @@ use crate::diagnostics::{Told, told_of_all};
 use jn_base::OutOfMemory;
 use jn_diag::Verdict;
 use jn_front::SourceFile;
-use jn_gate::Gate;
 use jn_notes::Notes;
 use jn_recheck::{Checked, Session};
+use jn_sharing::Gate;
 use std::alloc::Global;
 use std::thread::Threads;
 

@@ -9,7 +9,7 @@ use crate::documents::is_java;
 use crate::phase::Phase;
 use jn_base::{Seq, Text};
 use jn_front::SourceFile;
-use jn_lsp_types::{Message, Reply, copy_diagnostics};
+use jn_lsp_text::{Message, Reply, copy_diagnostics};
 use std::alloc::{AllocError, Global};
 
 // ---- names

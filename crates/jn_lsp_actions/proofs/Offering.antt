@@ -8,7 +8,7 @@ use Rattle.jn_command.specs.declared.report.Report.TheVariants.{Refused, Checked
 use Rattle.jn_front.specs.declared.source.SourceFile.{SourceFile}
 use Rattle.jn_inference_law.specs.Solution.{IsLeastSignature}
 use Rattle.jn_lsp_text.specs.declared.range.Range.{Range}
-use Rattle.jn_lsp_types.specs.declared.reply.Action.{Action}
+use Rattle.jn_lsp_text.specs.declared.reply.Action.{Action}
 use Rattle.jn_places.specs.Forget.{forget_file}
 use Rattle.jn_places.specs.PlacedView.{placed_file}
 use Rattle.jn_points.specs.declared.program.Program.{Program}
@@ -18,7 +18,7 @@ use Rattle.jn_trees.specs.declared.declaration.FileTree.{FileTree}
 use Rattle.jn_trees.specs.declared.token.Token.{Token}
 use Rattle.jn_trees.specs.Trees.{SourceTree}
 use Rattle.jn_trees.specs.View.{file_view}
-use Rattle.jn_typed_files.specs.Phases.{IsPhase, TypedProgramOf}
+use Rattle.jn_phases.specs.Phases.{IsPhase, TypedProgramOf}
 use Rattle.jn_report.specs.Report.{IsCheckedBy}
 use Rattle.jn_lsp_actions.specs.Offered.{AreActions, AreOfRules, AreUnlessShared, AreWritten}
 

@@ -20,7 +20,7 @@ use Rattle.jn_annotate.specs.Shared.{shared_slots}
 use Rattle.jn_notes.specs.Asked.{item_of}
 use Rattle.jn_notes.specs.Noted.{AreLeastTables}
 use Rattle.jn_lsp_text.specs.declared.range.Range.{Range}
-use Rattle.jn_lsp_types.specs.declared.reply.Action.{Action}
+use Rattle.jn_lsp_text.specs.declared.reply.Action.{Action}
 use Rattle.jn_report.specs.Report.{IsCheckedBy, IsReport}
 use Rattle.jn_lsp_actions.specs.Asking.{is_asked}
 use Rattle.jn_lsp_actions.specs.Written.{give, is_written}

@@ -18,8 +18,8 @@ use Rattle.jn_annotate.specs.Insertions.{file_fields, file_methods, in_file}
 use Rattle.jn_notes.specs.Owned.{owner_of}
 use Rattle.jn_notes.specs.Worded.{owner_words}
 use Rattle.jn_lsp_text.specs.Positions.{position_at}
-use Rattle.jn_lsp_types.specs.declared.reply.Action.{Action}
-use Rattle.jn_lsp_types.specs.declared.reply.Insertion.{Insertion}
+use Rattle.jn_lsp_text.specs.declared.reply.Action.{Action}
+use Rattle.jn_lsp_text.specs.declared.reply.Insertion.{Insertion}
 use Rattle.jn_lsp_actions.specs.declared.edits.Edit.{Edit}
 use Rattle.jn_lsp_actions.specs.Alone.{alone}
 

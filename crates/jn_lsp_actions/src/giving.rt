@@ -8,7 +8,7 @@ ghost use Rattle.jn_lsp_actions.specs.Written.{give};
 
 use crate::edits::Solved;
 use jn_base::{OutOfMemory, Seq};
-use jn_lsp_types::Action;
+use jn_lsp_text::Action;
 use std::alloc::{AllocError, Global};
 
 fn is_slot(slot: u32, other: Option<u32>) -> bool

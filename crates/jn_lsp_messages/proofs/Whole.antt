@@ -2,8 +2,8 @@
 use Rattle.std.proofs.Common.{◌≡◌, inl, inr, ℕ, List, Option, Some, None, refl, sym, ap, ◌∙◌}
 use Rattle.serde_json.specs.Data.{Data}
 use Rattle.serde_json.specs.Read.{read}
-use Rattle.jn_lsp_types.specs.declared.message.Message.{Message}
-use Rattle.jn_lsp_types.specs.declared.message.Message.TheVariants as message
+use Rattle.jn_lsp_text.specs.declared.message.Message.{Message}
+use Rattle.jn_lsp_text.specs.declared.message.Message.TheVariants as message
 use Rattle.jn_lsp_messages.specs.Incoming.{IsJson, IsMessage, IsNoJson, message_of}
 
 one_datum : (found : Option Data) (d e : Data) → found ≡ Some d → found ≡ Some e → d ≡ e

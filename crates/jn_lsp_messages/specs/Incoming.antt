@@ -5,12 +5,12 @@ use Rattle.serde_json.specs.Find.{as_array, as_i64, as_null, as_number, as_str, 
 use Rattle.serde_json.specs.Read.{read}
 use Rattle.jn_lsp_text.specs.declared.position.Position.{Position}
 use Rattle.jn_lsp_text.specs.declared.range.Range.{Range}
-use Rattle.jn_lsp_types.specs.declared.id.Id.{Id}
-use Rattle.jn_lsp_types.specs.declared.id.Id.TheVariants as id
-use Rattle.jn_lsp_types.specs.declared.message.Change.{Change}
-use Rattle.jn_lsp_types.specs.declared.message.Change.TheVariants.{Whole, Part}
-use Rattle.jn_lsp_types.specs.declared.message.Message.{Message}
-use Rattle.jn_lsp_types.specs.declared.message.Message.TheVariants as message
+use Rattle.jn_lsp_text.specs.declared.id.Id.{Id}
+use Rattle.jn_lsp_text.specs.declared.id.Id.TheVariants as id
+use Rattle.jn_lsp_text.specs.declared.message.Change.{Change}
+use Rattle.jn_lsp_text.specs.declared.message.Change.TheVariants.{Whole, Part}
+use Rattle.jn_lsp_text.specs.declared.message.Message.{Message}
+use Rattle.jn_lsp_text.specs.declared.message.Message.TheVariants as message
 use Rattle.jn_lsp_messages.specs.declared.method.Method.{Method}
 use Rattle.jn_lsp_messages.specs.declared.method.Method.TheVariants.{Initialize, Initialized, DidOpen, DidChange, DidSave, DidClose, WatchedFiles, CodeAction, Shutdown, Exit, Other}
 use Rattle.jn_lsp_messages.specs.Methods.{method_of}

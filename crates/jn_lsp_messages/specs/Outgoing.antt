@@ -8,16 +8,16 @@ use Rattle.jn_base.specs.Messages.{code_cure, code_message}
 use Rattle.jn_base.specs.declared.code.Code.{Code}
 use Rattle.jn_lsp_text.specs.declared.position.Position.{Position}
 use Rattle.jn_lsp_text.specs.declared.range.Range.{Range}
-use Rattle.jn_lsp_types.specs.declared.id.Id.{Id}
-use Rattle.jn_lsp_types.specs.declared.id.Id.TheVariants as id
-use Rattle.jn_lsp_types.specs.declared.reply.Action.{Action}
-use Rattle.jn_lsp_types.specs.declared.reply.Diagnostic.{Diagnostic}
-use Rattle.jn_lsp_types.specs.declared.reply.Failure.{Failure}
-use Rattle.jn_lsp_types.specs.declared.reply.Failure.TheVariants as failure
-use Rattle.jn_lsp_types.specs.declared.reply.Insertion.{Insertion}
-use Rattle.jn_lsp_types.specs.declared.reply.Related.{Related}
-use Rattle.jn_lsp_types.specs.declared.reply.Reply.{Reply}
-use Rattle.jn_lsp_types.specs.declared.reply.Reply.TheVariants as reply
+use Rattle.jn_lsp_text.specs.declared.id.Id.{Id}
+use Rattle.jn_lsp_text.specs.declared.id.Id.TheVariants as id
+use Rattle.jn_lsp_text.specs.declared.reply.Action.{Action}
+use Rattle.jn_lsp_text.specs.declared.reply.Diagnostic.{Diagnostic}
+use Rattle.jn_lsp_text.specs.declared.reply.Failure.{Failure}
+use Rattle.jn_lsp_text.specs.declared.reply.Failure.TheVariants as failure
+use Rattle.jn_lsp_text.specs.declared.reply.Insertion.{Insertion}
+use Rattle.jn_lsp_text.specs.declared.reply.Related.{Related}
+use Rattle.jn_lsp_text.specs.declared.reply.Reply.{Reply}
+use Rattle.jn_lsp_text.specs.declared.reply.Reply.TheVariants as reply
 use Rattle.jn_reporters.specs.Anchors.{code_anchor}
 use Rattle.jn_lsp_messages.specs.Uris.{uri_of}
 

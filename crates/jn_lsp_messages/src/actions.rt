@@ -7,8 +7,7 @@ use crate::places::range_value;
 use crate::uri::uri_of;
 use jn_base::OutOfMemory;
 use jn_base::lists::put;
-use jn_lsp_text::Range;
-use jn_lsp_types::{Action, Insertion};
+use jn_lsp_text::{Action, Insertion, Range};
 use serde_json::{Value, json};
 use std::alloc::{AllocError, Global};
 

@@ -8,7 +8,7 @@ ghost use Rattle.jn_lsp_messages.specs.Outgoing as spec;
 use crate::places::{location_value, range_value};
 use jn_base::lists::put;
 use jn_base::{Code, OutOfMemory, Text};
-use jn_lsp_types::{Diagnostic, Related};
+use jn_lsp_text::{Diagnostic, Related};
 use jn_reporters::code_anchor;
 use serde_json::{Value, json};
 use std::alloc::{AllocError, Global};

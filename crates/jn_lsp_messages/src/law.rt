@@ -2,7 +2,7 @@
 ghost use Rattle.std.specs.Prelude.{◌≡◌, List, ℕ, true};
 ghost use Rattle.jn_lsp_messages.specs.Incoming.{IsMessage};
 ghost use Rattle.jn_lsp_messages.specs.Uris.{is_path, name_of, uri_of};
-ghost use Rattle.jn_lsp_types.specs.declared.message.Message.{Message};
+ghost use Rattle.jn_lsp_text.specs.declared.message.Message.{Message};
 
 /// A body has one message.
 pub fn a_body_has_one_message()

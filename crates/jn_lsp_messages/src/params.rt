@@ -6,8 +6,7 @@ ghost use Rattle.jn_lsp_messages.specs.Incoming as spec;
 
 use crate::uri::name_of;
 use jn_base::{OutOfMemory, Seq, Text};
-use jn_lsp_text::{Position, Range};
-use jn_lsp_types::Change;
+use jn_lsp_text::{Change, Position, Range};
 use serde_json::Value;
 use std::alloc::{AllocError, Global};
 

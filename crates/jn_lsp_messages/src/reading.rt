@@ -8,7 +8,7 @@ use crate::params::{
     changes_in, document_name, document_text, exclude_in, files_in, folder_in, named_range, text_in,
 };
 use jn_base::{OutOfMemory, Text};
-use jn_lsp_types::{Id, Message};
+use jn_lsp_text::{Id, Message};
 use serde_json::Value;
 use std::alloc::Global;
 

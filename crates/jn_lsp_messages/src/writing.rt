@@ -9,7 +9,7 @@ use crate::actions::actions_value;
 use crate::diagnostics::diagnostics_value;
 use crate::uri::uri_of;
 use jn_base::{OutOfMemory, Text};
-use jn_lsp_types::{Diagnostic, Failure, Id, Reply};
+use jn_lsp_text::{Diagnostic, Failure, Id, Reply};
 use serde_json::{Value, json};
 use std::alloc::{AllocError, Global};
 

@@ -5,12 +5,20 @@
 //! the same rule, which [`Position`] tells.
 #![tactic(auto)]
 
+pub mod copies;
 pub mod counting;
+pub mod id;
+pub mod message;
 pub mod position;
 pub mod range;
+pub mod reply;
 
+pub use copies::copy_diagnostics;
+pub use id::Id;
+pub use message::{Change, Message};
 pub use position::{
     Position, offset_of, offsets_return, offsets_stand_on_their_lines, position_of,
     positions_have_one_offset,
 };
 pub use range::{Range, range_of, ranges_have_one_replacement, replace};
+pub use reply::{Action, Diagnostic, Failure, Insertion, Related, Reply};

@@ -11,7 +11,7 @@ use crate::nested::body_statement;
 use crate::piece::Piece;
 use jn_base::OutOfMemory;
 use jn_base::lists::put;
-use jn_room::make_room;
+use jn_sharing::make_room;
 use jn_trees::reading::{covered, expect};
 use jn_trees::{Member, Owner, Stmt, Token, TokenKind};
 use std::alloc::Global;

@@ -1,4 +1,4 @@
-//! Programs as points.
+//! Programs as points: classes, members and slots, and bodies of one operation a point; what is regular, and base typing (JLS 8, 4 to 15).
 //!
 //! A [`Program`] has classes, fields, methods and slots, and bodies whose [`Point`]s are one operation on registers each; [`edges`] gives
 //! where a point leads. [`method_of`], [`field_of`], [`dispatch`] and [`is_pair`] are the look-ups of members (JLS 8), each equal to its

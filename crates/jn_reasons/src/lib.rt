@@ -1,4 +1,4 @@
-//! Why a bit stands: what it may come from, at a body's entry, behind a point, and where a point or an overriding method sends it to a slot.
+//! Why a bit stands: what it may come from, at a body's entry, after a point, and where a point or an overriding method sends it to a slot.
 #![tactic(auto)]
 
 pub mod causes;

@@ -13,7 +13,7 @@ use Rattle.jn_front.specs.declared.source.SourceFile.{SourceFile}
 use Rattle.jn_command.specs.declared.report.Report.{Report}
 use Rattle.jn_command.specs.declared.report.Report.TheVariants.{Refused, Checked}
 use Rattle.jn_command.specs.Reports.{rows_of, verdict_of}
-use Rattle.jn_typed_files.specs.Phases.{ProgramOf}
+use Rattle.jn_phases.specs.Phases.{ProgramOf}
 use Rattle.jn_recheck_law.specs.Reusable.{Solved}
 use Rattle.jn_recheck.specs.KeptRows.{AreMadeAnew, count_false}
 use Rattle.jn_report.specs.Report.{IsReport}

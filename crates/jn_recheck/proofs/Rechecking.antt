@@ -14,7 +14,7 @@ use Rattle.jn_diag.specs.declared.shown.Verdict.{Verdict}
 use Rattle.jn_recheck_law.specs.Reusable.{Solved}
 use Rattle.jn_recheck.specs.Files.{changed}
 use Rattle.jn_recheck.specs.KeptRows.{AreMadeAnew}
-use Rattle.jn_typed_files.specs.Phases.{TypedProgramOf}
+use Rattle.jn_phases.specs.Phases.{TypedProgramOf}
 use Rattle.jn_report.specs.Report.{IsCheckedBy, IsReport}
 use Rattle.jn_recheck.specs.Sessions.{AreShown, IsRecheck, Reports, SessionOf, or_else}
 

@@ -15,7 +15,7 @@ use Rattle.jn_notes.specs.Noted.{AreNotesOf}
 use Rattle.jn_recheck_law.specs.Reusable.{Solved}
 use Rattle.jn_recheck.specs.Files.{changed}
 use Rattle.jn_recheck.specs.KeptRows.{AreMadeAnew}
-use Rattle.jn_typed_files.specs.Phases.{TypedProgramOf}
+use Rattle.jn_phases.specs.Phases.{TypedProgramOf}
 use Rattle.jn_report.specs.Report.{IsReport}
 
 -- the files, those at the last report, and the program, the texts of its names and the least signature of the last report that came to the rules

@@ -10,8 +10,8 @@ ghost use Rattle.jn_report.specs.Report.{IsReport};
 ghost use Rattle.jn_recheck.specs.Sessions.{Reports, SessionOf};
 
 use jn_inference_law::law::least_signatures_are_unique;
+use jn_phases::law::files_have_one_typing;
 use jn_report::law::files_have_one_report;
-use jn_typed_files::law::files_have_one_typing;
 
 /// Files have at most one report, and a session reports in one way: its rows, its verdict, its numbers and what is kept are those of the
 /// session, whatever the number of workers, and whoever of them did what.

@@ -8,12 +8,12 @@ use crate::kept::Kept;
 use jn_again::{Earlier, solve_again};
 use jn_base::OutOfMemory;
 use jn_contrib::Overrider;
-use jn_gate::Gate;
+use jn_index::BaseTyped;
+use jn_sharing::Gate;
 use jn_sigs::Sig;
 use jn_system::solve_with;
 use jn_tables_law::law::regular_programs_can_be_inferred;
 use jn_trees::Names;
-use jn_typed::BaseTyped;
 use std::alloc::Global;
 use std::thread::Threads;
 

@@ -21,16 +21,15 @@ use jn_checks::override_rows;
 use jn_contrib::Overrider;
 use jn_diag::order;
 use jn_env::OwnFields;
-use jn_gate::Gate;
+use jn_index::BaseTyped;
 use jn_points::Program;
 use jn_reuse::{Solved, is_reusable, same_declarations};
-use jn_sharing::share_out;
+use jn_sharing::{Gate, share_out};
 use jn_sigs::Sig;
 use jn_system::bodies::Bodies;
 use jn_system::checking::rows_of;
 use jn_tables_law::law::regular_programs_can_be_inferred;
 use jn_trees::Names;
-use jn_typed::BaseTyped;
 use std::alloc::{AllocError, Global};
 use std::thread::Threads;
 

@@ -12,7 +12,7 @@ use Rattle.jn_diag.specs.Order.{IsOrderOf}
 use Rattle.jn_front.specs.declared.source.SourceFile.{SourceFile}
 use Rattle.jn_command.specs.declared.report.Report.{Report}
 use Rattle.jn_command.specs.declared.report.Report.TheVariants.{Refused, Checked}
-use Rattle.jn_typed_files.specs.Phases.{IsPhase, ProgramOf, TypedProgramOf}
+use Rattle.jn_phases.specs.Phases.{IsPhase, ProgramOf, TypedProgramOf}
 use Rattle.jn_report.specs.Report.{IsReport, RulesGive}
 use Rattle.jn_report.proofs.RuleRows.{breaks_once}
 

@@ -10,7 +10,7 @@ use Rattle.jn_inference_law.specs.Solution.{IsLeastSignature}
 use Rattle.jn_transfer.specs.Rules.{Breaks}
 use Rattle.jn_diag.specs.Order.{IsOrderOf}
 use Rattle.jn_front.specs.declared.source.SourceFile.{SourceFile}
-use Rattle.jn_typed_files.specs.Phases.{IsPhase, TypedProgramOf}
+use Rattle.jn_phases.specs.Phases.{IsPhase, TypedProgramOf}
 
 -- the rules are those under the least signature
 pub record RulesGive (P : Program) (rows : List Row) : Type 0 where

@@ -7,8 +7,8 @@ ghost use Rattle.jn_report.specs.Report.{IsReport};
 
 use jn_diag::rows_have_one_order;
 use jn_inference_law::law::least_signatures_are_unique;
+use jn_phases::law::files_have_one_typing;
 use jn_tables_law::law::rounds_give_the_least_table;
-use jn_typed_files::law::files_have_one_typing;
 
 /// Files have at most one report: the signatures are the least ones, whatever workers found them and in which order.
 pub fn files_have_one_report()

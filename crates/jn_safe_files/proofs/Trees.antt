@@ -15,7 +15,7 @@ use Rattle.jn_program_law.specs.FileSources.{sources as sources_of}
 use Rattle.jn_soundness.specs.Accepting.{IsAccepted}
 use Rattle.jn_front.specs.declared.source.SourceFile.{SourceFile}
 use Rattle.jn_meaning_law.specs.Safety.{NeverNullByTrees, NeverStuckByTrees}
-use Rattle.jn_typed_files.specs.Phases.{TypedProgramOf}
+use Rattle.jn_phases.specs.Phases.{TypedProgramOf}
 use Rattle.jn_safe_files.specs.Safe.{BreaksNone, trees_of}
 
 no_rows_in : (ts js : List Row) → ts ≡ [] → js ≡ [] → cond (no_rows ts) js ts ≡ []

@@ -12,7 +12,7 @@ use Rattle.jn_progress_law.specs.Progress.{NeverStuck}
 use Rattle.jn_meaning_law.specs.Safety.{NeverNullByTrees, NeverStuckByTrees}
 use Rattle.jn_caller_law.specs.Safe.{SafeForCallers}
 use Rattle.jn_front.specs.declared.source.SourceFile.{SourceFile}
-use Rattle.jn_typed_files.specs.Phases.{TypedProgramOf}
+use Rattle.jn_phases.specs.Phases.{TypedProgramOf}
 
 -- no rule is broken under the least signature
 abbrev pub BreaksNone : Program → Type 0

@@ -9,7 +9,7 @@ ghost use Rattle.jn_progress_law.specs.Progress.{NeverStuck};
 ghost use Rattle.jn_meaning_law.specs.Safety.{NeverNullByTrees, NeverStuckByTrees};
 ghost use Rattle.jn_cert_law.specs.Holds.{KeepsWritten};
 ghost use Rattle.jn_front.specs.declared.source.SourceFile.{SourceFile};
-ghost use Rattle.jn_typed_files.specs.Phases.{TypedProgramOf};
+ghost use Rattle.jn_phases.specs.Phases.{TypedProgramOf};
 ghost use Rattle.jn_safe_files.specs.Safe.{BreaksNone, CallersSafe, IsSafe, trees_of};
 
 use jn_caller_law::law::accepted_programs_are_safe_for_callers;

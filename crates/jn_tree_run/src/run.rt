@@ -15,6 +15,7 @@ ghost use Rattle.jn_tree_run.specs.Beginning.{HasTrees, ParamsFit, told_in, with
 use crate::calling::{Run, enter};
 use crate::ended::{TreeEnd, stopped};
 use jn_base::{MethodNo, OutOfMemory, Text};
+use jn_index::BaseTyped;
 use jn_machine::Value;
 use jn_meaning_law::law::accepted_files_are_safe_by_trees;
 use jn_outside::{Sink, write_whole};
@@ -23,7 +24,6 @@ use jn_program::sources::sources_of_files;
 use jn_tree_world::frames::start;
 use jn_tree_world::{Halt, World};
 use jn_trees::{FileTree, Names};
-use jn_typed::BaseTyped;
 use std::alloc::{AllocError, Global};
 
 /// The most parameters that a number of 32 bits counts.

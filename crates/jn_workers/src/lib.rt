@@ -7,6 +7,6 @@
 mod solving;
 mod working;
 
-pub use jn_gate::{Gate, Straight};
+pub use jn_sharing::{Gate, Straight};
 pub use solving::solve;
 pub use working::{Worked, work};

@@ -10,7 +10,7 @@ ghost use Rattle.jn_workers.specs.Passes.{CanWork, HasWorked};
 
 use crate::working::{Worked, work};
 use jn_base::OutOfMemory;
-use jn_gate::Gate;
+use jn_sharing::Gate;
 use jn_sigtable::{Constraints, Pass, SigTable};
 use jn_worklist::{Plan, plan};
 use std::alloc::Global;

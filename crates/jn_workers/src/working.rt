@@ -7,7 +7,7 @@ ghost use Rattle.jn_workers.specs.Ends.{SeenIn, SeenUpTo, StillSeen, Took};
 ghost use Rattle.jn_workers.specs.Passes.{CanWork, HasWorked};
 
 use jn_base::{BodyNo, OutOfMemory, WordNo};
-use jn_gate::Gate;
+use jn_sharing::Gate;
 use jn_sigtable::{Constraints, Pass, SigTable};
 use jn_worklist::{Plan, Room, run_body_in};
 use std::alloc::Global;

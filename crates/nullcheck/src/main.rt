@@ -1,11 +1,11 @@
-//! Does what the words ask for, says on standard error what went wrong, and ends with the status's number.
+//! Checks the files that the words name, or runs their main: says on standard error what went wrong, and ends with the status's number.
 #![tactic(auto)]
 
 use jn_cli::usage_reason;
-use jn_gate::Straight;
 use jn_host::Host;
 use jn_outside::{HostFiles, HostSink};
 use jn_reporters::{Checkstyle, Github, Long, Plain, Reporter, Sarif, Summary, Tabbed};
+use jn_sharing::Straight;
 use nullcheck_top::{Status, nullcheck};
 use std::alloc::AllocError;
 use std::process::ExitCode;

@@ -1,10 +1,10 @@
-//! Writes what is inferred of files into their texts, says on standard error what went wrong, and ends with the status's number.
+//! Writes what is inferred of files into their texts: says on standard error what went wrong, and ends with the status's number.
 #![tactic(auto)]
 
 use jn_annotate_cli::usage_reason;
-use jn_gate::Straight;
 use jn_host::Host;
 use jn_outside::{HostFiles, HostSink};
+use jn_sharing::Straight;
 use jn_targets::{HostTargets, TargetFault};
 use nullcheck_annotate_top::{Status, annotate_files};
 use std::io;

@@ -6,9 +6,9 @@ mod case;
 
 use case::{Case, case_of};
 use jn_base::Text;
-use jn_gate::Straight;
 use jn_outside::{MemFile, MemFiles, MemSink};
 use jn_reporters::{Plain, Reporter};
+use jn_sharing::Straight;
 use jn_targets::{MemTargets, Replaced};
 use nullcheck_annotate_top::annotate_files;
 use nullcheck_top::nullcheck;

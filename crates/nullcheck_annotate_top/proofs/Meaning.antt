@@ -17,7 +17,7 @@ use Rattle.jn_front.specs.declared.source.SourceFile.{SourceFile}
 use Rattle.jn_front.specs.Phases.{ArePlaced, LexedFrom}
 use Rattle.jn_annotate.specs.Annotated.{Annotated, annotated, annotated_from}
 use Rattle.jn_annotate_law.specs.Meaning.{AllPlaced, TextsLexed}
-use Rattle.jn_typed_files.specs.Phases.{ProgramOf, lowering_rows, table_rows}
+use Rattle.jn_phases.specs.Phases.{ProgramOf, lowering_rows, table_rows}
 use Rattle.nullcheck_annotate_top.specs.Kept.{HaveProgram, KeptBetween, KeptFiles, KeptTrees}
 use Rattle.nullcheck_annotate_top.specs.Study.{AreAnnotated, texts_of, tokens_of, trees_of}
 

@@ -10,7 +10,7 @@ use Rattle.jn_places.specs.Placed.{PlacedFile}
 use Rattle.jn_front.specs.declared.source.SourceFile.{SourceFile}
 use Rattle.jn_front.specs.declared.source.SourceRead.{SourceRead}
 use Rattle.jn_front.specs.Files.{AreReads, files_of_reads}
-use Rattle.jn_typed_files.specs.Phases.{IsTypedOr, TypedProgramOf}
+use Rattle.jn_phases.specs.Phases.{IsTypedOr, TypedProgramOf}
 use Rattle.nullcheck_annotate_top.specs.declared.study.Study.{Study}
 use Rattle.nullcheck_annotate_top.specs.declared.study.Study.TheVariants.{Refused, Unannotated, Annotated}
 use Rattle.nullcheck_annotate_top.specs.Study.{AreWhole, IsOf, IsStudy}

@@ -20,7 +20,7 @@ use Rattle.jn_annotate.specs.Annotated.{Annotated}
 use Rattle.jn_annotate.specs.Answers.{IsFaultOf}
 use Rattle.jn_front.specs.declared.source.SourceFile.{SourceFile}
 use Rattle.jn_points.specs.BaseRows.{NoBaseRows}
-use Rattle.jn_typed_files.specs.Phases.{ProgramOf, TypedProgramOf}
+use Rattle.jn_phases.specs.Phases.{ProgramOf, TypedProgramOf}
 use Rattle.nullcheck_annotate_top.specs.Places.{fault_span}
 use Rattle.nullcheck_annotate_top.specs.Study.{AreAnnotated, AreUnannotated, Solved, texts_of}
 

@@ -7,7 +7,7 @@ use Rattle.jn_trees.specs.declared.token.Token.{Token}
 use Rattle.jn_places.specs.Placed.{PlacedFile}
 use Rattle.jn_places.specs.Forget.{forget_file}
 use Rattle.jn_program_law.specs.FileProgram.{inferring, program_of_files}
-use Rattle.jn_bare_law.specs.Bare.{Alike}
+use Rattle.jn_places_law.specs.Bare.{Alike}
 use Rattle.jn_front.specs.declared.source.SourceFile.{SourceFile}
 use Rattle.jn_annotate_law.specs.Kept.{KeptRowless}
 use Rattle.jn_annotate_law.specs.Meaning.{AllPlaced, TextsLexed}

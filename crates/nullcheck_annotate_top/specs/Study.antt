@@ -15,7 +15,7 @@ use Rattle.jn_command.specs.Stands.{StandIn}
 use Rattle.jn_front.specs.declared.source.SourceFile.{SourceFile}
 use Rattle.jn_front.specs.declared.source.SourceRead.{SourceRead}
 use Rattle.jn_front.specs.Files.{AreReads, files_of_reads}
-use Rattle.jn_typed_files.specs.Phases.{IsPhase, TypedProgramOf}
+use Rattle.jn_phases.specs.Phases.{IsPhase, TypedProgramOf}
 use Rattle.nullcheck_annotate_top.specs.declared.study.Study.{Study}
 use Rattle.nullcheck_annotate_top.specs.declared.study.Study.TheVariants.{Refused, Unannotated, Annotated as AnnotatedTexts}
 use Rattle.nullcheck_annotate_top.specs.Places.{fault_span}

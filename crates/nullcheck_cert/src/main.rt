@@ -1,12 +1,12 @@
-//! Does what the words ask for, says on standard error what went wrong, and ends with the status's number.
+//! Writes a certificate of files, or checks one: says on standard error what went wrong, and ends with the status's number.
 #![tactic(auto)]
 
 mod input;
 
 use input::InputFiles;
-use jn_gate::Straight;
 use jn_host::Host;
 use jn_outside::{HostFiles, HostSink};
+use jn_sharing::Straight;
 use jn_targets::{HostTargets, TargetFault};
 use nullcheck_cert_check::{Status, check};
 use nullcheck_cert_write::{write_cert, write_reason};

@@ -6,8 +6,8 @@ mod case;
 
 use case::{Case, case_of};
 use jn_base::{Seq, Text};
-use jn_gate::Straight;
 use jn_outside::{MemFile, MemFiles, MemSink};
+use jn_sharing::Straight;
 use jn_targets::{MemTargets, Replaced};
 use nullcheck_cert_check::{Status, check};
 use nullcheck_cert_write::write_cert;

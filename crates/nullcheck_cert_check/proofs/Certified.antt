@@ -17,7 +17,7 @@ use Rattle.jn_front.specs.declared.source.SourceFile.{SourceFile}
 use Rattle.jn_front.specs.declared.source.SourceRead.{SourceRead}
 use Rattle.jn_front.specs.Files.{AreReads, files_of_reads}
 use Rattle.jn_command.specs.Stands.{StandIn}
-use Rattle.jn_typed_files.specs.Phases.{IsTypedOr, ProgramOf, TypedProgramOf}
+use Rattle.jn_phases.specs.Phases.{IsTypedOr, ProgramOf, TypedProgramOf}
 use Rattle.jn_safe_files.specs.Safe.{IsSafe}
 use Rattle.nullcheck_cert_check.specs.declared.certificate.CertRead.{CertRead}
 use Rattle.nullcheck_cert_check.specs.declared.verdict.CertVerdict.{CertVerdict}

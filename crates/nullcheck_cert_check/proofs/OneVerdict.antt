@@ -9,7 +9,7 @@ use Rattle.jn_cert_judge.specs.declared.fault.CertFault.{CertFault}
 use Rattle.jn_cert_law.specs.Certificate.{CertHolds}
 use Rattle.jn_cert.specs.Checking.{IsWhyRefused}
 use Rattle.jn_front.specs.declared.source.SourceFile.{SourceFile}
-use Rattle.jn_typed_files.specs.Phases.{IsPhase, ProgramOf, TypedProgramOf}
+use Rattle.jn_phases.specs.Phases.{IsPhase, ProgramOf, TypedProgramOf}
 use Rattle.nullcheck_cert_check.specs.declared.verdict.CertVerdict.{CertVerdict}
 use Rattle.nullcheck_cert_check.specs.declared.verdict.CertVerdict.TheVariants.{Refused, TooLarge, Faulty, Certified}
 use Rattle.nullcheck_cert_check.specs.Inputs.{cert_limit}

@@ -8,7 +8,7 @@ use Rattle.jn_command.specs.declared.status.Status.TheVariants.{Refused as Refus
 use Rattle.jn_command.specs.Shown.{shown}
 use Rattle.jn_front.specs.declared.source.SourceFile.{SourceFile}
 use Rattle.jn_reporters.specs.Reports.{plain_shown}
-use Rattle.jn_typed_files.specs.Phases.{IsPhase}
+use Rattle.jn_phases.specs.Phases.{IsPhase}
 
 -- the rows of the first phase that has any, as the plain reporter shows them
 pub record IsRefusalOf (infer : Infer) (files : List SourceFile) (status : Status) (bytes : List ℕ) : Type 0 where

@@ -8,7 +8,7 @@ use Rattle.jn_cert_judge.specs.declared.fault.CertFault.{CertFault}
 use Rattle.jn_base.specs.declared.refusal.Fail.TheVariants.{Refused as RefusedFor}
 use Rattle.jn_cert.specs.Checking.{IsWhyRefused}
 use Rattle.jn_front.specs.declared.source.SourceFile.{SourceFile}
-use Rattle.jn_typed_files.specs.Phases.{IsPhase, TypedProgramOf}
+use Rattle.jn_phases.specs.Phases.{IsPhase, TypedProgramOf}
 use Rattle.jn_safe_files.specs.Safe.{IsSafe}
 use Rattle.nullcheck_cert_check.specs.Inputs.{cert_limit}
 use Rattle.nullcheck_cert_check.specs.declared.verdict.CertVerdict.{CertVerdict}

@@ -15,8 +15,8 @@ ghost use Rattle.nullcheck_cert_check.specs.Verdicts.{IsCertifiedBy, IsFaultyBy,
 
 use jn_cert::law::refused_certificates_have_one_fault;
 use jn_cert_law::law::what_holds_is_accepted;
+use jn_phases::law::files_have_one_typing;
 use jn_safe_files::law::files_accepted_under_some_signature_are_safe;
-use jn_typed_files::law::files_have_one_typing;
 
 /// A certificate has bytes.
 pub fn nothing_is_no_certificate()

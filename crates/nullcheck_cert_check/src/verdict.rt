@@ -2,7 +2,7 @@
 use jn_accept::Accepted;
 use jn_base::{Row, Seq};
 use jn_cert::CertFault;
-use jn_typed::BaseTyped;
+use jn_index::BaseTyped;
 
 /// What is found of a certificate and the files that it is of.
 #[derive(Drop)]

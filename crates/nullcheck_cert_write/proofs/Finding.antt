@@ -11,7 +11,7 @@ use Rattle.jn_front.specs.declared.source.SourceRead.{SourceRead}
 use Rattle.jn_front.specs.Files.{AreReads, files_of_reads}
 use Rattle.jn_command.specs.Stands.{StandIn}
 use Rattle.jn_command.proofs.Standing.{all_stand}
-use Rattle.jn_typed_files.specs.Phases.{IsTypedOr, TypedProgramOf}
+use Rattle.jn_phases.specs.Phases.{IsTypedOr, TypedProgramOf}
 use Rattle.nullcheck_cert_write.specs.declared.made.CertMade.{CertMade}
 use Rattle.nullcheck_cert_write.specs.declared.made.CertMade.TheVariants.{Refused, Rejected, TooLarge, Made}
 use Rattle.nullcheck_cert_write.specs.Making.{IsMadeOf}

@@ -14,7 +14,7 @@ use Rattle.jn_transfer.specs.Rules.{Breaks}
 use Rattle.jn_inference_law.specs.Solution.{IsLeastSignature}
 use Rattle.jn_system.specs.Rows.{AreBroken}
 use Rattle.jn_diag.specs.Order.{row_cmp}
-use Rattle.jn_plain_law.proofs.Written.{length-within}
+use Rattle.jn_cert_exists_law.proofs.Written.{length-within}
 use Rattle.nullcheck_cert_write.specs.Making.{AreLeastTables, AreRuleRows}
 
 -- a least signature has a qualifier for each slot

@@ -7,7 +7,7 @@ use Rattle.nullcheck_cert_write.specs.declared.made.CertMade.{CertMade}
 use Rattle.nullcheck_cert_write.specs.declared.made.CertMade.TheVariants.{Refused, Rejected, TooLarge, Made}
 use Rattle.nullcheck_cert_write.specs.Making.{IsMadeOf}
 use Rattle.jn_front.specs.declared.source.SourceFile.{SourceFile}
-use Rattle.jn_typed_files.specs.Phases.{IsPhase}
+use Rattle.jn_phases.specs.Phases.{IsPhase}
 use Rattle.nullcheck_cert_check.specs.Verdicts.{IsProgramOfFiles}
 
 module _ (infer : Infer) (files : List SourceFile) where

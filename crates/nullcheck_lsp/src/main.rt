@@ -2,10 +2,10 @@
 #![tactic(auto)]
 
 use jn_folder::HostFolder;
-use jn_gate::Straight;
 use jn_host::Host;
 use jn_lsp_frames::HostStream;
 use jn_outside::{HostFiles, HostSink};
+use jn_sharing::Straight;
 use nullcheck_lsp_top::{Status, serve};
 use std::process::ExitCode;
 use std::thread::Threads;

@@ -6,9 +6,9 @@ mod session;
 
 use case::{Case, case_of};
 use jn_folder::MemFolder;
-use jn_gate::Straight;
 use jn_lsp_frames::{End, Frame, FrameReader, MemStream, Next};
 use jn_outside::{MemFiles, MemSink};
+use jn_sharing::Straight;
 use nullcheck_lsp_top::{Status, serve};
 use session::{Recorded, read_session};
 use std::alloc::{AllocError, Global};

@@ -6,7 +6,7 @@ use Rattle.std.proofs.lemmas.List.Elements.{filter-append}
 use Rattle.jn_outside.specs.Files.{Holding}
 use Rattle.jn_front.specs.declared.source.SourceFile.{SourceFile}
 use Rattle.jn_lsp.specs.Stand.{spaces}
-use Rattle.jn_lsp_types.specs.declared.reply.Reply.TheVariants.{Show}
+use Rattle.jn_lsp_text.specs.declared.reply.Reply.TheVariants.{Show}
 use Rattle.nullcheck_lsp_top.specs.Reading.{AreRead, IsText, ReadsMore, Source, file_of, is_among, shows, warnings_of}
 
 pub spaces_are : (n : ℕ) (text : List ℕ) → text ≡ replicate n 32 → text ≡ spaces n

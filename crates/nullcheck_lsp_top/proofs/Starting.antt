@@ -8,7 +8,7 @@ use Rattle.jn_folder.specs.declared.listed.Listed.{Listed}
 use Rattle.jn_folder.proofs.Stopping.{walk_none}
 use Rattle.jn_front.specs.declared.source.SourceFile.{SourceFile}
 use Rattle.jn_front.specs.Files.{file_limit}
-use Rattle.jn_lsp_types.specs.declared.message.Message.{Message}
+use Rattle.jn_lsp_text.specs.declared.message.Message.{Message}
 use Rattle.nullcheck_lsp_top.specs.declared.client.Client.{Client}
 use Rattle.nullcheck_lsp_top.specs.declared.client.Root.{Root}
 use Rattle.nullcheck_lsp_top.specs.Hearing.{StartsBy, looks, settled}

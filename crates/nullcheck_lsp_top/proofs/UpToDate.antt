@@ -3,10 +3,10 @@ use Rattle.std.proofs.Common.{◌≡◌, ℕ, ◌++◌, Bool, true, false, List,
 use Rattle.std.specs.Prelude.{filter, not}
 use Rattle.jn_outside.specs.Files.{Holding}
 use Rattle.jn_lsp_frames.specs.declared.frame.Frame.{Frame}
-use Rattle.jn_lsp_types.specs.declared.message.Message.{Message}
-use Rattle.jn_lsp_types.specs.declared.reply.Diagnostic.{Diagnostic}
-use Rattle.jn_lsp_types.specs.declared.reply.Reply.{Reply}
-use Rattle.jn_lsp_types.specs.declared.reply.Reply.TheVariants.{Show}
+use Rattle.jn_lsp_text.specs.declared.message.Message.{Message}
+use Rattle.jn_lsp_text.specs.declared.reply.Diagnostic.{Diagnostic}
+use Rattle.jn_lsp_text.specs.declared.reply.Reply.{Reply}
+use Rattle.jn_lsp_text.specs.declared.reply.Reply.TheVariants.{Show}
 use Rattle.jn_lsp.specs.declared.event.Event.{Event}
 use Rattle.jn_lsp.specs.declared.event.Event.TheVariants.{Folder, Message as MessageEvent}
 use Rattle.jn_lsp.specs.Publications.{last_published, published}

@@ -8,8 +8,8 @@ use Rattle.jn_lsp_frames.specs.declared.asking.Asking.{Asking}
 use Rattle.jn_lsp_frames.specs.declared.frame.Frame.{Frame}
 use Rattle.jn_lsp_frames.specs.Frames.{IsPartial}
 use Rattle.jn_lsp_frames.specs.Reading.{Gives, Grows}
-use Rattle.jn_lsp_types.specs.declared.message.Message.{Message}
-use Rattle.jn_lsp_types.specs.declared.reply.Reply.{Reply}
+use Rattle.jn_lsp_text.specs.declared.message.Message.{Message}
+use Rattle.jn_lsp_text.specs.declared.reply.Reply.{Reply}
 use Rattle.jn_lsp.specs.declared.phase.Phase.{Phase}
 use Rattle.jn_lsp.specs.declared.phase.Phase.TheVariants.{Waiting, Serving, ShutDown, Exited}
 use Rattle.nullcheck_lsp_top.specs.declared.client.Client.{Client}

@@ -9,9 +9,9 @@ use Rattle.jn_lsp_frames.specs.declared.frame.Frame.TheVariants as frame
 use Rattle.jn_lsp_frames.specs.Frames.{frame_of}
 use Rattle.jn_lsp_messages.specs.Incoming.{IsMessage}
 use Rattle.jn_lsp_messages.specs.Outgoing.{data_of}
-use Rattle.jn_lsp_types.specs.declared.message.Message.{Message}
-use Rattle.jn_lsp_types.specs.declared.message.Message.TheVariants.{BadHeader, TooLarge}
-use Rattle.jn_lsp_types.specs.declared.reply.Reply.{Reply}
+use Rattle.jn_lsp_text.specs.declared.message.Message.{Message}
+use Rattle.jn_lsp_text.specs.declared.message.Message.TheVariants.{BadHeader, TooLarge}
+use Rattle.jn_lsp_text.specs.declared.reply.Reply.{Reply}
 use Rattle.jn_lsp.specs.declared.event.Event.TheVariants.{Folder, Message as MessageEvent}
 use Rattle.jn_lsp.specs.declared.phase.Phase.{Phase}
 use Rattle.jn_lsp.specs.declared.phase.Phase.TheVariants.{Waiting, Serving, ShutDown, Exited}

@@ -9,8 +9,8 @@ use Rattle.jn_front.specs.declared.source.SourceFile.{SourceFile}
 use Rattle.jn_front.specs.Files.{file_limit, most_files}
 use Rattle.jn_folder.specs.Listing.{each_once}
 use Rattle.jn_lsp.specs.Stand.{spaces}
-use Rattle.jn_lsp_types.specs.declared.reply.Reply.{Reply}
-use Rattle.jn_lsp_types.specs.declared.reply.Reply.TheVariants.{Show}
+use Rattle.jn_lsp_text.specs.declared.reply.Reply.{Reply}
+use Rattle.jn_lsp_text.specs.declared.reply.Reply.TheVariants.{Show}
 
 -- what a source of files tells: what its calls gave, and the count of its faults
 pub record Source : Type 0 where

@@ -6,7 +6,7 @@ ghost use Rattle.nullcheck_lsp_top.specs.Looking as spec;
 use jn_base::{Seq, Text};
 use jn_folder::plain;
 use jn_lsp::{Phase, Server};
-use jn_lsp_types::Message;
+use jn_lsp_text::Message;
 use std::alloc::{AllocError, Global};
 
 /// Where a workspace's files are.

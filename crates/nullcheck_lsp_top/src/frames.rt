@@ -11,10 +11,10 @@ use crate::status::Status;
 use crate::writing::framed;
 use jn_base::{Fail, OutOfMemory, Text};
 use jn_folder::Folder;
-use jn_gate::Gate;
 use jn_lsp::Phase;
 use jn_lsp_frames::{Frame, FrameReader, Next, Stream};
 use jn_outside::{Files, Sink, write_whole};
+use jn_sharing::Gate;
 use std::alloc::Global;
 use std::thread::Threads;
 

@@ -2,7 +2,7 @@
 ghost use Rattle.std.specs.Prelude.{List, Option};
 ghost use Rattle.jn_outside.specs.Files.{Holding};
 ghost use Rattle.jn_lsp_frames.specs.declared.frame.Frame.{Frame as FrameOf};
-ghost use Rattle.jn_lsp_types.specs.declared.reply.Reply.{Reply as ReplyOf};
+ghost use Rattle.jn_lsp_text.specs.declared.reply.Reply.{Reply as ReplyOf};
 ghost use Rattle.jn_lsp.specs.Serving.{IsUpToDate};
 ghost use Rattle.nullcheck_lsp_top.specs.declared.client.Client.{Client as ClientOf};
 ghost use Rattle.nullcheck_lsp_top.specs.Hearing.{AnsweredOnce, HearsAll};

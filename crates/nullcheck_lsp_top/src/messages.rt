@@ -9,12 +9,12 @@ use crate::placing::{foreign_in, placed, says};
 use crate::warning::show;
 use jn_base::{OutOfMemory, Text};
 use jn_folder::Folder;
-use jn_gate::Gate;
 use jn_lsp::{Event, Phase, wants_folder};
 use jn_lsp_frames::Frame;
 use jn_lsp_messages::read_message;
-use jn_lsp_types::{Message, Reply};
+use jn_lsp_text::{Message, Reply};
 use jn_outside::Files;
+use jn_sharing::Gate;
 use std::alloc::{AllocError, Global};
 use std::thread::Threads;
 

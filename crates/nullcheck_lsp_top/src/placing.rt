@@ -6,7 +6,7 @@ use crate::client::Root;
 use jn_base::Text;
 use jn_folder::{each_once, is_among, is_below, is_whole, joined, plain};
 use jn_lsp::Phase;
-use jn_lsp_types::{Message, Reply};
+use jn_lsp_text::{Message, Reply};
 use std::alloc::{AllocError, Global};
 
 // ---- names

@@ -8,9 +8,9 @@ use crate::frames::serve_all;
 use crate::status::Status;
 use crate::words::{Asked, read_words};
 use jn_folder::Folder;
-use jn_gate::Gate;
 use jn_lsp_frames::Stream;
 use jn_outside::{Files, Sink};
+use jn_sharing::Gate;
 use std::alloc::Global;
 use std::thread::Threads;
 

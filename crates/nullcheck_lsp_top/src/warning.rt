@@ -4,7 +4,7 @@ ghost use Rattle.nullcheck_lsp_top.specs.Reading as spec;
 
 use jn_base::{Seq, Text};
 use jn_folder::each_once;
-use jn_lsp_types::Reply;
+use jn_lsp_text::Reply;
 use std::alloc::{AllocError, Global};
 
 /// What each warning begins with.

@@ -5,7 +5,7 @@ ghost use Rattle.nullcheck_lsp_top.specs.Hearing as spec;
 use jn_base::{OutOfMemory, Text};
 use jn_lsp_frames::frame_of;
 use jn_lsp_messages::write_reply;
-use jn_lsp_types::Reply;
+use jn_lsp_text::Reply;
 use std::alloc::Global;
 
 /// Puts the reply's frame behind the others.

@@ -1,9 +1,9 @@
 //! Carries out the script that the words name, says on standard error what went wrong, and ends with the status's number.
 #![tactic(auto)]
 
-use jn_gate::Straight;
 use jn_host::Host;
 use jn_outside::{HostFiles, HostSink};
+use jn_sharing::Straight;
 use nullcheck_recheck_top::{Status, recheck, usage_reason};
 use std::process::ExitCode;
 use std::thread::Threads;

@@ -1,6 +1,6 @@
 //! A gate that counts how often it is entered.
 use jn_base::BodyNo;
-use jn_gate::Gate;
+use jn_sharing::Gate;
 use std::sync::atomic::{AtomicU64, Ordering};
 
 #[derive(Drop)]

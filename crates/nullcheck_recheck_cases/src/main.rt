@@ -6,10 +6,10 @@ mod counting;
 
 use case::{Case, case_of};
 use counting::Counting;
-use jn_gate::Straight;
 use jn_outside::{MemFile, MemFiles, MemSink};
 use jn_recheck::Session;
 use jn_script::{Step, read_script};
+use jn_sharing::Straight;
 use nullcheck_recheck_top::recheck;
 use std::alloc::{AllocError, Global};
 use std::thread::Threads;

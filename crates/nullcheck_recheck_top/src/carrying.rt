@@ -6,10 +6,10 @@ ghost use Rattle.nullcheck_recheck_top.specs.Stepping.{CarriesOut, world};
 
 use crate::step::{Taken, take_step};
 use jn_command::Status;
-use jn_gate::Gate;
 use jn_outside::{Files, Sink};
 use jn_recheck::Session;
 use jn_script::Step;
+use jn_sharing::Gate;
 use std::alloc::Global;
 use std::thread::Threads;
 

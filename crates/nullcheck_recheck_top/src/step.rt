@@ -13,10 +13,10 @@ use crate::outputs::check_output;
 use jn_base::Fail;
 use jn_command::Status;
 use jn_command::output::Output;
-use jn_gate::Gate;
 use jn_outside::{Failed, Files, ReadFail, Sink, read_whole, write_whole};
 use jn_recheck::Session;
 use jn_script::Step;
+use jn_sharing::Gate;
 use std::alloc::{AllocError, Global};
 use std::thread::Threads;
 

@@ -12,9 +12,9 @@ use crate::outputs::bad_output;
 use jn_base::Fail;
 use jn_command::Status;
 use jn_command::output::{finish, write};
-use jn_gate::Gate;
 use jn_outside::{Files, ReadFail, Sink, read_whole};
 use jn_script::read_script;
+use jn_sharing::Gate;
 use std::alloc::Global;
 use std::thread::Threads;
 

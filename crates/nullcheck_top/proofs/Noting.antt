@@ -27,7 +27,7 @@ use Rattle.jn_notes.specs.Noted.{AreNotesOf}
 use Rattle.nullcheck_top.specs.declared.found.Found.{Found}
 use Rattle.nullcheck_top.specs.Found.{AreLeft, AreWhole, IsBroken, IsFinding, IsGiven, IsLeft}
 use Rattle.nullcheck_top.specs.Report.{AreNotes, RuleNotes, placed}
-use Rattle.jn_typed_files.proofs.OneTyping.{OneReading, one_program}
+use Rattle.jn_phases.proofs.OneTyping.{OneReading, one_program}
 
 -- ---- the notes at a place
 

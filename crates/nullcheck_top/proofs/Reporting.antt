@@ -20,7 +20,7 @@ use Rattle.jn_command.specs.Stands.{StandIn}
 use Rattle.jn_command.proofs.Standing.{all_stand}
 use Rattle.nullcheck_top.specs.declared.found.Found.{Found}
 use Rattle.nullcheck_top.specs.Found.{AreWhole, IsBroken, IsFinding, found_of}
-use Rattle.jn_typed_files.specs.Phases.{IsPhase, IsTypedOr, TypedProgramOf}
+use Rattle.jn_phases.specs.Phases.{IsPhase, IsTypedOr, TypedProgramOf}
 use Rattle.jn_report.specs.Report.{IsReport}
 use Rattle.jn_safe_files.specs.Safe.{BreaksNone, IsSafe}
 use Rattle.nullcheck_top.proofs.Laws.{breaks_none}

@@ -16,11 +16,11 @@ use Rattle.jn_command.specs.Answer.{IsOutputBy, IsOutputOfFiles}
 use Rattle.jn_run.specs.Line.{end_line}
 use Rattle.jn_run.specs.Main.{Answers as RunAnswers, IsToldBy, Runs, RunsTo as ProgramRunsTo}
 use Rattle.nullcheck_top.specs.Answers.{AnswersFiles}
-use Rattle.jn_typed_files.specs.Phases.{TypedProgramOf}
+use Rattle.jn_phases.specs.Phases.{TypedProgramOf}
 use Rattle.jn_report.specs.Report.{IsReport}
 use Rattle.jn_safe_files.specs.Safe.{IsSafe}
 use Rattle.nullcheck_top.specs.Report.{AreNotes, RunsTo, Prints}
-use Rattle.jn_typed_files.proofs.OneTyping.{OneReading, one_program}
+use Rattle.jn_phases.proofs.OneTyping.{OneReading, one_program}
 
 module _ (a : Asked) (files : List SourceFile) (names : List (List ℕ)) (P : Program) (asked_to : a.command.run ≡ true) (accepted : IsReport a.command.infer files (Checked [])) (safe : IsSafe a.command.infer files) (of_files : TypedProgramOf a.command.infer files names P) where
   output : (status : Status) (bytes : List ℕ) → ProgramRunsTo files P names a.command.args a.command.steps status bytes → IsOutputOfFiles IsReport AreNotes IsSafe RunsTo Prints a files status bytes

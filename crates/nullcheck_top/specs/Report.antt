@@ -16,7 +16,7 @@ use Rattle.jn_command.specs.declared.report.Report.TheVariants.{Refused, Checked
 use Rattle.jn_inference_law.specs.Solution.{IsLeastSignature}
 use Rattle.jn_run.specs.Main.{RunsTo as ProgramRunsTo, Prints as ProgramPrints}
 use Rattle.jn_front.specs.declared.source.SourceFile.{SourceFile}
-use Rattle.jn_typed_files.specs.Phases.{TypedProgramOf}
+use Rattle.jn_phases.specs.Phases.{TypedProgramOf}
 
 -- notes as they are shown: with the places of their first bytes in the files
 abbrev pub placed_note : List SourceFile → Note → ShownNote

@@ -11,7 +11,7 @@ ghost use Rattle.jn_command.specs.declared.report.Report.TheVariants.{Refused, C
 ghost use Rattle.jn_command.specs.Reports.{rows_of};
 ghost use Rattle.jn_command.specs.Stands.{StandIn};
 ghost use Rattle.nullcheck_top.specs.Found.{AreWhole, IsFinding, found_of};
-ghost use Rattle.jn_typed_files.specs.Phases.{IsTypedOr, TypedProgramOf};
+ghost use Rattle.jn_phases.specs.Phases.{IsTypedOr, TypedProgramOf};
 ghost use Rattle.jn_report.specs.Report.{IsReport};
 ghost use Rattle.jn_safe_files.specs.Safe.{IsSafe};
 
@@ -21,12 +21,12 @@ use jn_accept::{Accepted, accept};
 use jn_base::{Infer, OutOfMemory, Row, Seq};
 use jn_command::Report;
 use jn_front::SourceRead;
+use jn_index::BaseTyped;
 use jn_inference_law::law::regular_programs_are_inferable;
+use jn_phases::{TypedFiles, too_many_files, type_files};
 use jn_sigs::Sig;
 use jn_system::{check_all, solve_sig};
 use jn_trees::{FileTree, Names};
-use jn_typed::BaseTyped;
-use jn_typed_files::{TypedFiles, too_many_files, type_files};
 use jn_workers::Gate;
 use std::alloc::Global;
 use std::thread::Threads;

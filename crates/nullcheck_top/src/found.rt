@@ -2,9 +2,9 @@
 
 use jn_accept::Accepted;
 use jn_command::Report;
+use jn_index::BaseTyped;
 use jn_sigs::Sig;
 use jn_trees::{FileTree, Names};
-use jn_typed::BaseTyped;
 
 /// The report of files, and their program where they have one.
 #[derive(Drop)]

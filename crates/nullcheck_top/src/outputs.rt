@@ -23,12 +23,12 @@ use jn_command::Report;
 use jn_command::output::Output;
 use jn_command::show::{show, show_noted, show_number};
 use jn_front::SourceRead;
+use jn_index::BaseTyped;
 use jn_inference_law::law::regular_programs_are_inferable;
 use jn_notes::{Notes, notes_of_rows};
 use jn_reporters::Reporter;
 use jn_sigs::Sig;
 use jn_trees::Names;
-use jn_typed::BaseTyped;
 use std::alloc::{AllocError, Global};
 
 /// The greatest number of files.

@@ -2,7 +2,7 @@ use Rattle.jn_heads.specs.Extract.{heads}
 use Rattle.jn_annotate_law.proofs.AllRows.{no_rows_more}
 use Rattle.jn_annotate_law.proofs.Extracting.{heads_plain}
 use Rattle.jn_annotate_law.proofs.Sources.{same_body_rows}
-use Rattle.jn_blind_law.proofs.Tables.{tables_alike}
+use Rattle.jn_heads_law.proofs.Tables.{tables_alike}
 use Rattle.jn_annotate_law.proofs.law.annotated_files_have_no_rows.Goals as goal
 
 pub returns : goal.returns

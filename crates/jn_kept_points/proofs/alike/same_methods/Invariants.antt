@@ -1,4 +1,4 @@
-use Rattle.jn_blind_law.specs.Plain.{plain_method}
+use Rattle.jn_heads_law.specs.Plain.{plain_method}
 use Rattle.jn_kept_points.proofs.Lists.{LeftSame}
 use Rattle.jn_kept_points.proofs.alike.same_methods.Given as goal
 

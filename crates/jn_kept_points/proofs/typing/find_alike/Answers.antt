@@ -6,8 +6,8 @@ use Rattle.jn_places.specs.PlacedView.{placed_file}
 use Rattle.jn_heads.specs.Extract.{heads as heads_of}
 use Rattle.jn_heads.specs.Inferred.{Tabled}
 use Rattle.jn_classtable.specs.Table as tables
-use Rattle.jn_blind_law.specs.Plain.{plain_head}
-use Rattle.jn_bare_law.specs.Bare.{Alike}
+use Rattle.jn_heads_law.specs.Plain.{plain_head}
+use Rattle.jn_places_law.specs.Bare.{Alike}
 use Rattle.jn_program.specs.declared.sources.Start.{Start}
 use Rattle.jn_program.specs.Known.{AreKnown}
 use Rattle.jn_program.specs.Starts.{AreStarts}

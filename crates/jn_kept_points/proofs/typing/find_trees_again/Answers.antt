@@ -4,9 +4,9 @@ use Rattle.jn_places.specs.PlacedView.{placed_file}
 use Rattle.jn_heads.specs.declared.head.ClassHead.{ClassHead}
 use Rattle.jn_heads.specs.Extract.{heads as heads_of}
 use Rattle.jn_classtable.specs.Table as tables
-use Rattle.jn_blind_law.specs.Plain.{plain_head}
-use Rattle.jn_bare_law.specs.Bare.{Alike}
-use Rattle.jn_blind_law.specs.Heads.{HeadsAlike}
+use Rattle.jn_heads_law.specs.Plain.{plain_head}
+use Rattle.jn_places_law.specs.Bare.{Alike}
+use Rattle.jn_heads_law.specs.Heads.{HeadsAlike}
 use Rattle.jn_kept_points.proofs.Knowing.{heads_of_table, no_class_rows}
 use Rattle.jn_kept_points.proofs.typing.find_trees_again.Goals as goal
 

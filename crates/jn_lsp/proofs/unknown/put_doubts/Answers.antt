@@ -1,6 +1,6 @@
 use Rattle.std.proofs.Common.{◌++◌, ◌∙◌, [], ◌∷◌, List, ap, append_assoc, map, sym, take}
 use Rattle.std.proofs.lemmas.List.{map_more}
-use Rattle.jn_lsp_types.specs.declared.reply.Reply.{Reply}
+use Rattle.jn_lsp_text.specs.declared.reply.Reply.{Reply}
 use Rattle.jn_lsp.specs.Unknown.{doubt}
 use Rattle.jn_lsp.proofs.unknown.put_doubts.Goals as goal
 

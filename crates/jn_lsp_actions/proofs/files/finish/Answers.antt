@@ -2,7 +2,7 @@ use Rattle.std.proofs.Common.{map, Option, sym, ap, subst, ◌∙◌}
 use Rattle.jn_base.specs.declared.infer.Infer.TheVariants.{Private}
 use Rattle.jn_places.specs.PlacedView.{placed_file}
 use Rattle.jn_points.specs.declared.program.Program.{Program}
-use Rattle.jn_typed_files.specs.Phases.{IsTypedOr}
+use Rattle.jn_phases.specs.Phases.{IsTypedOr}
 use Rattle.jn_lsp_actions.proofs.files.finish.Goals as goal
 
 pub of_program-requires-clause-program : goal.of_program-requires-clause-program

@@ -2,7 +2,7 @@ use Rattle.std.proofs.Common.{map, ap, sym, ◌∙◌, subst}
 use Rattle.std.specs.Prelude.{Some, string_bytes}
 use Rattle.jn_front.specs.Files.{ReadFrom}
 use Rattle.jn_command.specs.Answer.{reading}
-use Rattle.jn_typed_files.proofs.Fitting.{few_reads, reads_fit}
+use Rattle.jn_phases.proofs.Fitting.{few_reads, reads_fit}
 use Rattle.nullcheck_annotate_top.specs.Answer.{Defines, effects}
 use Rattle.nullcheck_annotate_top.proofs.Ending.{answers, fault_rose, never_read, output_done}
 use Rattle.nullcheck_annotate_top.proofs.Naming.{few_words, output_of_read}

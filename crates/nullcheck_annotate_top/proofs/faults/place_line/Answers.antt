@@ -3,7 +3,7 @@ use Rattle.std.proofs.lemmas.Result.{IfOk-weaker}
 use Rattle.jn_base.specs.Place.{place_in}
 use Rattle.nullcheck_annotate_top.specs.Output.{fault_code, line_in, placed_line}
 use Rattle.nullcheck_annotate_top.proofs.Placing.{file_at, no_file_at}
-use Rattle.jn_relexed.proofs.Relexing.{fits_at}
+use Rattle.jn_front.proofs.Relexing.{fits_at}
 use Rattle.nullcheck_annotate_top.proofs.faults.place_line.Goals as goal
 
 pub place_within-place-requires : goal.place_within-place-requires

@@ -3,7 +3,7 @@ use Rattle.std.specs.Prelude.{List, IsSome}
 use Rattle.jn_places.specs.PlacedView.{placed_file}
 use Rattle.jn_front.specs.declared.source.SourceFile.{SourceFile}
 use Rattle.jn_front.specs.Files.{AreReads}
-use Rattle.jn_typed_files.specs.Phases.{IsTypedOr}
+use Rattle.jn_phases.specs.Phases.{IsTypedOr}
 use Rattle.nullcheck_annotate_top.proofs.Phasing.{of_made, typed_here}
 use Rattle.nullcheck_annotate_top.proofs.study.study_found.Goals as goal
 

@@ -1,4 +1,4 @@
-use Rattle.jn_typed_files.proofs.Fitting.{reads_fit}
+use Rattle.jn_phases.proofs.Fitting.{reads_fit}
 use Rattle.nullcheck_cases.proofs.reading.reads_of.Goals as goal
 
 pub returns-clause-fit : goal.returns-clause-fit

@@ -9,7 +9,7 @@ use Rattle.jn_command.specs.Shown.{shown}
 use Rattle.jn_command.proofs.Showing.{length_is, name_there, number_text}
 use Rattle.jn_reporters.specs.Reports.{plain_shown}
 use Rattle.jn_reporters.specs.Sheet.{Taken}
-use Rattle.jn_typed_files.proofs.Reporting.{too_many}
+use Rattle.jn_phases.proofs.Reporting.{too_many}
 use Rattle.std.proofs.lemmas.List.{length-map}
 use Rattle.nullcheck_cert_check.proofs.outputs.number_output.Goals as goal
 

@@ -2,7 +2,7 @@ use Rattle.std.proofs.Common.{map, refl, sym, subst, inl}
 use Rattle.std.specs.Prelude.{string_bytes}
 use Rattle.jn_front.specs.Files.{ReadFrom}
 use Rattle.jn_command.specs.Answer.{reading}
-use Rattle.jn_typed_files.proofs.Fitting.{few_reads, many_names, reads_fit}
+use Rattle.jn_phases.proofs.Fitting.{few_reads, many_names, reads_fit}
 use Rattle.nullcheck_cert_write.specs.Answer.{outcome}
 use Rattle.nullcheck_cert_write.proofs.Telling.{many_answers, many_rose, many_unread}
 use Rattle.nullcheck_cert_write.proofs.top.answer_command.Goals as goal

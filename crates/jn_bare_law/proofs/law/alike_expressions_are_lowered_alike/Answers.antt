@@ -1,5 +1,0 @@
-use Rattle.jn_bare_law.proofs.Expressions.{alike}
-use Rattle.jn_bare_law.proofs.law.alike_expressions_are_lowered_alike.Goals as goal
-
-pub returns : goal.returns
-returns c = alike

@@ -1,6 +1,0 @@
-use Rattle.jn_blind_law.proofs.HeadRows.{head_rows_alike}
-use Rattle.jn_blind_law.proofs.Tables.{tables_alike}
-use Rattle.jn_blind_law.proofs.law.alike_heads_have_alike_tables.Goals as goal
-
-pub returns : goal.returns
-returns c = record { tables = tables_alike; rows = head_rows_alike }

@@ -1,0 +1,84 @@
+//! What a client sends.
+use crate::Range;
+use crate::id::Id;
+use jn_base::{Seq, Text};
+
+/// A change of a document's text (TextDocumentContentChangeEvent).
+#[derive(Drop)]
+pub enum Change {
+    /// The text is now this one.
+    Whole(Seq<u8>),
+    /// The text of the range is now this one.
+    Part { range: Range, text: Seq<u8> },
+}
+
+/// A message of a client (Language Server Protocol 3.17), or why a body is none.
+#[derive(Drop)]
+pub enum Message {
+    /// `initialize`: the path of the workspace's folder, where one is named, and the names of files by the settings
+    /// (`initializationOptions.files`), each whole or relative to the folder, and the names of folders that are left out
+    /// (`initializationOptions.exclude`).
+    Initialize {
+        id: Id,
+        folder: Option<Text>,
+        files: Seq<Text>,
+        exclude: Seq<Text>,
+    },
+    /// `initialized`.
+    Initialized,
+    /// `textDocument/didOpen`: the text is its bytes in UTF-8.
+    DidOpen {
+        name: Text,
+        text: Seq<u8>,
+    },
+    /// `textDocument/didChange`: the changes, each of the text behind the one before.
+    DidChange {
+        name: Text,
+        changes: Seq<Change>,
+    },
+    /// `textDocument/didSave`.
+    DidSave {
+        name: Text,
+    },
+    /// `textDocument/didClose`.
+    DidClose {
+        name: Text,
+    },
+    /// `workspace/didChangeWatchedFiles`.
+    WatchedFiles,
+    /// `textDocument/codeAction`.
+    CodeAction {
+        id: Id,
+        name: Text,
+        range: Range,
+    },
+    /// `shutdown`.
+    Shutdown {
+        id: Id,
+    },
+    /// `exit`.
+    Exit,
+    /// A notification that the server has no use for (as `$/cancelRequest`), or a response.
+    Ignored,
+    /// A request that the server doesn't know.
+    Unknown {
+        id: Id,
+    },
+    /// `textDocument/didOpen` or `didChange` whose text or changes aren't as the protocol has them.
+    BadDocument {
+        name: Text,
+    },
+    /// A request, or a notification, which has no id, whose parameters aren't as the protocol has them. Such a notification is about a
+    /// document that it doesn't name.
+    BadParams {
+        id: Option<Id>,
+    },
+    /// JSON, but no message of JSON-RPC 2.0.
+    NoMessage,
+    /// No JSON.
+    NoJson,
+    /// A header without a legal Content-Length.
+    BadHeader,
+    /// A body of more bytes than the limit.
+    TooLarge,
+}

@@ -1,0 +1,83 @@
+//! What the server sends.
+use crate::id::Id;
+use crate::{Position, Range};
+use jn_base::{Code, Seq, Text};
+
+/// Why a request is refused: the error codes of JSON-RPC 2.0 (section 5.1) and of the protocol.
+#[derive(Clone, Copy, Debug, PartialEq, Eq)]
+pub enum Failure {
+    /// ParseError, -32700.
+    Parse,
+    /// InvalidRequest, -32600.
+    Request,
+    /// MethodNotFound, -32601.
+    Method,
+    /// InvalidParams, -32602.
+    Params,
+    /// ServerNotInitialized, -32002.
+    NotInitialized,
+}
+
+/// A row of the report at its place in the text. Message and cure are the code's.
+#[derive(Drop)]
+pub struct Diagnostic {
+    pub range: Range,
+    pub code: Code,
+    /// Places that tell why.
+    pub related: Seq<Related>,
+}
+
+/// A place of a file, and what it has to do with a diagnostic, in words.
+#[derive(Drop)]
+pub struct Related {
+    pub name: Text,
+    pub range: Range,
+    pub words: Text,
+}
+
+/// An edit of one file that a client may make: a title, and insertions into the text as it stands.
+#[derive(Drop)]
+pub struct Action {
+    pub title: Text,
+    pub name: Text,
+    pub insertions: Seq<Insertion>,
+}
+
+/// A text that is put in at a position.
+#[derive(Drop)]
+pub struct Insertion {
+    pub at: Position,
+    pub text: Text,
+}
+
+/// A message of the server (Language Server Protocol 3.17).
+#[derive(Drop)]
+pub enum Reply {
+    /// The answer to `initialize`: what the server can do.
+    Capabilities {
+        id: Id,
+    },
+    /// The answer to a request without a result (`shutdown`).
+    Done {
+        id: Id,
+    },
+    /// The answer to a request that is refused. There is no id where none was read.
+    Refusal {
+        id: Option<Id>,
+        failure: Failure,
+    },
+    /// `textDocument/publishDiagnostics`: all that is told of the file from now on.
+    Publish {
+        name: Text,
+        diagnostics: Seq<Diagnostic>,
+    },
+    /// `window/showMessage`: a warning.
+    Show {
+        words: Text,
+    },
+    /// The answer to `textDocument/codeAction`.
+    Actions {
+        id: Id,
+        actions: Seq<Action>,
+    },
+}

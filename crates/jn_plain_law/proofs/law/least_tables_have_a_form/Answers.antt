@@ -1,5 +1,0 @@
-use Rattle.jn_plain_law.proofs.Parts.{are_parts, table_plain}
-use Rattle.jn_plain_law.proofs.law.least_tables_have_a_form.Goals as goal
-
-pub returns : goal.returns
-returns c = record { plain = table_plain; parts = are_parts }

@@ -1,6 +1,0 @@
-//! Programs that are base-typed.
-#![tactic(auto)]
-
-mod typed;
-
-pub use typed::BaseTyped;
