@@ -13,6 +13,7 @@ use Rattle.jn_lexer.specs.Pieces.{Piece, Behind}
 
 -- Unicode escapes (JLS 3.3)
 
+-- the character is the backslash, with which escapes begin (JLS 8, 3.3 and 3.10.6)
 abbrev pub is_backslash : ℕ → Bool
 is_backslash c = nat_eq c 92
 
@@ -20,6 +21,7 @@ is_backslash c = nat_eq c 92
 abbrev pub IsEscapeBehind : List ℕ → List ℕ → Type 0
 IsEscapeBehind text before = (after : List ℕ) × (text ≡ before ++ 92 ∷ 117 ∷ after) × (suffix_len is_backslash before % 2 ≡ 0)
 
+-- nowhere in the text a backslash and `u` begin a Unicode escape (JLS 8, 3.3)
 abbrev pub HasNoUnicodeEscape : List ℕ → Type 0
 HasNoUnicodeEscape text = (before : List ℕ) → IsEscapeBehind text before → ⊥
 
@@ -33,6 +35,7 @@ IsFirstEscape text before = IsEscapeBehind text before × ((other : List ℕ) �
 abbrev pub is_special : ℕ → Bool
 is_special c = nat_eq c 34 || nat_eq c 46 || nat_eq c 47 || is_digit c
 
+-- the text begins with a character that is not white, begins no token, and is none of the special ones
 pub record IsBadCharacter (text : List ℕ) (c : ℕ) : Type 0 where
   pub back : List ℕ
   pub is : text ≡ c ∷ back
@@ -86,6 +89,7 @@ pub record IsBadDot (text : List ℕ) : Type 0 where
   pub is : text ≡ 46 ∷ digit ∷ back
   pub digits : is_digit digit ≡ true
 
+-- the fault of this code is in the text, at the character c behind the characters `front`
 abbrev pub IsFault : Code → List ℕ → List ℕ → ℕ → Type 0
 IsFault L3 text front c = (front ≡ []) × IsBadCharacter text c
 IsFault L4 text front c = (front ≡ []) × (c ≡ 47) × IsOpenComment text

@@ -8,6 +8,7 @@ pub data Blank : Type 0 where
   Line : List ℕ → Blank
   Block : List ℕ → Blank
 
+-- the characters of a blank as they stand in the text, with the marks that begin and end a comment
 abbrev pub blank_text : Blank → List ℕ
 blank_text (Space c) = c ∷ []
 blank_text (Line inside) = 47 ∷ 47 ∷ inside
@@ -23,6 +24,7 @@ IsBlank (Space c) after = is_white c ≡ true
 IsBlank (Line inside) after = AllAre is_in_line inside × BeginsOnly is_line_end after
 IsBlank (Block inside) after = IsNextClose inside after
 
+-- the characters of a row of blanks, as they stand one behind the other
 abbrev pub gap_text : List Blank → List ℕ
 gap_text [] = []
 gap_text (b ∷ bs) = blank_text b ++ gap_text bs

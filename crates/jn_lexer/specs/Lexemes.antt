@@ -23,6 +23,7 @@ abbrev pub is_zero : List ℕ → Bool
 is_zero [] = false
 is_zero (c ∷ cs) = nat_eq c 48 && nat_eq (length cs) 0
 
+-- the last character of the word is a digit, and no underscore
 abbrev pub ends_in_digit : List ℕ → Bool
 ends_in_digit word = is_digit (slice_index word (length word - 1))
 
@@ -40,6 +41,7 @@ abbrev pub value_from : ℕ → List ℕ → ℕ
 value_from n [] = n
 value_from n (c ∷ cs) = value_from (if is_digit c then n * 10 + (c - 48) else n) cs
 
+-- the word is a decimal number of this value, at most 2147483648, the one past the greatest `int` (JLS 8, 3.10.1)
 abbrev pub IsNumeral : List ℕ → ℕ → Type 0
 IsNumeral word value = (is_decimal word ≡ true) × (value ≡ value_from 0 word) × (value ≤ 2147483648)
 
@@ -48,18 +50,22 @@ pub data Part : Type 0 where
   Plain : ℕ → Part
   Escape : ℕ → Part
 
+-- the characters of a part as they stand in the text, an escape with its backslash
 abbrev pub part_text : Part → List ℕ
 part_text (Plain c) = c ∷ []
 part_text (Escape e) = 92 ∷ e ∷ []
 
+-- the part can stand in a string: a character that stands for itself, or an escape within its line (JLS 8, 3.10.5)
 abbrev pub IsPart : Part → Type 0
 IsPart (Plain c) = is_plain c ≡ true
 IsPart (Escape e) = is_line_end e ≡ false
 
+-- what stands between the two quotes of a string with these parts
 abbrev pub inside : List Part → List ℕ
 inside [] = []
 inside (p ∷ ps) = part_text p ++ inside ps
 
+-- each of the parts can stand in a string
 abbrev pub AreParts : List Part → Type 0
 AreParts [] = Unit {0}
 AreParts (p ∷ ps) = IsPart p × AreParts ps
@@ -74,6 +80,7 @@ escape_value e =
     else (if nat_eq e 114 then Some 13
     else (if nat_eq e 34 || nat_eq e 39 || nat_eq e 92 then Some e else None)))))
 
+-- the character that a part stands for, or none where it is another escape than the eight
 abbrev pub part_value : Part → Option ℕ
 part_value (Plain c) = Some c
 part_value (Escape e) = escape_value e
@@ -105,6 +112,7 @@ hinders_kind Dot c = is_digit c
 hinders_kind Slash c = nat_eq c 47 || nat_eq c 42
 hinders_kind _ c = false
 
+-- whether the token cannot stand where this character follows it at once
 abbrev pub hinders : Lexeme → ℕ → Bool
 hinders (Word text) c = false
 hinders (Quoted value) c = false

@@ -22,10 +22,12 @@ pub record Language : Type 1 where
   pub May : State → Piece → Type 0
   pub next : State → Piece → State
 
+-- the tokens of all the pieces, in their order
 abbrev pub spell_pieces : (L : Language) → List L.Piece → List TokenKind
 spell_pieces L [] = []
 spell_pieces L (p ∷ ps) = L.spelling p ++ spell_pieces L ps
 
+-- each piece may stand where it stands, when `s` is around the first and each piece changes what is around the next
 abbrev pub InOrder : (L : Language) → L.State → List L.Piece → Type 0
 InOrder L s [] = Unit {0}
 InOrder L s (p ∷ ps) = L.May s p × InOrder L (L.next s p) ps
@@ -38,6 +40,7 @@ pub record Begins (L : Language) (s : L.State) (ts : List TokenKind) (n : ℕ) :
   pub spelled : ts ≡ spell_pieces L pieces ++ rest
   pub place : n ≡ length (spell_pieces L pieces)
 
+-- n is the greatest place before which the tokens are pieces in order
 pub record IsPlace (L : Language) (s : L.State) (ts : List TokenKind) (n : ℕ) : Type 0 where
   pub reached : Begins L s ts n
   pub greatest : (m : ℕ) → Begins L s ts m → m ≤ n
@@ -56,6 +59,7 @@ pub data Piece : Type 0 where
   BodyEnd : Piece
   TypeEnd : Piece
 
+-- the tokens that spell a piece: a line or a member through its semicolon, a head through its opening brace
 abbrev pub spell_piece : Piece → List TokenKind
 spell_piece (PackagePiece q) = spell_package q
 spell_piece (ImportPiece i) = spell_import i
@@ -77,11 +81,13 @@ pub data Around : Type 0 where
   InType : (owner : Owner) → Around
   InBody : (owner : Owner) (leading : Bool) → Around
 
+-- the piece is the head of a class or an interface with modifiers that may stand before it (JLS 8, 7.6)
 abbrev pub MayHead : Piece → Type 0
 MayHead (ClassHead ms n parent interfaces) = GoodMarks marks_type ms
 MayHead (InterfaceHead ms n parents) = GoodMarks marks_interface ms
 MayHead _ = ⊥
 
+-- the piece may stand in this type: a field, a method or constructor up to its body, or the brace that ends it (JLS 8, 8.1.6 and 9.1.4)
 abbrev pub MayMember : Owner → Piece → Type 0
 MayMember o (FieldPiece ms u d ds) = GoodField ms d ds
 MayMember o (MethodPiece ms u n r ps) = GoodMethodHead o ms r ps
@@ -90,19 +96,23 @@ MayMember o (ConstructorHead ms n ps) = GoodConstructorHead o ms n ps
 MayMember o TypeEnd = Unit {0}
 MayMember o _ = ⊥
 
+-- the piece may stand in a body: a well-formed statement that is not nested too deep, or the brace that ends the body
 abbrev pub MayStatement : Bool → Piece → Type 0
 MayStatement leading (StatementPiece s) = GoodStatement (body_context leading) s × (nesting_statement s ≤ deepest)
 MayStatement leading BodyEnd = Unit {0}
 MayStatement leading _ = ⊥
 
+-- the piece may stand behind the package line or an import: an import, or the head of a type (JLS 8, 7.5)
 abbrev pub MayImport : Piece → Type 0
 MayImport (ImportPiece i) = Unit {0}
 MayImport p = MayHead p
 
+-- the piece may be the first of a file: the package line, an import, or the head of a type (JLS 8, 7.3)
 abbrev pub MayPackage : Piece → Type 0
 MayPackage (PackagePiece q) = Unit {0}
 MayPackage p = MayImport p
 
+-- the piece is well formed and may stand there, by what is around it
 abbrev pub May : Around → Piece → Type 0
 May AtStart p = MayPackage p
 May BehindLines p = MayImport p
@@ -117,20 +127,24 @@ behind_member o (ConstructorHead ms n ps) = InBody o true
 behind_member o TypeEnd = BehindTypes
 behind_member o _ = InType o
 
+-- what is around the next piece of a body: the type again where this piece ends the body, else the body, where no statement is the first now
 abbrev pub behind_statement : Owner → Piece → Around
 behind_statement o BodyEnd = InType o
 behind_statement o _ = InBody o false
 
+-- what is around the piece behind this one outside of types: the type whose head this is, or else the lines that begin a file
 abbrev pub behind_outer : Piece → Around
 behind_outer (ClassHead ms n parent interfaces) = InType (record { interface = false; name = n })
 behind_outer (InterfaceHead ms n parents) = InType (record { interface = true; name = n })
 behind_outer _ = BehindLines
 
+-- what is around the next piece, by what is around this one and which it is
 abbrev pub behind : Around → Piece → Around
 behind (InType o) p = behind_member o p
 behind (InBody o leading) p = behind_statement o p
 behind _ p = behind_outer p
 
+-- the language of source files: their pieces, how each is spelled, and where each may stand
 abbrev pub pieces : Language
 pieces = record { State = Around; Piece = Piece; spelling = spell_piece; May = May; next = behind }
 
@@ -144,10 +158,12 @@ opened n RightBracket = n - 1
 opened n RightBrace = n - 1
 opened n _ = n
 
+-- how many brackets are open behind the tokens, when n are open before them
 abbrev pub opened_from : ℕ → List TokenKind → ℕ
 opened_from n [] = n
 opened_from n (k ∷ ks) = opened_from (opened n k) ks
 
+-- how many brackets may be open at once
 abbrev pub most_open : ℕ
 most_open = 200
 
@@ -161,6 +177,7 @@ pub record IsTooDeep (ts : List TokenKind) (n : ℕ) : Type 0 where
 abbrev pub Shallow : List TokenKind → Type 0
 Shallow ts = (m : ℕ) → m < length ts → opened_from 0 (take (m + 1) ts) ≤ most_open
 
+-- the tokens without their places
 abbrev pub kinds : List Token → List TokenKind
 kinds tokens = map (λ (t : Token). t.kind) tokens
 
@@ -169,6 +186,7 @@ abbrev pub place_from : FileNo → ℕ → Option Token → Span
 place_from file end None = record { file = file; from = end; to = end }
 place_from file end (Some t) = t.span
 
+-- the place of token n, counted from 0, or the end of the text where there is no such token
 abbrev pub token_place : FileNo → ℕ → List Token → ℕ → Span
 token_place file end tokens n = place_from file end (slice_get tokens n)
 
@@ -190,5 +208,6 @@ pub record IsSyntaxFault (file : FileNo) (end : ℕ) (tokens : List Token) (row 
   pub ends : IsPlace pieces AtStart (kinds tokens) place
   pub is : row ≡ record { span = token_place file end tokens place; code = S1 }
 
+-- the row reports the syntax fault of the tokens: too many brackets open, or else no well-formed file
 abbrev pub IsSyntaxRow : FileNo → ℕ → List Token → Row → Type 0
 IsSyntaxRow file end tokens row = IsDeepFault file end tokens row ⊎ IsSyntaxFault file end tokens row

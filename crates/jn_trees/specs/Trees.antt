@@ -15,6 +15,7 @@ pub data BaseTree : Type 0 where
 
 -- expressions, and lists of them
 mutual
+  -- an expression, where parentheses are kept as they stand (JLS 8, 15)
   pub data Tree : Type 0 where
     LiteralTree : (literal : Literal) → Tree
     NameTree : (name : NameNo) → Tree
@@ -37,6 +38,7 @@ mutual
     ConditionalTree : (condition : Tree) (first : Tree) (second : Tree) → Tree
     AssignTree : (target : Tree) (operator : AssignOperator) (value : Tree) → Tree
 
+  -- a list of expressions: arguments, elements of an array, or parts of a `for`
   pub data Trees : Type 0 where
     NoTrees : Trees
     MoreTrees : (first : Tree) (rest : Trees) → Trees
@@ -51,10 +53,12 @@ pub record TypeUseTree : Type 0 where
   pub base : BaseTree
   pub array : Option (List NameNo)
 
+-- a variable that a declaration names, with its initial value where it has one (JLS 8, 8.3 and 14.4)
 pub record DeclaratorTree : Type 0 where
   pub name : NameNo
   pub value : Option Tree
 
+-- a declaration of one or more locals of one type (JLS 8, 14.4)
 pub record LocalTree : Type 0 where
   pub marks : List LocalMark
   pub type_use : TypeUseTree
@@ -68,6 +72,7 @@ pub data InitTree : Type 0 where
 
 -- statements, and lists of them
 mutual
+  -- a statement, also a constructor's call of another by `this` or `super` (JLS 8, 14 and 8.8.7.1)
   pub data Statement : Type 0 where
     BlockStatement : (body : Statements) → Statement
     EmptyStatement : Statement
@@ -85,6 +90,7 @@ mutual
     ThisCallStatement : (arguments : Trees) → Statement
     SuperCallStatement : (arguments : Trees) → Statement
 
+  -- a list of statements, as in a block or a body
   pub data Statements : Type 0 where
     NoStatements : Statements
     MoreStatements : (first : Statement) (rest : Statements) → Statements
@@ -99,11 +105,13 @@ pub data Mark : Type 0 where
   ConstantMark : Mark
   AbstractMark : Mark
 
+-- a parameter of a method or a constructor: its modifiers, its type and its name (JLS 8, 8.4.1)
 pub record ParameterTree : Type 0 where
   pub marks : List LocalMark
   pub type_use : TypeUseTree
   pub name : NameNo
 
+-- the parameter `this` that a method may begin with: its annotations and the class it names (JLS 8, 8.4.1)
 pub record ReceiverTree : Type 0 where
   pub annotations : List NameNo
   pub class : NameNo
@@ -114,6 +122,7 @@ pub data MemberTree : Type 0 where
   MethodMember : (marks : List Mark) (result : Option TypeUseTree) (name : NameNo) (receiver : Option ReceiverTree) (parameters : List ParameterTree) (body : Option Statements) → MemberTree
   ConstructorMember : (marks : List Mark) (name : NameNo) (parameters : List ParameterTree) (body : Statements) → MemberTree
 
+-- a class or an interface with its modifiers, the types it extends and implements, and its members (JLS 8, 8.1 and 9.1)
 pub data TypeDeclaration : Type 0 where
   ClassType : (marks : List Mark) (name : NameNo) (parent : Option NameNo) (interfaces : List NameNo) (members : List MemberTree) → TypeDeclaration
   InterfaceType : (marks : List Mark) (name : NameNo) (parents : List NameNo) (members : List MemberTree) → TypeDeclaration
@@ -123,10 +132,12 @@ pub record DottedName : Type 0 where
   pub first : NameNo
   pub more : List NameNo
 
+-- an import: its name, and whether `.*` stands behind (JLS 8, 7.5)
 pub record ImportTree : Type 0 where
   pub name : DottedName
   pub all : Bool
 
+-- a source file: its package line where it has one, its imports and its types (JLS 8, 7.3)
 pub record SourceTree : Type 0 where
   pub package_line : Option DottedName
   pub imports : List ImportTree

@@ -13,6 +13,7 @@ use Rattle.jn_trees.specs.Trees.{Tree, Trees, LiteralTree, NameTree, ThisTree, P
 
 -- each tree inside another adds one
 abbrev mutual
+  -- how deep trees stand one inside another in this one, itself counted
   pub nesting : Tree → ℕ
   nesting (LiteralTree l) = 1
   nesting (NameTree n) = 1
@@ -35,6 +36,7 @@ abbrev mutual
   nesting (ConditionalTree c a b) = max (nesting c) (max (nesting a) (nesting b)) + 1
   nesting (AssignTree l o r) = max (nesting l) (nesting r) + 1
 
+  -- the greatest nesting of the expressions in a list, 0 where it is empty
   pub nesting_all : Trees → ℕ
   nesting_all NoTrees = 0
   nesting_all (MoreTrees t ts) = max (nesting t) (nesting_all ts)
@@ -85,10 +87,12 @@ abbrev pub is_least_literal : Literal → Bool
 is_least_literal (Number n) = nat_eq n 2147483648
 is_least_literal _ = false
 
+-- the expression is the literal 2147483648, which is good only as the operand of a minus sign (JLS 8, 3.10.1)
 abbrev pub is_least_number : Tree → Bool
 is_least_number (LiteralTree l) = is_least_literal l
 is_least_number _ = false
 
+-- a number is at most the greatest `int`; other literals are good as they stand (JLS 8, 3.10.1)
 abbrev pub GoodLiteral : Literal → Type 0
 GoodLiteral (Number n) = n < 2147483648
 GoodLiteral _ = Unit {0}
@@ -110,6 +114,7 @@ GoodSigned Minus e good = elim (is_least_number e) as (λ _. Type 0) [ true ↦ 
 GoodSigned o e good = good
 
 abbrev mutual
+  -- the expression is well formed: operands bind strongly enough, and what is assigned, indexed or cast may be so (JLS 8, 15)
   pub Good : Tree → Type 0
   Good (LiteralTree l) = GoodLiteral l
   Good (NameTree n) = Unit {0}
@@ -132,6 +137,7 @@ abbrev mutual
   Good (ConditionalTree c a b) = Good c × (rank c ≤ 9) × Good a × Good b × (rank b ≤ 10)
   Good (AssignTree l o r) = Good l × (is_left_side l ≡ true) × Good r
 
+  -- each expression of the list is well formed
   pub AllGood : Trees → Type 0
   AllGood NoTrees = Unit {0}
   AllGood (MoreTrees t ts) = Good t × AllGood ts
@@ -147,22 +153,27 @@ is_effect (PrefixTree s p) = true
 is_effect (AssignTree l o r) = true
 is_effect _ = false
 
+-- each expression is well formed and can stand as a statement, as those in the head of a `for` must (JLS 8, 14.14.1)
 abbrev pub GoodEffects : Trees → Type 0
 GoodEffects NoTrees = Unit {0}
 GoodEffects (MoreTrees e es) = Good e × (is_effect e ≡ true) × GoodEffects es
 
+-- the expression is left out or well formed
 abbrev pub GoodOptional : Option Tree → Type 0
 GoodOptional None = Unit {0}
 GoodOptional (Some e) = Good e
 
+-- the nesting of an expression, 0 where it is left out
 abbrev pub nesting_optional : Option Tree → ℕ
 nesting_optional None = 0
 nesting_optional (Some e) = nesting e
 
+-- the modifier is `final`, and no annotation
 abbrev pub is_final_mark : LocalMark → Bool
 is_final_mark FinalMark = true
 is_final_mark (AnnotationMark n) = false
 
+-- `final` is not among the modifiers
 abbrev pub no_final : List LocalMark → Bool
 no_final [] = true
 no_final (m ∷ ms) = not (is_final_mark m) && no_final ms
@@ -173,29 +184,36 @@ final_once [] = true
 final_once (AnnotationMark n ∷ ms) = final_once ms
 final_once (FinalMark ∷ ms) = no_final ms
 
+-- the initial value of each variable is left out or well formed
 abbrev pub GoodDeclarators : List DeclaratorTree → Type 0
 GoodDeclarators [] = Unit {0}
 GoodDeclarators (d ∷ ds) = GoodOptional d.value × GoodDeclarators ds
 
+-- the greatest nesting of the variables' initial values, 0 where there is none
 abbrev pub nesting_declarators : List DeclaratorTree → ℕ
 nesting_declarators [] = 0
 nesting_declarators (d ∷ ds) = max (nesting_optional d.value) (nesting_declarators ds)
 
+-- the declaration of locals is well formed: `final` at most once, and good initial values (JLS 8, 14.4)
 abbrev pub GoodLocal : LocalTree → Type 0
 GoodLocal l = (final_once l.marks ≡ true) × GoodDeclarators (l.first ∷ l.more)
 
+-- the greatest nesting of the initial values of the locals, 0 where there is none
 abbrev pub nesting_local : LocalTree → ℕ
 nesting_local l = nesting_declarators (l.first ∷ l.more)
 
+-- what a `for` begins with is well formed: expressions that can stand as statements, or a declaration (JLS 8, 14.14.1)
 abbrev pub GoodInit : InitTree → Type 0
 GoodInit (ExpressionsInit es) = GoodEffects es
 GoodInit (DeclarationInit l) = GoodLocal l
 
+-- the greatest nesting of an expression in what a `for` begins with, 0 where there is none
 abbrev pub nesting_init : InitTree → ℕ
 nesting_init (ExpressionsInit es) = nesting_all es
 nesting_init (DeclarationInit l) = nesting_local l
 
 abbrev mutual
+  -- how deep statements and expressions stand one inside another in this statement, itself counted
   pub nesting_statement : Statement → ℕ
   nesting_statement (BlockStatement ss) = nesting_body ss + 1
   nesting_statement EmptyStatement = 1
@@ -213,6 +231,7 @@ abbrev mutual
   nesting_statement (ThisCallStatement es) = nesting_all es + 1
   nesting_statement (SuperCallStatement es) = nesting_all es + 1
 
+  -- the greatest nesting of the statements, 0 where there are none
   pub nesting_body : Statements → ℕ
   nesting_body NoStatements = 0
   nesting_body (MoreStatements s ss) = max (nesting_statement s) (nesting_body ss)
@@ -230,9 +249,11 @@ ends_open _ = false
 abbrev pub under : Context → Context
 under c = record { in_loop = c.in_loop; direct = false; leading = false }
 
+-- inside a block: locals may be declared there, no constructor may be called by `this` or `super`, and a loop around stays around
 abbrev pub in_block : Context → Context
 in_block c = record { in_loop = c.in_loop; direct = true; leading = false }
 
+-- what is around the body of a loop: `break` and `continue` may stand there, a declaration of locals may not (JLS 8, 14.15 and 14.16)
 abbrev pub loop_body : Context
 loop_body = record { in_loop = true; direct = false; leading = false }
 
@@ -241,6 +262,7 @@ abbrev pub body_context : Bool → Context
 body_context leading = record { in_loop = false; direct = true; leading = leading }
 
 abbrev mutual
+  -- the statement is well formed and may stand there, by what is around it (JLS 8, 14)
   pub GoodStatement : Context → Statement → Type 0
   GoodStatement c (BlockStatement ss) = GoodStatements (in_block c) ss
   GoodStatement c EmptyStatement = Unit {0}
@@ -272,6 +294,7 @@ abbrev pub GoodBody : Bool → Statements → Type 0
 GoodBody leading NoStatements = Unit {0}
 GoodBody leading (MoreStatements s ss) = GoodStatement (body_context leading) s × (nesting_statement s ≤ deepest) × GoodStatements (body_context false) ss × (nesting_body ss ≤ deepest)
 
+-- the modifier is an access word: `public`, `protected` or `private` (JLS 8, 6.6)
 abbrev pub is_access : Mark → Bool
 is_access PublicMark = true
 is_access ProtectedMark = true
@@ -288,41 +311,50 @@ clashes ConstantMark ConstantMark = true
 clashes AbstractMark AbstractMark = true
 clashes _ m = false
 
+-- the modifier clashes with none of these
 abbrev pub clashes_none : Mark → List Mark → Bool
 clashes_none m [] = true
 clashes_none m (k ∷ ks) = not (clashes m k) && clashes_none m ks
 
+-- no word stands twice among the modifiers, and at most one of them is an access word
 abbrev pub no_clash : List Mark → Bool
 no_clash [] = true
 no_clash (m ∷ ms) = clashes_none m ms && no_clash ms
 
+-- what may stand before a class: annotations, `public`, `final` and `abstract` (JLS 8, 8.1.1)
 abbrev pub marks_type : Mark → Bool
 marks_type ProtectedMark = false
 marks_type PrivateMark = false
 marks_type StaticMark = false
 marks_type _ = true
 
+-- what may stand before an interface: annotations, `public` and `abstract` (JLS 8, 9.1.1)
 abbrev pub marks_interface : Mark → Bool
 marks_interface ConstantMark = false
 marks_interface m = marks_type m
 
+-- what may stand before a field: all modifiers but `abstract` (JLS 8, 8.3.1)
 abbrev pub marks_field : Mark → Bool
 marks_field AbstractMark = false
 marks_field _ = true
 
+-- what may stand before a method of a class: all modifiers (JLS 8, 8.4.3)
 abbrev pub marks_method : Mark → Bool
 marks_method _ = true
 
+-- what may stand before a method of an interface: annotations, `public` and `abstract` (JLS 8, 9.4)
 abbrev pub marks_interface_method : Mark → Bool
 marks_interface_method (NoteMark n) = true
 marks_interface_method PublicMark = true
 marks_interface_method AbstractMark = true
 marks_interface_method _ = false
 
+-- what may stand before a constructor: annotations and access words (JLS 8, 8.8.3)
 abbrev pub marks_constructor : Mark → Bool
 marks_constructor (NoteMark n) = true
 marks_constructor m = is_access m
 
+-- each of the modifiers is one that may stand there
 abbrev pub every : (Mark → Bool) → List Mark → Bool
 every may [] = true
 every may (m ∷ ms) = may m && every may ms
@@ -331,14 +363,17 @@ every may (m ∷ ms) = may m && every may ms
 abbrev pub GoodMarks : (Mark → Bool) → List Mark → Type 0
 GoodMarks may ms = (every may ms ≡ true) × (no_clash ms ≡ true)
 
+-- the modifier is `static`
 abbrev pub is_static_mark : Mark → Bool
 is_static_mark StaticMark = true
 is_static_mark _ = false
 
+-- `static` is among the modifiers
 abbrev pub has_static : List Mark → Bool
 has_static [] = false
 has_static (m ∷ ms) = is_static_mark m || has_static ms
 
+-- no parameter has `final` more than once (JLS 8, 8.4.1)
 abbrev pub GoodParameters : List ParameterTree → Type 0
 GoodParameters [] = Unit {0}
 GoodParameters (p ∷ ps) = (final_once p.marks ≡ true) × GoodParameters ps
@@ -348,6 +383,7 @@ abbrev pub GoodReceiver : NameNo → List Mark → Option ReceiverTree → Type 
 GoodReceiver owner ms None = Unit {0}
 GoodReceiver owner ms (Some r) = (has_static ms ≡ false) × (r.class ≡ owner)
 
+-- the modifiers may stand before a method, of an interface where the first argument is true, else of a class, and no two clash
 abbrev pub GoodMethodMarks : Bool → List Mark → Type 0
 GoodMethodMarks true ms = GoodMarks marks_interface_method ms
 GoodMethodMarks false ms = GoodMarks marks_method ms
@@ -360,6 +396,7 @@ GoodMethodHead o ms r ps = GoodMethodMarks o.interface ms × GoodReceiver o.name
 abbrev pub GoodConstructorHead : Owner → List Mark → NameNo → List ParameterTree → Type 0
 GoodConstructorHead o ms n ps = GoodMarks marks_constructor ms × (o.interface ≡ false) × (n ≡ o.name) × GoodParameters ps
 
+-- the field declaration is well formed: good modifiers, and good initial values that are not nested too deep (JLS 8, 8.3)
 abbrev pub GoodField : List Mark → DeclaratorTree → List DeclaratorTree → Type 0
 GoodField ms d ds = GoodMarks marks_field ms × GoodDeclarators (d ∷ ds) × (nesting_declarators (d ∷ ds) ≤ deepest)
 
@@ -368,22 +405,27 @@ abbrev pub GoodMethodBody : Bool → Option Statements → Type 0
 GoodMethodBody interface None = Unit {0}
 GoodMethodBody interface (Some ss) = (interface ≡ false) × GoodBody false ss
 
+-- the member is well formed and may stand in this type
 abbrev pub GoodMember : Owner → MemberTree → Type 0
 GoodMember o (FieldMember ms u d ds) = GoodField ms d ds
 GoodMember o (MethodMember ms u n r ps body) = GoodMethodHead o ms r ps × GoodMethodBody o.interface body
 GoodMember o (ConstructorMember ms n ps ss) = GoodConstructorHead o ms n ps × GoodBody true ss
 
+-- each of the members is well formed and may stand in this type
 abbrev pub GoodMembers : Owner → List MemberTree → Type 0
 GoodMembers o [] = Unit {0}
 GoodMembers o (m ∷ ms) = GoodMember o m × GoodMembers o ms
 
+-- the type is well formed: its modifiers may stand before it, and its members in it (JLS 8, 8.1 and 9.1)
 abbrev pub GoodType : TypeDeclaration → Type 0
 GoodType (ClassType ms n parent interfaces members) = GoodMarks marks_type ms × GoodMembers (record { interface = false; name = n }) members
 GoodType (InterfaceType ms n parents members) = GoodMarks marks_interface ms × GoodMembers (record { interface = true; name = n }) members
 
+-- each of the types is well formed
 abbrev pub GoodTypes : List TypeDeclaration → Type 0
 GoodTypes [] = Unit {0}
 GoodTypes (t ∷ ts) = GoodType t × GoodTypes ts
 
+-- the file is well formed: each of its types is, and nothing more is asked of its package line and its imports
 abbrev pub GoodFile : SourceTree → Type 0
 GoodFile f = GoodTypes f.types
