@@ -15,18 +15,23 @@ pub record Key : Type 0 where
   pub reg : ℕ
   pub field : ℕ
 
+-- whether a key is of a field of the object in this register
 abbrev pub has_reg : ℕ → Key → Bool
 has_reg r k = eqb k.reg r
 
+-- whether a key is of this field, in whatever register the object is
 abbrev pub has_key_field : ℕ → Key → Bool
 has_key_field f k = eqb k.field f
 
+-- whether a key is that of this field of the object in this register
 abbrev pub is_key : ℕ → ℕ → Key → Bool
 is_key r f k = eqb k.reg r && eqb k.field f
 
+-- the key of a field that is accessed through an operand, as a list of one
 abbrev pub key_of : Operand → FieldNo → List Key
 key_of r f = record { reg = r.reg.0; field = f.0 } ∷ []
 
+-- the key of the field read that a tested value comes from, none where a test has no origin
 abbrev pub origin_key : Option Origin → List Key
 origin_key None = []
 origin_key (Some og) = record { reg = og.reg.0; field = og.field.0 } ∷ []
@@ -81,6 +86,7 @@ module _ {K : Type 0} where
   is_on test (k ∷ keys) [] = false
   is_on test (k ∷ keys) (b ∷ bits) = (b && test k) || is_on test keys bits
 
+  -- a bit for each key, none of them set
   abbrev pub no_bits : List K → List Bool
   no_bits [] = []
   no_bits (k ∷ keys) = false ∷ no_bits keys

@@ -39,10 +39,12 @@ pub data Want : Type 0 where
   -- any value
   Valued : Want
 
+-- whether a type is void, the result of methods that give no value (JLS 8, 8.4.5)
 abbrev pub is_void : BaseType → Bool
 is_void Void = true
 is_void base = false
 
+-- whether a type is int or boolean, the primitive types here (JLS 8, 4.2)
 abbrev pub is_primitive : BaseType → Bool
 is_primitive Int = true
 is_primitive BoolBase = true
@@ -52,9 +54,11 @@ is_primitive base = false
 abbrev pub given_count : Option Method → ℕ
 given_count m = cond (static_of m) (length (params_of m)) (suc (length (params_of m)))
 
+-- the type String, whose class has number 1
 abbrev pub string_base : BaseType
 string_base = Ref (record { 0 = 1 })
 
+-- whether two types are both int or both boolean
 abbrev pub same_primitive : BaseType → BaseType → Bool
 same_primitive Int Int = true
 same_primitive BoolBase BoolBase = true
@@ -65,14 +69,17 @@ abbrev pub other_nullity : BaseType → BaseType
 other_nullity (Array e nullable) = Array e (not nullable)
 other_nullity base = base
 
+-- whether a type is String, whose class has number 1
 abbrev pub is_string : BaseType → Bool
 is_string (Ref c) = eqb c.0 1
 is_string base = false
 
+-- whether `+` may join a value of the type to a text: an int, a boolean, a String or null
 abbrev pub is_joinable : BaseType → Bool
 is_joinable NullBase = true
 is_joinable base = is_primitive base || is_string base
 
+-- whether a value of the type may be printed: an int, a boolean or a String
 abbrev pub is_printable : BaseType → Bool
 is_printable base = is_primitive base || is_string base
 
@@ -92,11 +99,13 @@ module _ (P : Program) where
   abbrev pub suits_otherwise : Want → BaseType → Bool
   suits_otherwise w t = not (suits w t) && suits w (other_nullity t)
 
+  -- the row of an operand whose type is not what is wanted: J10 where only element nullity differs, else J7
   abbrev pub operand_rows : ℕ → Want → Operand → List Row
   operand_rows b w a =
       cond (suits w (reg_base P b a.reg.0)) []
       (record { span = a.span; code = cond (suits_otherwise w (reg_base P b a.reg.0)) J10 J7 } ∷ [])
 
+  -- the rows of operands that are all wanted to be the same
   abbrev pub all_rows : ℕ → Want → List Operand → List Row
   all_rows b w [] = []
   all_rows b w (a ∷ as') = operand_rows b w a ++ all_rows b w as'
@@ -107,6 +116,7 @@ module _ (P : Program) where
   argument_rows b [] (a ∷ as') = []
   argument_rows b (t ∷ ts) (a ∷ as') = operand_rows b (Within t) a ++ argument_rows b ts as'
 
+  -- the row of an operand that may be missing; none where it is
   abbrev pub optional_rows : ℕ → Want → Option Operand → List Row
   optional_rows b w None = []
   optional_rows b w (Some a) = operand_rows b w a
@@ -148,10 +158,12 @@ module _ (P : Program) where
   type_rows b (Return value) = optional_rows b (returned b) value
   type_rows b kind = []
 
+  -- the place of a method's name, none where there is no method
   abbrev pub name_of : Option Method → List Span
   name_of None = []
   name_of (Some m) = m.span ∷ []
 
+  -- a row of the code at each place
   abbrev pub rows_with : Code → List Span → List Row
   rows_with code [] = []
   rows_with code (span ∷ spans) = record { span = span; code = code } ∷ rows_with code spans
@@ -172,6 +184,7 @@ module _ (P : Program) where
     pub local : given b ≤ a.reg.0
     pub lacks : Lacks P b a.reg.0 p
 
+  -- a J7 or J10 row: an operand of some point, reached or not, has a wrong type
   pub record TypeRow (row : Row) : Type 0 where
     pub b : ℕ
     pub p : ℕ
@@ -179,6 +192,7 @@ module _ (P : Program) where
     pub there : point_at P b p ≡ Some pt
     pub broken : Contains (type_rows b pt.kind) row
 
+  -- a J8 row: some point reads a register that isn't written on some path that comes to it (JLS 8, 16)
   pub record UnassignedRow (row : Row) : Type 0 where
     pub b : ℕ
     pub p : ℕ
@@ -189,6 +203,7 @@ module _ (P : Program) where
     pub unassigned : IsUnassigned b p operand
     pub is : row ≡ record { span = operand.span; code = J8 }
 
+  -- a J9 row: a reached return has a value in a void method, or none in a method with result (JLS 8, 8.4.7 and 14.17)
   pub record ResultRow (row : Row) : Type 0 where
     pub b : ℕ
     pub p : ℕ

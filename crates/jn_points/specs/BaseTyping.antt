@@ -25,23 +25,28 @@ pub record Ordered (P : Program) : Type 0 where
   pub string : (c : ℕ) → sub P c 1 ≡ true → c ≡ 1
 
 module _ (P : Program) where
+  -- each argument is of its parameter's type or one within it, and there are no more arguments than parameters
   abbrev pub ArgsTyped : ℕ → List BaseType → List Operand → Type 0
   ArgsTyped b ts [] = Unit {0}
   ArgsTyped b [] (a ∷ args) = ⊥
   ArgsTyped b (t ∷ ts) (a ∷ args) = (fits P (reg_base P b a.reg.0) t ≡ true) × ArgsTyped b ts args
 
+  -- each operand is of the type or of one within it, as the elements of an array are
   abbrev pub AllTyped : ℕ → BaseType → List Operand → Type 0
   AllTyped b t [] = Unit {0}
   AllTyped b t (a ∷ args) = (fits P (reg_base P b a.reg.0) t ≡ true) × AllTyped b t args
 
+  -- the register has no reference type
   abbrev pub PlainReg : ℕ → ℕ → Type 0
   PlainReg b r = is_ref_base (reg_base P b r) ≡ false
 
+  -- a literal's register can hold it: null where it is of reference type, a text where String is within it, others where it is plain
   abbrev pub ConstTyped : ℕ → ℕ → Literal → Type 0
   ConstTyped b r Null = is_ref_base (reg_base P b r) ≡ true
   ConstTyped b r (Str n) = fits P (Ref (record { 0 = 1 })) (reg_base P b r) ≡ true
   ConstTyped b r l = PlainReg b r
 
+  -- a receiver is of the class that declares the method or of one within it; where there is none, nothing is asked
   abbrev pub ThisTyped : ℕ → ℕ → Option Operand → Type 0
   ThisTyped b m None = Unit {0}
   ThisTyped b m (Some r) = fits P (reg_base P b r.reg.0) (Ref (record { 0 = class_of (method_at P m) })) ≡ true

@@ -25,6 +25,7 @@ abbrev pub first_at : {A : Type 0} → (A → Bool) → ℕ → List A → Optio
 first_at test i [] = None
 first_at test i (x ∷ xs) = cond (test x) (Some i) (first_at test (i + 1) xs)
 
+-- the first number, or the second where the first is missing
 abbrev pub first_or : Option ℕ → Option ℕ → Option ℕ
 first_or None rest = rest
 first_or (Some n) rest = Some n
@@ -34,14 +35,17 @@ abbrev pub first_some : (ℕ → Option ℕ) → List ℕ → Option ℕ
 first_some found [] = None
 first_some found (c ∷ cs) = first_or (found c) (first_some found cs)
 
+-- the number k where something is there, else None
 abbrev pub where_some : Option ℕ → ℕ → Option ℕ
 where_some None k = None
 where_some (Some b) k = Some k
 
+-- whether a number is there and is n
 abbrev pub is_number : Option ℕ → ℕ → Bool
 is_number None n = false
 is_number (Some k) n = eqb k n
 
+-- whether a class is there and is c
 abbrev pub is_class : Option ClassNo → ClassNo → Bool
 is_class None c = false
 is_class (Some d) c = eqb d.0 c.0
@@ -57,6 +61,7 @@ elem_within sub BoolElem BoolElem = true
 elem_within sub (RefElem c) (RefElem d) = sub c.0 d.0
 elem_within sub a b = false
 
+-- whether two flags are equal
 abbrev pub same_flag : Bool → Bool → Bool
 same_flag true b = b
 same_flag false b = not b
@@ -92,10 +97,12 @@ module _ (P : Program) where
   abbrev pub interfaces : ℕ → List ClassNo
   interfaces c = filter (λ s. not (is_class (parent_of (class_info P c)) s)) (supers_of (class_info P c))
 
+  -- the walk from a parent on, empty where there is no parent
   abbrev pub walk_parent : (ℕ → List ℕ) → Option ClassNo → List ℕ
   walk_parent rest None = []
   walk_parent rest (Some c) = rest c.0
 
+  -- the walk from class c up, through at most so many levels
   abbrev pub walk_by : ℕ → ℕ → List ℕ
   walk_by zero c = []
   walk_by (suc steps) c = c ∷ walk_parent (walk_by steps) (parent_of (class_info P c)) ++ flat_map (λ s. walk_by steps s.0) (interfaces c)
@@ -112,6 +119,7 @@ module _ (P : Program) where
   abbrev pub method_of : ℕ → ℕ → ℕ → Option ℕ
   method_of c name arity = first_some (declared_method c name arity) (walk c)
 
+  -- the field that class d declares for a name, where a private one counts at class c alone
   abbrev pub declared_field : ℕ → ℕ → ℕ → Option ℕ
   declared_field c name d = first_at (λ f. eqb f.name.0 name && eqb f.owner.0 d && (not f.is_private || eqb d c)) 0 P.fields
 
@@ -123,10 +131,12 @@ module _ (P : Program) where
   abbrev pub constructor_of : ℕ → ℕ → Option ℕ
   constructor_of c arity = first_at (λ m. m.ctor && eqb m.owner.0 c && eqb (length m.params) arity) 0 P.methods
 
+  -- a method's number, but None where the method has no body
   abbrev pub with_body : Option ℕ → Option ℕ
   with_body None = None
   with_body (Some k) = where_some (body_of (method_at P k)) k
 
+  -- the method with a body that class c has for the name and arity of a given one
   abbrev pub selected_for : ℕ → Option Method → Option ℕ
   selected_for c None = None
   selected_for c (Some m) = with_body (method_of c m.name.0 (length m.params))
@@ -135,6 +145,7 @@ module _ (P : Program) where
   abbrev pub dispatch : ℕ → ℕ → Option ℕ
   dispatch c m = selected_for c (method_at P m)
 
+  -- whether objects of class c have a field: it isn't static, and class c is within the one that declares it
   abbrev pub object_has : ℕ → Option Field → Bool
   object_has c None = false
   object_has c (Some f) = not f.is_static && sub c f.owner.0
@@ -143,6 +154,7 @@ module _ (P : Program) where
   abbrev pub has_field : ℕ → ℕ → Bool
   has_field c f = object_has c (slice_get P.fields f)
 
+  -- whether a method is declared in an interface
   abbrev pub in_interface : Method → Bool
   in_interface m = interface_of (class_info P m.owner.0)
 
@@ -150,6 +162,7 @@ module _ (P : Program) where
   abbrev pub class_pair : ℕ → Method → Method → ℕ → Bool
   class_pair m over under c = not (interface_of (class_info P c)) && is_number (method_of c over.name.0 (length over.params)) m && sub c under.owner.0
 
+  -- in some class method m meets another one, k, of a supertype, which is neither private nor static
   abbrev pub class_pairs : ℕ → ℕ → Method → Method → Bool
   class_pairs m k over under = not (eqb m k) && not under.is_private && not under.is_static && some_of (class_pair m over under) (below (length P.classes))
 
@@ -157,6 +170,7 @@ module _ (P : Program) where
   abbrev pub interface_pairs : Method → Method → Bool
   interface_pairs over under = in_interface over && in_interface under && not (eqb over.owner.0 under.owner.0) && sub over.owner.0 under.owner.0
 
+  -- the methods m and k have one name and arity, and meet in a class or are of an interface and its superinterface
   abbrev pub pairs_of : ℕ → ℕ → Option Method → Option Method → Bool
   pairs_of m k None under = false
   pairs_of m k (Some over) None = false

@@ -8,6 +8,7 @@ use Rattle.jn_points.specs.declared.point.Elem.TheVariants.{Ref as RefElem}
 use Rattle.jn_points.specs.declared.point.PointKind.{PointKind}
 use Rattle.jn_points.specs.declared.point.PointKind.TheVariants.{Move, Unary, Binary, Concat, SameRef, FieldRead, FieldWrite, StaticRead, StaticWrite, ElemRead, ElemWrite, ArrayLen, NewArray, ArrayOf, New, CtorCall, Call, StrOp, Print, Cast, TestInst, TestNull, Branch, Return}
 
+-- an operand that may be missing, as a list of at most one
 abbrev pub operand_if : Option Operand → List Operand
 operand_if None = []
 operand_if (Some a) = a ∷ []
@@ -39,18 +40,22 @@ operands (Branch of at_yes at_no) = of ∷ []
 operands (Return value) = operand_if value
 operands kind = []
 
+-- the registers of operands, in their order
 abbrev pub regs_in : List Operand → List ℕ
 regs_in [] = []
 regs_in (a ∷ as') = a.reg.0 ∷ regs_in as'
 
+-- the register whose object has the field that a test's value was read from, none where there is no origin
 abbrev pub origin_reg : Option Origin → List ℕ
 origin_reg None = []
 origin_reg (Some og) = og.reg.0 ∷ []
 
+-- the field that a test's value was read from, none where there is no origin
 abbrev pub origin_field : Option Origin → List ℕ
 origin_field None = []
 origin_field (Some og) = og.field.0 ∷ []
 
+-- the field read that a test's value comes from, None where there is none or the point is no test
 abbrev pub origin_in : PointKind → Option Origin
 origin_in (TestInst of class origin at_yes at_no) = origin
 origin_in (TestNull of origin at_null at_value) = origin
@@ -71,6 +76,7 @@ methods_named (CtorCall ctor args own) = ctor.0 ∷ []
 methods_named (Call dst method receiver direct args) = method.0 ∷ []
 methods_named kind = []
 
+-- the class that a type names, perhaps as that of an array's elements; none in other types
 abbrev pub classes_of_base : BaseType → List ℕ
 classes_of_base (Ref c) = c.0 ∷ []
 classes_of_base (Array (RefElem c) nullable) = c.0 ∷ []

@@ -23,6 +23,7 @@ module _ (P : Program) (b : ℕ) where
     pub past : List ℕ
     pub path : Path past p
 
+  -- no point that stands at q writes register r
   abbrev pub NotWritten : ℕ → ℕ → Type 0
   NotWritten r q = (pt : Point) → point_at P b q ≡ Some pt → writes pt.kind ≡ Some r → ⊥
 

@@ -32,22 +32,27 @@ use Rattle.jn_points.specs.BaseRows.{is_void, is_primitive, string_base, given_c
 use Rattle.jn_points.specs.BaseTyping.{given_bases}
 use Rattle.jn_points.specs.Operands.{operands, regs_in, origin_reg, origin_in, fields_named, methods_named, classes_named, classes_of_base}
 
+-- all numbers of a list are less than n
 abbrev pub AllBelow : ℕ → List ℕ → Type 0
 AllBelow n [] = Unit {0}
 AllBelow n (x ∷ xs) = (x < n) × AllBelow n xs
 
+-- the target of an edge, if there is one, is less than n
 abbrev pub Below : ℕ → Option PointNo → Type 0
 Below n None = Unit {0}
 Below n (Some to) = to.0 < n
 
+-- the number of a slot, if there is one, is less than n
 abbrev pub SlotBelow : ℕ → Option SlotNo → Type 0
 SlotBelow n None = Unit {0}
 SlotBelow n (Some slot) = slot.0 < n
 
+-- the numbers of all slots that are there are less than n
 abbrev pub SlotsBelow : ℕ → List (Option SlotNo) → Type 0
 SlotsBelow n [] = Unit {0}
 SlotsBelow n (x ∷ xs) = SlotBelow n x × SlotsBelow n xs
 
+-- a register that may be missing, as a list of at most one
 abbrev pub register_if : Option ℕ → List ℕ
 register_if None = []
 register_if (Some r) = r ∷ []
@@ -58,12 +63,14 @@ FrontOf [] regs = Unit {0}
 FrontOf (t ∷ ts) [] = ⊥
 FrontOf (t ∷ ts) (r ∷ regs) = (r ≡ t) × FrontOf ts regs
 
+-- the type of a literal (JLS 8, 15.8.1)
 abbrev pub literal_base : Literal → BaseType
 literal_base (IntOf i) = Int
 literal_base (Truth b) = BoolBase
 literal_base (Str n) = string_base
 literal_base Null = NullBase
 
+-- whether an operator makes an int of two: `+`, `-`, `*`, `/` and `%` (JLS 8, 15.17 and 15.18.2)
 abbrev pub is_sum : Operator → Bool
 is_sum Add = true
 is_sum Sub = true
@@ -72,6 +79,7 @@ is_sum Div = true
 is_sum Rem = true
 is_sum op = false
 
+-- the type of what an operation on a String gives: an int from `length`, a boolean from `isEmpty` and `equals`
 abbrev pub operation_base : StrOperation → BaseType
 operation_base Length = Int
 operation_base op = BoolBase
@@ -85,10 +93,12 @@ HasArgument op other = Unit {0}
 abbrev pub StaticField : Field → Type 0
 StaticField f = (is_primitive f.base ≡ true) × (f.base ≡ BoolBase → (f.first ≡ pos 0) ⊎ (f.first ≡ pos 1))
 
+-- whether a method's body is there
 abbrev pub has_body : Option BodyNo → Bool
 has_body None = false
 has_body (Some b) = true
 
+-- whether a number is there
 abbrev pub has_number : Option ℕ → Bool
 has_number None = false
 has_number (Some n) = true
@@ -98,18 +108,22 @@ abbrev pub HasName : Method → Method → Type 0
 HasName x y = (x.ctor ≡ false) × (is_named y x.name.0 (length x.params) ≡ true)
 
 module _ (P : Program) where
+  -- a class, if one is named, is one of the program
   abbrev pub ClassBelow : Option ClassNo → Type 0
   ClassBelow None = Unit {0}
   ClassBelow (Some c) = c.0 < length P.classes
 
+  -- all classes of a list are among those of the program
   abbrev pub AllClasses : List ClassNo → Type 0
   AllClasses [] = Unit {0}
   AllClasses (c ∷ cs) = (c.0 < length P.classes) × AllClasses cs
 
+  -- all classes that the types name are among those of the program
   abbrev pub AllBases : List BaseType → Type 0
   AllBases [] = Unit {0}
   AllBases (t ∷ ts) = AllBelow (length P.classes) (classes_of_base t) × AllBases ts
 
+  -- a body, if there is one, is one of the program
   abbrev pub BodyBelow : Option BodyNo → Type 0
   BodyBelow None = Unit {0}
   BodyBelow (Some b) = b.0 < length P.bodies
@@ -127,6 +141,7 @@ module _ (P : Program) where
     pub no_string : (s : ClassNo) → some_of (λ t. eqb t.0 s.0) x.supers ≡ true → s.0 ≡ 1 → ⊥
     pub no_final : (p : ClassNo) (y : Class) → x.parent ≡ Some p → class_info P p.0 ≡ Some y → y.is_final ≡ false
 
+  -- the classes as a whole: supertypes run in no circle, Object and String are there, and no two declared classes have one name
   pub record RegularClasses : Type 0 where
     pub rank : ℕ → ℕ
     pub few : (c : ℕ) → rank c < length P.classes
@@ -156,6 +171,7 @@ module _ (P : Program) where
     pub there : x.slot ≡ Some slot
     pub starts : StartsNull slot
 
+  -- field f is of a declared class, has a slot exactly where its type is a reference, and hides no field of its name
   pub record RegularField (f : ℕ) (x : Field) : Type 0 where
     pub owner : x.owner.0 < length P.classes
     pub no_interface : interface_of (class_info P x.owner.0) ≡ false
@@ -170,6 +186,7 @@ module _ (P : Program) where
     -- one field of a name along the supertypes of a class (8.3)
     pub names : (g : ℕ) (y : Field) → field_info P g ≡ Some y → sub P x.owner.0 y.owner.0 ≡ true → x.name ≡ y.name → f ≡ g
 
+  -- a method or constructor has slots as its types want, modifiers that go together, and its name and arity alone in its class
   pub record RegularMethod (m : ℕ) (x : Method) : Type 0 where
     pub owner : x.owner.0 < length P.classes
     pub bases : AllBases (x.result ∷ x.params)
@@ -195,12 +212,15 @@ module _ (P : Program) where
     -- a static method may hide one of the same types only, and an instance method none (8.4.8)
     pub hides : (k : ℕ) (y : Method) → method_at P k ≡ Some y → HasName x y → y.is_static ≡ true → y.is_private ≡ false → eqb x.owner.0 y.owner.0 ≡ false → sub P x.owner.0 y.owner.0 ≡ true → (x.is_static ≡ true) × (x.params ≡ y.params) × (fits P x.result y.result ≡ true) × (y.is_final ≡ false)
 
+  -- class p is the parent of class c
   abbrev pub IsParent : ℕ → ℕ → Type 0
   IsParent c p = parent_of (class_info P c) ≡ Some (record { 0 = p })
 
+  -- class c is Object or stands right under it
   abbrev pub UnderObject : ℕ → Type 0
   UnderObject c = (c ≡ 0) ⊎ IsParent c 0
 
+  -- whether the method of a number has a body
   abbrev pub has_body_at : ℕ → Bool
   has_body_at m = has_number (body_of (method_at P m))
 
@@ -215,6 +235,7 @@ module _ (P : Program) where
   abbrev pub IsConcrete : ℕ → Type 0
   IsConcrete c = (x : Class) × (class_info P c ≡ Some x) × (x.interface ≡ false) × (x.is_abstract ≡ false)
 
+  -- each method that can be called on an object of a concrete class selects one with a body (JLS 8, 15.12.4.4)
   pub record Implements : Type 0 where
     pub bodies : (c m : ℕ) → IsConcrete c → IsVirtual P m → sub P c (class_of (method_at P m)) ≡ true → (k : ℕ) × (dispatch P c m ≡ Some k)
 
@@ -237,10 +258,12 @@ module _ (P : Program) where
   Typed b (Cast dst of class) = reg_base P b dst.0 ≡ Ref class
   Typed b kind = Unit {0}
 
+  -- whether a field is static (JLS 8, 8.3.1.1); false where there is none
   abbrev pub static_field : Option Field → Bool
   static_field None = false
   static_field (Some f) = f.is_static
 
+  -- a point that takes an object for a field names one that isn't static, and a point that takes none a static one
   abbrev pub NamesFields : PointKind → Type 0
   NamesFields (FieldRead dst object field) = static_field (field_info P field.0) ≡ false
   NamesFields (FieldWrite object field value) = static_field (field_info P field.0) ≡ false
@@ -248,6 +271,7 @@ module _ (P : Program) where
   NamesFields (StaticWrite field value) = static_field (field_info P field.0) ≡ true
   NamesFields kind = Unit {0}
 
+  -- there are as many arguments as the method has parameters
   abbrev pub ArgumentsMatch : ℕ → List Operand → Type 0
   ArgumentsMatch m args = length args ≡ length (params_of (method_at P m))
 
@@ -257,6 +281,7 @@ module _ (P : Program) where
   Selects m (Some r) true = has_body_at m ≡ true
   Selects m (Some r) false = private_of (method_at P m) ≡ false
 
+  -- a point names a constructor or a method as its kind wants, with arguments and a receiver that it can take
   abbrev pub NamesMethods : PointKind → Type 0
   NamesMethods (New dst ctor args) = (ctor_of (method_at P ctor.0) ≡ true) × IsConcrete (class_of (method_at P ctor.0)) × ArgumentsMatch ctor.0 args
   NamesMethods (CtorCall ctor args own) = (ctor_of (method_at P ctor.0) ≡ true) × ArgumentsMatch ctor.0 args
@@ -280,6 +305,7 @@ module _ (P : Program) where
     pub there : point_at P b p ≡ Some pt
     pub calls : pt.kind ≡ CtorCall (record { 0 = ctor }) args own
 
+  -- some point of body b is a constructor call, `this(..)` or `super(..)` (JLS 8, 8.8.7.1)
   abbrev pub CallsCtor : ℕ → Type 0
   CallsCtor b = (p : ℕ) × (ctor : ℕ) × (own : Bool) × CtorCallAt b p ctor own
 
@@ -294,6 +320,7 @@ module _ (P : Program) where
     pub back : (q to : ℕ) (pt : Point) → point_at P b q ≡ Some pt → p < q → LeadsTo (edges_of pt.kind q) to → p < to
     pub no_return : (q : ℕ) (pt : Point) (v : Option Operand) → point_at P b q ≡ Some pt → q ≤ p → pt.kind ≡ Return v → ⊥
 
+  -- point p of body b: what it names is there and of the right sort, its edges stay in the body, and `this` is kept
   pub record RegularPoint (b p : ℕ) (k : PointKind) : Type 0 where
     pub range : InRange b k
     pub inside : Below (length (points_of (body_at P b))) (edges_of k p).first × Below (length (points_of (body_at P b))) (edges_of k p).second
@@ -304,6 +331,7 @@ module _ (P : Program) where
     pub tests : (to : ℕ) → LeadsTo (edges_of k p) to → FromRead k (test_at P b to)
     pub this_kept : static_of (method_in P b) ≡ false → writes k ≡ Some 0 → ⊥
 
+  -- body b is that of just one method, has what the method is given in its first registers, and its points are regular
   pub record RegularBody (ctor_rank : ℕ → ℕ) (b : ℕ) (x : Body) : Type 0 where
     pub some : 0 < length x.points
     pub few : length x.points < 2 ^ 32
@@ -328,6 +356,7 @@ module _ (P : Program) where
     pub bodies : length P.bodies < 2 ^ 32
     pub slots : length P.slots < 2 ^ 32
 
+  -- a regular program: its classes, fields, methods, overriding pairs and bodies are as they should be
   pub record Regular : Type 0 where
     pub few : FewItems
     pub classes : RegularClasses

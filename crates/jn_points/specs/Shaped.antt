@@ -25,15 +25,18 @@ pub record Test : Type 0 where
   pub field : ℕ
   pub tested : ℕ
 
+-- the test of register t, where it has an origin
 abbrev pub test_by : Option Origin → ℕ → Option Test
 test_by None t = None
 test_by (Some og) t = Some (record { reg = og.reg.0; field = og.field.0; tested = t })
 
+-- the test that a point makes, None where it makes none or has no origin
 abbrev pub test_of : PointKind → Option Test
 test_of (TestInst of c og at_yes at_no) = test_by og of.reg.0
 test_of (TestNull of og at_null at_value) = test_by og of.reg.0
 test_of k = None
 
+-- the same of a point that may be missing
 abbrev pub test_in : Option Point → Option Test
 test_in None = None
 test_in (Some pt) = test_of pt.kind
@@ -44,10 +47,12 @@ FromRead k None = Unit {0}
 FromRead (FieldRead dst r f) (Some t) = (dst.0 ≡ t.tested) × (r.reg.0 ≡ t.reg) × (f.0 ≡ t.field) × (t.reg ≡ t.tested → ⊥)
 FromRead k (Some t) = ⊥
 
+-- the point is no constructor call, that is no `this(..)` or `super(..)` (JLS 8, 8.8.7.1)
 abbrev pub NotCtorCall : PointKind → Type 0
 NotCtorCall (CtorCall m args own) = ⊥
 NotCtorCall k = Unit {0}
 
+-- the register that a point writes, None where it writes none
 abbrev pub writes : PointKind → Option ℕ
 writes (Const dst value) = Some dst.0
 writes (Move dst from bound) = Some dst.0
@@ -67,6 +72,7 @@ writes (StrOp dst op of other) = Some dst.0
 writes (Cast dst of c) = Some dst.0
 writes k = None
 
+-- a point is there, and it is that of the number
 abbrev pub IsAt : Option PointNo → ℕ → Type 0
 IsAt None to = ⊥
 IsAt (Some n) to = n.0 ≡ to
@@ -120,6 +126,7 @@ module _ (P : Program) where
     pub instance : info.is_static ≡ false
     pub open_to_all : info.is_private ≡ false
 
+  -- a `new` names a constructor of a class with objects, a constructor call one of its class or the parent, a call a method
   abbrev pub Names : ℕ → PointKind → Type 0
   Names b (New dst m args) = (ctor_of (method_at P m.0) ≡ true) × IsObjectClass (class_of (method_at P m.0))
   Names b (CtorCall m args own) = Chains b m.0 own
@@ -127,6 +134,7 @@ module _ (P : Program) where
   Names b (Call dst m r direct args) = (ctor_of (method_at P m.0) ≡ false) × Unit {0}
   Names b k = Unit {0}
 
+  -- where the point is a return, no constructor call of its body stands at it or at a later number
   abbrev pub NotEarlyReturn : ℕ → ℕ → PointKind → Type 0
   NotEarlyReturn b p (Return v) = Early b p → ⊥
   NotEarlyReturn b p k = Unit {0}
@@ -135,10 +143,12 @@ module _ (P : Program) where
   abbrev pub ArgsMatch : ℕ → List Operand → Type 0
   ArgsMatch m args = length args ≡ length (slots_of (method_at P m))
 
+  -- a receiver is there exactly where the method isn't static
   abbrev pub ReceiverMatches : ℕ → Option Operand → Type 0
   ReceiverMatches m None = static_of (method_at P m) ≡ true
   ReceiverMatches m (Some r) = static_of (method_at P m) ≡ false
 
+  -- what a point passes to a method or constructor is as many arguments as that takes, and a receiver where it has one
   abbrev pub Passes : PointKind → Type 0
   Passes (New dst m args) = ArgsMatch m.0 args
   Passes (CtorCall m args own) = ArgsMatch m.0 args
@@ -150,6 +160,7 @@ module _ (P : Program) where
     pub test : FromRead k (test_at b to)
     pub early : NotCtorCall k → Early b p → Early b to
 
+  -- the edges of point p, what it names and what it passes are as they should be, and a constructor keeps its `this`
   pub record RegularPoint (b p : ℕ) (k : PointKind) : Type 0 where
     pub edges : (to : ℕ) → LeadsTo (edges_of k p) to → RegularEdge b p k to
     pub this_kept : ctor_of (method_in P b) ≡ true → writes k ≡ Some 0 → ⊥
@@ -161,6 +172,7 @@ module _ (P : Program) where
   abbrev pub StartsRegular : ℕ → Type 0
   StartsRegular b = ctor_of (method_in P b) ≡ true → Early b 0 ⊎ ((f : ℕ) → has_field P (class_of (method_in P b)) f ≡ true → owner P f ≡ class_of (method_in P b))
 
+  -- a program of such shape: bodies are those of their methods, points are regular, and exactly reference types have slots
   pub record Shaped : Type 0 where
     pub bodies : (m b : ℕ) → body_of (method_at P m) ≡ Some b → (x : Body) × (body_at P b ≡ Some x) × (x.method.0 ≡ m)
     pub entered : (b : ℕ) (x : Body) → body_at P b ≡ Some x → 0 < length x.points

@@ -7,11 +7,14 @@ pub record Qualifier : Type 0 where
   pub committed : Bool
   pub free : Bool
 
+-- whether a number has the bit that counts the given value, a power of two
 abbrev pub has_bit : ℕ → ℕ → Bool
 has_bit value bits = nat_eq (bits / value % 2) 1
 
+-- the qualifier that the three lowest bits of a number say: 1 for null, 2 for committed, 4 for free
 abbrev pub of_bits : ℕ → Qualifier
 of_bits bits = record { null = has_bit 1 bits; committed = has_bit 2 bits; free = has_bit 4 bits }
 
+-- a qualifier as a number less than 8: 1 for null, 2 for committed, 4 for free
 abbrev pub to_bits : Qualifier → ℕ
 to_bits q = cond q.null 1 0 + cond q.committed 2 0 + cond q.free 4 0

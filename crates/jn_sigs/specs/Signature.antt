@@ -21,10 +21,12 @@ calls_method m (CtorCall ctor args own) = eqb ctor.0 m
 calls_method m (Call dst method receiver direct args) = eqb method.0 m
 calls_method m kind = false
 
+-- whether a method is there and is m
 abbrev pub is_method : ℕ → Option MethodNo → Bool
 is_method m None = false
 is_method m (Some n) = eqb n.0 m
 
+-- whether a slot is there and is i
 abbrev pub is_slot : ℕ → Option SlotNo → Bool
 is_slot i None = false
 is_slot i (Some s) = eqb s.0 i
@@ -42,6 +44,7 @@ module _ (P : Program) where
   abbrev pub calls_from : ℕ → Bool → ℕ → Body → Bool
   calls_from m is_private c body = counts_for is_private c body && some_of (λ pt. calls_method m pt.kind) body.points
 
+  -- whether some body has a call site of the method that counts
   abbrev pub has_call_site : ℕ → Method → Bool
   has_call_site m info = some_of (calls_from m info.is_private info.owner.0) P.bodies
 
@@ -54,9 +57,11 @@ module _ (P : Program) where
   uncalled_from i m [] = false
   uncalled_from i m (x ∷ xs) = (method_has_slot i x && not (has_call_site m x)) || uncalled_from i (m + 1) xs
 
+  -- where slot i starts: as written or by default; an inferred one at {C} if its method has no call site that counts, else empty
   abbrev pub start_of : ℕ → SlotInfo → Qualifier
   start_of i info = cond info.inferred (cond (uncalled_from i 0 P.methods) committed_only no_qual) info.start
 
+  -- where slots start, in their order, the first of them with number i
   abbrev pub starts_from : ℕ → List SlotInfo → List Qualifier
   starts_from i [] = []
   starts_from i (x ∷ xs) = start_of i x ∷ starts_from (i + 1) xs
@@ -71,26 +76,32 @@ module _ (P : Program) where
   OnlyPrivateInferred = (m i : ℕ) (x : Method) (info : SlotInfo) → method_at P m ≡ Some x → method_has_slot i x ≡ true → slice_get P.slots i ≡ Some info → info.inferred ≡ true → x.is_private ≡ true
 
 module _ (s : List Qualifier) where
+  -- what the signature says of a slot, the empty qualifier where there is none
   abbrev pub slot_qual : Option SlotNo → Qualifier
   slot_qual None = no_qual
   slot_qual (Some n) = slice_index_or s n.0 no_qual
 
+  -- what the signature says of each slot in turn
   abbrev pub slot_quals : List (Option SlotNo) → List Qualifier
   slot_quals [] = []
   slot_quals (x ∷ xs) = slot_qual x ∷ slot_quals xs
 
+  -- what the signature says of the values that a field holds
   abbrev pub field_qual_of : Option Field → Qualifier
   field_qual_of None = no_qual
   field_qual_of (Some f) = slot_qual f.slot
 
+  -- what the signature says of what a method gives
   abbrev pub result_of : Option Method → Qualifier
   result_of None = no_qual
   result_of (Some m) = slot_qual m.result_slot
 
+  -- what the signature says of the object on which a method is called
   abbrev pub receiver_of : Option Method → Qualifier
   receiver_of None = no_qual
   receiver_of (Some m) = slot_qual m.receiver
 
 module _ (P : Program) (s : List Qualifier) where
+  -- what the signature says of the values that the field of a number holds
   abbrev pub field_qual : ℕ → Qualifier
   field_qual f = field_qual_of s (slice_get P.fields f)

@@ -16,22 +16,27 @@ use Rattle.jn_env.specs.Environment.{Env}
 use Rattle.jn_env.specs.Order.{env_in, qual_at}
 use Rattle.jn_env.specs.Keys.{is_on, own_keys}
 
+-- whether a slot is there and inferred, that is neither written nor given by default
 abbrev pub is_inferred : Option SlotInfo → Bool
 is_inferred None = false
 is_inferred (Some info) = info.inferred
 
+-- the slot of what a method gives, None where that is no reference
 abbrev pub result_slot_of : Option Method → Option SlotNo
 result_slot_of None = None
 result_slot_of (Some m) = m.result_slot
 
+-- the slot of the object on which a method is called, None where it is static or a constructor
 abbrev pub receiver_slot_of : Option Method → Option SlotNo
 receiver_slot_of None = None
 receiver_slot_of (Some m) = m.receiver
 
+-- the slot of a field, None where its type is no reference
 abbrev pub field_slot_of : Option Field → Option SlotNo
 field_slot_of None = None
 field_slot_of (Some f) = f.slot
 
+-- what is sent has this pair of a slot's number and a qualifier
 abbrev pub IsSent : ℕ × Qualifier → List (ℕ × Qualifier) → Type 0
 IsSent x [] = ⊥
 IsSent x (y ∷ ys) = (x ≡ y) ⊎ IsSent x ys
@@ -53,6 +58,7 @@ module _ (P : Program) where
   receiver_sends e slot None = []
   receiver_sends e slot (Some r) = sends slot (without_null (qual_at e r.reg.0))
 
+  -- the qualifier of the value that a return gives, to the result's slot; nothing where it gives none
   abbrev pub return_sends : Env → Option SlotNo → Option Operand → List (ℕ × Qualifier)
   return_sends e slot None = []
   return_sends e slot (Some v) = sends slot (qual_at e v.reg.0)

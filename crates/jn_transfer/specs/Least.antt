@@ -8,14 +8,17 @@ use Rattle.jn_env.specs.Environment.{Env}
 use Rattle.jn_env.specs.Order.{Table, env_in, SlotWithin, join_slot}
 use Rattle.jn_transfer.specs.Transfer.{transfer, entry_env, IsAmong}
 
+-- the table after one edge: what it carries is joined to what stands at its target
 abbrev pub flow_in : ℕ × Env → Table → Table
 flow_in x t = slice_set t x.0 (join_slot (env_in t x.0) x.1)
 
+-- the table after all these edges, one by one
 abbrev pub flow_all : List (ℕ × Env) → Table → Table
 flow_all [] t = t
 flow_all (x ∷ xs) t = flow_all xs (flow_in x t)
 
 module _ (P : Program) (s : List Qualifier) (b : ℕ) where
+  -- the edges of a point with what each carries, none where the point is unreached
   abbrev pub edges_from : Point → ℕ → Option Env → List (ℕ × Env)
   edges_from pt p None = []
   edges_from pt p (Some e) = transfer P s b pt.kind p e
@@ -29,6 +32,7 @@ module _ (P : Program) (s : List Qualifier) (b : ℕ) where
   abbrev pub round : Table → Table
   round t = flow_all (all_edges (points_of (body_at P b)) 0 t) t
 
+  -- the table after so many whole rounds
   abbrev pub rounds : ℕ → Table → Table
   rounds zero t = t
   rounds (suc n) t = round (rounds n t)

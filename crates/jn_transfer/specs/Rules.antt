@@ -26,13 +26,16 @@ use Rattle.jn_env.specs.Keys.{is_on, own_keys}
 use Rattle.jn_transfer.specs.Transfer.{elem_qual}
 use Rattle.jn_transfer.specs.Least.{IsLeastTable}
 
+-- a row of the code at the place where the rule is broken, else none
 abbrev pub row_if : Bool → Span → Code → List Row
 row_if false span code = []
 row_if true span code = record { span = span; code = code } ∷ []
 
+-- the value may be null, and the slot takes no null
 abbrev pub lacks_null : Qualifier → Qualifier → Bool
 lacks_null q slot = q.null && not slot.null
 
+-- the value may be committed or free, and the slot doesn't take that
 abbrev pub lacks_init : Qualifier → Qualifier → Bool
 lacks_init q slot = (q.committed && not slot.committed) || (q.free && not slot.free)
 
@@ -40,23 +43,28 @@ lacks_init q slot = (q.committed && not slot.committed) || (q.free && not slot.f
 abbrev pub pass_rows : Code → Code → Env → Operand → Qualifier → List Row
 pass_rows code init e a slot = row_if (lacks_null (qual_at e a.reg.0) slot) a.span code ++ row_if (lacks_init (qual_at e a.reg.0) slot) a.span init
 
+-- the rows of the arguments of a call, each passed to its parameter's slot
 abbrev pub arg_rows : Env → List Qualifier → List Operand → List Row
 arg_rows e [] args = []
 arg_rows e (q ∷ qs) [] = []
 arg_rows e (q ∷ qs) (a ∷ args) = pass_rows Arg ArgInit e a q ++ arg_rows e qs args
 
+-- the rows of a value that goes to a local with annotations, which are its bound; none where a move has no bound
 abbrev pub bound_rows : Env → Operand → Option Qualifier → List Row
 bound_rows e a None = []
 bound_rows e a (Some q) = pass_rows Local LocalInit e a q
 
+-- the rows of the value that a return passes to the result's slot; none where it has no value
 abbrev pub return_rows : Env → Option Operand → Qualifier → List Row
 return_rows e None q = []
 return_rows e (Some a) q = pass_rows ReturnCode ReturnInit e a q
 
+-- the row of a receiver that is committed or free where its slot takes no such object; that of null is the dereference's
 abbrev pub receiver_rows : Env → Option Operand → Qualifier → List Row
 receiver_rows e None q = []
 receiver_rows e (Some a) q = row_if (lacks_init (qual_at e a.reg.0) q) a.span RecvInit
 
+-- the row of an argument of a String's `equals` that may be under construction
 abbrev pub equals_rows : Env → StrOperation → Option Operand → List Row
 equals_rows e Equals (Some a) = row_if (qual_at e a.reg.0).free a.span ArgInit
 equals_rows e op other = []
@@ -65,14 +73,17 @@ equals_rows e op other = []
 abbrev pub elem_rows : Env → BaseType → Operand → List Row
 elem_rows e base a = row_if (lacks_null (qual_at e a.reg.0) (elem_qual base)) a.span Elem ++ row_if (qual_at e a.reg.0).free a.span ElemInit
 
+-- the rows of the elements that an array is made of, each stored in it
 abbrev pub elems_rows : Env → BaseType → List Operand → List Row
 elems_rows e base [] = []
 elems_rows e base (a ∷ xs) = elem_rows e base a ++ elems_rows e base xs
 
+-- the row of a new array by its length whose elements are references that take no null, though all of them are null at first
 abbrev pub new_array_rows : Span → BaseType → List Row
 new_array_rows span (Array (RefElem c) false) = row_if true span NewArrayCode
 new_array_rows span base = []
 
+-- the row of a dereference of a register that may be null; none where nothing is dereferenced
 abbrev pub deref_rows : Env → Option Operand → List Row
 deref_rows e None = []
 deref_rows e (Some a) = row_if (qual_at e a.reg.0).null a.span Deref
@@ -120,6 +131,7 @@ module _ (P : Program) (s : List Qualifier) where
   rows_at b pt None = []
   rows_at b pt (Some e) = deref_rows e (dereferences pt.kind) ++ kind_rows b e pt.span pt.kind
 
+  -- the broken rules at points that stand from number p on
   abbrev pub rows_from : ℕ → List Point → ℕ → Table → List Row
   rows_from b [] p t = []
   rows_from b (pt ∷ pts) p t = rows_at b pt (env_in t p) ++ rows_from b pts (p + 1) t
@@ -128,6 +140,7 @@ module _ (P : Program) (s : List Qualifier) where
   abbrev pub is_unset : ℕ → Env → Bool
   is_unset b e = some_of (λ f. not (field_qual P s f).null && not (is_on (λ k. eqb k f) (own_keys P b) e.assigned)) (own_keys P b)
 
+  -- whether the point is a reached Return at which some such field isn't assigned
   abbrev pub unset_at : ℕ → PointKind → Option Env → Bool
   unset_at b (Return v) (Some e) = is_unset b e
   unset_at b kind e = false
@@ -137,6 +150,7 @@ module _ (P : Program) (s : List Qualifier) where
   unset_from b [] p t = false
   unset_from b (pt ∷ pts) p t = unset_at b pt.kind (env_in t p) || unset_from b pts (p + 1) t
 
+  -- the row, at a constructor's place, of fields that take no null and aren't assigned at some Return; none for a method
   abbrev pub ctor_rows : ℕ → Option Method → Table → List Row
   ctor_rows b None t = []
   ctor_rows b (Some m) t = row_if (m.ctor && unset_from b (points_of (body_at P b)) 0 t) m.span CtorFields
@@ -145,6 +159,7 @@ module _ (P : Program) (s : List Qualifier) where
   abbrev pub body_rows : ℕ → Table → List Row
   body_rows b t = rows_from b (points_of (body_at P b)) 0 t ++ ctor_rows b (method_in P b) t
 
+  -- the broken rules of these bodies, each under its own table
   abbrev pub bodies_rows : List ℕ → List (List (Option Env)) → List Row
   bodies_rows [] tables = []
   bodies_rows (b ∷ bs) tables = body_rows b (slice_index_or tables b []) ++ bodies_rows bs tables
@@ -153,6 +168,7 @@ module _ (P : Program) (s : List Qualifier) where
   abbrev pub pair_rows : ℕ → ℕ → List Row
   pair_rows m k = cond (is_pair P m k) (override_rows s (method_at P m) (method_at P k)) []
 
+  -- the broken rules of all overriding pairs of the program
   abbrev pub pairs_rows : List Row
   pairs_rows = flat_map (λ m. flat_map (pair_rows m) (below (length P.methods))) (below (length P.methods))
 

@@ -21,6 +21,7 @@ use Rattle.jn_env.specs.Environment.{Env}
 use Rattle.jn_env.specs.Order.{qual_at}
 use Rattle.jn_env.specs.Keys.{has_reg, has_key_field, is_key, is_kept, mask, also, is_on, no_bits, fact_keys, own_keys}
 
+-- of a literal: {N} for `null`, {C} for a text, nothing for an int or a boolean
 abbrev pub literal_qual : Literal → Qualifier
 literal_qual (Int i) = no_qual
 literal_qual (Truth b) = no_qual
@@ -32,6 +33,7 @@ abbrev pub elem_qual : BaseType → Qualifier
 elem_qual (Array (RefElem c) nullable) = record { null = nullable; committed = true; free = false }
 elem_qual b = no_qual
 
+-- more is known of the value in a register; it is the same value, so facts stay
 abbrev pub refine : Env → ℕ → Qualifier → Env
 refine e r q = record { quals = slice_set e.quals r q; facts = e.facts; assigned = e.assigned }
 
@@ -40,14 +42,17 @@ abbrev pub side : Bool → ℕ → Env → List (ℕ × Env)
 side true to e = []
 side false to e = (to, e) ∷ []
 
+-- some of them has no bit, so that no value comes there
 abbrev pub any_empty : List Qualifier → Bool
 any_empty [] = false
 any_empty (q ∷ qs) = is_none q || any_empty qs
 
+-- some of the values may be under construction
 abbrev pub any_free : List Qualifier → Bool
 any_free [] = false
 any_free (q ∷ qs) = q.free || any_free qs
 
+-- each of the values may be something other than an object under construction
 abbrev pub all_settled : List Qualifier → Bool
 all_settled [] = true
 all_settled (q ∷ qs) = (q.committed || q.null) && all_settled qs
@@ -63,16 +68,19 @@ ref_quals e (Some s ∷ xs) (a ∷ args) = qual_at e a.reg.0 ∷ ref_quals e xs 
 abbrev pub new_qual : List Qualifier → Qualifier
 new_qual qs = cond (any_empty qs) no_qual (record { null = false; committed = all_settled qs; free = any_free qs })
 
+-- without N where the flag is set
 abbrev pub less_null : Bool → Qualifier → Qualifier
 less_null true q = without_null q
 less_null false q = q
 
+-- the list at the given length: cut there, or filled up with empty qualifiers
 abbrev pub pad_quals : List Qualifier → ℕ → List Qualifier
 pad_quals qs zero = []
 pad_quals [] (suc n) = no_qual ∷ pad_quals [] n
 pad_quals (q ∷ qs) (suc n) = q ∷ pad_quals qs n
 
 module _ (s : List Qualifier) where
+  -- of `this` where a body starts: free in a constructor, in a method as the receiver's slot has it
   abbrev pub this_qual : Option Method → Qualifier
   this_qual m = cond (ctor_of m) free_only (receiver_of s m)
 
@@ -89,6 +97,7 @@ module _ (P : Program) where
   abbrev pub drop_facts : ℕ → Env → Env
   drop_facts b e = record { quals = e.quals; facts = mask (is_kept P) (fact_keys P b) e.facts; assigned = e.assigned }
 
+  -- a register, if there is one, is written
   abbrev pub put_to : ℕ → Env → Option RegNo → Qualifier → Env
   put_to b e None q = e
   put_to b e (Some dst) q = put b e dst.0 q
@@ -102,22 +111,27 @@ module _ (P : Program) where
   abbrev pub facts_but : ℕ → Env → ℕ → List Bool
   facts_but b e f = cond (monotonic P f) e.facts (mask (λ k. not (has_key_field f k)) (fact_keys P b) e.facts)
 
+  -- facts after register s is written to field f of register r: a new one where s has no N and r is a parameter or local
   abbrev pub write_facts : ℕ → Env → ℕ → ℕ → ℕ → List Bool
   write_facts b e r f s =
       let dropped = facts_but b e f in
       cond (ltb r (locals P b) && not (qual_at e s).null) (also (is_key r f) (fact_keys P b) dropped) dropped
 
+  -- the assigned fields after a write of field f: it is one of them where a constructor writes a field of its class through `this`
   abbrev pub write_assigned : ℕ → Env → ℕ → ℕ → List Bool
   write_assigned b e r f = cond (ctor_of (method_in P b) && eqb r 0 && eqb (owner P f) (class_of (method_in P b))) (also (λ k. eqb k f) (own_keys P b) e.assigned) e.assigned
 
+  -- after a write of field f of the object in register r; nothing changes where the field is of no reference type
   abbrev pub written : ℕ → Env → ℕ → ℕ → ℕ → Bool → Env
   written b e r f s false = e
   written b e r f s true = record { quals = e.quals; facts = write_facts b e r f s; assigned = write_assigned b e r f }
 
+  -- after a constructor call: facts go as at a call, and after `this(..)` all of the class's own fields are assigned
   abbrev pub ctor_called : ℕ → Env → Bool → Env
   ctor_called b e false = drop_facts b e
   ctor_called b e true = record { quals = e.quals; facts = mask (is_kept P) (fact_keys P b) e.facts; assigned = also (λ k. true) (own_keys P b) e.assigned }
 
+  -- of an element of the array in register r, which is empty where that register can be nothing but null
   abbrev pub elem_read : ℕ → Env → ℕ → Qualifier
   elem_read b e r = cond (is_none (without_null (qual_at e r))) no_qual (elem_qual (reg_base P b r))
 
@@ -126,6 +140,7 @@ module _ (P : Program) (s : List Qualifier) where
   abbrev pub read_part : ℕ → Qualifier → Qualifier
   read_part f k = cond (is_none k) no_qual (cond k.free (cond (flat_field P f) null_or_committed all_quals) (without_free (field_qual P s f)))
 
+  -- of field f of the object in register r: without N where a fact says so, and empty where the field is no reference
   abbrev pub read_qual : ℕ → Env → ℕ → ℕ → Qualifier
   read_qual b e r f = less_null (is_on (is_key r f) (fact_keys P b) e.facts) (cond (ref_field P f) (read_part f (without_null (qual_at e r))) no_qual)
 
@@ -167,6 +182,7 @@ module _ (P : Program) (s : List Qualifier) where
   abbrev pub entry_env : ℕ → Env
   entry_env b = record { quals = pad_quals (given_quals s (method_in P b)) (regs_of (body_at P b)); facts = no_bits (fact_keys P b); assigned = no_bits (own_keys P b) }
 
+-- an edge, as its target and what it carries, is one of the list
 abbrev pub IsAmong : ℕ × Env → List (ℕ × Env) → Type 0
 IsAmong x [] = ⊥
 IsAmong x (y ∷ ys) = (x ≡ y) ⊎ IsAmong x ys
