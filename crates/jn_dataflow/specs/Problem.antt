@@ -5,10 +5,12 @@ use Rattle.std.specs.Prelude.{ℕ, ◌≡◌, ◌≤◌, ◌<◌, ◌⊎◌, Boo
 abbrev pub slot_at : {E : Type 0} → List (Option E) → ℕ → Option E
 slot_at t p = slice_index_or t p None
 
+-- an item of the list: the proof says which position it has there
 abbrev pub IsAmong : {A : Type 0} → A → List A → Type 0
 IsAmong x [] = ⊥
 IsAmong x (y ∷ ys) = (x ≡ y) ⊎ IsAmong x ys
 
+-- a dataflow problem: its points and their edges, what is known at the entry, and how what is known along two ways is joined
 pub record Problem (E : Type 0) : Type 0 where
   -- how many points there are; point 0 is the entry
   pub count : ℕ

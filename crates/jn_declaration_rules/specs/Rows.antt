@@ -30,12 +30,14 @@ some_at test i (x ∷ xs) = test i x || some_at test (suc i) xs
 abbrev pub earlier : {A : Type 0} → (A → A → Bool) → List A → ℕ → A → Bool
 earlier like xs i x = some_of (like x) (take i xs)
 
+-- two element types of arrays that are the same: int, boolean or one class
 abbrev pub same_elem : Elem → Elem → Bool
 same_elem IntElem IntElem = true
 same_elem BoolElem BoolElem = true
 same_elem (RefElem c) (RefElem d) = eqb c.0 d.0
 same_elem a b = false
 
+-- two types that are the same, for arrays with the nullity of their elements
 abbrev pub same_base : BaseType → BaseType → Bool
 same_base Int Int = true
 same_base BoolBase BoolBase = true
@@ -45,16 +47,19 @@ same_base (Ref c) (Ref d) = eqb c.0 d.0
 same_base (Array e m) (Array f n) = same_elem e f && same_flag m n
 same_base a b = false
 
+-- two lists of types that are the same, type by type and in their length
 abbrev pub same_bases : List BaseType → List BaseType → Bool
 same_bases [] [] = true
 same_bases [] (t ∷ ts) = false
 same_bases (s ∷ ss) [] = false
 same_bases (s ∷ ss) (t ∷ ts) = same_base s t && same_bases ss ts
 
+-- whether a list of rows is empty
 abbrev pub no_rows : List Row → Bool
 no_rows [] = true
 no_rows (r ∷ rs) = false
 
+-- these rows, or none where the condition holds
 abbrev pub unless : Bool → List Row → List Row
 unless true rows = []
 unless false rows = rows
@@ -73,6 +78,7 @@ same_method x y = eqb x.owner.0 y.owner.0 && eqb x.name.0 y.name.0 && eqb (lengt
 abbrev pub is_bad_abstract : Method → Bool
 is_bad_abstract x = cond x.is_abstract (has_body x.body || x.is_private || x.is_static || x.is_final) (not (has_body x.body))
 
+-- whether a class is final; not so where there is none
 abbrev pub final_of : Option Class → Bool
 final_of None = false
 final_of (Some y) = y.is_final
@@ -86,6 +92,7 @@ module _ (P : Program) where
   abbrev pub agrees : Method → Method → Bool
   agrees x y = same_bases x.params y.params && fits P x.result y.result && not y.is_final && not (x.is_static || y.is_static)
 
+  -- whether method m, which is x, doesn't agree with a method that it overrides or must agree with (JLS 8, 8.4.8 and 9.4.1)
   abbrev pub overrides_badly : ℕ → Method → Bool
   overrides_badly m x = some_at (λ k y. is_pair P m k && not (agrees x y)) 0 P.methods
 
@@ -97,9 +104,11 @@ module _ (P : Program) where
   abbrev pub hides_well : Method → Method → Bool
   hides_well x y = x.is_static && same_bases x.params y.params && fits P x.result y.result && not y.is_final
 
+  -- whether a method has the name and arity of a supertype's static method that it may not hide (JLS 8, 8.4.8)
   abbrev pub hides_badly : Method → Bool
   hides_badly x = some_of (λ y. over_static x y && not (hides_well x y)) P.methods
 
+  -- whether method m, which is x, overrides or hides a method that it may not
   abbrev pub is_bad_override : ℕ → Method → Bool
   is_bad_override m x = overrides_badly m x || hides_badly x
 
@@ -111,6 +120,7 @@ module _ (P : Program) where
   abbrev pub is_hiding : Field → Bool
   is_hiding x = some_of (λ y. eqb x.name.0 y.name.0 && not (eqb x.owner.0 y.owner.0) && sub P x.owner.0 y.owner.0) P.fields
 
+  -- whether a class's parent is a final class (JLS 8, 8.1.1.2)
   abbrev pub final_parent : Option ClassNo → Bool
   final_parent None = false
   final_parent (Some p) = final_of (class_info P p.0)

@@ -17,6 +17,7 @@ file_limit = 1048576
 abbrev pub most_files : ℕ
 most_files = 64
 
+-- the names of files, in order, each as the codes of its characters
 abbrev pub names_of : List SourceFile → List (List ℕ)
 names_of files = map (λ (file : SourceFile). file.name) files
 
@@ -45,6 +46,7 @@ abbrev pub AllHeld : Option Holding → List (List ℕ) → Type 0
 AllHeld held [] = Unit {0}
 AllHeld held (name ∷ names) = Holds held name × AllHeld held names
 
+-- what was read of a file: its name, these bytes, and whether it was read whole
 abbrev pub read_as : List ℕ → List ℕ → Bool → SourceRead
 read_as name bytes whole = record { file = record { name = name; bytes = bytes }; whole = whole }
 
@@ -52,6 +54,7 @@ read_as name bytes whole = record { file = record { name = name; bytes = bytes }
 abbrev pub IsReadOf : SourceRead → SourceFile → Type 0
 IsReadOf read file = ((read.whole ≡ true) × (read.file ≡ file) × (length file.bytes ≤ file_limit)) ⊎ ((read.whole ≡ false) × (read.file ≡ record { name = file.name; bytes = [] }) × (file_limit < length file.bytes))
 
+-- these were read of these files, one for one
 abbrev pub AreReads : List SourceRead → List SourceFile → Type 0
 AreReads [] [] = Unit {0}
 AreReads [] (file ∷ files) = ⊥
@@ -66,6 +69,7 @@ pub record ReadFrom (held : Option Holding) (names : List (List ℕ)) (old new :
   pub given : AreGiven old new files
   pub are : AreReads reads files
 
+-- the files with the bytes that were read of them
 abbrev pub files_of_reads : List SourceRead → List SourceFile
 files_of_reads reads = map (λ (read : SourceRead). read.file) reads
 

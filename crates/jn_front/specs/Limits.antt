@@ -14,6 +14,7 @@ all_limit = 4194304
 abbrev pub row_at : ℕ → Code → Row
 row_at file code = record { span = record { file = record { 0 = file }; from = 0; to = 0 }; code = code }
 
+-- how many bytes a file counts: all of its own, but at most one more than the limit
 abbrev pub counted : SourceFile → ℕ
 counted file = min (length file.bytes) (file_limit + 1)
 

@@ -13,6 +13,7 @@ use Rattle.jn_known.specs.Known.{known_names}
 use Rattle.jn_front.specs.declared.source.SourceFile.{SourceFile}
 use Rattle.jn_front.specs.Limits.{limit_rows}
 
+-- the k-th file's number, as places have it
 abbrev pub file_no : ℕ → FileNo
 file_no k = record { 0 = k }
 
@@ -61,11 +62,13 @@ pub record LimitRows (files : List SourceFile) (rows : List Row) : Type 0 where
   pub are : rows ≡ limit_rows files
   pub some : rows ≡ [] → ⊥
 
+-- the files are within the limits, and some have a lexical fault: their rows, by file
 pub record LexicalRows (files : List SourceFile) (rows : List Row) : Type 0 where
   pub within : limit_rows files ≡ []
   pub are : FaultRows 0 files rows
   pub some : rows ≡ [] → ⊥
 
+-- the files are within the limits and have tokens, but the tokens of some are no file: their syntax rows, by file
 pub record GrammarRows (files : List SourceFile) (rows : List Row) : Type 0 where
   pub within : limit_rows files ≡ []
   pub names : List (List ℕ)
@@ -74,6 +77,7 @@ pub record GrammarRows (files : List SourceFile) (rows : List Row) : Type 0 wher
   pub are : SyntaxRows 0 files tokens rows
   pub some : rows ≡ [] → ⊥
 
+-- the rows of files that never come to be trees, all of one phase: the limits, the lexical faults or the syntax
 abbrev pub FrontRows : List SourceFile → List Row → Type 0
 FrontRows files rows = LimitRows files rows ⊎ (LexicalRows files rows ⊎ GrammarRows files rows)
 

@@ -9,6 +9,7 @@ use Rattle.jn_heads.specs.declared.head.MethodHead.{MethodHead}
 use Rattle.jn_points.specs.Members.{first_at}
 use Rattle.jn_known.specs.Known.{object_name, string_name}
 
+-- a position on which none of the six annotations stands
 abbrev pub no_notes : Notes
 no_notes = record { non_null = false; nullable = false; initialized = false; under = false; unknown = false; monotonic = false }
 
@@ -16,6 +17,7 @@ no_notes = record { non_null = false; nullable = false; initialized = false; und
 abbrev pub no_span : Span
 no_span = record { file = record { 0 = 0 }; from = 0; to = 0 }
 
+-- a name that is written in no file, at the place that stands for none
 abbrev pub unplaced : NameNo → Identifier
 unplaced n = record { name = n; span = no_span }
 

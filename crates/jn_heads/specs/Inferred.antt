@@ -32,6 +32,7 @@ abbrev pub infers : Infer → Bool → List Modifier → Bool
 infers Private interface ms = has_word PrivateWord ms
 infers Package interface ms = has_word PrivateWord ms || is_open interface ms
 
+-- the modifiers of a field declaration, a method or a constructor
 abbrev pub modifiers_of : PlacedMember → List Modifier
 modifiers_of (PlacedFieldMember ms u d ds s) = ms
 modifiers_of (PlacedMethod ms result n receiver ps body s) = ms
@@ -41,16 +42,20 @@ modifiers_of (PlacedConstructor ms n ps body s) = ms
 abbrev pub mark_field : Bool → FieldHead → FieldHead
 mark_field inferred h = record h { is_private = inferred }
 
+-- a method or a constructor that counts as private just where it is inferred
 abbrev pub mark_method : Bool → MethodHead → MethodHead
 mark_method inferred h = record h { is_private = inferred }
 
 module _ (infer : Infer) where
+  -- the fields that a member declares, private just where the choice infers the member's positions
   abbrev pub field_marks : Bool → PlacedMember → List FieldHead
   field_marks interface m = map (mark_field (infers infer interface (modifiers_of m))) (field_heads m)
 
+  -- the method or constructor that a member declares, private just where the choice infers the member's positions
   abbrev pub method_marks : Bool → PlacedMember → List MethodHead
   method_marks interface m = map (mark_method (infers infer interface (modifiers_of m))) (method_heads interface m)
 
+  -- a type's head whose members are private just where the choice infers their positions
   abbrev pub class_marks : PlacedType → ClassHead
   class_marks (PlacedClass ms n parent interfaces members s) = record (class_head (PlacedClass ms n parent interfaces members s)) {
     fields = flat_map (field_marks false) members;
@@ -61,6 +66,7 @@ module _ (infer : Infer) where
     methods = flat_map (method_marks true) members;
   }
 
+  -- such heads of all declared types, by file and text
   abbrev pub marks : List PlacedFile → List ClassHead
   marks files = flat_map (λ (f : PlacedFile). map class_marks f.types) files
 
@@ -73,6 +79,7 @@ pub record Tabled : Type 0 where
   pub heads : List ClassHead
   pub slots : List SlotInfo
 
+-- the class table of files, by a choice of whose positions are inferred
 abbrev pub tabled : Infer → List PlacedFile → Tabled
 tabled infer files = record { heads = heads files; slots = slots_by infer files }
 

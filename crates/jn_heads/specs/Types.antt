@@ -39,6 +39,7 @@ receiver_qual n = record { null = false; committed = n.initialized || n.unknown 
 abbrev pub slot_of : Bool → Notes → Qualifier → SlotInfo
 slot_of is_private n q = cond (is_private && not (is_written n)) (record { start = no_qual; inferred = true }) (record { start = q; inferred = false })
 
+-- the class of this number; Object where none was found
 abbrev pub class_or_object : Option ℕ → ClassNo
 class_or_object None = record { 0 = 0 }
 class_or_object (Some c) = record { 0 = c }
@@ -47,6 +48,7 @@ class_or_object (Some c) = record { 0 = c }
 abbrev pub has_receiver : MethodHead → Bool
 has_receiver m = not (m.is_static || m.ctor)
 
+-- the slot of a method's receiver, as a list of at most one
 abbrev pub receiver_slots : MethodHead → List SlotInfo
 receiver_slots m = cond (has_receiver m) (slot_of m.is_private m.receiver (receiver_qual m.receiver) ∷ []) []
 
@@ -55,6 +57,7 @@ module _ (hs : List ClassHead) where
   abbrev pub class_of_name : Identifier → ClassNo
   class_of_name n = class_or_object (number hs n.name)
 
+  -- the type of a use without brackets: a class, int or boolean
   abbrev pub plain_base : Base → BaseType
   plain_base (ClassUse n) = Ref (class_of_name n)
   plain_base (IntUse s) = Int
@@ -66,13 +69,16 @@ module _ (hs : List ClassHead) where
   array_base (IntUse s) nullable = Array IntElem false
   array_base (BooleanUse s) nullable = Array BoolElem false
 
+  -- the type of what is declared, without its qualifier; of an array it has whether elements may be null
   abbrev pub base_of : TypeHead → BaseType
   base_of t = cond t.array (array_base t.base t.elements.nullable) (plain_base t.base)
 
+  -- the type of what a method gives; Void for `void`, and for a constructor
   abbrev pub result_base : Option TypeHead → BaseType
   result_base None = Void
   result_base (Some t) = base_of t
 
+  -- the types of parameters, in order
   abbrev pub param_bases : List ParamHead → List BaseType
   param_bases ps = map (λ p. base_of p.kind) ps
 
@@ -80,6 +86,7 @@ module _ (hs : List ClassHead) where
   abbrev pub is_position : TypeHead → Bool
   is_position t = is_ref_base (base_of t)
 
+  -- the slot of a field, as a list of at most one: a field of primitive type has none
   abbrev pub field_slots : FieldHead → List SlotInfo
   field_slots f = cond (is_position f.kind) (slot_of f.is_private f.kind.notes (field_qual f.kind.notes) ∷ []) []
 
@@ -87,10 +94,12 @@ module _ (hs : List ClassHead) where
   abbrev pub value_slots : Bool → TypeHead → List SlotInfo
   value_slots is_private t = cond (is_position t) (slot_of is_private t.notes (written_qual t.notes) ∷ []) []
 
+  -- the slot of what a method gives: none for `void`, for a constructor, or for a primitive type
   abbrev pub result_slots : Bool → Option TypeHead → List SlotInfo
   result_slots is_private None = []
   result_slots is_private (Some t) = value_slots is_private t
 
+  -- the slots of parameters in order, one for each parameter of reference type
   abbrev pub params_slots : Bool → List ParamHead → List SlotInfo
   params_slots is_private [] = []
   params_slots is_private (p ∷ ps) = value_slots is_private p.kind ++ params_slots is_private ps
@@ -99,10 +108,12 @@ module _ (hs : List ClassHead) where
   abbrev pub method_slots : MethodHead → List SlotInfo
   method_slots m = receiver_slots m ++ (params_slots m.is_private m.params ++ result_slots m.is_private m.result)
 
+  -- the slots of a class's fields, in order
   abbrev pub fields_slots : List FieldHead → List SlotInfo
   fields_slots [] = []
   fields_slots (f ∷ fs) = field_slots f ++ fields_slots fs
 
+  -- the slots of a class's methods and constructors, in order
   abbrev pub methods_slots : List MethodHead → List SlotInfo
   methods_slots [] = []
   methods_slots (m ∷ ms) = method_slots m ++ methods_slots ms
@@ -111,6 +122,7 @@ module _ (hs : List ClassHead) where
   abbrev pub class_slots : ClassHead → List SlotInfo
   class_slots h = fields_slots h.fields ++ methods_slots h.methods
 
+  -- the slots of classes, one class after the other; of all classes, a slot's number is its position here
   abbrev pub slots_of_all : List ClassHead → List SlotInfo
   slots_of_all [] = []
   slots_of_all (c ∷ cs) = class_slots c ++ slots_of_all cs

@@ -22,6 +22,7 @@ pub record TakesNext (old : List ℕ) (new : Option (List ℕ)) (count : ℕ) (b
   pub rest : new ≡ Some (drop count old)
   pub end : count ≡ 0 → 0 < length buf → old ≡ []
 
+-- a read takes the next bytes of what is left of a file, where that is known; else nothing is said of it
 abbrev pub Reads : Option (List ℕ) → Option (List ℕ) → ℕ → List ℕ → Type 0
 Reads None new count buf = Unit {0}
 Reads (Some old) new count buf = TakesNext old new count buf
@@ -48,6 +49,7 @@ abbrev pub Gives : Option Holding → List ℕ → List ℕ → Type 0
 Gives None name bytes = Unit {0}
 Gives (Some held) name bytes = held name ≡ Some bytes
 
+-- there are bytes, and more of them than the limit
 abbrev pub IsLonger : Option (List ℕ) → ℕ → Type 0
 IsLonger None limit = ⊥
 IsLonger (Some bytes) limit = limit < length bytes

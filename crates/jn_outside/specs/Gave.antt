@@ -3,6 +3,7 @@ use Rattle.std.specs.Prelude.{ℕ, ◌+◌, ◌≤◌, ◌≡◌, ◌⊎◌, Lis
 use Rattle.jn_outside.specs.declared.given.Given.{Given}
 use Rattle.jn_outside.specs.Files.{Holding}
 
+-- what calls gave of one start: the name, and the bytes that were read of it
 abbrev pub given : List ℕ → List ℕ → Given
 given name bytes = record { name = name; bytes = bytes }
 
@@ -21,6 +22,7 @@ pub record GivesBehind (old new : List Given) (room : ℕ) (more : List ℕ) : T
   pub few : length more ≤ room
   pub gave : new ≡ with_read old more
 
+-- there are bytes, and the first of them are these
 abbrev pub BeginsWith : Option (List ℕ) → List ℕ → Type 0
 BeginsWith None front = ⊥
 BeginsWith (Some bytes) front = take (length front) bytes ≡ front
