@@ -17,11 +17,13 @@ module _ (P : Program) where
   abbrev pub IsOnlyMain : ℕ → Type 0
   IsOnlyMain m = IsMain m × ((k : ℕ) → IsMain k → k ≡ m)
 
+-- a slot that isn't inferred, and takes just what is whole: neither null nor what is under construction
 abbrev pub is_committed : Option SlotInfo → Bool
 is_committed None = false
 is_committed (Some info) = not info.inferred && within info.start committed_only && within committed_only info.start
 
 module _ (P : Program) where
+  -- there is one parameter alone, it is a reference, and its slot is so
   abbrev pub takes_committed : List (Option SlotNo) → Bool
   takes_committed [] = false
   takes_committed (None ∷ xs) = false
@@ -32,9 +34,11 @@ module _ (P : Program) where
   abbrev pub has_form : Method → Bool
   has_form x = x.is_main && has_body x.body && takes_committed x.param_slots
 
+  -- no method from number i up to, and without, n is a main
   abbrev pub NoneBetween : ℕ → ℕ → Type 0
   NoneBetween i n = (k : ℕ) → i ≤ k → k < n → IsMain P k → ⊥
 
+  -- no method from number i on is a main
   abbrev pub NoneFrom : ℕ → Type 0
   NoneFrom i = (k : ℕ) → i ≤ k → IsMain P k → ⊥
 

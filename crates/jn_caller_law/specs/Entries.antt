@@ -25,6 +25,7 @@ named (StaticCall m b args) = m
 named (InstanceCall m o k b args) = m
 named (ConstructorCall m b args) = m
 
+-- the body that runs for the call
 abbrev pub body_run : Call → ℕ
 body_run (StaticCall m b args) = b
 body_run (InstanceCall m o k b args) = b

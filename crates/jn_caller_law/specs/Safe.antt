@@ -22,6 +22,7 @@ use Rattle.jn_caller_law.specs.Entries.{Allowed, Call, StaticCall, begin, heap_w
 abbrev pub words_heap : List (List ℕ) → List Thing
 words_heap words = Elems words_base (texts words) ∷ []
 
+-- main is called as a static method, on the array of words, which is the first thing on the heap (JLS 8, 12.1.4)
 abbrev pub main_call : ℕ → ℕ → Call
 main_call m b = StaticCall m b (At 0 ∷ [])
 
@@ -30,6 +31,7 @@ abbrev pub returned_by : Regs → PointKind → Option Value
 returned_by regs (Return v) = value_of regs v
 returned_by regs k = None
 
+-- the same of a point that may be missing, which gives nothing then
 abbrev pub returned_at : Regs → Option Point → Option Value
 returned_at regs None = None
 returned_at regs (Some pt) = returned_by regs pt.kind

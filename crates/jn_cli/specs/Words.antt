@@ -14,12 +14,15 @@ use Rattle.jn_cli.specs.declared.options.Options.{Options}
 
 -- ---- the command as clap sees it
 
+-- an option that is written by its long name, with one value
 abbrev pub single : List ℕ → Rule
 single name = record (new_rule name) { long = Some name }
 
+-- the flag --run, which has no value
 abbrev pub run_flag : Rule
 run_flag = record (single (codes "run")) { action = Some SetTrue }
 
+-- the names of files, each added to those before it
 abbrev pub file_rule : Rule
 file_rule = record (new_rule (codes "FILE")) { action = Some Append }
 
@@ -27,12 +30,14 @@ file_rule = record (new_rule (codes "FILE")) { action = Some Append }
 abbrev pub bare_app : App
 bare_app = on_top (λ s. record s { no_binary_name = true; disable_help_flag = true }) (new_app (codes "nullcheck"))
 
+-- the command as a whole: eight options, and files
 unfoldable pub nullcheck_app : App
 nullcheck_app =
     with_rule (with_rule (with_rule (with_rule (with_rule (with_rule (with_rule (with_rule (with_rule bare_app
     (single (codes "workers"))) (single (codes "report"))) (single (codes "infer"))) run_flag)
     (single (codes "steps"))) (single (codes "words"))) (single (codes "gen"))) (single (codes "codes"))) file_rule
 
+-- nothing is wrong with the words
 abbrev pub no_fault : Kinds → Bool
 no_fault [] = true
 no_fault (kind ∷ kinds) = false
@@ -41,9 +46,11 @@ no_fault (kind ∷ kinds) = false
 abbrev pub takes_words : List (List ℕ) → Bool
 takes_words words = no_fault (fault_of nullcheck_app words)
 
+-- what clap has for a flag says that it was given
 abbrev pub is_on : Option (List ℕ) → Bool
 is_on text = option_map_or (λ t. bytes_eq t (codes "true")) text false
 
+-- the options and files by their names among what clap matched
 abbrev pub options_in : List Row → Options
 options_in rows = record {
   workers = first_of (codes "workers") rows;
@@ -63,6 +70,7 @@ options_of words = options_in (matches_of nullcheck_app words)
 
 -- ---- numbers
 
+-- the number whose decimal digits are those of n, and then these
 abbrev pub value_after : ℕ → List ℕ → ℕ
 value_after n [] = n
 value_after n (digit ∷ rest) = value_after (10 * n + (digit - 48)) rest
@@ -71,9 +79,11 @@ value_after n (digit ∷ rest) = value_after (10 * n + (digit - 48)) rest
 abbrev pub is_number : List ℕ → Bool
 is_number text = nat_le 1 (length text) && nat_le (length text) 10 && list_all is_ascii_digit text
 
+-- the number that a text writes in decimal; none where it isn't one to ten digits
 unfoldable pub number_of : List ℕ → Option ℕ
 number_of text = if is_number text then Some (value_after 0 text) else None
 
+-- there is a number, and it is in the range, whose ends count too
 abbrev pub is_within : ℕ → ℕ → Option ℕ → Bool
 is_within least most number = option_map_or (λ n. nat_le least n && nat_le n most) number false
 
@@ -81,11 +91,13 @@ is_within least most number = option_map_or (λ n. nat_le least n && nat_le n mo
 abbrev pub fits : ℕ → ℕ → Option (List ℕ) → Bool
 fits least most text = option_map_or (λ t. is_within least most (number_of t)) text true
 
+-- the number that an option writes, or the default where it writes none
 abbrev pub number_or : ℕ → Option (List ℕ) → ℕ
 number_or default text = unwrap_or (option_and_then number_of text) default
 
 -- ---- usage
 
+-- a list has no element
 abbrev pub is_empty : {X : Type 0} → List X → Bool
 is_empty xs = length xs == 0
 
@@ -123,9 +135,11 @@ is_bad_mix o =
     || (is_some o.classes && (not (is_empty o.files) || o.run))
     || ((is_some o.steps || is_some o.words) && not o.run)
 
+-- the options are none of a command: a value is bad, or they don't go together
 abbrev pub are_refused : Options → Bool
 are_refused o = has_bad_value o || is_bad_mix o
 
+-- the words are no command, so the line on usage is the answer
 abbrev pub is_usage : List (List ℕ) → Bool
 is_usage words = not (takes_words words) || are_refused (options_of words)
 
@@ -135,6 +149,7 @@ is_usage words = not (takes_words words) || are_refused (options_of words)
 abbrev pub pieces_of : List ℕ → List (List ℕ)
 pieces_of text = filter (λ piece. not (is_empty piece)) (slice_split (λ byte. byte == 32) text)
 
+-- the command that options ask for, with a default for each one that is absent
 unfoldable pub command_of : Options → Command
 command_of o = record {
   workers = number_or 4 o.workers;

@@ -23,6 +23,7 @@ pub record Reading : Type 0 where
   pub before : List Given
   pub now : List Given
 
+-- the same from its three parts
 abbrev pub reading : Option Holding → List Given → List Given → Reading
 reading held before now = record { held = held; before = before; now = now }
 
@@ -42,6 +43,7 @@ abbrev pub ReadsFew : ℕ → List (List ℕ) → Type 0
 ReadsFew zero names = length names ≤ most_files
 ReadsFew (suc n) names = ⊥
 
+-- a command is asked for, and it reads files
 abbrev pub ReadsFiles : Option Asked → Type 0
 ReadsFiles None = ⊥
 ReadsFiles (Some a) = ReadsFew a.command.classes a.command.files
@@ -51,6 +53,7 @@ abbrev pub ReadsNone : ℕ → List (List ℕ) → Type 0
 ReadsNone zero names = most_files < length names
 ReadsNone (suc n) names = Unit {0}
 
+-- no command is asked for, or one that makes a program or has too many names
 abbrev pub ReadsNothing : Option Asked → Type 0
 ReadsNothing None = Unit {0}
 ReadsNothing (Some a) = ReadsNone a.command.classes a.command.files
@@ -65,6 +68,7 @@ abbrev pub Starts : Option Asked → List Given → List Given → Type 0
 Starts None before now = now ≡ before
 Starts (Some a) before now = StartsOnly (names_read a.command.classes a.command.files) before now
 
+-- each file that the command may read is held by the source; where no command is asked for, nothing is needed
 abbrev pub HoldsFiles : Option Holding → Option Asked → Type 0
 HoldsFiles held None = Unit {0}
 HoldsFiles held (Some a) = AllHeld held (names_read a.command.classes a.command.files)
@@ -84,6 +88,7 @@ module _ (Defined : Status → List ℕ → Type 0) (Part Unread : Type 0) (old 
   abbrev pub WritesPrefix : Type 0
   WritesPrefix = (status : Status) × (bytes : List ℕ) × Defined status bytes × AppendsPrefix old new bytes
 
+  -- what holds after a call with this status: its output was written whole, or this is what a fault leaves
   abbrev pub AnswersBy : Status → Type 0
   AnswersBy Ok = Writes Ok
   AnswersBy Rejected = Writes Rejected
@@ -97,6 +102,7 @@ module _ (Defined : Status → List ℕ → Type 0) (Part Unread : Type 0) (old 
 
 -- the notes with which the rows of a report are shown, by what its notes are: none by a reporter that shows no notes
 module _ (AreNotes : Infer → List SourceFile → Report → List Noted → Type 0) where
+  -- the notes of the report, where the reporter shows them, else none
   abbrev pub AreShownNotes : Bool → Infer → List SourceFile → Report → List Noted → Type 0
   AreShownNotes false infer files report noted = noted ≡ []
   AreShownNotes true infer files report noted = AreNotes infer files report noted
@@ -159,6 +165,7 @@ module _ (IsReport : Infer → List SourceFile → Report → Type 0) (AreNotes 
     pub are : AreChecked read a.command.classes a.command.files files
     pub steps : WritesSteps a files old new
 
+  -- a command is asked for, and of its run the text of some of the steps was written
   abbrev pub WritesPart : Reading → Option Asked → Option (List ℕ) → Option (List ℕ) → Type 0
   WritesPart read None old new = ⊥
   WritesPart read (Some a) old new = WritesSome read a old new
@@ -178,6 +185,7 @@ module _ (IsReport : Infer → List SourceFile → Report → Type 0) (AreNotes 
     pub are : AreChecked read a.command.classes a.command.files files
     pub safe : IsSafe a.command.infer files
 
+  -- a command is asked for, and the files that it checks are safe
   abbrev pub Safe : Reading → Option Asked → Type 0
   Safe read None = ⊥
   Safe read (Some a) = IsSafeOf read a

@@ -14,6 +14,7 @@ pub record Asked : Type 0 where
   pub notes : Bool
   pub show : List ShownRow → Option Verdict → List ℕ
 
+-- the same from its four parts
 abbrev pub asked : Command → Bool → Bool → (List ShownRow → Option Verdict → List ℕ) → Asked
 asked command document notes show = record { command = command; document = document; notes = notes; show = show }
 
@@ -26,6 +27,7 @@ abbrev pub linked_with : Option (List ℕ) → Form → Form
 linked_with None form = form
 linked_with (Some address) form = linked_at form address
 
+-- a command with the reporter that was found, which knows where codes are explained if the command says so; none without one
 abbrev pub shown_by : Command → Option Form → Option Asked
 shown_by command None = None
 shown_by command (Some form) = Some (asked_with command (linked_with command.codes form))
@@ -38,5 +40,6 @@ asked_by forms command = shown_by command (first_named command.report forms)
 unfoldable pub asked_of : List Form → List (List ℕ) → Option Asked
 asked_of forms words = if is_usage words then None else asked_by forms (command_of (options_of words))
 
+-- the one line that is the answer to words that are no command
 abbrev pub usage_line : List ℕ
 usage_line = codes "usage: nullcheck [--workers N] [--report NAME] [--codes ADDRESS] [--infer NAME] [--run] [--steps N] [--words TEXT] [--gen N] FILE..\n"

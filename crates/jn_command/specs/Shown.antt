@@ -19,6 +19,7 @@ abbrev pub row_of_file : Option SourceFile → Row → ShownRow
 row_of_file None row = record { text = record { name = []; line = 1; col = 1; code = row.code }; end_line = 1; end_col = 1; extract = None; notes = []; more = 0 }
 row_of_file (Some file) row = row_view file.name file.bytes row
 
+-- the same of a row, whose span says by number in which of the files it stands
 abbrev pub row_of : List SourceFile → Row → ShownRow
 row_of files row = row_of_file (slice_get files row.span.file.0) row
 
@@ -34,9 +35,11 @@ abbrev pub note_of_file : Option SourceFile → Bool → List ℕ → Span → S
 note_of_file None joined words span = record { text = words; name = []; line = 1; col = 1; joined = joined }
 note_of_file (Some file) joined words span = let place = place_in file.bytes span in record { text = words; name = file.name; line = place.line; col = place.col; joined = joined }
 
+-- the same of a note, whose span says by number in which of the files it stands
 abbrev pub note_of : List SourceFile → Bool → List ℕ → Span → ShownNote
 note_of files joined words span = note_of_file (slice_get files span.file.0) joined words span
 
+-- no note is shown, and none is left out
 abbrev pub no_notes : Noted
 no_notes = record { notes = []; more = 0 }
 
@@ -44,9 +47,11 @@ no_notes = record { notes = []; more = 0 }
 abbrev pub noted_at : List Noted → ℕ → Noted
 noted_at noted at = get_or noted at no_notes
 
+-- a row with these notes in place of its own, and how many more there are
 abbrev pub with_notes : ShownRow → Noted → ShownRow
 with_notes row noted = record row { notes = noted.notes; more = noted.more }
 
+-- the notes of all rows but the first
 abbrev pub noted_behind : List Noted → List Noted
 noted_behind [] = []
 noted_behind (first ∷ noted) = noted
@@ -56,5 +61,6 @@ abbrev pub rows_with : List SourceFile → List Noted → List Row → List Show
 rows_with files noted [] = []
 rows_with files noted (row ∷ rows) = with_notes (row_of files row) (noted_at noted 0) ∷ rows_with files (noted_behind noted) rows
 
+-- what a reporter makes of the rows with their notes, and of the verdict
 abbrev pub shown_noted : (List ShownRow → Option Verdict → List ℕ) → List SourceFile → Report → List Noted → List ℕ
 shown_noted show files report noted = show (rows_with files noted (rows_of report)) (Some (verdict_of report))

@@ -54,13 +54,16 @@ pub record Limits : Type 0 where
 abbrev pub usual_limits : Limits
 usual_limits = record { deepest = 4096; longest = 16777216 }
 
+-- whether a number is 0, by which no int can be divided (JLS 8, 15.17.2)
 abbrev pub is_zero : ℤ → Bool
 is_zero (pos n) = eqb n 0
 is_zero (negsuc n) = false
 
+-- whether two numbers are equal (JLS 8, 15.21.1)
 abbrev pub int_same : ℤ → ℤ → Bool
 int_same a b = int_le a b && int_le b a
 
+-- whether two booleans are equal (JLS 8, 15.21.2)
 abbrev pub truth_same : Bool → Bool → Bool
 truth_same true b = b
 truth_same false b = not b
@@ -75,6 +78,7 @@ unary true (Number n) = Gives (Number (int_wrapping_neg w32 n))
 unary false (Number n) = Gives (Number n)
 unary negate (Truth b) = Lacks
 
+-- a quotient or a remainder; where the divisor is 0 an ArithmeticException (JLS 8, 15.17.2 and 15.17.3)
 abbrev pub unless_zero : ℤ → ℤ → Got Prim
 unless_zero divisor n = cond (is_zero divisor) (Fails Arithmetic) (Gives (Number n))
 
@@ -98,6 +102,7 @@ of_truths Equal a b = Gives (Truth (truth_same a b))
 of_truths NotEqual a b = Gives (Truth (not (truth_same a b)))
 of_truths op a b = Lacks
 
+-- an operator on two ints or on two booleans; on one of each it has no meaning
 abbrev pub binary : Operator → Prim → Prim → Got Prim
 binary op (Number a) (Number b) = of_numbers op a b
 binary op (Number a) (Truth b) = Lacks
@@ -108,6 +113,7 @@ binary op (Truth a) (Truth b) = of_truths op a b
 abbrev pub byte_units : ℕ → ℕ
 byte_units byte = cond (nat_le 128 byte && nat_le byte 191) 0 (cond (nat_le 240 byte) 2 1)
 
+-- the length of a String in UTF-16 units, which Java counts, from its bytes in UTF-8
 abbrev pub units : List ℕ → ℕ
 units [] = 0
 units (byte ∷ bytes) = byte_units byte + units bytes
@@ -127,18 +133,22 @@ same NullRef NullRef = true
 same (At a) (At b) = eqb a b
 same v w = false
 
+-- whether a value is the String with this text, which null and objects are not
 abbrev pub is_text : List ℕ → Value → Bool
 is_text t (Text u) = bytes_eq t u
 is_text t v = false
 
+-- String's equals: whether what it is given is a String with the same text
 abbrev pub text_equals : List ℕ → Option Value → Got Prim
 text_equals t None = Lacks
 text_equals t (Some v) = Gives (Truth (is_text t v))
 
+-- whether a text has no byte
 abbrev pub is_empty_text : List ℕ → Bool
 is_empty_text [] = true
 is_empty_text (byte ∷ bytes) = false
 
+-- what String's length, isEmpty and equals give on this text
 abbrev pub text_op : StrOperation → List ℕ → Option Value → Got Prim
 text_op Length t v = Gives (number_of (units t))
 text_op IsEmpty t v = Gives (Truth (is_empty_text t))
@@ -163,6 +173,7 @@ default_of NullBase = NullRef
 default_of (Ref c) = NullRef
 default_of (Array e nullable) = NullRef
 
+-- a new object's value for each field (JLS 8, 4.12.5)
 abbrev pub defaults : List Field → List Value
 defaults [] = []
 defaults (f ∷ fs) = default_of f.base ∷ defaults fs
@@ -172,6 +183,7 @@ abbrev pub first_of : BaseType → ℤ → Prim
 first_of BoolBase n = Truth (not (is_zero n))
 first_of base n = Number n
 
+-- a first value for each field of the program, which counts where the field is static
 abbrev pub statics_of : List Field → List Prim
 statics_of [] = []
 statics_of (f ∷ fs) = first_of f.base f.first ∷ statics_of fs

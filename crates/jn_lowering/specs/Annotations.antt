@@ -41,6 +41,7 @@ is_initialization n = eqb n initialized_name || (eqb n under_name || eqb n unkno
 abbrev pub is_monotonic : ℕ → Bool
 is_monotonic n = eqb n monotonic_name
 
+-- an annotation that says whether null may be there; one place takes at most one of them
 abbrev pub is_of_nullity : ℕ → Bool
 is_of_nullity n = is_nullity n || is_monotonic n
 

@@ -32,6 +32,7 @@ module _ (P : Program) (names : List (List ℕ)) (longest : ℕ) (call : Caller)
   on_this (Some v) None k w = Stops Senseless w.out
   on_this (Some v) (Some vs) k w = then_do (call k (v ∷ vs) w) (λ x w. Has Onward w)
 
+  -- the constructor of this number is called on `this` with these arguments; where there is none nothing is done
   abbrev pub called_ctor : Option ℕ → List (Option Value) → World → Result Flow
   called_ctor None xs w = Has Onward w
   called_ctor (Some k) xs w = on_this (value_at w.locals 0) (all_there xs) k w
@@ -44,6 +45,7 @@ module _ (P : Program) (names : List (List ℕ)) (longest : ℕ) (call : Caller)
   abbrev pub unwritten_call : Scope → World → Result Flow
   unwritten_call s w = cond (is_under_object (parent_of (class_info P (class P m)))) (Has Onward w) (ctor_call s (parent P m) NoPlacedTrees w)
 
+  -- the call of another constructor with which a constructor's body begins, written or not (JLS 8, 8.8.7)
   abbrev pub construction : Scope → PlacedStatements → World → Result Flow
   construction s (MorePlacedStatements (PlacedThisCall es span) xs) w = ctor_call s (class P m) es w
   construction s (MorePlacedStatements (PlacedSuperCallStatement es span) xs) w = ctor_call s (parent P m) es w
@@ -56,10 +58,12 @@ module _ (P : Program) (names : List (List ℕ)) (longest : ℕ) (call : Caller)
       cond (is_static P f) (Has Onward w)
       (then_do ((meant P names longest call (class P m) [] e).value w) (λ x w. then_do (write_place P (FieldPlace (value_at w.locals 0) name f) (through name (span_of e)) x w) (λ z w. Has Onward w)))
 
+  -- an instance field gets its initializer's value, if an initializer is written (JLS 8, 12.5)
   abbrev pub initializes : Span → ℕ → Option PlacedTree → World → Result Flow
   initializes name n None w = Has Onward w
   initializes name n (Some e) w = writes_field (declared_field P (class P m) n (class P m)) name e w
 
+  -- the instance fields of one declaration get their values from left to right (JLS 8, 12.5)
   abbrev pub initializers_of : List PlacedDeclarator → World → Result Flow
   initializers_of [] w = Has Onward w
   initializers_of (d ∷ ds) w = in_turn (initializes d.name.span d.name.name.0 d.value w) (initializers_of ds)
@@ -127,6 +131,7 @@ fault ArrayStore span = Fault ArrayStore span
 fault DeepEnd span = Stuck
 fault Long span = TooLong
 
+-- how a call from outside ends where something stops it
 abbrev pub end_of : Stop → TreeEnd
 end_of (Faulted e span) = fault e span
 end_of (NullAt span) = Null span
@@ -134,6 +139,7 @@ end_of FuelOut = Out
 end_of TooDeep = Deep
 end_of Senseless = Stuck
 
+-- how a call from outside ends, with the text that was printed until then
 abbrev pub told : Result (Option Value) → Told
 told (Has v w) = record { end = Returned; text = w.out }
 told (Stops stop out) = record { end = end_of stop; text = out }

@@ -77,6 +77,7 @@ done_while (suc turns) body test w = then_do (body w) (λ flow w. turned flow w 
 abbrev pub behind_declarator : BaseType → Option Qualifier → Bool → List Row → Standing → PlacedDeclarator → Standing
 behind_declarator base bound is_final faults st d = declares st d.name.name.0 base bound (is_final && has_value d) faults
 
+-- the scope after several names that one declaration declares, from left to right (JLS 8, 6.3)
 abbrev pub behind_declarators : BaseType → Option Qualifier → Bool → List Row → Standing → List PlacedDeclarator → Standing
 behind_declarators base bound is_final faults st [] = st
 behind_declarators base bound is_final faults st (d ∷ ds) = behind_declarators base bound is_final faults (behind_declarator base bound is_final faults st d) ds
@@ -94,9 +95,11 @@ module _ (P : Program) where
   abbrev pub type_written : List LocalModifier → PlacedTypeUse → BaseType
   type_written marks u = type_of_use P u (annotations_of marks)
 
+  -- the scope after a local declaration: all its names are in it (JLS 8, 6.3)
   abbrev pub behind_declaration : Standing → PlacedLocal → Standing
   behind_declaration st l = behind_declarators (type_written l.marks l.type_use) (bound_written l.marks l.type_use) (has_final l.marks) (base_rows P l.type_use.base) st (l.first ∷ l.more)
 
+  -- the scope after what a `for` begins with, in which its names may be declared (JLS 8, 14.14.1)
   abbrev pub behind_init : Standing → PlacedInit → Standing
   behind_init st (PlacedExpressions es) = st
   behind_init st (PlacedDeclaration l) = behind_declaration st l
@@ -115,6 +118,7 @@ module _ (P : Program) (names : List (List ℕ)) (longest : ℕ) (call : Caller)
   abbrev pub value_in : Standing → PlacedTree → World → Result (Option Value)
   value_in st e = (meant P names longest call c st.scope e).value
 
+  -- whether an expression, as a condition, is true
   abbrev pub holds_in : Standing → PlacedTree → World → Result Bool
   holds_in st e = (meant P names longest call c st.scope e).condition
 
@@ -122,6 +126,7 @@ module _ (P : Program) (names : List (List ℕ)) (longest : ℕ) (call : Caller)
   abbrev pub effect : Standing → PlacedTree → World → Result Flow
   effect st e w = then_onward (value_in st e w)
 
+  -- several expressions for their effects, from left to right (JLS 8, 14.14.1)
   abbrev pub effects : Standing → PlacedTrees → World → Result Flow
   effects st NoPlacedTrees w = Has Onward w
   effects st (MorePlacedTrees e es) w = in_turn (effect st e w) (effects st es)
@@ -136,6 +141,7 @@ module _ (P : Program) (names : List (List ℕ)) (longest : ℕ) (call : Caller)
   initialized st r None w = Has Onward w
   initialized st r (Some e) w = then_onward (then_do (value_in st e w) (λ x w. write_local P w r x))
 
+  -- the locals of one declaration, from left to right: each is in scope in its own initializer (JLS 8, 14.4.2)
   abbrev pub declarators : BaseType → Option Qualifier → Bool → List Row → Standing → List PlacedDeclarator → World → Result Flow
   declarators base bound is_final faults st [] w = Has Onward w
   declarators base bound is_final faults st (d ∷ ds) w =
@@ -170,6 +176,7 @@ module _ (P : Program) (names : List (List ℕ)) (longest : ℕ) (call : Caller)
   abbrev pub each_below : Span → ℕ → World → Result (Option Value)
   each_below at r w = then_do (read_place P (LengthPlace (value_at w.locals r) at) at w) (λ n w. got at (binary_of Less (prim_of (value_at w.locals (r + 1))) (prim_of n)) w)
 
+  -- whether a `for` over an array has an element left (JLS 8, 14.14.2)
   abbrev pub each_test : Span → ℕ → World → Result Bool
   each_test at r w = then_do (each_below at r w) truth_in
 

@@ -29,6 +29,7 @@ use Rattle.jn_notes.specs.declared.reads.Sought.{Sought}
 use Rattle.jn_notes.specs.declared.pairs.Part.{Part}
 use Rattle.jn_notes.specs.declared.pairs.Part.TheVariants.{OverParameters, OverReceiver, OverResult}
 
+-- at this span, by this rule, a value that has the bit
 abbrev pub seeks : Span → Rule → Bit → Option Sought
 seeks span rule bit = Some (record { span = span; rule = rule; bit = bit })
 
@@ -55,6 +56,7 @@ part_of OvrReceiver = Some OverReceiver
 part_of OvrResult = Some OverResult
 part_of code = None
 
+-- two spans are of the same bytes of the same file
 abbrev pub same_span : Span → Span → Bool
 same_span x y = eqb x.file.0 y.file.0 && eqb x.from y.from && eqb x.to y.to
 
@@ -73,6 +75,7 @@ module _ (q : Sought) (b p : ℕ) (e : Env) where
   abbrev pub by_ask : Ask → Option Item
   by_ask a = cond (same_span a.value.span q.span && on q.bit (qual_at e a.value.reg.0) && not (on q.bit a.taken)) (Some (AtRegister b p a.value.reg.0 q.bit)) None
 
+  -- the first of these values that is so
   abbrev pub by_asks : List Ask → Option Item
   by_asks [] = None
   by_asks (a ∷ as') = or_item (by_ask a) (by_asks as')
@@ -101,6 +104,7 @@ abbrev pub lacking_bit : ℕ → Qualifier → Qualifier → Option Item
 lacking_bit k q t = cond (lacks_null q t) (Some (AtSlot k Nullable)) (cond (q.free && not t.free) (Some (AtSlot k Free)) None)
 
 module _ (s : List Qualifier) where
+  -- a bit that the first slot has and the second lacks, under the signature; none where there is no first slot
   abbrev pub lacking : Option SlotNo → Option SlotNo → Option Item
   lacking None to = None
   lacking (Some n) to = lacking_bit n.0 (slice_index_or s n.0 no_qual) (slot_qual s to)
@@ -117,11 +121,13 @@ module _ (s : List Qualifier) where
   by_part OverReceiver over lower = lacking lower.receiver over.receiver
   by_part OverResult over lower = lacking over.result_slot lower.result_slot
 
+  -- the same of a pair of methods, an overrider and one that it overrides, where both are there
   abbrev pub by_override : Part → Option Method → Option Method → Option Item
   by_override part None lower = None
   by_override part (Some over) None = None
   by_override part (Some over) (Some lower) = by_part part over lower
 
+-- a method is there, and this is its span
 abbrev pub stands_at : Span → Option Method → Bool
 stands_at span None = false
 stands_at span (Some m) = same_span m.span span
@@ -142,10 +148,12 @@ module _ (P : Program) (s : List Qualifier) where
     abbrev pub by_overriders : ℕ → Option Item
     by_overriders j = by_overrider (slice_index_or (overriders P) j 0)
 
+  -- of a code on overriding, the first slot of such a pair at the span that has a bit which its partner lacks
   abbrev pub slot_item : Span → Option Part → Option Item
   slot_item span None = None
   slot_item span (Some part) = first_item (by_overriders span part) (length (overriders P))
 
+  -- a register where the row is of a value, else a slot of an overriding pair
   abbrev pub item_by : Row → List Table → Option Sought → Option Item
   item_by row tables None = slot_item row.span (part_of row.code)
   item_by row tables (Some q) = register_item P s q tables

@@ -22,13 +22,16 @@ pub record Ask : Type 0 where
   pub value : Operand
   pub taken : Qualifier
 
+-- the same from its two parts
 abbrev pub ask : Operand → Qualifier → Ask
 ask value taken = record { value = value; taken = taken }
 
+-- the same of a value that may be absent, as that of a bare `return` is
 abbrev pub ask_if : Option Operand → Qualifier → List Ask
 ask_if None taken = []
 ask_if (Some value) taken = ask value taken ∷ []
 
+-- the same of each of several values
 abbrev pub ask_each : List Operand → Qualifier → List Ask
 ask_each [] taken = []
 ask_each (value ∷ values) taken = ask value taken ∷ ask_each values taken
@@ -47,18 +50,22 @@ taking null free = record { null = null; committed = true; free = free }
 abbrev pub dereference_asks : PointKind → List Ask
 dereference_asks kind = ask_if (dereferences kind) (taking false true)
 
+-- String's equals takes null and what is whole, and nothing that is under construction
 abbrev pub equals_asks : StrOperation → Option Operand → List Ask
 equals_asks Equals other = ask_if other (taking true false)
 equals_asks op other = []
 
+-- a value that a local gets, where the local's declaration says what it may hold
 abbrev pub bound_asks : Operand → Option Qualifier → List Ask
 bound_asks from None = []
 bound_asks from (Some taken) = ask from taken ∷ []
 
+-- what a local's declaration says of a value that is moved to it
 abbrev pub local_asks : PointKind → List Ask
 local_asks (Move dst from bound) = bound_asks from bound
 local_asks kind = []
 
+-- what an array of this type takes as an element: null where its type says so, and what is whole
 abbrev pub elem_taken : BaseType → Qualifier
 elem_taken base = taking (elem_qual base).null false
 

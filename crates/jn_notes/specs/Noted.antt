@@ -14,9 +14,11 @@ use Rattle.jn_notes.specs.Asked.{item_of}
 use Rattle.jn_notes.specs.Voids.{AreVoids, read_in}
 use Rattle.jn_notes.specs.Worded.{place_span, step_words}
 
+-- how many steps of a chain are shown at most
 abbrev pub most_shown : ℕ
 most_shown = 8
 
+-- no note is shown, and none is left out
 abbrev pub no_notes : Notes
 no_notes = record { shown = []; more = 0 }
 

@@ -19,28 +19,35 @@ first_owner f zero = None
 first_owner f (suc n) = or_owner (first_owner f n) (f n)
 
 module _ (k : ℕ) where
+  -- an owner, where the slot that it names is k
   abbrev pub if_slot : Option SlotNo → Owner → Option Owner
   if_slot None owner = None
   if_slot (Some n) owner = cond (eqb n.0 k) (Some owner) None
 
+  -- a field, where its slot is k
   abbrev pub by_field : ℕ → Option Field → Option Owner
   by_field f None = None
   by_field f (Some x) = if_slot x.slot (OfField f)
 
+  -- a parameter of a method by its number, where its slot is k
   abbrev pub by_parameter : ℕ → List (Option SlotNo) → ℕ → Option Owner
   by_parameter m slots i = if_slot (slice_index_or slots i None) (OfParameter m i)
 
+  -- the first parameter of a method whose slot is k
   abbrev pub by_parameters : ℕ → List (Option SlotNo) → Option Owner
   by_parameters m slots = first_owner (by_parameter m slots) (length slots)
 
+  -- the part of a method whose slot is k: a parameter, else its receiver, else its result
   abbrev pub by_method : ℕ → Option Method → Option Owner
   by_method m None = None
   by_method m (Some x) = or_owner (by_parameters m x.param_slots) (or_owner (if_slot x.receiver (OfReceiver m)) (if_slot x.result_slot (OfResult m)))
 
 module _ (P : Program) where
+  -- the first field whose slot it is
   abbrev pub by_fields : ℕ → Option Owner
   by_fields k = first_owner (λ f. by_field k f (field_info P f)) (length P.fields)
 
+  -- of the first method that has the slot, the part whose it is
   abbrev pub by_methods : ℕ → Option Owner
   by_methods k = first_owner (λ m. by_method k m (method_at P m)) (length P.methods)
 

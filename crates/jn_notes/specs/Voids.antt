@@ -28,6 +28,7 @@ abbrev pub read_by : ℕ → ℕ → ℕ → PointKind → Option ReadAt
 read_by b p r (FieldRead dst object f) = cond (eqb dst.0 r) (Some (record { body = b; point = p; object = object.reg.0; field = f.0 })) None
 read_by b p r kind = None
 
+-- the same of a point that may be missing
 abbrev pub read_at : ℕ → ℕ → ℕ → Option Point → Option ReadAt
 read_at b p r None = None
 read_at b p r (Some pt) = read_by b p r pt.kind
@@ -42,6 +43,7 @@ abbrev pub is_carried : Item → Place → Bool
 is_carried (AtRegister b p r Nullable) (OfPoint c q) = true
 is_carried item place = false
 
+-- a step of a null in a register that a point put there, after which the chain goes on in the body
 abbrev pub goes_on : Step → Bool
 goes_on x = is_carried x.item x.place
 
@@ -62,18 +64,22 @@ module _ (P : Program) where
   abbrev pub is_this : ReadAt → Bool
   is_this read = eqb read.object 0 && not (static_of (method_in P read.body))
 
+  -- how a field's name begins in a note: after `this.` where the object is the body's own
   abbrev pub front_words : ReadAt → List ℕ
   front_words read = cond (is_this read) (codes "`this.") (codes "the field `")
 
+  -- the words that say of a field where it was tested
   abbrev pub tested_words : List (List ℕ) → ReadAt → List ℕ
   tested_words names read = front_words read ++ field_name names (field_info P read.field) ++ codes "` was tested at"
 
+-- the words for what ended a fact on a field: a call, or else an assignment
 abbrev pub ends_by : PointKind → List ℕ
 ends_by (New dst m args) = codes "and this call may change it:"
 ends_by (CtorCall m args own) = codes "and this call may change it:"
 ends_by (Call dst m receiver direct args) = codes "and this call may change it:"
 ends_by kind = codes "and this assignment may change it:"
 
+-- the same of a point that may be missing
 abbrev pub ended_words : Option Point → List ℕ
 ended_words None = codes "and this assignment may change it:"
 ended_words (Some pt) = ends_by pt.kind
@@ -86,10 +92,12 @@ key_of read = record { reg = read.object; field = read.field }
 abbrev pub tested_note : Program → List (List ℕ) → ReadAt → ℕ → Note
 tested_note P names read p = record { joined = false; words = tested_words P names read; span = point_span (point_at P read.body p) }
 
+-- the note of what may have changed the field after the test, which goes on with the note before it
 abbrev pub ended_note : Program → ReadAt → ℕ → Note
 ended_note P read p = record { joined = true; words = ended_words (point_at P read.body p); span = point_span (point_at P read.body p) }
 
 module _ (P : Program) (names : List (List ℕ)) where
+  -- the two notes of a test and of what made it void, where there is such a pair
   abbrev pub void_notes : ReadAt → Option Voided → List Note
   void_notes read None = []
   void_notes read (Some v) = tested_note P names read v.tested.0 ∷ ended_note P read v.ended.0 ∷ []

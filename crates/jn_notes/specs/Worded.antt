@@ -19,13 +19,16 @@ use Rattle.jn_notes.specs.declared.owners.Owner.{Owner}
 use Rattle.jn_notes.specs.declared.owners.Owner.TheVariants.{OfField, OfParameter, OfReceiver, OfResult}
 use Rattle.jn_notes.specs.Owned.{owner_of}
 
+-- the text of a name by its number, empty where there is none
 abbrev pub text_at : List (List ℕ) → ℕ → List ℕ
 text_at names n = slice_index_or names n []
 
+-- a field's name, empty where there is no such field
 abbrev pub field_name : List (List ℕ) → Option Field → List ℕ
 field_name names None = []
 field_name names (Some f) = text_at names f.name.0
 
+-- a method's name, empty where there is no such method
 abbrev pub method_name : List (List ℕ) → Option Method → List ℕ
 method_name names None = []
 method_name names (Some m) = text_at names m.name.0
@@ -35,6 +38,7 @@ abbrev pub parameter_words : ℕ → List ℕ
 parameter_words i = cond (eqb i 0) (codes "the first parameter of `") (cond (eqb i 1) (codes "the second parameter of `") (cond (eqb i 2) (codes "the third parameter of `") (codes "a later parameter of `")))
 
 module _ (P : Program) (names : List (List ℕ)) where
+  -- what has a slot, in words: a field, or a parameter, `this` or the result of a method
   abbrev pub owner_words : Option Owner → List ℕ
   owner_words None = codes "this"
   owner_words (Some (OfField f)) = codes "the field `" ++ field_name names (field_info P f) ++ codes "`"
@@ -42,15 +46,18 @@ module _ (P : Program) (names : List (List ℕ)) where
   owner_words (Some (OfReceiver m)) = codes "`this` of `" ++ method_name names (method_at P m) ++ codes "`"
   owner_words (Some (OfResult m)) = codes "the result of `" ++ method_name names (method_at P m) ++ codes "`"
 
+-- what a bit says of a value, in words
 abbrev pub bit_words : Bit → List ℕ
 bit_words Nullable = codes " may be null"
 bit_words Committed = codes " may be whole"
 bit_words Free = codes " may be under construction"
 
+-- a point is a `return`, at which its body ends (JLS 8, 14.17)
 abbrev pub ends_body : PointKind → Bool
 ends_body (Return v) = true
 ends_body kind = false
 
+-- the same of a point that may be missing
 abbrev pub is_return : Option Point → Bool
 is_return None = false
 is_return (Some pt) = ends_body pt.kind
@@ -64,32 +71,39 @@ sent_words (Some (OfParameter m i)) unset = codes ": passed at"
 sent_words (Some (OfReceiver m)) unset = codes ": called at"
 sent_words (Some (OfResult m)) unset = codes ": returned at"
 
+-- what a point does at which a value has its bit by the text alone
 abbrev pub kind_words : PointKind → List ℕ
 kind_words (Const dst value) = codes "null is written at"
 kind_words (FieldRead dst object f) = codes "a field of an object under construction is read at"
 kind_words (ElemRead dst array i) = codes "an element that may be null is read at"
 kind_words kind = codes "it is made at"
 
+-- the same of a point that may be missing
 abbrev pub read_words : Option Point → List ℕ
 read_words None = codes "it is made at"
 read_words (Some pt) = kind_words pt.kind
 
+-- the span of what isn't there: nothing, at the beginning of the first file
 abbrev pub nowhere : Span
 nowhere = record { file = record { 0 = 0 }; from = 0; to = 0 }
 
+-- where a field is declared
 abbrev pub field_span : Option Field → Span
 field_span None = nowhere
 field_span (Some f) = f.span
 
+-- where a method or constructor is declared
 abbrev pub method_span : Option Method → Span
 method_span None = nowhere
 method_span (Some m) = m.span
 
+-- where the text stands that a point does
 abbrev pub point_span : Option Point → Span
 point_span None = nowhere
 point_span (Some pt) = pt.span
 
 module _ (P : Program) where
+  -- how a slot has its bit, by the place from which it has it
   abbrev pub how_words : Option Owner → Place → List ℕ
   how_words owner (OfSlot k) = codes ": declared so at"
   how_words owner (OfMethod m) = codes ": handed on by overriding at"
@@ -103,10 +117,12 @@ module _ (P : Program) where
   end_words (OfBody b) = codes "`this` is under construction in the constructor at"
   end_words (OfPoint b p) = read_words (point_at P b p)
 
+  -- of a slot, whose it is, its bit and how it has that; of a register, what the chain ends with
   abbrev pub item_words : List (List ℕ) → Place → Item → List ℕ
   item_words names place (AtSlot k bit) = owner_words P names (owner_of P k) ++ bit_words bit ++ how_words (owner_of P k) place
   item_words names place (AtRegister b p r bit) = end_words place
 
+  -- a step as a note says it, up to the place that is named after it
   abbrev pub step_words : List (List ℕ) → Step → List ℕ
   step_words names step = item_words names step.place step.item
 
@@ -118,6 +134,7 @@ module _ (P : Program) where
   owner_span (Some (OfReceiver m)) = method_span (method_at P m)
   owner_span (Some (OfResult m)) = method_span (method_at P m)
 
+  -- where in the text a step's place is: a declaration, for a slot, a method or a body, or else a point
   abbrev pub place_span : Place → Span
   place_span (OfSlot k) = owner_span (owner_of P k)
   place_span (OfMethod m) = method_span (method_at P m)

@@ -75,9 +75,11 @@ pub record TypeRows (infer : Infer) (files : List SourceFile) (rows : List Row) 
 abbrev pub ProgramRows : Infer → List SourceFile → List Row → Type 0
 ProgramRows infer files rows = LoweringRows files rows ⊎ TypeRows infer files rows
 
+-- the same of all phases of files that have trees, from classes and members on
 abbrev pub TreeRows : Infer → List SourceFile → List Row → Type 0
 TreeRows infer files rows = TableRows files rows ⊎ ProgramRows infer files rows
 
+-- the same of all phases, from limits, tokens and syntax on
 abbrev pub PhaseRows : Infer → List SourceFile → List Row → Type 0
 PhaseRows infer files rows = FrontRows files rows ⊎ TreeRows infer files rows
 

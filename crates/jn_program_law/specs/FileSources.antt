@@ -10,6 +10,7 @@ pub record BodyTree : Type 0 where
   pub body : PlacedStatements
   pub members : List PlacedMember
 
+-- the trees of a body, by all members of its class; a method without a body has none (JLS 8, 8.4.7)
 abbrev pub tree_of : List PlacedMember → List PlacedParameter → Option PlacedStatements → Option BodyTree
 tree_of all parameters None = None
 tree_of all parameters (Some body) = Some (record { parameters = parameters; body = body; members = all })
@@ -20,6 +21,7 @@ member_trees interface all (PlacedMethod marks result name receiver parameters b
 member_trees false all (PlacedConstructor marks name parameters body span) = tree_of all parameters (Some body) ∷ []
 member_trees interface all member = []
 
+-- the same for all members of a class or interface, in the order of the text
 abbrev pub members_trees : Bool → List PlacedMember → List PlacedMember → List (Option BodyTree)
 members_trees interface all members = flat_map (member_trees interface all) members
 
@@ -27,6 +29,7 @@ members_trees interface all members = flat_map (member_trees interface all) memb
 abbrev pub unwritten_tree : List PlacedMember → Option BodyTree
 unwritten_tree all = Some (record { parameters = []; body = NoPlacedStatements; members = all })
 
+-- the same for a class or interface as a whole, with the constructor that a class has where none is written (JLS 8, 8.8.9)
 abbrev pub type_trees : PlacedType → List (Option BodyTree)
 type_trees (PlacedClass marks name parent interfaces members span) =
     cond (has_constructor (flat_map (method_heads false) members))
@@ -34,6 +37,7 @@ type_trees (PlacedClass marks name parent interfaces members span) =
     (members_trees false members members ++ unwritten_tree members ∷ [])
 type_trees (PlacedInterface marks name parents members span) = members_trees true members members
 
+-- all classes and interfaces that the files declare, by file and text
 abbrev pub types_of : List PlacedFile → List PlacedType
 types_of files = flat_map (λ (f : PlacedFile). f.types) files
 
@@ -47,5 +51,6 @@ numbered m [] = []
 numbered m (None ∷ ts) = numbered (suc m) ts
 numbered m (Some t ∷ ts) = record { method = m; parameters = t.parameters; body = t.body; members = t.members } ∷ numbered (suc m) ts
 
+-- the source of each body, in the order of the bodies' numbers
 abbrev pub sources : List PlacedFile → List Source
 sources files = numbered 0 (body_trees files)

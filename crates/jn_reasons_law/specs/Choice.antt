@@ -12,24 +12,29 @@ use Rattle.jn_reasons_law.specs.declared.item.Place.TheVariants.{OfSlot, OfMetho
 use Rattle.jn_reasons_law.specs.declared.item.Step.{Step}
 use Rattle.jn_reasons_law.specs.Chains.{IsChain}
 
+-- the order of bits: null, whole, under construction
 abbrev pub bit_no : Bit → ℕ
 bit_no Nullable = 0
 bit_no Committed = 1
 bit_no Free = 2
 
+-- a place as numbers: first its kind, then where it is
 abbrev pub place_numbers : Place → ℕ × ℕ × ℕ
 place_numbers (OfSlot k) = (0, k, 0)
 place_numbers (OfMethod m) = (1, m, 0)
 place_numbers (OfBody b) = (2, b, 0)
 place_numbers (OfPoint b p) = (3, b, p)
 
+-- an item as numbers: slots before registers, these by body, point and register, and its bit last
 abbrev pub item_numbers : Item → ℕ × ℕ × ℕ × ℕ × ℕ
 item_numbers (AtSlot k bit) = (0, k, 0, 0, bit_no bit)
 item_numbers (AtRegister b p r bit) = (1, b, p, r, bit_no bit)
 
+-- the five numbers of an item as a list
 abbrev pub item_list : Item → List ℕ
 item_list x = let i = item_numbers x in i.0 ∷ i.1 ∷ i.2 ∷ i.3 ∷ i.4 ∷ []
 
+-- the three numbers of a place as a list
 abbrev pub place_list : Place → List ℕ
 place_list p = let n = place_numbers p in n.0 ∷ n.1 ∷ n.2 ∷ []
 
@@ -44,6 +49,7 @@ is_before [] ys = false
 is_before (x ∷ xs) [] = false
 is_before (x ∷ xs) (y ∷ ys) = ltb x y || (eqb x y && is_before xs ys)
 
+-- two lists of numbers are equal
 abbrev pub is_same : List ℕ → List ℕ → Bool
 is_same [] [] = eqb 0 0
 is_same [] (y ∷ ys) = false
@@ -56,6 +62,7 @@ comes_before [] ys = false
 comes_before (x ∷ xs) [] = false
 comes_before (x ∷ xs) (y ∷ ys) = is_before (step_numbers x) (step_numbers y) || (is_same (step_numbers x) (step_numbers y) && comes_before xs ys)
 
+-- a chain has a first step, and it is of the item
 abbrev pub BeginsAt : Item → List Step → Type 0
 BeginsAt x [] = ⊥
 BeginsAt x (y ∷ ys) = y.item ≡ x

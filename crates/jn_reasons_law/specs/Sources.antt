@@ -18,6 +18,7 @@ use Rattle.jn_reasons_law.specs.declared.item.Bit.TheVariants.{Nullable, Committ
 use Rattle.jn_reasons_law.specs.declared.item.Item.{Item}
 use Rattle.jn_reasons_law.specs.declared.item.Item.TheVariants.{AtSlot, AtRegister}
 
+-- it stands in the list
 abbrev pub IsOneOf : Option Item → List (Option Item) → Type 0
 IsOneOf z [] = ⊥
 IsOneOf z (y ∷ ys) = (z ≡ y) ⊎ IsOneOf z ys
@@ -26,6 +27,7 @@ IsOneOf z (y ∷ ys) = (z ≡ y) ⊎ IsOneOf z ys
 abbrev pub the_text : List (Option Item)
 the_text = None ∷ []
 
+-- the same bit of a slot, where there is one
 abbrev pub from_slot : Option SlotNo → Bit → List (Option Item)
 from_slot None bit = []
 from_slot (Some n) bit = Some (AtSlot n.0 bit) ∷ []
@@ -38,6 +40,7 @@ from_given xs r bit = from_slot (slice_index_or xs r None) bit
 abbrev pub from_this : Option Method → Bit → List (Option Item)
 from_this m bit = cond (ctor_of m) the_text (from_slot (receiver_slot_of m) bit)
 
+-- of an instance body's first register what `this` has, of each later one what its parameter has
 abbrev pub from_this_or_given : Option Method → ℕ → Bit → List (Option Item)
 from_this_or_given m zero bit = from_this m bit
 from_this_or_given m (suc r) bit = from_given (slots_of m) r bit
@@ -100,6 +103,7 @@ module _ (b p : ℕ) where
   abbrev pub unless_written : ℕ → ℕ → Bit → List (Option Item) → List (Option Item)
   unless_written dst r bit xs = cond (eqb dst r) xs (from_register r bit)
 
+  -- the same of a call, whose result may be written to no register
   abbrev pub unless_result : Option RegNo → ℕ → Bit → List (Option Item) → List (Option Item)
   unless_result None r bit xs = from_register r bit
   unless_result (Some dst) r bit xs = unless_written dst.0 r bit xs
@@ -110,11 +114,13 @@ module _ (b p : ℕ) where
   from_settled r Committed = from_register r Committed ++ from_register r Free
   from_settled r Free = []
 
+  -- of each argument whose parameter has slot k
   abbrev pub from_arguments : ℕ → List (Option SlotNo) → List Operand → Bit → List (Option Item)
   from_arguments k [] args bit = []
   from_arguments k (x ∷ xs) [] bit = []
   from_arguments k (x ∷ xs) (a ∷ args) bit = if_slot k x (from_register a.reg.0 bit) ++ from_arguments k xs args bit
 
+  -- of a value that goes to a slot, where it is there and the slot is k
   abbrev pub from_operand : ℕ → Option SlotNo → Option Operand → Bit → List (Option Item)
   from_operand k slot None bit = []
   from_operand k slot (Some a) bit = if_slot k slot (from_register a.reg.0 bit)

@@ -20,6 +20,7 @@ pub record RulesGive (P : Program) (rows : List Row) : Type 0 where
   pub breaks : Breaks P signature broken
   pub order : IsOrderOf broken rows
 
+-- no phase refuses the files, and the rows are what the rules find in their program
 pub record IsCheckedBy (infer : Infer) (files : List SourceFile) (rows : List Row) : Type 0 where
   pub names : List (List ℕ)
   pub P : Program

@@ -7,6 +7,7 @@ use Rattle.jn_diag.specs.Order.{code_place}
 use Rattle.jn_reporters.specs.declared.excerpt.Excerpt.{Excerpt}
 use Rattle.jn_reporters.specs.declared.shown.Extract.{Extract}
 
+-- an excerpt's own bytes, which itself only points into those of the file
 abbrev pub extract_of : Excerpt → Extract
 extract_of e = record { before = e.before.now; marked = e.marked.now; behind = e.behind.now; begins = e.begins; ends = e.ends }
 

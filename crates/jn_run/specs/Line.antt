@@ -13,6 +13,7 @@ place_in_file None span = codes ":1:1"
 place_in_file (Some file) span = let place = place_in file.bytes span in file.name ++ codes ":" ++ decimal place.line ++ codes ":" ++ decimal place.col
 
 module _ (files : List SourceFile) where
+  -- the same of a span of these files, which says by number in which of them it stands
   abbrev pub place_text : Span → List ℕ
   place_text span = place_in_file (slice_get files span.file.0) span
 
@@ -31,6 +32,7 @@ module _ (files : List SourceFile) where
   end_line Deep span = codes "deep\n"
   end_line Long span = codes "long\n"
 
+-- the status of a run by its end: main returned, an exception of Java was thrown, or a limit stopped it
 abbrev pub end_status : End → Status
 end_status Done = Ok
 end_status Arithmetic = RunFault

@@ -27,18 +27,22 @@ pub data Since (at : ℕ → Passed) (wanted : Bool) (from : ℕ) : ℕ → Type
 
 -- ---- the fact on a field of the object in a register, in a table of a body
 
+-- a value was read from this field of the object in this register
 abbrev pub is_of : Key → Option Origin → Bool
 is_of k None = false
 is_of k (Some og) = is_key k.reg k.field (record { reg = og.reg.0; field = og.field.0 })
 
+-- a point tests a value that was read from this field of the object in this register
 abbrev pub tests : Key → Option Point → Bool
 tests k None = false
 tests k (Some pt) = is_of k (origin_in pt.kind)
 
 module _ (P : Program) (s : List Qualifier) (b : ℕ) (k : Key) where
+  -- the environment has the fact that the field isn't null
   abbrev pub knows : Env → Bool
   knows e = is_on (is_key k.reg k.field) (fact_keys P b) e.facts
 
+  -- an edge, by the point that it goes to and whether the fact is known on it
   abbrev pub way : ℕ × Env → Way
   way x = record { to = x.0; known = knows x.1 }
 
@@ -49,6 +53,7 @@ module _ (P : Program) (s : List Qualifier) (b : ℕ) (k : Key) where
   passed_at p (Some pt) (Some e) = record { known = Some (knows e); ways = map way (transfer P s b pt.kind p e) }
 
 module _ (P : Program) (s : List Qualifier) (b : ℕ) (t : Table) (k : Key) where
+  -- what the body's table says of the fact at each point, and on the edges from there
   abbrev pub course : ℕ → Passed
   course p = passed_at P s b k p (point_at P b p) (env_in t p)
 

@@ -22,6 +22,7 @@ use Rattle.jn_phases.specs.Phases.{TypedProgramOf}
 abbrev pub placed_note : List SourceFile → Note → ShownNote
 placed_note files note = note_of files note.joined note.words note.span
 
+-- the notes of one row as they are shown, and how many more steps there are
 abbrev pub placed : List SourceFile → Notes → Noted
 placed files notes = record { notes = map (placed_note files) notes.shown; more = notes.more }
 
