@@ -13,7 +13,7 @@ pub drop_nothing : {A : Type 0} (k : ℕ) → ◌≡◌ {A = List A} (drop k [])
 drop_nothing zero = refl
 drop_nothing (suc k) = refl
 
--- behind the last there is nothing
+-- after the last there is nothing
 pub drop_all : {A : Type 0} (xs : List A) (k : ℕ) → length xs ≤ k → [] ≡ drop k xs
 drop_all [] k l = sym (drop_nothing k)
 drop_all (x ∷ xs) zero l = absurd (omega (arith, l))
@@ -24,7 +24,7 @@ drop_twice zero n xs = ap (λ k. drop k xs) (let e : 0 + n ≡ n = omega arith i
 drop_twice (suc m) n [] = drop_nothing (suc m + n) ∙ sym (drop_nothing n)
 drop_twice (suc m) n (x ∷ xs) = ap (λ k. drop k (x ∷ xs)) (let e : suc m + n ≡ suc (m + n) = omega arith in e) ∙ drop_twice m n xs
 
--- the item at a place, and what stands behind it
+-- the item at a place, and what stands after it
 pub here : {A : Type 0} (xs : List A) (k : ℕ) (d : A) → k < length xs → drop k xs ≡ slice_index_or xs k d ∷ drop (k + 1) xs
 here [] k d l = absurd (omega (arith, l))
 here (x ∷ xs) zero d l = refl
@@ -34,7 +34,7 @@ pub behind_append : (ts : List Token) (a b : List TokenKind) → behind ts (a ++
 behind_append ts [] b = refl
 behind_append ts (k ∷ a) b = behind_append (drop 1 ts) a b
 
--- behind tokens are as many fewer
+-- after tokens are as many fewer
 pub behind_is : (ts : List Token) (ks : List TokenKind) → drop (length ks) ts ≡ behind ts ks
 behind_is ts [] = refl
 behind_is ts (k ∷ ks) =
@@ -51,7 +51,7 @@ more_names : (ts : List Token) (ns : List NameNo) → behind ts (spell_dots ns) 
 more_names ts [] = refl
 more_names ts (n ∷ ns) = more_names (drop 1 (drop 1 ts)) ns
 
--- names behind dots are as many tokens as those behind commas
+-- names after dots are as many tokens as those after commas
 pub dots_names : (ts : List Token) (word : TokenKind) (ns : List NameNo) → behind ts (spell_dots ns) ≡ behind ts (spell_names word ns)
 dots_names ts word [] = refl
 dots_names ts word (n ∷ ns) = more_names (drop 1 (drop 1 ts)) ns

@@ -52,6 +52,6 @@ pub last : (text : List ℕ) (puts : List Put) (old new : List ℕ) (from k : �
 last text puts old new from k rises l made h =
     made ∙ ap (λ x. old ++ passed from (drop from text) (map insertion x)) (sym (nothing_left puts k l)) ∙ h.0 ∙ sym (by_one_pass text (map insertion puts) rises)
 
--- places rise where the first stands behind the last one passed, and the others behind it
+-- places rise where the first stands after the last one passed, and the others after it
 pub rising_more : (from end : ℕ) (put : Put) (left : List Put) (whole : Type 0) → from ≤ put.at → put.at ≤ end → (Rising from end (map insertion (put ∷ left)) → whole) → Rising put.at end (map insertion left) → whole
 rising_more from end put left whole low high goes h = goes (low, high, h)

@@ -18,7 +18,7 @@ use Rattle.jn_annotate.specs.Answers.{IsWhyRefused, IsLargeOf}
 use Rattle.jn_annotate.specs.Shared.{shared_slots, IsLeast}
 use Rattle.jn_annotate.proofs.Sharing.{first_is, none_is}
 
--- what is left of the texts behind the next one
+-- what is left of the texts after the next one
 pub next_text : (done new left : List (List ℕ)) (text : List ℕ) (whole : List (List ℕ)) → new ≡ done ++ text ∷ [] → done ++ (text ∷ left) ≡ whole → new ++ left ≡ whole
 next_text done new left text whole h k = ap (λ x. x ++ left) h ∙ append_assoc done (text ∷ []) left ∙ k
 

@@ -13,7 +13,7 @@ use Rattle.jn_splice_law.specs.Inserted.{Insertion}
 use Rattle.jn_annotate.specs.Insertions.{unwritten}
 use Rattle.jn_annotate.proofs.Cursors.{drop_twice}
 
--- one part behind the other
+-- one part after the other
 pub two_parts : (old one two a b : List Insertion) → one ≡ old ++ a → two ≡ one ++ b → two ≡ old ++ (a ++ b)
 two_parts old one two a b h k = k ∙ ap (λ x. x ++ b) h ∙ append_assoc old a b
 
@@ -21,12 +21,12 @@ two_parts old one two a b h k = k ∙ ap (λ x. x ++ b) h ∙ append_assoc old a
 abbrev pub missing : Bool → ℕ
 missing b = cond b 0 1
 
--- a class without a written constructor has one behind its methods
+-- a class without a written constructor has one after its methods
 pub class_methods : (methods rest : List Method) (n m : ℕ) (b : Bool) → rest ≡ drop n methods → m ≡ missing b → cond b rest (drop 1 rest) ≡ drop (n + m) methods
 class_methods methods rest n m true h k = h ∙ ap (λ j. drop j methods) (let e : n ≡ n + 0 = omega arith in e) ∙ ap (λ j. drop (n + j) methods) (sym k)
 class_methods methods rest n m false h k = ap (drop 1) h ∙ sym (drop_twice n 1 methods) ∙ ap (λ j. drop (n + j) methods) (sym k)
 
--- what is left of a list is put behind its next part
+-- what is left of a list is put after its next part
 pub next_part : (old one a rest whole : List Insertion) → one ≡ old ++ a → old ++ (a ++ rest) ≡ whole → one ++ rest ≡ whole
 next_part old one a rest whole h k = ap (λ x. x ++ rest) h ∙ append_assoc old a rest ∙ k
 
@@ -47,7 +47,7 @@ more_fields P s q f fs n old one two h k =
     k ∙ ap (λ x. x ++ off_slots P s q (take n fs)) h ∙ append_assoc old (off_slot P s q f.slot) (off_slots P s q (take n fs))
     ∙ ap (λ m. old ++ off_slots P s q (take m (f ∷ fs))) (let e : suc n ≡ 1 + n = omega arith in e)
 
--- four parts of a text, put one behind the other
+-- four parts of a text, put one after the other
 pub four_parts : (a b c d x y z w : List ℕ) → x ≡ a → y ≡ x ++ b → z ≡ y ++ c → w ≡ z ++ d → w ≡ a ++ (b ++ (c ++ d))
 four_parts a b c d x y z w e f g h =
     h ∙ ap (λ t. t ++ d) (g ∙ ap (λ t. t ++ c) (f ∙ ap (λ t. t ++ b) e)) ∙ append_assoc (a ++ b) c d ∙ append_assoc a b (c ++ d)

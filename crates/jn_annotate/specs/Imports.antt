@@ -22,7 +22,7 @@ package_name Initialization = initialization_name
 abbrev pub name_of : ℕ → NameNo
 name_of n = record { 0 = n }
 
--- the package is `org.checkerframework.checker.NAME.qual`: its names behind the first
+-- the package is `org.checkerframework.checker.NAME.qual`: its names after the first
 abbrev pub package_rest : Package → List NameNo
 package_rest p = name_of checkerframework_name ∷ name_of checker_name ∷ name_of (package_name p) ∷ name_of qual_name ∷ []
 
@@ -94,7 +94,7 @@ abbrev pub import_line : Package → List ℕ
 import_line Nullness = codes "import org.checkerframework.checker.nullness.qual.*;"
 import_line Initialization = codes "import org.checkerframework.checker.initialization.qual.*;"
 
--- behind the semicolon of the package line, on a line of its own; where there is none, at the file's first byte
+-- after the semicolon of the package line, on a line of its own; where there is none, at the file's first byte
 abbrev pub put_line : List ℕ → List Token → Option DottedName → Package → Insertion
 put_line text ts None p = record { at = 0; words = import_line p ++ line_end text }
 put_line text ts (Some q) p = record { at = (front (behind ts (PackageWord ∷ spell_dotted q))).to; words = line_end text ++ import_line p }

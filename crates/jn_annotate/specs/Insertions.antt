@@ -1,5 +1,5 @@
 -- Where a file's text gets the words of its inferred slots: at the types of fields, parameters and results, and at receivers.
--- Tokens are those behind which nothing was looked at yet, as in the places of trees; fields and methods are those of the program
+-- Tokens are those after which nothing was looked at yet, as in the places of trees; fields and methods are those of the program
 -- that were not declared before.
 use Rattle.std.specs.Prelude.{ℕ, zero, suc, ◌+◌, cond, List, [], ◌∷◌, ◌++◌, length, drop, codes, Option, Some, None, slice_get, slice_index_or}
 use Rattle.jn_base.specs.declared.number.NameNo.{NameNo}
@@ -35,7 +35,7 @@ abbrev pub in_all : (MemberTree → ℕ) → List MemberTree → ℕ
 in_all f [] = 0
 in_all f (m ∷ ms) = f m + in_all f ms
 
--- where no constructor is written, one stands behind the methods (JLS 8, 8.8.9)
+-- where no constructor is written, one stands after the methods (JLS 8, 8.8.9)
 abbrev pub unwritten : ℕ → ℕ
 unwritten zero = 1
 unwritten (suc n) = 0
@@ -75,7 +75,7 @@ abbrev pub comma : List ParameterTree → List ℕ
 comma [] = []
 comma (p ∷ ps) = codes ", "
 
--- a receiver that is named gets the word before its class's name; one that isn't is named, behind the parenthesis
+-- a receiver that is named gets the word before its class's name; one that isn't is named, after the parenthesis
 abbrev pub at_receiver : List ℕ → List Token → Option ReceiverTree → List ParameterTree → Option Qualifier → List Insertion
 at_receiver class paren r ps None = []
 at_receiver class paren None ps (Some q) = record { at = (front paren).to; words = initialization_text q ++ (class ++ (codes " this" ++ comma ps)) } ∷ []

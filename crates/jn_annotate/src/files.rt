@@ -35,7 +35,7 @@ fn bytes_at(text: &[u8], span: Span) -> &[u8]
     )
 }
 
-/// The fields behind those of members.
+/// The fields after those of members.
 #[tactic(auto, using(crate::proofs::Cursors::drop_twice))]
 pub fn fields_after<'p>(fields: &'p [Field], members: &[Member]) -> &'p [Field]
     ensures { result.now ≡ drop (spec.in_all spec.fields_in (member_views members.now)) fields.now }
@@ -47,7 +47,7 @@ pub fn fields_after<'p>(fields: &'p [Field], members: &[Member]) -> &'p [Field]
     rest
 }
 
-/// The methods behind those of members.
+/// The methods after those of members.
 #[tactic(auto, using(crate::proofs::Cursors::drop_twice))]
 fn methods_after<'p>(methods: &'p [Method], members: &[Member]) -> &'p [Method]
     ensures { result.now ≡ drop (spec.in_all spec.methods_in (member_views members.now)) methods.now }
@@ -84,7 +84,7 @@ fn has_constructor(members: &[Member]) -> bool
     false
 }
 
-/// The methods behind those of a class, whose constructor stands behind them where none is written.
+/// The methods after those of a class, whose constructor stands after them where none is written.
 #[tactic(auto, using(crate::proofs::Walking::class_methods))]
 fn class_methods_after<'p>(methods: &'p [Method], members: &[Member]) -> &'p [Method]
     ensures { result.now
@@ -100,7 +100,7 @@ fn class_methods_after<'p>(methods: &'p [Method], members: &[Member]) -> &'p [Me
     }
 }
 
-/// The fields behind those of a type.
+/// The fields after those of a type.
 pub fn fields_behind_type<'p>(fields: &'p [Field], declared: &TypeTree) -> &'p [Field]
     ensures { result.now ≡ drop (spec.type_fields (type_view declared.now)) fields.now }
 {
@@ -232,7 +232,7 @@ pub fn file_puts(
     Ok(puts)
 }
 
-/// The fields behind those of a file.
+/// The fields after those of a file.
 #[tactic(auto, using(crate::proofs::Cursors::drop_twice))]
 pub fn fields_behind_types<'p>(fields: &'p [Field], types: &[TypeTree]) -> &'p [Field]
     ensures { result.now ≡ drop (spec.file_fields (map type_view types.now)) fields.now }
@@ -244,7 +244,7 @@ pub fn fields_behind_types<'p>(fields: &'p [Field], types: &[TypeTree]) -> &'p [
     rest
 }
 
-/// The methods behind those of a file.
+/// The methods after those of a file.
 #[tactic(auto, using(crate::proofs::Cursors::drop_twice))]
 pub fn methods_behind_types<'p>(methods: &'p [Method], types: &[TypeTree]) -> &'p [Method]
     ensures { result.now ≡ drop (spec.file_methods (map type_view types.now)) methods.now }

@@ -55,7 +55,7 @@ fn same_names(names: &[Identifier], wanted: &[NameNo]) -> bool
     other.is_empty()
 }
 
-/// Whether the names behind the first are those of an import of all of the package, or of the word alone (JLS 7.5.1, 7.5.2).
+/// Whether the names after the first are those of an import of all of the package, or of the word alone (JLS 7.5.1, 7.5.2).
 fn is_of_word(names: &[Identifier], all: bool, owner: Package, word: NameNo) -> bool
     ensures { result
         ≡ spec.same_names (identifier_names names.now) (spec.imported_names all owner word.0) }
@@ -172,7 +172,7 @@ fn lacks(imports: &[Import], puts: &[Put], owner: Package) -> bool
     }
 }
 
-/// Puts the package behind the others where it is lacking.
+/// Puts the package after the others where it is lacking.
 fn put_lacking(
     lacking: &mut Vec<Package>,
     imports: &[Import],

@@ -24,7 +24,7 @@ fn part<'a>(text: &'a [u8], from: usize, to: usize) -> &'a [u8]
     &text[from..to]
 }
 
-/// Puts what stands before the words, from a place on, and the words behind the new text.
+/// Puts what stands before the words, from a place on, and the words after the new text.
 fn put_words(new: &mut Vec<u8>, text: &[u8], from: usize, put: &Put) -> Result<(), AllocError>
     requires low { from ≤ put.now.at }
     requires high { put.now.at ≤ length text.now }
@@ -35,7 +35,7 @@ fn put_words(new: &mut Vec<u8>, text: &[u8], from: usize, put: &Put) -> Result<(
     new.extend_from_slice(put.words.as_slice())
 }
 
-/// Puts what stands behind a place behind the new text.
+/// Puts what stands after a place after the new text.
 fn put_rest(new: &mut Vec<u8>, text: &[u8], from: usize) -> Result<(), AllocError>
     requires { from ≤ length text.now }
     ensures { IfOk result (λ u. new.new.items ≡ new.old.items ++ drop from text.now) }

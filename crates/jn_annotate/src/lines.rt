@@ -12,7 +12,7 @@ use jn_base::{OutOfMemory, Seq};
 use jn_trees::{FileTree, PackageLine, Token};
 use std::alloc::Global;
 
-/// Behind a carriage return: the end of a line with the line feed, where one follows.
+/// After a carriage return: the end of a line with the line feed, where one follows.
 fn carriage_return(text: &[u8]) -> &'static [u8]
     ensures { result.now ≡ 13 ∷ spec.line_feed text.now }
 {
@@ -49,7 +49,7 @@ fn import_line(owner: Package) -> &'static [u8]
     }
 }
 
-/// One text and another behind it.
+/// One text and another after it.
 fn both(alloc: Global, one: &[u8], other: &[u8]) -> Result<Seq<u8>, OutOfMemory>
     ensures { IfOk result (λ text. text ≡ one.now ++ other.now) }
 {
@@ -58,7 +58,7 @@ fn both(alloc: Global, one: &[u8], other: &[u8]) -> Result<Seq<u8>, OutOfMemory>
     Ok(Seq::of_vec(text))
 }
 
-/// The package's line, behind the semicolon of the file's package line, or at the file's first byte.
+/// The package's line, after the semicolon of the file's package line, or at the file's first byte.
 fn line_put(
     alloc: Global,
     text: &[u8],

@@ -20,7 +20,7 @@ use jn_sigs::Sig;
 use jn_trees::{Member, Parameter, Receiver, ResultUse, Token};
 use std::alloc::Global;
 
-/// The fields behind so many.
+/// The fields after so many.
 #[tactic(auto, using(crate::proofs::Cursors::drop_all))]
 pub fn later_fields(fields: &[Field], count: usize) -> &[Field]
     ensures { result.now ≡ drop count fields.now }
@@ -32,7 +32,7 @@ pub fn later_fields(fields: &[Field], count: usize) -> &[Field]
     }
 }
 
-/// The methods behind the first.
+/// The methods after the first.
 pub fn next_methods(methods: &[Method]) -> &[Method]
     ensures { result.now ≡ drop 1 methods.now }
 {
@@ -52,7 +52,7 @@ pub fn first_slot(fields: &[Field]) -> Option<SlotNo>
     }
 }
 
-/// The fields behind those that a member declares.
+/// The fields after those that a member declares.
 pub fn fields_behind<'p>(fields: &'p [Field], member: &Member) -> &'p [Field]
     ensures { result.now ≡ drop (spec.fields_in (member_view member.now)) fields.now }
 {
@@ -63,7 +63,7 @@ pub fn fields_behind<'p>(fields: &'p [Field], member: &Member) -> &'p [Field]
     }
 }
 
-/// The methods behind the one that a member declares.
+/// The methods after the one that a member declares.
 pub fn methods_behind<'p>(methods: &'p [Method], member: &Member) -> &'p [Method]
     ensures { result.now ≡ drop (spec.methods_in (member_view member.now)) methods.now }
 {

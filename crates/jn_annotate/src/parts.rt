@@ -1,7 +1,7 @@
 //! Parts of a text.
 ghost use Rattle.std.specs.Prelude.{◌≡◌, drop, take};
 
-/// The bytes behind so many.
+/// The bytes after so many.
 #[tactic(auto, using(crate::proofs::Cursors::drop_all))]
 pub fn bytes_behind(text: &[u8], count: usize) -> &[u8]
     ensures { result.now ≡ drop count text.now }

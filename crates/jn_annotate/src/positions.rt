@@ -35,7 +35,7 @@ pub fn inferred_qual(program: &Program, sig: &Sig, slot: Option<SlotNo>) -> Opti
     }
 }
 
-/// Puts words before a byte behind the others.
+/// Puts words before a byte after the others.
 fn put_at(puts: &mut Vec<Put>, at: u32, words: Vec<u8>) -> Result<(), OutOfMemory>
     ensures { OnOk result (insertions puts.new.items
         ≡ insertions puts.old.items ++ (record { at = at; words = words.items }) ∷ []) }
@@ -152,7 +152,7 @@ fn receiver_words(
     Ok(words)
 }
 
-/// Puts the word for initialization before the class's name of a receiver that is named, and else a receiver behind the parenthesis, which is the first
+/// Puts the word for initialization before the class's name of a receiver that is named, and else a receiver after the parenthesis, which is the first
 /// token (JLS 8.4.1).
 pub fn put_receiver(
     alloc: Global,

@@ -1,4 +1,4 @@
-//! Steps along a file's tokens: what stands behind the tokens of the parts of its tree.
+//! Steps along a file's tokens: what stands after the tokens of the parts of its tree.
 ghost use Rattle.std.specs.Prelude.{◌≡◌, ◌∷◌, drop, map, IfOk};
 ghost use Rattle.jn_trees.specs.Spelling.{spell_all_marks, spell_annotations, spell_brackets, spell_dots, spell_dotted, spell_import, spell_imports, spell_mark, spell_marks, spell_member, spell_names, spell_package_line, spell_parent, spell_result, spell_star, spell_type, spell_type_use};
 ghost use Rattle.jn_trees.specs.View.{annotation_names, brackets_view, dotted_view, identifier_names, import_view, local_mark, local_marks, mark, marks, member_view, package_view, parameter_view, parent_view, receiver_view, result_view, type_use_view, type_view};
@@ -14,7 +14,7 @@ use jn_trees_spelling::declarations::spell_type as put_type;
 use jn_trees_spelling::members::spell_member as put_member;
 use std::alloc::Global;
 
-/// The tokens behind the first.
+/// The tokens after the first.
 pub fn step(tokens: &[Token]) -> &[Token]
     ensures { result.now ≡ drop 1 tokens.now }
 {
@@ -24,7 +24,7 @@ pub fn step(tokens: &[Token]) -> &[Token]
     }
 }
 
-/// The tokens behind so many.
+/// The tokens after so many.
 #[tactic(auto, using(crate::proofs::Cursors::drop_all))]
 fn skip(tokens: &[Token], count: usize) -> &[Token]
     ensures { result.now ≡ drop count tokens.now }
@@ -65,7 +65,7 @@ fn behind_mark(tokens: &[Token], modifier: Modifier) -> &[Token]
     }
 }
 
-/// What stands behind modifiers.
+/// What stands after modifiers.
 #[tactic(auto, using(crate::proofs::Cursors::behind_append))]
 pub fn behind_marks<'t>(tokens: &'t [Token], modifiers: &[Modifier]) -> &'t [Token]
     ensures { result.now ≡ behind tokens.now (spell_all_marks (marks modifiers.now)) }
@@ -77,7 +77,7 @@ pub fn behind_marks<'t>(tokens: &'t [Token], modifiers: &[Modifier]) -> &'t [Tok
     rest
 }
 
-/// What stands behind annotations.
+/// What stands after annotations.
 pub fn behind_annotations<'t>(tokens: &'t [Token], annotations: &[Annotation]) -> &'t [Token]
     ensures { result.now ≡ behind tokens.now (spell_annotations (annotation_names annotations.now)) }
 {
@@ -99,7 +99,7 @@ fn behind_local_mark(tokens: &[Token], modifier: LocalModifier) -> &[Token]
     }
 }
 
-/// What stands behind the modifiers of a parameter.
+/// What stands after the modifiers of a parameter.
 pub fn behind_local_marks<'t>(tokens: &'t [Token], modifiers: &[LocalModifier]) -> &'t [Token]
     ensures { result.now ≡ behind tokens.now (spell_marks (local_marks modifiers.now)) }
 {
@@ -120,14 +120,14 @@ fn behind_brackets<'t>(tokens: &'t [Token], array: &Option<Vec<Annotation>>) -> 
     }
 }
 
-/// What stands behind a use of a type.
+/// What stands after a use of a type.
 pub fn behind_type_use<'t>(tokens: &'t [Token], type_use: &TypeUse) -> &'t [Token]
     ensures { result.now ≡ behind tokens.now (spell_type_use (type_use_view type_use.now)) }
 {
     behind_brackets(step(tokens), &type_use.array)
 }
 
-/// What stands behind what a method gives.
+/// What stands after what a method gives.
 pub fn behind_result<'t>(tokens: &'t [Token], result_use: &ResultUse) -> &'t [Token]
     ensures { result.now ≡ behind tokens.now (spell_result (result_view result_use.now)) }
 {
@@ -137,7 +137,7 @@ pub fn behind_result<'t>(tokens: &'t [Token], result_use: &ResultUse) -> &'t [To
     }
 }
 
-/// What stands behind a parameter and the comma or parenthesis that follows it.
+/// What stands after a parameter and the comma or parenthesis that follows it.
 pub fn behind_parameter<'t>(tokens: &'t [Token], parameter: &Parameter) -> &'t [Token]
     ensures { result.now ≡ behind tokens.now (spell_parameter_through (parameter_view parameter.now)) }
 {
@@ -145,7 +145,7 @@ pub fn behind_parameter<'t>(tokens: &'t [Token], parameter: &Parameter) -> &'t [
     step(step(behind_type_use(rest, &parameter.type_use)))
 }
 
-/// What stands behind a receiver that is named and the comma or parenthesis that follows it.
+/// What stands after a receiver that is named and the comma or parenthesis that follows it.
 #[tactic(auto, using(crate::proofs::Cursors::behind_append))]
 pub fn behind_receiver<'t>(tokens: &'t [Token], receiver: &Option<Receiver>) -> &'t [Token]
     ensures { result.now ≡ behind tokens.now (spell_receiver (receiver_view receiver.now)) }
@@ -156,7 +156,7 @@ pub fn behind_receiver<'t>(tokens: &'t [Token], receiver: &Option<Receiver>) -> 
     }
 }
 
-/// What stands behind names, each with a word, a comma or a dot before it.
+/// What stands after names, each with a word, a comma or a dot before it.
 fn behind_dots<'t>(tokens: &'t [Token], names: &[Identifier]) -> &'t [Token]
     ensures { result.now ≡ behind tokens.now (spell_dots (identifier_names names.now)) }
 {
@@ -169,7 +169,7 @@ fn behind_dots<'t>(tokens: &'t [Token], names: &[Identifier]) -> &'t [Token]
     rest
 }
 
-/// What stands behind the interfaces of a class.
+/// What stands after the interfaces of a class.
 #[tactic(auto, using(crate::proofs::Cursors::dots_names))]
 pub fn behind_interfaces<'t>(tokens: &'t [Token], names: &[Identifier]) -> &'t [Token]
     ensures { result.now ≡ behind tokens.now (spell_names Implements (identifier_names names.now)) }
@@ -177,7 +177,7 @@ pub fn behind_interfaces<'t>(tokens: &'t [Token], names: &[Identifier]) -> &'t [
     behind_dots(tokens, names)
 }
 
-/// What stands behind the interfaces that an interface extends.
+/// What stands after the interfaces that an interface extends.
 #[tactic(auto, using(crate::proofs::Cursors::dots_names))]
 pub fn behind_parents<'t>(tokens: &'t [Token], names: &[Identifier]) -> &'t [Token]
     ensures { result.now ≡ behind tokens.now (spell_names Extends (identifier_names names.now)) }
@@ -185,7 +185,7 @@ pub fn behind_parents<'t>(tokens: &'t [Token], names: &[Identifier]) -> &'t [Tok
     behind_dots(tokens, names)
 }
 
-/// What stands behind the class that a class extends.
+/// What stands after the class that a class extends.
 pub fn behind_parent<'t>(tokens: &'t [Token], parent: &Option<Identifier>) -> &'t [Token]
     ensures { result.now ≡ behind tokens.now (spell_parent (parent_view parent.now)) }
 {
@@ -195,14 +195,14 @@ pub fn behind_parent<'t>(tokens: &'t [Token], parent: &Option<Identifier>) -> &'
     }
 }
 
-/// The semicolon of the package line, and what stands behind it.
+/// The semicolon of the package line, and what stands after it.
 pub fn semicolon<'t>(tokens: &'t [Token], line: &PackageLine) -> &'t [Token]
     ensures { result.now ≡ behind tokens.now (PackageWord ∷ spell_dotted (dotted_view line.now.name)) }
 {
     behind_dots(step(step(tokens)), &line.name.more)
 }
 
-/// What stands behind the package line.
+/// What stands after the package line.
 #[tactic(auto, using(crate::proofs::Cursors::behind_append))]
 pub fn behind_package<'t>(tokens: &'t [Token], line: &Option<PackageLine>) -> &'t [Token]
     ensures { result.now ≡ behind tokens.now (spell_package_line (package_view line.now)) }
@@ -227,7 +227,7 @@ fn behind_import<'t>(tokens: &'t [Token], import: &Import) -> &'t [Token]
     step(behind_star(rest, import.all))
 }
 
-/// What stands behind the imports.
+/// What stands after the imports.
 #[tactic(auto, using(crate::proofs::Cursors::behind_append))]
 pub fn behind_imports<'t>(tokens: &'t [Token], imports: &[Import]) -> &'t [Token]
     ensures { result.now ≡ behind tokens.now (spell_imports (map import_view imports.now)) }
@@ -239,7 +239,7 @@ pub fn behind_imports<'t>(tokens: &'t [Token], imports: &[Import]) -> &'t [Token
     rest
 }
 
-/// What stands behind a member.
+/// What stands after a member.
 #[tactic(auto, using(crate::proofs::Cursors::behind_is))]
 pub fn behind_member<'t>(
     alloc: Global,
@@ -253,7 +253,7 @@ pub fn behind_member<'t>(
     Ok(skip(tokens, kinds.len()))
 }
 
-/// What stands behind a type.
+/// What stands after a type.
 #[tactic(auto, using(crate::proofs::Cursors::behind_is))]
 pub fn behind_type<'t>(
     alloc: Global,

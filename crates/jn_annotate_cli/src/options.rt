@@ -1,10 +1,10 @@
-//! The texts behind the options, and which of them are refused.
+//! The texts after the options, and which of them are refused.
 ghost use Rattle.std.specs.Prelude.{◌≡◌};
 ghost use Rattle.jn_annotate_cli.specs.Words as spec;
 
 use jn_base::{Seq, Text};
 
-/// The texts that stand behind the options, where they are given.
+/// The texts that stand after the options, where they are given.
 #[derive(Drop)]
 pub struct Options {
     pub infer: Option<Text>,

@@ -12,7 +12,7 @@ use jn_base::{Fail, OutOfMemory, Seq, Text};
 use jn_cli::Usage;
 use std::alloc::{AllocError, Global};
 
-/// The texts that stand behind the options.
+/// The texts that stand after the options.
 pub fn read_options(alloc: Global, words: &[String]) -> Result<Options, Fail<Usage>>
     ensures taken { IfOk result (λ o. spec.takes_words (map string_bytes words.now) ≡ true) }
     ensures ok { IfOk result (λ o. o ≡ spec.options_of (map string_bytes words.now)) }

@@ -148,7 +148,7 @@ marked_methods_long infer hs c k b (InterfaceType marks n parents members) ts g 
     let inside : List Token = behind (drop 1 (behind ts (spell_all_marks marks ++ Interface ∷ []))) (spell_names Extends parents ++ LeftBrace ∷ []) in
     methods_of_long hs c k b (methods_at infer true inside members) ∙ methods_long infer true (place_members inside members) ∙ methods_count (record { interface = true; name = n }) true refl members inside g.1
 
--- fields and methods that begin with those of one declaration, and what is behind them
+-- fields and methods that begin with those of one declaration, and what is after them
 pub record Parts (fs A B : List Field) (ms D E : List Method) (fields methods : ℕ) : Type 0 where
   pub cut_f : fs ≡ A ++ B
   pub cut_m : ms ≡ D ++ E

@@ -19,7 +19,7 @@ use Rattle.jn_annotate.specs.Words.{is_unspelled, initialization_name}
 use Rattle.jn_annotate_law.specs.Trees.{nullity_names, both_names}
 use Rattle.jn_annotate_law.specs.Noted.{has_name, notes_with}
 
--- ---- annotations behind others
+-- ---- annotations after others
 
 or_assoc : (a b c : Bool) → ((a || b) || c) ≡ (a || (b || c))
 or_assoc true b c = refl

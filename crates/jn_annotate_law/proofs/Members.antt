@@ -87,7 +87,7 @@ module _ (text : List ℕ) (old : List (List ℕ)) (known : HasKnown old) (slots
         (sym (append_assoc marks notes type') ∙ ap (λ x. x ++ type') (sym e))
         (n marks (spell_type_use u) (λ ts. []) (λ ts. at_type txt ts u q) marks (notes ++ type') (k marks) (typed_part txt nms spells u q))
 
-    -- a part and tokens behind it
+    -- a part and tokens after it
     ended : (sp new tail : List TokenKind) (is : List Token → List Insertion) → P sp is new → P (sp ++ tail) is (new ++ tail)
     ended sp new tail is f = same (sp ++ tail) (sp ++ tail) (λ ts. is ts ++ []) is (new ++ tail) (new ++ tail) refl (λ ts. append-nil (is ts)) refl (n sp tail is (λ ts. []) new tail f (k tail))
 
@@ -122,7 +122,7 @@ module _ (text : List ℕ) (old : List (List ℕ)) (known : HasKnown old) (slots
         (n (spell_parameter p) (Comma ∷ spell_parameters None (r ∷ ps)) A (λ ts. B (drop 1 ts)) first (Comma ∷ more) (parameter_part p x)
         (n (Comma ∷ []) (spell_parameters None (r ∷ ps)) (λ ts. []) B (Comma ∷ []) more (k (Comma ∷ [])) (parameters_part r ps xs)))
 
-    -- behind a receiver
+    -- after a receiver
     more_part : (ps : List ParameterTree) (xs : List (Option SlotNo)) → P (spell_more_parameters ps) (λ ts. at_parameters slots s (drop 1 ts) ps xs) (spell_more_parameters (noted_parameters slots s ps xs))
     more_part [] xs = k (RightParen ∷ [])
     more_part (p ∷ ps) xs =
@@ -134,7 +134,7 @@ module _ (text : List ℕ) (old : List (List ℕ)) (known : HasKnown old) (slots
     abbrev class_text : List ℕ
     class_text = piece text ct.span
 
-    -- the words of a receiver that isn't named, behind the parenthesis `t`
+    -- the words of a receiver that isn't named, after the parenthesis `t`
     put_more : (q : Qualifier) (before : List Token) (t : Token) (ts : List Token) (is : List Insertion) (ks : List TokenKind) → IsTokenAmong ct before → Weave text old (before ++ t ∷ []) ts is ks → Weave text old (before ++ t ∷ []) ts (record { at = t.span.to; words = initialization_text q ++ (class_text ++ codes " this, ") } ∷ is) (At ∷ Id (initialization_name q) ∷ Id cn ∷ This ∷ Comma ∷ ks)
     put_more q before t ts is ks h w =
         let i = init_note old known q in
@@ -350,7 +350,7 @@ module _ (text : List ℕ) (old : List (List ℕ)) (known : HasKnown old) (slots
   pub file_weave : (ts : List Token) (f : SourceTree) (fs : List Field) (methods : List Method) → kinds ts ≡ spell_file f → Weave text old [] ts (in_file slots s text ts f fs methods) (spell_file (noted_file slots s f fs methods))
   file_weave ts f fs methods e = whole_weave (spell_file f) (spell_file (noted_file slots s f fs methods)) (λ x. in_file slots s text x f fs methods) ts (file_part f fs methods) e
 
-  -- ---- lines behind the package line
+  -- ---- lines after the package line
 
   abbrev line_at : ℕ → Package → Insertion
   line_at at p = record { at = at; words = line_end text ++ import_line p }

@@ -38,7 +38,7 @@ use Rattle.jn_heads_law.proofs.Tables.{tables_alike}
 abbrev Begin : {A : Type 0} → ℕ → List A → List A → Type 0
 Begin n xs ys = take n xs ≡ take n ys
 
--- behind what both have
+-- after what both have
 later : {A : Type 0} (n m : ℕ) (xs ys : List A) → Begin (n + m) xs ys → Begin m (drop n xs) (drop n ys)
 later n m xs ys h = sym (drop-take n m xs) ∙ ap (drop n) h ∙ drop-take n m ys
 

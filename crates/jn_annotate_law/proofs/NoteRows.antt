@@ -48,7 +48,7 @@ abbrev pub numbers : List Annotation → List ℕ
 numbers [] = []
 numbers (a ∷ as') = a.name.0 ∷ numbers as'
 
--- no second one of the kind stands behind the first
+-- no second one of the kind stands after the first
 abbrev pub once : (ℕ → Bool) → List ℕ → Bool
 once kind [] = true
 once kind (n ∷ ns) = cond (kind n) (not (some_of kind ns)) (once kind ns)

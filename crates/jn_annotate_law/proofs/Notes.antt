@@ -28,7 +28,7 @@ note name n = record { name = name; number = record { 0 = n } }
 abbrev pub org_note : Note
 org_note = note (codes "org") 23
 
--- the parts of a package's name behind the first
+-- the parts of a package's name after the first
 abbrev pub rest_notes : Package → List Note
 rest_notes Nullness = note (codes "checkerframework") 24 ∷ note (codes "checker") 26 ∷ note (codes "nullness") 27 ∷ note (codes "qual") 28 ∷ []
 rest_notes Initialization = note (codes "checkerframework") 24 ∷ note (codes "checker") 26 ∷ note (codes "initialization") 29 ∷ note (codes "qual") 28 ∷ []

@@ -49,7 +49,7 @@ without_names has = ap notes_by (fun_ext (λ n. none (has n)))
     none true = refl
     none false = refl
 
--- notes, and those with names behind them
+-- notes, and those with names after them
 pub record Noted (old new : Notes) (names : List NameNo) : Type 0 where
   pub has : ℕ → Bool
   pub old_is : old ≡ notes_by has

@@ -52,7 +52,7 @@ a_first_line : annotated true (table_of field_tokens field_tree) (null_or_commit
 unfolding with_lines
 a_first_line = refl
 
--- behind a package line, in a text of lines that end with CR LF
+-- after a package line, in a text of lines that end with CR LF
 abbrev lined_text : List ℕ
 lined_text = codes "package p;\r\nclass K { private String s; }"
 
@@ -80,7 +80,7 @@ a_receiver : new_text show_text show_tokens show_tree (record { null = false; co
 unfolding with_lines
 a_receiver = refl
 
--- a receiver, and a parameter of an array's type behind `final`; the slot of the elements is none
+-- a receiver, and a parameter of an array's type after `final`; the slot of the elements is none
 abbrev array_text : List ℕ
 array_text = codes "class P { private void f(final String[] a) { } }"
 

@@ -376,7 +376,7 @@ module _ (slots : List SlotInfo) (s : List Qualifier) where
   member_says_open (ConstructorMember ms n ps ss) fs [] = ((λ h. h), (λ h. h))
   member_says_open (ConstructorMember ms n ps ss) fs (m ∷ methods) = ((λ h. h), (λ h. h))
 
-  -- behind what a declaration takes
+  -- after what a declaration takes
   abbrev DropsTo : (List Field → List Method → Type 0) → ℕ → ℕ → List Field → List Method → Type 0
   DropsTo X i j fs methods = TheSame (X (drop i (map open_field fs)) (drop j (map open_method methods))) (X (drop i fs) (drop j methods))
 

@@ -44,7 +44,7 @@ pub record Spells (old : List (List ℕ)) (text : Qualifier → List ℕ) (names
   pub kinds_is : notes_kinds (note ∷ more) ≡ spell_annotations (names q)
 
 module _ (text : List ℕ) (old : List (List ℕ)) where
-  -- the tokens behind `before` with these words between them are of these kinds
+  -- the tokens after `before` with these words between them are of these kinds
   pub record Weave (before ts : List Token) (is : List Insertion) (ks : List TokenKind) : Type 0 where
     pub items : List Item
     pub kept_is : kept items ≡ ts
@@ -144,7 +144,7 @@ module _ (text : List ℕ) (old : List (List ℕ)) where
 
   -- ---- parts of trees
 
-  -- tokens spelled `sp` with words between them are spelled `new`, wherever they stand behind tokens of which C holds
+  -- tokens spelled `sp` with words between them are spelled `new`, wherever they stand after tokens of which C holds
   abbrev pub Part : (C : List Token → Type 0) → List TokenKind → (List Token → List Insertion) → List TokenKind → Type 0
   Part C sp is new = (before ts : List Token) (ls others : List TokenKind) (more : List Insertion) → C before → kinds ts ≡ sp ++ ls → Weave (before ++ taken ts sp) (behind ts sp) more others → Weave before ts (is ts ++ more) (new ++ others)
 

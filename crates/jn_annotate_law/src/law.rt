@@ -146,7 +146,7 @@ pub fn annotated_files_have_no_rows()
         → rows_of_files trees ≡ [] → rows_of_files places ≡ [] }
 {}
 
-/// Where nothing was written on a position, the words of a qualifier, put behind what else stands there, make a slot that isn't
+/// Where nothing was written on a position, the words of a qualifier, put after what else stands there, make a slot that isn't
 /// inferred and has this qualifier: both words of a value, that of nullity of a field, that of initialization of a receiver.
 pub fn written_words_say_the_qualifier()
     ensures values { (has : ℕ → Bool) (q : Qualifier) (secret : Bool)

@@ -21,7 +21,7 @@ abbrev pub clear : Option ℕ → List Bool → List Bool
 clear None bits = bits
 clear (Some r) bits = slice_set bits r false
 
--- behind a point the register that it writes lacks nothing
+-- after a point the register that it writes lacks nothing
 abbrev pub behind : Option Point → List Bool → List Bool
 behind None bits = bits
 behind (Some pt) bits = clear (writes pt.kind) bits

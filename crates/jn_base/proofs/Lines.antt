@@ -19,7 +19,7 @@ ends_at (byte ∷ rest) (suc i) lt ends none =
     let within : i < length rest = omega arith in
     rw some (ends_at rest i within ends none)
 
--- behind the last line end stands the last line
+-- after the last line end stands the last line
 pub last_line_at : (text : List ℕ) (start : ℕ) → 0 < start → start ≤ length text → is_line_end (get_or text (start - 1) 0) ≡ true → list_any is_line_end (drop start text) ≡ false → last_line text ≡ drop start text
 last_line_at text start some within ends none =
     let lt : start - 1 < length text = omega arith in

@@ -8,11 +8,11 @@ use Rattle.jn_base.specs.declared.place.Span.{Span}
 abbrev pub is_line_end : ℕ → Bool
 is_line_end byte = byte == 13 || byte == 10
 
--- a line feed right behind a carriage return belongs to the line end that began there
+-- a line feed right after a carriage return belongs to the line end that began there
 abbrev pub ends_line : ℕ → ℕ → Bool
 ends_line previous byte = byte == 13 || (byte == 10 && not (previous == 13))
 
--- how many lines end in a text that stands behind this byte
+-- how many lines end in a text that stands after this byte
 abbrev pub line_ends : ℕ → List ℕ → ℕ
 line_ends previous [] = 0
 line_ends previous (byte ∷ rest) = if ends_line previous byte then 1 + line_ends byte rest else line_ends byte rest
@@ -30,7 +30,7 @@ is_continuation byte = byte / 64 == 2
 abbrev pub characters : List ℕ → ℕ
 characters text = count_by (λ byte. not (is_continuation byte)) text
 
--- the line and the column, both from 1, of what stands behind this text
+-- the line and the column, both from 1, of what stands after this text
 abbrev pub place_behind : List ℕ → Span → Place
 place_behind before span = record { file = span.file; line = 1 + line_ends 0 before; col = 1 + characters (last_line before) }
 

@@ -1,11 +1,11 @@
-//! Items put behind others, values in boxes, and lists of numbers, one for each number.
+//! Items put after others, values in boxes, and lists of numbers, one for each number.
 ghost use Rattle.std.specs.Prelude.{◌≡◌, ◌<◌, ◌++◌, ◌∷◌, [], ℕ, cond, eqb, length, slice_index_or, IfOk, OnOk};
 
 use crate::refusal::OutOfMemory;
 use crate::seq::Seq;
 use std::alloc::{AllocError, Global};
 
-/// Puts the item behind the others.
+/// Puts the item after the others.
 pub fn put<T: Drop>(items: &mut Vec<T>, item: T) -> Result<(), AllocError>
     ensures { OnOk result (items.new.items ≡ items.old.items ++ item ∷ []) }
 {
@@ -35,7 +35,7 @@ pub fn empty_lists(alloc: Global, count: usize) -> Result<Vec<Seq<u32>>, AllocEr
     Ok(lists)
 }
 
-/// Puts a number behind those of a list.
+/// Puts a number after those of a list.
 pub fn push_at(lists: &mut Vec<Seq<u32>>, at: usize, item: u32) -> Result<(), AllocError>
     requires { at < length lists.old.items }
     ensures long { OnOk result (length lists.new.items ≡ length lists.old.items) }

@@ -1,4 +1,4 @@
--- Rows of ranges of bodies, one behind the other.
+-- Rows of ranges of bodies, one after the other.
 use Rattle.std.proofs.Common.{ℕ, ◌+◌, ◌≡◌, ◌<◌, ◌≤◌, ◌↔◌, inl, inr, true, false, Bool, List, [], ◌++◌, length, get_or, ap, ◌∙◌, subst, arith, Contains}
 use Rattle.std.proofs.lemmas.List.Elements.{Contains-append_left, Contains-append_right, Contains-append_cases}
 use Rattle.jn_base.specs.declared.place.Row.{Row}

@@ -13,7 +13,7 @@ use jn_index::indexed::IndexedProgram;
 use jn_points::Program;
 use std::alloc::{AllocError, Global};
 
-/// Puts the rows J8 and J9 of the body at a place behind others.
+/// Puts the rows J8 and J9 of the body at a place after others.
 fn push_on_paths(
     rows: &mut Vec<Row>,
     program: &Program,
@@ -29,7 +29,7 @@ fn push_on_paths(
     push_results(rows, program, body, unwritten)
 }
 
-/// Puts the rows J7 to J10 of the body at a place behind others: each row of the body is there, and no other is new.
+/// Puts the rows J7 to J10 of the body at a place after others: each row of the body is there, and no other is new.
 pub fn push_body(
     alloc: Global,
     rows: &mut Vec<Row>,

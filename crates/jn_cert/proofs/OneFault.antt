@@ -26,7 +26,7 @@ same_at P cert m n a b = by (cases_lt m n) (cases_lt n m)
 some_same : (x y : CertFault) → Some x ≡ Some y → x ≡ y
 some_same x y e = cc
 
--- what is found behind a first fault, or behind none, is one
+-- what is found after a first fault, or after none, is one
 one_after : HasOneOrder → (P : Program) (s : List Qualifier) (first : Option CertFault) (one other : CertFault) → IsFoundAfter P s first (Some one) → IsFoundAfter P s first (Some other) → one ≡ other
 one_after order P s None one other a b = some_same one other (a.2 ∙ ap broken (order (pairs_rows P s) a.0 b.0 a.1 b.1) ∙ sym b.2)
 one_after order P s (Some fault) one other a b = some_same one other (a ∙ sym b)

@@ -19,7 +19,7 @@ module _ (P : Program) (s : List Qualifier) where
   sends_are [] = refl
   sends_are (o ∷ os) = ap (λ r. pair_sends P s o.method ++ r) (sends_are os)
 
-  -- behind the last one nothing is left
+  -- after the last one nothing is left
   nothing_left : (os : List Overrider) (i : ℕ) → length os ≤ i → drop i os ≡ []
   nothing_left [] zero le = refl
   nothing_left [] (suc i) le = refl

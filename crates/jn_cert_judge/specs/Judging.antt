@@ -96,7 +96,7 @@ module _ (P : Program) (s : List Qualifier) where
   abbrev pub overriding_sends : List (ℕ × Qualifier)
   overriding_sends = flat_map (pair_sends P s) (overriders P)
 
-  -- all that is sent: by the bodies, and behind them by methods that override
+  -- all that is sent: by the bodies, and after them by methods that override
   abbrev pub every_send : List (List (Option Env)) → List (ℕ × Qualifier)
   every_send tables = all_sends P tables 0 ++ overriding_sends
 

@@ -65,7 +65,7 @@ pub record IsWanted (causes : List Cause) (wanted : List (Option Item)) : Type 0
   pub listed : IsListed cause causes
   pub among : IsOneOf cause.source wanted
 
--- a source is put behind the others where it is wanted
+-- a source is put after the others where it is wanted
 abbrev pub IsPushedIf : List Cause → List (Option Item) → Option Item → List (Option Item) → List (Option Item) → Type 0
 IsPushedIf causes wanted z old new = (IsUnwanted causes wanted × (new ≡ old)) ⊎ (IsWanted causes wanted × (new ≡ old ++ z ∷ []))
 

@@ -7,7 +7,7 @@ use jn_base::Seq;
 use jn_reasons::Source;
 use std::alloc::{AllocError, Global};
 
-/// Puts the item behind the others.
+/// Puts the item after the others.
 pub(crate) fn push<T: Drop>(list: &mut Vec<T>, item: T) -> Result<(), AllocError>
     ensures { OnOk result (list.new.items ≡ list.old.items ++ item ∷ []) }
 {

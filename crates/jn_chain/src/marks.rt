@@ -10,7 +10,7 @@ use jn_base::{OutOfMemory, Seq};
 use jn_reasons::{Cause, Source};
 use std::alloc::{AllocError, Global};
 
-/// Puts the source behind the others where one of its causes comes from what is wanted.
+/// Puts the source after the others where one of its causes comes from what is wanted.
 fn push_if(
     marks: &mut Vec<Source>,
     source: Source,

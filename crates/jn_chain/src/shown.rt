@@ -16,7 +16,7 @@ fn is_slot(item: Item) -> bool
     }
 }
 
-/// Puts the step behind the others, where it is the last one or a slot's.
+/// Puts the step after the others, where it is the last one or a slot's.
 fn push_told(list: &mut Vec<Step>, step: Step, last: bool) -> Result<(), AllocError>
     ensures { OnOk result (list.new.items
         ≡ list.old.items ++ cond (last || is_slot step.item) (step ∷ []) []) }

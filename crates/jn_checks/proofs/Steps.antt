@@ -25,7 +25,7 @@ none_left e s (x ∷ slots) (a ∷ args) zero (inr le) = absurd (omega (arith, l
 none_left e s (x ∷ slots) (a ∷ args) (suc i) (inl le) = none_left e s slots args i (inl (omega (arith, le)))
 none_left e s (x ∷ slots) (a ∷ args) (suc i) (inr le) = none_left e s slots args i (inr (omega (arith, le)))
 
--- behind the last slot or argument there are no rows
+-- after the last slot or argument there are no rows
 pub args_end : (e : Env) (s : List Qualifier) (slots : List (Option SlotNo)) (args : List Operand) (i : ℕ) (rows all : List Row) → (length slots ≤ i) ⊎ (length args ≤ i) → rows ++ arg_rows e (slot_quals s (drop i slots)) (drop i args) ≡ all → rows ≡ all
 args_end e s slots args i rows all le h = sym (append-nil rows) ∙ ap (λ q. rows ++ q) (sym (none_left e s slots args i le)) ∙ h
 

@@ -1,4 +1,4 @@
--- A class stands behind another of its name exactly where the first class of that name stands before it.
+-- A class stands after another of its name exactly where the first class of that name stands before it.
 use Rattle.std.proofs.Common.{◌≡◌, ◌≤◌, ◌+◌, ℕ, zero, suc, Bool, true, false, cond, ◌||◌, List, [], ◌∷◌, map, take, Option, Some, None, refl, sym, ap, ◌∙◌, subst, eqb, arith}
 use Rattle.std.proofs.lemmas.Bool.{le-ltb, lt-ltb}
 use Rattle.jn_points.specs.declared.program.Class.{Class}

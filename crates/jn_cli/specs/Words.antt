@@ -64,7 +64,7 @@ options_in rows = record {
   files = unwrap_or (all_of (codes "FILE") rows) [];
 }
 
--- the texts that stand behind the options
+-- the texts that stand after the options
 abbrev pub options_of : List (List ℕ) → Options
 options_of words = options_in (matches_of nullcheck_app words)
 

@@ -75,7 +75,7 @@ noted_next : (noted : List Noted) (at : ℕ) → noted_at (noted_behind noted) a
 noted_next [] at = refl
 noted_next (first ∷ noted) at = refl
 
--- a row behind others has the notes at its place
+-- a row after others has the notes at its place
 row_behind : (files : List SourceFile) (noted : List Noted) (before : List Row) (row : Row) → rows_with files noted (before ++ row ∷ []) ≡ rows_with files noted before ++ with_notes (row_of files row) (noted_at noted (length before)) ∷ []
 row_behind files noted [] row = refl
 row_behind files noted (first ∷ before) row =

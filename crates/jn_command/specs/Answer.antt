@@ -17,7 +17,7 @@ use Rattle.jn_command.specs.declared.report.Report.TheVariants.{Checked}
 use Rattle.jn_command.specs.Reports.{status_of}
 use Rattle.jn_command.specs.Shown.{shown_noted}
 
--- what a call read: what the source tells of names, and what its calls had given before this one and have given behind it
+-- what a call read: what the source tells of names, and what its calls had given before this one and have given after it
 pub record Reading : Type 0 where
   pub held : Option Holding
   pub before : List Given
@@ -78,7 +78,7 @@ abbrev pub Finished : Option (List ℕ) → Option (List ℕ) → List ℕ → S
 Finished old new bytes status before now result =
     ((result ≡ status) × Appends old new bytes × (now ≡ before)) ⊎ ((result ≡ WriteFault) × AppendsPrefix old new bytes × Rose before now × (before ≤ now))
 
--- what stands behind each status, by the status and the bytes that are defined, what holds where memory ended the call amid its output, and what holds behind a read fault
+-- what each status means, by the status and the bytes that are defined, what holds where memory ended the call amid its output, and what holds after a read fault
 module _ (Defined : Status → List ℕ → Type 0) (Part Unread : Type 0) (old new : Option (List ℕ)) where
   -- what is defined was written whole
   abbrev pub Writes : Status → Type 0
@@ -110,7 +110,7 @@ module _ (AreNotes : Infer → List SourceFile → Report → List Noted → Typ
 -- by what, for a choice of members that are inferred, a report of files is, which notes its rows have, what is promised of files that are accepted, what a run of so many steps of their main with these words comes to, and what it prints
 module _ (IsReport : Infer → List SourceFile → Report → Type 0) (AreNotes : Infer → List SourceFile → Report → List Noted → Type 0) (IsSafe : Infer → List SourceFile → Type 0) (RunsTo : Infer → List SourceFile → List (List ℕ) → ℕ → Status → List ℕ → Type 0) (Prints : Infer → List SourceFile → List (List ℕ) → ℕ → List ℕ → Type 0) where
   module _ (a : Asked) (files : List SourceFile) where
-    -- status and bytes are those of the report of the files, whose rows are shown with their notes, behind the line of a program that is made, which no document takes; the files are safe where the status is that of acceptance
+    -- status and bytes are those of the report of the files, whose rows are shown with their notes, after the line of a program that is made, which no document takes; the files are safe where the status is that of acceptance
     pub record IsReportOfFiles (status : Status) (bytes : List ℕ) : Type 0 where
       pub report : Report
       pub is : IsReport a.command.infer files report
@@ -131,6 +131,7 @@ module _ (IsReport : Infer → List SourceFile → Report → Type 0) (AreNotes 
     IsOutputBy false status bytes = IsReportOfFiles status bytes
     IsOutputBy true status bytes = (IsReportOfFiles status bytes × (status ≡ Ok → ⊥)) ⊎ IsRunOfFiles status bytes
 
+    -- status and bytes are those of these files, by whether a run is asked for
     abbrev pub IsOutputOfFiles : Status → List ℕ → Type 0
     IsOutputOfFiles status bytes = IsOutputBy a.command.run status bytes
 
@@ -145,7 +146,7 @@ module _ (IsReport : Infer → List SourceFile → Report → Type 0) (AreNotes 
       pub prints : Prints a.command.infer files a.command.args steps text
       pub taken : Appends old new text
 
-    -- what stands behind each status, of files that were read
+    -- what each status means, of files that were read
     abbrev pub AnswersFiles : Option (List ℕ) → Option (List ℕ) → Status → Type 0
     AnswersFiles old new status = AnswersBy IsOutputOfFiles (WritesSteps old new) ⊥ old new status
 
@@ -160,6 +161,7 @@ module _ (IsReport : Infer → List SourceFile → Report → Type 0) (AreNotes 
   Defines read None status bytes = (status ≡ Usage) × (bytes ≡ usage_line)
   Defines read (Some a) status bytes = IsOutputOf read a status bytes
 
+  -- of the files that are checked, the text of some of the steps of their run was written
   pub record WritesSome (read : Reading) (a : Asked) (old new : Option (List ℕ)) : Type 0 where
     pub files : List SourceFile
     pub are : AreChecked read a.command.classes a.command.files files
@@ -170,7 +172,7 @@ module _ (IsReport : Infer → List SourceFile → Report → Type 0) (AreNotes 
   WritesPart read None old new = ⊥
   WritesPart read (Some a) old new = WritesSome read a old new
 
-  -- what stands behind each status
+  -- what each status means
   abbrev pub Answers : Reading → Option Asked → Option (List ℕ) → Option (List ℕ) → Status → Type 0
   Answers read asked old new status = AnswersBy (Defines read asked) (WritesPart read asked old new) (ReadsFiles asked × (new ≡ old)) old new status
 

@@ -20,7 +20,7 @@ pub struct Noted {
 
 /// Gives the notes of a report's rows, one row's at a time.
 pub trait Notes {
-    /// The notes of each row, in the rows' order. Rows behind the last of them have none.
+    /// The notes of each row, in the rows' order. Rows after the last of them have none.
     ghost told: { Self → List SpecNoted };
 
     /// The notes of the row at this place among the rows.

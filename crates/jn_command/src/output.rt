@@ -14,7 +14,7 @@ pub struct Output {
     pub bytes: Seq<u8>,
 }
 
-/// Writes the bytes, and gives the status behind them.
+/// Writes the bytes, and gives the status after them.
 pub fn finish<K: Sink>(out: &mut K, bytes: &[u8], status: Status) -> Status
     ensures { Finished (K.written out.old) (K.written out.new) bytes.now status (K.faults out.old)
         (K.faults out.new) result }

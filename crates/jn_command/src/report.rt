@@ -54,7 +54,7 @@ impl Report {
         }
     }
 
-    /// The verdict that is shown behind the rows.
+    /// The verdict that is shown after the rows.
     pub fn verdict(&self) -> Verdict
         ensures { result ≡ spec.verdict_of self.now }
     {

@@ -99,7 +99,7 @@ fn row_in<'a>(
     ))
 }
 
-/// The place of what stands behind the row, of a file that was read; it is sought from the position on.
+/// The place of what stands after the row, of a file that was read; it is sought from the position on.
 fn end_in(read: &SourceRead, row: &Row, position: Position) -> jn_base::Place
     requires fits { length read.now.file.bytes ≤ 1048576 }
     requires is { IsPosition read.now.file.bytes position }
@@ -128,7 +128,7 @@ fn row_nowhere<'a>(alloc: Global, row: &Row, noted: &'a Noted) -> Result<RowView
     Ok(RowView::noted(text, 1, 1, None, noted.notes.as_slice(), noted.more))
 }
 
-/// The row as a reporter is given it, with these notes; one of no file has no name, and one behind its file's end stands at the end.
+/// The row as a reporter is given it, with these notes; one of no file has no name, and one after its file's end stands at the end.
 fn row_of<'a>(
     alloc: Global,
     reads: &'a [SourceRead],

@@ -13,7 +13,7 @@ pub enum Status {
     Refused,
     /// The files are accepted, and the run of their main ended by an exception of Java (JLS 8, 11.1.1).
     RunFault,
-    /// The files are accepted, and the run of their main was stopped: behind the steps that were asked for, or at a limit.
+    /// The files are accepted, and the run of their main was stopped: after the steps that were asked for, or at a limit.
     Stopped,
     /// A file could not be read.
     ReadFault,

@@ -16,7 +16,7 @@ pub record Problem (E : Type 0) : Type 0 where
   pub count : ℕ
   -- what is known at the entry
   pub entry : E
-  -- for each edge of a point its target and what is known behind it
+  -- for each edge of a point its target and what is known after it
   pub edges : ℕ → E → List (ℕ × E)
   -- what is known where two environments meet
   pub join : E → E → E

@@ -11,7 +11,7 @@ waits w p = slice_index_or w p false
 abbrev pub begins : List Bool → ℕ → Bool
 begins s p = slice_index_or s p false
 
--- whether a block goes on behind a point that has these edges: there is just one, to the next point, which is an inner one
+-- whether a block goes on after a point that has these edges: there is just one, to the next point, which is an inner one
 abbrev pub goes_on : {E : Type 0} → ℕ → List Bool → List (ℕ × E) → Bool
 goes_on at s [] = false
 goes_on at s (x ∷ []) = (x.0 == at + 1) && not (begins s x.0)

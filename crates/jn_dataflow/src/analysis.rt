@@ -33,7 +33,7 @@ pub trait Dataflow {
     fn copy(&self, alloc: Global, env: &Self::Env) -> Result<Self::Env, OutOfMemory>
         ensures { IfOk result (λ same. same ≡ env.now) };
 
-    /// For each edge of a point its target and the environment behind it.
+    /// For each edge of a point its target and the environment after it.
     ///
     /// # Errors
     /// No memory was found.

@@ -35,7 +35,7 @@ fn is_next(at: usize, next: usize) -> bool
     at < next && next - at == 1
 }
 
-/// Whether the block of a point goes on behind it: its one edge leads to the next point, where no block starts.
+/// Whether the block of a point goes on after it: its one edge leads to the next point, where no block starts.
 pub fn goes_on<E>(at: usize, starts: &Seq<bool>, edges: &[(u32, E)]) -> bool
     requires { (x : ℕ × E) → IsAmong x edges.now → x.0 < length starts.now }
     ensures { result ≡ goes_on at starts.now edges.now }

@@ -6,7 +6,7 @@ use std::alloc::{AllocError, Global};
 /// else.
 #[derive(Drop)]
 pub struct Loops {
-    /// For each point the last one, not behind it, to which an edge of it led.
+    /// For each point the last one, not after it, to which an edge of it led.
     heads: Vec<Option<usize>>,
     /// For each point the last one from which such an edge came to it.
     ends: Vec<usize>,
@@ -33,7 +33,7 @@ impl Loops {
         })
     }
 
-    /// An edge leads from a point to one that isn't behind it.
+    /// An edge leads from a point to one that isn't after it.
     fn note(&mut self, from: usize, head: usize) {
         if from < self.heads.len() && head < self.ends.len() {
             let later = match self.heads[from] {
@@ -49,7 +49,7 @@ impl Loops {
         }
     }
 
-    /// Takes note of those edges of a point that lead to one that isn't behind it.
+    /// Takes note of those edges of a point that lead to one that isn't after it.
     pub fn note_all<E>(&mut self, from: usize, edges: &[(u32, E)]) {
         for edge in edges {
             if edge.0 as usize <= from {

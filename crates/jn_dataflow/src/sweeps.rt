@@ -90,7 +90,7 @@ fn raise<D: Dataflow>(
     Ok(rose)
 }
 
-/// Joins the edges of a point behind which its block ends. Gives whether any environment rose.
+/// Joins the edges of a point after which its block ends. Gives whether any environment rose.
 fn raise_all<D: Dataflow>(
     alloc: Global,
     analysis: &D,
@@ -236,7 +236,7 @@ fn start<D: Dataflow>(alloc: Global, analysis: &D) -> Result<Slots<D::Env>, OutO
 /// start of a block environments are joined. A block is passed over again where the environment of its start rose, in
 /// sweeps over the blocks that wait for that, until none does. A sweep goes over the points in their order, so an inner
 /// point that was set is taken up next, and what only edges forward carry is joined by the first sweep. From the second
-/// sweep on a loop is passed over until nothing rises in it before what stands behind it is: what inner loops add comes to
+/// sweep on a loop is passed over until nothing rises in it before what stands after it is: what inner loops add comes to
 /// the beginning of each outer one at once (Bourdoncle, Efficient chaotic iteration strategies with widenings, 1993).
 ///
 /// # Errors

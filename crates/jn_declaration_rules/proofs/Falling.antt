@@ -106,7 +106,7 @@ marked_more f i b old new is at before =
         let less : v < i = (let d : v ≡ i → ⊥ = λ k. not_both (eqb v i) (eq-eqb v i k) e in omega (arith, d)) in
         mark_more old b v (let g : length old ≡ i = before.long in omega arith) ∙ before.marked v less
 
--- behind the last class nothing is marked, and nothing is to be
+-- after the last class nothing is marked, and nothing is to be
 pub marked_all : (P : Program) (target : ℕ) (old new : List Bool) → target < length P.classes → MarkedBelow (λ v. eqb v target || some_of (λ (s : ClassNo). mark_at old s.0) (supers_of (class_info P v))) (length P.classes) new → (v : ℕ) → mark_at new v ≡ (eqb v target || some_of (λ (s : ClassNo). mark_at old s.0) (supers_of (class_info P v)))
 marked_all P target old new inside m v = by (slice_get_cases P.classes v).1
   where

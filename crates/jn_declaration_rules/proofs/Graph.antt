@@ -32,7 +32,7 @@ module _ (next : ℕ → List ℕ) where
   starts f zero x d w = w.0
   starts f (suc n) x d w = w.0
 
-  -- what is left behind the last visit of c
+  -- what is left after the last visit of c
   abbrev Left : (ℕ → Bool) → ℕ → ℕ → Type 0
   Left f c d = (c ≡ d) ⊎ ((s : ℕ) × (member s (next c) ≡ true) × Goes (without f c) s d)
 

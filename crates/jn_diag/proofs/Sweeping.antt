@@ -36,7 +36,7 @@ any_more : (text : List ℕ) (byte : ℕ) → is_line_end byte ≡ true → list
 any_more [] byte is = rw is refl
 any_more (first ∷ rest) byte is = ap (λ b. is_line_end first || b) (any_more rest byte is) ∙ or_true (is_line_end first)
 
--- a line end at the end of a text leaves nothing behind it
+-- a line end at the end of a text leaves nothing after it
 pub line_anew : (text : List ℕ) (byte : ℕ) → is_line_end byte ≡ true → last_line (text ++ byte ∷ []) ≡ []
 line_anew [] byte is = rw is refl
 line_anew (first ∷ rest) byte is = rw (any_more (first ∷ rest) byte is) (line_anew rest byte is)
@@ -45,7 +45,7 @@ any_same : (text : List ℕ) (byte : ℕ) → is_line_end byte ≡ false → lis
 any_same [] byte is = rw is refl
 any_same (first ∷ rest) byte is = ap (λ b. is_line_end first || b) (any_same rest byte is)
 
--- any other byte stands behind the last line
+-- any other byte stands after the last line
 pub line_longer : (text : List ℕ) (byte : ℕ) → is_line_end byte ≡ false → last_line (text ++ byte ∷ []) ≡ last_line text ++ byte ∷ []
 line_longer [] byte is = rw is refl
 line_longer (first ∷ rest) byte is = by_cases (list_any is_line_end (first ∷ rest)) refl (line_longer rest byte is)

@@ -3,7 +3,7 @@ use Rattle.std.specs.Prelude.{ℕ, ◌≡◌, ◌≤◌, ◌+◌, ◌-◌, Bool,
 use Rattle.jn_base.specs.Place.{ends_line, is_continuation, is_line_end, line_ends, last_line, characters}
 use Rattle.jn_diag.specs.declared.sweep.Position.{Position}
 
--- so many bytes of the text stand before, and these are the line and the column, both from 1, of what stands behind them
+-- so many bytes of the text stand before, and these are the line and the column, both from 1, of what stands after them
 pub record IsPosition (text : List ℕ) (position : Position) : Type 0 where
   pub within : position.before ≤ length text
   pub line : position.line ≡ 1 + line_ends 0 (take position.before text)
@@ -14,7 +14,7 @@ abbrev pub byte_before : List ℕ → ℕ → ℕ
 byte_before text zero = 0
 byte_before text (suc at) = get_or text at 0
 
--- the position behind one byte more, before which this one stands
+-- the position after one byte more, before which this one stands
 abbrev pub stepped : Position → ℕ → ℕ → Position
 stepped position previous byte = record {
   before = position.before + 1;

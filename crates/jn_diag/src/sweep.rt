@@ -8,7 +8,7 @@ use jn_base::place::{ends_line, is_continuation, is_line_end};
 use jn_base::{Place, Span};
 
 /// How far a sweep over a text has come: so many bytes stand before, and the line and the column, both from 1, are those of
-/// the byte behind them. Places that are asked for in their order cost one sweep together.
+/// the byte after them. Places that are asked for in their order cost one sweep together.
 #[derive(Clone, Copy, Debug, PartialEq, Eq)]
 pub struct Position {
     pub before: usize,
@@ -36,7 +36,7 @@ fn byte_before(text: &[u8], at: usize) -> u8
     if at == 0 { 0 } else { text[at - 1] }
 }
 
-/// The position behind one byte more.
+/// The position after one byte more.
 fn stepped(position: Position, previous: u8, byte: u8) -> Position
     requires before { position.before < 2 ^ 32 - 1 }
     requires line { position.line < 2 ^ 32 - 1 }
@@ -60,7 +60,7 @@ fn stepped(position: Position, previous: u8, byte: u8) -> Position
     }
 }
 
-/// The position behind so many bytes, from an earlier one.
+/// The position after so many bytes, from an earlier one.
 fn swept(text: &[u8], from: Position, to: usize) -> Position
     requires small { to < 2 ^ 32 - 1 }
     requires within { to ≤ length text.now }

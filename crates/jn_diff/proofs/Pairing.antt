@@ -18,7 +18,7 @@ first_of b (d ∷ ds) = goes_on (b == 10) (first_of d ds)
     goes_on true more = refl
     goes_on false more = ap (onto b) more
 
--- the first line of a text, and what stands behind it
+-- the first line of a text, and what stands after it
 abbrev line_in : List ℕ → List ℕ
 line_in text = take (line_length text) text
 
@@ -66,7 +66,7 @@ next_both extra o n a b o' n' c some old new rest others tells is =
     ∙ ap (λ x. against x (line_in n) ∷ paired_by extra (behind_in o) (behind_in n)) (sym old) ∙ ap (λ x. against a x ∷ paired_by extra (behind_in o) (behind_in n)) (sym new)
     ∙ ap (λ x. against a b ∷ paired_by extra x (behind_in n)) (sym rest) ∙ ap (λ x. against a b ∷ paired_by extra o' x) (sym others)
 
--- behind all lines there is none
+-- after all lines there is none
 pub no_pair : (extra : ℕ) (o n : List ℕ) → length o + length n ≡ 0 → paired_by extra o n ≡ []
 no_pair extra [] [] none = refl
 no_pair extra [] (b ∷ bs) none = absurd (omega (arith, none))

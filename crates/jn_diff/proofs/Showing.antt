@@ -35,7 +35,7 @@ pub shown_no_more : (due : ℕ) (ls : List Line) → is_shown due ls ≡ false �
 shown_no_more due [] hidden = refl
 shown_no_more due (l ∷ ls) hidden = ap (λ c. cond c (suc (shown_count (due_behind due l) ls)) 0) hidden
 
--- the text of a hunk behind those before it
+-- the text of a hunk after those before it
 pub hunk_put : (text new hunk : List ℕ) (back first n : ℕ) (ls : List Line) → shown_count 0 ls ≡ n → n ≢ 0 → hunk ≡ hunk_text back (record { first = first; lines = take n ls }) → new ≡ text ++ hunk → new ++ hunks_text (back + added_count (take n ls)) (hunks_from (first + n) 0 (drop n ls)) ≡ text ++ hunks_text back (hunks_from first 0 ls)
 hunk_put text new hunk back first n ls is some spells put =
     let later : List ℕ = hunks_text (back + added_count (take n ls)) (hunks_from (first + n) 0 (drop n ls)) in

@@ -10,11 +10,11 @@ use Rattle.jn_diff.specs.Hunks.{Hunk, hunks, is_changed}
 abbrev pub is_ended : List ℕ → Bool
 is_ended line = slice_index_or line (length line - 1) 0 == 10
 
--- a line feed behind a line that has none, and a line that says so
+-- a line feed after a line that has none, and a line that says so
 abbrev pub ending : List ℕ → List ℕ
 ending line = cond (is_ended line) [] (codes "\n\\ No newline at end of file\n")
 
--- the line behind a sign, where it is there
+-- the line after a sign, where it is there
 abbrev pub signed : List ℕ → List ℕ → List ℕ
 signed sign line = cond (is_there line) (sign ++ (line ++ ending line)) []
 
@@ -37,7 +37,7 @@ abbrev pub added_count : List Line → ℕ
 added_count [] = 0
 added_count (l ∷ ls) = cond (is_there l.old) 0 1 + added_count ls
 
--- behind so many of these, its first line has so much smaller a number in the old text
+-- after so many of these, its first line has so much smaller a number in the old text
 abbrev pub hunk_head : ℕ → Hunk → List ℕ
 hunk_head back h = codes "@@ -" ++ range (h.first - back) (old_count h.lines) ++ codes " +" ++ range h.first (new_count h.lines) ++ codes " @@\n"
 

@@ -1,4 +1,4 @@
--- Hunks: the lines that differ, each with three lines of context before and behind it.
+-- Hunks: the lines that differ, each with three lines of context before and after it.
 use Rattle.std.specs.Prelude.{ℕ, zero, suc, ◌-◌, Bool, not, ◌||◌, ltb, cond, bytes_eq, List, [], ◌∷◌, ◌++◌, take}
 use Rattle.std.specs.List.{list_any}
 use Rattle.jn_diff.specs.declared.line.Line.{Line}
@@ -6,11 +6,11 @@ use Rattle.jn_diff.specs.declared.line.Line.{Line}
 abbrev pub is_changed : Line → Bool
 is_changed l = not (bytes_eq l.old l.new)
 
--- the first line is shown: it is one of the lines of context that are due, or a change stands in it or in one of the three lines behind it
+-- the first line is shown: it is one of the lines of context that are due, or a change stands in it or in one of the three lines after it
 abbrev pub is_shown : ℕ → List Line → Bool
 is_shown due ls = ltb 0 due || list_any is_changed (take 4 ls)
 
--- the lines of context that are due behind a line
+-- the lines of context that are due after a line
 abbrev pub due_behind : ℕ → Line → ℕ
 due_behind due l = cond (is_changed l) 3 (due - 1)
 

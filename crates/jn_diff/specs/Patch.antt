@@ -18,7 +18,7 @@ abbrev pub news : List Line → List (List ℕ)
 news [] = []
 news (l ∷ ls) = there l.new ++ news ls
 
--- the old lines are the new ones up to a hunk's first line, there are those of the hunk in both, and so on behind it; `at` is the number of
+-- the old lines are the new ones up to a hunk's first line, there are those of the hunk in both, and so on after it; `at` is the number of
 -- the first line, which counts lines that one of the texts alone has, too
 abbrev pub Patches : ℕ → List Hunk → List (List ℕ) → List (List ℕ) → Type 0
 Patches at [] old new = old ≡ new

@@ -11,8 +11,8 @@ use crate::texts::{added_count, hunk_text};
 use jn_base::OutOfMemory;
 use std::alloc::{AllocError, Global};
 
-/// Puts the hunk that begins with the first line, where one does, behind so many lines that only the new text has; and gives the number of
-/// lines that need no second look, and behind how many such lines those stand that follow.
+/// Puts the hunk that begins with the first line, where one does, after so many lines that only the new text has; and gives the number of
+/// lines that need no second look, and after how many such lines those stand that follow.
 fn put_hunk(
     alloc: Global,
     text: &mut Vec<u8>,

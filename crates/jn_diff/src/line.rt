@@ -44,7 +44,7 @@ fn line_length(text: &[u8]) -> usize
     count
 }
 
-/// The first line, and what stands behind it.
+/// The first line, and what stands after it.
 fn first_line(alloc: Global, text: &[u8]) -> Result<(Seq<u8>, &[u8]), AllocError>
     ensures line { IfOk result (λ r. r.0 ≡ take (line_length text.now) text.now) }
     ensures rest { IfOk result (λ r. r.1.now ≡ drop (line_length text.now) text.now) }
@@ -62,7 +62,7 @@ fn has_line(old: &[u8], new: &[u8]) -> bool
     old.len() != 0 || new.len() != 0
 }
 
-/// What stands behind the first line.
+/// What stands after the first line.
 fn behind_line(text: &[u8]) -> &[u8]
     ensures { result.now ≡ drop (line_length text.now) text.now }
 {
@@ -90,7 +90,7 @@ fn is_added(extra: usize, old: &[u8], new: &[u8]) -> bool
     0 < extra && old.len() != 0 && new.len() != 0 && !are_same(old, new)
 }
 
-/// The next of the lines that stand against each other, and what is left behind it.
+/// The next of the lines that stand against each other, and what is left after it.
 #[derive(Drop)]
 struct Next<'t> {
     line: Line,

@@ -15,7 +15,7 @@ fn ends_part(rest: &[u8]) -> bool
     }
 }
 
-/// Whether the byte is all of a part `.`, or the slash behind a part that is left out.
+/// Whether the byte is all of a part `.`, or the slash after a part that is left out.
 fn is_left_out(fresh: bool, byte: u8, rest: &[u8]) -> bool
     ensures { result ≡ spec.is_left_out fresh byte rest.now }
 {

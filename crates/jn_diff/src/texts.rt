@@ -18,7 +18,7 @@ fn is_ended(line: &[u8]) -> bool
     }
 }
 
-/// What stands behind a line that has no line feed.
+/// What stands after a line that has no line feed.
 fn ending(line: &[u8]) -> &'static [u8]
     ensures { result.now ≡ spec.ending line.now }
 {
@@ -29,7 +29,7 @@ fn ending(line: &[u8]) -> &'static [u8]
     }
 }
 
-/// Puts the line behind a sign, where it is there.
+/// Puts the line after a sign, where it is there.
 fn put_signed(text: &mut Vec<u8>, sign: &[u8], line: &[u8]) -> Result<(), AllocError>
     ensures { IfOk result (λ u. text.new.items
         ≡ text.old.items ++ spec.signed sign.now line.now) }
@@ -135,7 +135,7 @@ fn hunk_head(
     Ok(text)
 }
 
-/// The text of a hunk whose first line has this number, behind so many lines that only the new text has.
+/// The text of a hunk whose first line has this number, after so many lines that only the new text has.
 #[tactic(auto, unfolding(crate::specs::Diff::hunk_text))]
 pub(crate) fn hunk_text(
     alloc: Global,

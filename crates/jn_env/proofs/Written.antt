@@ -42,7 +42,7 @@ module _ {K : Type 0} (test : K → Bool) (wanted : Bool) where
       let now = written test wanted (take i keys) bits in
       cond_behind (test k) first (set now i wanted) now ∙ ap (λ bs. first ∷ bs) (more keys bits i k (omega (arith, lt)) e)
 
-  -- one key more, behind what stands in front
+  -- one key more, after what stands in front
   pub written_step : (keys : List K) (old now next : List Bool) (first i : ℕ) (k : K) (chosen : Bool) → i < length keys → first ≤ length old → k ≡ get_or keys i k → chosen ≡ test k → now ≡ take first old ++ written test wanted (take i keys) (drop first old) → next ≡ cond chosen (set now (first + i) wanted) now → next ≡ take first old ++ written test wanted (take (i + 1) keys) (drop first old)
   written_step keys old now next first i k chosen lt le at is before e =
       let front = take first old in

@@ -9,7 +9,7 @@ Skips xs count rest from to = (i : ℕ) → from ≤ i → i < to → slice_inde
 abbrev pub Heads : List ℕ → ℕ → ℕ → List ℕ → Type 0
 Heads xs count from heads = (rest : ℕ) → Skips xs count rest from (slice_index_or heads rest 0)
 
--- for each place one before which no number behind it has its number's remainder
+-- for each place one before which no number after it has its number's remainder
 abbrev pub Nexts : List ℕ → ℕ → List ℕ → Type 0
 Nexts xs count nexts = (at : ℕ) → Skips xs count (slice_index_or xs at 0 % count) (at + 1) (slice_index_or nexts at 0)
 

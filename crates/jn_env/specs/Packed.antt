@@ -17,7 +17,7 @@ bits_from words i (suc n) = bit_at words i ∷ bits_from words (i + 1) n
 abbrev pub bits_of : List ℕ → ℕ → List Bool
 bits_of words count = bits_from words 0 count
 
--- as many words as the bits need, with zero in each place behind them
+-- as many words as the bits need, with zero in each place after them
 pub record HoldBits (words : List ℕ) (count : ℕ) : Type 0 where
   pub enough : length words ≡ count / 63 + 1
   pub empty : (i : ℕ) → count ≤ i → bit_at words i ≡ false

@@ -59,7 +59,7 @@ impl Chains {
         place_in(&self.heads, wanted as usize % count)
     }
 
-    /// A place behind that of a number, where the wanted number doesn't stand between both.
+    /// A place after that of a number, where the wanted number doesn't stand between both.
     pub fn next(&self, at: usize, number: u32, wanted: u32) -> usize
         requires { at + 1 < 2 ^ 64 }
         ensures behind { at < result }

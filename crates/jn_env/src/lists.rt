@@ -105,7 +105,7 @@ impl FactKeys {
         }
     }
 
-    /// A place behind this one, where none of those keys stands between both.
+    /// A place after this one, where none of those keys stands between both.
     pub fn next(&self, at: usize, which: Which) -> usize
         requires { at < length self.now }
         ensures behind { at < result }
@@ -224,7 +224,7 @@ impl FieldNumbers {
         }
     }
 
-    /// A place behind this one, where the field doesn't stand between both; the next one with None.
+    /// A place after this one, where the field doesn't stand between both; the next one with None.
     pub fn next(&self, at: usize, field: Option<FieldNo>) -> usize
         requires { at < length self.now }
         ensures behind { at < result }

@@ -1,4 +1,4 @@
-//! Laws of fixpoints by whole rounds. The lemmas behind them hold over any relation; a clause states them over relations that can be
+//! Laws of fixpoints by whole rounds. The lemmas after them hold over any relation; a clause states them over relations that can be
 //! tested.
 ghost use Rattle.std.specs.Prelude.{◌≡◌, Bool, ℕ};
 ghost use Rattle.jn_fixpoint.specs.Climb.{rounds, IsLeastFixpoint, Climb, Monotone, Holds, Relates};

@@ -17,7 +17,7 @@ folders_both skipped xs ys = flat_map-append (λ (l : Listed). folders_in skippe
 unnamed_both : (xs ys : List Listed) → unnamed_of (xs ++ ys) ≡ unnamed_of xs ++ unnamed_of ys
 unnamed_both xs ys = flat_map-append (λ (l : Listed). unnamed_in l.path l.entries) xs ys
 
--- behind a list, one list and then another
+-- after a list, one list and then another
 pub behind : {A : Type 0} (old mid new front back : List A) → mid ≡ old ++ front → new ≡ mid ++ back → new ≡ old ++ (front ++ back)
 behind old mid new front back a b = b ∙ ap (λ xs. xs ++ back) a ∙ append_assoc old front back
 

@@ -31,7 +31,7 @@ is_hidden (byte ∷ bytes) = byte == 46
 abbrev pub is_java : List ℕ → Bool
 is_java name = ends_with eqb name (codes ".java")
 
--- the path of a name in a folder: behind the folder's path and a slash, where that doesn't end with one
+-- the path of a name in a folder: after the folder's path and a slash, where that doesn't end with one
 abbrev pub joined : List ℕ → List ℕ → List ℕ
 joined path name = if ends_with eqb path (codes "/") then path ++ name else path ++ codes "/" ++ name
 

@@ -96,7 +96,7 @@ pub record Seen : Type 0 where
 abbrev pub seen : List Listed → ℕ → List (List ℕ) → List (List ℕ) → List (List ℕ) → List (List ℕ) → Seen
 seen told faults files below missed unnamed = record { told = told; faults = faults; files = files; below = below; missed = missed; unnamed = unnamed }
 
--- these folders were asked, and what they listed was put behind what was found
+-- these folders were asked, and what they listed was put after what was found
 pub record Asks (skipped paths : List (List ℕ)) (old new : Seen) : Type 0 where
   pub told : List Listed
   pub lost : List (List ℕ)

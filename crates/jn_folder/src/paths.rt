@@ -24,7 +24,7 @@ fn is_java(name: &str) -> bool
     name.as_bytes().ends_with(b".java")
 }
 
-/// The path of a name in the folder of this path: behind it and a slash, where it ends with none.
+/// The path of a name in the folder of this path: after it and a slash, where it ends with none.
 pub fn joined(alloc: Global, path: &str, name: &str) -> Result<Text, AllocError>
     ensures { IfOk result (λ whole. whole ≡ spec.joined path.now name.now) }
 {
@@ -36,7 +36,7 @@ pub fn joined(alloc: Global, path: &str, name: &str) -> Result<Text, AllocError>
     Ok(Text::of_string(whole))
 }
 
-/// The path of the Java file that the entry is, put behind the others.
+/// The path of the Java file that the entry is, put after the others.
 fn put_file(
     alloc: Global,
     path: &str,
@@ -70,7 +70,7 @@ pub fn is_skipped(skipped: &[Text], name: &str) -> bool
     is_hidden(name) || is_among(skipped, name)
 }
 
-/// Puts the name behind the others, where it isn't one of them.
+/// Puts the name after the others, where it isn't one of them.
 fn put_name(names: &mut Vec<Text>, name: Text) -> Result<(), AllocError>
     ensures { OnOk result (names.new.items ≡ spec.with_name names.old.items name) }
 {
@@ -92,7 +92,7 @@ pub fn each_once(alloc: Global, names: &[Text]) -> Result<Vec<Text>, AllocError>
     Ok(once)
 }
 
-/// The path of the folder that the entry is, put behind the others, where it isn't left out.
+/// The path of the folder that the entry is, put after the others, where it isn't left out.
 fn put_folder(
     alloc: Global,
     skipped: &[Text],
@@ -113,7 +113,7 @@ fn put_folder(
     }
 }
 
-/// The folder's own path, put behind the others, where the entry's name is no text.
+/// The folder's own path, put after the others, where the entry's name is no text.
 fn put_unnamed(
     alloc: Global,
     path: &str,
@@ -132,7 +132,7 @@ fn put_unnamed(
     }
 }
 
-/// Puts the paths of the Java files, and of the folders, that a folder lists behind the others, and its own where it lists a name that is
+/// Puts the paths of the Java files, and of the folders, that a folder lists after the others, and its own where it lists a name that is
 /// no text.
 pub(crate) fn put_entries(
     alloc: Global,

@@ -19,7 +19,7 @@ pub fn is_whole(path: &str) -> bool
     }
 }
 
-/// Puts a part of a path behind the names: `..` takes the last one away, the root and `.` add none.
+/// Puts a part of a path after the names: `..` takes the last one away, the root and `.` add none.
 fn put_part(alloc: Global, part: &str, names: &mut Vec<Text>) -> Result<(), AllocError>
     ensures { OnOk result (names.new.items ≡ spec.with_part names.old.items part.now) }
 {
@@ -72,7 +72,7 @@ pub fn plain(alloc: Global, path: &str) -> Result<Text, AllocError>
     path_of(alloc, names.as_slice())
 }
 
-/// The names behind so many.
+/// The names after so many.
 fn names_behind(names: &[Text], count: usize) -> &[Text]
     ensures { result.now ≡ drop count names.now }
 {

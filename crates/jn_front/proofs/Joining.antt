@@ -43,7 +43,7 @@ module _ (few : (file : FileNo) (text : List ℕ) (old : List (List ℕ)) (token
       let short : length own ≤ 30 + length read.file.bytes = few (file_no k) read.file.bytes known_names h.0.0 own h.0.1 in
       (omega (arith, short, fit.0), few_names (k + 1) reads outcomes fit.1 h.1)
 
--- behind one more there are few names
+-- after one more there are few names
 pub still_few : (names : List (List ℕ)) (outcome : Outcome) → HaveFewNames (outcome ∷ []) → length (joined_names names (outcome ∷ [])) ≤ length names + 1048606
 still_few names (Lexical row) few = omega arith
 still_few names (Syntax row) few = omega arith

@@ -147,7 +147,7 @@ map_take zero names = refl
 map_take (suc k) [] = refl
 map_take (suc k) (name ∷ names) = ap (λ ns. string_bytes name ∷ ns) (map_take k names)
 
--- behind files that were read
+-- after files that were read
 pub starts_so_far : (held : Option Holding) (old new : List Given) (names : List (String Global)) (i : ℕ) (reads : List SourceRead) → ReadFrom held (map string_bytes (take i names)) old new reads → StartsOnly (map string_bytes names) old new
 starts_so_far held old new names i reads from =
     starts (map string_bytes names) old new (map given_of from.files) i from.given (files_given from.files ∙ from.named ∙ map_take i names)
@@ -155,7 +155,7 @@ starts_so_far held old new names i reads from =
 one_name : (text bytes : List ℕ) (ns : List (List ℕ)) → ns ++ names_given (given text bytes ∷ []) ≡ ns ++ text ∷ []
 one_name text bytes ns = refl
 
--- behind files that were read, and one that wasn't
+-- after files that were read, and one that wasn't
 pub starts_more : (held : Option Holding) (old gave new : List Given) (names : List (String Global)) (i most : ℕ) (d : String Global) (text : List ℕ) (reads : List SourceRead) → i < length names → text ≡ string_bytes (get_or names i d) → ReadFrom held (map string_bytes (take i names)) old gave reads → GivesLittle text most gave new → StartsOnly (map string_bytes names) old new
 starts_more held old gave new names i most d text reads lt is from (inl same) = starts_so_far held old new names i reads (subst (λ g. ReadFrom held (map string_bytes (take i names)) old g reads) (sym same) from)
 starts_more held old gave new names i most d text reads lt is from (inr one) =

@@ -14,7 +14,7 @@ use Rattle.jn_front.specs.Phases.{LexedFrom}
 abbrev pub OneReading : Type 0
 OneReading = (file : FileNo) (text : List ℕ) (old : List (List ℕ)) (ts us : List Token) (ns ms : List (List ℕ)) → Lexed file text old ts ns → Lexed file text old us ms → (ts ≡ us) × (ns ≡ ms)
 
--- behind the tokens that were found, the others are those of the files that are left
+-- after the tokens that were found, the others are those of the files that are left
 abbrev pub Rest : ℕ → List (List ℕ) → List SourceRead → List (List Token) → List (List Token) → List (List ℕ) → Type 0
 Rest k names reads done tss last = (left : List (List Token)) × (done ++ left ≡ tss) × LexedFrom k names (files_of_reads reads) left last
 
@@ -60,7 +60,7 @@ lexes reads k names done read here some so = by (subst (λ rs. Rest k names rs d
     by ([], e, l) = absurd l
     by (us ∷ more, e, l) = (us, l.0, l.1)
 
--- behind the last file all are found
+-- after the last file all are found
 pub all_lexed : (reads : List SourceRead) (k : ℕ) (names : List (List ℕ)) (done : List (List Token)) → length reads ≤ k → IsLexed reads k names done → (tss : List (List Token)) (last : List (List ℕ)) → LexedFrom 0 known_names (files_of_reads reads) tss last → done ≡ tss
 all_lexed reads k names done le so tss last whole = by (subst (λ rs. Rest k names rs done tss last) (drop_all reads k le) (so.rest tss last whole))
   where

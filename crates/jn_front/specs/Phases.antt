@@ -17,7 +17,7 @@ use Rattle.jn_front.specs.Limits.{limit_rows}
 abbrev pub file_no : ℕ → FileNo
 file_no k = record { 0 = k }
 
--- the files from the k-th on are these tokens, their names numbered behind those of the files before (JLS 3.3 to 3.12); `last` are the names behind all
+-- the files from the k-th on are these tokens, their names numbered after those of the files before (JLS 3.3 to 3.12); `last` are the names after all
 abbrev pub LexedFrom : ℕ → List (List ℕ) → List SourceFile → List (List Token) → List (List ℕ) → Type 0
 LexedFrom k names [] [] last = last ≡ names
 LexedFrom k names [] (ts ∷ tss) last = ⊥

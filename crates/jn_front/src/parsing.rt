@@ -116,7 +116,7 @@ pub fn others_of_each(workers: u32, more: u32) -> u32
 /// The tree of each file that was read (JLS 7.3) with its places and all names, or where some file has a lexical fault (JLS 3.3
 /// to 3.12), the first fault of each, else the syntax row of each file that has no tree.
 ///
-/// Names are numbered over all files, in the order in which they are first met, behind those of `jn_known`. The files are
+/// Names are numbered over all files, in the order in which they are first met, after those of `jn_known`. The files are
 /// shared among as many workers as are asked for, at most one for a file, each of which takes one after the other, and so are
 /// their trees, once the names have their numbers. Where there are more workers than files, the others take part in the text
 /// and the tokens of each file, equally many in each, so that no more than all are at work at once. The worker that has taken a

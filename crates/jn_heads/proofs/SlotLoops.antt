@@ -49,7 +49,7 @@ module _ (hs : List ClassHead) where
   pub methods_next : (mark : Bool) (xs : List MethodHead) (i : ℕ) (d : MethodHead) (old new whole : List SlotInfo) → i < length xs → new ≡ old ++ method_slots hs (mark_method mark (get_or xs i d)) → old ++ methods_slots hs (map (mark_method mark) (drop i xs)) ≡ whole → new ++ methods_slots hs (map (mark_method mark) (drop (i + 1) xs)) ≡ whole
   methods_next mark = step (λ x. method_slots hs (mark_method mark x)) (λ xs. methods_slots hs (map (mark_method mark) xs)) (λ x xs. refl)
 
-  -- receiver, parameters and result, one behind the other
+  -- receiver, parameters and result, one after the other
   pub method_more : (mark : Bool) (m : MethodHead) (S : List SlotInfo) → ((S ++ receiver_slots (mark_method mark m)) ++ params_slots hs mark m.params) ++ result_slots hs mark m.result ≡ S ++ method_slots hs (mark_method mark m)
   method_more mark m S = append_assoc (S ++ receiver_slots (mark_method mark m)) (params_slots hs mark m.params) (result_slots hs mark m.result) ∙ append_assoc S (receiver_slots (mark_method mark m)) (params_slots hs mark m.params ++ result_slots hs mark m.result)
 

@@ -70,7 +70,7 @@ fn write_first(places: &mut [u32], name: usize, number: u32)
     }
 }
 
-/// Adds a class behind those that have their places.
+/// Adds a class after those that have their places.
 fn add_place(places: &mut Vec<u32>, head: &ClassHead, number: u32) -> Result<(), AllocError>
     requires { 0 < number }
     ensures { OnOk result ((n : ℕ)

@@ -37,7 +37,7 @@ call_alone (MorePlacedStatements (PlacedThisCall es span) xs) = MorePlacedStatem
 call_alone (MorePlacedStatements (PlacedSuperCallStatement es span) xs) = MorePlacedStatements (PlacedSuperCallStatement es span) NoPlacedStatements
 call_alone xs = NoPlacedStatements
 
--- the state behind a constructor's call and the initializers, in which the statements stand
+-- the state after a constructor's call and the initializers, in which the statements stand
 abbrev begun : Program → ℕ → ℕ → Bool → State → PlacedStatements → List PlacedMember → State
 begun P m first ctor st xs members = (fields_of P m first ctor (call_of P m first ctor st xs).behind xs members).behind
 
@@ -97,14 +97,14 @@ module _ (P : Program) where
     rest_is : (first : ℕ) (st : State) (xs : PlacedStatements) → all_rows (bare P) (class (bare P) m) first (in_body (bare P) m) st xs ≡ all_rows P (class P m) first (in_body P m) st xs
     rest_is first st xs = λ i. statements.all_is P (class_at_is P m i) first (in_body_is i) st xs i
 
-    -- the state before the statements doesn't depend on those behind the call
+    -- the state before the statements doesn't depend on those after the call
     begun_alone : (first : ℕ) (ctor : Bool) (st : State) (xs : PlacedStatements) (members : List PlacedMember) → begun P m first ctor st xs members ≡ begun P m first ctor st (call_alone xs) members
     begun_alone first false st xs members = refl
     begun_alone first true st (MorePlacedStatements (PlacedThisCall es span) xs) members = refl
     begun_alone first true st (MorePlacedStatements (PlacedSuperCallStatement es span) xs) members = refl
     begun_alone first true st xs members = refl
 
-    -- and is the one behind a body without them
+    -- and is the one after a body without them
     begun_is : (first : ℕ) (st : State) (xs : PlacedStatements) (members : List PlacedMember) → begun P m first (ctor_of (method_at P m)) st (call_alone xs) members ≡ (whole P m first st (call_alone xs) members).behind
     begun_is first st (MorePlacedStatements (PlacedThisCall es span) xs) members = refl
     begun_is first st (MorePlacedStatements (PlacedSuperCallStatement es span) xs) members = refl

@@ -89,7 +89,7 @@ abbrev pub write_static : State → ℕ → Option Prim → Next
 write_static st f None = Stuck
 write_static st f (Some p) = Goes (record st { statics = slice_set st.statics f p; top = moves_to st.top (st.top.at + 1) })
 
--- a new thing behind all others, which a register then refers to
+-- a new thing after all others, which a register then refers to
 abbrev pub allocates : State → ℕ → Thing → Next
 allocates st dst x = Goes (record st { heap = st.heap ++ x ∷ []; top = holds_at st.top dst (At (length st.heap)) })
 

@@ -186,7 +186,7 @@ fn push_value(values: &mut Vec<u32>, node: Node) -> Result<(), AllocError>
     }
 }
 
-/// Puts all values of the tree of a height below a node behind others.
+/// Puts all values of the tree of a height below a node after others.
 ///
 /// # Errors
 /// No memory was found.

@@ -62,7 +62,7 @@ trees_append : (fs gs : List PlacedFile) → body_trees (fs ++ gs) ≡ body_tree
 unfolding later
 trees_append fs gs = ap (λ l. unwritten_tree [] ∷ l) (ap (flat_map type_trees) (flat_map-append (λ (f : PlacedFile). f.types) fs gs) ∙ flat_map-append type_trees (types_of fs) (types_of gs))
 
--- the sources of files, and of those behind them, whose methods are numbered behind
+-- the sources of files, and of those after them, whose methods are numbered after
 sources_append : (fs gs : List PlacedFile) → sources (fs ++ gs) ≡ sources fs ++ numbered (length (body_trees fs)) (later gs)
 sources_append fs gs =
     let same : 0 + length (body_trees fs) ≡ length (body_trees fs) = omega arith in

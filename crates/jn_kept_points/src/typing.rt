@@ -45,7 +45,7 @@ use std::thread::Threads;
 pub struct KeptTyping {
     /// What their types declare, in the order of files and text.
     pub heads: Seq<ClassHead>,
-    /// Where each file begins, and where one behind the last would.
+    /// Where each file begins, and where one after the last would.
     pub starts: Vec<Start>,
 }
 

@@ -30,7 +30,7 @@ use Rattle.jn_kept_trees.proofs.Ways.{none_is_some, same_some}
 -- ---- one text more
 
 module _ (all : List (Option KeptTree)) where
-  -- what is merged behind these names completes what was merged so far
+  -- what is merged after these names completes what was merged so far
   abbrev pub Completes : (names : List (List ℕ)) (rest : List (Option KeptTree)) (trees : List PlacedFile) (texts : List TextNames) → Type 0
   Completes names rest trees texts = (more : List PlacedFile) (others : List TextNames) (last : List (List ℕ)) → AreMerged names rest more others last → AreMerged known_names all (trees ++ more) (texts ++ others) last
 

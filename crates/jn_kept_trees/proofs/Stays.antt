@@ -20,7 +20,7 @@ use Rattle.jn_kept_points.specs.Typings.{SameTrees}
 use Rattle.jn_kept_trees.specs.Staying.{AreAmong, HaveTrees, StayPlaced, raw_tree, raw_trees, stays_as_it_was}
 use Rattle.jn_kept_trees.proofs.Ways.{none_is_some, same_some}
 
--- behind the last file there is no tree
+-- after the last file there is no tree
 pub tree_within : (kept : List (Option KeptTree)) (n : ℕ) → has_tree (get_or kept n None) ≡ true → n < length kept
 tree_within [] n has = absurd (false≢true has)
 tree_within (one ∷ kept) zero has = omega arith
@@ -51,7 +51,7 @@ staying true (Some one) e = (refl, one, refl, unnumbered one.numbers (placed_fil
 abbrev pub AreTold : (flags same : List Bool) (made : List Numbered) → Type 0
 AreTold flags same made = (n : ℕ) → get_or same n false ≡ stays_as_it_was (get_or flags n false) (slice_get made n)
 
--- behind the last tree nothing is told
+-- after the last tree nothing is told
 pub all_told : (flags same : List Bool) (made : List Numbered) → length same ≡ length made → ((n : ℕ) → n < length made → get_or same n false ≡ stays_as_it_was (get_or flags n false) (slice_get made n)) → AreTold flags same made
 all_told flags same made long below n = go (slice_get_cases made n).1
   where

@@ -28,7 +28,7 @@ abbrev pub IsKeptOrNone : ℕ → SourceFile → Option KeptTree → Type 0
 IsKeptOrNone k file None = Unit {0}
 IsKeptOrNone k file (Some kept) = IsKeptTree k file kept
 
--- of each file nothing is kept, or its tree; what stands behind the last file counts for nothing
+-- of each file nothing is kept, or its tree; what stands after the last file counts for nothing
 abbrev pub AreKeptTrees : List SourceFile → List (Option KeptTree) → Type 0
 AreKeptTrees files trees = (n : ℕ) (file : SourceFile) → slice_get files n ≡ Some file → IsKeptOrNone n file (get_or trees n None)
 

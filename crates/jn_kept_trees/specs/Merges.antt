@@ -54,7 +54,7 @@ IsJoined (Some kept) names now trees more texts others =
     × (now ≡ merged names kept.own) × (more ≡ trees ++ tree ∷ []) × (others ≡ texts ++ text ∷ [])
     × IsNumberedBy kept (merged_numbers names kept.own) tree × HasNumbers kept (merged_numbers names kept.own) text
 
--- the texts one after another: each that has a tree gets its numbers behind those before it, and `last` are the names then
+-- the texts one after another: each that has a tree gets its numbers after those before it, and `last` are the names then
 abbrev pub AreMerged : List (List ℕ) → List (Option KeptTree) → List PlacedFile → List TextNames → List (List ℕ) → Type 0
 AreMerged names [] trees texts last = (trees ≡ []) × (texts ≡ []) × (last ≡ names)
 AreMerged names (None ∷ rest) trees texts last = AreMerged names rest trees texts last

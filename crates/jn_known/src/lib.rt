@@ -61,7 +61,7 @@ pub const FIRST_MEMBER: NameNo = NameNo(7);
 
 pub const EQUALS: NameNo = NameNo(8);
 
-/// The first name behind the members of Object.
+/// The first name after the members of Object.
 pub const IS_EMPTY: NameNo = NameNo(16);
 
 pub const NON_NULL: NameNo = NameNo(17);

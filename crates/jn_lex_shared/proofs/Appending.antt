@@ -1,4 +1,4 @@
--- Two texts, one behind the other, have the tokens of the first and then those of the second, where the first ends with a line feed.
+-- Two texts, one after the other, have the tokens of the first and then those of the second, where the first ends with a line feed.
 use Rattle.std.proofs.Common.{◌≡◌, ℕ, zero, suc, ◌+◌, ◌%◌, ◌⊎◌, inl, inr, ⊎_elim, List, [], ◌∷◌, ◌++◌, length, cond, refl, sym, ap, ◌∙◌, subst, arith, append_assoc, take, Bool, false, lit<}
 use Rattle.std.specs.Prelude.{nat_eq, IsUtf8, IsAscii, chars, reverse}
 use Rattle.std.specs.List.{prefix_len, suffix_len}
@@ -36,7 +36,7 @@ gap_append (b ∷ bs) cs text g h =
     let same : gap_text bs ++ (gap_text cs ++ text) ≡ gap_text (bs ++ cs) ++ text = sym (append_assoc (gap_text bs) (gap_text cs) text) ∙ ap (λ t. t ++ text) (sym (gap_text-append bs cs)) in
     (subst (IsBlank b) same g.0, gap_append bs cs text g.1 h)
 
--- a piece behind a gap, and further on
+-- a piece after a gap, and further on
 stands_behind : (bs : List Blank) (text : List ℕ) (at place by : ℕ) (p : Piece) (after : List ℕ) → IsGap bs text → place + width (gap_text bs) ≡ by + at → Stands text at p after → Stands (gap_text bs ++ text) place (shifted_piece by p) after
 stands_behind bs text at place by p after g same s =
     let both = gap_text-append bs s.blanks in
@@ -63,7 +63,7 @@ behind_shifted text at place by (p ∷ ps) rest last same b =
     width-nil : width [] ≡ 0
     width-nil = refl
 
--- the pieces of a text whose first byte is `at`, with only white space and comments behind them
+-- the pieces of a text whose first byte is `at`, with only white space and comments after them
 record AllPieces (text : List ℕ) (at : ℕ) (ps : List Piece) : Type 0 where
   rest : List ℕ
   place : ℕ
@@ -98,7 +98,7 @@ all_behind text at (p ∷ ps) qs rest place b h =
     let r = all_behind b.0 p.to ps qs rest place b.2 h in
     record { rest = r.rest; place = r.place; behind = (b.0, b.1, r.behind); blanks = r.blanks; is = r.is; gap = r.gap }
 
--- where what is behind the pieces begins
+-- where what is after the pieces begins
 rest_place : (text : List ℕ) (at : ℕ) (ps : List Piece) (rest : List ℕ) (place : ℕ) → Behind text at ps rest place → place + width rest ≡ at + width text
 rest_place text at [] rest place b = let w = ap width b.0 in let p = b.1 in omega (arith, w, p)
 rest_place text at (p ∷ ps) rest place b =

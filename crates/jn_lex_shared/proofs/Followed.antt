@@ -143,7 +143,7 @@ stands_on text more at p after s e =
       longest = subst (NoneLonger (length s.word)) same (none_longer_on (length s.word) (s.word ++ after) more whole s.longest);
     }
 
--- so do all tokens of the text, and what is behind them ends with the line feed
+-- so do all tokens of the text, and what is after them ends with the line feed
 pub behind_on : (text more : List ℕ) (at : ℕ) (ps : List Piece) (rest : List ℕ) (place : ℕ) → Behind text at ps rest place → EndsLine text → Behind (text ++ more) at ps (rest ++ more) place × EndsLine rest
 behind_on text more at [] rest place b e = ((ap (λ t. t ++ more) b.0, b.1), subst EndsLine (sym b.0) e)
 behind_on text more at (p ∷ ps) rest place b e =

@@ -23,7 +23,7 @@ kept_names file text known names tokens begun l =
     let all : names ≡ merged known names = (only_lexed file text known known names names tokens tokens begun l l).1 in
     subst (λ ns. merged ns known ≡ ns) (sym all) (still_known known names known begun)
 
--- the back's tokens, further on and by the numbers that its names get, go behind the front's
+-- the back's tokens, further on and by the numbers that its names get, go after the front's
 parts_lexed : (file : FileNo) (front back : List ℕ) (known names own : List (List ℕ)) (tokens others : List Token) → merged known known ≡ known → EndsLine front → Lexed file front known tokens names → Lexed file back known others own → Lexed file (front ++ back) known (tokens ++ moved (length front) (tokens_by (merged_numbers names own) others)) (merged names own)
 parts_lexed file front back known names own tokens others begun ends f b =
     lexed_append file front back known names (merged names own) tokens (tokens_by (merged_numbers names own) others) ends f

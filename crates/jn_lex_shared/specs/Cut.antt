@@ -5,6 +5,6 @@ use Rattle.std.specs.Prelude.{◌≡◌, ℕ, ◌≤◌, List, [], ◌∷◌, �
 abbrev pub EndsLine : List ℕ → Type 0
 EndsLine text = (before : List ℕ) × (text ≡ before ++ 10 ∷ [])
 
--- behind so many bytes of the text a line has just ended
+-- after so many bytes of the text a line has just ended
 abbrev pub IsCut : ℕ → List ℕ → Type 0
 IsCut cut text = (cut ≤ length text) × EndsLine (take cut text)

@@ -13,7 +13,7 @@ use jn_lexer::lex_onto;
 use jn_trees::{Names, Token};
 use std::alloc::Global;
 
-/// Puts the tokens of a part of a text behind the others, window by window: the names go on from one window to the next, and only one
+/// Puts the tokens of a part of a text after the others, window by window: the names go on from one window to the next, and only one
 /// window's characters are held at a time. The part's first byte is the text's byte `at`.
 ///
 /// It fails where a window is refused, which may come from its cut, as in a comment of several lines. Then, and on want of memory,
@@ -92,7 +92,7 @@ fn as_whole(
 /// refuses with the row of the part's fault, counted within the part.
 ///
 /// It asks for room for as many tokens as `ahead` bytes can have, one for each, and goes on without where there isn't as much: a list
-/// that has room needn't be moved while it grows, nor where others are put behind it, and room that isn't written to takes no memory.
+/// that has room needn't be moved while it grows, nor where others are put after it, and room that isn't written to takes no memory.
 ///
 /// Besides tokens and names it takes memory for the characters of one window, some 64 KiB where no line is long. Only where a window
 /// is refused, for a fault or because its cut stands in a comment of several lines, the part is lexed once more, from its begin and

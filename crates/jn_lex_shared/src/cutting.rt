@@ -33,7 +33,7 @@ fn line_with(line: Line, byte: u8) -> Line {
     }
 }
 
-/// Behind how many bytes a line of code ends, the first one that begins behind the byte `at`; none where there is none. Lines
+/// After how many bytes a line of code ends, the first one that begins after the byte `at`; none where there is none. Lines
 /// that seem to stand in a comment of several lines are no code.
 fn code_end_from(text: &[u8], at: usize) -> Option<usize>
     requires { at ≤ length text.now }
@@ -52,7 +52,7 @@ fn code_end_from(text: &[u8], at: usize) -> Option<usize>
     None
 }
 
-/// Behind how many bytes a line ends, the first from the byte `at` on; none where no line ends there.
+/// After how many bytes a line ends, the first from the byte `at` on; none where no line ends there.
 fn line_end_from(text: &[u8], at: usize) -> Option<usize>
     requires { at ≤ length text.now }
     ensures { IfSome result (λ cut. IsCut cut text.now) }
@@ -65,7 +65,7 @@ fn line_end_from(text: &[u8], at: usize) -> Option<usize>
     None
 }
 
-/// Where a text is cut between two workers: behind a line's end from the byte `at` on, rather not in a comment; none where no line
+/// Where a text is cut between two workers: after a line's end from the byte `at` on, rather not in a comment; none where no line
 /// ends there.
 pub fn cut_from(text: &[u8], at: usize) -> Option<usize>
     requires { at ≤ length text.now }
@@ -86,7 +86,7 @@ fn code_end_near(text: &[u8]) -> Option<usize>
     code_end_from(&text[..near], WINDOW)
 }
 
-/// Where the first window of a text ends: behind a line's end, rather not in a comment; none where the text is one window.
+/// Where the first window of a text ends: after a line's end, rather not in a comment; none where the text is one window.
 ///
 /// For that it reads at most as many bytes as a window has, and then those up to the cut or to the text's end, so that all windows of
 /// a text are found in time in proportion to its bytes.

@@ -46,7 +46,7 @@ fn put_behind(
     put_renumbered(tokens, others, numbers.as_slice())
 }
 
-/// The tokens and names of a text, of which the first `cut` bytes and those behind them have these, each from the known names on
+/// The tokens and names of a text, of which the first `cut` bytes and those after them have these, each from the known names on
 /// and at their places in the text; it fails where one of them does.
 fn in_order(
     alloc: Global,
@@ -80,10 +80,10 @@ fn in_order(
 }
 
 /// The tokens of a text from the known names on, and the names then, by one worker and as many others as `more`: each takes a
-/// share, which ends with a line. Those behind the second are larger, each by about a third, since the tokens before them are put
+/// share, which ends with a line. Those after the second are larger, each by about a third, since the tokens before them are put
 /// together while they are lexed. It fails where a part is refused, which may come from the cut, as in a comment of several lines.
 ///
-/// The list has room for the tokens of `ahead` bytes ([`lex_part`]): of the text and of what others lex behind it.
+/// The list has room for the tokens of `ahead` bytes ([`lex_part`]): of the text and of what others lex after it.
 #[cycle(part)]
 fn lex_parts<R: Threads + Sync>(
     rt: &R,

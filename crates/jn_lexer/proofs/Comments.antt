@@ -82,7 +82,7 @@ never_closes star (c ∷ cs) e before after q = here (star && nat_eq c 47) (neve
         let f : ◌≡◌ {A = Option ℕ} None (Some 1) = sym none ∙ one in cc
     here false ih e (b ∷ bs) q = let rest_is : cs ≡ bs ++ 42 ∷ 47 ∷ after = cc in ih (suc_none (block_len (nat_eq c 42) cs) e) bs after rest_is
 
--- what stands behind a `/`
+-- what stands after a `/`
 pub lone_slash : begins_blank (47 ∷ []) ≡ false
 lone_slash = ap (λ b. b || (true && false)) white_47
 

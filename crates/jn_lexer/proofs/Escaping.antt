@@ -51,7 +51,7 @@ flag_push slash done c f = here (nat_eq c 92) refl slash f
     here false e slash f = zero_even (trail (done ++ c ∷ [])) (trail_other done c e)
 
 module _ (whole : List ℕ) where
-  -- each escape's `u` stands behind so many characters, or more
+  -- each escape's `u` stands after so many characters, or more
   abbrev NoneBefore : ℕ → Type 0
   NoneBefore n = (other : List ℕ) → IsEscapeBehind whole other → n ≤ 1 + length other
 

@@ -69,7 +69,7 @@ test_false x n f = here (nat_eq x n) refl
     here true e = absurd (f (eqb-true x n e))
     here false e = refl
 
--- the element behind a front
+-- the element after a front
 pub get_at : (xs ys : List ℕ) (y n : ℕ) → length xs ≡ n → slice_get (xs ++ y ∷ ys) n ≡ Some y
 get_at [] ys y n l = subst (λ m. slice_get (y ∷ ys) m ≡ Some y) l refl
 get_at (x ∷ xs) ys y n l = subst (λ m. slice_get (x ∷ (xs ++ y ∷ ys)) m ≡ Some y) l (get_at xs ys y (length xs) refl)

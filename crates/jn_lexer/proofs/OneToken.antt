@@ -136,7 +136,7 @@ stands_one text at p q a b s t = (piece_same p q lexemes from (s.to ∙ ap (λ n
     from : p.from ≡ q.from
     from = s.from ∙ ap (λ xs. at + width xs) gaps ∙ sym t.from
 
--- no token stands in the text behind white space and comments
+-- no token stands in the text after white space and comments
 abbrev pub Stops : List ℕ → ℕ → Type 0
 Stops rest place = (p : Piece) (after : List ℕ) → Stands rest place p after → ⊥
 

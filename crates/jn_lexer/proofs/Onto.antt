@@ -1,4 +1,4 @@
--- Tokens of a piece that are put behind others, further on.
+-- Tokens of a piece that are put after others, further on.
 use Rattle.std.proofs.Common.{◌≡◌, ℕ, ◌+◌, ◌≤◌, List, [], ◌∷◌, ◌++◌, drop, refl, sym, ap, ◌∙◌, subst, arith, append_assoc, append-nil}
 use Rattle.std.specs.Prelude.{Result, Ok, Err, OnOk}
 use Rattle.std.proofs.lemmas.List.{map-append}
@@ -11,7 +11,7 @@ use Rattle.jn_lexer.specs.Moved.{moved_token, moved, LexedOnto, IsLexingOnto}
 use Rattle.jn_lexer.specs.Found.{IsNext, IsAllGap, lexeme_of, body_of, word_of}
 use Rattle.jn_lexer.proofs.Reading.{IsRead, read_more, read_all, token, piece_of, places_more}
 
--- what has been read, and put behind the tokens `before`
+-- what has been read, and put after the tokens `before`
 pub record IsReadOnto (file : FileNo) (text : List ℕ) (by : ℕ) (old : List (List ℕ)) (before : List Token) (rest : List ℕ) (at : ℕ) (tokens : List Token) (names : List (List ℕ)) : Type 0 where
   pub own : List Token
   pub read : IsRead file text old rest at own names

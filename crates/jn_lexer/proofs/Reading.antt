@@ -177,7 +177,7 @@ one_more names (Quoted value) = with_more names (encode_utf8_all value)
 one_more names (Numeral value) = omega arith
 one_more names (Fixed kind) = omega arith
 
--- faults behind white space and comments
+-- faults after white space and comments
 pub fault_next : (file : FileNo) (text : List ℕ) (at n : ℕ) (fault : Fault) (row : Row) (from : ℕ) → IsGapOf text n → IsFaultHere (drop n text) fault → row.code ≡ fault.code → from ≡ at + width (take n text) → (c : ℕ) × (slice_get (drop n text) fault.before ≡ Some c) × IsAtCharacter file (from + width (take fault.before (drop n text))) c row → IsFaultNext file text at row
 fault_next file text at n fault row from g f code start r =
     let body = drop n text in

@@ -18,7 +18,7 @@ width-split n xs = sym (width-append (take n xs) (drop n xs)) ∙ ap width (take
 pub width-one : (x : ℕ) → width (x ∷ []) ≡ len_utf8 x
 width-one x = let e = width-cons x [] in omega (arith, e)
 
--- a front and the character behind it
+-- a front and the character after it
 pub width-at : (n : ℕ) (xs : List ℕ) (x : ℕ) → n < length xs → x ≡ get_or xs n x → width (take n xs) + len_utf8 x ≤ width xs
 width-at n [] x l e = absurd (omega arith)
 width-at zero (y ∷ ys) x l e = let a = width-cons y ys in let b = ap len_utf8 e in omega (arith, a, b)
@@ -49,18 +49,18 @@ width_alone n xs l e =
     let d = length-drop n xs in
     omega (arith, l, e, s, a, b, t, d)
 
--- what stands behind characters of a text in UTF-8 is in UTF-8
+-- what stands after characters of a text in UTF-8 is in UTF-8
 utf8_behind : (xs rest : List ℕ) → IsUtf8 (encode_utf8_all xs ++ rest) → IsUtf8 rest
 utf8_behind [] rest u = u
 utf8_behind (x ∷ xs) rest u = utf8_behind xs rest (IsUtf8-past_char (encode_utf8_all (x ∷ xs) ++ rest) (encode_utf8_all xs ++ rest) x u (append_assoc (encode_utf8 x) (encode_utf8_all xs) rest))
 
--- a text may be cut behind any of its characters
+-- a text may be cut after any of its characters
 pub boundary_behind : (bytes xs ys : List ℕ) → IsUtf8 bytes → chars bytes ≡ xs ++ ys → IsCharBoundary bytes (width xs)
 boundary_behind bytes xs ys u e =
     let cut : bytes ≡ encode_utf8_all xs ++ encode_utf8_all ys = sym (encodes-chars bytes u) ∙ ap encode_utf8_all e ∙ encodes-append xs ys in
     IsCharBoundary-at_seam bytes (encode_utf8_all xs) (encode_utf8_all ys) cut (utf8_behind xs (encode_utf8_all ys) (subst IsUtf8 cut u))
 
--- the bytes of the characters that stand behind others
+-- the bytes of the characters that stand after others
 pub bytes_behind : (bytes xs ys zs : List ℕ) → IsUtf8 bytes → chars bytes ≡ xs ++ (ys ++ zs) → take (width ys) (drop (width xs) bytes) ≡ encode_utf8_all ys
 bytes_behind bytes xs ys zs u e =
     let cut : bytes ≡ encode_utf8_all xs ++ (encode_utf8_all ys ++ encode_utf8_all zs) =

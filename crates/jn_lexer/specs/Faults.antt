@@ -17,7 +17,7 @@ use Rattle.jn_lexer.specs.Pieces.{Piece, Behind}
 abbrev pub is_backslash : ℕ → Bool
 is_backslash c = nat_eq c 92
 
--- behind these characters a backslash and `u` begin a Unicode escape: they end with an even number of backslashes
+-- after these characters a backslash and `u` begin a Unicode escape: they end with an even number of backslashes
 abbrev pub IsEscapeBehind : List ℕ → List ℕ → Type 0
 IsEscapeBehind text before = (after : List ℕ) × (text ≡ before ++ 92 ∷ 117 ∷ after) × (suffix_len is_backslash before % 2 ≡ 0)
 
@@ -25,7 +25,7 @@ IsEscapeBehind text before = (after : List ℕ) × (text ≡ before ++ 92 ∷ 11
 abbrev pub HasNoUnicodeEscape : List ℕ → Type 0
 HasNoUnicodeEscape text = (before : List ℕ) → IsEscapeBehind text before → ⊥
 
--- the first one stands behind `before`
+-- the first one stands after `before`
 abbrev pub IsFirstEscape : List ℕ → List ℕ → Type 0
 IsFirstEscape text before = IsEscapeBehind text before × ((other : List ℕ) → IsEscapeBehind text other → length before ≤ length other)
 
@@ -55,7 +55,7 @@ pub record IsOpenString (text : List ℕ) : Type 0 where
   pub is : text ≡ 34 ∷ back
   pub open_end : (parts : List Part) (after : List ℕ) → AreParts parts → back ≡ inside parts ++ 34 ∷ after → ⊥
 
--- in a string, behind good parts, another escape than the eight
+-- in a string, after good parts, another escape than the eight
 pub record IsBadEscape (text front : List ℕ) : Type 0 where
   pub good : List Part
   pub letter : ℕ
@@ -89,7 +89,7 @@ pub record IsBadDot (text : List ℕ) : Type 0 where
   pub is : text ≡ 46 ∷ digit ∷ back
   pub digits : is_digit digit ≡ true
 
--- the fault of this code is in the text, at the character c behind the characters `front`
+-- the fault of this code is in the text, at the character c after the characters `front`
 abbrev pub IsFault : Code → List ℕ → List ℕ → ℕ → Type 0
 IsFault L3 text front c = (front ≡ []) × IsBadCharacter text c
 IsFault L4 text front c = (front ≡ []) × (c ≡ 47) × IsOpenComment text
@@ -104,7 +104,7 @@ pub record IsAtCharacter (file : FileNo) (place c : ℕ) (row : Row) : Type 0 wh
   pub from : row.span.from ≡ place
   pub to : row.span.to ≡ place + width (c ∷ [])
 
--- the first fault in the text where a token should begin: it is behind pieces, white space and comments
+-- the first fault in the text where a token should begin: it is after pieces, white space and comments
 pub record IsTokenFault (file : FileNo) (text : List ℕ) (row : Row) : Type 0 where
   pub pieces : List Piece
   pub rest : List ℕ

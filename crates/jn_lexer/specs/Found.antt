@@ -37,7 +37,7 @@ pub record IsToken (text : List ℕ) (lexeme : Lexeme) (n : ℕ) : Type 0 where
 abbrev pub IsFound : List ℕ → Found → Type 0
 IsFound text found = IsToken text (lexeme_of found.shape (take found.count text)) found.count
 
--- the fault is behind so many characters of the text
+-- the fault is after so many characters of the text
 abbrev pub IsFaultHere : List ℕ → Fault → Type 0
 IsFaultHere text fault = (front : List ℕ) × (c : ℕ) × (back : List ℕ) × (text ≡ front ++ c ∷ back) × (length front ≡ fault.before) × IsFault fault.code text front c
 
@@ -55,7 +55,7 @@ IsStep text (Of n) = IsBlankOf text n × (0 < n) × (n ≤ length text)
 IsStep text Ends = begins_blank text ≡ false
 IsStep text Opens = IsOpenComment text
 
--- a comment, by the length of what stands behind its `/*`
+-- a comment, by the length of what stands after its `/*`
 abbrev pub closed : Option ℕ → Step
 closed None = Opens
 closed (Some n) = Of (2 + n)
@@ -100,7 +100,7 @@ pub record IsNext (text : List ℕ) (at : ℕ) (s : Spelled) : Type 0 where
   pub to : s.to ≡ s.from + width (word_of text s)
   pub within : s.gap + s.count ≤ length text
 
--- behind white space and comments of the text, whose first byte is `at`, there is a fault
+-- after white space and comments of the text, whose first byte is `at`, there is a fault
 pub record IsFaultNext (file : FileNo) (text : List ℕ) (at : ℕ) (row : Row) : Type 0 where
   pub blanks : List Blank
   pub body : List ℕ

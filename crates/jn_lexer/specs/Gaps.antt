@@ -14,7 +14,7 @@ blank_text (Space c) = c ∷ []
 blank_text (Line inside) = 47 ∷ 47 ∷ inside
 blank_text (Block inside) = 47 ∷ 42 ∷ (inside ++ 42 ∷ 47 ∷ [])
 
--- behind its `/*` a comment ends at the next `*/`
+-- after its `/*` a comment ends at the next `*/`
 abbrev pub IsNextClose : List ℕ → List ℕ → Type 0
 IsNextClose inside after = (shorter tail : List ℕ) → inside ++ 42 ∷ 47 ∷ after ≡ shorter ++ 42 ∷ 47 ∷ tail → length inside ≤ length shorter
 
@@ -24,12 +24,12 @@ IsBlank (Space c) after = is_white c ≡ true
 IsBlank (Line inside) after = AllAre is_in_line inside × BeginsOnly is_line_end after
 IsBlank (Block inside) after = IsNextClose inside after
 
--- the characters of a row of blanks, as they stand one behind the other
+-- the characters of a row of blanks, as they stand one after the other
 abbrev pub gap_text : List Blank → List ℕ
 gap_text [] = []
 gap_text (b ∷ bs) = blank_text b ++ gap_text bs
 
--- these stand one behind the other, and before the text `after`
+-- these stand one after the other, and before the text `after`
 abbrev pub IsGap : List Blank → List ℕ → Type 0
 IsGap [] after = Unit {0}
 IsGap (b ∷ bs) after = IsBlank b (gap_text bs ++ after) × IsGap bs after

@@ -36,7 +36,7 @@ is_long (c ∷ cs) = (is_digit c && not (nat_eq c 48)) && list_all is_digit_or_l
 unfoldable pub is_decimal : List ℕ → Bool
 is_decimal word = is_zero word || is_long word
 
--- the value of decimal digits behind those of `n`; underscores don't count
+-- the value of decimal digits after those of `n`; underscores don't count
 abbrev pub value_from : ℕ → List ℕ → ℕ
 value_from n [] = n
 value_from n (c ∷ cs) = value_from (if is_digit c then n * 10 + (c - 48) else n) cs
@@ -45,7 +45,7 @@ value_from n (c ∷ cs) = value_from (if is_digit c then n * 10 + (c - 48) else 
 abbrev pub IsNumeral : List ℕ → ℕ → Type 0
 IsNumeral word value = (is_decimal word ≡ true) × (value ≡ value_from 0 word) × (value ≤ 2147483648)
 
--- the parts of a string's inside: a character, and an escape by the character behind its backslash (JLS 3.10.5, 3.10.6)
+-- the parts of a string's inside: a character, and an escape by the character after its backslash (JLS 3.10.5, 3.10.6)
 pub data Part : Type 0 where
   Plain : ℕ → Part
   Escape : ℕ → Part
@@ -106,7 +106,7 @@ IsSpelling (Quoted value) word = IsQuoted word value
 IsSpelling (Numeral value) word = IsNumeral word value
 IsSpelling (Fixed kind) word = (word ≡ spelling kind) × (1 ≤ length word)
 
--- what may not follow at once: an identifier's character or `.` a number, a digit a `.`, and `/` or `*` a `/`
+-- what may not follow a sign at once: a digit a `.`, and `/` or `*` a `/`
 abbrev pub hinders_kind : TokenKind → ℕ → Bool
 hinders_kind Dot c = is_digit c
 hinders_kind Slash c = nat_eq c 47 || nat_eq c 42

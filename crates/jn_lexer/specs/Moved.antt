@@ -11,7 +11,7 @@ moved_token by t = record { kind = t.kind; span = record { file = t.span.file; f
 abbrev pub moved : ℕ → List Token → List Token
 moved by ts = map (moved_token by) ts
 
--- behind the tokens `before` stand those of the piece, whose first byte is the whole's byte `at`; names are numbered as in `Lexed`
+-- after the tokens `before` stand those of the piece, whose first byte is the whole's byte `at`; names are numbered as in `Lexed`
 pub record LexedOnto (file : FileNo) (piece : List ℕ) (at : ℕ) (old : List (List ℕ)) (before : List Token) (new : List (List ℕ)) (tokens : List Token) : Type 0 where
   pub own : List Token
   pub lexed : Lexed file piece old own new

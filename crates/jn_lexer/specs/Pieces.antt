@@ -27,7 +27,7 @@ abbrev pub Behind : List ℕ → ℕ → List Piece → List ℕ → ℕ → Typ
 Behind text at [] rest place = (rest ≡ text) × (place ≡ at)
 Behind text at (p ∷ ps) rest place = (after : List ℕ) × Stands text at p after × Behind after p.to ps rest place
 
--- the text is these pieces, and behind them only white space and comments
+-- the text is these pieces, and after them only white space and comments
 pub record ArePieces (text : List ℕ) (pieces : List Piece) : Type 0 where
   pub rest : List ℕ
   pub place : ℕ

@@ -16,7 +16,7 @@ string_len slash (c ∷ cs) =
     else (if slash then option_map suc (string_len false cs)
     else (if nat_eq c 34 then Some 0 else option_map suc (string_len (nat_eq c 92) cs)))
 
--- the place of the first character behind a backslash with which it is no escape
+-- the place of the first character after a backslash with which it is no escape
 abbrev pub bad_letter : Bool → List ℕ → Option ℕ
 bad_letter slash [] = None
 bad_letter true (c ∷ cs) = if is_none (escape_value c) then Some 0 else option_map suc (bad_letter false cs)
@@ -28,11 +28,12 @@ unescaped slash [] = []
 unescaped true (c ∷ cs) = unwrap_or (escape_value c) c ∷ unescaped false cs
 unescaped false (c ∷ cs) = if nat_eq c 92 then unescaped true cs else c ∷ unescaped false cs
 
--- the text begins with a comment or a white character
+-- the text begins with what makes a `/` before it the beginning of a comment (JLS 8, 3.7)
 abbrev pub begins_mark : List ℕ → Bool
 begins_mark [] = false
 begins_mark (c ∷ cs) = nat_eq c 47 || nat_eq c 42
 
+-- the text begins with a comment or a white character
 abbrev pub begins_blank : List ℕ → Bool
 begins_blank [] = false
 begins_blank (c ∷ cs) = is_white c || (nat_eq c 47 && begins_mark cs)
@@ -58,7 +59,7 @@ abbrev pub escape_at : Bool → List ℕ → Option ℕ
 escape_at slash [] = None
 escape_at slash (c ∷ cs) = if slash && nat_eq c 117 then Some 0 else option_map suc (escape_at (nat_eq c 92 && not slash) cs)
 
--- a place behind i characters, as a place in the whole
+-- a place after i characters, as a place in the whole
 abbrev pub shifted : ℕ → Option ℕ → Option ℕ
 shifted i place = option_map (λ n. i + n) place
 

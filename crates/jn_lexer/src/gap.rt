@@ -37,7 +37,7 @@ fn block_len(text: &[char]) -> Option<usize>
     None
 }
 
-/// What stands at the front, behind a `/`.
+/// What stands at the front, after a `/`.
 fn comment_at(text: &[char]) -> Step
     requires { length text.now < 2 ^ 32 }
     ensures { IsStep (47 ∷ text.now) result }
@@ -56,7 +56,7 @@ fn comment_at(text: &[char]) -> Step
     }
 }
 
-/// A comment `/* .. */` with the length of what stands behind its `/*`.
+/// A comment `/* .. */` with the length of what stands after its `/*`.
 fn closed(count: Option<usize>) -> Step
     requires { IfSome count (λ n. n < 2 ^ 32) }
     ensures { result ≡ closed count }
@@ -86,7 +86,7 @@ fn blank_at(text: &[char]) -> Step
     }
 }
 
-/// How many characters of white space and comments stand at the front. Where a comment isn't closed, the error says behind how many characters it begins.
+/// How many characters of white space and comments stand at the front. Where a comment isn't closed, the error says after how many characters it begins.
 pub fn gap_len(text: &[char]) -> Result<usize, usize>
     requires { length text.now < 2 ^ 32 }
     ensures gap { MatchResult result (λ n. IsGapOf text.now n) (λ n. IsGapOf text.now n) }

@@ -33,7 +33,7 @@ fn escape_at(text: &[char]) -> Option<usize>
     None
 }
 
-/// Behind how many characters the first Unicode escape begins. The text's characters are those of `decoded`.
+/// After how many characters the first Unicode escape begins. The text's characters are those of `decoded`.
 fn first_escape(decoded: &str, text: &[char]) -> Option<usize>
     requires { text.now ≡ chars decoded.now }
     ensures { MatchOption result (HasNoUnicodeEscape text.now) (λ n. (n < length text.now)
@@ -73,7 +73,7 @@ fn characters(alloc: Global, text: &str) -> Result<Vec<char>, AllocError>
     }
 }
 
-/// The row of a fault behind so many characters of a text whose first byte is `at`.
+/// The row of a fault after so many characters of a text whose first byte is `at`.
 fn row_at(text: &[char], file: FileNo, at: u32, fault: Fault) -> Row
     requires before { fault.before < length text.now }
     requires fits { at + width text.now < 2 ^ 32 }
@@ -167,7 +167,7 @@ fn word_of(text: &[char], next: Spelled) -> &[char]
     &body[..next.count]
 }
 
-/// What stands behind the next token.
+/// What stands after the next token.
 fn text_behind(text: &[char], next: Spelled) -> &[char]
     requires { next.gap + next.count ≤ length text.now }
     ensures { result.now ≡ drop next.count (body_of text.now next) }
@@ -176,7 +176,7 @@ fn text_behind(text: &[char], next: Spelled) -> &[char]
     &body[next.count..]
 }
 
-/// Puts the tokens of the characters, which are those of `decoded`, behind the others, their spans so many bytes further on.
+/// Puts the tokens of the characters, which are those of `decoded`, after the others, their spans so many bytes further on.
 fn tokens_onto(
     alloc: Global,
     decoded: &str,
@@ -222,11 +222,11 @@ fn tokens_onto(
     }
 }
 
-/// Puts the tokens of a piece of a file's bytes behind the others; the texts of identifiers and strings are numbered in `names`,
+/// Puts the tokens of a piece of a file's bytes after the others; the texts of identifiers and strings are numbered in `names`,
 /// in the order of the tokens. The piece's first byte is the file's byte `at`, from which on the tokens' spans are counted.
 ///
 /// It refuses with the row of the piece's fault, as [`lex`] says: the piece is lexed as a whole text, and the row is counted within
-/// it, from 0 on. After a refusal or want of memory `tokens` and `names` have perhaps some more, behind the old ones. While it runs
+/// it, from 0 on. After a refusal or want of memory `tokens` and `names` have perhaps some more, after the old ones. While it runs
 /// it holds the piece's characters, of 4 bytes each.
 pub fn lex_onto(
     alloc: Global,
@@ -272,7 +272,7 @@ pub fn lex_onto(
 /// The tokens of a file's bytes; the texts of identifiers and strings are numbered in `names`, in the order of the tokens.
 ///
 /// It refuses with the row of the text's fault: L1 where the bytes aren't UTF-8, else L2 at the first Unicode escape, else L3 to L7 at the first place where a token should begin and none can.
-/// After a refusal or want of memory `names` has perhaps some names more, behind the old ones.
+/// After a refusal or want of memory `names` has perhaps some names more, after the old ones.
 pub fn lex(
     alloc: Global,
     text: &[u8],

@@ -6,7 +6,7 @@ ghost use Rattle.jn_lexer.specs.Lexemes.{is_decimal, is_zero, is_long, ends_in_d
 
 use crate::characters::{is_digit, is_digit_or_low};
 
-/// The greatest number that may be written, behind a minus.
+/// The greatest number that may be written, after a minus.
 const LIMIT: u64 = 2147483648;
 
 fn is_zero(word: &[char]) -> bool

@@ -10,7 +10,7 @@ use crate::shape::{Fault, Found, Shape};
 use jn_base::{Code, OutOfMemory};
 use std::alloc::Global;
 
-/// What the character behind a backslash stands for, if it is one of the eight escapes.
+/// What the character after a backslash stands for, if it is one of the eight escapes.
 #[tactic(auto, unfolding(crate::specs::Lexemes::escape_value))]
 fn escape_value(letter: char) -> Option<char>
     ensures { result ≡ escape_value letter }
@@ -50,7 +50,7 @@ fn string_len(text: &[char]) -> Option<usize>
     None
 }
 
-/// The place of the first character behind a backslash with which it is no escape.
+/// The place of the first character after a backslash with which it is no escape.
 fn bad_letter(inside: &[char]) -> Option<usize>
     ensures value { result ≡ bad_letter false inside.now }
     ensures within { IfSome result (λ n. n < length inside.now) }

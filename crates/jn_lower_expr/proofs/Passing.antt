@@ -105,7 +105,7 @@ all_set bs taken [] i w h p = tt
 all_set bs taken (v ∷ ws) zero w h p = (p, h.1)
 all_set bs taken (v ∷ ws) (suc i) w h p = (h.0, all_set bs taken ws i w h.1 p)
 
--- a type's number is put behind the others
+-- a type's number is put after the others
 pub all_put : (bs : List BaseType) (taken : List ℕ) (ws : List Way) (w : Way) → AllPast bs taken ws → Passes 0 w.from bs taken w.base → AllPast bs taken (ws ++ w ∷ [])
 all_put bs taken [] w h p = (p, tt)
 all_put bs taken (v ∷ ws) w h p = (h.0, all_put bs taken ws w h.1 p)

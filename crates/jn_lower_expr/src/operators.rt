@@ -179,7 +179,7 @@ fn step_operator(step: Step) -> Operator
     }
 }
 
-/// One more or less than the old value, behind the last value that was given, written to the place.
+/// One more or less than the old value, after the last value that was given, written to the place.
 pub fn step_by_one(
     c: &Context,
     e: &mut Emitter,
@@ -235,7 +235,7 @@ fn is_local_spot(spot: &Spot) -> bool
     }
 }
 
-/// The old value of what is stepped behind, which is copied where it stands in a local.
+/// The old value of what is stepped after, which is copied where it stands in a local.
 pub fn old_value(
     c: &Context,
     e: &mut Emitter,

@@ -1,4 +1,4 @@
--- Members behind a dot: the rows of what stands before it, those of the arguments, and those of the member.
+-- Members after a dot: the rows of what stands before it, those of the arguments, and those of the member.
 use Rattle.std.proofs.Common.{◌≡◌, ℕ, cond, not, ◌&&◌, eqb, List, [], ◌++◌, refl, ap}
 use Rattle.jn_base.specs.declared.code.Code.TheVariants.{J5}
 use Rattle.jn_base.specs.declared.place.Row.{Row}

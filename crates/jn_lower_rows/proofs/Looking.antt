@@ -202,7 +202,7 @@ module _ (c : Context) (at : Setting) where
           (f ∙ ap (λ z. r2 ++ cond z [] (method_behind P c.class.0 (meaning_of c.faults.now b.meaning) b.base b.clean n.name.0 k n.span)) h.is_print)
           (ty ∙ ap (λ z. cond z Void (callee_type P (callee_by P (meaning_of c.faults.now b.meaning) b.base n.name.0 k))) h.is_print)
 
-  -- a field behind a dot
+  -- a field after a dot
 
   pub field_found : (t : Expr) (n : Identifier) (b : receivers.Before) (a : Access) (clean : Bool) (old r1 r2 : List Row) → IsBefore c at false (placed_view t) b old r1 → r2 ≡ r1 ++ field_behind P c.class.0 (meaning_of c.faults.now b.meaning) b.base b.clean n.name.0 n.span →
       a ≡ access_by P (meaning_of c.faults.now b.meaning) b.base n.name.0 → clean ≡ eqb (length r2) (length old) → (a ≡ access_in c (placed_view t) n) × (clean ≡ is_clean (accessed_rows c at (placed_view t) n)) × (r2 ≡ old ++ accessed_rows c at (placed_view t) n)

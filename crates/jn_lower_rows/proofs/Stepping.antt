@@ -101,7 +101,7 @@ module _ (P : Program) (c : ℕ) (at : Setting) where
       (walk_behind (λ f st. spec.declaration_rows P c f at (lowered.fresh st) (placed_local q.value)) (λ f st. (lowered.declaration P c f (lowered.fresh st) (placed_local q.value)).behind) (λ f st. (lowered.statement P c f st (placed_statement (Local q s))).behind) old new x y (λ f st. refl)
       (walk_on (λ f st. spec.declaration_rows P c f at st (placed_local q.value)) (λ f st. (lowered.declaration P c f st (placed_local q.value)).behind) (λ f st. lowered.fresh st) old new x y (λ f st. refl) (subst (λ l. Walks (λ f st. spec.declaration_rows P c f at st (placed_local l)) (λ f st. (lowered.declaration P c f st (placed_local l)).behind) old new x y) le g)))
 
-  -- a condition, and a statement behind it
+  -- a condition, and a statement after it
   abbrev tested : Expr → ℕ → State → State
   tested q f st = with_temporaries st (lowered.tested_in P c f (lowered.fresh st) (placed_view q)).behind
 
@@ -181,7 +181,7 @@ module _ (P : Program) (c : ℕ) (at : Setting) where
   abbrev bound : TypeUse → List LocalModifier → Option Qualifier
   bound u marks = bound_of (own_annotations (placed_type_use u).array (annotations_of marks))
 
-  -- the local, and the statement behind it
+  -- the local, and the statement after it
   abbrev declared_then : Identifier → BaseType → Option Qualifier → Bool → List Row → Stmt → ℕ → State → List Row
   declared_then n base b fixed faults t f st = spec.declared_rows st.scope n.name.0 n.span ++ spec.statement_rows P c f at (declares st n.name.0 base b fixed faults) (placed_statement t)
 

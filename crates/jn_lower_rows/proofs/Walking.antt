@@ -46,7 +46,7 @@ walk_on r b m old new x y same g = record {
   stands = λ f st s. g.stands f (m f st) (ap plain (same f st) ∙ s);
 }
 
--- with another state of the same names behind it
+-- with another state of the same names after it
 pub walk_behind : (r : ℕ → State → List Row) (b m : ℕ → State → State) (old new : Names) (x y : List Row) → ((f : ℕ) (st : State) → (m f st).scope ≡ (b f st).scope) → Walks r b old new x y → Walks r m old new x y
 walk_behind r b m old new x y same g = record {
   longer = g.longer;

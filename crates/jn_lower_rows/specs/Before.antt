@@ -40,19 +40,19 @@ base_before (ClassMeant k) base = Void
 base_before SystemMeant base = Void
 base_before m base = base
 
--- the rows of a field behind the dot
+-- the rows of a field after the dot
 abbrev pub field_behind : Program → ℕ → Meaning → BaseType → Bool → ℕ → Span → List Row
 field_behind P c (ClassMeant k) base clean n span = cond (eqb k 1) (row J5 span) (spec.class_field_rows P c (field_of P k n) span)
 field_behind P c SystemMeant base clean n span = row J5 span
 field_behind P c m base clean n span = cond clean (spec.value_field_rows P c base n span) []
 
--- the rows of a method behind the dot
+-- the rows of a method after the dot
 abbrev pub method_behind : Program → ℕ → Meaning → BaseType → Bool → ℕ → ℕ → Span → List Row
 method_behind P c (ClassMeant k) base clean n arity span = cond (eqb k 1) (spec.string_method_rows P n arity span) (cond (is_object_member n) (row J5 span) (spec.class_method_rows P c (method_of P k n arity) span))
 method_behind P c SystemMeant base clean n arity span = row J5 span
 method_behind P c m base clean n arity span = cond (is_object_member n && not (eqb n equals_name)) (row J5 span) (cond clean (spec.value_method_rows P c base n arity span) [])
 
--- a field behind a dot, and all its rows
+-- a field after a dot, and all its rows
 
 abbrev pub access_in : Context → PlacedTree → Identifier → Access
 access_in c e n = access c.program.now c.class.0 (scope_in c) e (type_in c e) n.name.0

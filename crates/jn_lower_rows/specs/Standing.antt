@@ -33,7 +33,7 @@ pub record Longer (old new : Names) : Type 0 where
   pub scope_is : new.scope ≡ old.scope ++ scope
   pub faults_is : new.faults.items ≡ old.faults.items ++ faults
 
--- from the one place to the other: exactly these rows are added, whatever registers and temporaries there are, and the names are those of the state behind
+-- from the one place to the other: exactly these rows are added, whatever registers and temporaries there are, and the names are those of the state after
 pub record Walks (rows : ℕ → State → List Row) (behind : ℕ → State → State) (old new : Names) (before after : List Row) : Type 0 where
   pub longer : Longer old new
   pub kept : WellKept new

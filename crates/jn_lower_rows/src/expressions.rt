@@ -287,7 +287,7 @@ fn receiver(
     before(target, c, at, rows)
 }
 
-/// The rows of a field behind a dot, what it names, and whether there are none.
+/// The rows of a field after a dot, what it names, and whether there are none.
 #[cycle(looking)]
 fn field(
     target: &Expr,

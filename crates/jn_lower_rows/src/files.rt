@@ -350,7 +350,7 @@ fn types_rows(alloc: Global, rows: &mut Seq<Row>, types: &[TypeTree]) -> Result<
     Ok(())
 }
 
-/// Whether the names behind `org` go on below `checkerframework`.
+/// Whether the names after `org` go on below `checkerframework`.
 fn is_under(names: &[Identifier], all: bool) -> bool
     ensures { result ≡ spec.is_under names.now all }
 {

@@ -167,7 +167,7 @@ pub fn assigned_name_rows(
     }
 }
 
-/// A member behind a dot that is assigned: a final field, but in a constructor of its class through `this`, or an array's length (JLS 10.7).
+/// A member after a dot that is assigned: a final field, but in a constructor of its class through `this`, or an array's length (JLS 10.7).
 pub fn assigned_access_rows(
     rows: &mut Seq<Row>,
     c: &Context,

@@ -1,4 +1,4 @@
-//! Rows of members behind a dot, of elements and of operators, where what stands before them is done.
+//! Rows of members after a dot, of elements and of operators, where what stands before them is done.
 ghost use Rattle.std.specs.Prelude.{◌≡◌, ◌++◌, ◌&&◌, ◌||◌, [], cond, eqb, not, true, OnOk};
 ghost use Rattle.jn_base.specs.declared.code.Code.TheVariants.{J2, J5};
 ghost use Rattle.jn_points.specs.declared.point.BaseType.TheVariants.{Void};
@@ -86,7 +86,7 @@ fn named_field_rows(
     }
 }
 
-/// A field behind a dot (JLS 15.11).
+/// A field after a dot (JLS 15.11).
 pub fn access_rows(
     rows: &mut Seq<Row>,
     c: &Context,
@@ -134,7 +134,7 @@ fn method_rows(
     }
 }
 
-/// A method behind a dot (JLS 15.12).
+/// A method after a dot (JLS 15.12).
 pub fn call_rows(
     rows: &mut Seq<Row>,
     c: &Context,
@@ -170,7 +170,7 @@ pub fn called_type(c: &Context, before: Before, name: NameNo, arity: usize) -> B
     }
 }
 
-/// A field behind a dot that is assigned.
+/// A field after a dot that is assigned.
 pub fn found_rows(
     rows: &mut Seq<Row>,
     c: &Context,

@@ -15,7 +15,7 @@ no_bases : (r : ℕ) (ps : List PlacedParameter) → parameters_from r ps [] ≡
 no_bases r [] = refl
 no_bases r (p ∷ ps) = refl
 
--- behind the last parameter, or the last type, there is none
+-- after the last parameter, or the last type, there is none
 pub past : (n : ℕ) (ts : List Parameter) (bs : List BaseType) (r : ℕ) → min (length ts) (length bs) ≤ n → parameters_from r (placed_parameters (drop n ts)) (drop n bs) ≡ []
 past n [] bs r h = let short : length {A = Parameter} [] ≤ n = omega arith in ap (λ xs. parameters_from r (placed_parameters xs) (drop n bs)) (drop_of_length-le {A = Parameter} [] short)
 past n (t ∷ ts) [] r h = let short : length {A = BaseType} [] ≤ n = omega arith in ap (λ xs. parameters_from r (placed_parameters (drop n (t ∷ ts))) xs) (drop_of_length-le {A = BaseType} [] short) ∙ no_bases r (placed_parameters (drop n (t ∷ ts)))

@@ -30,7 +30,7 @@ use Rattle.jn_lower_stmt.proofs.Stepping.{Extends, PutBack, extends_on, local_ex
 pub in_state : {A : Type 0} (f : State → A) (x : A) (s u : State) → x ≡ f s → s ≡ u → x ≡ f u
 in_state f x s u is same = is ∙ ap f same
 
--- a point behind that gives a value to a temporary
+-- a point after that gives a value to a temporary
 pub given_at : (P : Program) (first : ℕ) (st s1 s2 : State) (t : Temporaries) (before : Fragment) (base : BaseType) (span : Span) (kind : RegNo → PointKind) (dst : RegNo) (e0 e1 e2 : Emitter) →
     s1 ≡ with_temporaries st t → dst.0 ≡ first + (take_one s1.temporaries base).number → s2 ≡ with_temporaries s1 (take_one s1.temporaries base).behind → Runs before e0 e1 → Runs (does span (kind dst)) e1 e2 →
     GivesIn (gives P first t before base span kind) st e0 (record { reg = dst; span = span }) e2 s2
@@ -39,7 +39,7 @@ given_at P first st s1 s2 t before base span kind dst e0 e1 e2 same is behind rb
     let g : Gives (gives P first t before base span kind) e0 (record { reg = dst; span = span }) e2 u = given P first t s1.temporaries before base span kind dst e0 e1 e2 u (ap (λ (s : State). s.temporaries) same) is refl rb rd in
     record { runs = g.runs; operand = g.operand; behind = behind ∙ ap (λ (s : State). with_temporaries s u) same ∙ ap (λ (x : Temporaries). with_temporaries st x) g.behind }
 
--- the same behind a value
+-- the same after a value
 pub gave_at : (P : Program) (first : ℕ) (v : Value) (x : Operand) (st s1 s2 : State) (base : BaseType) (span : Span) (kind : Operand → RegNo → PointKind) (dst : RegNo) (e0 e1 e2 : Emitter) →
     GivesIn v st e0 x e1 s1 → dst.0 ≡ first + (take_one s1.temporaries base).number → s2 ≡ with_temporaries s1 (take_one s1.temporaries base).behind → Runs (does span (kind x dst)) e1 e2 →
     GivesIn (gives P first v.behind v.fragment base span (kind v.operand)) st e0 (record { reg = dst; span = span }) e2 s2
@@ -62,7 +62,7 @@ tested_at v o st s1 one two e0 e1 e2 g a = record {
   behind = g.behind;
 }
 
--- the state in which the body stands, of that behind the element
+-- the state in which the body stands, of that after the element
 abbrev pub each_declared : BaseType → ℕ → BaseType → Option Qualifier → Bool → List Row → State → State
 each_declared array name base bound fixed faults u = declares (reserves (reserves u array) Int) name base bound fixed faults
 

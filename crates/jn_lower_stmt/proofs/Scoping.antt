@@ -51,7 +51,7 @@ within_last : (n : ℕ) (vs : List Variable) (v : Variable) → Within n vs → 
 within_last n [] v w a b = (a, b, tt)
 within_last n (u ∷ vs) v w a b = (w.0, w.1, within_last n vs v w.2 a b)
 
--- the rows of the new name are added behind the others
+-- the rows of the new name are added after the others
 abbrev pub variable : Declared → ℕ → ℕ → Variable
 variable d from to = record { name = d.name; reg = d.reg; base = d.base; bound = d.bound; fixed = d.fixed; faults = record { from = from; to = to } }
 

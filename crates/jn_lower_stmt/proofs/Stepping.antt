@@ -97,7 +97,7 @@ module _ (P : Program) (c first : ℕ) where
   statements_hold st NoPlacedStatements = refl
   statements_hold st (MorePlacedStatements x xs) = statements_hold (statement P c first st x).behind xs ∙ statement_holds st x
 
--- the state is put back behind the statement
+-- the state is put back after the statement
 abbrev pub PutBack : State → State → State → Type 0
 PutBack st u w = (x : Step) → u ≡ x.behind → Extends st.scope x.behind.scope → w ≡ (back st x).behind
 

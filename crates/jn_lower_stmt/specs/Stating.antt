@@ -41,7 +41,7 @@ all_stated c st xs = spec.statements c.program.now c.class.0 c.first st xs
 abbrev pub moved_to : Span → ℕ → Option Qualifier → State → Value → Step
 moved_to span r bound st v = step (with_temporaries st v.behind) (then v.fragment (does span (Move (register r) v.operand bound)))
 
--- the value's points are added, and the state behind has its temporaries
+-- the value's points are added, and the state after has its temporaries
 pub record GivesIn (v : Value) (st : State) (e : Emitter) (o : Operand) (g : Emitter) (u : State) : Type 0 where
   pub runs : Runs v.fragment e g
   pub operand : o ≡ v.operand

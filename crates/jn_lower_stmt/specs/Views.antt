@@ -1,4 +1,4 @@
--- What is declared, and the state of a body's lowering behind a statement, as the definitions see them.
+-- What is declared, and the state of a body's lowering after a statement, as the definitions see them.
 use Rattle.std.specs.Prelude.{ℕ, ◌-◌, List, [], ◌∷◌, drop, length, Option, None, Some}
 use Rattle.jn_base.specs.declared.place.Row.{Row}
 use Rattle.jn_lowering.specs.Scopes.{Local, Scope}

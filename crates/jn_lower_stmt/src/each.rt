@@ -17,7 +17,7 @@ use jn_points::{BaseType, Literal, Operand, Operator, PointKind};
 use jn_scopes::Bound;
 use jn_trees::Expr;
 
-/// The register so many behind the array's.
+/// The register so many after the array's.
 fn behind(array: RegNo, more: u32) -> Result<RegNo, OutOfMemory>
     ensures { IfOk result (λ reg. reg ≡ register (array.0 + more)) }
 {

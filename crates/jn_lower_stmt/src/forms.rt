@@ -37,7 +37,7 @@ pub fn statements(
     Ok(())
 }
 
-/// A block, behind which its names are out of scope (JLS 14.2).
+/// A block, after which its names are out of scope (JLS 14.2).
 #[cycle(statements)]
 fn block(
     trees: &[Stmt],

@@ -69,7 +69,7 @@ pub struct Ways {
     pub again: PointNo,
 }
 
-/// What is put back behind a statement: how many names were in scope before it, and which temporaries were taken.
+/// What is put back after a statement: how many names were in scope before it, and which temporaries were taken.
 #[derive(Drop)]
 pub struct Outer {
     pub names: usize,

@@ -95,7 +95,7 @@ module _ (P : Program) where
   value_field_rows c (Array e nullable) n span = when (not (eqb n length_name)) (row J2 span)
   value_field_rows c base n span = row J2 span
 
-  -- the member behind a dot; `rows` are those of what stands before it
+  -- the member after a dot; `rows` are those of what stands before it
   abbrev pub access_rows : ℕ → Meaning → BaseType → List Row → ℕ → Span → List Row
   access_rows c (ClassMeant k) base rows n span = cond (eqb k 1) (row J5 span) (class_field_rows c (field_of P k n) span)
   access_rows c SystemMeant base rows n span = row J5 span
@@ -126,7 +126,7 @@ module _ (P : Program) where
   abbrev pub string_method_rows : ℕ → ℕ → Span → List Row
   string_method_rows n arity span = cond (is_text (text_callee n arity)) (row J2 span) (row J5 span)
 
-  -- the method behind a dot, with the rows of what stands before it and of the arguments
+  -- the method after a dot, with the rows of what stands before it and of the arguments
   abbrev pub call_rows : ℕ → Meaning → BaseType → List Row → List Row → ℕ → ℕ → Span → List Row
   call_rows c (ClassMeant k) base rows args n arity span = args ++ cond (eqb k 1) (string_method_rows n arity span) (cond (is_object_member n) (row J5 span) (class_method_rows c (method_of P k n arity) span))
   call_rows c SystemMeant base rows args n arity span = args ++ row J5 span
@@ -195,7 +195,7 @@ module _ (P : Program) where
     assigned_name_rows (FieldMeant f) span = own_field_rows f span ++ unless (own_field_rows f span) (final_rows f true span)
     assigned_name_rows m span = row J1 span
 
-    -- a member behind a dot that is assigned
+    -- a member after a dot that is assigned
     abbrev pub assigned_access_rows : Access → Bool → Span → List Row
     assigned_access_rows (ClassField f) through_this span = final_rows f false span
     assigned_access_rows (ObjectField f) through_this span = final_rows f through_this span

@@ -42,7 +42,7 @@ abbrev pub without_override : List Annotation → List Annotation
 without_override [] = []
 without_override (a ∷ as') = cond (eqb a.name.0 override_name) (without_override as') (a ∷ without_override as')
 
--- a static field starts with a number, perhaps behind a minus sign, or with a truth value
+-- a static field starts with a number, perhaps after a minus sign, or with a truth value
 
 -- a number
 abbrev pub is_number_literal : Literal → Bool
@@ -60,7 +60,7 @@ abbrev pub is_number_tree : PlacedTree → Bool
 is_number_tree (PlacedLiteral l span) = is_number_literal l
 is_number_tree e = false
 
--- a number, perhaps behind a minus sign
+-- a number, perhaps after a minus sign
 abbrev pub is_int_start : PlacedTree → Bool
 is_int_start (PlacedUnary Minus e span) = is_number_tree e
 is_int_start e = is_number_tree e

@@ -262,7 +262,7 @@ gone_on (Exited in_order) (Folder files) gone = tt
 
 -- ---- events
 
--- what is answered behind an event are its answers
+-- what is answered after an event are its answers
 taken : (before after : ServerOf) (event : Event) (replies : List Reply) (takes : Takes before event replies after) → ids_answered replies ≡ ids_answered takes.direct
 taken before after event replies takes =
     ap ids_answered takes.all

@@ -1,4 +1,4 @@
--- Changes, one behind the other.
+-- Changes, one after the other.
 use Rattle.std.proofs.Common.{◌≡◌, ℕ, ◌+◌, ◌<◌, List, [], ◌∷◌, ◌++◌, length, get_or, take, refl, sym, subst}
 use Rattle.std.proofs.lemmas.List.{take_more}
 use Rattle.jn_lsp_text.specs.declared.message.Change.{Change}

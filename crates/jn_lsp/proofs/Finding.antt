@@ -17,7 +17,7 @@ use Rattle.jn_report.specs.Report.{IsReport}
 use Rattle.jn_lsp.specs.declared.diagnostics.Told.{Told}
 use Rattle.jn_lsp.specs.Telling.{AreFindings, AreReportNotes, AreTold, IsKeptOf, IsReported, IsTold, told_from}
 
--- ---- behind a report
+-- ---- after a report
 
 kept_of : (files : List SourceFile) (report : Report) (old new found : Option Solved) (made : ℕ) → IsRecheck old files report found made → new ≡ or_else found old → IsKeptOf files report new
 kept_of files (Refused rows) old new found made recheck keeps = tt

@@ -148,7 +148,7 @@ module _ (after : List Told) (name : List ℕ) where
       case true false e h r = ap (λ x. x || is_told before name) h ∙ r (sym (gone_step one before true e) ∙ g)
       case false c e h r = let two = or_false (is_named name one) (is_told (gone before after) name) (sym (gone_step one before false e) ∙ g) in ap (λ x. x || is_told before name) two.0 ∙ r two.1
 
--- what is told of a name behind the publications is what is told after
+-- what is told of a name after the publications is what is told after
 pub announced : (opened : Option (List ℕ)) (before after : List Told) (replies : List Reply) (name : List ℕ) → AreOwnTold after → Announces opened before after replies → last_published name (told_of before name) replies ≡ told_of after name
 announced opened before after replies name own announces =
     let s = split opened before (gone before after) after replies announces in

@@ -22,7 +22,7 @@ behind_drop : (notes : List Notes) (i : ℕ) → notes_behind (drop i notes) ≡
 behind_drop notes i = let e : suc i ≡ i + 1 = omega arith in behind_suc notes i ∙ ap (λ n. drop n notes) e
 
 module _ (files : List SourceFile) (rows : List Row) (notes : List Notes) where
-  -- the diagnostics from a row on: the row's, and those behind
+  -- the diagnostics from a row on: the row's, and those after
   opened : (file i : ℕ) (d : Row) → i < length rows → diagnostics_at files (drop i rows) (drop i notes) file ≡ diagnostics_of_row files (get_or rows i d) (shown_at notes i) file ++ diagnostics_at files (drop (i + 1) rows) (drop (i + 1) notes) file
   opened file i d lt =
       ap (λ rs. diagnostics_at files rs (drop i notes) file) (drop_more rows i d lt)

@@ -13,12 +13,12 @@ use Rattle.jn_lsp.specs.Stand.{document_of}
 
 -- ---- texts
 
--- a text behind a change
+-- a text after a change
 abbrev pub IsChanged : Change → List ℕ → List ℕ → Type 0
 IsChanged (Whole new) text made = made ≡ new
 IsChanged (Part range new) text made = IsReplaced text range new made
 
--- a text behind changes, each of the text behind the one before
+-- a text after changes, each of the text after the one before
 abbrev pub AreChanged : List Change → List ℕ → List ℕ → Type 0
 AreChanged [] text made = made ≡ text
 AreChanged (change ∷ changes) text made = (mid : List ℕ) × IsChanged change text mid × AreChanged changes mid made
@@ -37,7 +37,7 @@ opened name text documents = if is_java name then Some (with_file name text docu
 abbrev pub known_document : List (List ℕ) → List ℕ → List SourceFile → Option SourceFile
 known_document unknown name documents = if is_among unknown name then None else document_of name documents
 
--- the open document gets the text behind the changes; a document that isn't open, or whose text isn't known, has none
+-- the open document gets the text after the changes; a document that isn't open, or whose text isn't known, has none
 abbrev pub IsTyped : List ℕ → List Change → List SourceFile → Option SourceFile → Option (List SourceFile) → Type 0
 IsTyped name changes documents None after = after ≡ None
 IsTyped name changes documents (Some document) after = (text : List ℕ) × AreChanged changes document.bytes text × (after ≡ Some (with_file name text documents))
@@ -50,7 +50,7 @@ closed_as name documents (Some document) = Some (without_file name documents)
 abbrev pub closed : List ℕ → List SourceFile → Option (List SourceFile)
 closed name documents = closed_as name documents (document_of name documents)
 
--- the open documents behind a message, in the order in which they were opened; none where it doesn't change them
+-- the open documents after a message, in the order in which they were opened; none where it doesn't change them
 abbrev pub AreEdited : List (List ℕ) → Message → List SourceFile → Option (List SourceFile) → Type 0
 AreEdited unknown (DidOpen name text) documents after = after ≡ opened name text documents
 AreEdited unknown (DidChange name changes) documents after = IsTyped name changes documents (known_document unknown name documents) after

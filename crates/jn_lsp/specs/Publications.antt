@@ -31,7 +31,7 @@ module _ (opened : Option (List ℕ)) (before : List Told) where
   abbrev pub IsNews : List ℕ → List Diagnostic → Type 0
   IsNews name diagnostics = (told_of before name ≡ diagnostics → ⊥) ⊎ (is_opened opened name ≡ true)
 
-  -- the replies, with a publication behind them where this is news of the name
+  -- the replies, with a publication after them where this is news of the name
   abbrev pub Adds : List ℕ → List Diagnostic → List Reply → List Reply → Type 0
   Adds name diagnostics replies more =
       (IsKnown name diagnostics × (more ≡ replies))
@@ -54,7 +54,7 @@ module _ (opened : Option (List ℕ)) (before : List Told) where
   abbrev pub Announces : List Told → List Reply → Type 0
   Announces after replies = ArePublished (gone before after ++ after) replies
 
--- what is told of a name behind a reply
+-- what is told of a name after a reply
 abbrev pub published : List ℕ → List Diagnostic → Reply → List Diagnostic
 published name before (Publish other diagnostics) = if bytes_eq other name then diagnostics else before
 published name before (Capabilities id) = before

@@ -78,7 +78,7 @@ serving_answer actions (Unknown id) = refusal Method (Some id)
 serving_answer actions (BadParams id) = refusal Params id
 serving_answer actions other = nameless (unread other)
 
--- behind `shutdown` every request is refused
+-- after `shutdown` every request is refused
 abbrev pub late_answer : Message → Option Reply
 late_answer (Initialize id folder files exclude) = refusal Request (Some id)
 late_answer (CodeAction id name range) = refusal Request (Some id)
@@ -107,7 +107,7 @@ phase_behind (Exited in_order) _ = Exited in_order
 
 -- ---- events
 
--- the folder's files may be others behind this message
+-- the folder's files may be others after this message
 abbrev pub wants_folder : Message → Bool
 wants_folder Initialized = true
 wants_folder WatchedFiles = true
@@ -122,12 +122,12 @@ next_phase phase (Folder files) = phase
 abbrev pub workspace_of : List SourceFile → List SourceFile → List (List ℕ) → Workspace
 workspace_of disk documents unknown = record { disk = disk; documents = documents; unknown = unknown }
 
--- a workspace behind a message that makes of its documents these, or leaves them; none where it doesn't touch which texts are unknown either
+-- a workspace after a message that makes of its documents these, or leaves them; none where it doesn't touch which texts are unknown either
 abbrev pub moved_by : Message → Workspace → Option (List SourceFile) → Option Workspace
 moved_by message before None = if touches message then Some (workspace_of before.disk before.documents (unknown_behind message before.documents before.unknown)) else None
 moved_by message before (Some documents) = Some (workspace_of before.disk documents (unknown_behind message before.documents before.unknown))
 
--- the folder's files, the open documents, and those of unknown texts, behind an event; none where it changes none of them
+-- the folder's files, the open documents, and those of unknown texts, after an event; none where it changes none of them
 abbrev pub IsMoved : Event → Workspace → Option Workspace → Type 0
 IsMoved (Folder files) before after = after ≡ Some (workspace_of files before.documents before.unknown)
 IsMoved (MessageEvent message) before after = (documents : Option (List SourceFile)) × AreEdited before.unknown message before.documents documents × (after ≡ moved_by message before documents)

@@ -44,7 +44,7 @@ range_in files span = range_at (home_of files span).bytes span.from span.to
 abbrev pub without_ending : List ℕ → List ℕ → List ℕ
 without_ending ending text = if ends_with nat_eq text ending then take (length text - length ending) text else text
 
--- a note's words without what leads to the place that a report has behind them
+-- a note's words without what leads to the place that a report has after them
 abbrev pub without_lead : List ℕ → List ℕ
 without_lead words = without_ending (codes ":") (without_ending (codes " at") words)
 
@@ -131,7 +131,7 @@ abbrev pub IsKeptOf : List SourceFile → Report → Option Solved → Type 0
 IsKeptOf files (Refused rows) kept = Unit {0}
 IsKeptOf files (Checked rows) kept = (solved : Solved) × (kept ≡ Some solved) × IsSolutionOf files solved
 
--- rows and verdict are those of the files' report, and this is kept behind it
+-- rows and verdict are those of the files' report, and this is kept after it
 pub record IsReported (files : List SourceFile) (kept : Option Solved) (rows : List Row) (verdict : Verdict) : Type 0 where
   pub report : Report
   pub is : IsReport Private files report

@@ -44,7 +44,7 @@ abbrev pub without : Option (List ℕ) → List (List ℕ) → List (List ℕ)
 without None names = names
 without (Some name) names = filter (λ other. not (bytes_eq other name)) names
 
--- the names of unknown texts behind a message
+-- the names of unknown texts after a message
 abbrev pub unknown_behind : Message → List SourceFile → List (List ℕ) → List (List ℕ)
 unknown_behind m documents unknown = without (settled_by m) unknown ++ newly unknown (doubted_by m documents)
 

@@ -58,7 +58,7 @@ fn without_ending<'a>(text: &'a [u8], ending: &[u8]) -> &'a [u8]
     }
 }
 
-/// A note's words, which lead to the place that a report has behind them, without that end.
+/// A note's words, which lead to the place that a report has after them, without that end.
 fn without_lead(words: &[u8]) -> &[u8]
     ensures { result.now ≡ spec.without_lead words.now }
 {
@@ -123,7 +123,7 @@ fn diagnostic_of(
     })
 }
 
-/// Puts a row's diagnostic behind the others, where the row stands at the file of this number.
+/// Puts a row's diagnostic after the others, where the row stands at the file of this number.
 fn add_row(
     alloc: Global,
     files: &[SourceFile],

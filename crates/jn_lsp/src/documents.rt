@@ -30,7 +30,7 @@ fn copy_bytes(alloc: Global, bytes: &[u8]) -> Result<Seq<u8>, AllocError>
     Ok(Seq::of_vec(Vec::from_slice(alloc, bytes)?))
 }
 
-/// The text behind a change.
+/// The text after a change.
 fn changed(alloc: Global, change: &Change, text: &[u8]) -> Result<Seq<u8>, OutOfMemory>
     ensures { IfOk result (λ made. spec.IsChanged change.now text.now made) }
 {
@@ -42,7 +42,7 @@ fn changed(alloc: Global, change: &Change, text: &[u8]) -> Result<Seq<u8>, OutOf
     }
 }
 
-/// The text behind the changes, each of the text behind the one before.
+/// The text after the changes, each of the text after the one before.
 fn changed_by_all(alloc: Global, changes: &[Change], text: &[u8]) -> Result<Seq<u8>, OutOfMemory>
     ensures { IfOk result (λ made. spec.AreChanged changes.now text.now made) }
 {
@@ -185,7 +185,7 @@ fn closed(
     }
 }
 
-/// The open documents behind a message, where it changes them.
+/// The open documents after a message, where it changes them.
 fn edited(
     alloc: Global,
     unknown: &[Text],
@@ -229,7 +229,7 @@ impl Workspace {
         })
     }
 
-    /// The workspace with these documents behind a message.
+    /// The workspace with these documents after a message.
     fn with_documents(
         &self,
         alloc: Global,
@@ -252,7 +252,7 @@ impl Workspace {
         })
     }
 
-    /// The workspace behind a message that leaves the documents, where it may change which texts are unknown.
+    /// The workspace after a message that leaves the documents, where it may change which texts are unknown.
     fn touched_by(&self, alloc: Global, message: &Message) -> Result<Option<Workspace>, OutOfMemory>
         ensures { IfOk result (λ made. made ≡ serving.moved_by message.now self.now None) }
     {
@@ -263,7 +263,7 @@ impl Workspace {
         Ok(Some(self.with_documents(alloc, message, documents)?))
     }
 
-    /// The workspace behind a message that makes of its documents these, or leaves them.
+    /// The workspace after a message that makes of its documents these, or leaves them.
     fn moved_to(
         &self,
         alloc: Global,
@@ -295,7 +295,7 @@ impl Workspace {
         }
     }
 
-    /// What stands behind an event that is taken in this phase, where it changes anything.
+    /// What stands after an event that is taken in this phase, where it changes anything.
     pub(crate) fn moved(
         &self,
         alloc: Global,

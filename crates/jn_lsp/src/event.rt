@@ -17,7 +17,7 @@ pub enum Event {
     Folder(Seq<SourceFile>),
 }
 
-/// Whether the folder is to be read behind this message: its files may be others than they were.
+/// Whether the folder is to be read after this message: its files may be others than they were.
 pub fn wants_folder(message: &Message) -> bool
     ensures { result ≡ wants_folder message.now }
 {

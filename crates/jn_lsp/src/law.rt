@@ -5,7 +5,7 @@ ghost use Rattle.jn_lsp.specs.declared.event.Event.{Event as SpecEvent};
 ghost use Rattle.jn_lsp.specs.Requests.{AreAnswered};
 ghost use Rattle.jn_lsp.specs.Serving.{IsUpToDate, Serves, ServerOf, new_server};
 
-/// Behind any events that a new server took, what it published last of each name is what the report of the files as they stand says of it:
+/// After any events that a new server took, what it published last of each name is what the report of the files as they stand says of it:
 /// the diagnostics of its rows, in order, and none where it has no rows or doesn't stand.
 pub fn last_published_is_the_report()
     ensures { (events : List SpecEvent) (replies : List SpecReply) (after : ServerOf)

@@ -1,6 +1,6 @@
 //! The core of a language server (Language Server Protocol 3.17): a [`Server`] takes an [`Event`] and gives the replies to it.
 //!
-//! Files stand as the client has them open, the others as they were last read of the folder. Behind each event that changes them their
+//! Files stand as the client has them open, the others as they were last read of the folder. After each event that changes them their
 //! report is told: [`law::last_published_is_the_report`] says that what was published last of each name is always what the report of the
 //! files as they stand says of it, and [`law::requests_are_answered_once`] that each request is answered once, in order. A request of actions
 //! gets those of the files as they stand ([`jn_lsp_actions::actions_for`]), where something is told at its range.

@@ -19,7 +19,7 @@ pub enum Phase {
 }
 
 impl Phase {
-    /// The phase behind a message.
+    /// The phase after a message.
     pub(crate) fn behind(self, message: &Message) -> Phase
         ensures { result ≡ phase_behind self message.now }
     {
@@ -33,7 +33,7 @@ impl Phase {
         }
     }
 
-    /// The phase behind an event.
+    /// The phase after an event.
     pub(crate) fn behind_event(self, event: &Event) -> Phase
         ensures { result ≡ next_phase self event.now }
     {

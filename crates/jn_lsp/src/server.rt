@@ -20,7 +20,7 @@ use std::alloc::{AllocError, Global};
 use std::marker::Model;
 use std::thread::Threads;
 
-/// What is told behind an event, and what of it is published.
+/// What is told after an event, and what of it is published.
 #[derive(Drop)]
 struct News {
     told: Vec<Told>,
@@ -47,7 +47,7 @@ fn retell<R: Threads + Sync, G: Gate + Sync>(
     Ok(News { told, publications })
 }
 
-/// The replies, one list behind the other.
+/// The replies, one list after the other.
 fn joined(replies: Seq<Reply>, more: Seq<Reply>) -> Result<Vec<Reply>, AllocError>
     ensures { IfOk result (λ all. all.items ≡ replies ++ more) }
 {

@@ -63,7 +63,7 @@ fn has_name(files: &[SourceFile], name: &str) -> bool
     files.iter().any(|file| is_named(file, name))
 }
 
-/// Puts the file, as it stands, behind the others, where none of them has its name.
+/// Puts the file, as it stands, after the others, where none of them has its name.
 fn put(
     alloc: Global,
     files: &mut Vec<SourceFile>,

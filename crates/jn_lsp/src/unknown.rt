@@ -31,7 +31,7 @@ pub(crate) fn is_empty(names: &[Text]) -> bool
     }
 }
 
-/// Puts the name behind the others, where it isn't among the unknown ones.
+/// Puts the name after the others, where it isn't among the unknown ones.
 fn put_new(
     alloc: Global,
     unknown: &[Text],
@@ -101,7 +101,7 @@ fn doubted_by(
     }
 }
 
-/// The document whose text is known again behind a message.
+/// The document whose text is known again after a message.
 fn settled_by(message: &Message) -> Option<&str>
     ensures { option_map (λ name. name.now) result ≡ spec.settled_by message.now }
 {
@@ -112,7 +112,7 @@ fn settled_by(message: &Message) -> Option<&str>
     }
 }
 
-/// Puts the name behind the others, where it is another than this.
+/// Puts the name after the others, where it is another than this.
 fn put_other(
     alloc: Global,
     settled: &str,
@@ -161,7 +161,7 @@ fn without(alloc: Global, settled: Option<&str>, names: &[Text]) -> Result<Seq<T
     }
 }
 
-/// The names, one list behind the other.
+/// The names, one list after the other.
 fn both(alloc: Global, one: Seq<Text>, other: &[Text]) -> Result<Seq<Text>, AllocError>
     ensures { IfOk result (λ all. all ≡ one ++ other.now) }
 {
@@ -172,7 +172,7 @@ fn both(alloc: Global, one: Seq<Text>, other: &[Text]) -> Result<Seq<Text>, Allo
     Ok(all)
 }
 
-/// The names of unknown texts behind a message.
+/// The names of unknown texts after a message.
 pub(crate) fn unknown_behind(
     alloc: Global,
     message: &Message,
@@ -254,7 +254,7 @@ fn doubt(alloc: Global, name: &Text) -> Result<Reply, AllocError>
     })
 }
 
-/// Puts a warning for each of these names behind the replies.
+/// Puts a warning for each of these names after the replies.
 fn put_doubts(alloc: Global, names: &[Text], replies: &mut Seq<Reply>) -> Result<(), AllocError>
     ensures { OnOk result (replies.new ≡ replies.old ++ map spec.doubt names.now) }
 {
@@ -264,7 +264,7 @@ fn put_doubts(alloc: Global, names: &[Text], replies: &mut Seq<Reply>) -> Result
     Ok(())
 }
 
-/// Puts a warning behind the replies for each document whose text a message leaves open that comes in this phase.
+/// Puts a warning after the replies for each document whose text a message leaves open that comes in this phase.
 pub(crate) fn warn(
     alloc: Global,
     phase: Phase,

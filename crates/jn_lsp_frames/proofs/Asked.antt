@@ -33,7 +33,7 @@ module _ (Such : List ℕ → Type 0) (gave pending : List ℕ) (written : Optio
     each = All-cons (IsAsked Such gave pending written) (record { given = gave; written = written }) [] (record { more = []; given = sym (append-nil gave); such = subst Such (sym (append-nil pending)) such; stands = refl }) (All-nil (IsAsked Such gave pending written));
   }
 
--- ---- behind what was taken
+-- ---- after what was taken
 
 module _ (Such Then : List ℕ → Type 0) (gave pending now left own : List ℕ) (t : Takes gave pending now left own) (then_such : (more : List ℕ) → Then (left ++ more) → Such (own ++ (left ++ more))) where
   whole : (more : List ℕ) → pending ++ (t.more ++ more) ≡ own ++ (left ++ more)
@@ -122,14 +122,14 @@ module _ (gave pending now left : List ℕ) (t : Takes gave pending now left [])
   pub lacks_head : (T U E : Type 0) (then_ : List ℕ) (fail : Fail E) → HasNoBlock left → length left < 8192 → Spares {T = T} now then_ (Err fail) → Lacks {T = U} IsUnknown gave pending then_ (Err fail)
   lacks_head T U E then_ fail none few s = lacks_behind IsUnknown IsUnknown gave pending now left [] t (λ more u. u) U E then_ (Err fail) (lacks_spared T U E IsUnknown now left then_ fail s (none, few))
 
-  -- and what is read behind it
+  -- and what is read after it
   pub asks_next : (written : Option (List ℕ)) (old mid new : List Asking) → Asks IsUnknown gave pending written old mid → Asks IsPartial now left written mid new → Asks IsPartial gave pending written old new
   asks_next written old mid new a b = asks_both IsPartial gave pending written old mid new (asks_partial gave pending written old mid a) (asks_behind IsPartial IsPartial gave pending now left [] t (λ more p. p) written mid new b)
 
   pub lacks_next : (T E : Type 0) (then_ : List ℕ) (result : Result T (Fail E)) → Lacks IsPartial now left then_ result → Lacks IsPartial gave pending then_ result
   lacks_next T E then_ result l = lacks_behind IsPartial IsPartial gave pending now left [] t (λ more p. p) T E then_ result l
 
--- ---- what stands behind a header
+-- ---- what stands after a header
 
 module _ (gave pending rest : List ℕ) (end count : ℕ) (block : IsBlock (take end pending)) (says : Says block.lines (Some count)) (at : rest ≡ drop end pending) where
   took : Takes gave pending gave rest (take end pending)

@@ -27,7 +27,7 @@ colon_field line at e =
           λ is. eqb-false (get_or line i 0) 58 (found.2 i below) (sym (get_or-take at line i 0 below) ∙ is));
     }
 
--- a colon behind a name is found
+-- a colon after a name is found
 found_in : (name value : List ℕ) → position_or_len is_colon (name ++ 58 ∷ value) < length (name ++ 58 ∷ value)
 found_in [] value = omega arith
 found_in (byte ∷ name) value = by (byte == 58) (found_in name value)

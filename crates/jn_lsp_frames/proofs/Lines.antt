@@ -117,7 +117,7 @@ others_of (line ∷ lines) (other ∷ all) rest behind p q e =
     let more = others_of lines all rest behind (All-tail IsLine line lines p) (All-tail IsLine other all q) one.1 in
     record { others = more.others; all_are = ap (λ x. x ∷ all) (sym one.0) ∙ ap (λ xs. line ∷ xs) more.all_are; each = more.each; rest_is = more.rest_is }
 
--- bytes behind lines that end with the empty line
+-- bytes after lines that end with the empty line
 last_line : (others : List (List ℕ)) (x y : List ℕ) → All IsLine others → 13 ∷ 10 ∷ x ≡ ended others ++ 13 ∷ 10 ∷ y → (others ≡ []) × (x ≡ y)
 last_line [] x y p e = (refl, tail_same 10 10 x y (tail_same 13 13 (10 ∷ x) (10 ∷ y) e))
 last_line (line ∷ lines) x y p e =

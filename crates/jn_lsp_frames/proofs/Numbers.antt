@@ -45,7 +45,7 @@ all_in_span is (byte ∷ bytes) = by (is byte) refl (all_in_span is bytes)
         ap (λ k. list_all is (take k (byte ∷ bytes))) one ∙ ap (λ b. b && list_all is (take n bytes)) e ∙ so
     by false e so = refl
 
--- all of a front pass, and what stands behind it doesn't
+-- all of a front pass, and what stands after it doesn't
 span_is : (is : ℕ → Bool) (front behind : List ℕ) → list_all is front ≡ true → prefix_len is behind ≡ 0 → prefix_len is (front ++ behind) ≡ length front
 span_is is [] behind e z = z
 span_is is (byte ∷ front) behind e z =

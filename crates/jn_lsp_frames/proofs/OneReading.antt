@@ -74,11 +74,11 @@ gives_grown start gave now more frames pending g e = record {
   are = frames_grow g.bytes more frames pending g.are;
 }
 
--- behind an end
+-- after an end
 pub gives_end : (start gave now : List ℕ) (frames : List Frame) (pending rest : List ℕ) → Gives start gave frames pending → Takes gave pending now rest [] → Gives start now frames rest
 gives_end start gave now frames pending rest g t = subst (λ l. Gives start now frames l) t.parts (gives_grown start gave now t.more frames pending g t.given)
 
--- behind a frame
+-- after a frame
 pub gives_more : (start gave now : List ℕ) (frames : List Frame) (frame : Frame) (pending left own : List ℕ) → Gives start gave frames pending → FrameOf own frame → Takes gave pending now left own → Gives start now (frames ++ frame ∷ []) left
 gives_more start gave now frames frame pending left own g is t =
     let h = gives_grown start gave now t.more frames pending g t.given in

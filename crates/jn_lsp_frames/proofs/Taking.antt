@@ -144,7 +144,7 @@ module _ (ended : Bool) (gave pending now left : List ℕ) where
         (nonempty block.lines front b.2 block.is, partial_body block.lines front b.2 count block.is says b.3),
       )
 
--- ---- behind a header
+-- ---- after a header
 
 module _ (ended : Bool) (gave pending now left : List ℕ) (count : ℕ) where
   pub rest_large : 16777216 < count → Passes ended gave pending now left count true → HasRest ended gave pending now left count (next.Frame TooLarge)

@@ -35,7 +35,7 @@ pub record IsOverlong (own : List ℕ) : Type 0 where
 abbrev pub FrameOf : List ℕ → Frame → Type 0
 FrameOf own frame = HasHeader own frame ⊎ (IsOverlong own × (frame ≡ BadHeader))
 
--- the bytes are these frames, one behind the other, and a rest
+-- the bytes are these frames, one after the other, and a rest
 abbrev pub AreFrames : List ℕ → List Frame → List ℕ → Type 0
 AreFrames bytes [] rest = bytes ≡ rest
 AreFrames bytes (frame ∷ frames) rest = (own : List ℕ) × (behind : List ℕ) × FrameOf own frame × (bytes ≡ own ++ behind) × AreFrames behind frames rest

@@ -13,7 +13,7 @@ pub record IsLine (line : List ℕ) : Type 0 where
 abbrev pub ended : List (List ℕ) → List ℕ
 ended lines = flat_map (λ line. line ++ 13 ∷ 10 ∷ []) lines
 
--- the header of these lines, with the empty line behind them
+-- the header of these lines, with the empty line after them
 pub record IsHeader (lines : List (List ℕ)) (block : List ℕ) : Type 0 where
   pub each : All IsLine lines
   pub parts : block ≡ ended lines ++ 13 ∷ 10 ∷ []

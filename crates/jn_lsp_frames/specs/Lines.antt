@@ -47,7 +47,7 @@ pub record HaveLength (lines : List (List ℕ)) (number : Option ℕ) : Type 0 w
   pub others : All IsOther before
   pub others_behind : All IsOther behind
 
--- what lines said, whatever stands behind them
+-- what lines said, whatever stands after them
 abbrev pub Heard : List (List ℕ) → Said → Type 0
 Heard lines said.Nothing = All IsOther lines
 Heard lines said.Broken = (behind : List (List ℕ)) (number : ℕ) → SaysLength (lines ++ behind) number → ⊥

@@ -28,7 +28,7 @@ abbrev pub EndsSo : End → List ℕ → Type 0
 EndsSo Between rest = rest ≡ []
 EndsSo Within rest = (rest ≢ []) × IsPartial rest
 
--- what was read: a frame, whose bytes were taken; or the input's end, behind what is pending and no frame
+-- what was read: a frame, whose bytes were taken; or the input's end, after what is pending and no frame
 abbrev pub HasRead : Bool → List ℕ → List ℕ → List ℕ → List ℕ → Next → Type 0
 HasRead ended gave pending now left (next.Frame frame) = (own : List ℕ) × FrameOf own frame × Takes gave pending now left own
 HasRead ended gave pending now left (next.End end) = (ended ≡ true) × (rest : List ℕ) × Takes gave pending now rest [] × EndsSo end rest
@@ -52,7 +52,7 @@ IsShorter count bytes = length bytes < count
 abbrev pub IsNone : List ℕ → Type 0
 IsNone bytes = bytes ≡ []
 
--- behind the start the input gave these frames, and what is pending
+-- after the start the input gave these frames, and what is pending
 pub record Gives (start now : List ℕ) (frames : List Frame) (pending : List ℕ) : Type 0 where
   pub bytes : List ℕ
   pub gave : now ≡ start ++ bytes
@@ -108,7 +108,7 @@ IsHead ended pending (Block end) = (end ≤ length pending) × IsBlock (take end
 IsHead ended pending Overlong = (8192 ≤ length pending) × HasNoBlock pending
 IsHead ended pending Missing = (ended ≡ true) × (length pending < 8192) × HasNoBlock pending
 
--- what was read behind a header that says so many bytes
+-- what was read after a header that says so many bytes
 abbrev pub HasRest : Bool → List ℕ → List ℕ → List ℕ → List ℕ → ℕ → Next → Type 0
 HasRest ended gave pending now left count (next.Frame frame) = (body : List ℕ) × (length body ≡ count) × (frame ≡ frame_by (Some count) body) × Takes gave pending now left body
 HasRest ended gave pending now left count (next.End end) = (end ≡ Within) × EndsBefore ended gave pending now left count

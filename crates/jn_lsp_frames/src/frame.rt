@@ -5,7 +5,7 @@ use jn_base::Seq;
 /// A frame as it was read.
 #[derive(Drop)]
 pub enum Frame {
-    /// The bytes behind a legal header, as many as it says: at most 16,777,216.
+    /// The bytes after a legal header, as many as it says: at most 16,777,216.
     Body(Seq<u8>),
     /// A header that isn't legal: a line without a colon, none or two of `Content-Length`, one that isn't 1 to 9 decimal digits,
     /// or no empty line within 8,192 bytes. The header, or these bytes, were passed over.
@@ -17,7 +17,7 @@ pub enum Frame {
 /// Where the input ended.
 #[derive(Clone, Copy, Debug, PartialEq, Eq, Drop)]
 pub enum End {
-    /// Behind a frame, or before the first.
+    /// After a frame, or before the first.
     Between,
     /// In the middle of a header or of a body.
     Within,

@@ -49,7 +49,7 @@ fn line_end(text: &[u8]) -> Option<usize>
     None
 }
 
-/// The place behind the header at the front, if one is there.
+/// The place after the header at the front, if one is there.
 pub(crate) fn find_end(bytes: &[u8]) -> Option<usize>
     ensures within { IfSome result (λ end. end ≤ length bytes.now) }
     ensures block { IfSome result (λ end. IsBlock (take end bytes.now)) }
@@ -58,7 +58,7 @@ pub(crate) fn find_end(bytes: &[u8]) -> Option<usize>
     end_within(&bytes[..bytes.len().min(MOST)])
 }
 
-/// The place behind the header at the front of a text that is no longer than one may be.
+/// The place after the header at the front of a text that is no longer than one may be.
 fn end_within(text: &[u8]) -> Option<usize>
     requires { length text.now ≤ 8192 }
     ensures within { IfSome result (λ end. end ≤ length text.now) }
@@ -75,7 +75,7 @@ fn end_within(text: &[u8]) -> Option<usize>
     None
 }
 
-/// The place of the colon behind the field's name.
+/// The place of the colon after the field's name.
 fn colon_in(line: &[u8]) -> Option<usize>
     ensures is { result ≡ position (λ byte. byte == 58) line.now }
     ensures within { IfSome result (λ at. at < length line.now) }
@@ -123,7 +123,7 @@ fn are_blanks(bytes: &[u8]) -> bool
     bytes.iter().all(|byte| is_blank(*byte))
 }
 
-/// Whether there are one to nine digits, and blanks alone behind them.
+/// Whether there are one to nine digits, and blanks alone after them.
 fn is_number(digits: &[u8], behind: &[u8]) -> bool
     ensures { result
         ≡ (nat_le 1 (length digits.now) && nat_le (length digits.now) 9 && list_all spec.is_blank behind.now) }
@@ -173,7 +173,7 @@ fn field_of(line: &[u8]) -> Field
     }
 }
 
-/// What the lines and one behind them said.
+/// What the lines and one after them said.
 fn with_line(said: Said, line: &[u8]) -> Said
     ensures { (lines : List (List ℕ)) → Heard lines said
         → Heard (lines ++ line.now ∷ []) result }

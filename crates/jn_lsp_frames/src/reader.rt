@@ -26,7 +26,7 @@ pub(crate) enum Head {
     Missing,
 }
 
-/// Reads frames from a [`Stream`], and keeps the bytes that came behind the last one.
+/// Reads frames from a [`Stream`], and keeps the bytes that came after the last one.
 #[derive(Drop)]
 pub struct FrameReader {
     pending: Vec<u8>,
@@ -46,7 +46,7 @@ impl FrameReader {
     /// and each time that it is asked, no frame is whole in what is pending and what it gave: the last piece that was read is needed.
     ///
     /// # Errors
-    /// `Refused` only where the input's count of faults rose; or no memory was found. Behind an `Err`, and behind an end within a
+    /// `Refused` only where the input's count of faults rose; or no memory was found. After an `Err`, and after an end within a
     /// frame, the reader has lost a part of the input.
     #[tactic(auto, using(crate::proofs::Taking::grows_on, crate::proofs::Taking::counts_behind, crate::proofs::Taking::counts_err, crate::proofs::Taking::reads_between, crate::proofs::Taking::reads_missing, crate::proofs::Taking::reads_overlong, crate::proofs::Taking::reads_behind))]
     pub fn next<K: Sink, S: Stream<K>>(
@@ -105,7 +105,7 @@ impl FrameReader {
         }
     }
 
-    /// What stands behind a header that says so many bytes.
+    /// What stands after a header that says so many bytes.
     #[tactic(auto, using(crate::proofs::Taking::grows_on, crate::proofs::Taking::counts_behind, crate::proofs::Taking::counts_err, crate::proofs::Taking::rest_large, crate::proofs::Taking::rest_body, crate::proofs::Taking::rest_within, crate::proofs::Asked::lacks_err))]
     fn read_rest<K: Sink, S: Stream<K>>(
         &mut self,
@@ -232,7 +232,7 @@ impl FrameReader {
         Ok(true)
     }
 
-    /// Moves the next bytes, at most so many, behind the body, and gives their number; 0 is the input's end.
+    /// Moves the next bytes, at most so many, after the body, and gives their number; 0 is the input's end.
     #[tactic(auto, using(crate::proofs::Taking::takings, crate::proofs::Taking::some_none, crate::proofs::Taking::some_front, crate::proofs::Asked::lacks_err))]
     fn take_some<K: Sink, S: Stream<K>>(
         &mut self,
@@ -318,7 +318,7 @@ impl FrameReader {
         Ok(true)
     }
 
-    /// Reads the next piece behind the pending bytes, and gives its length; 0 is the input's end.
+    /// Reads the next piece after the pending bytes, and gives its length; 0 is the input's end.
     #[tactic(auto, using(crate::proofs::Taking::takings))]
     fn fill<K: Sink, S: Stream<K>>(&mut self, input: &mut S, out: &K) -> Result<usize, Fail<Failed>>
         ensures taken { OnOk result

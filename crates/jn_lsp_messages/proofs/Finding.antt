@@ -10,7 +10,7 @@ use Rattle.jn_lsp_text.specs.declared.range.Range.{Range}
 use Rattle.jn_lsp_messages.specs.Incoming.{range_in}
 use Rattle.jn_lsp_messages.specs.Uris.{is_path, name_at, path_behind}
 
--- another front, a path behind the front, and no path behind it
+-- another front, a path after the front, and no path after it
 pub other_front : (front uri : List ℕ) → bytes_eq (take (length front) uri) front ≡ false → None ≡ path_behind front uri
 unfolding path_behind
 other_front front uri e = sym (cond-false _ _ _ (ap (λ b. b && is_path (drop (length front) uri)) e))

@@ -17,7 +17,7 @@ slash_is_kept = refl
 percent_is_escaped : contains PATH 37 ≡ true
 percent_is_escaped = refl
 
--- what stands behind the scheme of a file's URI
+-- what stands after the scheme of a file's URI
 behind_scheme : (rest : List ℕ) → path_in (codes "file://" ++ 47 ∷ rest) ≡ Some (47 ∷ rest)
 unfolding path_behind
 behind_scheme rest = refl

@@ -8,7 +8,7 @@ use Rattle.jn_lsp_messages.specs.declared.uri.TheConstants.{PATH}
 abbrev pub is_path : List ℕ → Bool
 is_path text = slice_index text 0 == 47
 
--- the path behind this front of a URI
+-- the path after this front of a URI
 unfoldable pub path_behind : List ℕ → List ℕ → Option (List ℕ)
 path_behind front uri = if bytes_eq (take (length front) uri) front && is_path (drop (length front) uri) then Some (drop (length front) uri) else None
 

@@ -132,7 +132,7 @@ fn linked(
     })
 }
 
-/// The address, and the code's anchor behind it.
+/// The address, and the code's anchor after it.
 fn link(alloc: Global, address: &str, code: Code) -> Result<String, AllocError>
     ensures { IfOk result
         (λ link. string_bytes link ≡ address.now ++ codes "#" ++ code_anchor code) }

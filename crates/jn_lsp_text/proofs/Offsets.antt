@@ -35,7 +35,7 @@ rises text at other le within = subst (λ n. IsUpTo (position_at text at) (posit
     apart : at ≤ other → at + (other - at) ≡ other
     apart le = omega (arith, le)
 
--- what the byte behind goes beyond, none behind it reaches
+-- what the byte after goes beyond, none after it reaches
 none_behind : (text : List ℕ) (position : Position) (at : ℕ) → (IsUpTo (position_at text (at + 1)) position → ⊥) → (other : ℕ) → other ≤ length text → IsUpTo (position_at text other) position → other ≤ at
 none_behind text position at never other within up = by_cases (le_or_lt other at)
   where
@@ -67,7 +67,7 @@ offset_here text position at before after lt is more up far = record {
 pub offset_end : (text : List ℕ) (position : Position) → IsUpTo (position_at text (length text)) position → IsOffsetOf text position (length text)
 offset_end text position up = record { within = omega arith; reached = up; greatest = λ other within reached. within }
 
--- behind a line's end the next line begins
+-- after a line's end the next line begins
 line_begins : (before : Counted) (byte line : ℕ) → before.lines < line → line ≤ (with before byte).lines → ((with before byte).lines ≡ line) × ((with before byte).units ≡ 0)
 line_begins before byte line low high = by_cases (byte == 13) (byte == 10) (before.previous == 13) high
   where

@@ -97,7 +97,7 @@ up_to_trans one other third a b = record {
 pub up_to_same : (one : Position) → IsUpTo one one
 up_to_same one = record { line = omega arith; character = λ e. omega arith }
 
--- behind a carriage return the line is empty
+-- after a carriage return the line is empty
 pub no_units : (text : List ℕ) (at : ℕ) → at ≤ length text → byte_before text at ≡ 13 → units (last_line (take at text)) ≡ 0
 no_units text zero le is = omega (arith, is)
 no_units text (suc at) le is = ap (λ xs. units (last_line xs)) (take-suc text at 0 (omega (arith, le))) ∙ ap units (line_anew (take at text) (get_or text at 0) (rw is refl))

@@ -18,6 +18,6 @@ with before byte = record {
   units = cond (is_line_end byte) 0 (before.units + units_begun byte);
 }
 
--- on a line behind the position's, or on its line behind it
+-- on a line after the position's, or on its line after it
 abbrev pub is_beyond : Counted → Position → Bool
 is_beyond before position = nat_lt position.line before.lines || (before.lines == position.line && nat_lt position.character before.units)

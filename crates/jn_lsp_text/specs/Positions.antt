@@ -13,7 +13,7 @@ units_begun byte = if is_continuation byte then 0 else if nat_le 240 byte then 2
 abbrev pub units : List ℕ → ℕ
 units text = sum_by units_begun text
 
--- the position of what stands behind this text
+-- the position of what stands after this text
 abbrev pub position_behind : List ℕ → Position
 position_behind before = record { line = line_ends 0 before; character = units (last_line before) }
 
@@ -26,7 +26,7 @@ pub record IsUpTo (one other : Position) : Type 0 where
   pub line : one.line ≤ other.line
   pub character : one.line ≡ other.line → one.character ≤ other.character
 
--- the greatest offset whose position isn't behind this one
+-- the greatest offset whose position isn't after this one
 pub record IsOffsetOf (text : List ℕ) (position : Position) (offset : ℕ) : Type 0 where
   pub within : offset ≤ length text
   pub reached : IsUpTo (position_at text offset) position

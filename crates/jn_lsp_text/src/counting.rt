@@ -40,7 +40,7 @@ impl Counted {
         }
     }
 
-    /// What stands before, and this byte behind it.
+    /// What stands before, and this byte after it.
     pub fn with(self, byte: u8) -> Counted
         requires lines { self.lines < 2 ^ 64 - 1 }
         requires units { self.units < 2 ^ 64 - 2 }

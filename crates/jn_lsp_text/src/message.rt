@@ -31,7 +31,7 @@ pub enum Message {
         name: Text,
         text: Seq<u8>,
     },
-    /// `textDocument/didChange`: the changes, each of the text behind the one before.
+    /// `textDocument/didChange`: the changes, each of the text after the one before.
     DidChange {
         name: Text,
         changes: Seq<Change>,

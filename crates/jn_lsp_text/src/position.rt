@@ -22,7 +22,7 @@ pub struct Position {
     pub character: u32,
 }
 
-/// The position of the byte at `offset`, or of the text's end. A byte within a character has the position behind the character, and
+/// The position of the byte at `offset`, or of the text's end. A byte within a character has the position after the character, and
 /// the LF of CR LF that of the next line's begin. In a text of less than 2^30 bytes line and character are below 2^31, as the protocol
 /// has numbers (`uinteger`).
 pub fn position_of(text: &[u8], offset: usize) -> Position
@@ -42,8 +42,8 @@ pub fn position_of(text: &[u8], offset: usize) -> Position
     }
 }
 
-/// The offset of a position: the greatest whose own position isn't behind it. So a position in a surrogate pair has the
-/// offset of the pair's begin, one behind a line's end that of the line's end (before its CR or LF), and one on a line that isn't there
+/// The offset of a position: the greatest whose own position isn't after it. So a position in a surrogate pair has the
+/// offset of the pair's begin, one after a line's end that of the line's end (before its CR or LF), and one on a line that isn't there
 /// the text's end.
 pub fn offset_of(text: &[u8], position: Position) -> usize
     ensures is { IsOffsetOf text.now position result }

@@ -36,7 +36,7 @@ pub fn replace(alloc: Global, text: &[u8], range: Range, new: &[u8]) -> Result<V
     Ok(joined(alloc, &text[..start.min(end)], new, &text[start.max(end)..])?)
 }
 
-/// The three, one behind the other.
+/// The three, one after the other.
 fn joined(alloc: Global, before: &[u8], new: &[u8], behind: &[u8]) -> Result<Vec<u8>, AllocError>
     ensures { IfOk result (λ made. made.items ≡ before.now ++ new.now ++ behind.now) }
 {

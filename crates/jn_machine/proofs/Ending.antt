@@ -1,4 +1,4 @@
--- Runs, a step more, and behind their end.
+-- Runs, a step more, and after their end.
 use Rattle.std.proofs.Common.{◌≡◌, ℕ, zero, suc, ◌+◌, ◌-◌, ◌<◌, List, ap, ◌∙◌, arith, add-one, add-zero, add-suc}
 use Rattle.jn_points.specs.declared.program.Program.{Program}
 use Rattle.jn_heap.specs.Values.{End}

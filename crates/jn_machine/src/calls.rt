@@ -41,7 +41,7 @@ pub fn point_at(program: &Program, body: usize, at: usize) -> Option<&Point>
     }
 }
 
-/// Puts the values of all operands behind those given; None where a register holds none.
+/// Puts the values of all operands after those given; None where a register holds none.
 #[tactic(auto, using(crate::proofs::Pieces::prepended_more))]
 pub(crate) fn gather(
     frame: &Frame,

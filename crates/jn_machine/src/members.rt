@@ -269,7 +269,7 @@ fn repeated(alloc: Global, number: usize, base: BaseType) -> Result<Vec<Value>, 
     Ok(items)
 }
 
-/// Puts a thing behind the heap and its place into a register.
+/// Puts a thing after the heap and its place into a register.
 pub(crate) fn allocate(
     state: &mut MachineState,
     dst: RegNo,

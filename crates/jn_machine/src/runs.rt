@@ -104,7 +104,7 @@ pub fn start(
 }
 
 /// Runs at most so many steps. `Stepped::Goes` says that the machine still goes on after all of
-/// them. What is printed is put behind `out`.
+/// them. What is printed is put after `out`.
 ///
 /// # Errors
 /// No memory was found; state and `out` are then of no use.

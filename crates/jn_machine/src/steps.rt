@@ -135,7 +135,7 @@ pub(crate) fn step_once(
 }
 
 /// Runs the next point, one step of the definition. What it prints, a text and a line feed, is
-/// put behind `out`.
+/// put after `out`.
 ///
 /// # Errors
 /// No memory was found; state and `out` are then of no use.

@@ -32,7 +32,7 @@ pub fn units(text: &str) -> usize
     count
 }
 
-/// The one text, and the other behind it.
+/// The one text, and the other after it.
 pub fn joined(alloc: Global, front: &str, rest: &str) -> Result<Text, AllocError>
     ensures { IfOk result (λ t. t ≡ front.now ++ rest.now) }
 {

@@ -170,7 +170,7 @@ module _ (P : Program) where
     kept_has : (e : PlacedTree) (t : Temporaries) (later : ℕ → Bool) → T e t → Fin (kept P first later (ty e) (low t e).value).behind → Cl (kept P first later (ty e) (low t e).value).fragment → Has (kept P first later (ty e) (low t e).value).operand → Valued P c s e
     kept_has e t later k fin h o = let p = kept_clean P H b first later (ty e) (low t e).value (ty_in e) fin h o in has e t k p.0 p.1 p.2
 
-    -- a field behind a dot
+    -- a field after a dot
     accessed : (e : PlacedTree) (t : Temporaries) (later : ℕ → Bool) (rows : List Row) → (rows ≡ [] → T e t) → (a : Access) → AccessGood P c rows a → Fin (access_place P first a t (kept P first later (ty e) (low t e).value)).behind → Cl (access_place P first a t (kept P first later (ty e) (low t e).value)).fragment → SpotHas P H b first (access_place P first a t (kept P first later (ty e) (low t e).value)).spot → AccessValued P a (Valued P c s e)
     accessed e t later rows k (ClassField f) g fin h o = tt
     accessed e t later rows k (ObjectField f) g fin h o = kept_has e t later (k g.0) fin h o

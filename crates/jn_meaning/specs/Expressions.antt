@@ -89,7 +89,7 @@ is_on_null o = false
 abbrev pub side : Span → (World → Result (Option Value)) → World → Result (Option Value)
 side span v w = then_do (v w) (λ x w. got span (got_of x) w)
 
--- the old value of `++` and `--` behind: that of a local must be there
+-- the old value of `++` and `--` after: that of a local must be there
 abbrev pub old_value : Place → Span → Option Value → World → Result (Option Value)
 old_value (LocalPlace r) span x w = got span (got_of x) w
 old_value q span x w = Has x w
@@ -112,7 +112,7 @@ module _ (P : Program) (names : List (List ℕ)) (longest : ℕ) where
   place_meant (FieldMeant f) span w = own_place (is_static P f) f span w
   place_meant m span w = NoPlace
 
-  -- where a field behind a dot stands; a class's needs no object
+  -- where a field after a dot stands; a class's needs no object
   abbrev pub place_accessed : Access → Span → (World → Result (Option Value)) → World → Result Place
   place_accessed (ClassField f) at v w = Has (StaticPlace f) w
   place_accessed (ObjectField f) at v w = then_do (v w) (λ x w. Has (FieldPlace x at f) w)
@@ -162,7 +162,7 @@ module _ (P : Program) (names : List (List ℕ)) (longest : ℕ) where
   abbrev pub prefixed : Span → Span → Operator → (World → Result Place) → World → Result (Option Value)
   prefixed span at o p w = then_do (p w) (λ q w. then_do (read_place P q at w) (λ x w. stepped span o q x w))
 
-  -- `++` and `--` behind give the old one (JLS 8, 15.14.2 and 15.14.3)
+  -- `++` and `--` after give the old one (JLS 8, 15.14.2 and 15.14.3)
   abbrev pub postfixed : Span → Span → Operator → (World → Result Place) → World → Result (Option Value)
   postfixed span at o p w = then_do (p w) (λ q w. then_do (read_place P q at w) (λ x w. then_do (old_value q span x w) (λ old w. then_do (stepped span o q x w) (λ z w. Has old w))))
 
@@ -193,7 +193,7 @@ module _ (P : Program) (names : List (List ℕ)) (longest : ℕ) where
     abbrev pub called_static : Span → ℕ → List (Option Value) → World → Result (Option Value)
     called_static span m args w = then_do (entered (Some m) (all_there args) w) (result (is_void (result_base_of (method_at P m))) span)
 
-    -- a call on a receiver, which is dereferenced behind the arguments
+    -- a call on a receiver, which is dereferenced after the arguments
     abbrev pub called_on : Span → ℕ → Bool → Option Value → Span → List (Option Value) → World → Result (Option Value)
     called_on span m direct x at args w = derefs x at w (then_do (entered_on (object_of x) m direct (all_there args) w) (result (is_void (result_base_of (method_at P m))) span))
 
@@ -256,7 +256,7 @@ module _ (P : Program) (names : List (List ℕ)) (longest : ℕ) where
         meant s (PlacedThis span) = of_value (λ w. Has (value_at w.locals 0) w)
         -- what stands in parentheses (JLS 8, 15.8.5)
         meant s (PlacedParen e span) = meant s e
-        -- a field behind a dot (JLS 8, 15.11.1), or an array's length (JLS 8, 10.7)
+        -- a field after a dot (JLS 8, 15.11.1), or an array's length (JLS 8, 10.7)
         meant s (PlacedField e n span) = of_place span (place_accessed (access P c s e (type_of P c s e) n.name.0) (operand_span e) (meant s e).value)
         -- calls: with a dot, by a name alone, by `super` (JLS 8, 15.12)
         meant s (PlacedCall e n es span) = of_value (dotted_call (callee P c s e (type_of P c s e) n.name.0 (count es)) span (operand_span e) (meant s e).value (evaluated s es))
@@ -269,7 +269,7 @@ module _ (P : Program) (names : List (List ℕ)) (longest : ℕ) where
         -- a new array of a length (JLS 8, 15.10.2), or of elements (JLS 8, 10.6)
         meant s (PlacedNewArray annotations base size span) = of_value (λ w. then_do ((meant s size).value w) (λ x w. array_made w span (array_type P base annotations) (count_of longest (int_of (prim_of x)))))
         meant s (PlacedArrayOf annotations base es span) = of_value (λ w. then_do (evaluated s es w) (λ xs w. array_listed w (array_type P base annotations) (all_there xs)))
-        -- `++` and `--` behind (JLS 8, 15.14.2 and 15.14.3) and in front (JLS 8, 15.15.1 and 15.15.2)
+        -- `++` and `--` after (JLS 8, 15.14.2 and 15.14.3) and in front (JLS 8, 15.15.1 and 15.15.2)
         meant s (PlacedPostfix e step span) = of_value (postfixed span (span_of e) (step_operator step) (meant s e).place)
         meant s (PlacedPrefix step e span) = of_value (prefixed span (span_of e) (step_operator step) (meant s e).place)
         -- `+`, `-` and `!` (JLS 8, 15.15.3, 15.15.4 and 15.15.6)

@@ -1,4 +1,4 @@
--- What a statement does: where it goes on, and the world behind it (JLS 8, 14). A unit of fuel is spent each time a loop's condition has its value, and each time a `for` without condition goes back to its start.
+-- What a statement does: where it goes on, and the world after it (JLS 8, 14). A unit of fuel is spent each time a loop's condition has its value, and each time a `for` without condition goes back to its start.
 use Rattle.std.specs.Prelude.{ℕ, zero, suc, ◌+◌, Bool, true, false, cond, ◌&&◌, List, [], ◌∷◌, Option, Some, None, pos}
 use Rattle.jn_base.specs.declared.place.Row.{Row}
 use Rattle.jn_base.specs.declared.place.Span.{Span}
@@ -20,7 +20,7 @@ use Rattle.jn_meaning.specs.Worlds.{World, Result, Has, Stops, FuelOut, got, spe
 use Rattle.jn_meaning.specs.Operations.{ElementPlace, LengthPlace, read_place, write_local}
 use Rattle.jn_meaning.specs.Expressions.{Caller, meant, operand_span}
 
--- where a statement goes on: behind itself, behind the loop around it, to the loop's next turn, or out of the body with a value
+-- where a statement goes on: after itself, after the loop around it, to the loop's next turn, or out of the body with a value
 pub data Flow : Type 0 where
   Onward : Flow
   Breaks : Flow
@@ -36,7 +36,7 @@ pub record Standing : Type 0 where
 abbrev pub declares : Standing → ℕ → BaseType → Option Qualifier → Bool → List Row → Standing
 declares st name base bound fixed faults = record { scope = in_scope st.scope (record { name = name; reg = st.count; base = base; bound = bound; fixed = fixed; faults = faults }); count = st.count + 1 }
 
--- behind what goes on
+-- after what goes on
 abbrev pub onward : Flow → World → (World → Result Flow) → Result Flow
 onward Onward w go = go w
 onward flow w go = Has flow w
@@ -45,7 +45,7 @@ onward flow w go = Has flow w
 abbrev pub in_turn : Result Flow → (World → Result Flow) → Result Flow
 in_turn r go = then_do r (λ flow w. onward flow w go)
 
--- behind the body of a loop: its next turn, or the end of the loop (JLS 8, 14.15 and 14.16)
+-- after the body of a loop: its next turn, or the end of the loop (JLS 8, 14.15 and 14.16)
 abbrev pub turned : Flow → World → (World → Result Flow) → Result Flow
 turned Onward w go = go w
 turned Continues w go = go w
@@ -73,7 +73,7 @@ abbrev pub done_while : ℕ → (World → Result Flow) → (World → Result Bo
 done_while zero body test w = then_do (body w) (λ flow w. turned flow w (λ w. then_do (test w) (λ b w. Stops FuelOut w.out)))
 done_while (suc turns) body test w = then_do (body w) (λ flow w. turned flow w (λ w. then_do (test w) (λ b w. spent w (λ w. while_true b w (done_while turns body test)))))
 
--- the scope behind a declared name (JLS 8, 6.3)
+-- the scope after a declared name (JLS 8, 6.3)
 abbrev pub behind_declarator : BaseType → Option Qualifier → Bool → List Row → Standing → PlacedDeclarator → Standing
 behind_declarator base bound is_final faults st d = declares st d.name.name.0 base bound (is_final && has_value d) faults
 
@@ -104,7 +104,7 @@ module _ (P : Program) where
   behind_init st (PlacedExpressions es) = st
   behind_init st (PlacedDeclaration l) = behind_declaration st l
 
-  -- behind a statement: a declaration's names stay in scope, other names don't
+  -- after a statement: a declaration's names stay in scope, other names don't
   abbrev pub behind : Standing → PlacedStatement → Standing
   behind st (PlacedLocalStatement l span) = behind_declaration st l
   behind st x = record { scope = st.scope; count = st.count + declared x }
@@ -189,6 +189,7 @@ module _ (P : Program) (names : List (List ℕ)) (longest : ℕ) (call : Caller)
   each_next at r w = then_do (got at (binary_of Add (prim_of (value_at w.locals (r + 1))) (prim_of (Some (literal_value names (IntOf (pos 1)))))) w) (λ z w. write_local P w (r + 1) z)
 
   abbrev mutual
+    -- a statement, carried out (JLS 8, 14)
     pub executed : Standing → PlacedStatement → World → Result Flow
     -- a block (JLS 8, 14.2), the empty statement (JLS 8, 14.6) and an expression (JLS 8, 14.8)
     executed st (PlacedBlock body span) w = all_executed st body w

@@ -14,7 +14,7 @@ use Rattle.jn_members_law.proofs.Supers.{parent_or_interface, lower, other_inter
 use Rattle.jn_members_law.proofs.Members.{open_method, named_parts, parts_named, declared_is, open_is, is_declared, is_open, open_alone, kept_none, open_member}
 
 module _ (P : Program) where
-  -- behind a class that finds none: along its parent
+  -- after a class that finds none: along its parent
   by_parent : (f : ℕ → Option ℕ) (k c m : ℕ) (p : ClassNo) → f c ≡ None → parent_of (class_info P c) ≡ Some p → first_some f (walk_by P k p.0) ≡ Some m → first_some f (walk_by P (suc k) c) ≡ Some m
   by_parent f k c m p none parent found =
       let there : first_some f (walk_parent P (walk_by P k) (parent_of (class_info P c))) ≡ Some m = ap (λ o. first_some f (walk_parent P (walk_by P k) o)) parent ∙ found in

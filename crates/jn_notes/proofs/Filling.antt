@@ -44,7 +44,7 @@ apart n k lt = by (eqb n k) refl
     by true e = let h = eqb-true n k e in absurd (omega (arith, h, lt))
     by false e = refl
 
--- behind the last
+-- after the last
 pub filled_past : (a : List (Option Owner)) (n : ℕ) (o : Owner) → length a ≤ n → Filled a a (λ k. cond (eqb n k) (Some o) None)
 filled_past a n o le = filled_same a (λ k. cond (eqb n k) (Some o) None) (λ k lt. ap (λ (t : Bool). cond t (Some o) None) (apart n k (omega (arith, lt, le))))
 

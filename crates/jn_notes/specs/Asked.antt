@@ -142,9 +142,11 @@ module _ (P : Program) (s : List Qualifier) where
     abbrev pub by_under : Option Method → List ℕ → Option Item
     by_under over ks = cond (stands_at span over) (first_item (by_lower part over ks) (length ks)) None
 
+    -- of the method with this number, where the row points to it
     abbrev pub by_overrider : ℕ → Option Item
     by_overrider m = by_under (method_at P m) (under P m)
 
+    -- of the method at this place of the list of those that override
     abbrev pub by_overriders : ℕ → Option Item
     by_overriders j = by_overrider (slice_index_or (overriders P) j 0)
 

@@ -85,10 +85,12 @@ module _ (P : Program) where
     abbrev pub write_taken : Qualifier → ℕ → Qualifier
     write_taken object f = taking (takes_null f) (not object.committed)
 
+    -- of a value that is written to a field (Checker Framework manual, 3.1; FBC)
     abbrev pub write_asks : Env → PointKind → List Ask
     write_asks e (FieldWrite object field value) = ask value (write_taken (qual_at e object.reg.0) field.0) ∷ []
     write_asks e kind = []
 
+    -- of the arguments of a call, by the slots of the parameters
     abbrev pub argument_asks : PointKind → List Ask
     argument_asks (New dst ctor args) = ask_args (slot_quals s (slots_of (method_at P ctor.0))) args
     argument_asks (CtorCall ctor args own) = ask_args (slot_quals s (slots_of (method_at P ctor.0))) args
@@ -101,6 +103,7 @@ module _ (P : Program) where
     receiver_asks (Call dst method receiver direct args) = ask_if receiver (join null_only (receiver_of s (method_at P method.0)))
     receiver_asks kind = []
 
+    -- of a value that is returned, by the slot of the result
     abbrev pub result_asks : ℕ → PointKind → List Ask
     result_asks b (Return value) = ask_if value (result_of s (method_in P b))
     result_asks b kind = []

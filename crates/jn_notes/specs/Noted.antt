@@ -41,6 +41,7 @@ module _ (P : Program) (names : List (List ℕ)) where
     AreFrom None notes = notes ≡ no_notes
     AreFrom (Some x) notes = (steps : List Step) × IsFirstChain P s tables x steps × AreBy steps notes
 
+    -- the notes of a row: those of the item of which it speaks
     abbrev pub AreNotes : Row → Notes → Type 0
     AreNotes row notes = AreFrom (item_of P s row tables) notes
 

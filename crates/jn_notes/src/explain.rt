@@ -55,7 +55,7 @@ fn note_of(
     })
 }
 
-/// Puts the steps in words behind the notes.
+/// Puts the steps in words after the notes.
 fn put_steps(
     notes: &mut Vec<Note>,
     alloc: Global,

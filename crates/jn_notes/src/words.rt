@@ -56,7 +56,7 @@ fn parameter_words(place: usize) -> &'static str
     }
 }
 
-/// Puts a text behind the words.
+/// Puts a text after the words.
 pub(crate) fn add(words: &mut Vec<u8>, text: &str) -> Result<(), AllocError>
     ensures { OnOk result (words.new.items ≡ words.old.items ++ text.now) }
 {

@@ -38,7 +38,7 @@ pub firsts_same : (f g : ℕ → List Cause) (n : ℕ) → ((m : ℕ) → m < n 
 firsts_same f g zero h = refl
 firsts_same f g (suc n) h = ap (λ (xs : List Cause). xs ++ f n) (firsts_same f g n (λ m lt. h m (omega (arith, lt)))) ∙ ap (λ (xs : List Cause). firsts g n ++ xs) (h n (omega arith))
 
--- of the front, and behind it
+-- of the front, and after it
 pub firsts_split : (f : ℕ → List Cause) (a n : ℕ) → firsts f (a + n) ≡ firsts f a ++ firsts (λ j. f (a + j)) n
 firsts_split f a zero =
     let e : a + 0 ≡ a = omega arith in

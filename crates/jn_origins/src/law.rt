@@ -39,7 +39,7 @@ pub fn what_stands_has_a_chain()
 }
 
 /// Worked cases. A parameter may be null since that of the method that it overrides may. In a constructor that calls a method of its own, the
-/// object is under construction before the call by the constructor's head, and behind the call since it was before.
+/// object is under construction before the call by the constructor's head, and after the call since it was before.
 pub fn causes_of_worked_cases()
     ensures overrides { standing (no_qual ∷ null_or_committed ∷ no_qual ∷ no_qual ∷ []) []
         (causes widened (no_qual ∷ null_or_committed ∷ no_qual ∷ no_qual ∷ []) []

@@ -34,7 +34,7 @@ pub(crate) struct Wanted {
     pub bit: Bit,
 }
 
-/// Whether the edge goes to the point, and the register has the bit behind it.
+/// Whether the edge goes to the point, and the register has the bit after it.
 fn is_wanted(edge: &Edge, wanted: Wanted) -> bool
     ensures { result
         ≡ (eqb edge.now.0 wanted.point.0 && on wanted.bit (qual_at edge.now.1 wanted.reg.0)) }
@@ -46,7 +46,7 @@ fn is_wanted(edge: &Edge, wanted: Wanted) -> bool
     }
 }
 
-/// What the register has the bit from, behind a point.
+/// What the register has the bit from, after a point.
 fn add_sources(
     alloc: Global,
     program: &Program,

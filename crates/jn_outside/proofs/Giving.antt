@@ -1,4 +1,4 @@
--- What reads give behind a name that was started.
+-- What reads give after a name that was started.
 use Rattle.std.proofs.Common.{◌≡◌, ℕ, ◌+◌, ◌≤◌, ◌++◌, List, [], ◌∷◌, length, take, Option, Some, None, inr, refl, ap, subst, ◌∙◌, append-nil, arith, length-append}
 use Rattle.std.proofs.Math.Seq.{take-append_seam}
 use Rattle.jn_outside.specs.declared.given.Given.{Given}
@@ -11,7 +11,7 @@ none_more [] = refl
 none_more (last ∷ []) = ap (λ bytes. given last.name bytes ∷ []) (append-nil last.bytes)
 none_more (first ∷ next ∷ others) = ap (λ gs. first ∷ gs) (none_more (next ∷ others))
 
--- a read behind a name that was started gives more of it
+-- a read after a name that was started gives more of it
 pub more_behind : (old : List Given) (name bytes more : List ℕ) → with_read (old ++ given name bytes ∷ []) more ≡ old ++ given name (bytes ++ more) ∷ []
 more_behind [] name bytes more = refl
 more_behind (first ∷ []) name bytes more = refl

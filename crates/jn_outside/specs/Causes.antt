@@ -1,7 +1,7 @@
 -- Counts of faults, which never fall and stand still at their last value.
 use Rattle.std.specs.Prelude.{ℕ, ◌-◌, ◌^◌, ◌≤◌, ◌<◌, ◌≡◌, ◌⊎◌, Result, OnErr, OnOk}
 
--- a count rose in a call if it is greater behind the call, or stands at its last value
+-- a count rose in a call if it is greater after the call, or stands at its last value
 abbrev pub Rose : ℕ → ℕ → Type 0
 Rose before now = (before < now) ⊎ (now ≡ 2 ^ 64 - 1)
 

@@ -17,7 +17,7 @@ with_read [] bytes = []
 with_read (last ∷ []) bytes = given last.name (last.bytes ++ bytes) ∷ []
 with_read (first ∷ next ∷ others) bytes = first ∷ with_read (next ∷ others) bytes
 
--- reads gave these bytes, at most so many, behind those of the name that was started last
+-- reads gave these bytes, at most so many, after those of the name that was started last
 pub record GivesBehind (old new : List Given) (room : ℕ) (more : List ℕ) : Type 0 where
   pub few : length more ≤ room
   pub gave : new ≡ with_read old more

@@ -1,7 +1,7 @@
 -- What a sink has taken.
 use Rattle.std.specs.Prelude.{ℕ, ◌≤◌, ◌≡◌, List, ◌++◌, length, take, Option, Some, None}
 
--- new is old with these bytes behind it; a sink that does not tell goes on not telling
+-- new is old with these bytes after it; a sink that does not tell goes on not telling
 abbrev pub Appends : Option (List ℕ) → Option (List ℕ) → List ℕ → Type 0
 Appends None new bytes = new ≡ None
 Appends (Some old) new bytes = new ≡ Some (old ++ bytes)

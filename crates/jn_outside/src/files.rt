@@ -64,7 +64,7 @@ pub trait Files {
     ghost told: { (s : Self) → IsSome (held s) → IsSome (left s) };
 }
 
-/// Reads the next piece, of at most `room` bytes, behind what was read.
+/// Reads the next piece, of at most `room` bytes, after what was read.
 fn read_piece<F: Files>(
     files: &mut F,
     bytes: &mut Vec<u8>,

@@ -26,7 +26,7 @@ impl<T> Tells<(), T> for Nothing {
     ghost told = { λ _. [] };
 }
 
-/// A list, and bytes behind it.
+/// A list, and bytes after it.
 #[derive(Drop)]
 struct Behind<'a> {
     before: &'a Told<u8>,
@@ -55,7 +55,7 @@ impl<T> Told<T> {
     }
 }
 
-/// The list with these bytes behind it.
+/// The list with these bytes after it.
 pub fn with_bytes(before: &Told<u8>, bytes: &[u8]) -> Told<u8>
     ensures { result.items ≡ before.now.items ++ bytes.now }
 {

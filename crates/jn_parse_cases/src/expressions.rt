@@ -244,7 +244,7 @@ pub fn write_expression(page: &mut Page, names: &Names, expression: &Expr) {
     }
 }
 
-/// A name and the opening parenthesis behind it.
+/// A name and the opening parenthesis after it.
 fn write_called(page: &mut Page, names: &Names, name: Identifier) {
     write_identifier(page, names, name);
     page.put(&["("])

@@ -43,7 +43,7 @@ fn rows_text(alloc: Global, rows: &[Row]) -> Result<String, OutOfMemory> {
     Ok(text)
 }
 
-/// The names, and each tree behind a bar.
+/// The names, and each tree after a bar.
 fn trees_text(alloc: Global, names: &Names, trees: &[FileTree]) -> Result<String, OutOfMemory> {
     let mut text = names_text(alloc, names)?;
     for tree in trees {

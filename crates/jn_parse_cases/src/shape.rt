@@ -187,7 +187,7 @@ fn write_init(page: &mut Page, names: &Names, init: &ForInit) {
     }
 }
 
-/// A word and an expression behind it.
+/// A word and an expression after it.
 fn write_headed(page: &mut Page, names: &Names, word: &str, expression: &Expr) {
     page.put(&["(", word, " "]);
     write_expression(page, names, expression);

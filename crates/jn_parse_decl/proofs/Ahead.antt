@@ -1,4 +1,4 @@
--- Members read in turn: one behind others, one row behind another, and where a row ends.
+-- Members read in turn: one after others, one row after another, and where a row ends.
 use Rattle.std.proofs.Common.{◌≡◌, ℕ, zero, suc, ◌<◌, ◌≤◌, List, [], ◌∷◌, ◌++◌, length, map, drop, refl, sym, ap, ◌∙◌, subst, arith, append_assoc, append-nil, length-append, Bool, false, Option, Some, None, Result, Ok, Err, IfOk}
 use Rattle.std.specs.Borrow.{Bor}
 use Rattle.jn_base.specs.declared.refusal.OutOfMemory.{OutOfMemory}

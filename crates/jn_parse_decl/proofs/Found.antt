@@ -1,4 +1,4 @@
--- What is read where a token comes first, from what stands behind it.
+-- What is read where a token comes first, from what stands after it.
 use Rattle.std.proofs.Common.{◌≡◌, List, ◌∷◌, sym, ap, ◌∙◌, Some}
 use Rattle.jn_base.specs.declared.number.NameNo.{NameNo}
 use Rattle.jn_trees.specs.declared.token.TokenKind.{TokenKind}

@@ -23,7 +23,7 @@ inside b i = record { package_line = b.package_line; imports = b.imports; types 
 abbrev pub open_type : TypeOpening → List MemberTree → Option OpenMember → Option OpenType
 open_type head members body = Some (record { head = head; members = members; body = body })
 
--- pieces read in turn in a type with this owner lead from these tokens to those, and put these members behind those of the type
+-- pieces read in turn in a type with this owner lead from these tokens to those, and put these members after those of the type
 pub record AreMembers (owner : Owner) (from : List TokenKind) (members : List MemberTree) (to : List TokenKind) : Type 0 where
   pub row : List Piece
   pub read : ReadsRow pieces piece_reader (InType owner) from row (InType owner) to

@@ -77,7 +77,7 @@ pub fn finished(built: Built) -> Option<FileTree>
     }
 }
 
-/// Puts one piece more, which stands at this place, behind what has been read.
+/// Puts one piece more, which stands at this place, after what has been read.
 pub fn add(alloc: Global, built: &mut Built, piece: Piece, place: Span) -> Result<(), OutOfMemory>
     ensures { OnOk result (built_view built.new ≡ law.add (built_view built.old) (piece_view piece)) }
 {
@@ -181,7 +181,7 @@ pub fn method_of(head: MethodHead, span: Span) -> Member
     }
 }
 
-/// Puts the member behind those of the open type.
+/// Puts the member after those of the open type.
 fn put_member(inside: &mut Option<OpenType>, member: Member) -> Result<(), OutOfMemory>
     ensures { OnOk result (inside_of inside.new
         ≡ law.with_member (member_view member) (inside_of inside.old)) }
@@ -211,7 +211,7 @@ fn open_body(alloc: Global, inside: &mut Option<OpenType>, head: MemberHead, fro
     }
 }
 
-/// Puts the statement behind those of the open member of the open type. Where none is open it is dropped by a call,
+/// Puts the statement after those of the open member of the open type. Where none is open it is dropped by a call,
 /// since a drop written out here would set up its locals for each statement.
 fn put_statement(inside: &mut Option<OpenType>, statement: Stmt) -> Result<(), OutOfMemory>
     ensures { OnOk result (inside_of inside.new
@@ -226,7 +226,7 @@ fn put_statement(inside: &mut Option<OpenType>, statement: Stmt) -> Result<(), O
     }
 }
 
-/// Puts the statement behind those of the open member.
+/// Puts the statement after those of the open member.
 fn lengthen(body: &mut Option<OpenMember>, statement: Stmt) -> Result<(), OutOfMemory>
     ensures { OnOk result (body_of body.new
         ≡ law.longer_body (statement_view statement) (body_of body.old)) }
@@ -253,7 +253,7 @@ fn close_body(inside: &mut Option<OpenType>, end: Span) -> Result<(), OutOfMemor
     }
 }
 
-/// Puts the member whose body ends here behind the others.
+/// Puts the member whose body ends here after the others.
 fn close_member(
     members: &mut Vec<Member>,
     body: Option<OpenMember>,
@@ -316,7 +316,7 @@ pub fn member_of(head: MemberHead, body: Vec<Stmt>, span: Span) -> Member
     }
 }
 
-/// Puts the type that ends here behind the others.
+/// Puts the type that ends here after the others.
 fn close_type(
     types: &mut Vec<TypeTree>,
     inside: &mut Option<OpenType>,

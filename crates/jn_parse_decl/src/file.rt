@@ -20,7 +20,7 @@ use jn_trees::{FileTree, Token};
 use std::alloc::Global;
 use std::thread::Threads;
 
-/// The one well-formed tree that spells the tokens of a file, or its syntax row: S2 at the first token with more than 200 open brackets, else S1 at the place where well-formed pieces end. `end` is the text's length in bytes, the place of a fault behind the last token.
+/// The one well-formed tree that spells the tokens of a file, or its syntax row: S2 at the first token with more than 200 open brackets, else S1 at the place where well-formed pieces end. `end` is the text's length in bytes, the place of a fault after the last token.
 ///
 /// Places in the tree are set as well, but nothing is said of them here: `jn_parse_placed::parse_placed` claims them, and it
 /// alone.
@@ -156,7 +156,7 @@ fn behind_members<'t, R: Threads + Sync>(
     }
 }
 
-/// A row at a token, or at the end of the text behind the last.
+/// A row at a token, or at the end of the text after the last.
 fn row(code: Code, file: FileNo, end: u32, tokens: &[Token], place: usize) -> Row
     ensures { result ≡ record { span = spec_place file end tokens.now place; code = code } }
 {

@@ -47,7 +47,7 @@ impl Guess {
         }
     }
 
-    /// Keeps the place behind so many tokens, where it is far enough behind the last one, and a member may begin with what
+    /// Keeps the place after so many tokens, where it is far enough after the last one, and a member may begin with what
     /// stands there.
     fn note(&mut self, tokens: &[Token], place: usize) -> Result<(), AllocError> {
         let left = tokens.len().saturating_sub(place);
@@ -59,7 +59,7 @@ impl Guess {
     }
 }
 
-/// Where members seem to begin: behind each brace that closes a body, and behind each semicolon outside of bodies. None where
+/// Where members seem to begin: after each brace that closes a body, and after each semicolon outside of bodies. None where
 /// there are too few tokens for two workers. Goes over the tokens in little more time than it takes to fetch them, since the
 /// other workers wait for it.
 pub fn beginnings(alloc: Global, tokens: &[Token]) -> Result<Guess, OutOfMemory> {
@@ -90,7 +90,7 @@ pub fn beginnings(alloc: Global, tokens: &[Token]) -> Result<Guess, OutOfMemory>
     Ok(guess)
 }
 
-/// Of these places at most `more`, each about `share` tokens behind the one before, the first behind the place where `from`
+/// Of these places at most `more`, each about `share` tokens after the one before, the first after the place where `from`
 /// tokens are left, and none where fewer than `least` are.
 fn apart(
     alloc: Global,

@@ -36,7 +36,7 @@ pub fn read_member(
     }
 }
 
-/// The name at the front and the opening parenthesis behind it, and what follows them.
+/// The name at the front and the opening parenthesis after it, and what follows them.
 fn called(tokens: &[Token]) -> Option<(Identifier, &[Token])>
     ensures { MatchOption result
         ((n : Name) (rest : List Kind) → kinds tokens.now ≡ Kind.Id n ∷ Kind.LeftParen ∷ rest → ⊥)

@@ -1,4 +1,4 @@
-//! Names behind marks, and lists of them.
+//! Names after marks, and lists of them.
 ghost use Rattle.std.specs.Prelude.{◌≡◌, ◌∷◌, List, MatchOption, IfOk};
 ghost use Rattle.jn_base.specs.declared.number.NameNo.{NameNo as Name};
 ghost use Rattle.jn_trees.specs.declared.token.TokenKind.{TokenKind as Kind};
@@ -13,7 +13,7 @@ use jn_trees::reading::{expect, identifier};
 use jn_trees::{Identifier, Token, TokenKind};
 use std::alloc::Global;
 
-/// The name behind this mark, and what follows it.
+/// The name after this mark, and what follows it.
 pub fn behind_mark(tokens: &[Token], mark: TokenKind) -> Option<(Identifier, &[Token])>
     ensures { MatchOption result
         ((n : Name) (rest : List Kind) → kinds tokens.now ≡ mark ∷ Kind.Id n ∷ rest → ⊥)
@@ -66,7 +66,7 @@ fn more_names(
     }
 }
 
-/// The name behind `extends`, where it is at the front, and what follows it.
+/// The name after `extends`, where it is at the front, and what follows it.
 pub fn parent(tokens: &[Token]) -> (Option<Identifier>, &[Token])
     ensures { read_parent (kinds tokens.now) ≡ (parent_view result.0, kinds result.1.now) }
 {
@@ -76,7 +76,7 @@ pub fn parent(tokens: &[Token]) -> (Option<Identifier>, &[Token])
     }
 }
 
-/// The names behind `implements`, where it is at the front, and what follows them.
+/// The names after `implements`, where it is at the front, and what follows them.
 pub fn implemented(
     alloc: Global,
     tokens: &[Token],
@@ -90,7 +90,7 @@ pub fn implemented(
     }
 }
 
-/// The names behind `extends`, where it is at the front, and what follows them.
+/// The names after `extends`, where it is at the front, and what follows them.
 pub fn extended(alloc: Global, tokens: &[Token]) -> Result<(Vec<Identifier>, &[Token]), OutOfMemory>
     ensures { IfOk result
         (λ r. read_extends (kinds tokens.now) ≡ (identifier_names r.0.items, kinds r.1.now)) }
@@ -101,7 +101,7 @@ pub fn extended(alloc: Global, tokens: &[Token]) -> Result<(Vec<Identifier>, &[T
     }
 }
 
-/// A first name and those behind it.
+/// A first name and those after it.
 fn names_from(
     alloc: Global,
     first: Identifier,

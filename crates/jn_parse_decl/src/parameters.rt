@@ -43,7 +43,7 @@ pub fn read_parameters(
     }
 }
 
-/// The receiver or the first parameter, and the parameters behind it.
+/// The receiver or the first parameter, and the parameters after it.
 fn some_parameters(
     alloc: Global,
     tokens: &[Token],
@@ -59,7 +59,7 @@ fn some_parameters(
     }
 }
 
-/// The receiver or the first parameter, whose type stands before these tokens, and the parameters behind it.
+/// The receiver or the first parameter, whose type stands before these tokens, and the parameters after it.
 fn first_end(
     alloc: Global,
     modifiers: Vec<LocalModifier>,
@@ -82,7 +82,7 @@ fn first_end(
     }
 }
 
-/// The receiver, and the parameters behind it.
+/// The receiver, and the parameters after it.
 fn behind_receiver(
     alloc: Global,
     receiver: Receiver,
@@ -104,7 +104,7 @@ fn behind_receiver(
     }
 }
 
-/// The first parameter, and those behind it.
+/// The first parameter, and those after it.
 #[tactic(auto, using(crate::proofs::Rows::first_more))]
 fn behind_first(
     alloc: Global,

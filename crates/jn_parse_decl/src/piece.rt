@@ -68,7 +68,7 @@ pub enum Piece {
     TypeEnd,
 }
 
-/// Where a piece stands: first in a file, behind a line, behind a type, in a type, or in a body, where the next statement may be the first of a constructor.
+/// Where a piece stands: first in a file, after a line, after a type, in a type, or in a body, where the next statement may be the first of a constructor.
 #[derive(Clone, Copy)]
 pub enum Around {
     AtStart,
@@ -78,7 +78,7 @@ pub enum Around {
     InBody { owner: Owner, leading: bool },
 }
 
-/// What stands around the piece behind this one.
+/// What stands around the piece after this one.
 pub fn behind(around: Around, piece: &Piece) -> Around
     ensures { around_view result ≡ trees.behind (around_view around) (piece_view piece.now) }
 {

@@ -42,7 +42,7 @@ fn read_first(alloc: Global, tokens: &[Token]) -> Result<Option<(Piece, &[Token]
     }
 }
 
-/// What may stand behind a line.
+/// What may stand after a line.
 fn read_line(alloc: Global, tokens: &[Token]) -> Result<Option<(Piece, &[Token])>, OutOfMemory>
     ensures { IfOk result (λ o. seen_piece o ≡ reader.read_line (kinds tokens.now)) }
 {

@@ -12,7 +12,7 @@ use std::thread::{Threads, join};
 /// thousand tokens are looked at.
 const FEWEST: usize = 32_768;
 
-/// The number of the first token behind which too many brackets are open, and, where other workers may take part, where
+/// The number of the first token after which too many brackets are open, and, where other workers may take part, where
 /// members seem to begin. Where there are many tokens, one of the others looks for the former.
 pub fn scan<R: Threads + Sync>(
     rt: &R,

@@ -15,7 +15,7 @@ use jn_trees::{Member, Owner, Token};
 use std::alloc::Global;
 use std::thread::{Threads, join};
 
-/// The first members, and the others behind them, with room for as many again for each share that is still to come.
+/// The first members, and the others after them, with room for as many again for each share that is still to come.
 fn append(
     first: Vec<Member>,
     others: Vec<Member>,
@@ -39,7 +39,7 @@ fn last_tokens(tokens: &[Token], many: usize) -> &[Token]
     &tokens[before..]
 }
 
-/// The members that were read first, and those behind them where these were read from the very place where the first ones
+/// The members that were read first, and those after them where these were read from the very place where the first ones
 /// end, and what follows.
 fn in_order<'t>(
     tokens: &'t [Token],
@@ -71,7 +71,7 @@ fn in_order<'t>(
 /// The members at the front, in turn, until at most `stop` tokens are left or none can be read whole, and what follows them.
 /// One worker reads from the front, and one more from each of the places, which are told by the number of tokens left there.
 /// The list of the first grows by those of the others, so that each member is moved once; as many shares as `further` come
-/// behind these.
+/// after these.
 #[cycle(share)]
 fn members_from<'t, R: Threads + Sync>(
     rt: &R,
@@ -115,7 +115,7 @@ fn members_from<'t, R: Threads + Sync>(
     }
 }
 
-/// Whether nothing was read yet of this type behind its head.
+/// Whether nothing was read yet of this type after its head.
 fn is_fresh(opened: &OpenType) -> bool
     ensures members { result ≡ true → opened.now.members.items ≡ [] }
     ensures body { result ≡ true → opened.now.body ≡ None }

@@ -115,7 +115,7 @@ fn with_body<'t>(
     }
 }
 
-/// Whether the first statement behind this head may call a constructor.
+/// Whether the first statement after this head may call a constructor.
 fn leads(head: &MemberHead) -> bool
     ensures { result ≡ may_lead (member_opening head.now) }
 {

@@ -236,7 +236,7 @@ first_is_line : (ts : List TokenKind) → starts_line ts ≡ false → read_firs
 first_is_line (Package ∷ ts) e = cc
 first_is_line ts e = refl
 
--- what may stand behind the package line, and first in a file
+-- what may stand after the package line, and first in a file
 may_import : (p : Piece) → MayHead p → MayImport p
 may_import (ClassHead ms n parent interfaces) g = g
 may_import (InterfaceHead ms n parents) g = g

@@ -251,7 +251,7 @@ result_read : (o : Owner) (ms : List Mark) (u : Option TypeUseTree) (n : NameNo)
 result_read o ms None n rest = marked o ms (Void ∷ Id n ∷ LeftParen ∷ rest) refl refl
 result_read o ms (Some u) n rest = typed_read o ms u n (LeftParen ∷ rest)
 
--- a head of a method, and what stands behind it
+-- a head of a method, and what stands after it
 method_read : (o : Owner) (ms : List Mark) (u : Option TypeUseTree) (n : NameNo) (r : Option ReceiverTree) (ps : List ParameterTree) (k : TokenKind) (rest : List TokenKind) → read_member o ((spell_method_head ms u n r ps ++ k ∷ []) ++ rest) ≡ method_end o ms u n r ps (k ∷ rest)
 method_read o ms u n r ps k rest =
     ap (read_member o) (append_assoc (spell_method_head ms u n r ps) (k ∷ []) rest ∙ sym (head_regroup (spell_all_marks ms) (spell_result u) (Id n) LeftParen (spell_parameters r ps) (k ∷ rest)))

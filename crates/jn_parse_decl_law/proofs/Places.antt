@@ -66,7 +66,7 @@ run_place L R s ts =
           omega (arith, b.place, same, long, ap length b.spelled, length-append (spell_pieces L b.pieces) b.rest);
     }
 
--- pieces that are read one after another are in order, and what is left stands behind them
+-- pieces that are read one after another are in order, and what is left stands after them
 pub row_sound : (L : Language) (R : PieceReader L) (s : L.State) (ts : List TokenKind) (ps : List L.Piece) (u : L.State) (rest : List TokenKind) → ReadsRow L R.read s ts ps u rest → InOrder L s ps × (ts ≡ spell_pieces L ps ++ rest)
 row_sound L R s ts [] u rest h = (tt, h.1)
 row_sound L R s ts (p ∷ ps) u rest h =

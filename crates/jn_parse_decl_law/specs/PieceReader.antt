@@ -12,7 +12,7 @@ use Rattle.jn_parse_expr_law.specs.Reader.{reader}
 use Rattle.jn_parse_stmt_law.specs.Parts.{read_marks, read_type_use, read_declarators}
 use Rattle.jn_parse_stmt_law.specs.StatementReader.{statement_reader}
 
--- a piece and the tokens behind it, or none
+-- a piece and the tokens after it, or none
 abbrev pub TryPiece : Type 0
 TryPiece = Option (Piece × List TokenKind)
 
@@ -73,7 +73,7 @@ abbrev pub package_end : NameNo → List NameNo → List TokenKind → TryPiece
 package_end n more (Semicolon ∷ ts) = Some (PackagePiece (record { first = n; more = more }), ts)
 package_end n more _ = None
 
--- behind `package`
+-- after `package`
 abbrev pub read_package : List TokenKind → TryPiece
 read_package (Id n ∷ ts) = package_end n (read_dots ts).0 (read_dots ts).1
 read_package _ = None
@@ -84,7 +84,7 @@ import_end n more (Semicolon ∷ ts) = Some (ImportPiece (record { name = record
 import_end n more (Dot ∷ Star ∷ Semicolon ∷ ts) = Some (ImportPiece (record { name = record { first = n; more = more }; all = true }), ts)
 import_end n more _ = None
 
--- behind `import`
+-- after `import`
 abbrev pub read_import : List TokenKind → TryPiece
 read_import (Id n ∷ ts) = import_end n (read_dots ts).0 (read_dots ts).1
 read_import _ = None
@@ -94,11 +94,11 @@ abbrev pub class_end : List Mark → NameNo → Option NameNo → List NameNo �
 class_end ms n parent interfaces (LeftBrace ∷ ts) = checked (good_marks marks_type ms) (ClassHead ms n parent interfaces) ts
 class_end ms n parent interfaces _ = None
 
--- behind `class Id extends Id`
+-- after `class Id extends Id`
 abbrev pub class_interfaces : List Mark → NameNo → Option NameNo → List TokenKind → TryPiece
 class_interfaces ms n parent ts = class_end ms n parent (read_implements ts).0 (read_implements ts).1
 
--- behind `class`
+-- after `class`
 abbrev pub read_class : List Mark → List TokenKind → TryPiece
 read_class ms (Id n ∷ ts) = class_interfaces ms n (read_parent ts).0 (read_parent ts).1
 read_class ms _ = None
@@ -108,12 +108,12 @@ abbrev pub interface_end : List Mark → NameNo → List NameNo → List TokenKi
 interface_end ms n parents (LeftBrace ∷ ts) = checked (good_marks marks_interface ms) (InterfaceHead ms n parents) ts
 interface_end ms n parents _ = None
 
--- behind `interface`
+-- after `interface`
 abbrev pub read_interface : List Mark → List TokenKind → TryPiece
 read_interface ms (Id n ∷ ts) = interface_end ms n (read_extends ts).0 (read_extends ts).1
 read_interface ms _ = None
 
--- behind the marks
+-- after the marks
 abbrev pub type_behind : List Mark → List TokenKind → TryPiece
 type_behind ms (Class ∷ ts) = read_class ms ts
 type_behind ms (Interface ∷ ts) = read_interface ms ts
@@ -123,7 +123,7 @@ type_behind ms _ = None
 abbrev pub read_type_head : List TokenKind → TryPiece
 read_type_head ts = type_behind (read_all_marks ts).0 (read_all_marks ts).1
 
--- what may stand behind the package line
+-- what may stand after the package line
 abbrev pub read_line : List TokenKind → TryPiece
 read_line (Import ∷ ts) = read_import ts
 read_line ts = read_type_head ts
@@ -133,11 +133,11 @@ abbrev pub read_first : List TokenKind → TryPiece
 read_first (Package ∷ ts) = read_package ts
 read_first ts = read_line ts
 
--- parameters and the tokens behind them, or none
+-- parameters and the tokens after them, or none
 abbrev pub TryParameters : Type 0
 TryParameters = Option (List ParameterTree × List TokenKind)
 
--- a receiver or none, and the parameters behind it
+-- a receiver or none, and the parameters after it
 abbrev pub TryAllParameters : Type 0
 TryAllParameters = Option (Option ReceiverTree × List ParameterTree × List TokenKind)
 
@@ -151,23 +151,23 @@ abbrev pub add_parameter : ParameterTree → TryParameters → TryParameters
 add_parameter p None = None
 add_parameter p (Some r) = Some (p ∷ r.0, r.1)
 
--- the name of a parameter, and those behind it
+-- the name of a parameter, and those after it
 abbrev pub parameter_end : (List TokenKind → TryParameters) → List LocalMark → TypeUseTree → List TokenKind → TryParameters
 parameter_end more ms u (Id n ∷ ts) = add_parameter (record { marks = ms; type_use = u; name = n }) (more ts)
 parameter_end more ms u _ = None
 
--- a parameter and those behind it
+-- a parameter and those after it
 abbrev pub parameter_from : (List TokenKind → TryParameters) → List TokenKind → TryParameters
 parameter_from more ts = after_type (parameter_end more (read_marks ts).0) (read_type_use (read_marks ts).1)
 
--- at most n parameters behind others, and the closing parenthesis
+-- at most n parameters after others, and the closing parenthesis
 abbrev pub more_parameters_from : ℕ → List TokenKind → TryParameters
 more_parameters_from zero ts = None
 more_parameters_from (suc n) (RightParen ∷ ts) = Some ([], ts)
 more_parameters_from (suc n) (Comma ∷ ts) = parameter_from (more_parameters_from n) ts
 more_parameters_from (suc n) _ = None
 
--- the parameters behind the first or the receiver, and the closing parenthesis
+-- the parameters after the first or the receiver, and the closing parenthesis
 unfoldable pub read_more_parameters : List TokenKind → TryParameters
 read_more_parameters ts = more_parameters_from (suc (length ts)) ts
 
@@ -191,17 +191,17 @@ abbrev pub without_receiver : TryParameters → TryAllParameters
 without_receiver None = None
 without_receiver (Some r) = Some (None, r.0, r.1)
 
--- a receiver, and the parameters behind it
+-- a receiver, and the parameters after it
 abbrev pub with_receiver : Option ReceiverTree → TryParameters → TryAllParameters
 with_receiver (Some r) (Some q) = Some (Some r, q.0, q.1)
 with_receiver _ _ = None
 
--- what stands behind the marks and the type of the first parameter or of the receiver
+-- what stands after the marks and the type of the first parameter or of the receiver
 abbrev pub first_end : List LocalMark → TypeUseTree → List TokenKind → TryAllParameters
 first_end ms u (This ∷ ts) = with_receiver (receiver_of (annotation_names_of ms) (class_of u)) (read_more_parameters ts)
 first_end ms u ts = without_receiver (parameter_end read_more_parameters ms u ts)
 
--- all behind the opening parenthesis, through the closing one
+-- all after the opening parenthesis, through the closing one
 abbrev pub read_parameters : List TokenKind → TryAllParameters
 read_parameters (RightParen ∷ ts) = Some (None, [], ts)
 read_parameters ts = after_type (first_end (read_marks ts).0) (read_type_use (read_marks ts).1)
@@ -248,7 +248,7 @@ abbrev pub constructor_end : Owner → List Mark → NameNo → Option ReceiverT
 constructor_end o ms n r ps (LeftBrace ∷ ts) = checked (good_constructor_head o ms n r ps) (ConstructorHead ms n ps) ts
 constructor_end o ms n r ps _ = None
 
--- what stands behind the parameters of a method: a body, but not in an interface, or a semicolon
+-- what stands after the parameters of a method: a body, but not in an interface, or a semicolon
 abbrev pub method_end : Owner → List Mark → Option TypeUseTree → NameNo → Option ReceiverTree → List ParameterTree → List TokenKind → TryPiece
 method_end o ms u n r ps (LeftBrace ∷ ts) = checked (not o.interface && good_method_head o ms r ps) (MethodHead ms u n r ps) ts
 method_end o ms u n r ps (Semicolon ∷ ts) = checked (good_method_head o ms r ps) (MethodPiece ms u n r ps) ts
@@ -268,17 +268,17 @@ abbrev pub after_declarators : (DeclaratorTree → List DeclaratorTree → List 
 after_declarators f None = None
 after_declarators f (Some r) = f r.0.0 r.0.1 r.1
 
--- behind marks and a type: a method, or a field
+-- after marks and a type: a method, or a field
 abbrev pub typed_member : Owner → List Mark → TypeUseTree → List TokenKind → TryPiece
 typed_member o ms u (Id n ∷ LeftParen ∷ ts) = after_parameters (method_end o ms (Some u) n) (read_parameters ts)
 typed_member o ms u ts = after_declarators (field_end ms u) (read_field_declarators ts)
 
--- behind `void`
+-- after `void`
 abbrev pub void_method : Owner → List Mark → List TokenKind → TryPiece
 void_method o ms (Id n ∷ LeftParen ∷ ts) = after_parameters (method_end o ms None n) (read_parameters ts)
 void_method o ms _ = None
 
--- behind the marks
+-- after the marks
 abbrev pub member_behind : Owner → List Mark → List TokenKind → TryPiece
 member_behind o ms (Void ∷ ts) = void_method o ms ts
 member_behind o ms (Id n ∷ LeftParen ∷ ts) = after_parameters (constructor_end o ms n) (read_parameters ts)

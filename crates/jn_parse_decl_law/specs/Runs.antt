@@ -3,7 +3,7 @@ use Rattle.std.specs.Prelude.{◌≡◌, ℕ, zero, suc, ◌≤◌, ◌<◌, Lis
 use Rattle.jn_trees.specs.declared.token.TokenKind.{TokenKind}
 use Rattle.jn_trees.specs.Pieces.{Language}
 
--- a piece and the tokens behind it, or none
+-- a piece and the tokens after it, or none
 abbrev pub Found : Language → Type 0
 Found L = Option (L.Piece × List TokenKind)
 

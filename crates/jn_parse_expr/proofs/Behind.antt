@@ -1,4 +1,4 @@
--- The place behind what was read.
+-- The place after what was read.
 use Rattle.std.proofs.Common.{◌≡◌, ℕ, ◌+◌, ◌-◌, ◌<◌, ◌≤◌, List, [], ◌∷◌, ◌++◌, length, drop, true, sym, ap, ◌∙◌, subst, arith, length-append, length-drop, Some}
 use Rattle.std.proofs.Math.Seq.{drop-append_seam}
 use Rattle.std.proofs.lemmas.List.{drop-drop, length-map}
@@ -25,7 +25,7 @@ ends at ts ys us le e =
 behind : (at n : ℕ) (ts ys us : List TokenKind) → n ≡ at + length ys → drop at ts ≡ ys ++ us → drop n ts ≡ us
 behind at n ts ys us is e = ap (λ m. drop m ts) is ∙ sym (drop-drop (length ys) at ts) ∙ ap (drop (length ys)) e ∙ drop-append_seam ys us
 
--- the place behind the tree, in tokens
+-- the place after the tree, in tokens
 pub record IsBehind (at d : ℕ) (tokens rest : List Token) (t : Tree) : Type 0 where
   pub shorter : length rest ≤ length tokens
   pub later : at < length tokens - length rest

@@ -53,7 +53,7 @@ pub left_is : (d : ℕ) (ts : List TokenKind) (t : Tree) (rest : List TokenKind)
 left_is zero ts t rest lt e = absurd (omega (arith, lt))
 left_is (suc d) ts t rest lt e = ap (λ n. bind (primary (reader n) (suc d) ts) trim) (back d) ∙ ap (λ o. bind o trim) e
 
--- new arrays behind annotations
+-- new arrays after annotations
 pub creation_is : (R : Reader) (ts : List TokenKind) → ((n : NameNo) (x : List TokenKind) → ts ≡ Id n ∷ x → ⊥) → creation R ts ≡ array_from R (annotations ts).0 (annotations ts).1
 creation_is R (Id n ∷ ts) h = absurd (h n ts refl)
 creation_is R ts h = refl

@@ -10,7 +10,7 @@ use Rattle.jn_parse_expr.specs.Steps.{sign_power, front_power}
 use Rattle.jn_parse_expr.proofs.Going.{Going, stopped}
 use Rattle.jn_parse_expr.proofs.Parts.{back}
 
--- what was read is an operand of power k, with some of the operators of power k + 1 behind it
+-- what was read is an operand of power k, with some of the operators of power k + 1 after it
 abbrev pub Climbing : ℕ → ℕ → Got → List TokenKind → ℕ → Type 0
 Climbing d deep got ts k = Going (grow (reader (d - 1)) d k) d deep got ((reader d).operand (suc k) ts)
 

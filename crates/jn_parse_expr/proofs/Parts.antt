@@ -79,7 +79,7 @@ fails_by one b ts o (suc n) g e = g ∙ ap (λ p. prepend b (bind_all p (items_b
 pub items_fail : (one : List TokenKind → Try) (b : Trees) (ts : List TokenKind) (o : TryAll) → GoingAll one b ts o → one ts ≡ None → o ≡ None
 items_fail one b ts o g e = fails_by one b ts o g.n g.gives e
 
--- an expression, and what is behind it
+-- an expression, and what is after it
 behind_by : (one : List TokenKind → Try) (b : Trees) (ts : List TokenKind) (o : TryAll) (n : ℕ) (t : Tree) (rest : List TokenKind) → length ts < n → o ≡ prepend b (items_from one n ts) → one ts ≡ Some (t, rest)
     → (m : ℕ) × (length ts < suc m) × (o ≡ prepend b (items_behind (items_from one m) t rest))
 behind_by one b ts o zero t rest lt g e = absurd (omega (arith, lt))

@@ -36,22 +36,22 @@ attached l (Class n) = InstanceOfTree l n.name
 attached l (Choice a b) = ConditionalTree l (view a.value) (view b.value)
 attached l (Value o e) = AssignTree l o (view e.value)
 
--- a tree, its nesting and the tokens behind it
+-- a tree, its nesting and the tokens after it
 abbrev pub ReadAs : ℕ → Option (Box Expr Global × ℕ × Bor (List Token)) → Try → Type 0
 ReadAs d None o = o ≡ None
 ReadAs d (Some r) o = (o ≡ Some (view r.0.value, kinds r.2.now)) × (r.1 ≡ nesting (view r.0.value)) × (r.1 ≤ d)
 
--- what goes on with l, the nesting of both, and the tokens behind
+-- what goes on with l, the nesting of both, and the tokens after
 abbrev pub TailAs : ℕ → Tree → Option (Tail × ℕ × Bor (List Token)) → Try → Type 0
 TailAs d l None o = o ≡ None
 TailAs d l (Some r) o = (o ≡ Some (attached l r.0, kinds r.2.now)) × (r.1 ≡ nesting (attached l r.0)) × (r.1 ≤ d)
 
--- trees, the nesting of the deepest, and the tokens behind
+-- trees, the nesting of the deepest, and the tokens after
 abbrev pub AllAs : ℕ → Option (Vec Expr Global × ℕ × Bor (List Token)) → TryAll → Type 0
 AllAs d None o = o ≡ None
 AllAs d (Some r) o = (o ≡ Some (views r.0.items, kinds r.2.now)) × (r.1 ≡ nesting_all (views r.0.items)) × (r.1 ≤ d)
 
--- where a call's brackets begin: behind the name at the start, or behind the dot and the name of the last link
+-- where a call's brackets begin: after the name at the start, or after the dot and the name of the last link
 abbrev pub IsLinked : List TokenKind → Tree → ℕ → List TokenKind → List TokenKind → Type 0
 IsLinked start (CallTree p n es) before link rest = (before ≡ nesting p) × (link ≡ Dot ∷ Id n ∷ LeftParen ∷ (spell_list RightParen es ++ rest))
 IsLinked start (OwnCallTree n es) before link rest = start ≡ Id n ∷ LeftParen ∷ (spell_list RightParen es ++ rest)
@@ -90,7 +90,7 @@ sign_before Minus = Some MinusSign
 sign_before Not = Some NotSign
 sign_before _ = None
 
--- a sign with what was read as its operand; where there is none, the least number behind a minus
+-- a sign with what was read as its operand; where there is none, the least number after a minus
 abbrev pub signed_by : ℕ → UnaryOperator → List TokenKind → Try → Try
 signed_by d MinusSign ts o = or_least d ts (build (λ e. UnaryTree MinusSign e) o)
 signed_by d s ts o = build (λ e. UnaryTree s e) o
@@ -133,7 +133,7 @@ abbrev pub prepend : Trees → TryAll → TryAll
 prepend ts None = None
 prepend ts (Some r) = Some (joined ts r.0, r.1)
 
--- the type of an array's elements, where one stands behind the annotations
+-- the type of an array's elements, where one stands after the annotations
 abbrev pub ElementAs : Option (Box ElementType Global × Bor (List Token)) → List NameNo × List TokenKind → Type 0
 ElementAs None a = (k : TokenKind) (ts : List TokenKind) → a.1 ≡ k ∷ ts → base_of k ≡ None
 ElementAs (Some r) a = (a.0 ≡ annotation_names r.0.value.annotations.items) × ((k : TokenKind) × (a.1 ≡ k ∷ kinds r.1.now) × (base_of k ≡ Some (base_view r.0.value.base)))

@@ -96,7 +96,7 @@ pub fn read_elements_in(
     }
 }
 
-/// One expression or more, with commas between them; None where none stands behind a comma.
+/// One expression or more, with commas between them; None where none stands after a comma.
 #[cycle(parser)]
 fn read_items(
     alloc: Global,

@@ -58,7 +58,7 @@ fn place_before(tokens: &[Token], rest: &[Token]) -> u32
     (tokens.len() - rest.len()) as u32
 }
 
-/// The longest well-formed expression of nesting at most `depth` that the tokens from `at` on spell, and the place behind it; None exactly where there is none.
+/// The longest well-formed expression of nesting at most `depth` that the tokens from `at` on spell, and the place after it; None exactly where there is none.
 ///
 /// # Errors
 ///

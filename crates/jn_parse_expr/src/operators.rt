@@ -156,7 +156,7 @@ fn operand_tail(
     }
 }
 
-/// The class behind `instanceof`.
+/// The class after `instanceof`.
 fn class_tail(nested: u32, tokens: &[Token]) -> Option<(Tail, u32, &[Token])>
     requires { nested < 2 ^ 32 - 1 }
     ensures rises { IfSome result (λ r. nested < r.1) }

@@ -20,7 +20,7 @@ use jn_trees::reading::{covered, expect, identifier, next};
 use jn_trees::{Expr, Identifier, Literal, Token, TokenKind};
 use std::alloc::{AllocError, Global};
 
-/// A primary, its nesting and the tokens behind it. Where it ends in a link to a tree on its left, `before` is that tree's nesting, and `link` has the tokens from the link on.
+/// A primary, its nesting and the tokens after it. Where it ends in a link to a tree on its left, `before` is that tree's nesting, and `link` has the tokens from the link on.
 #[derive(Drop)]
 pub struct Primary<'t> {
     pub tree: Box<Expr>,
@@ -206,7 +206,7 @@ fn link_tail<'t>(
     }
 }
 
-/// The name behind a dot, and the arguments of a call.
+/// The name after a dot, and the arguments of a call.
 #[cycle(parser)]
 fn member_tail(
     alloc: Global,
@@ -232,7 +232,7 @@ fn member_tail(
     }
 }
 
-/// The index behind its opening bracket.
+/// The index after its opening bracket.
 #[cycle(parser)]
 fn index_tail(
     alloc: Global,
@@ -342,7 +342,7 @@ fn in_parens<'t>(
     }
 }
 
-/// The name behind `super` and a dot.
+/// The name after `super` and a dot.
 fn super_name(tokens: &[Token]) -> Option<(Identifier, &[Token])>
     ensures { MatchOption result
         ((name : SpecName) (rest : List Kind) → kinds tokens.now ≡ Kind.Dot ∷ Kind.Id name ∷ rest
@@ -382,7 +382,7 @@ fn read_head(
     read_word(alloc, tokens)
 }
 
-/// A call behind `super`, which stands at `start`.
+/// A call after `super`, which stands at `start`.
 #[cycle(parser)]
 fn read_super<'t>(
     alloc: Global,

@@ -126,7 +126,7 @@ pub fn attach(
     Ok(Box::new(alloc, tree)?)
 }
 
-/// The tree to the left with what goes on with it, where something does, with its nesting and the tokens behind it.
+/// The tree to the left with what goes on with it, where something does, with its nesting and the tokens after it.
 pub fn go_with<'t>(
     alloc: Global,
     start: &[Token],

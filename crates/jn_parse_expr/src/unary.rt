@@ -89,7 +89,7 @@ fn begins_operand(tokens: &[Token]) -> bool
     }
 }
 
-/// A step behind a left side.
+/// A step after a left side.
 fn step_tail<'t>(
     left: &Expr,
     nested: u32,
@@ -113,7 +113,7 @@ fn step_tail<'t>(
     }
 }
 
-/// The least number behind its minus sign, which stands at `start`.
+/// The least number after its minus sign, which stands at `start`.
 fn least_number<'t>(
     alloc: Global,
     start: &[Token],
@@ -147,7 +147,7 @@ fn least_number<'t>(
     }
 }
 
-/// An operand with a sign before it, which stands at `start`; where there is none, the least number at the tokens behind a minus.
+/// An operand with a sign before it, which stands at `start`; where there is none, the least number at the tokens after a minus.
 fn signed<'t>(
     alloc: Global,
     start: &[Token],
@@ -231,7 +231,7 @@ pub fn read_unary(
     }
 }
 
-/// The operand of a cast, behind the class in its parentheses.
+/// The operand of a cast, after the class in its parentheses.
 #[cycle(parser)]
 fn cast_tail<'t>(
     alloc: Global,

@@ -29,7 +29,7 @@ fn assign_operator(kind: TokenKind) -> Option<AssignOperator>
     }
 }
 
-/// The longest expression at the front, with its nesting and the tokens behind it.
+/// The longest expression at the front, with its nesting and the tokens after it.
 #[cycle(parser)]
 pub fn read_whole(
     alloc: Global,
@@ -99,7 +99,7 @@ fn read_conditional(
     }
 }
 
-/// The question mark and the two trees behind it.
+/// The question mark and the two trees after it.
 #[cycle(parser)]
 fn choice_tail(
     alloc: Global,

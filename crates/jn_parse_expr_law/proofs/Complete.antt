@@ -24,7 +24,7 @@ use Rattle.jn_parse_expr_law.proofs.Spines.{ReadsAt, exact_of, got_of, Shorter, 
 use Rattle.jn_parse_expr_law.proofs.Items.{CompleteReader, left_side_low, castable_begins, castable_rank, some_nesting}
 use Rattle.jn_parse_expr_law.proofs.Primaries.{link_shorter, link_stops, link_stops_at_operand, primary_spine, left_complete}
 
--- steps behind a primary
+-- steps after a primary
 step_reach : (s : Step) → reach (step_token s) ≡ 2
 step_reach Increment = refl
 step_reach Decrement = refl

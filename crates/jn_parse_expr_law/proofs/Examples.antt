@@ -62,7 +62,7 @@ shallow_sum a b c = refl
 shallow_choice : (a b c d : NameNo) → (reader 2).whole (Id a ∷ Question ∷ Id b ∷ Assign ∷ Id c ∷ Colon ∷ Id d ∷ []) ≡ Some (NameTree a, Question ∷ Id b ∷ Assign ∷ Id c ∷ Colon ∷ Id d ∷ [])
 shallow_choice a b c d = refl
 
--- a conditional has no assignment behind its colon
+-- a conditional has no assignment after its colon
 no_assignment : (a b c d : NameNo) → (reader 9).whole (Id a ∷ Question ∷ Id b ∷ Colon ∷ Id c ∷ Assign ∷ Id d ∷ []) ≡ Some (ConditionalTree (NameTree a) (NameTree b) (NameTree c), Assign ∷ Id d ∷ [])
 no_assignment a b c d = refl
 

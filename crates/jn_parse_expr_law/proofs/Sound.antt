@@ -67,7 +67,7 @@ lift_sound : (i j d : ℕ) (ts : List TokenKind) (o : Try) → i ≤ j → Sound
 lift_sound i j d ts None le s = tt
 lift_sound i j d ts (Some r) le s = weaker i j d ts r le s
 
--- lists, behind a comma and before what closes them
+-- lists, after a comma and before what closes them
 abbrev pub SoundItems : ℕ → List TokenKind → TryAll → Type 0
 SoundItems d ts None = Unit {0}
 SoundItems d ts (Some r) = ((end : TokenKind) (rest : List TokenKind) → r.1 ≡ end ∷ rest → Comma ∷ ts ≡ spell_more end r.0 ++ rest) × AllGood r.0 × (nesting_all r.0 ≤ d)
@@ -294,7 +294,7 @@ link_sound R d h p (_ ∷ ts) g k m = tt
 pub primary_sound : (R : Reader) (d : ℕ) → SoundReader R d → (ts : List TokenKind) → Sound 1 (suc d) ts (primary R (suc d) ts)
 primary_sound R d h ts = sound_go_on 1 (suc d) (link R (suc d)) (link_sound R d h) (suc d) ts (head R ts) (head_sound R d h ts)
 
--- steps behind
+-- steps after
 abbrev pub IsStep : TokenKind → Option Step → Type 0
 IsStep k None = Unit {0}
 IsStep k (Some s) = k ≡ step_token s

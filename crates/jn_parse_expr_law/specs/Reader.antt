@@ -17,11 +17,11 @@ use Rattle.jn_trees.specs.WellFormed.{nesting, power, is_left_side, is_indexable
 use Rattle.jn_trees.specs.Longest.{Try}
 use Rattle.jn_parse_expr_law.specs.Follow.{reach_of}
 
--- a tree and the tokens behind it
+-- a tree and the tokens after it
 abbrev pub Got : Type 0
 Got = Tree × List TokenKind
 
--- a list of trees and the tokens behind it, or none
+-- a list of trees and the tokens after it, or none
 abbrev pub TryAll : Type 0
 TryAll = Option (Trees × List TokenKind)
 
@@ -58,27 +58,27 @@ abbrev pub go_on : (Tree → List TokenKind → Try) → ℕ → Try → Try
 go_on step n None = None
 go_on step n (Some r) = Some (iterate step n r)
 
--- what is read behind what was read
+-- what is read after what was read
 abbrev pub bind : Try → (Tree → List TokenKind → Try) → Try
 bind None f = None
 bind (Some r) f = f r.0 r.1
 
--- what is read of a list behind its first tree
+-- what is read of a list after its first tree
 abbrev pub bind_all : Try → (Tree → List TokenKind → TryAll) → TryAll
 bind_all None f = None
 bind_all (Some r) f = f r.0 r.1
 
--- what closes a list behind its trees
+-- what closes a list after its trees
 abbrev pub bind_items : TryAll → (Trees → List TokenKind → TryAll) → TryAll
 bind_items None f = None
 bind_items (Some r) f = f r.0 r.1
 
--- `)` behind an expression in parentheses (JLS 15.8.5)
+-- `)` after an expression in parentheses (JLS 15.8.5)
 abbrev pub close_paren : Tree → List TokenKind → Try
 close_paren t (RightParen ∷ ts) = Some (ParenTree t, ts)
 close_paren t _ = None
 
--- `]` behind an index (JLS 15.10.3)
+-- `]` after an index (JLS 15.10.3)
 abbrev pub close_index : Tree → Tree → List TokenKind → Try
 close_index p t (RightBracket ∷ ts) = Some (IndexTree p t, ts)
 close_index p t _ = None
@@ -101,12 +101,12 @@ items_from one (suc n) ts = bind_all (one ts) (items_behind (items_from one n))
 unfoldable pub all_items : (List TokenKind → Try) → List TokenKind → TryAll
 all_items one ts = items_from one (suc (length ts)) ts
 
--- `)` behind arguments
+-- `)` after arguments
 abbrev pub close_arguments : Trees → List TokenKind → TryAll
 close_arguments es (RightParen ∷ ts) = Some (es, ts)
 close_arguments es _ = None
 
--- `}` behind elements
+-- `}` after elements
 abbrev pub close_elements : Trees → List TokenKind → TryAll
 close_elements es (RightBrace ∷ ts) = Some (es, ts)
 close_elements es _ = None
@@ -138,7 +138,7 @@ base_of Int = Some IntBase
 base_of Boolean = Some BooleanBase
 base_of _ = None
 
--- `]` behind the size of a new array (JLS 15.10.1)
+-- `]` after the size of a new array (JLS 15.10.1)
 abbrev pub close_array : List NameNo → BaseTree → Tree → List TokenKind → Try
 close_array names b t (RightBracket ∷ ts) = Some (NewArrayTree names b t, ts)
 close_array names b t _ = None
@@ -153,7 +153,7 @@ abbrev pub array_inside : Reader → List NameNo → BaseTree → List TokenKind
 array_inside R names b (RightBracket ∷ ts) = array_elements R names b ts
 array_inside R names b ts = bind (R.whole ts) (close_array names b)
 
--- what stands behind the base of a new array
+-- what stands after the base of a new array
 abbrev pub array_behind : Reader → List NameNo → BaseTree → List TokenKind → Try
 array_behind R names b (LeftBracket ∷ ts) = array_inside R names b ts
 array_behind R names b _ = None
@@ -172,7 +172,7 @@ array_from R names (k ∷ ts) = array_of R names (base_of k) ts
 abbrev pub add_annotation : NameNo → List NameNo × List TokenKind → List NameNo × List TokenKind
 add_annotation n r = (n ∷ r.0, r.1)
 
--- the annotations at the front, and what is behind them
+-- the annotations at the front, and what is after them
 abbrev pub annotations : List TokenKind → List NameNo × List TokenKind
 annotations (At ∷ Id n ∷ ts) = add_annotation n (annotations ts)
 annotations ts = ([], ts)
@@ -182,7 +182,7 @@ abbrev pub creation_of : Reader → NameNo → List TokenKind → Try
 creation_of R n (LeftParen ∷ ts) = build_all (λ es. NewTree n es) (arguments_in R.whole ts)
 creation_of R n ts = array_behind R [] (ClassBase n) ts
 
--- what stands behind `new`
+-- what stands after `new`
 abbrev pub creation : Reader → List TokenKind → Try
 creation R (Id n ∷ ts) = creation_of R n ts
 creation R ts = array_from R (annotations ts).0 (annotations ts).1
@@ -191,7 +191,7 @@ creation R ts = array_from R (annotations ts).0 (annotations ts).1
 abbrev pub number_at : ℕ → List TokenKind → Try
 number_at n ts = cond (nat_lt n 2147483648) (Some (LiteralTree (NumberLiteral n), ts)) None
 
--- what stands behind `super`
+-- what stands after `super`
 abbrev pub super_call : Reader → List TokenKind → Try
 super_call R (Dot ∷ Id n ∷ ts) = build_all (λ es. SuperCallTree n es) (arguments R.whole ts)
 super_call R _ = None
@@ -210,12 +210,12 @@ head R (New ∷ ts) = creation R ts
 head R (LeftParen ∷ ts) = bind (R.whole ts) close_paren
 head R _ = None
 
--- a field or a call behind a dot (JLS 15.11, 15.12)
+-- a field or a call after a dot (JLS 15.11, 15.12)
 abbrev pub member : Reader → Tree → List TokenKind → Try
 member R p (Id n ∷ ts) = Some (called (FieldTree p n) (λ es. CallTree p n es) ts (arguments R.whole ts))
 member R p _ = None
 
--- one member or index behind a primary; no index behind a new array
+-- one member or index after a primary; no index after a new array
 abbrev pub link : Reader → ℕ → Tree → List TokenKind → Try
 link R d p (Dot ∷ ts) = cond (nat_lt (nesting p) d) (member R p ts) None
 link R d p (LeftBracket ∷ ts) = cond (is_indexable p) (cond (nat_lt (nesting p) d) (bind (R.whole ts) (close_index p)) None) None
@@ -249,7 +249,7 @@ abbrev pub after_by : ℕ → Tree → Option Step → List TokenKind → Try
 after_by d p None ts = None
 after_by d p (Some s) ts = cond (is_left_side p) (cond (nat_lt (nesting p) d) (Some (PostfixTree p s, ts)) None) None
 
--- a step behind a left side
+-- a step after a left side
 abbrev pub after : ℕ → Tree → List TokenKind → Try
 after d p [] = None
 after d p (k ∷ ts) = after_by d p (step_of k) ts
@@ -282,7 +282,7 @@ prefix R d (PlusPlus ∷ ts) = build (λ p. PrefixTree Increment p) (R.left ts)
 prefix R d (MinusMinus ∷ ts) = build (λ p. PrefixTree Decrement p) (R.left ts)
 prefix R d _ = None
 
--- a primary, what stands behind it, and what it casts; else a sign or a step
+-- a primary, what stands after it, and what it casts; else a sign or a step
 abbrev pub unary : Reader → ℕ → List TokenKind → Try
 unary R d ts = elim (primary R d ts) [ None ↦ prefix R d ts | Some r ↦ extend (cast R) (extend (after d) (Some r)) ]
 
@@ -310,7 +310,7 @@ sign OrOr = OperatorSign Or
 sign Instanceof = TestSign
 sign _ = NoSign
 
--- the class behind `instanceof` (JLS 15.20.2)
+-- the class after `instanceof` (JLS 15.20.2)
 abbrev pub test : Tree → List TokenKind → Try
 test l (Id n ∷ ts) = Some (InstanceOfTree l n, ts)
 test l _ = None
@@ -336,7 +336,7 @@ abbrev pub choose_end : Reader → Tree → Tree → List TokenKind → Try
 choose_end R c a (Colon ∷ ts) = build (λ b. ConditionalTree c a b) (R.conditional ts)
 choose_end R c a _ = None
 
--- the branches of a conditional behind its condition (JLS 15.25)
+-- the branches of a conditional after its condition (JLS 15.25)
 abbrev pub choose : Reader → ℕ → Tree → List TokenKind → Try
 choose R d c (Question ∷ ts) = cond (nat_lt (nesting c) d) (bind (R.whole ts) (choose_end R c)) None
 choose R d c _ = None

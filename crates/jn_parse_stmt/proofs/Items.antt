@@ -55,7 +55,7 @@ fails_by one before left all (suc n) g e = g ∙ ap (λ p. ahead_of before (bind
 pub listing_fails : (one : List TokenKind → Try) (before : Trees) (left : List TokenKind) (all : TryAll) → Listing one before left all → one left ≡ None → all ≡ None
 listing_fails one before left all g e = fails_by one before left all g.n g.gives e
 
--- one item, and what is behind it
+-- one item, and what is after it
 behind_by : (one : List TokenKind → Try) (before : Trees) (left : List TokenKind) (all : TryAll) (n : ℕ) (t : Tree) (rest : List TokenKind) → length left < n → all ≡ ahead_of before (items_from one n left) → one left ≡ Some (t, rest)
     → (m : ℕ) × (length left < suc m) × (all ≡ ahead_of before (items_behind (items_from one m) t rest))
 behind_by one before left all zero t rest lt g e = absurd (omega (arith, lt))

@@ -18,12 +18,12 @@ body_of (While c) s = WhileStatement (view c.value) s
 body_of (For h) s = ForStatement (init_view h.value.init) (optional_view h.value.condition) (views h.value.update.items) s
 body_of (ForEach v a) s = ForEachStatement (local_marks v.value.modifiers.items) (type_use_view v.value.type_use) v.value.name.name (view a.value) s
 
--- the loop whose head was read, with the body behind it
+-- the loop whose head was read, with the body after it
 abbrev pub with_body : (List TokenKind → TryStatement) → Option (Head × Bor (List Token)) → TryStatement
 with_body one None = None
 with_body one (Some r) = around (body_of r.0) (one (kinds r.1.now))
 
--- the `if` with what was read behind `else`, or alone
+-- the `if` with what was read after `else`, or alone
 abbrev pub if_ended : Tree → Statement → List TokenKind → TryStatement → TryStatement
 if_ended e s ts None = Some (IfStatement e s, ts)
 if_ended e s ts (Some r) = Some (IfElseStatement e s r.0, r.1)

@@ -15,7 +15,7 @@ use Rattle.jn_trees.specs.Pieces.{kinds}
 use Rattle.jn_parse_expr_law.specs.Reader.{base_of}
 use Rattle.jn_parse_stmt_law.specs.Parts.{Behind, Read}
 
--- what was read and the tokens behind it, or none
+-- what was read and the tokens after it, or none
 abbrev pub seen_as : {A B : Type 0} → (A → B) → Option (A × Bor (List Token)) → Read B
 seen_as v None = None
 seen_as v (Some r) = Some (v r.0, kinds r.1.now)

@@ -57,7 +57,7 @@ pub fn loop_of(
     boxed(alloc, loop_statement)
 }
 
-/// `while (c)` behind its word.
+/// `while (c)` after its word.
 #[inline(never)]
 pub fn while_head(
     alloc: Global,
@@ -73,7 +73,7 @@ pub fn while_head(
     }
 }
 
-/// The head of either `for` behind its word.
+/// The head of either `for` after its word.
 #[inline(never)]
 pub fn for_head(
     alloc: Global,
@@ -92,7 +92,7 @@ pub fn for_head(
     }
 }
 
-/// `for (i; c; u)` behind the opening parenthesis, where it begins with no declaration.
+/// `for (i; c; u)` after the opening parenthesis, where it begins with no declaration.
 fn for_effects(
     alloc: Global,
     tokens: &[Token],
@@ -109,7 +109,7 @@ fn for_effects(
     }
 }
 
-/// The head of a `for` behind modifiers, a type and a name.
+/// The head of a `for` after modifiers, a type and a name.
 fn for_named(
     alloc: Global,
     front: Parameter,
@@ -126,7 +126,7 @@ fn for_named(
     }
 }
 
-/// `for (T x : a)` behind the colon.
+/// `for (T x : a)` after the colon.
 fn for_each(
     alloc: Global,
     front: Parameter,
@@ -146,7 +146,7 @@ fn for_each(
     }
 }
 
-/// `for (i; c; u)` behind the front of the declaration that it begins with.
+/// `for (i; c; u)` after the front of the declaration that it begins with.
 fn for_local(
     alloc: Global,
     front: Parameter,
@@ -168,7 +168,7 @@ fn for_local(
     }
 }
 
-/// `for (i; c; u)` behind the first semicolon.
+/// `for (i; c; u)` after the first semicolon.
 fn for_rest(
     alloc: Global,
     init: ForInit,

@@ -72,7 +72,7 @@ fn if_else_of(
     )
 }
 
-/// Puts what is in the box behind the others.
+/// Puts what is in the box after the others.
 #[inline(never)]
 fn put_boxed(statements: &mut Vec<Stmt>, next: Box<Stmt>) -> Result<(), OutOfMemory>
     ensures { OnOk result (statements.new.items ≡ statements.old.items ++ next.value ∷ []) }
@@ -133,7 +133,7 @@ fn empty_statement(
     Ok(Some((boxed(alloc, Stmt::Empty { span })?, rest)))
 }
 
-/// `{ .. }` behind its opening brace.
+/// `{ .. }` after its opening brace.
 #[cycle(statements)]
 fn block<'t>(
     alloc: Global,
@@ -183,7 +183,7 @@ fn body(
     }
 }
 
-/// `if (c) s`, with or without `else`, behind its word.
+/// `if (c) s`, with or without `else`, after its word.
 #[cycle(statements)]
 fn if_statement<'t>(
     alloc: Global,
@@ -232,7 +232,7 @@ fn if_end<'t>(
     }
 }
 
-/// The statement behind an `else` that comes first, unless an `if` inside the part before it takes it.
+/// The statement after an `else` that comes first, unless an `if` inside the part before it takes it.
 #[cycle(statements)]
 fn else_part<'t>(
     alloc: Global,
@@ -257,7 +257,7 @@ fn else_part<'t>(
     }
 }
 
-/// `while (c) s` behind its word.
+/// `while (c) s` after its word.
 #[cycle(statements)]
 fn while_statement<'t>(
     alloc: Global,
@@ -275,7 +275,7 @@ fn while_statement<'t>(
     }
 }
 
-/// Either `for`, behind its word.
+/// Either `for`, after its word.
 #[cycle(statements)]
 fn for_statement<'t>(
     alloc: Global,
@@ -293,7 +293,7 @@ fn for_statement<'t>(
     }
 }
 
-/// The loop with this head, behind which its body stands.
+/// The loop with this head, after which its body stands.
 #[cycle(statements)]
 fn loop_statement<'t>(
     alloc: Global,
@@ -315,7 +315,7 @@ fn loop_statement<'t>(
     }
 }
 
-/// `do s while (c);` behind its word.
+/// `do s while (c);` after its word.
 #[cycle(statements)]
 fn do_statement<'t>(
     alloc: Global,
@@ -333,7 +333,7 @@ fn do_statement<'t>(
     }
 }
 
-/// `while (c);` behind the body of a `do`.
+/// `while (c);` after the body of a `do`.
 #[inline(never)]
 fn do_end<'t>(
     alloc: Global,

@@ -203,7 +203,7 @@ fn parameter_of(
     }
 }
 
-/// The value behind `=`, and what follows it; none where no `=` comes first or no value can be read, and then the tokens as they are.
+/// The value after `=`, and what follows it; none where no `=` comes first or no value can be read, and then the tokens as they are.
 fn value(
     alloc: Global,
     tokens: &[Token],
@@ -238,7 +238,7 @@ fn declarator_of(
     Ok((Declarator { name, value }, rest))
 }
 
-/// The name behind a comma, where both come first, and what follows it.
+/// The name after a comma, where both come first, and what follows it.
 fn next_name(tokens: &[Token]) -> Option<(Identifier, &[Token])>
     ensures { MatchOption result
         ((name : SpecName) (rest : List Kind) → kinds tokens.now ≡ Kind.Comma ∷ Kind.Id name ∷ rest

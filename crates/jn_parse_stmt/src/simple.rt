@@ -17,7 +17,7 @@ use jn_trees::reading::{covered, expect};
 use jn_trees::{Context, Expr, LocalDeclaration, Parameter, Stmt, Token, TokenKind};
 use std::alloc::Global;
 
-/// `break;` behind its word, where a loop stands around.
+/// `break;` after its word, where a loop stands around.
 #[inline(never)]
 pub fn break_statement<'t>(
     alloc: Global,
@@ -40,7 +40,7 @@ pub fn break_statement<'t>(
     }
 }
 
-/// `continue;` behind its word, where a loop stands around.
+/// `continue;` after its word, where a loop stands around.
 #[inline(never)]
 pub fn continue_statement<'t>(
     alloc: Global,
@@ -63,7 +63,7 @@ pub fn continue_statement<'t>(
     }
 }
 
-/// `return e;` behind its word.
+/// `return e;` after its word.
 #[inline(never)]
 pub fn return_statement<'t>(
     alloc: Global,
@@ -83,7 +83,7 @@ pub fn return_statement<'t>(
     }
 }
 
-/// `this(..);` behind its opening parenthesis, where it leads.
+/// `this(..);` after its opening parenthesis, where it leads.
 #[inline(never)]
 pub fn this_call<'t>(
     alloc: Global,
@@ -111,7 +111,7 @@ pub fn this_call<'t>(
     }
 }
 
-/// `super(..);` behind its opening parenthesis, where it leads.
+/// `super(..);` after its opening parenthesis, where it leads.
 #[inline(never)]
 pub fn super_call<'t>(
     alloc: Global,

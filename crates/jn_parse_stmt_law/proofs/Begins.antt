@@ -20,7 +20,7 @@ use Rattle.jn_parse_expr_law.specs.Reader.{bind_items, all_items, close_argument
 use Rattle.jn_parse_stmt_law.specs.Parts.{then_read, ended, read_parameter, read_initial, read_optional}
 use Rattle.jn_parse_stmt_law.specs.StatementReader.{simple, statement_at}
 
--- behind a class, a type use or a declarator goes on here
+-- after a class, a type use or a declarator goes on here
 abbrev pub declares : List TokenKind → Bool
 declares (Id n ∷ ts) = true
 declares (At ∷ ts) = true
@@ -85,7 +85,7 @@ quiet_assign MultiplyBy ts = (refl, refl)
 quiet_assign DivideBy ts = (refl, refl)
 quiet_assign RemainderBy ts = (refl, refl)
 
--- a tree that the form begins with, and what stands behind it
+-- a tree that the form begins with, and what stands after it
 along : (p : Tree) (tail rest : List TokenKind) → begins (spell p ++ (tail ++ rest)) ≡ true → begins ((spell p ++ tail) ++ rest) ≡ true
 along p tail rest e = ap begins (append_assoc (spell p) tail rest) ∙ e
 

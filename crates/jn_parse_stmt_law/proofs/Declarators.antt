@@ -34,7 +34,7 @@ value_exact : (d : ℕ) (whole : List TokenKind → Try) → Whole d whole → (
 value_exact d whole w None rest g m far = no_value whole rest far
 value_exact d whole w (Some e) rest g m far = ap (λ o. value_or (Assign ∷ (spell e ++ rest)) o) (exact_tree d whole w e rest g m far)
 
--- declarators behind a comma each
+-- declarators after a comma each
 abbrev SoundMore : ℕ → List TokenKind → Behind (List DeclaratorTree) → Type 0
 SoundMore d ts r = Spelled spell_more_declarators ts r × GoodDeclarators r.0 × (nesting_declarators r.0 ≤ d)
 
@@ -95,7 +95,7 @@ pub declarators_sound : (d : ℕ) (whole : List TokenKind → Try) → Whole d w
 declarators_sound d whole w (Id n ∷ ts) = declarators_behind_sound d whole w n ts
 declarators_sound d whole w _ = tt
 
--- from what stands behind the first name
+-- from what stands after the first name
 pub declarators_behind_exact : (d : ℕ) (whole : List TokenKind → Try) → Whole d whole → (x : DeclaratorTree) (ds : List DeclaratorTree) (rest : List TokenKind) → GoodDeclarators (x ∷ ds) → nesting_declarators (x ∷ ds) ≤ d → EndsDeclarators rest
     → declarators_behind whole x.name (spell_value x.value ++ (spell_more_declarators ds ++ rest)) ≡ ((x, ds), rest)
 declarators_behind_exact d whole w x ds rest g m ends =
@@ -108,7 +108,7 @@ pub declarators_exact : (d : ℕ) (whole : List TokenKind → Try) → Whole d w
 declarators_exact d whole w x ds rest g m ends =
     ap (λ y. Some (declarators_behind whole x.name y)) (append_assoc (spell_value x.value) (spell_more_declarators ds) rest) ∙ ap (λ r. Some r) (declarators_behind_exact d whole w x ds rest g m ends)
 
--- what is read behind a parameter: its name is that of the first declarator
+-- what is read after a parameter: its name is that of the first declarator
 pub local_behind_sound : (d : ℕ) (whole : List TokenKind → Try) → Whole d whole → (us : List TokenKind) (p : ParameterTree) (ts : List TokenKind) → SoundParameter us (Some (p, ts)) → SoundLocal d us (Some (local_behind whole p ts))
 local_behind_sound d whole w us p ts h =
     let k = declarators_behind_sound d whole w p.name ts in
@@ -134,7 +134,7 @@ local_sound d whole w ts = local_then d whole w ts (read_parameter ts) (paramete
 abbrev pub first_of : LocalTree → ParameterTree
 first_of l = record { marks = l.marks; type_use = l.type_use; name = l.first.name }
 
--- what stands behind that
+-- what stands after that
 abbrev pub spell_behind : LocalTree → List TokenKind → List TokenKind
 spell_behind l rest = spell_value l.first.value ++ (spell_more_declarators l.more ++ rest)
 

@@ -55,7 +55,7 @@ marks_stand [] b tail rest = base_stands b (tail ++ rest)
 marks_stand (AnnotationMark n ∷ marks) b tail rest = refl
 marks_stand (FinalMark ∷ marks) b tail rest = refl
 
--- what stands behind the base of a declaration's type
+-- what stands after the base of a declaration's type
 abbrev behind_base : LocalTree → List TokenKind
 behind_base l = spell_brackets l.type_use.array ++ (spell_declarator l.first ++ spell_more_declarators l.more)
 

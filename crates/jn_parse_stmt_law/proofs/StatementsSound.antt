@@ -186,7 +186,7 @@ module _ (d : ℕ) (whole : List TokenKind → Try) (w : Whole d whole) where
     do_sound : (c : Context) (ts : List TokenKind) → SoundStatement c (suc d) (Do ∷ ts) (do_statement whole (one loop_body) ts)
     do_sound c ts = then_all (Fronts loop_body d ts) (Fronts c (suc d) (Do ∷ ts)) (one loop_body ts) (do_end whole) (sound loop_body ts) (do_end_sound c ts)
 
-    -- behind the colon
+    -- after the colon
     for_each_sound : (c : Context) (us : List TokenKind) (p : ParameterTree) (ts : List TokenKind) → SoundParameter us (Some (p, Colon ∷ ts)) → SoundStatement c (suc d) (For ∷ LeftParen ∷ us) (for_each whole (one loop_body) p ts)
     for_each_sound c us p ts h =
         let Q = Fronts c (suc d) (For ∷ LeftParen ∷ us) in
@@ -197,7 +197,7 @@ module _ (d : ℕ) (whole : List TokenKind → Try) (w : Whole d whole) where
         regroup : (a b : List TokenKind) (n : TokenKind) (e s v : List TokenKind) → (a ++ (b ++ n ∷ Colon ∷ (e ++ RightParen ∷ s))) ++ v ≡ (a ++ (b ++ n ∷ [])) ++ Colon ∷ (e ++ RightParen ∷ (s ++ v))
         regroup a b n e s v = simp (append_assoc) refl
 
-    -- behind the first semicolon
+    -- after the first semicolon
     for_rest_sound : (c : Context) (us : List TokenKind) (i : InitTree) (ts : List TokenKind) → us ≡ spell_init i ++ ts → GoodInit i → nesting_init i ≤ d → SoundStatement c (suc d) (For ∷ LeftParen ∷ us) (for_rest whole (one loop_body) i ts)
     for_rest_sound c us i ts h g m =
         let Q = Fronts c (suc d) (For ∷ LeftParen ∷ us) in

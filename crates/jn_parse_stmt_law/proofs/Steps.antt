@@ -54,7 +54,7 @@ module _ (d : ℕ) (whole : List TokenKind → Try) (w : Whole d whole) where
   behind_same f g t (Comma ∷ ts) h = ap (λ o. add_first t o) (h ts (omega arith))
   behind_same f g t _ h = refl
 
-  -- what stands behind the first expression is less than all
+  -- what stands after the first expression is less than all
   then_same : (f g : List TokenKind → TryAll) (ts : List TokenKind) (o : Try) → NoMore ts o → ((us : List TokenKind) → length us < length ts → f us ≡ g us) → bind_all o (items_behind f) ≡ bind_all o (items_behind g)
   then_same f g ts None k h = refl
   then_same f g ts (Some r) k h = behind_same f g r.0 r.1 (λ us lt. h us (omega (arith, lt, k)))

@@ -8,7 +8,7 @@ use Rattle.jn_trees.specs.WellFormed.{is_effect, final_once}
 use Rattle.jn_trees.specs.Longest.{Try}
 use Rattle.jn_parse_expr_law.specs.Reader.{annotations, base_of, all_items}
 
--- what is read, and the tokens behind it
+-- what is read, and the tokens after it
 abbrev pub Behind : Type 0 → Type 0
 Behind A = A × List TokenKind
 
@@ -44,7 +44,7 @@ read_marks (At ∷ Id n ∷ ts) = put (AnnotationMark n) (read_marks ts)
 read_marks (Final ∷ ts) = put FinalMark (read_marks ts)
 read_marks ts = ([], ts)
 
--- both brackets behind these annotations; where they don't stand there, what stood before the annotations follows
+-- both brackets after these annotations; where they don't stand there, what stood before the annotations follows
 abbrev pub brackets_or : List TokenKind → List NameNo → List TokenKind → Behind (Option (List NameNo))
 brackets_or us names (LeftBracket ∷ RightBracket ∷ ts) = (Some names, ts)
 brackets_or us names _ = (None, us)
@@ -76,7 +76,7 @@ parameter_from ms ts = cond (final_once ms) (then_read (read_type_use ts) (named
 abbrev pub read_parameter : List TokenKind → Read ParameterTree
 read_parameter ts = parameter_from (read_marks ts).0 (read_marks ts).1
 
--- the value behind `=`; where none can be read, `=` follows
+-- the value after `=`; where none can be read, `=` follows
 abbrev pub value_or : List TokenKind → Try → Behind (Option Tree)
 value_or us None = (None, us)
 value_or us (Some r) = (Some r.0, r.1)
@@ -88,7 +88,7 @@ read_value whole ts = (None, ts)
 abbrev pub declarator : NameNo → Behind (Option Tree) → Behind DeclaratorTree
 declarator n v = (record { name = n; value = v.0 }, v.1)
 
--- a declarator from what stands behind its name
+-- a declarator from what stands after its name
 abbrev pub declarator_behind : (List TokenKind → Try) → NameNo → List TokenKind → Behind DeclaratorTree
 declarator_behind whole n ts = declarator n (read_value whole ts)
 
@@ -108,7 +108,7 @@ all_declarators whole ts = more_declarators whole (length ts) ts
 abbrev pub first_and_more : Behind DeclaratorTree → (List TokenKind → Behind (List DeclaratorTree)) → Behind (DeclaratorTree × List DeclaratorTree)
 first_and_more r f = ((r.0, (f r.1).0), (f r.1).1)
 
--- declarators from what stands behind the first name
+-- declarators from what stands after the first name
 abbrev pub declarators_behind : (List TokenKind → Try) → NameNo → List TokenKind → Behind (DeclaratorTree × List DeclaratorTree)
 declarators_behind whole n ts = first_and_more (declarator_behind whole n ts) (all_declarators whole)
 
@@ -120,7 +120,7 @@ read_declarators whole _ = None
 abbrev pub local_of : ParameterTree → Behind (DeclaratorTree × List DeclaratorTree) → Behind LocalTree
 local_of p r = (record { marks = p.marks; type_use = p.type_use; first = r.0.0; more = r.0.1 }, r.1)
 
--- a declaration of locals from what stands behind its first name
+-- a declaration of locals from what stands after its first name
 abbrev pub local_behind : (List TokenKind → Try) → ParameterTree → List TokenKind → Behind LocalTree
 local_behind whole p ts = local_of p (declarators_behind whole p.name ts)
 

@@ -40,11 +40,11 @@ loop_word in_loop s ts = cond in_loop (ended s ts) None
 abbrev pub return_statement : (List TokenKind → Try) → List TokenKind → TryStatement
 return_statement whole ts = then_read (read_optional whole ts) (λ e us. Some (ReturnStatement e, us))
 
--- a call of a constructor, behind its opening parenthesis
+-- a call of a constructor, after its opening parenthesis
 abbrev pub constructor_call : (List TokenKind → Try) → Bool → (Trees → Statement) → List TokenKind → TryStatement
 constructor_call whole leading f ts = cond leading (then_read (arguments_in whole ts) (λ es us. ended (f es) us)) None
 
--- the `if` alone, with `else` left over, where no statement is behind `else`
+-- the `if` alone, with `else` left over, where no statement is after `else`
 abbrev pub with_else : Tree → Statement → List TokenKind → TryStatement → TryStatement
 with_else e s ts None = Some (IfStatement e s, Else ∷ ts)
 with_else e s ts (Some r) = Some (IfElseStatement e s r.0, r.1)
@@ -66,11 +66,11 @@ do_end whole s _ = None
 abbrev pub do_statement : (List TokenKind → Try) → (List TokenKind → TryStatement) → List TokenKind → TryStatement
 do_statement whole one ts = then_read (one ts) (do_end whole)
 
--- a for-each behind its colon
+-- a for-each after its colon
 abbrev pub for_each : (List TokenKind → Try) → (List TokenKind → TryStatement) → ParameterTree → List TokenKind → TryStatement
 for_each whole one p ts = then_read (then_read (whole ts) closed) (λ e us. around (ForEachStatement p.marks p.type_use p.name e) (one us))
 
--- a `for` behind its first semicolon
+-- a `for` after its first semicolon
 abbrev pub for_rest : (List TokenKind → Try) → (List TokenKind → TryStatement) → InitTree → List TokenKind → TryStatement
 for_rest whole one i ts =
     then_read (read_optional whole ts) (λ c us. then_read (then_read (arguments_in whole us) if_effects) (λ es vs. around (ForStatement i c es) (one vs)))
@@ -78,7 +78,7 @@ for_rest whole one i ts =
 abbrev pub for_local : (List TokenKind → Try) → (List TokenKind → TryStatement) → Behind LocalTree → TryStatement
 for_local whole one l = then_read (ended (DeclarationInit l.0) l.1) (for_rest whole one)
 
--- a `for` behind marks, a type use and a name
+-- a `for` after marks, a type use and a name
 abbrev pub for_named : (List TokenKind → Try) → (List TokenKind → TryStatement) → ParameterTree → List TokenKind → TryStatement
 for_named whole one p (Colon ∷ ts) = for_each whole one p ts
 for_named whole one p ts = for_local whole one (local_behind whole p ts)

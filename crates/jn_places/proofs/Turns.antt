@@ -1,4 +1,4 @@
--- Members at the front and those at the back whose places are set one behind the other.
+-- Members at the front and those at the back whose places are set one after the other.
 use Rattle.std.proofs.Common.{◌≡◌, ◌≤◌, ℕ, List, [], ◌∷◌, ◌++◌, length, drop, map, refl, sym, ap, ◌∙◌, append_assoc, subst, arith, zero, suc}
 use Rattle.std.proofs.lemmas.List.{map-append}
 use Rattle.std.specs.List.{flat_map}

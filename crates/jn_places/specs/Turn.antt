@@ -1,4 +1,4 @@
--- Members whose places were set one behind the other.
+-- Members whose places were set one after the other.
 use Rattle.std.specs.Prelude.{◌≡◌, List}
 use Rattle.std.specs.List.{flat_map}
 use Rattle.jn_trees.specs.declared.token.Token.{Token}

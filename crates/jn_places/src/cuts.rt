@@ -9,7 +9,7 @@ use jn_trees::{Member, Token};
 /// thousand tokens are set.
 const FEWEST: usize = 4096;
 
-/// A cut of members into those before it and those behind it.
+/// A cut of members into those before it and those after it.
 #[derive(Drop)]
 pub struct Cut {
     /// How many members stand before it.
@@ -41,7 +41,7 @@ fn members_before(members: &[Member], place: u32) -> usize
     members.partition_point(|member| span_of(member).from < place)
 }
 
-/// Where the last of as many shares as there are workers begins, at a member: behind the token at which it would be as large
+/// Where the last of as many shares as there are workers begins, at a member: after the token at which it would be as large
 /// as the others, or where the last member begins. None where shares would be too small.
 pub fn last_share(tokens: &[Token], members: &[Member], more: u32) -> Option<Cut>
     ensures { IfSome result

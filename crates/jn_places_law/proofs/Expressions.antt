@@ -36,7 +36,7 @@ a_place f p t = record { fragment = f; spot = p; behind = t }
 abbrev the_value : Lowered → Value
 the_value l = l.value
 
--- one operand, then what comes behind it
+-- one operand, then what comes after it
 sequel : (A B : Value) (x y : Temporaries → Operands) → bare_value A ≡ B → ((t : Temporaries) → bare_row (x t) ≡ y t) → bare_row (with_operand A (x A.behind)) ≡ with_operand B (y B.behind)
 sequel A B x y h k = with_bare A (x A.behind) ∙ ap (with_operand (bare_value A)) (k A.behind) ∙ ap (λ (v : Value). with_operand v (y v.behind)) h
 

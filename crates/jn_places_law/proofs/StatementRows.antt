@@ -261,7 +261,7 @@ module _ (P Q : Program) (h : Alike P Q) (c first : ℕ) (w : Setting) where
       (when_same (not (is_array (type_of P c st.scope (place ts e)))) (not (is_array (type_of Q c r.scope (place us e)))) (row J2 (inner_span (place ts e))) (row J2 (inner_span (place us e)))
       (ap (λ t. not (is_array t)) (type_alike P Q c first h st.scope r.scope (place ts e) (place us e) (ap (λ (x : State). x.scope) k.0) (placed ts us e))) refl))
 
-  -- the temporaries behind the element, by those behind the array
+  -- the temporaries after the element, by those after the array
   abbrev element_behind : Temporaries → BaseType → Temporaries
   element_behind t ty = (take_one (take_one (take_one (take_one t Int).behind Int).behind BoolBase).behind (elem_base ty)).behind
 

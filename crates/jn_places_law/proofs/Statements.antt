@@ -59,7 +59,7 @@ temps_alike st r t u k h = ap (λ a. with_temporaries a t) k ∙ ap (with_tempor
 value_step : (st r : State) (v w : Value) → bare_state st ≡ bare_state r → bare_value v ≡ bare_value w → bare_step (with_value st v) ≡ bare_step (with_value r w)
 value_step st r v w k h = ap (λ a. with_value a (bare_value v)) k ∙ ap (with_value (bare_state r)) h
 
--- the point behind a value
+-- the point after a value
 abbrev pub ends : (Operand → PointKind) → State → Span → Value → Step
 ends kind st span v = step (with_temporaries st v.behind) (then v.fragment (does span (kind v.operand)))
 

@@ -81,7 +81,7 @@ pub fn alike_expressions_have_the_same_rows()
         → codes_of (rows_of P c at s (place ts e)) ≡ codes_of (rows_of Q c at r (place us e)) }
 {}
 
-/// So has a statement wherever it stands, in states that differ in places alone, and so are the states behind it.
+/// So has a statement wherever it stands, in states that differ in places alone, and so are the states after it.
 pub fn alike_statements_have_the_same_rows()
     ensures rows { (P Q : Program) (c first : ℕ) (at : Setting) (st r : State) (ts us : List Token)
         (x : Statement)

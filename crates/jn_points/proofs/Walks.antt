@@ -34,7 +34,7 @@ pub walk_more : (P : Program) (f : ℕ → Option ℕ) (n d : ℕ) → 0 < n →
 walk_more P f zero d lt = absurd (omega arith)
 walk_more P f (suc n) d lt = let e : suc n - 1 ≡ n = omega arith in rw e (ap (first_or (f d)) (first_some_append f (walk_parent P (walk_by P n) (parent_of (class_info P d))) (flat_map (λ s. walk_by P n s.0) (interfaces P d))))
 
--- behind a class that declares none
+-- after a class that declares none
 walk_on : (P : Program) (f : ℕ → Option ℕ) (n d : ℕ) (k : Class) → 0 < n → f d ≡ None → class_info P d ≡ Some k → first_some f (walk_by P n d) ≡ first_or (first_some f (walk_parent P (walk_by P (n - 1)) k.parent)) (along P f (n - 1) k.parent k.supers)
 walk_on P f n d k lt none at = walk_more P f n d lt ∙ rw (none, at) refl
 

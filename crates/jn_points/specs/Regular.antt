@@ -309,7 +309,7 @@ module _ (P : Program) where
   abbrev pub CallsCtor : ℕ → Type 0
   CallsCtor b = (p : ℕ) × (ctor : ℕ) × (own : Bool) × CtorCallAt b p ctor own
 
-  -- a constructor call: in constructors alone, at most one; of the own class, without a circle (8.8.7), or of the parent; nothing but its own edge passes it, nothing leads back behind it or ends before it (8.8.7.1)
+  -- a constructor call: in constructors alone, at most one; of the own class, without a circle (8.8.7), or of the parent; nothing but its own edge passes it, nothing leads back after it or ends before it (8.8.7.1)
   pub record RegularCtorCall (ctor_rank : ℕ → ℕ) (b p ctor : ℕ) (own : Bool) : Type 0 where
     pub inside : ctor_of (method_in P b) ≡ true
     pub one : (q k : ℕ) (o : Bool) → CtorCallAt b q k o → q ≡ p

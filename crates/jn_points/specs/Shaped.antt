@@ -19,7 +19,7 @@ use Rattle.jn_points.specs.Edges.{edges_of}
 use Rattle.jn_points.specs.Lookup.{is_ref_base, regs_of, has_slot, class_of, body_of, ctor_of, static_of, slots_of, body_at, point_at, field_info, owner, method_at, method_in, class_info}
 use Rattle.jn_points.specs.Members.{has_field}
 
--- the field read behind which a test stands, and the register tested
+-- the field read after which a test stands, and the register tested
 pub record Test : Type 0 where
   pub reg : ℕ
   pub field : ℕ
@@ -93,7 +93,7 @@ module _ (P : Program) where
   abbrev pub test_at : ℕ → ℕ → Option Test
   test_at b p = test_in (point_at P b p)
 
-  -- a call of the constructor's own class or its parent stands at the point or behind it
+  -- a call of the constructor's own class or its parent stands at the point or after it
   pub record Early (b p : ℕ) : Type 0 where
     pub place : ℕ
     pub pt : Point

@@ -1,4 +1,4 @@
--- Bodies and rows of sources, one behind the other.
+-- Bodies and rows of sources, one after the other.
 use Rattle.std.proofs.Common.{◌≡◌, ℕ, suc, ◌<◌, Some, List, [], ◌∷◌, ◌++◌, length, get_or, map, flat_map, refl, sym, subst, arith}
 use Rattle.jn_points.specs.declared.program.Program.{Program}
 use Rattle.jn_lowering.specs.Bodies.{bodies_of}

@@ -14,7 +14,7 @@ use Rattle.jn_lower_stmt.specs.declared.body.Source.{Source}
 use Rattle.jn_lower_stmt.specs.Sources.{source_of, sources_of}
 use Rattle.jn_program.specs.Gathering.{Numbered, behind, class_trees, gathered}
 
--- those behind the others
+-- those after the others
 pub gathered_append : (n : Numbered) (ts us : List (Option BodyTree)) → gathered n (ts ++ us) ≡ gathered (gathered n ts) us
 gathered_append n [] us = refl
 gathered_append n (t ∷ ts) us = gathered_append (behind n t) ts us
@@ -38,7 +38,7 @@ constructor_more (PlacedFieldMember marks u d ds span) ms = refl
 constructor_more (PlacedMethod marks result n receiver ps body span) ms = refl
 constructor_more (PlacedConstructor marks n ps body span) ms = refl
 
--- a constructor that isn't written stands behind the members
+-- a constructor that isn't written stands after the members
 pub unwritten_more : (n k m : Numbered) (ms : List PlacedMember) → k ≡ gathered n (members_trees false ms ms) → has_constructor (flat_map (method_heads false) ms) ≡ false → m ≡ gathered k (unwritten_tree ms ∷ []) → m ≡ gathered n (class_trees ms)
 unwritten_more n k m ms first none last =
     last ∙ ap (λ x. gathered x (unwritten_tree ms ∷ [])) first
@@ -53,7 +53,7 @@ type_more n k m ts i t lt is one h =
     ∙ sym (ap (λ xs. gathered n (flat_map type_trees (map placed_type xs))) (drop_more ts i t lt ∙ ap (λ x. x ∷ drop (i + 1) ts) (sym is)))
     ∙ h
 
--- the trees of types behind others
+-- the trees of types after others
 pub trees_append : (xs ys : List PlacedType) → flat_map type_trees (xs ++ ys) ≡ flat_map type_trees xs ++ flat_map type_trees ys
 trees_append [] ys = refl
 trees_append (x ∷ xs) ys = ap (λ r. type_trees x ++ r) (trees_append xs ys) ∙ sym (append_assoc (type_trees x) (flat_map type_trees xs) (flat_map type_trees ys))

@@ -32,7 +32,7 @@ sources_long (s ∷ ss) = ap suc (sources_long ss)
 abbrev pub Gathers : List PlacedFile → ℕ → Gathered → Type 0
 Gathers files n made = numbered_of made ≡ gathered none_yet (body_trees (take n files))
 
--- the next file begins behind what was gathered
+-- the next file begins after what was gathered
 starts_there : (files : List PlacedFile) (n : ℕ) (made : Gathered) (start : Start) → Gathers files n made → start ≡ record { method = made.next; body = length made.sources.items } → IsStart files n start
 starts_there files n made start h is =
     let ts = body_trees (take n files) in
@@ -59,7 +59,7 @@ gathers_more fs n f made next lt is h more =
     more ∙ ap (λ x. gathered x ts) h ∙ sym (gathered_append none_yet (body_trees (take n files)) ts)
     ∙ ap (gathered none_yet) (sym (trees_more (take n files) (placed_file f)) ∙ ap body_trees (sym front))
 
--- what holds of the items, and of one behind them, holds of all
+-- what holds of the items, and of one after them, holds of all
 each_more : (P : ℕ → Start → Type 0) (xs : List Start) (x : Start) → ((n : ℕ) (start : Start) → slice_get xs n ≡ Some start → P n start) → P (length xs) x → (n : ℕ) (start : Start) → slice_get (xs ++ x ∷ []) n ≡ Some start → P n start
 each_more P [] x each last zero start there = subst (P 0) (same_Some x start there) last
 each_more P [] x each last (suc n) start there = absurd (none-some start there)

@@ -16,12 +16,12 @@ pub record Numbered : Type 0 where
 abbrev pub numbered_of : Gathered → Numbered
 numbered_of g = record { sources = sources_of g.sources.items; next = g.next }
 
--- behind a method with this body, or with none
+-- after a method with this body, or with none
 abbrev pub behind : Numbered → Option BodyTree → Numbered
 behind n None = record { sources = n.sources; next = suc n.next }
 behind n (Some t) = record { sources = n.sources ++ record { method = n.next; parameters = t.parameters; body = t.body; members = t.members } ∷ []; next = suc n.next }
 
--- behind several
+-- after several
 abbrev pub gathered : Numbered → List (Option BodyTree) → Numbered
 gathered n [] = n
 gathered n (t ∷ ts) = gathered (behind n t) ts

@@ -1,4 +1,4 @@
--- Bodies that stand one behind the other.
+-- Bodies that stand one after the other.
 use Rattle.std.specs.Prelude.{ℕ, ◌≡◌, List, Some, slice_get}
 use Rattle.jn_base.specs.declared.place.Row.{Row}
 use Rattle.jn_points.specs.declared.program.Body.{Body}

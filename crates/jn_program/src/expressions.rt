@@ -31,7 +31,7 @@ fn is_clean(tree: &Expr, c: &Context, at: Setting, rows: &mut Seq<Row>) -> Resul
     Ok(is_empty(&own))
 }
 
-/// The operand of an expression, whose points are added behind those that there are; or None exactly where it has a row J1 to
+/// The operand of an expression, whose points are added after those that there are; or None exactly where it has a row J1 to
 /// J5. Its rows are added, and no others; where there is one, neither points nor temporaries change.
 ///
 /// The only error is want of memory, which more than 2^32 - 2 points, labels or registers count as.

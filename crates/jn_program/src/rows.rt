@@ -3,7 +3,7 @@ ghost use Rattle.std.specs.Prelude.{◌≡◌, ◌++◌, [], OnOk, true, false};
 
 use jn_base::{OutOfMemory, Row, Seq};
 
-/// Adds rows behind others.
+/// Adds rows after others.
 pub fn push_all(rows: &mut Seq<Row>, more: &[Row]) -> Result<(), OutOfMemory>
     ensures { OnOk result (rows.new ≡ rows.old ++ more.now) }
 {

@@ -142,7 +142,7 @@ fn writes_constructor(members: &[Member]) -> bool
     false
 }
 
-/// Adds the bodies of a class, that of a constructor that isn't written behind the others.
+/// Adds the bodies of a class, that of a constructor that isn't written after the others.
 fn class<'a>(made: &mut Gathered<'a>, all: &'a [Member]) -> Result<(), OutOfMemory>
     ensures { OnOk result (numbered_of made.new
         ≡ gathered (numbered_of made.old) (class_trees (placed_members all.now))) }
@@ -188,7 +188,7 @@ fn all_types<'a>(made: &mut Gathered<'a>, files: &'a [FileTree]) -> Result<(), O
 }
 
 /// The sources of all bodies: Object's constructor, then the bodies of each class by file and text, a constructor that isn't
-/// written behind the others (JLS 8.8.9). More than 2^32 - 1 methods count as want of memory.
+/// written after the others (JLS 8.8.9). More than 2^32 - 1 methods count as want of memory.
 pub fn sources_of_files<'a>(
     alloc: Global,
     files: &'a [FileTree],
@@ -221,7 +221,7 @@ fn start_of(made: &Gathered) -> Start
     }
 }
 
-/// Where each file begins, and where one behind the last would.
+/// Where each file begins, and where one after the last would.
 ///
 /// # Errors
 /// No memory was found, or there are more than 2^32 - 1 methods.

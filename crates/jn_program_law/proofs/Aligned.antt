@@ -104,7 +104,7 @@ module _ (P : Program) where
   number_is true n m h = (let e : record { 0 = n } ≡ m = cc in ap (λ (z : BodyNo). z.0) (sym e), refl)
   number_is false n m h = cc
 
-  -- bodies behind have greater numbers
+  -- bodies after have greater numbers
   not_before : (body end : ℕ) (xs : List Method) (cs : List (List ℕ)) (ts : List (Option BodyTree)) → AllAgree body end xs cs ts → (i : ℕ) (x : Method) (m : BodyNo) → slice_get xs i ≡ Some x → x.body ≡ Some m → body ≤ m.0
   not_before body end [] cs ts h i x m at e = cc
   not_before body end (y ∷ xs) [] ts h i x m at e = absurd h

@@ -1,4 +1,4 @@
--- The source of each body of files, in the order of bodies: Object's constructor, then the bodies of each class by file and text, a constructor that isn't written behind the methods.
+-- The source of each body of files, in the order of bodies: Object's constructor, then the bodies of each class by file and text, a constructor that isn't written after the methods.
 use Rattle.std.specs.Prelude.{ℕ, suc, Bool, true, false, cond, List, [], ◌∷◌, ◌++◌, flat_map, Option, Some, None}
 use Rattle.jn_places.specs.Placed.{PlacedStatements, NoPlacedStatements, PlacedParameter, PlacedMember, PlacedMethod, PlacedConstructor, PlacedType, PlacedClass, PlacedInterface, PlacedFile}
 use Rattle.jn_heads.specs.Extract.{has_constructor, method_heads}

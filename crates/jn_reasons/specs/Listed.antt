@@ -46,7 +46,7 @@ is_sent k bit (x ∷ xs) = (eqb x.0 k && on bit x.1) || is_sent k bit xs
 
 module _ (P : Program) where
   module _ (b p r : ℕ) (bit : Bit) where
-    -- an edge of point q that goes to point p, behind which the register has the bit
+    -- an edge of point q that goes to point p, after which the register has the bit
     abbrev pub over_edge : ℕ → PointKind → Env → ℕ × Env → List Cause
     over_edge q kind e x = cond (eqb x.0 p && on bit (qual_at x.1 r)) (placed (OfPoint b q) (behind b q P e kind r bit)) []
 

@@ -1,4 +1,4 @@
--- What a point gives a register has a source, at the entry and behind each of the 26 kinds of points.
+-- What a point gives a register has a source, at the entry and after each of the 26 kinds of points.
 use Rattle.std.proofs.Common.{◌≡◌, ℕ, zero, suc, Bool, true, false, cond, ◌⊎◌, inl, inr, ⊎_elim, List, [], ◌∷◌, Option, Some, None, refl, sym, ◌∙◌, subst}
 use Rattle.std.specs.Prelude.{eqb, slice_index_or, slice_set}
 use Rattle.std.proofs.lemmas.Bool.{eqb-true, eq-eqb}

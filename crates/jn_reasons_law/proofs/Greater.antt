@@ -1,4 +1,4 @@
--- A greater signature has greater entries, and greater edges behind greater environments.
+-- A greater signature has greater entries, and greater edges after greater environments.
 use Rattle.std.proofs.Common.{ℕ, zero, suc, Bool, true, false, cond, List, [], ◌∷◌, Option, Some, None}
 use Rattle.std.specs.Prelude.{IsTrue}
 use Rattle.jn_base.specs.declared.number.SlotNo.{SlotNo}

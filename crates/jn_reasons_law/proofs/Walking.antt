@@ -15,7 +15,7 @@ use Rattle.jn_reasons_law.specs.Walk.{IsWalk}
 use Rattle.jn_reasons_law.proofs.Bits.{never}
 use Rattle.jn_reasons_law.proofs.Searching.{same_item, stands_first}
 
--- lists of numbers, one part behind the other
+-- lists of numbers, one part after the other
 none_below : (n : ℕ) → ltb n n ≡ false
 none_below n = by (ltb n n) refl
   where
@@ -23,7 +23,7 @@ none_below n = by (ltb n n) refl
     by true e = let h = ltb-true n n e in absurd (omega (arith, h))
     by false e = refl
 
--- behind equal fronts the rest decides
+-- after equal fronts the rest decides
 same_front : (n : ℕ) (xs ys : List ℕ) → is_before (n ∷ xs) (n ∷ ys) ≡ is_before xs ys
 same_front n xs ys = ap (λ (t : Bool). t || (eqb n n && is_before xs ys)) (none_below n) ∙ ap (λ (t : Bool). t && is_before xs ys) (eq-eqb n n refl)
 

@@ -1,4 +1,4 @@
--- What a bit may come from, at the entry, behind a point, and in a slot: an item (Some), or the text at that place itself (None).
+-- What a bit may come from, at the entry, after a point, and in a slot: an item (Some), or the text at that place itself (None).
 use Rattle.std.specs.Prelude.{ℕ, zero, suc, ◌⊎◌, ◌≡◌, cond, eqb, List, [], ◌∷◌, ◌++◌, flat_map, Option, Some, None, slice_index_or}
 use Rattle.jn_base.specs.declared.number.SlotNo.{SlotNo}
 use Rattle.jn_base.specs.declared.number.RegNo.{RegNo}
@@ -136,7 +136,7 @@ module _ (b p : ℕ) where
     abbrev pub from_field : ℕ → ℕ → Bit → List (Option Item)
     from_field object f bit = cond (qual_at e object).free the_text (from_slot (field_slot_of (field_info P f)) bit)
 
-    -- a register's bit behind the point
+    -- a register's bit after the point
     abbrev pub behind : PointKind → ℕ → Bit → List (Option Item)
     behind (Const dst value) r bit = unless_written dst.0 r bit the_text
     behind (Move dst from bound) r bit = unless_written dst.0 r bit (from_register from.reg.0 bit)

@@ -252,7 +252,7 @@ fn append(all: &mut Vec<Row>, rows: &[Row]) -> Result<(), AllocError>
     Ok(())
 }
 
-/// The rows of all bodies one behind the other.
+/// The rows of all bodies one after the other.
 #[tactic(auto, using(crate::proofs::Splitting::flat_more))]
 fn one_list(
     alloc: Global,

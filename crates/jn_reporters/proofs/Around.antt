@@ -167,7 +167,7 @@ nothing_before : (xs : List ℕ) (byte : ℕ) → is_nothing (xs ++ byte ∷ [])
 nothing_before [] byte = refl
 nothing_before (x ∷ xs) byte = refl
 
--- a line begins behind a line end
+-- a line begins after a line end
 pub begins_at : (text : List ℕ) (at : ℕ) (ends : Bool) → 0 < at → at ≤ length text → ends ≡ is_line_end (get_or text (at - 1) 0) → ends ≡ is_nothing (last_line (take at text))
 begins_at text at true some le is = sym (ap is_nothing (line_anew_at text at some le (sym is)))
 begins_at text at false some le is = sym (ap is_nothing (line_back text at some le (sym is)) ∙ nothing_before (last_line (take (at - 1) text)) (get_or text (at - 1) 0))

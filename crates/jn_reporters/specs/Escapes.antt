@@ -40,7 +40,7 @@ xml_byte byte =
 abbrev pub ends_unfit : ℕ → ℕ → ℕ → Bool
 ends_unfit second last byte = second == 239 && last == 191 && (byte == 190 || byte == 191)
 
--- a byte behind these two: of the last byte of U+FFFE or U+FFFF that of U+FFFD is made, whose first two bytes are theirs
+-- a byte after these two: of the last byte of U+FFFE or U+FFFF that of U+FFFD is made, whose first two bytes are theirs
 abbrev pub xml_behind : ℕ → ℕ → ℕ → List ℕ
 xml_behind second last byte = if ends_unfit second last byte then 189 ∷ [] else xml_byte byte
 

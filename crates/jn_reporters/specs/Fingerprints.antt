@@ -15,7 +15,7 @@ print_begin = 14695981039346656037
 abbrev pub print_byte : ℕ → ℕ → ℕ
 print_byte print byte = if is_blank byte then print else (bit_xor print byte * 1099511628211) % 2 ^ 64
 
--- the same behind the bytes of a text that aren't blank
+-- the same after the bytes of a text that aren't blank
 abbrev pub printed : ℕ → List ℕ → ℕ
 printed print [] = print
 printed print (byte ∷ rest) = printed (print_byte print byte) rest

@@ -53,7 +53,7 @@ head_line row = codes "error[" ++ code_name row.code ++ codes "]: " ++ code_mess
 abbrev pub place_line : RowText → List ℕ
 place_line row = margin row ++ codes "--> " ++ row.name ++ codes ":" ++ decimal row.line ++ codes ":" ++ decimal row.col ++ codes "\n"
 
--- two points stand for what a line has before and behind
+-- two points stand for what a line has before and after
 abbrev pub cut_before : Extract → List ℕ
 cut_before e = if e.begins then [] else codes ".. "
 
@@ -80,7 +80,7 @@ source_lines row (Some e) = margin row ++ codes " |\n" ++ text_line row e ++ mar
 abbrev pub cure_line : RowText → List ℕ
 cure_line row = margin row ++ codes " = cure: " ++ code_cure row.code
 
--- what stands before a note's words on a line of its own, behind the line before
+-- what stands before a note's words on a line of its own, after the line before
 abbrev pub line_begin : RowText → List ℕ
 line_begin row = codes "\n" ++ margin row ++ codes " = note: "
 
@@ -100,7 +100,7 @@ more_line row (suc n) = line_begin row ++ codes ".. and " ++ decimal (suc n) ++ 
 abbrev pub note_lines : RowText → List ShownNote → ℕ → List ℕ
 note_lines row notes more = flat_map (note_line row) notes ++ more_line row more
 
--- behind a row stands an empty line
+-- after a row stands an empty line
 abbrev pub long_row : ShownRow → List ℕ
 long_row row = head_line row.text ++ place_line row.text ++ source_lines row.text row.extract ++ cure_line row.text ++ note_lines row.text row.notes row.more ++ codes "\n\n"
 

@@ -16,7 +16,7 @@ use Rattle.jn_reporters.specs.declared.shown.ShownNote.{ShownNote}
 use Rattle.jn_reporters.specs.declared.shown.ShownRow.{ShownRow}
 use Rattle.jn_reporters.specs.declared.kept.KeptRow.{KeptRow}
 
--- an item of an array behind another, and all items behind the first
+-- an item of an array after another, and all items after the first
 unfoldable pub next : {A : Type 0} → (A → List ℕ) → A → List ℕ
 next item x = codes ",\n" ++ item x
 
@@ -48,7 +48,7 @@ rule_full code = codes "\"fullDescription\": {\"text\": \"" ++ escaped Json (tol
 abbrev pub rule_help : Code → List ℕ
 rule_help code = codes "\"help\": {\"text\": \"" ++ escaped Json (code_cure code) ++ codes "\"}"
 
--- where the code is explained (3.49.12): the anchor of its text behind the address; nothing where no address is known
+-- where the code is explained (3.49.12): the anchor of its text after the address; nothing where no address is known
 unfoldable pub uri_member : Option (List ℕ) → Code → List ℕ
 uri_member None code = codes "}"
 uri_member (Some address) code = codes ", \"helpUri\": \"" ++ escaped Json (address ++ codes "#" ++ code_anchor code) ++ codes "\"}"
@@ -79,7 +79,7 @@ region_start line col = numbered (codes "\"region\": {\"startLine\": ") line ++ 
 abbrev pub region : ℕ → ℕ → List ℕ
 region line col = region_start line col ++ codes "}}"
 
--- the same with its end: the column behind the last character
+-- the same with its end: the column after the last character
 abbrev pub region_end : ℕ → ℕ → List ℕ
 region_end line col = numbered (codes ", \"endLine\": ") line ++ numbered (codes ", \"endColumn\": ") col ++ codes "}}"
 

@@ -13,7 +13,7 @@ use Rattle.jn_reporters.specs.declared.shown.ShownRow.{ShownRow}
 abbrev pub end_of : Code → Span → ℕ
 end_of code span = if is_limit code then span.from else span.to
 
--- the place of what stands behind a row
+-- the place of what stands after a row
 abbrev pub end_in : Code → List ℕ → Span → Place
 end_in code text span = place_in text (record span { from = end_of code span })
 

@@ -20,7 +20,7 @@ abbrev pub joined_notes : List ShownNote → List ℕ
 joined_notes [] = []
 joined_notes (note ∷ notes) = if note.joined then joined_note note ++ joined_notes notes else []
 
--- the first note, with what goes on with it, behind what is told of the code; nothing where there is none
+-- the first note, with what goes on with it, after what is told of the code; nothing where there is none
 unfoldable pub first_note : List ShownNote → List ℕ
 first_note [] = []
 first_note (note ∷ notes) = codes "; note: " ++ note_words note ++ joined_notes notes

@@ -4,7 +4,7 @@ ghost use Rattle.jn_reporters.specs.Escapes as spec;
 
 use std::alloc::AllocError;
 
-/// Puts the text, as an attribute's value between double quotes, behind what is there.
+/// Puts the text, as an attribute's value between double quotes, after what is there.
 pub fn put_value(out: &mut Vec<u8>, text: &[u8]) -> Result<(), AllocError>
     ensures { OnOk result (out.new.items ≡ out.old.items ++ spec.xml_text text.now) }
 {
@@ -18,7 +18,7 @@ pub fn put_value(out: &mut Vec<u8>, text: &[u8]) -> Result<(), AllocError>
     Ok(())
 }
 
-/// Puts the byte that stands behind these two.
+/// Puts the byte that stands after these two.
 fn put_behind(out: &mut Vec<u8>, second: u8, last: u8, byte: u8) -> Result<(), AllocError>
     ensures { OnOk result (out.new.items ≡ out.old.items ++ spec.xml_behind second last byte) }
 {

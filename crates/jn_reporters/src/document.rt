@@ -42,7 +42,7 @@ pub trait Format: Drop {
 }
 
 /// Shows the document of the rows in this format, and nothing before a verdict is given.
-/// The document is made when the verdict is given, and made anew for each row behind it.
+/// The document is made when the verdict is given, and made anew for each row after it.
 #[derive(Drop)]
 pub struct Document<F: Format> {
     alloc: Global,

@@ -17,7 +17,7 @@ pub enum Escape {
     Uri,
 }
 
-/// Puts the text behind what is there.
+/// Puts the text after what is there.
 pub fn put(out: &mut Vec<u8>, escape: Escape, text: &[u8]) -> Result<(), AllocError>
     ensures { OnOk result (out.new.items ≡ out.old.items ++ spec.escaped escape text.now) }
 {

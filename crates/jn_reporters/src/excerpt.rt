@@ -25,7 +25,7 @@ pub struct Excerpt<'a> {
     pub before: &'a [u8],
     /// What is of the row, on this line.
     pub marked: &'a [u8],
-    /// What stands behind that.
+    /// What stands after that.
     pub behind: &'a [u8],
     /// Whether the line begins where this does.
     pub begins: bool,
@@ -145,7 +145,7 @@ fn around<'a>(before: &'a [u8], from_row: &'a [u8], long: usize) -> Excerpt<'a>
     }
 }
 
-/// The first so many bytes of a text, or all, and those behind them.
+/// The first so many bytes of a text, or all, and those after them.
 fn parted(text: &[u8], long: usize) -> (&[u8], &[u8])
     ensures { (result.0.now ≡ take long text.now) × (result.1.now ≡ drop long text.now) }
 {

@@ -8,7 +8,7 @@ use crate::view::RowView;
 use jn_base::{Code, OutOfMemory, Seq, Text};
 use std::alloc::Global;
 
-/// A row with the name of its file, and the line and the column, both from 1, of its first byte and of what stands behind its last.
+/// A row with the name of its file, and the line and the column, both from 1, of its first byte and of what stands after its last.
 #[derive(Drop)]
 pub struct KeptRow {
     pub name: Text,
@@ -21,7 +21,7 @@ pub struct KeptRow {
     pub fingerprint: Option<u64>,
     /// The notes, in their order.
     pub notes: Seq<ShownNote>,
-    /// How many notes were left out behind them.
+    /// How many notes were left out after them.
     pub more: usize,
 }
 
@@ -53,7 +53,7 @@ fn kept_of(alloc: Global, row: &RowView<'_>) -> Result<KeptRow, OutOfMemory>
     })
 }
 
-/// Keeps the row behind the others. On want of memory the rows are as before.
+/// Keeps the row after the others. On want of memory the rows are as before.
 pub fn keep(alloc: Global, rows: &mut Vec<KeptRow>, row: &RowView<'_>) -> Result<(), OutOfMemory>
     ensures ok { OnOk result (rows.new.items ≡ rows.old.items ++ kept_of row.now ∷ []) }
     ensures err { OnErr result (rows.new.items ≡ rows.old.items) }

@@ -33,7 +33,7 @@ pub trait Reporter: Drop {
         ensures err { OnErr result (self.new ≡ self.old) }
         ensures given { given self.new ≡ given self.old };
 
-    /// Takes the row behind the others. On want of memory the reporter is as before.
+    /// Takes the row after the others. On want of memory the reporter is as before.
     fn take(&mut self, row: &RowView<'_>) -> Result<(), OutOfMemory>
         ensures ok { OnOk result (form self.new ≡ with_rows (form self.old) (row.now ∷ [])) }
         ensures err { OnErr result (self.new ≡ self.old) }

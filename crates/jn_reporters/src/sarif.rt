@@ -237,7 +237,7 @@ fn uri_member(alloc: Global, address: &Option<Text>, code: Code) -> Result<Vec<u
     Ok(text)
 }
 
-/// The address, and the code's anchor behind it.
+/// The address, and the code's anchor after it.
 fn link(alloc: Global, address: &str, code: Code) -> Result<Vec<u8>, AllocError>
     ensures { IfOk result
         (λ link. link.items ≡ address.now ++ codes "#" ++ code_anchor code) }

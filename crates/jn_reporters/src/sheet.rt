@@ -12,13 +12,13 @@ use jn_outside::Told;
 use std::alloc::{AllocError, Global};
 use std::marker::Model;
 
-/// Rows and a verdict, with the lines made of the rows; the rows themselves only clauses read, and the verdict's line behind them.
+/// Rows and a verdict, with the lines made of the rows; the rows themselves only clauses read, and the verdict's line after them.
 #[derive(Drop)]
 pub struct Sheet {
     alloc: Global,
     rows: TakenRows,
     verdict: Option<Verdict>,
-    /// The lines and behind them the verdict's line.
+    /// The lines and after them the verdict's line.
     text: Vec<u8>,
     /// How many bytes of the text are lines.
     lines: usize,
@@ -53,14 +53,14 @@ impl Sheet {
         self.alloc
     }
 
-    /// The lines and behind them the verdict's line.
+    /// The lines and after them the verdict's line.
     pub fn text(&self) -> &[u8]
         ensures { result.now ≡ self.now.lines ++ end_line self.now.verdict }
     {
         &self.text
     }
 
-    /// Takes the row, with its line behind the lines. On want of memory the sheet is as before.
+    /// Takes the row, with its line after the lines. On want of memory the sheet is as before.
     pub fn take(&mut self, row: &RowView<'_>, line: &[u8]) -> Result<(), OutOfMemory>
         ensures ok { OnOk result (self.new ≡ with_line self.old row.now line.now) }
         ensures err { OnErr result (self.new ≡ self.old) }

@@ -30,7 +30,7 @@ impl ShownNote {
     }
 }
 
-/// What is shown of a line: what stands before the row, what is of the row, and what stands behind that; and whether the line begins
+/// What is shown of a line: what stands before the row, what is of the row, and what stands after that; and whether the line begins
 /// and ends there. Only clauses have such values.
 #[derive(Drop)]
 pub struct Extract {
@@ -41,7 +41,7 @@ pub struct Extract {
     pub ends: bool,
 }
 
-/// A row's text, the line and the column, both from 1, of what stands behind its last byte, what is shown of the line on which it begins, if
+/// A row's text, the line and the column, both from 1, of what stands after its last byte, what is shown of the line on which it begins, if
 /// anything is, its notes in order, and how many notes were left out.
 /// Only clauses have such values; they have no lifetime, so that a reporter can be boxed as `dyn Reporter`.
 #[derive(Drop)]

@@ -8,7 +8,7 @@ use jn_outside::{Tells, Told};
 /// The rows that were taken. They take no memory.
 pub type TakenRows = Told<ShownRow>;
 
-/// Rows, and one behind them.
+/// Rows, and one after them.
 #[derive(Drop)]
 struct Behind<'a, 'b> {
     before: &'a TakenRows,
@@ -23,7 +23,7 @@ impl<'a, 'b> Tells<Behind<'a, 'b>, ShownRow> for Rows {
     ghost told = { λ x. x.before.now.items ++ x.row.now ∷ [] };
 }
 
-/// The rows with this one behind them.
+/// The rows with this one after them.
 pub fn with_row(before: &TakenRows, row: &RowView<'_>) -> TakenRows
     ensures { result.items ≡ before.now.items ++ row.now ∷ [] }
 {

@@ -55,7 +55,7 @@ fn put_joined(out: &mut Vec<u8>, alloc: Global, notes: &[ShownNote]) -> Result<(
     Ok(())
 }
 
-/// The first note, with what goes on with it, behind what is told of the code; nothing where there is none.
+/// The first note, with what goes on with it, after what is told of the code; nothing where there is none.
 #[tactic(auto, unfolding(crate::specs::Words::first_note))]
 fn first_note(alloc: Global, notes: &[ShownNote]) -> Result<Vec<u8>, AllocError>
     ensures { IfOk result (λ text. text.items ≡ spec.first_note notes.now) }

@@ -46,7 +46,7 @@ impl<'a> RowView<'a> {
         RowView::noted(row, line, col, excerpt, &[], 0)
     }
 
-    /// The row with the line and the column of what stands behind it, with these notes, and with how many more were left out.
+    /// The row with the line and the column of what stands after it, with these notes, and with how many more were left out.
     pub fn noted(
         row: RowText,
         end_line: u32,
@@ -81,14 +81,14 @@ impl<'a> RowView<'a> {
         &self.row
     }
 
-    /// The line of what stands behind the row's last byte.
+    /// The line of what stands after the row's last byte.
     pub fn end_line(&self) -> u32
         ensures { result ≡ self.now.end_line }
     {
         self.end_line
     }
 
-    /// The column of what stands behind the row's last byte.
+    /// The column of what stands after the row's last byte.
     pub fn end_col(&self) -> u32
         ensures { result ≡ self.now.end_col }
     {
@@ -109,7 +109,7 @@ impl<'a> RowView<'a> {
         self.notes
     }
 
-    /// How many notes were left out behind them.
+    /// How many notes were left out after them.
     pub fn more(&self) -> usize
         ensures { result ≡ self.now.more }
     {

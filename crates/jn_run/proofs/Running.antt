@@ -1,4 +1,4 @@
--- What was run and what was told of it, as what stands behind the status.
+-- What was run and what was told of it, as what the status means.
 use Rattle.std.proofs.Common.{◌≡◌, ◌≤◌, ◌+◌, ◌-◌, ◌++◌, ℕ, List, [], Option, Some, inl, inr, refl, sym, subst, append_assoc, length-append, ap, ◌∙◌, arith}
 use Rattle.std.specs.Prelude.{◌⊎◌, codes}
 use Rattle.std.proofs.lemmas.List.{take-append-le}
@@ -36,11 +36,11 @@ prefix_more old new text more p = let within = p.within in record {
   taken = subst (λ bytes. Appends old new bytes) (sym (take-append-le p.count text more within)) p.taken;
 }
 
--- a line behind a text that is this one and more
+-- a line after a text that is this one and more
 longer : (text more line all : List ℕ) → all ≡ text ++ more → text ++ (more ++ line) ≡ all ++ line
 longer text more line all is = sym (append_assoc text more line) ∙ ap (λ bytes. bytes ++ line) (sym is)
 
--- the statuses behind which all was written
+-- the statuses after which all was written
 abbrev IsWhole : Status → Type 0
 IsWhole Ok = Unit {0}
 IsWhole Rejected = ⊥
@@ -64,7 +64,7 @@ module _ (files : List SourceFile) (P : Program) (names words : List (List ℕ))
   whole OutOfMemory is w = absurd is
   whole Usage is w = absurd is
 
-  -- behind a text that the sink took its line was written, or a prefix of it
+  -- after a text that the sink took its line was written, or a prefix of it
   pub finished : (mid : Option (List ℕ)) (text line : List ℕ) (status result : Status) (before now : ℕ) → IsWhole status → RunsTo files P names words steps status (text ++ line) → Appends old mid text → Finished mid new line status before now result → spec.Answers files P names words steps old new result
   finished mid text line status result before now is runs taken (inl (same, more, stays)) = subst (spec.Answers files P names words steps old new) (sym same) (whole status is (text ++ line, runs, appends_both old mid new text line taken more))
   finished mid text line status result before now is runs taken (inr (same, more, rose, later)) = subst (spec.Answers files P names words steps old new) (sym same) (status, text ++ line, runs, prefix_both old mid new text line taken more)
@@ -73,7 +73,7 @@ module _ (files : List SourceFile) (P : Program) (names words : List (List ℕ))
   pub without_main : (status : Status) (before now : ℕ) → ((m : ℕ) → IsOnlyMain P m → ⊥) → Finished old new (codes "no single main\n") Refused before now status → spec.Answers files P names words steps old new status
   without_main status before now no_main told = finished old [] (codes "no single main\n") Refused status before now tt (inr (record { none = no_main; refused = refl; line = refl })) (appends_none old) told
 
--- behind each end all was written
+-- after each end all was written
 end_whole : (e : End) → IsWhole (end_status e)
 end_whole Done = tt
 end_whole Arithmetic = tt
@@ -150,7 +150,7 @@ module _ (files : List SourceFile) (P : Program) (names words : List (List ℕ))
         finished files P names words steps old new mid c.text (codes "steps\n") Stopped result before now tt
         (ran Stopped (c.text ++ codes "steps\n") (Goes (printed state c.text)) (c.gives []) (refl, refl)) c.taken told
 
-    -- no memory was found behind so many steps
+    -- no memory was found after so many steps
     no_memory : (n : ℕ) → n ≤ steps → (to : State → Next) (state : State) → ((text : List ℕ) → HasPrinted (to (printed state text)) text) → Comes machine n to state old mid → WritesNothing mid new before now OutOfMemory result → Answered result
     no_memory n le to state has c (same, stays, count) =
         subst Answered (sym same) (n, c.text, le, printed_by n c.text (to (printed state c.text)) (c.gives []) (has c.text), subst (λ w. Appends old w c.text) (sym stays) c.taken)

@@ -34,7 +34,7 @@ pub record HasNoMain (P : Program) (status : Status) (bytes : List ℕ) : Type 0
   pub line : bytes ≡ codes "no single main\n"
 
 module _ (files : List SourceFile) (P : Program) where
-  -- a run that came to this behind all its steps: its text and its end's line, with the point at which it ended, and the status
+  -- a run that came to this after all its steps: its text and its end's line, with the point at which it ended, and the status
   abbrev pub IsToldBy : Next → Status → List ℕ → Type 0
   IsToldBy (Goes st) status bytes = (status ≡ Stopped) × (bytes ≡ st.out ++ codes "steps\n")
   IsToldBy (Ends e st) status bytes = (point : Point) × (point_at P st.top.body st.top.at ≡ Some point) × (status ≡ end_status e) × (bytes ≡ st.out ++ end_line files e point.span)
@@ -54,10 +54,11 @@ module _ (files : List SourceFile) (P : Program) where
     RunsTo status bytes = Runs status bytes ⊎ HasNoMain P status bytes
 
     module _ (old new : Option (List ℕ)) where
+      -- the whole text of a run that comes to the status was written
       abbrev pub WritesRun : Status → Type 0
       WritesRun status = (bytes : List ℕ) × RunsTo status bytes × Appends old new bytes
 
-      -- what stands behind each status: the run was written whole; behind a write fault a prefix of it, behind want of memory the text of some of the steps
+      -- what each status means: the run was written whole; with a write fault a prefix of it, with want of memory the text of some of the steps
       abbrev pub Answers : Status → Type 0
       Answers Ok = WritesRun Ok
       Answers Rejected = ⊥

@@ -1,6 +1,6 @@
 //! What the run of an accepted program's main writes: its text as it is printed, and the line that says how it ended.
 //!
-//! [`run::run_files`] runs the one main and gives the status; `specs/Main.antt` says what stands behind each status, by
+//! [`run::run_files`] runs the one main and gives the status; `specs/Main.antt` says what each status means, by
 //! the definition's run alone, and `specs/Line.antt` has the line of each end.
 #![tactic(auto)]
 

@@ -28,7 +28,7 @@ fn class_name(kind: FaultKind) -> &'static str
     }
 }
 
-/// The place of a span's first byte; one behind the text's end stands at the end.
+/// The place of a span's first byte; one after the text's end stands at the end.
 fn place_within(text: &[u8], span: Span) -> Place
     requires fits { length text.now ≤ 1048576 }
     ensures { result ≡ place_in text.now span }
@@ -88,7 +88,7 @@ fn fault_line(
     Ok(line)
 }
 
-/// The line of an exception, and the status behind it.
+/// The line of an exception, and the status after it.
 fn fault_output(
     alloc: Global,
     reads: &[SourceRead],
@@ -107,7 +107,7 @@ fn fault_output(
     })
 }
 
-/// Writes the line that tells how a run ended, and gives the status behind it. Nothing is told of a write fault, or of
+/// Writes the line that tells how a run ended, and gives the status after it. Nothing is told of a write fault, or of
 /// want of memory.
 pub(crate) fn tell<K: Sink>(
     alloc: Global,

@@ -19,8 +19,8 @@ use std::alloc::Global;
 
 /// Runs the one main of an accepted program of files that were read, with these words, at most so many steps. Writes
 /// what it prints as it is printed, then the line that tells how it ended, and gives the status: `Ok` where `main`
-/// returned, `RunFault` behind an exception of Java, `Stopped` at a limit or behind all steps. Without one main it
-/// writes that there is no single main (`Refused`). Behind `WriteFault` a prefix of all that went out, and behind
+/// returned, `RunFault` after an exception of Java, `Stopped` at a limit or after all steps. Without one main it
+/// writes that there is no single main (`Refused`). After `WriteFault` a prefix of all that went out, and after
 /// `OutOfMemory` what some of the steps print.
 pub fn run_files<K: Sink>(
     alloc: Global,

@@ -45,24 +45,24 @@ fault_end IsClassCast = ClassCast
 fault_end IsArrayStore = ArrayStore
 
 module _ (m : Running) where
-  -- what so many steps give behind a text printed before
+  -- what so many steps give after a text printed before
   abbrev pub runs : ℕ → List ℕ → Next
   runs n out = run m.program m.names (Goes (printed m.state out)) n
 
-  -- behind any text printed before, so many steps come to the state with one more text, which the sink took
+  -- after any text printed before, so many steps come to the state with one more text, which the sink took
   pub record Comes (n : ℕ) (to : State → Next) (state : State) (old new : Option (List ℕ)) : Type 0 where
     pub text : List ℕ
     pub gives : (out : List ℕ) → runs n out ≡ to (printed state (out ++ text))
     pub taken : Appends old new text
 
-  -- behind any text printed before, so many steps go on with one more text, of which the sink took a prefix
+  -- after any text printed before, so many steps go on with one more text, of which the sink took a prefix
   pub record ComesPartly (n : ℕ) (state : State) (old new : Option (List ℕ)) : Type 0 where
     pub text : List ℕ
     pub gives : (out : List ℕ) → runs n out ≡ Goes (printed state (out ++ text))
     pub taken : AppendsPrefix old new text
 
   module _ (steps : ℕ) (old new : Option (List ℕ)) where
-    -- the run goes on behind all steps
+    -- the run goes on after all steps
     abbrev pub GoesOn : Type 0
     GoesOn = (state : State) × Comes steps Goes state old new
 
@@ -78,11 +78,11 @@ module _ (m : Running) where
       pub there : point_at m.program state.top.body state.top.at ≡ Some point
       pub is : point.span ≡ span
 
-    -- the sink failed behind some of the steps, a prefix of whose text it took
+    -- the sink failed after some of the steps, a prefix of whose text it took
     abbrev pub StopsAtSink : Type 0
     StopsAtSink = (n : ℕ) × (n ≤ steps) × (state : State) × ComesPartly n state old new
 
-    -- no memory was found behind some of the steps, all of whose text the sink took
+    -- no memory was found after some of the steps, all of whose text the sink took
     abbrev pub StopsForMemory : Type 0
     StopsForMemory = (n : ℕ) × (n ≤ steps) × (state : State) × Comes n Goes state old new
 

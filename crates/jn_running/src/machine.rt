@@ -73,8 +73,8 @@ impl<'p> Machine<'p> {
         }
     }
 
-    /// Runs the next point. None says that the machine goes on; behind any other answer, which is never `Steps`, it is
-    /// of no use. What the point prints goes to the sink: behind `WriteFault` a prefix of it, behind `OutOfMemory`
+    /// Runs the next point. None says that the machine goes on; after any other answer, which is never `Steps`, it is
+    /// of no use. What the point prints goes to the sink: after `WriteFault` a prefix of it, after `OutOfMemory`
     /// nothing.
     pub fn step<K: Sink>(&mut self, out: &mut K) -> Option<Ended>
         requires going { IsGoing self.old }
@@ -93,9 +93,9 @@ impl<'p> Machine<'p> {
         step_on(self.alloc, self.accepted, self.names, &mut self.state, out)
     }
 
-    /// Runs at most so many steps, each of them a point, and says how the run ended; `Steps` where it goes on behind
-    /// all of them. What the run prints goes to the sink: behind `WriteFault` a prefix of the text of some of the
-    /// steps, behind `OutOfMemory` the whole text of some of them.
+    /// Runs at most so many steps, each of them a point, and says how the run ended; `Steps` where it goes on after
+    /// all of them. What the run prints goes to the sink: after `WriteFault` a prefix of the text of some of the
+    /// steps, after `OutOfMemory` the whole text of some of them.
     pub fn run<K: Sink>(self, steps: u64, out: &mut K) -> Ended
         requires going { IsGoing self }
         ensures did { Answers self.entry steps (K.written out.old) (K.written out.new) result }

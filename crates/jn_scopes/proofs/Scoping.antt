@@ -50,7 +50,7 @@ found_here rows vs n i at d e lt same named = sym same ∙ ap (λ s. local_in s 
 pub passed : (rows : List Row) (vs : List Variable) (n i at : ℕ) (d : Variable) → at ≡ i + 1 → i < length vs → local_in (scope_of rows (take at vs)) n ≡ local_in (scope_of rows vs) n → ((get_or vs i d).name.0 ≡ n → ⊥) → local_in (scope_of rows (take i vs)) n ≡ local_in (scope_of rows vs) n
 passed rows vs n i at d e lt same other = sym (there (local_of rows (get_or vs i d)) (scope_of rows (take i vs)) n other) ∙ ap (λ s. local_in s n) (sym (step rows vs i at d e lt)) ∙ same
 
--- rows behind those that the locals name change nothing
+-- rows after those that the locals name change nothing
 
 abbrev pub AllWithin : ℕ → List Variable → Type 0
 AllWithin n [] = ⊤

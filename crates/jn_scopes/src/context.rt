@@ -13,7 +13,7 @@ pub struct Bound {
     pub free: bool,
 }
 
-/// Rows of a declared type, as places in the list of all such rows of the body: from the first one to the one behind the last.
+/// Rows of a declared type, as places in the list of all such rows of the body: from the first one to the one after the last.
 #[derive(Clone, Copy)]
 pub struct Faults {
     pub from: usize,

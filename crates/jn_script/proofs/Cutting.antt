@@ -78,7 +78,7 @@ pub lines_last : (text : List ℕ) → 0 < length text → pieces 10 text ≡ te
 lines_last [] some e = absurd (omega (arith, some))
 lines_last (byte ∷ bytes) some e = ap without_empty_end e
 
--- a line, and those behind it
+-- a line, and those after it
 pub lines_more : (text one rest : List ℕ) → pieces 10 text ≡ one ∷ pieces 10 rest → lines text ≡ one ∷ lines rest
 lines_more text one rest e =
     let p = some_piece 10 rest in

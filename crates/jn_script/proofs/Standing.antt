@@ -120,7 +120,7 @@ regroup : (front back : List (List ℕ)) (line : List ℕ) → front ++ line ∷
 regroup [] back line = refl
 regroup (x ∷ xs) back line = ap (λ ys. x ∷ ys) (regroup xs back line)
 
--- the lines before this one are these steps, with these names behind them
+-- the lines before this one are these steps, with these names after them
 pub record ReadTo (script rest : List ℕ) (names : List (List ℕ)) (steps : List Step) (line : ℕ) : Type 0 where
   pub front : List (List ℕ)
   pub split : lines script ≡ front ++ lines rest

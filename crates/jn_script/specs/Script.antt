@@ -44,7 +44,7 @@ pub record IsStep (line : List ℕ) (step : Step) : Type 0 where
   pub words : pieces 32 line ≡ words_of step
   pub names : HasNames step
 
--- names that stand behind a step: a set one goes in where it is new, a dropped one out
+-- names that stand after a step: a set one goes in where it is new, a dropped one out
 abbrev pub has : List ℕ → List (List ℕ) → Bool
 has name [] = false
 has name (other ∷ names) = cond (bytes_eq other name) true (has name names)

@@ -40,12 +40,12 @@ IsStepOr line (Some step) = IsStep line step
 abbrev pub IsBad : List (List ℕ) → List ℕ → Type 0
 IsBad names line = (step : Step) → IsStep line step → CanTake names step → ⊥
 
--- whether a step can be taken where these names stand, and the names behind it
+-- whether a step can be taken where these names stand, and the names after it
 abbrev pub Takes : List (List ℕ) → Step → Bool → List (List ℕ) → Type 0
 Takes names step true new = CanTake names step × (new ≡ names_behind names step)
 Takes names step false new = CanTake names step → ⊥
 
--- whether a line is a step that can be taken; it is then put behind the others
+-- whether a line is a step that can be taken; it is then put after the others
 abbrev pub TakesLine : List (List ℕ) → List Step → List ℕ → Bool → List (List ℕ) → List Step → Type 0
 TakesLine names steps line true new more = (step : Step) × IsStep line step × CanTake names step × (new ≡ names_behind names step) × (more ≡ steps ++ step ∷ [])
 TakesLine names steps line false new more = IsBad names line

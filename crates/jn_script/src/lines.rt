@@ -30,7 +30,7 @@ pub(crate) enum Words<'a> {
     More,
 }
 
-/// The words of what stands behind two words.
+/// The words of what stands after two words.
 fn third<'a>(one: &'a [u8], two: &'a [u8], rest: &'a [u8]) -> Words<'a>
     ensures { (line : List ℕ)
         → pieces 32 line ≡ one.entry.now ∷ two.entry.now ∷ pieces 32 rest.entry.now
@@ -42,7 +42,7 @@ fn third<'a>(one: &'a [u8], two: &'a [u8], rest: &'a [u8]) -> Words<'a>
     }
 }
 
-/// The words of what stands behind one word.
+/// The words of what stands after one word.
 fn second<'a>(one: &'a [u8], rest: &'a [u8]) -> Words<'a>
     ensures { (line : List ℕ) → pieces 32 line ≡ one.entry.now ∷ pieces 32 rest.entry.now
         → AreWordsIn line result }

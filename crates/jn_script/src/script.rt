@@ -26,7 +26,7 @@ fn place_of(names: &[Text], name: &str) -> Option<usize>
     None
 }
 
-/// Puts a name behind the others, unless it stands there.
+/// Puts a name after the others, unless it stands there.
 fn add_name(alloc: Global, names: &mut Vec<Text>, name: &str) -> Result<(), AllocError>
     ensures { OnOk result (names.new.items
         ≡ cond (has name.now names.old.items) names.old.items (names.old.items ++ name.now ∷ [])) }
@@ -51,7 +51,7 @@ fn remove_name(names: &mut Vec<Text>, name: &str) -> bool
     }
 }
 
-/// Whether the step can be taken where these names stand; the names go to those behind it.
+/// Whether the step can be taken where these names stand; the names go to those after it.
 #[tactic(auto, using(crate::proofs::Standing::removed))]
 fn take(alloc: Global, names: &mut Vec<Text>, step: &Step) -> Result<bool, AllocError>
     ensures { IfOk result (λ can. Takes names.old.items step.now can names.new.items) }
@@ -67,7 +67,7 @@ fn take(alloc: Global, names: &mut Vec<Text>, step: &Step) -> Result<bool, Alloc
     }
 }
 
-/// Puts the line's step behind the others; false where it is none that can be taken.
+/// Puts the line's step after the others; false where it is none that can be taken.
 fn take_line(
     alloc: Global,
     names: &mut Vec<Text>,
@@ -91,7 +91,7 @@ fn take_line(
     }
 }
 
-/// The first line of a text, and what stands behind it.
+/// The first line of a text, and what stands after it.
 #[tactic(auto, using(crate::proofs::Cutting::lines_last, crate::proofs::Cutting::lines_more, crate::proofs::Cutting::gone_all))]
 fn line_in<'a>(text: &'a [u8]) -> (&'a [u8], &'a [u8])
     requires { 0 < length text.now }

@@ -2,7 +2,7 @@
 //!
 //! A system of words ([`Constraints`]) is solved on a [`SigTable`] of atomic words: a [`Pass`] is what one worker knows of it, and each of
 //! its steps, take, read, raise, mark, scan and join, is one atomic operation. Where a pass has seen all idle, `close` gives the least
-//! words ([`least_words_are_least`]); `specs/Machine.antt` is the raise machine behind it. What all passes take is bounded
+//! words ([`least_words_are_least`]); `specs/Machine.antt` is the raise machine that it carries out. What all passes take is bounded
 //! ([`bodies_taken_are_bounded`]), so workers need no budget.
 #![tactic(auto)]
 

@@ -16,7 +16,7 @@ const INT: BaseType = BaseType::Int;
 
 const REGISTERS: [BaseType; 6] = [INT; 6];
 
-/// Behind that of Object's constructor.
+/// After that of Object's constructor.
 const MAIN: BodyNo = BodyNo(1);
 
 const NEW: MethodNo = MethodNo(2);

@@ -266,7 +266,7 @@ replicated zero x i v h = cc
 replicated (suc n) x zero v h = cc
 replicated (suc n) x (suc i) v h = replicated n x i v h
 
--- what a method's body is given: its parameters, behind `this` where the method isn't static
+-- what a method's body is given: its parameters, after `this` where the method isn't static
 pub given_static : (P : Program) (m : ℕ) → static_of (method_at P m) ≡ true → given_bases P m ≡ params_of (method_at P m)
 given_static P m h = ap (λ t. cond t (params_of (method_at P m)) (Ref (record { 0 = class_of (method_at P m) }) ∷ params_of (method_at P m))) h
 

@@ -37,7 +37,7 @@ use Rattle.jn_soundness.specs.Marked.{Marked, MarkedNext}
 use Rattle.jn_soundness.proofs.Eras.{grown_eras, left_eras}
 
 module _ (W : World) (checked : Checked W) where
-  -- facts that survive the call hold behind it
+  -- facts that survive the call hold after it
   kept_facts : (heap : List Thing) (w : Frame) (bits : List Bool) → AllOn (KeptOk W heap w.regs) (fact_keys W.program w.body) bits → AllOn (FactOk W heap w.regs) (fact_keys W.program w.body) (mask (is_kept W.program) (fact_keys W.program w.body) bits)
   kept_facts heap w bits h = on_mask (KeptOk W heap w.regs) (FactOk W heap w.regs) (is_kept W.program) (fact_keys W.program w.body) bits h (λ k x y. y x)
 

@@ -139,7 +139,7 @@ module _ (W : World) (st : State) (mk : Marking) (good : Marked W st mk) where
   static_good f None s = tt
   static_good f (Some p) s = moves_good (slice_set st.statics f p) st.out (st.top.at + 1) s
 
-  -- a read of a field, behind which a test may stand
+  -- a read of a field, after which a test may stand
   read_test : (r f o dst : ℕ) (v : Value) (k : Option Test) → value_at st.top.regs r ≡ Some (At o) → field_at W.program st.heap o f ≡ Some v → (h : (t : Test) → k ≡ Some t → (dst ≡ t.tested) × (r ≡ t.reg) × (f ≡ t.field) × (t.reg ≡ t.tested → ⊥)) → TestOk W st.heap (slice_set st.top.regs dst (Some v)) k
   read_test r f o dst v None is at' h = tt
   read_test r f o dst v (Some t) is at' h =

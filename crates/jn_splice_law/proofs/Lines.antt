@@ -226,7 +226,7 @@ module _ (old : List (List ℕ)) (ps : List Piece) where
   abbrev names : List (List ℕ)
   names = names_after old ps
 
-  -- a part of a name, and what stands behind it
+  -- a part of a name, and what stands after it
   name_goes : (n : Note) (ns : List Note) → IsNote old n → Goes names (rest_text ns) (rest_kinds ns) → Goes names (n.name ++ rest_text ns) (Id n.number ∷ rest_kinds ns)
   name_goes n ns h r =
       let spelled : IsSpelling (Word n.name) n.name = h.spelled in

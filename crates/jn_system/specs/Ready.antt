@@ -37,7 +37,7 @@ numbers_set = lists_set 0
 pub tasks_prop : (P : Program) (own : List (List ℕ)) (list : List Overrider) → IsProp (AreTasks P own list)
 tasks_prop P own list = hlevel (numbers_set, ready_prop, le_prop)
 
--- the overriding method of a task behind the bodies
+-- the overriding method of a task after the bodies
 pub record IsOverriderOf (P : Program) (t : ℕ) (o : Overrider) : Type 0 where
   pub behind : is_body_task P t ≡ false
   pub method : o.method ≡ task_method P t

@@ -13,7 +13,7 @@ use jn_sigtable::Constraints;
 use std::alloc::Global;
 
 /// The system of a program: its tasks, the packed words of its signature, and what each task sends into inferred slots. A body does so
-/// under its least table; a task behind the bodies is a method that overrides.
+/// under its least table; a task after the bodies is a method that overrides.
 #[derive(Drop)]
 pub struct Nullness<'p> {
     pub program: &'p Program,

@@ -1,4 +1,4 @@
-//! Tasks: the bodies of a program, and behind them its methods that override.
+//! Tasks: the bodies of a program, and after them its methods that override.
 ghost use Rattle.std.specs.Prelude.{◌≡◌, ◌<◌, IfOk, MatchOption, length, true};
 ghost use Rattle.jn_contrib.specs.Sends.{slot_numbers};
 ghost use Rattle.jn_contrib.specs.Entries.{AreOverriders};
@@ -21,7 +21,7 @@ use jn_sigs::Sig;
 use jn_transfer::Analysis;
 use std::alloc::{AllocError, Global};
 
-/// The overriding method of a task behind the bodies; None for a body.
+/// The overriding method of a task after the bodies; None for a body.
 #[tactic(auto, using(crate::proofs::TaskSteps::is_body, crate::proofs::TaskSteps::is_overrider))]
 pub fn overrider_of<'a>(
     program: &Program,

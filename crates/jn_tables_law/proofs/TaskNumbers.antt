@@ -1,4 +1,4 @@
--- Which task is which: those below the number of bodies are bodies, and each method that sends has a task behind them.
+-- Which task is which: those below the number of bodies are bodies, and each method that sends has a task after them.
 use Rattle.std.proofs.Common.{◌≡◌, inl, inr, ℕ, suc, ◌+◌, ◌-◌, ◌<◌, ◌≤◌, Bool, true, false, cond, ◌||◌, List, [], ◌∷◌, length, Option, Some, None, refl, sym, ap, ◌∙◌, arith}
 use Rattle.std.specs.Prelude.{filter, flat_map, slice_index_or}
 use Rattle.std.proofs.lemmas.Bool.{ltb-true, lt-ltb}

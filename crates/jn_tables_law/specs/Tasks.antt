@@ -1,4 +1,4 @@
--- Inference has tasks: the bodies of a program, and behind them its methods that override. What each body sends under its least table, and each
+-- Inference has tasks: the bodies of a program, and after them its methods that override. What each body sends under its least table, and each
 -- overriding method for its pairs.
 use Rattle.std.specs.Prelude.{ℕ, ◌+◌, ◌-◌, ltb, Bool, cond, List, length, slice_index_or}
 use Rattle.jn_quals.specs.Qualifier.{Qualifier}
@@ -15,7 +15,7 @@ module _ (P : Program) where
   abbrev pub is_body_task : ℕ → Bool
   is_body_task t = ltb t (length P.bodies)
 
-  -- the method of a task behind the bodies
+  -- the method of a task after the bodies
   abbrev pub task_method : ℕ → ℕ
   task_method t = slice_index_or (overriders P) (t - length P.bodies) 0
 

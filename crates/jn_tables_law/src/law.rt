@@ -31,7 +31,7 @@ pub fn rounds_give_the_least_table()
         → IsLeastTable P s b u → t ≡ u }
 {}
 
-/// A greater environment under a greater signature has greater ones behind all edges.
+/// A greater environment under a greater signature has greater ones after all edges.
 pub fn transfer_is_monotone()
     ensures { (P : Program) (s t : List Qualifier) (b : ℕ) (kind : PointKind) (p : ℕ) (e f : Env)
         (x : ℕ × Env)

@@ -12,7 +12,7 @@ pub const OBJECT: ClassNo = ClassNo(0);
 /// The constructor of Object.
 pub const NEW_OBJECT: MethodNo = MethodNo(0);
 
-/// The class that is added first, by its number, and those behind it.
+/// The class that is added first, by its number, and those after it.
 pub const FIRST: ClassNo = ClassNo(2);
 
 pub const SECOND: ClassNo = ClassNo(3);
@@ -117,7 +117,7 @@ pub struct Hand {
     is_short: bool,
 }
 
-/// The number of what is added behind so many; the programs here are small.
+/// The number of what is added after so many; the programs here are small.
 fn number(count: usize) -> u32 {
     if count < 1000 { count as u32 } else { 1000 }
 }
@@ -258,7 +258,7 @@ impl Hand {
         Seq::of_vec(bases)
     }
 
-    /// The head of a method; its body is added behind.
+    /// The head of a method; its body is added after.
     pub fn method(
         &mut self,
         owner: ClassNo,

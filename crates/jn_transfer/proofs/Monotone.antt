@@ -1,4 +1,4 @@
--- A greater environment has greater ones behind all edges, at each of the 26 kinds of points.
+-- A greater environment has greater ones after all edges, at each of the 26 kinds of points.
 use Rattle.std.proofs.Common.{◌≡◌, ℕ, Bool, true, false, not, ◌&&◌, ◌||◌, cond, ◌⊎◌, inl, inr, ⊎_elim, List, [], ◌∷◌, ◌++◌, Option, Some, None, refl, sym, subst}
 use Rattle.std.specs.Prelude.{IsTrue, ltb, eqb}
 use Rattle.std.proofs.lemmas.Bool.{and_parts, and_from}

@@ -246,7 +246,7 @@ impl<'a> Analysis<'a> {
         Ok(new_qual(&quals))
     }
 
-    /// The one edge behind a write of a register.
+    /// The one edge after a write of a register.
     fn putting(
         &self,
         alloc: Global,

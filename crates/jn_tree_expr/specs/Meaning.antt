@@ -34,7 +34,7 @@ all_in c names m es = evaluated c.program.now names usual_limits.longest m c.cla
 abbrev pub Calls : {F : Type 0} → (F → ℕ → Vec Value Global → MutBor World → Answer (Option Value) Halt → MutBor World → Type 0) → F → Caller → Type 0
 Calls post f m = (method : ℕ) (values : Vec Value Global) (w : MutBor World) (r : Answer (Option Value) Halt) (v : MutBor World) → post f method values w r v → Means (m method values.items (world_of w.now)) r (world_of v.now)
 
--- where a field behind a dot stands, of an object or array that has this value
+-- where a field after a dot stands, of an object or array that has this value
 abbrev pub object_place : Access → Span → Option Value → Place
 object_place (ClassField f) at x = StaticPlace f
 object_place (ObjectField f) at x = FieldPlace x at f
@@ -50,7 +50,7 @@ number_of (Some m) = Some m.0
 abbrev pub read_at : Context → List (List ℕ) → Caller → PlacedTree → spec.World → Result (Option Value)
 read_at c names m e w = spec.then_do ((meant_in c names m e).place w) (λ q w. read_place c.program.now q (span_of e) w)
 
--- a call with a dot behind its receiver and arguments, where it has both
+-- a call with a dot after its receiver and arguments, where it has both
 abbrev pub called_behind : Program → List (List ℕ) → Caller → Callee → Span → Span → Option Value → List (Option Value) → spec.World → Result (Option Value)
 called_behind P names m (OfText op) span at x xs w = spec.derefs x at w (spec.got span (str_op op x (first_value P names usual_limits.longest m xs)) w)
 called_behind P names m (ObjectMethod k) span at x xs w = called_on P names usual_limits.longest m span k (private_of (method_at P k)) x at xs w

@@ -1,4 +1,4 @@
-//! Calls of methods and constructors behind their operands (JLS 15.9.4 and 15.12.4).
+//! Calls of methods and constructors after their operands (JLS 15.9.4 and 15.12.4).
 ghost use Rattle.std.specs.Prelude.{◌≡◌, ◌++◌, ◌∷◌, [], ℕ, List, OnOk};
 ghost use Rattle.jn_heap.specs.Steps.{str_op};
 ghost use Rattle.jn_heap.specs.State.{value_at};
@@ -70,7 +70,7 @@ fn enter<F: Fn(usize, Vec<Value>, &mut World) -> Result<Option<Value>, Halt>>(
     call(number, all, w)
 }
 
-/// The values behind those given, where all are there.
+/// The values after those given, where all are there.
 fn gather(front: Vec<Value>, arguments: &[Option<Value>]) -> Result<Option<Vec<Value>>, Halt>
     ensures { Found
         (λ r. items_in r ≡ prepended front.items (ops.all_there arguments.now)) result }
@@ -135,7 +135,7 @@ fn enter_on<F: Fn(usize, Vec<Value>, &mut World) -> Result<Option<Value>, Halt>>
     enter(own, values, call, w)
 }
 
-/// A call on a receiver, which is dereferenced behind the arguments (JLS 15.12.4).
+/// A call on a receiver, which is dereferenced after the arguments (JLS 15.12.4).
 pub fn call_on<F: Fn(usize, Vec<Value>, &mut World) -> Result<Option<Value>, Halt>>(
     method: MethodNo,
     direct: bool,
@@ -224,7 +224,7 @@ pub fn super_call<F: Fn(usize, Vec<Value>, &mut World) -> Result<Option<Value>, 
     }
 }
 
-/// An operation of class String on a receiver, which is dereferenced behind the argument.
+/// An operation of class String on a receiver, which is dereferenced after the argument.
 pub fn text_call(
     operation: StrOperation,
     receiver: &Option<Value>,
@@ -241,7 +241,7 @@ pub fn text_call(
     string(operation, receiver, arguments, span)
 }
 
-/// Puts an object with default fields behind the heap.
+/// Puts an object with default fields after the heap.
 fn make(c: &Context, ctor: MethodNo, w: &mut World) -> Result<(), AllocError>
     ensures { OnOk result (world_of w.new
         ≡ worlds.with_heap (world_of w.old) (w.old.heap.items
@@ -299,7 +299,7 @@ pub fn create<F: Fn(usize, Vec<Value>, &mut World) -> Result<Option<Value>, Halt
     }
 }
 
-/// A call with a dot behind its receiver and arguments: a method of an object, or an operation of class String (JLS 15.12).
+/// A call with a dot after its receiver and arguments: a method of an object, or an operation of class String (JLS 15.12).
 pub fn call_behind<F: Fn(usize, Vec<Value>, &mut World) -> Result<Option<Value>, Halt>>(
     named: Callee,
     receiver: &Option<Value>,

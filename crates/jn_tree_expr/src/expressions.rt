@@ -366,7 +366,7 @@ fn list<F: Fn(usize, Vec<Value>, &mut World) -> Result<Option<Value>, Halt>>(
     list_values(c.alloc, w, base, &values)
 }
 
-/// `++` and `--` behind (JLS 15.14.2 and 15.14.3).
+/// `++` and `--` after (JLS 15.14.2 and 15.14.3).
 #[cycle(evaluating)]
 fn step_behind<F: Fn(usize, Vec<Value>, &mut World) -> Result<Option<Value>, Halt>>(
     target: &Expr,

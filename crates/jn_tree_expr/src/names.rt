@@ -42,7 +42,7 @@ pub fn place_meant(c: &Context, w: &World, meaning: Meaning, span: Span) -> Resu
     }
 }
 
-/// Where a field behind a dot stands, of an object or array that was evaluated.
+/// Where a field after a dot stands, of an object or array that was evaluated.
 pub fn place_of_object(access: Access, at: Span, object: Option<Value>) -> Place
     ensures { place_of result ≡ object_place (access_of access) at object }
 {

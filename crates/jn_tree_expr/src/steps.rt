@@ -1,4 +1,4 @@
-//! `++` and `--` behind the place that they change (JLS 15.14 and 15.15).
+//! `++` and `--` after the place that they change (JLS 15.14 and 15.15).
 ghost use Rattle.std.specs.Prelude.{◌≡◌, Some, pos};
 ghost use Rattle.jn_heap.specs.State.{prim_of};
 ghost use Rattle.jn_heap.specs.Steps.{binary_of, literal_value};
@@ -46,7 +46,7 @@ fn stepped(
     write_place(c.program.program(), w, place, span, made)
 }
 
-/// The new value, behind the place (JLS 15.15.1 and 15.15.2).
+/// The new value, after the place (JLS 15.15.1 and 15.15.2).
 pub fn steps_before(
     names: &Names,
     c: &Context,
@@ -66,7 +66,7 @@ pub fn steps_before(
     stepped(names, c, w, place, step, &value, span)
 }
 
-/// The old value, behind the place (JLS 15.14.2 and 15.14.3).
+/// The old value, after the place (JLS 15.14.2 and 15.14.3).
 pub fn steps_behind(
     names: &Names,
     c: &Context,

@@ -54,7 +54,7 @@ module _ (t : spec.Told) (old new : Option (List ℕ)) where
   abbrev pub Writes : spec.TreeEnd → Type 0
   Writes end = (t.end ≡ end) × Appends old new t.text
 
-  -- each end is that of the trees, behind their whole text; behind a write fault a prefix of it went out, and behind want of memory nothing
+  -- each end is that of the trees, after their whole text; after a write fault a prefix of it went out, and after want of memory nothing
   abbrev pub Answers : TreeEnd → Type 0
   Answers Done = Writes spec.Returned
   Answers (Fault kind span) = Writes (spec.Fault (fault_of kind) span)

@@ -63,7 +63,7 @@ fn source_of<'a>(run: &'a Run, method: usize) -> Option<&'a Source<'a>>
     }
 }
 
-/// The method's body with these values as its first locals. The caller's locals come back behind it.
+/// The method's body with these values as its first locals. The caller's locals come back after it.
 fn in_frame<F: Fn(usize, Vec<Value>, &mut World) -> Result<Option<Value>, Halt>>(
     run: &Run,
     turns: u64,

@@ -41,7 +41,7 @@ fn one(alloc: Global, value: Value) -> Result<Vec<Value>, Halt>
     }
 }
 
-/// The values behind the object, where all are there.
+/// The values after the object, where all are there.
 fn gather(
     alloc: Global,
     object: Value,

@@ -113,10 +113,10 @@ fn tell<K: Sink>(end: TreeEnd, text: &[u8], out: &mut K) -> TreeEnd
 }
 
 /// Runs a main of base-typed files by the meaning of their trees, with these words, so many frames at most and so many units of
-/// fuel: one is spent where a body is entered, and one at each turn of a loop. The text that it prints is written behind the run, and the end is that of the
+/// fuel: one is spent where a body is entered, and one at each turn of a loop. The text that it prints is written after the run, and the end is that of the
 /// trees, by the definition `jn_meaning::specs::Bodies::tree`. Trees of such files always have a meaning.
 ///
-/// Behind `WriteFault`, which comes exactly where the sink's count of faults rose, a prefix of the text went out, and behind
+/// After `WriteFault`, which comes exactly where the sink's count of faults rose, a prefix of the text went out, and after
 /// `OutOfMemory` nothing.
 pub fn tree_run<K: Sink>(
     alloc: Global,

@@ -1,4 +1,4 @@
--- One evaluation behind another, and declared locals.
+-- One evaluation after another, and declared locals.
 use Rattle.std.proofs.Common.{◌≡◌, ℕ, List, ap, sym, subst}
 use Rattle.std.specs.Prelude.{⊤, Bool, Option, Result as Answer}
 use Rattle.jn_base.specs.declared.place.Row.{Row}
@@ -14,7 +14,7 @@ use Rattle.jn_tree_world.specs.declared.halt.Halt.{Halt}
 use Rattle.jn_tree_world.specs.Outcomes.{IsStop, MeansAs}
 use Rattle.jn_tree_simple.specs.Standings.{onward_of}
 
--- a stop behind what was had, and what is had behind it
+-- a stop after what was had, and what is had after it
 pub stop_behind : {A B : Type 0} → (h : Halt) (r : Result A) (go : A → World → Result B) (x : A) (mid : World) (out : List ℕ) → r ≡ Has x mid → IsStop h (go x mid) out → IsStop h (then_do r go) out
 stop_behind h r go x mid out is stop = subst (λ q. IsStop h (then_do q go) out) (sym is) stop
 

@@ -18,6 +18,6 @@ standing_of st = record { scope = st.scope; count = st.count }
 abbrev pub back_to : spec.Standing → ℕ → ℕ → spec.Standing
 back_to st names count = record { scope = drop (length st.scope - names) st.scope; count = count }
 
--- what is done goes on behind itself
+-- what is done goes on after itself
 abbrev pub onward_of : {A : Type 0} → A → spec.Flow
 onward_of u = spec.Onward

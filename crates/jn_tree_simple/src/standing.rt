@@ -36,7 +36,7 @@ pub struct Standing {
     pub count: usize,
 }
 
-/// What is put back behind a statement: how many names were in scope before it, and how many locals there were.
+/// What is put back after a statement: how many names were in scope before it, and how many locals there were.
 #[derive(Clone, Copy)]
 pub struct Mark {
     pub names: usize,
@@ -94,7 +94,7 @@ fn sum(a: usize, b: usize) -> Result<usize, Halt>
     }
 }
 
-/// How many locals there are behind the statement, where there are so many before it.
+/// How many locals there are after the statement, where there are so many before it.
 pub fn count_behind(tree: &Stmt, count: usize) -> Result<usize, Halt>
     ensures { Found (λ n. n ≡ count + declared (placed_statement tree.now)) result }
 {

@@ -71,7 +71,7 @@ back_grown st u v names count grown is_names is_count is =
     ∙ ap (λ (n : ℕ). back_to u (length st.scope) n) is_count
     ∙ ap (λ (s : Scope). record { scope = s; count = st.count }) (left_names st.scope u.scope grown)
 
--- behind a statement
+-- after a statement
 pub back_behind : (P : Program) (st u v : Standing) (x : PlacedStatement) (names count : ℕ) → u ≡ behind P st x → names ≡ length st.scope → count ≡ st.count → v ≡ back_to u names count → v ≡ st
 back_behind P st u v x names count behind_is is_names is_count is = back_grown st u v names count (grown_to st.scope (behind P st x).scope u.scope (behind_grows P st x) (ap (λ (s : Standing). s.scope) behind_is)) is_names is_count is
 

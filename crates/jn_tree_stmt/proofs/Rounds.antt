@@ -9,7 +9,7 @@ use Rattle.jn_tree_world.specs.declared.halt.Halt.{Halt}
 use Rattle.jn_tree_world.specs.declared.halt.Halt.TheVariants.{Faulted, NullAt, FuelOut as NoFuel, TooDeep, Senseless, OutOfMemory}
 use Rattle.jn_tree_stmt.specs.Leaving.{concluded, done_round, last_test, leaves, round, stops_turn, tested, unless_left, updated}
 
--- behind an update, or the first of several statements
+-- after an update, or the first of several statements
 pub went_on : (r : Result Flow) (go : World → Result Flow) → in_turn r go ≡ then_do (then_do r (λ flow w. Has (stops_turn flow) w)) (λ o w. unless_left o w go)
 went_on (Stops s out) go = refl
 went_on (Has Onward w) go = refl
@@ -32,7 +32,7 @@ tested_from : (r : Result Bool) (go : World → Result Flow) → then_do r (λ b
 tested_from (Stops s out) go = refl
 tested_from (Has b w) go = spent_before b w.fuel w go
 
--- so many turns are left before a turn, and none behind the last one
+-- so many turns are left before a turn, and none after the last one
 pub one_more : (n i : ℕ) → i < n → n - i ≡ suc (n - (i + 1))
 one_more n i lt = omega (lt, arith)
 
@@ -136,7 +136,7 @@ onward_out (Returns v) g w go is = ap (λ x. Has (is_left_by x) w) is
 pub stop_same : {A : Type 0} → (h : Halt) (r q : Result A) (out : List ℕ) → r ≡ q → IsStop h q out → IsStop h r out
 stop_same h r q out is stop = subst (λ p. IsStop h p out) (sym is) stop
 
--- what was gone through, and what comes behind it
+-- what was gone through, and what comes after it
 abbrev through : World → Result ⊤
 through w = Has tt w
 

@@ -29,7 +29,7 @@ abbrev pub unless_left : Option Flow → World → (World → Result Flow) → R
 unless_left None w go = go w
 unless_left (Some flow) w go = Has flow w
 
--- behind the body: the update, unless the loop is left
+-- after the body: the update, unless the loop is left
 abbrev pub updated : Option Flow → World → (World → Result Flow) → Result (Option Flow)
 updated None w update = then_do (update w) (λ flow w. Has (stops_turn flow) w)
 updated (Some flow) w update = Has (Some flow) w
@@ -42,7 +42,7 @@ round body update w = then_do (body w) (λ flow w. updated (leaves flow) w updat
 abbrev pub tested : (World → Result Bool) → World → Result Bool
 tested test w = then_do (test w) (λ b w. spent w (λ w. Has b w))
 
--- behind the body of a `do`: the condition, unless the loop is left (JLS 8, 14.13)
+-- after the body of a `do`: the condition, unless the loop is left (JLS 8, 14.13)
 abbrev pub concluded : Option Flow → World → (World → Result Bool) → Result (Option Flow)
 concluded None w test = then_do (tested test w) (λ b w. Has (cond b None (Some Onward)) w)
 concluded (Some flow) w test = Has (Some flow) w
@@ -51,6 +51,6 @@ concluded (Some flow) w test = Has (Some flow) w
 abbrev pub done_round : (World → Result Flow) → (World → Result Bool) → World → Result (Option Flow)
 done_round body test w = then_do (body w) (λ flow w. concluded (leaves flow) w test)
 
--- a condition, behind which no unit of fuel is left
+-- a condition, after which no unit of fuel is left
 abbrev pub last_test : (World → Result Bool) → World → Result Flow
 last_test test w = then_do (test w) (λ b w. Stops FuelOut w.out)

@@ -28,6 +28,6 @@ module _ (b : Site) (names : List (List ℕ)) (m : Caller) (turns : ℕ) where
   abbrev pub all_run_at : Standing → PlacedStatements → World → Result spec.Flow
   all_run_at st xs w = spec.all_executed b.program.now names usual_limits.longest m turns b.class.0 st xs w
 
--- behind the variable of a `for` over an array, whose two hidden locals come before it (JLS 8, 14.14.2)
+-- after the variable of a `for` over an array, whose two hidden locals come before it (JLS 8, 14.14.2)
 abbrev pub behind_variable : Program → Standing → PlacedParameter → Standing
 behind_variable P st p = declares (further st 2) p.name.name.0 (type_written P p.marks p.type_use) (bound_written p.marks p.type_use) (has_final p.marks) (base_rows P p.type_use.base)

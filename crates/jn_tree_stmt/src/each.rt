@@ -25,7 +25,7 @@ use jn_tree_simple::{Flow, Site, Standing};
 use jn_tree_world::{Halt, World};
 use jn_trees::{Expr, Names, Parameter};
 
-/// The three locals of the loop, behind those that there are.
+/// The three locals of the loop, after those that there are.
 fn hidden(array: &Expr, st: &Standing) -> Result<Hidden, Halt>
     ensures { Found (λ h. (IsHidden h st.now.count) × (h.at ≡ operand_span (placed_view array.now)))
         result }
@@ -41,7 +41,7 @@ fn hidden(array: &Expr, st: &Standing) -> Result<Hidden, Halt>
     })
 }
 
-/// The variable comes into scope, behind two locals without names.
+/// The variable comes into scope, after two locals without names.
 fn declare_variable(variable: &Parameter, b: &Site, st: &mut Standing) -> Result<(), Halt>
     requires few { Few b.now.program.now }
     ensures { Found (λ u. standing_of st.new ≡ behind_variable b.now.program.now (standing_of st.old)
@@ -91,7 +91,7 @@ pub fn tested(b: &Site, w: &mut World, locals: Hidden) -> Result<bool, Halt>
     Ok(left)
 }
 
-/// The test behind the last turn, where no unit of fuel is left.
+/// The test after the last turn, where no unit of fuel is left.
 pub fn last_test(b: &Site, w: &World, locals: Hidden) -> Result<Flow, Halt>
     ensures { (names : List (List ℕ)) (turns : ℕ) (m : Caller) (r : ℕ) → IsHidden locals r
         → MeansAs flow_of (leaving.last_test (each_holds b.now names m turns locals.at r)

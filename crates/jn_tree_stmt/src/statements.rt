@@ -52,7 +52,7 @@ pub fn execute_all<F: Fn(usize, Vec<Value>, &mut World) -> Result<Option<Value>,
     Ok(Flow::Onward)
 }
 
-/// A statement. Behind it its names are out of scope, but for those of a declaration (JLS 6.3).
+/// A statement. After it its names are out of scope, but for those of a declaration (JLS 6.3).
 #[cycle(executing)]
 fn execute<F: Fn(usize, Vec<Value>, &mut World) -> Result<Option<Value>, Halt>>(
     tree: &Stmt,
@@ -352,7 +352,7 @@ fn turn_do<F: Fn(usize, Vec<Value>, &mut World) -> Result<Option<Value>, Halt>>(
     Ok(left)
 }
 
-/// The body of a `do` behind the last turn, and its condition, where no unit of fuel is left.
+/// The body of a `do` after the last turn, and its condition, where no unit of fuel is left.
 #[cycle(executing)]
 fn end_do<F: Fn(usize, Vec<Value>, &mut World) -> Result<Option<Value>, Halt>>(
     body: &Stmt,

@@ -1,4 +1,4 @@
-//! What each turn of a loop does besides its body, and where a loop goes on behind its body (JLS 14.12 to 14.17).
+//! What each turn of a loop does besides its body, and where a loop goes on after its body (JLS 14.12 to 14.17).
 ghost use Rattle.std.specs.Prelude.{◌≡◌, ℕ};
 ghost use Rattle.jn_meaning.specs.Expressions.{Caller};
 ghost use Rattle.jn_places.specs.PlacedView.{placed_view, placed_views};
@@ -29,7 +29,7 @@ pub fn stops_turn(flow: Flow) -> Option<Flow>
     }
 }
 
-/// The flow with which a loop is left, if this flow of its body leaves it: behind a `break` it goes on behind the loop.
+/// The flow with which a loop is left, if this flow of its body leaves it: after a `break` it goes on after the loop.
 pub fn leaves(flow: Flow) -> Option<Flow>
     ensures { left_of result ≡ spec.leaves (flow_of flow) }
 {
@@ -111,7 +111,7 @@ pub fn conclude<F: Fn(usize, Vec<Value>, &mut World) -> Result<Option<Value>, Ha
     }
 }
 
-/// The condition of a loop behind the last turn, where no unit of fuel is left.
+/// The condition of a loop after the last turn, where no unit of fuel is left.
 pub fn last_test<F: Fn(usize, Vec<Value>, &mut World) -> Result<Option<Value>, Halt>>(
     tree: &Expr,
     b: &Site,

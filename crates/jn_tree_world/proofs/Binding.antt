@@ -1,4 +1,4 @@
--- One evaluation behind another, in what the code gives.
+-- One evaluation after another, in what the code gives.
 use Rattle.std.proofs.Common.{◌≡◌, ℕ, zero, suc, List, Option, Some, None, Ok, Err, refl, sym, subst}
 use Rattle.std.specs.Prelude.{⊤, Result as Answer, IsErrAnd}
 use Rattle.jn_base.specs.declared.place.Span.{Span}
@@ -8,7 +8,7 @@ use Rattle.jn_tree_world.specs.declared.halt.Halt.{Halt}
 use Rattle.jn_tree_world.specs.declared.halt.Halt.TheVariants.{Faulted, NullAt, FuelOut, TooDeep, Senseless, OutOfMemory}
 use Rattle.jn_tree_world.specs.Outcomes.{IsStop, MeansAs, passes, spends}
 
--- what an evaluation was, behind which another one comes
+-- what an evaluation was, after which another one comes
 pub bound : {A B D : Type 0} → (view : D → B) (r : Result A) (go : A → World → Result B) (x : A) (mid : World) (result : Answer D Halt) (w : World) → r ≡ Has x mid → MeansAs view (go x mid) result w → MeansAs view (then_do r go) result w
 bound view r go x mid result w is means = subst (λ q. MeansAs view (then_do q go) result w) (sym is) means
 
@@ -30,7 +30,7 @@ pub stops : {B D : Type 0} → (view : D → B) (r : Result B) (h : Halt) (back 
 stops view r h (Ok x) w handed is = absurd handed
 stops view r h (Err e) w handed is = subst (λ q. IsStop q r w.out) (sym handed) is
 
--- a dereference, and a unit of fuel, before what comes behind
+-- a dereference, and a unit of fuel, before what comes after
 pub deref_first : {A : Type 0} → (x : Option Value) (at : Span) (w : World) (go : Result A) → derefs x at w go ≡ then_do (passes x at w) (λ u v. go)
 deref_first None at w go = refl
 deref_first (Some NullRef) at w go = refl

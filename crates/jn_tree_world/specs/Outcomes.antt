@@ -19,7 +19,7 @@ IsStop TooDeep r out = r ≡ Stops spec.TooDeep out
 IsStop Senseless r out = r ≡ Stops spec.Senseless out
 IsStop OutOfMemory r out = Unit {0}
 
--- what is meant is what was given, seen so, and the world behind it; or the stop
+-- what is meant is what was given, seen so, and the world after it; or the stop
 abbrev pub MeansAs : {A B : Type 0} → (A → B) → Result B → Answer A Halt → World → Type 0
 MeansAs view r (Ok x) w = r ≡ Has (view x) w
 MeansAs view r (Err h) w = IsStop h r w.out

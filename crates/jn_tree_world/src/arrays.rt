@@ -154,7 +154,7 @@ pub fn write_element(
     }
 }
 
-/// Puts a thing behind the heap, and gives a reference to it.
+/// Puts a thing after the heap, and gives a reference to it.
 pub fn allocate(w: &mut World, thing: Thing) -> Result<Option<Value>, Halt>
     ensures { Means (ops.allocated (world_of w.old) thing) result (world_of w.new) }
 {

@@ -33,7 +33,7 @@ fn copied(held: &Option<Value>) -> Result<Option<Value>, AllocError>
     }
 }
 
-/// Puts the values behind those given; None where one isn't there.
+/// Puts the values after those given; None where one isn't there.
 #[tactic(auto, using(crate::proofs::Pieces::prepended_more))]
 pub fn all_there(
     front: Vec<Value>,

@@ -27,7 +27,7 @@ use std::alloc::{AllocError, Global};
 /// The greatest number of UTF-16 units of a text, and of elements of an array.
 pub const LONGEST: usize = 16_777_216;
 
-/// The number of a literal; that of 2,147,483,648, which stands behind a minus, wraps (JLS 3.10.1).
+/// The number of a literal; that of 2,147,483,648, which stands after a minus, wraps (JLS 3.10.1).
 fn number_of(number: u32) -> i32
     ensures { result ≡ form.int_of number }
 {

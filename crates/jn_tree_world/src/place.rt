@@ -153,7 +153,7 @@ pub fn write_place(
     }
 }
 
-/// What `++` and `--` behind give: the old value, which must be there where it is a local's (JLS 15.14.2).
+/// What `++` and `--` after give: the old value, which must be there where it is a local's (JLS 15.14.2).
 pub fn old_value(place: &Place, span: Span, value: Option<Value>) -> Result<Option<Value>, Halt>
     ensures { (w : spec.World)
         → Means (expressions.old_value (place_of place.now) span value w) result w }

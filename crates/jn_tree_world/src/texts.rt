@@ -14,7 +14,7 @@ use jn_machine::Value;
 use jn_machine::text::joined;
 use std::alloc::{AllocError, Global};
 
-/// Puts the text and a line feed behind the bytes.
+/// Puts the text and a line feed after the bytes.
 fn put_line(alloc: Global, out: &mut Vec<u8>, text: &str) -> Result<(), AllocError>
     ensures { OnOk result (out.new.items ≡ out.old.items ++ (text.now ++ 10 ∷ [])) }
 {

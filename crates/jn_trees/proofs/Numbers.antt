@@ -6,7 +6,7 @@ use Rattle.std.specs.Cmp.Lexicographic.{bytes_decides}
 use Rattle.std.proofs.lemmas.Bool.{false≢true, eqb-true, eq-eqb}
 use Rattle.jn_trees.specs.Names.{with_name, number_in, AreDistinct}
 
--- a list with a known text, or with a new one behind
+-- a list with a known text, or with a new one after
 step : (x : List ℕ) (names : List (List ℕ)) (text : List ℕ) (b : Bool) → cond b (x ∷ names) ((x ∷ names) ++ text ∷ []) ≡ x ∷ cond b names (names ++ text ∷ [])
 step x names text true = refl
 step x names text false = refl

@@ -1,4 +1,4 @@
--- The brackets open behind one token more.
+-- The brackets open after one token more.
 use Rattle.std.proofs.Common.{◌≡◌, ℕ, ◌+◌, ◌<◌, List, [], ◌∷◌, ◌++◌, length, take, get_or, refl, sym, ap, ◌∙◌}
 use Rattle.std.proofs.lemmas.List.{map_more, take-map}
 use Rattle.jn_trees.specs.declared.token.Token.{Token}

@@ -1,4 +1,4 @@
--- Modifiers behind words that stand before them.
+-- Modifiers after words that stand before them.
 use Rattle.std.specs.Prelude.{List, Bool, false, not, ◌&&◌, ◌||◌, Option, Some, None}
 use Rattle.jn_trees.specs.Trees.{Mark, PublicMark, StaticMark, ConstantMark, AbstractMark}
 use Rattle.jn_trees.specs.WellFormed.{clashes_none, no_clash}

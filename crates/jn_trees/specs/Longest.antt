@@ -13,7 +13,7 @@ use Rattle.jn_trees.specs.WellFormed.{Good, nesting, GoodStatement, nesting_stat
 use Rattle.jn_trees.specs.View.{view, statement_view}
 use Rattle.jn_trees.specs.Pieces.{kinds}
 
--- a tree and the tokens behind it, or none
+-- a tree and the tokens after it, or none
 abbrev pub Try : Type 0
 Try = Option (Tree × List TokenKind)
 

@@ -14,6 +14,6 @@ number_in names text = position_or_len (bytes_eq text) names
 abbrev pub AreDistinct : List (List ℕ) → Type 0
 AreDistinct names = (i j : ℕ) (text : List ℕ) → slice_get names i ≡ Some text → slice_get names j ≡ Some text → i ≡ j
 
--- the new list is the old one with more names behind
+-- the new list is the old one with more names after
 abbrev pub Extends : List (List ℕ) → List (List ℕ) → Type 0
 Extends old new = (more : List (List ℕ)) × (new ≡ old ++ more)

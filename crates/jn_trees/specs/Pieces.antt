@@ -73,7 +73,7 @@ spell_piece (StatementPiece s) = spell_statement s
 spell_piece BodyEnd = RightBrace ∷ []
 spell_piece TypeEnd = RightBrace ∷ []
 
--- where a piece stands: first in the file, behind a package line or an import, behind a type, in a type, or in a body of a type's member, where the next statement may be the first of a constructor
+-- where a piece stands: first in the file, after a package line or an import, after a type, in a type, or in a body of a type's member, where the next statement may be the first of a constructor
 pub data Around : Type 0 where
   AtStart : Around
   BehindLines : Around
@@ -102,7 +102,7 @@ MayStatement leading (StatementPiece s) = GoodStatement (body_context leading) s
 MayStatement leading BodyEnd = Unit {0}
 MayStatement leading _ = ⊥
 
--- the piece may stand behind the package line or an import: an import, or the head of a type (JLS 8, 7.5)
+-- the piece may stand after the package line or an import: an import, or the head of a type (JLS 8, 7.5)
 abbrev pub MayImport : Piece → Type 0
 MayImport (ImportPiece i) = Unit {0}
 MayImport p = MayHead p
@@ -120,7 +120,7 @@ May BehindTypes p = MayHead p
 May (InType o) p = MayMember o p
 May (InBody o leading) p = MayStatement leading p
 
--- what stands around the piece behind this one
+-- what stands around the piece after this one
 abbrev pub behind_member : Owner → Piece → Around
 behind_member o (MethodHead ms u n r ps) = InBody o false
 behind_member o (ConstructorHead ms n ps) = InBody o true
@@ -132,7 +132,7 @@ abbrev pub behind_statement : Owner → Piece → Around
 behind_statement o BodyEnd = InType o
 behind_statement o _ = InBody o false
 
--- what is around the piece behind this one outside of types: the type whose head this is, or else the lines that begin a file
+-- what is around the piece after this one outside of types: the type whose head this is, or else the lines that begin a file
 abbrev pub behind_outer : Piece → Around
 behind_outer (ClassHead ms n parent interfaces) = InType (record { interface = false; name = n })
 behind_outer (InterfaceHead ms n parents) = InType (record { interface = true; name = n })
@@ -148,7 +148,7 @@ behind _ p = behind_outer p
 abbrev pub pieces : Language
 pieces = record { State = Around; Piece = Piece; spelling = spell_piece; May = May; next = behind }
 
--- the brackets open behind these tokens; what closes none counts nothing
+-- the brackets open after these tokens; what closes none counts nothing
 abbrev pub opened : ℕ → TokenKind → ℕ
 opened n LeftParen = n + 1
 opened n LeftBracket = n + 1
@@ -158,7 +158,7 @@ opened n RightBracket = n - 1
 opened n RightBrace = n - 1
 opened n _ = n
 
--- how many brackets are open behind the tokens, when n are open before them
+-- how many brackets are open after the tokens, when n are open before them
 abbrev pub opened_from : ℕ → List TokenKind → ℕ
 opened_from n [] = n
 opened_from n (k ∷ ks) = opened_from (opened n k) ks
@@ -181,7 +181,7 @@ Shallow ts = (m : ℕ) → m < length ts → opened_from 0 (take (m + 1) ts) ≤
 abbrev pub kinds : List Token → List TokenKind
 kinds tokens = map (λ (t : Token). t.kind) tokens
 
--- the place of a token, or the end of the text behind the last
+-- the place of a token, or the end of the text after the last
 abbrev pub place_from : FileNo → ℕ → Option Token → Span
 place_from file end None = record { file = file; from = end; to = end }
 place_from file end (Some t) = t.span

@@ -29,7 +29,7 @@ sign_token PlusSign = Plus
 sign_token MinusSign = Minus
 sign_token NotSign = Not
 
--- the token of a step, `++` or `--`, before or behind its target (JLS 8, 15.14 and 15.15)
+-- the token of a step, `++` or `--`, before or after its target (JLS 8, 15.14 and 15.15)
 abbrev pub step_token : Step → TokenKind
 step_token Increment = PlusPlus
 step_token Decrement = MinusMinus
@@ -129,7 +129,7 @@ spell_value (Some e) = Assign ∷ spell e
 abbrev pub spell_declarator : DeclaratorTree → List TokenKind
 spell_declarator d = Id d.name ∷ spell_value d.value
 
--- the variables of a declaration behind the first, each with its comma before
+-- the variables of a declaration after the first, each with its comma before
 abbrev pub spell_more_declarators : List DeclaratorTree → List TokenKind
 spell_more_declarators [] = []
 spell_more_declarators (d ∷ ds) = Comma ∷ (spell_declarator d ++ spell_more_declarators ds)
@@ -192,7 +192,7 @@ spell_all_marks (m ∷ ms) = spell_mark m ++ spell_all_marks ms
 abbrev pub spell_parameter : ParameterTree → List TokenKind
 spell_parameter p = spell_marks p.marks ++ (spell_type_use p.type_use ++ Id p.name ∷ [])
 
--- those behind the first, or behind the receiver, through the closing parenthesis
+-- those after the first, or after the receiver, through the closing parenthesis
 abbrev pub spell_more_parameters : List ParameterTree → List TokenKind
 spell_more_parameters [] = RightParen ∷ []
 spell_more_parameters (p ∷ ps) = Comma ∷ (spell_parameter p ++ spell_more_parameters ps)
@@ -236,12 +236,12 @@ abbrev pub spell_members : List MemberTree → List TokenKind
 spell_members [] = RightBrace ∷ []
 spell_members (m ∷ ms) = spell_member m ++ spell_members ms
 
--- the names of a list behind the first, each with its comma before
+-- the names of a list after the first, each with its comma before
 abbrev pub spell_more_names : List NameNo → List TokenKind
 spell_more_names [] = []
 spell_more_names (n ∷ ns) = Comma ∷ Id n ∷ spell_more_names ns
 
--- the names behind a word, or nothing where there are none
+-- the names after a word, or nothing where there are none
 abbrev pub spell_names : TokenKind → List NameNo → List TokenKind
 spell_names word [] = []
 spell_names word (n ∷ ns) = word ∷ Id n ∷ spell_more_names ns
@@ -269,7 +269,7 @@ abbrev pub spell_types : List TypeDeclaration → List TokenKind
 spell_types [] = []
 spell_types (t ∷ ts) = spell_type t ++ spell_types ts
 
--- the names behind the first in a name with dots, each with its dot before
+-- the names after the first in a name with dots, each with its dot before
 abbrev pub spell_dots : List NameNo → List TokenKind
 spell_dots [] = []
 spell_dots (n ∷ ns) = Dot ∷ Id n ∷ spell_dots ns

@@ -132,7 +132,7 @@ pub record DottedName : Type 0 where
   pub first : NameNo
   pub more : List NameNo
 
--- an import: its name, and whether `.*` stands behind (JLS 8, 7.5)
+-- an import: its name, and whether `.*` stands after (JLS 8, 7.5)
 pub record ImportTree : Type 0 where
   pub name : DottedName
   pub all : Bool

@@ -218,7 +218,7 @@ abbrev pub package_view : Option PackageLine → Option DottedName
 package_view None = None
 package_view (Some p) = Some (dotted_view p.name)
 
--- an import: its name by numbers, and whether `.*` stands behind
+-- an import: its name by numbers, and whether `.*` stands after
 abbrev pub import_view : Import → ImportTree
 import_view i = record { name = dotted_view i.name; all = i.all }
 

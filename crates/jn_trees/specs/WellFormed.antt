@@ -57,7 +57,7 @@ power NotEqual = 4
 power And = 5
 power Or = 6
 
--- how weakly a tree binds: 1 for what stands by itself, 2 for a step behind, 3 for what has a sign, a step or a cast before, 4 to 9 for operators, 10 for a conditional, 11 for an assignment
+-- how weakly a tree binds: 1 for what stands by itself, 2 for a step after, 3 for what has a sign, a step or a cast before, 4 to 9 for operators, 10 for a conditional, 11 for an assignment
 abbrev pub rank : Tree → ℕ
 rank (PostfixTree p s) = 2
 rank (PrefixTree s p) = 3
@@ -76,13 +76,13 @@ is_left_side (FieldTree p n) = true
 is_left_side (IndexTree p e) = true
 is_left_side _ = false
 
--- what an index may stand behind: all but a new array (JLS 15.10.3)
+-- what an index may stand after: all but a new array (JLS 15.10.3)
 abbrev pub is_indexable : Tree → Bool
 is_indexable (NewArrayTree ns b e) = false
 is_indexable (ArrayOfTree ns b es) = false
 is_indexable _ = true
 
--- the number that stands behind a minus sign alone (JLS 3.10.1)
+-- the number that stands after a minus sign alone (JLS 3.10.1)
 abbrev pub is_least_literal : Literal → Bool
 is_least_literal (Number n) = nat_eq n 2147483648
 is_least_literal _ = false
@@ -97,7 +97,7 @@ abbrev pub GoodLiteral : Literal → Type 0
 GoodLiteral (Number n) = n < 2147483648
 GoodLiteral _ = Unit {0}
 
--- what a cast may stand before: `!e`, a cast, and what binds at least as strongly as a step behind (JLS 15.16)
+-- what a cast may stand before: `!e`, a cast, and what binds at least as strongly as a step after (JLS 15.16)
 abbrev pub is_castable : Tree → Bool
 is_castable (UnaryTree Not e) = true
 is_castable (UnaryTree o e) = false
@@ -108,7 +108,7 @@ is_castable (ConditionalTree c a b) = false
 is_castable (AssignTree l o r) = false
 is_castable _ = true
 
--- levels of operands; `good` is what is asked of the operand itself
+-- the operand of a sign: the least number stands after a minus alone (JLS 8, 3.10.1); `good` is what is asked of any other operand
 abbrev pub GoodSigned : UnaryOperator → Tree → Type 0 → Type 0
 GoodSigned Minus e good = elim (is_least_number e) as (λ _. Type 0) [ true ↦ Unit {0} | false ↦ good ]
 GoodSigned o e good = good

@@ -7,7 +7,7 @@ use crate::token::{Token, TokenKind};
 /// The most brackets, of all three kinds together, that may be open at once.
 const MOST_OPEN: u32 = 200;
 
-/// How many brackets are open behind a token, where this many are before it.
+/// How many brackets are open after a token, where this many are before it.
 fn opened(count: u32, kind: TokenKind) -> u32
     requires { count < 4294967295 }
     ensures { result ≡ spec_opened count kind }
@@ -21,7 +21,7 @@ fn opened(count: u32, kind: TokenKind) -> u32
     }
 }
 
-/// The number of the first token behind which more than 200 brackets, of all three kinds together, are open at once. A closing bracket where none is open counts nothing. Takes no memory.
+/// The number of the first token after which more than 200 brackets, of all three kinds together, are open at once. A closing bracket where none is open counts nothing. Takes no memory.
 pub fn too_deep(tokens: &[Token]) -> Option<usize>
     ensures { MatchOption result (Shallow (kinds tokens.now))
         (λ n. IsTooDeep (kinds tokens.now) n) }

@@ -36,7 +36,7 @@ pub enum UnaryOperator {
     Not,
 }
 
-/// A step by one, before or behind a variable (JLS 15.14, 15.15).
+/// A step by one, before or after a variable (JLS 15.14, 15.15).
 #[derive(Clone, Copy, Debug, PartialEq, Eq)]
 pub enum Step {
     /// `++`

@@ -93,7 +93,7 @@ impl Expr {
         }
     }
 
-    /// Whether an index may stand behind the expression: not behind a new array (JLS 15.10.3).
+    /// Whether an index may stand after the expression: not after a new array (JLS 15.10.3).
     pub fn is_indexable(&self) -> bool
         ensures { result ≡ good.is_indexable (view self.now) }
     {

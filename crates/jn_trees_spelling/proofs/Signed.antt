@@ -1,4 +1,4 @@
--- An operand behind a sign: the least number behind a minus, or one that is good by itself.
+-- An operand after a sign: the least number after a minus, or one that is good by itself.
 use Rattle.std.proofs.Common.{◌≡◌, Bool, true, false, sym, subst}
 use Rattle.jn_trees.specs.declared.expression.UnaryOperator.{UnaryOperator}
 use Rattle.jn_trees.specs.declared.expression.UnaryOperator.TheVariants.{Plus, Minus, Not}

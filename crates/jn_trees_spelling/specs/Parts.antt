@@ -41,7 +41,7 @@ abbrev pub is_not_sign : UnaryOperator → Bool
 is_not_sign Not = true
 is_not_sign _ = false
 
--- a minus sign and the number that stands behind it alone (JLS 3.10.1)
+-- a minus sign and the number that stands after it alone (JLS 3.10.1)
 abbrev pub is_least_signed : UnaryOperator → Tree → Bool
 is_least_signed Minus e = is_least_number e
 is_least_signed _ e = false

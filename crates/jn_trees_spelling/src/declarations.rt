@@ -8,7 +8,7 @@ use crate::put::{put, put_all};
 use jn_base::{NameNo, OutOfMemory};
 use jn_trees::{Identifier, Member, Modifier, TokenKind, TypeTree};
 
-/// Puts the members and the closing brace of their type behind the tokens.
+/// Puts the members and the closing brace of their type after the tokens.
 fn spell_members(kinds: &mut Vec<TokenKind>, members: &[Member]) -> Result<(), OutOfMemory>
     ensures { OnOk result
         (kinds.new.items ≡ kinds.old.items ++ spec_members (member_views members.now)) }
@@ -19,7 +19,7 @@ fn spell_members(kinds: &mut Vec<TokenKind>, members: &[Member]) -> Result<(), O
     put(kinds, TokenKind::RightBrace)
 }
 
-/// Puts further names, each behind a comma, behind the tokens.
+/// Puts further names, each after a comma, after the tokens.
 fn spell_more_names(kinds: &mut Vec<TokenKind>, names: &[Identifier]) -> Result<(), OutOfMemory>
     ensures { OnOk result
         (kinds.new.items ≡ kinds.old.items ++ spec_more_names (identifier_names names.now)) }
@@ -30,7 +30,7 @@ fn spell_more_names(kinds: &mut Vec<TokenKind>, names: &[Identifier]) -> Result<
     Ok(())
 }
 
-/// Puts a word and the names, or nothing where there are none, behind the tokens.
+/// Puts a word and the names, or nothing where there are none, after the tokens.
 fn spell_names(
     kinds: &mut Vec<TokenKind>,
     word: TokenKind,
@@ -57,7 +57,7 @@ fn spell_parent(kinds: &mut Vec<TokenKind>, parent: Option<Identifier>) -> Resul
     }
 }
 
-/// Puts a class through its opening brace behind the tokens.
+/// Puts a class through its opening brace after the tokens.
 fn spell_class_head(
     kinds: &mut Vec<TokenKind>,
     modifiers: &[Modifier],
@@ -77,7 +77,7 @@ fn spell_class_head(
     put(kinds, TokenKind::LeftBrace)
 }
 
-/// Puts an interface through its opening brace behind the tokens.
+/// Puts an interface through its opening brace after the tokens.
 fn spell_interface_head(
     kinds: &mut Vec<TokenKind>,
     modifiers: &[Modifier],
@@ -94,7 +94,7 @@ fn spell_interface_head(
     put(kinds, TokenKind::LeftBrace)
 }
 
-/// Puts the class or interface behind the tokens.
+/// Puts the class or interface after the tokens.
 pub fn spell_type(kinds: &mut Vec<TokenKind>, declaration: &TypeTree) -> Result<(), OutOfMemory>
     ensures { OnOk result
         (kinds.new.items ≡ kinds.old.items ++ spec_type (type_view declaration.now)) }

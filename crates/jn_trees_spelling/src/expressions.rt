@@ -11,7 +11,7 @@ use crate::words::{
 use jn_base::OutOfMemory;
 use jn_trees::{Annotation, Base, Expr, TokenKind};
 
-/// Puts the annotations behind the tokens.
+/// Puts the annotations after the tokens.
 pub fn spell_annotations(
     kinds: &mut Vec<TokenKind>,
     annotations: &[Annotation],
@@ -25,7 +25,7 @@ pub fn spell_annotations(
     Ok(())
 }
 
-/// Puts the expression behind the tokens.
+/// Puts the expression after the tokens.
 #[cycle(expressions)]
 pub fn spell(kinds: &mut Vec<TokenKind>, expression: &Expr) -> Result<(), OutOfMemory>
     ensures { OnOk result (kinds.new.items ≡ kinds.old.items ++ spec_spell (view expression.now)) }
@@ -189,7 +189,7 @@ pub fn spell(kinds: &mut Vec<TokenKind>, expression: &Expr) -> Result<(), OutOfM
     }
 }
 
-/// Puts the expressions behind the tokens, with commas between and the token that ends them.
+/// Puts the expressions after the tokens, with commas between and the token that ends them.
 #[cycle(expressions)]
 pub fn spell_list(
     kinds: &mut Vec<TokenKind>,
@@ -206,7 +206,7 @@ pub fn spell_list(
     put(kinds, end)
 }
 
-/// Puts `new`, the annotations, the type and the opening bracket behind the tokens.
+/// Puts `new`, the annotations, the type and the opening bracket after the tokens.
 fn put_new(
     kinds: &mut Vec<TokenKind>,
     annotations: &[Annotation],

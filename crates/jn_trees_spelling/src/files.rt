@@ -9,7 +9,7 @@ use jn_base::OutOfMemory;
 use jn_trees::{FileTree, Identifier, Import, PackageLine, QualifiedName, TokenKind, TypeTree};
 use std::alloc::Global;
 
-/// Puts further names, each behind a dot, behind the tokens.
+/// Puts further names, each after a dot, after the tokens.
 fn spell_dots(kinds: &mut Vec<TokenKind>, names: &[Identifier]) -> Result<(), OutOfMemory>
     ensures { OnOk result
         (kinds.new.items ≡ kinds.old.items ++ spec_dots (identifier_names names.now)) }

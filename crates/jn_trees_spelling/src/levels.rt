@@ -13,7 +13,7 @@ pub fn level(operator: BinaryOperator) -> u32
     operator.power() + 3
 }
 
-/// How weakly an expression binds: 1 for what stands by itself, 2 for a step behind, 3 for what has a sign, a step or a cast before, 4 to 9 for operators, 10 for a conditional, 11 for an assignment.
+/// How weakly an expression binds: 1 for what stands by itself, 2 for a step after, 3 for what has a sign, a step or a cast before, 4 to 9 for operators, 10 for a conditional, 11 for an assignment.
 pub fn rank(expression: &Expr) -> u32
     ensures { result ≡ spec_rank (view expression.now) }
 {
@@ -39,7 +39,7 @@ fn is_least_literal(literal: Literal) -> bool
     }
 }
 
-/// Whether the expression is the number 2,147,483,648, which may stand behind a minus sign alone.
+/// Whether the expression is the number 2,147,483,648, which may stand after a minus sign alone.
 pub fn is_least_number(expression: &Expr) -> bool
     ensures { result ≡ spec_is_least_number (view expression.now) }
 {

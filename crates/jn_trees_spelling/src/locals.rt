@@ -23,7 +23,7 @@ fn spell_local_mark(kinds: &mut Vec<TokenKind>, modifier: LocalModifier) -> Resu
     }
 }
 
-/// Puts the modifiers of a local or parameter behind the tokens.
+/// Puts the modifiers of a local or parameter after the tokens.
 pub fn spell_local_marks(
     kinds: &mut Vec<TokenKind>,
     modifiers: &[LocalModifier],
@@ -53,7 +53,7 @@ fn spell_brackets(
     }
 }
 
-/// Puts the use of a type behind the tokens.
+/// Puts the use of a type after the tokens.
 pub fn spell_type_use(kinds: &mut Vec<TokenKind>, type_use: &TypeUse) -> Result<(), OutOfMemory>
     ensures { OnOk result
         (kinds.new.items ≡ kinds.old.items ++ spec_type_use (type_use_view type_use.now)) }
@@ -75,7 +75,7 @@ fn spell_value(kinds: &mut Vec<TokenKind>, value: &Option<Box<Expr>>) -> Result<
     }
 }
 
-/// Puts a declared name, with its initializer if it has one, behind the tokens.
+/// Puts a declared name, with its initializer if it has one, after the tokens.
 pub fn spell_declarator(
     kinds: &mut Vec<TokenKind>,
     declarator: &Declarator,
@@ -87,7 +87,7 @@ pub fn spell_declarator(
     spell_value(kinds, &declarator.value)
 }
 
-/// Puts further declared names, each behind a comma, behind the tokens.
+/// Puts further declared names, each after a comma, after the tokens.
 pub fn spell_more_declarators(
     kinds: &mut Vec<TokenKind>,
     declarators: &[Declarator],
@@ -102,7 +102,7 @@ pub fn spell_more_declarators(
     Ok(())
 }
 
-/// Puts a declaration of locals, without the semicolon, behind the tokens.
+/// Puts a declaration of locals, without the semicolon, after the tokens.
 pub fn spell_local(
     kinds: &mut Vec<TokenKind>,
     declaration: &LocalDeclaration,

@@ -29,7 +29,7 @@ fn spell_modifier(kinds: &mut Vec<TokenKind>, modifier: Modifier) -> Result<(), 
     }
 }
 
-/// Puts the modifiers of a type or member behind the tokens.
+/// Puts the modifiers of a type or member after the tokens.
 pub fn spell_modifiers(
     kinds: &mut Vec<TokenKind>,
     modifiers: &[Modifier],
@@ -52,7 +52,7 @@ fn spell_parameter(kinds: &mut Vec<TokenKind>, parameter: &Parameter) -> Result<
     put(kinds, TokenKind::Id(parameter.name.name))
 }
 
-/// Puts further parameters, each behind a comma, and the closing parenthesis behind the tokens.
+/// Puts further parameters, each after a comma, and the closing parenthesis after the tokens.
 fn spell_more_parameters(
     kinds: &mut Vec<TokenKind>,
     parameters: &[Parameter],
@@ -67,7 +67,7 @@ fn spell_more_parameters(
     put(kinds, TokenKind::RightParen)
 }
 
-/// Puts the parameters, where no receiver stands before them, and the closing parenthesis behind the tokens.
+/// Puts the parameters, where no receiver stands before them, and the closing parenthesis after the tokens.
 fn spell_plain_parameters(
     kinds: &mut Vec<TokenKind>,
     parameters: &[Parameter],
@@ -116,7 +116,7 @@ fn spell_result(kinds: &mut Vec<TokenKind>, result_use: &ResultUse) -> Result<()
     }
 }
 
-/// Puts a method through its closing parenthesis behind the tokens.
+/// Puts a method through its closing parenthesis after the tokens.
 fn spell_method_head(
     kinds: &mut Vec<TokenKind>,
     modifiers: &[Modifier],
@@ -136,7 +136,7 @@ fn spell_method_head(
     spell_parameters(kinds, receiver, parameters)
 }
 
-/// Puts a constructor through its closing parenthesis behind the tokens.
+/// Puts a constructor through its closing parenthesis after the tokens.
 fn spell_constructor_head(
     kinds: &mut Vec<TokenKind>,
     modifiers: &[Modifier],
@@ -187,7 +187,7 @@ fn spell_field(
     put(kinds, TokenKind::Semicolon)
 }
 
-/// Puts the member behind the tokens.
+/// Puts the member after the tokens.
 pub fn spell_member(kinds: &mut Vec<TokenKind>, member: &Member) -> Result<(), OutOfMemory>
     ensures { OnOk result
         (kinds.new.items ≡ kinds.old.items ++ spec_member (member_view member.now)) }

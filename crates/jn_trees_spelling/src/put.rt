@@ -1,11 +1,11 @@
-//! Tokens behind others.
+//! Tokens after others.
 ghost use Rattle.jn_trees_spelling.specs.Parts.{separator};
 ghost use Rattle.std.specs.Prelude.{◌≡◌, ◌++◌, ◌∷◌, [], OnOk};
 
 use jn_base::{OutOfMemory, lists};
 use jn_trees::TokenKind;
 
-/// Puts the token behind the others.
+/// Puts the token after the others.
 pub fn put(kinds: &mut Vec<TokenKind>, kind: TokenKind) -> Result<(), OutOfMemory>
     ensures { OnOk result (kinds.new.items ≡ kinds.old.items ++ kind ∷ []) }
 {
@@ -13,7 +13,7 @@ pub fn put(kinds: &mut Vec<TokenKind>, kind: TokenKind) -> Result<(), OutOfMemor
     Ok(())
 }
 
-/// Puts the tokens behind the others, in their order.
+/// Puts the tokens after the others, in their order.
 pub fn put_all(kinds: &mut Vec<TokenKind>, more: &[TokenKind]) -> Result<(), OutOfMemory>
     ensures { OnOk result (kinds.new.items ≡ kinds.old.items ++ more.now) }
 {
@@ -23,7 +23,7 @@ pub fn put_all(kinds: &mut Vec<TokenKind>, more: &[TokenKind]) -> Result<(), Out
     }
 }
 
-/// Puts a comma behind the tokens, unless the item that follows is the first.
+/// Puts a comma after the tokens, unless the item that follows is the first.
 pub fn separate(kinds: &mut Vec<TokenKind>, place: usize) -> Result<(), OutOfMemory>
     ensures { OnOk result (kinds.new.items ≡ kinds.old.items ++ separator place) }
 {

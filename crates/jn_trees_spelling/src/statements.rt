@@ -35,7 +35,7 @@ fn spell_init(kinds: &mut Vec<TokenKind>, init: &ForInit) -> Result<(), OutOfMem
     }
 }
 
-/// Puts a word, the condition in parentheses, behind the tokens.
+/// Puts a word, the condition in parentheses, after the tokens.
 fn spell_condition(
     kinds: &mut Vec<TokenKind>,
     word: TokenKind,
@@ -49,7 +49,7 @@ fn spell_condition(
     put(kinds, TokenKind::RightParen)
 }
 
-/// Puts the statement behind the tokens.
+/// Puts the statement after the tokens.
 #[cycle(statements)]
 pub fn spell_statement(kinds: &mut Vec<TokenKind>, statement: &Stmt) -> Result<(), OutOfMemory>
     ensures { OnOk result
@@ -133,7 +133,7 @@ pub fn spell_statement(kinds: &mut Vec<TokenKind>, statement: &Stmt) -> Result<(
     }
 }
 
-/// Puts the statements of a block or body behind the tokens, through the closing brace.
+/// Puts the statements of a block or body after the tokens, through the closing brace.
 #[cycle(statements)]
 pub fn spell_body(kinds: &mut Vec<TokenKind>, statements: &[Stmt]) -> Result<(), OutOfMemory>
     ensures { OnOk result
@@ -145,7 +145,7 @@ pub fn spell_body(kinds: &mut Vec<TokenKind>, statements: &[Stmt]) -> Result<(),
     put(kinds, TokenKind::RightBrace)
 }
 
-/// Puts a `for` through its closing parenthesis behind the tokens.
+/// Puts a `for` through its closing parenthesis after the tokens.
 fn spell_for_head(kinds: &mut Vec<TokenKind>, head: &ForHead) -> Result<(), OutOfMemory>
     ensures { OnOk result (kinds.new.items
         ≡ kinds.old.items
@@ -159,7 +159,7 @@ fn spell_for_head(kinds: &mut Vec<TokenKind>, head: &ForHead) -> Result<(), OutO
     spell_list(kinds, TokenKind::RightParen, &head.update)
 }
 
-/// Puts a `for` over an array through its colon behind the tokens.
+/// Puts a `for` over an array through its colon after the tokens.
 fn spell_each_head(kinds: &mut Vec<TokenKind>, variable: &Parameter) -> Result<(), OutOfMemory>
     ensures { OnOk result (kinds.new.items
         ≡ kinds.old.items
@@ -175,7 +175,7 @@ fn spell_each_head(kinds: &mut Vec<TokenKind>, variable: &Parameter) -> Result<(
     )
 }
 
-/// Puts a call of another constructor behind the tokens.
+/// Puts a call of another constructor after the tokens.
 fn spell_other_call(
     kinds: &mut Vec<TokenKind>,
     word: TokenKind,

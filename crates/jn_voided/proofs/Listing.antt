@@ -44,7 +44,7 @@ module _ {A : Type 0} (f : ℕ → A) (d : A) where
           let end : n ≡ p = omega (arith, lt, le) in
           subst (λ k. slice_index_or (xs ++ x ∷ []) k d ≡ f p) here (at_end d xs x ∙ same ∙ ap f end)
 
-  -- all of them, where nothing is behind them
+  -- all of them, where nothing is after them
   pub all_points : (n : ℕ) (xs : List A) → AreFirst f d n xs → ((p : ℕ) → n ≤ p → f p ≡ d) → (p : ℕ) → slice_index_or xs p d ≡ f p
   all_points n xs first behind p = by (cases_lt p n)
     where

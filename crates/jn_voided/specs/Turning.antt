@@ -37,7 +37,7 @@ abbrev pub handed : (ℕ → Bool) → Bool → ℕ → Option Bool → Option �
 handed source wanted p None from = None
 handed source wanted p (Some known) from = cond (as_wanted wanted known) from (itself source p)
 
--- what comes along an edge behind whose point, and before whose target, the fact is as wanted
+-- what comes along an edge after whose point, and before whose target, the fact is as wanted
 abbrev pub arriving : Bool → Bool → Option Bool → Option ℕ → Option ℕ
 arriving wanted known None from = None
 arriving wanted known (Some there) from = cond (as_wanted wanted known && as_wanted wanted there) from None

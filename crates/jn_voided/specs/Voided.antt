@@ -1,4 +1,4 @@
--- A test that something made void: a test of a field made it known that the field isn't null, a point behind it ended that, and the field was read while
+-- A test that something made void: a test of a field made it known that the field isn't null, a point after it ended that, and the field was read while
 -- it wasn't known again.
 use Rattle.std.specs.Prelude.{ℕ, ◌≡◌, ◌<◌, ◌≤◌, ◌⊎◌, Bool, true, false, not, List, [], map, Option, Some, None}
 use Rattle.jn_quals.specs.Qualifier.{Qualifier}
@@ -17,7 +17,7 @@ use Rattle.jn_voided.specs.declared.course.Way.{Way}
 use Rattle.jn_voided.specs.declared.search.Voided.{Voided}
 
 -- ---- the course of a fact: whether it is known before a point, None where the point is unreached, and the edges from there, each with whether it is known
--- behind the point
+-- after the point
 
 -- the fact turned to what is wanted, known or not, at the first point, on an edge of it, and has been so since, on each edge and before each point up to
 -- the second

@@ -110,7 +110,7 @@ fn arriving(wanted: bool, known: bool, there: Option<bool>, from: Option<u32>) -
     }
 }
 
-/// Puts what is handed to a point behind the others, where the point is there.
+/// Puts what is handed to a point after the others, where the point is there.
 fn push_handed(
     list: &mut Vec<Handed>,
     count: usize,
@@ -125,7 +125,7 @@ fn push_handed(
     Ok(())
 }
 
-/// Puts what comes along an edge behind the others.
+/// Puts what comes along an edge after the others.
 fn push_along(
     list: &mut Vec<Handed>,
     course: &[Passed],

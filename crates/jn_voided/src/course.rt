@@ -14,7 +14,7 @@ use jn_points::{Origin, Point, PointKind};
 use jn_transfer::{Analysis, Edge};
 use std::alloc::{AllocError, Global};
 
-/// An edge: the number of the point that it leads to, and whether the fact is known behind the point that it leaves.
+/// An edge: the number of the point that it leads to, and whether the fact is known after the point that it leaves.
 #[derive(Clone, Copy, Debug, PartialEq, Eq)]
 pub struct Way {
     pub to: u32,
@@ -74,7 +74,7 @@ fn knows(analysis: &Analysis, key: FieldKey, env: &Env) -> bool
     env.has_fact(analysis.keys(), RegNo(key.reg()), FieldNo(key.field()))
 }
 
-/// The edges, each with whether the fact is known behind it.
+/// The edges, each with whether the fact is known after it.
 fn ways_of(
     alloc: Global,
     analysis: &Analysis,

@@ -14,7 +14,7 @@ use jn_points::Point;
 use jn_transfer::Analysis;
 use std::alloc::Global;
 
-/// A test of a field, and the point behind it that ended what the test made known.
+/// A test of a field, and the point after it that ended what the test made known.
 #[derive(Clone, Copy, Debug, PartialEq, Eq)]
 pub struct Voided {
     pub tested: PointNo,

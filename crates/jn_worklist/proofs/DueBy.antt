@@ -7,7 +7,7 @@ use Rattle.jn_base.specs.declared.number.WordNo.{WordNo}
 use Rattle.jn_worklist.specs.Plans.{Lists, IsDue, IsDueBy, IsNoneDue}
 use Rattle.jn_worklist.proofs.PlanFacts.{lists_more}
 
--- no flag stands behind the end of the flags
+-- no flag stands after the end of the flags
 no_flag : (new : List Bool) (j : ℕ) → length new ≤ j → get_or new j false ≡ true → ⊥
 no_flag [] j le h = true≢false (sym h)
 no_flag (f ∷ new) zero le h = absurd (omega arith)

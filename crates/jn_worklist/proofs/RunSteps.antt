@@ -89,7 +89,7 @@ listed_this : (ws : List WordNo) (i : ℕ) (x : WordNo) → i < length ws → x 
 listed_this ws i x lt e = subst (λ (k : ℕ). lists_word (take k ws) x.0 ≡ true) (sym (add-one i)) (this_step ws i x lt e)
 
 -- ---- clearing
--- where a listed word is written, the words behind it are those that may not be zero
+-- where a listed word is written, the words after it are those that may not be zero
 drops_step : (ws : List WordNo) (i : ℕ) (x : WordNo) (u : ℕ) → i < length ws → x ≡ get_or ws i x → lists_word (drop i ws) u ≡ true → (x.0 ≡ u) ⊎ (lists_word (drop (suc i) ws) u ≡ true)
 drops_step [] i x u lt e h = absurd (omega arith)
 drops_step (y ∷ ws) zero x u lt e h = go (y.0 == u) refl h

@@ -19,7 +19,7 @@ pub struct Case {
     pub again: bool,
 }
 
-/// The number behind the name, where the word is of that form.
+/// The number after the name, where the word is of that form.
 fn number(word: &str, name: &str) -> Option<u32> {
     match word.split_once('=') {
         Some((front, digits)) if front == name => digits.parse().ok(),

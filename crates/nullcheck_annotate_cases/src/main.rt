@@ -150,7 +150,7 @@ fn print_report<R: Threads + Sync>(
     print_written(rt, &sink)
 }
 
-/// Writes the files, and prints their report before and behind, and what writing them once more comes to.
+/// Writes the files, and prints their report before and after, and what writing them once more comes to.
 fn run_again<R: Threads + Sync>(rt: &HostRuntime, threads: &R, case: &Case) -> io::Result<()> {
     print_report(rt, threads, &case.files, held_files(rt, &case.files)?)?;
     let targets = run_over(rt, threads, case, &case.words, held_files(rt, &case.words)?)?;

@@ -1,4 +1,4 @@
--- What stands behind each status.
+-- What each status means.
 use Rattle.std.proofs.Common.{◌≡◌, ℕ, Bool, ◌<◌, List, [], ◌∷◌, Option, inl, inr, refl, sym, ap, ◌∙◌, subst, arith}
 use Rattle.std.specs.Prelude.{◌⊎◌, length, take}
 use Rattle.jn_outside.specs.Sink.{Appends, AppendsPrefix}
@@ -17,7 +17,7 @@ use Rattle.nullcheck_annotate_top.specs.Answer.{AnswersBy, DoesAll, Effects, End
 use Rattle.nullcheck_annotate_top.specs.Changes.{changes}
 use Rattle.nullcheck_annotate_top.specs.Output.{IsOutput, changed_output, output_of, status_of_changes}
 
--- statuses behind which all was done
+-- statuses after which all was done
 abbrev pub Done : Status → Type 0
 Done Ok = Unit {0}
 Done Rejected = Unit {0}

@@ -1,4 +1,4 @@
--- What stands behind each status of the command.
+-- What each status means of the command.
 use Rattle.std.specs.Prelude.{ℕ, ◌≡◌, ◌⊎◌, ◌++◌, List, Option, Some, None, codes}
 use Rattle.jn_outside.specs.declared.given.Given.{Given}
 use Rattle.jn_outside.specs.Causes.{Rose}
@@ -39,7 +39,7 @@ abbrev pub HoldsAll : Option Holding → Option Wanted → Type 0
 HoldsAll held None = Unit {0}
 HoldsAll held (Some wanted) = AllHeld held wanted.files
 
--- what a sink took, and what was replaced, before and behind
+-- what a sink took, and what was replaced, before and after
 pub record Effects : Type 0 where
   pub old : Option (List ℕ)
   pub new : Option (List ℕ)
@@ -78,7 +78,7 @@ module _ (Defined : Output → Type 0) (e : Effects) where
   AnswersBy RunFault = ⊥
   AnswersBy Stopped = ⊥
 
--- what stands behind each status
+-- what each status means
 abbrev pub Answers : Reading → Option Wanted → Effects → Status → Type 0
 Answers read asked e status = AnswersBy (Defines read asked) e status
 

@@ -38,7 +38,7 @@ fn changed_file(alloc: Global, file: &SourceFile, new: &Seq<u8>) -> Result<Chang
     })
 }
 
-/// Puts the file behind the others, where its new text is another one.
+/// Puts the file after the others, where its new text is another one.
 fn put_change(
     alloc: Global,
     changes: &mut Vec<Change>,
@@ -78,7 +78,7 @@ pub(crate) fn changes(
     Ok(changes)
 }
 
-/// Puts the diff of a file behind those of others.
+/// Puts the diff of a file after those of others.
 fn put_diff(alloc: Global, text: &mut Vec<u8>, change: &Change) -> Result<(), OutOfMemory>
     ensures { IfOk result
         (λ u. text.new.items ≡ text.old.items ++ spec.change_diff change.now) }

@@ -134,7 +134,7 @@ fn placed_line(alloc: Global, name: &str, place: Place, code: &[u8]) -> Result<V
     Ok(line)
 }
 
-/// The place of a span's first byte, or the end of the text where it stands behind that.
+/// The place of a span's first byte, or the end of the text where it stands after that.
 fn place_within(text: &[u8], span: Span) -> Place
     requires { length text.now ≤ 1048576 }
     ensures { result ≡ place_in text.now span }

@@ -8,7 +8,7 @@ use jn_command::Status;
 use jn_outside::{Sink, write_whole};
 use jn_targets::{Targets, replace_all};
 
-/// Writes the bytes, then replaces the files, and gives the status behind them.
+/// Writes the bytes, then replaces the files, and gives the status after them.
 pub fn finish<K: Sink, T: Targets>(out: &mut K, targets: &mut T, output: &Output) -> Status
     ensures ends { Ends output.now
         (effects (K.written out.old) (K.written out.new) (T.replaced targets.old)

@@ -71,7 +71,7 @@ impl Caller {
         Ok(found)
     }
 
-    /// The value that a word of a table stands for: `null`, `true`, `false`, a number, a text behind an apostrophe, or
+    /// The value that a word of a table stands for: `null`, `true`, `false`, a number, a text after an apostrophe, or
     /// the last result of the name.
     pub fn value(&self, alloc: Global, word: &str) -> Result<Option<Value>, AllocError> {
         if word == "null" {

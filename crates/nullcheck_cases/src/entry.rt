@@ -70,7 +70,7 @@ fn method_of(
     None
 }
 
-/// The values, copied behind the first ones.
+/// The values, copied after the first ones.
 fn behind(values: Vec<Value>, more: &[Value]) -> Result<Vec<Value>, AllocError> {
     let mut all = values;
     for value in more {

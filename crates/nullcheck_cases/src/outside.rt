@@ -102,7 +102,7 @@ fn came_text(
     }
 }
 
-/// What a call printed and came to, and the heap behind it.
+/// What a call printed and came to, and the heap after it.
 fn called_text(
     outer: &Run,
     caller: &mut Caller,

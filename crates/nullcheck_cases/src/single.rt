@@ -32,7 +32,7 @@ fn sink_of(alloc: Global) -> Result<MemSink, AllocError> {
     }
 }
 
-/// Runs at most so many steps, one after the other; `Steps` says that the machine goes on behind all of them.
+/// Runs at most so many steps, one after the other; `Steps` says that the machine goes on after all of them.
 fn by_steps(machine: &mut Machine, steps: u64, sink: &mut MemSink) -> Ended
     requires going { IsGoing machine.old }
 {

@@ -1,6 +1,6 @@
 //! A case is one line: the words of a command. Ten words set what lies around it: `hex=FILE` gives the certificate `CERT` the bytes
 //! that FILE writes in hexadecimal digits, and `zeros=N` so many zero bytes; `set=AT:VALUE` changes a byte of it, `cut=N` leaves
-//! its first N bytes and `more=N` puts N zero bytes behind them; `read=N` has the Nth call on the source fail, `write=N` the Nth
+//! its first N bytes and `more=N` puts N zero bytes after them; `read=N` has the Nth call on the source fail, `write=N` the Nth
 //! write, `store=N` the Nth file that is put in place, and `room=N` gives the sink room for N bytes. `special=NAME` says that the name
 //! leads to no plain file. `times=N` takes the last word N times.
 use jn_base::Text;
@@ -30,7 +30,7 @@ pub struct Case {
     pub room: u32,
 }
 
-/// The number behind the name, where the word is of that form.
+/// The number after the name, where the word is of that form.
 fn number(word: &str, name: &str) -> Option<u32> {
     match word.split_once('=') {
         Some((front, digits)) if front == name => digits.parse().ok(),
@@ -38,7 +38,7 @@ fn number(word: &str, name: &str) -> Option<u32> {
     }
 }
 
-/// The text behind the name, where the word is of that form.
+/// The text after the name, where the word is of that form.
 fn text<'a>(word: &'a str, name: &str) -> Option<&'a str> {
     match word.split_once('=') {
         Some((front, rest)) if front == name => Some(rest),
@@ -46,7 +46,7 @@ fn text<'a>(word: &'a str, name: &str) -> Option<&'a str> {
     }
 }
 
-/// The bytes that a text writes, two digits each, without what stands behind a `#` in its line.
+/// The bytes that a text writes, two digits each, without what stands after a `#` in its line.
 fn bytes_of(rt: &HostRuntime, text: &str) -> Result<Vec<u8>, AllocError> {
     let mut bytes = Vec::new(rt.alloc());
     for line in text.lines() {

@@ -73,7 +73,7 @@ stopped_usage_status e = cc
 memory_write_fault : OutOfMemory ≡ WriteFault → ⊥
 memory_write_fault e = cc
 
--- statuses behind which something was written whole
+-- statuses after which something was written whole
 abbrev pub Written : Status → Type 0
 Written Ok = Unit {0}
 Written Rejected = Unit {0}
@@ -234,7 +234,7 @@ module _ (read : Reading) where
   completes (Some c) old new WriteFault w reads writes = absurd (writes refl)
   completes (Some c) old new OutOfMemory w reads writes = inl refl
 
-  -- nothing was written behind want of memory
+  -- nothing was written after want of memory
   pub nothing : (asked : Option Command) (old new : Option (List ℕ)) (result : Status) → Answer read asked old new result → result ≡ OutOfMemory → new ≡ old
   nothing asked old new result w e = by (subst (λ r. Answer read asked old new r) e w)
     where

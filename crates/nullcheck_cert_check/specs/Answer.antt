@@ -23,7 +23,7 @@ pub record IsToldOf (infer : Infer) (name cert : List ℕ) (files : List SourceF
   pub ends : status ≡ status_of verdict
   pub shows : bytes ≡ verdict_text name files verdict
 
--- what stands behind each status, of a certificate and files that were read
+-- what each status means, of a certificate and files that were read
 abbrev pub AnswersInputs : Infer → List ℕ → List ℕ → List SourceFile → Option (List ℕ) → Option (List ℕ) → Status → Type 0
 AnswersInputs infer name cert files old new status = AnswersBy (IsToldOf infer name cert files) ⊥ ⊥ old new status
 
@@ -49,7 +49,7 @@ abbrev pub ReadsNothing : Option Command → Type 0
 ReadsNothing None = Unit {0}
 ReadsNothing (Some c) = most_files < length c.files
 
--- what stands behind each status
+-- what each status means
 abbrev pub Answers : Reading → Option Command → Option (List ℕ) → Option (List ℕ) → Status → Type 0
 Answers read asked old new status = AnswersBy (Defines read asked) ⊥ (ReadsSome asked × (new ≡ old)) old new status
 

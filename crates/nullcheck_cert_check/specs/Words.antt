@@ -1,4 +1,4 @@
--- What the words behind the program's name ask for: NAME [--infer CHOICE] CERT FILE.., where NAME is the command's.
+-- What the words after the program's name ask for: NAME [--infer CHOICE] CERT FILE.., where NAME is the command's.
 use Rattle.std.specs.Prelude.{ℕ, ◌==◌, ◌||◌, Bool, false, List, [], ◌∷◌, Option, Some, None, codes, if◌then◌else◌}
 use Rattle.std.specs.Str.{bytes_eq}
 use Rattle.jn_base.specs.declared.infer.Infer.{Infer}
@@ -13,7 +13,7 @@ pub record Command : Type 0 where
 abbrev pub command : Infer → List ℕ → List (List ℕ) → Command
 command infer cert files = record { infer = infer; cert = cert; files = files }
 
--- a word that begins with a minus, and has something behind it
+-- a word that begins with a minus, and has something after it
 abbrev pub is_option : List ℕ → Bool
 is_option [] = false
 is_option (byte ∷ []) = false

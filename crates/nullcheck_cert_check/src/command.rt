@@ -15,7 +15,7 @@ pub struct CertCommand<'a> {
     pub files: &'a [String],
 }
 
-/// Whether a word is an option: a minus and something behind it.
+/// Whether a word is an option: a minus and something after it.
 fn is_option(word: &str) -> bool
     ensures { result ≡ spec.is_option word.now }
 {
@@ -71,7 +71,7 @@ pub(crate) fn infer_of(name: &str) -> Option<Infer>
     }
 }
 
-/// The command of the words behind `--infer`.
+/// The command of the words after `--infer`.
 fn chosen<'a>(words: &'a [String]) -> Option<CertCommand<'a>>
     ensures { MatchOption result (spec.chosen (map string_bytes words.entry.now) ≡ None)
         (λ c. spec.chosen (map string_bytes words.entry.now)
@@ -86,7 +86,7 @@ fn chosen<'a>(words: &'a [String]) -> Option<CertCommand<'a>>
     }
 }
 
-/// The command of the words behind its own name.
+/// The command of the words after its own name.
 fn command_of<'a>(words: &'a [String]) -> Option<CertCommand<'a>>
     ensures { MatchOption result (spec.command_of (map string_bytes words.entry.now) ≡ None)
         (λ c. spec.command_of (map string_bytes words.entry.now)
@@ -104,7 +104,7 @@ fn command_of<'a>(words: &'a [String]) -> Option<CertCommand<'a>>
     }
 }
 
-/// What the words behind the program's name ask for, the first of which is this one.
+/// What the words after the program's name ask for, the first of which is this one.
 pub fn read_command<'a>(first: &str, words: &'a [String]) -> Option<CertCommand<'a>>
     ensures { MatchOption result (spec.asked_of first.now (map string_bytes words.entry.now) ≡ None)
         (λ c. spec.asked_of first.now (map string_bytes words.entry.now)

@@ -119,7 +119,7 @@ fn point_span(program: &Program, body: BodyNo, point: PointNo) -> Option<Span>
 
 // ---- lines
 
-/// The place of a span's first byte; one behind the text's end stands at the end.
+/// The place of a span's first byte; one after the text's end stands at the end.
 fn place_within(text: &[u8], span: Span) -> Place
     requires fits { length text.now ≤ 1048576 }
     ensures { result ≡ place_in text.now span }

@@ -12,7 +12,7 @@ fn names_reason(names: &[String]) -> &'static str {
     }
 }
 
-/// What is wrong with the words behind a command's name.
+/// What is wrong with the words after a command's name.
 fn command_reason(words: &[String]) -> &'static str {
     match words {
         [word, rest @ ..] => {

@@ -73,7 +73,7 @@ pub record Stores (infer : Infer) (name : List ℕ) (files : List SourceFile) (o
   pub written : o.new ≡ o.old
   pub stored : o.now ≡ o.before ++ replacement name cert ∷ []
 
--- what stands behind each status, of files that were read
+-- what each status means, of files that were read
 abbrev pub AnswersFiles : Infer → List ℕ → List SourceFile → Outcome → Status → Type 0
 AnswersFiles infer name files o Ok = Tells infer name files o Ok ⊎ Stores infer name files o
 AnswersFiles infer name files o RejectedStatus = Tells infer name files o RejectedStatus
@@ -89,7 +89,7 @@ AnswersFiles infer name files o Usage = ⊥
 abbrev pub AnswersUsage : Outcome → Status → Type 0
 AnswersUsage o status = ((status ≡ Usage) × Appends o.old o.new usage_line × (o.now ≡ o.before)) ⊎ ((status ≡ WriteFault) × AppendsPrefix o.old o.new usage_line × (o.now ≡ o.before))
 
--- the files of these names, with the bytes that the source tells, and that its reads gave, and what stands behind the status
+-- the files of these names, with the bytes that the source tells, and that its reads gave, and what the status means
 pub record AnswersRead (read : Reading) (c : Command) (o : Outcome) (status : Status) : Type 0 where
   pub files : List SourceFile
   pub are : AreFiles read c.files files

@@ -33,7 +33,7 @@ fn takes_source(cert: &str, files: &[String]) -> bool
     is_java(cert) || is_among(cert, files)
 }
 
-/// What the words behind the program's name ask for: the command `write`, where its certificate takes no source's place.
+/// What the words after the program's name ask for: the command `write`, where its certificate takes no source's place.
 pub fn read_write<'a>(words: &'a [String]) -> Option<CertCommand<'a>>
     ensures { MatchOption result (spec.write_asked (map string_bytes words.entry.now) ≡ None)
         (λ c. spec.write_asked (map string_bytes words.entry.now)

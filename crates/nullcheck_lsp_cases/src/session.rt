@@ -5,7 +5,7 @@
 //!   no text, any other a file,
 //! - `raw TEXT`: the client sends this text, where `\r`, `\n` and `\!` are the bytes 13, 10 and 255, which is none of UTF-8,
 //! - `fill N`: the client sends so many spaces,
-//! - anything else: the client sends this line as a body, behind a header.
+//! - anything else: the client sends this line as a body, after a header.
 use jn_base::{Seq, Text};
 use jn_folder::{Entry, Kind, Listed};
 use jn_lsp_frames::frame_of;
@@ -61,7 +61,7 @@ fn list(alloc: Global, recorded: &mut Recorded, rest: &str) -> Result<(), AllocE
     Ok(())
 }
 
-/// The byte that stands behind a backslash as this one.
+/// The byte that stands after a backslash as this one.
 fn escaped_as(byte: u8) -> u8 {
     match byte {
         b'r' => b'\r',
@@ -92,7 +92,7 @@ fn fill(alloc: Global, recorded: &mut Recorded, count: u32) -> Result<(), AllocE
     recorded.sent.extend_from_slice(&spaces)
 }
 
-/// Sends a body behind its header.
+/// Sends a body after its header.
 fn send(alloc: Global, recorded: &mut Recorded, body: &str) -> Result<(), AllocError> {
     let frame = frame_of(alloc, body.as_bytes())?;
     recorded.sent.extend_from_slice(&frame)

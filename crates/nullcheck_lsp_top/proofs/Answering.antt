@@ -29,7 +29,7 @@ shown_none (w ∷ words) = shown_none words
 both_answered : (xs ys : List Reply) → ids_answered (xs ++ ys) ≡ ids_answered xs ++ ids_answered ys
 both_answered xs ys = flat_map-append (λ reply. option_to_list (id_answered reply)) xs ys
 
--- replies answer the same behind the same
+-- replies answer the same after the same
 same_behind : (xs ys zs : List Reply) → ids_answered ys ≡ ids_answered zs → ids_answered (xs ++ ys) ≡ ids_answered (xs ++ zs)
 same_behind xs ys zs e = both_answered xs ys ∙ ap (λ ids. ids_answered xs ++ ids) e ∙ sym (both_answered xs zs)
 

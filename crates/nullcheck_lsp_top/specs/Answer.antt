@@ -1,4 +1,4 @@
--- What stands behind each status.
+-- What each status means.
 use Rattle.std.specs.Prelude.{ℕ, ◌-◌, ◌^◌, ◌≡◌, ◌≤◌, ◌⊎◌, ◌++◌, Bool, true, false, List, [], ◌∷◌, Option, Some, None, codes, length}
 use Rattle.std.specs.List.{All}
 use Rattle.jn_outside.specs.Causes.{Rose}
@@ -69,7 +69,7 @@ IsHeardWhole from to = to.hears ≡ from.hears
 abbrev pub IsWrittenWhole : Channels → Channels → Type 0
 IsWrittenWhole from to = to.writes ≡ from.writes
 
--- what stands behind each status, by what the input and the output told before and behind, and what files and folders did
+-- what each status means, by what the input and the output told before and after, and what files and folders did
 module _ (address : Option (List ℕ)) (held : Option Holding) (from to : Channels) (old new : Outside) where
   -- all that the input gave is these frames and what is pending; folders and files were read for them and for no other, and of the replies so
   -- much was written
@@ -82,11 +82,11 @@ module _ (address : Option (List ℕ)) (held : Option Holding) (from to : Channe
     pub taken : Took from.written to.written (framed address replies)
     pub ends : IsEnd frames pending client
 
-  -- the client exited behind `shutdown`
+  -- the client exited after `shutdown`
   abbrev pub IsDone : List Frame → List ℕ → Client → Type 0
   IsDone frames pending client = client.server.phase ≡ Exited true
 
-  -- the input ended, behind a frame or in the middle of one
+  -- the input ended, after a frame or in the middle of one
   abbrev pub IsInputEnd : List ℕ → Type 0
   IsInputEnd pending = (to.ended ≡ true) × ((pending ≡ []) ⊎ IsPartial pending)
 
@@ -98,7 +98,7 @@ module _ (address : Option (List ℕ)) (held : Option Holding) (from to : Channe
   abbrev pub IsAllRead : List Frame → List ℕ → Client → Type 0
   IsAllRead frames pending client = IsPartial pending
 
-  -- behind a write fault whole frames may be pending
+  -- after a write fault whole frames may be pending
   abbrev pub IsCut : List Frame → List ℕ → Client → Type 0
   IsCut frames pending client = Unit {0}
 

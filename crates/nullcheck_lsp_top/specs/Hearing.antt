@@ -30,7 +30,7 @@ IsMessageOf (frame.Body body) message = IsMessage body message
 IsMessageOf frame.BadHeader message = message ≡ BadHeader
 IsMessageOf frame.TooLarge message = message ≡ TooLarge
 
--- while the server serves, files are read behind the messages that want it
+-- while the server serves, files are read after the messages that want it
 abbrev pub looks : Phase → Message → Bool
 looks Waiting m = false
 looks Serving m = wants_folder m
@@ -61,7 +61,7 @@ settled message client = record { server = client.server; root = root_or (told_r
 abbrev pub foreign : Client → Message → Option (List ℕ)
 foreign client message = foreign_in client.server.phase client.root message
 
--- the server takes the message as far as it is about the workspace, and where files are to be read behind it, those
+-- the server takes the message as far as it is about the workspace, and where files are to be read after it, those
 pub record Hears (held : Option Holding) (old new : Outside) (before : Client) (message : Message) (replies : List Reply) (after : Client) : Type 0 where
   pub first : List Reply
   pub more : List Reply

@@ -78,7 +78,7 @@ abbrev pub names_taken : Bool → List (List ℕ) → List (List ℕ)
 names_taken false names = names
 names_taken true names = []
 
--- so were these, and put behind those that were read before
+-- so were these, and put after those that were read before
 pub record ReadsMore (held : Option Holding) (names : List (List ℕ)) (old new : Source) (files_old files_new : List SourceFile) (lost_old lost_new : List (List ℕ)) : Type 0 where
   pub added : List SourceFile
   pub lost : List (List ℕ)

@@ -18,7 +18,7 @@ use jn_sharing::Gate;
 use std::alloc::Global;
 use std::thread::Threads;
 
-/// Whether the server goes on behind a frame.
+/// Whether the server goes on after a frame.
 #[derive(Clone, Copy, Debug, PartialEq, Eq)]
 pub(crate) enum Heard {
     /// It does.

@@ -29,7 +29,7 @@ pub(crate) fn message_of(alloc: Global, frame: &Frame) -> Result<Message, OutOfM
     }
 }
 
-/// Puts more replies behind others.
+/// Puts more replies after others.
 fn joined(replies: Vec<Reply>, more: Vec<Reply>) -> Result<Vec<Reply>, AllocError>
     ensures { IfOk result (λ all. all.items ≡ replies.items ++ more.items) }
 {
@@ -40,7 +40,7 @@ fn joined(replies: Vec<Reply>, more: Vec<Reply>) -> Result<Vec<Reply>, AllocErro
     Ok(all)
 }
 
-/// Whether the workspace's files are read behind a message that comes in this phase.
+/// Whether the workspace's files are read after a message that comes in this phase.
 fn looks(phase: Phase, message: &Message) -> bool
     ensures { result ≡ spec.looks phase message.now }
 {

@@ -49,7 +49,7 @@ pub struct Reads {
     pub lost: Seq<Text>,
 }
 
-/// Reads the file of this name, and puts it behind the others.
+/// Reads the file of this name, and puts it after the others.
 fn read_one<F: Files>(
     alloc: Global,
     files: &mut F,

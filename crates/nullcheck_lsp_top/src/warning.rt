@@ -26,7 +26,7 @@ fn sentence(alloc: Global, front: &str, name: &str, back: &str) -> Result<Text, 
     Ok(Text::of_string(text))
 }
 
-/// Puts a warning for each of these folders behind the others.
+/// Puts a warning for each of these folders after the others.
 fn warn_unlisted(alloc: Global, paths: &[Text], warnings: &mut Seq<Text>) -> Result<(), AllocError>
     ensures { OnOk result (warnings.new ≡ warnings.old ++ map spec.unlisted_words paths.now) }
 {
@@ -42,7 +42,7 @@ fn warn_unlisted(alloc: Global, paths: &[Text], warnings: &mut Seq<Text>) -> Res
     Ok(())
 }
 
-/// Puts a warning for each of these folders behind the others, in which a name is no text.
+/// Puts a warning for each of these folders after the others, in which a name is no text.
 fn warn_unnamed(alloc: Global, paths: &[Text], warnings: &mut Seq<Text>) -> Result<(), AllocError>
     ensures { OnOk result (warnings.new ≡ warnings.old ++ map spec.unnamed_words paths.now) }
 {
@@ -58,7 +58,7 @@ fn warn_unnamed(alloc: Global, paths: &[Text], warnings: &mut Seq<Text>) -> Resu
     Ok(())
 }
 
-/// Puts a warning for each of these files behind the others.
+/// Puts a warning for each of these files after the others.
 fn warn_unread(alloc: Global, paths: &[Text], warnings: &mut Seq<Text>) -> Result<(), AllocError>
     ensures { OnOk result (warnings.new ≡ warnings.old ++ map spec.unread_words paths.now) }
 {
@@ -107,7 +107,7 @@ fn is_among(texts: &[Text], text: &Text) -> bool
     texts.iter().any(|other| other.as_str() == text.as_str())
 }
 
-/// Puts a reply that shows the warning behind the others, where it isn't among those that were shown last.
+/// Puts a reply that shows the warning after the others, where it isn't among those that were shown last.
 fn show_new(
     alloc: Global,
     shown: &[Text],

@@ -15,7 +15,7 @@ pub(crate) enum Asked {
     Other,
 }
 
-/// The address behind `--codes`, where the words are these two.
+/// The address after `--codes`, where the words are these two.
 fn address_in(words: &[String]) -> Option<&str>
     ensures is { IfSome result
         (λ address. SaysAddress (map string_bytes words.now) (Some address.now)) }

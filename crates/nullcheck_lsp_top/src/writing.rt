@@ -8,7 +8,7 @@ use jn_lsp_messages::write_reply;
 use jn_lsp_text::Reply;
 use std::alloc::Global;
 
-/// Puts the reply's frame behind the others.
+/// Puts the reply's frame after the others.
 fn put_frame(
     alloc: Global,
     address: &Option<Text>,
@@ -23,7 +23,7 @@ fn put_frame(
     Ok(bytes.extend_from_slice(&frame)?)
 }
 
-/// The frames of the replies, one behind the other, with links to the document of the codes where its address is given.
+/// The frames of the replies, one after the other, with links to the document of the codes where its address is given.
 pub(crate) fn framed(
     alloc: Global,
     address: &Option<Text>,

@@ -87,7 +87,7 @@ pub record IsBefore (read : Reading) (name : List ℕ) (step : Step) (gave : Lis
   pub status : Status
   pub does : DoAll new_session Ok front files bytes status session
 
--- what stands behind each status, of a script
+-- what each status means, of a script
 module _ (read : Reading) (name : List ℕ) (old new : Option (List ℕ)) where
   -- the reports of all checks were written whole
   abbrev pub Carries : Status → Type 0

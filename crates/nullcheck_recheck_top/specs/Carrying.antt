@@ -67,7 +67,7 @@ pub record IsSet (s : SessionOf) (name file : List ℕ) (read : List SourceFile)
   pub is : IsTextOf bytes text
   pub session : t ≡ with_text name text s
 
--- a report of the session's files is written, and behind it its numbers
+-- a report of the session's files is written, and after it its numbers
 pub record IsCheck (s : SessionOf) (bytes : List ℕ) (end : Status) (t : SessionOf) : Type 0 where
   pub rows : List RowText
   pub places : List Row
@@ -78,7 +78,7 @@ pub record IsCheck (s : SessionOf) (bytes : List ℕ) (end : Status) (t : Sessio
   pub text : bytes ≡ check_text rows verdict files bodies
   pub ends : end ≡ status_of verdict
 
--- a step, behind a last check of this status, reads these files, writes these bytes, and leaves the status of the last check and the session
+-- a step, after a last check of this status, reads these files, writes these bytes, and leaves the status of the last check and the session
 abbrev pub Does : SessionOf → Status → Step → List SourceFile → List ℕ → Status → SessionOf → Type 0
 Does s last Empty read bytes end t = (read ≡ []) × (bytes ≡ []) × (end ≡ last) × (t ≡ s)
 Does s last (Set name file) read bytes end t = IsSet s name file read t × (bytes ≡ []) × (end ≡ last)

@@ -91,7 +91,7 @@ module _ (held : Option Holding) (old new : World) where
   EndsBy s step Stopped = ⊥
   EndsBy s step Usage = ⊥
 
-  -- what stands behind each end of a step
+  -- what stands after each end of a step
   abbrev pub IsTaken : SessionOf → Status → Step → SessionOf → Taken → Type 0
   IsTaken s last step t (Goes end) = GoesOn s last step end t
   IsTaken s last step t (Ends status) = EndsBy s step status
@@ -119,7 +119,7 @@ module _ (held : Option Holding) (old new : World) where
   abbrev pub Whole : List Step → Status → Type 0
   Whole steps status = (t : SessionOf) × DidAll held old new steps status t
 
-  -- what stands behind each status
+  -- what each status means
   abbrev pub CarriesOut : List Step → Status → Type 0
   CarriesOut steps Ok = Whole steps Ok
   CarriesOut steps Rejected = Whole steps Rejected

@@ -58,7 +58,7 @@ fn plain_text(alloc: Global, rows: &[RowText], verdict: Verdict) -> Result<Vec<u
     Ok(Vec::from_slice(alloc, shower.bytes())?)
 }
 
-/// The status behind a verdict.
+/// The status after a verdict.
 fn status_of(verdict: Verdict) -> Status
     ensures { result ≡ status_of verdict }
 {
@@ -81,7 +81,7 @@ fn number_line(alloc: Global, files: u64, bodies: u32) -> Result<Vec<u8>, AllocE
     Ok(line)
 }
 
-/// Puts a line behind a text.
+/// Puts a line after a text.
 fn with_line(text: Vec<u8>, line: &[u8]) -> Result<Vec<u8>, AllocError>
     ensures { IfOk result (λ whole. whole.items ≡ text.items ++ line.now) }
 {
@@ -90,7 +90,7 @@ fn with_line(text: Vec<u8>, line: &[u8]) -> Result<Vec<u8>, AllocError>
     Ok(text)
 }
 
-/// The output of a check: its plain report, and behind it the numbers.
+/// The output of a check: its plain report, and after it the numbers.
 pub(crate) fn check_output(alloc: Global, checked: &Checked) -> Result<Output, OutOfMemory>
     ensures status { IfOk result (λ o. o.status ≡ status_of checked.now.verdict) }
     ensures bytes { IfOk result (λ o. o.bytes ≡ check_text checked.now.rows.items

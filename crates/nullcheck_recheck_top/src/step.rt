@@ -166,7 +166,7 @@ fn empty_step(session: &mut Session, last: Status) -> Taken
     Taken::Goes(last)
 }
 
-/// Carries out a step, behind a last check of this status.
+/// Carries out a step, after a last check of this status.
 pub(crate) fn take_step<R: Threads + Sync, F: Files, K: Sink, G: Gate + Sync>(
     rt: &R,
     gate: &G,

@@ -25,7 +25,7 @@ use Rattle.jn_command.specs.Answer.{Reading, AreChecked, ReadsFew, ReadsFiles, R
 use Rattle.jn_command.specs.Outputs.{IfMade}
 use Rattle.nullcheck_top.specs.Answers.{AsksRun}
 
--- statuses behind which a report was written whole
+-- statuses after which a report was written whole
 abbrev pub Written : Status → Type 0
 Written Ok = Unit {0}
 Written Rejected = Unit {0}
@@ -138,7 +138,7 @@ module _ (IsReport : Infer → List SourceFile → Report → Type 0) (AreNotes 
     pub report_shown : (a.command.run ≡ true → report ≡ Checked [] → ⊥) → Written status × FilesOutput a files status bytes
     report_shown apart = (subst Written (sym ends) (report_written report), shown_by a.command.run apart)
 
-  -- these bytes are the report's of the files, behind the front, with the notes that are shown
+  -- these bytes are the report's of the files, after the front, with the notes that are shown
   abbrev pub ShowsNoted : Asked → List SourceFile → Report → List ℕ → List ℕ → Type 0
   ShowsNoted a files report front bytes = (noted : List Noted) × AreShownNotes AreNotes a.notes a.command.infer files report noted × (bytes ≡ front ++ shown_noted a.show files report noted)
 
@@ -170,7 +170,7 @@ module _ (IsReport : Infer → List SourceFile → Report → Type 0) (AreNotes 
   completes read (Some a) old new WriteFault w reads writes = absurd (writes refl)
   completes read (Some a) old new OutOfMemory w reads writes = inl refl
 
-  -- where no run is asked for, nothing was written behind want of memory
+  -- where no run is asked for, nothing was written after want of memory
   pub nothing : (read : Reading) (asked : Option Asked) (old new : Option (List ℕ)) (result : Status) → Answer read asked old new result → result ≡ OutOfMemory → (AsksRun asked → ⊥) → new ≡ old
   nothing read asked old new result w e no_run = by asked (subst (λ r. Answer read asked old new r) e w) no_run
     where

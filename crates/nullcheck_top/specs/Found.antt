@@ -65,10 +65,10 @@ pub record IsRefusalOf (show : List ShownRow → Option Verdict → List ℕ) (i
   pub ends : status ≡ RefusedStatus
   pub shows : bytes ≡ shown show files (Refused rows)
 
--- behind these bytes, a report of files shown so, with the notes of its rows where notes are shown
+-- after these bytes, a report of files shown so, with the notes of its rows where notes are shown
 abbrev pub ShowsReport : Bool → (List ShownRow → Option Verdict → List ℕ) → Infer → List SourceFile → Report → List ℕ → List ℕ → Type 0
 ShowsReport notes show infer files report front bytes = (noted : List Noted) × AreShownNotes AreNotes notes infer files report noted × (bytes ≡ front ++ shown_noted show files report noted)
 
--- the rows that a reporter was given: behind those that it had, the report's, with their notes where notes are shown
+-- the rows that a reporter was given: after those that it had, the report's, with their notes where notes are shown
 abbrev pub IsGiven : Bool → List ShownRow → Infer → List SourceRead → List SourceFile → Report → List ShownRow → Type 0
 IsGiven notes had infer reads files report rows = (noted : List Noted) × AreShownNotes AreNotes notes infer files report noted × (rows ≡ had ++ rows_with (files_of_reads reads) noted (rows_of report))

@@ -53,7 +53,7 @@ fn to_run<'a>(run: bool, found: &'a Found) -> Option<&'a Accepted>
     if run { found.accepted.as_ref() } else { None }
 }
 
-/// Writes what files that were read came to: behind these bytes their report, or the run of accepted files where one is asked for.
+/// Writes what files that were read came to: after these bytes their report, or the run of accepted files where one is asked for.
 fn answer_checked<P: Reporter, K: Sink>(
     alloc: Global,
     command: &Command,

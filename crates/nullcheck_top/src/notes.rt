@@ -46,7 +46,7 @@ impl<'a, 'b> RowNotes for PlacedNotes<'a, 'b> {
     }
 }
 
-/// The notes at this place, and none behind the last.
+/// The notes at this place, and none after the last.
 fn notes_at(
     alloc: Global,
     files: &[MarkedFile<'_>],

@@ -19,7 +19,7 @@ use std::{env, io};
 const USAGE: &str =
     "usage: solver_bench SHAPE COUNT WORKERS REPEATS, where SHAPE is chain, star or ring, and WORKERS 0 to 16";
 
-/// The words behind the program's name.
+/// The words after the program's name.
 fn words<R: Env + AllocGlobal>(rt: &R) -> io::Result<Vec<String>> {
     let mut words = Vec::new(rt.alloc());
     for word in env::args(rt)?.skip(1) {

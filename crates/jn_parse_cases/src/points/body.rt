@@ -21,7 +21,7 @@ fn before_register(number: u32, locals: u32) -> &'static str {
     }
 }
 
-/// The types of registers, with `|` behind those of locals.
+/// The types of registers, with `|` after those of locals.
 fn write_registers(
     page: &mut Page,
     names: &Names,

@@ -16,7 +16,7 @@ fn place_at(text: &[u8], span: Span, byte: u32) -> Place {
     )
 }
 
-/// From the first character to the one behind the last.
+/// From the first character to the one after the last.
 fn write_places(page: &mut Page, first: Place, last: Place) {
     page.number(first.line);
     page.push(":");
@@ -29,7 +29,7 @@ fn write_places(page: &mut Page, first: Place, last: Place) {
     page.number(last.col)
 }
 
-/// Where it stands, from its first character to the one behind its last.
+/// Where it stands, from its first character to the one after its last.
 pub fn write_span(page: &mut Page, text: &[u8], span: Span) {
     write_places(
         page,
