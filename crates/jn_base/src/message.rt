@@ -75,13 +75,14 @@ impl Code {
         ensures { result.now ≡ code_cure self }
     {
         match self {
-            Code::B1 => "check fewer files at once",
+            Code::B1 =>
+                "check fewer files at once, or join those that need each other into fewer files",
             Code::B2 => "split the file",
             Code::B3 => "check fewer files at once",
             Code::L1 => "save the file as UTF-8",
             Code::L2 => "write the character itself",
             Code::L3 =>
-                "leave it out; the subset has the operators of conditions and arithmetic alone",
+                "write a string in place of a character in quotes, leave a byte order mark out, and take the operators of conditions and arithmetic alone",
             Code::L4 => "close it by */",
             Code::L5 => "close it by a double quote on its line",
             Code::L6 => "write one of \\b \\t \\n \\f \\r \\\" \\' \\\\",
@@ -109,22 +110,22 @@ impl Code {
             Code::J8 => "assign it on every way",
             Code::J9 => "return a value on every way, or none from a void method",
             Code::J10 => "make the array with the element nullity that is wanted",
-            Code::Deref => "test it first, or mark what it comes from",
+            Code::Deref => "copy it to a local and test that, or mark what it comes from",
             Code::Field => "write another value, or mark the field @Nullable",
             Code::FieldInit =>
-                "write it once its constructor has ended, or let the owner be @UnderInitialization",
+                "build it in a local and assign the field last, once its constructor has ended, or let the owner be @UnderInitialization",
             Code::Arg => "test it before the call, or mark the parameter @Nullable",
             Code::ArgInit =>
-                "call once its constructor has ended, or mark the parameter @UnderInitialization or @UnknownInitialization",
+                "build it in a local and call once its constructor has ended, or mark the parameter @UnderInitialization or @UnknownInitialization",
             Code::RecvInit =>
-                "call once its constructor has ended, or write a receiver parameter with @UnderInitialization or @UnknownInitialization",
+                "build it in a local and call once its constructor has ended, or write a receiver parameter with @UnderInitialization or @UnknownInitialization",
             Code::Return => "return another value, or mark the result @Nullable",
             Code::ReturnInit =>
                 "return another value, or mark the result @UnderInitialization or @UnknownInitialization",
             Code::Local => "leave the annotation out, or assign another value",
             Code::LocalInit => "leave the annotation out, or assign another value",
             Code::Elem => "put another value in, or make an array of @Nullable elements",
-            Code::ElemInit => "put it in once its constructor has ended",
+            Code::ElemInit => "build it in a local and put it in once its constructor has ended",
             Code::NewArray => "list the elements in braces, or make an array of @Nullable elements",
             Code::CtorFields =>
                 "give the field an initializer, assign it on every way, or mark it @Nullable",
