@@ -5,7 +5,8 @@ Follows the imports of the contracts of crates/nullcheck_top/src/top.rt and src/
 all crates, but for the standard library and the ported crates, which stand elsewhere. Types that the code declares
 (specs.declared) are counted apart: they are read where src/ declares them. Prints for each crate its files with their
 lines, what the page names but isn't reached, or leaves out, and each number of lines of the page that isn't that of its row's
-files, also of the rows of the other programs. Ends with 1 where there is such a difference.
+files, also of the rows of the other programs. Prints each definition in these files above which no comment says what it is. Ends with 1
+where there is such a difference, or such a definition.
 
 usage: bin/check_statement.py [--write]   with --write: puts the numbers of lines into the page
 """
@@ -20,6 +21,9 @@ STARTS = [CRATES / "nullcheck_top/src/top.rt", CRATES / "nullcheck_top/src/law.r
 IMPORT = re.compile(r"^\s*(?:pub )?(?:ghost )?use Rattle\.(\w+)\.specs\.([\w.]+)", re.MULTILINE)
 # A row of the other programs, or of the shorter road: folders, each with the names of files in it, and a number of lines.
 BESIDE = re.compile(r"^(\| )((?:`\w+/specs/`: [^|;]*;? ?)+)( \| )(\d+)( \|)", re.MULTILINE)
+# The first line of a definition, at the top, in a module or in a mutual block, and of a record, whose members follow.
+HEAD = re.compile(r"^ *(?:(?:abbrev|unfoldable|data|record|pub) +)+(?!mutual\b)[^\s:]+ *[:({]")
+RECORD = re.compile(r"^ *(?:pub +)?record\b.*\bwhere$")
 NAMED = re.compile(r"`(\w+)/specs/(\{[\w,]+\}|\w+)\.antt`")
 
 
@@ -54,6 +58,21 @@ def named():
     found = set()
     for crate, names in NAMED.findall(PAGE.read_text(encoding="utf-8")):
         found.update(CRATES / crate / "specs" / f"{name}.antt" for name in names.strip("{}").split(","))
+    return found
+
+
+def uncommented(file):
+    """The heads of the file's definitions, with their lines, above which no comment stands; members of records aren't definitions."""
+    lines = file.read_text(encoding="utf-8").splitlines()
+    record, found = None, []
+    for number, line in enumerate(lines):
+        indent = len(line) - len(line.lstrip())
+        if line.strip() and record is not None and indent <= record:
+            record = None
+        if record is None and HEAD.match(line) and not (number and lines[number - 1].lstrip().startswith("--")):
+            found.append((number + 1, line.strip()))
+        if RECORD.match(line):
+            record = indent
     return found
 
 
@@ -99,6 +118,10 @@ def main():
     for text, files in (("reached, not named", reached - named()), ("named, not reached", named() - reached)):
         for file in sorted(files):
             print(f"{text}: {file.relative_to(CRATES)}")
+            differences += 1
+    for file in sorted(named()):
+        for number, head in uncommented(file):
+            print(f"no comment: {file.relative_to(CRATES)}:{number}: {head[:80]}")
             differences += 1
     page = PAGE.read_text(encoding="utf-8")
     wanted = with_numbers(page, reached)
