@@ -3,7 +3,7 @@ use Rattle.std.proofs.Common.{◌≡◌, ℕ, zero, suc, ◌+◌, ◌-◌, ◌<�
 use Rattle.std.proofs.lemmas.Bool.{ne_eqb, eqb-true, eqb-false}
 use Rattle.jn_trees.specs.declared.token.TokenKind.{TokenKind}
 use Rattle.jn_trees.specs.Trees.{Tree, BinaryTree}
-use Rattle.jn_trees.specs.WellFormed.{nesting, power}
+use Rattle.jn_trees.specs.WellFormed.{nesting, power, relational}
 use Rattle.jn_trees.specs.Longest.{Try}
 use Rattle.jn_parse_expr_law.specs.Reader.{Got, Reader, Sign, NoSign, OperatorSign, TestSign, sign, build, test, grow, grow_by, go_on, iterate, unary, reader}
 use Rattle.jn_parse_expr.specs.Steps.{sign_power, front_power}
@@ -53,7 +53,7 @@ climbed d deep got ts lt j (suc m) inside g h =
 no_other_by : (R : Reader) (k : ℕ) (l : Tree) (s : Sign) (ts : List TokenKind) → (sign_power s ≡ k + 1 → ⊥) → grow_by R k l s ts ≡ None
 no_other_by R k l NoSign ts h = refl
 no_other_by R k l (OperatorSign o) ts h = ap (λ (b : Bool). cond {A = Try} b (build (λ r. BinaryTree l o r) (R.operand k ts)) None) (ne_eqb (power o) (k + 1) h)
-no_other_by R k l TestSign ts h = ap (λ (b : Bool). cond {A = Try} b (test l ts) None) (ne_eqb 3 (k + 1) h)
+no_other_by R k l TestSign ts h = ap (λ (b : Bool). cond {A = Try} b (test l ts) None) (ne_eqb relational (k + 1) h)
 
 no_other : (R : Reader) (d k : ℕ) (l : Tree) (ts : List TokenKind) → (front_power ts ≡ k + 1 → ⊥) → grow R d k l ts ≡ None
 no_other R d k l [] h = refl

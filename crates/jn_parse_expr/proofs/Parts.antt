@@ -7,7 +7,7 @@ use Rattle.jn_trees.specs.declared.token.TokenKind.TheVariants.{Comma}
 use Rattle.jn_trees.specs.declared.expression.Expr.{Expr}
 use Rattle.jn_trees.specs.Trees.{Tree, Trees, NoTrees, MoreTrees}
 use Rattle.jn_trees.specs.Spelling.{spell}
-use Rattle.jn_trees.specs.WellFormed.{nesting, nesting_all}
+use Rattle.jn_trees.specs.WellFormed.{nesting, nesting_all, loosest_power, assignment_rank}
 use Rattle.jn_trees.specs.View.{view, views}
 use Rattle.jn_trees.specs.Longest.{Try}
 use Rattle.jn_parse_expr_law.specs.Reader.{Got, TryAll, Reader, extend, go_on, bind_all, add_first, items_behind, items_from, all_items, head, link, primary, choose, assign, unary, reader, operand_at}
@@ -25,7 +25,7 @@ read_moves d r o p e h = subst (λ x. ReadAs d r x) (sym e) h
 pub back : (d : ℕ) → d ≡ suc d - 1
 back d = omega arith
 
-pub conditional_is : (d : ℕ) (ts : List TokenKind) (l : Tree) (rest : List TokenKind) → (reader d).operand 6 ts ≡ Some (l, rest) → (reader d).conditional ts ≡ or_else (choose (reader (d - 1)) d l rest) (Some (l, rest))
+pub conditional_is : (d : ℕ) (ts : List TokenKind) (l : Tree) (rest : List TokenKind) → (reader d).operand loosest_power ts ≡ Some (l, rest) → (reader d).conditional ts ≡ or_else (choose (reader (d - 1)) d l rest) (Some (l, rest))
 conditional_is zero ts l rest e = cc
 conditional_is (suc d) ts l rest e =
     ap (λ o. extend (choose (reader d) (suc d)) o) e ∙ extend_is (choose (reader d) (suc d)) l rest ∙ ap (λ n. or_else (choose (reader n) (suc d) l rest) (Some (l, rest))) (back d)
@@ -95,7 +95,7 @@ items_end one es ts o e rest g is h =
     let p = behind_by one (views es) ts o g.n (view e) rest g.room g.gives is in
     p.2 ∙ ap (λ x. prepend (views es) x) (behind_last (items_from one p.0) (view e) rest h) ∙ ap (λ us. Some (us, rest)) (views_push es e)
 
-shorter_by : (d : ℕ) (ts : List TokenKind) (o : Try) (t : Tree) (rest : List TokenKind) → Sound 11 d ts o → o ≡ Some (t, rest) → length rest ≤ length ts
+shorter_by : (d : ℕ) (ts : List TokenKind) (o : Try) (t : Tree) (rest : List TokenKind) → Sound assignment_rank d ts o → o ≡ Some (t, rest) → length rest ≤ length ts
 shorter_by d ts None t rest s e = cc
 shorter_by d ts (Some r) t rest s e =
     let same : r ≡ (t, rest) = cc in

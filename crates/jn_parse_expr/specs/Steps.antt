@@ -14,7 +14,7 @@ use Rattle.jn_trees.specs.declared.expression.UnaryOperator.TheVariants.{Plus as
 use Rattle.jn_trees.specs.declared.expression.BinaryOperator.{BinaryOperator}
 use Rattle.jn_trees.specs.Trees.{Tree, Trees, LiteralTree, NameTree, ThisTree, ParenTree, FieldTree, CallTree, OwnCallTree, IndexTree, PostfixTree, UnaryTree, CastTree, BinaryTree, InstanceOfTree, ConditionalTree, AssignTree, NoTrees, MoreTrees}
 use Rattle.jn_trees.specs.Spelling.{spell_list}
-use Rattle.jn_trees.specs.WellFormed.{nesting, nesting_all, power}
+use Rattle.jn_trees.specs.WellFormed.{nesting, nesting_all, power, relational}
 use Rattle.jn_trees.specs.View.{view, views, annotation_names, base_view}
 use Rattle.jn_trees.specs.Longest.{Try}
 use Rattle.jn_trees.specs.Pieces.{kinds}
@@ -76,7 +76,7 @@ sign_as (Some o) s = s ≡ OperatorSign o
 abbrev pub sign_power : Sign → ℕ
 sign_power NoSign = 0
 sign_power (OperatorSign o) = power o
-sign_power TestSign = 3
+sign_power TestSign = relational
 
 -- how weakly the operator at the front binds
 abbrev pub front_power : List TokenKind → ℕ

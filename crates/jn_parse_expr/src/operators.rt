@@ -1,7 +1,7 @@
 //! Operators between two operands, and `instanceof` (JLS 15.17 to 15.24).
 ghost use Rattle.std.specs.Prelude.{◌≡◌, ◌+◌, ◌-◌, ◌≤◌, ◌<◌, ◌^◌, ℕ, IfOk, IfSome};
 ghost use Rattle.jn_trees.specs.Trees.{Tree};
-ghost use Rattle.jn_trees.specs.WellFormed.{nesting};
+ghost use Rattle.jn_trees.specs.WellFormed.{loosest_power, nesting};
 ghost use Rattle.jn_trees.specs.Pieces.{kinds};
 ghost use Rattle.jn_parse_expr_law.specs.Reader.{reader, sign, grow, grow_by, OperatorSign, test};
 ghost use Rattle.jn_parse_expr.specs.Steps.{ReadAs, TailAs, sign_as, sign_power, front_power};
@@ -10,7 +10,7 @@ use crate::tail::{Tail, attach, front};
 use crate::unary::read_unary;
 use jn_base::number::larger;
 use jn_trees::reading::identifier;
-use jn_trees::{BinaryOperator, Expr, Token, TokenKind};
+use jn_trees::{BinaryOperator, Expr, RELATIONAL, Token, TokenKind};
 use std::alloc::{AllocError, Global};
 
 /// The operator that a token is.
@@ -41,7 +41,13 @@ fn power_of(kind: TokenKind) -> u32
 {
     match binary_operator(kind) {
         Some(operator) => operator.power(),
-        None => { if kind == TokenKind::Instanceof { 3 } else { 0 } }
+        None => {
+            if kind == TokenKind::Instanceof {
+                RELATIONAL
+            } else {
+                0
+            }
+        }
     }
 }
 
@@ -63,7 +69,7 @@ pub fn read_operand(
     power: u32,
     depth: u32,
 ) -> Result<Option<(Box<Expr>, u32, &[Token])>, AllocError>
-    requires { power ≤ 6 }
+    requires { power ≤ loosest_power }
     ensures { IfOk result (λ o. ReadAs depth o ((reader depth).operand power (kinds tokens.now))) }
 {
     if depth == 0 {
@@ -108,7 +114,7 @@ fn grow_tail(
     power: u32,
     depth: u32,
 ) -> Result<Option<(Tail, u32, &[Token])>, AllocError>
-    requires small { power < 6 }
+    requires small { power < loosest_power }
     requires next { front_power (kinds tokens.now) ≡ power + 1 }
     ensures rises { IfOk result (λ o. IfSome o (λ r. nested < r.1)) }
     ensures gives { IfOk result (λ o. (l : Tree) → nested ≡ nesting l
@@ -138,7 +144,7 @@ fn operand_tail(
     power: u32,
     depth: u32,
 ) -> Result<Option<(Tail, u32, &[Token])>, AllocError>
-    requires small { power < 6 }
+    requires small { power < loosest_power }
     requires next { sign_power (OperatorSign operator) ≡ power + 1 }
     requires room { nested < depth }
     ensures rises { IfOk result (λ o. IfSome o (λ r. nested < r.1)) }

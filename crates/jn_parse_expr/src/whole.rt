@@ -11,7 +11,7 @@ use crate::operators::read_operand;
 use crate::tail::{Tail, front, go_with};
 use jn_base::number::larger;
 use jn_trees::reading::expect;
-use jn_trees::{AssignOperator, Expr, Token, TokenKind};
+use jn_trees::{AssignOperator, Expr, LOOSEST_POWER, Token, TokenKind};
 use std::alloc::{AllocError, Global};
 
 /// The assignment operator that a token is.
@@ -90,7 +90,7 @@ fn read_conditional(
 ) -> Result<Option<(Box<Expr>, u32, &[Token])>, AllocError>
     ensures { IfOk result (λ o. ReadAs depth o ((reader depth).conditional (kinds tokens.now))) }
 {
-    match read_operand(alloc, tokens, 6, depth)? {
+    match read_operand(alloc, tokens, LOOSEST_POWER, depth)? {
         None => Ok(None),
         Some((left, nested, rest)) => {
             let tail = choice_tail(alloc, nested, rest, depth)?;

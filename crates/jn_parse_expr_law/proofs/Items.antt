@@ -1,5 +1,5 @@
 -- What trees begin with, and lists of them.
-use Rattle.std.proofs.Common.{◌≡◌, ℕ, zero, suc, ◌+◌, ◌<◌, ◌≤◌, List, [], ◌∷◌, ◌++◌, length, refl, ap, ◌∙◌, arith, append_assoc, length-append, Some, None, Bool, true, false}
+use Rattle.std.proofs.Common.{◌≡◌, ℕ, zero, suc, ◌<◌, ◌≤◌, List, [], ◌∷◌, ◌++◌, length, refl, ap, ◌∙◌, arith, append_assoc, length-append, Some, None, Bool, true, false}
 use Rattle.jn_trees.specs.declared.token.TokenKind.{TokenKind}
 use Rattle.jn_trees.specs.declared.token.TokenKind.TheVariants.{Id, Str, Number, Instanceof, New, Super, This, True, False, Null, LeftParen, RightParen, RightBrace, LeftBracket, RightBracket, Dot, Not, Question, Colon, PlusPlus, MinusMinus, Plus, Minus}
 use Rattle.jn_trees.specs.declared.expression.Literal.{Literal}
@@ -10,7 +10,7 @@ use Rattle.jn_trees.specs.declared.expression.Step.{Step}
 use Rattle.jn_trees.specs.declared.expression.Step.TheVariants.{Increment, Decrement}
 use Rattle.jn_trees.specs.Trees.{Tree, Trees, LiteralTree, NameTree, ThisTree, ParenTree, FieldTree, CallTree, OwnCallTree, SuperCallTree, IndexTree, NewTree, NewArrayTree, ArrayOfTree, PostfixTree, PrefixTree, UnaryTree, CastTree, BinaryTree, InstanceOfTree, ConditionalTree, AssignTree, NoTrees, MoreTrees}
 use Rattle.jn_trees.specs.Spelling.{literal_token, step_token, sign_token, operator_token, assign_token, spell, spell_list, spell_more}
-use Rattle.jn_trees.specs.WellFormed.{nesting, nesting_all, rank, is_left_side, is_castable, Good, AllGood}
+use Rattle.jn_trees.specs.WellFormed.{nesting, nesting_all, rank, is_left_side, is_castable, Good, AllGood, loosest_power, primary_rank, postfix_rank, unary_rank, operator_rank, conditional_rank, assignment_rank}
 use Rattle.jn_trees.specs.Longest.{Try}
 use Rattle.jn_parse_expr_law.specs.Follow.{reach, reach_of}
 use Rattle.jn_parse_expr_law.specs.Reader.{TryAll, Reader, bind_all, bind_items, add_first, items_behind, items_from, all_items, close_arguments, close_elements, arguments_in, elements_in, arguments, called}
@@ -19,10 +19,10 @@ use Rattle.jn_parse_expr_law.proofs.Spines.{ReadsAt, exact_of}
 
 -- what is well formed is read, with what the reader's nesting allows
 pub record CompleteReader (R : Reader) (d : ℕ) : Type 0 where
-  pub left : (t : Tree) (rest : List TokenKind) → Good t → is_left_side t ≡ true → nesting t ≤ d → ReadsAt 1 t rest (R.left (spell t ++ rest))
-  pub operand : (k : ℕ) (t : Tree) (rest : List TokenKind) → k ≤ 6 → Good t → rank t ≤ k + 3 → nesting t ≤ d → ReadsAt (k + 3) t rest (R.operand k (spell t ++ rest))
-  pub conditional : (t : Tree) (rest : List TokenKind) → Good t → rank t ≤ 10 → nesting t ≤ d → ReadsAt 10 t rest (R.conditional (spell t ++ rest))
-  pub whole : (t : Tree) (rest : List TokenKind) → Good t → nesting t ≤ d → ReadsAt 11 t rest (R.whole (spell t ++ rest))
+  pub left : (t : Tree) (rest : List TokenKind) → Good t → is_left_side t ≡ true → nesting t ≤ d → ReadsAt primary_rank t rest (R.left (spell t ++ rest))
+  pub operand : (k : ℕ) (t : Tree) (rest : List TokenKind) → k ≤ loosest_power → Good t → rank t ≤ operator_rank k → nesting t ≤ d → ReadsAt (operator_rank k) t rest (R.operand k (spell t ++ rest))
+  pub conditional : (t : Tree) (rest : List TokenKind) → Good t → rank t ≤ conditional_rank → nesting t ≤ d → ReadsAt conditional_rank t rest (R.conditional (spell t ++ rest))
+  pub whole : (t : Tree) (rest : List TokenKind) → Good t → nesting t ≤ d → ReadsAt assignment_rank t rest (R.whole (spell t ++ rest))
 
 -- what trees begin with
 abbrev pub begins : List TokenKind → Bool
@@ -82,7 +82,7 @@ begins_tree (ConditionalTree c a b) rest = ap begins (append_assoc (spell c) (Qu
 begins_tree (AssignTree l o r) rest = ap begins (append_assoc (spell l) (assign_token o ∷ spell r) rest) ∙ begins_tree l (assign_token o ∷ (spell r ++ rest))
 
 -- operands of casts
-castable_low : (t : Tree) → rank t ≤ 2 → is_castable t ≡ true
+castable_low : (t : Tree) → rank t ≤ postfix_rank → is_castable t ≡ true
 castable_low (UnaryTree o e) k = absurd (omega (arith, k))
 castable_low (PrefixTree s q) k = absurd (omega (arith, k))
 castable_low (BinaryTree l o r) k = absurd (omega (arith, some_power o, k))
@@ -91,7 +91,7 @@ castable_low (ConditionalTree c a b) k = absurd (omega (arith, k))
 castable_low (AssignTree l o r) k = absurd (omega (arith, k))
 castable_low _ k = refl
 
-pub left_side_low : (t : Tree) → is_left_side t ≡ true → rank t ≤ 1
+pub left_side_low : (t : Tree) → is_left_side t ≡ true → rank t ≤ primary_rank
 left_side_low (NameTree n) e = omega arith
 left_side_low (FieldTree p n) e = omega arith
 left_side_low (IndexTree p i) e = omega arith
@@ -127,10 +127,10 @@ castable_begins (UnaryTree o e) rest g c = signed_reach o e c
 castable_begins (CastTree n e) rest g c = refl
 castable_begins _ rest g c = cc
 
-castable_signed : (o : UnaryOperator) (e : Tree) → rank (UnaryTree o e) ≤ 3
+castable_signed : (o : UnaryOperator) (e : Tree) → rank (UnaryTree o e) ≤ unary_rank
 castable_signed o e = omega arith
 
-pub castable_rank : (t : Tree) → is_castable t ≡ true → rank t ≤ 3
+pub castable_rank : (t : Tree) → is_castable t ≡ true → rank t ≤ unary_rank
 castable_rank (UnaryTree o e) c = castable_signed o e
 castable_rank (PrefixTree s p) c = omega arith
 castable_rank (BinaryTree l o r) c = cc
@@ -147,7 +147,7 @@ some_nesting _ = omega arith
 
 -- lists: no expression goes on with what closes one
 abbrev pub Ends : TokenKind → Type 0
-Ends end = (11 < reach end) × ((more : List TokenKind → TryAll) (t : Tree) (rest : List TokenKind) → items_behind more t (end ∷ rest) ≡ Some (MoreTrees t NoTrees, end ∷ rest))
+Ends end = (assignment_rank < reach end) × ((more : List TokenKind → TryAll) (t : Tree) (rest : List TokenKind) → items_behind more t (end ∷ rest) ≡ Some (MoreTrees t NoTrees, end ∷ rest))
 
 abbrev count : Trees → ℕ
 count NoTrees = 0
@@ -161,11 +161,11 @@ from_exact : (R : Reader) (d : ℕ) → CompleteReader R d → (end : TokenKind)
     → items_from R.whole n (spell t ++ (spell_more end es ++ rest)) ≡ Some (MoreTrees t es, end ∷ rest)
 from_exact R d h end ends es zero t rest g gs m ms lt = absurd (omega (arith, lt))
 from_exact R d h end ends NoTrees (suc n) t rest g gs m ms lt =
-    ap (λ o. bind_all o (items_behind (items_from R.whole n))) (exact_of 11 t (end ∷ rest) (R.whole (spell t ++ end ∷ rest)) (h.whole t (end ∷ rest) g m) ends.0)
+    ap (λ o. bind_all o (items_behind (items_from R.whole n))) (exact_of assignment_rank t (end ∷ rest) (R.whole (spell t ++ end ∷ rest)) (h.whole t (end ∷ rest) g m) ends.0)
     ∙ ends.1 (items_from R.whole n) t rest
 from_exact R d h end ends (MoreTrees u us) (suc n) t rest g gs m ms lt =
     let more = spell_more end (MoreTrees u us) ++ rest in
-    ap (λ o. bind_all o (items_behind (items_from R.whole n))) (exact_of 11 t more (R.whole (spell t ++ more)) (h.whole t more g m) (omega arith))
+    ap (λ o. bind_all o (items_behind (items_from R.whole n))) (exact_of assignment_rank t more (R.whole (spell t ++ more)) (h.whole t more g m) (omega arith))
     ∙ ap (λ x. add_first t (items_from R.whole n x)) (append_assoc (spell u) (spell_more end us) rest)
     ∙ ap (λ o. add_first t o) (from_exact R d h end ends us n u rest gs.0 gs.1 (omega (arith, ms)) (omega (arith, ms)) (omega (arith, lt)))
 

@@ -4,7 +4,7 @@ use Rattle.std.proofs.Math.Seq.{take-append_seam, drop-append_seam}
 use Rattle.jn_trees.specs.declared.token.TokenKind.{TokenKind}
 use Rattle.jn_trees.specs.Trees.{Tree}
 use Rattle.jn_trees.specs.Spelling.{spell}
-use Rattle.jn_trees.specs.WellFormed.{nesting, Good}
+use Rattle.jn_trees.specs.WellFormed.{nesting, Good, assignment_rank}
 use Rattle.jn_trees.specs.Longest.{Try, SpellsFront, IsLongest}
 use Rattle.jn_parse_expr_law.specs.Follow.{Reads}
 use Rattle.jn_parse_expr_law.specs.Reader.{reader}
@@ -12,14 +12,14 @@ use Rattle.jn_parse_expr_law.proofs.Sound.{Sound, sound}
 use Rattle.jn_parse_expr_law.proofs.Spines.{ReadsAt, exact_of}
 use Rattle.jn_parse_expr_law.proofs.Complete.{complete}
 
-reads_of : (t : Tree) (rest : List TokenKind) (o : Try) → ReadsAt 11 t rest o → Reads t rest o
+reads_of : (t : Tree) (rest : List TokenKind) (o : Try) → ReadsAt assignment_rank t rest o → Reads t rest o
 reads_of t rest None h = h
 reads_of t rest (Some r) h = h
 
 pub reads : (d : ℕ) (t : Tree) (rest : List TokenKind) → Good t → nesting t ≤ d → Reads t rest ((reader d).whole (spell t ++ rest))
 reads d t rest g m = reads_of t rest ((reader d).whole (spell t ++ rest)) ((complete d).whole t rest g m)
 
-longest_of : (d : ℕ) (ts : List TokenKind) (o : Try) → Sound 11 d ts o → ((t : Tree) (rest : List TokenKind) → SpellsFront d ts (t, rest) → Reads t rest o) → IsLongest d ts o
+longest_of : (d : ℕ) (ts : List TokenKind) (o : Try) → Sound assignment_rank d ts o → ((t : Tree) (rest : List TokenKind) → SpellsFront d ts (t, rest) → Reads t rest o) → IsLongest d ts o
 longest_of d ts None s h = λ t rest g. h t rest g
 longest_of d ts (Some r) s h = ((s.0, s.1, s.3), λ t rest g. (h t rest g).0)
 
@@ -35,8 +35,8 @@ tree_of t (Some r) = r.0
 pub one_tree : (t u : Tree) → Good t → Good u → spell t ≡ spell u → t ≡ u
 one_tree t u g k e =
     let d = max (nesting t) (nesting u) in
-    let a : (reader d).whole (spell t ++ []) ≡ Some (t, []) = exact_of 11 t [] ((reader d).whole (spell t ++ [])) ((complete d).whole t [] g (omega arith)) (omega arith) in
-    let b : (reader d).whole (spell u ++ []) ≡ Some (u, []) = exact_of 11 u [] ((reader d).whole (spell u ++ [])) ((complete d).whole u [] k (omega arith)) (omega arith) in
+    let a : (reader d).whole (spell t ++ []) ≡ Some (t, []) = exact_of assignment_rank t [] ((reader d).whole (spell t ++ [])) ((complete d).whole t [] g (omega arith)) (omega arith) in
+    let b : (reader d).whole (spell u ++ []) ≡ Some (u, []) = exact_of assignment_rank u [] ((reader d).whole (spell u ++ [])) ((complete d).whole u [] k (omega arith)) (omega arith) in
     let same : ◌≡◌ {A = Try} (Some (t, [])) (Some (u, [])) = sym a ∙ ap (λ x. (reader d).whole (x ++ [])) e ∙ b in
     ap (tree_of t) same
 

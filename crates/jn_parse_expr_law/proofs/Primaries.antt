@@ -8,7 +8,7 @@ use Rattle.jn_trees.specs.declared.expression.Literal.{Literal}
 use Rattle.jn_trees.specs.declared.expression.Literal.TheVariants.{Number as NumberLiteral, Str as StrLiteral, True as TrueLiteral, False as FalseLiteral, Null as NullLiteral}
 use Rattle.jn_trees.specs.Trees.{BaseTree, ClassBase, IntBase, BooleanBase, Tree, Trees, LiteralTree, NameTree, ThisTree, ParenTree, FieldTree, CallTree, OwnCallTree, SuperCallTree, IndexTree, NewTree, NewArrayTree, ArrayOfTree, PostfixTree, PrefixTree, UnaryTree, CastTree, BinaryTree, InstanceOfTree, ConditionalTree, AssignTree}
 use Rattle.jn_trees.specs.Spelling.{base_token, literal_token, spell_annotations, spell, spell_list}
-use Rattle.jn_trees.specs.WellFormed.{nesting, nesting_all, rank, is_left_side, is_indexable, Good, AllGood, GoodLiteral}
+use Rattle.jn_trees.specs.WellFormed.{nesting, nesting_all, rank, is_left_side, is_indexable, Good, AllGood, GoodLiteral, primary_rank, assignment_rank}
 use Rattle.jn_trees.specs.Longest.{Try}
 use Rattle.jn_parse_expr_law.specs.Follow.{reach_of}
 use Rattle.jn_parse_expr_law.specs.Reader.{Got, TryAll, Reader, iterate, build_all, bind, close_paren, close_index, arguments, called, base_of, close_array, array_inside, array_of, array_from, annotations, add_annotation, creation, head, member, link, primary, trim, left_at}
@@ -33,10 +33,10 @@ link_shorter R d s p (Dot ∷ ts) = shorter_when (nat_lt (nesting p) (suc d)) (D
 link_shorter R d s p (LeftBracket ∷ ts) =
     shorter_when (is_indexable p) (LeftBracket ∷ ts) (cond (nat_lt (nesting p) (suc d)) (bind (R.whole ts) (close_index p)) None)
     (shorter_when (nat_lt (nesting p) (suc d)) (LeftBracket ∷ ts) (bind (R.whole ts) (close_index p))
-    (shorter_by LeftBracket ts (bind (R.whole ts) (close_index p)) (shorter_bind (close_index p) (close_index_shorter p) ts (R.whole ts) (shorter_of 11 d ts (R.whole ts) (s.whole ts)))))
+    (shorter_by LeftBracket ts (bind (R.whole ts) (close_index p)) (shorter_bind (close_index p) (close_index_shorter p) ts (R.whole ts) (shorter_of assignment_rank d ts (R.whole ts) (s.whole ts)))))
 link_shorter R d s p (_ ∷ ts) = tt
 
-pub link_stops : (R : Reader) (D : ℕ) → StopsAt 1 (link R D)
+pub link_stops : (R : Reader) (D : ℕ) → StopsAt primary_rank (link R D)
 link_stops R D p [] lt = refl
 link_stops R D p (Dot ∷ ts) lt = absurd (omega (arith, lt))
 link_stops R D p (LeftBracket ∷ ts) lt = absurd (omega (arith, lt))
@@ -85,7 +85,7 @@ array_exact R d h names b e rest g m =
     ∙ creation_read R names b ((spell e ++ RightBracket ∷ []) ++ rest)
     ∙ ap (λ x. array_inside R names b x) (append_assoc (spell e) (RightBracket ∷ []) rest)
     ∙ inside_read R names b (spell e ++ RightBracket ∷ rest) (begins_tree e (RightBracket ∷ rest))
-    ∙ ap (λ o. bind o (close_array names b)) (exact_of 11 e (RightBracket ∷ rest) (R.whole (spell e ++ RightBracket ∷ rest)) (h.whole e (RightBracket ∷ rest) g m) (omega arith))
+    ∙ ap (λ o. bind o (close_array names b)) (exact_of assignment_rank e (RightBracket ∷ rest) (R.whole (spell e ++ RightBracket ∷ rest)) (h.whole e (RightBracket ∷ rest) g m) (omega arith))
 
 array_of_exact : (R : Reader) (d : ℕ) → CompleteReader R d → (names : List NameNo) (b : BaseTree) (es : Trees) (rest : List TokenKind) → AllGood es → nesting_all es ≤ d
     → creation R ((spell_annotations names ++ base_token b ∷ LeftBracket ∷ RightBracket ∷ LeftBrace ∷ spell_list RightBrace es) ++ rest) ≡ Some (ArrayOfTree names b es, rest)
@@ -105,7 +105,7 @@ literal_read R NullLiteral rest g = refl
 head_spine : (R : Reader) (d : ℕ) (t : Tree) (rest ts : List TokenKind) → head R ts ≡ Some (t, rest) → Spine 0 (suc d) (link R (suc d)) t rest (primary R (suc d) ts)
 head_spine R d t rest ts e = spine_start 0 (suc d) (link R (suc d)) (head R ts) (t, rest) e t rest (omega arith) (λ lt. refl)
 
-pub primary_spine : (R : Reader) (d : ℕ) → SoundReader R d → CompleteReader R d → (t : Tree) (rest : List TokenKind) → Good t → rank t ≤ 1 → nesting t ≤ suc d → Spine 0 (suc d) (link R (suc d)) t rest (primary R (suc d) (spell t ++ rest))
+pub primary_spine : (R : Reader) (d : ℕ) → SoundReader R d → CompleteReader R d → (t : Tree) (rest : List TokenKind) → Good t → rank t ≤ primary_rank → nesting t ≤ suc d → Spine 0 (suc d) (link R (suc d)) t rest (primary R (suc d) (spell t ++ rest))
 primary_spine R d s h (LiteralTree l) rest g k m = head_spine R d (LiteralTree l) rest (literal_token l ∷ rest) (literal_read R l rest g)
 primary_spine R d s h (NameTree n) rest g k m =
     spine_start 0 (suc d) (link R (suc d)) (head R (Id n ∷ rest)) (called (NameTree n) (λ es. OwnCallTree n es) rest (arguments R.whole rest)) refl (NameTree n) rest
@@ -115,7 +115,7 @@ primary_spine R d s h ThisTree rest g k m = head_spine R d ThisTree rest (This �
 primary_spine R d s h (ParenTree e) rest g k m =
     head_spine R d (ParenTree e) rest (LeftParen ∷ ((spell e ++ RightParen ∷ []) ++ rest))
     (ap (λ x. bind (R.whole x) close_paren) (append_assoc (spell e) (RightParen ∷ []) rest)
-    ∙ ap (λ o. bind o close_paren) (exact_of 11 e (RightParen ∷ rest) (R.whole (spell e ++ RightParen ∷ rest)) (h.whole e (RightParen ∷ rest) g (omega (arith, m))) (omega arith)))
+    ∙ ap (λ o. bind o close_paren) (exact_of assignment_rank e (RightParen ∷ rest) (R.whole (spell e ++ RightParen ∷ rest)) (h.whole e (RightParen ∷ rest) g (omega (arith, m))) (omega arith)))
 primary_spine R d s h (OwnCallTree n es) rest g k m =
     head_spine R d (OwnCallTree n es) rest (Id n ∷ LeftParen ∷ (spell_list RightParen es ++ rest))
     (ap (λ o. Some (called (NameTree n) (λ us. OwnCallTree n us) (LeftParen ∷ (spell_list RightParen es ++ rest)) o)) (in_exact R d h es rest g (omega (arith, m))))
@@ -157,7 +157,7 @@ primary_spine R d s h (IndexTree p e) rest g k m =
     (IndexTree p e, rest)
     (ap (λ b. cond b (cond (nat_lt (nesting p) (suc d)) (bind (R.whole last) (close_index p)) None) None) g.2
     ∙ sym (cond_below (nesting p) (suc d) (bind (R.whole last) (close_index p)) None fits)
-    ∙ ap (λ o. bind o (close_index p)) (exact_of 11 e (RightBracket ∷ rest) (R.whole last) (h.whole e (RightBracket ∷ rest) g.3 (omega (arith, m))) (omega arith)))
+    ∙ ap (λ o. bind o (close_index p)) (exact_of assignment_rank e (RightBracket ∷ rest) (R.whole last) (h.whole e (RightBracket ∷ rest) g.3 (omega (arith, m))) (omega arith)))
     (omega arith) (IndexTree p e) rest (omega arith) (λ lt. refl))
 primary_spine R d s h (PostfixTree p st) rest g k m = absurd (omega (arith, k))
 primary_spine R d s h (PrefixTree st q) rest g k m = absurd (omega (arith, k))
@@ -217,7 +217,7 @@ link_trims R d s p (Dot ∷ ts) = trims_when (nat_lt (nesting p) (suc d)) (Dot �
 link_trims R d s p (LeftBracket ∷ ts) =
     trims_when (is_indexable p) (LeftBracket ∷ ts) (cond (nat_lt (nesting p) (suc d)) (bind (R.whole ts) (close_index p)) None)
     (trims_when (nat_lt (nesting p) (suc d)) (LeftBracket ∷ ts) (bind (R.whole ts) (close_index p))
-    (trims_more LeftBracket ts (bind (R.whole ts) (close_index p)) (index_trims p ts (R.whole ts) (shorter_of 11 d ts (R.whole ts) (s.whole ts)))))
+    (trims_more LeftBracket ts (bind (R.whole ts) (close_index p)) (index_trims p ts (R.whole ts) (shorter_of assignment_rank d ts (R.whole ts) (s.whole ts)))))
 link_trims R d s p (_ ∷ ts) = tt
 
 -- what is trimmed is no shorter than what follows
@@ -245,14 +245,14 @@ trim_left (FieldTree p n) ts e = refl
 trim_left (IndexTree p i) ts e = refl
 trim_left _ ts e = cc
 
-left_reads : (t : Tree) (rest : List TokenKind) (o : Try) → Trims (length rest) o → (1 < reach_of rest → o ≡ Some (t, rest)) → ReadsAt 1 t rest o
+left_reads : (t : Tree) (rest : List TokenKind) (o : Try) → Trims (length rest) o → (primary_rank < reach_of rest → o ≡ Some (t, rest)) → ReadsAt primary_rank t rest o
 left_reads t rest None h e = absurd h
 left_reads t rest (Some r) h e = (h, λ lt. let same : Some r ≡ Some (t, rest) = e lt in cc)
 
-left_from : (R : Reader) (d : ℕ) → SoundReader R d → (t : Tree) (rest : List TokenKind) (o : Try) → is_left_side t ≡ true → (s : Spine 0 (suc d) (link R (suc d)) t rest o) → Trims (length rest) (trim s.got.0 s.got.1) → ReadsAt 1 t rest (bind o trim)
+left_from : (R : Reader) (d : ℕ) → SoundReader R d → (t : Tree) (rest : List TokenKind) (o : Try) → is_left_side t ≡ true → (s : Spine 0 (suc d) (link R (suc d)) t rest o) → Trims (length rest) (trim s.got.0 s.got.1) → ReadsAt primary_rank t rest (bind o trim)
 left_from R d sound t rest o left s trims =
     let end = iterate (link R (suc d)) s.n s.got in
-    subst (λ x. ReadsAt 1 t rest (bind x trim)) (sym s.read)
+    subst (λ x. ReadsAt primary_rank t rest (bind x trim)) (sym s.read)
     (left_reads t rest (trim end.0 end.1) (iterate_trims R d sound (length rest) s.n s.got trims)
     (λ lt. ap (λ (x : Got). trim (iterate (link R (suc d)) s.n x).0 (iterate (link R (suc d)) s.n x).1) (s.exact (omega (arith, lt)))
     ∙ ap (λ (x : Got). trim x.0 x.1) (stop_iterate (link R (suc d)) s.n (t, rest) (link_stops R (suc d) t rest lt))
@@ -290,13 +290,13 @@ left_spine R d s h (IndexTree p e) rest g l m =
           (IndexTree p e, rest)
           (ap (λ b. cond b (cond (nat_lt (nesting p) (suc d)) (bind (R.whole last) (close_index p)) None) None) g.2
           ∙ sym (cond_below (nesting p) (suc d) (bind (R.whole last) (close_index p)) None fits)
-          ∙ ap (λ o. bind o (close_index p)) (exact_of 11 e (RightBracket ∷ rest) (R.whole last) (h.whole e (RightBracket ∷ rest) g.3 (omega (arith, m))) (omega arith)))
+          ∙ ap (λ o. bind o (close_index p)) (exact_of assignment_rank e (RightBracket ∷ rest) (R.whole last) (h.whole e (RightBracket ∷ rest) g.3 (omega (arith, m))) (omega arith)))
           (omega arith) (IndexTree p e) rest (omega arith) (λ lt. refl);
       trims = omega arith;
     })
 left_spine R d s h _ rest g l m = cc
 
-pub left_complete : (R : Reader) (d : ℕ) → SoundReader R d → CompleteReader R d → (t : Tree) (rest : List TokenKind) → Good t → is_left_side t ≡ true → nesting t ≤ suc d → ReadsAt 1 t rest (left_at R (suc d) (spell t ++ rest))
+pub left_complete : (R : Reader) (d : ℕ) → SoundReader R d → CompleteReader R d → (t : Tree) (rest : List TokenKind) → Good t → is_left_side t ≡ true → nesting t ≤ suc d → ReadsAt primary_rank t rest (left_at R (suc d) (spell t ++ rest))
 left_complete R d s h t rest g l m =
     let p = left_spine R d s h t rest g l m in
     left_from R d s t rest (primary R (suc d) (spell t ++ rest)) l p.spine p.trims

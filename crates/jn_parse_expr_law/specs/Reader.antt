@@ -13,7 +13,7 @@ use Rattle.jn_trees.specs.declared.expression.AssignOperator.{AssignOperator}
 use Rattle.jn_trees.specs.declared.expression.AssignOperator.TheVariants.{Assign as Simple, Add as AddTo, Subtract as SubtractFrom, Multiply as MultiplyBy, Divide as DivideBy, Remainder as RemainderBy}
 use Rattle.jn_trees.specs.Trees.{BaseTree, ClassBase, IntBase, BooleanBase, Tree, Trees, LiteralTree, NameTree, ThisTree, ParenTree, FieldTree, CallTree, OwnCallTree, SuperCallTree, IndexTree, NewTree, NewArrayTree, ArrayOfTree, PostfixTree, PrefixTree, UnaryTree, CastTree, BinaryTree, InstanceOfTree, ConditionalTree, AssignTree, NoTrees, MoreTrees}
 use Rattle.jn_trees.specs.Spelling.{spell_list}
-use Rattle.jn_trees.specs.WellFormed.{nesting, power, is_left_side, is_indexable}
+use Rattle.jn_trees.specs.WellFormed.{nesting, power, is_left_side, is_indexable, relational, loosest_power}
 use Rattle.jn_trees.specs.Longest.{Try}
 use Rattle.jn_parse_expr_law.specs.Follow.{reach_of}
 
@@ -25,7 +25,7 @@ Got = Tree × List TokenKind
 abbrev pub TryAll : Type 0
 TryAll = Option (Trees × List TokenKind)
 
--- reads of one nesting: operand k reads the ranks up to k + 3
+-- reads of one nesting: operand k reads the ranks up to `operator_rank k`
 pub record Reader : Type 0 where
   -- the longest left side of an assignment
   pub left : List TokenKind → Try
@@ -319,14 +319,14 @@ test l _ = None
 abbrev pub grow_by : Reader → ℕ → Tree → Sign → List TokenKind → Try
 grow_by R k l NoSign ts = None
 grow_by R k l (OperatorSign o) ts = cond (nat_eq (power o) (k + 1)) (build (λ r. BinaryTree l o r) (R.operand k ts)) None
-grow_by R k l TestSign ts = cond (nat_eq 3 (k + 1)) (test l ts) None
+grow_by R k l TestSign ts = cond (nat_eq relational (k + 1)) (test l ts) None
 
 -- an operator of power k + 1 and its right side
 abbrev pub grow : Reader → ℕ → ℕ → Tree → List TokenKind → Try
 grow R d k l [] = None
 grow R d k l (x ∷ ts) = cond (nat_lt (nesting l) d) (grow_by R k l (sign x) ts) None
 
--- operands of rank at most k + 3
+-- operands of rank at most `operator_rank k`
 abbrev pub operand_at : Reader → ℕ → ℕ → List TokenKind → Try
 operand_at R d zero ts = unary R d ts
 operand_at R d (suc k) ts = go_on (grow R d k) d (operand_at R d k ts)
@@ -343,7 +343,7 @@ choose R d c _ = None
 
 -- a conditional, or what binds more strongly
 abbrev pub conditional_at : Reader → ℕ → List TokenKind → Try
-conditional_at R d ts = extend (choose R d) (operand_at R d 6 ts)
+conditional_at R d ts = extend (choose R d) (operand_at R d loosest_power ts)
 
 -- the assignment that this token is
 abbrev pub assign_of : TokenKind → Option AssignOperator

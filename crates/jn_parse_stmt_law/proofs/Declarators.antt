@@ -5,7 +5,7 @@ use Rattle.jn_trees.specs.declared.token.TokenKind.{TokenKind}
 use Rattle.jn_trees.specs.declared.token.TokenKind.TheVariants.{Id, Comma, Assign}
 use Rattle.jn_trees.specs.Trees.{Tree, DeclaratorTree, LocalTree, ParameterTree}
 use Rattle.jn_trees.specs.Spelling.{spell, spell_marks, spell_type_use, spell_value, spell_declarator, spell_more_declarators, spell_local, spell_parameter}
-use Rattle.jn_trees.specs.WellFormed.{GoodOptional, nesting_optional, GoodDeclarators, nesting_declarators, GoodLocal, nesting_local}
+use Rattle.jn_trees.specs.WellFormed.{GoodOptional, nesting_optional, GoodDeclarators, nesting_declarators, GoodLocal, nesting_local, assignment_rank}
 use Rattle.jn_trees.specs.Longest.{Try}
 use Rattle.jn_parse_expr_law.specs.Follow.{reach_of}
 use Rattle.jn_parse_expr_law.proofs.Sound.{Sound}
@@ -18,7 +18,7 @@ use Rattle.jn_parse_stmt_law.proofs.Wholes.{Whole, exact_tree}
 abbrev pub SoundValue : ℕ → List TokenKind → Behind (Option Tree) → Type 0
 SoundValue d ts r = Spelled spell_value ts r × GoodOptional r.0 × (nesting_optional r.0 ≤ d)
 
-value_or_sound : (d : ℕ) (ts : List TokenKind) (o : Try) → Sound 11 d ts o → SoundValue d (Assign ∷ ts) (value_or (Assign ∷ ts) o)
+value_or_sound : (d : ℕ) (ts : List TokenKind) (o : Try) → Sound assignment_rank d ts o → SoundValue d (Assign ∷ ts) (value_or (Assign ∷ ts) o)
 value_or_sound d ts None s = (refl, tt, omega arith)
 value_or_sound d ts (Some r) s = (ap (λ x. Assign ∷ x) s.0, s.1, s.3)
 
@@ -26,11 +26,11 @@ pub value_sound : (d : ℕ) (whole : List TokenKind → Try) → Whole d whole �
 value_sound d whole w (Assign ∷ ts) = value_or_sound d ts (whole ts) (w.sound ts)
 value_sound d whole w _ = (refl, tt, omega arith)
 
-no_value : (whole : List TokenKind → Try) (rest : List TokenKind) → 11 < reach_of rest → read_value whole rest ≡ (None, rest)
+no_value : (whole : List TokenKind → Try) (rest : List TokenKind) → assignment_rank < reach_of rest → read_value whole rest ≡ (None, rest)
 no_value whole (Assign ∷ ts) far = absurd (omega (arith, far))
 no_value whole _ far = refl
 
-value_exact : (d : ℕ) (whole : List TokenKind → Try) → Whole d whole → (v : Option Tree) (rest : List TokenKind) → GoodOptional v → nesting_optional v ≤ d → 11 < reach_of rest → read_value whole (spell_value v ++ rest) ≡ (v, rest)
+value_exact : (d : ℕ) (whole : List TokenKind → Try) → Whole d whole → (v : Option Tree) (rest : List TokenKind) → GoodOptional v → nesting_optional v ≤ d → assignment_rank < reach_of rest → read_value whole (spell_value v ++ rest) ≡ (v, rest)
 value_exact d whole w None rest g m far = no_value whole rest far
 value_exact d whole w (Some e) rest g m far = ap (λ o. value_or (Assign ∷ (spell e ++ rest)) o) (exact_tree d whole w e rest g m far)
 
@@ -57,7 +57,7 @@ no_more whole zero rest e = refl
 no_more whole (suc n) (Comma ∷ ts) e = cc
 no_more whole (suc n) _ e = refl
 
-far_more : (ds : List DeclaratorTree) (rest : List TokenKind) → 11 < reach_of rest → 11 < reach_of (spell_more_declarators ds ++ rest)
+far_more : (ds : List DeclaratorTree) (rest : List TokenKind) → assignment_rank < reach_of rest → assignment_rank < reach_of (spell_more_declarators ds ++ rest)
 far_more [] rest far = far
 far_more (x ∷ ds) rest far = omega arith
 

@@ -5,7 +5,7 @@ use Rattle.jn_trees.specs.declared.token.TokenKind.TheVariants.{Id, Break, Conti
 use Rattle.jn_trees.specs.declared.context.Context.{Context}
 use Rattle.jn_trees.specs.Trees.{Tree, Trees, NoTrees, MoreTrees, LocalTree, ParameterTree, InitTree, ExpressionsInit, DeclarationInit, Statement, Statements, BlockStatement, ExpressionStatement, BreakStatement, ContinueStatement, ReturnStatement, LocalStatement, IfStatement, WhileStatement, DoStatement, ForStatement, ForEachStatement, ThisCallStatement, SuperCallStatement, MoreStatements}
 use Rattle.jn_trees.specs.Spelling.{spell, spell_list, spell_marks, spell_type_use, spell_local, spell_parameter, spell_init, spell_optional, spell_statement, spell_body}
-use Rattle.jn_trees.specs.WellFormed.{Good, AllGood, nesting, nesting_all, is_effect, GoodEffects, GoodOptional, nesting_optional, GoodInit, nesting_init, nesting_statement, nesting_body, ends_open, under, in_block, loop_body, GoodStatement, GoodStatements}
+use Rattle.jn_trees.specs.WellFormed.{Good, AllGood, nesting, nesting_all, is_effect, GoodEffects, GoodOptional, nesting_optional, GoodInit, nesting_init, nesting_statement, nesting_body, ends_open, under, in_block, loop_body, GoodStatement, GoodStatements, assignment_rank}
 use Rattle.jn_trees.specs.Longest.{Try, TryStatement, StatementFront}
 use Rattle.jn_parse_expr_law.specs.Reader.{TryAll, arguments_in}
 use Rattle.jn_parse_expr_law.proofs.Sound.{Spells, in_sound}
@@ -49,7 +49,7 @@ abbrev pub SoundStatement : Context → ℕ → List TokenKind → TryStatement 
 SoundStatement c d ts o = AllRead (Fronts c d ts) o
 
 abbrev FrontTree : ℕ → List TokenKind → Tree → List TokenKind → Type 0
-FrontTree d ts e us = Spells 11 d ts (e, us)
+FrontTree d ts e us = Spells assignment_rank d ts (e, us)
 
 abbrev FrontList : TokenKind → ℕ → List TokenKind → Trees → List TokenKind → Type 0
 FrontList end d ts es us = (ts ≡ spell_list end es ++ us) × AllGood es × (nesting_all es ≤ d)

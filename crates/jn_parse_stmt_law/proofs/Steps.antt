@@ -7,6 +7,7 @@ use Rattle.jn_trees.specs.declared.context.Context.{Context}
 use Rattle.jn_trees.specs.Trees.{Tree, Statements, NoStatements, MoreStatements}
 use Rattle.jn_trees.specs.Spelling.{spell, spell_value, spell_statement}
 use Rattle.jn_trees.specs.Longest.{Try, TryStatement}
+use Rattle.jn_trees.specs.WellFormed.{assignment_rank}
 use Rattle.jn_parse_expr_law.specs.Reader.{TryAll, bind_all, add_first, items_behind, items_from, all_items}
 use Rattle.jn_parse_expr_law.proofs.Sound.{Sound}
 use Rattle.jn_parse_stmt_law.specs.Parts.{Read, then_read, put, read_value, declarator_behind, put_before, more_declarators, all_declarators}
@@ -46,7 +47,7 @@ module _ (d : ℕ) (whole : List TokenKind → Try) (w : Whole d whole) where
   NoMore ts None = Unit {0}
   NoMore ts (Some r) = length r.1 ≤ length ts
 
-  no_more : (ts : List TokenKind) (o : Try) → Sound 11 d ts o → NoMore ts o
+  no_more : (ts : List TokenKind) (o : Try) → Sound assignment_rank d ts o → NoMore ts o
   no_more ts None h = tt
   no_more ts (Some r) h = omega (arith, ap (length {A = TokenKind}) h.0, length-append (spell r.0) r.1)
 

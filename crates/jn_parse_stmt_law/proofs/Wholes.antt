@@ -4,7 +4,7 @@ use Rattle.jn_trees.specs.declared.token.TokenKind.{TokenKind}
 use Rattle.jn_trees.specs.declared.token.TokenKind.TheVariants.{RightParen, Semicolon, Comma}
 use Rattle.jn_trees.specs.Trees.{Tree, Trees, NoTrees, MoreTrees}
 use Rattle.jn_trees.specs.Spelling.{spell, spell_list, spell_more}
-use Rattle.jn_trees.specs.WellFormed.{Good, AllGood, nesting, nesting_all}
+use Rattle.jn_trees.specs.WellFormed.{Good, AllGood, nesting, nesting_all, assignment_rank}
 use Rattle.jn_trees.specs.Longest.{Try}
 use Rattle.jn_parse_expr_law.specs.Follow.{reach_of, Reads}
 use Rattle.jn_parse_expr_law.specs.Reader.{TryAll, bind_all, bind_items, add_first, items_behind, items_from, all_items, close_arguments, arguments_in}
@@ -14,19 +14,19 @@ use Rattle.jn_parse_stmt_law.proofs.Begins.{begins, Quiet, begins_tree, argument
 
 -- `whole` reads the longest expression of nesting at most d
 pub record Whole (d : ℕ) (whole : List TokenKind → Try) : Type 0 where
-  pub sound : (ts : List TokenKind) → Sound 11 d ts (whole ts)
+  pub sound : (ts : List TokenKind) → Sound assignment_rank d ts (whole ts)
   pub reads : (t : Tree) (rest : List TokenKind) → Good t → nesting t ≤ d → Reads t rest (whole (spell t ++ rest))
 
-exact_of : (t : Tree) (rest : List TokenKind) (o : Try) → Reads t rest o → 11 < reach_of rest → o ≡ Some (t, rest)
+exact_of : (t : Tree) (rest : List TokenKind) (o : Try) → Reads t rest o → assignment_rank < reach_of rest → o ≡ Some (t, rest)
 exact_of t rest None h k = absurd h
 exact_of t rest (Some r) h k = ap (λ x. Some x) (h.1 k)
 
-pub exact_tree : (d : ℕ) (whole : List TokenKind → Try) → Whole d whole → (t : Tree) (rest : List TokenKind) → Good t → nesting t ≤ d → 11 < reach_of rest → whole (spell t ++ rest) ≡ Some (t, rest)
+pub exact_tree : (d : ℕ) (whole : List TokenKind → Try) → Whole d whole → (t : Tree) (rest : List TokenKind) → Good t → nesting t ≤ d → assignment_rank < reach_of rest → whole (spell t ++ rest) ≡ Some (t, rest)
 exact_tree d whole w t rest g m k = exact_of t rest (whole (spell t ++ rest)) (w.reads t rest g m) k
 
 -- lists, by what closes them
 pub record Closes (end : TokenKind) : Type 0 where
-  pub far : (ts : List TokenKind) → 11 < reach_of (end ∷ ts)
+  pub far : (ts : List TokenKind) → assignment_rank < reach_of (end ∷ ts)
   pub stops : (more : List TokenKind → TryAll) (t : Tree) (ts : List TokenKind) → items_behind more t (end ∷ ts) ≡ Some (MoreTrees t NoTrees, end ∷ ts)
 
 closes_paren : Closes RightParen
@@ -43,7 +43,7 @@ some_tokens : (end : TokenKind) (es : Trees) → count es < length (spell_more e
 some_tokens end NoTrees = omega arith
 some_tokens end (MoreTrees t es) = omega (arith, some_tokens end es, length-append (spell t) (spell_more end es))
 
-far_more : (end : TokenKind) → Closes end → (es : Trees) (rest : List TokenKind) → 11 < reach_of (spell_more end es ++ rest)
+far_more : (end : TokenKind) → Closes end → (es : Trees) (rest : List TokenKind) → assignment_rank < reach_of (spell_more end es ++ rest)
 far_more end c NoTrees rest = c.far rest
 far_more end c (MoreTrees t es) rest = omega arith
 

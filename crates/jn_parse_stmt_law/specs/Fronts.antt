@@ -4,7 +4,7 @@ use Rattle.jn_trees.specs.declared.token.TokenKind.{TokenKind}
 use Rattle.jn_trees.specs.declared.token.TokenKind.TheVariants.{Final, LeftBracket, Comma, At, Else}
 use Rattle.jn_trees.specs.Trees.{DeclaratorTree, LocalTree, ParameterTree, Statement}
 use Rattle.jn_trees.specs.Spelling.{spell_declarator, spell_more_declarators, spell_local, spell_parameter}
-use Rattle.jn_trees.specs.WellFormed.{final_once, GoodDeclarators, nesting_declarators, GoodLocal, nesting_local, ends_open}
+use Rattle.jn_trees.specs.WellFormed.{final_once, GoodDeclarators, nesting_declarators, GoodLocal, nesting_local, ends_open, assignment_rank}
 use Rattle.jn_trees.specs.Longest.{TryStatement}
 use Rattle.jn_parse_expr_law.specs.Follow.{reach_of}
 use Rattle.jn_parse_stmt_law.specs.Parts.{Behind, Read}
@@ -34,7 +34,7 @@ starts_else _ = false
 
 -- neither a value nor a declarator goes on there
 abbrev pub EndsDeclarators : List TokenKind → Type 0
-EndsDeclarators rest = (11 < reach_of rest) × (starts_comma rest ≡ false)
+EndsDeclarators rest = (assignment_rank < reach_of rest) × (starts_comma rest ≡ false)
 
 -- what was read spells the front
 abbrev pub Spelled : {A : Type 0} → (A → List TokenKind) → List TokenKind → Behind A → Type 0

@@ -7,7 +7,7 @@ use Rattle.jn_trees.specs.declared.expression.UnaryOperator.TheVariants.{Plus, M
 use Rattle.jn_trees.specs.declared.context.Context.{Context}
 use Rattle.jn_trees.specs.declared.context.Owner.{Owner}
 use Rattle.jn_trees.specs.Trees.{Tree, Trees, LiteralTree, NameTree, ThisTree, ParenTree, FieldTree, CallTree, OwnCallTree, SuperCallTree, IndexTree, NewTree, NewArrayTree, ArrayOfTree, PostfixTree, PrefixTree, UnaryTree, CastTree, BinaryTree, InstanceOfTree, ConditionalTree, AssignTree, NoTrees, MoreTrees, LocalMark, AnnotationMark, FinalMark, DeclaratorTree, LocalTree, InitTree, ExpressionsInit, DeclarationInit, Statement, Statements, BlockStatement, EmptyStatement, ExpressionStatement, BreakStatement, ContinueStatement, ReturnStatement, LocalStatement, IfStatement, IfElseStatement, WhileStatement, DoStatement, ForStatement, ForEachStatement, ThisCallStatement, SuperCallStatement, NoStatements, MoreStatements, Mark, NoteMark, PublicMark, ProtectedMark, PrivateMark, StaticMark, ConstantMark, AbstractMark, ParameterTree, ReceiverTree, MemberTree, FieldMember, MethodMember, ConstructorMember, TypeDeclaration, ClassType, InterfaceType, SourceTree}
-use Rattle.jn_trees.specs.WellFormed.{nesting, nesting_all, rank, is_left_side, is_indexable, is_least_literal, is_least_number, GoodLiteral, is_castable, Good, AllGood, is_effect, GoodEffects, GoodOptional, nesting_optional, no_final, final_once, GoodDeclarators, nesting_declarators, GoodLocal, nesting_local, GoodInit, nesting_init, nesting_statement, nesting_body, ends_open, under, in_block, loop_body, body_context, GoodStatement, GoodStatements, GoodBody, is_access, clashes, clashes_none, no_clash, marks_type, marks_interface, marks_field, marks_method, marks_interface_method, marks_constructor, every, GoodMarks, has_static, is_static_mark, GoodParameters, GoodReceiver, GoodMethodMarks, GoodMethodHead, GoodConstructorHead, GoodField, GoodMethodBody, GoodMember, GoodMembers, GoodType, GoodTypes, GoodFile}
+use Rattle.jn_trees.specs.WellFormed.{nesting, nesting_all, rank, is_left_side, is_indexable, is_least_literal, is_least_number, GoodLiteral, is_castable, Good, AllGood, is_effect, GoodEffects, GoodOptional, nesting_optional, no_final, final_once, GoodDeclarators, nesting_declarators, GoodLocal, nesting_local, GoodInit, nesting_init, nesting_statement, nesting_body, ends_open, under, in_block, loop_body, body_context, GoodStatement, GoodStatements, GoodBody, is_access, clashes, clashes_none, no_clash, marks_type, marks_interface, marks_field, marks_method, marks_interface_method, marks_constructor, every, GoodMarks, has_static, is_static_mark, GoodParameters, GoodReceiver, GoodMethodMarks, GoodMethodHead, GoodConstructorHead, GoodField, GoodMethodBody, GoodMember, GoodMembers, GoodType, GoodTypes, GoodFile, primary_rank, unary_rank, relational_rank, disjunction_rank, conditional_rank}
 use Rattle.jn_renumber.specs.Names.{entry, renumbered_literal}
 use Rattle.jn_renumber.specs.ByNumbers.{tree_by, trees_by, optional_by, local_marks_by, declarator_by, declarators_by, local_by, init_by, statement_by, statements_by, mark_by, marks_by, parameters_by, receiver_by, body_by, member_by, members_by, type_by, file_by}
 
@@ -98,19 +98,19 @@ module _ (ns : List NameNo) where
     good (NameTree n) g = g
     good ThisTree g = g
     good (ParenTree e) g = good e g
-    good (FieldTree e n) g = (good e g.0, low 1 e g.1)
-    good (CallTree e n es) g = (good e g.0, low 1 e g.1, all_good es g.2)
+    good (FieldTree e n) g = (good e g.0, low primary_rank e g.1)
+    good (CallTree e n es) g = (good e g.0, low primary_rank e g.1, all_good es g.2)
     good (OwnCallTree n es) g = all_good es g
     good (SuperCallTree n es) g = all_good es g
-    good (IndexTree a b) g = (good a g.0, low 1 a g.1, (alike a).indexable ∙ g.2, good b g.3)
+    good (IndexTree a b) g = (good a g.0, low primary_rank a g.1, (alike a).indexable ∙ g.2, good b g.3)
     good (NewTree n es) g = all_good es g
     good (NewArrayTree notes b e) g = good e g
     good (ArrayOfTree notes b es) g = all_good es g
     good (PostfixTree e s) g = (good e g.0, (alike e).left ∙ g.1)
     good (PrefixTree s e) g = (good e g.0, (alike e).left ∙ g.1)
-    good (UnaryTree Plus e) g = (good e g.0, low 3 e g.1)
-    good (UnaryTree Not e) g = (good e g.0, low 3 e g.1)
-    good (UnaryTree Minus e) g = signed (is_least_number e) (is_least_number (tree_by ns e)) (alike e).least (Good e × (rank e ≤ 3)) (Good (tree_by ns e) × (rank (tree_by ns e) ≤ 3)) (λ h. (good e h.0, low 3 e h.1)) g
+    good (UnaryTree Plus e) g = (good e g.0, low unary_rank e g.1)
+    good (UnaryTree Not e) g = (good e g.0, low unary_rank e g.1)
+    good (UnaryTree Minus e) g = signed (is_least_number e) (is_least_number (tree_by ns e)) (alike e).least (Good e × (rank e ≤ unary_rank)) (Good (tree_by ns e) × (rank (tree_by ns e) ≤ unary_rank)) (λ h. (good e h.0, low unary_rank e h.1)) g
       where
         signed : (a b : Bool) → b ≡ a → (P Q : Type 0) → (P → Q) → elim a as (λ _. Type 0) [ true ↦ Unit {0} | false ↦ P ] → elim b as (λ _. Type 0) [ true ↦ Unit {0} | false ↦ Q ]
         signed true true e P Q f x = x
@@ -119,8 +119,8 @@ module _ (ns : List NameNo) where
         signed false true e P Q f x = absurd (cc)
     good (CastTree n e) g = (good e g.0, (alike e).castable ∙ g.1)
     good (BinaryTree a o b) g = (good a g.0, low _ a g.1, good b g.2, lower _ b g.3)
-    good (InstanceOfTree e n) g = (good e g.0, low 6 e g.1)
-    good (ConditionalTree a b c) g = (good a g.0, low 9 a g.1, good b g.2, good c g.3, low 10 c g.4)
+    good (InstanceOfTree e n) g = (good e g.0, low relational_rank e g.1)
+    good (ConditionalTree a b c) g = (good a g.0, low disjunction_rank a g.1, good b g.2, good c g.3, low conditional_rank c g.4)
     good (AssignTree a o b) g = (good a g.0, (alike a).left ∙ g.1, good b g.2)
 
     all_good : (es : Trees) → AllGood es → AllGood (trees_by ns es)

@@ -41,33 +41,97 @@ abbrev mutual
   nesting_all NoTrees = 0
   nesting_all (MoreTrees t ts) = max (nesting t) (nesting_all ts)
 
--- how weakly an operator binds: 1 for `*` to 6 for `||`
-abbrev pub power : BinaryOperator → ℕ
-power Multiply = 1
-power Divide = 1
-power Remainder = 1
-power Add = 2
-power Subtract = 2
-power Less = 3
-power Greater = 3
-power LessEqual = 3
-power GreaterEqual = 3
-power Equal = 4
-power NotEqual = 4
-power And = 5
-power Or = 6
+-- the power of `*`, `/` and `%`, which bind most strongly; each of the next powers is one more (JLS 15.17)
+abbrev pub multiplicative : ℕ
+multiplicative = 1
 
--- how weakly a tree binds: 1 for what stands by itself, 2 for a step after, 3 for what has a sign, a step or a cast before, 4 to 9 for operators, 10 for a conditional, 11 for an assignment
+-- the power of `+` and `-` between operands (JLS 15.18)
+abbrev pub additive : ℕ
+additive = multiplicative + 1
+
+-- the power of `<`, `>`, `<=`, `>=` and `instanceof` (JLS 15.20)
+abbrev pub relational : ℕ
+relational = additive + 1
+
+-- the power of `==` and `!=` (JLS 15.21)
+abbrev pub equality : ℕ
+equality = relational + 1
+
+-- the power of `&&` (JLS 15.23)
+abbrev pub conjunction : ℕ
+conjunction = equality + 1
+
+-- the power of `||` (JLS 15.24)
+abbrev pub disjunction : ℕ
+disjunction = conjunction + 1
+
+-- the power of the operators that bind least strongly
+abbrev pub loosest_power : ℕ
+loosest_power = disjunction
+
+-- how weakly an operator binds
+abbrev pub power : BinaryOperator → ℕ
+power Multiply = multiplicative
+power Divide = multiplicative
+power Remainder = multiplicative
+power Add = additive
+power Subtract = additive
+power Less = relational
+power Greater = relational
+power LessEqual = relational
+power GreaterEqual = relational
+power Equal = equality
+power NotEqual = equality
+power And = conjunction
+power Or = disjunction
+
+-- the rank of what stands by itself (JLS 15.8)
+abbrev pub primary_rank : ℕ
+primary_rank = 1
+
+-- the rank of what has a step after (JLS 15.14)
+abbrev pub postfix_rank : ℕ
+postfix_rank = primary_rank + 1
+
+-- the rank of what has a sign, a step or a cast before (JLS 15.15, 15.16)
+abbrev pub unary_rank : ℕ
+unary_rank = postfix_rank + 1
+
+-- the rank of what has an operator of this power between operands; of an operand without one where the power is 0
+abbrev pub operator_rank : ℕ → ℕ
+operator_rank n = n + unary_rank
+
+-- the rank of a comparison by `<` or `instanceof` (JLS 15.20)
+abbrev pub relational_rank : ℕ
+relational_rank = operator_rank relational
+
+-- the rank of `||`, the weakest of the operators between two operands (JLS 15.24)
+abbrev pub disjunction_rank : ℕ
+disjunction_rank = operator_rank loosest_power
+
+-- the rank of a conditional (JLS 15.25)
+abbrev pub conditional_rank : ℕ
+conditional_rank = disjunction_rank + 1
+
+-- the rank of an assignment, which no tree exceeds (JLS 15.26)
+abbrev pub assignment_rank : ℕ
+assignment_rank = conditional_rank + 1
+
+-- above the ranks of all trees
+abbrev pub no_rank : ℕ
+no_rank = assignment_rank + 1
+
+-- how weakly a tree binds
 abbrev pub rank : Tree → ℕ
-rank (PostfixTree p s) = 2
-rank (PrefixTree s p) = 3
-rank (UnaryTree o e) = 3
-rank (CastTree n e) = 3
-rank (BinaryTree l o r) = power o + 3
-rank (InstanceOfTree e n) = 6
-rank (ConditionalTree c a b) = 10
-rank (AssignTree l o r) = 11
-rank _ = 1
+rank (PostfixTree p s) = postfix_rank
+rank (PrefixTree s p) = unary_rank
+rank (UnaryTree o e) = unary_rank
+rank (CastTree n e) = unary_rank
+rank (BinaryTree l o r) = operator_rank (power o)
+rank (InstanceOfTree e n) = relational_rank
+rank (ConditionalTree c a b) = conditional_rank
+rank (AssignTree l o r) = assignment_rank
+rank _ = primary_rank
 
 -- what can be assigned: a name, a field, an element
 abbrev pub is_left_side : Tree → Bool
@@ -120,21 +184,21 @@ abbrev mutual
   Good (NameTree n) = Unit {0}
   Good ThisTree = Unit {0}
   Good (ParenTree e) = Good e
-  Good (FieldTree p n) = Good p × (rank p ≤ 1)
-  Good (CallTree p n es) = Good p × (rank p ≤ 1) × AllGood es
+  Good (FieldTree p n) = Good p × (rank p ≤ primary_rank)
+  Good (CallTree p n es) = Good p × (rank p ≤ primary_rank) × AllGood es
   Good (OwnCallTree n es) = AllGood es
   Good (SuperCallTree n es) = AllGood es
-  Good (IndexTree p e) = Good p × (rank p ≤ 1) × (is_indexable p ≡ true) × Good e
+  Good (IndexTree p e) = Good p × (rank p ≤ primary_rank) × (is_indexable p ≡ true) × Good e
   Good (NewTree n es) = AllGood es
   Good (NewArrayTree ns b e) = Good e
   Good (ArrayOfTree ns b es) = AllGood es
   Good (PostfixTree p s) = Good p × (is_left_side p ≡ true)
   Good (PrefixTree s p) = Good p × (is_left_side p ≡ true)
-  Good (UnaryTree o e) = GoodSigned o e (Good e × (rank e ≤ 3))
+  Good (UnaryTree o e) = GoodSigned o e (Good e × (rank e ≤ unary_rank))
   Good (CastTree n e) = Good e × (is_castable e ≡ true)
-  Good (BinaryTree l o r) = Good l × (rank l ≤ power o + 3) × Good r × (rank r < power o + 3)
-  Good (InstanceOfTree e n) = Good e × (rank e ≤ 6)
-  Good (ConditionalTree c a b) = Good c × (rank c ≤ 9) × Good a × Good b × (rank b ≤ 10)
+  Good (BinaryTree l o r) = Good l × (rank l ≤ operator_rank (power o)) × Good r × (rank r < operator_rank (power o))
+  Good (InstanceOfTree e n) = Good e × (rank e ≤ relational_rank)
+  Good (ConditionalTree c a b) = Good c × (rank c ≤ disjunction_rank) × Good a × Good b × (rank b ≤ conditional_rank)
   Good (AssignTree l o r) = Good l × (is_left_side l ≡ true) × Good r
 
   -- each expression of the list is well formed

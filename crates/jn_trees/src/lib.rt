@@ -29,4 +29,6 @@ pub use expression::{
 pub use names::Names;
 pub use statement::{Declarator, ForHead, ForInit, LocalDeclaration, LocalModifier, Stmt, TypeUse};
 pub use token::{Token, TokenKind};
-pub use well_formed::{DEEPEST, every_may_stand, final_once, has_static, no_clash};
+pub use well_formed::{
+    DEEPEST, LOOSEST_POWER, RELATIONAL, every_may_stand, final_once, has_static, no_clash,
+};

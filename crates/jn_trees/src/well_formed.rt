@@ -15,6 +15,27 @@ use crate::statement::{LocalModifier, Stmt};
 /// The greatest nesting of a statement or an initializer.
 pub const DEEPEST: u32 = 500;
 
+/// The power of `*`, `/` and `%`, which bind most strongly (JLS 15.17).
+pub const MULTIPLICATIVE: u32 = 1;
+
+/// The power of `+` and `-` between operands (JLS 15.18).
+pub const ADDITIVE: u32 = MULTIPLICATIVE + 1;
+
+/// The power of `<`, `>`, `<=`, `>=` and `instanceof` (JLS 15.20).
+pub const RELATIONAL: u32 = ADDITIVE + 1;
+
+/// The power of `==` and `!=` (JLS 15.21).
+pub const EQUALITY: u32 = RELATIONAL + 1;
+
+/// The power of `&&` (JLS 15.23).
+pub const CONJUNCTION: u32 = EQUALITY + 1;
+
+/// The power of `||` (JLS 15.24).
+pub const DISJUNCTION: u32 = CONJUNCTION + 1;
+
+/// The power of the operators that bind least strongly.
+pub const LOOSEST_POWER: u32 = DISJUNCTION;
+
 impl Context {
     /// Where a statement of a body stands, which leads where it is a constructor's first (JLS 8.8.7).
     pub fn of_body(leading: bool) -> Context
@@ -62,20 +83,21 @@ impl Context {
 }
 
 impl BinaryOperator {
-    /// How weakly the operator binds: 1 for `*` to 6 for `||` (JLS 15.17 to 15.24).
+    /// How weakly the operator binds (JLS 15.17 to 15.24).
     pub fn power(self) -> u32
         ensures { result ≡ good.power self }
     {
         match self {
-            BinaryOperator::Multiply | BinaryOperator::Divide | BinaryOperator::Remainder => 1,
-            BinaryOperator::Add | BinaryOperator::Subtract => 2,
+            BinaryOperator::Multiply | BinaryOperator::Divide | BinaryOperator::Remainder =>
+                MULTIPLICATIVE,
+            BinaryOperator::Add | BinaryOperator::Subtract => ADDITIVE,
             BinaryOperator::Less
             | BinaryOperator::Greater
             | BinaryOperator::LessEqual
-            | BinaryOperator::GreaterEqual => 3,
-            BinaryOperator::Equal | BinaryOperator::NotEqual => 4,
-            BinaryOperator::And => 5,
-            BinaryOperator::Or => 6,
+            | BinaryOperator::GreaterEqual => RELATIONAL,
+            BinaryOperator::Equal | BinaryOperator::NotEqual => EQUALITY,
+            BinaryOperator::And => CONJUNCTION,
+            BinaryOperator::Or => DISJUNCTION,
         }
     }
 }

@@ -1,32 +1,53 @@
 //! How strongly expressions bind, and what may stand in which place.
-ghost use Rattle.std.specs.Prelude.{◌≡◌, ◌+◌};
-ghost use Rattle.jn_trees.specs.WellFormed.{power as spec_power, rank as spec_rank, is_least_literal as spec_is_least_literal, is_least_number as spec_is_least_number, is_castable as spec_is_castable};
+ghost use Rattle.std.specs.Prelude.{◌≡◌};
+ghost use Rattle.jn_trees.specs.WellFormed.{operator_rank, power as spec_power, rank as spec_rank, is_least_literal as spec_is_least_literal, is_least_number as spec_is_least_number, is_castable as spec_is_castable};
 ghost use Rattle.jn_trees_spelling.specs.Parts.{is_not_sign};
 ghost use Rattle.jn_trees.specs.View.{view};
 
-use jn_trees::{BinaryOperator, Expr, Literal, UnaryOperator};
+use jn_trees::{BinaryOperator, Expr, LOOSEST_POWER, Literal, RELATIONAL, UnaryOperator};
 
-/// The level of an operator: 4 for `*` to 9 for `||`.
+/// The rank of what stands by itself (JLS 15.8).
+pub const PRIMARY_RANK: u32 = 1;
+
+/// The rank of what has a step after (JLS 15.14).
+pub const POSTFIX_RANK: u32 = PRIMARY_RANK + 1;
+
+/// The rank of what has a sign, a step or a cast before (JLS 15.15, 15.16).
+pub const UNARY_RANK: u32 = POSTFIX_RANK + 1;
+
+/// The rank of a comparison by `<` or `instanceof` (JLS 15.20).
+pub const RELATIONAL_RANK: u32 = RELATIONAL + UNARY_RANK;
+
+/// The rank of `||`, the weakest of the operators between two operands (JLS 15.24).
+pub const DISJUNCTION_RANK: u32 = LOOSEST_POWER + UNARY_RANK;
+
+/// The rank of a conditional (JLS 15.25).
+pub const CONDITIONAL_RANK: u32 = DISJUNCTION_RANK + 1;
+
+/// The rank of an assignment (JLS 15.26).
+pub const ASSIGNMENT_RANK: u32 = CONDITIONAL_RANK + 1;
+
+/// The rank of what has this operator between operands.
 pub fn level(operator: BinaryOperator) -> u32
-    ensures { result ≡ spec_power operator + 3 }
+    ensures { result ≡ operator_rank (spec_power operator) }
 {
-    operator.power() + 3
+    operator.power() + UNARY_RANK
 }
 
-/// How weakly an expression binds: 1 for what stands by itself, 2 for a step after, 3 for what has a sign, a step or a cast before, 4 to 9 for operators, 10 for a conditional, 11 for an assignment.
+/// How weakly an expression binds.
 pub fn rank(expression: &Expr) -> u32
     ensures { result ≡ spec_rank (view expression.now) }
 {
     match expression {
-        Expr::Postfix { .. } => 2,
-        Expr::Prefix { .. } => 3,
-        Expr::Unary { .. } => 3,
-        Expr::Cast { .. } => 3,
+        Expr::Postfix { .. } => POSTFIX_RANK,
+        Expr::Prefix { .. } => UNARY_RANK,
+        Expr::Unary { .. } => UNARY_RANK,
+        Expr::Cast { .. } => UNARY_RANK,
         Expr::Binary { operator, .. } => level(*operator),
-        Expr::InstanceOf { .. } => 6,
-        Expr::Conditional { .. } => 10,
-        Expr::Assign { .. } => 11,
-        _ => 1,
+        Expr::InstanceOf { .. } => RELATIONAL_RANK,
+        Expr::Conditional { .. } => CONDITIONAL_RANK,
+        Expr::Assign { .. } => ASSIGNMENT_RANK,
+        _ => PRIMARY_RANK,
     }
 }
 

@@ -1,5 +1,5 @@
 use Rattle.std.proofs.Common.{◌≡◌, ◌+◌, ◌-◌, ◌*◌, ◌<◌, ◌≤◌, length}
-use Rattle.jn_trees.specs.WellFormed.{nesting, nesting_all}
+use Rattle.jn_trees.specs.WellFormed.{nesting, nesting_all, loosest_power}
 use Rattle.jn_trees.specs.View.{view, views}
 use Rattle.jn_trees.specs.Pieces.{kinds}
 use Rattle.jn_parse_expr_law.specs.Reader.{reader, link, primary, all_items}
@@ -82,7 +82,7 @@ abbrev pub invariant-operators::read_operand-operators : goal.invariant-operator
 invariant-operators::read_operand-operators l = record {
   some_depth : 0 < l.depth;
   lower : l.level < l.power;
-  small : l.power ≤ 6;
+  small : l.power ≤ loosest_power;
   fits : l.nested ≤ l.depth;
   nests : l.nested ≡ nesting (view l.left.value);
   on : Climbing l.depth l.nested (view l.left.value, kinds l.rest) (kinds l.tokens) l.level;
