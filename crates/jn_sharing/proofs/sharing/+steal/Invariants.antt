@@ -1,5 +1,5 @@
 use Rattle.std.proofs.Common.{◌*◌, ◌-◌}
-use Rattle.jn_sharing.proofs.+steal.Given as goal
+use Rattle.jn_sharing.proofs.sharing.+steal.Given as goal
 
 abbrev pub decreases-steal_by : goal.decreases-steal_by
 decreases-steal_by g l = 2 * l.more
