@@ -3,12 +3,17 @@
 SHAPES = []
 
 
-def shape(name, start, limit=None, copies=4096, says="accepted"):
-    """A shape: the text of its copy of number `k`, of size `n`; `limit` is its greatest number, `copies` how many there may be."""
+def shape(name, start, limit=None, copies=4096, says="accepted", words=()):
+    """A shape: the text of its copy of number `k`, of size `n`; `limit` is its greatest number, `copies` how many there may be, `words`
+    what the program is asked beside the files."""
     def keep(make):
-        SHAPES.append((name, make, start, limit or 1 << 30, copies, says))
+        SHAPES.append((name, make, start, limit or 1 << 30, copies, says, words))
         return make
     return keep
+
+
+# What finds the notes of rows.
+LONG = ("--report", "long")
 
 
 def times(n, text, between=""):
@@ -703,3 +708,36 @@ def _(n, k):
 @shape("modifiers", 500, says="refused")
 def _(n, k):
     return f"class C{k} {{\n  " + "static " * n + "int f;\n}\n"
+
+# Notes of rows: chains of causes that are long, that many rows share, or that many causes lead to.
+@shape("notes of rows in one body", 60, 2000, copies=1, says="rejected", words=LONG)
+def _(n, k):
+    return f"class C{k} {{\n  int f(@Nullable String s) {{\n    int x = 0;\n" + "    x = x + s.length();\n" * n + "    return x;\n  }\n}\n"
+
+@shape("notes of readers of a field", 60, 1000, copies=1, says="rejected", words=LONG)
+def _(n, k):
+    return (f"class C{k} {{\n  private String s;\n" + times(n, lambda i: f"  void w{i}(@Nullable String t) {{ s = t; }}\n  int r{i}() {{ return s.length(); }}\n") + "}\n")
+
+@shape("notes of a method's callers", 60, 1000, copies=1, says="rejected", words=LONG)
+def _(n, k):
+    return f"class C{k} {{\n  private String p(String t) {{ return t; }}\n" + times(n, lambda i: f"  int c{i}(@Nullable String t) {{ return p(t).length(); }}\n") + "}\n"
+
+@shape("notes of a chain of methods", 60, 1000, copies=1, says="rejected", words=LONG)
+def _(n, k):
+    return (f"class C{k} {{\n  int m(@Nullable String s) {{ return f0(s); }}\n" + times(n, lambda i: f"  private int f{i}(String s) {{ return s.length() + f{i + 1}(s); }}\n")
+            + f"  private int f{n}(String s) {{ return 0; }}\n}}\n")
+
+@shape("notes of what a constructor calls", 60, 1000, copies=1, says="rejected", words=LONG)
+def _(n, k):
+    return (f"class C{k} {{\n  C{k}(@Nullable String s) {{\n" + times(n, lambda i: f"    p{i}(s);\n") + "  }\n"
+            + times(n, lambda i: f"  private int p{i}(String t) {{ return t.length(); }}\n") + "}\n")
+
+@shape("notes of tests made void", 60, 1000, copies=1, says="rejected", words=LONG)
+def _(n, k):
+    return (f"class C{k} {{\n  @Nullable String s;\n  void g() {{ }}\n  int f() {{\n    int x = 0;\n"
+            + "    if (s != null) { g(); x = x + s.length(); }\n" * n + "    return x;\n  }\n}\n")
+
+@shape("notes of methods that override", 60, 4000, copies=1, says="rejected", words=LONG)
+def _(n, k):
+    return (f"class B{k} {{ @Nullable String m(@Nullable String t) {{ return t; }} }}\n"
+            + times(n, lambda i: f"class D{k}x{i} extends B{k} {{ String m(String t) {{ return t; }} }}\n"))

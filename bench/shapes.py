@@ -70,11 +70,11 @@ def limit_time():
     resource.setrlimit(resource.RLIMIT_CORE, (0, 0))
 
 
-def run(program, names, folder):
+def run(program, words, names, folder):
     """One run: the seconds of its user and system time, its status (below 0 a signal), and its last line."""
     out = f"{folder}/out"
     with open(out, "wb") as file:
-        child = subprocess.Popen([program, "--workers", "1", *names], stdout=file, stderr=subprocess.STDOUT, preexec_fn=limit_time)
+        child = subprocess.Popen([program, "--workers", "1", *words, *names], stdout=file, stderr=subprocess.STDOUT, preexec_fn=limit_time)
         _, status, used = os.wait4(child.pid, 0)
         child.returncode = os.waitstatus_to_exitcode(status)
     with open(out, "rb") as file:
@@ -87,6 +87,7 @@ class Sized:
     """A shape's files of one size, and their best time."""
     def __init__(self, program, shape, n, copies):
         self.program = program
+        self.words = shape[6]
         self.folder = tempfile.TemporaryDirectory()
         self.made = files_of(self.folder.name, shape[1], n, copies)
         self.best = None
@@ -95,7 +96,7 @@ class Sized:
 
     def time(self, runs=1):
         for _ in range(runs):
-            seconds, self.status, self.said = run(self.program, self.made[0], self.folder.name)
+            seconds, self.status, self.said = run(self.program, self.words, self.made[0], self.folder.name)
             if self.best is None or seconds < self.best:
                 self.best = seconds
             if self.status < 0:
@@ -108,7 +109,7 @@ class Sized:
 
 def whole_of(program, shape):
     """The shape at the size at which it takes long enough, or at its greatest one; with its number and its copies."""
-    name, make, n, limit, most, says = shape
+    name, make, n, limit, most, says, _ = shape
     copies = 1
     found = Sized(program, shape, n, copies)
     while True:
@@ -179,7 +180,7 @@ def main():
     sized.close()
     print(f"1 MiB of members takes {measure:.3f} s", flush=True)
     for it in chosen:
-        name, make, _, _, _, says = it
+        name, make, _, _, _, says, _ = it
         whole, n, copies = whole_of(program, it)
         half = Sized(program, it, n // 2, copies)
         ratio = None
