@@ -16,7 +16,8 @@ use Rattle.jn_voided.specs.declared.search.Voided.{Voided}
 use Rattle.jn_notes.specs.declared.note.Note.{Note}
 use Rattle.jn_notes.specs.declared.note.Notes.{Notes}
 use Rattle.jn_notes.specs.Asked.{item_of}
-use Rattle.jn_notes.specs.Noted.{noted, AreBy, AreFrom, AreEach, AreLeastTables, AreNotesOf}
+use Rattle.jn_notes.specs.Noted.{headed, noted, AreBy, AreFrom, AreNotes, AreEach, AreLeastTables, AreNotesOf}
+use Rattle.jn_notes.specs.Spoken.{topics_of}
 use Rattle.jn_notes.specs.Voids.{AreVoids, key_of, read_in, void_notes}
 use Rattle.jn_notes.specs.declared.voids.ReadAt.{ReadAt}
 
@@ -45,6 +46,9 @@ module _ (P : Program) (names : List (List ℕ)) (s : List Qualifier)
     same_from None n m h i = h ∙ sym i
     same_from (Some x) n m h i = same_by i.0 n m (subst (λ (steps : List Step). AreBy P names s tables steps n) (chain_one tables x h.0 i.0 h.1 i.1) h.2) i.2
 
+    same_row : (row : Row) (n m : Notes) → AreNotes P names s tables row n → AreNotes P names s tables row m → n ≡ m
+    same_row row n m h i = h.2 ∙ ap (headed P names row (topics_of P s row tables)) (same_from (item_of P s row tables) h.0 i.0 h.1 i.1) ∙ sym i.2
+
     same_each : (rows : List Row) (ns ms : List Notes) → AreEach P names s tables rows ns → AreEach P names s tables rows ms → ns ≡ ms
     same_each [] [] [] h i = refl
     same_each [] [] (m ∷ ms) h i = absurd i
@@ -52,7 +56,7 @@ module _ (P : Program) (names : List (List ℕ)) (s : List Qualifier)
     same_each (row ∷ rows) [] ms h i = absurd h
     same_each (row ∷ rows) (n ∷ ns) [] h i = absurd i
     same_each (row ∷ rows) (n ∷ ns) (m ∷ ms) h i =
-        ap (λ (x : Notes). x ∷ ns) (same_from (item_of P s row tables) n m h.0 i.0) ∙ ap (λ (xs : List Notes). m ∷ xs) (same_each rows ns ms h.1 i.1)
+        ap (λ (x : Notes). x ∷ ns) (same_row row n m h.0 i.0) ∙ ap (λ (xs : List Notes). m ∷ xs) (same_each rows ns ms h.1 i.1)
 
   pub one_list : (rows : List Row) (one other : List Notes) → AreNotesOf P names s rows one → AreNotesOf P names s rows other → one ≡ other
   one_list rows one other h i =

@@ -139,7 +139,7 @@ module _ (q : Sought) (b p : ℕ) (e : Env) where
 
 -- ---- points
 
-there : (A : Type 0) (xs : List A) (i : ℕ) (d : A) → i < length xs → slice_get xs i ≡ Some (slice_index_or xs i d)
+pub there : (A : Type 0) (xs : List A) (i : ℕ) (d : A) → i < length xs → slice_get xs i ≡ Some (slice_index_or xs i d)
 there A [] i d lt = absurd (omega (arith, lt))
 there A (x ∷ xs) zero d lt = refl
 there A (x ∷ xs) (suc i) d lt = there A xs i d (omega (arith, lt))
@@ -199,7 +199,7 @@ module _ (s : List Qualifier) where
       by (inl l) = inl (omega (arith, l, le))
       by (inr r) = inr (omega (arith, r, le))
 
-method_there : (list : List Overrider) (j : ℕ) (d : Overrider) → j < length list → slice_index_or (map (λ (o : Overrider). o.method) list) j 0 ≡ (slice_index_or list j d).method
+pub method_there : (list : List Overrider) (j : ℕ) (d : Overrider) → j < length list → slice_index_or (map (λ (o : Overrider). o.method) list) j 0 ≡ (slice_index_or list j d).method
 method_there [] j d lt = absurd (omega (arith, lt))
 method_there (x ∷ list) zero d lt = refl
 method_there (x ∷ list) (suc j) d lt = method_there list j d (omega (arith, lt))

@@ -5,4 +5,6 @@ mod Lacking
 mod Leaving
 mod Noting
 mod Solving
+mod Speaking
 pub mod Standing
+mod Taking

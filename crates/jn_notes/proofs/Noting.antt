@@ -71,10 +71,10 @@ module _ (P : Program) (names : List (List ℕ)) where
 
   -- of a row's item
   pub of_item : (s : List Qualifier) (tables : List Table) (row : Row) (o : Option Item) (x : Item) (notes : Notes) → o ≡ item_of P s row tables → o ≡ Some x
-      → AreFrom P names s tables (Some x) notes → AreNotes P names s tables row notes
+      → AreFrom P names s tables (Some x) notes → AreFrom P names s tables (item_of P s row tables) notes
   of_item s tables row o x notes is e h = subst (λ (i : Option Item). AreFrom P names s tables i notes) (sym e ∙ is) h
 
-  pub of_none : (s : List Qualifier) (tables : List Table) (row : Row) (o : Option Item) (notes : Notes) → o ≡ item_of P s row tables → o ≡ None → notes ≡ no_notes → AreNotes P names s tables row notes
+  pub of_none : (s : List Qualifier) (tables : List Table) (row : Row) (o : Option Item) (notes : Notes) → o ≡ item_of P s row tables → o ≡ None → notes ≡ no_notes → AreFrom P names s tables (item_of P s row tables) notes
   of_none s tables row o notes is e h = subst (λ (i : Option Item). AreFrom P names s tables i notes) (sym e ∙ is) h
 
 -- of no rows, under the least tables

@@ -4,4 +4,5 @@ pub mod Asked
 pub mod Lacking
 pub mod Worded
 pub mod Voids
+pub mod Spoken
 pub mod Noted

@@ -1,5 +1,5 @@
--- The notes of rows: what is told of the first chain from what a row speaks of.
-use Rattle.std.specs.Prelude.{ℕ, ◌<◌, ◌-◌, ◌≡◌, List, [], ◌∷◌, ◌++◌, false, length, map, take, Option, Some, None, slice_index_or}
+-- The notes of rows: of the declarations that a row speaks of, and then what is told of the first chain from its value.
+use Rattle.std.specs.Prelude.{ℕ, zero, suc, ◌<◌, ◌-◌, ◌≡◌, List, [], ◌∷◌, ◌++◌, false, length, map, take, Option, Some, None, slice_index_or}
 use Rattle.jn_base.specs.declared.place.Row.{Row}
 use Rattle.jn_quals.specs.Qualifier.{Qualifier}
 use Rattle.jn_points.specs.declared.program.Program.{Program}
@@ -10,17 +10,24 @@ use Rattle.jn_reasons_law.specs.declared.item.Step.{Step}
 use Rattle.jn_reasons_law.specs.Choice.{IsFirstChain, told}
 use Rattle.jn_notes.specs.declared.note.Note.{Note}
 use Rattle.jn_notes.specs.declared.note.Notes.{Notes}
+use Rattle.jn_notes.specs.declared.topics.Topic.{Topic}
 use Rattle.jn_notes.specs.Asked.{item_of}
+use Rattle.jn_notes.specs.Spoken.{topic_note, topics_of}
 use Rattle.jn_notes.specs.Voids.{AreVoids, read_in}
 use Rattle.jn_notes.specs.Worded.{place_span, step_words}
 
--- how many steps of a chain are shown at most
+-- how many steps of a chain are shown at most, and how many declarations that a row speaks of
 abbrev pub most_shown : ℕ
 most_shown = 8
 
 -- no note is shown, and none is left out
 abbrev pub no_notes : Notes
 no_notes = record { shown = []; more = 0 }
+
+-- how many notes are left out: of the declarations, where any are, and else of the chain
+abbrev pub left_out : ℕ → ℕ → ℕ
+left_out zero more = more
+left_out (suc n) more = suc n
 
 module _ (P : Program) (names : List (List ℕ)) where
   -- a step in words, and where it stands
@@ -30,6 +37,10 @@ module _ (P : Program) (names : List (List ℕ)) where
   -- the notes of what made a test void, and then the first 8 of the steps that are told
   abbrev pub noted : List Note → List Step → Notes
   noted voids steps = record { shown = voids ++ map note_of (take most_shown steps); more = length steps - most_shown }
+
+  -- the notes of the first 8 declarations that a row speaks of, and then those of its chain
+  abbrev pub headed : Row → List Topic → Notes → Notes
+  headed row topics notes = record { shown = map (topic_note P names row.span) (take most_shown topics) ++ notes.shown; more = left_out (length topics - most_shown) notes.more }
 
   module _ (s : List Qualifier) (tables : List Table) where
     -- of a chain: those of the read of a field by which it leaves its first registers, and what is told of it
@@ -41,9 +52,9 @@ module _ (P : Program) (names : List (List ℕ)) where
     AreFrom None notes = notes ≡ no_notes
     AreFrom (Some x) notes = (steps : List Step) × IsFirstChain P s tables x steps × AreBy steps notes
 
-    -- the notes of a row: those of the item of which it speaks
+    -- the notes of a row: those of the declarations that it speaks of, and then those of the item
     abbrev pub AreNotes : Row → Notes → Type 0
-    AreNotes row notes = AreFrom (item_of P s row tables) notes
+    AreNotes row notes = (behind : Notes) × AreFrom (item_of P s row tables) behind × (notes ≡ headed row (topics_of P s row tables) behind)
 
     -- row by row
     abbrev pub AreEach : List Row → List Notes → Type 0

@@ -5,7 +5,7 @@ ghost use Rattle.jn_tables_law.specs.Inferable.{IsInferable};
 ghost use Rattle.jn_inference_law.specs.Solution.{IsLeastSignature};
 ghost use Rattle.jn_reasons_law.specs.Chains.{HasChain};
 ghost use Rattle.jn_notes.specs.Asked.{item_of};
-ghost use Rattle.jn_notes.specs.Noted.{AreBy, AreEach, AreFrom, AreLeastTables, AreNotes, AreNotesOf, most_shown, no_notes, note_of, noted};
+ghost use Rattle.jn_notes.specs.Noted.{AreBy, AreEach, AreFrom, AreLeastTables, AreNotes, AreNotesOf, headed, left_out, most_shown, no_notes, note_of, noted};
 ghost use Rattle.jn_notes.specs.Owned.{AreOwners};
 ghost use Rattle.jn_reasons_law.specs.Choice.{IsFirstChain};
 ghost use Rattle.jn_origins.specs.Standing.{AreSized};
@@ -16,6 +16,7 @@ use crate::pairs::{part_of, slot_item};
 use crate::reads::{register_item, sought_of};
 use crate::spans::place_span;
 use crate::tables::least_tables;
+use crate::topics::{Topic, topic_notes, topics_of};
 use crate::voids::find_voids;
 use crate::words::step_words;
 use jn_base::lists::put;
@@ -33,7 +34,7 @@ use jn_tables_law::law::rounds_give_the_least_table;
 use jn_trees::Names;
 use std::alloc::{AllocError, Global};
 
-/// The greatest number of notes that are shown of a row.
+/// The greatest number of steps that are shown of a row, and of declarations.
 const MOST_SHOWN: usize = 8;
 
 /// A step in words, and where it stands.
@@ -207,6 +208,78 @@ fn notes_from(
     notes_by(alloc, program, names, sig, tables, owners, &steps)
 }
 
+/// The notes of a row's item.
+fn notes_behind(
+    alloc: Global,
+    program: &Program,
+    names: &Names,
+    sig: &Sig,
+    tables: &[FlowTable],
+    overriders: &[Overrider],
+    origins: &LeastOrigins,
+    owners: &[Option<Owner>],
+    row: Row,
+) -> Result<Notes, OutOfMemory>
+    requires inferable { IsInferable program.now }
+    requires least { IsLeastSignature program.now sig.now }
+    requires solved { AreLeastTables program.now sig.now tables.now }
+    requires overriders { AreOverriders program.now overriders.now }
+    requires program { origins.now.program ≡ program.now }
+    requires sig { origins.now.sig ≡ sig.now }
+    requires tables { origins.now.tables ≡ tables.now }
+    requires owners { AreOwners program.now owners.now }
+    ensures { IfOk result
+        (λ notes. AreFrom program.now names.now sig.now tables.now
+        (item_of program.now sig.now row tables.now) notes) }
+{
+    what_stands_has_a_chain();
+    least_tables_are_sized();
+    match item_of(program, sig, tables, overriders, row) {
+        None => Ok(no_notes(alloc)),
+        Some(item) => notes_from(alloc, program, names, sig, tables, origins, owners, item),
+    }
+}
+
+/// As many declarations as are shown.
+fn first_topics(topics: &[Topic]) -> &[Topic]
+    ensures { result.now ≡ take most_shown topics.now }
+{
+    if topics.len() <= MOST_SHOWN {
+        topics
+    } else {
+        &topics[..MOST_SHOWN]
+    }
+}
+
+/// How many notes are left out.
+fn left_out(topics: usize, behind: usize) -> usize
+    ensures { result ≡ left_out topics behind }
+{
+    if topics == 0 { behind } else { topics }
+}
+
+/// The notes of the declarations that a row speaks of, and then those of its chain.
+fn headed(
+    alloc: Global,
+    program: &Program,
+    names: &Names,
+    row: Row,
+    topics: &[Topic],
+    behind: Notes,
+) -> Result<Notes, AllocError>
+    ensures { IfOk result
+        (λ notes. notes ≡ headed program.now names.now row topics.now behind) }
+{
+    let mut notes = topic_notes(alloc, program, names, row.span, first_topics(topics))?;
+    let hidden = left_out(more(topics.len()), behind.more);
+    let mut others = behind.shown.into_vec();
+    notes.append(&mut others)?;
+    Ok(Notes {
+        shown: Seq::of_vec(notes),
+        more: hidden,
+    })
+}
+
 /// The notes of a row.
 fn notes_of(
     alloc: Global,
@@ -230,12 +303,12 @@ fn notes_of(
     ensures { IfOk result
         (λ notes. AreNotes program.now names.now sig.now tables.now row notes) }
 {
-    what_stands_has_a_chain();
-    least_tables_are_sized();
-    match item_of(program, sig, tables, overriders, row) {
-        None => Ok(no_notes(alloc)),
-        Some(item) => notes_from(alloc, program, names, sig, tables, origins, owners, item),
-    }
+    let topics = topics_of(alloc, program, sig, tables, overriders, row)?;
+    let behind = notes_behind(
+        alloc, program, names, sig, tables, overriders, origins, owners, row,
+    )?;
+    let notes = headed(alloc, program, names, row, &topics, behind)?;
+    Ok(notes)
 }
 
 /// The notes of each row.

@@ -1,17 +1,22 @@
-//! Notes below rows: where the qualifier that a row speaks of comes from, step by step, with a place of the text for each.
+//! Notes below rows: which field, parameter or other declaration a row speaks of, and where its qualifier comes from, step by step, with a place of
+//! the text for each.
 //!
-//! [`notes_of_rows`] finds what each row speaks of, the first chain of causes from there ([`jn_chain::first_chain`]), and says in words what is told
-//! of it. Rows that speak of no value, and of what is whole where the other is taken, have no notes.
+//! [`notes_of_rows`] finds what takes the value of each row, what is overridden or left unassigned there ([`topics`]), and the first chain of causes of
+//! the value ([`jn_chain::first_chain`]), and says in words what is told of these. Rows of what is whole where the other is taken have no chain.
 #![tactic(auto)]
 
+pub mod changes;
 pub mod explain;
 pub mod law;
+pub mod lefts;
 pub mod note;
 pub mod owners;
 pub mod pairs;
 pub mod reads;
 pub mod spans;
 pub mod tables;
+pub mod takers;
+pub mod topics;
 pub mod voids;
 pub mod words;
 

@@ -10,8 +10,8 @@ pub struct Note {
     pub span: Span,
 }
 
-/// The notes that are shown of a row: those of a test that something made void, and at most 8 of where its qualifier comes from; and how many more of these
-/// there are.
+/// The notes that are shown of a row: at most 8 of the declarations that it speaks of, those of a test that something made void, and at most 8 of where its
+/// qualifier comes from; and how many more there are of the first or else of the last of these.
 #[derive(Drop)]
 pub struct Notes {
     pub shown: Seq<Note>,

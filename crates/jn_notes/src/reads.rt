@@ -187,7 +187,7 @@ fn by_dereference(sought: Sought, spot: Spot, env: &Env, kind: &PointKind) -> Op
 }
 
 /// What a field of an object takes.
-fn write_taken(program: &Program, sig: &Sig, object: Qual, field: FieldNo) -> Qual
+pub(crate) fn write_taken(program: &Program, sig: &Sig, object: Qual, field: FieldNo) -> Qual
     ensures { result ≡ spec.write_taken program.now sig.now object field.0 }
 {
     let null = takes_null(program, sig, field);
@@ -318,7 +318,7 @@ fn receiver_taken(program: &Program, sig: &Sig, method: MethodNo) -> Qual
 }
 
 /// The qualifier of a method's receiver; empty where there is none.
-fn receiver_qual(program: &Program, sig: &Sig, method: MethodNo) -> Qual
+pub(crate) fn receiver_qual(program: &Program, sig: &Sig, method: MethodNo) -> Qual
     ensures { result ≡ receiver_of sig.now (method_at program.now method.0) }
 {
     match program.methods.as_slice().get(method.0 as usize) {
@@ -356,7 +356,7 @@ fn by_receiver(
 }
 
 /// The qualifier of the result of the body's method; empty where there is none.
-fn body_result(program: &Program, sig: &Sig, body: BodyNo) -> Qual
+pub(crate) fn body_result(program: &Program, sig: &Sig, body: BodyNo) -> Qual
     ensures { result ≡ result_of sig.now (method_in program.now body.0) }
 {
     match program.bodies.as_slice().get(body.0 as usize) {

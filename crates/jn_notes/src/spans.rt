@@ -65,7 +65,7 @@ pub(crate) fn point_span(program: &Program, body: u32, point: u32) -> Span
 }
 
 /// Where a slot is declared.
-fn owner_span(program: &Program, owner: Option<Owner>) -> Span
+pub(crate) fn owner_span(program: &Program, owner: Option<Owner>) -> Span
     ensures { result ≡ spec.owner_span program.now owner }
 {
     match owner {

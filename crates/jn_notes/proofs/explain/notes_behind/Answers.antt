@@ -4,7 +4,7 @@ use Rattle.jn_env.specs.Order.{Table}
 use Rattle.jn_reasons_law.specs.Items.{Stands}
 use Rattle.jn_reasons_law.specs.Chains.{HasChain}
 use Rattle.jn_notes.proofs.Standing.{row_stands}
-use Rattle.jn_notes.proofs.explain.notes_of.Goals as goal
+use Rattle.jn_notes.proofs.explain.notes_behind.Goals as goal
 
 pub notes_from-requires-clause-chain : goal.notes_from-requires-clause-chain
 notes_from-requires-clause-chain c =
