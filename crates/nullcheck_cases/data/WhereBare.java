@@ -1,0 +1,3 @@
+class WhereBare {
+  String held;
+}
