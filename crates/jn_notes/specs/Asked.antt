@@ -89,9 +89,11 @@ module _ (P : Program) (s : List Qualifier) (q : Sought) where
     by_point p (Some pt) (Some e) = by_asks q b p e (asks P s q.rule b e pt.kind)
 
     module _ (T : Table) where
+      -- of the body with this number, where it is there
       abbrev pub by_number : ℕ → Option Item
       by_number p = by_point p (point_at P b p) (env_in T p)
 
+      -- the same of a body that may be missing
       abbrev pub by_body : Option Item
       by_body = first_item by_number (length (points_of (body_at P b)))
 
