@@ -129,9 +129,11 @@ module _ (P : Program) (s : List Qualifier) (q : Sought) where
     taker_by (Some pt) (Some e) = by_passes q e (passes P s q.rule b e pt.kind)
 
     module _ (T : Table) where
+      -- at the point of this number
       abbrev pub taker_at : ℕ → Option Owner
       taker_at p = taker_by (point_at P b p) (env_in T p)
 
+      -- at the first of the body's points where there is one
       abbrev pub taker_in : Option Owner
       taker_in = first_owner taker_at (length (points_of (body_at P b)))
 
