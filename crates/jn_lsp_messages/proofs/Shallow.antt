@@ -21,7 +21,7 @@ use Rattle.jn_lsp_text.specs.declared.reply.Related.{Related}
 use Rattle.jn_lsp_text.specs.declared.reply.Reply.{Reply}
 use Rattle.jn_lsp_text.specs.declared.reply.Reply.TheVariants as reply
 use Rattle.jn_lsp_messages.specs.Incoming.{IsJson}
-use Rattle.jn_lsp_messages.specs.Outgoing.{position_data, range_data, location_data, related_data, told, description_data, described, diagnostic_data, insertion_data, edit_data, action_data, sync_data, capabilities_data, server_data, initialize_data, failure_code, failure_words, error_data, id_data, id_or_null, answer_data, refusal_data, notice_data, published_data, shown_data, list_data, data_of}
+use Rattle.jn_lsp_messages.specs.Outgoing.{position_data, range_data, location_data, related_data, told, description_data, described, diagnostic_data, insertion_data, edit_data, action_data, sync_data, kinds_data, capabilities_data, server_data, initialize_data, failure_code, failure_words, error_data, id_data, id_or_null, answer_data, refusal_data, notice_data, published_data, shown_data, list_data, data_of}
 use Rattle.jn_lsp_messages.specs.Uris.{uri_of}
 
 -- a value nests at most so deep, and has no float
@@ -151,10 +151,10 @@ unfolding action_data
 action_is a = holding 6 7 _ refl (next 6 _ _ _ (edit_is a.name a.insertions) (next 6 _ _ _ (text 6 (codes "quickfix")) (last 6 _ _ (text 6 a.title))))
 
 initialize_is : Is 8 initialize_data
-unfolding initialize_data capabilities_data sync_data server_data
+unfolding initialize_data capabilities_data kinds_data sync_data server_data
 initialize_is = record { shallow = closed; whole = refl }
   where
-    closed : 3 ≤ 8
+    closed : 4 ≤ 8
     closed = omega arith
 
 id_is : (n : ℕ) (i : Id) → Is n (id_data i)

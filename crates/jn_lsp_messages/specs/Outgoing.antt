@@ -1,6 +1,6 @@
 -- Replies as JSON (JSON-RPC 2.0; Language Server Protocol 3.17). The members of an object stand in the order of their names' bytes.
 use Rattle.std.specs.Prelude.{ℕ, ℤ, pos, neg_ℤ, ◌++◌, true, List, Option, Some, None, codes, map}
-use Rattle.serde_json.specs.Data.{Data, null, boolean, number, string, array, object, unsigned, Members, no_members, member}
+use Rattle.serde_json.specs.Data.{Data, null, boolean, number, string, array, object, unsigned, Members, no_members, member, no_items, item}
 use Rattle.serde_json.specs.Find.{of_integer}
 use Rattle.serde_json.specs.View.{items_of}
 use Rattle.jn_base.specs.Codes.{code_name}
@@ -93,14 +93,21 @@ action_data a =
 unfoldable pub sync_data : Data
 sync_data = object (member (codes "change") (number (unsigned 2)) (member (codes "openClose") (boolean true) (one (codes "save") (boolean true))))
 
+-- code actions are quick fixes (CodeActionOptions)
+unfoldable pub kinds_data : Data
+kinds_data = object (one (codes "codeActionKinds") (array (item (string (codes "quickfix")) no_items)))
+
 unfoldable pub capabilities_data : Data
 capabilities_data =
-    object (member (codes "codeActionProvider") (boolean true)
+    object (member (codes "codeActionProvider") kinds_data
     (member (codes "positionEncoding") (string (codes "utf-16"))
     (one (codes "textDocumentSync") sync_data)))
 
+abbrev pub version : List ℕ
+version = codes "0.1.0"
+
 unfoldable pub server_data : Data
-server_data = object (one (codes "name") (string (codes "nullcheck_lsp")))
+server_data = object (member (codes "name") (string (codes "nullcheck_lsp")) (one (codes "version") (string version)))
 
 unfoldable pub initialize_data : Data
 initialize_data = object (member (codes "capabilities") capabilities_data (one (codes "serverInfo") server_data))

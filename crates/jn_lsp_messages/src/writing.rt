@@ -13,6 +13,9 @@ use jn_lsp_text::{Diagnostic, Failure, Id, Reply};
 use serde_json::{Value, json};
 use std::alloc::{AllocError, Global};
 
+/// The version of the server (InitializeResult, `serverInfo`).
+const VERSION: &str = "0.1.0";
+
 /// The body of a reply (JSON-RPC 2.0; Language Server Protocol 3.17): JSON without spaces that reads as what the reply tells. `address`
 /// is the address of docs/CODES.md, an absolute URI without a fragment: where it is given, each diagnostic links to its code's text there
 /// (`codeDescription`, shown by clients that declare `codeDescriptionSupport`).
@@ -136,15 +139,23 @@ fn initialize_value(alloc: Global) -> Result<Value, AllocError>
     ensures { IfOk result (λ v. view v ≡ spec.initialize_data) }
 {
     let capabilities = capabilities_value(alloc)?;
-    json!(in alloc; {"capabilities": capabilities, "serverInfo": {"name": "nullcheck_lsp"}})
+    json!(in alloc; {"capabilities": capabilities, "serverInfo": {"name": "nullcheck_lsp", "version": VERSION}})
 }
 
 #[tactic(auto, unfolding(crate::specs::Outgoing::capabilities_data))]
 fn capabilities_value(alloc: Global) -> Result<Value, AllocError>
     ensures { IfOk result (λ v. view v ≡ spec.capabilities_data) }
 {
+    let kinds = kinds_value(alloc)?;
     let sync = sync_value(alloc)?;
-    json!(in alloc; {"codeActionProvider": true, "positionEncoding": "utf-16", "textDocumentSync": sync})
+    json!(in alloc; {"codeActionProvider": kinds, "positionEncoding": "utf-16", "textDocumentSync": sync})
+}
+
+#[tactic(auto, unfolding(crate::specs::Outgoing::kinds_data))]
+fn kinds_value(alloc: Global) -> Result<Value, AllocError>
+    ensures { IfOk result (λ v. view v ≡ spec.kinds_data) }
+{
+    json!(in alloc; {"codeActionKinds": ["quickfix"]})
 }
 
 #[tactic(auto, unfolding(crate::specs::Outgoing::sync_data))]
