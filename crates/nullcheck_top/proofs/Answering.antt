@@ -1,6 +1,6 @@
 -- What is written answers the command, by the files that are checked.
 use Rattle.std.proofs.Common.{◌≡◌, ℕ, zero, suc, ◌<◌, Bool, true, false, List, [], ◌∷◌, ◌++◌, length, Result, Ok as Made, Err, refl, sym, ap, ◌∙◌, subst, arith}
-use Rattle.std.specs.Prelude.{IfOk, Option}
+use Rattle.std.specs.Prelude.{IfOk, Option, None, slice_get}
 use Rattle.std.proofs.lemmas.Result.{IfOk-weaker}
 use Rattle.jn_base.specs.declared.infer.Infer.{Infer}
 use Rattle.jn_base.specs.declared.refusal.OutOfMemory.{OutOfMemory as NoMemory}
@@ -17,28 +17,48 @@ use Rattle.jn_command.specs.Asked.{Asked}
 use Rattle.jn_command.specs.Answer.{Reading, reading, AreFiles, AreChecked, AreShownNotes}
 use Rattle.jn_command.specs.Made.{front_of, made_file, made_text}
 use Rattle.jn_command.specs.Outputs.{IfMade}
-use Rattle.jn_command.specs.Shown.{shown_noted}
+use Rattle.jn_command.specs.Shown.{no_notes, shown_noted}
+use Rattle.jn_command.specs.declared.noted.Noted.{Noted}
+use Rattle.jn_diag.specs.declared.shown.Verdict.{Verdict}
+use Rattle.jn_reporters.specs.declared.shown.ShownRow.{ShownRow}
 use Rattle.jn_command.proofs.Showing.{shown_is_noted}
 use Rattle.nullcheck_top.specs.Found.{IsRefusalOf}
 use Rattle.jn_report.specs.Report.{IsReport}
 use Rattle.jn_safe_files.specs.Safe.{IsSafe}
-use Rattle.nullcheck_top.specs.Report.{AreNotes, RunsTo, Prints}
+use Rattle.nullcheck_top.specs.Report.{AreNotes, AreStopsBy, RunsTo, Prints, is_syntax, stop_notes}
 use Rattle.nullcheck_top.specs.Answers.{AnswersFiles}
 use Rattle.nullcheck_top.proofs.Written.{Ends, MadeFor, Written, answers_files, report_shown, files_named, named_are}
 
 never_checked : (rows others : List Row) → Refused rows ≡ Checked others → ⊥
 never_checked rows others e = cc
 
--- rows of files that are refused have no notes
-refused_notes : (b : Bool) (infer : Infer) (files : List SourceFile) (rows : List Row) → AreShownNotes AreNotes b infer files (Refused rows) []
-refused_notes false infer files rows = refl
-refused_notes true infer files rows = refl
+-- a row that isn't of a file's syntax has no notes
+abbrev refused_noted : Bool → List Noted
+refused_noted false = []
+refused_noted true = no_notes ∷ []
+
+no_stop : (files : List SourceFile) (row : Row) (b : Bool) → b ≡ false → AreStopsBy b (slice_get files row.span.file.0) row.span (stop_notes None)
+no_stop files row false other = refl
+no_stop files row true other = absurd (never other)
+  where
+    never : true ≡ false → ⊥
+    never e = cc
+
+refused_notes : (b : Bool) (infer : Infer) (files : List SourceFile) (row : Row) → is_syntax row.code ≡ false → AreShownNotes AreNotes b infer files (Refused (row ∷ [])) (refused_noted b)
+refused_notes false infer files row other = refl
+refused_notes true infer files row other = record { notes = stop_notes None ∷ []; are = (no_stop files row (is_syntax row.code) other, tt); places = refl }
+
+refused_shown : (b : Bool) (show : List ShownRow → Option Verdict → List ℕ) (files : List SourceFile) (row : Row) → shown_noted show files (Refused (row ∷ [])) [] ≡ shown_noted show files (Refused (row ∷ [])) (refused_noted b)
+refused_shown false show files row = refl
+refused_shown true show files row = refl
 
 -- files that are refused, with no line before their report
 refusal_made : (a : Asked) (files : List SourceFile) (made : Result Output NoMemory) → a.command.classes ≡ 0 → IfOk made (λ o. IsRefusalOf a.show a.command.infer files o.status o.bytes) → MadeFor IsReport AreNotes IsSafe RunsTo Prints a files made
 refusal_made a files (Made o) none r =
-    report_shown IsReport AreNotes IsSafe RunsTo Prints a files (Refused r.rows) o.status o.bytes r.is [] (refused_notes a.notes a.command.infer files r.rows) r.ends
-    (r.shows ∙ shown_is_noted a.show files (Refused r.rows) ∙ ap (λ n. front_of a.document n ++ shown_noted a.show files (Refused r.rows) []) (sym none)) (λ e. absurd (never_checked r.rows [] e)) (λ run e. never_checked r.rows [] e)
+    let rows = r.row ∷ [] in
+    let noted = refused_noted a.notes in
+    report_shown IsReport AreNotes IsSafe RunsTo Prints a files (Refused rows) o.status o.bytes r.is noted (refused_notes a.notes a.command.infer files r.row r.other) r.ends
+    (r.shows ∙ shown_is_noted a.show files (Refused rows) ∙ refused_shown a.notes a.show files r.row ∙ ap (λ n. front_of a.document n ++ shown_noted a.show files (Refused rows) noted) (sym none)) (λ e. absurd (never_checked rows [] e)) (λ run e. never_checked rows [] e)
 refusal_made a files (Err e) none r = tt
 
 refusal_written : (a : Asked) (files : List SourceFile) (made : Result Output NoMemory) → IfOk made (λ o. IsRefusalOf a.show a.command.infer files o.status o.bytes) → IfMade made (λ status bytes. Written status) (Unit {0})

@@ -4,3 +4,4 @@ pub mod Running
 pub mod Written
 pub mod Answering
 pub mod Noting
+pub mod Stopping

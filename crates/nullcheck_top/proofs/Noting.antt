@@ -1,8 +1,9 @@
 -- The notes of a report's rows.
-use Rattle.std.proofs.Common.{◌≡◌, ◌≤◌, ◌<◌, ℕ, zero, suc, Bool, true, false, List, [], ◌∷◌, ◌++◌, length, map, get_or, Some, None, Result, Ok, Err, refl, sym, ap, ◌∙◌, subst, arith}
+use Rattle.std.proofs.Common.{◌≡◌, ◌≤◌, ◌<◌, ℕ, zero, suc, Bool, true, false, List, [], ◌∷◌, ◌++◌, length, map, get_or, Option, Some, None, Result, Ok, Err, refl, sym, ap, ◌∙◌, subst, arith}
 use Rattle.std.specs.Prelude.{IfOk}
 use Rattle.std.proofs.lemmas.Result.{IfOk-weaker}
 use Rattle.jn_base.specs.declared.infer.Infer.{Infer}
+use Rattle.jn_base.specs.declared.number.FileNo.{FileNo}
 use Rattle.jn_base.specs.declared.place.Row.{Row}
 use Rattle.jn_base.specs.declared.place.Span.{Span}
 use Rattle.jn_quals.specs.Qualifier.{Qualifier}
@@ -17,6 +18,9 @@ use Rattle.jn_command.specs.declared.noted.Noted.{Noted}
 use Rattle.jn_command.specs.declared.report.Report.{Report}
 use Rattle.jn_command.specs.declared.report.Report.TheVariants.{Refused, Checked}
 use Rattle.jn_command.specs.Answer.{AreShownNotes}
+use Rattle.jn_command.specs.Stands.{StandIn}
+use Rattle.jn_follow.specs.declared.noting.StopNote.{StopNote}
+use Rattle.jn_follow.specs.StopNotes.{NoteBeside}
 use Rattle.jn_command.specs.Reports.{rows_of}
 use Rattle.jn_command.specs.Shown.{no_notes, note_of, noted_at, row_of, rows_with}
 use Rattle.jn_command.proofs.Showing.{none_noted, note_nowhere}
@@ -26,7 +30,8 @@ use Rattle.jn_notes.specs.declared.note.Notes.{Notes}
 use Rattle.jn_notes.specs.Noted.{AreNotesOf}
 use Rattle.nullcheck_top.specs.declared.found.Found.{Found}
 use Rattle.nullcheck_top.specs.Found.{AreLeft, AreWhole, IsBroken, IsFinding, IsGiven, IsLeft}
-use Rattle.nullcheck_top.specs.Report.{AreNotes, RuleNotes, placed}
+use Rattle.nullcheck_top.specs.Report.{AreNotes, AreStops, RuleNotes, placed}
+use Rattle.nullcheck_top.proofs.Stopping.{one_list_of_stops, stops_shown}
 use Rattle.jn_phases.proofs.OneTyping.{OneReading, one_program}
 
 -- ---- the notes at a place
@@ -60,14 +65,18 @@ note_in_none reads joined words span r le is = note_nowhere reads joined words s
 
 -- ---- which notes are shown
 
-pub none_shown : (b : Bool) (infer : Infer) (files : List SourceFile) (report : Report) → (b ≡ true → IsBroken report → ⊥) → AreShownNotes AreNotes b infer files report []
-none_shown false infer files report whole = refl
-none_shown true infer files report whole = by report (whole refl)
+-- no phase refused the files
+abbrev pub NoneRefused : Report → Type 0
+NoneRefused report = (rows : List Row) → report ≡ Refused rows → ⊥
+
+pub none_shown : (b : Bool) (infer : Infer) (files : List SourceFile) (report : Report) → (b ≡ true → NoneRefused report) → (b ≡ true → IsBroken report → ⊥) → AreShownNotes AreNotes b infer files report []
+none_shown false infer files report checked whole = refl
+none_shown true infer files report checked whole = by report (checked refl) (whole refl)
   where
-    by : (report : Report) → (IsBroken report → ⊥) → AreNotes infer files report []
-    by (Refused rows) whole = refl
-    by (Checked []) whole = refl
-    by (Checked (row ∷ rows)) whole = absurd (whole tt)
+    by : (report : Report) → NoneRefused report → (IsBroken report → ⊥) → AreNotes infer files report []
+    by (Refused rows) checked whole = absurd (checked rows refl)
+    by (Checked []) checked whole = refl
+    by (Checked (row ∷ rows)) checked whole = absurd (whole tt)
 
 checked_rows : (report : Report) → IsBroken report → (rows : List Row) × (report ≡ Checked rows)
 checked_rows (Refused rows) broken = absurd broken
@@ -99,10 +108,16 @@ module _ {T E : Type 0} (f : T → List ShownRow) (had : List ShownRow) (reads :
   abbrev pub Given : Result T E → Type 0
   Given r = IfOk r (λ t. (infer : Infer) (files : List SourceFile) → AreReads reads files → IsFinding infer files names found → IsGiven n had infer reads files found.report (f t))
 
-  pub given_none : (r : Result T E) → (b ≡ true → found.rejected ≡ None) → IfOk r (λ t. f t ≡ had ++ map (row_of (files_of_reads reads)) (rows_of found.report)) → Given r
-  given_none (Ok t) none is = λ infer files are finding.
-      ([], none_shown n infer files found.report (λ on. subst (AreLeft infer files names found.report) (none (same ∙ on)) finding.rejected), is ∙ ap (λ rs. had ++ rs) (sym (none_noted (files_of_reads reads) (rows_of found.report))))
-  given_none (Err e) none is = tt
+  pub given_none : (r : Result T E) → (n ≡ true → NoneRefused found.report) → (b ≡ true → found.rejected ≡ None) → IfOk r (λ t. f t ≡ had ++ map (row_of (files_of_reads reads)) (rows_of found.report)) → Given r
+  given_none (Ok t) checked none is = λ infer files are finding.
+      ([], none_shown n infer files found.report checked (λ on. subst (AreLeft infer files names found.report) (none (same ∙ on)) finding.rejected), is ∙ ap (λ rs. had ++ rs) (sym (none_noted (files_of_reads reads) (rows_of found.report))))
+  given_none (Err e) checked none is = tt
+
+  -- with those of the rows of a phase
+  pub given_stops : (r : Result T E) (rows : List Row) (notes : List Notes) (told : List Noted) → b ≡ true → found.report ≡ Refused rows → StandIn reads (rows_of found.report) → AreStops (files_of_reads reads) rows notes → told ≡ map (placed (files_of_reads reads)) notes → IfOk r (λ t. f t ≡ had ++ rows_with (files_of_reads reads) told (rows_of found.report)) → Given r
+  given_stops (Ok t) rows notes told on refused stand stops placed_is is = λ infer files are finding.
+      (map (placed (files_of_reads reads)) notes, stops_shown n infer reads files found.report rows notes (sym same ∙ on) refused are stand stops, is ∙ ap (λ ns. had ++ rows_with (files_of_reads reads) ns (rows_of found.report)) placed_is)
+  given_stops (Err e) rows notes told on refused stand stops placed_is is = tt
 
   pub given_some : (r : Result T E) (left : Program × List Qualifier) (notes : List Notes) (told : List Noted) → b ≡ true → found.rejected ≡ Some left → AreWhole found.report reads → AreNotesOf left.0 names left.1 (rows_of found.report) notes → told ≡ map (placed (files_of_reads reads)) notes → IfOk r (λ t. f t ≡ had ++ rows_with (files_of_reads reads) told (rows_of found.report)) → Given r
   given_some (Ok t) left notes told on left_is whole noted placed_is is = λ infer files are finding.
@@ -112,7 +127,7 @@ module _ {T E : Type 0} (f : T → List ShownRow) (had : List ShownRow) (reads :
 
 -- ---- one list of notes
 
-module _ (infer : Infer) (parsed : OneReading) (least : (P : Program) (s t : List Qualifier) → IsLeastSignature P s → IsLeastSignature P t → s ≡ t) (listed : (P : Program) (names : List (List ℕ)) (s : List Qualifier) (rows : List Row) (one other : List Notes) → AreNotesOf P names s rows one → AreNotesOf P names s rows other → one ≡ other) where
+module _ (infer : Infer) (alone : (file : FileNo) (text : List ℕ) (row : Span) (one other : Option StopNote) → NoteBeside file text row one → NoteBeside file text row other → one ≡ other) (parsed : OneReading) (least : (P : Program) (s t : List Qualifier) → IsLeastSignature P s → IsLeastSignature P t → s ≡ t) (listed : (P : Program) (names : List (List ℕ)) (s : List Qualifier) (rows : List Row) (one other : List Notes) → AreNotesOf P names s rows one → AreNotesOf P names s rows other → one ≡ other) where
   one_rule_notes : (files : List SourceFile) (rows : List Row) (one other : List Noted) → RuleNotes infer files rows one → RuleNotes infer files rows other → one ≡ other
   one_rule_notes files rows one other x y =
       let same = one_program infer parsed files x.names y.names x.P y.P x.of_files.of_files y.of_files.of_files in
@@ -121,6 +136,6 @@ module _ (infer : Infer) (parsed : OneReading) (least : (P : Program) (s t : Lis
       x.places ∙ ap (map (placed files)) (listed y.P y.names y.signature rows x.notes y.notes are y.are) ∙ sym y.places
 
   pub one_list : (files : List SourceFile) (report : Report) (one other : List Noted) → AreNotes infer files report one → AreNotes infer files report other → one ≡ other
-  one_list files (Refused rows) one other x y = x ∙ sym y
+  one_list files (Refused rows) one other x y = one_list_of_stops alone files rows one other x y
   one_list files (Checked []) one other x y = x ∙ sym y
   one_list files (Checked (row ∷ rows)) one other x y = one_rule_notes files (row ∷ rows) one other x y

@@ -1,5 +1,5 @@
 -- What a check of files finds, and the output of more files than there may be.
-use Rattle.std.specs.Prelude.{ℕ, ◌≡◌, ◌++◌, Bool, [], ◌∷◌, List, Option, Some, None, Result, Ok, Err}
+use Rattle.std.specs.Prelude.{ℕ, ◌≡◌, ◌++◌, Bool, false, [], ◌∷◌, List, Option, Some, None, Result, Ok, Err}
 use Rattle.jn_base.specs.declared.infer.Infer.{Infer}
 use Rattle.jn_base.specs.declared.place.Row.{Row}
 use Rattle.jn_diag.specs.declared.shown.Verdict.{Verdict}
@@ -21,7 +21,7 @@ use Rattle.jn_reporters.specs.declared.shown.ShownRow.{ShownRow}
 use Rattle.nullcheck_top.specs.declared.found.Found.{Found}
 use Rattle.jn_phases.specs.Phases.{TypedProgramOf}
 use Rattle.jn_report.specs.Report.{IsReport}
-use Rattle.nullcheck_top.specs.Report.{AreNotes}
+use Rattle.nullcheck_top.specs.Report.{AreNotes, is_syntax}
 
 -- the program of accepted files is at hand, and none where they aren't accepted
 abbrev pub IsAtHand : Infer → List SourceFile → List (List ℕ) → Report → Option (Program × List Qualifier) → Type 0
@@ -58,12 +58,13 @@ found_of rows (Err left) = record { report = Checked rows; accepted = None; reje
 abbrev pub AreWhole : Report → List SourceRead → Type 0
 AreWhole report reads = (rows : List Row) → report ≡ Checked rows → (files : List SourceFile) → AreReads reads files → files_of_reads reads ≡ files
 
--- files that are refused, and their report shown so
+-- files that are refused by one row, which isn't of their syntax, and their report shown so
 pub record IsRefusalOf (show : List ShownRow → Option Verdict → List ℕ) (infer : Infer) (files : List SourceFile) (status : Status) (bytes : List ℕ) : Type 0 where
-  pub rows : List Row
-  pub is : IsReport infer files (Refused rows)
+  pub row : Row
+  pub other : is_syntax row.code ≡ false
+  pub is : IsReport infer files (Refused (row ∷ []))
   pub ends : status ≡ RefusedStatus
-  pub shows : bytes ≡ shown show files (Refused rows)
+  pub shows : bytes ≡ shown show files (Refused (row ∷ []))
 
 -- after these bytes, a report of files shown so, with the notes of its rows where notes are shown
 abbrev pub ShowsReport : Bool → (List ShownRow → Option Verdict → List ℕ) → Infer → List SourceFile → Report → List ℕ → List ℕ → Type 0

@@ -7,17 +7,20 @@ ghost use Rattle.jn_command.specs.declared.report.Report.{Report};
 ghost use Rattle.jn_command.specs.declared.status.Status.{Status};
 ghost use Rattle.nullcheck_top.specs.Report.{AreNotes, RunsTo};
 
+use jn_follow::law::rows_have_one_stop_note;
 use jn_front::law::files_have_one_front;
 use jn_inference_law::law::least_signatures_are_unique;
 use jn_notes::law::rows_have_one_list_of_notes as notes_are_unique;
 pub use jn_report::law::files_have_one_report;
 pub use jn_safe_files::law::accepted_files_are_safe;
 
-/// The rows of a report of files have one list of notes: the least tables and the first chains are one each.
+/// The rows of a report of files have one list of notes: the least tables and the first chains are one each, and a text stops being
+/// of the subset at one place.
 pub fn rows_have_one_list_of_notes()
     ensures { (infer : Infer) (files : List SourceFile) (report : Report) (one other : List Noted)
         → AreNotes infer files report one → AreNotes infer files report other → one ≡ other }
 {
+    rows_have_one_stop_note();
     files_have_one_front();
     least_signatures_are_unique();
     notes_are_unique();

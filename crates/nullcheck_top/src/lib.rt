@@ -8,6 +8,7 @@ pub mod law;
 mod marks;
 mod notes;
 mod outputs;
+mod stops;
 pub mod top;
 
 pub use jn_command::Status;

@@ -2,6 +2,8 @@
 ghost use Rattle.std.specs.Prelude.{◌≡◌, ◌<◌, ◌++◌, List, IfOk, MatchOption, None, Some, map, length, true};
 ghost use Rattle.std.specs.String.{string_bytes};
 ghost use Rattle.jn_base.specs.declared.infer.Infer.{Infer};
+ghost use Rattle.jn_base.specs.declared.place.Row.{Row as SpecRow};
+ghost use Rattle.jn_command.specs.declared.report.Report.TheVariants.{Refused};
 ghost use Rattle.jn_command.specs.Reporters.{shown_behind};
 ghost use Rattle.jn_command.specs.Reports.{rows_of, status_of, verdict_of};
 ghost use Rattle.jn_command.specs.Shown.{rows_with};
@@ -18,6 +20,7 @@ use crate::check::refuse_number;
 use crate::found::Found;
 use crate::marks::marked;
 use crate::notes::PlacedNotes;
+use crate::stops::notes_of_phase;
 use jn_base::{OutOfMemory, Row, Seq};
 use jn_command::Report;
 use jn_command::output::Output;
@@ -52,9 +55,60 @@ fn show_found<P: Reporter>(
 ) -> Result<P, OutOfMemory>
     requires fit { ReadsFit reads.now }
     requires read { (files : List FileOf) × AreReads reads.now files }
+    requires stand { StandIn reads.now (rows_of found.now.report) }
     requires found { (infer : Infer) × ((files : List FileOf) → AreReads reads.now files
         → IsFinding infer files names.now found.now) }
     requires whole { AreWhole found.now.report reads.now }
+    ensures rows { IfOk result (λ shower. (infer : Infer) (files : List FileOf)
+        → AreReads reads.now files → IsFinding infer files names.now found.now
+        → IsGiven (P.form reporter).notes (P.form reporter).rows infer reads.now files found.now.report
+        (P.form shower).rows) }
+    ensures verdict { IfOk result
+        (λ shower. P.given shower ≡ Some (verdict_of found.now.report)) }
+    ensures shown { IfOk result (λ shower. (P.form shower).shown ≡ (P.form reporter).shown) }
+{
+    match refused_for(reporter.shows_notes(), &found.report) {
+        None => show_checked(alloc, reads, names, found, reporter),
+        Some(rows) => {
+            let notes = notes_of_phase(alloc, reads, rows)?;
+            show_with(alloc, reads, &found.report, &notes, reporter)
+        }
+    }
+}
+
+/// The rows of the phase that refused the files, where notes are shown.
+fn refused_for(shows_notes: bool, report: &Report) -> Option<&[Row]>
+    ensures { MatchOption result
+        (shows_notes ≡ true → (rows : List SpecRow) → report.now ≡ Refused rows → ⊥)
+        (λ rows. (shows_notes ≡ true) × (report.now ≡ Refused rows.now)) }
+{
+    match report {
+        Report::Refused(rows) => {
+            if shows_notes {
+                Some(rows.as_slice())
+            } else {
+                None
+            }
+        }
+        Report::Checked(_) => None,
+    }
+}
+
+/// The same of files that no phase refused, or whose notes aren't shown.
+fn show_checked<P: Reporter>(
+    alloc: Global,
+    reads: &[SourceRead],
+    names: &Names,
+    found: &Found,
+    reporter: P,
+) -> Result<P, OutOfMemory>
+    requires fit { ReadsFit reads.now }
+    requires read { (files : List FileOf) × AreReads reads.now files }
+    requires found { (infer : Infer) × ((files : List FileOf) → AreReads reads.now files
+        → IsFinding infer files names.now found.now) }
+    requires whole { AreWhole found.now.report reads.now }
+    requires checked { (P.form reporter).notes ≡ true
+        → (rows : List SpecRow) → found.now.report ≡ Refused rows → ⊥ }
     ensures rows { IfOk result (λ shower. (infer : Infer) (files : List FileOf)
         → AreReads reads.now files → IsFinding infer files names.now found.now
         → IsGiven (P.form reporter).notes (P.form reporter).rows infer reads.now files found.now.report

@@ -1,4 +1,4 @@
-use Rattle.std.proofs.Common.{[], ◌∷◌, map, length, ap, ◌∙◌, subst, arith}
+use Rattle.std.proofs.Common.{[], ◌∷◌, map, length, refl, ap, ◌∙◌, subst, arith}
 use Rattle.std.specs.Prelude.{string_bytes}
 use Rattle.jn_base.specs.declared.code.Code.TheVariants.{B1}
 use Rattle.jn_front.specs.Files.{most_files}
@@ -24,7 +24,8 @@ returns g c infer files named =
     let taken = (g.P.Reporter.form c.args.reporter).rows in
     let text = number_text (g.P.Reporter.form c.args.reporter).shown (g.P.Reporter.form shower).shown taken files names c.as_str.result.now report (g.P.Reporter.form shower).rows (g.P.Reporter.given shower) c.in_ok-shower.ensures.shown named there found.row c.in_ok-shower.ensures.rows c.in_ok-shower.ensures.verdict in
     record {
-      rows = row_at most_files B1 ∷ [];
+      row = row_at most_files B1;
+      other = refl;
       is = subst (IsReport infer files) found.row (found.report infer files (omega (arith, c.requires.many, long, long_names, long_words)));
       ends = c.status.ensures ∙ ap status_of found.row;
       shows = c.in_ok-joined.ensures ∙ (c.bytes.ensures ∙ (text ∙ ap (shown (shown_behind taken (g.P.Reporter.form c.args.reporter).shown) files) found.row));
