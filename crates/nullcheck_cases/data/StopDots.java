@@ -1,0 +1,3 @@
+class StopDots {
+  void f(int... xs) { }
+}

@@ -1,0 +1,5 @@
+class StopEach {
+  void f(A[] xs) {
+    for (final A x : xs) throw e;
+  }
+}

@@ -1,0 +1,3 @@
+class StopEnd {
+  void f() {
+    g(1, 2

@@ -1,0 +1,3 @@
+class StopGenerics {
+  List<String> names;
+}

@@ -1,0 +1,5 @@
+class StopLambda {
+  void f() {
+    r = x -> x;
+  }
+}

@@ -1,0 +1,3 @@
+class StopNested {
+  static class B { }
+}

@@ -1,0 +1,3 @@
+class StopOwn {
+  enum B { X }
+}

@@ -1,0 +1,5 @@
+class StopReference {
+  void f() {
+    r = A::f;
+  }
+}

@@ -1,0 +1,6 @@
+class StopSemicolon {
+  void f() {
+    f()
+    g();
+  }
+}

@@ -1,0 +1,5 @@
+class StopShift {
+  int f(int x) {
+    return x << 1;
+  }
+}

@@ -1,0 +1,3 @@
+import static a.B.c;
+
+class StopStatic { }

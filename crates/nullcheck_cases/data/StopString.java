@@ -1,0 +1,5 @@
+class StopString {
+  void f() {
+    g("a" "b");
+  }
+}

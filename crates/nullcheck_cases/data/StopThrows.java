@@ -1,0 +1,3 @@
+class StopThrows {
+  void f() throws E { g(); }
+}

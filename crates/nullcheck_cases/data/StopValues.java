@@ -1,0 +1,3 @@
+class StopValues {
+  @SuppressWarnings("x") void f() { }
+}

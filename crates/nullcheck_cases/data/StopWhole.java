@@ -1,0 +1,3 @@
+class StopWhole {
+  public private int x;
+}
