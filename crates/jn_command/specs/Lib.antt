@@ -3,7 +3,6 @@ pub mod Reports
 pub mod Shown
 pub mod Stands
 pub mod Reporters
-pub mod Asked
 pub mod Made
 pub mod Outputs
 pub mod Answer

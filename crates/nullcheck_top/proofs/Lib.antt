@@ -1,3 +1,4 @@
+pub mod Asking
 pub mod Reporting
 pub mod Laws
 pub mod Running

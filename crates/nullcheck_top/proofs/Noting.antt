@@ -17,7 +17,7 @@ use Rattle.jn_front.proofs.Loops.{fits_at}
 use Rattle.jn_command.specs.declared.noted.Noted.{Noted}
 use Rattle.jn_command.specs.declared.report.Report.{Report}
 use Rattle.jn_command.specs.declared.report.Report.TheVariants.{Refused, Checked}
-use Rattle.jn_command.specs.Answer.{AreShownNotes}
+use Rattle.nullcheck_top.specs.CommandAnswer.{AreShownNotes}
 use Rattle.jn_command.specs.Stands.{StandIn}
 use Rattle.jn_follow.specs.declared.noting.StopNote.{StopNote}
 use Rattle.jn_follow.specs.StopNotes.{NoteBeside}

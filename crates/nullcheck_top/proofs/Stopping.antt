@@ -19,7 +19,7 @@ use Rattle.jn_front.specs.Files.{AreReads, IsReadOf, files_of_reads}
 use Rattle.jn_command.specs.declared.noted.Noted.{Noted}
 use Rattle.jn_command.specs.declared.report.Report.{Report}
 use Rattle.jn_command.specs.declared.report.Report.TheVariants.{Refused}
-use Rattle.jn_command.specs.Answer.{AreShownNotes}
+use Rattle.nullcheck_top.specs.CommandAnswer.{AreShownNotes}
 use Rattle.jn_command.specs.Reports.{rows_of}
 use Rattle.jn_command.specs.Shown.{note_of_file}
 use Rattle.jn_command.specs.Stands.{StandsIn, StandIn}

@@ -13,7 +13,7 @@ use Rattle.jn_front.specs.Files.{names_of, most_files, StartsOnly, AllHeld, AreR
 use Rattle.jn_command.specs.declared.status.Status.{Status}
 use Rattle.jn_command.specs.declared.status.Status.TheVariants.{Ok, Rejected, Refused as RefusedStatus, RunFault, Stopped, ReadFault, WriteFault, OutOfMemory, Usage}
 use Rattle.jn_command.specs.declared.output.Output.{Output}
-use Rattle.jn_command.specs.Asked.{Asked, usage_line}
+use Rattle.nullcheck_top.specs.Asked.{Asked, usage_line}
 use Rattle.jn_command.specs.Made.{front_of, made_line, made_text}
 use Rattle.jn_command.specs.declared.noted.Noted.{Noted}
 use Rattle.jn_command.specs.declared.report.Report.{Report}
@@ -21,7 +21,8 @@ use Rattle.jn_command.specs.declared.report.Report.TheVariants.{Refused, Checked
 use Rattle.jn_command.specs.Reports.{status_of}
 use Rattle.jn_command.specs.Status.{IsAcceptance}
 use Rattle.jn_command.specs.Shown.{shown_noted}
-use Rattle.jn_command.specs.Answer.{Reading, AreChecked, ReadsFew, ReadsFiles, ReadsNone, ReadsNothing, HoldsFiles, Starts, names_read, AreShownNotes, IsReportOfFiles, IsOutputBy, IsOutputOfFiles, IsOutputOf, Defines, Answers, AnswersFiles, Completes, Safe, Finished}
+use Rattle.jn_command.specs.Answer.{Reading, Finished}
+use Rattle.nullcheck_top.specs.CommandAnswer.{AreChecked, ReadsFew, ReadsFiles, ReadsNone, ReadsNothing, HoldsFiles, Starts, names_read, AreShownNotes, IsReportOfFiles, IsOutputBy, IsOutputOfFiles, IsOutputOf, Defines, Answers, AnswersFiles, Completes, Safe}
 use Rattle.jn_command.specs.Outputs.{IfMade}
 use Rattle.nullcheck_top.specs.Answers.{AsksRun}
 

@@ -8,7 +8,7 @@ use Rattle.jn_command.specs.declared.report.Report.TheVariants.{Refused, Checked
 use Rattle.jn_command.specs.declared.status.Status.{Status}
 use Rattle.jn_command.specs.declared.status.Status.TheVariants.{Refused as RefusedStatus}
 use Rattle.jn_command.specs.declared.noted.Noted.{Noted}
-use Rattle.jn_command.specs.Answer.{AreShownNotes}
+use Rattle.nullcheck_top.specs.CommandAnswer.{AreShownNotes}
 use Rattle.jn_command.specs.Reports.{rows_of}
 use Rattle.jn_command.specs.Shown.{rows_with, shown, shown_noted}
 use Rattle.jn_front.specs.declared.source.SourceFile.{SourceFile}

@@ -1,3 +1,5 @@
+pub mod Asked
+pub mod CommandAnswer
 pub mod Report
 pub mod Found
 pub mod Answers

@@ -3,8 +3,9 @@ ghost use Rattle.std.specs.Prelude.{◌≡◌, ◌≢◌, ◌<◌, ◌≤◌, �
 ghost use Rattle.std.specs.String.{string_bytes};
 ghost use Rattle.jn_outside.specs.Causes.{Rose};
 ghost use Rattle.jn_command.specs.declared.report.Report.TheVariants.{Checked};
-ghost use Rattle.jn_command.specs.Asked.{asked_with};
-ghost use Rattle.jn_command.specs.Answer.{reading, HoldsFiles, ReadsNothing, Starts};
+ghost use Rattle.nullcheck_top.specs.Asked.{asked_with};
+ghost use Rattle.jn_command.specs.Answer.{reading};
+ghost use Rattle.nullcheck_top.specs.CommandAnswer.{HoldsFiles, ReadsNothing, Starts};
 ghost use Rattle.jn_command.specs.Made.{front_of, made_file, made_text};
 ghost use Rattle.jn_command.specs.Reports.{rows_of};
 ghost use Rattle.jn_command.specs.Stands.{StandIn};

@@ -2,6 +2,7 @@
 #![tactic(auto)]
 
 mod answers;
+pub mod asked;
 pub mod check;
 pub mod found;
 pub mod law;

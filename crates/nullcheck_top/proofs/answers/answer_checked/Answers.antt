@@ -1,6 +1,6 @@
 use Rattle.std.proofs.Common.{[], subst}
 use Rattle.std.proofs.lemmas.Result.{IfOk-weaker}
-use Rattle.jn_command.specs.Asked.{asked_with}
+use Rattle.nullcheck_top.specs.Asked.{asked_with}
 use Rattle.jn_run.specs.Main.{Answers as RunAnswers}
 use Rattle.nullcheck_top.specs.Found.{IsAtHand}
 use Rattle.jn_report.specs.Report.{IsReport}

@@ -2,11 +2,11 @@
 ghost use Rattle.std.specs.Prelude.{◌≡◌, ◌≤◌, map, None, Some, IfOk, OnOk};
 ghost use Rattle.std.specs.String.{string_bytes};
 ghost use Rattle.jn_cli.specs.Refused.{IfRefused};
-ghost use Rattle.jn_command.specs.Asked.{asked_of, asked_with, linked_with};
+ghost use Rattle.nullcheck_top.specs.Asked.{asked_of, asked_with, linked_with};
 
-use crate::choose::{Chosen, choose};
 use jn_base::{Fail, OutOfMemory, Text};
 use jn_cli::{Command, Usage, read_words};
+use jn_command::choose::{Chosen, choose};
 use jn_reporters::Reporter;
 use std::alloc::Global;
 
