@@ -19,10 +19,10 @@ use Rattle.jn_inference_law.proofs.InferenceLaws.{inference_lawful}
 use Rattle.jn_inference_law.proofs.LeastSignature.{length-start}
 use Rattle.jn_recheck_law.specs.Alike.{SameDeclarations}
 use Rattle.jn_resume.specs.Keepable.{AreSmall, IsEditOf}
-use Rattle.jn_lost.specs.Losing.{told}
-use Rattle.jn_carry_law.specs.Carried.{DoesTheSame, HaveSameTasks}
-use Rattle.jn_carry_law.proofs.LeastWords.{words_are_least}
-use Rattle.jn_carry_law.proofs.SameOutputs.{count_alike, outputs_alike, words_alike}
+use Rattle.jn_again.specs.Losing.{told}
+use Rattle.jn_recheck_law.specs.Carried.{DoesTheSame, HaveSameTasks}
+use Rattle.jn_recheck_law.proofs.LeastWords.{words_are_least}
+use Rattle.jn_recheck_law.proofs.SameOutputs.{count_alike, outputs_alike, words_alike}
 use Rattle.jn_system.specs.Ready.{AreTasks}
 use Rattle.jn_system.proofs.TaskSteps.{as_many, is_overrider}
 use Rattle.jn_again.specs.Flags.{AreChangedBelow}

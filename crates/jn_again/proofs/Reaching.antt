@@ -8,8 +8,8 @@ use Rattle.jn_inference_law.specs.Inference.{inference}
 use Rattle.jn_recheck_law.specs.RuleReads.{rule_reads}
 use Rattle.jn_resume.specs.Keepable.{IsBlind, StandsApart}
 use Rattle.jn_system.specs.Ready.{IsOverriderOf}
-use Rattle.jn_carry_law.specs.Unread.{AreUnlost, pair_slots, task_slots}
-use Rattle.jn_carry_law.proofs.Apart.{apart}
+use Rattle.jn_recheck_law.specs.Unread.{AreUnlost, pair_slots, task_slots}
+use Rattle.jn_recheck_law.proofs.Apart.{apart}
 
 module _ (P : Program) (bits : ℕ → ℕ) (t : ℕ) where
   pub body_off : (r : Bool) → is_body_task P t ≡ true → (r ≡ true) ↔ AreUnlost bits (rule_reads P t) → (r ≡ true) ↔ AreUnlost bits (task_slots P t)

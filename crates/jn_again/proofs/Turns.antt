@@ -9,7 +9,7 @@ use Rattle.jn_points.specs.Lookup.{body_at}
 use Rattle.jn_contrib.specs.declared.listed.Overrider.{Overrider}
 use Rattle.jn_recheck_law.specs.Alike.{ActsAlike}
 use Rattle.jn_recheck_law.specs.Reusable.{ActAlike}
-use Rattle.jn_lost.specs.Losing.{told}
+use Rattle.jn_again.specs.Losing.{told}
 use Rattle.jn_again.specs.Flags.{AreChangedBelow}
 
 never : true ≡ false → ⊥

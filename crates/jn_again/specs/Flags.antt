@@ -1,6 +1,6 @@
 -- Which bodies may do something else than they did.
 use Rattle.std.specs.Prelude.{ℕ, ◌≡◌, ◌↔◌, ◌<◌, Bool, false, List, length}
-use Rattle.jn_lost.specs.Losing.{told}
+use Rattle.jn_again.specs.Losing.{told}
 use Rattle.jn_points.specs.declared.program.Program.{Program}
 use Rattle.jn_points.specs.Lookup.{body_at}
 use Rattle.jn_recheck_law.specs.Reusable.{ActAlike}

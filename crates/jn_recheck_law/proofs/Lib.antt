@@ -4,3 +4,9 @@ pub mod Tables
 pub mod RuleSlots
 pub mod Rows
 pub mod Reusing
+pub mod ReadTables
+pub mod SameSends
+pub mod SameOutputs
+pub mod Blind
+pub mod Apart
+pub mod LeastWords

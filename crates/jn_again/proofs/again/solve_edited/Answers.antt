@@ -2,7 +2,7 @@ use Rattle.std.proofs.Common.{ℕ, Bool, List, length, refl, sym, ap, ◌∙◌,
 use Rattle.jn_contrib.specs.declared.listed.Overrider.{Overrider}
 use Rattle.jn_inference_law.specs.Inference.{inference, words_for}
 use Rattle.jn_inference_law.proofs.LeastSignature.{found_count, found_signature}
-use Rattle.jn_lost.specs.Losing.{told}
+use Rattle.jn_again.specs.Losing.{told}
 use Rattle.jn_resume.specs.Keepable.{IsEditOf}
 use Rattle.jn_sigs.specs.Packed.{unpacked}
 use Rattle.jn_again.specs.Flags.{AreChangedBelow}

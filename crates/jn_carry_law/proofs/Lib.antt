@@ -1,4 +1,0 @@
-pub mod SameOutputs
-pub mod Blind
-pub mod Apart
-pub mod LeastWords
