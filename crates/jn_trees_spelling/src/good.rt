@@ -4,7 +4,10 @@ ghost use Rattle.jn_trees.specs.WellFormed.{Good, AllGood, GoodLiteral};
 ghost use Rattle.jn_trees_spelling.specs.Parts.{is_least_signed};
 ghost use Rattle.jn_trees.specs.View.{view, views};
 
-use crate::levels::{is_castable, is_least_number, level, rank};
+use crate::levels::{
+    CONDITIONAL_RANK, DISJUNCTION_RANK, PRIMARY_RANK, RELATIONAL_RANK, UNARY_RANK, is_castable,
+    is_least_number, level, rank,
+};
 use jn_trees::{Expr, Literal, UnaryOperator};
 
 fn good_literal(literal: Literal) -> bool
@@ -26,16 +29,16 @@ pub fn good(expression: &Expr) -> bool
         Expr::Name { .. } => true,
         Expr::This { .. } => true,
         Expr::Paren { inner, .. } => good(inner),
-        Expr::Field { target, .. } => good(target) && rank(target) <= 1,
+        Expr::Field { target, .. } => good(target) && rank(target) <= PRIMARY_RANK,
         Expr::Call {
             target,
             arguments,
             ..
-        } => good(target) && rank(target) <= 1 && all_good(arguments),
+        } => good(target) && rank(target) <= PRIMARY_RANK && all_good(arguments),
         Expr::OwnCall { arguments, .. } => all_good(arguments),
         Expr::SuperCall { arguments, .. } => all_good(arguments),
         Expr::Index { array, index, .. } => {
-            good(array) && rank(array) <= 1 && array.is_indexable() && good(index)
+            good(array) && rank(array) <= PRIMARY_RANK && array.is_indexable() && good(index)
         }
         Expr::New { arguments, .. } => all_good(arguments),
         Expr::NewArray { length, .. } => good(length),
@@ -46,7 +49,7 @@ pub fn good(expression: &Expr) -> bool
             operator,
             operand,
             ..
-        } => { is_least(*operator, operand) || good(operand) && rank(operand) <= 3 }
+        } => { is_least(*operator, operand) || good(operand) && rank(operand) <= UNARY_RANK }
         Expr::Cast { operand, .. } => good(operand) && is_castable(operand),
         Expr::Binary {
             left,
@@ -59,7 +62,7 @@ pub fn good(expression: &Expr) -> bool
                 && good(right)
                 && rank(right) < level(*operator)
         }
-        Expr::InstanceOf { operand, .. } => good(operand) && rank(operand) <= 6,
+        Expr::InstanceOf { operand, .. } => good(operand) && rank(operand) <= RELATIONAL_RANK,
         Expr::Conditional {
             condition,
             then,
@@ -67,10 +70,10 @@ pub fn good(expression: &Expr) -> bool
             ..
         } => {
             good(condition)
-                && rank(condition) <= 9
+                && rank(condition) <= DISJUNCTION_RANK
                 && good(then)
                 && good(otherwise)
-                && rank(otherwise) <= 10
+                && rank(otherwise) <= CONDITIONAL_RANK
         }
         Expr::Assign { target, value, .. } => good(target) && target.is_left_side() && good(value),
     }

@@ -1,6 +1,6 @@
 use Rattle.std.proofs.Common.{◌≡◌, ◌↔◌, ◌≤◌, IsTrue, rules, sym, ap, ◌∙◌, subst, arith}
 use Rattle.jn_trees.specs.Trees.{Tree, UnaryTree}
-use Rattle.jn_trees.specs.WellFormed.{Good, rank}
+use Rattle.jn_trees.specs.WellFormed.{Good, rank, unary_rank}
 use Rattle.jn_trees.specs.View.{view}
 use Rattle.jn_trees.proofs.Seen.{seen_call, seen_own_call, seen_super_call, seen_new, seen_array_of}
 use Rattle.jn_trees_spelling.proofs.Signed.{least_is_good, good_of_other}
@@ -29,10 +29,10 @@ good-returns-in-ArrayOf t c =
     let P : Tree → Type 0 = λ v. IsTrue c.all_good-in-ArrayOf.result ↔ Good v in
     subst P (sym (seen_array_of _ c.in-ArrayOf.element c.in-ArrayOf.elements c.in-ArrayOf.span c.deref-in-ArrayOf.result.now c.in-ArrayOf.is c.deref-in-ArrayOf.ensures.value)) c.all_good-in-ArrayOf.ensures
 
-pub good-returns-then-rank-le1 : goal.good-returns-then-rank-le1
-good-returns-then-rank-le1 t c =
+pub good-returns-then-rank-le-PRIMARY_RANK : goal.good-returns-then-rank-le-PRIMARY_RANK
+good-returns-then-rank-le-PRIMARY_RANK t c =
     let P : Tree → Type 0 = λ v. IsTrue c.all_good.result ↔ Good v in
-    subst P (sym (seen_call _ c.in-Call.target c.in-Call.name c.in-Call.arguments c.in-Call.span c.deref-then-rank-le1.result.now c.in-Call.is c.deref-then-rank-le1.ensures.value))
+    subst P (sym (seen_call _ c.in-Call.target c.in-Call.name c.in-Call.arguments c.in-Call.span c.deref-then-rank-le-PRIMARY_RANK.result.now c.in-Call.is c.deref-then-rank-le-PRIMARY_RANK.ensures.value))
     (elim c.if-good-2.branch [
       | good-then-good-2 w ↦ first_of (search rules, grind (arith, common_steps))
       | good-else-good-2 w ↦ absurd (cc)
@@ -43,7 +43,7 @@ good-returns-then-is_least t c =
     let P : Tree → Type 0 = λ v. IsTrue c.is_least.result ↔ Good v in
     let operand = view c.deref-in-Unary.result.now in
     subst P (sym (ap view c.in-Unary.is ∙ ap (λ e. UnaryTree c.in-Unary.operator (view e)) (sym c.deref-in-Unary.ensures)))
-    ((λ _. least_is_good c.in-Unary.operator operand (Good operand × (rank operand ≤ 3)) (sym c.is_least.ensures ∙ c.if-is_least.true)), (λ _. c.if-is_least.true))
+    ((λ _. least_is_good c.in-Unary.operator operand (Good operand × (rank operand ≤ unary_rank)) (sym c.is_least.ensures ∙ c.if-is_least.true)), (λ _. c.if-is_least.true))
 
 pub good-returns-else-good-6 : goal.good-returns-else-good-6
 good-returns-else-good-6 t c =
@@ -52,4 +52,4 @@ good-returns-else-good-6 t c =
     let same : c.deref-in-Unary.result.now ≡ c.deref-else-is_least.result.now = c.deref-in-Unary.ensures ∙ sym c.deref-else-is_least.ensures in
     let Q : Expr → Type 0 = λ e. Good (view e) in
     subst P (sym (ap view c.in-Unary.is ∙ ap (λ e. UnaryTree c.in-Unary.operator (view e)) (sym c.deref-in-Unary.ensures)))
-    ((λ h. absurd (cc)), (λ g. c.good-else-is_least.ensures.1 (subst Q same (good_of_other c.in-Unary.operator operand (Good operand × (rank operand ≤ 3)) (sym c.is_least.ensures ∙ c.if-is_least.false) g).0)))
+    ((λ h. absurd (cc)), (λ g. c.good-else-is_least.ensures.1 (subst Q same (good_of_other c.in-Unary.operator operand (Good operand × (rank operand ≤ unary_rank)) (sym c.is_least.ensures ∙ c.if-is_least.false) g).0)))
