@@ -26,7 +26,8 @@ use Rattle.jn_command.proofs.Showing.{shown_is_noted}
 use Rattle.nullcheck_top.specs.Found.{IsRefusalOf}
 use Rattle.jn_report.specs.Report.{IsReport}
 use Rattle.jn_safe_files.specs.Safe.{IsSafe}
-use Rattle.nullcheck_top.specs.Report.{AreNotes, AreStopsBy, RunsTo, Prints, is_syntax, stop_notes}
+use Rattle.jn_phase_notes.specs.Stops.{AreStopsBy, is_syntax, stop_notes}
+use Rattle.nullcheck_top.specs.Report.{AreNotes, RunsTo, Prints}
 use Rattle.nullcheck_top.specs.Answers.{AnswersFiles}
 use Rattle.nullcheck_top.proofs.Written.{Ends, MadeFor, Written, answers_files, report_shown, files_named, named_are}
 

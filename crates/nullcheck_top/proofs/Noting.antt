@@ -3,7 +3,6 @@ use Rattle.std.proofs.Common.{◌≡◌, ◌≤◌, ◌<◌, ℕ, zero, suc, Boo
 use Rattle.std.specs.Prelude.{IfOk}
 use Rattle.std.proofs.lemmas.Result.{IfOk-weaker}
 use Rattle.jn_base.specs.declared.infer.Infer.{Infer}
-use Rattle.jn_base.specs.declared.number.FileNo.{FileNo}
 use Rattle.jn_base.specs.declared.place.Row.{Row}
 use Rattle.jn_base.specs.declared.place.Span.{Span}
 use Rattle.jn_quals.specs.Qualifier.{Qualifier}
@@ -19,8 +18,6 @@ use Rattle.jn_command.specs.declared.report.Report.{Report}
 use Rattle.jn_command.specs.declared.report.Report.TheVariants.{Refused, Checked}
 use Rattle.nullcheck_top.specs.CommandAnswer.{AreShownNotes}
 use Rattle.jn_command.specs.Stands.{StandIn}
-use Rattle.jn_follow.specs.declared.noting.StopNote.{StopNote}
-use Rattle.jn_follow.specs.StopNotes.{NoteBeside}
 use Rattle.jn_command.specs.Reports.{rows_of}
 use Rattle.jn_command.specs.Shown.{no_notes, note_of, noted_at, row_of, rows_with}
 use Rattle.jn_command.proofs.Showing.{none_noted, note_nowhere}
@@ -30,7 +27,8 @@ use Rattle.jn_notes.specs.declared.note.Notes.{Notes}
 use Rattle.jn_notes.specs.Noted.{AreNotesOf}
 use Rattle.nullcheck_top.specs.declared.found.Found.{Found}
 use Rattle.nullcheck_top.specs.Found.{AreLeft, AreWhole, IsBroken, IsFinding, IsGiven, IsLeft}
-use Rattle.nullcheck_top.specs.Report.{AreNotes, AreStops, RuleNotes, placed}
+use Rattle.jn_phase_notes.specs.Stops.{AreStops}
+use Rattle.nullcheck_top.specs.Report.{AreNotes, RuleNotes, placed}
 use Rattle.nullcheck_top.proofs.Stopping.{one_list_of_stops, stops_shown}
 use Rattle.jn_phases.proofs.OneTyping.{OneReading, one_program}
 
@@ -127,7 +125,7 @@ module _ {T E : Type 0} (f : T → List ShownRow) (had : List ShownRow) (reads :
 
 -- ---- one list of notes
 
-module _ (infer : Infer) (alone : (file : FileNo) (text : List ℕ) (row : Span) (one other : Option StopNote) → NoteBeside file text row one → NoteBeside file text row other → one ≡ other) (parsed : OneReading) (least : (P : Program) (s t : List Qualifier) → IsLeastSignature P s → IsLeastSignature P t → s ≡ t) (listed : (P : Program) (names : List (List ℕ)) (s : List Qualifier) (rows : List Row) (one other : List Notes) → AreNotesOf P names s rows one → AreNotesOf P names s rows other → one ≡ other) where
+module _ (infer : Infer) (alone : (files : List SourceFile) (rows : List Row) (one other : List Notes) → AreStops files rows one → AreStops files rows other → one ≡ other) (parsed : OneReading) (least : (P : Program) (s t : List Qualifier) → IsLeastSignature P s → IsLeastSignature P t → s ≡ t) (listed : (P : Program) (names : List (List ℕ)) (s : List Qualifier) (rows : List Row) (one other : List Notes) → AreNotesOf P names s rows one → AreNotesOf P names s rows other → one ≡ other) where
   one_rule_notes : (files : List SourceFile) (rows : List Row) (one other : List Noted) → RuleNotes infer files rows one → RuleNotes infer files rows other → one ≡ other
   one_rule_notes files rows one other x y =
       let same = one_program infer parsed files x.names y.names x.P y.P x.of_files.of_files y.of_files.of_files in

@@ -21,7 +21,8 @@ use Rattle.jn_reporters.specs.declared.shown.ShownRow.{ShownRow}
 use Rattle.nullcheck_top.specs.declared.found.Found.{Found}
 use Rattle.jn_phases.specs.Phases.{TypedProgramOf}
 use Rattle.jn_report.specs.Report.{IsReport}
-use Rattle.nullcheck_top.specs.Report.{AreNotes, is_syntax}
+use Rattle.jn_phase_notes.specs.Stops.{is_syntax}
+use Rattle.nullcheck_top.specs.Report.{AreNotes}
 
 -- the program of accepted files is at hand, and none where they aren't accepted
 abbrev pub IsAtHand : Infer → List SourceFile → List (List ℕ) → Report → Option (Program × List Qualifier) → Type 0

@@ -1,11 +1,6 @@
 -- What is promised of files beside their report and their safety: the notes of its rows, and what their main does.
-use Rattle.std.specs.Prelude.{ℕ, ◌≡◌, Bool, true, false, List, [], ◌∷◌, map, Option, Some, None, slice_get}
-use Rattle.jn_base.specs.declared.code.Code.{Code}
-use Rattle.jn_base.specs.declared.code.Code.TheVariants.{S1}
+use Rattle.std.specs.Prelude.{ℕ, ◌≡◌, List, [], ◌∷◌, map}
 use Rattle.jn_base.specs.declared.place.Row.{Row}
-use Rattle.jn_base.specs.declared.place.Span.{Span}
-use Rattle.jn_follow.specs.declared.noting.StopNote.{StopNote}
-use Rattle.jn_follow.specs.StopNotes.{NoteBeside}
 use Rattle.jn_points.specs.declared.program.Program.{Program}
 use Rattle.jn_base.specs.declared.infer.Infer.{Infer}
 use Rattle.jn_quals.specs.Qualifier.{Qualifier}
@@ -16,6 +11,7 @@ use Rattle.jn_command.specs.Shown.{note_of}
 use Rattle.jn_notes.specs.declared.note.Note.{Note}
 use Rattle.jn_notes.specs.declared.note.Notes.{Notes}
 use Rattle.jn_notes.specs.Noted.{AreNotesOf}
+use Rattle.jn_phase_notes.specs.Stops.{AreStops}
 use Rattle.jn_reporters.specs.declared.shown.ShownNote.{ShownNote}
 use Rattle.jn_command.specs.declared.report.Report.TheVariants.{Refused, Checked}
 use Rattle.jn_inference_law.specs.Solution.{IsLeastSignature}
@@ -41,33 +37,6 @@ pub record RuleNotes (infer : Infer) (files : List SourceFile) (rows : List Row)
   pub notes : List Notes
   pub are : AreNotesOf P names signature rows notes
   pub places : noted ≡ map (placed files) notes
-
--- the row says that a file's tokens are no file of the subset
-abbrev pub is_syntax : Code → Bool
-is_syntax S1 = true
-is_syntax _ = false
-
--- the note that says where a text stops being of the subset, as the one note of a row, or no note
-abbrev pub stop_notes : Option StopNote → Notes
-stop_notes None = record { shown = []; more = 0 }
-stop_notes (Some note) = record { shown = (record { joined = false; words = note.words; span = note.span }) ∷ []; more = 0 }
-
--- of a row at this place in this file: where its text stops being of the subset, where that is another place
-abbrev pub AreStopsIn : Option SourceFile → Span → Notes → Type 0
-AreStopsIn None span notes = notes ≡ stop_notes None
-AreStopsIn (Some file) span notes = (note : Option StopNote) × NoteBeside span.file file.bytes span note × (notes ≡ stop_notes note)
-
--- the same of a row of a file's syntax; other rows have no note
-abbrev pub AreStopsBy : Bool → Option SourceFile → Span → Notes → Type 0
-AreStopsBy false file span notes = notes ≡ stop_notes None
-AreStopsBy true file span notes = AreStopsIn file span notes
-
--- row by row
-abbrev pub AreStops : List SourceFile → List Row → List Notes → Type 0
-AreStops files [] [] = Unit {0}
-AreStops files [] (n ∷ notes) = ⊥
-AreStops files (row ∷ rows) [] = ⊥
-AreStops files (row ∷ rows) (n ∷ notes) = AreStopsBy (is_syntax row.code) (slice_get files row.span.file.0) row.span n × AreStops files rows notes
 
 -- the notes of rows of a phase: beside each syntax row, where its file stops being of the subset
 pub record StopNotes (files : List SourceFile) (rows : List Row) (noted : List Noted) : Type 0 where

@@ -7,10 +7,10 @@ ghost use Rattle.jn_command.specs.declared.report.Report.{Report};
 ghost use Rattle.jn_command.specs.declared.status.Status.{Status};
 ghost use Rattle.nullcheck_top.specs.Report.{AreNotes, RunsTo};
 
-use jn_follow::law::rows_have_one_stop_note;
 use jn_front::law::files_have_one_front;
 use jn_inference_law::law::least_signatures_are_unique;
 use jn_notes::law::rows_have_one_list_of_notes as notes_are_unique;
+use jn_phase_notes::law::texts_have_one_list_of_notes;
 pub use jn_report::law::files_have_one_report;
 pub use jn_safe_files::law::accepted_files_are_safe;
 
@@ -20,7 +20,7 @@ pub fn rows_have_one_list_of_notes()
     ensures { (infer : Infer) (files : List SourceFile) (report : Report) (one other : List Noted)
         → AreNotes infer files report one → AreNotes infer files report other → one ≡ other }
 {
-    rows_have_one_stop_note();
+    texts_have_one_list_of_notes();
     files_have_one_front();
     least_signatures_are_unique();
     notes_are_unique();

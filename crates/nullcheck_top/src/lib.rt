@@ -9,7 +9,6 @@ pub mod law;
 mod marks;
 mod notes;
 mod outputs;
-mod stops;
 pub mod top;
 
 pub use jn_command::Status;

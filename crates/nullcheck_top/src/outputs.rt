@@ -20,7 +20,6 @@ use crate::check::refuse_number;
 use crate::found::Found;
 use crate::marks::marked;
 use crate::notes::PlacedNotes;
-use crate::stops::notes_of_phase;
 use jn_base::{OutOfMemory, Row, Seq};
 use jn_command::Report;
 use jn_command::output::Output;
@@ -29,6 +28,7 @@ use jn_front::SourceRead;
 use jn_index::BaseTyped;
 use jn_inference_law::law::regular_programs_are_inferable;
 use jn_notes::{Notes, notes_of_rows};
+use jn_phase_notes::notes_of_texts;
 use jn_reporters::Reporter;
 use jn_sigs::Sig;
 use jn_trees::Names;
@@ -70,7 +70,7 @@ fn show_found<P: Reporter>(
     match refused_for(reporter.shows_notes(), &found.report) {
         None => show_checked(alloc, reads, names, found, reporter),
         Some(rows) => {
-            let notes = notes_of_phase(alloc, reads, rows)?;
+            let notes = notes_of_texts(alloc, reads, rows)?;
             show_with(alloc, reads, &found.report, &notes, reporter)
         }
     }

@@ -1,8 +1,8 @@
-//! The notes of rows of a phase: beside each syntax row, where its file stops being of the subset.
+//! The notes of rows of files that have no trees: beside each syntax row, where its file stops being of the subset.
 ghost use Rattle.std.specs.Prelude.{◌≡◌, ◌≤◌, length, IfOk, Some, slice_get};
 ghost use Rattle.jn_front.specs.Counted.{ReadsFit};
 ghost use Rattle.jn_front.specs.Files.{files_of_reads};
-ghost use Rattle.nullcheck_top.specs.Report as spec;
+ghost use Rattle.jn_phase_notes.specs.Stops as spec;
 
 use jn_base::lists::put;
 use jn_base::{Code, OutOfMemory, Row, Seq, Span};
@@ -21,21 +21,36 @@ fn is_syntax(code: Code) -> bool
     }
 }
 
-/// The note as the one note of a row, or no note.
-fn stop_notes(alloc: Global, note: Option<StopNote>) -> Result<Notes, OutOfMemory>
-    ensures { IfOk result (λ notes. notes ≡ spec.stop_notes note) }
+/// A note as the one note of a row, or no note.
+pub(crate) fn one_note(alloc: Global, note: Option<Note>) -> Result<Notes, OutOfMemory>
+    ensures { IfOk result (λ notes. notes ≡ spec.one_note note) }
 {
     let mut shown = Seq::new(alloc);
     match note {
         None => Ok(Notes { shown, more: 0 }),
+        Some(note) => {
+            shown.push(note)?;
+            Ok(Notes { shown, more: 0 })
+        }
+    }
+}
+
+/// Where a text stops being of the subset, as the one note of a row, or no note.
+fn stop_notes(alloc: Global, note: Option<StopNote>) -> Result<Notes, OutOfMemory>
+    ensures { IfOk result (λ notes. notes ≡ spec.stop_notes note) }
+{
+    match note {
+        None => one_note(alloc, None),
         Some(StopNote { words, span }) => {
             let joined = false;
-            shown.push(Note {
-                joined,
-                words,
-                span,
-            })?;
-            Ok(Notes { shown, more: 0 })
+            one_note(
+                alloc,
+                Some(Note {
+                    joined,
+                    words,
+                    span,
+                }),
+            )
         }
     }
 }
@@ -59,11 +74,11 @@ fn notes_at(alloc: Global, reads: &[SourceRead], span: Span) -> Result<Notes, Ou
     if file < reads.len() {
         notes_in(alloc, &reads[file], span)
     } else {
-        stop_notes(alloc, None)
+        one_note(alloc, None)
     }
 }
 
-/// The notes of a row of a phase.
+/// The notes of a row.
 fn notes_of_row(alloc: Global, reads: &[SourceRead], row: Row) -> Result<Notes, OutOfMemory>
     requires { ReadsFit reads.now }
     ensures { IfOk result (λ notes. spec.AreStopsBy (spec.is_syntax row.code)
@@ -72,15 +87,15 @@ fn notes_of_row(alloc: Global, reads: &[SourceRead], row: Row) -> Result<Notes, 
     if is_syntax(row.code) {
         notes_at(alloc, reads, row.span)
     } else {
-        stop_notes(alloc, None)
+        one_note(alloc, None)
     }
 }
 
-/// The notes of rows of a phase, row by row.
+/// The notes of rows of files that have no trees, row by row.
 ///
 /// # Errors
 /// No memory was found.
-pub(crate) fn notes_of_phase(
+pub fn notes_of_texts(
     alloc: Global,
     reads: &[SourceRead],
     rows: &[Row],

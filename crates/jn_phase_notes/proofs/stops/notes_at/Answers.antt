@@ -1,5 +1,5 @@
-use Rattle.nullcheck_top.proofs.Stopping.{one_read_fits, stops_nowhere, stops_there}
-use Rattle.nullcheck_top.proofs.stops.notes_at.Goals as goal
+use Rattle.jn_phase_notes.proofs.Stopping.{one_read_fits, stops_nowhere, stops_there}
+use Rattle.jn_phase_notes.proofs.stops.notes_at.Goals as goal
 
 pub notes_in-requires : goal.notes_in-requires
 notes_in-requires c = one_read_fits c.args.reads.now c.args.span.file.0 c.index-reads-file.result c.requires c.if-file-reads.true c.index-reads-file.is
@@ -8,4 +8,4 @@ pub returns-then-file-reads : goal.returns-then-file-reads
 returns-then-file-reads c = stops_there c.args.reads.now c.args.span c.index-reads-file.result c.notes_in.result c.if-file-reads.true c.index-reads-file.is c.notes_in.ensures
 
 pub returns-else-file-reads : goal.returns-else-file-reads
-returns-else-file-reads c = stops_nowhere c.args.reads.now c.args.span c.stop_notes.result c.if-file-reads.false c.stop_notes.ensures
+returns-else-file-reads c = stops_nowhere c.args.reads.now c.args.span c.one_note.result c.if-file-reads.false c.one_note.ensures

@@ -1,7 +1,7 @@
 use Rattle.std.proofs.Common.{◌<◌, length, arith}
 use Rattle.jn_front.specs.Files.{files_of_reads}
-use Rattle.nullcheck_top.proofs.Stopping.{row_more}
-use Rattle.nullcheck_top.proofs.stops.notes_of_phase.Goals as goal
+use Rattle.jn_phase_notes.proofs.Stopping.{row_more}
+use Rattle.jn_phase_notes.proofs.stops.notes_of_texts.Goals as goal
 
 pub loop-row-preserved : goal.loop-row-preserved
 loop-row-preserved c =
