@@ -1,1 +1,3 @@
+pub mod Clashing
 pub mod Stopping
+pub mod Tables

@@ -1,9 +1,15 @@
 //! Notes below rows of the phases before the rules.
 //!
-//! Beside a row of a file's syntax: where the text of the file stops being of the subset ([`stops`], by `jn_follow`). Other rows have none.
+//! Beside a row of a file's syntax: where the text of the file stops being of the subset ([`notes_of_texts`], by `jn_follow`). Beside a
+//! row of the class table that two declarations make: the other one, by its name, with the place where it is declared
+//! ([`notes_of_trees`]). Other rows have none.
 #![tactic(auto)]
 
 pub mod law;
+mod members;
+mod places;
 pub mod stops;
+pub mod trees;
 
 pub use stops::notes_of_texts;
+pub use trees::notes_of_trees;

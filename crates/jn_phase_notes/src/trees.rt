@@ -1,0 +1,268 @@
+//! The notes of rows of files that have trees: beside a row of the class table, the other declaration of which it speaks.
+ghost use Rattle.std.specs.Prelude.{◌≡◌, ◌<◌, ◌^◌, ◌++◌, length, map, option_map, IfOk, IfSome};
+ghost use Rattle.jn_places.specs.PlacedView.{placed_file};
+ghost use Rattle.jn_heads.specs.Extract as extract;
+ghost use Rattle.jn_index.specs.Index.{IsIndex};
+ghost use Rattle.jn_declaration_rules.specs.Sizes.{ParamsFit};
+ghost use Rattle.jn_classtable.specs.Built.{SmallTable};
+ghost use Rattle.jn_classtable.specs.Table.{table};
+ghost use Rattle.jn_notes.specs.Worded.{text_at};
+ghost use Rattle.jn_phase_notes.specs.Others as others;
+ghost use Rattle.jn_phase_notes.specs.Stops.{one_note};
+ghost use Rattle.jn_phase_notes.specs.Trees as spec;
+
+use crate::members::{clashing, hidden, lacking};
+use crate::places::{first_class, first_field, first_method, first_param_of, same_span};
+use crate::stops::one_note;
+use jn_base::lists::put;
+use jn_base::{Code, FileNo, NameNo, OutOfMemory, Row, Seq, Span};
+use jn_classtable::counting::is_small;
+use jn_classtable::table::table;
+use jn_heads::declarations::Declarations;
+use jn_heads::extract::heads;
+use jn_heads::head::ClassHead;
+use jn_index::index::Index;
+use jn_notes::{Note, Notes};
+use jn_points::Program;
+use jn_trees::{FileTree, Identifier, Names};
+use std::alloc::{AllocError, Global};
+
+/// T1: of a class, a field or a parameter.
+fn first_named(heads: &[ClassHead], program: &Program, span: Span) -> Option<Identifier>
+    ensures { result ≡ others.first_named heads.now program.now span }
+{
+    let class = first_class(program, span);
+    if class.is_some() {
+        return class;
+    }
+    let field = first_field(program, span);
+    if field.is_some() {
+        return field;
+    }
+    first_param_of(heads, span)
+}
+
+fn other_by(
+    alloc: Global,
+    heads: &[ClassHead],
+    program: &Program,
+    index: &Option<Index>,
+    span: Span,
+    code: Code,
+) -> Result<Option<Identifier>, AllocError>
+    requires index { IfSome index.now (λ i. IsIndex program.now i) }
+    requires few { length program.now.classes < 2 ^ 32 }
+    requires small { length program.now.methods < 2 ^ 32 }
+    requires short { ParamsFit program.now }
+    ensures { IfOk result
+        (λ other. other ≡ others.other_by heads.now program.now span code) }
+{
+    match code {
+        Code::T1 => Ok(first_named(heads, program, span)),
+        Code::T4 => Ok(first_method(program, span)),
+        Code::T5 => clashing(alloc, program, index, span),
+        Code::T6 => Ok(lacking(program, index, span)),
+        Code::T7 => Ok(hidden(program, index, span)),
+        _ => Ok(None),
+    }
+}
+
+/// A declaration that stands in a file, and elsewhere than the row.
+fn elsewhere(span: Span, other: Option<Identifier>) -> Option<Identifier>
+    ensures { result ≡ others.elsewhere span other }
+{
+    let other = other?;
+    let nowhere = Span {
+        file: FileNo(0),
+        from: 0,
+        to: 0,
+    };
+    if same_span(other.span, span) || same_span(other.span, nowhere) {
+        None
+    } else {
+        Some(other)
+    }
+}
+
+fn words_before(code: Code) -> &'static str
+    ensures { result.now ≡ spec.words_before code }
+{
+    match code {
+        Code::T5 => "it doesn't agree with `",
+        Code::T7 => "it hides the field `",
+        _ => "`",
+    }
+}
+
+fn words_behind(code: Code) -> &'static str
+    ensures { result.now ≡ spec.words_behind code }
+{
+    match code {
+        Code::T1 => "` is first declared at",
+        Code::T4 => "` with as many parameters is first declared at",
+        Code::T6 => "` has no body, as declared at",
+        _ => "`, as declared at",
+    }
+}
+
+/// The text of a name; empty where there is no such name.
+fn text_at(names: &Names, name: NameNo) -> &str
+    ensures { result.now ≡ text_at names.now name.0 }
+{
+    if (name.0 as usize) < names.len() {
+        names.text(name)
+    } else {
+        ""
+    }
+}
+
+/// A text, a name and a text.
+fn between(alloc: Global, front: &str, name: &str, back: &str) -> Result<Vec<u8>, AllocError>
+    ensures { IfOk result (λ words. words.items ≡ front.now ++ name.now ++ back.now) }
+{
+    let mut words = Vec::from_slice(alloc, front.as_bytes())?;
+    words.extend_from_slice(name.as_bytes())?;
+    words.extend_from_slice(back.as_bytes())?;
+    Ok(words)
+}
+
+fn other_words(
+    alloc: Global,
+    names: &Names,
+    code: Code,
+    name: NameNo,
+) -> Result<Vec<u8>, AllocError>
+    ensures { IfOk result (λ words. words.items
+        ≡ spec.words_before code ++ text_at names.now name.0 ++ spec.words_behind code) }
+{
+    between(
+        alloc,
+        words_before(code),
+        text_at(names, name),
+        words_behind(code),
+    )
+}
+
+/// The other declaration in words, and where it stands.
+fn other_note(
+    alloc: Global,
+    names: &Names,
+    code: Code,
+    other: Identifier,
+) -> Result<Note, AllocError>
+    ensures { IfOk result (λ note. note ≡ spec.other_note names.now code other) }
+{
+    let words = other_words(alloc, names, code, other.name)?;
+    let joined = false;
+    Ok(Note {
+        joined,
+        words: Seq::of_vec(words),
+        span: other.span,
+    })
+}
+
+/// The note of the other declaration, where there is one.
+fn notes_of_other(
+    alloc: Global,
+    names: &Names,
+    code: Code,
+    other: Option<Identifier>,
+) -> Result<Notes, OutOfMemory>
+    ensures { IfOk result
+        (λ notes. notes ≡ one_note (option_map (spec.other_note names.now code) other)) }
+{
+    match other {
+        None => one_note(alloc, None),
+        Some(other) => {
+            let note = other_note(alloc, names, code, other)?;
+            one_note(alloc, Some(note))
+        }
+    }
+}
+
+/// The notes of a row, by heads and their program.
+fn notes_of_row(
+    alloc: Global,
+    names: &Names,
+    heads: &[ClassHead],
+    program: &Program,
+    index: &Option<Index>,
+    row: Row,
+) -> Result<Notes, OutOfMemory>
+    requires index { IfSome index.now (λ i. IsIndex program.now i) }
+    requires few { length program.now.classes < 2 ^ 32 }
+    requires small { length program.now.methods < 2 ^ 32 }
+    requires short { ParamsFit program.now }
+    ensures { IfOk result
+        (λ notes. notes ≡ one_note (option_map (spec.other_note names.now row.code)
+        (others.other heads.now program.now row.span row.code))) }
+{
+    let found = other_by(alloc, heads, program, index, row.span, row.code)?;
+    notes_of_other(alloc, names, row.code, elsewhere(row.span, found))
+}
+
+/// The notes of rows, by heads and their program.
+fn notes_of_rows(
+    alloc: Global,
+    names: &Names,
+    heads: &[ClassHead],
+    program: &Program,
+    index: &Option<Index>,
+    rows: &[Row],
+) -> Result<Vec<Notes>, OutOfMemory>
+    requires index { IfSome index.now (λ i. IsIndex program.now i) }
+    requires few { length program.now.classes < 2 ^ 32 }
+    requires small { length program.now.methods < 2 ^ 32 }
+    requires short { ParamsFit program.now }
+    ensures { IfOk result (λ notes. notes.items
+        ≡ map (λ row. one_note (option_map (spec.other_note names.now row.code)
+        (others.other heads.now program.now row.span row.code)))
+        rows.now) }
+{
+    let mut list = Vec::new(alloc);
+    for row in rows {
+        let notes = notes_of_row(alloc, names, heads, program, index, *row)?;
+        put(&mut list, notes)?;
+    }
+    Ok(list)
+}
+
+/// The notes of rows of small heads.
+#[tactic(auto, using(crate::proofs::Tables::few_classes))]
+fn notes_of_declared(
+    alloc: Global,
+    names: &Names,
+    declared: &Declarations,
+    rows: &[Row],
+) -> Result<Vec<Notes>, OutOfMemory>
+    requires { SmallTable declared.now }
+    ensures { IfOk result (λ notes. notes.items
+        ≡ map (λ row. one_note (option_map (spec.other_note names.now row.code)
+        (others.other declared.now (table declared.now) row.span row.code)))
+        rows.now) }
+{
+    let program = table(alloc, declared)?;
+    let index = Index::new(alloc, &program)?;
+    notes_of_rows(alloc, names, declared.heads(), &program, &index, rows)
+}
+
+/// The notes of rows of files that have these trees and names, row by row.
+///
+/// # Errors
+/// No memory was found, or numbers of 32 bits aren't enough for what is declared; the class table has no rows then.
+pub fn notes_of_trees(
+    alloc: Global,
+    names: &Names,
+    trees: &[FileTree],
+    rows: &[Row],
+) -> Result<Vec<Notes>, OutOfMemory>
+    ensures { IfOk result (λ notes. notes.items
+        ≡ map (spec.row_notes names.now (map placed_file trees.now)) rows.now) }
+{
+    let heads = heads(alloc, trees)?;
+    if !is_small(heads.as_slice()) {
+        return Err(OutOfMemory);
+    }
+    let declared = Declarations::new(alloc, heads)?;
+    notes_of_declared(alloc, names, &declared, rows)
+}
