@@ -15,12 +15,13 @@ use Rattle.jn_front.specs.declared.source.SourceFile.{SourceFile}
 use Rattle.jn_front.specs.declared.source.SourceRead.{SourceRead}
 use Rattle.jn_front.specs.Files.{files_of_reads, AreReads, most_files}
 use Rattle.jn_front.specs.Limits.{row_at, limit_rows}
-use Rattle.jn_front.specs.Phases.{AreParsed, ArePlaced, FaultRows, SyntaxRows, LexedFrom, TextRows}
+use Rattle.jn_front.specs.Phases.{AreParsed, ArePlaced, FaultRows, FrontRows, SyntaxRows, LexedFrom, TextRows}
 use Rattle.jn_command.specs.Stands.{StandIn}
 use Rattle.jn_command.proofs.Standing.{Limited, all_stand, limited_stand, many_limit, one_ordered, within_limits}
 use Rattle.jn_phases.specs.declared.typing.TypedFiles.{TypedFiles}
 use Rattle.jn_phases.specs.declared.typing.Typing.{Typing}
-use Rattle.jn_phases.specs.Phases.{AreDeclared, IsPhase, IsTypedOr, PhaseRows, ProgramOf, lowering_rows}
+use Rattle.jn_phases.specs.Phases.{AreDeclared, AreTreesOrNone, IsPhase, IsTypedOr, NoneParsed, PhaseRows, ProgramOf, lowering_rows}
+use Rattle.jn_phases.proofs.Naming.{trees_or_none}
 use Rattle.jn_phases.specs.Typing.{IsTyping}
 
 -- ---- the texts' phases
@@ -57,26 +58,51 @@ module _ (infer : Infer) where
     limited_made (Err e) some by none = tt
 
     module _ (within : limits ≡ []) where
-      text_phase : (files : List SourceFile) (rows : List Row) → AreReads reads files → TextRows (files_of_reads reads) rows → (rows ≡ [] → ⊥) → PhaseRows infer files rows
-      text_phase files rows are (inl faulty) some =
+      text_front : (files : List SourceFile) (rows : List Row) → AreReads reads files → TextRows (files_of_reads reads) rows → (rows ≡ [] → ⊥) → FrontRows files rows
+      text_front files rows are (inl faulty) some =
           let w = within_limits reads limits limited within files are in
-          inl (inr (inl (record { within = w.1; are = subst (λ fs. FaultRows 0 fs rows) w.0 faulty; some = some })))
-      text_phase files rows are (inr g) some =
+          inr (inl (record { within = w.1; are = subst (λ fs. FaultRows 0 fs rows) w.0 faulty; some = some }))
+      text_front files rows are (inr g) some =
           let w = within_limits reads limits limited within files are in
-          inl (inr (inr (record { within = w.1; names = g.0; tokens = g.1; lexed = subst (λ fs. LexedFrom 0 known_names fs g.1 g.0) w.0 g.2; are = subst (λ fs. SyntaxRows 0 fs g.1 rows) w.0 g.3; some = some })))
+          inr (inr (record { within = w.1; names = g.0; tokens = g.1; lexed = subst (λ fs. LexedFrom 0 known_names fs g.1 g.0) w.0 g.2; are = subst (λ fs. SyntaxRows 0 fs g.1 rows) w.0 g.3; some = some }))
 
       pub text_made : (rows : List Row) (made : Made) → TextRows (files_of_reads reads) rows → (rows ≡ [] → ⊥) → RefusesBy rows made → HasNone made → FindsAll infer reads placed made
-      text_made rows (Ok r) text some by none = λ files are. refused_or files r.names (placed r) r.rows r.base none (is_phase files rows by.0 r.rows (text_phase files rows are text some) by.1 by.2)
+      text_made rows (Ok r) text some by none = λ files are. refused_or files r.names (placed r) r.rows r.base none (is_phase files rows by.0 r.rows (inl (text_front files rows are text some)) by.1 by.2)
       text_made rows (Err e) text some by none = tt
 
       -- what is found of what was read is found of the files
       pub found_all : (names : List (List ℕ)) (trees : List PlacedFile) (rows : List Row) (base : Option Program) → IsTypedOr infer (files_of_reads reads) names trees rows base → (files : List SourceFile) → AreReads reads files → IsTypedOr infer files names trees rows base
       found_all names trees rows base found files are = subst (λ fs. IsTypedOr infer fs names trees rows base) (within_limits reads limits limited within files are).0 found
 
+-- ---- names and trees, or none
+
+abbrev pub HasNoNames : Made → Type 0
+HasNoNames made = IfOk made (λ typed. typed.names ≡ [])
+
+abbrev pub HasTreesOrNone : List SourceRead → (TypedFiles → List PlacedFile) → Made → Type 0
+HasTreesOrNone reads placed made = IfOk made (λ typed. (files : List SourceFile) → AreReads reads files → AreTreesOrNone files typed.names (placed typed))
+
+none_parsed : (files : List SourceFile) (names : List (List ℕ)) (trees : List PlacedFile) → names ≡ [] → NoneParsed files → AreTreesOrNone files names trees
+none_parsed files names trees none no_trees = subst (λ ns. AreTreesOrNone files ns trees) (sym none) no_trees
+
+module _ (placed : TypedFiles → List PlacedFile) (reads : List SourceRead) (limits : List Row) (limited : Limited reads limits) where
+  pub limited_none : (made : Made) → (limits ≡ [] → ⊥) → HasNoNames made → HasTreesOrNone reads placed made
+  limited_none (Ok r) some none = λ files are. none_parsed files r.names (placed r) none (λ names tokens trees parsed. some (limited files are ∙ parsed.within))
+  limited_none (Err e) some none = tt
+
+  module _ (infer : Infer) (within : limits ≡ []) (apart : (files : List SourceFile) (names : List (List ℕ)) (tokens : List (List Token)) (trees : List PlacedFile) (rows : List Row) → AreParsed files names tokens trees → FrontRows files rows → ⊥) where
+    pub text_none : (rows : List Row) (made : Made) → TextRows (files_of_reads reads) rows → (rows ≡ [] → ⊥) → HasNoNames made → HasTreesOrNone reads placed made
+    text_none rows (Ok r) text some none = λ files are. none_parsed files r.names (placed r) none (λ names tokens trees parsed. apart files names tokens trees rows parsed (text_front infer placed reads limits limited within files rows are text some))
+    text_none rows (Err e) text some none = tt
+
 pub are_parsed : (reads : List SourceRead) (limits : List Row) → Limited reads limits → limits ≡ [] → (names : List (List ℕ)) (tokens : List (List Token)) (trees : List PlacedFile) → ((files : List SourceFile) × AreReads reads files) → LexedFrom 0 known_names (files_of_reads reads) tokens names → ArePlaced tokens trees → AreParsed (files_of_reads reads) names tokens trees
 are_parsed reads limits limited none names tokens trees some lexed placed =
     let w = within_limits reads limits limited none some.0 some.1 in
     record { within = ap limit_rows w.0 ∙ w.1; lexed = lexed; parsed = placed }
+
+pub parsed_all : (reads : List SourceRead) (limits : List Row) → Limited reads limits → limits ≡ [] → (names : List (List ℕ)) (tokens : List (List Token)) (trees : List PlacedFile) → AreParsed (files_of_reads reads) names tokens trees → (files : List SourceFile) → AreReads reads files → AreTreesOrNone files names trees
+parsed_all reads limits limited none names tokens trees parsed files are =
+    trees_or_none files names tokens trees (subst (λ fs. AreParsed fs names tokens trees) (within_limits reads limits limited none files are).0 parsed)
 
 pub found_whole : (reads : List SourceRead) (limits : List Row) → Limited reads limits → limits ≡ [] → (files : List SourceFile) → AreReads reads files → files_of_reads reads ≡ files
 found_whole reads limits limited none files are = (within_limits reads limits limited none files are).0

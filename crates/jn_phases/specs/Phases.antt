@@ -1,5 +1,5 @@
 -- What files come to before their rules are looked at, by the members that are inferred: the rows of the first phase that has any, or a program whose types fit.
-use Rattle.std.specs.Prelude.{ℕ, ◌≡◌, ◌⊎◌, ◌↔◌, List, [], Contains, Option, Some, None}
+use Rattle.std.specs.Prelude.{ℕ, ◌≡◌, ◌⊎◌, ◌↔◌, List, [], ◌∷◌, Contains, Option, Some, None}
 use Rattle.jn_base.specs.declared.infer.Infer.{Infer}
 use Rattle.jn_base.specs.declared.place.Row.{Row}
 use Rattle.jn_trees.specs.declared.token.Token.{Token}
@@ -44,6 +44,15 @@ pub record ProgramOf (infer : Infer) (files : List SourceFile) (names : List (Li
 pub record TypedProgramOf (infer : Infer) (files : List SourceFile) (names : List (List ℕ)) (P : Program) : Type 0 where
   pub of_files : ProgramOf infer files names P
   pub typed : NoBaseRows P
+
+-- the files have no trees: they pass a limit, or some text has no tokens or no tree
+abbrev pub NoneParsed : List SourceFile → Type 0
+NoneParsed files = (names : List (List ℕ)) (tokens : List (List Token)) (trees : List PlacedFile) → AreParsed files names tokens trees → ⊥
+
+-- the names and the trees of files; files of which no name is known have no trees
+abbrev pub AreTreesOrNone : List SourceFile → List (List ℕ) → List PlacedFile → Type 0
+AreTreesOrNone files [] trees = NoneParsed files
+AreTreesOrNone files (name ∷ names) trees = (tokens : List (List Token)) × AreParsed files (name ∷ names) tokens trees
 
 -- the rows of classes and members, of files that have trees
 pub record TableRows (files : List SourceFile) (rows : List Row) : Type 0 where

@@ -21,13 +21,14 @@ ghost use Rattle.jn_front.specs.declared.source.SourceFile.{SourceFile as SpecFi
 ghost use Rattle.jn_front.specs.Files.{files_of_reads, AreReads, most_files};
 ghost use Rattle.jn_front.specs.Limits.{row_at};
 ghost use Rattle.jn_front.specs.Phases.{AreParsed};
-ghost use Rattle.jn_phases.specs.Phases.{AreDeclared, IsPhase, IsTypedOr, ProgramOf};
+ghost use Rattle.jn_phases.specs.Phases.{AreDeclared, AreTreesOrNone, IsPhase, IsTypedOr, ProgramOf};
 ghost use Rattle.jn_phases.specs.Typing.{IsTyping};
 
 use jn_base::{Code, Fail, Infer, OutOfMemory, Row, Seq};
 use jn_basecheck::base_check_others;
 use jn_classtable::{ClassTable, build};
 use jn_diag::order;
+use jn_front::law::files_have_one_front;
 use jn_front::{SourceRead, limit_rows, parse_files, row_at};
 use jn_heads::ClassHead;
 use jn_index::BaseTyped;
@@ -83,6 +84,7 @@ pub fn refused_texts(alloc: Global, rows: Vec<Row>) -> Result<TypedFiles, OutOfM
     ensures rows { IfOk result
         (λ typed. (sorted : List SpecRow) × IsOrderOf rows.items sorted × (typed.rows ≡ sorted)) }
     ensures base { IfOk result (λ typed. typed.base ≡ None) }
+    ensures names { IfOk result (λ typed. typed.names ≡ []) }
 {
     let Typing { rows, .. } = refused(alloc, rows)?;
     Ok(TypedFiles {
@@ -322,7 +324,11 @@ pub fn type_files<R: Threads + Sync, G: Gate + Sync>(
     ensures whole { IfOk result (λ typed. IsSome typed.base
         → (files : List SpecFile) → AreReads reads.now files → files_of_reads reads.now ≡ files) }
     ensures stand { IfOk result (λ typed. StandIn reads.now typed.rows) }
+    // Whatever they come to, names and trees are the files', or they have none.
+    ensures trees { IfOk result (λ typed. (files : List SpecFile) → AreReads reads.now files
+        → AreTreesOrNone files typed.names (map placed_file typed.trees.items)) }
 {
+    files_have_one_front();
     let limits = limit_rows(alloc, reads)?;
     if !no_rows(&limits) {
         return refused_texts(alloc, limits);

@@ -6,7 +6,7 @@ use Rattle.jn_front.specs.Phases.{AreParsed}
 use Rattle.jn_command.proofs.Standing.{all_stand}
 use Rattle.jn_phases.specs.declared.typing.TypedFiles.{TypedFiles}
 use Rattle.jn_phases.specs.Phases.{IsTypedOr}
-use Rattle.jn_phases.proofs.Reporting.{limited_made, limited_stands, text_made, found_all, are_parsed, whole_stands, refused_whole, found_whole}
+use Rattle.jn_phases.proofs.Reporting.{limited_made, limited_none, limited_stands, text_made, text_none, found_all, are_parsed, parsed_all, whole_stands, refused_whole, found_whole}
 use Rattle.jn_phases.proofs.typing.type_files.Goals as goal
 
 pub returns-then-not-no_rows-clause-typed : goal.returns-then-not-no_rows-clause-typed
@@ -52,3 +52,22 @@ returns-then-not-no_rows-2-clause-whole g c = refused_whole c.args.reads.now c.r
 
 pub returns-clause-whole : goal.returns-clause-whole
 returns-clause-whole g c some = found_whole c.args.reads.now c.in_ok-limits.limits.items c.in_ok-limits.ensures (c.no_rows.ensures.none c.if-not-no_rows.false)
+
+pub returns-then-not-no_rows-clause-trees : goal.returns-then-not-no_rows-clause-trees
+returns-then-not-no_rows-clause-trees g c = limited_none (λ (t : TypedFiles). map placed_file t.trees.items) c.args.reads.now c.in_ok-limits.limits.items c.in_ok-limits.ensures c.refused_texts.result (c.no_rows.ensures.some c.if-not-no_rows.true) c.refused_texts.ensures.names
+
+pub returns-then-not-no_rows-2-clause-trees : goal.returns-then-not-no_rows-2-clause-trees
+returns-then-not-no_rows-2-clause-trees g c =
+    let r = c.refused_texts-then-not-no_rows-2 in
+    let some = c.no_rows-2.ensures.some c.if-not-no_rows-2.true in
+    text_none (λ (t : TypedFiles). map placed_file t.trees.items) c.args.reads.now c.in_ok-limits.limits.items c.in_ok-limits.ensures c.args.infer (c.no_rows.ensures.none c.if-not-no_rows.false) c.files_have_one_front.ensures.apart c.in_ok-parsed.parsed.rows.items r.result (c.in_ok-parsed.ensures.rows some) some r.ensures.names
+
+pub returns-clause-trees : goal.returns-clause-trees
+returns-clause-trees g c =
+    let reads = c.args.reads.now in
+    let limits = c.in_ok-limits.limits.items in
+    let names = c.in_ok-parsed.parsed.names in
+    let trees = map placed_file c.in_ok-parsed.parsed.trees.items in
+    let none = c.no_rows.ensures.none c.if-not-no_rows.false in
+    let made = c.in_ok-parsed.ensures.trees (c.no_rows-2.ensures.none c.if-not-no_rows-2.false) in
+    parsed_all reads limits c.in_ok-limits.ensures none names made.0 trees (are_parsed reads limits c.in_ok-limits.ensures none names made.0 trees c.requires.read made.1 made.2)
