@@ -1,5 +1,5 @@
 -- What is written answers the command, by the files that are checked.
-use Rattle.std.proofs.Common.{◌≡◌, ℕ, zero, suc, ◌<◌, Bool, true, false, List, [], ◌∷◌, ◌++◌, length, Result, Ok as Made, Err, refl, sym, ap, ◌∙◌, subst, arith}
+use Rattle.std.proofs.Common.{◌≡◌, ℕ, zero, suc, ◌<◌, inl, Bool, true, false, List, [], ◌∷◌, ◌++◌, length, Result, Ok as Made, Err, refl, sym, ap, ◌∙◌, subst, arith}
 use Rattle.std.specs.Prelude.{IfOk, Option, None, slice_get}
 use Rattle.std.proofs.lemmas.Result.{IfOk-weaker}
 use Rattle.jn_base.specs.declared.infer.Infer.{Infer}
@@ -27,6 +27,7 @@ use Rattle.nullcheck_top.specs.Found.{IsRefusalOf}
 use Rattle.jn_report.specs.Report.{IsReport}
 use Rattle.jn_safe_files.specs.Safe.{IsSafe}
 use Rattle.jn_phase_notes.specs.Stops.{AreStopsBy, is_syntax, stop_notes}
+use Rattle.jn_phases.specs.Phases.{NoneParsed}
 use Rattle.nullcheck_top.specs.Report.{AreNotes, RunsTo, Prints}
 use Rattle.nullcheck_top.specs.Answers.{AnswersFiles}
 use Rattle.nullcheck_top.proofs.Written.{Ends, MadeFor, Written, answers_files, report_shown, files_named, named_are}
@@ -46,9 +47,9 @@ no_stop files row true other = absurd (never other)
     never : true ≡ false → ⊥
     never e = cc
 
-refused_notes : (b : Bool) (infer : Infer) (files : List SourceFile) (row : Row) → is_syntax row.code ≡ false → AreShownNotes AreNotes b infer files (Refused (row ∷ [])) (refused_noted b)
-refused_notes false infer files row other = refl
-refused_notes true infer files row other = record { notes = stop_notes None ∷ []; are = (no_stop files row (is_syntax row.code) other, tt); places = refl }
+refused_notes : (b : Bool) (infer : Infer) (files : List SourceFile) (row : Row) → is_syntax row.code ≡ false → NoneParsed files → AreShownNotes AreNotes b infer files (Refused (row ∷ [])) (refused_noted b)
+refused_notes false infer files row other none = refl
+refused_notes true infer files row other none = inl (record { unparsed = none; notes = stop_notes None ∷ []; are = (no_stop files row (is_syntax row.code) other, tt); places = refl })
 
 refused_shown : (b : Bool) (show : List ShownRow → Option Verdict → List ℕ) (files : List SourceFile) (row : Row) → shown_noted show files (Refused (row ∷ [])) [] ≡ shown_noted show files (Refused (row ∷ [])) (refused_noted b)
 refused_shown false show files row = refl
@@ -59,7 +60,7 @@ refusal_made : (a : Asked) (files : List SourceFile) (made : Result Output NoMem
 refusal_made a files (Made o) none r =
     let rows = r.row ∷ [] in
     let noted = refused_noted a.notes in
-    report_shown IsReport AreNotes IsSafe RunsTo Prints a files (Refused rows) o.status o.bytes r.is noted (refused_notes a.notes a.command.infer files r.row r.other) r.ends
+    report_shown IsReport AreNotes IsSafe RunsTo Prints a files (Refused rows) o.status o.bytes r.is noted (refused_notes a.notes a.command.infer files r.row r.other r.unparsed) r.ends
     (r.shows ∙ shown_is_noted a.show files (Refused rows) ∙ refused_shown a.notes a.show files r.row ∙ ap (λ n. front_of a.document n ++ shown_noted a.show files (Refused rows) noted) (sym none)) (λ e. absurd (never_checked rows [] e)) (λ run e. never_checked rows [] e)
 refusal_made a files (Err e) none r = tt
 

@@ -5,6 +5,7 @@ use Rattle.std.proofs.lemmas.Result.{IfOk-weaker}
 use Rattle.jn_base.specs.declared.infer.Infer.{Infer}
 use Rattle.jn_base.specs.declared.place.Row.{Row}
 use Rattle.jn_base.specs.declared.place.Span.{Span}
+use Rattle.jn_places.specs.Placed.{PlacedFile}
 use Rattle.jn_quals.specs.Qualifier.{Qualifier}
 use Rattle.jn_points.specs.declared.program.Program.{Program}
 use Rattle.jn_inference_law.specs.Solution.{IsLeastSignature}
@@ -26,10 +27,10 @@ use Rattle.jn_reporters.specs.declared.shown.ShownRow.{ShownRow}
 use Rattle.jn_notes.specs.declared.note.Notes.{Notes}
 use Rattle.jn_notes.specs.Noted.{AreNotesOf}
 use Rattle.nullcheck_top.specs.declared.found.Found.{Found}
-use Rattle.nullcheck_top.specs.Found.{AreLeft, AreWhole, IsBroken, IsFinding, IsGiven, IsLeft}
+use Rattle.nullcheck_top.specs.Found.{AreAtHand, AreLeft, AreNotesBy, AreWhole, IsBroken, IsFinding, IsGiven, IsLeft}
 use Rattle.jn_phase_notes.specs.Stops.{AreStops}
 use Rattle.nullcheck_top.specs.Report.{AreNotes, RuleNotes, placed}
-use Rattle.nullcheck_top.proofs.Stopping.{one_list_of_stops, stops_shown}
+use Rattle.nullcheck_top.proofs.Stopping.{one_list_of_phase, phase_shown}
 use Rattle.jn_phases.proofs.OneTyping.{OneReading, one_program}
 
 -- ---- the notes at a place
@@ -112,10 +113,10 @@ module _ {T E : Type 0} (f : T → List ShownRow) (had : List ShownRow) (reads :
   given_none (Err e) checked none is = tt
 
   -- with those of the rows of a phase
-  pub given_stops : (r : Result T E) (rows : List Row) (notes : List Notes) (told : List Noted) → b ≡ true → found.report ≡ Refused rows → StandIn reads (rows_of found.report) → AreStops (files_of_reads reads) rows notes → told ≡ map (placed (files_of_reads reads)) notes → IfOk r (λ t. f t ≡ had ++ rows_with (files_of_reads reads) told (rows_of found.report)) → Given r
-  given_stops (Ok t) rows notes told on refused stand stops placed_is is = λ infer files are finding.
-      (map (placed (files_of_reads reads)) notes, stops_shown n infer reads files found.report rows notes (sym same ∙ on) refused are stand stops, is ∙ ap (λ ns. had ++ rows_with (files_of_reads reads) ns (rows_of found.report)) placed_is)
-  given_stops (Err e) rows notes told on refused stand stops placed_is is = tt
+  pub given_phase : (r : Result T E) (trees : List PlacedFile) (rows : List Row) (notes : List Notes) (told : List Noted) → b ≡ true → found.report ≡ Refused rows → StandIn reads (rows_of found.report) → AreAtHand reads found.report names trees → AreNotesBy (files_of_reads reads) names trees rows notes → told ≡ map (placed (files_of_reads reads)) notes → IfOk r (λ t. f t ≡ had ++ rows_with (files_of_reads reads) told (rows_of found.report)) → Given r
+  given_phase (Ok t) trees rows notes told on refused stand hand by placed_is is = λ infer files are finding.
+      (map (placed (files_of_reads reads)) notes, phase_shown n infer reads files names trees found.report rows notes (sym same ∙ on) refused are stand hand by, is ∙ ap (λ ns. had ++ rows_with (files_of_reads reads) ns (rows_of found.report)) placed_is)
+  given_phase (Err e) trees rows notes told on refused stand hand by placed_is is = tt
 
   pub given_some : (r : Result T E) (left : Program × List Qualifier) (notes : List Notes) (told : List Noted) → b ≡ true → found.rejected ≡ Some left → AreWhole found.report reads → AreNotesOf left.0 names left.1 (rows_of found.report) notes → told ≡ map (placed (files_of_reads reads)) notes → IfOk r (λ t. f t ≡ had ++ rows_with (files_of_reads reads) told (rows_of found.report)) → Given r
   given_some (Ok t) left notes told on left_is whole noted placed_is is = λ infer files are finding.
@@ -134,6 +135,6 @@ module _ (infer : Infer) (alone : (files : List SourceFile) (rows : List Row) (o
       x.places ∙ ap (map (placed files)) (listed y.P y.names y.signature rows x.notes y.notes are y.are) ∙ sym y.places
 
   pub one_list : (files : List SourceFile) (report : Report) (one other : List Noted) → AreNotes infer files report one → AreNotes infer files report other → one ≡ other
-  one_list files (Refused rows) one other x y = one_list_of_stops alone files rows one other x y
+  one_list files (Refused rows) one other x y = one_list_of_phase alone parsed files rows one other x y
   one_list files (Checked []) one other x y = x ∙ sym y
   one_list files (Checked (row ∷ rows)) one other x y = one_rule_notes files (row ∷ rows) one other x y

@@ -1,5 +1,5 @@
 -- What a check of files finds, and the output of more files than there may be.
-use Rattle.std.specs.Prelude.{ℕ, ◌≡◌, ◌++◌, Bool, false, [], ◌∷◌, List, Option, Some, None, Result, Ok, Err}
+use Rattle.std.specs.Prelude.{ℕ, ◌≡◌, ◌++◌, Bool, false, [], ◌∷◌, List, map, Option, Some, None, Result, Ok, Err}
 use Rattle.jn_base.specs.declared.infer.Infer.{Infer}
 use Rattle.jn_base.specs.declared.place.Row.{Row}
 use Rattle.jn_diag.specs.declared.shown.Verdict.{Verdict}
@@ -15,13 +15,16 @@ use Rattle.jn_front.specs.declared.source.SourceFile.{SourceFile}
 use Rattle.jn_front.specs.declared.source.SourceRead.{SourceRead}
 use Rattle.jn_front.specs.Files.{AreReads, files_of_reads}
 use Rattle.jn_inference_law.specs.Solution.{IsLeastSignature}
+use Rattle.jn_places.specs.Placed.{PlacedFile}
 use Rattle.jn_points.specs.declared.program.Program.{Program}
 use Rattle.jn_quals.specs.Qualifier.{Qualifier}
 use Rattle.jn_reporters.specs.declared.shown.ShownRow.{ShownRow}
 use Rattle.nullcheck_top.specs.declared.found.Found.{Found}
-use Rattle.jn_phases.specs.Phases.{TypedProgramOf}
+use Rattle.jn_phases.specs.Phases.{AreTreesOrNone, NoneParsed, TypedProgramOf}
 use Rattle.jn_report.specs.Report.{IsReport}
-use Rattle.jn_phase_notes.specs.Stops.{is_syntax}
+use Rattle.jn_notes.specs.declared.note.Notes.{Notes}
+use Rattle.jn_phase_notes.specs.Stops.{AreStops, is_syntax}
+use Rattle.jn_phase_notes.specs.Trees.{row_notes}
 use Rattle.nullcheck_top.specs.Report.{AreNotes}
 
 -- the program of accepted files is at hand, and none where they aren't accepted
@@ -50,6 +53,15 @@ pub record IsFinding (infer : Infer) (files : List SourceFile) (names : List (Li
   pub accepted : IsAtHand infer files names found.report found.accepted
   pub rejected : AreLeft infer files names found.report found.rejected
 
+-- of files that a phase refused, the names and the trees are at hand, or they have none
+abbrev pub AreAtHand : List SourceRead → Report → List (List ℕ) → List PlacedFile → Type 0
+AreAtHand reads report names trees = (rows : List Row) → report ≡ Refused rows → (files : List SourceFile) → AreReads reads files → AreTreesOrNone files names trees
+
+-- the notes of rows of a phase by these names and trees; by the texts, where no name is known
+abbrev pub AreNotesBy : List SourceFile → List (List ℕ) → List PlacedFile → List Row → List Notes → Type 0
+AreNotesBy files [] trees rows notes = AreStops files rows notes
+AreNotesBy files (name ∷ names) trees rows notes = notes ≡ map (row_notes (name ∷ names) trees) rows
+
 -- what is found where the rules have these rows: the program and its signature are accepted, or left
 abbrev pub found_of : List Row → Result (Program × List Qualifier) (Program × List Qualifier) → Found
 found_of rows (Ok accepted) = record { report = Checked rows; accepted = Some accepted; rejected = None }
@@ -59,11 +71,12 @@ found_of rows (Err left) = record { report = Checked rows; accepted = None; reje
 abbrev pub AreWhole : Report → List SourceRead → Type 0
 AreWhole report reads = (rows : List Row) → report ≡ Checked rows → (files : List SourceFile) → AreReads reads files → files_of_reads reads ≡ files
 
--- files that are refused by one row, which isn't of their syntax, and their report shown so
+-- files that are refused by one row, which isn't of their syntax, since they have no trees, and their report shown so
 pub record IsRefusalOf (show : List ShownRow → Option Verdict → List ℕ) (infer : Infer) (files : List SourceFile) (status : Status) (bytes : List ℕ) : Type 0 where
   pub row : Row
   pub other : is_syntax row.code ≡ false
   pub is : IsReport infer files (Refused (row ∷ []))
+  pub unparsed : NoneParsed files
   pub ends : status ≡ RefusedStatus
   pub shows : bytes ≡ shown show files (Refused (row ∷ []))
 

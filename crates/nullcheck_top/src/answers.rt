@@ -2,7 +2,9 @@
 ghost use Rattle.std.specs.Prelude.{◌≡◌, ◌≢◌, ◌<◌, ◌≤◌, ◌∷◌, [], List, IfOk, MatchOption, map, None, Some, length, true};
 ghost use Rattle.std.specs.String.{string_bytes};
 ghost use Rattle.jn_outside.specs.Causes.{Rose};
-ghost use Rattle.jn_command.specs.declared.report.Report.TheVariants.{Checked};
+ghost use Rattle.jn_base.specs.declared.place.Row.{Row as SpecRow};
+ghost use Rattle.jn_places.specs.PlacedView.{placed_file};
+ghost use Rattle.jn_command.specs.declared.report.Report.TheVariants.{Checked, Refused};
 ghost use Rattle.nullcheck_top.specs.Asked.{asked_with};
 ghost use Rattle.jn_command.specs.Answer.{reading};
 ghost use Rattle.nullcheck_top.specs.CommandAnswer.{HoldsFiles, ReadsNothing, Starts};
@@ -13,7 +15,7 @@ ghost use Rattle.jn_front.specs.Counted.{ReadsFit};
 ghost use Rattle.jn_front.specs.declared.source.SourceFile.{SourceFile as FileOf};
 ghost use Rattle.jn_front.specs.Files.{AllHeld, AreReads, IsReadOf, StartsOnly, most_files};
 ghost use Rattle.nullcheck_top.specs.Answers.{Answers, AnswersFiles};
-ghost use Rattle.nullcheck_top.specs.Found.{AreWhole, IsFinding};
+ghost use Rattle.nullcheck_top.specs.Found.{AreAtHand, AreWhole, IsFinding};
 ghost use Rattle.jn_safe_files.specs.Safe.{IsSafe};
 
 use crate::check::check;
@@ -22,7 +24,7 @@ use crate::outputs::{MOST_FILES, number_output, report_output};
 use jn_accept::Accepted;
 use jn_base::{Fail, OutOfMemory, Text};
 use jn_cli::Command;
-use jn_command::Status;
+use jn_command::{Report, Status};
 use jn_command::made::{made_line, made_read};
 use jn_command::output::write;
 use jn_front::{SourceRead, read_all};
@@ -54,6 +56,16 @@ fn to_run<'a>(run: bool, found: &'a Found) -> Option<&'a Accepted>
     if run { found.accepted.as_ref() } else { None }
 }
 
+/// Are the trees needed no more? So it is before a run: rows of files that a phase refuses may have notes by the trees.
+fn drops_trees(run: bool, report: &Report) -> bool
+    ensures { result ≡ true → (rows : List SpecRow) → report.now ≡ Refused rows → ⊥ }
+{
+    match report {
+        Report::Refused(_) => false,
+        Report::Checked(_) => run,
+    }
+}
+
 /// Writes what files that were read came to: after these bytes their report, or the run of accepted files where one is asked for.
 fn answer_checked<P: Reporter, K: Sink>(
     alloc: Global,
@@ -71,6 +83,8 @@ fn answer_checked<P: Reporter, K: Sink>(
         → IsFinding command.now.infer files checked.now.names checked.now.found }
     requires read { (files : List FileOf) × AreReads reads.now files }
     requires whole { AreWhole checked.now.found.report reads.now }
+    requires trees { AreAtHand reads.now checked.now.found.report checked.now.names
+        (map placed_file checked.now.trees.items) }
     requires safe { checked.now.found.report ≡ Checked [] → (files : List FileOf)
         → AreReads reads.now files → IsSafe command.now.infer files }
     ensures answer { (files : List FileOf) → AreReads reads.now files
@@ -94,6 +108,7 @@ fn answer_checked<P: Reporter, K: Sink>(
                 alloc,
                 reads,
                 &checked.names,
+                &checked.trees,
                 &checked.found,
                 front,
                 reporter,
@@ -131,7 +146,8 @@ fn answer_reads<R: Threads + Sync, G: Gate + Sync, P: Reporter, K: Sink>(
 {
     match check(rt, gate, alloc, command.workers, command.infer, reads) {
         Ok(mut checked) => {
-            if command.run {
+            let drops = drops_trees(command.run, &checked.found.report);
+            if drops {
                 checked.trees.clear();
             }
             let status = answer_checked(alloc, command, reporter, reads, front, &checked, out);

@@ -10,7 +10,7 @@ ghost use Rattle.jn_front.specs.Limits.{row_at};
 ghost use Rattle.jn_command.specs.declared.report.Report.TheVariants.{Refused, Checked};
 ghost use Rattle.jn_command.specs.Reports.{rows_of};
 ghost use Rattle.jn_command.specs.Stands.{StandIn};
-ghost use Rattle.nullcheck_top.specs.Found.{AreWhole, IsFinding, found_of};
+ghost use Rattle.nullcheck_top.specs.Found.{AreAtHand, AreWhole, IsFinding, found_of};
 ghost use Rattle.jn_phases.specs.Phases.{IsTypedOr, TypedProgramOf};
 ghost use Rattle.jn_report.specs.Report.{IsReport};
 ghost use Rattle.jn_safe_files.specs.Safe.{IsSafe};
@@ -142,6 +142,9 @@ pub fn check<R: Threads + Sync, G: Gate + Sync>(
     ensures safe { IfOk result (λ checked. checked.found.report ≡ Checked []
         → (files : List SpecFile) → AreReads reads.now files → IsSafe infer files) }
     ensures stand { IfOk result (λ checked. StandIn reads.now (rows_of checked.found.report)) }
+    ensures trees { IfOk result
+        (λ checked. AreAtHand reads.now checked.found.report checked.names
+        (map placed_file checked.trees.items)) }
 {
     accepted_files_are_safe();
     let TypedFiles {

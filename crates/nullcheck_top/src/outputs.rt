@@ -13,8 +13,9 @@ ghost use Rattle.jn_front.specs.Counted.{ReadsFit};
 ghost use Rattle.jn_front.specs.Files.{AreReads, files_of_reads, most_files, names_of};
 ghost use Rattle.jn_inference_law.specs.Solution.{IsLeastSignature};
 ghost use Rattle.jn_notes.specs.Noted.{AreNotesOf};
+ghost use Rattle.jn_places.specs.PlacedView.{placed_file};
 ghost use Rattle.nullcheck_top.specs.Report.{placed};
-ghost use Rattle.nullcheck_top.specs.Found.{AreWhole, IsFinding, IsGiven, IsRefusalOf, ShowsReport};
+ghost use Rattle.nullcheck_top.specs.Found.{AreAtHand, AreNotesBy, AreWhole, IsFinding, IsGiven, IsRefusalOf, ShowsReport};
 
 use crate::check::refuse_number;
 use crate::found::Found;
@@ -28,10 +29,10 @@ use jn_front::SourceRead;
 use jn_index::BaseTyped;
 use jn_inference_law::law::regular_programs_are_inferable;
 use jn_notes::{Notes, notes_of_rows};
-use jn_phase_notes::notes_of_texts;
+use jn_phase_notes::{notes_of_texts, notes_of_trees};
 use jn_reporters::Reporter;
 use jn_sigs::Sig;
-use jn_trees::Names;
+use jn_trees::{FileTree, Names};
 use std::alloc::{AllocError, Global};
 
 /// The greatest number of files.
@@ -50,6 +51,7 @@ fn show_found<P: Reporter>(
     alloc: Global,
     reads: &[SourceRead],
     names: &Names,
+    trees: &[FileTree],
     found: &Found,
     reporter: P,
 ) -> Result<P, OutOfMemory>
@@ -58,6 +60,7 @@ fn show_found<P: Reporter>(
     requires stand { StandIn reads.now (rows_of found.now.report) }
     requires found { (infer : Infer) × ((files : List FileOf) → AreReads reads.now files
         → IsFinding infer files names.now found.now) }
+    requires trees { AreAtHand reads.now found.now.report names.now (map placed_file trees.now) }
     requires whole { AreWhole found.now.report reads.now }
     ensures rows { IfOk result (λ shower. (infer : Infer) (files : List FileOf)
         → AreReads reads.now files → IsFinding infer files names.now found.now
@@ -70,9 +73,30 @@ fn show_found<P: Reporter>(
     match refused_for(reporter.shows_notes(), &found.report) {
         None => show_checked(alloc, reads, names, found, reporter),
         Some(rows) => {
-            let notes = notes_of_texts(alloc, reads, rows)?;
+            let notes = notes_of_phase(alloc, reads, names, trees, rows)?;
             show_with(alloc, reads, &found.report, &notes, reporter)
         }
+    }
+}
+
+/// The notes of rows of a phase: by the trees of the files, or by their texts where no name of them is known.
+#[tactic(auto, using(crate::proofs::Stopping::by_texts, crate::proofs::Stopping::by_trees))]
+fn notes_of_phase(
+    alloc: Global,
+    reads: &[SourceRead],
+    names: &Names,
+    trees: &[FileTree],
+    rows: &[Row],
+) -> Result<Vec<Notes>, OutOfMemory>
+    requires { ReadsFit reads.now }
+    ensures { IfOk result
+        (λ notes. AreNotesBy (files_of_reads reads.now) names.now (map placed_file trees.now) rows.now
+        notes.items) }
+{
+    if names.len() == 0 {
+        notes_of_texts(alloc, reads, rows)
+    } else {
+        notes_of_trees(alloc, names, trees, rows)
     }
 }
 
@@ -181,6 +205,7 @@ pub(crate) fn report_output<P: Reporter>(
     alloc: Global,
     reads: &[SourceRead],
     names: &Names,
+    trees: &[FileTree],
     found: &Found,
     front: &[u8],
     reporter: P,
@@ -190,6 +215,7 @@ pub(crate) fn report_output<P: Reporter>(
     requires stand { StandIn reads.now (rows_of found.now.report) }
     requires found { (infer : Infer) × ((files : List FileOf) → AreReads reads.now files
         → IsFinding infer files names.now found.now) }
+    requires trees { AreAtHand reads.now found.now.report names.now (map placed_file trees.now) }
     requires whole { AreWhole found.now.report reads.now }
     ensures status { IfOk result (λ o. o.status ≡ status_of found.now.report) }
     ensures bytes { IfOk result (λ o. (infer : Infer) (files : List FileOf)
@@ -197,7 +223,7 @@ pub(crate) fn report_output<P: Reporter>(
         → ShowsReport (P.form reporter).notes (shown_behind (P.form reporter).rows (P.form reporter).shown) infer
         files found.now.report front.now o.bytes) }
 {
-    let shower = show_found(alloc, reads, names, found, reporter)?;
+    let shower = show_found(alloc, reads, names, trees, found, reporter)?;
     Ok(Output {
         status: found.report.status(),
         bytes: joined(alloc, front, shower.bytes())?,

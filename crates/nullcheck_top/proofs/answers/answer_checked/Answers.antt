@@ -1,8 +1,10 @@
-use Rattle.std.proofs.Common.{[], subst}
+use Rattle.std.proofs.Common.{List, [], map, sym, subst}
 use Rattle.std.proofs.lemmas.Result.{IfOk-weaker}
 use Rattle.nullcheck_top.specs.Asked.{asked_with}
 use Rattle.jn_run.specs.Main.{Answers as RunAnswers}
-use Rattle.nullcheck_top.specs.Found.{IsAtHand}
+use Rattle.jn_trees.specs.declared.declaration.FileTree.{FileTree}
+use Rattle.jn_places.specs.PlacedView.{placed_file}
+use Rattle.nullcheck_top.specs.Found.{AreAtHand, IsAtHand}
 use Rattle.jn_report.specs.Report.{IsReport}
 use Rattle.jn_safe_files.specs.Safe.{IsSafe}
 use Rattle.nullcheck_top.specs.Report.{AreNotes, RunsTo, Prints}
@@ -36,3 +38,6 @@ returns-in-None-clause-write g c e =
 
 pub report_output-requires-clause-found : goal.report_output-requires-clause-found
 report_output-requires-clause-found g c = (c.args.command.now.infer, c.requires.found)
+
+pub report_output-requires-clause-trees : goal.report_output-requires-clause-trees
+report_output-requires-clause-trees g c = subst (λ (ts : List FileTree). AreAtHand c.args.reads.now c.args.checked.now.found.report c.args.checked.now.names (map placed_file ts)) (sym c.deref.ensures.value) c.requires.trees

@@ -9,6 +9,7 @@ use Rattle.jn_command.specs.Shown.{shown}
 use Rattle.jn_command.proofs.Showing.{number_text, name_there, length_is}
 use Rattle.std.proofs.lemmas.List.{length-map}
 use Rattle.jn_report.specs.Report.{IsReport}
+use Rattle.nullcheck_top.proofs.Stopping.{many_unparsed}
 use Rattle.nullcheck_top.proofs.outputs.number_output.Goals as goal
 
 pub returns : goal.returns
@@ -27,6 +28,7 @@ returns g c infer files named =
       row = row_at most_files B1;
       other = refl;
       is = subst (IsReport infer files) found.row (found.report infer files (omega (arith, c.requires.many, long, long_names, long_words)));
+      unparsed = many_unparsed files (omega (arith, c.requires.many, long, long_names, long_words));
       ends = c.status.ensures ∙ ap status_of found.row;
       shows = c.in_ok-joined.ensures ∙ (c.bytes.ensures ∙ (text ∙ ap (shown (shown_behind taken (g.P.Reporter.form c.args.reporter).shown) files) found.row));
     }

@@ -1,0 +1,3 @@
+interface OtherAsks { boolean ready(); }
+class OtherIdle { int ready() { return 1; } }
+class OtherMeets extends OtherIdle implements OtherAsks { }
