@@ -1,3 +1,5 @@
+pub mod Asking
 pub mod Numbers
 pub mod Ranges
+pub mod Simple
 pub mod Taken

@@ -5,7 +5,8 @@ use Rattle.std.specs.Option.{option_map_or}
 use Rattle.std.proofs.lemmas.Bool.Decides.{nat_tests}
 use Rattle.jn_cli.specs.declared.command.Command.{Command}
 use Rattle.jn_cli.specs.declared.options.Options.{Options}
-use Rattle.jn_cli.specs.Words.{are_refused, command_of, fits, has_bad_value, is_address, is_bad_mix, is_infer, is_report, is_within, number_of, number_or}
+use Rattle.jn_cli.specs.Tables.{is_chosen}
+use Rattle.jn_cli.specs.Words.{are_refused, command_of, fits, has_bad_value, is_address, is_bad_mix, is_report, is_within, number_of, number_or}
 
 no_flag : true ≡ false → ⊥
 no_flag e = cc
@@ -17,7 +18,7 @@ none_bad true true false d f g more e = absurd (no_flag e)
 none_bad true true true d f g more e = (refl, refl, refl)
 
 all_fit : (o : Options) → are_refused o ≡ false → (fits 1 16 o.workers ≡ true) × (fits 1 1000000000 o.steps ≡ true) × (fits 1 500 o.classes ≡ true)
-all_fit o e = none_bad (fits 1 16 o.workers) (fits 1 1000000000 o.steps) (fits 1 500 o.classes) (option_map_or is_report o.report true) (option_map_or is_infer o.infer true) (option_map_or is_address o.codes true) (is_bad_mix o) e
+all_fit o e = none_bad (fits 1 16 o.workers) (fits 1 1000000000 o.steps) (fits 1 500 o.classes) (option_map_or is_report o.report true) (is_chosen o.infer) (option_map_or is_address o.codes true) (is_bad_mix o) e
 
 module _ (least most default : ℕ) where
   within : (n : ℕ) → (nat_le least n && nat_le n most) ≡ true → (least ≤ n) × (n ≤ most)

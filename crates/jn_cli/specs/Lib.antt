@@ -1,2 +1,7 @@
+pub mod Annotate
+pub mod Cert
+pub mod Recheck
 pub mod Refused
+pub mod Server
+pub mod Tables
 pub mod Words

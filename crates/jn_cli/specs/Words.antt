@@ -3,52 +3,23 @@ use Rattle.std.specs.Prelude.{ℕ, ◌+◌, ◌-◌, ◌*◌, ◌==◌, ◌&&◌
 use Rattle.std.specs.List.{filter, list_all, slice_split}
 use Rattle.std.specs.Char.{is_ascii_digit}
 use Rattle.std.specs.Option.{option_map_or}
-use Rattle.std.specs.Str.{bytes_eq}
-use Rattle.clap.specs.Words.{App, Kinds, Row, Rule, fault_of, first_of, all_of, matches_of, new_app, new_rule, with_rule}
-use Rattle.clap.specs.Simple.{on_top}
-use Rattle.clap.specs.declared.builder.ArgAction.TheVariants.{Append, SetTrue}
-use Rattle.jn_base.specs.declared.infer.Infer.{Infer}
-use Rattle.jn_base.specs.declared.infer.Infer.TheVariants.{Private, Package}
+use Rattle.clap.specs.Words.{App, Row, first_of, matches_of}
+use Rattle.jn_cli.specs.Tables.{app_with, infer_of, is_chosen, is_on, names_in, table, takes}
 use Rattle.jn_cli.specs.declared.command.Command.{Command}
 use Rattle.jn_cli.specs.declared.options.Options.{Options}
 
 -- ---- the command as clap sees it
 
--- an option that is written by its long name, with one value
-abbrev pub single : List ℕ → Rule
-single name = record (new_rule name) { long = Some name }
-
--- the flag --run, which has no value
-abbrev pub run_flag : Rule
-run_flag = record (single (codes "run")) { action = Some SetTrue }
-
--- the names of files, each added to those before it
-abbrev pub file_rule : Rule
-file_rule = record (new_rule (codes "FILE")) { action = Some Append }
-
--- the words are those after the program's name, and there is no help flag
-abbrev pub bare_app : App
-bare_app = on_top (λ s. record s { no_binary_name = true; disable_help_flag = true }) (new_app (codes "nullcheck"))
-
 -- the command as a whole: eight options, and files
 unfoldable pub nullcheck_app : App
 nullcheck_app =
-    with_rule (with_rule (with_rule (with_rule (with_rule (with_rule (with_rule (with_rule (with_rule bare_app
-    (single (codes "workers"))) (single (codes "report"))) (single (codes "infer"))) run_flag)
-    (single (codes "steps"))) (single (codes "words"))) (single (codes "gen"))) (single (codes "codes"))) file_rule
-
--- nothing is wrong with the words
-abbrev pub no_fault : Kinds → Bool
-no_fault [] = true
-no_fault (kind ∷ kinds) = false
+    app_with (table (codes "nullcheck")
+    (codes "workers" ∷ codes "report" ∷ codes "infer" ∷ codes "steps" ∷ codes "words" ∷ codes "gen" ∷ codes "codes" ∷ [])
+    (codes "run" ∷ []))
 
 -- the command takes the words
 abbrev pub takes_words : List (List ℕ) → Bool
-takes_words words = no_fault (fault_of nullcheck_app words)
-
--- what clap has for a flag says that it was given
-abbrev pub is_on : Option (List ℕ) → Bool
-is_on text = option_map_or (λ t. bytes_eq t (codes "true")) text false
+takes_words words = takes nullcheck_app words
 
 -- the options and files by their names among what clap matched
 abbrev pub options_in : List Row → Options
@@ -61,7 +32,7 @@ options_in rows = record {
   words = first_of (codes "words") rows;
   classes = first_of (codes "gen") rows;
   codes = first_of (codes "codes") rows;
-  files = unwrap_or (all_of (codes "FILE") rows) [];
+  files = names_in rows;
 }
 
 -- the texts that stand after the options
@@ -109,15 +80,6 @@ is_report name = not (is_empty name)
 abbrev pub is_address : List ℕ → Bool
 is_address address = not (is_empty address)
 
--- a name of members that are inferred
-abbrev pub is_infer : List ℕ → Bool
-is_infer name = bytes_eq name (codes "private") || bytes_eq name (codes "package")
-
--- the members that are inferred; private ones where nothing is said
-abbrev pub infer_of : Option (List ℕ) → Infer
-infer_of None = Private
-infer_of (Some name) = if bytes_eq name (codes "package") then Package else Private
-
 -- a value is not one that its option takes
 abbrev pub has_bad_value : Options → Bool
 has_bad_value o =
@@ -125,7 +87,7 @@ has_bad_value o =
     || not (fits 1 1000000000 o.steps)
     || not (fits 1 500 o.classes)
     || not (option_map_or is_report o.report true)
-    || not (option_map_or is_infer o.infer true)
+    || not (is_chosen o.infer)
     || not (option_map_or is_address o.codes true)
 
 -- neither a FILE nor --gen; --gen with a FILE or with --run; --steps or --words without --run

@@ -4,6 +4,7 @@ ghost use Rattle.std.specs.List.{filter, slice_split};
 ghost use Rattle.jn_cli.specs.Refused.{IfRefused};
 ghost use Rattle.jn_cli.specs.Words as spec;
 
+use crate::infer::infer_of;
 use crate::number::number_or;
 use crate::options::{Options, are_refused};
 use crate::parse::read_options;
@@ -78,21 +79,6 @@ fn command_from(alloc: Global, options: Options) -> Result<Command, OutOfMemory>
         codes: options.codes,
         files: options.files,
     })
-}
-
-fn infer_of(name: &Option<Text>) -> Infer
-    ensures { result ≡ spec.infer_of name.now }
-{
-    match name {
-        None => Infer::Private,
-        Some(name) => {
-            if name.as_str() == "package" {
-                Infer::Package
-            } else {
-                Infer::Private
-            }
-        }
-    }
 }
 
 fn text_or(alloc: Global, text: &Option<Text>, default: &str) -> Result<Text, AllocError>

@@ -1,13 +1,25 @@
-//! The words of the command line.
+//! The words of the command lines of all programs.
 //!
-//! [`read_words`] takes them exactly as `clap` does, and gives a [`Command`] within its limits or [`Usage`].
+//! Each program has a table of options, and takes its words exactly as `clap` does by it: [`read_words`] gives a [`Command`] of
+//! `nullcheck` within its limits, [`read_wanted`] what `nullcheck_annotate` is to do, [`read_cert`] a command of `nullcheck_cert`,
+//! [`read_script_name`] the script of `nullcheck_recheck`, and [`read_setup`] what is asked of the language server; or [`Usage`].
 #![tactic(auto)]
 
+pub mod annotate;
+pub mod cert;
 pub mod command;
+mod infer;
 mod number;
 mod options;
 mod parse;
 mod reason;
+pub mod recheck;
+pub mod server;
+mod table;
 
+pub use annotate::{Mode, Wanted, read_wanted};
+pub use cert::{CertCommand, read_cert};
 pub use command::{Command, Usage, read_words};
-pub use reason::usage_reason;
+pub use reason::{annotate_reason, cert_reason, recheck_reason, server_reason, usage_reason};
+pub use recheck::read_script_name;
+pub use server::{Setup, read_setup};

@@ -2,6 +2,7 @@
 ghost use Rattle.std.specs.Prelude.{◌≡◌};
 ghost use Rattle.jn_cli.specs.Words as spec;
 
+use crate::infer::is_chosen;
 use crate::number::fits;
 use jn_base::{Seq, Text};
 
@@ -26,13 +27,6 @@ fn is_report(name: &str) -> bool
     name.len() != 0
 }
 
-/// Whether members that are inferred have the name.
-fn is_infer(name: &str) -> bool
-    ensures { result ≡ spec.is_infer name.now }
-{
-    name == "private" || name == "package"
-}
-
 /// Whether codes may be explained at the address.
 fn is_address(address: &str) -> bool
     ensures { result ≡ spec.is_address address.now }
@@ -47,10 +41,6 @@ fn has_bad_value(options: &Options) -> bool
         None => true,
         Some(name) => is_report(name.as_str()),
     };
-    let is_chosen = match &options.infer {
-        None => true,
-        Some(name) => is_infer(name.as_str()),
-    };
     let is_addressed = match &options.codes {
         None => true,
         Some(address) => is_address(address.as_str()),
@@ -59,7 +49,7 @@ fn has_bad_value(options: &Options) -> bool
         || !fits(&options.steps, 1, 1_000_000_000)
         || !fits(&options.classes, 1, 500)
         || !is_named
-        || !is_chosen
+        || !is_chosen(&options.infer)
         || !is_addressed
 }
 

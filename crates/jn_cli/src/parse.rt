@@ -1,15 +1,32 @@
 //! The words as clap takes them.
-ghost use Rattle.std.specs.Prelude.{◌≡◌, true, false, map, string_bytes, unwrap_or, [], IfOk};
-ghost use Rattle.clap.specs.Words.{all_of, app_of, first_of, found_of, matches_of, rows_of, rule_of};
+ghost use Rattle.std.specs.Prelude.{◌≡◌, true, false, map, string_bytes, IfOk};
+ghost use Rattle.clap.specs.Words.{found_of, rows_of};
 ghost use Rattle.jn_cli.specs.Refused.{IfRefused};
+ghost use Rattle.jn_cli.specs.Tables as tables;
 ghost use Rattle.jn_cli.specs.Words as spec;
 
 use crate::command::Usage;
 use crate::options::Options;
-use clap::error::ErrorKind;
-use clap::{Arg, ArgAction, ArgMatches, Command};
-use jn_base::{Fail, OutOfMemory, Seq, Text};
-use std::alloc::{AllocError, Global};
+use crate::table::{Table, is_on, names_in, take_words, text_of};
+use clap::ArgMatches;
+use jn_base::{Fail, OutOfMemory};
+use std::alloc::Global;
+
+static VALUES: [&str; 7] = [
+    "workers", "report", "infer", "steps", "words", "gen", "codes",
+];
+static FLAGS: [&str; 1] = ["run"];
+
+/// The options of `nullcheck`.
+pub fn nullcheck_table() -> Table<'static>
+    ensures { tables.app_with (tables.table_of result) ≡ spec.nullcheck_app }
+{
+    Table {
+        program: "nullcheck",
+        values: VALUES.as_slice(),
+        flags: FLAGS.as_slice(),
+    }
+}
 
 /// The texts that stand after the options.
 pub fn read_options(alloc: Global, words: &[String]) -> Result<Options, Fail<Usage>>
@@ -17,70 +34,13 @@ pub fn read_options(alloc: Global, words: &[String]) -> Result<Options, Fail<Usa
     ensures ok { IfOk result (λ o. o ≡ spec.options_of (map string_bytes words.now)) }
     ensures usage { IfRefused result (spec.takes_words (map string_bytes words.now) ≡ false) }
 {
-    match read_matches(alloc, words) {
+    match take_words(alloc, nullcheck_table(), words) {
         Err(fail) => Err(fail),
         Ok(matches) => match options_in(alloc, &matches) {
             Err(OutOfMemory) => Err(Fail::OutOfMemory),
             Ok(options) => Ok(options),
         },
     }
-}
-
-fn read_matches<'a>(alloc: Global, words: &'a [String]) -> Result<ArgMatches<'a>, Fail<Usage>>
-    ensures taken { IfOk result (λ m. spec.takes_words (map string_bytes words.entry.now) ≡ true) }
-    ensures ok { IfOk result (λ m.
-        rows_of (found_of m) ≡ matches_of spec.nullcheck_app (map string_bytes words.entry.now)) }
-    ensures usage { IfRefused result (spec.takes_words (map string_bytes words.entry.now) ≡ false) }
-{
-    let command = match command(alloc) {
-        Err(_) => return Err(Fail::OutOfMemory),
-        Ok(command) => command,
-    };
-    match command.try_get_matches_from(words) {
-        Ok(matches) => Ok(matches),
-        Err(error) => match error.kind() {
-            ErrorKind::OutOfMemory => Err(Fail::OutOfMemory),
-            _ => Err(Fail::Refused(Usage)),
-        },
-    }
-}
-
-pub fn command<'a>(alloc: Global) -> Result<Command<'a>, AllocError>
-    ensures { IfOk result (λ c. app_of c ≡ spec.nullcheck_app) }
-{
-    let command = Command::new(alloc, "nullcheck")
-        .no_binary_name(true)
-        .disable_help_flag(true);
-    let command = command.arg(single(alloc, "workers"))?;
-    let command = command.arg(single(alloc, "report"))?;
-    let command = command.arg(single(alloc, "infer"))?;
-    let command = command.arg(run_flag(alloc))?;
-    let command = command.arg(single(alloc, "steps"))?;
-    let command = command.arg(single(alloc, "words"))?;
-    let command = command.arg(single(alloc, "gen"))?;
-    let command = command.arg(single(alloc, "codes"))?;
-    command.arg(file(alloc))
-}
-
-fn single<'a>(alloc: Global, name: &'a str) -> Arg<'a>
-    ensures rule { rule_of result ≡ spec.single name.entry.now }
-    ensures local { result.global ≡ false }
-{
-    Arg::new(alloc, name).long(name)
-}
-
-fn run_flag<'a>(alloc: Global) -> Arg<'a>
-    ensures rule { rule_of result ≡ spec.run_flag }
-    ensures local { result.global ≡ false }
-{
-    single(alloc, "run").action(ArgAction::SetTrue)
-}
-
-fn file<'a>(alloc: Global) -> Arg<'a>
-    ensures rule { rule_of result ≡ spec.file_rule }
-    ensures local { result.global ≡ false }
-{
-    Arg::new(alloc, "FILE").action(ArgAction::Append)
 }
 
 pub fn options_in(alloc: Global, matches: &ArgMatches) -> Result<Options, OutOfMemory>
@@ -95,44 +55,6 @@ pub fn options_in(alloc: Global, matches: &ArgMatches) -> Result<Options, OutOfM
         words: text_of(alloc, matches, "words")?,
         classes: text_of(alloc, matches, "gen")?,
         codes: text_of(alloc, matches, "codes")?,
-        files: texts_of(alloc, matches, "FILE")?,
+        files: names_in(alloc, matches)?,
     })
-}
-
-fn text_of(alloc: Global, matches: &ArgMatches, id: &str) -> Result<Option<Text>, AllocError>
-    ensures { IfOk result (λ t. t ≡ first_of id.now (rows_of (found_of matches.now))) }
-{
-    match matches.get_str(id) {
-        None => Ok(None),
-        Some(text) => Ok(Some(Text::of_str(alloc, text)?)),
-    }
-}
-
-fn is_on(matches: &ArgMatches, id: &str) -> bool
-    ensures { result ≡ spec.is_on (first_of id.now (rows_of (found_of matches.now))) }
-{
-    match matches.get_str(id) {
-        None => false,
-        Some(text) => text == "true",
-    }
-}
-
-fn texts_of(alloc: Global, matches: &ArgMatches, id: &str) -> Result<Seq<Text>, AllocError>
-    ensures { IfOk result
-        (λ ts. ts ≡ unwrap_or (all_of id.now (rows_of (found_of matches.now))) []) }
-{
-    match matches.get_strs(id) {
-        None => Ok(Seq::new(alloc)),
-        Some(texts) => copies(alloc, texts),
-    }
-}
-
-fn copies(alloc: Global, texts: &[&str]) -> Result<Seq<Text>, AllocError>
-    ensures { IfOk result (λ ts. ts ≡ map (λ t. t.now) texts.now) }
-{
-    let mut copies = Seq::new(alloc);
-    for text in texts {
-        copies.push(Text::of_str(alloc, text)?)?;
-    }
-    Ok(copies)
 }

@@ -1,7 +1,7 @@
 //! Writes what is inferred of files into their texts: says on standard error what went wrong, and ends with the status's number.
 #![tactic(auto)]
 
-use jn_annotate_cli::usage_reason;
+use jn_cli::annotate_reason;
 use jn_host::Host;
 use jn_outside::{HostFiles, HostSink};
 use jn_sharing::Straight;
@@ -75,7 +75,7 @@ fn done<R: Threads + Sync>(
         Status::ReadFault => host.cannot_read(files.fault()),
         Status::WriteFault => say_written(host, out.fault(), &targets),
         Status::OutOfMemory => host.no_memory(),
-        Status::Usage => host.refused(usage_reason(alloc, words)),
+        Status::Usage => host.refused(annotate_reason(alloc, words)),
         _ => {}
     }
     status

@@ -5,8 +5,8 @@ use Rattle.jn_outside.specs.Sink.{Appends, AppendsPrefix}
 use Rattle.jn_outside.specs.Causes.{Rose}
 use Rattle.jn_base.specs.declared.infer.Infer.{Infer}
 use Rattle.jn_front.specs.declared.source.SourceFile.{SourceFile}
-use Rattle.jn_annotate_cli.specs.declared.wanted.Mode.{Mode}
-use Rattle.jn_annotate_cli.specs.declared.wanted.Mode.TheVariants.{Show, Check, Write}
+use Rattle.jn_cli.specs.declared.annotate.Mode.{Mode}
+use Rattle.jn_cli.specs.declared.annotate.Mode.TheVariants.{Show, Check, Write}
 use Rattle.jn_command.specs.declared.status.Status.{Status}
 use Rattle.jn_command.specs.declared.status.Status.TheVariants.{Ok, Rejected, Refused as RefusedStatus, RunFault, Stopped, ReadFault, WriteFault, OutOfMemory, Usage}
 use Rattle.nullcheck_annotate_top.specs.declared.changes.Change.{Change}

@@ -9,7 +9,7 @@ use Rattle.jn_front.specs.declared.source.SourceFile.{SourceFile}
 use Rattle.jn_front.specs.declared.source.SourceRead.{SourceRead}
 use Rattle.jn_front.specs.Files.{AreReads, ReadFrom, most_files}
 use Rattle.jn_command.specs.Answer.{reading}
-use Rattle.jn_annotate_cli.specs.declared.wanted.Wanted.{Wanted}
+use Rattle.jn_cli.specs.declared.annotate.Wanted.{Wanted}
 use Rattle.std.proofs.lemmas.List.{length-map}
 use Rattle.nullcheck_annotate_top.specs.declared.output.Output.{Output}
 use Rattle.nullcheck_annotate_top.specs.Answer.{IsOutputOf}

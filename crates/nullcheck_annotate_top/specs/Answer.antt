@@ -11,7 +11,7 @@ use Rattle.jn_command.specs.declared.status.Status.TheVariants.{Ok, Rejected, Re
 use Rattle.jn_command.specs.Answer.{AreFiles, Reading}
 use Rattle.jn_front.specs.declared.source.SourceFile.{SourceFile}
 use Rattle.jn_front.specs.Files.{AllHeld, StartsOnly}
-use Rattle.jn_annotate_cli.specs.declared.wanted.Wanted.{Wanted}
+use Rattle.jn_cli.specs.declared.annotate.Wanted.{Wanted}
 use Rattle.nullcheck_annotate_top.specs.declared.output.Output.{Output}
 use Rattle.nullcheck_annotate_top.specs.Output.{IsOutput, only}
 

@@ -6,8 +6,8 @@ use Rattle.jn_base.specs.declared.place.Span.{Span}
 use Rattle.jn_base.specs.Place.{place_in}
 use Rattle.jn_annotate.specs.declared.annotating.AnnotateFault.{AnnotateFault}
 use Rattle.jn_annotate.specs.declared.annotating.AnnotateFault.TheVariants.{NoSpelling, NameTaken, SharedType, TooLarge}
-use Rattle.jn_annotate_cli.specs.declared.wanted.Mode.{Mode}
-use Rattle.jn_annotate_cli.specs.declared.wanted.Mode.TheVariants.{Show, Check, Write}
+use Rattle.jn_cli.specs.declared.annotate.Mode.{Mode}
+use Rattle.jn_cli.specs.declared.annotate.Mode.TheVariants.{Show, Check, Write}
 use Rattle.jn_command.specs.declared.report.Report.TheVariants.{Refused as RefusedReport}
 use Rattle.jn_command.specs.declared.status.Status.{Status}
 use Rattle.jn_command.specs.declared.status.Status.TheVariants.{Ok, Rejected, Refused as RefusedStatus}

@@ -12,7 +12,7 @@ ghost use Rattle.nullcheck_annotate_top.specs.Output.{IsOutput};
 use crate::finish::finish;
 use crate::output::{Output, output_of};
 use crate::study::study_files;
-use jn_annotate_cli::{Mode, Wanted};
+use jn_cli::{Mode, Wanted};
 use jn_base::{Fail, Infer, OutOfMemory, Text};
 use jn_command::Status;
 use jn_front::{SourceRead, read_all};

@@ -15,7 +15,7 @@ use crate::changes::{Change, changes, diffs, replacements};
 use crate::faults::fault_text;
 use crate::study::Study;
 use jn_annotate::AnnotateFault;
-use jn_annotate_cli::Mode;
+use jn_cli::Mode;
 use jn_base::{OutOfMemory, Row, Seq, Span};
 use jn_command::show::show;
 use jn_command::{Report, Status};

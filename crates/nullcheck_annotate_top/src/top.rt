@@ -3,14 +3,14 @@ ghost use Rattle.std.specs.Prelude.{None, ◌≡◌, ◌≢◌, ◌<◌, ◌⊎�
 ghost use Rattle.std.specs.String.{string_bytes};
 ghost use Rattle.jn_outside.specs.Causes.{Rose};
 ghost use Rattle.jn_command.specs.Answer.{reading};
-ghost use Rattle.jn_annotate_cli.specs.Words.{wanted_of};
+ghost use Rattle.jn_cli.specs.Annotate.{wanted_of};
 ghost use Rattle.nullcheck_annotate_top.specs.Answer.{Answers, effects, HoldsAll, Starts, usage_line};
 ghost use Rattle.nullcheck_annotate_top.specs.Output.{only as only_of};
 
 use crate::answer::answer_wanted;
 use crate::finish::finish;
 use crate::output::{Output, only};
-use jn_annotate_cli::read_wanted;
+use jn_cli::read_wanted;
 use jn_base::{Fail, OutOfMemory};
 use jn_command::Status;
 use jn_outside::{Files, Sink};

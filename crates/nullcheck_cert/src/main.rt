@@ -4,12 +4,15 @@
 mod input;
 
 use input::InputFiles;
+use jn_base::Fail;
+use jn_cli::{cert_reason, read_cert};
 use jn_host::Host;
 use jn_outside::{HostFiles, HostSink};
 use jn_sharing::Straight;
 use jn_targets::{HostTargets, TargetFault};
 use nullcheck_cert_check::{Status, check};
-use nullcheck_cert_write::{write_cert, write_reason};
+use nullcheck_cert_write::write_cert;
+use std::alloc::Global;
 use std::io;
 use std::process::ExitCode;
 use std::thread::Threads;
@@ -49,19 +52,11 @@ fn say_read(host: &Host<HostRuntime>, files: &InputFiles<HostRuntime>) {
 }
 
 /// Says what went wrong, where the status is none of a verdict and of no fault.
-fn say_other(host: &Host<HostRuntime>, status: Status, words: &[String]) {
+fn say_other(host: &Host<HostRuntime>, alloc: Global, status: Status, words: &[String]) {
     match status {
         Status::OutOfMemory => host.no_memory(),
-        Status::Usage => host.say(write_reason(words)),
+        Status::Usage => host.refused(cert_reason(alloc, words)),
         _ => {}
-    }
-}
-
-/// Whether the words ask for a certificate to be written.
-fn is_write(words: &[String]) -> bool {
-    match words {
-        [word, ..] => word.as_str() == "write",
-        [] => false,
     }
 }
 
@@ -88,7 +83,7 @@ fn done_write<R: Threads + Sync>(
     match status {
         Status::ReadFault => host.cannot_read(files.fault()),
         Status::WriteFault => say_write(host, out.fault(), &target),
-        _ => say_other(host, status, words),
+        _ => say_other(host, alloc, status, words),
     }
     status
 }
@@ -107,7 +102,7 @@ fn done_check<R: Threads + Sync>(
     match status {
         Status::ReadFault => say_read(host, &files),
         Status::WriteFault => host.cannot_write(out.fault()),
-        _ => say_other(host, status, words),
+        _ => say_other(host, alloc, status, words),
     }
     status
 }
@@ -119,10 +114,13 @@ fn done<R: Threads + Sync>(
     host: &Host<HostRuntime>,
     words: &[String],
 ) -> Status {
-    if is_write(words) {
-        done_write(rt, threads, host, words)
-    } else {
-        done_check(rt, threads, host, words)
+    match read_cert(rt.alloc(), "write", words) {
+        Ok(_command) => done_write(rt, threads, host, words),
+        Err(Fail::Refused(_)) => done_check(rt, threads, host, words),
+        Err(Fail::OutOfMemory) => {
+            host.no_memory();
+            Status::OutOfMemory
+        }
     }
 }
 

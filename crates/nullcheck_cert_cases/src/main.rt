@@ -125,12 +125,9 @@ fn run_check<R: Threads + Sync>(
     println!(rt; "{wrote}-- {status}")
 }
 
-/// Whether the words ask for a certificate to be written.
-fn is_write(words: &[String]) -> bool {
-    match words {
-        [word, ..] => word.as_str() == "write",
-        [] => false,
-    }
+/// Whether a certificate is to be written: `write` stands among the words.
+fn has_write(words: &[String]) -> bool {
+    words.iter().any(|word| word.as_str() == "write")
 }
 
 /// Runs the case of a line with these threads, and prints both.
@@ -143,7 +140,7 @@ fn run<R: Threads + Sync>(rt: &HostRuntime, threads: &R, line: &str) -> io::Resu
     let failing = Vec::from_slice(alloc, &case.reads)?;
     let mut files = MemFiles::new(alloc, held, failing);
     let mut sink = sink_of(rt, &case)?;
-    if is_write(&case.words) {
+    if has_write(&case.words) {
         run_write(rt, threads, &case, there, &mut files, &mut sink)
     } else {
         run_check(rt, threads, &case, &mut files, &mut sink)

@@ -24,7 +24,7 @@ use Rattle.nullcheck_cert_check.specs.Inputs.{AreInputs, InputsFrom}
 use Rattle.nullcheck_cert_check.specs.Lines.{status_of, verdict_text}
 use Rattle.nullcheck_cert_check.specs.Told.{IsRefusalOf}
 use Rattle.nullcheck_cert_check.specs.Verdicts.{HasNoCertificate, IsCertifiedBy, IsVerdict}
-use Rattle.nullcheck_cert_check.specs.Words.{Command, command, usage_line}
+use Rattle.jn_cli.specs.Cert.{Command, command, usage_line}
 
 -- ---- statuses that differ, each over nothing else
 

@@ -5,3 +5,4 @@ pub mod Certified
 pub mod Accepted
 pub mod OneVerdict
 pub mod Answering
+pub mod Lent

@@ -11,7 +11,7 @@ use Rattle.jn_command.specs.declared.status.Status.{Status}
 use Rattle.jn_command.specs.declared.status.Status.TheVariants.{OutOfMemory, Usage}
 use Rattle.jn_command.specs.Answer.{AnswersBy, Reading}
 use Rattle.nullcheck_cert_check.specs.declared.verdict.CertVerdict.{CertVerdict}
-use Rattle.nullcheck_cert_check.specs.Words.{Command, usage_line}
+use Rattle.jn_cli.specs.Cert.{Command, usage_line}
 use Rattle.nullcheck_cert_check.specs.Inputs.{AreInputs}
 use Rattle.nullcheck_cert_check.specs.Lines.{status_of, verdict_text}
 use Rattle.nullcheck_cert_check.specs.Verdicts.{HasNoCertificate, IsCertifiedBy, IsVerdict}

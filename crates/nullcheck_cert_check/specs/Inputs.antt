@@ -8,7 +8,7 @@ use Rattle.jn_front.specs.declared.source.SourceFile.{SourceFile}
 use Rattle.jn_front.specs.declared.source.SourceRead.{SourceRead}
 use Rattle.jn_front.specs.Files.{names_of, most_files, given_of, AreHeld, AreReads}
 use Rattle.nullcheck_cert_check.specs.declared.certificate.CertRead.{CertRead}
-use Rattle.nullcheck_cert_check.specs.Words.{Command}
+use Rattle.jn_cli.specs.Cert.{Command}
 
 -- bytes of a certificate that is read whole
 abbrev pub cert_limit : ℕ

@@ -1,4 +1,3 @@
-pub mod Words
 pub mod Inputs
 pub mod Verdicts
 pub mod Lines

@@ -6,15 +6,12 @@
 
 pub mod certificate;
 mod certifying;
-pub mod command;
 mod inputs;
 pub mod law;
 mod lines;
 mod outputs;
-mod reason;
 pub mod top;
 pub mod verdict;
 
 pub use jn_command::Status;
-pub use reason::usage_reason;
 pub use top::check;

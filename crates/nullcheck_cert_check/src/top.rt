@@ -7,14 +7,14 @@ ghost use Rattle.jn_front.specs.declared.source.SourceFile.{SourceFile as FileOf
 ghost use Rattle.jn_front.specs.Counted.{ReadsFit};
 ghost use Rattle.jn_front.specs.Files.{AllHeld, AreReads, StartsOnly, most_files};
 ghost use Rattle.nullcheck_cert_check.specs.Inputs.{IsCertRead};
-ghost use Rattle.nullcheck_cert_check.specs.Words.{asked_of, command};
+ghost use Rattle.jn_cli.specs.Cert.{asked_of, command};
 ghost use Rattle.nullcheck_cert_check.specs.Answer.{Answers, AnswersInputs, Certified, Completes, HoldsInputs, ReadsNothing, Starts, Uncertified};
 
 use crate::certifying::find;
-use crate::command::read_command;
 use crate::inputs::{Inputs, read_inputs};
 use crate::outputs::{MOST_FILES, number_output, verdict_output};
 use jn_base::{Fail, Infer};
+use jn_cli::read_cert;
 use jn_command::Status;
 use jn_command::output::{finish, write};
 use jn_outside::{Files, Sink};
@@ -95,7 +95,7 @@ fn answer_command<R: Threads + Sync, F: Files, K: Sink>(
     answer_inputs(rt, alloc, infer, cert, &inputs, out)
 }
 
-/// Does what the words ask for: `check [--infer NAME] CERT FILE..`. Reads the certificate CERT and then the files, makes the files'
+/// Does what the words ask for: `check [--infer NAME] CERT FILE..`, where the option may stand anywhere. Reads the certificate CERT and then the files, makes the files'
 /// program with the choice of members that are inferred, and says whether the bytes are a certificate of it: at most 67,108,864
 /// bytes that are the form of a signature and of tables that hold. It solves for nothing and searches for nothing: it looks at each
 /// point of the program once. One worker does all of it, so that no thread is started, whatever `rt` could give.
@@ -150,14 +150,15 @@ pub fn check<R: Threads + Sync, F: Files, K: Sink>(
     ensures write { result ≡ Status.WriteFault → Rose (K.faults out.old) (K.faults out.new) }
     ensures write_always { K.faults out.old < K.faults out.new → result ≡ Status.WriteFault }
 {
-    match read_command("check", words) {
-        None => finish(out, USAGE.as_bytes(), Status::Usage),
-        Some(command) => answer_command(
+    match read_cert(alloc, "check", words) {
+        Err(Fail::Refused(_)) => finish(out, USAGE.as_bytes(), Status::Usage),
+        Err(Fail::OutOfMemory) => Status::OutOfMemory,
+        Ok(command) => answer_command(
             rt,
             alloc,
             command.infer,
-            command.cert,
-            command.files,
+            command.cert.as_str(),
+            &command.files,
             files,
             out,
         ),

@@ -1,3 +1,4 @@
+pub mod Asking
 pub mod Solving
 pub mod Finding
 pub mod Telling

@@ -21,7 +21,7 @@ use Rattle.jn_command.specs.Shown.{shown}
 use Rattle.nullcheck_cert_write.specs.declared.made.CertMade.{CertMade}
 use Rattle.nullcheck_cert_write.specs.declared.made.CertMade.TheVariants.{Refused, Rejected, TooLarge, Made}
 use Rattle.nullcheck_cert_check.specs.Told.{IsRefusalOf}
-use Rattle.nullcheck_cert_check.specs.Words.{Command, command, usage_line}
+use Rattle.jn_cli.specs.Cert.{Command, command, usage_line}
 use Rattle.nullcheck_cert_write.specs.Answer.{Answers, AnswersFiles, IsTold, Outcome, Tells}
 use Rattle.nullcheck_cert_write.specs.Verdicts.{IsVerdict}
 
@@ -117,4 +117,9 @@ many_rose infer names old new kb kn result (Err x) many f e = absurd (write_memo
 
 pub usage : (read : Reading) (asked : Option Command) (o : Outcome) (bytes : List ℕ) (kb kn : ℕ) (result : Status) → asked ≡ None → bytes ≡ usage_line → o.now ≡ o.before → Finished o.old o.new bytes Usage kb kn result → Answers read asked o result
 usage read asked o bytes kb kn result e b s (inl p) = subst (λ x. Answers read x o result) (sym e) (inl (p.0, subst (Appends o.old o.new) b p.1, s))
-usage read asked o bytes kb kn result e b s (inr p) = subst (λ x. Answers read x o result) (sym e) (inr (p.0, subst (AppendsPrefix o.old o.new) b p.1, s))
+usage read asked o bytes kb kn result e b s (inr p) = subst (λ x. Answers read x o result) (sym e) (inr (inl (p.0, subst (AppendsPrefix o.old o.new) b p.1, s)))
+
+-- no memory was found to read the words
+pub unread : (read : Reading) (asked : Option Command) (o : Outcome) → o.new ≡ o.old → o.now ≡ o.before → Answers read asked o OutOfMemory
+unread read None o n s = inr (inr (refl, n, s))
+unread read (Some c) o n s = inr (inr refl, n, s)

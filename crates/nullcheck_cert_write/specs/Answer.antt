@@ -18,7 +18,7 @@ use Rattle.jn_command.specs.Answer.{AreFiles, Reading}
 use Rattle.jn_command.specs.Shown.{shown}
 use Rattle.nullcheck_cert_write.specs.declared.made.CertMade.{CertMade}
 use Rattle.nullcheck_cert_write.specs.declared.made.CertMade.TheVariants.{Refused, Rejected, TooLarge, Made}
-use Rattle.nullcheck_cert_check.specs.Words.{Command, usage_line}
+use Rattle.jn_cli.specs.Cert.{Command, usage_line}
 use Rattle.nullcheck_cert_write.specs.Verdicts.{IsVerdict}
 
 -- the certificate goes to the output
@@ -85,9 +85,9 @@ AnswersFiles infer name files o WriteFault = TellsPrefix infer name files o ⊎ 
 AnswersFiles infer name files o OutOfMemory = IsUntouched o
 AnswersFiles infer name files o Usage = ⊥
 
--- the words are no command's: the usage line went out, or a prefix of it
+-- the words are no command's: the usage line went out, or a prefix of it, or no memory was found to read them
 abbrev pub AnswersUsage : Outcome → Status → Type 0
-AnswersUsage o status = ((status ≡ Usage) × Appends o.old o.new usage_line × (o.now ≡ o.before)) ⊎ ((status ≡ WriteFault) × AppendsPrefix o.old o.new usage_line × (o.now ≡ o.before))
+AnswersUsage o status = ((status ≡ Usage) × Appends o.old o.new usage_line × (o.now ≡ o.before)) ⊎ ((status ≡ WriteFault) × AppendsPrefix o.old o.new usage_line × (o.now ≡ o.before)) ⊎ ((status ≡ OutOfMemory) × IsUntouched o)
 
 -- the files of these names, with the bytes that the source tells, and that its reads gave, and what the status means
 pub record AnswersRead (read : Reading) (c : Command) (o : Outcome) (status : Status) : Type 0 where

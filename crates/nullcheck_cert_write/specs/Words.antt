@@ -2,7 +2,7 @@
 use Rattle.std.specs.Prelude.{ℕ, Bool, ◌||◌, List, codes, nat_eq, Option, Some, None, if◌then◌else◌}
 use Rattle.std.specs.List.{ends_with}
 use Rattle.jn_targets.specs.Replacing.{is_one}
-use Rattle.nullcheck_cert_check.specs.Words.{Command, asked_of}
+use Rattle.jn_cli.specs.Cert.{Command, asked_of}
 
 -- the name is that of a Java file
 abbrev pub is_java : List ℕ → Bool

@@ -1,11 +1,13 @@
 //! What the words of `write` ask for.
-ghost use Rattle.std.specs.Prelude.{◌≡◌, None, Some, map, string_bytes, MatchOption};
+ghost use Rattle.std.specs.Prelude.{◌≡◌, None, Some, map, string_bytes, IfOk};
+ghost use Rattle.jn_cli.specs.Cert.{command};
+ghost use Rattle.jn_cli.specs.Refused.{IfRefused};
 ghost use Rattle.jn_targets.specs.Replacing.{is_one};
-ghost use Rattle.nullcheck_cert_check.specs.Words.{command};
 ghost use Rattle.nullcheck_cert_write.specs.Words as spec;
 
-use nullcheck_cert_check::command::{CertCommand, read_command};
-use nullcheck_cert_check::usage_reason;
+use jn_base::Fail;
+use jn_cli::{CertCommand, Usage, read_cert};
+use std::alloc::Global;
 
 /// Whether the name is that of a Java file.
 fn is_java(name: &str) -> bool
@@ -34,27 +36,24 @@ fn takes_source(cert: &str, files: &[String]) -> bool
 }
 
 /// What the words after the program's name ask for: the command `write`, where its certificate takes no source's place.
-pub fn read_write<'a>(words: &'a [String]) -> Option<CertCommand<'a>>
-    ensures { MatchOption result (spec.write_asked (map string_bytes words.entry.now) ≡ None)
-        (λ c. spec.write_asked (map string_bytes words.entry.now)
-        ≡ Some (command c.infer c.cert.now (map string_bytes c.files.now))) }
+///
+/// # Errors
+///
+/// `Usage` where they don't ask for it; or no memory was found.
+#[tactic(auto, using(crate::proofs::Asking::asks, crate::proofs::Asking::asks_none, crate::proofs::Asking::takes_place))]
+pub fn read_write(alloc: Global, words: &[String]) -> Result<CertCommand, Fail<Usage>>
+    ensures asked { IfOk result (λ c. spec.write_asked (map string_bytes words.now)
+        ≡ Some (command c.infer (string_bytes c.cert) (map string_bytes c.files.items))) }
+    ensures usage { IfRefused result (spec.write_asked (map string_bytes words.now) ≡ None) }
 {
-    match read_command("write", words) {
-        None => None,
-        Some(command) => {
-            if takes_source(command.cert, command.files) {
-                None
+    match read_cert(alloc, "write", words) {
+        Err(fail) => Err(fail),
+        Ok(command) => {
+            if takes_source(command.cert.as_str(), &command.files) {
+                Err(Fail::Refused(Usage))
             } else {
-                Some(command)
+                Ok(command)
             }
         }
-    }
-}
-
-/// Why words that don't ask for `write` don't, in one line without its end.
-pub fn write_reason(words: &[String]) -> &'static str {
-    match read_command("write", words) {
-        None => usage_reason(words),
-        Some(_) => "the certificate has the name of a source",
     }
 }

@@ -11,5 +11,4 @@ mod outputs;
 mod tables;
 pub mod top;
 
-pub use command::write_reason;
 pub use top::write_cert;

@@ -8,7 +8,7 @@ ghost use Rattle.jn_front.specs.Counted.{ReadsFit};
 ghost use Rattle.jn_front.specs.Files.{AllHeld, AreReads, StartsOnly, most_files};
 ghost use Rattle.jn_cert_form.specs.Form.{magic};
 ghost use Rattle.jn_targets.specs.Replacing.{takes_other};
-ghost use Rattle.nullcheck_cert_check.specs.Words.{command};
+ghost use Rattle.jn_cli.specs.Cert.{command};
 ghost use Rattle.nullcheck_cert_write.specs.Words.{write_asked};
 ghost use Rattle.nullcheck_cert_write.specs.Answer.{Answers, AnswersFiles, HoldsFiles, Starts, TakesOther, outcome};
 
@@ -103,7 +103,7 @@ fn answer_command<R: Threads + Sync, G: Gate + Sync, F: Files, K: Sink, T: Targe
     answer_reads(rt, gate, alloc, infer, cert, &reads, out, target)
 }
 
-/// Does what the words ask for: `write [--infer NAME] CERT FILE..`. Checks the files, and where they are accepted stores the certificate
+/// Does what the words ask for: `write [--infer NAME] CERT FILE..`, where the option may stand anywhere. Checks the files, and where they are accepted stores the certificate
 /// of their program under the name CERT, or writes it to the output where that is `-`; else writes their report, by the plain reporter.
 /// The certificate holds, so that `check` takes it. No source loses its place to one: CERT is none of the files, doesn't end in `.java`,
 /// and where a file of its name is there, that one begins as a certificate.
@@ -142,15 +142,16 @@ pub fn write_cert<R: Threads + Sync, G: Gate + Sync, F: Files, K: Sink, T: Targe
     ensures other { TakesOther (T.there target.old) (write_asked (map string_bytes words.now))
         → T.replaced target.new ≡ T.replaced target.old }
 {
-    match read_write(words) {
-        None => finish(out, USAGE.as_bytes(), Status::Usage),
-        Some(command) => answer_command(
+    match read_write(alloc, words) {
+        Err(Fail::Refused(_)) => finish(out, USAGE.as_bytes(), Status::Usage),
+        Err(Fail::OutOfMemory) => Status::OutOfMemory,
+        Ok(command) => answer_command(
             rt,
             gate,
             alloc,
             command.infer,
-            command.cert,
-            command.files,
+            command.cert.as_str(),
+            &command.files,
             files,
             out,
             target,

@@ -1,7 +1,7 @@
 use Rattle.std.proofs.Common.{map}
 use Rattle.std.specs.Prelude.{string_bytes}
 use Rattle.jn_command.specs.Answer.{reading}
-use Rattle.nullcheck_cert_check.specs.Words.{command}
+use Rattle.jn_cli.specs.Cert.{command}
 use Rattle.nullcheck_cert_check.proofs.Answering.{are_inputs, many_answers, many_unread, many_written, no_fault, of_inputs}
 use Rattle.jn_phases.proofs.Fitting.{few_reads, many_names, reads_fit}
 use Rattle.nullcheck_cert_check.proofs.top.answer_command.Goals as goal

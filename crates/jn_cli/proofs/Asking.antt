@@ -1,0 +1,45 @@
+-- What words ask for, by what is known of them.
+use Rattle.std.proofs.Common.{◌≡◌, ◌∙◌, ℕ, ◌≤◌, Bool, true, false, ◌||◌, List, length, Some, None, refl, sym, ap, arith}
+use Rattle.std.specs.Prelude.{◌&&◌, ◌==◌, not}
+use Rattle.std.proofs.lemmas.Bool.{ltb-false}
+use Rattle.jn_cli.specs.declared.annotate.Options.{Options}
+use Rattle.jn_cli.specs.declared.annotate.Wanted.{Wanted}
+use Rattle.jn_cli.specs.Tables.{is_chosen}
+use Rattle.jn_cli.specs.Annotate.{are_many, are_refused, options_of, takes_words, wanted_if, wanted_in, wanted_of}
+
+module _ (words : List (List ℕ)) where
+  -- a command that isn't refused
+  pub asks : (o : Options) (w : Wanted) → takes_words words ≡ true → o ≡ options_of words → are_refused o ≡ false → w ≡ wanted_in o → wanted_of words ≡ Some w
+  unfolding wanted_of
+  asks o w taken is kept made =
+      ap (λ b. wanted_if b (are_refused (options_of words)) (options_of words)) taken
+      ∙ ap (λ p. wanted_if true (are_refused p) p) (sym is)
+      ∙ ap (λ b. wanted_if true b o) kept ∙ ap Some (sym made)
+
+  -- one that is refused
+  pub asks_none : (o : Options) → takes_words words ≡ true → o ≡ options_of words → are_refused o ≡ true → wanted_of words ≡ None
+  unfolding wanted_of
+  asks_none o taken is refused =
+      ap (λ b. wanted_if b (are_refused (options_of words)) (options_of words)) taken
+      ∙ ap (λ p. wanted_if true (are_refused p) p) (sym is)
+      ∙ ap (λ b. wanted_if true b o) refused
+
+  -- words that aren't a command's
+  pub asks_nothing : takes_words words ≡ false → wanted_of words ≡ None
+  unfolding wanted_of
+  asks_nothing untaken = ap (λ b. wanted_if b (are_refused (options_of words)) (options_of words)) untaken
+
+last_false : (a b c d : Bool) → (a || b || c || d) ≡ false → d ≡ false
+last_false a b c false e = refl
+last_false true b c true e = e
+last_false false true c true e = e
+last_false false false true true e = e
+last_false false false false true e = e
+
+-- the files of a command that isn't refused are few
+pub few_files : (o : Options) (w : Wanted) → are_refused o ≡ false → w ≡ wanted_in o → length w.files ≤ 64
+unfolding wanted_in
+few_files o w kept made =
+    let few = ltb-false 64 (length o.files) (last_false (not (is_chosen o.infer)) (o.check && o.write) (length o.files == 0) (are_many o.files) kept) in
+    let same : length w.files ≡ length o.files = ap (λ (v : Wanted). length v.files) made in
+    omega (arith, few, same)

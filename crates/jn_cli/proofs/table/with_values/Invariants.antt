@@ -1,0 +1,7 @@
+use Rattle.std.proofs.Common.{◌≡◌, drop, fold, map}
+use Rattle.clap.specs.Words.{app_of, with_rule}
+use Rattle.jn_cli.specs.Tables.{single}
+use Rattle.jn_cli.proofs.table.with_values.Given as goal
+
+abbrev pub invariant-loop-name : goal.invariant-loop-name
+invariant-loop-name l = fold with_rule (app_of l.command) (map single (map (λ n. n.now) (drop l.name-index l.names))) ≡ fold with_rule (app_of l.initial.command) (map single (map (λ n. n.now) l.names))
