@@ -1,22 +1,33 @@
--- What the words of `nullcheck_recheck` mean: SCRIPT.
+-- What the words of `nullcheck_recheck` mean: [--infer NAME] SCRIPT.
 use Rattle.std.specs.Prelude.{ℕ, List, [], ◌∷◌, Option, Some, None, codes, if◌then◌else◌}
-use Rattle.clap.specs.Words.{App, matches_of}
-use Rattle.jn_cli.specs.Tables.{app_with, names_in, table, takes}
+use Rattle.clap.specs.Words.{App, Row, first_of, matches_of}
+use Rattle.jn_base.specs.declared.infer.Infer.{Infer}
+use Rattle.jn_cli.specs.Tables.{app_with, infer_of, is_chosen, names_in, table, takes}
+use Rattle.jn_cli.specs.declared.recheck.AskedFor.{AskedFor}
+use Rattle.jn_cli.specs.declared.recheck.Options.{Options}
 
--- the command as clap sees it: names, and no option
+-- the command as clap sees it: an option, and names
 unfoldable pub recheck_app : App
-recheck_app = app_with (table (codes "nullcheck_recheck") [] [])
+recheck_app = app_with (table (codes "nullcheck_recheck") (codes "infer" ∷ []) [])
 
--- the one name of these
-abbrev pub single_name : List (List ℕ) → Option (List ℕ)
-single_name [] = None
-single_name (name ∷ []) = Some name
-single_name (name ∷ other ∷ names) = None
+-- the option and the names among what clap matched
+abbrev pub options_in : List Row → Options
+options_in rows = record { infer = first_of (codes "infer") rows; names = names_in rows }
 
--- the script that the words name; none where they name none, or other things too
-unfoldable pub asked_of : List (List ℕ) → Option (List ℕ)
-asked_of words = if takes recheck_app words then single_name (names_in (matches_of recheck_app words)) else None
+-- a script, and the members that are inferred in its checks
+abbrev pub asking : Infer → List ℕ → AskedFor
+asking infer script = record { infer = infer; script = script }
 
--- the line that is the answer to words that name no script
-abbrev pub usage_line : List ℕ
-usage_line = codes "usage: nullcheck_recheck SCRIPT\n"
+-- the script is the one name
+abbrev pub asked_by : Infer → List (List ℕ) → Option AskedFor
+asked_by infer [] = None
+asked_by infer (name ∷ []) = Some (asking infer name)
+asked_by infer (name ∷ other ∷ names) = None
+
+-- what options ask for; none where they ask for nothing
+abbrev pub asked_in : Options → Option AskedFor
+asked_in o = if is_chosen o.infer then asked_by (infer_of o.infer) o.names else None
+
+-- what words ask for
+unfoldable pub asked_of : List (List ℕ) → Option AskedFor
+asked_of words = if takes recheck_app words then asked_in (options_in (matches_of recheck_app words)) else None

@@ -8,9 +8,9 @@ use crate::infer::is_chosen;
 use crate::number::fits;
 use crate::options::Options;
 use crate::parse::{nullcheck_table, options_in};
-use crate::recheck::recheck_table;
+use crate::recheck::{self, recheck_table};
 use crate::server::{self, server_table};
-use crate::table::{Table, command, names_in};
+use crate::table::{Table, command};
 use clap::ArgMatches;
 use jn_base::{OutOfMemory, Text};
 use std::alloc::Global;
@@ -182,7 +182,19 @@ pub fn cert_reason(alloc: Global, words: &[String]) -> Result<String, OutOfMemor
     }
 }
 
-/// Why words name no script of `nullcheck_recheck`'s.
+/// Why the options and names of `nullcheck_recheck` ask for nothing.
+fn recheck_sentence(options: &recheck::Options) -> &'static str {
+    if !is_chosen(&options.infer) {
+        return INFER;
+    }
+    if options.names.len() == 0 {
+        "no script is named"
+    } else {
+        "more than one script is named"
+    }
+}
+
+/// Why words ask nothing of `nullcheck_recheck`.
 ///
 /// # Errors
 /// No memory was found.
@@ -190,13 +202,8 @@ pub fn recheck_reason(alloc: Global, words: &[String]) -> Result<String, OutOfMe
     match hear(alloc, recheck_table(), words)? {
         Heard::Untaken(line) => Ok(line),
         Heard::Taken(matches) => {
-            let names = names_in(alloc, &matches)?;
-            let text = if names.len() == 0 {
-                "no script is named"
-            } else {
-                "more than one script is named"
-            };
-            Ok(String::from_str(alloc, text)?)
+            let options = recheck::options_in(alloc, &matches)?;
+            Ok(String::from_str(alloc, recheck_sentence(&options))?)
         }
     }
 }

@@ -13,6 +13,8 @@ mod places;
 #[cfg(test)]
 mod positions;
 #[cfg(test)]
+mod programs;
+#[cfg(test)]
 mod quals;
 #[cfg(test)]
 mod reports;

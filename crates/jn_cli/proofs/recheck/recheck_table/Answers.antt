@@ -1,0 +1,11 @@
+use Rattle.std.proofs.Common.{◌≡◌, ℕ, List, [], ◌∷◌, codes, map, rules}
+use Rattle.jn_cli.specs.Tables.{app_with, table}
+use Rattle.jn_cli.specs.Recheck.{recheck_app}
+use Rattle.jn_cli.proofs.recheck.recheck_table.Goals as goal
+
+pub returns : goal.returns
+unfolding recheck_app
+returns c =
+    let values : map (λ n. n.now) c.as_slice.result.now ≡ codes "infer" ∷ [] = search rules in
+    let flags : map (λ n. n.now) c.as_slice-2.result.now ≡ [] = search rules in
+    λ i. app_with (table (codes "nullcheck_recheck") (values i) (flags i))

@@ -1,0 +1,7 @@
+use Rattle.std.proofs.Common.{◌∙◌, ap}
+use Rattle.clap.specs.Words.{is_simple_and_free}
+use Rattle.jn_cli.proofs.Simple.{server_free}
+use Rattle.jn_cli.proofs.server.read_options.Goals as goal
+
+pub take_words-requires : goal.take_words-requires
+take_words-requires c = record { simple = ap is_simple_and_free c.server_table.ensures ∙ server_free }
