@@ -13,6 +13,7 @@ use jn_base::{Fail, Infer, OutOfMemory, Seq, Text};
 use std::alloc::Global;
 
 static VALUES: [&str; 1] = ["infer"];
+
 static FLAGS: [&str; 3] = ["imports", "check", "write"];
 
 /// The greatest number of files.

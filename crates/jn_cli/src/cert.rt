@@ -13,6 +13,7 @@ use jn_base::{Fail, Infer, OutOfMemory, Seq, Text};
 use std::alloc::{AllocError, Global};
 
 static VALUES: [&str; 1] = ["infer"];
+
 static FLAGS: [&str; 0] = [];
 
 /// A certificate, the files that it is of, and the choice of members that are inferred.

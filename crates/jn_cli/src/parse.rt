@@ -15,6 +15,7 @@ use std::alloc::Global;
 static VALUES: [&str; 7] = [
     "workers", "report", "infer", "steps", "words", "gen", "codes",
 ];
+
 static FLAGS: [&str; 1] = ["run"];
 
 /// The options of `nullcheck`.

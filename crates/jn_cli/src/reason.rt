@@ -16,6 +16,7 @@ use jn_base::{OutOfMemory, Text};
 use std::alloc::Global;
 
 const INFER: &str = "--infer takes `private` or `package`";
+
 const NO_FILE: &str = "no file is named";
 
 /// What clap makes of words.
@@ -98,9 +99,7 @@ fn nullcheck_sentence(options: &Options) -> &'static str {
     }
     match bad_mix(options) {
         Some(text) => text,
-        None => {
-            "--report takes plain, long, tabbed, summary, github, checkstyle or sarif"
-        }
+        None => { "--report takes plain, long, tabbed, summary, github, checkstyle or sarif" }
     }
 }
 

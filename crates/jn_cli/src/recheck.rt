@@ -13,6 +13,7 @@ use jn_base::{Fail, Infer, OutOfMemory, Seq, Text};
 use std::alloc::{AllocError, Global};
 
 static VALUES: [&str; 1] = ["infer"];
+
 static FLAGS: [&str; 0] = [];
 
 /// A script, and the members that are inferred in its checks.
@@ -69,11 +70,7 @@ pub(crate) fn options_in(alloc: Global, matches: &ArgMatches) -> Result<Options,
 }
 
 /// The script that is the one name.
-fn asked_by(
-    alloc: Global,
-    infer: Infer,
-    names: &[Text],
-) -> Result<Option<AskedFor>, AllocError>
+fn asked_by(alloc: Global, infer: Infer, names: &[Text]) -> Result<Option<AskedFor>, AllocError>
     ensures { IfOk result (λ asked. asked ≡ spec.asked_by infer names.now) }
 {
     match names {

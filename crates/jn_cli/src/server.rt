@@ -13,6 +13,7 @@ use jn_base::{Fail, Infer, OutOfMemory, Seq, Text};
 use std::alloc::Global;
 
 static VALUES: [&str; 2] = ["codes", "infer"];
+
 static FLAGS: [&str; 0] = [];
 
 /// What is asked of a server.

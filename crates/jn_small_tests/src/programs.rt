@@ -124,8 +124,14 @@ fn expect(rt: &impl Abort, alloc: Global, program: Program, line: &str, want: &s
 fn annotates(rt: HostRuntime) {
     for (line, want) in [
         ("A.java", "private false show 1"),
-        ("A.java|--infer=package|--write|B.java", "package false write 2"),
-        ("--imports|--check|--|A.java|--write", "private true check 2"),
+        (
+            "A.java|--infer=package|--write|B.java",
+            "package false write 2",
+        ),
+        (
+            "--imports|--check|--|A.java|--write",
+            "private true check 2",
+        ),
         ("--check|--write|A.java", "--check stands beside --write"),
         ("--imports", "no file is named"),
         ("A.java|--infer|all", "--infer takes `private` or `package`"),
@@ -153,7 +159,10 @@ fn certifies(rt: HostRuntime) {
         ),
         ("check", "no certificate is named"),
         ("check|C", "no file is named"),
-        ("check|C|--infer=|A.java", "--infer takes `private` or `package`"),
+        (
+            "check|C|--infer=|A.java",
+            "--infer takes `private` or `package`",
+        ),
         ("check|C|-A.java", "unexpected argument '-A' found"),
         (
             "check|--infer|private|--infer=package|C|A.java",
