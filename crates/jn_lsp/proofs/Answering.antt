@@ -2,6 +2,7 @@
 use Rattle.std.proofs.Common.{◌≡◌, ℕ, Bool, true, false, List, [], ◌∷◌, ◌++◌, append-nil, cond, Option, Some, None, refl, sym, ap, ◌∙◌, subst, inl, inr}
 use Rattle.std.specs.Prelude.{option_to_list}
 use Rattle.std.proofs.lemmas.Grind.{flat_map-append}
+use Rattle.jn_base.specs.declared.infer.Infer.{Infer}
 use Rattle.jn_lsp_text.specs.declared.id.Id.{Id}
 use Rattle.jn_lsp_text.specs.declared.message.Message.{Message}
 use Rattle.jn_lsp_text.specs.declared.message.Message.TheVariants.{Initialize, Initialized, DidOpen, DidChange, DidSave, DidClose, WatchedFiles, CodeAction, Shutdown, Exit, Ignored, Unknown, BadDocument, BadParams, NoMessage, NoJson, BadHeader, TooLarge}
@@ -44,7 +45,7 @@ refused failure None = refl
 refused failure (Some id) = refl
 
 waiting_one : (message : Message) → IsAnswer (waiting_answer message) (id_asked message)
-waiting_one (Initialize id folder files exclude) = refl
+waiting_one (Initialize id folder infer files exclude) = refl
 waiting_one Initialized = refl
 waiting_one (DidOpen name text) = refl
 waiting_one (DidChange name changes) = refl
@@ -64,7 +65,7 @@ waiting_one BadHeader = refl
 waiting_one TooLarge = refl
 
 serving_one : (actions : List Action) (message : Message) → IsAnswer (serving_answer actions message) (id_asked message)
-serving_one actions (Initialize id folder files exclude) = refl
+serving_one actions (Initialize id folder infer files exclude) = refl
 serving_one actions Initialized = refl
 serving_one actions (DidOpen name text) = refl
 serving_one actions (DidChange name changes) = refl
@@ -84,7 +85,7 @@ serving_one actions BadHeader = refl
 serving_one actions TooLarge = refl
 
 late_one : (message : Message) → IsAnswer (late_answer message) (id_asked message)
-late_one (Initialize id folder files exclude) = refl
+late_one (Initialize id folder infer files exclude) = refl
 late_one Initialized = refl
 late_one (DidOpen name text) = refl
 late_one (DidChange name changes) = refl
@@ -151,7 +152,7 @@ clash : {X : Type 0} → true ≡ false → X
 clash e = absurd (cc)
 
 waiting_on : (message : Message) → is_exit (MessageEvent message) ≡ false → IsLive (phase_behind Waiting message)
-waiting_on (Initialize id folder files exclude) e = tt
+waiting_on (Initialize id folder infer files exclude) e = tt
 waiting_on Initialized e = tt
 waiting_on (DidOpen name text) e = tt
 waiting_on (DidChange name changes) e = tt
@@ -171,7 +172,7 @@ waiting_on BadHeader e = tt
 waiting_on TooLarge e = tt
 
 serving_on : (message : Message) → is_exit (MessageEvent message) ≡ false → IsLive (phase_behind Serving message)
-serving_on (Initialize id folder files exclude) e = tt
+serving_on (Initialize id folder infer files exclude) e = tt
 serving_on Initialized e = tt
 serving_on (DidOpen name text) e = tt
 serving_on (DidChange name changes) e = tt
@@ -191,7 +192,7 @@ serving_on BadHeader e = tt
 serving_on TooLarge e = tt
 
 shut_down_on : (message : Message) → is_exit (MessageEvent message) ≡ false → IsLive (phase_behind ShutDown message)
-shut_down_on (Initialize id folder files exclude) e = tt
+shut_down_on (Initialize id folder infer files exclude) e = tt
 shut_down_on Initialized e = tt
 shut_down_on (DidOpen name text) e = tt
 shut_down_on (DidChange name changes) e = tt
@@ -220,7 +221,7 @@ live_on Serving (Folder files) live e = tt
 live_on ShutDown (Folder files) live e = tt
 
 exit_is : (message : Message) → is_exit (MessageEvent message) ≡ true → message ≡ Exit
-exit_is (Initialize id folder files exclude) e = clash (sym e)
+exit_is (Initialize id folder infer files exclude) e = clash (sym e)
 exit_is Initialized e = clash (sym e)
 exit_is (DidOpen name text) e = clash (sym e)
 exit_is (DidChange name changes) e = clash (sym e)
@@ -290,5 +291,5 @@ all_answered (event ∷ events) before after replies live (first, rest, mid, e, 
     ∙ ap (λ ids. ids ++ ids_answered rest) (taken before mid event first takes ∙ answers_one before event takes.direct takes.answers live)
     ∙ behind event events rest (is_exit event) refl (λ t. all_none events mid after rest (subst IsGone (sym takes.phase) (gone_by before.phase event t)) serves) (λ t. all_answered events mid after rest (subst IsLive (sym takes.phase) (live_on before.phase event live t)) serves)
 
-pub answered : (events : List Event) (replies : List Reply) (after : ServerOf) → Serves new_server events replies after → AreAnswered events replies
-answered events replies after serves = all_answered events new_server after replies tt serves
+pub answered : (infer : Infer) (events : List Event) (replies : List Reply) (after : ServerOf) → Serves (new_server infer) events replies after → AreAnswered events replies
+answered infer events replies after serves = all_answered events (new_server infer) after replies tt serves

@@ -1,7 +1,10 @@
 -- What is told where some texts aren't known.
 use Rattle.std.proofs.Common.{◌≡◌, ℕ, Bool, true, false, ◌||◌, List, [], ◌∷◌, cond, map, bytes_eq, refl, sym, ap, ◌∙◌, subst}
 use Rattle.std.proofs.lemmas.Slice.Eq.{bytes_eq-Decides}
+use Rattle.jn_base.specs.declared.infer.Infer.{Infer}
 use Rattle.jn_front.specs.declared.source.SourceFile.{SourceFile}
+use Rattle.jn_lsp_text.specs.declared.choice.Choice.{Choice}
+use Rattle.jn_lsp_text.specs.declared.choice.Choice.TheVariants as choice
 use Rattle.jn_lsp_text.specs.declared.reply.Diagnostic.{Diagnostic}
 use Rattle.jn_lsp_text.specs.declared.message.Message.{Message}
 use Rattle.jn_lsp.specs.declared.diagnostics.Told.{Told}
@@ -13,7 +16,7 @@ use Rattle.jn_lsp.specs.Publications.{is_told, last_published}
 use Rattle.jn_lsp.specs.Requests.{ids_answered}
 use Rattle.jn_lsp.specs.Serving.{AreToldOf, files_of, workspace_of}
 use Rattle.jn_lsp.specs.Telling.{IsTold, told_of}
-use Rattle.jn_lsp.specs.Unknown.{doubt, doubted_by, doubts_in, hushed, newly, unless_unknown}
+use Rattle.jn_lsp.specs.Unknown.{choice_in, doubt, doubted_by, doubts_in, hushed, misread, newly, unless_unknown}
 use Rattle.jn_lsp.proofs.LastPublished.{AreOwnTold}
 
 -- ---- what is told of a name
@@ -41,11 +44,11 @@ module _ (unknown : List (List ℕ)) where
 
 -- ---- a workspace
 
-pub told_known : (workspace : Workspace) (files : List SourceFile) (unknown : List (List ℕ)) (found all told : List Told) → files ≡ files_of workspace → unknown ≡ workspace.unknown → found ≡ all → IsTold files all → told ≡ hushed unknown found → AreToldOf workspace told
-told_known workspace files unknown found all told e f same is h = (all, subst (λ fs. IsTold fs all) e is, h ∙ ap (hushed unknown) same ∙ ap (λ u. hushed u all) f)
+pub told_known : (workspace : Workspace) (files : List SourceFile) (unknown : List (List ℕ)) (found all told : List Told) → files ≡ files_of workspace → unknown ≡ workspace.unknown → found ≡ all → IsTold workspace.infer files all → told ≡ hushed unknown found → AreToldOf workspace told
+told_known workspace files unknown found all told e f same is h = (all, subst (λ fs. IsTold workspace.infer fs all) e is, h ∙ ap (hushed unknown) same ∙ ap (λ u. hushed u all) f)
 
-pub told_nothing : (workspace : Workspace) (told : List Told) → workspace ≡ workspace_of [] [] [] → told ≡ [] → AreToldOf workspace told
-told_nothing workspace told e none = subst (λ w. AreToldOf w told) (sym e) (subst (AreToldOf (workspace_of [] [] [])) (sym none) ([], refl, refl))
+pub told_nothing : (infer : Infer) (workspace : Workspace) (told : List Told) → workspace ≡ workspace_of infer [] [] [] → told ≡ [] → AreToldOf workspace told
+told_nothing infer workspace told e none = subst (λ w. AreToldOf w told) (sym e) (subst (AreToldOf (workspace_of infer [] [] [])) (sym none) ([], refl, refl))
 
 -- ---- warnings
 
@@ -53,8 +56,13 @@ all_silent : (name : List ℕ) (last : List Diagnostic) (names : List (List ℕ)
 all_silent name last [] = refl
 all_silent name last (first ∷ names) = all_silent name last names
 
+misread_silent : (name : List ℕ) (last : List Diagnostic) (said : Choice) → last_published name last (misread said) ≡ last
+misread_silent name last choice.Unsaid = refl
+misread_silent name last (choice.Said infer) = refl
+misread_silent name last choice.Wrong = refl
+
 pub doubts_silent : (name : List ℕ) (last : List Diagnostic) (phase : Phase) (message : Message) (documents : List SourceFile) (unknown : List (List ℕ)) → last_published name last (doubts_in phase message documents unknown) ≡ last
-doubts_silent name last Waiting m documents unknown = refl
+doubts_silent name last Waiting m documents unknown = misread_silent name last (choice_in m)
 doubts_silent name last Serving m documents unknown = all_silent name last (newly unknown (doubted_by m documents))
 doubts_silent name last ShutDown m documents unknown = refl
 doubts_silent name last (Exited in_order) m documents unknown = refl
@@ -63,8 +71,13 @@ all_unasked : (names : List (List ℕ)) → ids_answered (map doubt names) ≡ [
 all_unasked [] = refl
 all_unasked (first ∷ names) = all_unasked names
 
+misread_unasked : (said : Choice) → ids_answered (misread said) ≡ []
+misread_unasked choice.Unsaid = refl
+misread_unasked (choice.Said infer) = refl
+misread_unasked choice.Wrong = refl
+
 pub doubts_unasked : (phase : Phase) (message : Message) (documents : List SourceFile) (unknown : List (List ℕ)) → ids_answered (doubts_in phase message documents unknown) ≡ []
-doubts_unasked Waiting m documents unknown = refl
+doubts_unasked Waiting m documents unknown = misread_unasked (choice_in m)
 doubts_unasked Serving m documents unknown = all_unasked (newly unknown (doubted_by m documents))
 doubts_unasked ShutDown m documents unknown = refl
 doubts_unasked (Exited in_order) m documents unknown = refl

@@ -2,6 +2,7 @@
 use Rattle.std.proofs.Common.{◌≡◌, ℕ, ◌+◌, Bool, true, false, not, ◌||◌, List, [], ◌∷◌, ◌++◌, Option, cond, filter, map, bytes_eq, refl, sym, ap, ◌∙◌, subst, inl, inr}
 use Rattle.std.specs.Prelude.{◌⊎◌}
 use Rattle.std.proofs.lemmas.Slice.Eq.{bytes_eq-Decides}
+use Rattle.jn_base.specs.declared.infer.Infer.{Infer}
 use Rattle.jn_base.specs.declared.place.Row.{Row}
 use Rattle.jn_front.specs.declared.source.SourceFile.{SourceFile}
 use Rattle.jn_lsp_text.specs.declared.reply.Diagnostic.{Diagnostic}
@@ -27,9 +28,9 @@ pub own_told : (all : List SourceFile) (rows : List Row) (notes : List Notes) (a
 own_told all rows notes at [] own = tt
 own_told all rows notes at (file ∷ files) own = (own_from all rows notes (at + 1) file.name files ∙ own.0, own_told all rows notes (at + 1) files own.1)
 
-pub told_own : (files : List SourceFile) (told : List Told) → AreOwn files → IsTold files told → AreOwnTold told
-told_own [] told own is = subst AreOwnTold (sym is) tt
-told_own (file ∷ files) told own is = subst AreOwnTold (sym is.are) (own_told (file ∷ files) is.rows is.notes 0 (file ∷ files) own)
+pub told_own : (infer : Infer) (files : List SourceFile) (told : List Told) → AreOwn files → IsTold infer files told → AreOwnTold told
+told_own infer [] told own is = subst AreOwnTold (sym is) tt
+told_own infer (file ∷ files) told own is = subst AreOwnTold (sym is.are) (own_told (file ∷ files) is.rows is.notes 0 (file ∷ files) own)
 
 abbrev pub AreEmpty : List Told → Type 0
 AreEmpty [] = Unit {0}

@@ -1,6 +1,7 @@
 -- A server keeps what is told true to the files, event by event.
 use Rattle.std.proofs.Common.{◌≡◌, ℕ, List, [], ◌∷◌, Option, Some, None, append-nil, refl, sym, ap, ◌∙◌, subst}
 use Rattle.std.specs.Prelude.{option_to_list}
+use Rattle.jn_base.specs.declared.infer.Infer.{Infer}
 use Rattle.jn_front.specs.declared.source.SourceFile.{SourceFile}
 use Rattle.jn_lsp_text.specs.declared.id.Id.{Id}
 use Rattle.jn_lsp_text.specs.declared.message.Message.{Message}
@@ -35,7 +36,7 @@ module _ (name : List ℕ) (last : List Diagnostic) where
   refusal_silent failure (Some id) = refl
 
   waiting_silent : (message : Message) → IsSilent (waiting_answer message)
-  waiting_silent (Initialize id folder files exclude) = refl
+  waiting_silent (Initialize id folder infer files exclude) = refl
   waiting_silent Initialized = refl
   waiting_silent (DidOpen named text) = refl
   waiting_silent (DidChange named changes) = refl
@@ -55,7 +56,7 @@ module _ (name : List ℕ) (last : List Diagnostic) where
   waiting_silent TooLarge = refl
 
   serving_silent : (actions : List Action) (message : Message) → IsSilent (serving_answer actions message)
-  serving_silent actions (Initialize id folder files exclude) = refl
+  serving_silent actions (Initialize id folder infer files exclude) = refl
   serving_silent actions Initialized = refl
   serving_silent actions (DidOpen named text) = refl
   serving_silent actions (DidChange named changes) = refl
@@ -75,7 +76,7 @@ module _ (name : List ℕ) (last : List Diagnostic) where
   serving_silent actions TooLarge = refl
 
   late_silent : (message : Message) → IsSilent (late_answer message)
-  late_silent (Initialize id folder files exclude) = refl
+  late_silent (Initialize id folder infer files exclude) = refl
   late_silent Initialized = refl
   late_silent (DidOpen named text) = refl
   late_silent (DidChange named changes) = refl
@@ -123,7 +124,7 @@ informed before after event replies takes is = informed_behind (opened_by event)
 news_last : (opened : Option (List ℕ)) (name : List ℕ) (moved : Option Workspace) (before after : ServerOf) (news : List Reply) → IsRetold opened moved before news after → last_published name (told_of before.told name) news ≡ told_of after.told name
 news_last opened name None before after news (nothing, same, told) = ap (last_published name (told_of before.told name)) nothing ∙ ap (λ t. told_of t name) (sym told)
 news_last opened name (Some workspace) before after news (is, told, announces) =
-    let own = own_hushed workspace.unknown told.0 (told_own (files_of workspace) told.0 (stand_own workspace.disk workspace.documents) told.1) in
+    let own = own_hushed workspace.unknown told.0 (told_own workspace.infer (files_of workspace) told.0 (stand_own workspace.disk workspace.documents) told.1) in
     announced opened before.told after.told news name (subst AreOwnTold (sym told.2) own) announces
 
 event_last : (name : List ℕ) (before after : ServerOf) (event : Event) (replies : List Reply) → Takes before event replies after → last_published name (told_of before.told name) replies ≡ told_of after.told name
@@ -160,9 +161,9 @@ all_last name (event ∷ events) before after replies (first, rest, mid, e, take
     ∙ ap (λ l. last_published name l rest) (event_last name before mid event first takes)
     ∙ all_last name events mid after rest serves
 
-as_reported : (unknown : List (List ℕ)) (files : List SourceFile) (all told : List Told) (last : List ℕ → List Diagnostic) → IsTold files all → told ≡ hushed unknown all → ((name : List ℕ) → last name ≡ told_of told name) → ArePublishedLast unknown files last
-as_reported unknown [] all told last is e same = λ name. same name ∙ ap (λ t. told_of t name) (e ∙ ap (hushed unknown) is)
-as_reported unknown (file ∷ files) all told last is e same = (
+as_reported : (infer : Infer) (unknown : List (List ℕ)) (files : List SourceFile) (all told : List Told) (last : List ℕ → List Diagnostic) → IsTold infer files all → told ≡ hushed unknown all → ((name : List ℕ) → last name ≡ told_of told name) → ArePublishedLast infer unknown files last
+as_reported infer unknown [] all told last is e same = λ name. same name ∙ ap (λ t. told_of t name) (e ∙ ap (hushed unknown) is)
+as_reported infer unknown (file ∷ files) all told last is e same = (
   is.rows,
   is.notes,
   is.found,
@@ -173,7 +174,7 @@ as_reported unknown (file ∷ files) all told last is e same = (
       ∙ ap (unless_unknown unknown name) (ap (λ t. told_of t name) is.are ∙ told_named (file ∷ files) is.rows is.notes name),
 )
 
-pub up_to_date : (events : List Event) (replies : List Reply) (after : ServerOf) → Serves new_server events replies after → IsUpToDate after replies
-up_to_date events replies after serves =
-    let informed = all_informed events new_server after replies serves ([], refl, refl) in
-    as_reported after.workspace.unknown (files_of after.workspace) informed.0 after.told (λ name. last_published name [] replies) informed.1 informed.2 (λ name. all_last name events new_server after replies serves)
+pub up_to_date : (infer : Infer) (events : List Event) (replies : List Reply) (after : ServerOf) → Serves (new_server infer) events replies after → IsUpToDate after replies
+up_to_date infer events replies after serves =
+    let informed = all_informed events (new_server infer) after replies serves ([], refl, refl) in
+    as_reported after.workspace.infer after.workspace.unknown (files_of after.workspace) informed.0 after.told (λ name. last_published name [] replies) informed.1 informed.2 (λ name. all_last name events (new_server infer) after replies serves)

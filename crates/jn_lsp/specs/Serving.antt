@@ -1,10 +1,12 @@
 -- What an event makes of a server, and what is replied to it (Language Server Protocol 3.17, "Server lifecycle").
 use Rattle.std.specs.Prelude.{ℕ, ◌≡◌, ◌++◌, Bool, true, false, List, [], ◌∷◌, Option, Some, None, ◌&&◌, if◌then◌else◌, option_to_list}
 use Rattle.std.specs.List.{list_any}
+use Rattle.jn_base.specs.declared.infer.Infer.{Infer}
 use Rattle.jn_base.specs.declared.place.Row.{Row}
 use Rattle.jn_front.specs.declared.source.SourceFile.{SourceFile}
 use Rattle.jn_lsp_actions.specs.Asking.{meets}
 use Rattle.jn_lsp_actions.specs.Offered.{AreActions}
+use Rattle.jn_lsp_text.specs.Choices.{chosen}
 use Rattle.jn_lsp_text.specs.declared.range.Range.{Range}
 use Rattle.jn_lsp_text.specs.declared.id.Id.{Id}
 use Rattle.jn_lsp_text.specs.declared.message.Message.{Message}
@@ -37,7 +39,7 @@ unread NoMessage = Some Request
 unread TooLarge = Some Request
 unread NoJson = Some Parse
 unread BadHeader = Some Parse
-unread (Initialize id folder files exclude) = None
+unread (Initialize id folder infer files exclude) = None
 unread Initialized = None
 unread (DidOpen name text) = None
 unread (DidChange name changes) = None
@@ -62,7 +64,7 @@ nameless (Some failure) = Some (Refusal None failure)
 
 -- before `initialize` no other request is served
 abbrev pub waiting_answer : Message → Option Reply
-waiting_answer (Initialize id folder files exclude) = Some (Capabilities id)
+waiting_answer (Initialize id folder infer files exclude) = Some (Capabilities id)
 waiting_answer (CodeAction id name range) = refusal NotInitialized (Some id)
 waiting_answer (Shutdown id) = refusal NotInitialized (Some id)
 waiting_answer (Unknown id) = refusal NotInitialized (Some id)
@@ -71,7 +73,7 @@ waiting_answer other = nameless (unread other)
 
 -- a second `initialize` is refused, and these are the actions for a request of actions
 abbrev pub serving_answer : List Action → Message → Option Reply
-serving_answer actions (Initialize id folder files exclude) = refusal Request (Some id)
+serving_answer actions (Initialize id folder infer files exclude) = refusal Request (Some id)
 serving_answer actions (CodeAction id name range) = Some (Actions id actions)
 serving_answer actions (Shutdown id) = Some (Done id)
 serving_answer actions (Unknown id) = refusal Method (Some id)
@@ -80,7 +82,7 @@ serving_answer actions other = nameless (unread other)
 
 -- after `shutdown` every request is refused
 abbrev pub late_answer : Message → Option Reply
-late_answer (Initialize id folder files exclude) = refusal Request (Some id)
+late_answer (Initialize id folder infer files exclude) = refusal Request (Some id)
 late_answer (CodeAction id name range) = refusal Request (Some id)
 late_answer (Shutdown id) = refusal Request (Some id)
 late_answer (Unknown id) = refusal Request (Some id)
@@ -95,7 +97,7 @@ answer_of actions ShutDown message = late_answer message
 answer_of actions (Exited in_order) _ = None
 
 abbrev pub phase_behind : Phase → Message → Phase
-phase_behind Waiting (Initialize id folder files exclude) = Serving
+phase_behind Waiting (Initialize id folder infer files exclude) = Serving
 phase_behind Waiting Exit = Exited false
 phase_behind Waiting _ = Waiting
 phase_behind Serving (Shutdown id) = ShutDown
@@ -119,22 +121,31 @@ abbrev pub next_phase : Phase → Event → Phase
 next_phase phase (MessageEvent message) = phase_behind phase message
 next_phase phase (Folder files) = phase
 
-abbrev pub workspace_of : List SourceFile → List SourceFile → List (List ℕ) → Workspace
-workspace_of disk documents unknown = record { disk = disk; documents = documents; unknown = unknown }
+abbrev pub workspace_of : Infer → List SourceFile → List SourceFile → List (List ℕ) → Workspace
+workspace_of infer disk documents unknown = record { infer = infer; disk = disk; documents = documents; unknown = unknown }
 
 -- a workspace after a message that makes of its documents these, or leaves them; none where it doesn't touch which texts are unknown either
 abbrev pub moved_by : Message → Workspace → Option (List SourceFile) → Option Workspace
-moved_by message before None = if touches message then Some (workspace_of before.disk before.documents (unknown_behind message before.documents before.unknown)) else None
-moved_by message before (Some documents) = Some (workspace_of before.disk documents (unknown_behind message before.documents before.unknown))
+moved_by message before None = if touches message then Some (workspace_of before.infer before.disk before.documents (unknown_behind message before.documents before.unknown)) else None
+moved_by message before (Some documents) = Some (workspace_of before.infer before.disk documents (unknown_behind message before.documents before.unknown))
 
 -- the folder's files, the open documents, and those of unknown texts, after an event; none where it changes none of them
 abbrev pub IsMoved : Event → Workspace → Option Workspace → Type 0
-IsMoved (Folder files) before after = after ≡ Some (workspace_of files before.documents before.unknown)
+IsMoved (Folder files) before after = after ≡ Some (workspace_of before.infer files before.documents before.unknown)
 IsMoved (MessageEvent message) before after = (documents : Option (List SourceFile)) × AreEdited before.unknown message before.documents documents × (after ≡ moved_by message before documents)
 
--- files change only while the server serves
+-- `initialize` says which members are inferred
+abbrev pub chosen_by : Message → Workspace → Option Workspace
+chosen_by (Initialize id folder infer files exclude) before = Some (workspace_of (chosen infer before.infer) before.disk before.documents before.unknown)
+chosen_by _ before = None
+
+abbrev pub started_by : Event → Workspace → Option Workspace
+started_by (MessageEvent message) before = chosen_by message before
+started_by (Folder files) before = None
+
+-- files change only while the server serves, and before that the members that are inferred
 abbrev pub IsMovedIn : Phase → Event → Workspace → Option Workspace → Type 0
-IsMovedIn Waiting event before after = after ≡ None
+IsMovedIn Waiting event before after = after ≡ started_by event before
 IsMovedIn Serving event before after = IsMoved event before after
 IsMovedIn ShutDown event before after = after ≡ None
 IsMovedIn (Exited in_order) event before after = after ≡ None
@@ -147,8 +158,9 @@ pub record ServerOf : Type 0 where
   pub workspace : Workspace
   pub told : List Told
 
-abbrev pub new_server : ServerOf
-new_server = record { phase = Waiting; workspace = workspace_of [] [] []; told = [] }
+-- a server that infers these members where `initialize` chooses none
+abbrev pub new_server : Infer → ServerOf
+new_server infer = record { phase = Waiting; workspace = workspace_of infer [] [] []; told = [] }
 
 -- the files as they stand
 abbrev pub files_of : Workspace → List SourceFile
@@ -168,13 +180,13 @@ abbrev pub is_offered : List Told → Workspace → List ℕ → Range → Bool
 is_offered told workspace name range = is_empty workspace.unknown && is_told_at told name range
 
 -- the files' actions, where they are offered; else none
-abbrev pub AreActionsIf : Bool → List SourceFile → List ℕ → Range → List Action → Type 0
-AreActionsIf false files name range actions = actions ≡ []
-AreActionsIf true files name range actions = AreActions files name range actions
+abbrev pub AreActionsIf : Infer → Bool → List SourceFile → List ℕ → Range → List Action → Type 0
+AreActionsIf infer false files name range actions = actions ≡ []
+AreActionsIf infer true files name range actions = AreActions infer files name range actions
 
 -- the actions for a request of actions; other messages have none
 abbrev pub AreActionsFor : List Told → Workspace → Message → List Action → Type 0
-AreActionsFor told workspace (CodeAction id name range) actions = AreActionsIf (is_offered told workspace name range) (files_of workspace) name range actions
+AreActionsFor told workspace (CodeAction id name range) actions = AreActionsIf workspace.infer (is_offered told workspace name range) (files_of workspace) name range actions
 AreActionsFor told workspace other actions = actions ≡ []
 
 -- actions are offered only while the server serves
@@ -182,7 +194,7 @@ abbrev pub AreActionsIn : Phase → List Told → Workspace → Message → List
 AreActionsIn Serving told workspace message actions = AreActionsFor told workspace message actions
 AreActionsIn _ _ _ _ actions = actions ≡ []
 
--- the answers to an event: to a message one at most, and a warning for each document whose text it leaves open
+-- the answers to an event: to a message one at most, and a warning of a choice that says nothing, or for each document whose text it leaves open
 abbrev pub AreAnswers : ServerOf → Event → List Reply → Type 0
 AreAnswers server (MessageEvent message) replies =
     (actions : List Action) × AreActionsIn server.phase server.told server.workspace message actions
@@ -198,7 +210,7 @@ opened_by _ = None
 
 -- what is told of a workspace: the report of its files as they stand, and of those whose text isn't known nothing
 abbrev pub AreToldOf : Workspace → List Told → Type 0
-AreToldOf workspace told = (all : List Told) × IsTold (files_of workspace) all × (told ≡ hushed workspace.unknown all)
+AreToldOf workspace told = (all : List Told) × IsTold workspace.infer (files_of workspace) all × (told ≡ hushed workspace.unknown all)
 
 -- where files change, their report is told, and what of it wasn't told before is published, with that of the document that is opened
 abbrev pub IsRetold : Option (List ℕ) → Option Workspace → ServerOf → List Reply → ServerOf → Type 0
@@ -229,12 +241,12 @@ IsInformed server = AreToldOf server.workspace server.told
 
 -- ---- the theorem
 
--- of each name this was published last: of no files nothing, else the diagnostics of the files' report; a name that doesn't stand has none,
+-- of each name this was published last: of no files nothing, else the diagnostics of the files' report where these members are inferred; a name that doesn't stand has none,
 -- nor one whose text isn't known
-abbrev pub ArePublishedLast : List (List ℕ) → List SourceFile → (List ℕ → List Diagnostic) → Type 0
-ArePublishedLast unknown [] last = (name : List ℕ) → last name ≡ []
-ArePublishedLast unknown (file ∷ files) last =
-    (rows : List Row) × (notes : List Notes) × AreFindings (file ∷ files) rows notes × ((name : List ℕ) → last name ≡ unless_unknown unknown name (diagnostics_of (file ∷ files) rows notes name))
+abbrev pub ArePublishedLast : Infer → List (List ℕ) → List SourceFile → (List ℕ → List Diagnostic) → Type 0
+ArePublishedLast infer unknown [] last = (name : List ℕ) → last name ≡ []
+ArePublishedLast infer unknown (file ∷ files) last =
+    (rows : List Row) × (notes : List Notes) × AreFindings infer (file ∷ files) rows notes × ((name : List ℕ) → last name ≡ unless_unknown unknown name (diagnostics_of (file ∷ files) rows notes name))
 
 abbrev pub IsUpToDate : ServerOf → List Reply → Type 0
-IsUpToDate server replies = ArePublishedLast server.workspace.unknown (files_of server.workspace) (λ name. last_published name [] replies)
+IsUpToDate server replies = ArePublishedLast server.workspace.infer server.workspace.unknown (files_of server.workspace) (λ name. last_published name [] replies)

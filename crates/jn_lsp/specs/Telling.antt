@@ -2,7 +2,7 @@
 use Rattle.std.specs.Prelude.{ℕ, ◌+◌, ◌-◌, ◌==◌, ◌≡◌, List, [], ◌∷◌, ◌++◌, codes, drop, length, map, nat_eq, nat_lt, bytes_eq, slice_index_or, take, Option, Some, None, if◌then◌else◌}
 use Rattle.std.specs.List.{ends_with}
 use Rattle.std.specs.Str.Lossy.{utf8_lossy}
-use Rattle.jn_base.specs.declared.infer.Infer.TheVariants.{Private}
+use Rattle.jn_base.specs.declared.infer.Infer.{Infer}
 use Rattle.jn_base.specs.declared.place.Row.{Row}
 use Rattle.jn_base.specs.declared.place.Span.{Span}
 use Rattle.jn_command.specs.declared.report.Report.{Report}
@@ -101,45 +101,45 @@ told_of (one ∷ told) name = if bytes_eq one.name name then one.diagnostics els
 -- ---- reports
 
 -- the notes of rows of the rules: those under the least signature
-pub record RuleNotes (files : List SourceFile) (rows : List Row) (notes : List Notes) : Type 0 where
+pub record RuleNotes (infer : Infer) (files : List SourceFile) (rows : List Row) (notes : List Notes) : Type 0 where
   pub solved : Solved
-  pub is : IsSolutionOf files solved
+  pub is : IsSolutionOf infer files solved
   pub are : AreNotesOf solved.program solved.names solved.signature rows notes
 
 -- the notes of a report's rows: only those of the rules have any
-abbrev pub AreReportNotes : List SourceFile → Report → List Notes → Type 0
-AreReportNotes files (Refused rows) notes = notes ≡ []
-AreReportNotes files (Checked []) notes = notes ≡ []
-AreReportNotes files (Checked (row ∷ rows)) notes = RuleNotes files (row ∷ rows) notes
+abbrev pub AreReportNotes : Infer → List SourceFile → Report → List Notes → Type 0
+AreReportNotes infer files (Refused rows) notes = notes ≡ []
+AreReportNotes infer files (Checked []) notes = notes ≡ []
+AreReportNotes infer files (Checked (row ∷ rows)) notes = RuleNotes infer files (row ∷ rows) notes
 
--- the rows of these files' report, and their notes
-pub record AreFindings (files : List SourceFile) (rows : List Row) (notes : List Notes) : Type 0 where
+-- the rows of these files' report where these members are inferred, and their notes
+pub record AreFindings (infer : Infer) (files : List SourceFile) (rows : List Row) (notes : List Notes) : Type 0 where
   pub report : Report
-  pub is : IsReport Private files report
+  pub is : IsReport infer files report
   pub rows_are : rows ≡ rows_of report
-  pub notes_are : AreReportNotes files report notes
+  pub notes_are : AreReportNotes infer files report notes
 
 -- of each file, in their order, what the files' report says
-pub record AreTold (files : List SourceFile) (told : List Told) : Type 0 where
+pub record AreTold (infer : Infer) (files : List SourceFile) (told : List Told) : Type 0 where
   pub rows : List Row
   pub notes : List Notes
-  pub found : AreFindings files rows notes
+  pub found : AreFindings infer files rows notes
   pub are : told ≡ told_from files rows notes 0 files
 
 -- what is kept of a report of these files that came to the rules
-abbrev pub IsKeptOf : List SourceFile → Report → Option Solved → Type 0
-IsKeptOf files (Refused rows) kept = Unit {0}
-IsKeptOf files (Checked rows) kept = (solved : Solved) × (kept ≡ Some solved) × IsSolutionOf files solved
+abbrev pub IsKeptOf : Infer → List SourceFile → Report → Option Solved → Type 0
+IsKeptOf infer files (Refused rows) kept = Unit {0}
+IsKeptOf infer files (Checked rows) kept = (solved : Solved) × (kept ≡ Some solved) × IsSolutionOf infer files solved
 
 -- rows and verdict are those of the files' report, and this is kept after it
-pub record IsReported (files : List SourceFile) (kept : Option Solved) (rows : List Row) (verdict : Verdict) : Type 0 where
+pub record IsReported (infer : Infer) (files : List SourceFile) (kept : Option Solved) (rows : List Row) (verdict : Verdict) : Type 0 where
   pub report : Report
-  pub is : IsReport Private files report
+  pub is : IsReport infer files report
   pub rows_are : rows ≡ rows_of report
   pub verdict_is : verdict ≡ verdict_of report
-  pub keeps : IsKeptOf files report kept
+  pub keeps : IsKeptOf infer files report kept
 
 -- of no files nothing
-abbrev pub IsTold : List SourceFile → List Told → Type 0
-IsTold [] told = told ≡ []
-IsTold (file ∷ files) told = AreTold (file ∷ files) told
+abbrev pub IsTold : Infer → List SourceFile → List Told → Type 0
+IsTold infer [] told = told ≡ []
+IsTold infer (file ∷ files) told = AreTold infer (file ∷ files) told

@@ -2,8 +2,10 @@
 use Rattle.std.specs.Prelude.{ℕ, ◌++◌, Bool, true, false, not, List, [], ◌∷◌, Option, Some, None, bytes_eq, codes, filter, map, if◌then◌else◌}
 use Rattle.jn_front.specs.declared.source.SourceFile.{SourceFile}
 use Rattle.jn_front.specs.Files.{names_of}
+use Rattle.jn_lsp_text.specs.declared.choice.Choice.{Choice}
+use Rattle.jn_lsp_text.specs.declared.choice.Choice.TheVariants as choice
 use Rattle.jn_lsp_text.specs.declared.message.Message.{Message}
-use Rattle.jn_lsp_text.specs.declared.message.Message.TheVariants.{DidOpen, DidClose, BadDocument, BadParams, NoMessage, NoJson, BadHeader, TooLarge}
+use Rattle.jn_lsp_text.specs.declared.message.Message.TheVariants.{Initialize, DidOpen, DidClose, BadDocument, BadParams, NoMessage, NoJson, BadHeader, TooLarge}
 use Rattle.jn_lsp_text.specs.declared.reply.Diagnostic.{Diagnostic}
 use Rattle.jn_lsp_text.specs.declared.reply.Reply.{Reply}
 use Rattle.jn_lsp_text.specs.declared.reply.Reply.TheVariants.{Show}
@@ -86,9 +88,23 @@ doubt name = Show (doubt_words name)
 abbrev pub doubts : List (List ℕ) → List (List ℕ) → List Reply
 doubts unknown names = map doubt (newly unknown names)
 
--- documents are open only while the server serves
+-- what a message says of the members that are inferred
+abbrev pub choice_in : Message → Choice
+choice_in (Initialize id folder infer files exclude) = infer
+choice_in _ = choice.Unsaid
+
+-- a warning of a choice that says nothing
+abbrev pub choice_words : List ℕ
+choice_words = codes "nullcheck: initializationOptions.infer is \"private\" or \"package\"; this one is left out"
+
+abbrev pub misread : Choice → List Reply
+misread choice.Unsaid = []
+misread (choice.Said infer) = []
+misread choice.Wrong = Show choice_words ∷ []
+
+-- a choice is taken only before the server serves, and documents are open only while it does
 abbrev pub doubts_in : Phase → Message → List SourceFile → List (List ℕ) → List Reply
-doubts_in Waiting _ documents unknown = []
+doubts_in Waiting m documents unknown = misread (choice_in m)
 doubts_in Serving m documents unknown = doubts unknown (doubted_by m documents)
 doubts_in ShutDown _ documents unknown = []
 doubts_in (Exited in_order) _ documents unknown = []

@@ -8,14 +8,15 @@ ghost use Rattle.jn_recheck.specs.Files.{with_file, without_file, place_of, is_n
 use crate::event::Event;
 use crate::phase::Phase;
 use crate::unknown::{copy_names, is_among, touches, unknown_behind};
-use jn_base::{OutOfMemory, Seq, Text};
+use jn_base::{Infer, OutOfMemory, Seq, Text};
 use jn_front::SourceFile;
-use jn_lsp_text::{Change, Message, replace};
+use jn_lsp_text::{Change, Message, chosen, replace};
 use std::alloc::{AllocError, Global};
 
-/// The folder's files as they were last read, and the documents that the client has open, in the order in which they were opened.
+/// Which members are inferred, the folder's files as they were last read, and the documents that the client has open, in the order in which they were opened.
 #[derive(Drop)]
 pub struct Workspace {
+    pub infer: Infer,
     pub disk: Seq<SourceFile>,
     pub documents: Seq<SourceFile>,
     /// The names of documents whose texts aren't known, since what the client sent of them can't be read.
@@ -207,11 +208,12 @@ fn edited(
 // ---- events
 
 impl Workspace {
-    /// What no client has told anything of.
-    pub(crate) fn new(alloc: Global) -> Workspace
-        ensures { result ≡ serving.new_server.workspace }
+    /// What no client has told anything of, where these members are inferred.
+    pub(crate) fn new(alloc: Global, infer: Infer) -> Workspace
+        ensures { result ≡ (serving.new_server infer).workspace }
     {
         Workspace {
+            infer,
             disk: Seq::new(alloc),
             documents: Seq::new(alloc),
             unknown: Seq::new(alloc),
@@ -220,9 +222,10 @@ impl Workspace {
 
     fn with_disk(&self, alloc: Global, disk: &[SourceFile]) -> Result<Workspace, OutOfMemory>
         ensures { IfOk result (λ made. made
-            ≡ serving.workspace_of disk.now self.now.documents self.now.unknown) }
+            ≡ serving.workspace_of self.now.infer disk.now self.now.documents self.now.unknown) }
     {
         Ok(Workspace {
+            infer: self.infer,
             disk: Seq::of_vec(copy_documents(alloc, disk)?),
             documents: Seq::of_vec(copy_documents(alloc, self.documents.as_slice())?),
             unknown: copy_names(alloc, self.unknown.as_slice())?,
@@ -236,7 +239,7 @@ impl Workspace {
         message: &Message,
         documents: Seq<SourceFile>,
     ) -> Result<Workspace, OutOfMemory>
-        ensures { IfOk result (λ made. made ≡ serving.workspace_of self.now.disk documents
+        ensures { IfOk result (λ made. made ≡ serving.workspace_of self.now.infer self.now.disk documents
             (unknown_behind message.now self.now.documents self.now.unknown)) }
     {
         let unknown = unknown_behind(
@@ -246,6 +249,7 @@ impl Workspace {
             self.unknown.as_slice(),
         )?;
         Ok(Workspace {
+            infer: self.infer,
             disk: Seq::of_vec(copy_documents(alloc, self.disk.as_slice())?),
             documents,
             unknown,
@@ -295,6 +299,41 @@ impl Workspace {
         }
     }
 
+    /// The workspace where these members are inferred.
+    fn with_infer(&self, alloc: Global, infer: Infer) -> Result<Workspace, OutOfMemory>
+        ensures { IfOk result (λ made. made ≡ serving.workspace_of infer self.now.disk
+            self.now.documents self.now.unknown) }
+    {
+        Ok(Workspace {
+            infer,
+            disk: Seq::of_vec(copy_documents(alloc, self.disk.as_slice())?),
+            documents: Seq::of_vec(copy_documents(alloc, self.documents.as_slice())?),
+            unknown: copy_names(alloc, self.unknown.as_slice())?,
+        })
+    }
+
+    /// The workspace after a message that comes before the server serves.
+    fn chosen_by(&self, alloc: Global, message: &Message) -> Result<Option<Workspace>, OutOfMemory>
+        ensures { IfOk result (λ moved. moved ≡ serving.chosen_by message.now self.now) }
+    {
+        match message {
+            Message::Initialize { infer, .. } => {
+                Ok(Some(self.with_infer(alloc, chosen(*infer, self.infer))?))
+            }
+            _ => Ok(None),
+        }
+    }
+
+    /// The workspace after an event that comes before the server serves.
+    fn started_by(&self, alloc: Global, event: &Event) -> Result<Option<Workspace>, OutOfMemory>
+        ensures { IfOk result (λ moved. moved ≡ serving.started_by event.now self.now) }
+    {
+        match event {
+            Event::Message(message) => self.chosen_by(alloc, message),
+            Event::Folder(_) => Ok(None),
+        }
+    }
+
     /// What stands after an event that is taken in this phase, where it changes anything.
     pub(crate) fn moved(
         &self,
@@ -305,7 +344,7 @@ impl Workspace {
         ensures { IfOk result (λ moved. serving.IsMovedIn phase event.now self.now moved) }
     {
         match phase {
-            Phase::Waiting => Ok(None),
+            Phase::Waiting => self.started_by(alloc, event),
             Phase::Serving => self.moved_by(alloc, event),
             Phase::ShutDown => Ok(None),
             Phase::Exited { .. } => Ok(None),

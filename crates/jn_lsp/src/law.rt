@@ -1,19 +1,20 @@
 //! The laws of servers.
 ghost use Rattle.std.specs.Prelude.{List};
+ghost use Rattle.jn_base.specs.declared.infer.Infer.{Infer};
 ghost use Rattle.jn_lsp_text.specs.declared.reply.Reply.{Reply as SpecReply};
 ghost use Rattle.jn_lsp.specs.declared.event.Event.{Event as SpecEvent};
 ghost use Rattle.jn_lsp.specs.Requests.{AreAnswered};
 ghost use Rattle.jn_lsp.specs.Serving.{IsUpToDate, Serves, ServerOf, new_server};
 
 /// After any events that a new server took, what it published last of each name is what the report of the files as they stand says of it:
-/// the diagnostics of its rows, in order, and none where it has no rows or doesn't stand.
+/// the diagnostics of its rows, in order, where those members are inferred that were chosen, and none where it has no rows or doesn't stand.
 pub fn last_published_is_the_report()
-    ensures { (events : List SpecEvent) (replies : List SpecReply) (after : ServerOf)
-        → Serves new_server events replies after → IsUpToDate after replies }
+    ensures { (infer : Infer) (events : List SpecEvent) (replies : List SpecReply) (after : ServerOf)
+        → Serves (new_server infer) events replies after → IsUpToDate after replies }
 {}
 
 /// A new server answers each request that comes before `exit` once, in the order of the requests, and no other.
 pub fn requests_are_answered_once()
-    ensures { (events : List SpecEvent) (replies : List SpecReply) (after : ServerOf)
-        → Serves new_server events replies after → AreAnswered events replies }
+    ensures { (infer : Infer) (events : List SpecEvent) (replies : List SpecReply) (after : ServerOf)
+        → Serves (new_server infer) events replies after → AreAnswered events replies }
 {}

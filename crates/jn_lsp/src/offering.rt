@@ -42,11 +42,20 @@ fn actions_of<R: Threads + Sync, G: Gate + Sync>(
     name: &str,
     range: Range,
 ) -> Result<Seq<Action>, OutOfMemory>
-    ensures { IfOk result (λ actions. AreActions (spec.files_of workspace.now) name.now range
+    ensures { IfOk result (λ actions. AreActions workspace.now.infer (spec.files_of workspace.now) name.now range
         actions) }
 {
     let files = stand(alloc, workspace)?;
-    let actions = actions_for(rt, gate, alloc, WORKERS, files.as_slice(), name, range)?;
+    let actions = actions_for(
+        rt,
+        gate,
+        alloc,
+        WORKERS,
+        workspace.infer,
+        files.as_slice(),
+        name,
+        range,
+    )?;
     Ok(actions)
 }
 
@@ -61,7 +70,7 @@ fn actions_at<R: Threads + Sync, G: Gate + Sync>(
     name: &str,
     range: Range,
 ) -> Result<Seq<Action>, OutOfMemory>
-    ensures { IfOk result (λ actions. spec.AreActionsIf
+    ensures { IfOk result (λ actions. spec.AreActionsIf workspace.now.infer
         (spec.is_offered told.now workspace.now name.now range)
         (spec.files_of workspace.now) name.now range actions) }
 {

@@ -12,7 +12,7 @@ use crate::publishing::announce;
 use crate::reporting::tell;
 use crate::standing::stand;
 use crate::unknown::hushed;
-use jn_base::{OutOfMemory, Seq, Text};
+use jn_base::{Infer, OutOfMemory, Seq, Text};
 use jn_lsp_text::Reply;
 use jn_recheck::Session;
 use jn_sharing::Gate;
@@ -41,7 +41,7 @@ fn retell<R: Threads + Sync, G: Gate + Sync>(
     ensures announced { IfOk result (λ news. Announces opened.now before.now news.told.items news.publications) }
 {
     let files = stand(alloc, workspace)?;
-    let all = tell(rt, gate, alloc, session, files.as_slice())?;
+    let all = tell(rt, gate, alloc, workspace.infer, session, files.as_slice())?;
     let told = hushed(alloc, workspace.unknown.as_slice(), all.as_slice())?;
     let publications = announce(alloc, opened, before, told.as_slice())?;
     Ok(News { told, publications })
@@ -57,7 +57,7 @@ fn joined(replies: Seq<Reply>, more: Seq<Reply>) -> Result<Vec<Reply>, AllocErro
     Ok(all)
 }
 
-/// A language server: what it is told is in [`Event`]s. Contracts see its phase, the folder's files and the open documents, and what was
+/// A language server: what it is told is in [`Event`]s. Contracts see its phase, the members that are inferred, the folder's files and the open documents, and what was
 /// told of the files that stand.
 #[derive(Drop)]
 pub struct Server {
@@ -79,17 +79,17 @@ impl Model for Server {
 }
 
 impl Server {
-    /// A server to which no client has spoken yet.
+    /// A server to which no client has spoken yet; it infers these members where the client chooses none.
     #[tactic(auto, using(crate::proofs::Hushing::told_nothing))]
-    pub fn new(alloc: Global) -> Server
-        ensures { result ≡ new_server }
+    pub fn new(alloc: Global, infer: Infer) -> Server
+        ensures { result ≡ new_server infer }
     {
         Server {
             alloc,
             phase: Phase::Waiting,
-            workspace: Workspace::new(alloc),
+            workspace: Workspace::new(alloc, infer),
             told: Vec::new(alloc),
-            session: Session::new(alloc),
+            session: Session::new(alloc, infer),
         }
     }
 

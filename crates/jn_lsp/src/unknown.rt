@@ -9,7 +9,7 @@ use crate::documents::is_java;
 use crate::phase::Phase;
 use jn_base::{Seq, Text};
 use jn_front::SourceFile;
-use jn_lsp_text::{Message, Reply, copy_diagnostics};
+use jn_lsp_text::{Choice, Message, Reply, copy_diagnostics};
 use std::alloc::{AllocError, Global};
 
 // ---- names
@@ -240,6 +240,10 @@ pub(crate) fn hushed(
 
 // ---- warnings
 
+/// The warning of a choice of the members that are inferred that says nothing.
+const CHOICE_WORDS: &str =
+    "nullcheck: initializationOptions.infer is \"private\" or \"package\"; this one is left out";
+
 /// The warning that a document's text isn't known.
 fn doubt(alloc: Global, name: &Text) -> Result<Reply, AllocError>
     ensures { IfOk result (λ reply. reply ≡ spec.doubt name.now) }
@@ -264,7 +268,32 @@ fn put_doubts(alloc: Global, names: &[Text], replies: &mut Seq<Reply>) -> Result
     Ok(())
 }
 
-/// Puts a warning after the replies for each document whose text a message leaves open that comes in this phase.
+/// What a message says of the members that are inferred.
+fn choice_in(message: &Message) -> Choice
+    ensures { result ≡ spec.choice_in message.now }
+{
+    match message {
+        Message::Initialize { infer, .. } => *infer,
+        _ => Choice::Unsaid,
+    }
+}
+
+/// Puts a warning after the replies of a choice that says nothing.
+fn put_misread(alloc: Global, choice: Choice, replies: &mut Seq<Reply>) -> Result<(), AllocError>
+    ensures { OnOk result (replies.new ≡ replies.old ++ spec.misread choice) }
+{
+    match choice {
+        Choice::Unsaid => Ok(()),
+        Choice::Said(_) => Ok(()),
+        Choice::Wrong => {
+            let words = Text::of_str(alloc, CHOICE_WORDS)?;
+            replies.push(Reply::Show { words })
+        }
+    }
+}
+
+/// Puts a warning after the replies of a choice that says nothing, or for each document whose text is left open, by a message that comes in
+/// this phase.
 pub(crate) fn warn(
     alloc: Global,
     phase: Phase,
@@ -277,6 +306,7 @@ pub(crate) fn warn(
         ++ spec.doubts_in phase message.now documents.now unknown.now) }
 {
     match phase {
+        Phase::Waiting => put_misread(alloc, choice_in(message), replies),
         Phase::Serving => {
             let doubted = doubted_by(alloc, message, documents)?;
             let fresh = newly(alloc, unknown, doubted.as_slice())?;

@@ -2,7 +2,7 @@
 use Rattle.std.proofs.Common.{◌≡◌, ℕ, true, List, [], ◌∷◌, map, Some, None, refl, sym, ap, ◌∙◌, subst}
 use Rattle.std.proofs.lemmas.Bool.{false≢true}
 use Rattle.jn_annotate.specs.Shared.{IsLeast, is_among, shared_slots}
-use Rattle.jn_base.specs.declared.infer.Infer.TheVariants.{Private}
+use Rattle.jn_base.specs.declared.infer.Infer.{Infer}
 use Rattle.jn_base.specs.declared.place.Row.{Row}
 use Rattle.jn_command.specs.declared.report.Report.TheVariants.{Refused, Checked}
 use Rattle.jn_front.specs.declared.source.SourceFile.{SourceFile}
@@ -39,15 +39,15 @@ module _ (files : List SourceFile) (name : List ℕ) (range : Range) (names : Li
   pub none_shared : (rows : List Row) (actions : List Action) → IsLeast None (shared_slots P s trees P.fields) → AreWritten files name range names tokens trees P s rows actions → AreOfRules files name range names tokens trees P s rows actions
   none_shared rows actions e h = subst (λ (ns : List ℕ). AreUnlessShared files name range names tokens trees P s ns rows actions) (sym e) h
 
-module _ (files : List SourceFile) (name : List ℕ) (range : Range) where
+module _ (infer : Infer) (files : List SourceFile) (name : List ℕ) (range : Range) where
   -- of files that were checked
   pub of_checked : (names : List (List ℕ)) (P : Program) (s : List Qualifier) (tokens : List (List Token)) (trees : List FileTree) (rows : List Row) (actions : List Action)
       → ((tree : FileTree) → forget_file (placed_file tree) ≡ file_view tree)
-      → (typed : TypedProgramOf Private files names P) → typed.of_files.trees ≡ map placed_file trees → tokens ≡ typed.of_files.tokens
+      → (typed : TypedProgramOf infer files names P) → typed.of_files.trees ≡ map placed_file trees → tokens ≡ typed.of_files.tokens
       → IsLeastSignature P s → AreBroken P s rows
-      → AreOfRules files name range names tokens (map file_view trees) P s rows actions → AreActions files name range actions
+      → AreOfRules files name range names tokens (map file_view trees) P s rows actions → AreActions infer files name range actions
   of_checked names P s tokens trees rows actions view typed these same least broken are =
-      let checked : IsCheckedBy Private files rows = record { names = names; P = P; of_files = typed; rules = record { signature = s; least = least; broken = broken.all; breaks = broken.broken; order = broken.ordered } } in
+      let checked : IsCheckedBy infer files rows = record { names = names; P = P; of_files = typed; rules = record { signature = s; least = least; broken = broken.all; breaks = broken.broken; order = broken.ordered } } in
       let forgotten : map file_view trees ≡ map forget_file typed.of_files.trees = views view trees ∙ ap (map forget_file) (sym these) in
       record {
         report = Checked rows;
@@ -56,5 +56,5 @@ module _ (files : List SourceFile) (name : List ℕ) (range : Range) where
       }
 
   -- of files that are refused
-  pub of_refused : (rows : List Row) (actions : List Action) → IsPhase Private files rows → actions ≡ [] → AreActions files name range actions
+  pub of_refused : (rows : List Row) (actions : List Action) → IsPhase infer files rows → actions ≡ [] → AreActions infer files name range actions
   of_refused rows actions phase none = record { report = Refused rows; is = phase; offered = none }

@@ -1,7 +1,7 @@
 -- The actions that are offered at a range of a file: for each row there that speaks of a value or a pair, the first slot of its first chain whose annotation
 -- can be written.
 use Rattle.std.specs.Prelude.{ℕ, ◌≡◌, Bool, true, false, cond, ◌||◌, eqb, List, [], ◌∷◌, ◌++◌, map, Option, Some, None}
-use Rattle.jn_base.specs.declared.infer.Infer.TheVariants.{Private}
+use Rattle.jn_base.specs.declared.infer.Infer.{Infer}
 use Rattle.jn_base.specs.declared.place.Row.{Row}
 use Rattle.jn_command.specs.declared.report.Report.{Report}
 use Rattle.jn_command.specs.declared.report.Report.TheVariants.{Refused, Checked}
@@ -100,13 +100,14 @@ module _ (files : List SourceFile) (name : List ℕ) (range : Range) where
     abbrev pub AreOfRules : List Row → List Action → Type 0
     AreOfRules rows actions = AreUnlessShared (shared_slots P s trees P.fields) rows actions
 
+module _ (infer : Infer) (files : List SourceFile) (name : List ℕ) (range : Range) where
   -- those of a report: refused files get none
   abbrev pub AreOffered : Report → List Action → Type 0
   AreOffered (Refused rows) actions = actions ≡ []
-  AreOffered (Checked rows) actions = (checked : IsCheckedBy Private files rows) × AreOfRules checked.names checked.of_files.of_files.tokens (map forget_file checked.of_files.of_files.trees) checked.P checked.rules.signature rows actions
+  AreOffered (Checked rows) actions = (checked : IsCheckedBy infer files rows) × AreOfRules files name range checked.names checked.of_files.of_files.tokens (map forget_file checked.of_files.of_files.trees) checked.P checked.rules.signature rows actions
 
-  -- those of the files' report
+  -- those of the files' report, where these members are inferred
   pub record AreActions (actions : List Action) : Type 0 where
     pub report : Report
-    pub is : IsReport Private files report
+    pub is : IsReport infer files report
     pub offered : AreOffered report actions

@@ -14,7 +14,7 @@ ghost use Rattle.jn_lsp_actions.specs.Written.{is_written};
 use crate::asking::is_asked;
 use crate::edits::Solved;
 use jn_base::lists::put;
-use jn_base::{OutOfMemory, Row};
+use jn_base::{Infer, OutOfMemory, Row};
 use jn_chain::first_chain;
 use jn_contrib::Overrider;
 use jn_env::FlowTable;
@@ -28,6 +28,8 @@ use std::alloc::Global;
 /// What is asked for: rows of the file of a name that meet a range.
 #[derive(Clone, Copy)]
 pub struct Asked<'a> {
+    /// The members that are inferred.
+    pub infer: Infer,
     pub name: &'a str,
     pub range: Range,
 }

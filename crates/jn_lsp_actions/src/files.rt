@@ -1,6 +1,5 @@
 //! From files to the actions that are offered in one of them.
 ghost use Rattle.std.specs.Prelude.{◌≡◌, ◌≤◌, length, map, IfOk, IsSome};
-ghost use Rattle.jn_base.specs.declared.infer.Infer.TheVariants.{Private};
 ghost use Rattle.jn_front.specs.Counted.{ReadsFit};
 ghost use Rattle.jn_front.specs.Files.{files_of_reads};
 ghost use Rattle.jn_inference_law.specs.Solution.{IsLeastSignature};
@@ -108,13 +107,13 @@ fn of_solved(
     requires few { length reads.now ≤ 64 }
     requires reads { ReadsFit reads.now }
     requires whole { files_of_reads reads.now ≡ files.now }
-    requires program { (typed : TypedProgramOf Private files.now names.now base.now)
+    requires program { (typed : TypedProgramOf asked.now.infer files.now names.now base.now)
         × (typed.of_files.trees ≡ map placed_file trees.now) }
     requires inferable { IsInferable base.now }
     requires least { IsLeastSignature base.now sig.now }
     requires rows { AreBroken base.now sig.now rows.now }
     ensures { IfOk result (λ actions.
-        AreActions files.now asked.now.name.now asked.now.range actions) }
+        AreActions asked.now.infer files.now asked.now.name.now asked.now.range actions) }
 {
     places_are_forgotten();
     let tokens = lex_all(alloc, reads)?;
@@ -150,10 +149,10 @@ fn of_program<R: Threads + Sync, G: Gate + Sync>(
     requires few { length reads.now ≤ 64 }
     requires reads { ReadsFit reads.now }
     requires whole { files_of_reads reads.now ≡ files.now }
-    requires program { (typed : TypedProgramOf Private files.now names.now base.now)
+    requires program { (typed : TypedProgramOf asked.now.infer files.now names.now base.now)
         × (typed.of_files.trees ≡ map placed_file trees.now) }
     ensures { IfOk result (λ actions.
-        AreActions files.now asked.now.name.now asked.now.range actions) }
+        AreActions asked.now.infer files.now asked.now.name.now asked.now.range actions) }
 {
     regular_programs_can_be_inferred();
     let indexed = base.indexed();
@@ -179,10 +178,10 @@ fn finish<R: Threads + Sync, G: Gate + Sync>(
     requires few { length reads.now ≤ 64 }
     requires reads { ReadsFit reads.now }
     requires whole { IsSome found.now.base → files_of_reads reads.now ≡ files.now }
-    requires typed { IsTypedOr Private files.now found.now.names
+    requires typed { IsTypedOr asked.now.infer files.now found.now.names
         (map placed_file found.now.trees.items) found.now.rows found.now.base }
     ensures { IfOk result (λ actions.
-        AreActions files.now asked.now.name.now asked.now.range actions) }
+        AreActions asked.now.infer files.now asked.now.name.now asked.now.range actions) }
 {
     match &found.base {
         None => Ok(Seq::new(alloc)),
@@ -201,7 +200,8 @@ fn finish<R: Threads + Sync, G: Gate + Sync>(
     }
 }
 
-/// The edits that are offered in a range of the file of a name, among files that are checked anew by so many workers. For each row there, the
+/// The edits that are offered in a range of the file of a name, among files that are checked anew by so many workers, where
+/// these members are inferred. For each row there, the
 /// first slot of the row's first chain of causes that is inferred and whose annotation can be written alone gives one edit, once for all rows
 /// that come to that slot; edits stand in the order of the report, each at the last of its rows. An edit puts the words that annotating the
 /// files puts for that slot ([`jn_annotate::annotate`]), with lines that import them where the file doesn't, into the file that declares the
@@ -218,20 +218,21 @@ pub fn actions_for<R: Threads + Sync, G: Gate + Sync>(
     gate: &G,
     alloc: Global,
     workers: u32,
+    infer: Infer,
     files: &[SourceFile],
     name: &str,
     range: Range,
 ) -> Result<Seq<Action>, OutOfMemory>
     requires workers { (1 ≤ workers) × (workers ≤ 16) }
     requires fit { AllFit files.now }
-    ensures { IfOk result (λ actions. AreActions files.now name.now range actions) }
+    ensures { IfOk result (λ actions. AreActions infer files.now name.now range actions) }
 {
     if files.len() > MOST_FILES {
         too_many_files(alloc)?;
         return Ok(Seq::new(alloc));
     }
     let reads = reads_of(alloc, files)?;
-    let found = type_files(rt, gate, alloc, workers, Infer::Private, &reads)?;
+    let found = type_files(rt, gate, alloc, workers, infer, &reads)?;
     finish(
         rt,
         gate,
@@ -240,6 +241,6 @@ pub fn actions_for<R: Threads + Sync, G: Gate + Sync>(
         &reads,
         files,
         &found,
-        &Asked { name, range },
+        &Asked { infer, name, range },
     )
 }

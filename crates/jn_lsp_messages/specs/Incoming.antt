@@ -3,6 +3,9 @@ use Rattle.std.specs.Prelude.{ℕ, ◌^◌, ◌≡◌, ◌⊎◌, ◌||◌, Bool
 use Rattle.serde_json.specs.Data.{Data, Items, no_items, item}
 use Rattle.serde_json.specs.Find.{as_array, as_i64, as_null, as_number, as_str, as_u64, get, pointer}
 use Rattle.serde_json.specs.Read.{read}
+use Rattle.jn_lsp_text.specs.Choices.{choice_named}
+use Rattle.jn_lsp_text.specs.declared.choice.Choice.{Choice}
+use Rattle.jn_lsp_text.specs.declared.choice.Choice.TheVariants.{Unsaid, Wrong}
 use Rattle.jn_lsp_text.specs.declared.position.Position.{Position}
 use Rattle.jn_lsp_text.specs.declared.range.Range.{Range}
 use Rattle.jn_lsp_text.specs.declared.id.Id.{Id}
@@ -98,6 +101,18 @@ abbrev pub texts_or : List (List ℕ) → Option Data → Option (List (List ℕ
 texts_or usual None = Some usual
 texts_or usual (Some d) = if is_some (as_null d) then Some usual else all_texts d
 
+-- the members that are inferred by the settings; what is no text says none
+abbrev pub choice_by : Option (List ℕ) → Choice
+choice_by None = Wrong
+choice_by (Some name) = choice_named name
+
+abbrev pub choice_or : Option Data → Choice
+choice_or None = Unsaid
+choice_or (Some d) = if is_some (as_null d) then Unsaid else choice_by (as_str d)
+
+unfoldable pub infer_in : Data → Choice
+infer_in d = choice_or (pointer (codes "/params/initializationOptions/infer") d)
+
 -- names of files by the settings
 unfoldable pub files_in : Data → Option (List (List ℕ))
 files_in d = texts_or [] (pointer (codes "/params/initializationOptions/files") d)
@@ -132,7 +147,7 @@ abbrev pub changed : Data → Message
 changed d = about (λ name. option_map (message.DidChange name) (changes_in d)) (document_name d)
 
 abbrev pub asked_start : Id → Data → Option Message
-asked_start id d = option_and_then (λ files. option_map (message.Initialize id (folder_in d) files) (exclude_in d)) (files_in d)
+asked_start id d = option_and_then (λ files. option_map (message.Initialize id (folder_in d) (infer_in d) files) (exclude_in d)) (files_in d)
 
 abbrev pub asked_actions : Id → Data → Option Message
 asked_actions id d = option_and_then (λ name. option_map (message.CodeAction id name) (named_range d)) (document_name d)

@@ -6,7 +6,7 @@ ghost use Rattle.jn_lsp_messages.specs.Incoming as spec;
 
 use crate::uri::name_of;
 use jn_base::{OutOfMemory, Seq, Text};
-use jn_lsp_text::{Change, Position, Range};
+use jn_lsp_text::{Change, Choice, Position, Range, choice_named};
 use serde_json::Value;
 use std::alloc::{AllocError, Global};
 
@@ -190,6 +190,27 @@ fn root_path(alloc: Global, body: &Value) -> Result<Option<Text>, OutOfMemory>
     match text_at(body, "/params/rootPath") {
         None => Ok(None),
         Some(path) => Ok(Some(Text::of_str(alloc, path)?)),
+    }
+}
+
+/// The members that are inferred by the settings.
+#[tactic(auto, unfolding(crate::specs::Incoming::infer_in))]
+pub(crate) fn infer_in(body: &Value) -> Choice
+    ensures { result ≡ spec.infer_in (view body.now) }
+{
+    match body.pointer("/params/initializationOptions/infer") {
+        None => Choice::Unsaid,
+        Some(infer) if infer.is_null() => Choice::Unsaid,
+        Some(infer) => choice_by(infer),
+    }
+}
+
+fn choice_by(value: &Value) -> Choice
+    ensures { result ≡ spec.choice_by (as_str (view value.now)) }
+{
+    match value.as_str() {
+        None => Choice::Wrong,
+        Some(name) => choice_named(name),
     }
 }
 

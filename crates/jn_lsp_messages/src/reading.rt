@@ -5,7 +5,8 @@ ghost use Rattle.jn_lsp_messages.specs.Incoming as spec;
 
 use crate::method::{Method, method_of};
 use crate::params::{
-    changes_in, document_name, document_text, exclude_in, files_in, folder_in, named_range, text_in,
+    changes_in, document_name, document_text, exclude_in, files_in, folder_in, infer_in,
+    named_range, text_in,
 };
 use jn_base::{OutOfMemory, Text};
 use jn_lsp_text::{Id, Message};
@@ -192,6 +193,7 @@ fn initialize(alloc: Global, id: Id, body: &Value) -> Result<Message, OutOfMemor
     ensures { IfOk result (λ m. m ≡ spec.request Method.Initialize id (view body.now)) }
 {
     let folder = folder_in(alloc, body)?;
+    let infer = infer_in(body);
     let Some(files) = files_in(alloc, body)? else {
         return Ok(Message::BadParams { id: Some(id) });
     };
@@ -200,6 +202,7 @@ fn initialize(alloc: Global, id: Id, body: &Value) -> Result<Message, OutOfMemor
         Some(exclude) => Ok(Message::Initialize {
             id,
             folder,
+            infer,
             files,
             exclude,
         }),

@@ -1,3 +1,4 @@
 pub mod Positions
 pub mod Ranges
 pub mod Counting
+pub mod Choices

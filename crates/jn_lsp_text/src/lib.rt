@@ -5,6 +5,7 @@
 //! the same rule, which [`Position`] tells.
 #![tactic(auto)]
 
+pub mod choice;
 pub mod copies;
 pub mod counting;
 pub mod id;
@@ -13,6 +14,7 @@ pub mod position;
 pub mod range;
 pub mod reply;
 
+pub use choice::{Choice, choice_named, chosen};
 pub use copies::copy_diagnostics;
 pub use id::Id;
 pub use message::{Change, Message};

@@ -1,5 +1,6 @@
 //! What a client sends.
 use crate::Range;
+use crate::choice::Choice;
 use crate::id::Id;
 use jn_base::{Seq, Text};
 
@@ -15,12 +16,13 @@ pub enum Change {
 /// A message of a client (Language Server Protocol 3.17), or why a body is none.
 #[derive(Drop)]
 pub enum Message {
-    /// `initialize`: the path of the workspace's folder, where one is named, and the names of files by the settings
-    /// (`initializationOptions.files`), each whole or relative to the folder, and the names of folders that are left out
-    /// (`initializationOptions.exclude`).
+    /// `initialize`: the path of the workspace's folder, where one is named, the members that are inferred by the settings
+    /// (`initializationOptions.infer`), the names of files by the settings (`initializationOptions.files`), each whole or relative to the
+    /// folder, and the names of folders that are left out (`initializationOptions.exclude`).
     Initialize {
         id: Id,
         folder: Option<Text>,
+        infer: Choice,
         files: Seq<Text>,
         exclude: Seq<Text>,
     },

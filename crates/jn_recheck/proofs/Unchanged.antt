@@ -1,6 +1,7 @@
 -- Files that stay have the report that they had, and each body of their program is reusable.
 use Rattle.std.proofs.Common.{◌≡◌, ℕ, zero, suc, ◌+◌, ◌<◌, Bool, false, true, List, [], ◌∷◌, length, map, get_or, Option, Some, None, refl, sym, ap, ◌∙◌, subst, arith}
 use Rattle.std.specs.Prelude.{slice_get}
+use Rattle.jn_base.specs.declared.infer.Infer.{Infer}
 use Rattle.jn_base.specs.declared.place.Row.{Row}
 use Rattle.jn_quals.specs.Qualifier.{Qualifier}
 use Rattle.jn_points.specs.declared.point.Point.{Point}
@@ -102,9 +103,9 @@ abbrev found_of : Option Solved → Report → Option Solved
 found_of kept (Refused rows) = None
 found_of kept (Checked rows) = kept
 
-told_is : (files : List SourceFile) (kept : Option Solved) (report : Report) → IsTold files kept report → IsRecheck kept files report (found_of kept report) 0
-told_is files kept (Refused rows) is = (is, refl, refl)
-told_is files kept (Checked rows) (is, (solved, same, of_files)) = (is, (solved, same, of_files, subst (λ (k : Option Solved). AreMadeAnew k solved 0) (sym same) (none_made solved)))
+told_is : (infer : Infer) (files : List SourceFile) (kept : Option Solved) (report : Report) → IsTold infer files kept report → IsRecheck infer kept files report (found_of kept report) 0
+told_is infer files kept (Refused rows) is = (is, refl, refl)
+told_is infer files kept (Checked rows) (is, (solved, same, of_files)) = (is, (solved, same, of_files, subst (λ (k : Option Solved). AreMadeAnew k solved 0) (sym same) (none_made solved)))
 
 told_keeps : (kept : Option Solved) (report : Report) → kept ≡ or_else (found_of kept report) kept
 told_keeps kept (Refused rows) = refl
@@ -113,17 +114,17 @@ told_keeps (Some solved) (Checked rows) = refl
 
 -- files that stayed have the report that they had
 pub told_again : (session : SessionOf) (files last : List SourceFile) (report : Report) (count : ℕ) (rows : List RowText) (places : List Row) (verdict : Verdict)
-    → files ≡ session.files → last ≡ session.last → last ≡ files → IsTold last session.kept report
+    → files ≡ session.files → last ≡ session.last → last ≡ files → IsTold session.infer last session.kept report
     → AreShown files report rows places verdict → count ≡ changed last files
     → Reports session session rows places verdict count 0
 told_again session files last report count rows places verdict now was same told shown counted =
     session_reports session session files files last report (found_of session.kept report) 0 0 count rows places verdict
     now now was
-    (told_is files session.kept report (subst (λ (fs : List SourceFile). IsTold fs session.kept report) same told))
-    shown counted refl refl (sym was ∙ same) (told_keeps session.kept report)
+    (told_is session.infer files session.kept report (subst (λ (fs : List SourceFile). IsTold session.infer fs session.kept report) same told))
+    shown counted refl refl refl (sym was ∙ same) (told_keeps session.kept report)
 
 -- a recheck's report is the last one then
-pub settled : (old : Option Solved) (files : List SourceFile) (report : Report) (found : Option Solved) (made : ℕ) → IsRecheck old files report found made → IsTold files (or_else found old) report
-settled old files (Refused rows) found made is = is.0
-settled old files (Checked rows) None made (is, (solved, same, of_files, anew)) = absurd (let k : None ≡ Some solved = same in cc)
-settled old files (Checked rows) (Some found) made (is, (solved, same, of_files, anew)) = (is, (solved, same, of_files))
+pub settled : (infer : Infer) (old : Option Solved) (files : List SourceFile) (report : Report) (found : Option Solved) (made : ℕ) → IsRecheck infer old files report found made → IsTold infer files (or_else found old) report
+settled infer old files (Refused rows) found made is = is.0
+settled infer old files (Checked rows) None made (is, (solved, same, of_files, anew)) = absurd (let k : None ≡ Some solved = same in cc)
+settled infer old files (Checked rows) (Some found) made (is, (solved, same, of_files, anew)) = (is, (solved, same, of_files))

@@ -1,6 +1,6 @@
 -- What is kept beside the kept program, where that is the program of the files whose trees are kept.
 use Rattle.std.specs.Prelude.{◌≡◌, List, Option, Some, None}
-use Rattle.jn_base.specs.declared.infer.Infer.TheVariants.{Private}
+use Rattle.jn_base.specs.declared.infer.Infer.{Infer}
 use Rattle.jn_places.specs.Placed.{PlacedFile}
 use Rattle.jn_points.specs.declared.program.Program.{Program}
 use Rattle.jn_kept_points.specs.declared.typing.KeptTyping.{KeptTyping}
@@ -10,10 +10,10 @@ use Rattle.jn_kept_trees.specs.Staying.{HaveTrees}
 use Rattle.jn_recheck_law.specs.Reusable.{Solved}
 
 -- where something is kept, the program is that of files with the trees that are kept of them
-abbrev pub StandsOn : List (Option KeptTree) → Option Solved → Option KeptTyping → Type 0
-StandsOn trees kept None = Unit {0}
-StandsOn trees None (Some typing) = ⊥
-StandsOn trees (Some solved) (Some typing) = (placed : List PlacedFile) × HaveTrees trees placed × IsTypingOf Private placed solved.program typing
+abbrev pub StandsOn : Infer → List (Option KeptTree) → Option Solved → Option KeptTyping → Type 0
+StandsOn infer trees kept None = Unit {0}
+StandsOn infer trees None (Some typing) = ⊥
+StandsOn infer trees (Some solved) (Some typing) = (placed : List PlacedFile) × HaveTrees trees placed × IsTypingOf infer placed solved.program typing
 
 -- the program is what is kept
 abbrev pub KeepsProgram : Option Solved → Program → Type 0

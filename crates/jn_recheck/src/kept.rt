@@ -1,6 +1,5 @@
 //! What is kept of a report that came to the rules.
 ghost use Rattle.std.specs.Prelude.{◌≡◌, ◌≤◌, ◌<◌, IfOk, IsSome, List, length};
-ghost use Rattle.jn_base.specs.declared.infer.Infer.TheVariants.{Private};
 ghost use Rattle.jn_contrib.specs.Entries.{AreOverriders};
 ghost use Rattle.jn_front.specs.Counted.{ReadsFit};
 ghost use Rattle.jn_front.specs.Files.{AreReads, most_files};
@@ -138,6 +137,7 @@ impl Kept {
         gate: &G,
         alloc: Global,
         workers: u32,
+        infer: Infer,
         reads: &[SourceRead],
         last: &[SourceFile],
         trees: Vec<Option<KeptTree>>,
@@ -149,13 +149,13 @@ impl Kept {
         requires read { (files : List FileOf) × AreReads reads.now files }
         requires kept { AreKeptTrees last.now trees.items }
         requires earlier { (before : List PlacedFile) × HaveTrees trees.items before
-            × IsTypingOf Private before self.old.program typing.now }
+            × IsTypingOf infer before self.old.program typing.now }
         ensures typed { IfOk result (λ typed. (files : List FileOf) → AreReads reads.now files
-            → (placed : List PlacedFile) × IsTypedOr Private files typed.names placed typed.rows typed.base) }
+            → (placed : List PlacedFile) × IsTypedOr infer files typed.names placed typed.rows typed.base) }
         ensures kept { IfOk result (λ typed. (files : List FileOf) → AreReads reads.now files
             → AreKeptTrees files typed.kept.items) }
         ensures typing { IfOk result (λ typed. IsSome typed.base → (placed : List PlacedFile)
-            × HaveTrees typed.kept.items placed × IsKeptOf Private placed typed.base typed.typing) }
+            × HaveTrees typed.kept.items placed × IsKeptOf infer placed typed.base typed.typing) }
         ensures same { self.new ≡ self.old }
     {
         type_files_on(
@@ -163,7 +163,7 @@ impl Kept {
             gate,
             alloc,
             workers,
-            Infer::Private,
+            infer,
             reads,
             last,
             trees,

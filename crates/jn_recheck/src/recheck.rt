@@ -3,7 +3,6 @@ ghost use Rattle.std.specs.Prelude.{◌≡◌, ◌≤◌, ◌<◌, IfOk, IsSome,
 ghost use Rattle.jn_command.specs.declared.report.Report.TheVariants.{Refused, Checked};
 ghost use Rattle.jn_front.specs.declared.source.SourceFile.{SourceFile as FileOf};
 ghost use Rattle.jn_recheck.specs.Files.{AllFit};
-ghost use Rattle.jn_base.specs.declared.infer.Infer.TheVariants.{Private};
 ghost use Rattle.jn_front.specs.Counted.{ReadsFit};
 ghost use Rattle.jn_front.specs.Files.{AreReads, most_files};
 ghost use Rattle.jn_kept_points.specs.Typings.{IsKeptOf};
@@ -58,6 +57,7 @@ fn check_typed<R: Threads + Sync, G: Gate + Sync, H: Gate + Sync>(
     rt: &R,
     alloc: Global,
     workers: u32,
+    infer: Infer,
     files: &[SourceFile],
     kept: &Option<Kept>,
     names: Names,
@@ -66,11 +66,12 @@ fn check_typed<R: Threads + Sync, G: Gate + Sync, H: Gate + Sync>(
     bodies: &H,
 ) -> Result<Rechecked, OutOfMemory>
     requires workers { (1 ≤ workers) × (workers ≤ 16) }
-    requires program { TypedProgramOf Private files.now names base }
+    requires program { TypedProgramOf infer files.now names base }
     ensures recheck { IfOk result
-        (λ r. IsRecheck kept.now files.now r.report r.kept r.made) }
+        (λ r. IsRecheck infer kept.now files.now r.report r.kept r.made) }
     ensures program { IfOk result (λ r. KeepsProgram r.kept base) }
 {
+    let _infer = infer;
     let _files = files;
     regular_programs_can_be_inferred();
     let list = overriders(alloc, base.indexed())?;
@@ -107,6 +108,7 @@ fn finish<R: Threads + Sync, G: Gate + Sync, H: Gate + Sync>(
     rt: &R,
     alloc: Global,
     workers: u32,
+    infer: Infer,
     files: &[SourceFile],
     kept: &Option<Kept>,
     names: Names,
@@ -116,9 +118,9 @@ fn finish<R: Threads + Sync, G: Gate + Sync, H: Gate + Sync>(
     bodies: &H,
 ) -> Result<Rechecked, OutOfMemory>
     requires workers { (1 ≤ workers) × (workers ≤ 16) }
-    requires typed { (trees : List PlacedFile) × IsTypedOr Private files.now names trees rows base }
+    requires typed { (trees : List PlacedFile) × IsTypedOr infer files.now names trees rows base }
     ensures recheck { IfOk result
-        (λ r. IsRecheck kept.now files.now r.report r.kept r.made) }
+        (λ r. IsRecheck infer kept.now files.now r.report r.kept r.made) }
     ensures program { IfOk result (λ r. KeepsBase r.kept base) }
 {
     match base {
@@ -129,7 +131,7 @@ fn finish<R: Threads + Sync, G: Gate + Sync, H: Gate + Sync>(
         Some(base) => {
             drop(rows);
             return check_typed(
-                rt, alloc, workers, files, kept, names, base, solving, bodies,
+                rt, alloc, workers, infer, files, kept, names, base, solving, bodies,
             );
         }
     }
@@ -140,6 +142,7 @@ fn type_beside<R: Threads + Sync, G: Gate + Sync>(
     rt: &R,
     alloc: Global,
     workers: u32,
+    infer: Infer,
     reads: &[SourceRead],
     last: &[SourceFile],
     trees: Vec<Option<KeptTree>>,
@@ -152,27 +155,20 @@ fn type_beside<R: Threads + Sync, G: Gate + Sync>(
     requires fit { ReadsFit reads.now }
     requires read { (files : List FileOf) × AreReads reads.now files }
     requires trees { AreKeptTrees last.now trees.items }
-    requires stands { StandsOn trees.items kept.old (Some typing.now) }
+    requires stands { StandsOn infer trees.items kept.old (Some typing.now) }
     ensures typed { IfOk result (λ typed. (files : List FileOf) → AreReads reads.now files
-        → (placed : List PlacedFile) × IsTypedOr Private files typed.names placed typed.rows typed.base) }
+        → (placed : List PlacedFile) × IsTypedOr infer files typed.names placed typed.rows typed.base) }
     ensures kept { IfOk result (λ typed. (files : List FileOf) → AreReads reads.now files
         → AreKeptTrees files typed.kept.items) }
     ensures typing { IfOk result (λ typed. IsSome typed.base → (placed : List PlacedFile)
-        × HaveTrees typed.kept.items placed × IsKeptOf Private placed typed.base typed.typing) }
+        × HaveTrees typed.kept.items placed × IsKeptOf infer placed typed.base typed.typing) }
     ensures same { kept.new ≡ kept.old }
 {
     match kept {
-        None => type_files_again(
-            rt,
-            solving,
-            alloc,
-            workers,
-            Infer::Private,
-            reads,
-            last,
-            trees,
+        None => type_files_again(rt, solving, alloc, workers, infer, reads, last, trees),
+        Some(kept) => kept.type_on(
+            rt, solving, alloc, workers, infer, reads, last, trees, typing,
         ),
-        Some(kept) => kept.type_on(rt, solving, alloc, workers, reads, last, trees, typing),
     }
 }
 
@@ -181,6 +177,7 @@ fn type_again<R: Threads + Sync, G: Gate + Sync>(
     rt: &R,
     alloc: Global,
     workers: u32,
+    infer: Infer,
     reads: &[SourceRead],
     last: &[SourceFile],
     trees: Vec<Option<KeptTree>>,
@@ -193,28 +190,19 @@ fn type_again<R: Threads + Sync, G: Gate + Sync>(
     requires fit { ReadsFit reads.now }
     requires read { (files : List FileOf) × AreReads reads.now files }
     requires trees { AreKeptTrees last.now trees.items }
-    requires stands { StandsOn trees.items kept.old typing.now }
+    requires stands { StandsOn infer trees.items kept.old typing.now }
     ensures typed { IfOk result (λ typed. (files : List FileOf) → AreReads reads.now files
-        → (placed : List PlacedFile) × IsTypedOr Private files typed.names placed typed.rows typed.base) }
+        → (placed : List PlacedFile) × IsTypedOr infer files typed.names placed typed.rows typed.base) }
     ensures kept { IfOk result (λ typed. (files : List FileOf) → AreReads reads.now files
         → AreKeptTrees files typed.kept.items) }
     ensures typing { IfOk result (λ typed. IsSome typed.base → (placed : List PlacedFile)
-        × HaveTrees typed.kept.items placed × IsKeptOf Private placed typed.base typed.typing) }
+        × HaveTrees typed.kept.items placed × IsKeptOf infer placed typed.base typed.typing) }
     ensures same { kept.new ≡ kept.old }
 {
     match typing {
-        None => type_files_again(
-            rt,
-            solving,
-            alloc,
-            workers,
-            Infer::Private,
-            reads,
-            last,
-            trees,
-        ),
+        None => type_files_again(rt, solving, alloc, workers, infer, reads, last, trees),
         Some(typing) => type_beside(
-            rt, alloc, workers, reads, last, trees, kept, typing, solving,
+            rt, alloc, workers, infer, reads, last, trees, kept, typing, solving,
         ),
     }
 }
@@ -232,13 +220,14 @@ fn beside(found: &Rechecked, typing: Option<KeptTyping>) -> Option<KeptTyping>
     }
 }
 
-/// The report of files, by so many workers: those who take a file or infer enter the gate `solving`, and those who make a body's rows
+/// The report of files where these members are inferred, by so many workers: those who take a file or infer enter the gate `solving`, and those who make a body's rows
 /// anew the gate `bodies`. `trees` is what was kept of the texts of the files `last`, and `typing` what was kept beside the program in `kept` where
 /// it is that of these files. With the report comes what is to be kept then.
 pub(crate) fn recheck_files<R: Threads + Sync, G: Gate + Sync, H: Gate + Sync>(
     rt: &R,
     alloc: Global,
     workers: u32,
+    infer: Infer,
     files: &[SourceFile],
     last: &[SourceFile],
     trees: Vec<Option<KeptTree>>,
@@ -249,11 +238,11 @@ pub(crate) fn recheck_files<R: Threads + Sync, G: Gate + Sync, H: Gate + Sync>(
 ) -> Result<FilesAgain, OutOfMemory>
     requires workers { (1 ≤ workers) × (workers ≤ 16) }
     requires trees { AreKeptTrees last.now trees.items }
-    requires stands { StandsOn trees.items kept.old typing.now }
+    requires stands { StandsOn infer trees.items kept.old typing.now }
     ensures recheck { IfOk result
-        (λ r. IsRecheck kept.old files.now r.found.report r.found.kept r.found.made) }
+        (λ r. IsRecheck infer kept.old files.now r.found.report r.found.kept r.found.made) }
     ensures trees { IfOk result (λ r. AreKeptTrees files.now r.trees.items) }
-    ensures stands { IfOk result (λ r. StandsOn r.trees.items r.found.kept r.typing) }
+    ensures stands { IfOk result (λ r. StandsOn infer r.trees.items r.found.kept r.typing) }
     ensures same { kept.new ≡ kept.old }
 {
     if files.len() > MOST_FILES {
@@ -271,11 +260,11 @@ pub(crate) fn recheck_files<R: Threads + Sync, G: Gate + Sync, H: Gate + Sync>(
         kept: trees,
         typing,
     } = type_again(
-        rt, alloc, workers, &reads, last, trees, kept, typing, solving,
+        rt, alloc, workers, infer, &reads, last, trees, kept, typing, solving,
     )?;
     drop(reads);
     let found = finish(
-        rt, alloc, workers, files, kept, names, rows, base, solving, bodies,
+        rt, alloc, workers, infer, files, kept, names, rows, base, solving, bodies,
     )?;
     let typing = beside(&found, typing);
     Ok(FilesAgain {

@@ -8,7 +8,7 @@ use crate::kept::Kept;
 use crate::notes::notes_of;
 use crate::recheck::{FilesAgain, Rechecked, recheck_files};
 use crate::telling::{tell, told_again};
-use jn_base::{OutOfMemory, Row};
+use jn_base::{Infer, OutOfMemory, Row};
 use jn_command::Report;
 use jn_diag::{RowText, Verdict};
 use jn_front::SourceFile;
@@ -45,13 +45,15 @@ fn keep(kept: &mut Option<Kept>, new: Option<Kept>)
     }
 }
 
-/// Files that are edited name by name, no two of one name, and what is kept of their reports. Contracts see the files, those of the last report,
+/// Files that are edited name by name, no two of one name, and what is kept of their reports, for which the same members are inferred
+/// throughout. Contracts see which ones, the files, those of the last report,
 /// and the program of the last one that came to the rules, with the texts of its names and its least signature. What they don't see is the last
 /// report itself, which is given again where no file has changed, the trees of its files, which spare lexing and parsing the texts that stay, and what is
 /// kept beside the program, which spares rows and index of its class table where that stays, and lowering and typing bodies.
 #[derive(Drop)]
 pub struct Session {
     alloc: Global,
+    infer: Infer,
     files: Vec<SourceFile>,
     last: Vec<SourceFile>,
     trees: Vec<Option<KeptTree>>,
@@ -69,18 +71,19 @@ impl Model for Session {
 
     ghost Value = { SessionOf };
 
-    ghost view = { λ s. record { files = s.files.items; last = s.last.items; kept = s.kept } };
+    ghost view = { λ s. record { infer = s.infer; files = s.files.items; last = s.last.items; kept = s.kept } };
 
-    ghost invariant = { λ s. AllFit s.files.items × HaveOwnNames s.files.items × AreKeptTrees s.last.items s.trees.items × IsLastTold s.last.items s.kept s.told × StandsOn s.trees.items s.kept s.typing };
+    ghost invariant = { λ s. AllFit s.files.items × HaveOwnNames s.files.items × AreKeptTrees s.last.items s.trees.items × IsLastTold s.infer s.last.items s.kept s.told × StandsOn s.infer s.trees.items s.kept s.typing };
 }
 
 impl Session {
-    /// A session without files.
-    pub fn new(alloc: Global) -> Session
-        ensures { result ≡ record { files = []; last = []; kept = None } }
+    /// A session without files, whose reports infer these members.
+    pub fn new(alloc: Global, infer: Infer) -> Session
+        ensures { result ≡ record { infer = infer; files = []; last = []; kept = None } }
     {
         Session {
             alloc,
+            infer,
             files: Vec::new(alloc),
             last: Vec::new(alloc),
             trees: Vec::new(alloc),
@@ -88,6 +91,13 @@ impl Session {
             typing: None,
             told: None,
         }
+    }
+
+    /// The members that its reports infer.
+    pub fn infer(&self) -> Infer
+        ensures { result ≡ self.now.infer }
+    {
+        self.infer
     }
 
     /// The files, in the order in which their names came.
@@ -107,6 +117,7 @@ impl Session {
         requires { length text.now ≤ 1048577 }
         ensures files { OnOk result (self.new.files ≡ with_file name.now text.now self.old.files) }
         ensures unchanged { OnErr result (self.new.files ≡ self.old.files) }
+        ensures infer { self.new.infer ≡ self.old.infer }
         ensures last { self.new.last ≡ self.old.last }
         ensures kept { self.new.kept ≡ self.old.kept }
     {
@@ -117,6 +128,7 @@ impl Session {
     pub fn remove(&mut self, name: &str) -> bool
         ensures files { self.new.files ≡ without_file name.now self.old.files }
         ensures there { (result ≡ true) ↔ (place_of name.now self.old.files ≢ None) }
+        ensures infer { self.new.infer ≡ self.old.infer }
         ensures last { self.new.last ≡ self.old.last }
         ensures kept { self.new.kept ≡ self.old.kept }
     {
@@ -132,6 +144,7 @@ impl Session {
         requires distinct { HaveOwnNames files.now }
         ensures files { OnOk result (self.new.files ≡ files.now) }
         ensures unchanged { OnErr result (self.new.files ≡ self.old.files) }
+        ensures infer { self.new.infer ≡ self.old.infer }
         ensures last { self.new.last ≡ self.old.last }
         ensures kept { self.new.kept ≡ self.old.kept }
     {
@@ -161,6 +174,7 @@ impl Session {
         let alloc = self.alloc;
         let again = told_again(
             alloc,
+            self.infer,
             self.files.as_slice(),
             self.last.as_slice(),
             &self.told,
@@ -178,6 +192,7 @@ impl Session {
             rt,
             alloc,
             workers,
+            self.infer,
             self.files.as_slice(),
             self.last.as_slice(),
             trees,

@@ -8,7 +8,7 @@ use crate::files::{changed, copy_files, same_files};
 use crate::kept::Kept;
 use crate::session::Checked;
 use crate::shown::row_texts;
-use jn_base::OutOfMemory;
+use jn_base::{Infer, OutOfMemory};
 use jn_command::Report;
 use jn_front::SourceFile;
 use std::alloc::Global;
@@ -61,6 +61,7 @@ pub(crate) fn tell(
 /// What the last report says, of files that are as they were.
 fn tell_last(
     alloc: Global,
+    infer: Infer,
     files: &[SourceFile],
     last: &[SourceFile],
     report: &Report,
@@ -68,11 +69,12 @@ fn tell_last(
 ) -> Result<Checked, OutOfMemory>
     requires fit { AllFit files.now }
     requires same { last.now ≡ files.now }
-    requires told { IsTold last.now kept.now report.now }
-    ensures { IfOk result (λ t. Reports (session_of files.now last.now kept.now)
-        (session_of files.now last.now kept.now) t.rows.items t.places.items t.verdict t.files
+    requires told { IsTold infer last.now kept.now report.now }
+    ensures { IfOk result (λ t. Reports (session_of infer files.now last.now kept.now)
+        (session_of infer files.now last.now kept.now) t.rows.items t.places.items t.verdict t.files
         t.bodies) }
 {
+    let _infer = infer;
     let _kept = kept;
     let checked = show(alloc, files, last, report, 0)?;
     Ok(checked)
@@ -81,23 +83,24 @@ fn tell_last(
 /// What the last report says, where the files are as they were.
 pub(crate) fn told_again(
     alloc: Global,
+    infer: Infer,
     files: &[SourceFile],
     last: &[SourceFile],
     told: &Option<Report>,
     kept: &Option<Kept>,
 ) -> Result<Option<Checked>, OutOfMemory>
     requires fit { AllFit files.now }
-    requires told { IsLastTold last.now kept.now told.now }
+    requires told { IsLastTold infer last.now kept.now told.now }
     ensures { IfOk result (λ again. MatchOption again (Unit {0}) (λ t.
-        Reports (session_of files.now last.now kept.now)
-        (session_of files.now last.now kept.now) t.rows.items t.places.items t.verdict t.files
+        Reports (session_of infer files.now last.now kept.now)
+        (session_of infer files.now last.now kept.now) t.rows.items t.places.items t.verdict t.files
         t.bodies)) }
 {
     match told {
         None => Ok(None),
         Some(report) => {
             if same_files(last, files) {
-                Ok(Some(tell_last(alloc, files, last, report, kept)?))
+                Ok(Some(tell_last(alloc, infer, files, last, report, kept)?))
             } else {
                 Ok(None)
             }

@@ -36,7 +36,9 @@ fn done<R: Threads + Sync>(
         Status::ReadFault => host.cannot_hear(input.fault()),
         Status::WriteFault => host.cannot_write(out.fault()),
         Status::OutOfMemory => host.no_memory(),
-        Status::Usage => host.say("there are other words than --codes and one address"),
+        Status::Usage => host.say(
+            "there are other words than --codes and one address, and --infer and `private` or `package`",
+        ),
         Status::Ended => host.say("the input ended, or exit came, without shutdown"),
         Status::Done => {}
     }

@@ -3,6 +3,7 @@ use Rattle.std.proofs.Common.{◌≡◌, ℕ, ◌++◌, Bool, true, false, List,
 use Rattle.std.specs.Prelude.{filter, not, option_map, option_to_list, if◌then◌else◌}
 use Rattle.std.specs.List.{AllZip}
 use Rattle.std.proofs.lemmas.Grind.{flat_map-append}
+use Rattle.jn_base.specs.declared.infer.Infer.{Infer}
 use Rattle.jn_outside.specs.Files.{Holding}
 use Rattle.jn_lsp_frames.specs.declared.frame.Frame.{Frame}
 use Rattle.jn_lsp_text.specs.declared.message.Change.{Change}
@@ -64,7 +65,7 @@ doubted_as None name = (refl, refl)
 doubted_as (Some place) name = (refl, refl)
 
 placed_asks : (root : Root) (message : Message) → AsksAs (placed root message) message
-placed_asks root (Initialize id folder files exclude) = (refl, refl)
+placed_asks root (Initialize id folder infer files exclude) = (refl, refl)
 placed_asks root Initialized = (refl, refl)
 placed_asks root (DidOpen name text) = opened_as (placed_name root name) name text
 placed_asks root (DidChange name changes) = changed_as (placed_name root name) name changes
@@ -169,7 +170,7 @@ heard_all held old new before after [] replies (same, none, is) = record { messa
 heard_all held old new before after (frame ∷ frames) replies (mid, client, message, first, rest, is, hears, all, others) =
     heard_frame held old mid before client after frame frames message replies first rest is hears all (heard_all held mid new client after frames rest others)
 
-pub answered_once : ((events : List Event) (replies : List Reply) (after : ServerOf) → Serves new_server events replies after → AreAnswered events replies) → (held : Option Holding) (old new : Outside) (client : Client) (frames : List Frame) (replies : List Reply) → HearsAll held old new new_client frames replies client → AnsweredOnce frames replies
-answered_once law held old new client frames replies h =
-    let all = heard_all held old new new_client client frames replies h in
-    (all.messages, all.are, all.served.answered ∙ law all.served.events all.served.said client.server all.served.serves ∙ all.served.asked)
+pub answered_once : ((infer : Infer) (events : List Event) (replies : List Reply) (after : ServerOf) → Serves (new_server infer) events replies after → AreAnswered events replies) → (infer : Infer) (held : Option Holding) (old new : Outside) (client : Client) (frames : List Frame) (replies : List Reply) → HearsAll held old new (new_client infer) frames replies client → AnsweredOnce frames replies
+answered_once law infer held old new client frames replies h =
+    let all = heard_all held old new (new_client infer) client frames replies h in
+    (all.messages, all.are, all.served.answered ∙ law infer all.served.events all.served.said client.server all.served.serves ∙ all.served.asked)

@@ -5,5 +5,5 @@ pub mod Hearing
 pub mod Looping
 pub mod Ending
 pub mod UpToDate
-pub mod TwoWords
+pub mod Wording
 pub mod Starting

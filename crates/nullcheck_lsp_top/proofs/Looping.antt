@@ -25,6 +25,7 @@ use Rattle.nullcheck_lsp_top.specs.declared.frames.Heard.{Heard}
 use Rattle.nullcheck_lsp_top.specs.declared.frames.Heard.TheVariants.{Ends}
 use Rattle.nullcheck_lsp_top.specs.declared.status.Status.{Status}
 use Rattle.nullcheck_lsp_top.specs.declared.status.Status.TheVariants.{Done, Ended, ReadFault, WriteFault, OutOfMemory, Usage}
+use Rattle.nullcheck_lsp_top.specs.declared.words.Setup.{Setup}
 use Rattle.nullcheck_lsp_top.specs.Answer.{Answered, AnsweredFirst, Answers, AsksInTime, Channels, EndsBy, IsAnswer, IsCut, IsDone, IsEnded, IsHeard, IsInTime, Served, StartsOne, Takes, goes_on, most_messages}
 use Rattle.nullcheck_lsp_top.specs.Hearing.{Hears, IsMessageOf, StartsFor, framed}
 use Rattle.nullcheck_lsp_top.specs.Looking.{Outside, new_client}
@@ -87,17 +88,17 @@ lacks_refused T E Such gave pending now fail error is lacks = subst (λ f. Lacks
 -- ---- the loop
 
 -- so much was read, taken and written
-pub record Running (address : Option (List ℕ)) (held : Option Holding) (from to : Channels) (old new : Outside) (turns : ℕ) (pending : List ℕ) (client : Client) : Type 0 where
+pub record Running (setup : Setup) (held : Option Holding) (from to : Channels) (old new : Outside) (turns : ℕ) (pending : List ℕ) (client : Client) : Type 0 where
   pub frames : List Frame
   pub replies : List Reply
-  pub served : Served held from.given to.given old new frames pending replies client
-  pub taken : Appends from.written to.written (framed address replies)
+  pub served : Served setup.infer held from.given to.given old new frames pending replies client
+  pub taken : Appends from.written to.written (framed setup.address replies)
   pub hears : to.hears ≡ from.hears
   pub writes : to.writes ≡ from.writes
   pub many : length frames ≡ turns
 
-pub runs_none : (address : Option (List ℕ)) (held : Option Holding) (at : Channels) (old : Outside) (pending : List ℕ) (client : Client) → pending ≡ [] → client ≡ new_client → Running address held at at old old 0 pending client
-runs_none address held at old pending client none new = record {
+pub runs_none : (setup : Setup) (held : Option Holding) (at : Channels) (old : Outside) (pending : List ℕ) (client : Client) → pending ≡ [] → client ≡ new_client setup.infer → Running setup held at at old old 0 pending client
+runs_none setup held at old pending client none new = record {
   frames = [];
   replies = [];
   served = record { gives = subst (λ (p : List ℕ). Gives at.given at.given [] p) (sym none) (gives_none at.given); hears = (refl, refl, new) };
@@ -107,9 +108,9 @@ runs_none address held at old pending client none new = record {
   many = refl;
 }
 
-module _ (address : Option (List ℕ)) (held : Option Holding) (from mid : Channels) (old out : Outside) (turns : ℕ) (pending : List ℕ) (client : Client) (run : Running address held from mid old out turns pending client) where
+module _ (setup : Setup) (held : Option Holding) (from mid : Channels) (old out : Outside) (turns : ℕ) (pending : List ℕ) (client : Client) (run : Running setup held from mid old out turns pending client) where
   -- what was read before memory wasn't found
-  first_of : (to : Channels) (new : Outside) → Grows mid.given to.given → (new ≡ out) ⊎ StartsOne address held from to old new out run.frames client → Appends from.written to.written (framed address run.replies) → AnsweredFirst address held from to old new
+  first_of : (to : Channels) (new : Outside) → Grows mid.given to.given → (new ≡ out) ⊎ StartsOne setup held from to old new out run.frames client → Appends from.written to.written (framed setup.address run.replies) → AnsweredFirst setup held from to old new
   first_of to new grows starts taken = record {
     heard = mid.given;
     grows = grows;
@@ -123,14 +124,14 @@ module _ (address : Option (List ℕ)) (held : Option Holding) (from mid : Chann
     taken = taken;
   }
 
-  same_taken : (to : Channels) → to.written ≡ mid.written → Appends from.written to.written (framed address run.replies)
-  same_taken to same = subst (λ (w : Option (List ℕ)). Appends from.written w (framed address run.replies)) (sym same) run.taken
+  same_taken : (to : Channels) → to.written ≡ mid.written → Appends from.written to.written (framed setup.address run.replies)
+  same_taken to same = subst (λ (w : Option (List ℕ)). Appends from.written w (framed setup.address run.replies)) (sym same) run.taken
 
   rose_on : (a b c : ℕ) → b ≡ a → Rose b c → Rose a c
   rose_on a b c e r = subst (λ n. Rose n c) e r
 
   -- the next frame couldn't be read
-  pub ends_unread : (to : Channels) (more : List ℕ) → to.given ≡ mid.given ++ more → IsPartial (pending ++ more) → to.written ≡ mid.written → to.writes ≡ mid.writes → Rose mid.hears to.hears → Answers address held from to old out ReadFault
+  pub ends_unread : (to : Channels) (more : List ℕ) → to.given ≡ mid.given ++ more → IsPartial (pending ++ more) → to.written ≡ mid.written → to.writes ≡ mid.writes → Rose mid.hears to.hears → Answers setup held from to old out ReadFault
   ends_unread to more gave partial same writes rose = (
     record {
       frames = run.frames;
@@ -145,7 +146,7 @@ module _ (address : Option (List ℕ)) (held : Option Holding) (from mid : Chann
     writes ∙ run.writes,
   )
 
-  pub ends_short : (to : Channels) → Grows mid.given to.given → to.written ≡ mid.written → to.writes ≡ mid.writes → to.hears ≡ mid.hears → Answers address held from to old out OutOfMemory
+  pub ends_short : (to : Channels) → Grows mid.given to.given → to.written ≡ mid.written → to.writes ≡ mid.writes → to.hears ≡ mid.hears → Answers setup held from to old out OutOfMemory
   ends_short to grows same writes hears = (first_of to out grows (inl refl) (same_taken to same), hears ∙ run.hears, writes ∙ run.writes)
 
   ends_so : (end : End) (rest : List ℕ) → EndsSo end rest → (rest ≡ []) ⊎ IsPartial rest
@@ -153,7 +154,7 @@ module _ (address : Option (List ℕ)) (held : Option Holding) (from mid : Chann
   ends_so Within rest so = inr so.1
 
   -- the input ended
-  pub ends_input : (to : Channels) (left : List ℕ) (end : End) → HasRead to.ended mid.given pending to.given left (next.End end) → to.written ≡ mid.written → to.writes ≡ mid.writes → to.hears ≡ mid.hears → Answers address held from to old out Ended
+  pub ends_input : (to : Channels) (left : List ℕ) (end : End) → HasRead to.ended mid.given pending to.given left (next.End end) → to.written ≡ mid.written → to.writes ≡ mid.writes → to.hears ≡ mid.hears → Answers setup held from to old out Ended
   ends_input to left end (ended, rest, takes, so) same writes hears = (
     record {
       frames = run.frames;
@@ -168,7 +169,7 @@ module _ (address : Option (List ℕ)) (held : Option Holding) (from mid : Chann
     writes ∙ run.writes,
   )
 
-  pub ends_turns : most_messages ≤ turns → Answers address held from mid old out Ended
+  pub ends_turns : most_messages ≤ turns → Answers setup held from mid old out Ended
   ends_turns many = (
     record {
       frames = run.frames;
@@ -186,21 +187,21 @@ module _ (address : Option (List ℕ)) (held : Option Holding) (from mid : Chann
   -- a frame was read, from `mid` to `read`, and taken, from there to `to`
   module _ (read to : Channels) (new : Outside) (left : List ℕ) (frame : Frame) (after : Client) (has : HasRead read.ended mid.given pending read.given left (next.Frame frame)) (written : read.written ≡ mid.written) (writes : read.writes ≡ mid.writes) (hears : read.hears ≡ mid.hears) (given : to.given ≡ read.given) (heard_same : to.hears ≡ read.hears) where
     Taken : (Option (List ℕ) → Option (List ℕ) → List ℕ → Type 0) → Type 0
-    Taken Took = Takes address held read.written to.written read.writes to.writes out new client frame after Took
+    Taken Took = Takes setup.address held read.written to.written read.writes to.writes out new client frame after Took
 
-    served_more : (message : Message) (replies : List Reply) → IsMessageOf frame message → Hears held out new client message replies after → Served held from.given to.given old new (run.frames ++ frame ∷ []) left (run.replies ++ replies) after
+    served_more : (message : Message) (replies : List Reply) → IsMessageOf frame message → Hears held out new client message replies after → Served setup.infer held from.given to.given old new (run.frames ++ frame ∷ []) left (run.replies ++ replies) after
     served_more message replies is hears_it = record {
       gives = subst (λ (b : List ℕ). Gives from.given b (run.frames ++ frame ∷ []) left) (sym given) (gives_more from.given mid.given read.given run.frames frame pending left has.0 run.served.gives has.1 has.2);
-      hears = hears_more held old out new new_client client after run.frames frame message run.replies replies run.served.hears is hears_it;
+      hears = hears_more held old out new (new_client setup.infer) client after run.frames frame message run.replies replies run.served.hears is hears_it;
     }
 
-    taken_on : (replies : List Reply) → Appends read.written to.written (framed address replies) → Appends from.written to.written (framed address (run.replies ++ replies))
-    taken_on replies a = subst (Appends from.written to.written) (sym (framed_both address run.replies replies)) (taken_more from.written mid.written to.written (framed address run.replies) (framed address replies) run.taken (subst (λ (w : Option (List ℕ)). Appends w to.written (framed address replies)) written a))
+    taken_on : (replies : List Reply) → Appends read.written to.written (framed setup.address replies) → Appends from.written to.written (framed setup.address (run.replies ++ replies))
+    taken_on replies a = subst (Appends from.written to.written) (sym (framed_both setup.address run.replies replies)) (taken_more from.written mid.written to.written (framed setup.address run.replies) (framed setup.address replies) run.taken (subst (λ (w : Option (List ℕ)). Appends w to.written (framed setup.address replies)) written a))
 
-    prefix_on : (replies : List Reply) → AppendsPrefix read.written to.written (framed address replies) → AppendsPrefix from.written to.written (framed address (run.replies ++ replies))
-    prefix_on replies a = subst (AppendsPrefix from.written to.written) (sym (framed_both address run.replies replies)) (prefix_more from.written mid.written to.written (framed address run.replies) (framed address replies) run.taken (subst (λ (w : Option (List ℕ)). AppendsPrefix w to.written (framed address replies)) written a))
+    prefix_on : (replies : List Reply) → AppendsPrefix read.written to.written (framed setup.address replies) → AppendsPrefix from.written to.written (framed setup.address (run.replies ++ replies))
+    prefix_on replies a = subst (AppendsPrefix from.written to.written) (sym (framed_both setup.address run.replies replies)) (prefix_more from.written mid.written to.written (framed setup.address run.replies) (framed setup.address replies) run.taken (subst (λ (w : Option (List ℕ)). AppendsPrefix w to.written (framed setup.address replies)) written a))
 
-    pub runs_more : Takes address held read.written to.written read.writes to.writes out new client frame after Appends → to.writes ≡ read.writes → Running address held from to old new (turns + 1) left after
+    pub runs_more : Takes setup.address held read.written to.written read.writes to.writes out new client frame after Appends → to.writes ≡ read.writes → Running setup held from to old new (turns + 1) left after
     runs_more t same = record {
       frames = run.frames ++ frame ∷ [];
       replies = run.replies ++ t.replies;
@@ -211,7 +212,7 @@ module _ (address : Option (List ℕ)) (held : Option Holding) (from mid : Chann
       many = (let l = length-append run.frames (frame ∷ []) in let m = run.many in omega (arith, l, m));
     }
 
-    answered : (Took : Option (List ℕ) → Option (List ℕ) → List ℕ → Type 0) (IsEnd : List Frame → List ℕ → Client → Type 0) (t : Takes address held read.written to.written read.writes to.writes out new client frame after Took) → Took from.written to.written (framed address (run.replies ++ t.replies)) → IsEnd (run.frames ++ frame ∷ []) left after → Answered address held from to old new Took IsEnd
+    answered : (Took : Option (List ℕ) → Option (List ℕ) → List ℕ → Type 0) (IsEnd : List Frame → List ℕ → Client → Type 0) (t : Takes setup.address held read.written to.written read.writes to.writes out new client frame after Took) → Took from.written to.written (framed setup.address (run.replies ++ t.replies)) → IsEnd (run.frames ++ frame ∷ []) left after → Answered setup held from to old new Took IsEnd
     answered Took IsEnd t taken ends = record {
       frames = run.frames ++ frame ∷ [];
       pending = left;
@@ -226,7 +227,7 @@ module _ (address : Option (List ℕ)) (held : Option Holding) (from mid : Chann
     grown = (has.2.more, given ∙ has.2.given)
 
     -- one frame more was read, and memory wasn't found for it
-    starts_one : (new ≡ out) ⊎ StartsFor held out new client frame → (new ≡ out) ⊎ StartsOne address held from to old new out run.frames client
+    starts_one : (new ≡ out) ⊎ StartsFor held out new client frame → (new ≡ out) ⊎ StartsOne setup held from to old new out run.frames client
     starts_one (inl same) = inl same
     starts_one (inr starts) = inr (record {
       frame = frame;
@@ -235,28 +236,28 @@ module _ (address : Option (List ℕ)) (held : Option Holding) (from mid : Chann
       starts = starts;
     })
 
-    pub ends_frame : (status : Status) → EndsBy address held read.written to.written read.writes to.writes out new client frame after status → Answers address held from to old new status
-    ends_frame Done (t, phase, same) = (answered Appends (IsDone address held from to old new) t (taken_on t.replies t.taken) phase, heard_same ∙ hears ∙ run.hears, same ∙ writes ∙ run.writes)
-    ends_frame Ended (t, phase, same) = (answered Appends (IsEnded address held from to old new) t (taken_on t.replies t.taken) (inl phase), heard_same ∙ hears ∙ run.hears, same ∙ writes ∙ run.writes)
-    ends_frame WriteFault (t, rose) = (answered AppendsPrefix (IsCut address held from to old new) t (prefix_on t.replies t.taken) tt, heard_same ∙ hears ∙ run.hears, rose_on from.writes read.writes to.writes (writes ∙ run.writes) rose)
+    pub ends_frame : (status : Status) → EndsBy setup.address held read.written to.written read.writes to.writes out new client frame after status → Answers setup held from to old new status
+    ends_frame Done (t, phase, same) = (answered Appends (IsDone setup held from to old new) t (taken_on t.replies t.taken) phase, heard_same ∙ hears ∙ run.hears, same ∙ writes ∙ run.writes)
+    ends_frame Ended (t, phase, same) = (answered Appends (IsEnded setup held from to old new) t (taken_on t.replies t.taken) (inl phase), heard_same ∙ hears ∙ run.hears, same ∙ writes ∙ run.writes)
+    ends_frame WriteFault (t, rose) = (answered AppendsPrefix (IsCut setup held from to old new) t (prefix_on t.replies t.taken) tt, heard_same ∙ hears ∙ run.hears, rose_on from.writes read.writes to.writes (writes ∙ run.writes) rose)
     ends_frame OutOfMemory (starts, same, kept) = (first_of to new grown (starts_one starts) (same_taken to (same ∙ written)), heard_same ∙ hears ∙ run.hears, kept ∙ writes ∙ run.writes)
     ends_frame ReadFault none = absurd none
     ends_frame Usage none = absurd none
 
 -- ---- in time
 
-pub in_time_none : (address : Option (List ℕ)) (held : Option Holding) (from to : Channels) (old : Outside) → to.asks ≡ from.asks → AsksInTime address held from to old
-in_time_none address held from to old same = record { own = []; all = same ∙ sym (append-nil from.asks); each = All-nil (IsInTime address held from old) }
+pub in_time_none : (setup : Setup) (held : Option Holding) (from to : Channels) (old : Outside) → to.asks ≡ from.asks → AsksInTime setup held from to old
+in_time_none setup held from to old same = record { own = []; all = same ∙ sym (append-nil from.asks); each = All-nil (IsInTime setup held from old) }
 
 -- the calls for one frame more
-pub in_time_more : (address : Option (List ℕ)) (held : Option Holding) (from mid to : Channels) (old out : Outside) (turns : ℕ) (pending : List ℕ) (client : Client) → Running address held from mid old out turns pending client → AsksInTime address held from mid old → Asks IsPartial mid.given pending mid.written mid.asks to.asks → AsksInTime address held from to old
-in_time_more address held from mid to old out turns pending client run before asks = record {
+pub in_time_more : (setup : Setup) (held : Option Holding) (from mid to : Channels) (old out : Outside) (turns : ℕ) (pending : List ℕ) (client : Client) → Running setup held from mid old out turns pending client → AsksInTime setup held from mid old → Asks IsPartial mid.given pending mid.written mid.asks to.asks → AsksInTime setup held from to old
+in_time_more setup held from mid to old out turns pending client run before asks = record {
   own = before.own ++ asks.own;
   all = asks.all ∙ ap (λ (l : List Asking). l ++ asks.own) before.all ∙ append_assoc from.asks before.own asks.own;
-  each = All-append (IsInTime address held from old) before.own asks.own before.each (λ k d lt. by (get_or asks.own k d) (asks.each k d lt));
+  each = All-append (IsInTime setup held from old) before.own asks.own before.each (λ k d lt. by (get_or asks.own k d) (asks.each k d lt));
 }
   where
-    by : (asking : Asking) → IsAsked IsPartial mid.given pending mid.written asking → IsInTime address held from old asking
+    by : (asking : Asking) → IsAsked IsPartial mid.given pending mid.written asking → IsInTime setup held from old asking
     by asking a = record {
       mid = out;
       frames = run.frames;
@@ -265,9 +266,9 @@ in_time_more address held from mid to old out turns pending client run before as
       client = client;
       served = record { gives = gives_grown from.given mid.given asking.given a.more run.frames pending run.served.gives a.given; hears = run.served.hears };
       partial = a.such;
-      taken = subst (λ (w : Option (List ℕ)). Appends from.written w (framed address run.replies)) (sym a.stands) run.taken;
+      taken = subst (λ (w : Option (List ℕ)). Appends from.written w (framed setup.address run.replies)) (sym a.stands) run.taken;
     }
 
 -- no memory was found before the first frame
-pub short_at_start : (address : Option (List ℕ)) (held : Option Holding) (at : Channels) (old : Outside) → Answers address held at at old old OutOfMemory
-short_at_start address held at old = ends_short address held at at old old 0 [] new_client (runs_none address held at old [] new_client refl refl) at ([], sym (append-nil at.given)) refl refl refl
+pub short_at_start : (setup : Setup) (held : Option Holding) (at : Channels) (old : Outside) → Answers setup held at at old old OutOfMemory
+short_at_start setup held at old = ends_short setup held at at old old 0 [] (new_client setup.infer) (runs_none setup held at old [] (new_client setup.infer) refl refl) at ([], sym (append-nil at.given)) refl refl refl

@@ -1,6 +1,7 @@
 -- What was published last is the report of the files as they stand.
 use Rattle.std.proofs.Common.{◌≡◌, ℕ, ◌++◌, Bool, true, false, List, [], ◌∷◌, map, Option, Some, None, refl, sym, ap, ◌∙◌, subst, append_assoc, append-nil}
 use Rattle.std.specs.Prelude.{filter, not}
+use Rattle.jn_base.specs.declared.infer.Infer.{Infer}
 use Rattle.jn_outside.specs.Files.{Holding}
 use Rattle.jn_lsp_frames.specs.declared.frame.Frame.{Frame}
 use Rattle.jn_lsp_text.specs.declared.message.Message.{Message}
@@ -114,8 +115,8 @@ heard_all held old new before after (frame ∷ frames) replies (mid, client, mes
     is_taken before.server after.server replies (first ++ rest) all
     (took_both before.server client.server after.server first rest (heard_one held old mid before client message first hears) (heard_all held mid new client after frames rest others))
 
-pub up_to_date : ((events : List Event) (replies : List Reply) (after : ServerOf) → Serves new_server events replies after → IsUpToDate after replies) → (held : Option Holding) (old new : Outside) (client : Client) (frames : List Frame) (replies : List Reply) → HearsAll held old new new_client frames replies client → IsUpToDate client.server replies
-up_to_date law held old new client frames replies h =
-    let t = heard_all held old new new_client client frames replies h in
+pub up_to_date : ((infer : Infer) (events : List Event) (replies : List Reply) (after : ServerOf) → Serves (new_server infer) events replies after → IsUpToDate after replies) → (infer : Infer) (held : Option Holding) (old new : Outside) (client : Client) (frames : List Frame) (replies : List Reply) → HearsAll held old new (new_client infer) frames replies client → IsUpToDate client.server replies
+up_to_date law infer held old new client frames replies h =
+    let t = heard_all held old new (new_client infer) client frames replies h in
     let last : (λ name. last_published name [] t.said) ≡ (λ name. last_published name [] replies) = λ i name. sym (t.same name []) i in
-    subst (ArePublishedLast client.server.workspace.unknown (files_of client.server.workspace)) last (law t.events t.said client.server t.serves)
+    subst (ArePublishedLast client.server.workspace.infer client.server.workspace.unknown (files_of client.server.workspace)) last (law infer t.events t.said client.server t.serves)

@@ -1,6 +1,7 @@
 -- What each status means.
-use Rattle.std.specs.Prelude.{ℕ, ◌-◌, ◌^◌, ◌≡◌, ◌≤◌, ◌⊎◌, ◌++◌, Bool, true, false, List, [], ◌∷◌, Option, Some, None, codes, length}
+use Rattle.std.specs.Prelude.{ℕ, ◌-◌, ◌^◌, ◌≡◌, ◌≤◌, ◌⊎◌, ◌++◌, Bool, true, false, List, [], ◌∷◌, Option, Some, None, length}
 use Rattle.std.specs.List.{All}
+use Rattle.jn_base.specs.declared.infer.Infer.{Infer}
 use Rattle.jn_outside.specs.Causes.{Rose}
 use Rattle.jn_outside.specs.Files.{Holding}
 use Rattle.jn_outside.specs.Sink.{Appends, AppendsPrefix}
@@ -17,10 +18,10 @@ use Rattle.nullcheck_lsp_top.specs.declared.frames.Heard.{Heard}
 use Rattle.nullcheck_lsp_top.specs.declared.frames.Heard.TheVariants.{Goes, Ends}
 use Rattle.nullcheck_lsp_top.specs.declared.status.Status.{Status}
 use Rattle.nullcheck_lsp_top.specs.declared.status.Status.TheVariants.{Done, Ended, ReadFault, WriteFault, OutOfMemory, Usage}
-use Rattle.nullcheck_lsp_top.specs.declared.words.Asked.{Asked}
-use Rattle.nullcheck_lsp_top.specs.declared.words.Asked.TheVariants as asked
+use Rattle.nullcheck_lsp_top.specs.declared.words.Setup.{Setup}
 use Rattle.nullcheck_lsp_top.specs.Hearing.{Hears, HearsAll, IsMessageOf, StartsFor, framed}
 use Rattle.nullcheck_lsp_top.specs.Looking.{Outside, new_client}
+use Rattle.nullcheck_lsp_top.specs.Words.{setup_of}
 
 abbrev pub number_of : Status → ℕ
 number_of Done = 0
@@ -29,16 +30,6 @@ number_of ReadFault = 5
 number_of WriteFault = 6
 number_of OutOfMemory = 7
 number_of Usage = 64
-
--- there are no words, or the address of the document of the codes is given
-abbrev pub SaysAddress : List (List ℕ) → Option (List ℕ) → Type 0
-SaysAddress words None = words ≡ []
-SaysAddress words (Some address) = words ≡ codes "--codes" ∷ address ∷ []
-
--- what the words ask for
-abbrev pub IsAsked : List (List ℕ) → Asked → Type 0
-IsAsked words (asked.Serving address) = SaysAddress words address
-IsAsked words asked.Other = (address : Option (List ℕ)) → SaysAddress words address → ⊥
 
 -- what the input and the output tell: the bytes that reads gave, whether they came to the end, the bytes that were taken, and the counts of
 -- faults; and how both stood at each read
@@ -53,10 +44,11 @@ pub record Channels : Type 0 where
 abbrev pub channels : List ℕ → Bool → ℕ → List Asking → Option (List ℕ) → ℕ → Channels
 channels given ended hears asks written writes = record { given = given; ended = ended; hears = hears; asks = asks; written = written; writes = writes }
 
--- the frames of the bytes that the input gave were taken, with these replies
-pub record Served (held : Option Holding) (before now : List ℕ) (old new : Outside) (frames : List Frame) (pending : List ℕ) (replies : List Reply) (client : Client) : Type 0 where
+-- the frames of the bytes that the input gave were taken, with these replies, by a server that infers these members where the client
+-- chooses none
+pub record Served (infer : Infer) (held : Option Holding) (before now : List ℕ) (old new : Outside) (frames : List Frame) (pending : List ℕ) (replies : List Reply) (client : Client) : Type 0 where
   pub gives : Gives before now frames pending
-  pub hears : HearsAll held old new new_client frames replies client
+  pub hears : HearsAll held old new (new_client infer) frames replies client
 
 -- as many messages as are taken at all
 abbrev pub most_messages : ℕ
@@ -70,7 +62,7 @@ abbrev pub IsWrittenWhole : Channels → Channels → Type 0
 IsWrittenWhole from to = to.writes ≡ from.writes
 
 -- what each status means, by what the input and the output told before and after, and what files and folders did
-module _ (address : Option (List ℕ)) (held : Option Holding) (from to : Channels) (old new : Outside) where
+module _ (setup : Setup) (held : Option Holding) (from to : Channels) (old new : Outside) where
   -- all that the input gave is these frames and what is pending; folders and files were read for them and for no other, and of the replies so
   -- much was written
   pub record Answered (Took : Option (List ℕ) → Option (List ℕ) → List ℕ → Type 0) (IsEnd : List Frame → List ℕ → Client → Type 0) : Type 0 where
@@ -78,8 +70,8 @@ module _ (address : Option (List ℕ)) (held : Option Holding) (from to : Channe
     pub pending : List ℕ
     pub replies : List Reply
     pub client : Client
-    pub served : Served held from.given to.given old new frames pending replies client
-    pub taken : Took from.written to.written (framed address replies)
+    pub served : Served setup.infer held from.given to.given old new frames pending replies client
+    pub taken : Took from.written to.written (framed setup.address replies)
     pub ends : IsEnd frames pending client
 
   -- the client exited after `shutdown`
@@ -118,9 +110,9 @@ module _ (address : Option (List ℕ)) (held : Option Holding) (from to : Channe
     pub pending : List ℕ
     pub replies : List Reply
     pub client : Client
-    pub served : Served held from.given heard old mid frames pending replies client
+    pub served : Served setup.infer held from.given heard old mid frames pending replies client
     pub starts : (new ≡ mid) ⊎ StartsOne mid frames client
-    pub taken : Appends from.written to.written (framed address replies)
+    pub taken : Appends from.written to.written (framed setup.address replies)
 
   abbrev pub Answers : Status → Type 0
   Answers Done = Answered Appends IsDone × IsHeardWhole from to × IsWrittenWhole from to
@@ -133,31 +125,33 @@ module _ (address : Option (List ℕ)) (held : Option Holding) (from to : Channe
 -- ---- in time
 
 -- when the input was asked for more, all frames that it had given whole had been taken, and all replies to them written
-pub record IsInTime (address : Option (List ℕ)) (held : Option Holding) (from : Channels) (old : Outside) (asking : Asking) : Type 0 where
+pub record IsInTime (setup : Setup) (held : Option Holding) (from : Channels) (old : Outside) (asking : Asking) : Type 0 where
   pub mid : Outside
   pub frames : List Frame
   pub pending : List ℕ
   pub replies : List Reply
   pub client : Client
-  pub served : Served held from.given asking.given old mid frames pending replies client
+  pub served : Served setup.infer held from.given asking.given old mid frames pending replies client
   pub partial : IsPartial pending
-  pub taken : Appends from.written asking.written (framed address replies)
+  pub taken : Appends from.written asking.written (framed setup.address replies)
 
 -- so it was each time
-pub record AsksInTime (address : Option (List ℕ)) (held : Option Holding) (from to : Channels) (old : Outside) : Type 0 where
+pub record AsksInTime (setup : Setup) (held : Option Holding) (from to : Channels) (old : Outside) : Type 0 where
   pub own : List Asking
   pub all : to.asks ≡ from.asks ++ own
-  pub each : All (IsInTime address held from old) own
+  pub each : All (IsInTime setup held from old) own
 
 -- words are wrong: nothing is heard, read or written
 abbrev pub AnswersUsage : Channels → Channels → Outside → Outside → Status → Type 0
 AnswersUsage from to old new status = (to ≡ from) × (new ≡ old) × (status ≡ Usage)
 
--- replies link to the document that the words name; other words are wrong
+-- replies link to the document that the words name, and the members are inferred that they choose; other words are wrong
+abbrev pub AnswersBy : Option Setup → Option Holding → Channels → Channels → Outside → Outside → Status → Type 0
+AnswersBy None held from to old new status = AnswersUsage from to old new status
+AnswersBy (Some setup) held from to old new status = Answers setup held from to old new status × AsksInTime setup held from to old
+
 abbrev pub AnswersWords : Option Holding → Channels → Channels → Outside → Outside → List (List ℕ) → Status → Type 0
-AnswersWords held from to old new words status =
-    ((address : Option (List ℕ)) × SaysAddress words address × Answers address held from to old new status × AsksInTime address held from to old)
-    ⊎ (((address : Option (List ℕ)) → SaysAddress words address → ⊥) × AnswersUsage from to old new status)
+AnswersWords held from to old new words status = AnswersBy (setup_of words) held from to old new status
 
 -- ---- one frame
 

@@ -1,5 +1,6 @@
 -- Where a workspace's files are, and what is found there.
 use Rattle.std.specs.Prelude.{ℕ, ◌≡◌, ◌⊎◌, Bool, false, true, List, [], ◌∷◌, Option, Some, None, length, option_map}
+use Rattle.jn_base.specs.declared.infer.Infer.{Infer}
 use Rattle.jn_outside.specs.Files.{Holding}
 use Rattle.jn_outside.specs.declared.given.Given.{Given}
 use Rattle.jn_folder.specs.declared.listed.Listed.{Listed}
@@ -21,12 +22,13 @@ use Rattle.nullcheck_lsp_top.specs.Reading.{AreTaken, ReadsFirst, is_many, names
 abbrev pub root_of : Option (List ℕ) → List (List ℕ) → List (List ℕ) → Root
 root_of folder files exclude = record { folder = option_map plain folder; files = files; exclude = exclude }
 
-abbrev pub new_client : Client
-new_client = record { server = new_server; root = root_of None [] []; shown = []; said = false }
+-- a client that didn't speak yet, of a server that infers these members where it chooses none
+abbrev pub new_client : Infer → Client
+new_client infer = record { server = new_server infer; root = root_of None [] []; shown = []; said = false }
 
 -- `initialize` says where the files are
 abbrev pub root_in : Message → Option Root
-root_in (Initialize id folder files exclude) = Some (root_of folder files exclude)
+root_in (Initialize id folder infer files exclude) = Some (root_of folder files exclude)
 root_in Initialized = None
 root_in (DidOpen name text) = None
 root_in (DidChange name changes) = None

@@ -48,7 +48,7 @@ or_ignored (Some m) = m
 
 -- a message as the server takes it: documents by the names of the workspace's files, and nothing of others
 abbrev pub placed : Root → Message → Message
-placed root (Initialize id folder files exclude) = Initialize id folder files exclude
+placed root (Initialize id folder infer files exclude) = Initialize id folder infer files exclude
 placed root Initialized = Initialized
 placed root (DidOpen name text) = or_ignored (option_map (λ n. DidOpen n text) (placed_name root name))
 placed root (DidChange name changes) = or_ignored (option_map (λ n. DidChange n changes) (placed_name root name))

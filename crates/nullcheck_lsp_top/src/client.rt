@@ -3,7 +3,7 @@ ghost use Rattle.std.specs.Prelude.{◌≡◌, IfOk, option_map};
 ghost use Rattle.jn_folder.specs.Plain.{plain};
 ghost use Rattle.nullcheck_lsp_top.specs.Looking as spec;
 
-use jn_base::{Seq, Text};
+use jn_base::{Infer, Seq, Text};
 use jn_folder::plain;
 use jn_lsp::{Phase, Server};
 use jn_lsp_text::Message;
@@ -31,12 +31,12 @@ pub struct Client {
 }
 
 impl Client {
-    /// A client that didn't speak yet.
-    pub fn new(alloc: Global) -> Client
-        ensures { result ≡ spec.new_client }
+    /// A client that didn't speak yet, of a server that infers these members where it chooses none.
+    pub fn new(alloc: Global, infer: Infer) -> Client
+        ensures { result ≡ spec.new_client infer }
     {
         Client {
-            server: Server::new(alloc),
+            server: Server::new(alloc, infer),
             root: Root {
                 folder: None,
                 files: Seq::new(alloc),

@@ -8,6 +8,7 @@ ghost use Rattle.nullcheck_lsp_top.specs.Looking.{new_client, outside};
 use crate::client::Client;
 use crate::messages::{hear, message_of};
 use crate::status::Status;
+use crate::words::Setup;
 use crate::writing::framed;
 use jn_base::{Fail, OutOfMemory, Text};
 use jn_folder::Folder;
@@ -71,7 +72,7 @@ fn take_frame<R: Threads + Sync, F: Files, D: Folder, K: Sink, G: Gate + Sync>(
     rt: &R,
     gate: &G,
     alloc: Global,
-    address: &Option<Text>,
+    setup: &Setup,
     client: &mut Client,
     frame: &Frame,
     files: &mut F,
@@ -79,13 +80,22 @@ fn take_frame<R: Threads + Sync, F: Files, D: Folder, K: Sink, G: Gate + Sync>(
     out: &mut K,
 ) -> Heard
     ensures held { F.held files.new ≡ F.held files.old }
-    ensures heard { IsHeard address.now (F.held files.old) (K.written out.old) (K.written out.new)
+    ensures heard { IsHeard setup.now.address (F.held files.old) (K.written out.old) (K.written out.new)
         (K.faults out.old) (K.faults out.new)
         (outside (D.told folder.old) (D.faults folder.old) (F.gave files.old) (F.faults files.old))
         (outside (D.told folder.new) (D.faults folder.new) (F.gave files.new) (F.faults files.new))
         client.old frame.now client.new result }
 {
-    let Ok(bytes) = answer(rt, gate, alloc, address, client, frame, files, folder) else {
+    let Ok(bytes) = answer(
+        rt,
+        gate,
+        alloc,
+        &setup.address,
+        client,
+        frame,
+        files,
+        folder,
+    ) else {
         return Heard::Ends(Status::OutOfMemory);
     };
     match write_whole(out, &bytes) {
@@ -99,7 +109,7 @@ fn take_frames<R: Threads + Sync, K: Sink, S: Stream<K>, F: Files, D: Folder, G:
     rt: &R,
     gate: &G,
     alloc: Global,
-    address: &Option<Text>,
+    setup: &Setup,
     reader: &mut FrameReader,
     client: &mut Client,
     input: &mut S,
@@ -108,15 +118,15 @@ fn take_frames<R: Threads + Sync, K: Sink, S: Stream<K>, F: Files, D: Folder, G:
     out: &mut K,
 ) -> Status
     requires fresh { reader.old.pending.items ≡ [] }
-    requires silent { client.old ≡ new_client }
+    requires silent { client.old ≡ new_client setup.now.infer }
     ensures held { F.held files.new ≡ F.held files.old }
-    ensures answer { Answers address.now (F.held files.old)
+    ensures answer { Answers setup.now (F.held files.old)
         (channels (S.given input.old) (S.ended input.old) (S.faults input.old) (S.asked input.old) (K.written out.old) (K.faults out.old))
         (channels (S.given input.new) (S.ended input.new) (S.faults input.new) (S.asked input.new) (K.written out.new) (K.faults out.new))
         (outside (D.told folder.old) (D.faults folder.old) (F.gave files.old) (F.faults files.old))
         (outside (D.told folder.new) (D.faults folder.new) (F.gave files.new) (F.faults files.new))
         result }
-    ensures in_time { AsksInTime address.now (F.held files.old)
+    ensures in_time { AsksInTime setup.now (F.held files.old)
         (channels (S.given input.old) (S.ended input.old) (S.faults input.old) (S.asked input.old) (K.written out.old) (K.faults out.old))
         (channels (S.given input.new) (S.ended input.new) (S.faults input.new) (S.asked input.new) (K.written out.new) (K.faults out.new))
         (outside (D.told folder.old) (D.faults folder.old) (F.gave files.old) (F.faults files.old)) }
@@ -128,7 +138,7 @@ fn take_frames<R: Threads + Sync, K: Sink, S: Stream<K>, F: Files, D: Folder, G:
             Err(Fail::Refused(_)) => return Status::ReadFault,
             Err(Fail::OutOfMemory) => return Status::OutOfMemory,
         };
-        match take_frame(rt, gate, alloc, address, client, &frame, files, folder, out) {
+        match take_frame(rt, gate, alloc, setup, client, &frame, files, folder, out) {
             Heard::Goes => {}
             Heard::Ends(status) => return status,
         }
@@ -136,7 +146,7 @@ fn take_frames<R: Threads + Sync, K: Sink, S: Stream<K>, F: Files, D: Folder, G:
     Status::Ended
 }
 
-/// Serves a client that didn't speak yet.
+/// Serves a client that didn't speak yet, as the words ask.
 pub(crate) fn serve_all<
     R: Threads + Sync,
     K: Sink,
@@ -148,31 +158,31 @@ pub(crate) fn serve_all<
     rt: &R,
     gate: &G,
     alloc: Global,
-    address: &Option<Text>,
+    setup: &Setup,
     input: &mut S,
     files: &mut F,
     folder: &mut D,
     out: &mut K,
 ) -> Status
     ensures held { F.held files.new ≡ F.held files.old }
-    ensures answer { Answers address.now (F.held files.old)
+    ensures answer { Answers setup.now (F.held files.old)
         (channels (S.given input.old) (S.ended input.old) (S.faults input.old) (S.asked input.old) (K.written out.old) (K.faults out.old))
         (channels (S.given input.new) (S.ended input.new) (S.faults input.new) (S.asked input.new) (K.written out.new) (K.faults out.new))
         (outside (D.told folder.old) (D.faults folder.old) (F.gave files.old) (F.faults files.old))
         (outside (D.told folder.new) (D.faults folder.new) (F.gave files.new) (F.faults files.new))
         result }
-    ensures in_time { AsksInTime address.now (F.held files.old)
+    ensures in_time { AsksInTime setup.now (F.held files.old)
         (channels (S.given input.old) (S.ended input.old) (S.faults input.old) (S.asked input.old) (K.written out.old) (K.faults out.old))
         (channels (S.given input.new) (S.ended input.new) (S.faults input.new) (S.asked input.new) (K.written out.new) (K.faults out.new))
         (outside (D.told folder.old) (D.faults folder.old) (F.gave files.old) (F.faults files.old)) }
 {
     let mut reader = FrameReader::new(alloc);
-    let mut client = Client::new(alloc);
+    let mut client = Client::new(alloc, setup.infer);
     take_frames(
         rt,
         gate,
         alloc,
-        address,
+        setup,
         &mut reader,
         &mut client,
         input,

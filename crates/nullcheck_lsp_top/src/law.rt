@@ -1,5 +1,6 @@
 //! The laws of the loop.
 ghost use Rattle.std.specs.Prelude.{List, Option};
+ghost use Rattle.jn_base.specs.declared.infer.Infer.{Infer};
 ghost use Rattle.jn_outside.specs.Files.{Holding};
 ghost use Rattle.jn_lsp_frames.specs.declared.frame.Frame.{Frame as FrameOf};
 ghost use Rattle.jn_lsp_text.specs.declared.reply.Reply.{Reply as ReplyOf};
@@ -11,12 +12,13 @@ ghost use Rattle.nullcheck_lsp_top.specs.Looking.{Outside, new_client};
 use jn_lsp::law::{last_published_is_the_report, requests_are_answered_once};
 
 /// Says that after any frames that were taken, what was published last of each name is what the report of the files as they stand says of
-/// it: the diagnostics of its rows, in order, and none where it has no rows or doesn't stand. The files stand as the client has them open,
+/// it: the diagnostics of its rows, in order, and none where it has no rows or doesn't stand. The members are inferred that `initialize` chose,
+/// else those of the words. The files stand as the client has them open,
 /// the others as they were last read. Where what the client sent of a document can't be read, its text isn't known until it is opened again
 /// or closed: of it nothing is told, and it stands with the last text that was known.
 pub fn published_is_the_report()
-    ensures { (held : Option Holding) (old new : Outside) (client : ClientOf) (frames : List FrameOf) (replies : List ReplyOf)
-        → HearsAll held old new new_client frames replies client
+    ensures { (infer : Infer) (held : Option Holding) (old new : Outside) (client : ClientOf) (frames : List FrameOf) (replies : List ReplyOf)
+        → HearsAll held old new (new_client infer) frames replies client
         → IsUpToDate client.server replies }
 {
     last_published_is_the_report()
@@ -25,8 +27,8 @@ pub fn published_is_the_report()
 /// Says that after any frames that were taken, each request that came before `exit` was answered once, in the order of the requests, and
 /// nothing else was: a response has the id of its request.
 pub fn requests_have_one_answer()
-    ensures { (held : Option Holding) (old new : Outside) (client : ClientOf) (frames : List FrameOf) (replies : List ReplyOf)
-        → HearsAll held old new new_client frames replies client
+    ensures { (infer : Infer) (held : Option Holding) (old new : Outside) (client : ClientOf) (frames : List FrameOf) (replies : List ReplyOf)
+        → HearsAll held old new (new_client infer) frames replies client
         → AnsweredOnce frames replies }
 {
     requests_are_answered_once()

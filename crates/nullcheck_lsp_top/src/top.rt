@@ -14,8 +14,10 @@ use jn_sharing::Gate;
 use std::alloc::Global;
 use std::thread::Threads;
 
-/// Serves a client (Language Server Protocol 3.17): messages come from the input, replies go to the output. The words are none, or
-/// `--codes` and the address of the document of the codes: each diagnostic links to its code there. With others nothing is read or written.
+/// Serves a client (Language Server Protocol 3.17): messages come from the input, replies go to the output. The words are, in any order,
+/// `--codes` and the address of the document of the codes, so that each diagnostic links to its code there, and `--infer private` or `--infer
+/// package` (also with `=`), the members that are inferred where the client's `initializationOptions.infer` chooses none. With others nothing
+/// is read or written.
 ///
 /// `rt` gives the threads of four workers, who call `gate` when they take a file, a body for inference, or a body whose rows are made anew.
 pub fn serve<R: Threads + Sync, K: Sink, S: Stream<K>, F: Files, D: Folder, G: Gate + Sync>(
@@ -43,8 +45,8 @@ pub fn serve<R: Threads + Sync, K: Sink, S: Stream<K>, F: Files, D: Folder, G: G
     match read_words(alloc, words) {
         Err(_) => Status::OutOfMemory,
         Ok(Asked::Other) => Status::Usage,
-        Ok(Asked::Serving { address }) => {
-            serve_all(rt, gate, alloc, &address, input, files, folder, out)
+        Ok(Asked::Serving(setup)) => {
+            serve_all(rt, gate, alloc, &setup, input, files, folder, out)
         }
     }
 }

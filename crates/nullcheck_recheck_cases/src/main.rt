@@ -6,6 +6,7 @@ mod counting;
 
 use case::{Case, case_of};
 use counting::Counting;
+use jn_base::Infer;
 use jn_outside::{MemFile, MemFiles, MemSink};
 use jn_recheck::Session;
 use jn_script::{Step, read_script};
@@ -126,7 +127,7 @@ fn take_step<R: Threads + Sync>(
 /// Carries out the scripts that the words name by one session each.
 fn run_anew<R: Threads + Sync>(rt: &HostRuntime, threads: &R, case: &Case) -> io::Result<()> {
     for word in &case.words {
-        let mut session = Session::new(rt.alloc());
+        let mut session = Session::new(rt.alloc(), Infer::Private);
         let mut first = true;
         for step in &steps_of(rt, word.as_str())? {
             take_step(rt, threads, &mut session, step, first)?;

@@ -2,6 +2,7 @@
 use Rattle.std.proofs.Common.{◌≡◌, ℕ, zero, suc, ◌+◌, ◌≤◌, List, [], ◌∷◌, ◌++◌, length, map, take, Option, Result, Ok as Made, Err, inl, inr, refl, sym, ap, ◌∙◌, subst, arith, append_assoc}
 use Rattle.std.specs.Prelude.{IfOk}
 use Rattle.std.proofs.lemmas.List.{take_all}
+use Rattle.jn_base.specs.declared.infer.Infer.{Infer}
 use Rattle.jn_base.specs.declared.refusal.OutOfMemory.{OutOfMemory as NoMemory}
 use Rattle.jn_outside.specs.declared.given.Given.{Given}
 use Rattle.jn_outside.specs.Files.{Holding, Gives}
@@ -33,12 +34,12 @@ script_little name script old new gave = inr (record { bytes = take (script_limi
     few (suc n) [] = omega arith
     few (suc n) (x ∷ xs) = let r = few n xs in omega (arith, r)
 
-pub bad_answers : (read : Reading) (name script : List ℕ) (old new : Option (List ℕ)) (made : Result Output NoMemory) (before now : ℕ) (result : Status) (line : ℕ) → Gives read.held name script → read.now ≡ read.before ++ given_script name script ∷ [] → IsBadAt script line → IfOk made (λ o. o.status ≡ Refused) → IfOk made (λ o. o.bytes ≡ bad_line name line) → IfMade made (λ status bytes. Finished old new bytes status before now result) ((result ≡ OutOfMemory) × (new ≡ old) × (now ≡ before)) → AnswersScript read name old new result
-bad_answers read name script old new (Made o) before now result line told gave bad ends text (inl f) =
-    subst (AnswersScript read name old new) (sym (f.0 ∙ ends)) (inr (o.bytes, record { script = script; told = told; given = gave; line = line; bad = bad; text = text }, f.1))
-bad_answers read name script old new (Made o) before now result line told gave bad ends text (inr f) =
-    subst (AnswersScript read name old new) (sym f.0) (inl (o.bytes, record { script = script; told = told; given = gave; line = line; bad = bad; text = text }, f.1))
-bad_answers read name script old new (Err e) before now result line told gave bad ends text f = subst (AnswersScript read name old new) (sym f.0) (inl (f.1, script_little name script read.before read.now gave))
+pub bad_answers : (infer : Infer) (read : Reading) (name script : List ℕ) (old new : Option (List ℕ)) (made : Result Output NoMemory) (before now : ℕ) (result : Status) (line : ℕ) → Gives read.held name script → read.now ≡ read.before ++ given_script name script ∷ [] → IsBadAt script line → IfOk made (λ o. o.status ≡ Refused) → IfOk made (λ o. o.bytes ≡ bad_line name line) → IfMade made (λ status bytes. Finished old new bytes status before now result) ((result ≡ OutOfMemory) × (new ≡ old) × (now ≡ before)) → AnswersScript infer read name old new result
+bad_answers infer read name script old new (Made o) before now result line told gave bad ends text (inl f) =
+    subst (AnswersScript infer read name old new) (sym (f.0 ∙ ends)) (inr (o.bytes, record { script = script; told = told; given = gave; line = line; bad = bad; text = text }, f.1))
+bad_answers infer read name script old new (Made o) before now result line told gave bad ends text (inr f) =
+    subst (AnswersScript infer read name old new) (sym f.0) (inl (o.bytes, record { script = script; told = told; given = gave; line = line; bad = bad; text = text }, f.1))
+bad_answers infer read name script old new (Err e) before now result line told gave bad ends text f = subst (AnswersScript infer read name old new) (sym f.0) (inl (f.1, script_little name script read.before read.now gave))
 
 -- no more than the limit was given
 pub small_given : (name script : List ℕ) (old new : List Given) → length script ≤ script_limit → new ≡ old ++ given name script ∷ [] → new ≡ old ++ given_script name script ∷ []
@@ -46,7 +47,7 @@ small_given name script old new le gave = gave ∙ ap (λ front. old ++ given na
 
 -- ---- a good one
 
-module _ (held : Option Holding) (before : List Given) (name script : List ℕ) (steps : List Step) (old new : World) (told : Gives held name script) (small : length script ≤ script_limit) (gave : old.gave ≡ before ++ given name script ∷ []) (are : IsScript script steps) where
+module _ (infer : Infer) (held : Option Holding) (before : List Given) (name script : List ℕ) (steps : List Step) (old new : World) (told : Gives held name script) (small : length script ≤ script_limit) (gave : old.gave ≡ before ++ given name script ∷ []) (are : IsScript script steps) where
   good : IsGood held name script steps
   good = record { told = told; small = small; are = are }
 
@@ -54,7 +55,7 @@ module _ (held : Option Holding) (before : List Given) (name script : List ℕ) 
   given_with : (w : World) (files : List SourceFile) → w.gave ≡ old.gave ++ map given_of files → w.gave ≡ before ++ given_script name script ∷ map given_of files
   given_with w files more = more ∙ ap (λ g. g ++ map given_of files) (small_given name script before old.gave small gave) ∙ append_assoc before (given_script name script ∷ []) (map given_of files)
 
-  whole : (status : Status) (t : SessionOf) (did : DidAll held old new steps status t) → IsCarried (reading held before new.gave) name status did.bytes
+  whole : (status : Status) (t : SessionOf) (did : DidAll infer held old new steps status t) → IsCarried infer (reading held before new.gave) name status did.bytes
   whole status t did = record {
     script = script;
     steps = steps;
@@ -66,7 +67,7 @@ module _ (held : Option Holding) (before : List Given) (name script : List ℕ) 
     does = did.does;
   }
 
-  is_before : (status : Status) (e : EndsAt held old new steps status) (gave : List Given) → gave ≡ e.mid.gave → IsBefore (reading held before new.gave) name e.step gave e.did.bytes e.session
+  is_before : (status : Status) (e : EndsAt infer held old new steps status) (gave : List Given) → gave ≡ e.mid.gave → IsBefore infer (reading held before new.gave) name e.step gave e.did.bytes e.session
   is_before status e gave same = record {
     script = script;
     front = e.front;
@@ -79,7 +80,7 @@ module _ (held : Option Holding) (before : List Given) (name script : List ℕ) 
     does = e.did.does;
   }
 
-  stops : (At : Step → List Given → List Given → Type 0) (status : Status) (e : EndsAt held old new steps status) → At e.step e.mid.gave new.gave → new.written ≡ e.mid.written → StopsAt (reading held before new.gave) name old.written new.written At
+  stops : (At : Step → List Given → List Given → Type 0) (status : Status) (e : EndsAt infer held old new steps status) → At e.step e.mid.gave new.gave → new.written ≡ e.mid.written → StopsAt infer (reading held before new.gave) name old.written new.written At
   stops At status e at same = record {
     step = e.step;
     gave = e.mid.gave;
@@ -90,11 +91,11 @@ module _ (held : Option Holding) (before : List Given) (name script : List ℕ) 
     written = subst (λ (w : Option (List ℕ)). Appends old.written w e.did.bytes) (sym same) e.did.moves.taken;
   }
 
-  breaks : (e : EndsAt held old new steps WriteFault) → BreaksAt (reading held before new.gave) name old.written new.written
+  breaks : (e : EndsAt infer held old new steps WriteFault) → BreaksAt infer (reading held before new.gave) name old.written new.written
   breaks e = record {
     bytes = e.did.bytes;
     session = e.session;
-    before = subst (λ (step : Step). IsBefore (reading held before new.gave) name step new.gave e.did.bytes e.session) e.ends.asked (is_before WriteFault e new.gave e.ends.given);
+    before = subst (λ (step : Step). IsBefore infer (reading held before new.gave) name step new.gave e.did.bytes e.session) e.ends.asked (is_before WriteFault e new.gave e.ends.given);
     text = e.ends.bytes;
     end = e.ends.end;
     after = e.ends.session;
@@ -104,7 +105,7 @@ module _ (held : Option Holding) (before : List Given) (name script : List ℕ) 
     written = taken_more old.written e.mid.written new.written e.did.bytes (take e.ends.taken.count e.ends.bytes) e.did.moves.taken e.ends.taken.taken;
   }
 
-  pub script_answers : (status : Status) → CarriesOut held old new steps status → AnswersScript (reading held before new.gave) name old.written new.written status
+  pub script_answers : (status : Status) → CarriesOut infer held old new steps status → AnswersScript infer (reading held before new.gave) name old.written new.written status
   script_answers Ok (t, did) = (did.bytes, whole Ok t did, did.moves.taken)
   script_answers Rejected (t, did) = (did.bytes, whole Rejected t did, did.moves.taken)
   script_answers Refused (t, did) = inl (did.bytes, whole Refused t did, did.moves.taken)

@@ -1,6 +1,7 @@
 -- Scripts that are carried out step by step.
 use Rattle.std.proofs.Common.{◌≡◌, ℕ, zero, suc, ◌+◌, ◌<◌, List, [], ◌∷◌, ◌++◌, length, map, take, drop, get_or, Option, Some, None, refl, sym, ap, ◌∙◌, subst, arith, append_assoc, append-nil}
 use Rattle.std.proofs.lemmas.List.{take_more}
+use Rattle.jn_base.specs.declared.infer.Infer.{Infer}
 use Rattle.jn_outside.specs.Causes.{Rose}
 use Rattle.jn_outside.specs.Files.{Holding}
 use Rattle.jn_outside.specs.Sink.{Appends}
@@ -78,18 +79,18 @@ none_taken : (written : Option (List ℕ)) → Appends written written []
 none_taken None = refl
 none_taken (Some bytes) = ap Some (sym (append-nil bytes))
 
-pub did_none : (held : Option Holding) (at : World) (s : SessionOf) → s ≡ new_session → DidAll held at at [] Ok s
-did_none held at s new = record { files = []; bytes = []; does = (refl, refl, refl, new); moves = record { told = none_held held; given = sym (append-nil at.gave); taken = none_taken at.written; reads = refl; writes = refl } }
+pub did_none : (infer : Infer) (held : Option Holding) (at : World) (s : SessionOf) → s ≡ new_session infer → DidAll infer held at at [] Ok s
+did_none infer held at s new = record { files = []; bytes = []; does = (refl, refl, refl, new); moves = record { told = none_held held; given = sym (append-nil at.gave); taken = none_taken at.written; reads = refl; writes = refl } }
 
-module _ (held : Option Holding) (old mid : World) (steps : List Step) (i : ℕ) (step : Step) (lt : i < length steps) (is : step ≡ get_or steps i step) (last : Status) (u : SessionOf) (did : DidAll held old mid (take i steps) last u) where
+module _ (infer : Infer) (held : Option Holding) (old mid : World) (steps : List Step) (i : ℕ) (step : Step) (lt : i < length steps) (is : step ≡ get_or steps i step) (last : Status) (u : SessionOf) (did : DidAll infer held old mid (take i steps) last u) where
   more : take (i + 1) steps ≡ take i steps ++ step ∷ []
   more = take_more steps i step lt ∙ ap (λ s. take i steps ++ s ∷ []) (sym is)
 
-  pub did_more : (new : World) (end : Status) (t : SessionOf) → GoesOn held mid new u last step end t → DidAll held old new (take (i + 1) steps) end t
-  did_more new end t goes = subst (λ ss. DidAll held old new ss end t) (sym more) (record {
+  pub did_more : (new : World) (end : Status) (t : SessionOf) → GoesOn held mid new u last step end t → DidAll infer held old new (take (i + 1) steps) end t
+  did_more new end t goes = subst (λ ss. DidAll infer held old new ss end t) (sym more) (record {
     files = did.files ++ goes.read;
     bytes = did.bytes ++ goes.bytes;
-    does = do_more new_session Ok (take i steps) did.files did.bytes last u step goes.read goes.bytes end t did.does goes.does;
+    does = do_more (new_session infer) Ok (take i steps) did.files did.bytes last u step goes.read goes.bytes end t did.does goes.does;
     moves = moves_more held old mid new did.files goes.read did.bytes goes.bytes did.moves goes.moves;
   })
 
@@ -100,7 +101,7 @@ module _ (held : Option Holding) (old mid : World) (steps : List Step) (i : ℕ)
   split (x ∷ xs) (suc n) = ap (λ ys. x ∷ ys) (split xs n)
 
   -- the steps before it were carried out, and it ended the script
-  ends_here : (new : World) (status : Status) → EndsBy held mid new u step status → EndsAt held old new steps status
+  ends_here : (new : World) (status : Status) → EndsBy held mid new u step status → EndsAt infer held old new steps status
   ends_here new status end = record {
     front = take i steps;
     step = step;
@@ -116,7 +117,7 @@ module _ (held : Option Holding) (old mid : World) (steps : List Step) (i : ℕ)
   rose_on : (a b c : ℕ) → b ≡ a → Rose b c → Rose a c
   rose_on a b c e r = subst (λ n. Rose n c) e r
 
-  pub did_end : (new : World) (status : Status) → EndsBy held mid new u step status → CarriesOut held old new steps status
+  pub did_end : (new : World) (status : Status) → EndsBy held mid new u step status → CarriesOut infer held old new steps status
   did_end new ReadFault end = (ends_here new ReadFault end, rose_on old.reads mid.reads new.reads did.moves.reads end.rose, end.writes ∙ did.moves.writes)
   did_end new OutOfMemory end = (ends_here new OutOfMemory end, end.reads ∙ did.moves.reads, end.writes ∙ did.moves.writes)
   did_end new WriteFault end = (ends_here new WriteFault end, end.reads ∙ did.moves.reads, rose_on old.writes mid.writes new.writes did.moves.writes end.rose)
@@ -154,35 +155,35 @@ all_status : (s : SessionOf) (last : Status) (steps : List Step) (read : List So
 all_status s last [] read bytes end t v d = subst IsVerdictStatus (sym d.2) v
 all_status s last (step ∷ steps) read bytes end t v (one, others, front, back, status, mid, read_are, bytes_are, does, goes) = all_status mid status steps others back end t (step_status s last step one front status mid v does) goes
 
-carried : (held : Option Holding) (old new : World) (steps : List Step) (status : Status) (t : SessionOf) → IsVerdictStatus status → DidAll held old new steps status t → CarriesOut held old new steps status
-carried held old new steps Ok t v did = (t, did)
-carried held old new steps Rejected t v did = (t, did)
-carried held old new steps Refused t v did = (t, did)
-carried held old new steps RunFault t v did = absurd v
-carried held old new steps Stopped t v did = absurd v
-carried held old new steps ReadFault t v did = absurd v
-carried held old new steps WriteFault t v did = absurd v
-carried held old new steps OutOfMemory t v did = absurd v
-carried held old new steps Usage t v did = absurd v
+carried : (infer : Infer) (held : Option Holding) (old new : World) (steps : List Step) (status : Status) (t : SessionOf) → IsVerdictStatus status → DidAll infer held old new steps status t → CarriesOut infer held old new steps status
+carried infer held old new steps Ok t v did = (t, did)
+carried infer held old new steps Rejected t v did = (t, did)
+carried infer held old new steps Refused t v did = (t, did)
+carried infer held old new steps RunFault t v did = absurd v
+carried infer held old new steps Stopped t v did = absurd v
+carried infer held old new steps ReadFault t v did = absurd v
+carried infer held old new steps WriteFault t v did = absurd v
+carried infer held old new steps OutOfMemory t v did = absurd v
+carried infer held old new steps Usage t v did = absurd v
 
-pub did_whole : (held : Option Holding) (old new : World) (steps done : List Step) (status : Status) (t : SessionOf) → done ≡ steps → DidAll held old new done status t → CarriesOut held old new steps status
-did_whole held old new steps done status t same did = carried held old new steps status t (all_status new_session Ok done did.files did.bytes status t tt did.does) (subst (λ ss. DidAll held old new ss status t) same did)
+pub did_whole : (infer : Infer) (held : Option Holding) (old new : World) (steps done : List Step) (status : Status) (t : SessionOf) → done ≡ steps → DidAll infer held old new done status t → CarriesOut infer held old new steps status
+did_whole infer held old new steps done status t same did = carried infer held old new steps status t (all_status (new_session infer) Ok done did.files did.bytes status t tt did.does) (subst (λ ss. DidAll infer held old new ss status t) same did)
 
 -- it is no read fault
-pub never_read : (held : Option Holding) (old new : World) (done : List Step) (status : Status) (t : SessionOf) → DidAll held old new done status t → status ≡ ReadFault → ⊥
-never_read held old new done status t did e = subst IsVerdictStatus e (all_status new_session Ok done did.files did.bytes status t tt did.does)
+pub never_read : (infer : Infer) (held : Option Holding) (old new : World) (done : List Step) (status : Status) (t : SessionOf) → DidAll infer held old new done status t → status ≡ ReadFault → ⊥
+never_read infer held old new done status t did e = subst IsVerdictStatus e (all_status (new_session infer) Ok done did.files did.bytes status t tt did.does)
 
 -- but for a read fault the count of these stands still
-pub unmoved : (held : Option Holding) (old new : World) (steps : List Step) (status : Status) → CarriesOut held old new steps status → (status ≡ ReadFault → ⊥) → new.reads ≡ old.reads
-unmoved held old new steps Ok did other = did.1.moves.reads
-unmoved held old new steps Rejected did other = did.1.moves.reads
-unmoved held old new steps Refused did other = did.1.moves.reads
-unmoved held old new steps ReadFault did other = absurd (other refl)
-unmoved held old new steps WriteFault did other = did.1
-unmoved held old new steps OutOfMemory did other = did.1
-unmoved held old new steps RunFault did other = absurd did
-unmoved held old new steps Stopped did other = absurd did
-unmoved held old new steps Usage did other = absurd did
+pub unmoved : (infer : Infer) (held : Option Holding) (old new : World) (steps : List Step) (status : Status) → CarriesOut infer held old new steps status → (status ≡ ReadFault → ⊥) → new.reads ≡ old.reads
+unmoved infer held old new steps Ok did other = did.1.moves.reads
+unmoved infer held old new steps Rejected did other = did.1.moves.reads
+unmoved infer held old new steps Refused did other = did.1.moves.reads
+unmoved infer held old new steps ReadFault did other = absurd (other refl)
+unmoved infer held old new steps WriteFault did other = did.1
+unmoved infer held old new steps OutOfMemory did other = did.1
+unmoved infer held old new steps RunFault did other = absurd did
+unmoved infer held old new steps Stopped did other = absurd did
+unmoved infer held old new steps Usage did other = absurd did
 
 -- ---- a source that holds all files
 

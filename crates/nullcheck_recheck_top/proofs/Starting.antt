@@ -1,6 +1,7 @@
 -- Which files are started.
 use Rattle.std.proofs.Common.{◌≡◌, ℕ, zero, suc, ◌+◌, ◌<◌, ◌≤◌, List, [], ◌∷◌, ◌++◌, length, map, take, drop, get_or, Option, inl, inr, refl, sym, ap, ◌∙◌, subst, arith, append_assoc, append-nil}
 use Rattle.std.proofs.lemmas.List.{take_all}
+use Rattle.jn_base.specs.declared.infer.Infer.{Infer}
 use Rattle.jn_outside.specs.declared.given.Given.{Given}
 use Rattle.jn_outside.specs.Files.{Holding}
 use Rattle.jn_outside.specs.Gave.{GivesLittle, given}
@@ -105,16 +106,16 @@ split (x ∷ xs) (suc i) step lt is =
     ∙ ap (λ n. files_of (take (suc i) (x ∷ xs)) ++ (file_of step ++ files_of (drop n (x ∷ xs)))) next
 
 -- the steps before were carried out, and what this one starts is started
-pub starts_at : (held : Option Holding) (old mid : World) (steps : List Step) (i : ℕ) (step : Step) (last : Status) (t : SessionOf) (new : List Given) → i < length steps → step ≡ get_or steps i step → DidAll held old mid (take i steps) last t → StartsOnly (file_of step) mid.gave new → StartsOnly (files_of steps) old.gave new
-starts_at held old mid steps i step last t new lt is did s =
+pub starts_at : (infer : Infer) (held : Option Holding) (old mid : World) (steps : List Step) (i : ℕ) (step : Step) (last : Status) (t : SessionOf) (new : List Given) → i < length steps → step ≡ get_or steps i step → DidAll infer held old mid (take i steps) last t → StartsOnly (file_of step) mid.gave new → StartsOnly (files_of steps) old.gave new
+starts_at infer held old mid steps i step last t new lt is did s =
     subst (λ names. StartsOnly names old.gave new) (sym (split steps i step lt is))
     (started_more (files_of (take i steps)) (file_of step) (files_of (drop (i + 1) steps)) old.gave mid.gave new (map given_of did.files) did.moves.given
-    (files_given did.files ∙ read_by_all new_session Ok (take i steps) did.files did.bytes last t did.does) s)
+    (files_given did.files ∙ read_by_all (new_session infer) Ok (take i steps) did.files did.bytes last t did.does) s)
 
 -- all were carried out
-pub starts_all : (held : Option Holding) (old new : World) (steps done : List Step) (last : Status) (t : SessionOf) → done ≡ steps → DidAll held old new done last t → StartsOnly (files_of steps) old.gave new.gave
-starts_all held old new steps done last t same did =
-    let named : names_given (map given_of did.files) ≡ files_of done = files_given did.files ∙ read_by_all new_session Ok done did.files did.bytes last t did.does in
+pub starts_all : (infer : Infer) (held : Option Holding) (old new : World) (steps done : List Step) (last : Status) (t : SessionOf) → done ≡ steps → DidAll infer held old new done last t → StartsOnly (files_of steps) old.gave new.gave
+starts_all infer held old new steps done last t same did =
+    let named : names_given (map given_of did.files) ≡ files_of done = files_given did.files ∙ read_by_all (new_session infer) Ok done did.files did.bytes last t did.does in
     subst (λ (ss : List Step). StartsOnly (files_of ss) old.gave new.gave) same (record {
       added = map given_of did.files;
       gave = did.moves.given;

@@ -134,17 +134,17 @@ stays held gave written reads writes = record { told = none_held held; given = s
 pub empty_taken : (held : Option Holding) (gave : List Given) (written : Option (List ℕ)) (reads writes : ℕ) (s t : SessionOf) (last : Status) → t ≡ s → IsTaken held (world gave written reads writes) (world gave written reads writes) s last Empty t (Goes last)
 empty_taken held gave written reads writes s t last e = record { read = []; bytes = []; does = (refl, refl, refl, e); moves = stays held gave written reads writes }
 
-same_session : (t u : SessionOf) → t.files ≡ u.files → t.last ≡ u.last → t.kept ≡ u.kept → t ≡ u
-same_session t u a b c = (λ i. record { files = a i; last = b i; kept = c i })
+same_session : (t u : SessionOf) → t.infer ≡ u.infer → t.files ≡ u.files → t.last ≡ u.last → t.kept ≡ u.kept → t ≡ u
+same_session t u chosen a b c = (λ i. record { infer = chosen i; files = a i; last = b i; kept = c i })
 
-pub remove_taken : (held : Option Holding) (gave : List Given) (written : Option (List ℕ)) (reads writes : ℕ) (s t : SessionOf) (name : List ℕ) (last : Status) → t.files ≡ (without_name name s).files → t.last ≡ s.last → t.kept ≡ s.kept → IsTaken held (world gave written reads writes) (world gave written reads writes) s last (Remove name) t (Goes last)
-remove_taken held gave written reads writes s t name last a b c = record { read = []; bytes = []; does = (refl, refl, refl, same_session t (without_name name s) a b c); moves = stays held gave written reads writes }
+pub remove_taken : (held : Option Holding) (gave : List Given) (written : Option (List ℕ)) (reads writes : ℕ) (s t : SessionOf) (name : List ℕ) (last : Status) → t.infer ≡ s.infer → t.files ≡ (without_name name s).files → t.last ≡ s.last → t.kept ≡ s.kept → IsTaken held (world gave written reads writes) (world gave written reads writes) s last (Remove name) t (Goes last)
+remove_taken held gave written reads writes s t name last chosen a b c = record { read = []; bytes = []; does = (refl, refl, refl, same_session t (without_name name s) chosen a b c); moves = stays held gave written reads writes }
 
-pub set_taken : (held : Option Holding) (old new : List Given) (written : Option (List ℕ)) (reads now writes : ℕ) (s t : SessionOf) (name file text : List ℕ) (last : Status) → TextFrom held file old new text → now ≡ reads → t.files ≡ (with_text name text s).files → t.last ≡ s.last → t.kept ≡ s.kept → IsTaken held (world old written reads writes) (world new written now writes) s last (Set name file) t (Goes last)
-set_taken held old new written reads now writes s t name file text last from same a b c = record {
+pub set_taken : (held : Option Holding) (old new : List Given) (written : Option (List ℕ)) (reads now writes : ℕ) (s t : SessionOf) (name file text : List ℕ) (last : Status) → TextFrom held file old new text → now ≡ reads → t.infer ≡ s.infer → t.files ≡ (with_text name text s).files → t.last ≡ s.last → t.kept ≡ s.kept → IsTaken held (world old written reads writes) (world new written now writes) s last (Set name file) t (Goes last)
+set_taken held old new written reads now writes s t name file text last from same chosen a b c = record {
   read = record { name = file; bytes = from.bytes } ∷ [];
   bytes = [];
-  does = (record { bytes = from.bytes; text = text; are = refl; is = from.is; session = same_session t (with_text name text s) a b c }, refl, refl);
+  does = (record { bytes = from.bytes; text = text; are = refl; is = from.is; session = same_session t (with_text name text s) chosen a b c }, refl, refl);
   moves = record { told = from.told; given = from.given; taken = none_taken written; reads = same; writes = refl };
 }
 

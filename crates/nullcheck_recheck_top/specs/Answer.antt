@@ -1,5 +1,6 @@
 -- What an answer says of the words, of what was read and of the output.
-use Rattle.std.specs.Prelude.{ℕ, ◌+◌, ◌≡◌, ◌≤◌, ◌<◌, ◌⊎◌, ◌++◌, ◌==◌, Bool, false, List, [], ◌∷◌, Option, Some, None, codes, decimal, length, map, take, if◌then◌else◌}
+use Rattle.std.specs.Prelude.{ℕ, ◌+◌, ◌≡◌, ◌≤◌, ◌<◌, ◌⊎◌, ◌++◌, List, [], ◌∷◌, Option, Some, None, codes, decimal, length, map, take}
+use Rattle.jn_base.specs.declared.infer.Infer.{Infer}
 use Rattle.jn_outside.specs.declared.given.Given.{Given}
 use Rattle.jn_outside.specs.Files.{Holding, Holds, Gives}
 use Rattle.jn_outside.specs.Gave.{GivesLittle, given}
@@ -13,22 +14,13 @@ use Rattle.jn_recheck.specs.Sessions.{SessionOf}
 use Rattle.jn_script.specs.declared.step.Step.{Step}
 use Rattle.jn_script.specs.Script.{IsFirstBad, IsScript}
 use Rattle.jn_script.specs.declared.step.Step.TheVariants.{Check}
+use Rattle.nullcheck_recheck_top.specs.Words.{AskedFor}
 use Rattle.nullcheck_recheck_top.specs.Carrying.{DoAll, IsCheck, LacksAt, MissesAt, files_of, new_session}
 
 -- ---- words
 
-abbrev pub is_option : List ℕ → Bool
-is_option [] = false
-is_option (byte ∷ bytes) = byte == 45
-
--- the script that the words name: one word that doesn't begin with a minus
-abbrev pub asked_of : List (List ℕ) → Option (List ℕ)
-asked_of [] = None
-asked_of (word ∷ []) = if is_option word then None else Some word
-asked_of (word ∷ other ∷ words) = None
-
 abbrev pub usage_line : List ℕ
-usage_line = codes "usage: nullcheck_recheck SCRIPT\n"
+usage_line = codes "usage: nullcheck_recheck [--infer private|package] SCRIPT\n"
 
 -- ---- scripts
 
@@ -65,7 +57,7 @@ pub record IsRefusedScript (read : Reading) (name bytes : List ℕ) : Type 0 whe
   pub text : bytes ≡ bad_line name line
 
 -- the script was carried out to its end: the files that were read have the bytes that the source tells, and that its reads gave
-pub record IsCarried (read : Reading) (name : List ℕ) (status : Status) (bytes : List ℕ) : Type 0 where
+pub record IsCarried (infer : Infer) (read : Reading) (name : List ℕ) (status : Status) (bytes : List ℕ) : Type 0 where
   pub script : List ℕ
   pub steps : List Step
   pub good : IsGood read.held name script steps
@@ -73,10 +65,10 @@ pub record IsCarried (read : Reading) (name : List ℕ) (status : Status) (bytes
   pub told : AreHeld read.held files
   pub given : read.now ≡ read.before ++ given_script name script ∷ map given_of files
   pub session : SessionOf
-  pub does : DoAll new_session Ok steps files bytes status session
+  pub does : DoAll (new_session infer) Ok steps files bytes status session
 
 -- the steps before this one were carried out: the files that they set have the bytes that the source tells, and that its reads gave, and their checks' reports are these bytes
-pub record IsBefore (read : Reading) (name : List ℕ) (step : Step) (gave : List Given) (bytes : List ℕ) (session : SessionOf) : Type 0 where
+pub record IsBefore (infer : Infer) (read : Reading) (name : List ℕ) (step : Step) (gave : List Given) (bytes : List ℕ) (session : SessionOf) : Type 0 where
   pub script : List ℕ
   pub front : List Step
   pub back : List Step
@@ -85,13 +77,13 @@ pub record IsBefore (read : Reading) (name : List ℕ) (step : Step) (gave : Lis
   pub told : AreHeld read.held files
   pub given : gave ≡ read.before ++ given_script name script ∷ map given_of files
   pub status : Status
-  pub does : DoAll new_session Ok front files bytes status session
+  pub does : DoAll (new_session infer) Ok front files bytes status session
 
 -- what each status means, of a script
-module _ (read : Reading) (name : List ℕ) (old new : Option (List ℕ)) where
+module _ (infer : Infer) (read : Reading) (name : List ℕ) (old new : Option (List ℕ)) where
   -- the reports of all checks were written whole
   abbrev pub Carries : Status → Type 0
-  Carries status = (bytes : List ℕ) × IsCarried read name status bytes × Appends old new bytes
+  Carries status = (bytes : List ℕ) × IsCarried infer read name status bytes × Appends old new bytes
 
   abbrev pub Refuses : Type 0
   Refuses = (bytes : List ℕ) × IsRefusedScript read name bytes × Appends old new bytes
@@ -106,7 +98,7 @@ module _ (read : Reading) (name : List ℕ) (old new : Option (List ℕ)) where
     pub gave : List Given
     pub bytes : List ℕ
     pub session : SessionOf
-    pub before : IsBefore read name step gave bytes session
+    pub before : IsBefore infer read name step gave bytes session
     pub at : At step gave read.now
     pub written : Appends old new bytes
 
@@ -114,7 +106,7 @@ module _ (read : Reading) (name : List ℕ) (old new : Option (List ℕ)) where
   pub record BreaksAt : Type 0 where
     pub bytes : List ℕ
     pub session : SessionOf
-    pub before : IsBefore read name Check read.now bytes session
+    pub before : IsBefore infer read name Check read.now bytes session
     pub text : List ℕ
     pub end : Status
     pub after : SessionOf
@@ -141,14 +133,14 @@ module _ (read : Reading) (name : List ℕ) (old new : Option (List ℕ)) where
 abbrev pub AnswersUsage : Option (List ℕ) → Option (List ℕ) → Status → Type 0
 AnswersUsage old new status = ((status ≡ Usage) × Appends old new usage_line) ⊎ ((status ≡ WriteFault) × AppendsPrefix old new usage_line)
 
-abbrev pub Answers : Reading → Option (List ℕ) → Option (List ℕ) → Option (List ℕ) → Status → Type 0
+abbrev pub Answers : Reading → Option AskedFor → Option (List ℕ) → Option (List ℕ) → Status → Type 0
 Answers read None old new status = AnswersUsage old new status
-Answers read (Some name) old new status = AnswersScript read name old new status
+Answers read (Some asked) old new status = AnswersScript asked.infer read asked.script old new status
 
 -- the source holds the script, and where that is good each file that it sets
-abbrev pub HoldsAll : Option Holding → Option (List ℕ) → Type 0
+abbrev pub HoldsAll : Option Holding → Option AskedFor → Type 0
 HoldsAll held None = Unit {0}
-HoldsAll held (Some name) = Holds held name × ((script : List ℕ) (steps : List Step) → IsGood held name script steps → AllHeld held (files_of steps))
+HoldsAll held (Some asked) = Holds held asked.script × ((script : List ℕ) (steps : List Step) → IsGood held asked.script script steps → AllHeld held (files_of steps))
 
 -- ---- what is started
 
@@ -159,6 +151,6 @@ StartsScript held name old new =
     ⊎ ((script : List ℕ) × (steps : List Step) × IsGood held name script steps × StartsOnly (files_of steps) (old ++ given_script name script ∷ []) new)
 
 -- nothing where the words name no script
-abbrev pub Starts : Option Holding → Option (List ℕ) → List Given → List Given → Type 0
+abbrev pub Starts : Option Holding → Option AskedFor → List Given → List Given → Type 0
 Starts held None old new = new ≡ old
-Starts held (Some name) old new = StartsScript held name old new
+Starts held (Some asked) old new = StartsScript held asked.script old new

@@ -1,6 +1,7 @@
 -- What the steps of a script make of a session, what they read and what they write.
 use Rattle.std.specs.Prelude.{ℕ, ◌+◌, ◌≡◌, ◌≤◌, ◌<◌, ◌⊎◌, ◌++◌, List, [], ◌∷◌, None, codes, decimal, length, map, replicate}
 use Rattle.std.specs.List.{flat_map}
+use Rattle.jn_base.specs.declared.infer.Infer.{Infer}
 use Rattle.jn_base.specs.declared.place.Row.{Row}
 use Rattle.jn_command.specs.declared.status.Status.{Status}
 use Rattle.jn_command.specs.declared.status.Status.TheVariants.{Ok, Rejected as RejectedStatus, Refused as RefusedStatus}
@@ -48,14 +49,15 @@ status_of (Refused rows) = RefusedStatus
 
 -- ---- sessions
 
-abbrev pub new_session : SessionOf
-new_session = record { files = []; last = []; kept = None }
+-- a session without files, whose reports infer these members
+abbrev pub new_session : Infer → SessionOf
+new_session infer = record { infer = infer; files = []; last = []; kept = None }
 
 abbrev pub with_text : List ℕ → List ℕ → SessionOf → SessionOf
-with_text name text s = record { files = with_file name text s.files; last = s.last; kept = s.kept }
+with_text name text s = record { infer = s.infer; files = with_file name text s.files; last = s.last; kept = s.kept }
 
 abbrev pub without_name : List ℕ → SessionOf → SessionOf
-without_name name s = record { files = without_file name s.files; last = s.last; kept = s.kept }
+without_name name s = record { infer = s.infer; files = without_file name s.files; last = s.last; kept = s.kept }
 
 -- ---- steps
 

@@ -1,3 +1,4 @@
 pub mod Carrying
 pub mod Answer
 pub mod Stepping
+pub mod Words

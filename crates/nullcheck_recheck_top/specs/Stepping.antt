@@ -1,5 +1,6 @@
 -- What a call did that carries out a step or steps.
 use Rattle.std.specs.Prelude.{ℕ, ◌≡◌, ◌⊎◌, ◌++◌, List, [], ◌∷◌, map, Option}
+use Rattle.jn_base.specs.declared.infer.Infer.{Infer}
 use Rattle.jn_outside.specs.declared.given.Given.{Given}
 use Rattle.jn_outside.specs.Files.{Holding}
 use Rattle.jn_outside.specs.Causes.{Rose}
@@ -96,14 +97,15 @@ module _ (held : Option Holding) (old new : World) where
   IsTaken s last step t (Goes end) = GoesOn s last step end t
   IsTaken s last step t (Ends status) = EndsBy s step status
 
-  -- the steps were carried out, one after the other
+module _ (infer : Infer) (held : Option Holding) (old new : World) where
+  -- the steps were carried out, one after the other, of a session that infers these members
   pub record DidAll (steps : List Step) (end : Status) (t : SessionOf) : Type 0 where
     pub files : List SourceFile
     pub bytes : List ℕ
-    pub does : DoAll new_session Ok steps files bytes end t
-    pub moves : Moves files bytes
+    pub does : DoAll (new_session infer) Ok steps files bytes end t
+    pub moves : Moves held old new files bytes
 
-module _ (held : Option Holding) (old new : World) where
+module _ (infer : Infer) (held : Option Holding) (old new : World) where
   -- the steps before one were carried out, and this one ended the script, with this status
   pub record EndsAt (steps : List Step) (status : Status) : Type 0 where
     pub front : List Step
@@ -113,11 +115,11 @@ module _ (held : Option Holding) (old new : World) where
     pub mid : World
     pub last : Status
     pub session : SessionOf
-    pub did : DidAll held old mid front last session
+    pub did : DidAll infer held old mid front last session
     pub ends : EndsBy held mid new session step status
 
   abbrev pub Whole : List Step → Status → Type 0
-  Whole steps status = (t : SessionOf) × DidAll held old new steps status t
+  Whole steps status = (t : SessionOf) × DidAll infer held old new steps status t
 
   -- what each status means
   abbrev pub CarriesOut : List Step → Status → Type 0

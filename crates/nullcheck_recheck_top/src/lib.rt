@@ -8,6 +8,7 @@ mod outputs;
 mod reason;
 mod step;
 pub mod top;
+mod words;
 
 pub use jn_command::Status;
 pub use reason::usage_reason;

@@ -1,15 +1,17 @@
 //! A script in, the reports of its checks out.
-ghost use Rattle.std.specs.Prelude.{None, Some, ◌≡◌, ◌≢◌, ◌<◌, ◌≤◌, MatchOption, length, map};
+ghost use Rattle.std.specs.Prelude.{None, Some, ◌≡◌, ◌≢◌, ◌<◌, ◌≤◌, length, map};
 ghost use Rattle.std.specs.String.{string_bytes};
 ghost use Rattle.jn_outside.specs.Causes.{Rose};
 ghost use Rattle.jn_outside.specs.Files.{Gives, Holds};
 ghost use Rattle.jn_front.specs.Files.{AllHeld};
 ghost use Rattle.jn_command.specs.Answer.{reading};
-ghost use Rattle.nullcheck_recheck_top.specs.Answer.{Answers, AnswersScript, HoldsAll, Starts, StartsScript, asked_of, is_option};
+ghost use Rattle.nullcheck_recheck_top.specs.Answer.{Answers, AnswersScript, HoldsAll, Starts, StartsScript};
+ghost use Rattle.nullcheck_recheck_top.specs.Words.{asked_of, asking};
 
 use crate::carrying::carry_out;
 use crate::outputs::bad_output;
-use jn_base::Fail;
+use crate::words;
+use jn_base::{Fail, Infer};
 use jn_command::Status;
 use jn_command::output::{finish, write};
 use jn_outside::{Files, ReadFail, Sink, read_whole};
@@ -18,37 +20,10 @@ use jn_sharing::Gate;
 use std::alloc::Global;
 use std::thread::Threads;
 
-const USAGE: &str = "usage: nullcheck_recheck SCRIPT\n";
+const USAGE: &str = "usage: nullcheck_recheck [--infer private|package] SCRIPT\n";
 
 /// The greatest number of bytes of a script.
 const LIMIT: u32 = 1_048_576;
-
-/// Whether a word begins with a minus.
-fn is_option(word: &str) -> bool
-    ensures { result ≡ is_option word.now }
-{
-    match word.as_bytes() {
-        [b'-', ..] => true,
-        _ => false,
-    }
-}
-
-/// The script that the words name.
-fn script_of<'a>(words: &'a [String]) -> Option<&'a str>
-    ensures { MatchOption result (asked_of (map string_bytes words.entry.now) ≡ None)
-        (λ name. asked_of (map string_bytes words.entry.now) ≡ Some name.now) }
-{
-    match words {
-        [word] => {
-            if is_option(word.as_str()) {
-                None
-            } else {
-                Some(word.as_str())
-            }
-        }
-        _ => None,
-    }
-}
 
 /// Reads the script, judges it whole, and carries it out where it is good.
 #[tactic(auto, using(crate::proofs::Starting::starts_script))]
@@ -56,18 +31,19 @@ fn answer_named<R: Threads + Sync, F: Files, K: Sink, G: Gate + Sync>(
     rt: &R,
     gate: &G,
     alloc: Global,
+    infer: Infer,
     name: &str,
     files: &mut F,
     out: &mut K,
 ) -> Status
-    ensures answer { AnswersScript
+    ensures answer { AnswersScript infer
         (reading (F.held files.old) (F.gave files.old) (F.gave files.new))
         name.now (K.written out.old) (K.written out.new) result }
     ensures read { result ≡ Status.ReadFault → Rose (F.faults files.old) (F.faults files.new) }
     ensures read_always { F.faults files.old < F.faults files.new → result ≡ Status.ReadFault }
-    ensures read_steady { F.steady files.old → HoldsAll (F.held files.old) (Some name.now)
+    ensures read_steady { F.steady files.old → HoldsAll (F.held files.old) (Some (asking infer name.now))
         → result ≢ Status.ReadFault }
-    ensures read_count { F.steady files.old → HoldsAll (F.held files.old) (Some name.now)
+    ensures read_count { F.steady files.old → HoldsAll (F.held files.old) (Some (asking infer name.now))
         → F.faults files.new ≡ F.faults files.old }
     ensures starts { StartsScript (F.held files.old) name.now (F.gave files.old) (F.gave files.new) }
     ensures write { result ≡ Status.WriteFault → Rose (K.faults out.old) (K.faults out.new) }
@@ -80,13 +56,14 @@ fn answer_named<R: Threads + Sync, F: Files, K: Sink, G: Gate + Sync>(
         Err(Fail::OutOfMemory) => return Status::OutOfMemory,
     };
     match read_script(alloc, &script) {
-        Ok(steps) => carry_out(rt, gate, alloc, &steps, files, out),
+        Ok(steps) => carry_out(rt, gate, alloc, infer, &steps, files, out),
         Err(Fail::Refused(line)) => write(bad_output(alloc, name, line), out),
         Err(Fail::OutOfMemory) => Status::OutOfMemory,
     }
 }
 
-/// Carries out the script that the words name: one word that doesn't begin with a minus. A script has lines `set NAME FILE`, `drop NAME`
+/// Carries out the script that the words name: a word that doesn't begin with a minus, before or after it `--infer private` or `--infer
+/// package`, which says the members that are inferred; private ones where nothing is said. A script has lines `set NAME FILE`, `drop NAME`
 /// and `check`, and empty ones; it is read and judged whole before any other file is read. `set` gives a name the text of a file, `drop`
 /// takes a name out, and `check` writes the plain report of the files that stand then, and how many of them have another text than at the
 /// last check and of how many bodies the rows were made anew.
@@ -102,7 +79,7 @@ pub fn recheck<R: Threads + Sync, F: Files, K: Sink, G: Gate + Sync>(
     out: &mut K,
 ) -> Status
     // Status and bytes are those that the words, the script and the files define: check by check the report of the files that stand
-    // there, with the bytes that the reads of this call gave, and the status of the last. A script with a bad line is refused by that
+    // there, by the members that the words choose, with the bytes that the reads of this call gave, and the status of the last. A script with a bad line is refused by that
     // line. After a read fault the reports of all checks before the `set` whose file couldn't be read were written, after want of memory
     // those of all checks before the step that wanted it, and after a write fault a part of one report more.
     ensures answer { Answers (reading (F.held files.old) (F.gave files.old) (F.gave files.new))
@@ -124,8 +101,8 @@ pub fn recheck<R: Threads + Sync, F: Files, K: Sink, G: Gate + Sync>(
     ensures write { result ≡ Status.WriteFault → Rose (K.faults out.old) (K.faults out.new) }
     ensures write_always { K.faults out.old < K.faults out.new → result ≡ Status.WriteFault }
 {
-    match script_of(words) {
+    match words::asked_of(words) {
         None => finish(out, USAGE.as_bytes(), Status::Usage),
-        Some(name) => answer_named(rt, gate, alloc, name, files, out),
+        Some((infer, name)) => answer_named(rt, gate, alloc, infer, name, files, out),
     }
 }

@@ -38,7 +38,7 @@ returns-clause-recheck g c =
     let sig = c.in_ok-sig.sig in
     let least = c.in_ok-sig.ensures in
     let found = c.in_ok-rows.field-0 in
-    checked_again c.args.files.now c.args.names c.args.base sig found.rows.items c.of_vec.result c.args.kept.now found.kept found.made c.requires.program least c.in_ok-rows.ensures.rows c.in_ok-rows.ensures.kept c.in_ok-rows.ensures.made c.of_vec.ensures
+    checked_again c.args.infer c.args.files.now c.args.names c.args.base sig found.rows.items c.of_vec.result c.args.kept.now found.kept found.made c.requires.program least c.in_ok-rows.ensures.rows c.in_ok-rows.ensures.kept c.in_ok-rows.ensures.made c.of_vec.ensures
 
 pub returns-clause-program : goal.returns-clause-program
 returns-clause-program g c = ap (λ (s : Solved). s.program) c.in_ok-rows.ensures.kept

@@ -22,7 +22,7 @@ finish-requires-clause-typed g c κs within =
 pub returns-clause-recheck : goal.returns-clause-recheck
 returns-clause-recheck g c =
     let found = c.in_ok-found.found in
-    subst (λ (k : Option Solved). IsRecheck k c.args.files.now found.report found.kept found.made) c.in_ok-rows.ensures.same c.in_ok-found.ensures.recheck
+    subst (λ (k : Option Solved). IsRecheck c.args.infer k c.args.files.now found.report found.kept found.made) c.in_ok-rows.ensures.same c.in_ok-found.ensures.recheck
 
 pub returns-clause-trees : goal.returns-clause-trees
 returns-clause-trees g c =
@@ -33,5 +33,5 @@ pub returns-clause-stands : goal.returns-clause-stands
 returns-clause-stands g c =
     let again = c.in_ok-rows.field-0 in
     let found = c.in_ok-found.found in
-    subst (λ (t : Option KeptTyping). StandsOn again.kept.items found.kept t) (sym c.beside-typing.ensures)
-    (stands_beside again.kept.items again.base found.kept again.typing c.in_ok-rows.ensures.typing c.in_ok-found.ensures.program)
+    subst (λ (t : Option KeptTyping). StandsOn c.args.infer again.kept.items found.kept t) (sym c.beside-typing.ensures)
+    (stands_beside c.args.infer again.kept.items again.base found.kept again.typing c.in_ok-rows.ensures.typing c.in_ok-found.ensures.program)

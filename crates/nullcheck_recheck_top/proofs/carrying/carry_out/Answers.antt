@@ -16,7 +16,7 @@ returns-in-Ends-clause-carried g c =
     let mid = world (g.F.Files.gave l.files) (g.K.Sink.written l.out) (g.F.Files.faults l.files) (g.K.Sink.faults l.out) in
     let new = world (g.F.Files.gave c.take_step.new.files) (g.K.Sink.written c.take_step.new.out) (g.F.Files.faults c.take_step.new.files) (g.K.Sink.faults c.take_step.new.out) in
     let end = subst (λ h. EndsBy h mid new l.session c.step-item.result c.in-Ends.status) l.invariant.1 c.in-Ends.ensures.taken in
-    did_end held old mid c.args.steps.now l.step-index c.step-item.result c.loop-step-test.true c.step-item.is l.last l.session l.invariant.0 new c.in-Ends.status end
+    did_end c.args.infer held old mid c.args.steps.now l.step-index c.step-item.result c.loop-step-test.true c.step-item.is l.last l.session l.invariant.0 new c.in-Ends.status end
 
 pub returns-in-Ends-clause-steady : goal.returns-in-Ends-clause-steady
 returns-in-Ends-clause-steady g c st all e =
@@ -33,7 +33,7 @@ loop-step-preserved g c =
     let mid = world (g.F.Files.gave l.files) (g.K.Sink.written l.out) (g.F.Files.faults l.files) (g.K.Sink.faults l.out) in
     let new = world (g.F.Files.gave c.take_step.new.files) (g.K.Sink.written c.take_step.new.out) (g.F.Files.faults c.take_step.new.files) (g.K.Sink.faults c.take_step.new.out) in
     let goes = subst (λ h. GoesOn h mid new l.session l.last c.step-item.result c.in-Goes.status c.take_step.new.session) l.invariant.1 c.in-Goes.ensures.taken in (
-      did_more held old mid c.args.steps.now l.step-index c.step-item.result c.loop-step-test.true c.step-item.is l.last l.session l.invariant.0 new c.in-Goes.status c.take_step.new.session goes,
+      did_more c.args.infer held old mid c.args.steps.now l.step-index c.step-item.result c.loop-step-test.true c.step-item.is l.last l.session l.invariant.0 new c.in-Goes.status c.take_step.new.session goes,
       c.in-Goes.ensures.held ∙ l.invariant.1,
       (λ st all.
           let there = subst (λ h. AllHeld h (file_of c.step-item.result)) (sym l.invariant.1) (held_at held c.args.steps.now l.step-index c.step-item.result c.loop-step-test.true c.step-item.is all) in
@@ -46,14 +46,14 @@ returns-clause-carried g c =
     let f = c.loop-step-test.false in
     let old = world (g.F.Files.gave c.args.files.now) (g.K.Sink.written c.args.out.now) (g.F.Files.faults c.args.files.now) (g.K.Sink.faults c.args.out.now) in
     let new = world (g.F.Files.gave l.files) (g.K.Sink.written l.out) (g.F.Files.faults l.files) (g.K.Sink.faults l.out) in
-    did_whole (g.F.Files.held c.args.files.now) old new c.args.steps.now (take l.step-index c.args.steps.now) l.last l.session (take_all l.step-index c.args.steps.now (omega (arith, f))) l.invariant.0
+    did_whole c.args.infer (g.F.Files.held c.args.files.now) old new c.args.steps.now (take l.step-index c.args.steps.now) l.last l.session (take_all l.step-index c.args.steps.now (omega (arith, f))) l.invariant.0
 
 pub returns-clause-steady : goal.returns-clause-steady
 returns-clause-steady g c st all =
     let l = c.loop-step in
     let old = world (g.F.Files.gave c.args.files.now) (g.K.Sink.written c.args.out.now) (g.F.Files.faults c.args.files.now) (g.K.Sink.faults c.args.out.now) in
     let new = world (g.F.Files.gave l.files) (g.K.Sink.written l.out) (g.F.Files.faults l.files) (g.K.Sink.faults l.out) in
-    never_read (g.F.Files.held c.args.files.now) old new (take l.step-index c.args.steps.now) l.last l.session l.invariant.0
+    never_read c.args.infer (g.F.Files.held c.args.files.now) old new (take l.step-index c.args.steps.now) l.last l.session l.invariant.0
 
 pub returns-in-Ends-clause-started : goal.returns-in-Ends-clause-started
 returns-in-Ends-clause-started g c =
@@ -61,7 +61,7 @@ returns-in-Ends-clause-started g c =
     let held = g.F.Files.held c.args.files.now in
     let old = world (g.F.Files.gave c.args.files.now) (g.K.Sink.written c.args.out.now) (g.F.Files.faults c.args.files.now) (g.K.Sink.faults c.args.out.now) in
     let mid = world (g.F.Files.gave l.files) (g.K.Sink.written l.out) (g.F.Files.faults l.files) (g.K.Sink.faults l.out) in
-    starts_at held old mid c.args.steps.now l.step-index c.step-item.result l.last l.session (g.F.Files.gave c.take_step.new.files) c.loop-step-test.true c.step-item.is l.invariant.0 c.in-Ends.ensures.started
+    starts_at c.args.infer held old mid c.args.steps.now l.step-index c.step-item.result l.last l.session (g.F.Files.gave c.take_step.new.files) c.loop-step-test.true c.step-item.is l.invariant.0 c.in-Ends.ensures.started
 
 pub returns-clause-started : goal.returns-clause-started
 returns-clause-started g c =
@@ -69,17 +69,17 @@ returns-clause-started g c =
     let f = c.loop-step-test.false in
     let old = world (g.F.Files.gave c.args.files.now) (g.K.Sink.written c.args.out.now) (g.F.Files.faults c.args.files.now) (g.K.Sink.faults c.args.out.now) in
     let new = world (g.F.Files.gave l.files) (g.K.Sink.written l.out) (g.F.Files.faults l.files) (g.K.Sink.faults l.out) in
-    starts_all (g.F.Files.held c.args.files.now) old new c.args.steps.now (take l.step-index c.args.steps.now) l.last l.session (take_all l.step-index c.args.steps.now (omega (arith, f))) l.invariant.0
+    starts_all c.args.infer (g.F.Files.held c.args.files.now) old new c.args.steps.now (take l.step-index c.args.steps.now) l.last l.session (take_all l.step-index c.args.steps.now (omega (arith, f))) l.invariant.0
 
 pub returns-in-Ends-clause-count : goal.returns-in-Ends-clause-count
 returns-in-Ends-clause-count g c st all =
     let old = world (g.F.Files.gave c.args.files.now) (g.K.Sink.written c.args.out.now) (g.F.Files.faults c.args.files.now) (g.K.Sink.faults c.args.out.now) in
     let new = world (g.F.Files.gave c.take_step.new.files) (g.K.Sink.written c.take_step.new.out) (g.F.Files.faults c.take_step.new.files) (g.K.Sink.faults c.take_step.new.out) in
-    unmoved (g.F.Files.held c.args.files.now) old new c.args.steps.now c.in-Ends.status (returns-in-Ends-clause-carried g c) (returns-in-Ends-clause-steady g c st all)
+    unmoved c.args.infer (g.F.Files.held c.args.files.now) old new c.args.steps.now c.in-Ends.status (returns-in-Ends-clause-carried g c) (returns-in-Ends-clause-steady g c st all)
 
 pub returns-clause-count : goal.returns-clause-count
 returns-clause-count g c st all =
     let l = c.loop-step in
     let old = world (g.F.Files.gave c.args.files.now) (g.K.Sink.written c.args.out.now) (g.F.Files.faults c.args.files.now) (g.K.Sink.faults c.args.out.now) in
     let new = world (g.F.Files.gave l.files) (g.K.Sink.written l.out) (g.F.Files.faults l.files) (g.K.Sink.faults l.out) in
-    unmoved (g.F.Files.held c.args.files.now) old new c.args.steps.now l.last (returns-clause-carried g c) (returns-clause-steady g c st all)
+    unmoved c.args.infer (g.F.Files.held c.args.files.now) old new c.args.steps.now l.last (returns-clause-carried g c) (returns-clause-steady g c st all)

@@ -19,7 +19,7 @@ returns-in-Err-Refused-TooLarge-clause-answer g c =
     let now = g.F.Files.gave c.read_whole.new.files in
     let held = g.F.Files.held c.args.files.now in
     let from = script_large held c.args.name.now before now (c.read_whole.ensures.gave_many e) in
-    bad_answers (reading held before now) c.args.name.now from.script (g.K.Sink.written c.args.out.now) (g.K.Sink.written c.write.new.out) c.bad_output.result (g.K.Sink.faults c.args.out.now) (g.K.Sink.faults c.write.new.out) c.write.result 1 from.told from.given (inr (from.long, refl)) c.bad_output.ensures.status c.bad_output.ensures.bytes c.write.ensures
+    bad_answers c.args.infer (reading held before now) c.args.name.now from.script (g.K.Sink.written c.args.out.now) (g.K.Sink.written c.write.new.out) c.bad_output.result (g.K.Sink.faults c.args.out.now) (g.K.Sink.faults c.write.new.out) c.write.result 1 from.told from.given (inr (from.long, refl)) c.bad_output.ensures.status c.bad_output.ensures.bytes c.write.ensures
 
 pub returns-in-Ok-read_script-clause-answer : goal.returns-in-Ok-read_script-clause-answer
 returns-in-Ok-read_script-clause-answer g c =
@@ -29,9 +29,9 @@ returns-in-Ok-read_script-clause-answer g c =
     let old = world (g.F.Files.gave read) (g.K.Sink.written out) (g.F.Files.faults read) (g.K.Sink.faults out) in
     let new = world (g.F.Files.gave c.carry_out.new.files) (g.K.Sink.written c.carry_out.new.out) (g.F.Files.faults c.carry_out.new.files) (g.K.Sink.faults c.carry_out.new.out) in
     let steps = c.deref-in-Ok-read_script.result.now in
-    let carried = subst (λ h. CarriesOut h old new steps c.carry_out.result) c.in-Ok.ensures.held c.carry_out.ensures.carried in
+    let carried = subst (λ h. CarriesOut c.args.infer h old new steps c.carry_out.result) c.in-Ok.ensures.held c.carry_out.ensures.carried in
     let are = subst (λ (ss : List Step). IsScript c.in-Ok.script.items ss) (sym c.deref-in-Ok-read_script.ensures.value) (subst (λ (bs : List ℕ). IsScript bs c.in-Ok-read_script.steps.items) c.deref.ensures.value c.in-Ok-read_script.ensures.steps) in
-    script_answers held (g.F.Files.gave c.args.files.now) c.args.name.now c.in-Ok.script.items steps old new c.in-Ok.ensures.ok.0 c.in-Ok.ensures.ok.1 c.in-Ok.ensures.gave are c.carry_out.result carried
+    script_answers c.args.infer held (g.F.Files.gave c.args.files.now) c.args.name.now c.in-Ok.script.items steps old new c.in-Ok.ensures.ok.0 c.in-Ok.ensures.ok.1 c.in-Ok.ensures.gave are c.carry_out.result carried
 
 pub returns-in-Err-Refused-clause-answer : goal.returns-in-Err-Refused-clause-answer
 returns-in-Err-Refused-clause-answer g c =
@@ -41,7 +41,7 @@ returns-in-Err-Refused-clause-answer g c =
     let w = c.in-Err-Refused in
     let first = subst (λ (f : Fail ℕ). IfRefused f (IsFirstBad c.deref.result.now)) w.field-0-is w.ensures.bad in
     let bad = subst (λ (bs : List ℕ). IsFirstBad bs w.line) c.deref.ensures.value first in
-    bad_answers (reading held before now) c.args.name.now c.in-Ok.script.items (g.K.Sink.written c.args.out.now) (g.K.Sink.written c.write-in-Err-Refused.new.out) c.bad_output-in-Err-Refused.result (g.K.Sink.faults c.args.out.now) (g.K.Sink.faults c.write-in-Err-Refused.new.out) c.write-in-Err-Refused.result w.line c.in-Ok.ensures.ok.0 (small_given c.args.name.now c.in-Ok.script.items before now c.in-Ok.ensures.ok.1 c.in-Ok.ensures.gave) (inl (c.in-Ok.ensures.ok.1, bad)) c.bad_output-in-Err-Refused.ensures.status c.bad_output-in-Err-Refused.ensures.bytes c.write-in-Err-Refused.ensures
+    bad_answers c.args.infer (reading held before now) c.args.name.now c.in-Ok.script.items (g.K.Sink.written c.args.out.now) (g.K.Sink.written c.write-in-Err-Refused.new.out) c.bad_output-in-Err-Refused.result (g.K.Sink.faults c.args.out.now) (g.K.Sink.faults c.write-in-Err-Refused.new.out) c.write-in-Err-Refused.result w.line c.in-Ok.ensures.ok.0 (small_given c.args.name.now c.in-Ok.script.items before now c.in-Ok.ensures.ok.1 c.in-Ok.ensures.gave) (inl (c.in-Ok.ensures.ok.1, bad)) c.bad_output-in-Err-Refused.ensures.status c.bad_output-in-Err-Refused.ensures.bytes c.write-in-Err-Refused.ensures
 
 pub returns-in-Ok-read_script-clause-starts : goal.returns-in-Ok-read_script-clause-starts
 returns-in-Ok-read_script-clause-starts g c =
