@@ -9,6 +9,7 @@ use Rattle.jn_lsp_text.specs.declared.message.Message.TheVariants.{Initialize, I
 use Rattle.jn_lsp_text.specs.declared.reply.Action.{Action}
 use Rattle.jn_lsp_text.specs.declared.reply.Failure.{Failure}
 use Rattle.jn_lsp_text.specs.declared.reply.Reply.{Reply}
+use Rattle.jn_lsp.specs.declared.versions.Version.{Version}
 use Rattle.jn_lsp.specs.declared.diagnostics.Told.{Told}
 use Rattle.jn_lsp.specs.declared.documents.Workspace.{Workspace}
 use Rattle.jn_lsp.specs.declared.event.Event.{Event}
@@ -23,14 +24,14 @@ use Rattle.jn_lsp.specs.Serving.{AreAnswers, IsRetold, Serves, ServerOf, Takes, 
 
 -- ---- publications answer nothing
 
-published_silent : (opened : Option (List ℕ)) (before told : List Told) (replies : List Reply) → ArePublished opened before told replies → ids_answered replies ≡ []
-published_silent opened before [] replies are = ap ids_answered are
-published_silent opened before (one ∷ told) replies (inl (same, are)) = published_silent opened before told replies are
-published_silent opened before (one ∷ told) replies (inr (differs, (rest, e, are))) = ap ids_answered e ∙ published_silent opened before told rest are
+published_silent : (opened : Option (List ℕ)) (versions : List Version) (before told : List Told) (replies : List Reply) → ArePublished opened versions before told replies → ids_answered replies ≡ []
+published_silent opened versions before [] replies are = ap ids_answered are
+published_silent opened versions before (one ∷ told) replies (inl (same, are)) = published_silent opened versions before told replies are
+published_silent opened versions before (one ∷ told) replies (inr (differs, (rest, e, are))) = ap ids_answered e ∙ published_silent opened versions before told rest are
 
 news_silent : (opened : Option (List ℕ)) (moved : Option Workspace) (before after : ServerOf) (news : List Reply) → IsRetold opened moved before news after → ids_answered news ≡ []
 news_silent opened None before after news (nothing, same, told) = ap ids_answered nothing
-news_silent opened (Some workspace) before after news (is, told, announces) = published_silent opened before.told (gone before.told after.told ++ after.told) news announces
+news_silent opened (Some workspace) before after news (is, told, announces) = published_silent opened workspace.versions before.told (gone before.told after.told ++ after.told) news announces
 
 both_answered : (one other : List Reply) → ids_answered (one ++ other) ≡ ids_answered one ++ ids_answered other
 both_answered one other = flat_map-append (λ reply. option_to_list (id_answered reply)) one other
@@ -47,8 +48,8 @@ refused failure (Some id) = refl
 waiting_one : (message : Message) → IsAnswer (waiting_answer message) (id_asked message)
 waiting_one (Initialize id folder infer files exclude) = refl
 waiting_one Initialized = refl
-waiting_one (DidOpen name text) = refl
-waiting_one (DidChange name changes) = refl
+waiting_one (DidOpen name version text) = refl
+waiting_one (DidChange name version changes) = refl
 waiting_one (DidSave name) = refl
 waiting_one (DidClose name) = refl
 waiting_one WatchedFiles = refl
@@ -67,8 +68,8 @@ waiting_one TooLarge = refl
 serving_one : (actions : List Action) (message : Message) → IsAnswer (serving_answer actions message) (id_asked message)
 serving_one actions (Initialize id folder infer files exclude) = refl
 serving_one actions Initialized = refl
-serving_one actions (DidOpen name text) = refl
-serving_one actions (DidChange name changes) = refl
+serving_one actions (DidOpen name version text) = refl
+serving_one actions (DidChange name version changes) = refl
 serving_one actions (DidSave name) = refl
 serving_one actions (DidClose name) = refl
 serving_one actions WatchedFiles = refl
@@ -87,8 +88,8 @@ serving_one actions TooLarge = refl
 late_one : (message : Message) → IsAnswer (late_answer message) (id_asked message)
 late_one (Initialize id folder infer files exclude) = refl
 late_one Initialized = refl
-late_one (DidOpen name text) = refl
-late_one (DidChange name changes) = refl
+late_one (DidOpen name version text) = refl
+late_one (DidChange name version changes) = refl
 late_one (DidSave name) = refl
 late_one (DidClose name) = refl
 late_one WatchedFiles = refl
@@ -154,8 +155,8 @@ clash e = absurd (cc)
 waiting_on : (message : Message) → is_exit (MessageEvent message) ≡ false → IsLive (phase_behind Waiting message)
 waiting_on (Initialize id folder infer files exclude) e = tt
 waiting_on Initialized e = tt
-waiting_on (DidOpen name text) e = tt
-waiting_on (DidChange name changes) e = tt
+waiting_on (DidOpen name version text) e = tt
+waiting_on (DidChange name version changes) e = tt
 waiting_on (DidSave name) e = tt
 waiting_on (DidClose name) e = tt
 waiting_on WatchedFiles e = tt
@@ -174,8 +175,8 @@ waiting_on TooLarge e = tt
 serving_on : (message : Message) → is_exit (MessageEvent message) ≡ false → IsLive (phase_behind Serving message)
 serving_on (Initialize id folder infer files exclude) e = tt
 serving_on Initialized e = tt
-serving_on (DidOpen name text) e = tt
-serving_on (DidChange name changes) e = tt
+serving_on (DidOpen name version text) e = tt
+serving_on (DidChange name version changes) e = tt
 serving_on (DidSave name) e = tt
 serving_on (DidClose name) e = tt
 serving_on WatchedFiles e = tt
@@ -194,8 +195,8 @@ serving_on TooLarge e = tt
 shut_down_on : (message : Message) → is_exit (MessageEvent message) ≡ false → IsLive (phase_behind ShutDown message)
 shut_down_on (Initialize id folder infer files exclude) e = tt
 shut_down_on Initialized e = tt
-shut_down_on (DidOpen name text) e = tt
-shut_down_on (DidChange name changes) e = tt
+shut_down_on (DidOpen name version text) e = tt
+shut_down_on (DidChange name version changes) e = tt
 shut_down_on (DidSave name) e = tt
 shut_down_on (DidClose name) e = tt
 shut_down_on WatchedFiles e = tt
@@ -223,8 +224,8 @@ live_on ShutDown (Folder files) live e = tt
 exit_is : (message : Message) → is_exit (MessageEvent message) ≡ true → message ≡ Exit
 exit_is (Initialize id folder infer files exclude) e = clash (sym e)
 exit_is Initialized e = clash (sym e)
-exit_is (DidOpen name text) e = clash (sym e)
-exit_is (DidChange name changes) e = clash (sym e)
+exit_is (DidOpen name version text) e = clash (sym e)
+exit_is (DidChange name version changes) e = clash (sym e)
 exit_is (DidSave name) e = clash (sym e)
 exit_is (DidClose name) e = clash (sym e)
 exit_is WatchedFiles e = clash (sym e)

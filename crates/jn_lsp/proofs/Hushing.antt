@@ -47,8 +47,8 @@ module _ (unknown : List (List ℕ)) where
 pub told_known : (workspace : Workspace) (files : List SourceFile) (unknown : List (List ℕ)) (found all told : List Told) → files ≡ files_of workspace → unknown ≡ workspace.unknown → found ≡ all → IsTold workspace.infer files all → told ≡ hushed unknown found → AreToldOf workspace told
 told_known workspace files unknown found all told e f same is h = (all, subst (λ fs. IsTold workspace.infer fs all) e is, h ∙ ap (hushed unknown) same ∙ ap (λ u. hushed u all) f)
 
-pub told_nothing : (infer : Infer) (workspace : Workspace) (told : List Told) → workspace ≡ workspace_of infer [] [] [] → told ≡ [] → AreToldOf workspace told
-told_nothing infer workspace told e none = subst (λ w. AreToldOf w told) (sym e) (subst (AreToldOf (workspace_of infer [] [] [])) (sym none) ([], refl, refl))
+pub told_nothing : (infer : Infer) (workspace : Workspace) (told : List Told) → workspace ≡ workspace_of infer [] [] [] [] → told ≡ [] → AreToldOf workspace told
+told_nothing infer workspace told e none = subst (λ w. AreToldOf w told) (sym e) (subst (AreToldOf (workspace_of infer [] [] [] [])) (sym none) ([], refl, refl))
 
 -- ---- warnings
 

@@ -9,6 +9,8 @@ use Rattle.jn_lsp_text.specs.declared.reply.Diagnostic.{Diagnostic}
 use Rattle.jn_lsp_text.specs.declared.reply.Reply.{Reply}
 use Rattle.jn_lsp_text.specs.declared.reply.Reply.TheVariants.{Publish}
 use Rattle.jn_notes.specs.declared.note.Notes.{Notes}
+use Rattle.jn_lsp.specs.declared.versions.Version.{Version}
+use Rattle.jn_lsp.specs.Tracking.{version_of}
 use Rattle.jn_lsp.specs.declared.diagnostics.Told.{Told}
 use Rattle.jn_lsp.specs.Publications.{Announces, ArePublished, gone, is_named, is_told, last_published, published}
 use Rattle.jn_lsp.specs.Stand.{has_name}
@@ -42,22 +44,22 @@ pub last_both : (name : List ℕ) (last : List Diagnostic) (one other : List Rep
 last_both name last [] other = refl
 last_both name last (reply ∷ one) other = last_both name (published name last reply) one other
 
-split : (opened : Option (List ℕ)) (before one other : List Told) (replies : List Reply) → ArePublished opened before (one ++ other) replies → (first : List Reply) × (rest : List Reply) × (replies ≡ first ++ rest) × ArePublished opened before one first × ArePublished opened before other rest
-split opened before [] other replies are = ([], replies, refl, refl, are)
-split opened before (x ∷ one) other replies (inl (same, are)) = let s = split opened before one other replies are in (s.0, s.1, s.2, inl (same, s.3), s.4)
-split opened before (x ∷ one) other replies (inr (differs, (rest, e, are))) =
-    let s = split opened before one other rest are in
-    (Publish x.name x.diagnostics ∷ s.0, s.1, e ∙ ap (λ rs. Publish x.name x.diagnostics ∷ rs) s.2, inr (differs, (s.0, refl, s.3)), s.4)
+split : (opened : Option (List ℕ)) (versions : List Version) (before one other : List Told) (replies : List Reply) → ArePublished opened versions before (one ++ other) replies → (first : List Reply) × (rest : List Reply) × (replies ≡ first ++ rest) × ArePublished opened versions before one first × ArePublished opened versions before other rest
+split opened versions before [] other replies are = ([], replies, refl, refl, are)
+split opened versions before (x ∷ one) other replies (inl (same, are)) = let s = split opened versions before one other replies are in (s.0, s.1, s.2, inl (same, s.3), s.4)
+split opened versions before (x ∷ one) other replies (inr (differs, (rest, e, are))) =
+    let s = split opened versions before one other rest are in
+    (Publish x.name (version_of versions x.name) x.diagnostics ∷ s.0, s.1, e ∙ ap (λ rs. Publish x.name (version_of versions x.name) x.diagnostics ∷ rs) s.2, inr (differs, (s.0, refl, s.3)), s.4)
 
-module _ (opened : Option (List ℕ)) (before : List Told) (name : List ℕ) where
-  there : (one : Told) (last : List Diagnostic) → is_named name one ≡ true → published name last (Publish one.name one.diagnostics) ≡ one.diagnostics
+module _ (opened : Option (List ℕ)) (versions : List Version) (before : List Told) (name : List ℕ) where
+  there : (one : Told) (last : List Diagnostic) → is_named name one ≡ true → published name last (Publish one.name (version_of versions one.name) one.diagnostics) ≡ one.diagnostics
   there one last t = ap (λ b. cond b one.diagnostics last) t
 
-  elsewhere : (one : Told) (last : List Diagnostic) → is_named name one ≡ false → published name last (Publish one.name one.diagnostics) ≡ last
+  elsewhere : (one : Told) (last : List Diagnostic) → is_named name one ≡ false → published name last (Publish one.name (version_of versions one.name) one.diagnostics) ≡ last
   elsewhere one last t = ap (λ b. cond b one.diagnostics last) t
 
   -- publications of other names
-  absent : (told : List Told) (replies : List Reply) (last : List Diagnostic) → is_told told name ≡ false → ArePublished opened before told replies → last_published name last replies ≡ last
+  absent : (told : List Told) (replies : List Reply) (last : List Diagnostic) → is_told told name ≡ false → ArePublished opened versions before told replies → last_published name last replies ≡ last
   absent [] replies last no_one are = ap (last_published name last) are
   absent (one ∷ told) replies last no_one (inl (same, are)) = absent told replies last (or_false (is_named name one) (is_told told name) no_one).1 are
   absent (one ∷ told) replies last no_one (inr (differs, (rest, e, are))) =
@@ -73,7 +75,7 @@ module _ (opened : Option (List ℕ)) (before : List Told) (name : List ℕ) whe
   same_name one t = ap (told_of before) ((bytes_eq-Decides one.name name).0 t)
 
   -- a list whose names are each of its own: what is told of the name is published, or was told before
-  present : (told : List Told) (replies : List Reply) (last : List Diagnostic) → AreOwnTold told → is_told told name ≡ true → last ≡ told_of before name → ArePublished opened before told replies → last_published name last replies ≡ told_of told name
+  present : (told : List Told) (replies : List Reply) (last : List Diagnostic) → AreOwnTold told → is_told told name ≡ true → last ≡ told_of before name → ArePublished opened versions before told replies → last_published name last replies ≡ told_of told name
   present [] replies last own some was are = true_false false some refl
   present (one ∷ told) replies last own some was are = case (is_named name one) refl are (λ rs t. present told rs last own.1 t was)
     where
@@ -83,18 +85,18 @@ module _ (opened : Option (List ℕ)) (before : List Told) (name : List ℕ) whe
       alone : is_named name one ≡ true → is_told told name ≡ false
       alone t = subst (λ n. is_told told n ≡ false) ((bytes_eq-Decides one.name name).0 t) own.0
 
-      case : (b : Bool) → is_named name one ≡ b → ArePublished opened before (one ∷ told) replies → ((rs : List Reply) → is_told told name ≡ true → ArePublished opened before told rs → last_published name last rs ≡ told_of told name) → last_published name last replies ≡ told_of (one ∷ told) name
+      case : (b : Bool) → is_named name one ≡ b → ArePublished opened versions before (one ∷ told) replies → ((rs : List Reply) → is_told told name ≡ true → ArePublished opened versions before told rs → last_published name last rs ≡ told_of told name) → last_published name last replies ≡ told_of (one ∷ told) name
       case true t (inl (same, are)) r = absent told replies last (alone t) are ∙ was ∙ sym (same_name one t) ∙ same.0 ∙ sym (tells true t)
       case true t (inr (differs, (rest, e, are))) r = ap (last_published name last) e ∙ ap (λ l. last_published name l rest) (there one last t) ∙ absent told rest one.diagnostics (alone t) are ∙ sym (tells true t)
       case false t (inl (same, are)) r = r replies (ap (λ b. b || is_told told name) (sym t) ∙ some) are ∙ sym (tells false t)
       case false t (inr (differs, (rest, e, are))) r = ap (last_published name last) e ∙ ap (λ l. last_published name l rest) (elsewhere one last t) ∙ r rest (ap (λ b. b || is_told told name) (sym t) ∙ some) are ∙ sym (tells false t)
 
   -- names of which nothing is told any more, where nothing is left, or what was told before
-  emptied : (told : List Told) (replies : List Reply) (last : List Diagnostic) → AreEmpty told → is_told told name ≡ true → (last ≡ told_of before name) ⊎ (last ≡ []) → ArePublished opened before told replies → last_published name last replies ≡ []
+  emptied : (told : List Told) (replies : List Reply) (last : List Diagnostic) → AreEmpty told → is_told told name ≡ true → (last ≡ told_of before name) ⊎ (last ≡ []) → ArePublished opened versions before told replies → last_published name last replies ≡ []
   emptied [] replies last empty some was are = true_false false some refl
   emptied (one ∷ told) replies last empty some was are = case (is_named name one) (is_told told name) refl refl are (λ l rs t w. emptied told rs l empty.1 t w)
     where
-      nothing : (last : List Diagnostic) (replies : List Reply) (c : Bool) → is_told told name ≡ c → last ≡ [] → ArePublished opened before told replies → ((l : List Diagnostic) (rs : List Reply) → is_told told name ≡ true → (l ≡ told_of before name) ⊎ (l ≡ []) → ArePublished opened before told rs → last_published name l rs ≡ []) → last_published name last replies ≡ []
+      nothing : (last : List Diagnostic) (replies : List Reply) (c : Bool) → is_told told name ≡ c → last ≡ [] → ArePublished opened versions before told replies → ((l : List Diagnostic) (rs : List Reply) → is_told told name ≡ true → (l ≡ told_of before name) ⊎ (l ≡ []) → ArePublished opened versions before told rs → last_published name l rs ≡ []) → last_published name last replies ≡ []
       nothing last replies true t e are r = r last replies t (inr e) are
       nothing last replies false t e are r = absent told replies last t are ∙ e
 
@@ -102,7 +104,7 @@ module _ (opened : Option (List ℕ)) (before : List Told) (name : List ℕ) whe
       was_empty (inl e) same = e ∙ same
       was_empty (inr e) same = e
 
-      case : (b c : Bool) → is_named name one ≡ b → is_told told name ≡ c → ArePublished opened before (one ∷ told) replies → ((l : List Diagnostic) (rs : List Reply) → is_told told name ≡ true → (l ≡ told_of before name) ⊎ (l ≡ []) → ArePublished opened before told rs → last_published name l rs ≡ []) → last_published name last replies ≡ []
+      case : (b c : Bool) → is_named name one ≡ b → is_told told name ≡ c → ArePublished opened versions before (one ∷ told) replies → ((l : List Diagnostic) (rs : List Reply) → is_told told name ≡ true → (l ≡ told_of before name) ⊎ (l ≡ []) → ArePublished opened versions before told rs → last_published name l rs ≡ []) → last_published name last replies ≡ []
       case true c t u (inl (same, are)) r = nothing last replies c u (was_empty was (sym (same_name one t) ∙ same.0 ∙ empty.0)) are r
       case true c t u (inr (differs, (rest, e, are))) r = ap (last_published name last) e ∙ ap (λ l. last_published name l rest) (there one last t ∙ empty.0) ∙ nothing [] rest c u refl are r
       case false c t u (inl (same, are)) r = r last replies (ap (λ b. b || is_told told name) (sym t) ∙ some) was are
@@ -150,12 +152,12 @@ module _ (after : List Told) (name : List ℕ) where
       case false c e h r = let two = or_false (is_named name one) (is_told (gone before after) name) (sym (gone_step one before false e) ∙ g) in ap (λ x. x || is_told before name) two.0 ∙ r two.1
 
 -- what is told of a name after the publications is what is told after
-pub announced : (opened : Option (List ℕ)) (before after : List Told) (replies : List Reply) (name : List ℕ) → AreOwnTold after → Announces opened before after replies → last_published name (told_of before name) replies ≡ told_of after name
-announced opened before after replies name own announces =
-    let s = split opened before (gone before after) after replies announces in
+pub announced : (opened : Option (List ℕ)) (versions : List Version) (before after : List Told) (replies : List Reply) (name : List ℕ) → AreOwnTold after → Announces opened versions before after replies → last_published name (told_of before name) replies ≡ told_of after name
+announced opened versions before after replies name own announces =
+    let s = split opened versions before (gone before after) after replies announces in
     ap (last_published name (told_of before name)) s.2 ∙ last_both name (told_of before name) s.0 s.1 ∙ behind (is_told after name) (is_told (gone before after) name) refl refl s.0 s.1 s.3 s.4
   where
-    behind : (b c : Bool) → is_told after name ≡ b → is_told (gone before after) name ≡ c → (first rest : List Reply) → ArePublished opened before (gone before after) first → ArePublished opened before after rest → last_published name (last_published name (told_of before name) first) rest ≡ told_of after name
-    behind true c t u first rest a r = present opened before name after rest (last_published name (told_of before name) first) own t (absent opened before name (gone before after) first (told_of before name) (not_gone after name before t) a) r
-    behind false true t u first rest a r = absent opened before name after rest (last_published name (told_of before name) first) t r ∙ emptied opened before name (gone before after) first (told_of before name) (gone_empty before after) u (inl refl) a ∙ sym (unnamed opened before name after t)
-    behind false false t u first rest a r = absent opened before name after rest (last_published name (told_of before name) first) t r ∙ absent opened before name (gone before after) first (told_of before name) u a ∙ unnamed opened before name before (is_gone after name before t u) ∙ sym (unnamed opened before name after t)
+    behind : (b c : Bool) → is_told after name ≡ b → is_told (gone before after) name ≡ c → (first rest : List Reply) → ArePublished opened versions before (gone before after) first → ArePublished opened versions before after rest → last_published name (last_published name (told_of before name) first) rest ≡ told_of after name
+    behind true c t u first rest a r = present opened versions before name after rest (last_published name (told_of before name) first) own t (absent opened versions before name (gone before after) first (told_of before name) (not_gone after name before t) a) r
+    behind false true t u first rest a r = absent opened versions before name after rest (last_published name (told_of before name) first) t r ∙ emptied opened versions before name (gone before after) first (told_of before name) (gone_empty before after) u (inl refl) a ∙ sym (unnamed opened versions before name after t)
+    behind false false t u first rest a r = absent opened versions before name after rest (last_published name (told_of before name) first) t r ∙ absent opened versions before name (gone before after) first (told_of before name) u a ∙ unnamed opened versions before name before (is_gone after name before t u) ∙ sym (unnamed opened versions before name after t)

@@ -38,8 +38,8 @@ module _ (name : List ℕ) (last : List Diagnostic) where
   waiting_silent : (message : Message) → IsSilent (waiting_answer message)
   waiting_silent (Initialize id folder infer files exclude) = refl
   waiting_silent Initialized = refl
-  waiting_silent (DidOpen named text) = refl
-  waiting_silent (DidChange named changes) = refl
+  waiting_silent (DidOpen named version text) = refl
+  waiting_silent (DidChange named version changes) = refl
   waiting_silent (DidSave named) = refl
   waiting_silent (DidClose named) = refl
   waiting_silent WatchedFiles = refl
@@ -58,8 +58,8 @@ module _ (name : List ℕ) (last : List Diagnostic) where
   serving_silent : (actions : List Action) (message : Message) → IsSilent (serving_answer actions message)
   serving_silent actions (Initialize id folder infer files exclude) = refl
   serving_silent actions Initialized = refl
-  serving_silent actions (DidOpen named text) = refl
-  serving_silent actions (DidChange named changes) = refl
+  serving_silent actions (DidOpen named version text) = refl
+  serving_silent actions (DidChange named version changes) = refl
   serving_silent actions (DidSave named) = refl
   serving_silent actions (DidClose named) = refl
   serving_silent actions WatchedFiles = refl
@@ -78,8 +78,8 @@ module _ (name : List ℕ) (last : List Diagnostic) where
   late_silent : (message : Message) → IsSilent (late_answer message)
   late_silent (Initialize id folder infer files exclude) = refl
   late_silent Initialized = refl
-  late_silent (DidOpen named text) = refl
-  late_silent (DidChange named changes) = refl
+  late_silent (DidOpen named version text) = refl
+  late_silent (DidChange named version changes) = refl
   late_silent (DidSave named) = refl
   late_silent (DidClose named) = refl
   late_silent WatchedFiles = refl
@@ -125,7 +125,7 @@ news_last : (opened : Option (List ℕ)) (name : List ℕ) (moved : Option Works
 news_last opened name None before after news (nothing, same, told) = ap (last_published name (told_of before.told name)) nothing ∙ ap (λ t. told_of t name) (sym told)
 news_last opened name (Some workspace) before after news (is, told, announces) =
     let own = own_hushed workspace.unknown told.0 (told_own workspace.infer (files_of workspace) told.0 (stand_own workspace.disk workspace.documents) told.1) in
-    announced opened before.told after.told news name (subst AreOwnTold (sym told.2) own) announces
+    announced opened workspace.versions before.told after.told news name (subst AreOwnTold (sym told.2) own) announces
 
 event_last : (name : List ℕ) (before after : ServerOf) (event : Event) (replies : List Reply) → Takes before event replies after → last_published name (told_of before.told name) replies ≡ told_of after.told name
 event_last name before after event replies takes =

@@ -52,8 +52,8 @@ closed name documents = closed_as name documents (document_of name documents)
 
 -- the open documents after a message, in the order in which they were opened; none where it doesn't change them
 abbrev pub AreEdited : List (List ℕ) → Message → List SourceFile → Option (List SourceFile) → Type 0
-AreEdited unknown (DidOpen name text) documents after = after ≡ opened name text documents
-AreEdited unknown (DidChange name changes) documents after = IsTyped name changes documents (known_document unknown name documents) after
+AreEdited unknown (DidOpen name version text) documents after = after ≡ opened name text documents
+AreEdited unknown (DidChange name version changes) documents after = IsTyped name changes documents (known_document unknown name documents) after
 AreEdited unknown (DidClose name) documents after = after ≡ closed name documents
 AreEdited unknown (Initialize id folder infer files exclude) documents after = after ≡ None
 AreEdited unknown Initialized documents after = after ≡ None

@@ -3,6 +3,7 @@ pub mod Stand
 pub mod Telling
 pub mod Edits
 pub mod Unknown
+pub mod Tracking
 pub mod Publications
 pub mod Serving
 pub mod Requests

@@ -5,7 +5,9 @@ use Rattle.jn_lsp_text.specs.declared.reply.Diagnostic.{Diagnostic}
 use Rattle.jn_lsp_text.specs.declared.reply.Reply.{Reply}
 use Rattle.jn_lsp_text.specs.declared.reply.Reply.TheVariants.{Capabilities, Done, Refusal, Publish, Show, Actions}
 use Rattle.jn_lsp.specs.declared.diagnostics.Told.{Told}
+use Rattle.jn_lsp.specs.declared.versions.Version.{Version}
 use Rattle.jn_lsp.specs.Telling.{told_of}
+use Rattle.jn_lsp.specs.Tracking.{version_of}
 
 abbrev pub is_named : List ℕ → Told → Bool
 is_named name one = bytes_eq one.name name
@@ -23,8 +25,8 @@ is_opened None name = false
 is_opened (Some opened) name = bytes_eq opened name
 
 -- what is told of a name is published where something else was told before; of a document that is opened in any case, as a client may
--- show what is told of a file only while it has that open
-module _ (opened : Option (List ℕ)) (before : List Told) where
+-- show what is told of a file only while it has that open. With it goes the version of the document, where it is open with one
+module _ (opened : Option (List ℕ)) (versions : List Version) (before : List Told) where
   abbrev pub IsKnown : List ℕ → List Diagnostic → Type 0
   IsKnown name diagnostics = (told_of before name ≡ diagnostics) × (is_opened opened name ≡ false)
 
@@ -35,7 +37,7 @@ module _ (opened : Option (List ℕ)) (before : List Told) where
   abbrev pub Adds : List ℕ → List Diagnostic → List Reply → List Reply → Type 0
   Adds name diagnostics replies more =
       (IsKnown name diagnostics × (more ≡ replies))
-      ⊎ (IsNews name diagnostics × (more ≡ replies ++ Publish name diagnostics ∷ []))
+      ⊎ (IsNews name diagnostics × (more ≡ replies ++ Publish name (version_of versions name) diagnostics ∷ []))
 
   -- the same of no diagnostics, where nothing is told of the name any more
   abbrev pub Clears : List Told → List ℕ → List Reply → List Reply → Type 0
@@ -48,7 +50,7 @@ module _ (opened : Option (List ℕ)) (before : List Told) where
   ArePublished [] replies = replies ≡ []
   ArePublished (one ∷ told) replies =
       (IsKnown one.name one.diagnostics × ArePublished told replies)
-      ⊎ (IsNews one.name one.diagnostics × ((rest : List Reply) × (replies ≡ Publish one.name one.diagnostics ∷ rest) × ArePublished told rest))
+      ⊎ (IsNews one.name one.diagnostics × ((rest : List Reply) × (replies ≡ Publish one.name (version_of versions one.name) one.diagnostics ∷ rest) × ArePublished told rest))
 
   -- what was told before becomes what is told after: first the names that are gone, then all others
   abbrev pub Announces : List Told → List Reply → Type 0
@@ -56,7 +58,7 @@ module _ (opened : Option (List ℕ)) (before : List Told) where
 
 -- what is told of a name after a reply
 abbrev pub published : List ℕ → List Diagnostic → Reply → List Diagnostic
-published name before (Publish other diagnostics) = if bytes_eq other name then diagnostics else before
+published name before (Publish other version diagnostics) = if bytes_eq other name then diagnostics else before
 published name before (Capabilities id) = before
 published name before (Done id) = before
 published name before (Refusal id failure) = before

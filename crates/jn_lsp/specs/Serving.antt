@@ -22,12 +22,14 @@ use Rattle.jn_lsp.specs.declared.diagnostics.Told.{Told}
 use Rattle.jn_lsp.specs.declared.event.Event.{Event}
 use Rattle.jn_lsp.specs.declared.event.Event.TheVariants.{Folder, Message as MessageEvent}
 use Rattle.jn_lsp.specs.declared.documents.Workspace.{Workspace}
+use Rattle.jn_lsp.specs.declared.versions.Version.{Version}
 use Rattle.jn_lsp.specs.declared.phase.Phase.{Phase}
 use Rattle.jn_lsp.specs.declared.phase.Phase.TheVariants.{Waiting, Serving, ShutDown, Exited}
 use Rattle.jn_lsp.specs.Edits.{AreEdited}
 use Rattle.jn_lsp.specs.Names.{is_empty}
 use Rattle.jn_lsp.specs.Publications.{Announces, last_published}
 use Rattle.jn_lsp.specs.Stand.{stand}
+use Rattle.jn_lsp.specs.Tracking.{versions_behind}
 use Rattle.jn_lsp.specs.Telling.{AreFindings, IsTold, diagnostics_of, told_of}
 use Rattle.jn_lsp.specs.Unknown.{doubts_in, hushed, touches, unknown_behind, unless_unknown}
 
@@ -41,8 +43,8 @@ unread NoJson = Some Parse
 unread BadHeader = Some Parse
 unread (Initialize id folder infer files exclude) = None
 unread Initialized = None
-unread (DidOpen name text) = None
-unread (DidChange name changes) = None
+unread (DidOpen name version text) = None
+unread (DidChange name version changes) = None
 unread (DidSave name) = None
 unread (DidClose name) = None
 unread WatchedFiles = None
@@ -121,22 +123,22 @@ abbrev pub next_phase : Phase → Event → Phase
 next_phase phase (MessageEvent message) = phase_behind phase message
 next_phase phase (Folder files) = phase
 
-abbrev pub workspace_of : Infer → List SourceFile → List SourceFile → List (List ℕ) → Workspace
-workspace_of infer disk documents unknown = record { infer = infer; disk = disk; documents = documents; unknown = unknown }
+abbrev pub workspace_of : Infer → List SourceFile → List SourceFile → List (List ℕ) → List Version → Workspace
+workspace_of infer disk documents unknown versions = record { infer = infer; disk = disk; documents = documents; unknown = unknown; versions = versions }
 
 -- a workspace after a message that makes of its documents these, or leaves them; none where it doesn't touch which texts are unknown either
 abbrev pub moved_by : Message → Workspace → Option (List SourceFile) → Option Workspace
-moved_by message before None = if touches message then Some (workspace_of before.infer before.disk before.documents (unknown_behind message before.documents before.unknown)) else None
-moved_by message before (Some documents) = Some (workspace_of before.infer before.disk documents (unknown_behind message before.documents before.unknown))
+moved_by message before None = if touches message then Some (workspace_of before.infer before.disk before.documents (unknown_behind message before.documents before.unknown) (versions_behind message before.documents before.versions)) else None
+moved_by message before (Some documents) = Some (workspace_of before.infer before.disk documents (unknown_behind message before.documents before.unknown) (versions_behind message before.documents before.versions))
 
 -- the folder's files, the open documents, and those of unknown texts, after an event; none where it changes none of them
 abbrev pub IsMoved : Event → Workspace → Option Workspace → Type 0
-IsMoved (Folder files) before after = after ≡ Some (workspace_of before.infer files before.documents before.unknown)
+IsMoved (Folder files) before after = after ≡ Some (workspace_of before.infer files before.documents before.unknown before.versions)
 IsMoved (MessageEvent message) before after = (documents : Option (List SourceFile)) × AreEdited before.unknown message before.documents documents × (after ≡ moved_by message before documents)
 
 -- `initialize` says which members are inferred
 abbrev pub chosen_by : Message → Workspace → Option Workspace
-chosen_by (Initialize id folder infer files exclude) before = Some (workspace_of (chosen infer before.infer) before.disk before.documents before.unknown)
+chosen_by (Initialize id folder infer files exclude) before = Some (workspace_of (chosen infer before.infer) before.disk before.documents before.unknown before.versions)
 chosen_by _ before = None
 
 abbrev pub started_by : Event → Workspace → Option Workspace
@@ -160,7 +162,7 @@ pub record ServerOf : Type 0 where
 
 -- a server that infers these members where `initialize` chooses none
 abbrev pub new_server : Infer → ServerOf
-new_server infer = record { phase = Waiting; workspace = workspace_of infer [] [] []; told = [] }
+new_server infer = record { phase = Waiting; workspace = workspace_of infer [] [] [] []; told = [] }
 
 -- the files as they stand
 abbrev pub files_of : Workspace → List SourceFile
@@ -205,7 +207,7 @@ AreAnswers server (Folder files) replies = replies ≡ []
 
 -- the name of the document that an event opens
 abbrev pub opened_by : Event → Option (List ℕ)
-opened_by (MessageEvent (DidOpen name text)) = Some name
+opened_by (MessageEvent (DidOpen name version text)) = Some name
 opened_by _ = None
 
 -- what is told of a workspace: the report of its files as they stand, and of those whose text isn't known nothing
@@ -215,7 +217,7 @@ AreToldOf workspace told = (all : List Told) × IsTold workspace.infer (files_of
 -- where files change, their report is told, and what of it wasn't told before is published, with that of the document that is opened
 abbrev pub IsRetold : Option (List ℕ) → Option Workspace → ServerOf → List Reply → ServerOf → Type 0
 IsRetold opened None before news after = (news ≡ []) × (after.workspace ≡ before.workspace) × (after.told ≡ before.told)
-IsRetold opened (Some workspace) before news after = (after.workspace ≡ workspace) × AreToldOf workspace after.told × Announces opened before.told after.told news
+IsRetold opened (Some workspace) before news after = (after.workspace ≡ workspace) × AreToldOf workspace after.told × Announces opened workspace.versions before.told after.told news
 
 -- a server takes an event, and gives these replies
 pub record Takes (before : ServerOf) (event : Event) (replies : List Reply) (after : ServerOf) : Type 0 where

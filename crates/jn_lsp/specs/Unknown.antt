@@ -38,7 +38,7 @@ doubted_by _ documents = []
 
 -- the document whose text is known again: it is opened, or it is closed
 abbrev pub settled_by : Message → Option (List ℕ)
-settled_by (DidOpen name text) = Some name
+settled_by (DidOpen name version text) = Some name
 settled_by (DidClose name) = Some name
 settled_by _ = None
 

@@ -2,12 +2,14 @@
 ghost use Rattle.std.specs.Prelude.{◌≡◌, IfOk, MatchOption, None, Some, length, ◌<◌, true};
 ghost use Rattle.jn_lsp.specs.Edits as spec;
 ghost use Rattle.jn_lsp.specs.Serving as serving;
+ghost use Rattle.jn_lsp.specs.Tracking.{versions_behind};
 ghost use Rattle.jn_lsp.specs.Unknown.{unknown_behind};
 ghost use Rattle.jn_recheck.specs.Files.{with_file, without_file, place_of, is_named};
 
 use crate::event::Event;
 use crate::phase::Phase;
 use crate::unknown::{copy_names, is_among, touches, unknown_behind};
+use crate::versions::{Version, copy_versions, versions_behind};
 use jn_base::{Infer, OutOfMemory, Seq, Text};
 use jn_front::SourceFile;
 use jn_lsp_text::{Change, Message, chosen, replace};
@@ -21,6 +23,8 @@ pub struct Workspace {
     pub documents: Seq<SourceFile>,
     /// The names of documents whose texts aren't known, since what the client sent of them can't be read.
     pub unknown: Seq<Text>,
+    /// The versions of the documents that are open with one.
+    pub versions: Seq<Version>,
 }
 
 // ---- texts
@@ -196,8 +200,13 @@ fn edited(
     ensures { IfOk result (λ made. spec.AreEdited unknown.now message.now documents.now made) }
 {
     match message {
-        Message::DidOpen { name, text } => opened(alloc, documents, name.as_str(), text.as_slice()),
-        Message::DidChange { name, changes } => {
+        Message::DidOpen { name, text, .. } => opened(
+            alloc,
+            documents,
+            name.as_str(),
+            text.as_slice(),
+        ),
+        Message::DidChange { name, changes, .. } => {
             typed(alloc, unknown, documents, name.as_str(), changes.as_slice())
         }
         Message::DidClose { name } => closed(alloc, documents, name.as_str()),
@@ -217,18 +226,20 @@ impl Workspace {
             disk: Seq::new(alloc),
             documents: Seq::new(alloc),
             unknown: Seq::new(alloc),
+            versions: Seq::new(alloc),
         }
     }
 
     fn with_disk(&self, alloc: Global, disk: &[SourceFile]) -> Result<Workspace, OutOfMemory>
         ensures { IfOk result (λ made. made
-            ≡ serving.workspace_of self.now.infer disk.now self.now.documents self.now.unknown) }
+            ≡ serving.workspace_of self.now.infer disk.now self.now.documents self.now.unknown self.now.versions) }
     {
         Ok(Workspace {
             infer: self.infer,
             disk: Seq::of_vec(copy_documents(alloc, disk)?),
             documents: Seq::of_vec(copy_documents(alloc, self.documents.as_slice())?),
             unknown: copy_names(alloc, self.unknown.as_slice())?,
+            versions: copy_versions(alloc, self.versions.as_slice())?,
         })
     }
 
@@ -240,7 +251,8 @@ impl Workspace {
         documents: Seq<SourceFile>,
     ) -> Result<Workspace, OutOfMemory>
         ensures { IfOk result (λ made. made ≡ serving.workspace_of self.now.infer self.now.disk documents
-            (unknown_behind message.now self.now.documents self.now.unknown)) }
+            (unknown_behind message.now self.now.documents self.now.unknown)
+            (versions_behind message.now self.now.documents self.now.versions)) }
     {
         let unknown = unknown_behind(
             alloc,
@@ -248,11 +260,18 @@ impl Workspace {
             self.documents.as_slice(),
             self.unknown.as_slice(),
         )?;
+        let versions = versions_behind(
+            alloc,
+            message,
+            self.documents.as_slice(),
+            self.versions.as_slice(),
+        )?;
         Ok(Workspace {
             infer: self.infer,
             disk: Seq::of_vec(copy_documents(alloc, self.disk.as_slice())?),
             documents,
             unknown,
+            versions,
         })
     }
 
@@ -302,13 +321,14 @@ impl Workspace {
     /// The workspace where these members are inferred.
     fn with_infer(&self, alloc: Global, infer: Infer) -> Result<Workspace, OutOfMemory>
         ensures { IfOk result (λ made. made ≡ serving.workspace_of infer self.now.disk
-            self.now.documents self.now.unknown) }
+            self.now.documents self.now.unknown self.now.versions) }
     {
         Ok(Workspace {
             infer,
             disk: Seq::of_vec(copy_documents(alloc, self.disk.as_slice())?),
             documents: Seq::of_vec(copy_documents(alloc, self.documents.as_slice())?),
             unknown: copy_names(alloc, self.unknown.as_slice())?,
+            versions: copy_versions(alloc, self.versions.as_slice())?,
         })
     }
 

@@ -19,9 +19,11 @@ mod reporting;
 pub mod server;
 mod standing;
 mod unknown;
+pub mod versions;
 
 pub use diagnostics::Told;
 pub use documents::Workspace;
 pub use event::{Event, wants_folder};
 pub use phase::Phase;
 pub use server::Server;
+pub use versions::Version;

@@ -5,6 +5,7 @@ ghost use Rattle.jn_lsp.specs.Telling.{told_of};
 
 use crate::comparing::are_same;
 use crate::diagnostics::Told;
+use crate::versions::{Version, version_of};
 use jn_base::{OutOfMemory, Seq, Text};
 use jn_lsp_text::{Diagnostic, Reply, copy_diagnostics};
 use std::alloc::{AllocError, Global};
@@ -47,18 +48,20 @@ fn is_opened(opened: &Option<Text>, name: &str) -> bool
 fn publish(
     alloc: Global,
     opened: &Option<Text>,
+    versions: &[Version],
     before: &[Told],
     name: &str,
     diagnostics: &[Diagnostic],
     replies: &mut Seq<Reply>,
 ) -> Result<(), AllocError>
-    ensures { OnOk result (spec.Adds opened.now before.now name.now diagnostics.now replies.old replies.new) }
+    ensures { OnOk result (spec.Adds opened.now versions.now before.now name.now diagnostics.now replies.old replies.new) }
 {
     if !is_opened(opened, name) && are_same(told_of(before, name), diagnostics) {
         return Ok(());
     }
     replies.push(Reply::Publish {
         name: Text::of_str(alloc, name)?,
+        version: version_of(versions, name),
         diagnostics: copy_diagnostics(alloc, diagnostics)?,
     })
 }
@@ -67,27 +70,29 @@ fn publish(
 fn clear(
     alloc: Global,
     opened: &Option<Text>,
+    versions: &[Version],
     before: &[Told],
     after: &[Told],
     name: &str,
     replies: &mut Seq<Reply>,
 ) -> Result<(), AllocError>
-    ensures { OnOk result (spec.Clears opened.now before.now after.now name.now replies.old replies.new) }
+    ensures { OnOk result (spec.Clears opened.now versions.now before.now after.now name.now replies.old replies.new) }
 {
     if is_told(after, name) {
         return Ok(());
     }
-    publish(alloc, opened, before, name, &[], replies)
+    publish(alloc, opened, versions, before, name, &[], replies)
 }
 
 /// Publications for the names that are gone: nothing is told of them.
 fn cleared(
     alloc: Global,
     opened: &Option<Text>,
+    versions: &[Version],
     before: &[Told],
     after: &[Told],
 ) -> Result<Seq<Reply>, AllocError>
-    ensures { IfOk result (λ replies. spec.ArePublished opened.now before.now
+    ensures { IfOk result (λ replies. spec.ArePublished opened.now versions.now before.now
         (spec.gone before.now after.now) replies) }
 {
     let mut replies = Seq::new(alloc);
@@ -95,6 +100,7 @@ fn cleared(
         clear(
             alloc,
             opened,
+            versions,
             before,
             after,
             one.name.as_str(),
@@ -108,17 +114,19 @@ fn cleared(
 pub(crate) fn announce(
     alloc: Global,
     opened: &Option<Text>,
+    versions: &[Version],
     before: &[Told],
     after: &[Told],
 ) -> Result<Seq<Reply>, OutOfMemory>
-    ensures { IfOk result (λ replies. spec.Announces opened.now before.now after.now replies) }
+    ensures { IfOk result (λ replies. spec.Announces opened.now versions.now before.now after.now replies) }
 {
-    let mut replies = cleared(alloc, opened, before, after)?;
+    let mut replies = cleared(alloc, opened, versions, before, after)?;
     for one in after {
         let name = one.name.as_str();
         publish(
             alloc,
             opened,
+            versions,
             before,
             name,
             one.diagnostics.as_slice(),

@@ -38,12 +38,18 @@ fn retell<R: Threads + Sync, G: Gate + Sync>(
     workspace: &Workspace,
 ) -> Result<News, OutOfMemory>
     ensures told { IfOk result (λ news. AreToldOf workspace.now news.told.items) }
-    ensures announced { IfOk result (λ news. Announces opened.now before.now news.told.items news.publications) }
+    ensures announced { IfOk result (λ news. Announces opened.now workspace.now.versions before.now news.told.items news.publications) }
 {
     let files = stand(alloc, workspace)?;
     let all = tell(rt, gate, alloc, workspace.infer, session, files.as_slice())?;
     let told = hushed(alloc, workspace.unknown.as_slice(), all.as_slice())?;
-    let publications = announce(alloc, opened, before, told.as_slice())?;
+    let publications = announce(
+        alloc,
+        opened,
+        workspace.versions.as_slice(),
+        before,
+        told.as_slice(),
+    )?;
     Ok(News { told, publications })
 }
 

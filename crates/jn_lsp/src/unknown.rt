@@ -80,7 +80,7 @@ fn doubted_in(alloc: Global, name: &Text) -> Result<Seq<Text>, AllocError>
 }
 
 /// The documents whose texts a message leaves open.
-fn doubted_by(
+pub(crate) fn doubted_by(
     alloc: Global,
     message: &Message,
     documents: &[SourceFile],

@@ -21,7 +21,7 @@ use Rattle.jn_lsp_text.specs.declared.reply.Related.{Related}
 use Rattle.jn_lsp_text.specs.declared.reply.Reply.{Reply}
 use Rattle.jn_lsp_text.specs.declared.reply.Reply.TheVariants as reply
 use Rattle.jn_lsp_messages.specs.Incoming.{IsJson}
-use Rattle.jn_lsp_messages.specs.Outgoing.{position_data, range_data, location_data, related_data, told, description_data, described, diagnostic_data, insertion_data, edit_data, action_data, sync_data, kinds_data, capabilities_data, server_data, initialize_data, failure_code, failure_words, error_data, id_data, id_or_null, answer_data, refusal_data, notice_data, published_data, shown_data, list_data, data_of}
+use Rattle.jn_lsp_messages.specs.Outgoing.{position_data, range_data, location_data, related_data, told, description_data, described, diagnostic_data, insertion_data, edit_data, action_data, sync_data, kinds_data, capabilities_data, server_data, initialize_data, failure_code, failure_words, error_data, id_data, id_or_null, answer_data, refusal_data, notice_data, versioned, published_data, shown_data, list_data, data_of}
 use Rattle.jn_lsp_messages.specs.Uris.{uri_of}
 
 -- a value nests at most so deep, and has no float
@@ -126,9 +126,13 @@ diagnostic_is address d =
     (next 5 _ _ _ (natural 5 1)
     (last 5 _ _ (text 5 (codes "nullcheck")))))))))
 
-published_is : (address : Option (List ℕ)) (name : List ℕ) (ds : List Diagnostic) → Is 8 (published_data address name ds)
+versioned_are : (n : ℕ) (version : Option ℤ) → AreMembers n (versioned version)
+versioned_are n None = record { shallow = least n; whole = refl }
+versioned_are n (Some v) = last n _ _ (integer n v)
+
+published_is : (address : Option (List ℕ)) (name : List ℕ) (version : Option ℤ) (ds : List Diagnostic) → Is 8 (published_data address name version ds)
 unfolding published_data
-published_is address name ds = holding 7 8 _ refl (next 7 _ _ _ (listed (diagnostic_data address) 6 7 refl (diagnostic_is address) ds) (last 7 _ _ (text 7 (uri_of name))))
+published_is address name version ds = holding 7 8 _ refl (next 7 _ _ _ (listed (diagnostic_data address) 6 7 refl (diagnostic_is address) ds) (next 7 _ _ _ (text 7 (uri_of name)) (versioned_are 7 version)))
 
 shown_is : (words : List ℕ) → Is 8 (shown_data words)
 unfolding shown_data
@@ -181,7 +185,7 @@ reply_is : (address : Option (List ℕ)) (r : Reply) → Is 9 (data_of address r
 reply_is address (reply.Capabilities i) = answer_is i initialize_data initialize_is
 reply_is address (reply.Done i) = answer_is i null (nothing 8)
 reply_is address (reply.Refusal i f) = refusal_is i f
-reply_is address (reply.Publish name ds) = notice_is _ _ (published_is address name ds)
+reply_is address (reply.Publish name version ds) = notice_is _ _ (published_is address name version ds)
 reply_is address (reply.Show words) = notice_is _ _ (shown_is words)
 reply_is address (reply.Actions i actions) = answer_is i _ (listed action_data 7 8 refl action_is actions)
 

@@ -1,5 +1,5 @@
 -- Which message a body is (JSON-RPC 2.0; Language Server Protocol 3.17). Members of a message are found by their paths (RFC 6901).
-use Rattle.std.specs.Prelude.{ℕ, ◌^◌, ◌≡◌, ◌⊎◌, ◌||◌, Bool, false, List, [], ◌∷◌, Option, Some, None, IsUtf8, bytes_eq, codes, is_some, nat_lt, option_and_then, option_map, if◌then◌else◌}
+use Rattle.std.specs.Prelude.{ℕ, ℤ, ◌^◌, ◌≡◌, ◌⊎◌, ◌||◌, Bool, false, List, [], ◌∷◌, Option, Some, None, IsUtf8, bytes_eq, codes, is_some, nat_lt, option_and_then, option_map, if◌then◌else◌}
 use Rattle.serde_json.specs.Data.{Data, Items, no_items, item}
 use Rattle.serde_json.specs.Find.{as_array, as_i64, as_null, as_number, as_str, as_u64, get, pointer}
 use Rattle.serde_json.specs.Read.{read}
@@ -65,6 +65,13 @@ document_name d = name_at (codes "/params/textDocument/uri") d
 
 unfoldable pub document_text : Data → Option (List ℕ)
 document_text d = text_at (codes "/params/textDocument/text") d
+
+-- a whole number, as the version of a text is
+abbrev pub integer : Data → Option ℤ
+integer d = option_and_then as_i64 (as_number d)
+
+unfoldable pub document_version : Data → Option ℤ
+document_version d = option_and_then integer (pointer (codes "/params/textDocument/version") d)
 
 unfoldable pub named_range : Data → Option Range
 named_range d = option_and_then range_in (pointer (codes "/params/range") d)
@@ -141,10 +148,10 @@ about m None = message.BadParams None
 about m (Some name) = or_unread name (m name)
 
 abbrev pub opened : Data → Message
-opened d = about (λ name. option_map (message.DidOpen name) (document_text d)) (document_name d)
+opened d = about (λ name. option_map (message.DidOpen name (document_version d)) (document_text d)) (document_name d)
 
 abbrev pub changed : Data → Message
-changed d = about (λ name. option_map (message.DidChange name) (changes_in d)) (document_name d)
+changed d = about (λ name. option_map (message.DidChange name (document_version d)) (changes_in d)) (document_name d)
 
 abbrev pub asked_start : Id → Data → Option Message
 asked_start id d = option_and_then (λ files. option_map (message.Initialize id (folder_in d) (infer_in d) files) (exclude_in d)) (files_in d)

@@ -153,9 +153,14 @@ unfoldable pub notice_data : List ℕ → Data → Data
 notice_data method params =
     object (member (codes "jsonrpc") (string (codes "2.0")) (member (codes "method") (string method) (one (codes "params") params)))
 
-unfoldable pub published_data : Option (List ℕ) → List ℕ → List Diagnostic → Data
-published_data address name diagnostics =
-    object (member (codes "diagnostics") (list_data (diagnostic_data address) diagnostics) (one (codes "uri") (string (uri_of name))))
+-- the version of the text, where it has one
+abbrev pub versioned : Option ℤ → Members
+versioned None = no_members
+versioned (Some version) = one (codes "version") (number (of_integer version))
+
+unfoldable pub published_data : Option (List ℕ) → List ℕ → Option ℤ → List Diagnostic → Data
+published_data address name version diagnostics =
+    object (member (codes "diagnostics") (list_data (diagnostic_data address) diagnostics) (member (codes "uri") (string (uri_of name)) (versioned version)))
 
 -- type 2 is a warning
 unfoldable pub shown_data : List ℕ → Data
@@ -166,6 +171,6 @@ abbrev pub data_of : Option (List ℕ) → Reply → Data
 data_of address (reply.Capabilities i) = answer_data i initialize_data
 data_of address (reply.Done i) = answer_data i null
 data_of address (reply.Refusal i f) = refusal_data i f
-data_of address (reply.Publish name diagnostics) = notice_data (codes "textDocument/publishDiagnostics") (published_data address name diagnostics)
+data_of address (reply.Publish name version diagnostics) = notice_data (codes "textDocument/publishDiagnostics") (published_data address name version diagnostics)
 data_of address (reply.Show words) = notice_data (codes "window/showMessage") (shown_data words)
 data_of address (reply.Actions i actions) = answer_data i (list_data action_data actions)

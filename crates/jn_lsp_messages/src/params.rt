@@ -97,6 +97,17 @@ pub(crate) fn document_text(alloc: Global, body: &Value) -> Result<Option<Seq<u8
     }
 }
 
+/// The version of the document that a message is about.
+#[tactic(auto, unfolding(crate::specs::Incoming::document_version))]
+pub(crate) fn document_version(body: &Value) -> Option<i64>
+    ensures { result ≡ spec.document_version (view body.now) }
+{
+    match body.pointer("/params/textDocument/version") {
+        None => None,
+        Some(version) => version.as_i64(),
+    }
+}
+
 fn bytes_of(alloc: Global, text: &str) -> Result<Seq<u8>, AllocError>
     ensures { IfOk result (λ bytes. bytes ≡ text.now) }
 {

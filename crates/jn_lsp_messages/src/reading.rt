@@ -5,8 +5,8 @@ ghost use Rattle.jn_lsp_messages.specs.Incoming as spec;
 
 use crate::method::{Method, method_of};
 use crate::params::{
-    changes_in, document_name, document_text, exclude_in, files_in, folder_in, infer_in,
-    named_range, text_in,
+    changes_in, document_name, document_text, document_version, exclude_in, files_in, folder_in,
+    infer_in, named_range, text_in,
 };
 use jn_base::{OutOfMemory, Text};
 use jn_lsp_text::{Id, Message};
@@ -137,7 +137,11 @@ fn did_open(alloc: Global, body: &Value) -> Result<Message, OutOfMemory>
     };
     match document_text(alloc, body)? {
         None => Ok(Message::BadDocument { name }),
-        Some(text) => Ok(Message::DidOpen { name, text }),
+        Some(text) => Ok(Message::DidOpen {
+            name,
+            version: document_version(body),
+            text,
+        }),
     }
 }
 
@@ -149,7 +153,11 @@ fn did_change(alloc: Global, body: &Value) -> Result<Message, OutOfMemory>
     };
     match changes_in(alloc, body)? {
         None => Ok(Message::BadDocument { name }),
-        Some(changes) => Ok(Message::DidChange { name, changes }),
+        Some(changes) => Ok(Message::DidChange {
+            name,
+            version: document_version(body),
+            changes,
+        }),
     }
 }
 

@@ -42,9 +42,17 @@ fn reply_value(alloc: Global, address: &Option<Text>, reply: &Reply) -> Result<V
         Reply::Capabilities { id } => capabilities(alloc, id),
         Reply::Done { id } => Ok(answer(alloc, id, Value::Null)?),
         Reply::Refusal { id, failure } => Ok(refusal(alloc, id, *failure)?),
-        Reply::Publish { name, diagnostics } => {
-            publish(alloc, address, name.as_str(), diagnostics.as_slice())
-        }
+        Reply::Publish {
+            name,
+            version,
+            diagnostics,
+        } => publish(
+            alloc,
+            address,
+            name.as_str(),
+            *version,
+            diagnostics.as_slice(),
+        ),
         Reply::Show { words } => Ok(show(alloc, words.as_str())?),
         Reply::Actions { id, actions } => {
             let actions = actions_value(alloc, actions.as_slice())?;
@@ -169,12 +177,13 @@ fn publish(
     alloc: Global,
     address: &Option<Text>,
     name: &str,
+    version: Option<i64>,
     diagnostics: &[Diagnostic],
 ) -> Result<Value, OutOfMemory>
     ensures { IfOk result (λ v.
-        view v ≡ spec.notice_data (codes "textDocument/publishDiagnostics") (spec.published_data address.now name.now diagnostics.now)) }
+        view v ≡ spec.notice_data (codes "textDocument/publishDiagnostics") (spec.published_data address.now name.now version diagnostics.now)) }
 {
-    let params = published(alloc, address, name, diagnostics)?;
+    let params = published(alloc, address, name, version, diagnostics)?;
     Ok(notice(alloc, "textDocument/publishDiagnostics", params)?)
 }
 
@@ -183,13 +192,20 @@ fn published(
     alloc: Global,
     address: &Option<Text>,
     name: &str,
+    version: Option<i64>,
     diagnostics: &[Diagnostic],
 ) -> Result<Value, OutOfMemory>
-    ensures { IfOk result (λ v. view v ≡ spec.published_data address.now name.now diagnostics.now) }
+    ensures { IfOk result
+        (λ v. view v ≡ spec.published_data address.now name.now version diagnostics.now) }
 {
     let uri = uri_of(alloc, name)?;
     let diagnostics = diagnostics_value(alloc, address, diagnostics)?;
-    Ok(json!(in alloc; {"diagnostics": diagnostics, "uri": uri.as_str()})?)
+    match version {
+        None => Ok(json!(in alloc; {"diagnostics": diagnostics, "uri": uri.as_str()})?),
+        Some(version) => Ok(
+            json!(in alloc; {"diagnostics": diagnostics, "uri": uri.as_str(), "version": version})?,
+        ),
+    }
 }
 
 fn show(alloc: Global, words: &str) -> Result<Value, AllocError>

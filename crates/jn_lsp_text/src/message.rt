@@ -28,14 +28,16 @@ pub enum Message {
     },
     /// `initialized`.
     Initialized,
-    /// `textDocument/didOpen`: the text is its bytes in UTF-8.
+    /// `textDocument/didOpen`: the text is its bytes in UTF-8, and has a version where a whole number is said.
     DidOpen {
         name: Text,
+        version: Option<i64>,
         text: Seq<u8>,
     },
-    /// `textDocument/didChange`: the changes, each of the text after the one before.
+    /// `textDocument/didChange`: the changes, each of the text after the one before, and the version of the text after them.
     DidChange {
         name: Text,
+        version: Option<i64>,
         changes: Seq<Change>,
     },
     /// `textDocument/didSave`.

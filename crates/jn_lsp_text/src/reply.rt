@@ -66,9 +66,10 @@ pub enum Reply {
         id: Option<Id>,
         failure: Failure,
     },
-    /// `textDocument/publishDiagnostics`: all that is told of the file from now on.
+    /// `textDocument/publishDiagnostics`: all that is told of the file from now on, and the version of its text, where it is open with one.
     Publish {
         name: Text,
+        version: Option<i64>,
         diagnostics: Seq<Diagnostic>,
     },
     /// `window/showMessage`: a warning.

@@ -1,5 +1,5 @@
 -- Each request that frames bring is answered once.
-use Rattle.std.proofs.Common.{◌≡◌, ℕ, ◌++◌, Bool, true, false, List, [], ◌∷◌, map, Option, Some, None, refl, sym, ap, ◌∙◌, subst, append_assoc}
+use Rattle.std.proofs.Common.{◌≡◌, ℕ, ℤ, ◌++◌, Bool, true, false, List, [], ◌∷◌, map, Option, Some, None, refl, sym, ap, ◌∙◌, subst, append_assoc}
 use Rattle.std.specs.Prelude.{filter, not, option_map, option_to_list, if◌then◌else◌}
 use Rattle.std.specs.List.{AllZip}
 use Rattle.std.proofs.lemmas.Grind.{flat_map-append}
@@ -48,13 +48,13 @@ asked_same one other es e f =
 abbrev AsksAs : Message → Message → Type 0
 AsksAs one other = (is_exit (MessageEvent one) ≡ is_exit (MessageEvent other)) × (id_asked one ≡ id_asked other)
 
-opened_as : (place : Option (List ℕ)) (name text : List ℕ) → AsksAs (or_ignored (option_map (λ n. DidOpen n text) place)) (DidOpen name text)
-opened_as None name text = (refl, refl)
-opened_as (Some place) name text = (refl, refl)
+opened_as : (place : Option (List ℕ)) (name : List ℕ) (version : Option ℤ) (text : List ℕ) → AsksAs (or_ignored (option_map (λ n. DidOpen n version text) place)) (DidOpen name version text)
+opened_as None name version text = (refl, refl)
+opened_as (Some place) name version text = (refl, refl)
 
-changed_as : (place : Option (List ℕ)) (name : List ℕ) (changes : List Change) → AsksAs (or_ignored (option_map (λ n. DidChange n changes) place)) (DidChange name changes)
-changed_as None name changes = (refl, refl)
-changed_as (Some place) name changes = (refl, refl)
+changed_as : (place : Option (List ℕ)) (name : List ℕ) (version : Option ℤ) (changes : List Change) → AsksAs (or_ignored (option_map (λ n. DidChange n version changes) place)) (DidChange name version changes)
+changed_as None name version changes = (refl, refl)
+changed_as (Some place) name version changes = (refl, refl)
 
 closed_as : (place : Option (List ℕ)) (name : List ℕ) → AsksAs (or_ignored (option_map DidClose place)) (DidClose name)
 closed_as None name = (refl, refl)
@@ -67,8 +67,8 @@ doubted_as (Some place) name = (refl, refl)
 placed_asks : (root : Root) (message : Message) → AsksAs (placed root message) message
 placed_asks root (Initialize id folder infer files exclude) = (refl, refl)
 placed_asks root Initialized = (refl, refl)
-placed_asks root (DidOpen name text) = opened_as (placed_name root name) name text
-placed_asks root (DidChange name changes) = changed_as (placed_name root name) name changes
+placed_asks root (DidOpen name version text) = opened_as (placed_name root name) name version text
+placed_asks root (DidChange name version changes) = changed_as (placed_name root name) name version changes
 placed_asks root (DidSave name) = (refl, refl)
 placed_asks root (DidClose name) = closed_as (placed_name root name) name
 placed_asks root WatchedFiles = (refl, refl)

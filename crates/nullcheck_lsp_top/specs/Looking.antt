@@ -30,8 +30,8 @@ new_client infer = record { server = new_server infer; root = root_of None [] []
 abbrev pub root_in : Message → Option Root
 root_in (Initialize id folder infer files exclude) = Some (root_of folder files exclude)
 root_in Initialized = None
-root_in (DidOpen name text) = None
-root_in (DidChange name changes) = None
+root_in (DidOpen name version text) = None
+root_in (DidChange name version changes) = None
 root_in (DidSave name) = None
 root_in (DidClose name) = None
 root_in WatchedFiles = None

@@ -50,8 +50,8 @@ or_ignored (Some m) = m
 abbrev pub placed : Root → Message → Message
 placed root (Initialize id folder infer files exclude) = Initialize id folder infer files exclude
 placed root Initialized = Initialized
-placed root (DidOpen name text) = or_ignored (option_map (λ n. DidOpen n text) (placed_name root name))
-placed root (DidChange name changes) = or_ignored (option_map (λ n. DidChange n changes) (placed_name root name))
+placed root (DidOpen name version text) = or_ignored (option_map (λ n. DidOpen n version text) (placed_name root name))
+placed root (DidChange name version changes) = or_ignored (option_map (λ n. DidChange n version changes) (placed_name root name))
 placed root (DidSave name) = DidSave name
 placed root (DidClose name) = or_ignored (option_map DidClose (placed_name root name))
 placed root WatchedFiles = WatchedFiles
@@ -71,7 +71,7 @@ placed root TooLarge = TooLarge
 
 -- the document that a message opens, where it is none of the workspace's
 abbrev pub foreign_by : Root → Message → Option (List ℕ)
-foreign_by root (DidOpen name text) = if is_some (placed_name root name) then None else Some name
+foreign_by root (DidOpen name version text) = if is_some (placed_name root name) then None else Some name
 foreign_by root _ = None
 
 abbrev pub foreign_in : Phase → Root → Message → Option (List ℕ)

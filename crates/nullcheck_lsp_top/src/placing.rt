@@ -107,13 +107,29 @@ pub(crate) fn placed(alloc: Global, root: &Root, message: Message) -> Result<Mes
     ensures { IfOk result (λ placed. placed ≡ spec.placed root.now message) }
 {
     match message {
-        Message::DidOpen { name, text } => match placed_name(alloc, root, &name)? {
+        Message::DidOpen {
+            name,
+            version,
+            text,
+        } => match placed_name(alloc, root, &name)? {
             None => Ok(Message::Ignored),
-            Some(name) => Ok(Message::DidOpen { name, text }),
+            Some(name) => Ok(Message::DidOpen {
+                name,
+                version,
+                text,
+            }),
         },
-        Message::DidChange { name, changes } => match placed_name(alloc, root, &name)? {
+        Message::DidChange {
+            name,
+            version,
+            changes,
+        } => match placed_name(alloc, root, &name)? {
             None => Ok(Message::Ignored),
-            Some(name) => Ok(Message::DidChange { name, changes }),
+            Some(name) => Ok(Message::DidChange {
+                name,
+                version,
+                changes,
+            }),
         },
         Message::DidClose { name } => match placed_name(alloc, root, &name)? {
             None => Ok(Message::Ignored),

@@ -3,4 +3,4 @@ use Rattle.jn_lsp.specs.Publications.{ArePublished, gone}
 use Rattle.jn_lsp.proofs.publishing.cleared.Given as goal
 
 abbrev pub invariant-loop-one : goal.invariant-loop-one
-invariant-loop-one l = ArePublished l.opened l.before (gone (take l.one-index l.before) l.after) l.replies
+invariant-loop-one l = ArePublished l.opened l.versions l.before (gone (take l.one-index l.before) l.after) l.replies
