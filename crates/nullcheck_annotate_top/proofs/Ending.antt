@@ -40,7 +40,7 @@ changed_done Write cs = tt
 
 study_done : (mode : Mode) (files : List SourceFile) (study : Study) → Done (output_of mode files study).status
 study_done mode files (Refused rows) = tt
-study_done mode files (Unannotated fault span) = tt
+study_done mode files (Unannotated fault part span) = tt
 study_done mode files (Annotated new) = changed_done mode (changes files new)
 
 pub output_done : (infer : Infer) (imports : Bool) (mode : Mode) (files : List SourceFile) (output : Output) → IsOutput infer imports mode files output → Done output.status

@@ -31,6 +31,6 @@ module _ (infer : Infer) (imports : Bool) (reads : List SourceRead) (names : Lis
   -- no limit is passed, so rows stand anywhere
   pub of_made : (made : Made) → IfOk made (λ study. IsOf reads study)
   of_made (Ok (Refused broken)) = all_stand reads [] broken (λ files are. sym (typed files are).1.0.of_files.lowered.declared.parsed.within) refl some
-  of_made (Ok (Unannotated fault span)) = whole
+  of_made (Ok (Unannotated fault part span)) = whole
   of_made (Ok (Annotated new)) = whole
   of_made (Err e) = tt

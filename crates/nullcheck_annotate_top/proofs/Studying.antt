@@ -1,5 +1,5 @@
 -- The annotated texts of files, or why they have none.
-use Rattle.std.proofs.Common.{◌≡◌, ℕ, Bool, suc, ◌+◌, List, [], ◌∷◌, length, map, refl, sym, ap, ap₂, ◌∙◌, subst}
+use Rattle.std.proofs.Common.{◌≡◌, ℕ, Bool, suc, ◌+◌, Option, List, [], ◌∷◌, length, map, refl, sym, ap, ap₂, ◌∙◌, subst}
 use Rattle.jn_base.specs.declared.infer.Infer.{Infer}
 use Rattle.jn_base.specs.declared.place.Span.{Span}
 use Rattle.jn_quals.specs.Qualifier.{Qualifier}
@@ -21,6 +21,8 @@ use Rattle.jn_annotate.specs.Answers.{IsFaultOf}
 use Rattle.jn_front.specs.declared.source.SourceFile.{SourceFile}
 use Rattle.jn_points.specs.BaseRows.{NoBaseRows}
 use Rattle.jn_phases.specs.Phases.{ProgramOf, TypedProgramOf}
+use Rattle.nullcheck_annotate_top.specs.declared.parts.Part.{Part}
+use Rattle.nullcheck_annotate_top.specs.Parts.{fault_part}
 use Rattle.nullcheck_annotate_top.specs.Places.{fault_span}
 use Rattle.nullcheck_annotate_top.specs.Study.{AreAnnotated, AreUnannotated, Solved, texts_of}
 
@@ -61,8 +63,8 @@ module _ (infer : Infer) (imports : Bool) (files : List SourceFile) (names : Lis
   pub annotated : (new : List (List ℕ)) → Annotated imports P s texts tokens (map file_view trees) new → AreAnnotated infer imports files new
   annotated new h = record { solved = solved; are = told (λ x t v. Annotated imports P s x t v new) h }
 
-  pub unannotated : (fault : AnnotateFault) (span : Span) → IsFaultOf imports P s texts tokens (map file_view trees) fault → span ≡ fault_span P fault → AreUnannotated infer imports files fault span
-  unannotated fault span h stands = record { solved = solved; why = told (λ x t v. IsFaultOf imports P s x t v fault) h; stands = stands }
+  pub unannotated : (fault : AnnotateFault) (part : Option Part) (span : Span) → IsFaultOf imports P s texts tokens (map file_view trees) fault → span ≡ fault_span P fault → part ≡ fault_part P fault → AreUnannotated infer imports files fault part span
+  unannotated fault part span h stands named = record { solved = solved; why = told (λ x t v. IsFaultOf imports P s x t v fault) h; stands = stands; named = named }
 
 -- a program of files that has no row of types, by its trees
 pub typed_of : (infer : Infer) (files : List SourceFile) (names : List (List ℕ)) (P Q : Program) (trees : List PlacedFile) → Q ≡ P → ((of : ProgramOf infer files names P) × (of.trees ≡ trees)) → NoBaseRows P → (typed : TypedProgramOf infer files names Q) × (typed.of_files.trees ≡ trees)

@@ -1,4 +1,5 @@
 pub mod Places
+pub mod Parts
 pub mod Study
 pub mod Kept
 pub mod Changes

@@ -19,6 +19,8 @@ use Rattle.nullcheck_annotate_top.specs.declared.output.Output.{Output}
 use Rattle.nullcheck_annotate_top.specs.declared.study.Study.{Study}
 use Rattle.nullcheck_annotate_top.specs.declared.study.Study.TheVariants.{Refused, Unannotated, Annotated}
 use Rattle.nullcheck_annotate_top.specs.Changes.{changes, diffs, replacements}
+use Rattle.nullcheck_annotate_top.specs.declared.parts.Part.{Part}
+use Rattle.nullcheck_annotate_top.specs.Parts.{part_words}
 use Rattle.nullcheck_annotate_top.specs.Study.{IsStudy}
 
 -- ---- why there are no annotated texts
@@ -40,15 +42,19 @@ line_in (Some file) span code = placed_line file.name (place_in file.bytes span)
 abbrev pub place_line : List SourceFile → AnnotateFault → Span → List ℕ
 place_line files fault span = line_in (slice_get files span.file.0) span (fault_code fault)
 
--- what can be done about it, in a line of its own
-abbrev pub fault_cure : AnnotateFault → List ℕ
-fault_cure (NoSpelling slot) = codes "cure: write the annotation that is meant, or leave out what takes nothing but null\n"
-fault_cure (NameTaken slot) = codes "cure: give the type that has the annotation's name another one, or leave --imports out\n"
-fault_cure (SharedType slot) = codes "cure: declare the fields one by one\n"
-fault_cure (TooLarge file) = codes "cure: split the file\n"
+-- what can be done where no annotation says the qualifier of this part
+abbrev pub spelling_cure : Option Part → List ℕ
+spelling_cure part = codes "cure: write the annotation that is meant at " ++ part_words part ++ codes ", or leave out what takes nothing but null\n"
 
-abbrev pub fault_text : List SourceFile → AnnotateFault → Span → List ℕ
-fault_text files fault span = place_line files fault span ++ fault_cure fault
+-- what can be done about it, in a line of its own
+abbrev pub fault_cure : AnnotateFault → Option Part → List ℕ
+fault_cure (NoSpelling slot) part = spelling_cure part
+fault_cure (NameTaken slot) part = codes "cure: give the type that has the annotation's name another one, or leave --imports out\n"
+fault_cure (SharedType slot) part = codes "cure: declare the fields one by one\n"
+fault_cure (TooLarge file) part = codes "cure: split the file\n"
+
+abbrev pub fault_text : List SourceFile → AnnotateFault → Option Part → Span → List ℕ
+fault_text files fault part span = place_line files fault span ++ fault_cure fault part
 
 -- ---- the output
 
@@ -69,7 +75,7 @@ changed_output Write cs = record { status = Ok; bytes = []; replaced = replaceme
 -- files that are refused get their report
 abbrev pub output_of : Mode → List SourceFile → Study → Output
 output_of mode files (Refused rows) = only RefusedStatus (shown plain_shown files (RefusedReport rows))
-output_of mode files (Unannotated fault span) = only Rejected (fault_text files fault span)
+output_of mode files (Unannotated fault part span) = only Rejected (fault_text files fault part span)
 output_of mode files (Annotated new) = changed_output mode (changes files new)
 
 pub record IsOutput (infer : Infer) (imports : Bool) (mode : Mode) (files : List SourceFile) (output : Output) : Type 0 where

@@ -1,5 +1,5 @@
 -- What files come to: rows that refuse them, why they have no annotated texts, or these texts.
-use Rattle.std.specs.Prelude.{ℕ, ◌≡◌, Bool, List, map}
+use Rattle.std.specs.Prelude.{ℕ, ◌≡◌, Bool, List, map, Option}
 use Rattle.jn_base.specs.declared.infer.Infer.{Infer}
 use Rattle.jn_base.specs.declared.place.Span.{Span}
 use Rattle.jn_quals.specs.Qualifier.{Qualifier}
@@ -18,6 +18,8 @@ use Rattle.jn_front.specs.Files.{AreReads, files_of_reads}
 use Rattle.jn_phases.specs.Phases.{IsPhase, TypedProgramOf}
 use Rattle.nullcheck_annotate_top.specs.declared.study.Study.{Study}
 use Rattle.nullcheck_annotate_top.specs.declared.study.Study.TheVariants.{Refused, Unannotated, Annotated as AnnotatedTexts}
+use Rattle.nullcheck_annotate_top.specs.declared.parts.Part.{Part}
+use Rattle.nullcheck_annotate_top.specs.Parts.{fault_part}
 use Rattle.nullcheck_annotate_top.specs.Places.{fault_span}
 
 abbrev pub texts_of : List SourceFile → List (List ℕ)
@@ -44,16 +46,17 @@ pub record AreAnnotated (infer : Infer) (imports : Bool) (files : List SourceFil
   pub solved : Solved infer files
   pub are : Annotated imports solved.P solved.signature (texts_of files) (tokens_of infer files solved) (trees_of infer files solved) new
 
--- they have no such texts, for this reason, which stands there
-pub record AreUnannotated (infer : Infer) (imports : Bool) (files : List SourceFile) (fault : AnnotateFault) (span : Span) : Type 0 where
+-- they have no such texts, for this reason, which stands there, at this part of the declaration
+pub record AreUnannotated (infer : Infer) (imports : Bool) (files : List SourceFile) (fault : AnnotateFault) (part : Option Part) (span : Span) : Type 0 where
   pub solved : Solved infer files
   pub why : IsFaultOf imports solved.P solved.signature (texts_of files) (tokens_of infer files solved) (trees_of infer files solved) fault
   pub stands : span ≡ fault_span solved.P fault
+  pub named : part ≡ fault_part solved.P fault
 
 -- files that some phase refuses come to its rows; of others nothing is asked, accepted or not
 abbrev pub IsStudy : Infer → Bool → List SourceFile → Study → Type 0
 IsStudy infer imports files (Refused rows) = IsPhase infer files rows
-IsStudy infer imports files (Unannotated fault span) = AreUnannotated infer imports files fault span
+IsStudy infer imports files (Unannotated fault part span) = AreUnannotated infer imports files fault part span
 IsStudy infer imports files (AnnotatedTexts new) = AreAnnotated infer imports files new
 
 -- what was read are the files, whole
@@ -63,5 +66,5 @@ AreWhole reads = (files : List SourceFile) → AreReads reads files → files_of
 -- rows stand in files that were read whole, or at their first byte; others than refused files were read whole
 abbrev pub IsOf : List SourceRead → Study → Type 0
 IsOf reads (Refused rows) = StandIn reads rows
-IsOf reads (Unannotated fault span) = AreWhole reads
+IsOf reads (Unannotated fault part span) = AreWhole reads
 IsOf reads (AnnotatedTexts new) = AreWhole reads

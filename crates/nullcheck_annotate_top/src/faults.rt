@@ -8,6 +8,7 @@ ghost use Rattle.jn_sigs.specs.Signature as sigs;
 ghost use Rattle.nullcheck_annotate_top.specs.Output as output;
 ghost use Rattle.nullcheck_annotate_top.specs.Places as spec;
 
+use crate::parts::{Part, part_words};
 use itoa::{Buffer, Integer};
 use jn_annotate::AnnotateFault;
 use jn_base::place::place_of;
@@ -28,7 +29,7 @@ fn file_start(file: u32) -> Span
 }
 
 /// Whether it is the slot.
-fn is_slot(slot: u32, has: Option<SlotNo>) -> bool
+pub(crate) fn is_slot(slot: u32, has: Option<SlotNo>) -> bool
     ensures { result ≡ sigs.is_slot slot has }
 {
     match has {
@@ -50,7 +51,7 @@ fn is_among(slot: u32, has: &[Option<SlotNo>]) -> bool
 }
 
 /// Whether the slot is of a parameter, the receiver or the result of the method.
-fn has_slot(slot: u32, method: &Method) -> bool
+pub(crate) fn has_slot(slot: u32, method: &Method) -> bool
     ensures { result ≡ sigs.method_has_slot slot method.now }
 {
     is_slot(slot, method.receiver)
@@ -177,19 +178,34 @@ fn place_line(
     }
 }
 
+/// What can be done where no annotation says the qualifier of this part.
+fn spelling_cure(alloc: Global, part: Option<Part>) -> Result<Vec<u8>, AllocError>
+    ensures { IfOk result (λ cure. cure.items ≡ output.spelling_cure part) }
+{
+    let mut cure = Vec::from_slice(alloc, b"cure: write the annotation that is meant at ")?;
+    cure.extend_from_slice(part_words(part))?;
+    cure.extend_from_slice(b", or leave out what takes nothing but null\n")?;
+    Ok(cure)
+}
+
 /// What can be done about a fault.
-fn fault_cure(fault: AnnotateFault) -> &'static [u8]
-    ensures { result.now ≡ output.fault_cure fault }
+fn fault_cure(
+    alloc: Global,
+    fault: AnnotateFault,
+    part: Option<Part>,
+) -> Result<Vec<u8>, AllocError>
+    ensures { IfOk result (λ cure. cure.items ≡ output.fault_cure fault part) }
 {
     match fault {
-        AnnotateFault::NoSpelling(_) => {
-            b"cure: write the annotation that is meant, or leave out what takes nothing but null\n"
+        AnnotateFault::NoSpelling(_) => spelling_cure(alloc, part),
+        AnnotateFault::NameTaken(_) => Vec::from_slice(
+            alloc,
+            b"cure: give the type that has the annotation's name another one, or leave --imports out\n",
+        ),
+        AnnotateFault::SharedType(_) => {
+            Vec::from_slice(alloc, b"cure: declare the fields one by one\n")
         }
-        AnnotateFault::NameTaken(_) => {
-            b"cure: give the type that has the annotation's name another one, or leave --imports out\n"
-        }
-        AnnotateFault::SharedType(_) => b"cure: declare the fields one by one\n",
-        AnnotateFault::TooLarge(_) => b"cure: split the file\n",
+        AnnotateFault::TooLarge(_) => Vec::from_slice(alloc, b"cure: split the file\n"),
     }
 }
 
@@ -198,13 +214,15 @@ pub(crate) fn fault_text(
     alloc: Global,
     reads: &[SourceRead],
     fault: AnnotateFault,
+    part: Option<Part>,
     span: Span,
 ) -> Result<Vec<u8>, AllocError>
     requires fit { ReadsFit reads.now }
     ensures { IfOk result
-        (λ text. text.items ≡ output.fault_text (files_of_reads reads.now) fault span) }
+        (λ text. text.items ≡ output.fault_text (files_of_reads reads.now) fault part span) }
 {
     let mut text = place_line(alloc, reads, fault, span)?;
-    text.extend_from_slice(fault_cure(fault))?;
+    let cure = fault_cure(alloc, fault, part)?;
+    text.extend_from_slice(&cure)?;
     Ok(text)
 }

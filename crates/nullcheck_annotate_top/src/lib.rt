@@ -10,6 +10,7 @@ pub mod faults;
 pub mod finish;
 pub mod law;
 pub mod output;
+pub mod parts;
 pub mod study;
 mod texts;
 pub mod top;

@@ -13,6 +13,7 @@ ghost use Rattle.nullcheck_annotate_top.specs.Study.{IsOf};
 
 use crate::changes::{Change, changes, diffs, replacements};
 use crate::faults::fault_text;
+use crate::parts::Part;
 use crate::study::Study;
 use jn_annotate::AnnotateFault;
 use jn_base::{OutOfMemory, Row, Seq, Span};
@@ -134,13 +135,14 @@ fn fault_output(
     alloc: Global,
     reads: &[SourceRead],
     fault: AnnotateFault,
+    part: Option<Part>,
     span: Span,
 ) -> Result<Output, OutOfMemory>
     requires fit { ReadsFit reads.now }
     ensures { IfOk result (λ o. o
-        ≡ spec.only Status.Rejected (spec.fault_text (files_of_reads reads.now) fault span)) }
+        ≡ spec.only Status.Rejected (spec.fault_text (files_of_reads reads.now) fault part span)) }
 {
-    let text = fault_text(alloc, reads, fault, span)?;
+    let text = fault_text(alloc, reads, fault, part, span)?;
     Ok(only(alloc, Status::Rejected, text))
 }
 
@@ -162,7 +164,7 @@ pub fn output_of(
 {
     match study {
         Study::Refused(rows) => refused_output(alloc, reads, rows),
-        Study::Unannotated(fault, span) => fault_output(alloc, reads, fault, span),
+        Study::Unannotated(fault, part, span) => fault_output(alloc, reads, fault, part, span),
         Study::Annotated(texts) => annotated_output(alloc, mode, reads, texts.as_slice()),
     }
 }

@@ -10,6 +10,7 @@ ghost use Rattle.jn_phases.specs.Phases.{IsTypedOr, TypedProgramOf};
 ghost use Rattle.nullcheck_annotate_top.specs.Study.{IsOf, IsStudy, texts_of};
 
 use crate::faults::fault_span;
+use crate::parts::{Part, fault_part};
 use crate::texts::texts;
 use jn_annotate::{AnnotateFault, annotate};
 use jn_base::{Fail, Infer, OutOfMemory, Row, Seq, Span};
@@ -31,8 +32,8 @@ use std::thread::Threads;
 pub enum Study {
     /// The files are not of the subset, or don't fit together: the rows of the first phase that has any, in order.
     Refused(Seq<Row>),
-    /// They have no annotated texts, for this reason, which stands there.
-    Unannotated(AnnotateFault, Span),
+    /// They have no annotated texts, for this reason, which stands there, at this part of the declaration, where its cure names one.
+    Unannotated(AnnotateFault, Option<Part>, Span),
     /// The text of each file with what is inferred of it.
     Annotated(Seq<Seq<u8>>),
 }
@@ -61,7 +62,9 @@ fn study_solved(
     match annotate(alloc, imports, texts, tokens, trees, base.program(), sig) {
         Ok(new) => Ok(Study::Annotated(Seq::of_vec(new))),
         Err(Fail::Refused(fault)) => {
-            Ok(Study::Unannotated(fault, fault_span(base.program(), fault)))
+            let program = base.program();
+            let part = fault_part(program, fault);
+            Ok(Study::Unannotated(fault, part, fault_span(program, fault)))
         }
         Err(Fail::OutOfMemory) => Err(OutOfMemory),
     }

@@ -4,6 +4,7 @@ use Rattle.jn_trees.specs.View.{file_view}
 use Rattle.jn_annotate.specs.Annotated.{Annotated}
 use Rattle.jn_annotate.specs.Answers.{IsWhyRefused}
 use Rattle.jn_front.specs.Files.{files_of_reads}
+use Rattle.nullcheck_annotate_top.specs.Parts.{fault_part}
 use Rattle.nullcheck_annotate_top.specs.Places.{fault_span}
 use Rattle.nullcheck_annotate_top.proofs.Studying.{annotated, signature_long, unannotated}
 use Rattle.nullcheck_annotate_top.proofs.study.study_solved.Goals as goal
@@ -31,5 +32,6 @@ returns-in-Err-Refused c =
     let s = c.args.sig.now in
     let fault = c.in-Err-Refused.fault in
     let why = subst (λ f. IsWhyRefused c.args.imports c.args.base.now s texts tokens views f) c.in-Err-Refused.field-0-is (subst (λ P. IsWhyRefused c.args.imports P s texts tokens views c.in-Err-Refused.field-0) c.program.ensures.is c.in-Err-Refused.ensures.refused) in
-    unannotated c.args.infer c.args.imports (files_of_reads c.args.reads.now) c.args.names.now c.args.base.now s texts tokens c.args.trees.now c.places_are_forgotten.ensures.view p.0 p.1 p.2 c.requires.texts c.requires.least fault c.fault_span.result why
+    unannotated c.args.infer c.args.imports (files_of_reads c.args.reads.now) c.args.names.now c.args.base.now s texts tokens c.args.trees.now c.places_are_forgotten.ensures.view p.0 p.1 p.2 c.requires.texts c.requires.least fault c.fault_part.result c.fault_span.result why
     (c.fault_span.ensures ∙ ap (λ P. fault_span P fault) c.program-in-Err-Refused.ensures.is)
+    (c.fault_part.ensures ∙ ap (λ P. fault_part P fault) c.program-in-Err-Refused.ensures.is)

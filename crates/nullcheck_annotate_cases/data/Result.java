@@ -1,0 +1,1 @@
+class Result { private static String f() { return null; } void g() { f(); } }
