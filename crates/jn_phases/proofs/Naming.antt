@@ -12,7 +12,7 @@ abbrev AreSome : List (List ℕ) → Type 0
 AreSome names = names ≡ [] → ⊥
 
 front_some : (xs ys : List (List ℕ)) → AreSome xs → AreSome (xs ++ ys)
-front_some [] ys some e = some e
+front_some [] ys some e = some refl
 front_some (x ∷ xs) ys some e = cc
 
 still_some : (k : ℕ) (names : List (List ℕ)) (files : List SourceFile) (tss : List (List Token)) (last : List (List ℕ)) → LexedFrom k names files tss last → AreSome names → AreSome last
