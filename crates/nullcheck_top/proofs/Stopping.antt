@@ -1,6 +1,7 @@
 -- The notes of rows of a phase that are shown.
 use Rattle.std.proofs.Common.{◌≡◌, ◌<◌, ℕ, zero, suc, Bool, true, false, inl, inr, List, [], ◌∷◌, length, map, Option, Some, None, Result, refl, sym, ap, ◌∙◌, subst, arith}
 use Rattle.std.specs.Prelude.{IfOk, Vec, slice_get}
+use Rattle.std.specs.declared.alloc.Global.{Global}
 use Rattle.jn_base.specs.declared.code.Code.{Code}
 use Rattle.jn_base.specs.declared.code.Code.TheVariants.{B1, S1}
 use Rattle.jn_base.specs.declared.infer.Infer.{Infer}
@@ -89,11 +90,11 @@ all_stops reads files (row ∷ rows) (n ∷ notes) are stand h =
 -- ---- by what is known of the files
 
 module _ (files : List SourceFile) (trees : List PlacedFile) (rows : List Row) where
-  pub by_texts : {E : Type 0} (names : List (List ℕ)) (r : Result (Vec Notes) E) → length names ≡ 0 → IfOk r (λ notes. AreStops files rows notes.items) → IfOk r (λ notes. AreNotesBy files names trees rows notes.items)
+  pub by_texts : {E : Type 0} (names : List (List ℕ)) (r : Result (Vec Notes Global) E) → length names ≡ 0 → IfOk r (λ notes. AreStops files rows notes.items) → IfOk r (λ notes. AreNotesBy files names trees rows notes.items)
   by_texts [] r none h = h
   by_texts (name ∷ names) r none h = absurd (omega (arith, none))
 
-  pub by_trees : {E : Type 0} (names : List (List ℕ)) (r : Result (Vec Notes) E) → (length names ≡ 0 → ⊥) → IfOk r (λ notes. notes.items ≡ map (row_notes names trees) rows) → IfOk r (λ notes. AreNotesBy files names trees rows notes.items)
+  pub by_trees : {E : Type 0} (names : List (List ℕ)) (r : Result (Vec Notes Global) E) → (length names ≡ 0 → ⊥) → IfOk r (λ notes. notes.items ≡ map (row_notes names trees) rows) → IfOk r (λ notes. AreNotesBy files names trees rows notes.items)
   by_trees [] r some h = absurd (some refl)
   by_trees (name ∷ names) r some h = h
 

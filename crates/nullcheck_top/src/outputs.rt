@@ -80,7 +80,6 @@ fn show_found<P: Reporter>(
 }
 
 /// The notes of rows of a phase: by the trees of the files, or by their texts where no name of them is known.
-#[tactic(auto, using(crate::proofs::Stopping::by_texts, crate::proofs::Stopping::by_trees))]
 fn notes_of_phase(
     alloc: Global,
     reads: &[SourceRead],
