@@ -121,5 +121,5 @@ usage read asked o bytes kb kn result e b s (inr p) = subst (λ x. Answers read 
 
 -- no memory was found to read the words
 pub unread : (read : Reading) (asked : Option Command) (o : Outcome) → o.new ≡ o.old → o.now ≡ o.before → Answers read asked o OutOfMemory
-unread read None o n s = inr (inr (refl, n, s))
-unread read (Some c) o n s = inr (inr refl, n, s)
+unread read None o n s = inr (inr (refl, (n, s)))
+unread read (Some c) o n s = inr (inr refl, (n, s))
