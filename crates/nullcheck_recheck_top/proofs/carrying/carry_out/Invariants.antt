@@ -6,7 +6,7 @@ use Rattle.nullcheck_recheck_top.proofs.carrying.carry_out.Given as goal
 
 abbrev pub invariant-loop-step : goal.invariant-loop-step
 invariant-loop-step g l =
-    DidAll l.infer (g.F.Files.held l.fn.files)
+    DidAll l.fn.infer (g.F.Files.held l.fn.files)
     (world (g.F.Files.gave l.fn.files) (g.K.Sink.written l.fn.out) (g.F.Files.faults l.fn.files) (g.K.Sink.faults l.fn.out))
     (world (g.F.Files.gave l.files) (g.K.Sink.written l.out) (g.F.Files.faults l.files) (g.K.Sink.faults l.out))
     (take l.step-index l.steps) l.last l.session
