@@ -13,7 +13,7 @@ use Rattle.jn_outside.specs.Files.{Holding}
 use Rattle.jn_command.specs.declared.output.Output.{Output}
 use Rattle.jn_command.specs.declared.report.Report.TheVariants.{Refused, Checked}
 use Rattle.jn_command.specs.declared.status.Status.{Status}
-use Rattle.nullcheck_top.specs.Asked.{Asked}
+use Rattle.jn_asked.specs.Asked.{Asked}
 use Rattle.jn_command.specs.Answer.{Reading, reading, AreFiles}
 use Rattle.nullcheck_top.specs.CommandAnswer.{AreChecked, AreShownNotes}
 use Rattle.jn_command.specs.Made.{front_of, made_file, made_text}

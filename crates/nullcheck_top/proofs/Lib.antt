@@ -1,4 +1,3 @@
-pub mod Asking
 pub mod Reporting
 pub mod Laws
 pub mod Running

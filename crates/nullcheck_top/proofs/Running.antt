@@ -11,7 +11,7 @@ use Rattle.jn_command.specs.declared.report.Report.TheVariants.{Checked}
 use Rattle.jn_command.specs.declared.status.Status.{Status}
 use Rattle.jn_command.specs.declared.status.Status.TheVariants.{Ok, Rejected, Refused, RunFault, Stopped, ReadFault, WriteFault, OutOfMemory, Usage}
 use Rattle.jn_base.specs.declared.infer.Infer.{Infer}
-use Rattle.nullcheck_top.specs.Asked.{Asked}
+use Rattle.jn_asked.specs.Asked.{Asked}
 use Rattle.nullcheck_top.specs.CommandAnswer.{IsOutputBy, IsOutputOfFiles}
 use Rattle.jn_run.specs.Line.{end_line}
 use Rattle.jn_run.specs.Main.{Answers as RunAnswers, IsToldBy, Runs, RunsTo as ProgramRunsTo}

@@ -13,7 +13,7 @@ use Rattle.jn_front.specs.Files.{names_of, most_files, StartsOnly, AllHeld, AreR
 use Rattle.jn_command.specs.declared.status.Status.{Status}
 use Rattle.jn_command.specs.declared.status.Status.TheVariants.{Ok, Rejected, Refused as RefusedStatus, RunFault, Stopped, ReadFault, WriteFault, OutOfMemory, Usage}
 use Rattle.jn_command.specs.declared.output.Output.{Output}
-use Rattle.nullcheck_top.specs.Asked.{Asked, usage_line}
+use Rattle.jn_asked.specs.Asked.{Asked, usage_line}
 use Rattle.jn_command.specs.Made.{front_of, made_line, made_text}
 use Rattle.jn_command.specs.declared.noted.Noted.{Noted}
 use Rattle.jn_command.specs.declared.report.Report.{Report}

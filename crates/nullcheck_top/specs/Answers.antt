@@ -1,7 +1,7 @@
 -- What an answer says, by the report, its notes, the safety and the runs of files.
 use Rattle.std.specs.Prelude.{ℕ, ◌≡◌, true, List, Option, Some, None}
 use Rattle.jn_command.specs.declared.status.Status.{Status}
-use Rattle.nullcheck_top.specs.Asked.{Asked}
+use Rattle.jn_asked.specs.Asked.{Asked}
 use Rattle.jn_command.specs.Answer.{Reading}
 use Rattle.nullcheck_top.specs.CommandAnswer.{Answers as CommandAnswers, AnswersFiles as CommandAnswersFiles, Completes as CommandCompletes, Safe as CommandSafe}
 use Rattle.jn_front.specs.declared.source.SourceFile.{SourceFile}

@@ -6,7 +6,7 @@ use Rattle.jn_outside.specs.Sink.{Appends}
 use Rattle.jn_command.specs.declared.status.Status.{Status}
 use Rattle.jn_command.specs.declared.status.Status.TheVariants.{Ok, OutOfMemory, Usage}
 use Rattle.jn_base.specs.declared.infer.Infer.{Infer}
-use Rattle.nullcheck_top.specs.Asked.{Asked, usage_line}
+use Rattle.jn_asked.specs.Asked.{Asked, usage_line}
 use Rattle.jn_command.specs.Made.{front_of, made_file, made_text}
 use Rattle.jn_front.specs.declared.source.SourceFile.{SourceFile}
 use Rattle.jn_front.specs.Files.{most_files, StartsOnly, AllHeld}

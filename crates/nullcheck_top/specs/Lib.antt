@@ -1,4 +1,3 @@
-pub mod Asked
 pub mod CommandAnswer
 pub mod Report
 pub mod Found

@@ -5,7 +5,7 @@ ghost use Rattle.jn_outside.specs.Causes.{Rose};
 ghost use Rattle.jn_base.specs.declared.place.Row.{Row as SpecRow};
 ghost use Rattle.jn_places.specs.PlacedView.{placed_file};
 ghost use Rattle.jn_command.specs.declared.report.Report.TheVariants.{Checked, Refused};
-ghost use Rattle.nullcheck_top.specs.Asked.{asked_with};
+ghost use Rattle.jn_asked.specs.Asked.{asked_with};
 ghost use Rattle.jn_command.specs.Answer.{reading};
 ghost use Rattle.nullcheck_top.specs.CommandAnswer.{HoldsFiles, ReadsNothing, Starts};
 ghost use Rattle.jn_command.specs.Made.{front_of, made_file, made_text};

@@ -2,7 +2,6 @@
 #![tactic(auto)]
 
 mod answers;
-pub mod asked;
 pub mod check;
 pub mod found;
 pub mod law;

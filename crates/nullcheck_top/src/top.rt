@@ -2,7 +2,7 @@
 ghost use Rattle.std.specs.Prelude.{◌≡◌, ◌≢◌, ◌<◌, map};
 ghost use Rattle.std.specs.String.{string_bytes};
 ghost use Rattle.jn_outside.specs.Causes.{Rose};
-ghost use Rattle.nullcheck_top.specs.Asked.{asked_of};
+ghost use Rattle.jn_asked.specs.Asked.{asked_of};
 ghost use Rattle.jn_command.specs.Answer.{reading};
 ghost use Rattle.nullcheck_top.specs.CommandAnswer.{HoldsFiles, ReadsNothing, Starts};
 ghost use Rattle.jn_command.specs.Status.{IsAcceptance};
@@ -11,7 +11,7 @@ ghost use Rattle.nullcheck_top.specs.Answers.{Answers, AsksRun, Completes, Safe}
 use crate::answers::answer_command;
 use jn_base::Fail;
 use jn_command::Status;
-use crate::asked::{Asked, read_asked};
+use jn_asked::{Asked, read_asked};
 use jn_command::output::finish;
 use jn_outside::{Files, Sink};
 use jn_reporters::Reporter;

@@ -1,6 +1,6 @@
 use Rattle.std.proofs.Common.{List, [], map, sym, subst}
 use Rattle.std.proofs.lemmas.Result.{IfOk-weaker}
-use Rattle.nullcheck_top.specs.Asked.{asked_with}
+use Rattle.jn_asked.specs.Asked.{asked_with}
 use Rattle.jn_run.specs.Main.{Answers as RunAnswers}
 use Rattle.jn_trees.specs.declared.declaration.FileTree.{FileTree}
 use Rattle.jn_places.specs.PlacedView.{placed_file}

@@ -1,5 +1,5 @@
 use Rattle.std.proofs.Common.{[], ◌∷◌}
-use Rattle.nullcheck_top.specs.Asked.{asked_with}
+use Rattle.jn_asked.specs.Asked.{asked_with}
 use Rattle.jn_command.specs.Answer.{reading}
 use Rattle.jn_command.specs.Made.{made_file, made_text}
 use Rattle.jn_report.specs.Report.{IsReport}

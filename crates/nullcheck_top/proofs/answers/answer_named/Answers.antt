@@ -1,7 +1,7 @@
 use Rattle.std.proofs.Common.{map, refl, sym, subst}
 use Rattle.std.specs.Prelude.{string_bytes}
 use Rattle.jn_front.specs.Files.{ReadFrom}
-use Rattle.nullcheck_top.specs.Asked.{asked_with}
+use Rattle.jn_asked.specs.Asked.{asked_with}
 use Rattle.jn_command.specs.Answer.{reading}
 use Rattle.nullcheck_top.proofs.Answering.{checked_many, checked_read, many_answers, many_written}
 use Rattle.nullcheck_top.proofs.Written.{files_named, never_read, no_fault, of_files, starts_none}

@@ -1,6 +1,6 @@
 use Rattle.std.proofs.Common.{sym, subst}
 use Rattle.jn_command.specs.Answer.{reading}
-use Rattle.nullcheck_top.proofs.Asking.{by_refused}
+use Rattle.jn_asked.proofs.Asking.{by_refused}
 use Rattle.nullcheck_top.specs.Answers.{Answers}
 use Rattle.jn_report.specs.Report.{IsReport}
 use Rattle.jn_safe_files.specs.Safe.{IsSafe}

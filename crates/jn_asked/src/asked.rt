@@ -2,7 +2,7 @@
 ghost use Rattle.std.specs.Prelude.{◌≡◌, ◌≤◌, map, None, Some, IfOk, OnOk};
 ghost use Rattle.std.specs.String.{string_bytes};
 ghost use Rattle.jn_cli.specs.Refused.{IfRefused};
-ghost use Rattle.nullcheck_top.specs.Asked.{asked_of, asked_with, linked_with};
+ghost use Rattle.jn_asked.specs.Asked.{asked_of, asked_with, linked_with};
 
 use jn_base::{Fail, OutOfMemory, Text};
 use jn_cli::{Command, Usage, read_words};
@@ -53,9 +53,8 @@ pub fn read_asked(
 }
 
 /// The reporter, which is told where codes are explained, if that is known.
-fn linked(reporter: Chosen, address: &Option<Text>) -> Result<Chosen, OutOfMemory>
-    ensures { IfOk result (λ told. form told.reporter
-        ≡ linked_with address.now (form reporter.reporter)) }
+fn linked<P: Reporter>(reporter: P, address: &Option<Text>) -> Result<P, OutOfMemory>
+    ensures { IfOk result (λ told. P.form told ≡ linked_with address.now (P.form reporter)) }
 {
     let mut told = reporter;
     link(&mut told, address)?;
@@ -63,9 +62,8 @@ fn linked(reporter: Chosen, address: &Option<Text>) -> Result<Chosen, OutOfMemor
 }
 
 /// Tells the reporter where codes are explained, if that is known.
-fn link(reporter: &mut Chosen, address: &Option<Text>) -> Result<(), OutOfMemory>
-    ensures { OnOk result
-        (form reporter.new.reporter ≡ linked_with address.now (form reporter.old.reporter)) }
+fn link<P: Reporter>(reporter: &mut P, address: &Option<Text>) -> Result<(), OutOfMemory>
+    ensures { OnOk result (P.form reporter.new ≡ linked_with address.now (P.form reporter.old)) }
 {
     match address {
         None => Ok(()),

@@ -6,7 +6,7 @@ use Rattle.jn_base.specs.declared.refusal.Fail.TheVariants.{Refused}
 use Rattle.jn_cli.specs.Refused.{IfRefused}
 use Rattle.jn_cli.specs.declared.command.Command.{Command}
 use Rattle.jn_cli.specs.Words.{command_of, is_usage, options_of}
-use Rattle.nullcheck_top.specs.Asked.{asked_by, asked_of, asked_with, linked_with, shown_by}
+use Rattle.jn_asked.specs.Asked.{asked_by, asked_of, asked_with, linked_with, shown_by}
 use Rattle.jn_command.specs.Reporters.{first_named}
 use Rattle.jn_reporters.specs.Forms.{Form}
 

@@ -1,9 +1,9 @@
 use Rattle.std.proofs.Common.{map, Some, ap, sym, ◌∙◌}
 use Rattle.std.specs.Prelude.{string_bytes}
-use Rattle.nullcheck_top.specs.Asked.{asked_with}
+use Rattle.jn_asked.specs.Asked.{asked_with}
 use Rattle.jn_reporters.specs.Forms.{Form}
-use Rattle.nullcheck_top.proofs.Asking.{by_refused, words_refused, name_refused, words_taken}
-use Rattle.nullcheck_top.proofs.asked.read_asked.Goals as goal
+use Rattle.jn_asked.proofs.Asking.{by_refused, words_refused, name_refused, words_taken}
+use Rattle.jn_asked.proofs.asked.read_asked.Goals as goal
 
 pub returns-in-Err-Refused-clause-usage : goal.returns-in-Err-Refused-clause-usage
 returns-in-Err-Refused-clause-usage g c = words_refused _ (map string_bytes c.args.words.now) (by_refused c.in-Err-Refused.field-0 _ c.in-Err-Refused.field-0-is c.in-Err-Refused.ensures.usage)
