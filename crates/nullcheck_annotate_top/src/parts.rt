@@ -20,8 +20,8 @@ pub enum Part {
 fn parameter_with(slot: u32, slots: &[Option<SlotNo>]) -> Option<usize>
     ensures { result ≡ spec.parameter_with slot 0 slots.now }
 {
-    for at in 0..slots.len() {
-        if is_slot(slot, slots[at]) {
+    for (at, has) in slots.iter().enumerate() {
+        if is_slot(slot, *has) {
             return Some(at);
         }
     }

@@ -32,6 +32,6 @@ returns-in-Err-Refused c =
     let s = c.args.sig.now in
     let fault = c.in-Err-Refused.fault in
     let why = subst (λ f. IsWhyRefused c.args.imports c.args.base.now s texts tokens views f) c.in-Err-Refused.field-0-is (subst (λ P. IsWhyRefused c.args.imports P s texts tokens views c.in-Err-Refused.field-0) c.program.ensures.is c.in-Err-Refused.ensures.refused) in
-    unannotated c.args.infer c.args.imports (files_of_reads c.args.reads.now) c.args.names.now c.args.base.now s texts tokens c.args.trees.now c.places_are_forgotten.ensures.view p.0 p.1 p.2 c.requires.texts c.requires.least fault c.fault_part.result c.fault_span.result why
-    (c.fault_span.ensures ∙ ap (λ P. fault_span P fault) c.program-in-Err-Refused.ensures.is)
-    (c.fault_part.ensures ∙ ap (λ P. fault_part P fault) c.program-in-Err-Refused.ensures.is)
+    unannotated c.args.infer c.args.imports (files_of_reads c.args.reads.now) c.args.names.now c.args.base.now s texts tokens c.args.trees.now c.places_are_forgotten.ensures.view p.0 p.1 p.2 c.requires.texts c.requires.least fault c.fault_part-part.result c.fault_span.result why
+    (c.fault_span.ensures ∙ ap (λ P. fault_span P fault) c.program-program.ensures.is)
+    (c.fault_part-part.ensures ∙ ap (λ P. fault_part P fault) c.program-program.ensures.is)
