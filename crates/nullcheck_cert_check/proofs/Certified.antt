@@ -9,7 +9,6 @@ use Rattle.jn_places.specs.Placed.{PlacedFile}
 use Rattle.jn_quals.specs.Qualifier.{Qualifier}
 use Rattle.jn_points.specs.declared.program.Program.{Program}
 use Rattle.jn_program.specs.Lowered.{IsProgram}
-use Rattle.jn_cert_form.specs.Counted.{IsCounted}
 use Rattle.jn_cert_law.specs.Certificate.{CertHolds}
 use Rattle.jn_cert_judge.specs.declared.fault.CertFault.{CertFault}
 use Rattle.jn_cert.specs.Checking.{IsCertified, IsWhyRefused}

@@ -1,6 +1,5 @@
 use Rattle.std.proofs.Common.{map, subst}
 use Rattle.jn_places.specs.PlacedView.{placed_file}
-use Rattle.jn_front.specs.Files.{files_of_reads}
 use Rattle.nullcheck_cert_check.proofs.Certified.{IsTypedAll, IsWhole, found_all, found_stands, found_whole, program_read}
 use Rattle.nullcheck_cert_check.proofs.certifying.verdict_of.Goals as goal
 
