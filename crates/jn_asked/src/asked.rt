@@ -4,9 +4,9 @@ ghost use Rattle.std.specs.String.{string_bytes};
 ghost use Rattle.jn_cli.specs.Refused.{IfRefused};
 ghost use Rattle.jn_asked.specs.Asked.{asked_of, asked_with, linked_with};
 
+use crate::choose::{Chosen, choose};
 use jn_base::{Fail, OutOfMemory, Text};
 use jn_cli::{Command, Usage, read_words};
-use jn_command::choose::{Chosen, choose};
 use jn_reporters::Reporter;
 use std::alloc::Global;
 
@@ -53,8 +53,9 @@ pub fn read_asked(
 }
 
 /// The reporter, which is told where codes are explained, if that is known.
-fn linked<P: Reporter>(reporter: P, address: &Option<Text>) -> Result<P, OutOfMemory>
-    ensures { IfOk result (λ told. P.form told ≡ linked_with address.now (P.form reporter)) }
+fn linked(reporter: Chosen, address: &Option<Text>) -> Result<Chosen, OutOfMemory>
+    ensures { IfOk result (λ told. form told.reporter
+        ≡ linked_with address.now (form reporter.reporter)) }
 {
     let mut told = reporter;
     link(&mut told, address)?;
@@ -62,8 +63,9 @@ fn linked<P: Reporter>(reporter: P, address: &Option<Text>) -> Result<P, OutOfMe
 }
 
 /// Tells the reporter where codes are explained, if that is known.
-fn link<P: Reporter>(reporter: &mut P, address: &Option<Text>) -> Result<(), OutOfMemory>
-    ensures { OnOk result (P.form reporter.new ≡ linked_with address.now (P.form reporter.old)) }
+fn link(reporter: &mut Chosen, address: &Option<Text>) -> Result<(), OutOfMemory>
+    ensures { OnOk result
+        (form reporter.new.reporter ≡ linked_with address.now (form reporter.old.reporter)) }
 {
     match address {
         None => Ok(()),

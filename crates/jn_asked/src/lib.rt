@@ -4,5 +4,6 @@
 #![tactic(auto)]
 
 pub mod asked;
+pub mod choose;
 
 pub use asked::{Asked, read_asked};

@@ -24,6 +24,6 @@ answer_checked-status-requires-clause-whole g c =
 
 pub answer_checked-status-requires-clause-trees : goal.answer_checked-status-requires-clause-trees
 answer_checked-status-requires-clause-trees g c = elim c.if-drops.branch [
-  | then-drops w ↦ λ rows is. absurd (c.drops_trees-drops.ensures w.true rows (ap (λ (k : CheckedFiles). k.found.report) (sym w.checked-is) ∙ is))
+  | then-drops w ↦ λ rows is. absurd (c.drops_trees-drops.ensures w.if-drops.true rows (ap (λ (k : CheckedFiles). k.found.report) (sym w.checked-is) ∙ is))
   | else-drops w ↦ subst (λ (k : CheckedFiles). AreAtHand c.args.reads.now k.found.report k.names (map placed_file k.trees.items)) (sym w.checked-is) c.in-Ok.ensures.trees
 ]

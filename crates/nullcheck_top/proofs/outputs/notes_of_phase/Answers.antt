@@ -4,8 +4,8 @@ use Rattle.jn_places.specs.PlacedView.{placed_file}
 use Rattle.nullcheck_top.proofs.Stopping.{by_texts, by_trees}
 use Rattle.nullcheck_top.proofs.outputs.notes_of_phase.Goals as goal
 
-pub returns-then-names-eq0 : goal.returns-then-names-eq0
-returns-then-names-eq0 c = by_texts (files_of_reads c.args.reads.now) (map placed_file c.args.trees.now) c.args.rows.now c.args.names.now c.notes_of_texts.result (sym c.len.ensures ∙ c.if-names-eq0.true) c.notes_of_texts.ensures
+pub returns-then-len-eq0 : goal.returns-then-len-eq0
+returns-then-len-eq0 c = by_texts (files_of_reads c.args.reads.now) (map placed_file c.args.trees.now) c.args.rows.now c.args.names.now c.notes_of_texts.result (sym c.len.ensures ∙ c.if-len-eq0.true) c.notes_of_texts.ensures
 
-pub returns-else-names-eq0 : goal.returns-else-names-eq0
-returns-else-names-eq0 c = by_trees (files_of_reads c.args.reads.now) (map placed_file c.args.trees.now) c.args.rows.now c.args.names.now c.notes_of_trees.result (λ none. c.if-names-eq0.false (c.len.ensures ∙ none)) c.notes_of_trees.ensures
+pub returns-else-len-eq0 : goal.returns-else-len-eq0
+returns-else-len-eq0 c = by_trees (files_of_reads c.args.reads.now) (map placed_file c.args.trees.now) c.args.rows.now c.args.names.now c.notes_of_trees.result (λ none. c.if-len-eq0.false (c.len.ensures ∙ none)) c.notes_of_trees.ensures
