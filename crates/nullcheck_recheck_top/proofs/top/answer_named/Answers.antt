@@ -1,10 +1,17 @@
-use Rattle.std.proofs.Common.{ap, inl, inr, refl, ◌∙◌, sym, subst, Err, List, ℕ}
+use Rattle.std.specs.Prelude.{IfOk}
+use Rattle.std.proofs.Common.{◌≡◌, ap, inl, inr, refl, ◌∙◌, sym, subst, Err, List, ℕ}
 use Rattle.jn_base.specs.declared.refusal.Fail.{Fail}
+use borrow.Enum.Total.{values_d}
+use Rattle.jn_base.specs.contracts.refusal.Fail as fail
+use Rattle.jn_outside.specs.contracts.files.ReadFail as read_fail
+use Rattle.jn_outside.specs.declared.files.ReadFail.{ReadFail}
+use Rattle.jn_outside.specs.declared.files.ReadFail.TheVariants.{Failed, TooLarge}
 use Rattle.jn_script.specs.Telling.{IfRefused}
 use Rattle.jn_base.specs.declared.refusal.Fail.TheVariants.{Refused as RefusedFail}
 use Rattle.jn_command.specs.Answer.{reading}
 use Rattle.jn_script.specs.Script.{IsFirstBad, IsScript}
 use Rattle.jn_script.specs.declared.step.Step.{Step}
+use Rattle.nullcheck_recheck_top.specs.Answer.{bad_line}
 use Rattle.nullcheck_recheck_top.specs.Stepping.{CarriesOut, world}
 use Rattle.nullcheck_recheck_top.proofs.Answering.{bad_answers, script_answers, small_given}
 use Rattle.nullcheck_recheck_top.proofs.Starting.{starts_steps}
@@ -14,7 +21,8 @@ use Rattle.nullcheck_recheck_top.proofs.top.answer_named.Goals as goal
 pub returns-in-Err-Refused-TooLarge-clause-answer : goal.returns-in-Err-Refused-TooLarge-clause-answer
 returns-in-Err-Refused-TooLarge-clause-answer g c =
     let w = c.in-Err-Refused-TooLarge in
-    let e = w.is ∙ ap Err (w.field-0-is ∙ ap RefusedFail w.field-0-0-is) in
+    let large = subst (λ (f : Fail ReadFail). (values_d (fail.enum read_fail.the_row) 0 (Failed, tt {0}) f).0 ≡ TooLarge) w.field-0-is w.field-0-0-is in
+    let e = w.is ∙ ap Err (w.field-0-is ∙ ap RefusedFail large) in
     let before = g.F.Files.gave c.args.files.now in
     let now = g.F.Files.gave c.read_whole.new.files in
     let held = g.F.Files.held c.args.files.now in
@@ -41,7 +49,8 @@ returns-in-Err-Refused-clause-answer g c =
     let w = c.in-Err-Refused in
     let first = subst (λ (f : Fail ℕ). IfRefused f (IsFirstBad c.deref.result.now)) w.field-0-is w.ensures.bad in
     let bad = subst (λ (bs : List ℕ). IsFirstBad bs w.line) c.deref.ensures.value first in
-    bad_answers c.args.infer (reading held before now) c.args.name.now c.in-Ok.script.items (g.K.Sink.written c.args.out.now) (g.K.Sink.written c.write-in-Err-Refused.new.out) c.bad_output-in-Err-Refused.result (g.K.Sink.faults c.args.out.now) (g.K.Sink.faults c.write-in-Err-Refused.new.out) c.write-in-Err-Refused.result w.line c.in-Ok.ensures.ok.0 (small_given c.args.name.now c.in-Ok.script.items before now c.in-Ok.ensures.ok.1 c.in-Ok.ensures.gave) (inl (c.in-Ok.ensures.ok.1, bad)) c.bad_output-in-Err-Refused.ensures.status c.bad_output-in-Err-Refused.ensures.bytes c.write-in-Err-Refused.ensures
+    let text = subst (λ (line : ℕ). IfOk c.bad_output-in-Err-Refused.result (λ o. o.bytes ≡ bad_line c.args.name.now line)) w.line-is c.bad_output-in-Err-Refused.ensures.bytes in
+    bad_answers c.args.infer (reading held before now) c.args.name.now c.in-Ok.script.items (g.K.Sink.written c.args.out.now) (g.K.Sink.written c.write-in-Err-Refused.new.out) c.bad_output-in-Err-Refused.result (g.K.Sink.faults c.args.out.now) (g.K.Sink.faults c.write-in-Err-Refused.new.out) c.write-in-Err-Refused.result w.line c.in-Ok.ensures.ok.0 (small_given c.args.name.now c.in-Ok.script.items before now c.in-Ok.ensures.ok.1 c.in-Ok.ensures.gave) (inl (c.in-Ok.ensures.ok.1, bad)) c.bad_output-in-Err-Refused.ensures.status text c.write-in-Err-Refused.ensures
 
 pub returns-in-Ok-read_script-clause-starts : goal.returns-in-Ok-read_script-clause-starts
 returns-in-Ok-read_script-clause-starts g c =
