@@ -1,12 +1,12 @@
 -- The numbers of a command lie in the ranges of their options.
-use Rattle.std.proofs.Common.{◌≡◌, ℕ, ◌≤◌, Bool, true, false, List, Option, Some, None, refl, sym, subst, arith}
+use Rattle.std.proofs.Common.{◌≡◌, ◌∙◌, ℕ, ◌≤◌, Bool, true, false, List, Option, Some, None, refl, sym, ap, subst, arith}
 use Rattle.std.specs.Prelude.{◌&&◌, ◌||◌, not, nat_le, unwrap_or}
 use Rattle.std.specs.Option.{option_map_or}
 use Rattle.std.proofs.lemmas.Bool.Decides.{nat_tests}
 use Rattle.jn_cli.specs.declared.command.Command.{Command}
 use Rattle.jn_cli.specs.declared.options.Options.{Options}
 use Rattle.jn_cli.specs.Tables.{is_chosen}
-use Rattle.jn_cli.specs.Words.{are_refused, command_of, fits, is_address, is_bad_mix, is_report, is_within, number_of, number_or}
+use Rattle.jn_cli.specs.Words.{are_refused, command_of, fits, has_bad_value, is_address, is_bad_mix, is_report, is_within, number_of, number_or}
 
 no_flag : true ≡ false → ⊥
 no_flag e = cc

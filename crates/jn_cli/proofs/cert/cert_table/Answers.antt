@@ -1,4 +1,4 @@
-use Rattle.std.proofs.Common.{◌≡◌, [], ◌∷◌, codes, map, rules}
+use Rattle.std.proofs.Common.{◌≡◌, ℕ, List, [], ◌∷◌, codes, map, rules}
 use Rattle.jn_cli.specs.Tables.{app_with, table}
 use Rattle.jn_cli.specs.Cert.{cert_app}
 use Rattle.jn_cli.proofs.cert.cert_table.Goals as goal
