@@ -9,9 +9,9 @@ ghost use Rattle.jn_command.specs.Status.{IsAcceptance};
 ghost use Rattle.nullcheck_top.specs.Answers.{Answers, AsksRun, Completes, Safe};
 
 use crate::answers::answer_command;
+use jn_asked::{Asked, read_asked};
 use jn_base::Fail;
 use jn_command::Status;
-use jn_asked::{Asked, read_asked};
 use jn_command::output::finish;
 use jn_outside::{Files, Sink};
 use jn_reporters::Reporter;
