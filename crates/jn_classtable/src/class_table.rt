@@ -5,7 +5,7 @@ ghost use Rattle.jn_index.specs.Index.{IsIndex};
 ghost use Rattle.jn_heads.specs.Heads.{all_heads};
 ghost use Rattle.jn_classtable.specs.Table.{bodies_of_all, program_with, table};
 ghost use Rattle.jn_classtable.specs.Rows.{called, t_rows};
-ghost use Rattle.jn_declaration_rules.specs.Sizes.{ParamsFit};
+ghost use Rattle.jn_index.specs.Sizes.{ParamsFit};
 ghost use Rattle.jn_classtable.specs.RegularTable.{RegularTable};
 ghost use Rattle.jn_classtable.specs.Built.{IsTable};
 

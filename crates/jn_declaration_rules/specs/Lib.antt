@@ -2,4 +2,3 @@ pub mod Hidden
 pub mod Listed
 pub mod Ranks
 pub mod Rows
-pub mod Sizes

@@ -6,7 +6,7 @@ ghost use Rattle.jn_points.specs.declared.program.Field.{Field as FieldOf};
 ghost use Rattle.jn_points.specs.declared.program.Method.{Method as MethodOf};
 ghost use Rattle.jn_points.specs.Lookup.{method_at};
 ghost use Rattle.jn_points.specs.Members as members;
-ghost use Rattle.jn_declaration_rules.specs.Sizes.{ParamsFit};
+ghost use Rattle.jn_index.specs.Sizes.{ParamsFit};
 ghost use Rattle.jn_declaration_rules.specs.Rows as spec;
 
 use crate::rows::push_if;

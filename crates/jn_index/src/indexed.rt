@@ -1,16 +1,19 @@
 //! A program with an index of it.
-ghost use Rattle.std.specs.Prelude.{◌≡◌, IfOk, IfSome};
+ghost use Rattle.std.specs.Prelude.{◌≡◌, IfOk, IfSome, MatchOption};
 ghost use Rattle.jn_points.specs.Members.{fits};
 ghost use Rattle.jn_index.specs.Index.{IsIndex};
+ghost use Rattle.jn_index.specs.Sizes.{Few};
 
 use crate::index::Index;
+use crate::sizes::is_counted;
 use crate::{fits, law};
 use jn_base::Seq;
 use jn_points::{BaseType, Body, Program, SlotInfo};
 use std::alloc::{AllocError, Global};
 use std::marker::Model;
 
-/// A program, with an index of it where there is one. Contracts see the program.
+/// A program whose classes, fields, methods and parameters have numbers of 32 bits, with an index of it where there is one. Contracts see
+/// the program.
 #[derive(Drop)]
 pub struct IndexedProgram {
     program: Program,
@@ -18,32 +21,37 @@ pub struct IndexedProgram {
 }
 
 impl Model for IndexedProgram {
-    ghost use Rattle.std.specs.Prelude.{IfSome};
     ghost use Rattle.jn_points.specs.declared.program.Program.{Program as ProgramOf};
-    ghost use Rattle.jn_index.specs.Index.{IsIndex};
+    ghost use Rattle.jn_index.specs.Indexed.{IsIndexed};
 
     ghost Value = { ProgramOf };
 
     ghost view = { λ p. p.program };
 
-    ghost invariant = { λ p. IfSome p.index (λ i. IsIndex p.program i) };
+    ghost invariant = { λ p. IsIndexed p.program p.index };
 }
 
 impl IndexedProgram {
-    /// Makes the index of a program. Where the program has none (see `Index::new`), its lists are all there is to search.
+    /// Makes the index of a program. Where the program has none (see `Index::new`), its lists are all there is to search. There is no
+    /// indexed program only where numbers of 32 bits aren't enough.
     ///
     /// # Errors
     /// No memory was found.
-    pub fn new(alloc: Global, program: Program) -> Result<IndexedProgram, AllocError>
-        ensures { IfOk result (λ p. p ≡ program) }
+    pub fn new(alloc: Global, program: Program) -> Result<Option<IndexedProgram>, AllocError>
+        ensures is { IfOk result (λ o. IfSome o (λ p. p ≡ program)) }
+        ensures none { IfOk result (λ o. MatchOption o (Few program → ⊥) (λ p. Unit {0})) }
     {
+        if !is_counted(&program) {
+            return Ok(None);
+        }
         let index = Index::new(alloc, &program)?;
-        Ok(IndexedProgram { program, index })
+        Ok(Some(IndexedProgram { program, index }))
     }
 
     /// A program with an index that was made before.
     pub fn of(program: Program, index: Option<Index>) -> IndexedProgram
-        requires { IfSome index (λ i. IsIndex program i) }
+        requires few { Few program }
+        requires index { IfSome index (λ i. IsIndex program i) }
         ensures { result ≡ program }
     {
         IndexedProgram { program, index }
@@ -83,6 +91,13 @@ impl IndexedProgram {
             program: law::with_slots(program, slots),
             index,
         }
+    }
+
+    /// What holds of every indexed program: numbers of 32 bits are enough for its classes, fields, methods and parameters.
+    pub fn facts(&self)
+        ensures { Few self.now }
+    {
+        let _program = &self.program;
     }
 
     /// The program.

@@ -4,7 +4,7 @@ ghost use Rattle.jn_places.specs.PlacedView.{placed_view};
 ghost use Rattle.jn_lowering.specs.Calls as call;
 ghost use Rattle.jn_lowering.specs.Expressions as expressions;
 ghost use Rattle.jn_lowering.specs.Temporaries.{Temporaries as temporaries};
-ghost use Rattle.jn_scopes.specs.Views.{Few, access_of, meaning_of, scope_in};
+ghost use Rattle.jn_scopes.specs.Views.{access_of, meaning_of, scope_in};
 ghost use Rattle.jn_lower_expr.specs.Lowering.{ContinuesTest, reg_of};
 
 use crate::emitter::{Emitter, put};
@@ -18,7 +18,6 @@ use jn_trees::{BinaryOperator, Expr};
 
 /// The register of `this`, a parameter or a local.
 fn register_of(tree: &Expr, c: &Context) -> Option<RegNo>
-    requires few { Few c.now.program.now }
     ensures { reg_of result
         ≡ expressions.register_of c.now.program.now c.now.class.0 (scope_in c.now)
         (placed_view tree.now) }
@@ -67,7 +66,6 @@ fn access_origin(c: &Context, reg: RegNo, access: Access) -> Option<Origin>
 
 /// The field of which something is learnt from a test of the expression: one that is read through `this`, a parameter or a local.
 pub fn origin_of(tree: &Expr, c: &Context) -> Option<Origin>
-    requires few { Few c.now.program.now }
     ensures { result
         ≡ expressions.origin_of c.now.program.now c.now.class.0 (scope_in c.now)
         (placed_view tree.now) }

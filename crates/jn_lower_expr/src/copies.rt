@@ -2,7 +2,7 @@
 ghost use Rattle.std.specs.Prelude.{◌≡◌, ◌&&◌, ◌||◌, ltb};
 ghost use Rattle.jn_places.specs.PlacedView.{placed_view, placed_views};
 ghost use Rattle.jn_lowering.specs.Expressions as expressions;
-ghost use Rattle.jn_scopes.specs.Views.{Few, scope_in};
+ghost use Rattle.jn_scopes.specs.Views.{scope_in};
 ghost use Rattle.jn_lower_expr.specs.Lowering.{later_in, later_of};
 
 use jn_points::Operand;
@@ -11,7 +11,6 @@ use jn_scopes::assigns::{assigns, assigns_any};
 use jn_trees::Expr;
 
 fn is_later(c: &Context, later: Option<&Expr>, reg: u32) -> bool
-    requires few { Few c.now.program.now }
     ensures { result ≡ later_of c.now later.entry reg }
 {
     match later {
@@ -22,7 +21,6 @@ fn is_later(c: &Context, later: Option<&Expr>, reg: u32) -> bool
 
 /// Where this expression follows, or none.
 pub fn copied(c: &Context, later: Option<&Expr>, value: Operand) -> bool
-    requires few { Few c.now.program.now }
     ensures { result ≡ (ltb value.reg.0 c.now.first && later_of c.now later.entry value.reg.0) }
 {
     value.reg.0 < c.first && is_later(c, later, value.reg.0)
@@ -30,7 +28,6 @@ pub fn copied(c: &Context, later: Option<&Expr>, value: Operand) -> bool
 
 /// Where the expression follows.
 pub fn copied_by(c: &Context, next: &Expr, value: Operand) -> bool
-    requires few { Few c.now.program.now }
     ensures { result
         ≡ (ltb value.reg.0 c.now.first
         && expressions.assigns c.now.program.now c.now.class.0 (scope_in c.now) value.reg.0
@@ -41,7 +38,6 @@ pub fn copied_by(c: &Context, next: &Expr, value: Operand) -> bool
 
 /// Where the expression follows, and then another or none.
 pub fn copied_by_either(c: &Context, next: &Expr, later: Option<&Expr>, value: Operand) -> bool
-    requires few { Few c.now.program.now }
     ensures { result
         ≡ (ltb value.reg.0 c.now.first
         && (expressions.assigns c.now.program.now c.now.class.0 (scope_in c.now) value.reg.0
@@ -53,7 +49,6 @@ pub fn copied_by_either(c: &Context, next: &Expr, later: Option<&Expr>, value: O
 
 /// Where these expressions follow.
 pub fn copied_before(c: &Context, rest: &[Expr], value: Operand) -> bool
-    requires few { Few c.now.program.now }
     ensures { result
         ≡ (ltb value.reg.0 c.now.first && later_in c.now (placed_views rest.now) value.reg.0) }
 {

@@ -1,7 +1,7 @@
 //! Groups of forms.
 ghost use Rattle.std.specs.Prelude.{◌≡◌};
 ghost use Rattle.jn_places.specs.PlacedView.{placed_view};
-ghost use Rattle.jn_scopes.specs.Views.{Few, meaning_of};
+ghost use Rattle.jn_scopes.specs.Views.{meaning_of};
 ghost use Rattle.jn_lower_expr.specs.Lowering as spec;
 
 use jn_base::{FieldNo, MethodNo, NameNo};
@@ -103,7 +103,6 @@ pub fn is_true(literal: Literal) -> bool
 /// The method that a class before a dot has.
 #[tactic(auto, using(crate::proofs::Naming::numbered))]
 pub fn class_method(c: &Context, before: Meaning, name: NameNo, arity: usize) -> Option<MethodNo>
-    requires few { Few c.now.program.now }
     ensures { spec.number_of result
         ≡ spec.class_method c.now.program.now (meaning_of c.now.faults.now before) name.0 arity }
 {
@@ -116,7 +115,6 @@ pub fn class_method(c: &Context, before: Meaning, name: NameNo, arity: usize) ->
 /// The field that a class before a dot has.
 #[tactic(auto, using(crate::proofs::Naming::field_numbered))]
 pub fn class_field(c: &Context, before: Meaning, name: NameNo) -> Option<FieldNo>
-    requires few { Few c.now.program.now }
     ensures { spec.field_number result
         ≡ spec.class_field c.now.program.now (meaning_of c.now.faults.now before) name.0 }
 {

@@ -7,7 +7,6 @@ ghost use Rattle.jn_lowering.specs.Annotations as annotated;
 ghost use Rattle.jn_lowering.specs.Bodies as bodies;
 ghost use Rattle.jn_lowering.specs.BodyRows as spec;
 ghost use Rattle.jn_lowering.specs.Locals.{State};
-ghost use Rattle.jn_scopes.specs.Views.{Few};
 ghost use Rattle.jn_lower_rows.specs.Views.{setting_of};
 ghost use Rattle.jn_lower_rows.specs.Standing.{Stands};
 
@@ -34,7 +33,6 @@ fn ctor_call(
     span: Span,
     rows: &mut Seq<Row>,
 ) -> Result<(), AllocError>
-    requires few { Few whole.now.program.now }
     ensures { OnOk result ((st : State) → Stands st names.now
         → rows.new
         ≡ rows.old
@@ -49,7 +47,6 @@ fn ctor_call(
 
 /// `super()` where neither is written (JLS 8.8.7).
 fn unwritten_call(whole: &Whole, names: &Names, rows: &mut Seq<Row>) -> Result<(), AllocError>
-    requires few { Few whole.now.program.now }
     ensures { OnOk result ((st : State) → Stands st names.now
         → rows.new
         ≡ rows.old
@@ -76,7 +73,6 @@ fn begin_rows(
     first: &Stmt,
     rows: &mut Seq<Row>,
 ) -> Result<(), AllocError>
-    requires few { Few whole.now.program.now }
     ensures { OnOk result ((st : State) (more : PlacedStatements) → Stands st names.now
         → rows.new
         ≡ rows.old
@@ -104,7 +100,6 @@ fn construction(
     body: &[Stmt],
     rows: &mut Seq<Row>,
 ) -> Result<(), AllocError>
-    requires few { Few whole.now.program.now }
     ensures { OnOk result ((st : State) → Stands st names.now
         → rows.new
         ≡ rows.old
@@ -146,7 +141,6 @@ fn before_statements(
     members: &[Member],
     rows: &mut Seq<Row>,
 ) -> Result<(), AllocError>
-    requires few { Few whole.now.program.now }
     ensures { OnOk result ((st : State) → Stands st names.now
         → rows.new
         ≡ rows.old
@@ -171,7 +165,6 @@ fn constructed(
     members: &[Member],
     rows: &mut Seq<Row>,
 ) -> Result<(), AllocError>
-    requires few { Few whole.now.program.now }
     ensures { OnOk result ((st : State) → Stands st names.now
         → rows.new
         ≡ rows.old
@@ -213,7 +206,6 @@ pub fn body_rows(
     members: &[Member],
     rows: &mut Seq<Row>,
 ) -> Result<(), AllocError>
-    requires few { Few program.now }
     ensures { OnOk result (rows.new
         ≡ rows.old
         ++ spec.rows_of_source program.now (record {

@@ -6,7 +6,6 @@ ghost use Rattle.jn_points.specs.Members as members;
 ghost use Rattle.jn_lowering.specs.Annotations as annotated;
 ghost use Rattle.jn_lowering.specs.ExpressionRows as spec;
 ghost use Rattle.jn_lowering.specs.Scopes.{super_method};
-ghost use Rattle.jn_scopes.specs.Views.{Few};
 ghost use Rattle.jn_lower_rows.specs.Views.{setting_of};
 
 use crate::annotations::is_object_member;
@@ -30,7 +29,6 @@ pub fn class_call_rows(
     name: Identifier,
     arity: usize,
 ) -> Result<(), AllocError>
-    requires few { Few c.now.program.now }
     ensures { OnOk result (rows.new
         ≡ rows.old
         ++ cond (eqb class.0 1)
@@ -62,7 +60,6 @@ pub fn value_call_rows(
     name: Identifier,
     arity: usize,
 ) -> Result<(), AllocError>
-    requires few { Few c.now.program.now }
     ensures { OnOk result (rows.new
         ≡ rows.old
         ++ cond (is_object_member name.name.0 && not (eqb name.name.0 equals_name))
@@ -89,7 +86,6 @@ pub fn own_call_rows(
     name: Identifier,
     arity: usize,
 ) -> Result<(), AllocError>
-    requires few { Few c.now.program.now }
     ensures { OnOk result (rows.new
         ≡ rows.old
         ++ cond (is_object_member name.name.0) (annotated.row J5 name.span)
@@ -112,7 +108,6 @@ pub fn super_call_rows(
     name: Identifier,
     arity: usize,
 ) -> Result<(), AllocError>
-    requires few { Few c.now.program.now }
     ensures { OnOk result (rows.new
         ≡ rows.old
         ++ cond (is_object_member name.name.0) (annotated.row J5 name.span) (annotated.when

@@ -1,7 +1,7 @@
 //! Rows J1 to J5 of an expression, and its type, in one pass.
 ghost use Rattle.std.specs.Prelude.{◌≡◌, ◌++◌, false, IfOk, OnOk};
 ghost use Rattle.jn_places.specs.PlacedView.{placed_view, placed_views};
-ghost use Rattle.jn_scopes.specs.Views.{Few, access_of, type_in};
+ghost use Rattle.jn_scopes.specs.Views.{access_of, type_in};
 ghost use Rattle.jn_lower_rows.specs.Views.{all_in, assigned_in, rows_in};
 ghost use Rattle.jn_lower_rows.specs.Before.{IsBefore, access_in, accessed_rows, argument_rows, is_clean, prints_in};
 ghost use Rattle.jn_lowering.specs.Scopes.{count as spec_count};
@@ -37,7 +37,6 @@ pub fn expression(
     at: Setting,
     rows: &mut Seq<Row>,
 ) -> Result<BaseType, AllocError>
-    requires few { Few c.now.program.now }
     ensures { IfOk result (λ base. (base ≡ type_in c.now (placed_view tree.now))
         × (rows.new ≡ rows.old ++ rows_in c.now at (placed_view tree.now))) }
 {
@@ -194,7 +193,6 @@ fn assigned(
     at: Setting,
     rows: &mut Seq<Row>,
 ) -> Result<BaseType, AllocError>
-    requires few { Few c.now.program.now }
     ensures { IfOk result (λ base. (base ≡ type_in c.now (placed_view tree.now))
         × (rows.new ≡ rows.old ++ assigned_in c.now at (placed_view tree.now))) }
 {
@@ -225,7 +223,6 @@ fn assigned(
 /// The rows of an expression, its type, and whether it has none.
 #[cycle(looking)]
 fn looked(tree: &Expr, c: &Context, at: Setting, rows: &mut Seq<Row>) -> Result<Looked, AllocError>
-    requires few { Few c.now.program.now }
     ensures { IfOk result (λ seen. (seen.base ≡ type_in c.now (placed_view tree.now))
         × (seen.clean ≡ is_clean (rows_in c.now at (placed_view tree.now)))
         × (rows.new ≡ rows.old ++ rows_in c.now at (placed_view tree.now))) }
@@ -246,7 +243,6 @@ fn before(
     at: Setting,
     rows: &mut Seq<Row>,
 ) -> Result<Before, AllocError>
-    requires few { Few c.now.program.now }
     ensures { IfOk result
         (λ b. IsBefore c.now at false (placed_view target.now) b rows.old rows.new) }
 {
@@ -276,7 +272,6 @@ fn receiver(
     at: Setting,
     rows: &mut Seq<Row>,
 ) -> Result<Before, AllocError>
-    requires few { Few c.now.program.now }
     ensures { IfOk result (λ b. IsBefore c.now at
         (prints_in c.now (placed_view target.now) name (spec_count (placed_views arguments.now)))
         (placed_view target.now) b rows.old rows.new) }
@@ -296,7 +291,6 @@ fn field(
     at: Setting,
     rows: &mut Seq<Row>,
 ) -> Result<Found, AllocError>
-    requires few { Few c.now.program.now }
     ensures { IfOk result (λ found. (access_of found.access
         ≡ access_in c.now (placed_view target.now) name)
         × (found.clean ≡ is_clean (accessed_rows c.now at (placed_view target.now) name))
@@ -319,7 +313,6 @@ fn arguments_of(
     at: Setting,
     rows: &mut Seq<Row>,
 ) -> Result<(), AllocError>
-    requires few { Few c.now.program.now }
     ensures { OnOk result (rows.new ≡ rows.old ++ argument_rows c.now at (placed_view tree.now)) }
 {
     match tree {
@@ -334,7 +327,6 @@ fn arguments_of(
 /// The rows of expressions one after the other.
 #[cycle(looking)]
 pub fn all(trees: &[Expr], c: &Context, at: Setting, rows: &mut Seq<Row>) -> Result<(), AllocError>
-    requires few { Few c.now.program.now }
     ensures { OnOk result (rows.new ≡ rows.old ++ all_in c.now at (placed_views trees.now)) }
 {
     for tree in trees {

@@ -6,7 +6,6 @@ ghost use Rattle.jn_lowering.specs.Bodies as bodies;
 ghost use Rattle.jn_lowering.specs.BodyRows as spec;
 ghost use Rattle.jn_lowering.specs.Calls.{is_static};
 ghost use Rattle.jn_lowering.specs.ExpressionRows.{rows_of};
-ghost use Rattle.jn_scopes.specs.Views.{Few};
 
 use crate::entry::Whole;
 use crate::setting::{INITIALIZER, Setting};
@@ -40,7 +39,6 @@ fn field_rows(
     value: &Expr,
     rows: &mut Seq<Row>,
 ) -> Result<(), AllocError>
-    requires few { Few whole.now.program.now }
     requires none { none.now.scope ≡ [] }
     ensures { OnOk result (rows.new
         ≡ rows.old
@@ -62,7 +60,6 @@ fn value_rows(
     value: &Expr,
     rows: &mut Seq<Row>,
 ) -> Result<(), AllocError>
-    requires few { Few whole.now.program.now }
     requires none { none.now.scope ≡ [] }
     ensures { OnOk result (rows.new
         ≡ rows.old
@@ -83,7 +80,6 @@ fn initializer(
     declared: &Declarator,
     rows: &mut Seq<Row>,
 ) -> Result<(), AllocError>
-    requires few { Few whole.now.program.now }
     requires none { none.now.scope ≡ [] }
     ensures { OnOk result (rows.new
         ≡ rows.old
@@ -102,7 +98,6 @@ fn initializers(
     more: &[Declarator],
     rows: &mut Seq<Row>,
 ) -> Result<(), AllocError>
-    requires few { Few whole.now.program.now }
     requires none { none.now.scope ≡ [] }
     ensures { OnOk result (rows.new
         ≡ rows.old
@@ -121,7 +116,6 @@ fn member_initializers(
     member: &Member,
     rows: &mut Seq<Row>,
 ) -> Result<(), AllocError>
-    requires few { Few whole.now.program.now }
     requires none { none.now.scope ≡ [] }
     ensures { OnOk result (rows.new
         ≡ rows.old
@@ -145,7 +139,6 @@ pub fn all_initializers(
     members: &[Member],
     rows: &mut Seq<Row>,
 ) -> Result<(), AllocError>
-    requires few { Few whole.now.program.now }
     requires none { none.now.scope ≡ [] }
     ensures { OnOk result (rows.new
         ≡ rows.old

@@ -8,7 +8,6 @@ ghost use Rattle.jn_env.specs.Keys.{is_own, kind_keys, origin_key};
 ghost use Rattle.jn_lowering.specs.Annotations as annotated;
 ghost use Rattle.jn_lowering.specs.Bodies as bodies;
 ghost use Rattle.jn_lowering.specs.BodyRows as spec;
-ghost use Rattle.jn_scopes.specs.Views.{Few};
 ghost use Rattle.jn_lower_rows.specs.Large.{AllNarrow, IsNarrow, code, facts_at, facts_of};
 
 use crate::row::push_if;
@@ -151,9 +150,9 @@ fn count_own(program: &IndexedProgram, method: MethodNo, fields: &[u32]) -> usiz
 
 /// How many reference fields a constructor's class has, by the program's lists.
 fn listed_count(program: &IndexedProgram, method: MethodNo) -> usize
-    requires few { Few program.now }
     ensures { result ≡ length (spec.own_fields program.now method.0) }
 {
+    program.facts();
     let mut count = 0;
     for field in 0..program.program().fields.len() {
         if is_own_field(program, method, field as u32) {
@@ -166,7 +165,6 @@ fn listed_count(program: &IndexedProgram, method: MethodNo) -> usize
 /// How many reference fields a constructor's class has.
 #[tactic(auto, using(crate::proofs::OwnFields::own_listed))]
 fn own_count(program: &IndexedProgram, method: MethodNo) -> usize
-    requires few { Few program.now }
     ensures { result ≡ length (spec.own_fields program.now method.0) }
 {
     match program.index() {
@@ -185,7 +183,6 @@ fn are_many(facts: usize, own: usize) -> bool
 }
 
 fn is_too_large(alloc: Global, program: &IndexedProgram, body: &Body) -> Result<bool, AllocError>
-    requires few { Few program.now }
     ensures { IfOk result (λ b. b ≡ spec.is_too_large program.now body.now) }
 {
     let facts = fact_count(alloc, program, body)?;
@@ -204,7 +201,6 @@ pub fn limit_rows(
     body: &Body,
     rows: &mut Seq<Row>,
 ) -> Result<(), AllocError>
-    requires few { Few program.now }
     ensures { OnOk result (rows.new
         ≡ rows.old
         ++ annotated.when (spec.is_too_large program.now body.now)

@@ -6,7 +6,6 @@ ghost use Rattle.jn_points.specs.Members as members;
 ghost use Rattle.jn_lowering.specs.Annotations as annotated;
 ghost use Rattle.jn_lowering.specs.Scopes.{class_named, super_method, text_callee};
 ghost use Rattle.jn_lowering.specs.ExpressionRows as spec;
-ghost use Rattle.jn_scopes.specs.Views.{Few};
 ghost use Rattle.jn_lower_rows.specs.Views.{setting_of};
 
 use crate::row::{push, push_if};
@@ -106,7 +105,6 @@ pub fn class_field_rows(
     class: ClassNo,
     name: Identifier,
 ) -> Result<(), AllocError>
-    requires few { Few c.now.program.now }
     ensures { OnOk result (rows.new
         ≡ rows.old
         ++ spec.class_field_rows c.now.program.now c.now.class.0
@@ -132,7 +130,6 @@ fn object_field_rows(
     class: ClassNo,
     name: Identifier,
 ) -> Result<(), AllocError>
-    requires few { Few c.now.program.now }
     ensures { OnOk result (rows.new
         ≡ rows.old
         ++ spec.object_field_rows c.now.program.now c.now.class.0
@@ -154,7 +151,6 @@ pub fn value_field_rows(
     base: BaseType,
     name: Identifier,
 ) -> Result<(), AllocError>
-    requires few { Few c.now.program.now }
     ensures { OnOk result (rows.new
         ≡ rows.old
         ++ spec.value_field_rows c.now.program.now c.now.class.0 base name.name.0 name.span) }
@@ -180,7 +176,6 @@ pub fn class_method_rows(
     name: Identifier,
     arity: usize,
 ) -> Result<(), AllocError>
-    requires few { Few c.now.program.now }
     ensures { OnOk result (rows.new
         ≡ rows.old
         ++ spec.class_method_rows c.now.program.now c.now.class.0
@@ -202,7 +197,6 @@ fn object_method_rows(
     name: Identifier,
     arity: usize,
 ) -> Result<(), AllocError>
-    requires few { Few c.now.program.now }
     ensures { OnOk result (rows.new
         ≡ rows.old
         ++ spec.object_method_rows c.now.program.now c.now.class.0
@@ -235,7 +229,6 @@ fn reference_method_rows(
     name: Identifier,
     arity: usize,
 ) -> Result<(), AllocError>
-    requires few { Few c.now.program.now }
     ensures { OnOk result (rows.new
         ≡ rows.old
         ++ spec.reference_method_rows c.now.program.now c.now.class.0 base name.name.0 arity
@@ -255,7 +248,6 @@ pub fn value_method_rows(
     name: Identifier,
     arity: usize,
 ) -> Result<(), AllocError>
-    requires few { Few c.now.program.now }
     ensures { OnOk result (rows.new
         ≡ rows.old
         ++ spec.value_method_rows c.now.program.now c.now.class.0 base name.name.0 arity
@@ -278,7 +270,6 @@ pub fn own_method_rows(
     name: Identifier,
     arity: usize,
 ) -> Result<(), AllocError>
-    requires few { Few c.now.program.now }
     ensures { OnOk result (rows.new
         ≡ rows.old
         ++ spec.own_method_rows c.now.program.now (setting_of at)
@@ -300,7 +291,6 @@ pub fn super_method_rows(
     name: Identifier,
     arity: usize,
 ) -> Result<(), AllocError>
-    requires few { Few c.now.program.now }
     ensures { OnOk result (rows.new
         ≡ rows.old
         ++ spec.super_method_rows c.now.program.now c.now.class.0
@@ -324,7 +314,6 @@ pub fn ctor_rows(
     arity: usize,
     span: Span,
 ) -> Result<(), AllocError>
-    requires few { Few c.now.program.now }
     ensures { OnOk result (rows.new
         ≡ rows.old
         ++ spec.ctor_rows c.now.program.now c.now.class.0
@@ -354,7 +343,6 @@ pub fn new_rows(
     class: Identifier,
     arity: usize,
 ) -> Result<(), AllocError>
-    requires few { Few c.now.program.now }
     ensures { OnOk result (rows.new
         ≡ rows.old
         ++ spec.new_rows c.now.program.now c.now.class.0
@@ -371,7 +359,6 @@ pub fn new_rows(
 
 /// J1: the name of a class that isn't there.
 pub fn known_class(rows: &mut Seq<Row>, c: &Context, class: Identifier) -> Result<(), AllocError>
-    requires few { Few c.now.program.now }
     ensures { OnOk result (rows.new
         ≡ rows.old
         ++ annotated.known_class c.now.program.now (class_named c.now.program.now class.name.0)

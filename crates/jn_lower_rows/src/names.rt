@@ -5,7 +5,7 @@ ghost use Rattle.jn_lowering.specs.Calls.{is_static};
 ghost use Rattle.jn_lowering.specs.Annotations as annotated;
 ghost use Rattle.jn_lowering.specs.ExpressionRows as spec;
 ghost use Rattle.jn_places.specs.PlacedView.{placed_view};
-ghost use Rattle.jn_scopes.specs.Views.{Few, access_of, faults_of, meaning_of};
+ghost use Rattle.jn_scopes.specs.Views.{access_of, faults_of, meaning_of};
 ghost use Rattle.jn_lower_rows.specs.Views.{setting_of};
 
 use crate::annotations::{NULLITY_ALONE, annotation_rows};
@@ -191,7 +191,6 @@ pub fn assigned_access_rows(
 
 /// J1: the type without brackets that is written is a class that isn't there.
 pub fn base_rows(rows: &mut Seq<Row>, c: &Context, base: Base) -> Result<(), AllocError>
-    requires few { Few c.now.program.now }
     ensures { OnOk result (rows.new ≡ rows.old ++ annotated.base_rows c.now.program.now base) }
 {
     match base {
@@ -207,7 +206,6 @@ pub fn array_rows(
     base: Base,
     annotations: &[Annotation],
 ) -> Result<(), AllocError>
-    requires few { Few c.now.program.now }
     ensures { OnOk result
         (rows.new ≡ rows.old ++ spec.array_rows c.now.program.now base annotations.now) }
 {

@@ -10,7 +10,7 @@ ghost use Rattle.jn_lowering.specs.Expressions.{is_null as is_null_tree};
 ghost use Rattle.jn_lowering.specs.ExpressionRows as spec;
 ghost use Rattle.jn_lowering.specs.Scopes.{callee_by as callee_behind};
 ghost use Rattle.jn_places.specs.PlacedView.{placed_view};
-ghost use Rattle.jn_scopes.specs.Views.{Few, access_of, meaning_of};
+ghost use Rattle.jn_scopes.specs.Views.{access_of, meaning_of};
 ghost use Rattle.jn_lower_rows.specs.Views.{setting_of};
 ghost use Rattle.jn_lower_rows.specs.Before.{field_behind, method_behind};
 
@@ -72,7 +72,6 @@ fn named_field_rows(
     class: ClassNo,
     name: Identifier,
 ) -> Result<(), AllocError>
-    requires few { Few c.now.program.now }
     ensures { OnOk result (rows.new
         ≡ rows.old
         ++ cond (eqb class.0 1) (annotated.row J5 name.span) (spec.class_field_rows
@@ -93,7 +92,6 @@ pub fn access_rows(
     before: Before,
     name: Identifier,
 ) -> Result<(), AllocError>
-    requires few { Few c.now.program.now }
     ensures { OnOk result (rows.new
         ≡ rows.old
         ++ field_behind c.now.program.now c.now.class.0
@@ -120,7 +118,6 @@ fn method_rows(
     name: Identifier,
     arity: usize,
 ) -> Result<(), AllocError>
-    requires few { Few c.now.program.now }
     ensures { OnOk result (rows.new
         ≡ rows.old
         ++ method_behind c.now.program.now c.now.class.0
@@ -142,7 +139,6 @@ pub fn call_rows(
     name: Identifier,
     arity: usize,
 ) -> Result<(), AllocError>
-    requires few { Few c.now.program.now }
     ensures { OnOk result (rows.new
         ≡ rows.old
         ++ cond before.prints [] (method_behind c.now.program.now c.now.class.0
@@ -158,7 +154,6 @@ pub fn call_rows(
 
 /// The type of a call with a dot.
 pub fn called_type(c: &Context, before: Before, name: NameNo, arity: usize) -> BaseType
-    requires few { Few c.now.program.now }
     ensures { result
         ≡ cond before.prints Void (type_of_callee c.now.program.now (callee_behind c.now.program.now
         (meaning_of c.now.faults.now before.meaning) before.base name.0 arity)) }

@@ -6,7 +6,7 @@ ghost use Rattle.jn_lowering.specs.Locals.{declares, is_some};
 ghost use Rattle.jn_lowering.specs.Scopes.{local_in as found_in};
 ghost use Rattle.jn_places.specs.PlacedView.{placed_type_use};
 ghost use Rattle.jn_lowering.specs.StatementRows as spec;
-ghost use Rattle.jn_scopes.specs.Views.{Few, faults_of, scope_of};
+ghost use Rattle.jn_scopes.specs.Views.{faults_of, scope_of};
 ghost use Rattle.jn_lower_rows.specs.Standing.{Walks, WellKept};
 
 use crate::annotations::{BOTH_KINDS, name_row, type_rows};
@@ -86,7 +86,6 @@ fn add_faults(
     program: &IndexedProgram,
     base: Base,
 ) -> Result<Faults, AllocError>
-    requires few { Few program.now }
     ensures { IfOk result (λ f. (faults.new.items
         ≡ faults.old.items ++ annotated.base_rows program.now base)
         × (f.from ≡ length faults.old.items) × (f.to ≡ length faults.new.items)) }
@@ -175,7 +174,6 @@ fn unknown_rows(
     names: &Names,
     base: Base,
 ) -> Result<(), AllocError>
-    requires few { Few place.now.program.now }
     ensures { OnOk result (rows.new ≡ rows.old ++ annotated.base_rows place.now.program.now base) }
 {
     base_rows(rows, &context(place, names), base)
@@ -189,7 +187,6 @@ pub fn declare_type(
     type_use: &TypeUse,
     notes: &[Annotation],
 ) -> Result<Faults, AllocError>
-    requires few { Few place.now.program.now }
     requires kept { WellKept names.old }
     ensures walks { IfOk result (λ f. Walks
         (λ n st. annotated.type_rows (placed_type_use type_use.now) annotated.both_kinds notes.now

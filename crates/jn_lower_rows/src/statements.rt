@@ -7,7 +7,7 @@ ghost use Rattle.jn_lowering.specs.Locals.{has_value};
 ghost use Rattle.jn_lowering.specs.Statements as lowered;
 ghost use Rattle.jn_lowering.specs.StatementRows as spec;
 ghost use Rattle.jn_places.specs.PlacedView.{placed_declarator, placed_declarators, placed_init, placed_local, placed_optional, placed_statement, placed_statements, placed_view, placed_views};
-ghost use Rattle.jn_scopes.specs.Views.{Few, faults_of, scope_of};
+ghost use Rattle.jn_scopes.specs.Views.{faults_of, scope_of};
 ghost use Rattle.jn_lower_rows.specs.Views.{setting_of};
 ghost use Rattle.jn_lower_rows.specs.Standing.{Walks, WellKept};
 
@@ -29,7 +29,6 @@ pub fn look(
     names: &Names,
     rows: &mut Seq<Row>,
 ) -> Result<BaseType, AllocError>
-    requires few { Few place.now.program.now }
     ensures { IfOk result (λ base. (base
         ≡ type_in_scope place.now.program.now place.now.class.0
         (scope_of names.now.faults.items names.now.scope) (placed_view tree.now))
@@ -50,7 +49,6 @@ pub fn look_all(
     names: &Names,
     rows: &mut Seq<Row>,
 ) -> Result<(), AllocError>
-    requires few { Few place.now.program.now }
     ensures { OnOk result (rows.new
         ≡ rows.old
         ++ rows_of_all place.now.program.now place.now.class.0 (setting_of place.now.at)
@@ -67,7 +65,6 @@ fn optional(
     names: &Names,
     rows: &mut Seq<Row>,
 ) -> Result<(), AllocError>
-    requires few { Few place.now.program.now }
     requires kept { WellKept names.now }
     ensures { OnOk result (Walks
         (λ f st. spec.optional_rows place.now.program.now place.now.class.0 f
@@ -107,7 +104,6 @@ fn declarator(
     is_final: bool,
     faults: Faults,
 ) -> Result<(), AllocError>
-    requires few { Few place.now.program.now }
     requires kept { WellKept names.old }
     requires within { faults.to ≤ length names.old.faults.items }
     ensures walks { OnOk result ((bound : Option Qualifier)
@@ -138,7 +134,6 @@ fn declarators(
     is_final: bool,
     faults: Faults,
 ) -> Result<(), AllocError>
-    requires few { Few place.now.program.now }
     requires kept { WellKept names.old }
     requires within { faults.to ≤ length names.old.faults.items }
     ensures { OnOk result ((bound : Option Qualifier)
@@ -164,7 +159,6 @@ fn declaration(
     names: &mut Names,
     rows: &mut Seq<Row>,
 ) -> Result<(), AllocError>
-    requires few { Few place.now.program.now }
     requires kept { WellKept names.old }
     ensures { OnOk result (Walks
         (λ f st. spec.declaration_rows place.now.program.now place.now.class.0 f
@@ -189,7 +183,6 @@ fn init(
     names: &mut Names,
     rows: &mut Seq<Row>,
 ) -> Result<(), AllocError>
-    requires few { Few place.now.program.now }
     requires kept { WellKept names.old }
     ensures { OnOk result (Walks
         (λ f st. spec.init_rows place.now.program.now place.now.class.0 f (setting_of place.now.at)
@@ -212,7 +205,6 @@ fn init(
 
 /// J2: a `for` goes over an array (JLS 14.14.2).
 fn array(tree: &Expr, place: &Place, names: &Names, rows: &mut Seq<Row>) -> Result<(), AllocError>
-    requires few { Few place.now.program.now }
     requires kept { WellKept names.now }
     ensures { OnOk result (Walks
         (λ f st. spec.array_rows place.now.program.now place.now.class.0 f (setting_of place.now.at)
@@ -237,7 +229,6 @@ pub fn statement(
     names: &mut Names,
     rows: &mut Seq<Row>,
 ) -> Result<(), AllocError>
-    requires few { Few place.now.program.now }
     requires kept { WellKept names.old }
     ensures { OnOk result (Walks
         (λ f st. spec.statement_rows place.now.program.now place.now.class.0 f
@@ -369,7 +360,6 @@ pub fn statements(
     names: &mut Names,
     rows: &mut Seq<Row>,
 ) -> Result<(), AllocError>
-    requires few { Few place.now.program.now }
     requires kept { WellKept names.old }
     ensures { OnOk result (Walks
         (λ f st. spec.all_rows place.now.program.now place.now.class.0 f (setting_of place.now.at)

@@ -3,7 +3,6 @@ ghost use Rattle.std.specs.Prelude.{◌≡◌, ◌∷◌, [], OnOk};
 ghost use Rattle.jn_points.specs.Lookup.{ctor_of, method_at};
 ghost use Rattle.jn_lowering.specs.Bodies as spec;
 ghost use Rattle.jn_places.specs.PlacedView.{placed_members, placed_statements};
-ghost use Rattle.jn_scopes.specs.Views.{Few};
 ghost use Rattle.jn_lower_stmt.specs.Stating.{StepsOn};
 
 use crate::construction::{construct, initializers};
@@ -52,7 +51,6 @@ fn call_of(
     e: &mut Emitter,
     s: &mut State,
 ) -> Result<(), OutOfMemory>
-    requires few { Few c.now.program.now }
     requires class { c.now.class.0 ≡ spec.class c.now.program.now source.now.method.0 }
     ensures { OnOk result (StepsOn
         (spec.call_of c.now.program.now source.now.method.0 c.now.first
@@ -73,7 +71,6 @@ fn own_initializers(
     e: &mut Emitter,
     s: &mut State,
 ) -> Result<(), OutOfMemory>
-    requires few { Few c.now.program.now }
     requires class { c.now.class.0 ≡ spec.class c.now.program.now source.now.method.0 }
     ensures { OnOk result (StepsOn
         (spec.own_initializers c.now.program.now source.now.method.0 c.now.first s.old
@@ -93,7 +90,6 @@ fn fields_of(
     e: &mut Emitter,
     s: &mut State,
 ) -> Result<(), OutOfMemory>
-    requires few { Few c.now.program.now }
     requires class { c.now.class.0 ≡ spec.class c.now.program.now source.now.method.0 }
     ensures { OnOk result (StepsOn
         (spec.fields_of c.now.program.now source.now.method.0 c.now.first
@@ -114,7 +110,6 @@ pub fn whole(
     e: &mut Emitter,
     s: &mut State,
 ) -> Result<(), OutOfMemory>
-    requires few { Few c.now.program.now }
     requires class { c.now.class.0 ≡ spec.class c.now.program.now source.now.method.0 }
     ensures { OnOk result (StepsOn
         (spec.whole c.now.program.now source.now.method.0 c.now.first s.old

@@ -7,7 +7,6 @@ ghost use Rattle.jn_lowering.specs.Calls.{Operands};
 ghost use Rattle.jn_lower_expr.specs.Lowering.{Runs};
 ghost use Rattle.jn_lower_expr.specs.declared.emitter.Emitter as emitted;
 ghost use Rattle.jn_places.specs.PlacedView.{placed_declarator, placed_declarators, placed_member, placed_members, placed_statements, placed_view, placed_views};
-ghost use Rattle.jn_scopes.specs.Views.{Few};
 ghost use Rattle.jn_lower_stmt.specs.Stating.{StepsOn};
 
 use crate::pieces::through;
@@ -54,7 +53,6 @@ fn call_ctor(
     e: &mut Emitter,
     s: &mut State,
 ) -> Result<(), OutOfMemory>
-    requires few { Few c.now.program.now }
     requires class { c.now.class.0 ≡ spec.class c.now.program.now method.0 }
     ensures { OnOk result (StepsOn
         (spec.ctor_call c.now.program.now method.0 c.now.first s.old own class.0
@@ -81,7 +79,6 @@ fn unwritten_call(
     e: &mut Emitter,
     s: &mut State,
 ) -> Result<(), OutOfMemory>
-    requires few { Few c.now.program.now }
     requires class { c.now.class.0 ≡ spec.class c.now.program.now method.0 }
     ensures { OnOk result (StepsOn
         (spec.unwritten_call c.now.program.now method.0 c.now.first s.old) e.old e.new s.new) }
@@ -103,7 +100,6 @@ pub fn construct(
     e: &mut Emitter,
     s: &mut State,
 ) -> Result<(), OutOfMemory>
-    requires few { Few c.now.program.now }
     requires class { c.now.class.0 ≡ spec.class c.now.program.now method.0 }
     ensures { OnOk result (StepsOn
         (spec.construction c.now.program.now method.0 c.now.first s.old
@@ -141,7 +137,6 @@ fn write_first(
     e: &mut Emitter,
     s: &mut State,
 ) -> Result<(), OutOfMemory>
-    requires few { Few c.now.program.now }
     requires class { c.now.class.0 ≡ spec.class c.now.program.now method.0 }
     ensures { OnOk result (StepsOn
         (spec.writes_field c.now.program.now method.0 c.now.first (Some field.0) name s.old
@@ -175,7 +170,6 @@ fn initializer(
     e: &mut Emitter,
     s: &mut State,
 ) -> Result<(), OutOfMemory>
-    requires few { Few c.now.program.now }
     requires class { c.now.class.0 ≡ spec.class c.now.program.now method.0 }
     ensures { OnOk result (StepsOn
         (spec.initializes c.now.program.now method.0 c.now.first
@@ -202,7 +196,6 @@ fn initializers_of(
     e: &mut Emitter,
     s: &mut State,
 ) -> Result<(), OutOfMemory>
-    requires few { Few c.now.program.now }
     requires class { c.now.class.0 ≡ spec.class c.now.program.now method.0 }
     ensures { OnOk result (StepsOn
         (spec.initializers_of c.now.program.now method.0 c.now.first s.old
@@ -222,7 +215,6 @@ fn member_initializers(
     e: &mut Emitter,
     s: &mut State,
 ) -> Result<(), OutOfMemory>
-    requires few { Few c.now.program.now }
     requires class { c.now.class.0 ≡ spec.class c.now.program.now method.0 }
     ensures { OnOk result (StepsOn
         (spec.initializers_of c.now.program.now method.0 c.now.first s.old
@@ -248,7 +240,6 @@ pub fn initializers(
     e: &mut Emitter,
     s: &mut State,
 ) -> Result<(), OutOfMemory>
-    requires few { Few c.now.program.now }
     requires class { c.now.class.0 ≡ spec.class c.now.program.now method.0 }
     ensures { OnOk result (StepsOn
         (spec.initializers c.now.program.now method.0 c.now.first s.old (placed_members trees.now))

@@ -4,7 +4,7 @@ ghost use Rattle.jn_points.specs.Lookup.{elem_base};
 ghost use Rattle.jn_places.specs.PlacedView.{placed_view};
 ghost use Rattle.jn_lowering.specs.Forms.{branch, register};
 ghost use Rattle.jn_lowering.specs.Statements as spec;
-ghost use Rattle.jn_scopes.specs.Views.{Few, bound_of};
+ghost use Rattle.jn_scopes.specs.Views.{bound_of};
 ghost use Rattle.jn_lower_stmt.specs.Stating.{GivesIn, StepsOn, TestsIn, moved_to, valued};
 
 use crate::state::{BodyContext, State, evaluate};
@@ -35,7 +35,6 @@ fn started(
     e: &mut Emitter,
     s: &mut State,
 ) -> Result<Operand, OutOfMemory>
-    requires few { Few c.now.program.now }
     ensures { IfOk result (λ o. (o.span ≡ (valued c.now s.old (placed_view tree.now)).operand.span)
         × GivesIn
         (spec.each_start c.now.program.now c.now.class.0 c.now.first o.span array.0
@@ -73,7 +72,6 @@ pub fn start_with(
     e: &mut Emitter,
     s: &mut State,
 ) -> Result<Span, OutOfMemory>
-    requires few { Few c.now.program.now }
     ensures { IfOk result (λ at. (at ≡ (valued c.now s.old (placed_view tree.now)).operand.span)
         × StepsOn
         (moved_to at (array.0 + 1) None s.old (spec.each_start c.now.program.now c.now.class.0

@@ -3,7 +3,6 @@ ghost use Rattle.std.specs.Prelude.{OnOk};
 ghost use Rattle.jn_base.specs.declared.place.Span.{Span};
 ghost use Rattle.jn_places.specs.Placed.{PlacedBlock, PlacedDo, PlacedFor, PlacedForEach, PlacedIf, PlacedWhile};
 ghost use Rattle.jn_places.specs.PlacedView.{placed_init, placed_optional, placed_statement, placed_statements, placed_type_use, placed_view, placed_views};
-ghost use Rattle.jn_scopes.specs.Views.{Few};
 ghost use Rattle.jn_lower_stmt.specs.Stating.{Steps, all_stated, stated};
 
 use crate::each;
@@ -27,7 +26,6 @@ pub fn statements(
     s: &mut State,
     ways: Ways,
 ) -> Result<(), OutOfMemory>
-    requires few { Few c.now.program.now }
     ensures { OnOk result (Steps (all_stated c.now s.old (placed_statements trees.now)) ways.out.0
         ways.again.0 e.old e.new s.new) }
 {
@@ -47,7 +45,6 @@ fn block(
     s: &mut State,
     ways: Ways,
 ) -> Result<(), OutOfMemory>
-    requires few { Few c.now.program.now }
     ensures { OnOk result (Steps
         (stated c.now s.old (PlacedBlock (placed_statements trees.now) span)) ways.out.0
         ways.again.0 e.old e.new s.new) }
@@ -69,7 +66,6 @@ fn if_then(
     s: &mut State,
     ways: Ways,
 ) -> Result<(), OutOfMemory>
-    requires few { Few c.now.program.now }
     ensures { OnOk result (Steps
         (stated c.now s.old (PlacedIf (placed_view condition.now) (placed_statement then.now) span))
         ways.out.0 ways.again.0 e.old e.new s.new) }
@@ -96,7 +92,6 @@ fn while_loop(
     s: &mut State,
     ways: Ways,
 ) -> Result<(), OutOfMemory>
-    requires few { Few c.now.program.now }
     ensures { OnOk result (Steps
         (stated c.now s.old
         (PlacedWhile (placed_view condition.now) (placed_statement body.now) span))
@@ -131,7 +126,6 @@ fn do_loop(
     s: &mut State,
     ways: Ways,
 ) -> Result<(), OutOfMemory>
-    requires few { Few c.now.program.now }
     ensures { OnOk result (Steps
         (stated c.now s.old (PlacedDo (placed_statement body.now) (placed_view condition.now) span))
         ways.out.0 ways.again.0 e.old e.new s.new) }
@@ -164,7 +158,6 @@ fn for_loop(
     s: &mut State,
     ways: Ways,
 ) -> Result<(), OutOfMemory>
-    requires few { Few c.now.program.now }
     ensures { OnOk result (Steps
         (stated c.now s.old (PlacedFor (placed_init head.now.init) (placed_optional head.now.condition)
         (placed_views head.now.update.items) (placed_statement body.now) span))
@@ -204,7 +197,6 @@ fn each_loop(
     s: &mut State,
     ways: Ways,
 ) -> Result<(), OutOfMemory>
-    requires few { Few c.now.program.now }
     ensures { OnOk result ((span : Span)
         → Steps
         (stated c.now s.old (PlacedForEach variable.now.modifiers.items
@@ -245,7 +237,6 @@ pub fn statement(
     s: &mut State,
     ways: Ways,
 ) -> Result<(), OutOfMemory>
-    requires few { Few c.now.program.now }
     ensures { OnOk result (Steps (stated c.now s.old (placed_statement tree.now)) ways.out.0
         ways.again.0 e.old e.new s.new) }
 {

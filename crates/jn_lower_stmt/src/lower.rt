@@ -3,7 +3,6 @@ ghost use Rattle.std.specs.Prelude.{◌≡◌, ◌+◌, IfOk};
 ghost use Rattle.jn_lowering.specs.Bodies as spec;
 ghost use Rattle.jn_lowering.specs.Locals.{all_declared};
 ghost use Rattle.jn_places.specs.PlacedView.{placed_statements};
-ghost use Rattle.jn_scopes.specs.Views.{Few};
 ghost use Rattle.jn_lower_stmt.specs.Sources.{source_of};
 
 use crate::body::{Source, whole};
@@ -45,7 +44,6 @@ pub fn lower_body(
     program: &IndexedProgram,
     source: &Source,
 ) -> Result<Body, OutOfMemory>
-    requires few { Few program.now }
     ensures { IfOk result (λ body. body ≡ spec.body_of_source program.now (source_of source.now)) }
 {
     let mut s = at_entry(alloc, program, source.method, source.parameters)?;

@@ -2,7 +2,7 @@
 ghost use Rattle.std.specs.Prelude.{◌≡◌, IfOk, OnOk};
 ghost use Rattle.jn_lowering.specs.Locals as local;
 ghost use Rattle.jn_lowering.specs.Statements as spec;
-ghost use Rattle.jn_scopes.specs.Views.{Few, bound_of};
+ghost use Rattle.jn_scopes.specs.Views.{bound_of};
 ghost use Rattle.jn_places.specs.PlacedView.{placed_declarator, placed_declarators, placed_init, placed_local, placed_optional, placed_view, placed_views};
 ghost use Rattle.jn_places.specs.Placed.{PlacedBreak, PlacedContinue, PlacedExpression, PlacedLocalStatement, PlacedReturn};
 ghost use Rattle.jn_lower_stmt.specs.Views.{rows_of};
@@ -46,7 +46,6 @@ pub fn effects(
     e: &mut Emitter,
     s: &mut State,
 ) -> Result<(), OutOfMemory>
-    requires few { Few c.now.program.now }
     ensures { OnOk result (StepsOn
         (spec.effects c.now.program.now c.now.class.0 c.now.first s.old (placed_views trees.now))
         e.old e.new s.new) }
@@ -65,7 +64,6 @@ pub fn returned(
     e: &mut Emitter,
     s: &mut State,
 ) -> Result<(), OutOfMemory>
-    requires few { Few c.now.program.now }
     ensures { OnOk result (StepsOn
         (spec.returned c.now.program.now c.now.class.0 c.now.first span s.old
         (placed_optional value.now))
@@ -94,7 +92,6 @@ fn initialize(
     e: &mut Emitter,
     s: &mut State,
 ) -> Result<(), OutOfMemory>
-    requires few { Few c.now.program.now }
     ensures { OnOk result (StepsOn
         (spec.initialized c.now.program.now c.now.class.0 c.now.first name reg.0
         (bound_of kind.bound) s.old (placed_optional value.now))
@@ -130,7 +127,6 @@ fn declarator(
     e: &mut Emitter,
     s: &mut State,
 ) -> Result<(), OutOfMemory>
-    requires few { Few c.now.program.now }
     ensures { OnOk result (StepsOn
         (spec.declarator c.now.program.now c.now.class.0 c.now.first kind.base (bound_of kind.bound)
         is_final (rows_of kind.fault) s.old (placed_declarator tree.now))
@@ -150,7 +146,6 @@ fn declarators(
     e: &mut Emitter,
     s: &mut State,
 ) -> Result<(), OutOfMemory>
-    requires few { Few c.now.program.now }
     ensures { OnOk result (StepsOn
         (spec.declarators c.now.program.now c.now.class.0 c.now.first kind.base
         (bound_of kind.bound) is_final (rows_of kind.fault) s.old
@@ -170,7 +165,6 @@ pub fn declaration(
     e: &mut Emitter,
     s: &mut State,
 ) -> Result<(), OutOfMemory>
-    requires few { Few c.now.program.now }
     ensures { OnOk result (StepsOn
         (spec.declaration c.now.program.now c.now.class.0 c.now.first s.old (placed_local tree.now))
         e.old e.new s.new) }
@@ -189,7 +183,6 @@ pub fn init(
     e: &mut Emitter,
     s: &mut State,
 ) -> Result<(), OutOfMemory>
-    requires few { Few c.now.program.now }
     ensures { OnOk result (StepsOn
         (spec.init c.now.program.now c.now.class.0 c.now.first s.old (placed_init tree.now)) e.old
         e.new s.new) }
@@ -215,7 +208,6 @@ pub fn optional_test(
     yes: PointNo,
     no: PointNo,
 ) -> Result<(), OutOfMemory>
-    requires few { Few c.now.program.now }
     ensures { OnOk result (TestsIn
         (spec.optional_test c.now.program.now c.now.class.0 c.now.first s.old
         (placed_optional tree.now))
@@ -238,7 +230,6 @@ pub fn evaluated(
     e: &mut Emitter,
     s: &mut State,
 ) -> Result<(), OutOfMemory>
-    requires few { Few c.now.program.now }
     ensures { OnOk result (StepsOn
         (stated c.now s.old (PlacedExpression (placed_view tree.now) span)) e.old e.new s.new) }
 {
@@ -286,7 +277,6 @@ pub fn returns(
     e: &mut Emitter,
     s: &mut State,
 ) -> Result<(), OutOfMemory>
-    requires few { Few c.now.program.now }
     ensures { OnOk result (StepsOn
         (stated c.now s.old (PlacedReturn (placed_optional value.now) span)) e.old e.new s.new) }
 {
@@ -304,7 +294,6 @@ pub fn local(
     e: &mut Emitter,
     s: &mut State,
 ) -> Result<(), OutOfMemory>
-    requires few { Few c.now.program.now }
     ensures { OnOk result (StepsOn
         (stated c.now s.old (PlacedLocalStatement (placed_local tree.now) span)) e.old e.new
         s.new) }

@@ -6,7 +6,7 @@ ghost use Rattle.jn_lowering.specs.Scopes.{local_in};
 ghost use Rattle.jn_lowering.specs.Temporaries.{no_temporaries, take_one};
 ghost use Rattle.jn_lowering.specs.Locals.{declares, is_some, reserves, with_local, with_temporaries};
 ghost use Rattle.jn_lowering.specs.Statements.{fresh};
-ghost use Rattle.jn_scopes.specs.Views.{Few, bound_of, scope_in};
+ghost use Rattle.jn_scopes.specs.Views.{bound_of, scope_in};
 ghost use Rattle.jn_lowering.specs.Bodies.{registers_of};
 ghost use Rattle.jn_places.specs.PlacedView.{placed_view, placed_views};
 ghost use Rattle.jn_lower_stmt.specs.Views.{declared_local, rows_of, with_names, with_scope, with_taken};
@@ -290,7 +290,6 @@ pub fn evaluate(
     e: &mut Emitter,
     s: &mut State,
 ) -> Result<Operand, OutOfMemory>
-    requires few { Few c.now.program.now }
     ensures { IfOk result
         (λ o. GivesIn (valued c.now s.old (placed_view tree.now)) s.old e.old o e.new s.new) }
 {
@@ -307,7 +306,6 @@ pub fn decide(
     yes: PointNo,
     no: PointNo,
 ) -> Result<(), OutOfMemory>
-    requires few { Few c.now.program.now }
     ensures { OnOk result
         (TestsIn (tested c.now s.old (placed_view tree.now)) s.old yes.0 no.0 e.old e.new s.new) }
 {
@@ -322,7 +320,6 @@ pub fn evaluate_outside(
     e: &mut Emitter,
     s: &mut State,
 ) -> Result<Operand, OutOfMemory>
-    requires few { Few c.now.program.now }
     ensures { IfOk result (λ o.
         GivesIn (valued_outside c.now s.old (placed_view tree.now)) s.old e.old o e.new s.new) }
 {
@@ -333,7 +330,6 @@ pub fn evaluate_outside(
 
 /// The type of an expression.
 pub fn type_in(tree: &Expr, c: &BodyContext, s: &State) -> BaseType
-    requires few { Few c.now.program.now }
     ensures { result ≡ type_of c.now.program.now c.now.class.0 s.now.scope (placed_view tree.now) }
 {
     type_of(tree, &c.in_scope(&s.names))
@@ -346,7 +342,6 @@ pub fn evaluate_all(
     e: &mut Emitter,
     s: &mut State,
 ) -> Result<Seq<Operand>, OutOfMemory>
-    requires few { Few c.now.program.now }
     ensures { IfOk result (λ os.
         GivesAllIn (all_valued c.now s.old (placed_views trees.now)) s.old e.old os e.new s.new) }
 {

@@ -5,7 +5,6 @@ ghost use Rattle.jn_lowering.specs.Bases as spec;
 ghost use Rattle.jn_lowering.specs.Locals as local;
 ghost use Rattle.jn_places.specs.PlacedView.{placed_type_use};
 ghost use Rattle.jn_scopes.specs.Views as view;
-ghost use Rattle.jn_scopes.specs.Views.{Few};
 ghost use Rattle.jn_lower_stmt.specs.Views.{rows_of};
 
 use crate::state::LocalKind;
@@ -32,7 +31,6 @@ fn has_annotation(name: NameNo, modifiers: &[LocalModifier]) -> bool
 }
 
 fn elem_type(program: &IndexedProgram, base: &Base, modifiers: &[LocalModifier]) -> Elem
-    requires few { Few program.now }
     ensures { result ≡ spec.elem_type program.now base.now (local.annotations_of modifiers.now) }
 {
     match base {
@@ -44,7 +42,6 @@ fn elem_type(program: &IndexedProgram, base: &Base, modifiers: &[LocalModifier])
 
 /// The type of an array whose elements have the annotations (JLS 9.7.4).
 fn array_type(program: &IndexedProgram, base: &Base, modifiers: &[LocalModifier]) -> BaseType
-    requires few { Few program.now }
     ensures { result ≡ spec.array_type program.now base.now (local.annotations_of modifiers.now) }
 {
     BaseType::Array(
@@ -58,7 +55,6 @@ fn type_of_use(
     type_use: &TypeUse,
     modifiers: &[LocalModifier],
 ) -> BaseType
-    requires few { Few program.now }
     ensures { result
         ≡ spec.type_of_use program.now (placed_type_use type_use.now)
         (local.annotations_of modifiers.now) }
@@ -71,7 +67,6 @@ fn type_of_use(
 
 /// The row of an unknown class.
 fn fault_of(program: &IndexedProgram, base: &Base) -> Option<Row>
-    requires few { Few program.now }
     ensures { rows_of result ≡ base_rows program.now base.now }
 {
     match base {
@@ -173,7 +168,6 @@ pub fn kind_of(
     type_use: &TypeUse,
     modifiers: &[LocalModifier],
 ) -> LocalKind
-    requires few { Few program.now }
     ensures base { result.base
         ≡ spec.type_of_use program.now (placed_type_use type_use.now)
         (local.annotations_of modifiers.now) }

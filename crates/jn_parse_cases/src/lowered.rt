@@ -1,6 +1,5 @@
 //! The points of an expression that stands in a program without members, or its rows.
 ghost use Rattle.std.specs.Prelude.{◌≡◌, IfOk};
-ghost use Rattle.jn_scopes.specs.Views.{Few};
 
 use crate::outcome::LIMIT;
 use jn_base::{ClassNo, OutOfMemory, Row, Seq};
@@ -22,9 +21,7 @@ const BODY: Setting = Setting {
 };
 
 /// A program in which nothing is declared.
-fn nothing(alloc: Global) -> Result<IndexedProgram, OutOfMemory>
-    ensures { IfOk result (λ program. Few program) }
-{
+fn nothing(alloc: Global) -> Result<IndexedProgram, OutOfMemory> {
     let program = Program {
         classes: Seq::new(alloc),
         fields: Seq::new(alloc),
@@ -32,7 +29,10 @@ fn nothing(alloc: Global) -> Result<IndexedProgram, OutOfMemory>
         bodies: Seq::new(alloc),
         slots: Seq::new(alloc),
     };
-    Ok(IndexedProgram::new(alloc, program)?)
+    match IndexedProgram::new(alloc, program)? {
+        Some(program) => Ok(program),
+        None => Err(OutOfMemory),
+    }
 }
 
 fn no_points(alloc: Global) -> Emitter {
@@ -69,9 +69,7 @@ fn value_text(
     }
 }
 
-fn tree_value(alloc: Global, program: &IndexedProgram, tree: &Expr) -> Result<String, OutOfMemory>
-    requires few { Few program.now }
-{
+fn tree_value(alloc: Global, program: &IndexedProgram, tree: &Expr) -> Result<String, OutOfMemory> {
     let scope = Variables::new(alloc);
     let context = Context {
         program,
@@ -99,9 +97,7 @@ fn tree_condition(
     alloc: Global,
     program: &IndexedProgram,
     tree: &Expr,
-) -> Result<String, OutOfMemory>
-    requires few { Few program.now }
-{
+) -> Result<String, OutOfMemory> {
     let scope = Variables::new(alloc);
     let context = Context {
         program,

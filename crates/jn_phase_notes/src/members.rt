@@ -5,7 +5,7 @@ ghost use Rattle.jn_points.specs.Members as members;
 ghost use Rattle.jn_index.specs.Index.{IsIndex};
 ghost use Rattle.jn_index.specs.Users.{AreUsers};
 ghost use Rattle.jn_declaration_rules.specs.Rows as rules;
-ghost use Rattle.jn_declaration_rules.specs.Sizes.{ParamsFit};
+ghost use Rattle.jn_index.specs.Sizes.{ParamsFit};
 ghost use Rattle.jn_phase_notes.specs.Others as spec;
 
 use crate::places::{class_there, field_name, field_there, method_name, method_there};

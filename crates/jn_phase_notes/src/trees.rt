@@ -3,7 +3,7 @@ ghost use Rattle.std.specs.Prelude.{◌≡◌, ◌<◌, ◌^◌, ◌++◌, lengt
 ghost use Rattle.jn_places.specs.PlacedView.{placed_file};
 ghost use Rattle.jn_heads.specs.Extract as extract;
 ghost use Rattle.jn_index.specs.Index.{IsIndex};
-ghost use Rattle.jn_declaration_rules.specs.Sizes.{ParamsFit};
+ghost use Rattle.jn_index.specs.Sizes.{ParamsFit};
 ghost use Rattle.jn_classtable.specs.Built.{SmallTable};
 ghost use Rattle.jn_classtable.specs.Table.{table};
 ghost use Rattle.jn_notes.specs.Worded.{text_at};

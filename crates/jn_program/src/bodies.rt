@@ -4,7 +4,6 @@ ghost use Rattle.jn_lowering.specs.Bodies.{body_of_source};
 ghost use Rattle.jn_lowering.specs.BodyRows.{rows_of_body};
 ghost use Rattle.jn_lower_stmt.specs.Sources.{source_of};
 ghost use Rattle.jn_program.specs.Ranges.{IsLoweredBody, body_of, rows_in};
-ghost use Rattle.jn_scopes.specs.Views.{Few};
 
 use crate::rows::{is_empty, push_all};
 use jn_base::{OutOfMemory, Row, Seq};
@@ -37,7 +36,6 @@ fn rows_of(
     source: &Source,
     body: &Body,
 ) -> Result<Seq<Row>, OutOfMemory>
-    requires few { Few program.now }
     requires lowered { body.now ≡ body_of_source program.now (source_of source.now) }
     ensures { IfOk result (λ rows. rows ≡ rows_of_body program.now (source_of source.now)) }
 {
@@ -63,7 +61,6 @@ pub fn lower_one(
     program: &IndexedProgram,
     source: &Source,
 ) -> Result<LoweredBody, OutOfMemory>
-    requires few { Few program.now }
     ensures { IfOk result (λ lowered. IsLoweredBody program.now (source_of source.now) lowered) }
 {
     let body = lower_body(alloc, program, source)?;

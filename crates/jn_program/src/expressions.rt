@@ -3,7 +3,6 @@ ghost use Rattle.std.specs.Prelude.{◌≡◌, ◌++◌, [], IfOk, IfNone, IfSom
 ghost use Rattle.jn_lower_expr.specs.Lowering.{Gives, Tests, lowered};
 ghost use Rattle.jn_lower_rows.specs.Views.{rows_in};
 ghost use Rattle.jn_places.specs.PlacedView.{placed_view};
-ghost use Rattle.jn_scopes.specs.Views.{Few};
 
 use crate::rows::{is_empty, push_all};
 use jn_base::{OutOfMemory, PointNo, Row, Seq};
@@ -18,7 +17,6 @@ use jn_trees::Expr;
 
 /// Adds the rows J1 to J5 of an expression, and answers whether it has none.
 fn is_clean(tree: &Expr, c: &Context, at: Setting, rows: &mut Seq<Row>) -> Result<bool, OutOfMemory>
-    requires few { Few c.now.program.now }
     ensures rows { OnOk result (rows.new ≡ rows.old ++ rows_in c.now at (placed_view tree.now)) }
     ensures clean { IfOk result
         (λ clean. clean ≡ true → rows_in c.now at (placed_view tree.now) ≡ []) }
@@ -43,7 +41,6 @@ pub fn lower_expr(
     t: &mut Temporaries,
     rows: &mut Seq<Row>,
 ) -> Result<Option<Operand>, OutOfMemory>
-    requires few { Few c.now.program.now }
     ensures rows { OnOk result (rows.new ≡ rows.old ++ rows_in c.now at (placed_view tree.now)) }
     ensures none { IfOk result (λ o. IfNone o
         ((rows_in c.now at (placed_view tree.now) ≡ [] → ⊥) × (e.new ≡ e.old) × (t.new ≡ t.old))) }
@@ -72,7 +69,6 @@ pub fn lower_cond(
     no: PointNo,
     rows: &mut Seq<Row>,
 ) -> Result<bool, OutOfMemory>
-    requires few { Few c.now.program.now }
     ensures rows { OnOk result (rows.new ≡ rows.old ++ rows_in c.now at (placed_view tree.now)) }
     ensures broken { IfOk result (λ lowered_it. lowered_it ≡ false
         → (rows_in c.now at (placed_view tree.now) ≡ [] → ⊥) × (e.new ≡ e.old) × (t.new ≡ t.old)) }

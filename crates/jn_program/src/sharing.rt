@@ -3,7 +3,6 @@ ghost use Rattle.std.specs.Prelude.{◌≡◌, ◌<◌, false, get_or, length, s
 ghost use Rattle.jn_lower_stmt.specs.Sources.{source_of, sources_of};
 ghost use Rattle.jn_program.specs.Known.{AreKnown, IsKnown};
 ghost use Rattle.jn_program.specs.Ranges.{IsLowered, IsLoweredAt, IsLoweredBody};
-ghost use Rattle.jn_scopes.specs.Views.{Few};
 
 use crate::bodies::{LoweredBody, LoweredFiles, lower_one, put_together};
 use crate::copying::copy_body;
@@ -54,7 +53,6 @@ fn lower_or_copy(
     known: &[bool],
     at: usize,
 ) -> Result<LoweredBody, OutOfMemory>
-    requires few { Few program.now }
     requires known { AreKnown program.now (sources_of sources.now) bodies.now known.now }
     requires inside { at < length sources.now }
     ensures { IfOk result (λ lowered. IsLoweredAt program.now sources.now at lowered) }
@@ -77,12 +75,11 @@ pub fn lower_by<R: Threads + Sync>(
     known: &[bool],
     more: u32,
 ) -> Result<LoweredFiles, OutOfMemory>
-    requires few { Few program.now }
     requires known { AreKnown program.now (sources_of sources.now) bodies.now known.now }
     ensures { IfOk result (λ lowered. IsLowered program.now (sources_of sources.now) lowered) }
 {
     let lower = |at: usize, _worker: u32| -> Result<LoweredBody, OutOfMemory>
-        requires { Few program.now × AreKnown program.now (sources_of sources.now) bodies.now known.now
+        requires { AreKnown program.now (sources_of sources.now) bodies.now known.now
             × (at < length sources.now) }
         ensures { IfOk result
             (λ lowered. IsLoweredAt program.entry.now sources.entry.now at lowered) }

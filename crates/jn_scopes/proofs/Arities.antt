@@ -5,7 +5,7 @@ use Rattle.std.proofs.lemmas.Bool.{ne_eqb}
 use Rattle.jn_points.specs.declared.program.Method.{Method}
 use Rattle.jn_points.specs.declared.program.Program.{Program}
 use Rattle.jn_points.specs.Members.{declared_method, first_at, first_or, first_some, is_named, method_of, walk}
-use Rattle.jn_scopes.specs.Views.{Few}
+use Rattle.jn_index.specs.Sizes.{Few}
 
 and_false : (a b : Bool) → b ≡ false → (a && b) ≡ false
 and_false true b e = e

@@ -20,13 +20,6 @@ use Rattle.jn_scopes.specs.declared.context.Callee.TheVariants.{Println as Print
 use Rattle.jn_scopes.specs.declared.context.Access as accessed
 use Rattle.jn_scopes.specs.declared.context.Access.TheVariants.{Class as ClassAccess, Object as ObjectAccess, Length as LengthAccess, Nothing as NoAccess}
 
--- numbers of fields, methods, classes and parameters fit
-pub record Few (P : Program) : Type 0 where
-  pub classes : length P.classes < 2 ^ 32
-  pub fields : length P.fields < 2 ^ 32
-  pub methods : length P.methods < 2 ^ 32
-  pub parameters : (m : ℕ) (x : Method) → method_at P m ≡ Some x → length x.params < 2 ^ 32
-
 abbrev pub bound_of : Option Bound → Option Qualifier
 bound_of None = None
 bound_of (Some b) = Some (record { null = b.null; committed = b.committed; free = b.free })

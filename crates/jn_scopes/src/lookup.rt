@@ -3,7 +3,7 @@ ghost use Rattle.std.specs.Prelude.{◌≡◌, ◌&&◌, eqb, MatchOption, None,
 ghost use Rattle.jn_lowering.specs.Scopes as spec;
 ghost use Rattle.jn_places.specs.PlacedView.{placed_view};
 ghost use Rattle.jn_known.specs.Known.{println_name};
-ghost use Rattle.jn_scopes.specs.Views.{Few, access_of, callee_of, local_of, meaning_of, scope_in};
+ghost use Rattle.jn_scopes.specs.Views.{access_of, callee_of, local_of, meaning_of, scope_in};
 
 use crate::context::{Access, Callee, Context, Meaning, Variable};
 use crate::members::{class_named, field_of, method_of};
@@ -22,7 +22,6 @@ pub fn local_in(c: &Context, name: NameNo) -> Option<Variable>
 
 /// What an identifier means: the local in scope of that name, else the field that the class has, else the class of that name.
 pub fn meaning(c: &Context, name: NameNo) -> Meaning
-    requires few { Few c.now.program.now }
     ensures { meaning_of c.now.faults.now result
         ≡ spec.meaning c.now.program.now c.now.class.0 (scope_in c.now) name.0 }
 {
@@ -44,7 +43,6 @@ pub fn meaning(c: &Context, name: NameNo) -> Meaning
 
 /// What stands before a dot, where it is an identifier.
 pub fn before_dot(c: &Context, target: &Expr) -> Meaning
-    requires few { Few c.now.program.now }
     ensures { meaning_of c.now.faults.now result
         ≡ spec.before_dot c.now.program.now c.now.class.0 (scope_in c.now)
         (placed_view target.now) }
@@ -56,7 +54,6 @@ pub fn before_dot(c: &Context, target: &Expr) -> Meaning
 }
 
 fn object_access(c: &Context, base: BaseType, name: NameNo) -> Access
-    requires few { Few c.now.program.now }
     ensures { access_of result ≡ spec.access_of c.now.program.now base name.0 }
 {
     match base {
@@ -77,7 +74,6 @@ fn object_access(c: &Context, base: BaseType, name: NameNo) -> Access
 
 /// What a field access names, where what stands before the dot means this and has the type.
 pub fn access_by(c: &Context, before: Meaning, base: BaseType, name: NameNo) -> Access
-    requires few { Few c.now.program.now }
     ensures { access_of result
         ≡ spec.access_by c.now.program.now (meaning_of c.now.faults.now before) base name.0 }
 {
@@ -93,7 +89,6 @@ pub fn access_by(c: &Context, before: Meaning, base: BaseType, name: NameNo) -> 
 
 /// What a field access names, where what stands before the dot has the type.
 pub fn access(c: &Context, target: &Expr, base: BaseType, name: NameNo) -> Access
-    requires few { Few c.now.program.now }
     ensures { access_of result
         ≡ spec.access c.now.program.now c.now.class.0 (scope_in c.now) (placed_view target.now) base
         name.0 }
@@ -102,7 +97,6 @@ pub fn access(c: &Context, target: &Expr, base: BaseType, name: NameNo) -> Acces
 }
 
 fn is_system(c: &Context, tree: &Expr) -> bool
-    requires few { Few c.now.program.now }
     ensures { result
         ≡ spec.is_system (spec.before_dot c.now.program.now c.now.class.0 (scope_in c.now)
         (placed_view tree.now)) }
@@ -115,7 +109,6 @@ fn is_system(c: &Context, tree: &Expr) -> bool
 
 #[tactic(auto, using(crate::proofs::Seen::output_field))]
 fn is_output(c: &Context, target: &Expr) -> bool
-    requires few { Few c.now.program.now }
     ensures { result
         ≡ spec.is_output c.now.program.now c.now.class.0 (scope_in c.now) (placed_view target.now) }
 {
@@ -131,7 +124,6 @@ fn is_output(c: &Context, target: &Expr) -> bool
 
 /// Whether a call with a dot is `System.out.println` of one value, where nothing else is named System.
 pub fn is_println(c: &Context, target: &Expr, name: NameNo, arity: usize) -> bool
-    requires few { Few c.now.program.now }
     ensures { result
         ≡ (spec.is_output c.now.program.now c.now.class.0 (scope_in c.now) (placed_view target.now)
         && eqb name.0 println_name && eqb arity 1) }
@@ -162,7 +154,6 @@ fn text_callee(name: NameNo, arity: usize) -> Callee
 }
 
 fn object_callee(c: &Context, base: BaseType, name: NameNo, arity: usize) -> Callee
-    requires few { Few c.now.program.now }
     ensures { callee_of result ≡ spec.callee_of c.now.program.now base name.0 arity }
 {
     match base {
@@ -181,7 +172,6 @@ fn object_callee(c: &Context, base: BaseType, name: NameNo, arity: usize) -> Cal
 
 /// What a call with a dot names but `println`, where what stands before the dot means this and has the type.
 pub fn callee_by(c: &Context, before: Meaning, base: BaseType, name: NameNo, arity: usize) -> Callee
-    requires few { Few c.now.program.now }
     ensures { callee_of result
         ≡ spec.callee_by c.now.program.now (meaning_of c.now.faults.now before) base name.0 arity }
 {
@@ -197,7 +187,6 @@ pub fn callee_by(c: &Context, before: Meaning, base: BaseType, name: NameNo, ari
 
 /// What a call with a dot names, where what stands before the dot has the type.
 pub fn callee(c: &Context, target: &Expr, base: BaseType, name: NameNo, arity: usize) -> Callee
-    requires few { Few c.now.program.now }
     ensures { callee_of result
         ≡ spec.callee c.now.program.now c.now.class.0 (scope_in c.now) (placed_view target.now) base
         name.0 arity }

@@ -4,7 +4,7 @@ ghost use Rattle.jn_points.specs.Members as spec;
 ghost use Rattle.jn_points.specs.Lookup.{class_info, field_base, method_at, parent_of, private_of, result_base_of, static_of};
 ghost use Rattle.jn_lowering.specs.Calls as calls;
 ghost use Rattle.jn_lowering.specs.Scopes as scopes;
-ghost use Rattle.jn_scopes.specs.Views.{Few};
+ghost use Rattle.jn_index.specs.Sizes.{Few};
 
 use crate::heads::{class_at, method_at};
 use jn_base::{ClassNo, FieldNo, MethodNo, NameNo};
@@ -14,10 +14,10 @@ use jn_points::{BaseType, Field, Program};
 
 /// The field that the class has for the name (JLS 8.2).
 pub fn field_of(program: &IndexedProgram, class: ClassNo, name: NameNo) -> Option<FieldNo>
-    requires few { Few program.now }
     ensures { MatchOption result (spec.field_of program.now class.0 name.0 ≡ None)
         (λ f. spec.field_of program.now class.0 name.0 ≡ Some f.0) }
 {
+    program.facts();
     let lists = program.program();
     match program.index() {
         Some(index) => fields::field_of(lists, index, class, name),
@@ -50,10 +50,10 @@ fn listed_field(program: &Program, class: ClassNo, name: NameNo) -> Option<Field
 
 /// The field of the name that the class itself declares (JLS 8.3).
 pub fn declared_field(program: &IndexedProgram, class: ClassNo, name: NameNo) -> Option<FieldNo>
-    requires few { Few program.now }
     ensures { MatchOption result (spec.declared_field program.now class.0 name.0 class.0 ≡ None)
         (λ f. spec.declared_field program.now class.0 name.0 class.0 ≡ Some f.0) }
 {
+    program.facts();
     let lists = program.program();
     match program.index() {
         Some(index) => match fields::declared_field(lists, index, class, name, class.0) {
@@ -83,10 +83,10 @@ pub fn method_of(
     name: NameNo,
     arity: usize,
 ) -> Option<MethodNo>
-    requires few { Few program.now }
     ensures { MatchOption result (spec.method_of program.now class.0 name.0 arity ≡ None)
         (λ m. spec.method_of program.now class.0 name.0 arity ≡ Some m.0) }
 {
+    program.facts();
     let lists = program.program();
     match program.index() {
         Some(index) => lookup::method_of(lists, index, class, name, arity),
@@ -111,10 +111,10 @@ fn listed_constructor(program: &Program, class: ClassNo, arity: usize) -> Option
 
 /// The constructor that the class declares for so many parameters (JLS 8.8).
 pub fn constructor_of(program: &IndexedProgram, class: ClassNo, arity: usize) -> Option<MethodNo>
-    requires few { Few program.now }
     ensures { MatchOption result (spec.constructor_of program.now class.0 arity ≡ None)
         (λ m. spec.constructor_of program.now class.0 arity ≡ Some m.0) }
 {
+    program.facts();
     let lists = program.program();
     match program.index() {
         Some(index) => lookup::constructor_of(lists, index, class, arity),
@@ -139,10 +139,10 @@ fn listed_class(program: &Program, name: NameNo) -> Option<ClassNo>
 
 /// The first class of the name.
 pub fn class_named(program: &IndexedProgram, name: NameNo) -> Option<ClassNo>
-    requires few { Few program.now }
     ensures { MatchOption result (scopes.class_named program.now name.0 ≡ None)
         (λ c. scopes.class_named program.now name.0 ≡ Some c.0) }
 {
+    program.facts();
     match program.index() {
         Some(index) => lookup::class_named(index, name),
         None => listed_class(program.program(), name),
@@ -151,9 +151,9 @@ pub fn class_named(program: &IndexedProgram, name: NameNo) -> Option<ClassNo>
 
 /// The first class of the name, or Object where none has it.
 pub fn class_or_object(program: &IndexedProgram, name: NameNo) -> ClassNo
-    requires few { Few program.now }
     ensures { result.0 ≡ scopes.or_zero (scopes.class_named program.now name.0) }
 {
+    program.facts();
     match class_named(program, name) {
         Some(class) => class,
         None => ClassNo(0),
@@ -181,10 +181,10 @@ pub fn super_method(
     name: NameNo,
     arity: usize,
 ) -> Option<MethodNo>
-    requires few { Few program.now }
     ensures { MatchOption result (scopes.super_method program.now class.0 name.0 arity ≡ None)
         (λ m. scopes.super_method program.now class.0 name.0 arity ≡ Some m.0) }
 {
+    program.facts();
     method_of(program, parent_or_object(program, class), name, arity)
 }
 

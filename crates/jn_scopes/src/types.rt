@@ -7,7 +7,7 @@ ghost use Rattle.jn_lowering.specs.Locals.{has_final};
 ghost use Rattle.jn_lowering.specs.Scopes as scopes;
 ghost use Rattle.jn_known.specs.Known.{nullable_name};
 ghost use Rattle.jn_places.specs.PlacedView.{placed_type_use, placed_view};
-ghost use Rattle.jn_scopes.specs.Views.{Few, access_of, callee_of, meaning_of, scope_in, type_in};
+ghost use Rattle.jn_scopes.specs.Views.{access_of, callee_of, meaning_of, scope_in, type_in};
 
 use crate::context::{Access, Callee, Context, Meaning};
 use crate::lookup::{access, callee, meaning};
@@ -199,7 +199,6 @@ pub fn callee_type(c: &Context, callee: Callee) -> BaseType
 
 /// The type of a call of the class's method by its name alone.
 pub fn own_type(c: &Context, name: NameNo, arity: usize) -> BaseType
-    requires few { Few c.now.program.now }
     ensures { result
         ≡ spec.result_type c.now.program.now
         (members.method_of c.now.program.now c.now.class.0 name.0 arity) }
@@ -212,7 +211,6 @@ pub fn own_type(c: &Context, name: NameNo, arity: usize) -> BaseType
 
 /// The type of a call of the superclass's method.
 pub fn super_type(c: &Context, name: NameNo, arity: usize) -> BaseType
-    requires few { Few c.now.program.now }
     ensures { result
         ≡ spec.result_type c.now.program.now
         (scopes.super_method c.now.program.now c.now.class.0 name.0 arity) }
@@ -257,7 +255,6 @@ pub fn is_class_use(base: Base) -> bool
 }
 
 fn elem_type(program: &IndexedProgram, base: Base, annotations: &[Annotation]) -> Elem
-    requires few { Few program.now }
     ensures { result ≡ spec.elem_type program.now base annotations.now }
 {
     match base {
@@ -269,7 +266,6 @@ fn elem_type(program: &IndexedProgram, base: Base, annotations: &[Annotation]) -
 
 /// The type of an array whose elements have the annotations (JLS 9.7.4).
 pub fn array_type(program: &IndexedProgram, base: Base, annotations: &[Annotation]) -> BaseType
-    requires few { Few program.now }
     ensures { result ≡ spec.array_type program.now base annotations.now }
 {
     BaseType::Array(
@@ -280,7 +276,6 @@ pub fn array_type(program: &IndexedProgram, base: Base, annotations: &[Annotatio
 
 /// The type without brackets that is written (JLS 4).
 pub fn simple_type(program: &IndexedProgram, base: Base) -> BaseType
-    requires few { Few program.now }
     ensures { result ≡ spec.simple_type program.now base }
 {
     match base {
@@ -296,7 +291,6 @@ pub fn type_of_use(
     type_use: &TypeUse,
     annotations: &[Annotation],
 ) -> BaseType
-    requires few { Few program.now }
     ensures { result ≡ spec.type_of_use program.now (placed_type_use type_use.now) annotations.now }
 {
     match &type_use.array {
@@ -307,7 +301,6 @@ pub fn type_of_use(
 
 /// Whether the expression is the name of a local.
 pub fn is_local(c: &Context, tree: &Expr) -> bool
-    requires few { Few c.now.program.now }
     ensures { result
         ≡ spec.is_local c.now.program.now c.now.class.0 (scope_in c.now) (placed_view tree.now) }
 {
@@ -342,7 +335,6 @@ pub fn assign_type(
 #[tactic(auto, using(crate::proofs::Typing::typed_call, crate::proofs::Typing::typed_own_call, crate::proofs::Typing::typed_super_call))]
 /// The type of the register in which the expression's value stands.
 pub fn type_of(tree: &Expr, c: &Context) -> BaseType
-    requires few { Few c.now.program.now }
     ensures { result ≡ type_in c.now (placed_view tree.now) }
 {
     match tree {

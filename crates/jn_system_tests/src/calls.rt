@@ -152,7 +152,7 @@ fn contributes_by_overriding(rt: HostRuntime) {
     let alloc = rt.alloc();
     let program = made(&rt, alloc);
     let sig = started(&rt, alloc, &program);
-    let Ok(indexed) = IndexedProgram::new(alloc, program) else {
+    let Ok(Some(indexed)) = IndexedProgram::new(alloc, program) else {
         panic!(rt; "no memory")
     };
     expect_pairs(&rt, alloc, &indexed, &sig);
@@ -211,7 +211,7 @@ fn looks_up_members(rt: HostRuntime) {
     let program = made(&rt, alloc);
     assert!(rt; program.methods.as_slice().len() <= u32::MAX as usize);
     assert_eq!(rt; dispatch(&program, SECOND, MethodNo(2)), Some(AGAIN));
-    let Ok(indexed) = IndexedProgram::new(alloc, program) else {
+    let Ok(Some(indexed)) = IndexedProgram::new(alloc, program) else {
         panic!(rt; "no memory")
     };
     expect_members(&rt, &indexed);

@@ -17,7 +17,7 @@ fn program(rt: &impl Abort, alloc: Global) -> IndexedProgram {
     let Ok(program) = round_of_calls(alloc) else {
         panic!(rt; "no memory")
     };
-    let Ok(indexed) = IndexedProgram::new(alloc, program) else {
+    let Ok(Some(indexed)) = IndexedProgram::new(alloc, program) else {
         panic!(rt; "no memory")
     };
     indexed

@@ -9,7 +9,7 @@ ghost use Rattle.jn_meaning.specs.Expressions.{Caller, meant};
 ghost use Rattle.jn_meaning.specs.Operations as ops;
 ghost use Rattle.jn_places.specs.PlacedView.{placed_declarator, placed_declarators, placed_member, placed_members, placed_statements, placed_view, placed_views};
 ghost use Rattle.jn_points.specs.declared.program.Program as program;
-ghost use Rattle.jn_scopes.specs.Views.{Few, scope_in};
+ghost use Rattle.jn_scopes.specs.Views.{scope_in};
 ghost use Rattle.jn_tree_expr.specs.Meaning.{Calls, number_of};
 ghost use Rattle.jn_tree_world.specs.Outcomes.{Found, Means, MeansAs};
 ghost use Rattle.jn_tree_world.specs.Worlds.{items_in, world_of};
@@ -114,7 +114,6 @@ fn call_ctor<F: Fn(usize, Vec<Value>, &mut World) -> Result<Option<Value>, Halt>
     call: &F,
     w: &mut World,
 ) -> Result<(), Halt>
-    requires few { Few c.now.program.now }
     requires callable { F.IsAlwaysCallable call.now }
     ensures { (turns k : ℕ) (m : Caller) → c.now.class.0 ≡ source.class c.now.program.now k
         → Calls F.post call.now m
@@ -134,7 +133,6 @@ fn call_unwritten<F: Fn(usize, Vec<Value>, &mut World) -> Result<Option<Value>, 
     call: &F,
     w: &mut World,
 ) -> Result<(), Halt>
-    requires few { Few c.now.program.now }
     requires callable { F.IsAlwaysCallable call.now }
     ensures { (turns k : ℕ) (m : Caller) → c.now.class.0 ≡ source.class c.now.program.now k
         → Calls F.post call.now m
@@ -156,7 +154,6 @@ pub fn construct<F: Fn(usize, Vec<Value>, &mut World) -> Result<Option<Value>, H
     call: &F,
     w: &mut World,
 ) -> Result<(), Halt>
-    requires few { Few c.now.program.now }
     requires callable { F.IsAlwaysCallable call.now }
     ensures { (turns k : ℕ) (m : Caller) → c.now.class.0 ≡ source.class c.now.program.now k
         → Calls F.post call.now m
@@ -185,7 +182,6 @@ fn first_value<F: Fn(usize, Vec<Value>, &mut World) -> Result<Option<Value>, Hal
     call: &F,
     w: &mut World,
 ) -> Result<Option<Value>, Halt>
-    requires few { Few b.now.program.now }
     requires callable { F.IsAlwaysCallable call.now }
     ensures { (m : Caller) → Calls F.post call.now m
         → Means ((meant b.now.program.now names.now usual_limits.longest m b.now.class.0 []
@@ -206,7 +202,6 @@ fn write_first<F: Fn(usize, Vec<Value>, &mut World) -> Result<Option<Value>, Hal
     call: &F,
     w: &mut World,
 ) -> Result<(), Halt>
-    requires few { Few b.now.program.now }
     requires callable { F.IsAlwaysCallable call.now }
     ensures { (turns k : ℕ) (m : Caller) → b.now.class.0 ≡ source.class b.now.program.now k
         → Calls F.post call.now m
@@ -238,7 +233,6 @@ fn initialize<F: Fn(usize, Vec<Value>, &mut World) -> Result<Option<Value>, Halt
     call: &F,
     w: &mut World,
 ) -> Result<(), Halt>
-    requires few { Few b.now.program.now }
     requires callable { F.IsAlwaysCallable call.now }
     ensures { (turns k : ℕ) (m : Caller) → b.now.class.0 ≡ source.class b.now.program.now k
         → Calls F.post call.now m
@@ -262,7 +256,6 @@ fn initialize_all<F: Fn(usize, Vec<Value>, &mut World) -> Result<Option<Value>, 
     call: &F,
     w: &mut World,
 ) -> Result<(), Halt>
-    requires few { Few b.now.program.now }
     requires callable { F.IsAlwaysCallable call.now }
     ensures { (turns k : ℕ) (m : Caller) → b.now.class.0 ≡ source.class b.now.program.now k
         → Calls F.post call.now m
@@ -283,7 +276,6 @@ fn initialize_member<F: Fn(usize, Vec<Value>, &mut World) -> Result<Option<Value
     call: &F,
     w: &mut World,
 ) -> Result<(), Halt>
-    requires few { Few b.now.program.now }
     requires callable { F.IsAlwaysCallable call.now }
     ensures { (turns k : ℕ) (m : Caller) → b.now.class.0 ≡ source.class b.now.program.now k
         → Calls F.post call.now m
@@ -309,7 +301,6 @@ pub fn initializers<F: Fn(usize, Vec<Value>, &mut World) -> Result<Option<Value>
     call: &F,
     w: &mut World,
 ) -> Result<(), Halt>
-    requires few { Few b.now.program.now }
     requires callable { F.IsAlwaysCallable call.now }
     ensures { (turns k : ℕ) (m : Caller) → b.now.class.0 ≡ source.class b.now.program.now k
         → Calls F.post call.now m

@@ -4,7 +4,6 @@ ghost use Rattle.jn_meaning.specs.Expressions.{Caller};
 ghost use Rattle.jn_meaning.specs.Statements as spec;
 ghost use Rattle.jn_places.specs.Placed.{PlacedFor, PlacedForEach, PlacedIf};
 ghost use Rattle.jn_places.specs.PlacedView.{placed_init, placed_optional, placed_statement, placed_statements, placed_type_use, placed_view, placed_views};
-ghost use Rattle.jn_scopes.specs.Views.{Few};
 ghost use Rattle.jn_base.specs.declared.place.Span.{Span};
 ghost use Rattle.jn_tree_expr.specs.Meaning.{Calls};
 ghost use Rattle.jn_tree_world.specs.Outcomes.{MeansAs};
@@ -36,7 +35,6 @@ pub fn execute_all<F: Fn(usize, Vec<Value>, &mut World) -> Result<Option<Value>,
     st: &mut Standing,
     w: &mut World,
 ) -> Result<Flow, Halt>
-    requires few { Few b.now.program.now }
     requires callable { F.IsAlwaysCallable call.now }
     ensures means { (m : Caller) → Calls F.post call.now m
         → MeansAs flow_of (all_run_at b.now names.now m turns (standing_of st.old)
@@ -63,7 +61,6 @@ fn execute<F: Fn(usize, Vec<Value>, &mut World) -> Result<Option<Value>, Halt>>(
     st: &mut Standing,
     w: &mut World,
 ) -> Result<Flow, Halt>
-    requires few { Few b.now.program.now }
     requires callable { F.IsAlwaysCallable call.now }
     ensures means { (m : Caller) → Calls F.post call.now m
         → MeansAs flow_of (runs_at b.now names.now m turns (standing_of st.old)
@@ -89,7 +86,6 @@ fn inside<F: Fn(usize, Vec<Value>, &mut World) -> Result<Option<Value>, Halt>>(
     st: &mut Standing,
     w: &mut World,
 ) -> Result<Flow, Halt>
-    requires few { Few b.now.program.now }
     requires callable { F.IsAlwaysCallable call.now }
     ensures means { (m : Caller) → Calls F.post call.now m
         → MeansAs flow_of (runs_at b.now names.now m turns (standing_of st.old)
@@ -146,7 +142,6 @@ fn if_then<F: Fn(usize, Vec<Value>, &mut World) -> Result<Option<Value>, Halt>>(
     st: &mut Standing,
     w: &mut World,
 ) -> Result<Flow, Halt>
-    requires few { Few b.now.program.now }
     requires callable { F.IsAlwaysCallable call.now }
     ensures means { (m : Caller) → Calls F.post call.now m
         → (span : Span) → MeansAs flow_of (runs_at b.now names.now m turns (standing_of st.old)
@@ -172,7 +167,6 @@ fn if_else<F: Fn(usize, Vec<Value>, &mut World) -> Result<Option<Value>, Halt>>(
     st: &mut Standing,
     w: &mut World,
 ) -> Result<Flow, Halt>
-    requires few { Few b.now.program.now }
     requires callable { F.IsAlwaysCallable call.now }
     requires branches { has_else (placed_statement tree.now) ≡ true }
     ensures means { (m : Caller) → Calls F.post call.now m
@@ -209,7 +203,6 @@ fn turn<F: Fn(usize, Vec<Value>, &mut World) -> Result<Option<Value>, Halt>>(
     st: &mut Standing,
     w: &mut World,
 ) -> Result<Option<Flow>, Halt>
-    requires few { Few b.now.program.now }
     requires callable { F.IsAlwaysCallable call.now }
     ensures means { (m : Caller) → Calls F.post call.now m
         → MeansAs left_of (round (runs_at b.now names.now m turns (standing_of st.old)
@@ -239,7 +232,6 @@ fn repeat<F: Fn(usize, Vec<Value>, &mut World) -> Result<Option<Value>, Halt>>(
     st: &mut Standing,
     w: &mut World,
 ) -> Result<Flow, Halt>
-    requires few { Few b.now.program.now }
     requires callable { F.IsAlwaysCallable call.now }
     ensures means { (m : Caller) → Calls F.post call.now m
         → MeansAs flow_of (spec.repeated turns
@@ -273,7 +265,6 @@ fn repeat_endless<F: Fn(usize, Vec<Value>, &mut World) -> Result<Option<Value>, 
     st: &mut Standing,
     w: &mut World,
 ) -> Result<Flow, Halt>
-    requires few { Few b.now.program.now }
     requires callable { F.IsAlwaysCallable call.now }
     ensures means { (m : Caller) → Calls F.post call.now m
         → MeansAs flow_of (spec.endless turns
@@ -307,7 +298,6 @@ fn repeat_for<F: Fn(usize, Vec<Value>, &mut World) -> Result<Option<Value>, Halt
     st: &mut Standing,
     w: &mut World,
 ) -> Result<Flow, Halt>
-    requires few { Few b.now.program.now }
     requires callable { F.IsAlwaysCallable call.now }
     ensures means { (m : Caller) → Calls F.post call.now m
         → (span : Span) → MeansAs flow_of (runs_at b.now names.now m turns (standing_of st.old)
@@ -335,7 +325,6 @@ fn turn_do<F: Fn(usize, Vec<Value>, &mut World) -> Result<Option<Value>, Halt>>(
     st: &mut Standing,
     w: &mut World,
 ) -> Result<Option<Flow>, Halt>
-    requires few { Few b.now.program.now }
     requires callable { F.IsAlwaysCallable call.now }
     ensures means { (m : Caller) → Calls F.post call.now m
         → MeansAs left_of (done_round
@@ -364,7 +353,6 @@ fn end_do<F: Fn(usize, Vec<Value>, &mut World) -> Result<Option<Value>, Halt>>(
     st: &mut Standing,
     w: &mut World,
 ) -> Result<Flow, Halt>
-    requires few { Few b.now.program.now }
     requires callable { F.IsAlwaysCallable call.now }
     ensures means { (m : Caller) → Calls F.post call.now m
         → MeansAs flow_of (spec.done_while 0
@@ -397,7 +385,6 @@ fn repeat_do<F: Fn(usize, Vec<Value>, &mut World) -> Result<Option<Value>, Halt>
     st: &mut Standing,
     w: &mut World,
 ) -> Result<Flow, Halt>
-    requires few { Few b.now.program.now }
     requires callable { F.IsAlwaysCallable call.now }
     ensures means { (m : Caller) → Calls F.post call.now m
         → MeansAs flow_of (spec.done_while turns
@@ -427,7 +414,6 @@ fn turn_each<F: Fn(usize, Vec<Value>, &mut World) -> Result<Option<Value>, Halt>
     st: &mut Standing,
     w: &mut World,
 ) -> Result<Option<Flow>, Halt>
-    requires few { Few b.now.program.now }
     requires callable { F.IsAlwaysCallable call.now }
     ensures means { (m : Caller) → Calls F.post call.now m
         → (r : ℕ) → IsHidden locals r → MeansAs left_of (round
@@ -457,7 +443,6 @@ fn repeat_each<F: Fn(usize, Vec<Value>, &mut World) -> Result<Option<Value>, Hal
     st: &mut Standing,
     w: &mut World,
 ) -> Result<Flow, Halt>
-    requires few { Few b.now.program.now }
     requires callable { F.IsAlwaysCallable call.now }
     ensures means { (m : Caller) → Calls F.post call.now m
         → (r : ℕ) → IsHidden locals r → MeansAs flow_of (spec.repeated turns
@@ -492,7 +477,6 @@ fn for_each<F: Fn(usize, Vec<Value>, &mut World) -> Result<Option<Value>, Halt>>
     st: &mut Standing,
     w: &mut World,
 ) -> Result<Flow, Halt>
-    requires few { Few b.now.program.now }
     requires callable { F.IsAlwaysCallable call.now }
     ensures means { (m : Caller) → Calls F.post call.now m
         → (span : Span) → MeansAs flow_of (runs_at b.now names.now m turns (standing_of st.old)

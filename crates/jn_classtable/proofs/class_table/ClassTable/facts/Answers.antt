@@ -4,7 +4,7 @@ use Rattle.jn_heads.specs.Inferred.{Tabled}
 use Rattle.jn_heads.specs.Heads.{all_heads}
 use Rattle.jn_classtable.specs.Table.{bodies_of_all, program_with, table}
 use Rattle.jn_classtable.specs.Rows.{called}
-use Rattle.jn_declaration_rules.specs.Sizes.{ParamsFit}
+use Rattle.jn_index.specs.Sizes.{ParamsFit}
 use Rattle.jn_classtable.specs.RegularTable.{RegularTable}
 use Rattle.jn_classtable.proofs.Classes.{size_is}
 use Rattle.jn_classtable.proofs.Whole.{table_regular}
