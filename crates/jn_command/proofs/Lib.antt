@@ -1,4 +1,2 @@
-pub mod Boxing
-pub mod Choosing
 pub mod Showing
 pub mod Standing

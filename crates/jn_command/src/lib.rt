@@ -1,11 +1,10 @@
 //! What a command is, apart from what a report of files says and what its words ask for: how a report is shown, and what status and
 //! which bytes belong to each answer (`specs/Answer.antt`).
 //!
-//! [`choose::choose`] takes a reporter by its name, [`show::show`] and [`show::show_noted`] show a [`Report`] by it, the second with
-//! [`noted::Notes`] of its rows, and [`output::write`] writes what was made and gives the [`Status`].
+//! [`show::show`] and [`show::show_noted`] show a [`Report`] by a reporter, the second with [`noted::Notes`] of its rows, and
+//! [`output::write`] writes what was made and gives the [`Status`].
 #![tactic(auto)]
 
-pub mod choose;
 pub mod made;
 pub mod noted;
 pub mod output;

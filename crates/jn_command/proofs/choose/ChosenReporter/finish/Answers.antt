@@ -1,5 +1,0 @@
-use Rattle.jn_command.proofs.Boxing.{left_same}
-use Rattle.jn_command.proofs.choose.ChosenReporter.finish.Goals as goal
-
-pub returns-clause-err : goal.returns-clause-err
-returns-clause-err g c = left_same c.finish.result (λ p. record { reporter = record { ptr = c.args.self.now.reporter.ptr; vtable = p.0; alloc = c.args.self.now.reporter.alloc; value = p.1 } }) _ (c.args.self.now.reporter.vtable, c.args.self.now.reporter.value) c.finish.new.self c.deref_box_mut-1.ensures.value.1 c.finish.ensures.1.0
