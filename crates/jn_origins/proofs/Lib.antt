@@ -2,4 +2,5 @@ pub mod Steps
 pub mod Finding
 pub mod Beyond
 mod Skipping
+pub mod Leads
 mod Sending

@@ -32,16 +32,16 @@ use Rattle.jn_origins.proofs.Steps.{all_tasks, no_such}
 
 -- ---- numbers in lists
 
-of_left : (x : ℕ) (xs ys : List ℕ) → IsOf x xs → IsOf x (xs ++ ys)
+pub of_left : (x : ℕ) (xs ys : List ℕ) → IsOf x xs → IsOf x (xs ++ ys)
 of_left x [] ys h = absurd h
 of_left x (y ∷ xs) ys (inl e) = inl e
 of_left x (y ∷ xs) ys (inr h) = inr (of_left x xs ys h)
 
-of_right : (x : ℕ) (xs ys : List ℕ) → IsOf x ys → IsOf x (xs ++ ys)
+pub of_right : (x : ℕ) (xs ys : List ℕ) → IsOf x ys → IsOf x (xs ++ ys)
 of_right x [] ys h = h
 of_right x (y ∷ xs) ys h = inr (of_right x xs ys h)
 
-of_either : (x : ℕ) (xs ys : List ℕ) → IsOf x (xs ++ ys) → IsOf x xs ⊎ IsOf x ys
+pub of_either : (x : ℕ) (xs ys : List ℕ) → IsOf x (xs ++ ys) → IsOf x xs ⊎ IsOf x ys
 of_either x [] ys h = inr h
 of_either x (y ∷ xs) ys (inl e) = inl (inl e)
 of_either x (y ∷ xs) ys (inr h) = ⊎_elim (λ (g : IsOf x xs). inl (inr g)) (λ (g : IsOf x ys). inr g) (of_either x xs ys h)
@@ -294,32 +294,32 @@ module _ (P : Program) (k : ℕ) (bit : Bit) where
 
 -- ---- causes in lists
 
-listed_left : (c : Cause) (xs ys : List Cause) → IsListed c xs → IsListed c (xs ++ ys)
+pub listed_left : (c : Cause) (xs ys : List Cause) → IsListed c xs → IsListed c (xs ++ ys)
 listed_left c [] ys h = absurd h
 listed_left c (x ∷ xs) ys (inl e) = inl e
 listed_left c (x ∷ xs) ys (inr h) = inr (listed_left c xs ys h)
 
-listed_right : (c : Cause) (xs ys : List Cause) → IsListed c ys → IsListed c (xs ++ ys)
+pub listed_right : (c : Cause) (xs ys : List Cause) → IsListed c ys → IsListed c (xs ++ ys)
 listed_right c [] ys h = h
 listed_right c (x ∷ xs) ys h = inr (listed_right c xs ys h)
 
-listed_either : (c : Cause) (xs ys : List Cause) → IsListed c (xs ++ ys) → IsListed c xs ⊎ IsListed c ys
+pub listed_either : (c : Cause) (xs ys : List Cause) → IsListed c (xs ++ ys) → IsListed c xs ⊎ IsListed c ys
 listed_either c [] ys h = inr h
 listed_either c (x ∷ xs) ys (inl e) = inl (inl e)
 listed_either c (x ∷ xs) ys (inr h) = ⊎_elim (λ (g : IsListed c xs). inl (inr g)) (λ (g : IsListed c ys). inr g) (listed_either c xs ys h)
 
-record IsBelow (f : ℕ → List Cause) (n : ℕ) (c : Cause) : Type 0 where
+pub record IsBelow (f : ℕ → List Cause) (n : ℕ) (c : Cause) : Type 0 where
   pub number : ℕ
   pub below : number < n
   pub listed : IsListed c (f number)
 
-in_firsts : (f : ℕ → List Cause) (n : ℕ) (c : Cause) → IsListed c (firsts f n) → IsBelow f n c
+pub in_firsts : (f : ℕ → List Cause) (n : ℕ) (c : Cause) → IsListed c (firsts f n) → IsBelow f n c
 in_firsts f zero c h = absurd h
 in_firsts f (suc n) c h =
     ⊎_elim (λ (g : IsListed c (firsts f n)). let r = in_firsts f n c g in let lt = r.below in record { number = r.number; below = omega (arith, lt); listed = r.listed })
     (λ (g : IsListed c (f n)). record { number = n; below = omega arith; listed = g }) (listed_either c (firsts f n) (f n) h)
 
-to_firsts : (f : ℕ → List Cause) (n i : ℕ) (c : Cause) → i < n → IsListed c (f i) → IsListed c (firsts f n)
+pub to_firsts : (f : ℕ → List Cause) (n i : ℕ) (c : Cause) → i < n → IsListed c (f i) → IsListed c (firsts f n)
 to_firsts f zero i c lt h = absurd (omega (arith, lt))
 to_firsts f (suc n) i c lt h = by (λ (less : i < n). to_firsts f n i c less h) (cases_lt i n)
   where
@@ -327,12 +327,12 @@ to_firsts f (suc n) i c lt h = by (λ (less : i < n). to_firsts f n i c less h) 
     by before (inl less) = listed_left c (firsts f n) (f n) (before less)
     by before (inr le) = let same : i ≡ n = omega (arith, lt, le) in listed_right c (firsts f n) (f n) (subst (λ (j : ℕ). IsListed c (f j)) same h)
 
-to_over : (f : ℕ → List Cause) (xs : List ℕ) (x : ℕ) (c : Cause) → IsOf x xs → IsListed c (f x) → IsListed c (over f xs)
+pub to_over : (f : ℕ → List Cause) (xs : List ℕ) (x : ℕ) (c : Cause) → IsOf x xs → IsListed c (f x) → IsListed c (over f xs)
 to_over f [] x c o h = absurd o
 to_over f (y ∷ xs) x c (inl e) h = listed_left c (f y) (over f xs) (subst (λ (j : ℕ). IsListed c (f j)) e h)
 to_over f (y ∷ xs) x c (inr o) h = listed_right c (f y) (over f xs) (to_over f xs x c o h)
 
-in_over : (f : ℕ → List Cause) (xs : List ℕ) (c : Cause) → IsListed c (over f xs) → (x : ℕ) × IsListed c (f x)
+pub in_over : (f : ℕ → List Cause) (xs : List ℕ) (c : Cause) → IsListed c (over f xs) → (x : ℕ) × IsListed c (f x)
 in_over f [] c h = absurd h
 in_over f (y ∷ xs) c h = ⊎_elim (λ (g : IsListed c (f y)). (y, g)) (λ (g : IsListed c (over f xs)). in_over f xs c g) (listed_either c (f y) (over f xs) h)
 

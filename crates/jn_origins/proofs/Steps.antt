@@ -22,7 +22,7 @@ use Rattle.jn_reasons_law.specs.declared.item.Place.TheVariants.{OfSlot, OfBody}
 use Rattle.jn_reasons_law.specs.Items.{on}
 use Rattle.jn_reasons_law.specs.Sources.{the_text, at_entry}
 use Rattle.jn_reasons.specs.declared.causes.Cause.{Cause}
-use Rattle.jn_reasons.specs.Listed.{firsts, placed, sent_at, sent_by, body_causes, started, pair_causes, over_point, carried, entered, task_causes, causes}
+use Rattle.jn_reasons.specs.Listed.{firsts, placed, sent_at, sent_by, body_causes, started, pair_causes, carried, entered, task_causes, causes}
 use Rattle.jn_origins.specs.Standing.{AreSized}
 
 abbrev nothing : List Cause
@@ -60,7 +60,7 @@ method_there [] j d lt = absurd (omega (arith, lt))
 method_there (x ∷ list) zero d lt = refl
 method_there (x ∷ list) (suc j) d lt = method_there list j d (omega (arith, lt))
 
-there : (A : Type 0) (list : List A) (j : ℕ) (d : A) → j < length list → slice_get list j ≡ Some (slice_index_or list j d)
+pub there : (A : Type 0) (list : List A) (j : ℕ) (d : A) → j < length list → slice_get list j ≡ Some (slice_index_or list j d)
 there A [] j d lt = absurd (omega (arith, lt))
 there A (x ∷ list) zero d lt = refl
 there A (x ∷ list) (suc j) d lt = there A list j d (omega (arith, lt))
@@ -103,7 +103,7 @@ module _ (P : Program) (s : List Qualifier) (tables : List Table) (k : ℕ) (bit
       ∙ ap (λ (xs : List Cause). started P k bit ++ xs) (sym both)
       ∙ ap (λ (n : ℕ). started P k bit ++ firsts F (B + n)) (as_many P list h)
 
-point_is : (P : Program) (b : ℕ) (points : List Point) (at : ℕ) (pt : Point) → points ≡ points_of (body_at P b) → at < length points → pt ≡ slice_index_or points at pt → point_at P b at ≡ Some pt
+pub point_is : (P : Program) (b : ℕ) (points : List Point) (at : ℕ) (pt : Point) → points ≡ points_of (body_at P b) → at < length points → pt ≡ slice_index_or points at pt → point_at P b at ≡ Some pt
 point_is P b points at pt is lt e = ap (λ (l : List Point). slice_get l at) (sym is) ∙ there Point points at pt lt ∙ sym (ap Some e)
 
 -- a point more
@@ -114,14 +114,6 @@ pub sent_more : (P : Program) (b : ℕ) (T : Table) (k : ℕ) (bit : Bit) (point
     → new ≡ old ++ firsts (sent_by P b T k bit) (at + 1)
 sent_more P b T k bit points at pt old list new is lt e h l =
     firsts_more (sent_by P b T k bit) at old list new (sent_at P b k bit at (Some pt) (env_in T at)) (ap (λ (o : Option Point). sent_at P b k bit at o (env_in T at)) (sym (point_is P b points at pt is lt e))) h l
-
-pub carried_more : (P : Program) (s : List Qualifier) (b : ℕ) (T : Table) (p r : ℕ) (bit : Bit) (points : List Point) (at : ℕ) (pt : Point) (old list new : List Cause)
-    → points ≡ points_of (body_at P b) → at < length points → pt ≡ slice_index_or points at pt
-    → new ≡ list ++ over_point P s b p r bit at (Some pt) (env_in T at)
-    → list ≡ old ++ firsts (carried P s b T p r bit) at
-    → new ≡ old ++ firsts (carried P s b T p r bit) (at + 1)
-carried_more P s b T p r bit points at pt old list new is lt e h l =
-    firsts_more (carried P s b T p r bit) at old list new (over_point P s b p r bit at (Some pt) (env_in T at)) (ap (λ (o : Option Point). over_point P s b p r bit at o (env_in T at)) (sym (point_is P b points at pt is lt e))) h l
 
 pub no_such : (xs : List Body) (n : ℕ) → length xs ≤ n → slice_get xs n ≡ None
 no_such [] n le = refl

@@ -4,7 +4,6 @@ use Rattle.jn_quals.specs.Qualifier.{Qualifier}
 use Rattle.jn_quals.specs.Order.{no_qual}
 use Rattle.jn_points.specs.declared.program.Program.{Program}
 use Rattle.jn_sigs.specs.Signature.{start_signature}
-use Rattle.jn_env.specs.ClassFields.{AreOwnFields}
 use Rattle.jn_env.specs.Environment.{Env}
 use Rattle.jn_env.specs.Order.{Table, env_in, qual_at}
 use Rattle.jn_env.specs.Sized.{Sized}
@@ -16,6 +15,8 @@ use Rattle.jn_reasons_law.specs.declared.item.Item.{Item}
 use Rattle.jn_reasons_law.specs.declared.item.Item.TheVariants.{AtSlot, AtRegister}
 use Rattle.jn_reasons_law.specs.Items.{on}
 use Rattle.jn_reasons.specs.declared.causes.Cause.{Cause}
+use Rattle.jn_origins.specs.declared.bodies.KnownBody.{KnownBody}
+use Rattle.jn_origins.specs.Leading.{AreKnown}
 use Rattle.jn_origins.specs.Targets.{AreSenders}
 
 -- the table of each body has environments of that body
@@ -23,10 +24,10 @@ abbrev pub AreSized : Program → List Table → Type 0
 AreSized P tables = (b : ℕ) → b < length P.bodies → Sized P b (slice_index_or tables b [])
 
 -- what is found once of a program with its tables
-pub record AreParts (P : Program) (tables : List Table) (fields : List (List ℕ)) (start : List Qualifier) (list : List Overrider) (lists : List (List ℕ)) : Type 0 where
+pub record AreParts (P : Program) (tables : List Table) (bodies : List KnownBody) (start : List Qualifier) (list : List Overrider) (lists : List (List ℕ)) : Type 0 where
   pub inferable : IsInferable P
   pub sized : AreSized P tables
-  pub own : AreOwnFields P fields
+  pub known : AreKnown P bodies
   pub starts : start ≡ start_signature P
   pub overriders : AreOverriders P list
   pub senders : AreSenders P lists

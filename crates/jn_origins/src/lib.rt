@@ -5,6 +5,7 @@
 #![tactic(auto)]
 
 pub mod adding;
+pub mod bodies;
 pub mod law;
 pub mod origins;
 pub mod registers;

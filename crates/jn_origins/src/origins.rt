@@ -5,6 +5,7 @@ ghost use Rattle.jn_reasons.specs.Listed.{causes};
 ghost use Rattle.jn_origins.specs.Standing.{AreSized, standing};
 ghost use Rattle.jn_origins.specs.Targets.{AreSame};
 
+use crate::bodies::{KnownBody, find_known};
 use crate::registers::{Wanted, register_causes};
 use crate::senders::find_senders;
 use crate::slots::slot_causes;
@@ -22,15 +23,15 @@ use jn_sigs::{Sig, start};
 use std::alloc::Global;
 use std::marker::Model;
 
-/// A program, a signature, and a table for each body, with the fields of classes, the signature from which inference starts, the methods that
+/// A program, a signature, and a table for each body, with the keys and jumps of bodies, the signature from which inference starts, the methods that
 /// override and the bodies that can send to each slot, which are found once. Contracts see the first three. A question for a slot passes over the
-/// bodies that can send to it, and one for a register over its body.
+/// bodies that can send to it, and one for a register over the points that lead to its own.
 #[derive(Drop)]
 pub struct LeastOrigins<'a> {
     program: &'a Program,
     sig: &'a Sig,
     tables: &'a [FlowTable],
-    fields: OwnFields,
+    bodies: Vec<KnownBody>,
     start: Sig,
     overriders: Vec<Overrider>,
     senders: Vec<Seq<u32>>,
@@ -44,7 +45,7 @@ impl<'a> Model for LeastOrigins<'a> {
 
     ghost view = { λ o. record { program = o.program.now; sig = o.sig.now; tables = o.tables.now } };
 
-    ghost invariant = { λ o. AreParts o.program.now o.tables.now o.fields o.start o.overriders.items o.senders.items };
+    ghost invariant = { λ o. AreParts o.program.now o.tables.now o.bodies.items o.start o.overriders.items o.senders.items };
 }
 
 impl<'a> LeastOrigins<'a> {
@@ -67,12 +68,13 @@ impl<'a> LeastOrigins<'a> {
         let fields = OwnFields::new(alloc, program.program())?;
         let start = start(alloc, program.program())?;
         let overriders = overriders(alloc, program)?;
-        let senders = find_senders(alloc, program.program(), &fields)?;
+        let bodies = find_known(alloc, program.program(), &fields)?;
+        let senders = find_senders(alloc, program.program(), &bodies)?;
         Ok(LeastOrigins {
             program: program.program(),
             sig,
             tables,
-            fields,
+            bodies,
             start,
             overriders,
             senders,
@@ -90,7 +92,7 @@ impl<'a> LeastOrigins<'a> {
                 self.program,
                 self.sig,
                 self.tables,
-                &self.fields,
+                &self.bodies,
                 &self.start,
                 &self.overriders,
                 &self.senders,
@@ -108,7 +110,7 @@ impl<'a> LeastOrigins<'a> {
                     self.program,
                     self.sig,
                     self.tables,
-                    &self.fields,
+                    &self.bodies,
                     BodyNo(body),
                     wanted,
                 )?;

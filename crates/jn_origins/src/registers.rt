@@ -1,23 +1,25 @@
 //! The causes of a register's bit before a point.
 ghost use Rattle.std.specs.Prelude.{◌≡◌, ◌<◌, ◌+◌, ◌^◌, ◌++◌, ◌&&◌, IfOk, OnOk, Some, eqb, length};
 ghost use Rattle.jn_points.specs.Lookup.{body_at, points_of, method_in};
-ghost use Rattle.jn_env.specs.ClassFields.{AreOwnFields};
 ghost use Rattle.jn_env.specs.Order.{env_in, qual_at};
 ghost use Rattle.jn_env.specs.Sized.{EnvSized, Sized};
 ghost use Rattle.jn_reasons_law.specs.declared.item.Item.TheVariants.{AtRegister};
 ghost use Rattle.jn_reasons_law.specs.declared.item.Place.TheVariants.{OfBody, OfPoint};
 ghost use Rattle.jn_reasons_law.specs.Items.{on};
 ghost use Rattle.jn_reasons_law.specs.Sources.{at_entry, behind};
-ghost use Rattle.jn_reasons.specs.Listed.{placed, firsts, over_edge, over_edges, over_point, entered, carried, causes};
+ghost use Rattle.jn_reasons.specs.Listed.{placed, over_edge, over_edges, over_point, entered, carried, causes};
 ghost use Rattle.jn_reasons.specs.Listed as spec;
-ghost use Rattle.jn_origins.specs.Leading.{leads};
+ghost use Rattle.jn_origins.specs.Leading.{AreJumps, AreKnown, leads, previous};
 ghost use Rattle.jn_origins.specs.Standing.{AreSized};
+ghost use Rattle.jn_origins.specs.Targets.{AreSame, over};
 ghost use Rattle.jn_tables_law.specs.Inferable.{IsInferable};
+ghost use Rattle.jn_transfer.specs.Sized.{StaysInside};
 
 use crate::adding::{add_placed, is_on};
+use crate::bodies::{KnownBody, jumps_to, known_of};
 use crate::slots::table_of;
-use jn_base::{BodyNo, OutOfMemory, PointNo, RegNo};
-use jn_env::{Env, FlowTable, OwnFields, env_at, find_keys_by};
+use jn_base::{BodyNo, OutOfMemory, PointNo, RegNo, Seq};
+use jn_env::{Env, FlowTable, env_at};
 use jn_points::{Point, PointKind, Program};
 use jn_reasons::{Asked, Cause, Spot, add_behind, add_entry};
 use jn_reasons_law::{Bit, Place};
@@ -188,8 +190,44 @@ fn add_reached(
     Ok(())
 }
 
-/// Over the points of a body.
-fn add_points(
+/// Over a point of a body, where it is there.
+#[tactic(auto, using(crate::proofs::Leads::carried_at, crate::proofs::Leads::carried_past))]
+fn add_at(
+    alloc: Global,
+    analysis: &Analysis,
+    list: &mut Vec<Cause>,
+    points: &[Point],
+    slots: &[Option<Env>],
+    at: u32,
+    wanted: Wanted,
+) -> Result<(), OutOfMemory>
+    requires points { points.now ≡ points_of (body_at analysis.now.program analysis.now.body) }
+    requires short { length points.now < 2 ^ 32 }
+    requires sized { Sized analysis.now.program analysis.now.body slots.now }
+    ensures { OnOk result (list.new.items
+        ≡ list.old.items
+        ++ carried analysis.now.program analysis.now.sig analysis.now.body slots.now
+        wanted.point.0 wanted.reg.0 wanted.bit at) }
+{
+    let place = at as usize;
+    if place < points.len() {
+        add_point(
+            alloc,
+            analysis,
+            list,
+            &points[place],
+            PointNo(at),
+            slots,
+            wanted,
+        )
+    } else {
+        Ok(())
+    }
+}
+
+/// Over the point that stands right before.
+#[tactic(auto, using(crate::proofs::Leads::previous_none, crate::proofs::Leads::previous_some))]
+fn add_previous(
     alloc: Global,
     analysis: &Analysis,
     list: &mut Vec<Cause>,
@@ -202,12 +240,36 @@ fn add_points(
     requires sized { Sized analysis.now.program analysis.now.body slots.now }
     ensures { OnOk result (list.new.items
         ≡ list.old.items
-        ++ firsts (carried analysis.now.program analysis.now.sig analysis.now.body slots.now
-        wanted.point.0 wanted.reg.0 wanted.bit) (length points.now)) }
+        ++ previous (carried analysis.now.program analysis.now.sig analysis.now.body slots.now
+        wanted.point.0 wanted.reg.0 wanted.bit) wanted.point.0) }
 {
-    for at in 0..points.len() {
-        let place = PointNo(at as u32);
-        add_point(alloc, analysis, list, &points[at], place, slots, wanted)?;
+    if wanted.point.0 == 0 {
+        return Ok(());
+    }
+    let at = wanted.point.0 - 1;
+    add_at(alloc, analysis, list, points, slots, at, wanted)
+}
+
+/// Over these points.
+fn add_jumps(
+    alloc: Global,
+    analysis: &Analysis,
+    list: &mut Vec<Cause>,
+    points: &[Point],
+    slots: &[Option<Env>],
+    jumps: &[u32],
+    wanted: Wanted,
+) -> Result<(), OutOfMemory>
+    requires points { points.now ≡ points_of (body_at analysis.now.program analysis.now.body) }
+    requires short { length points.now < 2 ^ 32 }
+    requires sized { Sized analysis.now.program analysis.now.body slots.now }
+    ensures { OnOk result (list.new.items
+        ≡ list.old.items
+        ++ over (carried analysis.now.program analysis.now.sig analysis.now.body slots.now
+        wanted.point.0 wanted.reg.0 wanted.bit) jumps.now) }
+{
+    for from in jumps {
+        add_at(alloc, analysis, list, points, slots, *from, wanted)?;
     }
     Ok(())
 }
@@ -269,76 +331,82 @@ fn add_entered(
     }
 }
 
-/// Of an analysis, whose points and table are at hand.
+/// Of an analysis, whose points, table and jumps are at hand.
 fn analysed(
     alloc: Global,
     analysis: &Analysis,
     points: &[Point],
     slots: &[Option<Env>],
+    jumps: &[Seq<u32>],
     wanted: Wanted,
 ) -> Result<Vec<Cause>, OutOfMemory>
     requires inside { analysis.now.body < length analysis.now.program.bodies }
+    requires stays { StaysInside analysis.now.program analysis.now.body }
     requires points { points.now ≡ points_of (body_at analysis.now.program analysis.now.body) }
     requires short { length points.now < 2 ^ 32 }
     requires sized { Sized analysis.now.program analysis.now.body slots.now }
-    ensures { IfOk result (λ list. list.items
-        ≡ spec.register_causes analysis.now.program analysis.now.sig analysis.now.body slots.now
-        wanted.point.0 wanted.reg.0 wanted.bit) }
+    requires jumps { AreJumps (points_of (body_at analysis.now.program analysis.now.body)) jumps.now }
+    ensures { IfOk result (λ list. AreSame list.items
+        (spec.register_causes analysis.now.program analysis.now.sig analysis.now.body slots.now
+        wanted.point.0 wanted.reg.0 wanted.bit)) }
 {
     let mut list = Vec::new(alloc);
     add_entered(alloc, analysis, &mut list, wanted)?;
-    add_points(alloc, analysis, &mut list, points, slots, wanted)?;
+    add_previous(alloc, analysis, &mut list, points, slots, wanted)?;
+    let there = jumps_to(jumps, wanted.point);
+    add_jumps(alloc, analysis, &mut list, points, slots, there, wanted)?;
     Ok(list)
 }
 
 /// Of a body that is there.
-#[tactic(auto, using(crate::proofs::Steps::sized_for))]
+#[tactic(auto, using(crate::proofs::Steps::sized_for, crate::proofs::Leads::stays_for, crate::proofs::Leads::jumps_for, crate::proofs::Leads::causes_for))]
 fn causes_of_body(
     alloc: Global,
     program: &Program,
     sig: &Sig,
     tables: &[FlowTable],
-    fields: &OwnFields,
+    bodies: &[KnownBody],
     body: BodyNo,
     wanted: Wanted,
 ) -> Result<Vec<Cause>, OutOfMemory>
     requires inside { body.0 < length program.now.bodies }
     requires inferable { IsInferable program.now }
-    requires fields { AreOwnFields program.now fields.now }
+    requires known { AreKnown program.now bodies.now }
     requires sized { AreSized program.now tables.now }
-    ensures { IfOk result (λ list. list.items
-        ≡ causes program.now sig.now tables.now
-        (AtRegister body.0 wanted.point.0 wanted.reg.0 wanted.bit)) }
+    ensures { IfOk result (λ list. AreSame list.items
+        (causes program.now sig.now tables.now
+        (AtRegister body.0 wanted.point.0 wanted.reg.0 wanted.bit))) }
 {
-    let keys = find_keys_by(alloc, program, fields, body)?;
-    let analysis = Analysis::new(program, sig, body, &keys);
+    let known = known_of(program, bodies, body);
+    let analysis = Analysis::new(program, sig, body, &known.keys);
     let info = &program.bodies.as_slice()[body.0 as usize];
     let points = info.points.as_slice();
     let table = table_of(tables, body);
-    let list = analysed(alloc, &analysis, points, table, wanted)?;
+    let jumps = known.jumps.as_slice();
+    let list = analysed(alloc, &analysis, points, table, jumps, wanted)?;
     Ok(list)
 }
 
 /// The causes of a register's bit before a point, whether their sources stand or not.
-#[tactic(auto, using(crate::proofs::Steps::no_body))]
+#[tactic(auto, using(crate::proofs::Leads::no_body_same))]
 pub(crate) fn register_causes(
     alloc: Global,
     program: &Program,
     sig: &Sig,
     tables: &[FlowTable],
-    fields: &OwnFields,
+    bodies: &[KnownBody],
     body: BodyNo,
     wanted: Wanted,
 ) -> Result<Vec<Cause>, OutOfMemory>
     requires inferable { IsInferable program.now }
-    requires fields { AreOwnFields program.now fields.now }
+    requires known { AreKnown program.now bodies.now }
     requires sized { AreSized program.now tables.now }
-    ensures { IfOk result (λ list. list.items
-        ≡ causes program.now sig.now tables.now
-        (AtRegister body.0 wanted.point.0 wanted.reg.0 wanted.bit)) }
+    ensures { IfOk result (λ list. AreSame list.items
+        (causes program.now sig.now tables.now
+        (AtRegister body.0 wanted.point.0 wanted.reg.0 wanted.bit))) }
 {
     if (body.0 as usize) < program.bodies.len() {
-        causes_of_body(alloc, program, sig, tables, fields, body, wanted)
+        causes_of_body(alloc, program, sig, tables, bodies, body, wanted)
     } else {
         Ok(Vec::new(alloc))
     }

@@ -1,15 +1,14 @@
 //! Which bodies can send to which slots.
-ghost use Rattle.std.specs.Prelude.{◌≡◌, ◌<◌, ◌++◌, ◌∷◌, [], IfOk, OnOk, length, slice_get, slice_index_or, true};
+ghost use Rattle.std.specs.Prelude.{◌≡◌, ◌<◌, ◌^◌, ◌++◌, ◌∷◌, [], IfOk, OnOk, length, slice_get, slice_index_or, true};
 ghost use Rattle.jn_points.specs.Lookup.{body_at, method_at, method_in, points_of, slots_of};
-ghost use Rattle.jn_env.specs.ClassFields.{AreOwnFields};
 ghost use Rattle.jn_env.specs.Keys.{own_keys};
-ghost use Rattle.jn_tables_law.specs.Inferable.{IsInferable};
 ghost use Rattle.jn_transfer.specs.Contributions.{is_inferred, receiver_slot_of, result_slot_of};
+ghost use Rattle.jn_origins.specs.Leading.{AreKnown};
 ghost use Rattle.jn_origins.specs.Targets.{Added, AreSenders, IsOf, all_targets, fields_list, slot_list, slots_list, targets};
 
+use crate::bodies::{KnownBody, known_of};
 use jn_base::lists::{empty_lists, push_at};
 use jn_base::{BodyNo, FieldNo, MethodNo, OutOfMemory, Seq, SlotNo};
-use jn_env::{OwnFields, find_keys_by};
 use jn_points::lookup::{method_at, method_in};
 use jn_points::{Point, PointKind, Program};
 use jn_transfer::lookup::field_slot;
@@ -229,25 +228,22 @@ fn add_points(
 }
 
 fn add_body(
-    alloc: Global,
     program: &Program,
-    fields: &OwnFields,
+    bodies: &[KnownBody],
     lists: &mut Vec<Seq<u32>>,
     body: BodyNo,
-) -> Result<(), OutOfMemory>
+) -> Result<(), AllocError>
     requires inside { body.0 < length program.now.bodies }
-    requires inferable { IsInferable program.now }
-    requires fields { AreOwnFields program.now fields.now }
+    requires known { AreKnown program.now bodies.now }
     ensures { OnOk result
         (Added program.now body.0
         (all_targets program.now body.0 (points_of (body_at program.now body.0)))
         lists.old.items lists.new.items) }
 {
-    let keys = find_keys_by(alloc, program, fields, body)?;
+    let known = known_of(program, bodies, body);
     let info = &program.bodies.as_slice()[body.0 as usize];
     let points = info.points.as_slice();
-    add_points(program, lists, keys.own.as_slice(), points, body)?;
-    Ok(())
+    add_points(program, lists, known.keys.own.as_slice(), points, body)
 }
 
 /// For each slot the bodies that can send to it, where it is inferred.
@@ -257,15 +253,15 @@ fn add_body(
 pub(crate) fn find_senders(
     alloc: Global,
     program: &Program,
-    fields: &OwnFields,
+    bodies: &[KnownBody],
 ) -> Result<Vec<Seq<u32>>, OutOfMemory>
-    requires inferable { IsInferable program.now }
-    requires fields { AreOwnFields program.now fields.now }
+    requires few { length program.now.bodies < 2 ^ 32 }
+    requires known { AreKnown program.now bodies.now }
     ensures { IfOk result (λ lists. AreSenders program.now lists.items) }
 {
     let mut lists = empty_lists(alloc, program.slots.len())?;
     for body in 0..program.bodies.len() {
-        add_body(alloc, program, fields, &mut lists, BodyNo(body as u32))?;
+        add_body(program, bodies, &mut lists, BodyNo(body as u32))?;
     }
     Ok(lists)
 }

@@ -5,7 +5,6 @@ ghost use Rattle.jn_points.specs.Lookup.{body_at, points_of};
 ghost use Rattle.jn_sigs.specs.Signature.{start_signature};
 ghost use Rattle.jn_env.specs.Order.{env_in};
 ghost use Rattle.jn_env.specs.Keys.{own_keys};
-ghost use Rattle.jn_env.specs.ClassFields.{AreOwnFields};
 ghost use Rattle.jn_transfer.specs.Contributions.{kind_sends};
 ghost use Rattle.jn_transfer.specs.Pairs as pairs;
 ghost use Rattle.jn_contrib.specs.Entries.{AreOverriders};
@@ -14,15 +13,17 @@ ghost use Rattle.jn_reasons_law.specs.declared.item.Item.TheVariants.{AtSlot};
 ghost use Rattle.jn_reasons_law.specs.declared.item.Place.TheVariants.{OfSlot, OfMethod, OfPoint};
 ghost use Rattle.jn_reasons_law.specs.Items.{on};
 ghost use Rattle.jn_reasons_law.specs.Sources.{the_text, sent_from, from_pairs};
+ghost use Rattle.jn_origins.specs.Leading.{AreKnown};
 ghost use Rattle.jn_origins.specs.Targets.{AreSame, AreSenders, over};
 ghost use Rattle.jn_reasons.specs.Listed.{placed, firsts, is_sent, sent_at, body_causes, pair_causes, causes};
 
 use crate::adding::{add_cause, add_placed, is_on, is_sent, is_sent_to};
+use crate::bodies::{KnownBody, known_of};
 use crate::senders::senders_of;
 use jn_base::{BodyNo, MethodNo, OutOfMemory, PointNo, Seq, SlotNo};
 use jn_contrib::sends::send_kind;
 use jn_contrib::{Overrider, pair_contrib_by};
-use jn_env::{Env, FieldNumbers, FlowTable, OwnFields, env_at, find_keys_by};
+use jn_env::{Env, FieldNumbers, FlowTable, env_at};
 use jn_points::{Point, PointKind, Program};
 use jn_reasons::{AskedSlot, Cause, Spot, add_pairs, add_sent};
 use jn_reasons_law::{Bit, Place};
@@ -162,7 +163,7 @@ pub(crate) fn table_of(tables: &[FlowTable], body: BodyNo) -> &[Option<Env>]
 fn add_body(
     alloc: Global,
     program: &Program,
-    fields: &OwnFields,
+    bodies: &[KnownBody],
     tables: &[FlowTable],
     list: &mut Vec<Cause>,
     body: BodyNo,
@@ -171,15 +172,15 @@ fn add_body(
 ) -> Result<(), OutOfMemory>
     requires inside { body.0 < length program.now.bodies }
     requires inferable { IsInferable program.now }
-    requires fields { AreOwnFields program.now fields.now }
+    requires known { AreKnown program.now bodies.now }
     ensures { OnOk result (list.new.items
         ≡ list.old.items
         ++ body_causes program.now body.0 (slice_index_or tables.now body.0 []) slot.0 bit) }
 {
-    let keys = find_keys_by(alloc, program, fields, body)?;
+    let known = known_of(program, bodies, body);
     let info = &program.bodies.as_slice()[body.0 as usize];
     let points = info.points.as_slice();
-    let own = &keys.own;
+    let own = &known.keys.own;
     let table = table_of(tables, body);
     add_points(alloc, program, list, own, points, table, body, slot, bit)?;
     Ok(())
@@ -189,7 +190,7 @@ fn add_body(
 fn add_any_body(
     alloc: Global,
     program: &Program,
-    fields: &OwnFields,
+    bodies: &[KnownBody],
     tables: &[FlowTable],
     list: &mut Vec<Cause>,
     body: BodyNo,
@@ -197,13 +198,13 @@ fn add_any_body(
     bit: Bit,
 ) -> Result<(), OutOfMemory>
     requires inferable { IsInferable program.now }
-    requires fields { AreOwnFields program.now fields.now }
+    requires known { AreKnown program.now bodies.now }
     ensures { OnOk result (list.new.items
         ≡ list.old.items
         ++ body_causes program.now body.0 (slice_index_or tables.now body.0 []) slot.0 bit) }
 {
     if (body.0 as usize) < program.bodies.len() {
-        add_body(alloc, program, fields, tables, list, body, slot, bit)
+        add_body(alloc, program, bodies, tables, list, body, slot, bit)
     } else {
         Ok(())
     }
@@ -213,7 +214,7 @@ fn add_any_body(
 fn add_bodies(
     alloc: Global,
     program: &Program,
-    fields: &OwnFields,
+    bodies: &[KnownBody],
     tables: &[FlowTable],
     list: &mut Vec<Cause>,
     senders: &[u32],
@@ -221,7 +222,7 @@ fn add_bodies(
     bit: Bit,
 ) -> Result<(), OutOfMemory>
     requires inferable { IsInferable program.now }
-    requires fields { AreOwnFields program.now fields.now }
+    requires known { AreKnown program.now bodies.now }
     ensures { OnOk result (list.new.items
         ≡ list.old.items
         ++ over (λ b. body_causes program.now b (slice_index_or tables.now b []) slot.0 bit)
@@ -229,7 +230,7 @@ fn add_bodies(
 {
     for sender in senders {
         let body = BodyNo(*sender);
-        add_any_body(alloc, program, fields, tables, list, body, slot, bit)?;
+        add_any_body(alloc, program, bodies, tables, list, body, slot, bit)?;
     }
     Ok(())
 }
@@ -313,7 +314,7 @@ pub(crate) fn slot_causes(
     program: &Program,
     sig: &Sig,
     tables: &[FlowTable],
-    fields: &OwnFields,
+    bodies: &[KnownBody],
     start: &Sig,
     overriders: &[Overrider],
     senders: &[Seq<u32>],
@@ -321,7 +322,7 @@ pub(crate) fn slot_causes(
     bit: Bit,
 ) -> Result<Vec<Cause>, OutOfMemory>
     requires inferable { IsInferable program.now }
-    requires fields { AreOwnFields program.now fields.now }
+    requires known { AreKnown program.now bodies.now }
     requires start { start.now ≡ start_signature program.now }
     requires overriders { AreOverriders program.now overriders.now }
     requires senders { AreSenders program.now senders.now }
@@ -330,8 +331,10 @@ pub(crate) fn slot_causes(
 {
     let mut list = Vec::new(alloc);
     add_started(&mut list, start, slot, bit)?;
-    let bodies = senders_of(senders, slot);
-    add_bodies(alloc, program, fields, tables, &mut list, bodies, slot, bit)?;
+    let sending = senders_of(senders, slot);
+    add_bodies(
+        alloc, program, bodies, tables, &mut list, sending, slot, bit,
+    )?;
     add_overriders(alloc, program, sig, &mut list, overriders, slot, bit)?;
     Ok(list)
 }
