@@ -27,6 +27,16 @@ path_of names = if length names == 0 then codes "/" else flat_map (λ name. code
 abbrev pub plain : List ℕ → List ℕ
 plain path = if is_whole path then path_of (names_on path) else path
 
+-- a plain path lies in a folder
+abbrev pub lies_in : List ℕ → List ℕ → Bool
+lies_in folder path = starts_with eqb path (joined folder [])
+
+-- a plain path in the place where a folder really is, as it is below the folder; any other stays
+abbrev pub rehomed : List ℕ → List ℕ → List ℕ → List ℕ
+rehomed folder real path =
+    if lies_in folder path || not (lies_in real path) then path else
+    path_of (names_on folder ++ drop (length (names_on real)) (names_on path))
+
 -- a plain path lies in a folder, and no name on the way from there is left out
 abbrev pub is_below : List (List ℕ) → List ℕ → List ℕ → Bool
 is_below skipped folder path = starts_with eqb path (joined folder []) && not (list_any (is_skipped skipped) (drop (length (names_on folder)) (names_on path)))

@@ -1,11 +1,11 @@
 //! What a program asks of folders.
 ghost use Rattle.std.specs.Prelude.{◌≡◌, ◌≤◌, ℕ, List, IfOk, OnErr};
 ghost use Rattle.jn_outside.specs.Causes.{Rose};
-ghost use Rattle.jn_folder.specs.Listing.{CannotList, with_listed};
+ghost use Rattle.jn_folder.specs.Listing.{CannotList, with_listed, with_real};
 ghost use Rattle.jn_folder.specs.declared.listed.Listed.{Listed as ListedOf};
 
 use crate::listed::Entry;
-use jn_base::Fail;
+use jn_base::{Fail, OutOfMemory, Text};
 use jn_outside::Failed;
 use std::alloc::Global;
 
@@ -25,4 +25,12 @@ pub trait Folder {
         ensures later { faults self.old ≤ faults self.new }
         ensures failed { CannotList result → Rose (faults self.old) (faults self.new) }
         ensures kept { (CannotList result → ⊥) → faults self.new ≡ faults self.old };
+
+    /// Where the folder of this path really is: its whole path without links, where that can be said. It is told as what a folder lists
+    /// that has one entry of the kind `Real`, or none.
+    fn real(&mut self, alloc: Global, path: &str) -> Result<Option<Text>, OutOfMemory>
+        ensures said { IfOk result
+            (λ real. told self.new ≡ with_real (told self.old) path.now real) }
+        ensures spared { OnErr result (told self.new ≡ told self.old) }
+        ensures kept { faults self.new ≡ faults self.old };
 }

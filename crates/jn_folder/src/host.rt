@@ -2,8 +2,8 @@
 ghost use Rattle.std.specs.Prelude.{◌≡◌, []};
 
 use crate::folder::Folder;
-use crate::listed::{Entry, Kind, Listed, with_listed};
-use jn_base::{Fail, Text};
+use crate::listed::{Entry, Kind, Listed, real_entries, with_listed};
+use jn_base::{Fail, OutOfMemory, Text};
 use jn_outside::{Failed, Told};
 use std::alloc::Global;
 use std::fs::{DirEntry, FileType, ReadDir};
@@ -89,6 +89,12 @@ fn entries_of<R: rt::Files + AllocGlobal + Clone + Drop>(
     read_entries(alloc, fs::read_dir(rt, path)?)
 }
 
+/// The whole path of the host's folder of this path, without links.
+fn real_of<R: rt::Files + AllocGlobal>(rt: &R, alloc: Global, path: &str) -> io::Result<Text> {
+    let real = fs::canonicalize(rt, path)?;
+    Ok(Text::of_str(alloc, real.as_str())?)
+}
+
 impl<'a, R: rt::Files + AllocGlobal + Clone + Drop> Folder for HostFolder<'a, R> {
     ghost told = { λ s. s.told.items };
 
@@ -106,5 +112,16 @@ impl<'a, R: rt::Files + AllocGlobal + Clone + Drop> Folder for HostFolder<'a, R>
                 Err(Fail::Refused(Failed))
             }
         }
+    }
+
+    fn real(&mut self, alloc: Global, path: &str) -> Result<Option<Text>, OutOfMemory> {
+        let real = match real_of(self.rt, alloc, path) {
+            Ok(real) => Some(real),
+            Err(reason) if reason.kind() == ErrorKind::OutOfMemory => return Err(OutOfMemory),
+            Err(_) => None,
+        };
+        let entries = real_entries(alloc, &real)?;
+        self.told = with_listed(&self.told, path, &entries);
+        Ok(real)
     }
 }

@@ -19,4 +19,4 @@ pub use host::HostFolder;
 pub use listed::{Entry, Kind, Listed};
 pub use memory::MemFolder;
 pub use paths::{each_once, is_among, joined};
-pub use route::{is_below, is_whole, plain};
+pub use route::{is_below, is_whole, plain, rehomed};

@@ -17,6 +17,8 @@ pub enum Kind {
     Other,
     /// Something whose name is no text. The entry has an empty name.
     Unnamed,
+    /// The folder itself, where it really is: the entry's name is its whole path without links.
+    Real,
 }
 
 /// A name in a folder, and what stands under it.
@@ -51,6 +53,20 @@ struct Behind<'a> {
     before: &'a Told<Listed>,
     path: &'a str,
     entries: &'a [Entry],
+}
+
+/// The entry by which a folder says where it really is; none where that can't be said.
+pub fn real_entries(alloc: Global, real: &Option<Text>) -> Result<Vec<Entry>, AllocError>
+    ensures { IfOk result (λ entries. entries.items ≡ spec.real_entries real.now) }
+{
+    let mut entries = Vec::new(alloc);
+    if let Some(real) = real {
+        entries.push(Entry {
+            name: real.copy(alloc)?,
+            kind: Kind::Real,
+        })?;
+    }
+    Ok(entries)
 }
 
 struct List;

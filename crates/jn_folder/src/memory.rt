@@ -1,16 +1,16 @@
 //! Folders in memory, which tell all and fail where they are told to.
 ghost use Rattle.std.specs.Prelude.{◌≡◌, ◌≤◌, [], Some, IfOk, OnErr, option_map};
 ghost use Rattle.jn_outside.specs.Causes.{Rose};
-ghost use Rattle.jn_folder.specs.Listing.{CannotList, entries_at};
+ghost use Rattle.jn_folder.specs.Listing.{CannotList, entries_at, real_at};
 ghost use Rattle.jn_folder.specs.Listing as spec;
 
 use crate::folder::Folder;
-use crate::listed::{Entry, Listed, with_listed};
-use jn_base::Fail;
+use crate::listed::{Entry, Kind, Listed, real_entries, with_listed};
+use jn_base::{Fail, OutOfMemory, Text};
 use jn_outside::{Failed, Told};
 use std::alloc::{AllocError, Global};
 
-/// Folders in memory. Of folders of one path the first counts.
+/// Folders in memory. Of folders of one path the first counts; it is where its first entry of the kind `Real` says.
 #[derive(Drop)]
 pub struct MemFolder {
     folders: Vec<Listed>,
@@ -69,6 +69,37 @@ fn copied(alloc: Global, entries: &[Entry]) -> Result<Vec<Entry>, AllocError>
     Ok(copy)
 }
 
+fn is_real(kind: Kind) -> bool
+    ensures { result ≡ spec.is_real kind }
+{
+    match kind {
+        Kind::Real => true,
+        _ => false,
+    }
+}
+
+/// Where the entries say that their folder really is.
+fn real_in(alloc: Global, entries: &[Entry]) -> Result<Option<Text>, AllocError>
+    ensures { IfOk result (λ real. real ≡ spec.real_in entries.now) }
+{
+    for entry in entries {
+        if is_real(entry.kind) {
+            return Ok(Some(entry.name.copy(alloc)?));
+        }
+    }
+    Ok(None)
+}
+
+/// Where the first of these folders that has this path really is.
+fn real_at(alloc: Global, folders: &[Listed], path: &str) -> Result<Option<Text>, AllocError>
+    ensures { IfOk result (λ real. real ≡ spec.real_at folders.now path.now) }
+{
+    match found(folders, path) {
+        None => Ok(None),
+        Some(entries) => real_in(alloc, entries),
+    }
+}
+
 impl Folder for MemFolder {
     ghost told = { λ s. s.told.items };
 
@@ -101,5 +132,19 @@ impl Folder for MemFolder {
             }
             Err(_) => Err(Fail::OutOfMemory),
         }
+    }
+
+    fn real(&mut self, alloc: Global, path: &str) -> Result<Option<Text>, OutOfMemory>
+        ensures said { IfOk result
+            (λ real. self.new.told.items ≡ spec.with_real self.old.told.items path.now real) }
+        ensures spared { OnErr result (self.new.told.items ≡ self.old.told.items) }
+        ensures kept { self.new.faults ≡ self.old.faults }
+        ensures folders { self.new.folders ≡ self.old.folders }
+        ensures held { IfOk result (λ real. real ≡ real_at self.old.folders.items path.now) }
+    {
+        let real = real_at(alloc, self.folders.as_slice(), path)?;
+        let entries = real_entries(alloc, &real)?;
+        self.told = with_listed(&self.told, path, &entries);
+        Ok(real)
     }
 }

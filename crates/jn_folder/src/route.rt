@@ -1,5 +1,5 @@
 //! Paths made plain, and whether they lie in a folder.
-ghost use Rattle.std.specs.Prelude.{◌≡◌, [], drop, IfOk, OnOk};
+ghost use Rattle.std.specs.Prelude.{◌≡◌, ◌++◌, [], drop, length, IfOk, OnOk};
 ghost use Rattle.std.specs.List.{list_any};
 ghost use Rattle.jn_folder.specs.Listing.{is_skipped};
 ghost use Rattle.jn_folder.specs.Plain as spec;
@@ -102,4 +102,48 @@ pub fn is_below(
     let before = names_on(alloc, folder)?;
     let names = names_on(alloc, path)?;
     Ok(!has_skipped(skipped, names_behind(names.as_slice(), before.len())))
+}
+
+/// Whether a plain path lies in a folder of a plain path.
+fn lies_in(alloc: Global, folder: &str, path: &str) -> Result<bool, AllocError>
+    ensures { IfOk result (λ lies. lies ≡ spec.lies_in folder.now path.now) }
+{
+    let front = joined(alloc, folder, "")?;
+    Ok(path.as_bytes().starts_with(front.as_str().as_bytes()))
+}
+
+/// The names, one list after the other.
+fn both(alloc: Global, one: Vec<Text>, other: &[Text]) -> Result<Vec<Text>, AllocError>
+    ensures { IfOk result (λ all. all.items ≡ one.items ++ other.now) }
+{
+    let mut all = one;
+    for name in other {
+        all.push(name.copy(alloc)?)?;
+    }
+    Ok(all)
+}
+
+/// The path of a folder's names, and of those of a path after as many as another folder has.
+fn path_below(alloc: Global, folder: &str, real: &str, path: &str) -> Result<Text, AllocError>
+    ensures { IfOk result (λ made. made ≡ spec.path_of
+        (spec.names_on folder.now ++ drop (length (spec.names_on real.now)) (spec.names_on path.now))) }
+{
+    let front = names_on(alloc, folder)?;
+    let before = names_on(alloc, real)?;
+    let names = names_on(alloc, path)?;
+    let all = both(alloc, front, names_behind(names.as_slice(), before.len()))?;
+    path_of(alloc, all.as_slice())
+}
+
+/// A plain path as it is below the folder of a plain path, where it lies in the place where that folder really is; else the path itself.
+pub fn rehomed(alloc: Global, folder: &str, real: &str, path: &str) -> Result<Text, AllocError>
+    ensures { IfOk result (λ made. made ≡ spec.rehomed folder.now real.now path.now) }
+{
+    let stands = lies_in(alloc, folder, path)?;
+    let lies = lies_in(alloc, real, path)?;
+    if stands || !lies {
+        Text::of_str(alloc, path)
+    } else {
+        path_below(alloc, folder, real, path)
+    }
 }

@@ -2,7 +2,7 @@
 //!
 //! - `hold PATH FILE`: the bytes of a file that lies beside the tables stand under this path,
 //! - `list PATH NAME..`: a folder has these entries; `NAME/` is a folder, `NAME@` something else, `?` one whose name is
-//!   no text, any other a file,
+//!   no text, any other a file; `>PATH` says where the folder really is,
 //! - `raw TEXT`: the client sends this text, where `\r`, `\n` and `\!` are the bytes 13, 10 and 255, which is none of UTF-8,
 //! - `fill N`: the client sends so many spaces,
 //! - anything else: the client sends this line as a body, after a header.
@@ -34,6 +34,8 @@ fn hold(rt: &HostRuntime, recorded: &mut Recorded, rest: &str) -> io::Result<()>
 fn entry_of(alloc: Global, word: &str) -> Result<Entry, AllocError> {
     let (name, kind) = if word == "?" {
         ("", Kind::Unnamed)
+    } else if let Some(path) = word.strip_prefix(">") {
+        (path, Kind::Real)
     } else if let Some(name) = word.strip_suffix('/') {
         (name, Kind::Folder)
     } else if let Some(name) = word.strip_suffix('@') {

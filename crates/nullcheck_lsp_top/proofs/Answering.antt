@@ -162,7 +162,7 @@ heard_frame held old new before client after frame frames message replies first 
   are = (is, others.are);
   served = subst (λ (rs : List Reply). Served before.server after.server (message ∷ others.messages) rs) (sym (all ∙ ap (λ (rs : List Reply). rs ++ rest) h.all))
       (served_said before.server after.server (message ∷ others.messages) before.said (foreign before message) (h.first ++ h.more) rest
-      (by_files held before.server after.server h.mid client (placed before.root message) message (placed_asks before.root message) others.messages h.first h.more rest h.takes others.served (looks before.server.phase (placed before.root message)) old new h.behind));
+      (by_files held before.server after.server h.mid client (placed before.root message) message (placed_asks before.root message) others.messages h.first h.more rest h.takes others.served (looks before.server.phase (placed before.root message)) h.out new h.behind));
 }
 
 heard_all : (held : Option Holding) (old new : Outside) (before after : Client) (frames : List Frame) (replies : List Reply) → HearsAll held old new before frames replies after → Heard held before after frames replies

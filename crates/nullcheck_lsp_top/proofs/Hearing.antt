@@ -11,8 +11,9 @@ use Rattle.jn_lsp.specs.declared.event.Event.TheVariants.{Folder, Message as Mes
 use Rattle.jn_lsp.specs.declared.phase.Phase.{Phase}
 use Rattle.jn_lsp.specs.Serving.{ServerOf, Takes}
 use Rattle.nullcheck_lsp_top.specs.declared.client.Client.{Client}
-use Rattle.nullcheck_lsp_top.specs.Hearing.{Hears, HearsAll, IsMessageOf, Looks, LooksWhere, foreign, framed, looks, settled, written}
-use Rattle.nullcheck_lsp_top.specs.Looking.{IsFound, Outside}
+use Rattle.nullcheck_lsp_top.specs.declared.client.Root.{Root}
+use Rattle.nullcheck_lsp_top.specs.Hearing.{Hears, HearsAll, IsMessageOf, Looks, LooksWhere, foreign, framed, looks, written}
+use Rattle.nullcheck_lsp_top.specs.Looking.{IsFound, Outside, Traces, root_or, told_root}
 use Rattle.nullcheck_lsp_top.specs.Placing.{placed, says}
 use Rattle.nullcheck_lsp_top.specs.Reading.{shows}
 
@@ -32,17 +33,20 @@ looks_from held old new before after files warnings told news replies found says
 }
 
 -- a message was taken, as far as it is about the workspace
-module _ (held : Option Holding) (old new : Outside) (before start mid after : Client) (message taken : Message) (notices first more answers replies : List Reply) where
-  pub hears_from : start.server ≡ before.server → start.root ≡ (settled message before).root → start.shown ≡ before.shown → start.said ≡ (before.said || is_some (foreign before message)) → taken ≡ placed before.root message → Takes start.server (MessageEvent taken) first mid.server → mid.root ≡ start.root → mid.shown ≡ start.shown → mid.said ≡ start.said → LooksWhere (looks before.server.phase taken) held old new mid after more → notices ≡ says before.said (foreign before message) → answers ≡ first ++ more → replies ≡ notices ++ answers → Hears held old new before message replies after
-  hears_from server root shown said is takes same_root same_shown same_said behind noticed joined all = record {
+module _ (held : Option Holding) (old out new : Outside) (told : Option Root) (before start mid after : Client) (message taken : Message) (notices first more answers replies : List Reply) where
+  pub hears_from : Traces (told_root before.server.phase message) told old out → start.server ≡ before.server → start.root ≡ root_or told before.root → start.shown ≡ before.shown → start.said ≡ (before.said || is_some (foreign before message)) → taken ≡ placed before.root message → Takes start.server (MessageEvent taken) first mid.server → mid.root ≡ start.root → mid.shown ≡ start.shown → mid.said ≡ start.said → LooksWhere (looks before.server.phase taken) held out new mid after more → notices ≡ says before.said (foreign before message) → answers ≡ first ++ more → replies ≡ notices ++ answers → Hears held old new before message replies after
+  hears_from traces server root shown said is takes same_root same_shown same_said behind noticed joined all = record {
     first = first;
     more = more;
+    told = told;
+    out = out;
+    traces = traces;
     mid = mid;
     takes = subst (λ (m : Message). Takes before.server (MessageEvent m) first mid.server) is (subst (λ (s : ServerOf). Takes s (MessageEvent taken) first mid.server) server takes);
     root = same_root ∙ root;
     shown = same_shown ∙ shown;
     said = same_said ∙ said;
-    behind = subst (λ (m : Message). LooksWhere (looks before.server.phase m) held old new mid after more) is behind;
+    behind = subst (λ (m : Message). LooksWhere (looks before.server.phase m) held out new mid after more) is behind;
     all = all ∙ ap (λ (rs : List Reply). notices ++ rs) joined ∙ ap (λ (rs : List Reply). rs ++ (first ++ more)) noticed;
   }
 

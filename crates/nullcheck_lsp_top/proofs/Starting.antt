@@ -11,8 +11,8 @@ use Rattle.jn_front.specs.Files.{file_limit}
 use Rattle.jn_lsp_text.specs.declared.message.Message.{Message}
 use Rattle.nullcheck_lsp_top.specs.declared.client.Client.{Client}
 use Rattle.nullcheck_lsp_top.specs.declared.client.Root.{Root}
-use Rattle.nullcheck_lsp_top.specs.Hearing.{StartsBy, looks, settled}
-use Rattle.nullcheck_lsp_top.specs.Looking.{AreNamedBy, BeginsInFolder, BeginsNamed, Outside, Starts, StartsWhere, outside}
+use Rattle.nullcheck_lsp_top.specs.Hearing.{StartsBy, looks}
+use Rattle.nullcheck_lsp_top.specs.Looking.{AreNamedBy, BeginsInFolder, BeginsNamed, Outside, Starts, StartsWhere, Traces, outside, root_or, told_root}
 use Rattle.nullcheck_lsp_top.specs.Placing.{placed}
 use Rattle.nullcheck_lsp_top.specs.Reading.{AreRead, GivesNext, ReadsFirst, Source, is_many, names_taken, source}
 use Rattle.nullcheck_lsp_top.proofs.Locating.{named_so}
@@ -109,11 +109,23 @@ starts_files held root told then_ lists now gave right reads other names missed 
 
 -- ---- a message
 
-pub starts_from : (held : Option Holding) (old new : Outside) (before : Client) (message taken : Message) (wanted : Bool) (root : Root) → wanted ≡ looks before.server.phase taken → taken ≡ placed before.root message → root ≡ (settled message before).root → StartsWhere wanted held root old new → StartsBy held old new before message
-starts_from held old new before message taken wanted root e f g starts =
-    subst (λ (m : Message). StartsWhere (looks before.server.phase m) held (settled message before).root old new) f
-    (subst (λ (r : Root). StartsWhere (looks before.server.phase taken) held r old new) g
-    (subst (λ b. StartsWhere b held root old new) e starts))
+pub starts_from : (held : Option Holding) (old out new : Outside) (before : Client) (message taken : Message) (wanted : Bool) (root : Root) (told : Option Root) → Traces (told_root before.server.phase message) told old out → wanted ≡ looks before.server.phase taken → taken ≡ placed before.root message → root ≡ root_or told before.root → StartsWhere wanted held root out new → StartsBy held old new before message
+starts_from held old out new before message taken wanted root told traces e f g starts = (
+  told,
+  out,
+  inl traces,
+  subst (λ (m : Message). StartsWhere (looks before.server.phase m) held (root_or told before.root) out new) f
+      (subst (λ (r : Root). StartsWhere (looks before.server.phase taken) held r out new) g
+      (subst (λ b. StartsWhere b held root out new) e starts)),
+)
+
+-- the folder was asked where it really is, and nothing else
+pub starts_traced : (held : Option Holding) (old out : Outside) (before : Client) (message : Message) (told : Option Root) → Traces (told_root before.server.phase message) told old out → StartsBy held old out before message
+starts_traced held old out before message told traces = (told, out, inl traces, where_none (looks before.server.phase (placed before.root message)) held (root_or told before.root) out)
 
 pub starts_not : (held : Option Holding) (old : Outside) (before : Client) (message : Message) → StartsBy held old old before message
-starts_not held old before message = where_none (looks before.server.phase (placed before.root message)) held (settled message before).root old
+starts_not held old before message = (None, old, inr refl, where_none (looks before.server.phase (placed before.root message)) held before.root old)
+
+-- it was asked in vain
+pub starts_still : (held : Option Holding) (old new : Outside) (before : Client) (message : Message) → new ≡ old → StartsBy held old new before message
+starts_still held old new before message same = subst (λ (o : Outside). StartsBy held old o before message) (sym same) (starts_not held old before message)

@@ -107,7 +107,7 @@ heard_one held old new before after message replies h =
     let taken = placed before.root message in
     is_taken before.server after.server replies (says before.said (foreign before message) ++ (h.first ++ h.more)) h.all
     (took_said before.server after.server before.said (foreign before message) (h.first ++ h.more)
-    (took_both before.server h.mid.server after.server h.first h.more (took_one before.server h.mid.server (MessageEvent taken) h.first h.takes) (looked (looks before.server.phase taken) held old new h.mid after h.more h.behind)))
+    (took_both before.server h.mid.server after.server h.first h.more (took_one before.server h.mid.server (MessageEvent taken) h.first h.takes) (looked (looks before.server.phase taken) held h.out new h.mid after h.more h.behind)))
 
 heard_all : (held : Option Holding) (old new : Outside) (before after : Client) (frames : List Frame) (replies : List Reply) → HearsAll held old new before frames replies after → Took before.server replies after.server
 heard_all held old new before after [] replies (same, none, is) = took_none before.server after.server replies (ap (λ (c : Client). c.server) is) none

@@ -1,5 +1,5 @@
 -- What a client's messages make of a server, what is read for them, and what is replied.
-use Rattle.std.specs.Prelude.{ℕ, ◌≡◌, ◌++◌, ◌||◌, is_some, Bool, true, false, List, [], ◌∷◌, Option, map}
+use Rattle.std.specs.Prelude.{ℕ, ◌≡◌, ◌⊎◌, ◌++◌, ◌||◌, is_some, Bool, true, false, List, [], ◌∷◌, Option, map}
 use Rattle.std.specs.List.{AllZip, flat_map}
 use Rattle.serde_json.specs.Written.{compact_text}
 use Rattle.jn_outside.specs.Files.{Holding}
@@ -18,7 +18,8 @@ use Rattle.jn_lsp.specs.declared.phase.Phase.TheVariants.{Waiting, Serving, Shut
 use Rattle.jn_lsp.specs.Requests.{ids_answered, ids_asked}
 use Rattle.jn_lsp.specs.Serving.{Takes, wants_folder}
 use Rattle.nullcheck_lsp_top.specs.declared.client.Client.{Client}
-use Rattle.nullcheck_lsp_top.specs.Looking.{IsFound, Outside, StartsWhere, root_or, told_root}
+use Rattle.nullcheck_lsp_top.specs.declared.client.Root.{Root}
+use Rattle.nullcheck_lsp_top.specs.Looking.{IsFound, Outside, StartsWhere, Traces, root_or, told_root}
 use Rattle.nullcheck_lsp_top.specs.Placing.{foreign_in, placed, says}
 use Rattle.nullcheck_lsp_top.specs.Reading.{shows}
 
@@ -53,29 +54,35 @@ abbrev pub LooksWhere : Bool → Option Holding → Outside → Outside → Clie
 LooksWhere false held old new before after replies = (new ≡ old) × (after ≡ before) × (replies ≡ [])
 LooksWhere true held old new before after replies = Looks held old new before after replies
 
--- where the files are is kept, where the message says so
-abbrev pub settled : Message → Client → Client
-settled message client = record { server = client.server; root = root_or (told_root client.server.phase message) client.root; shown = client.shown; said = client.said }
-
 -- the document that a message opens, where it is none of the workspace's
 abbrev pub foreign : Client → Message → Option (List ℕ)
 foreign client message = foreign_in client.server.phase client.root message
 
--- the server takes the message as far as it is about the workspace, and where files are to be read after it, those
+-- where the message says where the files are, the folder is asked where it really is, and that is kept; the server takes the message as far as
+-- it is about the workspace, and where files are to be read after it, those
 pub record Hears (held : Option Holding) (old new : Outside) (before : Client) (message : Message) (replies : List Reply) (after : Client) : Type 0 where
   pub first : List Reply
   pub more : List Reply
+  pub told : Option Root
+  pub out : Outside
+  pub traces : Traces (told_root before.server.phase message) told old out
   pub mid : Client
   pub takes : Takes before.server (MessageEvent (placed before.root message)) first mid.server
-  pub root : mid.root ≡ (settled message before).root
+  pub root : mid.root ≡ root_or told before.root
   pub shown : mid.shown ≡ before.shown
   pub said : mid.said ≡ (before.said || is_some (foreign before message))
-  pub behind : LooksWhere (looks before.server.phase (placed before.root message)) held old new mid after more
+  pub behind : LooksWhere (looks before.server.phase (placed before.root message)) held out new mid after more
   pub all : replies ≡ says before.said (foreign before message) ++ (first ++ more)
+
+-- the folder was asked where it really is, or wasn't yet
+abbrev pub TracesFirst : Option Root → Option Root → Outside → Outside → Type 0
+TracesFirst root told old out = Traces root told old out ⊎ (out ≡ old)
 
 -- what was asked of folders and files is what the message asks for, or the first of that
 abbrev pub StartsBy : Option Holding → Outside → Outside → Client → Message → Type 0
-StartsBy held old new before message = StartsWhere (looks before.server.phase (placed before.root message)) held (settled message before).root old new
+StartsBy held old new before message =
+    (told : Option Root) × (out : Outside) × TracesFirst (told_root before.server.phase message) told old out
+    × StartsWhere (looks before.server.phase (placed before.root message)) held (root_or told before.root) out new
 
 -- ---- frames
 

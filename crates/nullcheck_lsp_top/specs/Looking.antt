@@ -4,6 +4,7 @@ use Rattle.jn_base.specs.declared.infer.Infer.{Infer}
 use Rattle.jn_outside.specs.Files.{Holding}
 use Rattle.jn_outside.specs.declared.given.Given.{Given}
 use Rattle.jn_folder.specs.declared.listed.Listed.{Listed}
+use Rattle.jn_folder.specs.Listing.{with_real}
 use Rattle.jn_folder.specs.Plain.{plain}
 use Rattle.jn_folder.specs.Walking.{BeginsWalk, Counts, Walks, telling}
 use Rattle.jn_front.specs.declared.source.SourceFile.{SourceFile}
@@ -20,7 +21,7 @@ use Rattle.nullcheck_lsp_top.specs.Reading.{AreTaken, ReadsFirst, is_many, names
 -- ---- where files are
 
 abbrev pub root_of : Option (List ℕ) → List (List ℕ) → List (List ℕ) → Root
-root_of folder files exclude = record { folder = option_map plain folder; files = files; exclude = exclude }
+root_of folder files exclude = record { folder = option_map plain folder; real = None; files = files; exclude = exclude }
 
 -- a client that didn't speak yet, of a server that infers these members where it chooses none
 abbrev pub new_client : Infer → Client
@@ -58,7 +59,7 @@ abbrev pub root_or : Option Root → Root → Root
 root_or None root = root
 root_or (Some told) root = told
 
--- ---- names
+-- ---- what is told
 
 -- what files and folders tell
 pub record Outside : Type 0 where
@@ -69,6 +70,23 @@ pub record Outside : Type 0 where
 
 abbrev pub outside : List Listed → ℕ → List Given → ℕ → Outside
 outside told lists gave reads = record { told = told; lists = lists; gave = gave; reads = reads }
+
+-- ---- where the folder really is
+
+abbrev pub rooted : Option (List ℕ) → Root → Root
+rooted real root = record { folder = root.folder; real = real; files = root.files; exclude = root.exclude }
+
+-- the folder was asked where it really is, where one is named, and said this
+abbrev pub IsReal : Option (List ℕ) → Option (List ℕ) → Outside → Outside → Type 0
+IsReal None real old new = (real ≡ None) × (new ≡ old)
+IsReal (Some path) real old new = new ≡ outside (with_real old.told path real) old.lists old.gave old.reads
+
+-- that is kept with what a message says
+abbrev pub Traces : Option Root → Option Root → Outside → Outside → Type 0
+Traces None after old new = (after ≡ None) × (new ≡ old)
+Traces (Some root) after old new = (real : Option (List ℕ)) × (after ≡ Some (rooted real root)) × IsReal root.folder real old new
+
+-- ---- names
 
 -- without settings the names are those of the Java files below the folder
 abbrev pub AreInFolder : List (List ℕ) → Option (List ℕ) → Outside → Outside → List (List ℕ) → List (List ℕ) → List (List ℕ) → Type 0

@@ -1,7 +1,7 @@
 -- Which documents are of the workspace: each file of this host in its folder that isn't left out, and each that the settings name.
 use Rattle.std.specs.Prelude.{ℕ, ◌||◌, Bool, true, false, List, [], ◌∷◌, ◌++◌, Option, Some, None, codes, is_some, map, option_map, if◌then◌else◌}
 use Rattle.jn_folder.specs.Listing.{each_once, is_among, joined}
-use Rattle.jn_folder.specs.Plain.{is_below, is_whole, plain}
+use Rattle.jn_folder.specs.Plain.{is_below, is_whole, plain, rehomed}
 use Rattle.jn_lsp.specs.declared.phase.Phase.{Phase}
 use Rattle.jn_lsp.specs.declared.phase.Phase.TheVariants.{Waiting, Serving, ShutDown, Exited}
 use Rattle.jn_lsp_text.specs.declared.message.Message.{Message}
@@ -34,9 +34,21 @@ is_in_folder skipped (Some folder) path = is_below skipped folder path
 abbrev pub is_of : Root → List ℕ → Bool
 is_of root path = is_among (named_paths root.folder root.files) path || is_in_folder root.exclude root.folder path
 
+-- a plain path in the place where the folder really is, as it is below the folder
+abbrev pub homed_by : Option (List ℕ) → Option (List ℕ) → List ℕ → List ℕ
+homed_by None real path = path
+homed_by (Some folder) None path = path
+homed_by (Some folder) (Some real) path = rehomed folder real path
+
+abbrev pub homed : Root → List ℕ → List ℕ
+homed root path = homed_by root.folder root.real path
+
+abbrev pub placed_path : Root → List ℕ → Option (List ℕ)
+placed_path root path = if is_of root path then Some path else None
+
 -- the name by which a document is one of the workspace's; a name that is no path, as that of another scheme or host, is none
 abbrev pub placed_name : Root → List ℕ → Option (List ℕ)
-placed_name root name = if is_of root (plain name) then Some (plain name) else None
+placed_name root name = placed_path root (homed root (plain name))
 
 abbrev pub or_same : Option (List ℕ) → List ℕ → List ℕ
 or_same None name = name

@@ -14,6 +14,8 @@ use std::alloc::{AllocError, Global};
 pub struct Root {
     /// The path of the workspace's folder, where one is named.
     pub folder: Option<Text>,
+    /// Where that folder really is, where the host says so.
+    pub real: Option<Text>,
     /// The names of the files by the settings, each whole or relative to the folder; none where nothing is set.
     pub files: Seq<Text>,
     /// The names of folders that are left out.
@@ -39,6 +41,7 @@ impl Client {
             server: Server::new(alloc, infer),
             root: Root {
                 folder: None,
+                real: None,
                 files: Seq::new(alloc),
                 exclude: Seq::new(alloc),
             },
@@ -80,6 +83,7 @@ fn copy_root(
 {
     Ok(Root {
         folder: plain_path(alloc, folder)?,
+        real: None,
         files: copy_texts(alloc, files)?,
         exclude: copy_texts(alloc, exclude)?,
     })

@@ -1,5 +1,5 @@
 //! The files of a workspace.
-ghost use Rattle.std.specs.Prelude.{◌≡◌, ℕ, List, IfOk};
+ghost use Rattle.std.specs.Prelude.{◌≡◌, ℕ, List, IfOk, OnErr, Some};
 ghost use Rattle.jn_outside.specs.declared.given.Given.{Given};
 ghost use Rattle.nullcheck_lsp_top.specs.Looking as spec;
 
@@ -56,6 +56,80 @@ fn find<D: Folder>(alloc: Global, root: &Root, folder: &mut D) -> Result<Walked,
             missed: Vec::new(alloc),
             unnamed: Vec::new(alloc),
         }),
+    }
+}
+
+/// Where the folder of this path really is, where it is named and says so.
+fn real_of<D: Folder>(
+    alloc: Global,
+    path: &Option<Text>,
+    folder: &mut D,
+) -> Result<Option<Text>, OutOfMemory>
+    ensures is { IfOk result (λ real. (gave : List Given) (reads : ℕ) → spec.IsReal path.now real
+        (spec.outside (D.told folder.old) (D.faults folder.old) gave reads)
+        (spec.outside (D.told folder.new) (D.faults folder.new) gave reads)) }
+    ensures spared { OnErr result (D.told folder.new ≡ D.told folder.old) }
+    ensures kept { D.faults folder.new ≡ D.faults folder.old }
+{
+    match path {
+        None => Ok(None),
+        Some(path) => folder.real(alloc, path.as_str()),
+    }
+}
+
+fn rooted(real: Option<Text>, root: Root) -> Root
+    ensures { result ≡ spec.rooted real root }
+{
+    let Root {
+        folder,
+        files,
+        exclude,
+        ..
+    } = root;
+    Root {
+        folder,
+        real,
+        files,
+        exclude,
+    }
+}
+
+/// Where the files are, with what the folder says of where it really is.
+fn traced_root<D: Folder>(alloc: Global, root: Root, folder: &mut D) -> Result<Root, OutOfMemory>
+    ensures traces { IfOk result (λ made. (gave : List Given) (reads : ℕ)
+        → spec.Traces (Some root) (Some made)
+        (spec.outside (D.told folder.old) (D.faults folder.old) gave reads)
+        (spec.outside (D.told folder.new) (D.faults folder.new) gave reads)) }
+    ensures spared { OnErr result (D.told folder.new ≡ D.told folder.old) }
+    ensures kept { D.faults folder.new ≡ D.faults folder.old }
+{
+    match real_of(alloc, &root.folder, folder) {
+        Ok(real) => Ok(rooted(real, root)),
+        Err(_) => {
+            drop(root);
+            Err(OutOfMemory)
+        }
+    }
+}
+
+/// Where the files are, where that is told, with what the folder says of where it really is.
+pub(crate) fn traced<D: Folder>(
+    alloc: Global,
+    told: Option<Root>,
+    folder: &mut D,
+) -> Result<Option<Root>, OutOfMemory>
+    ensures traces { IfOk result (λ made. (gave : List Given) (reads : ℕ) → spec.Traces told made
+        (spec.outside (D.told folder.old) (D.faults folder.old) gave reads)
+        (spec.outside (D.told folder.new) (D.faults folder.new) gave reads)) }
+    ensures spared { OnErr result (D.told folder.new ≡ D.told folder.old) }
+    ensures kept { D.faults folder.new ≡ D.faults folder.old }
+{
+    match told {
+        None => Ok(None),
+        Some(root) => match traced_root(alloc, root, folder) {
+            Ok(made) => Ok(Some(made)),
+            Err(_) => Err(OutOfMemory),
+        },
     }
 }
 

@@ -4,7 +4,7 @@ ghost use Rattle.nullcheck_lsp_top.specs.Hearing as spec;
 ghost use Rattle.nullcheck_lsp_top.specs.Looking.{Starts, StartsWhere, outside, root_or};
 
 use crate::client::{Client, Root, told_root};
-use crate::finding::read_workspace;
+use crate::finding::{read_workspace, traced};
 use crate::placing::{foreign_in, placed, says};
 use crate::warning::show;
 use jn_base::{OutOfMemory, Text};
@@ -139,7 +139,8 @@ pub(crate) fn hear<R: Threads + Sync, F: Files, D: Folder, G: Gate + Sync>(
     let settled = told_root(alloc, client.server.phase(), &message)?;
     let message = placed(alloc, &client.root, message)?;
     let looks = looks(client.server.phase(), &message);
-    settle(client, settled, &foreign);
+    let told = traced(alloc, settled, folder)?;
+    settle(client, told, &foreign);
     let replies = client.server.take(rt, gate, &Event::Message(message))?;
     let more = look_where(rt, gate, alloc, looks, client, files, folder)?;
     let answers = joined(replies, more)?;

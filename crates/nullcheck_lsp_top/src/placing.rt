@@ -4,7 +4,7 @@ ghost use Rattle.nullcheck_lsp_top.specs.Placing as spec;
 
 use crate::client::Root;
 use jn_base::Text;
-use jn_folder::{each_once, is_among, is_below, is_whole, joined, plain};
+use jn_folder::{each_once, is_among, is_below, is_whole, joined, plain, rehomed};
 use jn_lsp::Phase;
 use jn_lsp_text::{Message, Reply};
 use std::alloc::{AllocError, Global};
@@ -81,11 +81,22 @@ fn is_of(alloc: Global, root: &Root, path: &str) -> Result<bool, AllocError>
     is_in_folder(alloc, root.exclude.as_slice(), &root.folder, path)
 }
 
+/// A plain path in the place where the folder really is, as it is below the folder; any other as it is.
+fn homed(alloc: Global, root: &Root, path: &str) -> Result<Text, AllocError>
+    ensures { IfOk result (λ home. home ≡ spec.homed root.now path.now) }
+{
+    match (&root.folder, &root.real) {
+        (Some(folder), Some(real)) => rehomed(alloc, folder.as_str(), real.as_str(), path),
+        _ => Text::of_str(alloc, path),
+    }
+}
+
 /// The name by which a document is one of the workspace's.
 fn placed_name(alloc: Global, root: &Root, name: &Text) -> Result<Option<Text>, AllocError>
     ensures { IfOk result (λ placed. placed ≡ spec.placed_name root.now name.now) }
 {
-    let path = plain(alloc, name.as_str())?;
+    let stands = plain(alloc, name.as_str())?;
+    let path = homed(alloc, root, stands.as_str())?;
     if is_of(alloc, root, path.as_str())? {
         Ok(Some(path))
     } else {
