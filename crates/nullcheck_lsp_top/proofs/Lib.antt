@@ -1,6 +1,7 @@
 pub mod Answering
 pub mod Reading
 pub mod Locating
+pub mod Homing
 pub mod Hearing
 pub mod Looping
 pub mod Ending
