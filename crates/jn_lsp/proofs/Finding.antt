@@ -1,5 +1,5 @@
 -- What a session's report finds of files.
-use Rattle.std.proofs.Common.{◌≡◌, ℕ, ◌<◌, List, [], ◌∷◌, length, Option, sym, ap, ◌∙◌, subst, arith}
+use Rattle.std.proofs.Common.{◌≡◌, ℕ, ◌<◌, Bool, true, false, List, [], ◌∷◌, length, Option, refl, sym, ap, ◌∙◌, subst, arith}
 use Rattle.jn_base.specs.declared.infer.Infer.{Infer}
 use Rattle.jn_base.specs.declared.place.Row.{Row}
 use Rattle.jn_command.specs.declared.report.Report.{Report}
@@ -15,7 +15,9 @@ use Rattle.jn_recheck.specs.Sessions.{HaveNotes, IsRecheck, Reports, SessionOf, 
 use Rattle.jn_recheck_law.specs.Reusable.{Solved}
 use Rattle.jn_report.specs.Report.{IsReport}
 use Rattle.jn_lsp.specs.declared.diagnostics.Told.{Told}
-use Rattle.jn_lsp.specs.Telling.{AreFindings, AreReportNotes, AreTold, IsKeptOf, IsReported, IsTold, told_from}
+use Rattle.jn_lsp.specs.declared.unchecked.LastReport.{LastReport}
+use Rattle.jn_lsp.specs.Reported.{AreFindings, AreNoted, AreReportNotes, AreTold, IsKeptOf, IsReported, IsTold, comes_to_rules, reported_at, unchecked_at}
+use Rattle.jn_lsp.specs.Telling.{diagnostics_at, told_from}
 
 -- ---- after a report
 
@@ -54,12 +56,12 @@ rule_notes infer files (Checked (r ∷ rs)) kept rows notes n e v (solved, is, s
   are = subst (λ xs. AreNotesOf solved.program solved.names solved.signature xs notes) e (subst (λ k. HaveNotes k rows notes) is have);
 }
 
-pub noted : (infer : Infer) (files : List SourceFile) (kept : Option Solved) (rows : List Row) (verdict : Verdict) (n : ℕ) (notes : List Notes) → IsReported infer files kept rows verdict → verdict ≡ Rejected n → HaveNotes kept rows notes → AreFindings infer files rows notes
+pub noted : (infer : Infer) (files : List SourceFile) (kept : Option Solved) (rows : List Row) (verdict : Verdict) (n : ℕ) (notes : List Notes) → IsReported infer files kept rows verdict → verdict ≡ Rejected n → HaveNotes kept rows notes → AreNoted infer files rows verdict notes
 noted infer files kept rows verdict n notes r v have = record {
   report = r.report;
-  is = r.is;
+  found = record { is = r.is; notes_are = rule_notes infer files r.report kept rows notes n r.rows_are (sym v ∙ r.verdict_is) r.keeps have };
   rows_are = r.rows_are;
-  notes_are = rule_notes infer files r.report kept rows notes n r.rows_are (sym v ∙ r.verdict_is) r.keeps have;
+  verdict_is = r.verdict_is;
 }
 
 no_rule_notes : (infer : Infer) (files : List SourceFile) (report : Report) (notes : List Notes) → IsNotRejected (verdict_of report) → notes ≡ [] → AreReportNotes infer files report notes
@@ -67,28 +69,47 @@ no_rule_notes infer files (Refused rs) notes v e = e
 no_rule_notes infer files (Checked []) notes v e = e
 no_rule_notes infer files (Checked (r ∷ rs)) notes v e = absurd v
 
-pub not_noted : (infer : Infer) (files : List SourceFile) (kept : Option Solved) (rows : List Row) (verdict : Verdict) (notes : List Notes) → IsReported infer files kept rows verdict → IsNotRejected verdict → notes ≡ [] → AreFindings infer files rows notes
+pub not_noted : (infer : Infer) (files : List SourceFile) (kept : Option Solved) (rows : List Row) (verdict : Verdict) (notes : List Notes) → IsReported infer files kept rows verdict → IsNotRejected verdict → notes ≡ [] → AreNoted infer files rows verdict notes
 not_noted infer files kept rows verdict notes r v e = record {
   report = r.report;
-  is = r.is;
+  found = record { is = r.is; notes_are = no_rule_notes infer files r.report notes (subst IsNotRejected r.verdict_is v) e };
   rows_are = r.rows_are;
-  notes_are = no_rule_notes infer files r.report notes (subst IsNotRejected r.verdict_is v) e;
+  verdict_is = r.verdict_is;
 }
 
 -- ---- what is told
 
-pub told_none : (infer : Infer) (files : List SourceFile) (told : List Told) → length files ≡ 0 → told ≡ [] → IsTold infer files told
-told_none infer [] told e none = none
-told_none infer (file ∷ files) told e none = absurd (omega (arith, e))
+pub told_none : (infer : Infer) (last : LastReport) (files : List SourceFile) (told : List Told) → length files ≡ 0 → told ≡ [] → IsTold infer last false files told
+told_none infer last [] told e none = (none, refl)
+told_none infer last (file ∷ files) told e none = absurd (omega (arith, e))
 
-pub told_some : (infer : Infer) (files : List SourceFile) (told : List Told) → 0 < length files → AreTold infer files told → IsTold infer files told
-told_some infer [] told lt are = absurd (omega (arith, lt))
-told_some infer (file ∷ files) told lt are = are
+pub told_some : (infer : Infer) (last : LastReport) (came : Bool) (files : List SourceFile) (told : List Told) → 0 < length files → AreTold infer last came files told → IsTold infer last came files told
+told_some infer last came [] told lt are = absurd (omega (arith, lt))
+told_some infer last came (file ∷ files) told lt are = are
 
-pub told_are : (infer : Infer) (files : List SourceFile) (rows of_rows : List Row) (notes of_notes : List Notes) (told : List Told) → AreFindings infer files rows notes → of_rows ≡ rows → of_notes ≡ notes → told ≡ told_from files of_rows of_notes 0 files → AreTold infer files told
-told_are infer files rows of_rows notes of_notes told found e f is = record {
-  rows = rows;
-  notes = notes;
-  found = found;
-  are = is ∙ ap (λ rs. told_from files rs of_notes 0 files) e ∙ ap (λ ns. told_from files rows ns 0 files) f;
-}
+abbrev pub IsRefused : Verdict → Type 0
+IsRefused Accepted = ⊥
+IsRefused (Rejected n) = ⊥
+IsRefused (RefusedVerdict n) = Unit {0}
+
+abbrev pub IsByRules : Verdict → Type 0
+IsByRules Accepted = Unit {0}
+IsByRules (Rejected n) = Unit {0}
+IsByRules (RefusedVerdict n) = ⊥
+
+-- a report that ends before the rules
+pub told_refused : (infer : Infer) (last : LastReport) (files : List SourceFile) (rows of_rows : List Row) (verdict : Verdict) (notes : List Notes) (told : List Told) → AreNoted infer files rows verdict notes → IsRefused verdict → of_rows ≡ rows → told ≡ told_from (unchecked_at last files of_rows) 0 files → AreTold infer last false files told
+told_refused infer last files rows of_rows verdict notes told noted refused e is = by_report noted.report noted.found noted.rows_are (subst IsRefused noted.verdict_is refused)
+  where
+    by_report : (report : Report) → AreFindings infer files report notes → rows ≡ rows_of report → IsRefused (verdict_of report) → AreTold infer last false files told
+    by_report (Refused rs) found same v = record { report = Refused rs; notes = notes; found = found; comes = refl; are = is ∙ ap (λ xs. told_from (unchecked_at last files xs) 0 files) (e ∙ same) }
+    by_report (Checked []) found same v = absurd v
+    by_report (Checked (r ∷ rs)) found same v = absurd v
+
+-- one that comes there
+pub told_checked : (infer : Infer) (last : LastReport) (files : List SourceFile) (rows of_rows : List Row) (verdict : Verdict) (notes : List Notes) (told : List Told) → AreNoted infer files rows verdict notes → IsByRules verdict → of_rows ≡ rows → told ≡ told_from (diagnostics_at files of_rows notes) 0 files → AreTold infer last true files told
+told_checked infer last files rows of_rows verdict notes told noted by_rules e is = by_report noted.report noted.found noted.rows_are (subst IsByRules noted.verdict_is by_rules)
+  where
+    by_report : (report : Report) → AreFindings infer files report notes → rows ≡ rows_of report → IsByRules (verdict_of report) → AreTold infer last true files told
+    by_report (Refused rs) found same v = absurd v
+    by_report (Checked rs) found same v = record { report = Checked rs; notes = notes; found = found; comes = refl; are = is ∙ ap (λ xs. told_from (diagnostics_at files xs notes) 0 files) (e ∙ same) }

@@ -15,7 +15,9 @@ use Rattle.jn_lsp.specs.Names.{is_among}
 use Rattle.jn_lsp.specs.Publications.{is_told, last_published}
 use Rattle.jn_lsp.specs.Requests.{ids_answered}
 use Rattle.jn_lsp.specs.Serving.{AreToldOf, files_of, workspace_of}
-use Rattle.jn_lsp.specs.Telling.{IsTold, told_of}
+use Rattle.jn_lsp.specs.declared.unchecked.LastReport.{LastReport}
+use Rattle.jn_lsp.specs.Reported.{IsTold}
+use Rattle.jn_lsp.specs.Telling.{told_of}
 use Rattle.jn_lsp.specs.Unknown.{choice_in, doubt, doubted_by, doubts_in, hushed, misread, newly, unless_unknown}
 use Rattle.jn_lsp.proofs.LastPublished.{AreOwnTold}
 
@@ -44,11 +46,14 @@ module _ (unknown : List (List ℕ)) where
 
 -- ---- a workspace
 
-pub told_known : (workspace : Workspace) (files : List SourceFile) (unknown : List (List ℕ)) (found all told : List Told) → files ≡ files_of workspace → unknown ≡ workspace.unknown → found ≡ all → IsTold workspace.infer files all → told ≡ hushed unknown found → AreToldOf workspace told
-told_known workspace files unknown found all told e f same is h = (all, subst (λ fs. IsTold workspace.infer fs all) e is, h ∙ ap (hushed unknown) same ∙ ap (λ u. hushed u all) f)
+pub told_known : (workspace : Workspace) (last : LastReport) (came : Bool) (files : List SourceFile) (unknown : List (List ℕ)) (found all told : List Told) → files ≡ files_of workspace → unknown ≡ workspace.unknown → found ≡ all → IsTold workspace.infer last came files all → told ≡ hushed unknown found → AreToldOf workspace last came all told
+told_known workspace last came files unknown found all told e f same is h = record {
+  is = subst (λ fs. IsTold workspace.infer last came fs all) e is;
+  told_is = h ∙ ap (hushed unknown) same ∙ ap (λ u. hushed u all) f;
+}
 
-pub told_nothing : (infer : Infer) (workspace : Workspace) (told : List Told) → workspace ≡ workspace_of infer [] [] [] [] → told ≡ [] → AreToldOf workspace told
-told_nothing infer workspace told e none = subst (λ w. AreToldOf w told) (sym e) (subst (AreToldOf (workspace_of infer [] [] [] [])) (sym none) ([], refl, refl))
+pub told_nothing : (infer : Infer) (workspace : Workspace) (last : LastReport) (told : List Told) → workspace ≡ workspace_of infer [] [] [] [] → told ≡ [] → (came : Bool) × (all : List Told) × AreToldOf workspace last came all told
+told_nothing infer workspace last told e none = (false, [], subst (λ w. AreToldOf w last false [] told) (sym e) (record { is = (refl, refl); told_is = none }))
 
 -- ---- warnings
 

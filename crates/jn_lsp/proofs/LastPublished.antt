@@ -3,18 +3,18 @@ use Rattle.std.proofs.Common.{◌≡◌, ℕ, ◌+◌, Bool, true, false, not, �
 use Rattle.std.specs.Prelude.{◌⊎◌}
 use Rattle.std.proofs.lemmas.Slice.Eq.{bytes_eq-Decides}
 use Rattle.jn_base.specs.declared.infer.Infer.{Infer}
-use Rattle.jn_base.specs.declared.place.Row.{Row}
 use Rattle.jn_front.specs.declared.source.SourceFile.{SourceFile}
 use Rattle.jn_lsp_text.specs.declared.reply.Diagnostic.{Diagnostic}
 use Rattle.jn_lsp_text.specs.declared.reply.Reply.{Reply}
 use Rattle.jn_lsp_text.specs.declared.reply.Reply.TheVariants.{Publish}
-use Rattle.jn_notes.specs.declared.note.Notes.{Notes}
 use Rattle.jn_lsp.specs.declared.versions.Version.{Version}
 use Rattle.jn_lsp.specs.Tracking.{version_of}
 use Rattle.jn_lsp.specs.declared.diagnostics.Told.{Told}
 use Rattle.jn_lsp.specs.Publications.{Announces, ArePublished, gone, is_named, is_told, last_published, published}
 use Rattle.jn_lsp.specs.Stand.{has_name}
-use Rattle.jn_lsp.specs.Telling.{IsTold, told_from, told_of}
+use Rattle.jn_lsp.specs.declared.unchecked.LastReport.{LastReport}
+use Rattle.jn_lsp.specs.Reported.{IsTold, reported_at}
+use Rattle.jn_lsp.specs.Telling.{told_from, told_of}
 use Rattle.jn_lsp.proofs.Names.{AreOwn, or_false, true_false}
 
 -- no name comes again
@@ -22,17 +22,17 @@ abbrev pub AreOwnTold : List Told → Type 0
 AreOwnTold [] = Unit {0}
 AreOwnTold (one ∷ told) = (is_told told one.name ≡ false) × AreOwnTold told
 
-own_from : (all : List SourceFile) (rows : List Row) (notes : List Notes) (at : ℕ) (name : List ℕ) (files : List SourceFile) → is_told (told_from all rows notes at files) name ≡ has_name name files
-own_from all rows notes at name [] = refl
-own_from all rows notes at name (file ∷ files) = ap (λ b. bytes_eq file.name name || b) (own_from all rows notes (at + 1) name files)
+own_from : (diagnostics : ℕ → List Diagnostic) (at : ℕ) (name : List ℕ) (files : List SourceFile) → is_told (told_from diagnostics at files) name ≡ has_name name files
+own_from diagnostics at name [] = refl
+own_from diagnostics at name (file ∷ files) = ap (λ b. bytes_eq file.name name || b) (own_from diagnostics (at + 1) name files)
 
-pub own_told : (all : List SourceFile) (rows : List Row) (notes : List Notes) (at : ℕ) (files : List SourceFile) → AreOwn files → AreOwnTold (told_from all rows notes at files)
-own_told all rows notes at [] own = tt
-own_told all rows notes at (file ∷ files) own = (own_from all rows notes (at + 1) file.name files ∙ own.0, own_told all rows notes (at + 1) files own.1)
+pub own_told : (diagnostics : ℕ → List Diagnostic) (at : ℕ) (files : List SourceFile) → AreOwn files → AreOwnTold (told_from diagnostics at files)
+own_told diagnostics at [] own = tt
+own_told diagnostics at (file ∷ files) own = (own_from diagnostics (at + 1) file.name files ∙ own.0, own_told diagnostics (at + 1) files own.1)
 
-pub told_own : (infer : Infer) (files : List SourceFile) (told : List Told) → AreOwn files → IsTold infer files told → AreOwnTold told
-told_own infer [] told own is = subst AreOwnTold (sym is) tt
-told_own infer (file ∷ files) told own is = subst AreOwnTold (sym is.are) (own_told (file ∷ files) is.rows is.notes 0 (file ∷ files) own)
+pub told_own : (infer : Infer) (last : LastReport) (came : Bool) (files : List SourceFile) (told : List Told) → AreOwn files → IsTold infer last came files told → AreOwnTold told
+told_own infer last came [] told own is = subst AreOwnTold (sym is.0) tt
+told_own infer last came (file ∷ files) told own is = subst AreOwnTold (sym is.are) (own_told (reported_at last (file ∷ files) is.report is.notes) 0 (file ∷ files) own)
 
 abbrev pub AreEmpty : List Told → Type 0
 AreEmpty [] = Unit {0}

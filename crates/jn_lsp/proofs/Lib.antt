@@ -6,4 +6,5 @@ pub mod LastPublished
 pub mod Hushing
 pub mod Upholding
 pub mod Finding
+pub mod Keeping
 pub mod Answering

@@ -35,23 +35,27 @@ module _ (files : List SourceFile) (rows : List Row) (notes : List Notes) where
       let same : diagnostics_of_row files item shown file ≡ here = ap (λ r. diagnostics_of_row files r shown file) is ∙ ap (λ ns. diagnostics_of_row files (get_or rows i item) ns file) told in
       ap (λ l. l ++ rest) (e ∙ ap (λ l. found ++ l) same) ∙ append_assoc found here rest ∙ ap (λ l. found ++ l) (sym (opened file i item lt)) ∙ was
 
-  pub told_more : (i : ℕ) (item : SourceFile) (diagnostics : List Diagnostic) (one : Told) (told more : List Told) → i < length files → item ≡ get_or files i item → diagnostics ≡ diagnostics_at files rows notes i → one ≡ record { name = item.name; diagnostics = diagnostics } → told ++ told_from files rows notes i (drop i files) ≡ told_from files rows notes 0 files → more ≡ told ++ one ∷ [] → more ++ told_from files rows notes (i + 1) (drop (i + 1) files) ≡ told_from files rows notes 0 files
-  told_more i item diagnostics one told more lt is found are was e =
-      let rest = told_from files rows notes (i + 1) (drop (i + 1) files) in
+-- ---- files
+
+module _ (files : List SourceFile) (diagnostics : ℕ → List Diagnostic) where
+  pub told_more : (i : ℕ) (item : SourceFile) (found : List Diagnostic) (one : Told) (told more : List Told) → i < length files → item ≡ get_or files i item → found ≡ diagnostics i → one ≡ record { name = item.name; diagnostics = found } → told ++ told_from diagnostics i (drop i files) ≡ told_from diagnostics 0 files → more ≡ told ++ one ∷ [] → more ++ told_from diagnostics (i + 1) (drop (i + 1) files) ≡ told_from diagnostics 0 files
+  told_more i item found one told more lt is same are was e =
+      let rest = told_from diagnostics (i + 1) (drop (i + 1) files) in
       let make : List ℕ → List Diagnostic → Told = λ n ds. record { name = n; diagnostics = ds } in
-      let here = make (get_or files i item).name (diagnostics_at files rows notes i) in
-      let same : one ≡ here = are ∙ ap (λ (f : SourceFile). make f.name diagnostics) is ∙ ap (make (get_or files i item).name) found in
-      ap (λ l. l ++ rest) (e ∙ ap (λ x. told ++ x ∷ []) same) ∙ append_assoc told (here ∷ []) rest ∙ ap (λ l. told ++ l) (sym (ap (told_from files rows notes i) (drop_more files i item lt))) ∙ was
+      let here = make (get_or files i item).name (diagnostics i) in
+      let alike : one ≡ here = are ∙ ap (λ (f : SourceFile). make f.name found) is ∙ ap (make (get_or files i item).name) same in
+      ap (λ l. l ++ rest) (e ∙ ap (λ x. told ++ x ∷ []) alike) ∙ append_assoc told (here ∷ []) rest ∙ ap (λ l. told ++ l) (sym (ap (told_from diagnostics i) (drop_more files i item lt))) ∙ was
 
 -- ---- what is told of a name
 
-told_at : (all : List SourceFile) (rows : List Row) (notes : List Notes) (at : ℕ) (files : List SourceFile) (name : List ℕ) → told_of (told_from all rows notes at files) name ≡ diagnostics_of_place all rows notes (position_from (is_named name) at files)
-told_at all rows notes at [] name = refl
-told_at all rows notes at (file ∷ files) name = case (bytes_eq file.name name) (told_at all rows notes (at + 1) files name)
-  where
-    case : (b : Bool) → told_of (told_from all rows notes (at + 1) files) name ≡ diagnostics_of_place all rows notes (position_from (is_named name) (at + 1) files) → cond b (diagnostics_at all rows notes at) (told_of (told_from all rows notes (at + 1) files) name) ≡ diagnostics_of_place all rows notes (cond b (Some at) (position_from (is_named name) (at + 1) files))
-    case true r = refl
-    case false r = r
+module _ (diagnostics : ℕ → List Diagnostic) where
+  told_at : (at : ℕ) (files : List SourceFile) (name : List ℕ) → told_of (told_from diagnostics at files) name ≡ diagnostics_of_place diagnostics (position_from (is_named name) at files)
+  told_at at [] name = refl
+  told_at at (file ∷ files) name = case (bytes_eq file.name name) (told_at (at + 1) files name)
+    where
+      case : (b : Bool) → told_of (told_from diagnostics (at + 1) files) name ≡ diagnostics_of_place diagnostics (position_from (is_named name) (at + 1) files) → cond b (diagnostics at) (told_of (told_from diagnostics (at + 1) files) name) ≡ diagnostics_of_place diagnostics (cond b (Some at) (position_from (is_named name) (at + 1) files))
+      case true r = refl
+      case false r = r
 
-pub told_named : (files : List SourceFile) (rows : List Row) (notes : List Notes) (name : List ℕ) → told_of (told_from files rows notes 0 files) name ≡ diagnostics_of files rows notes name
-told_named files rows notes name = told_at files rows notes 0 files name
+  pub told_named : (files : List SourceFile) (name : List ℕ) → told_of (told_from diagnostics 0 files) name ≡ diagnostics_of diagnostics files name
+  told_named files name = told_at 0 files name

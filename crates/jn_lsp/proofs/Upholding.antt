@@ -1,7 +1,9 @@
 -- A server keeps what is told true to the files, event by event.
-use Rattle.std.proofs.Common.{◌≡◌, ℕ, List, [], ◌∷◌, Option, Some, None, append-nil, refl, sym, ap, ◌∙◌, subst}
+use Rattle.std.proofs.Common.{◌≡◌, ℕ, Bool, true, false, List, [], ◌∷◌, Option, Some, None, append-nil, refl, sym, ap, ◌∙◌, subst}
 use Rattle.std.specs.Prelude.{option_to_list}
 use Rattle.jn_base.specs.declared.infer.Infer.{Infer}
+use Rattle.jn_command.specs.declared.report.Report.{Report}
+use Rattle.jn_command.specs.declared.report.Report.TheVariants.{Refused, Checked}
 use Rattle.jn_front.specs.declared.source.SourceFile.{SourceFile}
 use Rattle.jn_lsp_text.specs.declared.id.Id.{Id}
 use Rattle.jn_lsp_text.specs.declared.message.Message.{Message}
@@ -10,6 +12,7 @@ use Rattle.jn_lsp_text.specs.declared.reply.Action.{Action}
 use Rattle.jn_lsp_text.specs.declared.reply.Diagnostic.{Diagnostic}
 use Rattle.jn_lsp_text.specs.declared.reply.Failure.{Failure}
 use Rattle.jn_lsp_text.specs.declared.reply.Reply.{Reply}
+use Rattle.jn_notes.specs.declared.note.Notes.{Notes}
 use Rattle.jn_lsp.specs.declared.diagnostics.Told.{Told}
 use Rattle.jn_lsp.specs.declared.documents.Workspace.{Workspace}
 use Rattle.jn_lsp.specs.declared.event.Event.{Event}
@@ -17,12 +20,14 @@ use Rattle.jn_lsp.specs.declared.event.Event.TheVariants.{Folder, Message as Mes
 use Rattle.jn_lsp.specs.declared.phase.Phase.{Phase}
 use Rattle.jn_lsp.specs.declared.phase.Phase.TheVariants.{Waiting, Serving, ShutDown, Exited}
 use Rattle.jn_lsp.specs.Publications.{last_published}
-use Rattle.jn_lsp.specs.Serving.{AreAnswers, ArePublishedLast, AreToldOf, IsInformed, IsMovedIn, IsRetold, IsUpToDate, Serves, ServerOf, Takes, answer_of, files_of, late_answer, opened_by, new_server, next_phase, refusal, serving_answer, waiting_answer}
-use Rattle.jn_lsp.specs.Telling.{IsTold, told_of}
+use Rattle.jn_lsp.specs.Serving.{AreAnswers, ArePublishedLast, AreToldOf, IsInformed, IsMovedIn, IsRetold, IsToldAnew, IsUpToDate, Serves, ServerOf, Takes, answer_of, files_of, late_answer, opened_by, new_server, next_phase, refusal, serving_answer, waiting_answer}
+use Rattle.jn_lsp.specs.declared.unchecked.LastReport.{LastReport}
+use Rattle.jn_lsp.specs.Reported.{AreFindings, AreTold, IsTold, comes_to_rules, next_last, reported_at}
+use Rattle.jn_lsp.specs.Telling.{told_from, told_of}
 use Rattle.jn_lsp.specs.Unknown.{doubts_in, hushed, unless_unknown}
 use Rattle.jn_lsp.proofs.Hushing.{doubts_silent, hushed_told, own_hushed}
 use Rattle.jn_lsp.proofs.LastPublished.{AreOwnTold, announced, last_both, told_own}
-use Rattle.jn_lsp.proofs.Names.{stand_own}
+use Rattle.jn_lsp.proofs.Names.{stand_own, true_false}
 use Rattle.jn_lsp.proofs.Rows.{told_named}
 
 -- ---- answers publish nothing
@@ -113,19 +118,36 @@ module _ (name : List ℕ) (last : List Diagnostic) where
 
 -- ---- one event
 
+-- what is told is the same, whichever report came to the rules last, where this one comes there; else the last one is as it was
+told_after : (infer : Infer) (before : LastReport) (came : Bool) (files : List SourceFile) (told : List Told) → IsTold infer before came files told → IsTold infer (next_last came files told before) came files told
+told_after infer before false files told is = is
+told_after infer before true [] told is = is
+told_after infer before true (file ∷ files) told is = by_report is.report is.notes is.found is.comes is.are
+  where
+    by_report : (report : Report) (notes : List Notes) → AreFindings infer (file ∷ files) report notes → true ≡ comes_to_rules report → told ≡ told_from (reported_at before (file ∷ files) report notes) 0 (file ∷ files) → AreTold infer (next_last true (file ∷ files) told before) true (file ∷ files) told
+    by_report (Refused rows) notes found comes are = absurd (true_false true refl (sym comes))
+    by_report (Checked rows) notes found comes are = record { report = Checked rows; notes = notes; found = found; comes = refl; are = are }
+
+told_anew : (workspace : Workspace) (before after : LastReport) (told : List Told) (anew : IsToldAnew workspace before after told) → AreToldOf workspace after anew.came anew.all told
+told_anew workspace before after told anew = record {
+  is = subst (λ l. IsTold workspace.infer l anew.came (files_of workspace) anew.all) (sym anew.keeps) (told_after workspace.infer before anew.came (files_of workspace) anew.all anew.are.is);
+  told_is = anew.are.told_is;
+}
+
 informed_behind : (opened : Option (List ℕ)) (moved : Option Workspace) (before after : ServerOf) (news : List Reply) → IsRetold opened moved before news after → IsInformed before → IsInformed after
-informed_behind opened None before after news (nothing, same, told) informed =
-    subst (λ w. AreToldOf w after.told) (sym same) (subst (AreToldOf before.workspace) (sym told) informed)
-informed_behind opened (Some workspace) before after news (is, told, announces) informed = subst (λ w. AreToldOf w after.told) (sym is) told
+informed_behind opened None before after news (nothing, same, told, last) (came, all, informed) =
+    (came, all, subst (λ w. AreToldOf w after.last came all after.told) (sym same) (subst (λ l. AreToldOf before.workspace l came all after.told) (sym last) (subst (AreToldOf before.workspace before.last came all) (sym told) informed)))
+informed_behind opened (Some workspace) before after news (is, anew, announces) informed =
+    (anew.came, anew.all, subst (λ w. AreToldOf w after.last anew.came anew.all after.told) (sym is) (told_anew workspace before.last after.last after.told anew))
 
 pub informed : (before after : ServerOf) (event : Event) (replies : List Reply) → Takes before event replies after → IsInformed before → IsInformed after
 informed before after event replies takes is = informed_behind (opened_by event) takes.moved before after takes.news takes.retold is
 
 news_last : (opened : Option (List ℕ)) (name : List ℕ) (moved : Option Workspace) (before after : ServerOf) (news : List Reply) → IsRetold opened moved before news after → last_published name (told_of before.told name) news ≡ told_of after.told name
-news_last opened name None before after news (nothing, same, told) = ap (last_published name (told_of before.told name)) nothing ∙ ap (λ t. told_of t name) (sym told)
-news_last opened name (Some workspace) before after news (is, told, announces) =
-    let own = own_hushed workspace.unknown told.0 (told_own workspace.infer (files_of workspace) told.0 (stand_own workspace.disk workspace.documents) told.1) in
-    announced opened workspace.versions before.told after.told news name (subst AreOwnTold (sym told.2) own) announces
+news_last opened name None before after news (nothing, same, told, last) = ap (last_published name (told_of before.told name)) nothing ∙ ap (λ t. told_of t name) (sym told)
+news_last opened name (Some workspace) before after news (is, anew, announces) =
+    let own = own_hushed workspace.unknown anew.all (told_own workspace.infer before.last anew.came (files_of workspace) anew.all (stand_own workspace.disk workspace.documents) anew.are.is) in
+    announced opened workspace.versions before.told after.told news name (subst AreOwnTold (sym anew.are.told_is) own) announces
 
 event_last : (name : List ℕ) (before after : ServerOf) (event : Event) (replies : List Reply) → Takes before event replies after → last_published name (told_of before.told name) replies ≡ told_of after.told name
 event_last name before after event replies takes =
@@ -135,15 +157,15 @@ event_last name before after event replies takes =
     ∙ news_last (opened_by event) name takes.moved before after takes.news takes.retold
 
 -- files stay as they are
-pub takes_alone : (phase next : Phase) (workspace : Workspace) (told : List Told) (event : Event) (direct replies : List Reply) (moved : Option Workspace) → next ≡ next_phase phase event → AreAnswers (record { phase = phase; workspace = workspace; told = told }) event direct → IsMovedIn phase event workspace moved → moved ≡ None → replies ≡ direct → Takes (record { phase = phase; workspace = workspace; told = told }) event replies (record { phase = next; workspace = workspace; told = told })
-takes_alone phase next workspace told event direct replies moved behind answers moves none e = record {
+pub takes_alone : (phase next : Phase) (workspace : Workspace) (told : List Told) (last : LastReport) (event : Event) (direct replies : List Reply) (moved : Option Workspace) → next ≡ next_phase phase event → AreAnswers (record { phase = phase; workspace = workspace; told = told; last = last }) event direct → IsMovedIn phase event workspace moved → moved ≡ None → replies ≡ direct → Takes (record { phase = phase; workspace = workspace; told = told; last = last }) event replies (record { phase = next; workspace = workspace; told = told; last = last })
+takes_alone phase next workspace told last event direct replies moved behind answers moves none e = record {
   phase = behind;
   direct = direct;
   answers = answers;
   moved = None;
   moves = subst (IsMovedIn phase event workspace) none moves;
   news = [];
-  retold = (refl, refl, refl);
+  retold = (refl, refl, refl, refl);
   all = e ∙ sym (append-nil direct);
 }
 
@@ -161,20 +183,20 @@ all_last name (event ∷ events) before after replies (first, rest, mid, e, take
     ∙ ap (λ l. last_published name l rest) (event_last name before mid event first takes)
     ∙ all_last name events mid after rest serves
 
-as_reported : (infer : Infer) (unknown : List (List ℕ)) (files : List SourceFile) (all told : List Told) (last : List ℕ → List Diagnostic) → IsTold infer files all → told ≡ hushed unknown all → ((name : List ℕ) → last name ≡ told_of told name) → ArePublishedLast infer unknown files last
-as_reported infer unknown [] all told last is e same = λ name. same name ∙ ap (λ t. told_of t name) (e ∙ ap (hushed unknown) is)
-as_reported infer unknown (file ∷ files) all told last is e same = (
-  is.rows,
+as_reported : (infer : Infer) (last : LastReport) (came : Bool) (unknown : List (List ℕ)) (files : List SourceFile) (all told : List Told) (published : List ℕ → List Diagnostic) → IsTold infer last came files all → told ≡ hushed unknown all → ((name : List ℕ) → published name ≡ told_of told name) → ArePublishedLast infer last unknown files published
+as_reported infer last came unknown [] all told published is e same = λ name. same name ∙ ap (λ t. told_of t name) (e ∙ ap (hushed unknown) is.0)
+as_reported infer last came unknown (file ∷ files) all told published is e same = (
+  is.report,
   is.notes,
   is.found,
   λ name.
       same name
       ∙ ap (λ t. told_of t name) e
       ∙ hushed_told unknown all name
-      ∙ ap (unless_unknown unknown name) (ap (λ t. told_of t name) is.are ∙ told_named (file ∷ files) is.rows is.notes name),
+      ∙ ap (unless_unknown unknown name) (ap (λ t. told_of t name) is.are ∙ told_named (reported_at last (file ∷ files) is.report is.notes) (file ∷ files) name),
 )
 
 pub up_to_date : (infer : Infer) (events : List Event) (replies : List Reply) (after : ServerOf) → Serves (new_server infer) events replies after → IsUpToDate after replies
 up_to_date infer events replies after serves =
-    let informed = all_informed events (new_server infer) after replies serves ([], refl, refl) in
-    as_reported after.workspace.infer after.workspace.unknown (files_of after.workspace) informed.0 after.told (λ name. last_published name [] replies) informed.1 informed.2 (λ name. all_last name events (new_server infer) after replies serves)
+    let informed = all_informed events (new_server infer) after replies serves (false, [], record { is = (refl, refl); told_is = refl }) in
+    as_reported after.workspace.infer after.last informed.0 after.workspace.unknown (files_of after.workspace) informed.1 after.told (λ name. last_published name [] replies) informed.2.is informed.2.told_is (λ name. all_last name events (new_server infer) after replies serves)

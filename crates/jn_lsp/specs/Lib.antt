@@ -1,6 +1,8 @@
 pub mod Names
 pub mod Stand
 pub mod Telling
+pub mod Front
+pub mod Reported
 pub mod Edits
 pub mod Unknown
 pub mod Tracking

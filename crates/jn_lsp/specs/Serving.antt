@@ -2,7 +2,7 @@
 use Rattle.std.specs.Prelude.{ℕ, ◌≡◌, ◌++◌, Bool, true, false, List, [], ◌∷◌, Option, Some, None, ◌&&◌, if◌then◌else◌, option_to_list}
 use Rattle.std.specs.List.{list_any}
 use Rattle.jn_base.specs.declared.infer.Infer.{Infer}
-use Rattle.jn_base.specs.declared.place.Row.{Row}
+use Rattle.jn_command.specs.declared.report.Report.{Report}
 use Rattle.jn_front.specs.declared.source.SourceFile.{SourceFile}
 use Rattle.jn_lsp_actions.specs.Asking.{meets}
 use Rattle.jn_lsp_actions.specs.Offered.{AreActions}
@@ -30,7 +30,9 @@ use Rattle.jn_lsp.specs.Names.{is_empty}
 use Rattle.jn_lsp.specs.Publications.{Announces, last_published}
 use Rattle.jn_lsp.specs.Stand.{stand}
 use Rattle.jn_lsp.specs.Tracking.{versions_behind}
-use Rattle.jn_lsp.specs.Telling.{AreFindings, IsTold, diagnostics_of, told_of}
+use Rattle.jn_lsp.specs.declared.unchecked.LastReport.{LastReport}
+use Rattle.jn_lsp.specs.Reported.{AreFindings, IsTold, next_last, no_report, reported_at}
+use Rattle.jn_lsp.specs.Telling.{diagnostics_of, told_of}
 use Rattle.jn_lsp.specs.Unknown.{doubts_in, hushed, touches, unknown_behind, unless_unknown}
 
 -- ---- requests and phases
@@ -154,15 +156,17 @@ IsMovedIn (Exited in_order) event before after = after ≡ None
 
 -- ---- servers
 
--- what a server is: its phase, the folder's files and the open documents, and what was told of the files that stand
+-- what a server is: its phase, the folder's files and the open documents, what was told of the files that stand, and the last report that came to the
+-- rules
 pub record ServerOf : Type 0 where
   pub phase : Phase
   pub workspace : Workspace
   pub told : List Told
+  pub last : LastReport
 
 -- a server that infers these members where `initialize` chooses none
 abbrev pub new_server : Infer → ServerOf
-new_server infer = record { phase = Waiting; workspace = workspace_of infer [] [] [] []; told = [] }
+new_server infer = record { phase = Waiting; workspace = workspace_of infer [] [] [] []; told = []; last = no_report }
 
 -- the files as they stand
 abbrev pub files_of : Workspace → List SourceFile
@@ -210,14 +214,22 @@ abbrev pub opened_by : Event → Option (List ℕ)
 opened_by (MessageEvent (DidOpen name version text)) = Some name
 opened_by _ = None
 
--- what is told of a workspace: the report of its files as they stand, and of those whose text isn't known nothing
-abbrev pub AreToldOf : Workspace → List Told → Type 0
-AreToldOf workspace told = (all : List Told) × IsTold workspace.infer (files_of workspace) all × (told ≡ hushed workspace.unknown all)
+-- what is told of a workspace: this report of its files as they stand, after that last one that came to the rules, and of files whose text isn't known nothing
+pub record AreToldOf (workspace : Workspace) (last : LastReport) (came : Bool) (all told : List Told) : Type 0 where
+  pub is : IsTold workspace.infer last came (files_of workspace) all
+  pub told_is : told ≡ hushed workspace.unknown all
+
+-- the report of a workspace is told, and kept where it comes to the rules
+pub record IsToldAnew (workspace : Workspace) (before after : LastReport) (told : List Told) : Type 0 where
+  pub came : Bool
+  pub all : List Told
+  pub are : AreToldOf workspace before came all told
+  pub keeps : after ≡ next_last came (files_of workspace) all before
 
 -- where files change, their report is told, and what of it wasn't told before is published, with that of the document that is opened
 abbrev pub IsRetold : Option (List ℕ) → Option Workspace → ServerOf → List Reply → ServerOf → Type 0
-IsRetold opened None before news after = (news ≡ []) × (after.workspace ≡ before.workspace) × (after.told ≡ before.told)
-IsRetold opened (Some workspace) before news after = (after.workspace ≡ workspace) × AreToldOf workspace after.told × Announces opened workspace.versions before.told after.told news
+IsRetold opened None before news after = (news ≡ []) × (after.workspace ≡ before.workspace) × (after.told ≡ before.told) × (after.last ≡ before.last)
+IsRetold opened (Some workspace) before news after = (after.workspace ≡ workspace) × IsToldAnew workspace before.last after.last after.told × Announces opened workspace.versions before.told after.told news
 
 -- a server takes an event, and gives these replies
 pub record Takes (before : ServerOf) (event : Event) (replies : List Reply) (after : ServerOf) : Type 0 where
@@ -239,16 +251,17 @@ Serves before (event ∷ events) replies after =
 
 -- what is told is the report of the files as they stand
 abbrev pub IsInformed : ServerOf → Type 0
-IsInformed server = AreToldOf server.workspace server.told
+IsInformed server = (came : Bool) × (all : List Told) × AreToldOf server.workspace server.last came all server.told
 
 -- ---- the theorem
 
--- of each name this was published last: of no files nothing, else the diagnostics of the files' report where these members are inferred; a name that doesn't stand has none,
--- nor one whose text isn't known
-abbrev pub ArePublishedLast : Infer → List (List ℕ) → List SourceFile → (List ℕ → List Diagnostic) → Type 0
-ArePublishedLast infer unknown [] last = (name : List ℕ) → last name ≡ []
-ArePublishedLast infer unknown (file ∷ files) last =
-    (rows : List Row) × (notes : List Notes) × AreFindings infer (file ∷ files) rows notes × ((name : List ℕ) → last name ≡ unless_unknown unknown name (diagnostics_of (file ∷ files) rows notes name))
+-- of each name this was published last: of no files nothing, else what the files' report says of it where these members are inferred, after the last
+-- report that came to the rules; a name that doesn't stand has none, nor one whose text isn't known
+abbrev pub ArePublishedLast : Infer → LastReport → List (List ℕ) → List SourceFile → (List ℕ → List Diagnostic) → Type 0
+ArePublishedLast infer last unknown [] published = (name : List ℕ) → published name ≡ []
+ArePublishedLast infer last unknown (file ∷ files) published =
+    (report : Report) × (notes : List Notes) × AreFindings infer (file ∷ files) report notes
+    × ((name : List ℕ) → published name ≡ unless_unknown unknown name (diagnostics_of (reported_at last (file ∷ files) report notes) (file ∷ files) name))
 
 abbrev pub IsUpToDate : ServerOf → List Reply → Type 0
-IsUpToDate server replies = ArePublishedLast server.workspace.infer server.workspace.unknown (files_of server.workspace) (λ name. last_published name [] replies)
+IsUpToDate server replies = ArePublishedLast server.workspace.infer server.last server.workspace.unknown (files_of server.workspace) (λ name. last_published name [] replies)

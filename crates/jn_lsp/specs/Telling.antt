@@ -1,26 +1,18 @@
 -- What is told of files: the rows of their report, each with its notes, at the files where they stand.
-use Rattle.std.specs.Prelude.{ℕ, ◌+◌, ◌-◌, ◌==◌, ◌≡◌, List, [], ◌∷◌, ◌++◌, codes, drop, length, map, nat_eq, nat_lt, bytes_eq, slice_index_or, take, Option, Some, None, if◌then◌else◌}
+use Rattle.std.specs.Prelude.{ℕ, ◌+◌, ◌-◌, ◌==◌, List, [], ◌∷◌, ◌++◌, codes, drop, length, map, nat_eq, nat_lt, bytes_eq, slice_index_or, take, Option, Some, None, if◌then◌else◌}
 use Rattle.std.specs.List.{ends_with}
 use Rattle.std.specs.Str.Lossy.{utf8_lossy}
-use Rattle.jn_base.specs.declared.infer.Infer.{Infer}
 use Rattle.jn_base.specs.declared.place.Row.{Row}
 use Rattle.jn_base.specs.declared.place.Span.{Span}
-use Rattle.jn_command.specs.declared.report.Report.{Report}
-use Rattle.jn_command.specs.declared.report.Report.TheVariants.{Refused, Checked}
-use Rattle.jn_command.specs.Reports.{rows_of, verdict_of}
-use Rattle.jn_diag.specs.declared.shown.Verdict.{Verdict}
 use Rattle.jn_front.specs.declared.source.SourceFile.{SourceFile}
 use Rattle.jn_lsp_text.specs.declared.range.Range.{Range}
 use Rattle.jn_lsp_text.specs.Ranges.{range_at}
 use Rattle.jn_lsp_text.specs.declared.reply.Diagnostic.{Diagnostic}
 use Rattle.jn_lsp_text.specs.declared.reply.Related.{Related}
+use Rattle.jn_lsp_text.specs.declared.reply.Said.TheVariants as said
 use Rattle.jn_notes.specs.declared.note.Note.{Note}
 use Rattle.jn_notes.specs.declared.note.Notes.{Notes}
-use Rattle.jn_notes.specs.Noted.{AreNotesOf}
 use Rattle.jn_recheck.specs.Files.{place_of}
-use Rattle.jn_recheck.specs.Sessions.{IsSolutionOf}
-use Rattle.jn_recheck_law.specs.Reusable.{Solved}
-use Rattle.jn_report.specs.Report.{IsReport}
 use Rattle.jn_lsp.specs.declared.diagnostics.Told.{Told}
 
 -- ---- places
@@ -54,7 +46,7 @@ related_of files note = record { name = (home_of files note.span).name; range = 
 
 -- a row at its range, with these notes
 abbrev pub diagnostic_of : List SourceFile → Row → List Note → Diagnostic
-diagnostic_of files row shown = record { range = range_in files row.span; code = row.code; related = map (related_of files) shown }
+diagnostic_of files row shown = record { range = range_in files row.span; said = said.Row row.code; related = map (related_of files) shown }
 
 -- the notes that are shown of a list's first row; none where the list is shorter
 abbrev pub first_shown : List Notes → List Note
@@ -74,13 +66,14 @@ abbrev pub diagnostics_at : List SourceFile → List Row → List Notes → ℕ 
 diagnostics_at files [] notes at = []
 diagnostics_at files (row ∷ rows) notes at = diagnostics_of_row files row (first_shown notes) at ++ diagnostics_at files rows (notes_behind notes) at
 
-abbrev pub diagnostics_of_place : List SourceFile → List Row → List Notes → Option ℕ → List Diagnostic
-diagnostics_of_place files rows notes None = []
-diagnostics_of_place files rows notes (Some at) = diagnostics_at files rows notes at
+-- what this gives of a place; of none nothing
+abbrev pub diagnostics_of_place : (ℕ → List Diagnostic) → Option ℕ → List Diagnostic
+diagnostics_of_place diagnostics None = []
+diagnostics_of_place diagnostics (Some at) = diagnostics at
 
--- those of a name; a name that doesn't stand has none
-abbrev pub diagnostics_of : List SourceFile → List Row → List Notes → List ℕ → List Diagnostic
-diagnostics_of files rows notes name = diagnostics_of_place files rows notes (place_of name files)
+-- what this gives of the number of the file of a name; a name that doesn't stand has none
+abbrev pub diagnostics_of : (ℕ → List Diagnostic) → List SourceFile → List ℕ → List Diagnostic
+diagnostics_of diagnostics files name = diagnostics_of_place diagnostics (place_of name files)
 
 -- the notes that are shown of the row of a number
 abbrev pub shown_at : List Notes → ℕ → List Note
@@ -88,58 +81,12 @@ shown_at notes at = first_shown (drop at notes)
 
 -- ---- what is told
 
--- of the files from a number on
-abbrev pub told_from : List SourceFile → List Row → List Notes → ℕ → List SourceFile → List Told
-told_from all rows notes at [] = []
-told_from all rows notes at (file ∷ files) = record { name = file.name; diagnostics = diagnostics_at all rows notes at } ∷ told_from all rows notes (at + 1) files
+-- of the files from a number on, of each what this gives of its number
+abbrev pub told_from : (ℕ → List Diagnostic) → ℕ → List SourceFile → List Told
+told_from diagnostics at [] = []
+told_from diagnostics at (file ∷ files) = record { name = file.name; diagnostics = diagnostics at } ∷ told_from diagnostics (at + 1) files
 
 -- what is told of a name; none where nothing is
 abbrev pub told_of : List Told → List ℕ → List Diagnostic
 told_of [] name = []
 told_of (one ∷ told) name = if bytes_eq one.name name then one.diagnostics else told_of told name
-
--- ---- reports
-
--- the notes of rows of the rules: those under the least signature
-pub record RuleNotes (infer : Infer) (files : List SourceFile) (rows : List Row) (notes : List Notes) : Type 0 where
-  pub solved : Solved
-  pub is : IsSolutionOf infer files solved
-  pub are : AreNotesOf solved.program solved.names solved.signature rows notes
-
--- the notes of a report's rows: only those of the rules have any
-abbrev pub AreReportNotes : Infer → List SourceFile → Report → List Notes → Type 0
-AreReportNotes infer files (Refused rows) notes = notes ≡ []
-AreReportNotes infer files (Checked []) notes = notes ≡ []
-AreReportNotes infer files (Checked (row ∷ rows)) notes = RuleNotes infer files (row ∷ rows) notes
-
--- the rows of these files' report where these members are inferred, and their notes
-pub record AreFindings (infer : Infer) (files : List SourceFile) (rows : List Row) (notes : List Notes) : Type 0 where
-  pub report : Report
-  pub is : IsReport infer files report
-  pub rows_are : rows ≡ rows_of report
-  pub notes_are : AreReportNotes infer files report notes
-
--- of each file, in their order, what the files' report says
-pub record AreTold (infer : Infer) (files : List SourceFile) (told : List Told) : Type 0 where
-  pub rows : List Row
-  pub notes : List Notes
-  pub found : AreFindings infer files rows notes
-  pub are : told ≡ told_from files rows notes 0 files
-
--- what is kept of a report of these files that came to the rules
-abbrev pub IsKeptOf : Infer → List SourceFile → Report → Option Solved → Type 0
-IsKeptOf infer files (Refused rows) kept = Unit {0}
-IsKeptOf infer files (Checked rows) kept = (solved : Solved) × (kept ≡ Some solved) × IsSolutionOf infer files solved
-
--- rows and verdict are those of the files' report, and this is kept after it
-pub record IsReported (infer : Infer) (files : List SourceFile) (kept : Option Solved) (rows : List Row) (verdict : Verdict) : Type 0 where
-  pub report : Report
-  pub is : IsReport infer files report
-  pub rows_are : rows ≡ rows_of report
-  pub verdict_is : verdict ≡ verdict_of report
-  pub keeps : IsKeptOf infer files report kept
-
--- of no files nothing
-abbrev pub IsTold : Infer → List SourceFile → List Told → Type 0
-IsTold infer [] told = told ≡ []
-IsTold infer (file ∷ files) told = AreTold infer (file ∷ files) told

@@ -1,7 +1,7 @@
 //! Whether two lists of diagnostics are the same.
 ghost use Rattle.std.specs.Prelude.{◌≡◌, ◌↔◌, IsTrue, true};
 
-use jn_lsp_text::{Diagnostic, Related};
+use jn_lsp_text::{Diagnostic, Related, Said};
 
 fn is_same_related(one: &Related, other: &Related) -> bool
     ensures { IsTrue result ↔ (one.now ≡ other.now) }
@@ -25,12 +25,23 @@ fn are_same_related(one: &[Related], other: &[Related]) -> bool
     true
 }
 
-/// Whether range and code are the same.
+fn is_same_said(one: &Said, other: &Said) -> bool
+    ensures { IsTrue result ↔ (one.now ≡ other.now) }
+{
+    match (one, other) {
+        (Said::Row(one), Said::Row(other)) => *one == *other,
+        (Said::Unchecked(one), Said::Unchecked(other)) => one.as_str() == other.as_str(),
+        (Said::Row(_), Said::Unchecked(_)) => false,
+        (Said::Unchecked(_), Said::Row(_)) => false,
+    }
+}
+
+/// Whether range and what is said are the same.
 fn has_same_head(one: &Diagnostic, other: &Diagnostic) -> bool
     ensures { IsTrue result
-        ↔ ((one.now.range ≡ other.now.range) × (one.now.code ≡ other.now.code)) }
+        ↔ ((one.now.range ≡ other.now.range) × (one.now.said ≡ other.now.said)) }
 {
-    one.range == other.range && one.code == other.code
+    one.range == other.range && is_same_said(&one.said, &other.said)
 }
 
 fn is_same(one: &Diagnostic, other: &Diagnostic) -> bool

@@ -5,7 +5,7 @@ ghost use Rattle.jn_recheck.specs.Files.{AllFit};
 
 use jn_base::{OutOfMemory, Row, Seq, Span, Text};
 use jn_front::SourceFile;
-use jn_lsp_text::{Diagnostic, Range, Related, range_of};
+use jn_lsp_text::{Diagnostic, Range, Related, Said, range_of};
 use jn_notes::{Note, Notes};
 use std::alloc::{AllocError, Global};
 
@@ -19,14 +19,14 @@ pub struct Told {
 // ---- places
 
 /// The number of the file where the span stands: of no file, the first.
-fn home(files: &[SourceFile], span: &Span) -> usize
+pub(crate) fn home(files: &[SourceFile], span: &Span) -> usize
     ensures { result ≡ spec.home files.now span.now }
 {
     let file = span.file.0 as usize;
     if file < files.len() { file } else { 0 }
 }
 
-fn name_of<'a>(files: &'a [SourceFile], span: &Span) -> &'a str
+pub(crate) fn name_of<'a>(files: &'a [SourceFile], span: &Span) -> &'a str
     ensures { result.now ≡ (spec.home_of files.now span.now).name }
 {
     match files.get(home(files, span)) {
@@ -35,7 +35,7 @@ fn name_of<'a>(files: &'a [SourceFile], span: &Span) -> &'a str
     }
 }
 
-fn range_in(files: &[SourceFile], span: &Span) -> Range
+pub(crate) fn range_in(files: &[SourceFile], span: &Span) -> Range
     requires fit { AllFit files.now }
     ensures { result ≡ spec.range_in files.now span.now }
 {
@@ -118,7 +118,7 @@ fn diagnostic_of(
 {
     Ok(Diagnostic {
         range: range_in(files, &row.span),
-        code: row.code,
+        said: Said::Row(row.code),
         related: all_related(alloc, files, notes)?,
     })
 }
@@ -143,7 +143,7 @@ fn add_row(
 }
 
 /// The diagnostics of the rows that stand at the file of this number.
-fn diagnostics_at(
+pub(crate) fn diagnostics_at(
     alloc: Global,
     files: &[SourceFile],
     rows: &[Row],
@@ -168,7 +168,7 @@ fn diagnostics_at(
     Ok(diagnostics)
 }
 
-fn told_of(
+pub(crate) fn told_of(
     alloc: Global,
     file: &SourceFile,
     diagnostics: Seq<Diagnostic>,
@@ -182,7 +182,7 @@ fn told_of(
     })
 }
 
-fn push(told: &mut Vec<Told>, one: Told) -> Result<(), AllocError>
+pub(crate) fn push(told: &mut Vec<Told>, one: Told) -> Result<(), AllocError>
     ensures { OnOk result (told.new.items ≡ told.old.items ++ one ∷ []) }
 {
     told.push(one)?;
@@ -198,7 +198,7 @@ pub(crate) fn told_of_all(
 ) -> Result<Vec<Told>, OutOfMemory>
     requires fit { AllFit files.now }
     ensures { IfOk result (λ told. told.items
-        ≡ spec.told_from files.now rows.now notes.now 0 files.now) }
+        ≡ spec.told_from (spec.diagnostics_at files.now rows.now notes.now) 0 files.now) }
 {
     let mut told = Vec::new(alloc);
     for at in 0..files.len() {

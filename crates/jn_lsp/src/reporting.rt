@@ -1,9 +1,10 @@
 //! The report of the files as they stand.
 ghost use Rattle.std.specs.Prelude.{◌≡◌, IfOk, ◌≤◌};
-ghost use Rattle.jn_lsp.specs.Telling.{AreFindings, AreTold, IsReported, IsTold};
+ghost use Rattle.jn_lsp.specs.Reported.{AreNoted, AreTold, IsReported, IsTold};
 ghost use Rattle.jn_recheck.specs.Files.{AllFit, HaveOwnNames};
 
 use crate::diagnostics::{Told, told_of_all};
+use crate::unchecked::{LastReport, unchecked_of_all};
 use jn_base::{Infer, OutOfMemory};
 use jn_diag::Verdict;
 use jn_front::SourceFile;
@@ -25,7 +26,7 @@ fn notes_of(
     checked: &Checked,
 ) -> Result<Vec<Notes>, OutOfMemory>
     requires { IsReported infer files.now session.now.kept checked.now.places.items checked.now.verdict }
-    ensures { IfOk result (λ notes. AreFindings infer files.now checked.now.places.items notes.items) }
+    ensures { IfOk result (λ notes. AreNoted infer files.now checked.now.places.items checked.now.verdict notes.items) }
 {
     let _infer = infer;
     let _files = files;
@@ -49,6 +50,44 @@ fn suit(alloc: Global, infer: Infer, session: &mut Session)
     *session = Session::new(alloc, infer);
 }
 
+/// What is told of files, and whether their report came to the rules.
+#[derive(Drop)]
+pub(crate) struct Tale {
+    pub told: Vec<Told>,
+    pub came: bool,
+}
+
+/// What a report of these rows, with these notes, tells of each file.
+fn tale_of(
+    alloc: Global,
+    infer: Infer,
+    last: &LastReport,
+    files: &[SourceFile],
+    checked: &Checked,
+    notes: &[Notes],
+) -> Result<Tale, OutOfMemory>
+    requires fit { AllFit files.now }
+    requires noted { AreNoted infer files.now checked.now.places.items checked.now.verdict notes.now }
+    ensures { IfOk result (λ tale. AreTold infer last.now tale.came files.now tale.told.items) }
+{
+    let _infer = infer;
+    let rows = checked.places.as_slice();
+    match checked.verdict {
+        Verdict::Refused(_) => {
+            let told = unchecked_of_all(alloc, last, files, rows)?;
+            Ok(Tale { told, came: false })
+        }
+        Verdict::Rejected(_) => {
+            let told = told_of_all(alloc, files, rows, notes)?;
+            Ok(Tale { told, came: true })
+        }
+        Verdict::Accepted => {
+            let told = told_of_all(alloc, files, rows, notes)?;
+            Ok(Tale { told, came: true })
+        }
+    }
+}
+
 /// The report of some files, as it is told of them.
 fn report<R: Threads + Sync, G: Gate + Sync>(
     rt: &R,
@@ -56,37 +95,42 @@ fn report<R: Threads + Sync, G: Gate + Sync>(
     alloc: Global,
     infer: Infer,
     session: &mut Session,
+    last: &LastReport,
     files: &[SourceFile],
-) -> Result<Vec<Told>, OutOfMemory>
+) -> Result<Tale, OutOfMemory>
     requires chosen { session.old.infer ≡ infer }
     requires fit { AllFit files.now }
     requires distinct { HaveOwnNames files.now }
-    ensures { IfOk result (λ told. AreTold infer files.now told.items) }
+    ensures { IfOk result (λ tale. AreTold infer last.now tale.came files.now tale.told.items) }
 {
     session.replace(files)?;
     let checked = session.report(rt, WORKERS, gate, gate)?;
     let notes = notes_of(alloc, infer, session, files, &checked)?;
-    let told = told_of_all(alloc, files, checked.places.as_slice(), notes.as_slice())?;
-    Ok(told)
+    let tale = tale_of(alloc, infer, last, files, &checked, notes.as_slice())?;
+    Ok(tale)
 }
 
-/// What is told of these files where these members are inferred: their report's rows; of no files nothing.
+/// What is told of these files where these members are inferred, after this last report that came to the rules; of no files nothing.
 pub(crate) fn tell<R: Threads + Sync, G: Gate + Sync>(
     rt: &R,
     gate: &G,
     alloc: Global,
     infer: Infer,
     session: &mut Session,
+    last: &LastReport,
     files: &[SourceFile],
-) -> Result<Vec<Told>, OutOfMemory>
+) -> Result<Tale, OutOfMemory>
     requires fit { AllFit files.now }
     requires distinct { HaveOwnNames files.now }
-    ensures { IfOk result (λ told. IsTold infer files.now told.items) }
+    ensures { IfOk result (λ tale. IsTold infer last.now tale.came files.now tale.told.items) }
 {
     if files.len() == 0 {
-        return Ok(Vec::new(alloc));
+        return Ok(Tale {
+            told: Vec::new(alloc),
+            came: false,
+        });
     }
     suit(alloc, infer, session);
-    let told = report(rt, gate, alloc, infer, session, files)?;
-    Ok(told)
+    let tale = report(rt, gate, alloc, infer, session, last, files)?;
+    Ok(tale)
 }

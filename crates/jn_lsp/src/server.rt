@@ -1,7 +1,7 @@
 //! The server.
 ghost use Rattle.std.specs.Prelude.{◌≡◌, ◌++◌, IfOk, OnErr, OnOk, [], None, Some};
 ghost use Rattle.jn_lsp.specs.Publications.{Announces};
-ghost use Rattle.jn_lsp.specs.Serving.{AreToldOf, IsInformed, Takes, new_server};
+ghost use Rattle.jn_lsp.specs.Serving.{AreToldOf, IsInformed, Takes, files_of, new_server};
 
 use crate::answers::answers;
 use crate::diagnostics::Told;
@@ -9,10 +9,12 @@ use crate::documents::Workspace;
 use crate::event::{Event, opened_by};
 use crate::phase::Phase;
 use crate::publishing::announce;
-use crate::reporting::tell;
+use crate::reporting::{Tale, tell};
 use crate::standing::stand;
+use crate::unchecked::{LastReport, keep};
 use crate::unknown::hushed;
 use jn_base::{Infer, OutOfMemory, Seq, Text};
+use jn_front::SourceFile;
 use jn_lsp_text::Reply;
 use jn_recheck::Session;
 use jn_sharing::Gate;
@@ -20,9 +22,12 @@ use std::alloc::{AllocError, Global};
 use std::marker::Model;
 use std::thread::Threads;
 
-/// What is told after an event, and what of it is published.
+/// What is told after an event, and what of it is published: the files' report, whether it came to the rules, and what is told of it where texts aren't known.
 #[derive(Drop)]
 struct News {
+    files: Vec<SourceFile>,
+    came: bool,
+    all: Vec<Told>,
     told: Vec<Told>,
     publications: Seq<Reply>,
 }
@@ -33,15 +38,26 @@ fn retell<R: Threads + Sync, G: Gate + Sync>(
     gate: &G,
     alloc: Global,
     session: &mut Session,
+    last: &LastReport,
     opened: &Option<Text>,
     before: &[Told],
     workspace: &Workspace,
 ) -> Result<News, OutOfMemory>
-    ensures told { IfOk result (λ news. AreToldOf workspace.now news.told.items) }
+    ensures told { IfOk result
+        (λ news. AreToldOf workspace.now last.now news.came news.all.items news.told.items) }
+    ensures stood { IfOk result (λ news. news.files.items ≡ files_of workspace.now) }
     ensures announced { IfOk result (λ news. Announces opened.now workspace.now.versions before.now news.told.items news.publications) }
 {
     let files = stand(alloc, workspace)?;
-    let all = tell(rt, gate, alloc, workspace.infer, session, files.as_slice())?;
+    let Tale { told: all, came } = tell(
+        rt,
+        gate,
+        alloc,
+        workspace.infer,
+        session,
+        last,
+        files.as_slice(),
+    )?;
     let told = hushed(alloc, workspace.unknown.as_slice(), all.as_slice())?;
     let publications = announce(
         alloc,
@@ -50,7 +66,13 @@ fn retell<R: Threads + Sync, G: Gate + Sync>(
         before,
         told.as_slice(),
     )?;
-    Ok(News { told, publications })
+    Ok(News {
+        files,
+        came,
+        all,
+        told,
+        publications,
+    })
 }
 
 /// The replies, one list after the other.
@@ -63,14 +85,15 @@ fn joined(replies: Seq<Reply>, more: Seq<Reply>) -> Result<Vec<Reply>, AllocErro
     Ok(all)
 }
 
-/// A language server: what it is told is in [`Event`]s. Contracts see its phase, the members that are inferred, the folder's files and the open documents, and what was
-/// told of the files that stand.
+/// A language server: what it is told is in [`Event`]s. Contracts see its phase, the members that are inferred, the folder's files and the open documents, what was
+/// told of the files that stand, and the last report that came to the rules.
 #[derive(Drop)]
 pub struct Server {
     alloc: Global,
     phase: Phase,
     workspace: Workspace,
     told: Vec<Told>,
+    last: LastReport,
     session: Session,
 }
 
@@ -79,9 +102,9 @@ impl Model for Server {
 
     ghost Value = { ServerOf };
 
-    ghost view = { λ s. record { phase = s.phase; workspace = s.workspace; told = s.told.items } };
+    ghost view = { λ s. record { phase = s.phase; workspace = s.workspace; told = s.told.items; last = s.last } };
 
-    ghost invariant = { λ s. IsInformed (record { phase = s.phase; workspace = s.workspace; told = s.told.items }) };
+    ghost invariant = { λ s. IsInformed (record { phase = s.phase; workspace = s.workspace; told = s.told.items; last = s.last }) };
 }
 
 impl Server {
@@ -95,6 +118,7 @@ impl Server {
             phase: Phase::Waiting,
             workspace: Workspace::new(alloc, infer),
             told: Vec::new(alloc),
+            last: LastReport::none(alloc),
             session: Session::new(alloc, infer),
         }
     }
@@ -148,11 +172,18 @@ impl Server {
                 Ok(direct.into_vec())
             }
             Some(workspace) => {
-                let News { told, publications } = retell(
+                let News {
+                    files,
+                    came,
+                    all,
+                    told,
+                    publications,
+                } = retell(
                     rt,
                     gate,
                     alloc,
                     &mut self.session,
+                    &self.last,
                     &opened,
                     self.told.as_slice(),
                     &workspace,
@@ -161,6 +192,7 @@ impl Server {
                 self.phase = next;
                 self.workspace = workspace;
                 self.told = told;
+                keep(&mut self.last, came, files, all);
                 Ok(replies)
             }
         }

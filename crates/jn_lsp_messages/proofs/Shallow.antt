@@ -18,10 +18,12 @@ use Rattle.jn_lsp_text.specs.declared.reply.Diagnostic.{Diagnostic}
 use Rattle.jn_lsp_text.specs.declared.reply.Failure.{Failure}
 use Rattle.jn_lsp_text.specs.declared.reply.Insertion.{Insertion}
 use Rattle.jn_lsp_text.specs.declared.reply.Related.{Related}
+use Rattle.jn_lsp_text.specs.declared.reply.Said.{Said}
+use Rattle.jn_lsp_text.specs.declared.reply.Said.TheVariants.{Row, Unchecked}
 use Rattle.jn_lsp_text.specs.declared.reply.Reply.{Reply}
 use Rattle.jn_lsp_text.specs.declared.reply.Reply.TheVariants as reply
 use Rattle.jn_lsp_messages.specs.Incoming.{IsJson}
-use Rattle.jn_lsp_messages.specs.Outgoing.{position_data, range_data, location_data, related_data, told, description_data, described, diagnostic_data, insertion_data, edit_data, action_data, sync_data, kinds_data, capabilities_data, server_data, initialize_data, failure_code, failure_words, error_data, id_data, id_or_null, answer_data, refusal_data, notice_data, versioned, published_data, shown_data, list_data, data_of}
+use Rattle.jn_lsp_messages.specs.Outgoing.{position_data, range_data, location_data, related_data, told, description_data, described, row_data, unchecked_data, said_data, diagnostic_data, insertion_data, edit_data, action_data, sync_data, kinds_data, capabilities_data, server_data, initialize_data, failure_code, failure_words, error_data, id_data, id_or_null, answer_data, refusal_data, notice_data, versioned, published_data, shown_data, list_data, data_of}
 use Rattle.jn_lsp_messages.specs.Uris.{uri_of}
 
 -- a value nests at most so deep, and has no float
@@ -115,16 +117,32 @@ described_are : (address : Option (List ℕ)) (code : Code) (ms : Members) → A
 described_are None code ms are = are
 described_are (Some address) code ms are = next 5 _ _ ms (description_is address code) are
 
-diagnostic_is : (address : Option (List ℕ)) (d : Diagnostic) → Is 6 (diagnostic_data address d)
-unfolding diagnostic_data
-diagnostic_is address d =
-    holding 5 6 _ refl (next 5 _ _ _ (text 5 (code_name d.code))
-    (described_are address d.code _
-    (next 5 _ _ _ (text 5 (told d.code))
-    (next 5 _ _ _ (deeper 2 5 _ (omega arith) (range_is d.range))
-    (next 5 _ _ _ (listed related_data 4 5 refl related_is d.related)
+row_is : (address : Option (List ℕ)) (code : Code) (r : Range) (related : List Related) → Is 6 (row_data address code r related)
+unfolding row_data
+row_is address code r related =
+    holding 5 6 _ refl (next 5 _ _ _ (text 5 (code_name code))
+    (described_are address code _
+    (next 5 _ _ _ (text 5 (told code))
+    (next 5 _ _ _ (deeper 2 5 _ (omega arith) (range_is r))
+    (next 5 _ _ _ (listed related_data 4 5 refl related_is related)
     (next 5 _ _ _ (natural 5 1)
     (last 5 _ _ (text 5 (codes "nullcheck")))))))))
+
+unchecked_is : (words : List ℕ) (r : Range) (related : List Related) → Is 6 (unchecked_data words r related)
+unfolding unchecked_data
+unchecked_is words r related =
+    holding 5 6 _ refl (next 5 _ _ _ (text 5 words)
+    (next 5 _ _ _ (deeper 2 5 _ (omega arith) (range_is r))
+    (next 5 _ _ _ (listed related_data 4 5 refl related_is related)
+    (next 5 _ _ _ (natural 5 3)
+    (last 5 _ _ (text 5 (codes "nullcheck")))))))
+
+said_is : (address : Option (List ℕ)) (r : Range) (related : List Related) (said : Said) → Is 6 (said_data address r related said)
+said_is address r related (Row code) = row_is address code r related
+said_is address r related (Unchecked words) = unchecked_is words r related
+
+diagnostic_is : (address : Option (List ℕ)) (d : Diagnostic) → Is 6 (diagnostic_data address d)
+diagnostic_is address d = said_is address d.range d.related d.said
 
 versioned_are : (n : ℕ) (version : Option ℤ) → AreMembers n (versioned version)
 versioned_are n None = record { shallow = least n; whole = refl }

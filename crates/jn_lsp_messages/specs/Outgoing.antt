@@ -16,6 +16,8 @@ use Rattle.jn_lsp_text.specs.declared.reply.Failure.{Failure}
 use Rattle.jn_lsp_text.specs.declared.reply.Failure.TheVariants as failure
 use Rattle.jn_lsp_text.specs.declared.reply.Insertion.{Insertion}
 use Rattle.jn_lsp_text.specs.declared.reply.Related.{Related}
+use Rattle.jn_lsp_text.specs.declared.reply.Said.{Said}
+use Rattle.jn_lsp_text.specs.declared.reply.Said.TheVariants.{Row, Unchecked}
 use Rattle.jn_lsp_text.specs.declared.reply.Reply.{Reply}
 use Rattle.jn_lsp_text.specs.declared.reply.Reply.TheVariants as reply
 use Rattle.jn_reporters.specs.Anchors.{code_anchor}
@@ -59,15 +61,31 @@ described None code ms = ms
 described (Some address) code ms = member (codes "codeDescription") (description_data address code) ms
 
 -- severity 1 is an error
-unfoldable pub diagnostic_data : Option (List ℕ) → Diagnostic → Data
-diagnostic_data address d =
-    object (member (codes "code") (string (code_name d.code))
-    (described address d.code
-    (member (codes "message") (string (told d.code))
-    (member (codes "range") (range_data d.range)
-    (member (codes "relatedInformation") (list_data related_data d.related)
+unfoldable pub row_data : Option (List ℕ) → Code → Range → List Related → Data
+row_data address code range related =
+    object (member (codes "code") (string (code_name code))
+    (described address code
+    (member (codes "message") (string (told code))
+    (member (codes "range") (range_data range)
+    (member (codes "relatedInformation") (list_data related_data related)
     (member (codes "severity") (number (unsigned 1))
     (one (codes "source") (string (codes "nullcheck")))))))))
+
+-- severity 3 is information
+unfoldable pub unchecked_data : List ℕ → Range → List Related → Data
+unchecked_data words range related =
+    object (member (codes "message") (string words)
+    (member (codes "range") (range_data range)
+    (member (codes "relatedInformation") (list_data related_data related)
+    (member (codes "severity") (number (unsigned 3))
+    (one (codes "source") (string (codes "nullcheck")))))))
+
+abbrev pub said_data : Option (List ℕ) → Range → List Related → Said → Data
+said_data address range related (Row code) = row_data address code range related
+said_data address range related (Unchecked words) = unchecked_data words range related
+
+abbrev pub diagnostic_data : Option (List ℕ) → Diagnostic → Data
+diagnostic_data address d = said_data address d.range d.related d.said
 
 -- ---- code actions
 

@@ -8,7 +8,7 @@ ghost use Rattle.jn_lsp_messages.specs.Outgoing as spec;
 use crate::places::{location_value, range_value};
 use jn_base::lists::put;
 use jn_base::{Code, OutOfMemory, Text};
-use jn_lsp_text::{Diagnostic, Related};
+use jn_lsp_text::{Diagnostic, Range, Related, Said};
 use jn_reporters::code_anchor;
 use serde_json::{Value, json};
 use std::alloc::{AllocError, Global};
@@ -36,40 +36,82 @@ fn diagnostic_value(
 ) -> Result<Value, OutOfMemory>
     ensures { IfOk result (λ v. view v ≡ spec.diagnostic_data address.now diagnostic.now) }
 {
-    match address {
-        None => unlinked_value(alloc, diagnostic),
-        Some(address) => linked_value(alloc, address.as_str(), diagnostic),
+    let related = diagnostic.related.as_slice();
+    match &diagnostic.said {
+        Said::Row(code) => row_value(alloc, address, *code, diagnostic.range, related),
+        Said::Unchecked(words) => unchecked_value(alloc, words.as_str(), diagnostic.range, related),
     }
 }
 
-#[tactic(auto, unfolding(crate::specs::Outgoing::diagnostic_data))]
-fn unlinked_value(alloc: Global, diagnostic: &Diagnostic) -> Result<Value, OutOfMemory>
-    ensures { IfOk result (λ v. view v ≡ spec.diagnostic_data None diagnostic.now) }
+/// An error.
+fn row_value(
+    alloc: Global,
+    address: &Option<Text>,
+    code: Code,
+    range: Range,
+    related: &[Related],
+) -> Result<Value, OutOfMemory>
+    ensures { IfOk result (λ v. view v ≡ spec.row_data address.now code range related.now) }
 {
-    let words = told(alloc, diagnostic.code)?;
-    let range = range_value(alloc, diagnostic.range)?;
-    let related = all_related(alloc, diagnostic.related.as_slice())?;
-    Ok(unlinked(
-        alloc,
-        diagnostic.code.name(),
-        words.as_str(),
-        range,
-        related,
-    )?)
+    match address {
+        None => unlinked_value(alloc, code, range, related),
+        Some(address) => linked_value(alloc, address.as_str(), code, range, related),
+    }
 }
 
-#[tactic(auto, unfolding(crate::specs::Outgoing::diagnostic_data))]
-fn linked_value(alloc: Global, address: &str, diagnostic: &Diagnostic) -> Result<Value, OutOfMemory>
-    ensures { IfOk result
-        (λ v. view v ≡ spec.diagnostic_data (Some address.now) diagnostic.now) }
+/// Information.
+#[tactic(auto, unfolding(crate::specs::Outgoing::unchecked_data))]
+fn unchecked_value(
+    alloc: Global,
+    words: &str,
+    range: Range,
+    related: &[Related],
+) -> Result<Value, OutOfMemory>
+    ensures { IfOk result (λ v. view v ≡ spec.unchecked_data words.now range related.now) }
 {
-    let description = description_value(alloc, address, diagnostic.code)?;
-    let words = told(alloc, diagnostic.code)?;
-    let range = range_value(alloc, diagnostic.range)?;
-    let related = all_related(alloc, diagnostic.related.as_slice())?;
+    let range = range_value(alloc, range)?;
+    let related = all_related(alloc, related)?;
+    Ok(json!(in alloc; {
+        "message": words,
+        "range": range,
+        "relatedInformation": related,
+        "severity": 3u32,
+        "source": "nullcheck"
+    })?)
+}
+
+#[tactic(auto, unfolding(crate::specs::Outgoing::row_data))]
+fn unlinked_value(
+    alloc: Global,
+    code: Code,
+    range: Range,
+    related: &[Related],
+) -> Result<Value, OutOfMemory>
+    ensures { IfOk result (λ v. view v ≡ spec.row_data None code range related.now) }
+{
+    let words = told(alloc, code)?;
+    let range = range_value(alloc, range)?;
+    let related = all_related(alloc, related)?;
+    Ok(unlinked(alloc, code.name(), words.as_str(), range, related)?)
+}
+
+#[tactic(auto, unfolding(crate::specs::Outgoing::row_data))]
+fn linked_value(
+    alloc: Global,
+    address: &str,
+    code: Code,
+    range: Range,
+    related: &[Related],
+) -> Result<Value, OutOfMemory>
+    ensures { IfOk result (λ v. view v ≡ spec.row_data (Some address.now) code range related.now) }
+{
+    let description = description_value(alloc, address, code)?;
+    let words = told(alloc, code)?;
+    let range = range_value(alloc, range)?;
+    let related = all_related(alloc, related)?;
     Ok(linked(
         alloc,
-        diagnostic.code.name(),
+        code.name(),
         description,
         words.as_str(),
         range,
@@ -77,7 +119,7 @@ fn linked_value(alloc: Global, address: &str, diagnostic: &Diagnostic) -> Result
     )?)
 }
 
-/// The object of a diagnostic without a link, from the values of its members.
+/// The object of an error without a link, from the values of its members.
 fn unlinked(
     alloc: Global,
     code: &str,
@@ -103,7 +145,7 @@ fn unlinked(
     })
 }
 
-/// The object of a diagnostic with a link, from the values of its members.
+/// The object of an error with a link, from the values of its members.
 fn linked(
     alloc: Global,
     code: &str,

@@ -1,7 +1,7 @@
 //! Diagnostics once more.
 ghost use Rattle.std.specs.Prelude.{◌≡◌, IfOk};
 
-use crate::reply::{Diagnostic, Related};
+use crate::reply::{Diagnostic, Related, Said};
 use jn_base::Seq;
 use std::alloc::{AllocError, Global};
 
@@ -26,9 +26,21 @@ impl Diagnostic {
     {
         Ok(Diagnostic {
             range: self.range,
-            code: self.code,
+            said: self.said.copy(alloc)?,
             related: copy_related(alloc, self.related.as_slice())?,
         })
+    }
+}
+
+impl Said {
+    /// The same once more.
+    pub fn copy(&self, alloc: Global) -> Result<Said, AllocError>
+        ensures { IfOk result (λ copy. copy ≡ self.now) }
+    {
+        match self {
+            Said::Row(code) => Ok(Said::Row(*code)),
+            Said::Unchecked(words) => Ok(Said::Unchecked(words.copy(alloc)?)),
+        }
     }
 }
 

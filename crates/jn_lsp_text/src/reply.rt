@@ -18,11 +18,20 @@ pub enum Failure {
     NotInitialized,
 }
 
-/// A row of the report at its place in the text. Message and cure are the code's.
+/// What a diagnostic says.
+#[derive(Drop)]
+pub enum Said {
+    /// A row of the report, an error: message and cure are the code's.
+    Row(Code),
+    /// Why the file isn't checked, in words: information.
+    Unchecked(Text),
+}
+
+/// What is said at a place of the text.
 #[derive(Drop)]
 pub struct Diagnostic {
     pub range: Range,
-    pub code: Code,
+    pub said: Said,
     /// Places that tell why.
     pub related: Seq<Related>,
 }

@@ -12,8 +12,9 @@ ghost use Rattle.nullcheck_lsp_top.specs.Looking.{Outside, new_client};
 use jn_lsp::law::{last_published_is_the_report, requests_are_answered_once};
 
 /// Says that after any frames that were taken, what was published last of each name is what the report of the files as they stand says of
-/// it: the diagnostics of its rows, in order, and none where it has no rows or doesn't stand. The members are inferred that `initialize` chose,
-/// else those of the words. The files stand as the client has them open,
+/// it: the diagnostics of its rows, in order, and none where it doesn't stand. Where it has no rows and the report ends before the rules, these are
+/// what the last report that came to the rules said of it, if its text is as it was then, and why it isn't checked. The members are inferred
+/// that `initialize` chose, else those of the words. The files stand as the client has them open,
 /// the others as they were last read. Where what the client sent of a document can't be read, its text isn't known until it is opened again
 /// or closed: of it nothing is told, and it stands with the last text that was known.
 pub fn published_is_the_report()

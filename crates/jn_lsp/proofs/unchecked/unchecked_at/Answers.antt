@@ -1,0 +1,6 @@
+use Rattle.std.proofs.Common.{refl}
+use Rattle.jn_lsp.proofs.Names.{small_at}
+use Rattle.jn_lsp.proofs.unchecked.unchecked_at.Goals as goal
+
+pub kept-requires-small : goal.kept-requires-small
+kept-requires-small c = small_at c.args.files.now c.args.at c.index-files-at.result c.index-files-at.result.bytes c.requires.fit c.requires.there c.index-files-at.is refl

@@ -1,0 +1,248 @@
+//! What is told where a report ends before the rules.
+ghost use Rattle.std.specs.Prelude.{◌≡◌, ◌<◌, ◌^◌, ◌++◌, ◌∷◌, [], IfOk, OnOk, length};
+ghost use Rattle.jn_base.specs.Place as places;
+ghost use Rattle.jn_lsp.specs.Reported as spec;
+ghost use Rattle.jn_lsp.specs.Telling.{home_of, told_from};
+ghost use Rattle.jn_recheck.specs.Files.{AllFit, is_as_before};
+
+use crate::diagnostics::{Told, diagnostics_at, home, name_of, push, range_in, told_of};
+use crate::documents::place_of;
+use crate::front::front;
+use crate::publishing::told_of as told_before;
+use itoa::{Buffer, Integer};
+use jn_base::{Code, OutOfMemory, Place, Row, Seq, Span, Text, place_of as place_of_span};
+use jn_front::SourceFile;
+use jn_lsp_text::{Diagnostic, Related, Said, copy_diagnostics};
+use std::alloc::{AllocError, Global};
+
+/// The last report that came to the rules: the files that stood then, and what it told of each of them. Before the first one there are none.
+#[derive(Drop)]
+pub struct LastReport {
+    pub files: Seq<SourceFile>,
+    pub told: Seq<Told>,
+}
+
+impl LastReport {
+    /// None came so far.
+    pub(crate) fn none(alloc: Global) -> LastReport
+        ensures { result ≡ spec.no_report }
+    {
+        LastReport {
+            files: Seq::new(alloc),
+            told: Seq::new(alloc),
+        }
+    }
+}
+
+/// Keeps a report of these files, which told this, where it came to the rules.
+pub(crate) fn keep(last: &mut LastReport, came: bool, files: Vec<SourceFile>, told: Vec<Told>)
+    ensures { last.new ≡ spec.next_last came files.items told.items last.old }
+{
+    if came {
+        *last = LastReport {
+            files: Seq::of_vec(files),
+            told: Seq::of_vec(told),
+        };
+    }
+}
+
+// ---- texts as they were
+
+fn is_as_before(earlier: &[SourceFile], file: &SourceFile) -> bool
+    ensures { result ≡ is_as_before earlier.now file.now }
+{
+    match place_of(earlier, file.name.as_str()) {
+        None => false,
+        Some(at) => earlier[at].bytes.as_slice() == file.bytes.as_slice(),
+    }
+}
+
+/// What the last report that came to the rules told of a file whose text is as it was then.
+fn kept_of<'a>(last: &'a LastReport, file: &SourceFile) -> &'a [Diagnostic]
+    ensures { result.now ≡ spec.kept_of last.now file.now }
+{
+    if is_as_before(last.files.as_slice(), file) {
+        told_before(last.told.as_slice(), file.name.as_str())
+    } else {
+        &[]
+    }
+}
+
+// ---- why a file isn't checked
+
+/// What is wrong with the file of a row of this code, where rows of it keep a report from the rules.
+fn wrong(code: Code) -> &'static str
+    ensures { result.now ≡ spec.wrong code }
+{
+    match code {
+        Code::B1 => "is beyond the limits",
+        Code::B2 => "is beyond the limits",
+        Code::B3 => "is beyond the limits",
+        Code::L1 => "doesn't parse",
+        Code::L2 => "doesn't parse",
+        Code::L3 => "doesn't parse",
+        Code::L4 => "doesn't parse",
+        Code::L5 => "doesn't parse",
+        Code::L6 => "doesn't parse",
+        Code::L7 => "doesn't parse",
+        Code::S1 => "doesn't parse",
+        Code::S2 => "doesn't parse",
+        _ => "isn't of the subset",
+    }
+}
+
+/// The text of the file where a span stands.
+fn text_of<'a>(files: &'a [SourceFile], span: &Span) -> &'a [u8]
+    requires fit { AllFit files.now }
+    ensures is { result.now ≡ (home_of files.now span.now).bytes }
+    ensures small { length result.now < 2 ^ 30 }
+{
+    match files.get(home(files, span)) {
+        None => &[],
+        Some(file) => file.bytes.as_slice(),
+    }
+}
+
+/// The place of a span's first byte, or of the text's end where it is beyond.
+fn place_in(text: &[u8], span: &Span) -> Place
+    requires small { length text.now < 2 ^ 30 }
+    ensures { result ≡ places.place_in text.now span.now }
+{
+    let within = Span {
+        file: span.file,
+        from: (span.from as usize).min(text.len()) as u32,
+        to: span.to,
+    };
+    place_of_span(text, &within)
+}
+
+/// Why files aren't checked: the report has this row.
+fn why(alloc: Global, files: &[SourceFile], row: &Row) -> Result<Text, AllocError>
+    requires fit { AllFit files.now }
+    ensures { IfOk result (λ words. words ≡ spec.why files.now row.now) }
+{
+    let place = place_in(text_of(files, &row.span), &row.span);
+    let mut words = String::from_str(alloc, "not checked since ")?;
+    words.push_str(name_of(files, &row.span))?;
+    words.push_str(" ")?;
+    words.push_str(wrong(row.code))?;
+    words.push_str(": ")?;
+    words.push_str(Buffer::new().format(place.line))?;
+    words.push_str(":")?;
+    words.push_str(Buffer::new().format(place.col))?;
+    words.push_str(" ")?;
+    words.push_str(row.code.name())?;
+    Ok(Text::of_string(words))
+}
+
+/// The place of a row, with what is wrong there.
+fn there(alloc: Global, files: &[SourceFile], row: &Row) -> Result<Seq<Related>, AllocError>
+    requires fit { AllFit files.now }
+    ensures { IfOk result (λ related. related ≡ spec.there files.now row.now ∷ []) }
+{
+    let mut related = Seq::new(alloc);
+    related.push(Related {
+        name: Text::of_str(alloc, name_of(files, &row.span))?,
+        range: range_in(files, &row.span),
+        words: Text::of_str(alloc, row.code.message())?,
+    })?;
+    Ok(related)
+}
+
+/// That a file isn't checked, since the report has this row.
+fn unchecked(
+    alloc: Global,
+    files: &[SourceFile],
+    row: &Row,
+    file: &SourceFile,
+) -> Result<Diagnostic, AllocError>
+    requires fit { AllFit files.now }
+    requires small { length file.now.bytes < 2 ^ 30 }
+    ensures { IfOk result (λ diagnostic. diagnostic ≡ spec.unchecked files.now row.now file.now) }
+{
+    Ok(Diagnostic {
+        range: front(file.bytes.as_slice()),
+        said: Said::Unchecked(why(alloc, files, row)?),
+        related: there(alloc, files, row)?,
+    })
+}
+
+// ---- what is told
+
+/// Puts after what was told that a file isn't checked, since these are the report's rows.
+fn add_unchecked(
+    alloc: Global,
+    files: &[SourceFile],
+    rows: &[Row],
+    file: &SourceFile,
+    diagnostics: &mut Seq<Diagnostic>,
+) -> Result<(), AllocError>
+    requires fit { AllFit files.now }
+    requires small { length file.now.bytes < 2 ^ 30 }
+    ensures { OnOk result (diagnostics.new
+        ≡ diagnostics.old ++ spec.unchecked_by files.now rows.now file.now) }
+{
+    match rows {
+        [] => Ok(()),
+        [row, ..] => diagnostics.push(unchecked(alloc, files, row, file)?),
+    }
+}
+
+/// What was told of a file whose text is as it was, and that it isn't checked.
+fn kept(
+    alloc: Global,
+    last: &LastReport,
+    files: &[SourceFile],
+    rows: &[Row],
+    file: &SourceFile,
+) -> Result<Seq<Diagnostic>, AllocError>
+    requires fit { AllFit files.now }
+    requires small { length file.now.bytes < 2 ^ 30 }
+    ensures { IfOk result (λ diagnostics. diagnostics
+        ≡ spec.kept_of last.now file.now ++ spec.unchecked_by files.now rows.now file.now) }
+{
+    let mut diagnostics = copy_diagnostics(alloc, kept_of(last, file))?;
+    add_unchecked(alloc, files, rows, file, &mut diagnostics)?;
+    Ok(diagnostics)
+}
+
+/// What is told of the file of a number: its rows; where it has none, what was told of it, and that it isn't checked.
+#[tactic(auto, using(crate::proofs::Keeping::told_rows, crate::proofs::Keeping::told_kept))]
+fn unchecked_at(
+    alloc: Global,
+    last: &LastReport,
+    files: &[SourceFile],
+    rows: &[Row],
+    at: usize,
+) -> Result<Seq<Diagnostic>, AllocError>
+    requires fit { AllFit files.now }
+    requires there { at < length files.now }
+    ensures { IfOk result (λ diagnostics. diagnostics
+        ≡ spec.unchecked_at last.now files.now rows.now at) }
+{
+    let own = diagnostics_at(alloc, files, rows, &[], at)?;
+    if own.len() == 0 {
+        kept(alloc, last, files, rows, &files[at])
+    } else {
+        Ok(own)
+    }
+}
+
+/// What is told of each file, where these rows end the report before the rules.
+pub(crate) fn unchecked_of_all(
+    alloc: Global,
+    last: &LastReport,
+    files: &[SourceFile],
+    rows: &[Row],
+) -> Result<Vec<Told>, OutOfMemory>
+    requires fit { AllFit files.now }
+    ensures { IfOk result (λ told. told.items
+        ≡ told_from (spec.unchecked_at last.now files.now rows.now) 0 files.now) }
+{
+    let mut told = Vec::new(alloc);
+    for at in 0..files.len() {
+        let diagnostics = unchecked_at(alloc, last, files, rows, at)?;
+        push(&mut told, told_of(alloc, &files[at], diagnostics)?)?;
+    }
+    Ok(told)
+}
