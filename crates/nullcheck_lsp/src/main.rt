@@ -1,6 +1,7 @@
 //! Serves an editor over standard input and output, says on standard error what went wrong, and ends with the status's number.
 #![tactic(auto)]
 
+use jn_cli::server_reason;
 use jn_folder::HostFolder;
 use jn_host::Host;
 use jn_lsp_frames::HostStream;
@@ -36,9 +37,7 @@ fn done<R: Threads + Sync>(
         Status::ReadFault => host.cannot_hear(input.fault()),
         Status::WriteFault => host.cannot_write(out.fault()),
         Status::OutOfMemory => host.no_memory(),
-        Status::Usage => host.say(
-            "there are other words than --codes and one address, and --infer and `private` or `package`",
-        ),
+        Status::Usage => host.refused(server_reason(alloc, words)),
         Status::Ended => host.say("the input ended, or exit came, without shutdown"),
         Status::Done => {}
     }

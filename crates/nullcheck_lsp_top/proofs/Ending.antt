@@ -1,12 +1,12 @@
 -- A count of faults rises only where the status says so.
 use Rattle.std.proofs.Common.{◌≡◌, ℕ, ◌<◌, List, Option, Some, None, refl, ap, arith}
 use Rattle.jn_outside.specs.Files.{Holding}
-use Rattle.nullcheck_lsp_top.specs.declared.words.Setup.{Setup}
+use Rattle.jn_cli.specs.declared.server.Setup.{Setup}
 use Rattle.nullcheck_lsp_top.specs.declared.status.Status.{Status}
 use Rattle.nullcheck_lsp_top.specs.declared.status.Status.TheVariants.{Done, Ended, ReadFault, WriteFault, OutOfMemory, Usage}
 use Rattle.nullcheck_lsp_top.specs.Answer.{Answers, AnswersBy, AnswersWords, Channels}
 use Rattle.nullcheck_lsp_top.specs.Looking.{Outside}
-use Rattle.nullcheck_lsp_top.specs.Words.{setup_of}
+use Rattle.jn_cli.specs.Server.{setup_of}
 
 same_never : (a b : ℕ) → b ≡ a → a < b → ⊥
 same_never a b e lt = omega (arith, e, lt)

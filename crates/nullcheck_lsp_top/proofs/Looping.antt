@@ -25,7 +25,7 @@ use Rattle.nullcheck_lsp_top.specs.declared.frames.Heard.{Heard}
 use Rattle.nullcheck_lsp_top.specs.declared.frames.Heard.TheVariants.{Ends}
 use Rattle.nullcheck_lsp_top.specs.declared.status.Status.{Status}
 use Rattle.nullcheck_lsp_top.specs.declared.status.Status.TheVariants.{Done, Ended, ReadFault, WriteFault, OutOfMemory, Usage}
-use Rattle.nullcheck_lsp_top.specs.declared.words.Setup.{Setup}
+use Rattle.jn_cli.specs.declared.server.Setup.{Setup}
 use Rattle.nullcheck_lsp_top.specs.Answer.{Answered, AnsweredFirst, Answers, AsksInTime, Channels, EndsBy, IsAnswer, IsCut, IsDone, IsEnded, IsHeard, IsInTime, Served, StartsOne, Takes, goes_on, most_messages}
 use Rattle.nullcheck_lsp_top.specs.Hearing.{Hears, IsMessageOf, StartsFor, framed}
 use Rattle.nullcheck_lsp_top.specs.Looking.{Outside, new_client}

@@ -18,10 +18,10 @@ use Rattle.nullcheck_lsp_top.specs.declared.frames.Heard.{Heard}
 use Rattle.nullcheck_lsp_top.specs.declared.frames.Heard.TheVariants.{Goes, Ends}
 use Rattle.nullcheck_lsp_top.specs.declared.status.Status.{Status}
 use Rattle.nullcheck_lsp_top.specs.declared.status.Status.TheVariants.{Done, Ended, ReadFault, WriteFault, OutOfMemory, Usage}
-use Rattle.nullcheck_lsp_top.specs.declared.words.Setup.{Setup}
+use Rattle.jn_cli.specs.declared.server.Setup.{Setup}
 use Rattle.nullcheck_lsp_top.specs.Hearing.{Hears, HearsAll, IsMessageOf, StartsFor, framed}
 use Rattle.nullcheck_lsp_top.specs.Looking.{Outside, new_client}
-use Rattle.nullcheck_lsp_top.specs.Words.{setup_of}
+use Rattle.jn_cli.specs.Server.{setup_of}
 
 abbrev pub number_of : Status → ℕ
 number_of Done = 0
@@ -141,9 +141,9 @@ pub record AsksInTime (setup : Setup) (held : Option Holding) (from to : Channel
   pub all : to.asks ≡ from.asks ++ own
   pub each : All (IsInTime setup held from old) own
 
--- words are wrong: nothing is heard, read or written
+-- words are wrong, or no memory was found to read them: nothing is heard, read or written
 abbrev pub AnswersUsage : Channels → Channels → Outside → Outside → Status → Type 0
-AnswersUsage from to old new status = (to ≡ from) × (new ≡ old) × (status ≡ Usage)
+AnswersUsage from to old new status = (to ≡ from) × (new ≡ old) × ((status ≡ Usage) ⊎ (status ≡ OutOfMemory))
 
 -- replies link to the document that the words name, and the members are inferred that they choose; other words are wrong
 abbrev pub AnswersBy : Option Setup → Option Holding → Channels → Channels → Outside → Outside → Status → Type 0

@@ -3,4 +3,3 @@ pub mod Placing
 pub mod Looking
 pub mod Hearing
 pub mod Answer
-pub mod Words

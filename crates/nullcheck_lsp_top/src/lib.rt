@@ -14,7 +14,6 @@ mod status;
 mod texts;
 pub mod top;
 mod warning;
-mod words;
 mod writing;
 
 pub use status::Status;

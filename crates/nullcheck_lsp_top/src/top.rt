@@ -6,7 +6,8 @@ ghost use Rattle.nullcheck_lsp_top.specs.Looking.{outside};
 
 use crate::frames::serve_all;
 use crate::status::Status;
-use crate::words::{Asked, read_words};
+use jn_base::Fail;
+use jn_cli::read_setup;
 use jn_folder::Folder;
 use jn_lsp_frames::Stream;
 use jn_outside::{Files, Sink};
@@ -42,11 +43,9 @@ pub fn serve<R: Threads + Sync, K: Sink, S: Stream<K>, F: Files, D: Folder, G: G
     ensures read_always { S.faults input.old < S.faults input.new → result ≡ Status.ReadFault }
     ensures write_always { K.faults out.old < K.faults out.new → result ≡ Status.WriteFault }
 {
-    match read_words(alloc, words) {
-        Err(_) => Status::OutOfMemory,
-        Ok(Asked::Other) => Status::Usage,
-        Ok(Asked::Serving(setup)) => {
-            serve_all(rt, gate, alloc, &setup, input, files, folder, out)
-        }
+    match read_setup(alloc, words) {
+        Err(Fail::Refused(_)) => Status::Usage,
+        Err(Fail::OutOfMemory) => Status::OutOfMemory,
+        Ok(setup) => serve_all(rt, gate, alloc, &setup, input, files, folder, out),
     }
 }

@@ -1,10 +1,11 @@
 //! Carries out the script that the words name, says on standard error what went wrong, and ends with the status's number.
 #![tactic(auto)]
 
+use jn_cli::recheck_reason;
 use jn_host::Host;
 use jn_outside::{HostFiles, HostSink};
 use jn_sharing::Straight;
-use nullcheck_recheck_top::{Status, recheck, usage_reason};
+use nullcheck_recheck_top::{Status, recheck};
 use std::process::ExitCode;
 use std::thread::Threads;
 
@@ -23,7 +24,7 @@ fn done<R: Threads + Sync>(
         Status::ReadFault => host.cannot_read(files.fault()),
         Status::WriteFault => host.cannot_write(out.fault()),
         Status::OutOfMemory => host.no_memory(),
-        Status::Usage => host.say(usage_reason(words)),
+        Status::Usage => host.refused(recheck_reason(alloc, words)),
         _ => {}
     }
     status

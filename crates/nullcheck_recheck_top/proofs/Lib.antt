@@ -3,3 +3,4 @@ pub mod Looping
 pub mod Showing
 pub mod Answering
 pub mod Starting
+pub mod Wording

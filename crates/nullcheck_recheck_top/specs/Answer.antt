@@ -5,6 +5,7 @@ use Rattle.jn_outside.specs.declared.given.Given.{Given}
 use Rattle.jn_outside.specs.Files.{Holding, Holds, Gives}
 use Rattle.jn_outside.specs.Gave.{GivesLittle, given}
 use Rattle.jn_outside.specs.Sink.{Appends, AppendsPrefix}
+use Rattle.jn_cli.specs.declared.recheck.AskedFor.{AskedFor}
 use Rattle.jn_command.specs.declared.status.Status.{Status}
 use Rattle.jn_command.specs.declared.status.Status.TheVariants.{Ok, Rejected, Refused, RunFault, Stopped, ReadFault, WriteFault, OutOfMemory, Usage}
 use Rattle.jn_command.specs.Answer.{Reading}
@@ -14,7 +15,6 @@ use Rattle.jn_recheck.specs.Sessions.{SessionOf}
 use Rattle.jn_script.specs.declared.step.Step.{Step}
 use Rattle.jn_script.specs.Script.{IsFirstBad, IsScript}
 use Rattle.jn_script.specs.declared.step.Step.TheVariants.{Check}
-use Rattle.nullcheck_recheck_top.specs.Words.{AskedFor}
 use Rattle.nullcheck_recheck_top.specs.Carrying.{DoAll, IsCheck, LacksAt, MissesAt, files_of, new_session}
 
 -- ---- words
@@ -130,8 +130,9 @@ module _ (infer : Infer) (read : Reading) (name : List ℕ) (old new : Option (L
   AnswersScript OutOfMemory = IsUnbegun ⊎ StopsAt LacksAt
   AnswersScript Usage = ⊥
 
+-- the words ask for nothing: the usage line went out, or a prefix of it, or no memory was found to read them
 abbrev pub AnswersUsage : Option (List ℕ) → Option (List ℕ) → Status → Type 0
-AnswersUsage old new status = ((status ≡ Usage) × Appends old new usage_line) ⊎ ((status ≡ WriteFault) × AppendsPrefix old new usage_line)
+AnswersUsage old new status = ((status ≡ Usage) × Appends old new usage_line) ⊎ ((status ≡ WriteFault) × AppendsPrefix old new usage_line) ⊎ ((status ≡ OutOfMemory) × (new ≡ old))
 
 abbrev pub Answers : Reading → Option AskedFor → Option (List ℕ) → Option (List ℕ) → Status → Type 0
 Answers read None old new status = AnswersUsage old new status

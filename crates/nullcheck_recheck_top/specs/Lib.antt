@@ -1,4 +1,3 @@
 pub mod Carrying
 pub mod Answer
 pub mod Stepping
-pub mod Words

@@ -5,11 +5,8 @@
 
 mod carrying;
 mod outputs;
-mod reason;
 mod step;
 pub mod top;
-mod words;
 
 pub use jn_command::Status;
-pub use reason::usage_reason;
 pub use top::recheck;

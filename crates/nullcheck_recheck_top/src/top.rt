@@ -6,12 +6,12 @@ ghost use Rattle.jn_outside.specs.Files.{Gives, Holds};
 ghost use Rattle.jn_front.specs.Files.{AllHeld};
 ghost use Rattle.jn_command.specs.Answer.{reading};
 ghost use Rattle.nullcheck_recheck_top.specs.Answer.{Answers, AnswersScript, HoldsAll, Starts, StartsScript};
-ghost use Rattle.nullcheck_recheck_top.specs.Words.{asked_of, asking};
+ghost use Rattle.jn_cli.specs.Recheck.{asked_of, asking};
 
 use crate::carrying::carry_out;
 use crate::outputs::bad_output;
-use crate::words;
 use jn_base::{Fail, Infer};
+use jn_cli::read_recheck;
 use jn_command::Status;
 use jn_command::output::{finish, write};
 use jn_outside::{Files, ReadFail, Sink, read_whole};
@@ -62,8 +62,8 @@ fn answer_named<R: Threads + Sync, F: Files, K: Sink, G: Gate + Sync>(
     }
 }
 
-/// Carries out the script that the words name: a word that doesn't begin with a minus, before or after it `--infer private` or `--infer
-/// package`, which says the members that are inferred; private ones where nothing is said. A script has lines `set NAME FILE`, `drop NAME`
+/// Carries out the script that the words name: one name, before or after it `--infer private` or `--infer package`, which says the members
+/// that are inferred; private ones where nothing is said. A script has lines `set NAME FILE`, `drop NAME`
 /// and `check`, and empty ones; it is read and judged whole before any other file is read. `set` gives a name the text of a file, `drop`
 /// takes a name out, and `check` writes the plain report of the files that stand then, and how many of them have another text than at the
 /// last check and of how many bodies the rows were made anew.
@@ -101,8 +101,17 @@ pub fn recheck<R: Threads + Sync, F: Files, K: Sink, G: Gate + Sync>(
     ensures write { result ≡ Status.WriteFault → Rose (K.faults out.old) (K.faults out.new) }
     ensures write_always { K.faults out.old < K.faults out.new → result ≡ Status.WriteFault }
 {
-    match words::asked_of(words) {
-        None => finish(out, USAGE.as_bytes(), Status::Usage),
-        Some((infer, name)) => answer_named(rt, gate, alloc, infer, name, files, out),
+    match read_recheck(alloc, words) {
+        Err(Fail::Refused(_)) => finish(out, USAGE.as_bytes(), Status::Usage),
+        Err(Fail::OutOfMemory) => Status::OutOfMemory,
+        Ok(asked) => answer_named(
+            rt,
+            gate,
+            alloc,
+            asked.infer,
+            asked.script.as_str(),
+            files,
+            out,
+        ),
     }
 }
