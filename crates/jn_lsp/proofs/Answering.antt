@@ -5,9 +5,10 @@ use Rattle.std.proofs.lemmas.Grind.{flat_map-append}
 use Rattle.jn_base.specs.declared.infer.Infer.{Infer}
 use Rattle.jn_lsp_text.specs.declared.id.Id.{Id}
 use Rattle.jn_lsp_text.specs.declared.message.Message.{Message}
-use Rattle.jn_lsp_text.specs.declared.message.Message.TheVariants.{Initialize, Initialized, DidOpen, DidChange, DidSave, DidClose, WatchedFiles, CodeAction, Shutdown, Exit, Ignored, Unknown, BadDocument, BadParams, NoMessage, NoJson, BadHeader, TooLarge}
+use Rattle.jn_lsp_text.specs.declared.message.Message.TheVariants.{Initialize, Initialized, DidOpen, DidChange, DidSave, DidClose, WatchedFiles, CodeAction, InlayHint, Shutdown, Exit, Ignored, Unknown, BadDocument, BadParams, NoMessage, NoJson, BadHeader, TooLarge}
 use Rattle.jn_lsp_text.specs.declared.reply.Action.{Action}
 use Rattle.jn_lsp_text.specs.declared.reply.Failure.{Failure}
+use Rattle.jn_lsp_text.specs.declared.reply.Hint.{Hint}
 use Rattle.jn_lsp_text.specs.declared.reply.Reply.{Reply}
 use Rattle.jn_lsp.specs.declared.versions.Version.{Version}
 use Rattle.jn_lsp.specs.declared.diagnostics.Told.{Told}
@@ -54,6 +55,7 @@ waiting_one (DidSave name) = refl
 waiting_one (DidClose name) = refl
 waiting_one WatchedFiles = refl
 waiting_one (CodeAction id name range) = refl
+waiting_one (InlayHint id name range) = refl
 waiting_one (Shutdown id) = refl
 waiting_one Exit = refl
 waiting_one Ignored = refl
@@ -65,25 +67,26 @@ waiting_one NoJson = refl
 waiting_one BadHeader = refl
 waiting_one TooLarge = refl
 
-serving_one : (actions : List Action) (message : Message) → IsAnswer (serving_answer actions message) (id_asked message)
-serving_one actions (Initialize id folder infer files exclude) = refl
-serving_one actions Initialized = refl
-serving_one actions (DidOpen name version text) = refl
-serving_one actions (DidChange name version changes) = refl
-serving_one actions (DidSave name) = refl
-serving_one actions (DidClose name) = refl
-serving_one actions WatchedFiles = refl
-serving_one actions (CodeAction id name range) = refl
-serving_one actions (Shutdown id) = refl
-serving_one actions Exit = refl
-serving_one actions Ignored = refl
-serving_one actions (Unknown id) = refl
-serving_one actions (BadDocument name) = refl
-serving_one actions (BadParams id) = refused _ id
-serving_one actions NoMessage = refl
-serving_one actions NoJson = refl
-serving_one actions BadHeader = refl
-serving_one actions TooLarge = refl
+serving_one : (actions : List Action) (hints : List Hint) (message : Message) → IsAnswer (serving_answer actions hints message) (id_asked message)
+serving_one actions hints (Initialize id folder infer files exclude) = refl
+serving_one actions hints Initialized = refl
+serving_one actions hints (DidOpen name version text) = refl
+serving_one actions hints (DidChange name version changes) = refl
+serving_one actions hints (DidSave name) = refl
+serving_one actions hints (DidClose name) = refl
+serving_one actions hints WatchedFiles = refl
+serving_one actions hints (CodeAction id name range) = refl
+serving_one actions hints (InlayHint id name range) = refl
+serving_one actions hints (Shutdown id) = refl
+serving_one actions hints Exit = refl
+serving_one actions hints Ignored = refl
+serving_one actions hints (Unknown id) = refl
+serving_one actions hints (BadDocument name) = refl
+serving_one actions hints (BadParams id) = refused _ id
+serving_one actions hints NoMessage = refl
+serving_one actions hints NoJson = refl
+serving_one actions hints BadHeader = refl
+serving_one actions hints TooLarge = refl
 
 late_one : (message : Message) → IsAnswer (late_answer message) (id_asked message)
 late_one (Initialize id folder infer files exclude) = refl
@@ -94,6 +97,7 @@ late_one (DidSave name) = refl
 late_one (DidClose name) = refl
 late_one WatchedFiles = refl
 late_one (CodeAction id name range) = refl
+late_one (InlayHint id name range) = refl
 late_one (Shutdown id) = refl
 late_one Exit = refl
 late_one Ignored = refl
@@ -120,11 +124,11 @@ IsGone Serving = ⊥
 IsGone ShutDown = ⊥
 IsGone (Exited in_order) = Unit {0}
 
-answer_one : (actions : List Action) (phase : Phase) (message : Message) → IsLive phase → IsAnswer (answer_of actions phase message) (id_asked message)
-answer_one actions Waiting message live = waiting_one message
-answer_one actions Serving message live = serving_one actions message
-answer_one actions ShutDown message live = late_one message
-answer_one actions (Exited in_order) _ live = absurd live
+answer_one : (actions : List Action) (hints : List Hint) (phase : Phase) (message : Message) → IsLive phase → IsAnswer (answer_of actions hints phase message) (id_asked message)
+answer_one actions hints Waiting message live = waiting_one message
+answer_one actions hints Serving message live = serving_one actions hints message
+answer_one actions hints ShutDown message live = late_one message
+answer_one actions hints (Exited in_order) _ live = absurd live
 
 -- warnings answer nothing
 warned : (server : ServerOf) (message : Message) (answer : Option Reply) → ids_answered (option_to_list answer ++ doubts_in server.phase message server.workspace.documents server.workspace.unknown) ≡ ids_answered (option_to_list answer)
@@ -136,17 +140,17 @@ warned server message answer =
     ∙ append-nil (ids_answered (option_to_list answer))
 
 answers_one : (server : ServerOf) (event : Event) (direct : List Reply) → AreAnswers server event direct → IsLive server.phase → ids_answered direct ≡ option_to_list (id_in event)
-answers_one server (MessageEvent message) direct (actions, offered, e) live = ap ids_answered e ∙ warned server message (answer_of actions server.phase message) ∙ answer_one actions server.phase message live
+answers_one server (MessageEvent message) direct (actions, offered, hints, shown, e) live = ap ids_answered e ∙ warned server message (answer_of actions hints server.phase message) ∙ answer_one actions hints server.phase message live
 answers_one server (Folder files) direct e live = ap ids_answered e
 
-answer_none : (actions : List Action) (phase : Phase) (message : Message) → IsGone phase → IsAnswer (answer_of actions phase message) None
-answer_none actions Waiting _ gone = absurd gone
-answer_none actions Serving _ gone = absurd gone
-answer_none actions ShutDown _ gone = absurd gone
-answer_none actions (Exited in_order) _ gone = refl
+answer_none : (actions : List Action) (hints : List Hint) (phase : Phase) (message : Message) → IsGone phase → IsAnswer (answer_of actions hints phase message) None
+answer_none actions hints Waiting _ gone = absurd gone
+answer_none actions hints Serving _ gone = absurd gone
+answer_none actions hints ShutDown _ gone = absurd gone
+answer_none actions hints (Exited in_order) _ gone = refl
 
 answers_none : (server : ServerOf) (event : Event) (direct : List Reply) → AreAnswers server event direct → IsGone server.phase → ids_answered direct ≡ []
-answers_none server (MessageEvent message) direct (actions, offered, e) gone = ap ids_answered e ∙ warned server message (answer_of actions server.phase message) ∙ answer_none actions server.phase message gone
+answers_none server (MessageEvent message) direct (actions, offered, hints, shown, e) gone = ap ids_answered e ∙ warned server message (answer_of actions hints server.phase message) ∙ answer_none actions hints server.phase message gone
 answers_none server (Folder files) direct e gone = ap ids_answered e
 
 clash : {X : Type 0} → true ≡ false → X
@@ -161,6 +165,7 @@ waiting_on (DidSave name) e = tt
 waiting_on (DidClose name) e = tt
 waiting_on WatchedFiles e = tt
 waiting_on (CodeAction id name range) e = tt
+waiting_on (InlayHint id name range) e = tt
 waiting_on (Shutdown id) e = tt
 waiting_on Exit e = clash e
 waiting_on Ignored e = tt
@@ -181,6 +186,7 @@ serving_on (DidSave name) e = tt
 serving_on (DidClose name) e = tt
 serving_on WatchedFiles e = tt
 serving_on (CodeAction id name range) e = tt
+serving_on (InlayHint id name range) e = tt
 serving_on (Shutdown id) e = tt
 serving_on Exit e = clash e
 serving_on Ignored e = tt
@@ -201,6 +207,7 @@ shut_down_on (DidSave name) e = tt
 shut_down_on (DidClose name) e = tt
 shut_down_on WatchedFiles e = tt
 shut_down_on (CodeAction id name range) e = tt
+shut_down_on (InlayHint id name range) e = tt
 shut_down_on (Shutdown id) e = tt
 shut_down_on Exit e = clash e
 shut_down_on Ignored e = tt
@@ -230,6 +237,7 @@ exit_is (DidSave name) e = clash (sym e)
 exit_is (DidClose name) e = clash (sym e)
 exit_is WatchedFiles e = clash (sym e)
 exit_is (CodeAction id name range) e = clash (sym e)
+exit_is (InlayHint id name range) e = clash (sym e)
 exit_is (Shutdown id) e = clash (sym e)
 exit_is Exit e = refl
 exit_is Ignored e = clash (sym e)

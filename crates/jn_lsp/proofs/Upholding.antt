@@ -7,10 +7,11 @@ use Rattle.jn_command.specs.declared.report.Report.TheVariants.{Refused, Checked
 use Rattle.jn_front.specs.declared.source.SourceFile.{SourceFile}
 use Rattle.jn_lsp_text.specs.declared.id.Id.{Id}
 use Rattle.jn_lsp_text.specs.declared.message.Message.{Message}
-use Rattle.jn_lsp_text.specs.declared.message.Message.TheVariants.{Initialize, Initialized, DidOpen, DidChange, DidSave, DidClose, WatchedFiles, CodeAction, Shutdown, Exit, Ignored, Unknown, BadDocument, BadParams, NoMessage, NoJson, BadHeader, TooLarge}
+use Rattle.jn_lsp_text.specs.declared.message.Message.TheVariants.{Initialize, Initialized, DidOpen, DidChange, DidSave, DidClose, WatchedFiles, CodeAction, InlayHint, Shutdown, Exit, Ignored, Unknown, BadDocument, BadParams, NoMessage, NoJson, BadHeader, TooLarge}
 use Rattle.jn_lsp_text.specs.declared.reply.Action.{Action}
 use Rattle.jn_lsp_text.specs.declared.reply.Diagnostic.{Diagnostic}
 use Rattle.jn_lsp_text.specs.declared.reply.Failure.{Failure}
+use Rattle.jn_lsp_text.specs.declared.reply.Hint.{Hint}
 use Rattle.jn_lsp_text.specs.declared.reply.Reply.{Reply}
 use Rattle.jn_notes.specs.declared.note.Notes.{Notes}
 use Rattle.jn_lsp.specs.declared.diagnostics.Told.{Told}
@@ -49,6 +50,7 @@ module _ (name : List ℕ) (last : List Diagnostic) where
   waiting_silent (DidClose named) = refl
   waiting_silent WatchedFiles = refl
   waiting_silent (CodeAction id named range) = refl
+  waiting_silent (InlayHint id named range) = refl
   waiting_silent (Shutdown id) = refl
   waiting_silent Exit = refl
   waiting_silent Ignored = refl
@@ -60,25 +62,26 @@ module _ (name : List ℕ) (last : List Diagnostic) where
   waiting_silent BadHeader = refl
   waiting_silent TooLarge = refl
 
-  serving_silent : (actions : List Action) (message : Message) → IsSilent (serving_answer actions message)
-  serving_silent actions (Initialize id folder infer files exclude) = refl
-  serving_silent actions Initialized = refl
-  serving_silent actions (DidOpen named version text) = refl
-  serving_silent actions (DidChange named version changes) = refl
-  serving_silent actions (DidSave named) = refl
-  serving_silent actions (DidClose named) = refl
-  serving_silent actions WatchedFiles = refl
-  serving_silent actions (CodeAction id named range) = refl
-  serving_silent actions (Shutdown id) = refl
-  serving_silent actions Exit = refl
-  serving_silent actions Ignored = refl
-  serving_silent actions (Unknown id) = refl
-  serving_silent actions (BadDocument named) = refl
-  serving_silent actions (BadParams id) = refusal_silent _ id
-  serving_silent actions NoMessage = refl
-  serving_silent actions NoJson = refl
-  serving_silent actions BadHeader = refl
-  serving_silent actions TooLarge = refl
+  serving_silent : (actions : List Action) (hints : List Hint) (message : Message) → IsSilent (serving_answer actions hints message)
+  serving_silent actions hints (Initialize id folder infer files exclude) = refl
+  serving_silent actions hints Initialized = refl
+  serving_silent actions hints (DidOpen named version text) = refl
+  serving_silent actions hints (DidChange named version changes) = refl
+  serving_silent actions hints (DidSave named) = refl
+  serving_silent actions hints (DidClose named) = refl
+  serving_silent actions hints WatchedFiles = refl
+  serving_silent actions hints (CodeAction id named range) = refl
+  serving_silent actions hints (InlayHint id named range) = refl
+  serving_silent actions hints (Shutdown id) = refl
+  serving_silent actions hints Exit = refl
+  serving_silent actions hints Ignored = refl
+  serving_silent actions hints (Unknown id) = refl
+  serving_silent actions hints (BadDocument named) = refl
+  serving_silent actions hints (BadParams id) = refusal_silent _ id
+  serving_silent actions hints NoMessage = refl
+  serving_silent actions hints NoJson = refl
+  serving_silent actions hints BadHeader = refl
+  serving_silent actions hints TooLarge = refl
 
   late_silent : (message : Message) → IsSilent (late_answer message)
   late_silent (Initialize id folder infer files exclude) = refl
@@ -89,6 +92,7 @@ module _ (name : List ℕ) (last : List Diagnostic) where
   late_silent (DidClose named) = refl
   late_silent WatchedFiles = refl
   late_silent (CodeAction id named range) = refl
+  late_silent (InlayHint id named range) = refl
   late_silent (Shutdown id) = refl
   late_silent Exit = refl
   late_silent Ignored = refl
@@ -100,19 +104,19 @@ module _ (name : List ℕ) (last : List Diagnostic) where
   late_silent BadHeader = refl
   late_silent TooLarge = refl
 
-  answer_silent : (actions : List Action) (phase : Phase) (message : Message) → IsSilent (answer_of actions phase message)
-  answer_silent actions Waiting message = waiting_silent message
-  answer_silent actions Serving message = serving_silent actions message
-  answer_silent actions ShutDown message = late_silent message
-  answer_silent actions (Exited in_order) _ = refl
+  answer_silent : (actions : List Action) (hints : List Hint) (phase : Phase) (message : Message) → IsSilent (answer_of actions hints phase message)
+  answer_silent actions hints Waiting message = waiting_silent message
+  answer_silent actions hints Serving message = serving_silent actions hints message
+  answer_silent actions hints ShutDown message = late_silent message
+  answer_silent actions hints (Exited in_order) _ = refl
 
   answers_silent : (server : ServerOf) (event : Event) (direct : List Reply) → AreAnswers server event direct → last_published name last direct ≡ last
-  answers_silent server (MessageEvent message) direct (actions, offered, e) =
-      let answer = option_to_list (answer_of actions server.phase message) in
+  answers_silent server (MessageEvent message) direct (actions, offered, hints, shown, e) =
+      let answer = option_to_list (answer_of actions hints server.phase message) in
       let warnings = doubts_in server.phase message server.workspace.documents server.workspace.unknown in
       ap (last_published name last) e
       ∙ last_both name last answer warnings
-      ∙ ap (λ l. last_published name l warnings) (answer_silent actions server.phase message)
+      ∙ ap (λ l. last_published name l warnings) (answer_silent actions hints server.phase message)
       ∙ doubts_silent name last server.phase message server.workspace.documents server.workspace.unknown
   answers_silent server (Folder files) direct e = ap (last_published name last) e
 

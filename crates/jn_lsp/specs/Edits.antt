@@ -6,7 +6,7 @@ use Rattle.jn_lsp_text.specs.Ranges.{IsReplaced}
 use Rattle.jn_lsp_text.specs.declared.message.Change.{Change}
 use Rattle.jn_lsp_text.specs.declared.message.Change.TheVariants.{Whole, Part}
 use Rattle.jn_lsp_text.specs.declared.message.Message.{Message}
-use Rattle.jn_lsp_text.specs.declared.message.Message.TheVariants.{Initialize, Initialized, DidOpen, DidChange, DidSave, DidClose, WatchedFiles, CodeAction, Shutdown, Exit, Ignored, Unknown, BadDocument, BadParams, NoMessage, NoJson, BadHeader, TooLarge}
+use Rattle.jn_lsp_text.specs.declared.message.Message.TheVariants.{Initialize, Initialized, DidOpen, DidChange, DidSave, DidClose, WatchedFiles, CodeAction, InlayHint, Shutdown, Exit, Ignored, Unknown, BadDocument, BadParams, NoMessage, NoJson, BadHeader, TooLarge}
 use Rattle.jn_recheck.specs.Files.{with_file, without_file}
 use Rattle.jn_lsp.specs.Names.{is_among}
 use Rattle.jn_lsp.specs.Stand.{document_of}
@@ -60,6 +60,7 @@ AreEdited unknown Initialized documents after = after ≡ None
 AreEdited unknown (DidSave name) documents after = after ≡ None
 AreEdited unknown WatchedFiles documents after = after ≡ None
 AreEdited unknown (CodeAction id name range) documents after = after ≡ None
+AreEdited unknown (InlayHint id name range) documents after = after ≡ None
 AreEdited unknown (Shutdown id) documents after = after ≡ None
 AreEdited unknown Exit documents after = after ≡ None
 AreEdited unknown Ignored documents after = after ≡ None

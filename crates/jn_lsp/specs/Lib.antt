@@ -7,5 +7,6 @@ pub mod Edits
 pub mod Unknown
 pub mod Tracking
 pub mod Publications
+pub mod Hinting
 pub mod Serving
 pub mod Requests

@@ -3,9 +3,9 @@ use Rattle.std.specs.Prelude.{◌≡◌, ◌++◌, Bool, true, false, List, [], 
 use Rattle.std.specs.List.{flat_map}
 use Rattle.jn_lsp_text.specs.declared.id.Id.{Id}
 use Rattle.jn_lsp_text.specs.declared.message.Message.{Message}
-use Rattle.jn_lsp_text.specs.declared.message.Message.TheVariants.{Initialize, CodeAction, Shutdown, Exit, Unknown, BadParams}
+use Rattle.jn_lsp_text.specs.declared.message.Message.TheVariants.{Initialize, CodeAction, InlayHint, Shutdown, Exit, Unknown, BadParams}
 use Rattle.jn_lsp_text.specs.declared.reply.Reply.{Reply}
-use Rattle.jn_lsp_text.specs.declared.reply.Reply.TheVariants.{Capabilities, Done, Refusal, Actions}
+use Rattle.jn_lsp_text.specs.declared.reply.Reply.TheVariants.{Capabilities, Done, Refusal, Actions, Hints}
 use Rattle.jn_lsp.specs.declared.event.Event.{Event}
 use Rattle.jn_lsp.specs.declared.event.Event.TheVariants.{Folder, Message as MessageEvent}
 
@@ -13,6 +13,7 @@ use Rattle.jn_lsp.specs.declared.event.Event.TheVariants.{Folder, Message as Mes
 abbrev pub id_asked : Message → Option Id
 id_asked (Initialize id folder infer files exclude) = Some id
 id_asked (CodeAction id name range) = Some id
+id_asked (InlayHint id name range) = Some id
 id_asked (Shutdown id) = Some id
 id_asked (Unknown id) = Some id
 id_asked (BadParams id) = id
@@ -24,6 +25,7 @@ id_answered (Capabilities id) = Some id
 id_answered (Done id) = Some id
 id_answered (Refusal id failure) = id
 id_answered (Actions id actions) = Some id
+id_answered (Hints id hints) = Some id
 id_answered _ = None
 
 abbrev pub is_exit : Event → Bool

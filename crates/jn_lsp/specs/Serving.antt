@@ -10,13 +10,14 @@ use Rattle.jn_lsp_text.specs.Choices.{chosen}
 use Rattle.jn_lsp_text.specs.declared.range.Range.{Range}
 use Rattle.jn_lsp_text.specs.declared.id.Id.{Id}
 use Rattle.jn_lsp_text.specs.declared.message.Message.{Message}
-use Rattle.jn_lsp_text.specs.declared.message.Message.TheVariants.{Initialize, Initialized, DidOpen, DidChange, DidSave, DidClose, WatchedFiles, CodeAction, Shutdown, Exit, Ignored, Unknown, BadDocument, BadParams, NoMessage, NoJson, BadHeader, TooLarge}
+use Rattle.jn_lsp_text.specs.declared.message.Message.TheVariants.{Initialize, Initialized, DidOpen, DidChange, DidSave, DidClose, WatchedFiles, CodeAction, InlayHint, Shutdown, Exit, Ignored, Unknown, BadDocument, BadParams, NoMessage, NoJson, BadHeader, TooLarge}
 use Rattle.jn_lsp_text.specs.declared.reply.Action.{Action}
 use Rattle.jn_lsp_text.specs.declared.reply.Diagnostic.{Diagnostic}
 use Rattle.jn_lsp_text.specs.declared.reply.Failure.{Failure}
 use Rattle.jn_lsp_text.specs.declared.reply.Failure.TheVariants.{Parse, Request, Method, Params, NotInitialized}
+use Rattle.jn_lsp_text.specs.declared.reply.Hint.{Hint}
 use Rattle.jn_lsp_text.specs.declared.reply.Reply.{Reply}
-use Rattle.jn_lsp_text.specs.declared.reply.Reply.TheVariants.{Capabilities, Done, Refusal, Actions}
+use Rattle.jn_lsp_text.specs.declared.reply.Reply.TheVariants.{Capabilities, Done, Refusal, Actions, Hints}
 use Rattle.jn_notes.specs.declared.note.Notes.{Notes}
 use Rattle.jn_lsp.specs.declared.diagnostics.Told.{Told}
 use Rattle.jn_lsp.specs.declared.event.Event.{Event}
@@ -26,6 +27,7 @@ use Rattle.jn_lsp.specs.declared.versions.Version.{Version}
 use Rattle.jn_lsp.specs.declared.phase.Phase.{Phase}
 use Rattle.jn_lsp.specs.declared.phase.Phase.TheVariants.{Waiting, Serving, ShutDown, Exited}
 use Rattle.jn_lsp.specs.Edits.{AreEdited}
+use Rattle.jn_lsp.specs.Hinting.{AreHintsIn}
 use Rattle.jn_lsp.specs.Names.{is_empty}
 use Rattle.jn_lsp.specs.Publications.{Announces, last_published}
 use Rattle.jn_lsp.specs.Stand.{stand}
@@ -51,6 +53,7 @@ unread (DidSave name) = None
 unread (DidClose name) = None
 unread WatchedFiles = None
 unread (CodeAction id name range) = None
+unread (InlayHint id name range) = None
 unread (Shutdown id) = None
 unread Exit = None
 unread Ignored = None
@@ -70,35 +73,38 @@ nameless (Some failure) = Some (Refusal None failure)
 abbrev pub waiting_answer : Message → Option Reply
 waiting_answer (Initialize id folder infer files exclude) = Some (Capabilities id)
 waiting_answer (CodeAction id name range) = refusal NotInitialized (Some id)
+waiting_answer (InlayHint id name range) = refusal NotInitialized (Some id)
 waiting_answer (Shutdown id) = refusal NotInitialized (Some id)
 waiting_answer (Unknown id) = refusal NotInitialized (Some id)
 waiting_answer (BadParams id) = refusal Params id
 waiting_answer other = nameless (unread other)
 
--- a second `initialize` is refused, and these are the actions for a request of actions
-abbrev pub serving_answer : List Action → Message → Option Reply
-serving_answer actions (Initialize id folder infer files exclude) = refusal Request (Some id)
-serving_answer actions (CodeAction id name range) = Some (Actions id actions)
-serving_answer actions (Shutdown id) = Some (Done id)
-serving_answer actions (Unknown id) = refusal Method (Some id)
-serving_answer actions (BadParams id) = refusal Params id
-serving_answer actions other = nameless (unread other)
+-- a second `initialize` is refused, and these are the actions and the hints for a request of them
+abbrev pub serving_answer : List Action → List Hint → Message → Option Reply
+serving_answer actions hints (Initialize id folder infer files exclude) = refusal Request (Some id)
+serving_answer actions hints (CodeAction id name range) = Some (Actions id actions)
+serving_answer actions hints (InlayHint id name range) = Some (Hints id hints)
+serving_answer actions hints (Shutdown id) = Some (Done id)
+serving_answer actions hints (Unknown id) = refusal Method (Some id)
+serving_answer actions hints (BadParams id) = refusal Params id
+serving_answer actions hints other = nameless (unread other)
 
 -- after `shutdown` every request is refused
 abbrev pub late_answer : Message → Option Reply
 late_answer (Initialize id folder infer files exclude) = refusal Request (Some id)
 late_answer (CodeAction id name range) = refusal Request (Some id)
+late_answer (InlayHint id name range) = refusal Request (Some id)
 late_answer (Shutdown id) = refusal Request (Some id)
 late_answer (Unknown id) = refusal Request (Some id)
 late_answer (BadParams id) = refusal Request id
 late_answer other = nameless (unread other)
 
--- the answer to a request, where these actions are offered; notifications have none, but for those that can't be read
-abbrev pub answer_of : List Action → Phase → Message → Option Reply
-answer_of actions Waiting message = waiting_answer message
-answer_of actions Serving message = serving_answer actions message
-answer_of actions ShutDown message = late_answer message
-answer_of actions (Exited in_order) _ = None
+-- the answer to a request, where these actions are offered and these hints are shown; notifications have none, but for those that can't be read
+abbrev pub answer_of : List Action → List Hint → Phase → Message → Option Reply
+answer_of actions hints Waiting message = waiting_answer message
+answer_of actions hints Serving message = serving_answer actions hints message
+answer_of actions hints ShutDown message = late_answer message
+answer_of actions hints (Exited in_order) _ = None
 
 abbrev pub phase_behind : Phase → Message → Phase
 phase_behind Waiting (Initialize id folder infer files exclude) = Serving
@@ -204,7 +210,8 @@ AreActionsIn _ _ _ _ actions = actions ≡ []
 abbrev pub AreAnswers : ServerOf → Event → List Reply → Type 0
 AreAnswers server (MessageEvent message) replies =
     (actions : List Action) × AreActionsIn server.phase server.told server.workspace message actions
-    × (replies ≡ option_to_list (answer_of actions server.phase message) ++ doubts_in server.phase message server.workspace.documents server.workspace.unknown)
+    × (hints : List Hint) × AreHintsIn server.phase server.workspace.infer server.workspace.unknown (files_of server.workspace) message hints
+    × (replies ≡ option_to_list (answer_of actions hints server.phase message) ++ doubts_in server.phase message server.workspace.documents server.workspace.unknown)
 AreAnswers server (Folder files) replies = replies ≡ []
 
 -- ---- what a server does

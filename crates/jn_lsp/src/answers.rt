@@ -5,11 +5,12 @@ ghost use Rattle.jn_lsp.specs.Serving as spec;
 use crate::diagnostics::Told;
 use crate::documents::Workspace;
 use crate::event::Event;
+use crate::hinting::hinted;
 use crate::offering::offered;
 use crate::phase::Phase;
 use crate::unknown::warn;
 use jn_base::{OutOfMemory, Seq};
-use jn_lsp_text::{Action, Failure, Id, Message, Reply};
+use jn_lsp_text::{Action, Failure, Hint, Id, Message, Reply};
 use jn_sharing::Gate;
 use std::alloc::Global;
 use std::thread::Threads;
@@ -55,6 +56,7 @@ fn waiting_answer(alloc: Global, message: &Message) -> Result<Option<Reply>, Out
             id: id.copy(alloc)?,
         })),
         Message::CodeAction { id, .. } => refused(alloc, Failure::NotInitialized, id),
+        Message::InlayHint { id, .. } => refused(alloc, Failure::NotInitialized, id),
         Message::Shutdown { id } => refused(alloc, Failure::NotInitialized, id),
         Message::Unknown { id } => refused(alloc, Failure::NotInitialized, id),
         Message::BadParams { id } => refusal(alloc, Failure::Params, id),
@@ -66,14 +68,19 @@ fn serving_answer(
     alloc: Global,
     message: &Message,
     actions: Seq<Action>,
+    hints: Seq<Hint>,
 ) -> Result<Option<Reply>, OutOfMemory>
-    ensures { IfOk result (λ answer. answer ≡ spec.serving_answer actions message.now) }
+    ensures { IfOk result (λ answer. answer ≡ spec.serving_answer actions hints message.now) }
 {
     match message {
         Message::Initialize { id, .. } => refused(alloc, Failure::Request, id),
         Message::CodeAction { id, .. } => Ok(Some(Reply::Actions {
             id: id.copy(alloc)?,
             actions,
+        })),
+        Message::InlayHint { id, .. } => Ok(Some(Reply::Hints {
+            id: id.copy(alloc)?,
+            hints,
         })),
         Message::Shutdown { id } => Ok(Some(Reply::Done {
             id: id.copy(alloc)?,
@@ -90,6 +97,7 @@ fn late_answer(alloc: Global, message: &Message) -> Result<Option<Reply>, OutOfM
     match message {
         Message::Initialize { id, .. } => refused(alloc, Failure::Request, id),
         Message::CodeAction { id, .. } => refused(alloc, Failure::Request, id),
+        Message::InlayHint { id, .. } => refused(alloc, Failure::Request, id),
         Message::Shutdown { id } => refused(alloc, Failure::Request, id),
         Message::Unknown { id } => refused(alloc, Failure::Request, id),
         Message::BadParams { id } => refusal(alloc, Failure::Request, id),
@@ -97,18 +105,19 @@ fn late_answer(alloc: Global, message: &Message) -> Result<Option<Reply>, OutOfM
     }
 }
 
-/// The answer to a message, where it has one and these actions are offered.
+/// The answer to a message, where it has one, these actions are offered and these hints are shown.
 fn answer_of(
     alloc: Global,
     phase: Phase,
     message: &Message,
     actions: Seq<Action>,
+    hints: Seq<Hint>,
 ) -> Result<Option<Reply>, OutOfMemory>
-    ensures { IfOk result (λ answer. answer ≡ spec.answer_of actions phase message.now) }
+    ensures { IfOk result (λ answer. answer ≡ spec.answer_of actions hints phase message.now) }
 {
     match phase {
         Phase::Waiting => waiting_answer(alloc, message),
-        Phase::Serving => serving_answer(alloc, message, actions),
+        Phase::Serving => serving_answer(alloc, message, actions, hints),
         Phase::ShutDown => late_answer(alloc, message),
         Phase::Exited { .. } => Ok(None),
     }
@@ -140,7 +149,8 @@ pub(crate) fn answers<R: Threads + Sync, G: Gate + Sync>(
     match event {
         Event::Message(message) => {
             let actions = offered(rt, gate, alloc, phase, told, workspace, message)?;
-            let answer = answer_of(alloc, phase, message, actions)?;
+            let hints = hinted(rt, gate, alloc, phase, workspace, message)?;
+            let answer = answer_of(alloc, phase, message, actions, hints)?;
             let mut replies = listed(alloc, answer)?;
             warn(
                 alloc,

@@ -3,7 +3,8 @@
 //! Files stand as the client has them open, the others as they were last read of the folder. After each event that changes them their
 //! report is told: [`law::last_published_is_the_report`] says that what was published last of each name is always what the report of the
 //! files as they stand says of it, and [`law::requests_are_answered_once`] that each request is answered once, in order. A request of actions
-//! gets those of the files as they stand ([`jn_lsp_actions::actions_for`]), where something is told at its range.
+//! gets those of the files as they stand ([`jn_lsp_actions::actions_for`]), where something is told at its range, and a request of hints
+//! the words that annotating would put there ([`jn_lsp_actions::hints_for`]).
 #![tactic(auto)]
 
 mod answers;
@@ -12,6 +13,7 @@ pub mod diagnostics;
 pub mod documents;
 pub mod event;
 pub mod front;
+mod hinting;
 pub mod law;
 mod offering;
 pub mod phase;

@@ -22,7 +22,7 @@ use Rattle.jn_phases.specs.Phases.{IsPhase, TypedProgramOf}
 use Rattle.jn_report.specs.Report.{IsCheckedBy}
 use Rattle.jn_lsp_actions.specs.Offered.{AreActions, AreOfRules, AreUnlessShared, AreWritten}
 
-views : ((tree : FileTree) → forget_file (placed_file tree) ≡ file_view tree) → (trees : List FileTree) → map file_view trees ≡ map forget_file (map placed_file trees)
+pub views : ((tree : FileTree) → forget_file (placed_file tree) ≡ file_view tree) → (trees : List FileTree) → map file_view trees ≡ map forget_file (map placed_file trees)
 views view [] = refl
 views view (tree ∷ trees) = λ i. sym (view tree) i ∷ views view trees i
 

@@ -38,7 +38,7 @@ use std::alloc::Global;
 use std::thread::Threads;
 
 /// The greatest number of files.
-const MOST_FILES: usize = 64;
+pub(crate) const MOST_FILES: usize = 64;
 
 /// The actions of rows of files none of whose fields shares its type with one of another qualifier.
 fn written_at(

@@ -4,6 +4,9 @@
 //! [`actions_for`] checks the files anew. For each row of a file that meets the range it goes along the row's first chain of causes
 //! ([`jn_chain::first_chain`]) to the first slot whose annotation can be written alone, and offers the words that [`jn_annotate`] puts for that
 //! slot. Nothing is claimed of what the files mean with these words.
+//!
+//! [`hints_for`] infers the files' program anew, and gives the words that annotating puts in a range of a file
+//! (Language Server Protocol 3.17, "Inlay Hint Request").
 #![tactic(auto)]
 
 pub mod alone;
@@ -12,5 +15,11 @@ pub mod choosing;
 pub mod edits;
 pub mod files;
 pub mod giving;
+pub mod hinting;
+pub mod hints;
+pub mod law;
+pub mod spelled;
+pub mod sweep;
 
 pub use files::actions_for;
+pub use hinting::hints_for;

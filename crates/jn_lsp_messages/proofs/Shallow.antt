@@ -2,7 +2,7 @@
 use Rattle.std.proofs.Common.{◌≡◌, ℕ, suc, ◌≤◌, ℤ, pos, negsuc, Bool, false, List, [], ◌∷◌, Option, Some, None, map, codes, refl, sym, ap, ◌∙◌, subst, arith, IsUtf8}
 use Rattle.std.specs.Prelude.{◌||◌, max}
 use Rattle.std.proofs.Math.Nat.{le_trans, max-le}
-use Rattle.serde_json.specs.Data.{Data, null, number, unsigned, string, object, Items, Members, no_members, member, depth, items_depth, members_depth}
+use Rattle.serde_json.specs.Data.{Data, null, boolean, number, unsigned, string, object, Items, Members, no_members, member, depth, items_depth, members_depth}
 use Rattle.serde_json.specs.Find.{of_integer}
 use Rattle.serde_json.specs.View.{items_of}
 use Rattle.serde_json.specs.Read.{max_depth, read}
@@ -16,6 +16,7 @@ use Rattle.jn_lsp_text.specs.declared.id.Id.TheVariants as id
 use Rattle.jn_lsp_text.specs.declared.reply.Action.{Action}
 use Rattle.jn_lsp_text.specs.declared.reply.Diagnostic.{Diagnostic}
 use Rattle.jn_lsp_text.specs.declared.reply.Failure.{Failure}
+use Rattle.jn_lsp_text.specs.declared.reply.Hint.{Hint}
 use Rattle.jn_lsp_text.specs.declared.reply.Insertion.{Insertion}
 use Rattle.jn_lsp_text.specs.declared.reply.Related.{Related}
 use Rattle.jn_lsp_text.specs.declared.reply.Said.{Said}
@@ -23,7 +24,7 @@ use Rattle.jn_lsp_text.specs.declared.reply.Said.TheVariants.{Row, Unchecked}
 use Rattle.jn_lsp_text.specs.declared.reply.Reply.{Reply}
 use Rattle.jn_lsp_text.specs.declared.reply.Reply.TheVariants as reply
 use Rattle.jn_lsp_messages.specs.Incoming.{IsJson}
-use Rattle.jn_lsp_messages.specs.Outgoing.{position_data, range_data, location_data, related_data, told, description_data, described, row_data, unchecked_data, said_data, diagnostic_data, insertion_data, edit_data, action_data, sync_data, kinds_data, capabilities_data, server_data, initialize_data, failure_code, failure_words, error_data, id_data, id_or_null, answer_data, refusal_data, notice_data, versioned, published_data, shown_data, list_data, data_of}
+use Rattle.jn_lsp_messages.specs.Outgoing.{position_data, range_data, location_data, related_data, told, description_data, described, row_data, unchecked_data, said_data, diagnostic_data, insertion_data, edit_data, action_data, hint_data, sync_data, kinds_data, capabilities_data, server_data, initialize_data, failure_code, failure_words, error_data, id_data, id_or_null, answer_data, refusal_data, notice_data, versioned, published_data, shown_data, list_data, data_of}
 use Rattle.jn_lsp_messages.specs.Uris.{uri_of}
 
 -- a value nests at most so deep, and has no float
@@ -60,6 +61,9 @@ text n s = record { shallow = least n; whole = refl }
 
 natural : (n m : ℕ) → Is n (number (unsigned m))
 natural n m = record { shallow = least n; whole = refl }
+
+truth : (n : ℕ) (b : Bool) → Is n (boolean b)
+truth n b = record { shallow = least n; whole = refl }
 
 integer : (n : ℕ) (z : ℤ) → Is n (number (of_integer z))
 integer n (pos m) = record { shallow = least n; whole = refl }
@@ -172,6 +176,15 @@ action_is : (a : Action) → Is 7 (action_data a)
 unfolding action_data
 action_is a = holding 6 7 _ refl (next 6 _ _ _ (edit_is a.name a.insertions) (next 6 _ _ _ (text 6 (codes "quickfix")) (last 6 _ _ (text 6 a.title))))
 
+hint_is : (h : Hint) → Is 2 (hint_data h)
+unfolding hint_data
+hint_is h =
+    holding 1 2 _ refl (next 1 _ _ _ (natural 1 1)
+    (next 1 _ _ _ (text 1 h.label)
+    (next 1 _ _ _ (truth 1 h.space_before)
+    (next 1 _ _ _ (truth 1 h.space_behind)
+    (last 1 _ _ (position_is h.at))))))
+
 initialize_is : Is 8 initialize_data
 unfolding initialize_data capabilities_data kinds_data sync_data server_data
 initialize_is = record { shallow = closed; whole = refl }
@@ -206,6 +219,7 @@ reply_is address (reply.Refusal i f) = refusal_is i f
 reply_is address (reply.Publish name version ds) = notice_is _ _ (published_is address name version ds)
 reply_is address (reply.Show words) = notice_is _ _ (shown_is words)
 reply_is address (reply.Actions i actions) = answer_is i _ (listed action_data 7 8 refl action_is actions)
+reply_is address (reply.Hints i hints) = answer_is i _ (deeper 3 8 _ (omega arith) (listed hint_data 2 3 refl hint_is hints))
 
 -- what is written of a value that is a reply's reads as it, and is its compact text
 pub reads_as : (address : Option (List ℕ)) (r : Reply) (d : Data) (body : List ℕ) → d ≡ data_of address r → (depth d ≤ max_depth → read body ≡ Some d) → IsUtf8 body → IsJson body (data_of address r)

@@ -15,7 +15,7 @@ use Rattle.jn_lsp_text.specs.declared.message.Change.TheVariants.{Whole, Part}
 use Rattle.jn_lsp_text.specs.declared.message.Message.{Message}
 use Rattle.jn_lsp_text.specs.declared.message.Message.TheVariants as message
 use Rattle.jn_lsp_messages.specs.declared.method.Method.{Method}
-use Rattle.jn_lsp_messages.specs.declared.method.Method.TheVariants.{Initialize, Initialized, DidOpen, DidChange, DidSave, DidClose, WatchedFiles, CodeAction, Shutdown, Exit, Other}
+use Rattle.jn_lsp_messages.specs.declared.method.Method.TheVariants.{Initialize, Initialized, DidOpen, DidChange, DidSave, DidClose, WatchedFiles, CodeAction, InlayHint, Shutdown, Exit, Other}
 use Rattle.jn_lsp_messages.specs.Methods.{method_of}
 use Rattle.jn_lsp_messages.specs.Uris.{name_of, or_other}
 
@@ -159,6 +159,9 @@ asked_start id d = option_and_then (λ files. option_map (message.Initialize id 
 abbrev pub asked_actions : Id → Data → Option Message
 asked_actions id d = option_and_then (λ name. option_map (message.CodeAction id name) (named_range d)) (document_name d)
 
+abbrev pub asked_hints : Id → Data → Option Message
+asked_hints id d = option_and_then (λ name. option_map (message.InlayHint id name) (named_range d)) (document_name d)
+
 abbrev pub notification : Method → Data → Message
 notification Initialized d = message.Initialized
 notification DidOpen d = opened d
@@ -169,12 +172,14 @@ notification WatchedFiles d = message.WatchedFiles
 notification Exit d = message.Exit
 notification Initialize d = message.Ignored
 notification CodeAction d = message.Ignored
+notification InlayHint d = message.Ignored
 notification Shutdown d = message.Ignored
 notification Other d = message.Ignored
 
 abbrev pub request : Method → Id → Data → Message
 request Initialize id d = or_bad (Some id) (asked_start id d)
 request CodeAction id d = or_bad (Some id) (asked_actions id d)
+request InlayHint id d = or_bad (Some id) (asked_hints id d)
 request Shutdown id d = message.Shutdown id
 request Initialized id d = message.Unknown id
 request DidOpen id d = message.Unknown id

@@ -14,6 +14,7 @@ use Rattle.jn_lsp_text.specs.declared.reply.Action.{Action}
 use Rattle.jn_lsp_text.specs.declared.reply.Diagnostic.{Diagnostic}
 use Rattle.jn_lsp_text.specs.declared.reply.Failure.{Failure}
 use Rattle.jn_lsp_text.specs.declared.reply.Failure.TheVariants as failure
+use Rattle.jn_lsp_text.specs.declared.reply.Hint.{Hint}
 use Rattle.jn_lsp_text.specs.declared.reply.Insertion.{Insertion}
 use Rattle.jn_lsp_text.specs.declared.reply.Related.{Related}
 use Rattle.jn_lsp_text.specs.declared.reply.Said.{Said}
@@ -105,6 +106,17 @@ action_data a =
     (member (codes "kind") (string (codes "quickfix"))
     (one (codes "title") (string a.title))))
 
+-- ---- inlay hints
+
+-- kind 1 is that of a type
+unfoldable pub hint_data : Hint → Data
+hint_data h =
+    object (member (codes "kind") (number (unsigned 1))
+    (member (codes "label") (string h.label)
+    (member (codes "paddingLeft") (boolean h.space_before)
+    (member (codes "paddingRight") (boolean h.space_behind)
+    (one (codes "position") (position_data h.at))))))
+
 -- ---- what the server can do
 
 -- changes come as ranges (TextDocumentSyncKind.Incremental is 2)
@@ -118,8 +130,9 @@ kinds_data = object (one (codes "codeActionKinds") (array (item (string (codes "
 unfoldable pub capabilities_data : Data
 capabilities_data =
     object (member (codes "codeActionProvider") kinds_data
+    (member (codes "inlayHintProvider") (boolean true)
     (member (codes "positionEncoding") (string (codes "utf-16"))
-    (one (codes "textDocumentSync") sync_data)))
+    (one (codes "textDocumentSync") sync_data))))
 
 abbrev pub version : List ℕ
 version = codes "0.1.0"
@@ -192,3 +205,4 @@ data_of address (reply.Refusal i f) = refusal_data i f
 data_of address (reply.Publish name version diagnostics) = notice_data (codes "textDocument/publishDiagnostics") (published_data address name version diagnostics)
 data_of address (reply.Show words) = notice_data (codes "window/showMessage") (shown_data words)
 data_of address (reply.Actions i actions) = answer_data i (list_data action_data actions)
+data_of address (reply.Hints i hints) = answer_data i (list_data hint_data hints)

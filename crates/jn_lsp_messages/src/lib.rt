@@ -6,6 +6,7 @@
 
 mod actions;
 mod diagnostics;
+mod hints;
 pub mod law;
 pub mod method;
 mod params;

@@ -21,6 +21,8 @@ pub enum Method {
     WatchedFiles,
     /// `textDocument/codeAction`.
     CodeAction,
+    /// `textDocument/inlayHint`.
+    InlayHint,
     /// `shutdown`.
     Shutdown,
     /// `exit`.
@@ -43,6 +45,7 @@ pub fn method_of(name: &str) -> Method
         "textDocument/didClose" => Method::DidClose,
         "workspace/didChangeWatchedFiles" => Method::WatchedFiles,
         "textDocument/codeAction" => Method::CodeAction,
+        "textDocument/inlayHint" => Method::InlayHint,
         "shutdown" => Method::Shutdown,
         "exit" => Method::Exit,
         _ => Method::Other,

@@ -10,7 +10,7 @@ use serde_json::{Value, json};
 use std::alloc::{AllocError, Global};
 
 #[tactic(auto, unfolding(crate::specs::Outgoing::position_data))]
-fn position_value(alloc: Global, position: Position) -> Result<Value, AllocError>
+pub(crate) fn position_value(alloc: Global, position: Position) -> Result<Value, AllocError>
     ensures { IfOk result (λ v. view v ≡ spec.position_data position) }
 {
     json!(in alloc; {"character": position.character, "line": position.line})

@@ -123,9 +123,11 @@ fn notification(alloc: Global, method: Method, body: &Value) -> Result<Message, 
         Method::DidClose => did_close(alloc, body),
         Method::WatchedFiles => Ok(Message::WatchedFiles),
         Method::Exit => Ok(Message::Exit),
-        Method::Initialize | Method::CodeAction | Method::Shutdown | Method::Other => {
-            Ok(Message::Ignored)
-        }
+        Method::Initialize
+        | Method::CodeAction
+        | Method::InlayHint
+        | Method::Shutdown
+        | Method::Other => Ok(Message::Ignored),
     }
 }
 
@@ -185,6 +187,7 @@ fn request(alloc: Global, method: Method, id: Id, body: &Value) -> Result<Messag
     match method {
         Method::Initialize => initialize(alloc, id, body),
         Method::CodeAction => code_action(alloc, id, body),
+        Method::InlayHint => inlay_hint(alloc, id, body),
         Method::Shutdown => Ok(Message::Shutdown { id }),
         Method::Initialized
         | Method::DidOpen
@@ -226,5 +229,17 @@ fn code_action(alloc: Global, id: Id, body: &Value) -> Result<Message, OutOfMemo
     match named_range(body) {
         None => Ok(Message::BadParams { id: Some(id) }),
         Some(range) => Ok(Message::CodeAction { id, name, range }),
+    }
+}
+
+fn inlay_hint(alloc: Global, id: Id, body: &Value) -> Result<Message, OutOfMemory>
+    ensures { IfOk result (λ m. m ≡ spec.request Method.InlayHint id (view body.now)) }
+{
+    let Some(name) = document_name(alloc, body)? else {
+        return Ok(Message::BadParams { id: Some(id) });
+    };
+    match named_range(body) {
+        None => Ok(Message::BadParams { id: Some(id) }),
+        Some(range) => Ok(Message::InlayHint { id, name, range }),
     }
 }

@@ -7,6 +7,7 @@ ghost use Rattle.jn_lsp_messages.specs.Outgoing as spec;
 
 use crate::actions::actions_value;
 use crate::diagnostics::diagnostics_value;
+use crate::hints::hints_value;
 use crate::uri::uri_of;
 use jn_base::{OutOfMemory, Text};
 use jn_lsp_text::{Diagnostic, Failure, Id, Reply};
@@ -57,6 +58,10 @@ fn reply_value(alloc: Global, address: &Option<Text>, reply: &Reply) -> Result<V
         Reply::Actions { id, actions } => {
             let actions = actions_value(alloc, actions.as_slice())?;
             Ok(answer(alloc, id, actions)?)
+        }
+        Reply::Hints { id, hints } => {
+            let hints = hints_value(alloc, hints.as_slice())?;
+            Ok(answer(alloc, id, hints)?)
         }
     }
 }
@@ -156,7 +161,7 @@ fn capabilities_value(alloc: Global) -> Result<Value, AllocError>
 {
     let kinds = kinds_value(alloc)?;
     let sync = sync_value(alloc)?;
-    json!(in alloc; {"codeActionProvider": kinds, "positionEncoding": "utf-16", "textDocumentSync": sync})
+    json!(in alloc; {"codeActionProvider": kinds, "inlayHintProvider": true, "positionEncoding": "utf-16", "textDocumentSync": sync})
 }
 
 #[tactic(auto, unfolding(crate::specs::Outgoing::kinds_data))]

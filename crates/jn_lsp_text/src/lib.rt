@@ -23,4 +23,4 @@ pub use position::{
     positions_have_one_offset,
 };
 pub use range::{Range, range_of, ranges_have_one_replacement, replace};
-pub use reply::{Action, Diagnostic, Failure, Insertion, Related, Reply, Said};
+pub use reply::{Action, Diagnostic, Failure, Hint, Insertion, Related, Reply, Said};

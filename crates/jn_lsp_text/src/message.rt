@@ -56,6 +56,12 @@ pub enum Message {
         name: Text,
         range: Range,
     },
+    /// `textDocument/inlayHint`.
+    InlayHint {
+        id: Id,
+        name: Text,
+        range: Range,
+    },
     /// `shutdown`.
     Shutdown {
         id: Id,

@@ -59,6 +59,18 @@ pub struct Insertion {
     pub text: Text,
 }
 
+/// Words that an editor shows at a position of a text in which they aren't written (InlayHint).
+#[derive(Drop)]
+pub struct Hint {
+    pub at: Position,
+    /// The words, without the space before them and the one after them.
+    pub label: Text,
+    /// A space stands before them (`paddingLeft`).
+    pub space_before: bool,
+    /// A space stands after them (`paddingRight`).
+    pub space_behind: bool,
+}
+
 /// A message of the server (Language Server Protocol 3.17).
 #[derive(Drop)]
 pub enum Reply {
@@ -89,5 +101,10 @@ pub enum Reply {
     Actions {
         id: Id,
         actions: Seq<Action>,
+    },
+    /// The answer to `textDocument/inlayHint`.
+    Hints {
+        id: Id,
+        hints: Seq<Hint>,
     },
 }

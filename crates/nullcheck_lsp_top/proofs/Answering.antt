@@ -8,7 +8,7 @@ use Rattle.jn_outside.specs.Files.{Holding}
 use Rattle.jn_lsp_frames.specs.declared.frame.Frame.{Frame}
 use Rattle.jn_lsp_text.specs.declared.message.Change.{Change}
 use Rattle.jn_lsp_text.specs.declared.message.Message.{Message}
-use Rattle.jn_lsp_text.specs.declared.message.Message.TheVariants.{Initialize, Initialized, DidOpen, DidChange, DidSave, DidClose, WatchedFiles, CodeAction, Shutdown, Exit, Ignored, Unknown, BadDocument, BadParams, NoMessage, NoJson, BadHeader, TooLarge}
+use Rattle.jn_lsp_text.specs.declared.message.Message.TheVariants.{Initialize, Initialized, DidOpen, DidChange, DidSave, DidClose, WatchedFiles, CodeAction, InlayHint, Shutdown, Exit, Ignored, Unknown, BadDocument, BadParams, NoMessage, NoJson, BadHeader, TooLarge}
 use Rattle.jn_lsp_text.specs.declared.reply.Reply.{Reply}
 use Rattle.jn_lsp_text.specs.declared.reply.Reply.TheVariants.{Show}
 use Rattle.jn_lsp.specs.declared.event.Event.{Event}
@@ -73,6 +73,7 @@ placed_asks root (DidSave name) = (refl, refl)
 placed_asks root (DidClose name) = closed_as (placed_name root name) name
 placed_asks root WatchedFiles = (refl, refl)
 placed_asks root (CodeAction id name range) = (refl, refl)
+placed_asks root (InlayHint id name range) = (refl, refl)
 placed_asks root (Shutdown id) = (refl, refl)
 placed_asks root Exit = (refl, refl)
 placed_asks root Ignored = (refl, refl)

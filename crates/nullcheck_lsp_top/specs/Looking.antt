@@ -9,7 +9,7 @@ use Rattle.jn_folder.specs.Plain.{plain}
 use Rattle.jn_folder.specs.Walking.{BeginsWalk, Counts, Walks, telling}
 use Rattle.jn_front.specs.declared.source.SourceFile.{SourceFile}
 use Rattle.jn_lsp_text.specs.declared.message.Message.{Message}
-use Rattle.jn_lsp_text.specs.declared.message.Message.TheVariants.{Initialize, Initialized, DidOpen, DidChange, DidSave, DidClose, WatchedFiles, CodeAction, Shutdown, Exit, Ignored, Unknown, BadDocument, BadParams, NoMessage, NoJson, BadHeader, TooLarge}
+use Rattle.jn_lsp_text.specs.declared.message.Message.TheVariants.{Initialize, Initialized, DidOpen, DidChange, DidSave, DidClose, WatchedFiles, CodeAction, InlayHint, Shutdown, Exit, Ignored, Unknown, BadDocument, BadParams, NoMessage, NoJson, BadHeader, TooLarge}
 use Rattle.jn_lsp.specs.declared.phase.Phase.{Phase}
 use Rattle.jn_lsp.specs.declared.phase.Phase.TheVariants.{Waiting, Serving, ShutDown, Exited}
 use Rattle.jn_lsp.specs.Serving.{new_server}
@@ -37,6 +37,7 @@ root_in (DidSave name) = None
 root_in (DidClose name) = None
 root_in WatchedFiles = None
 root_in (CodeAction id name range) = None
+root_in (InlayHint id name range) = None
 root_in (Shutdown id) = None
 root_in Exit = None
 root_in Ignored = None

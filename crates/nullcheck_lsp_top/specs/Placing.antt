@@ -5,7 +5,7 @@ use Rattle.jn_folder.specs.Plain.{is_below, is_whole, plain, rehomed}
 use Rattle.jn_lsp.specs.declared.phase.Phase.{Phase}
 use Rattle.jn_lsp.specs.declared.phase.Phase.TheVariants.{Waiting, Serving, ShutDown, Exited}
 use Rattle.jn_lsp_text.specs.declared.message.Message.{Message}
-use Rattle.jn_lsp_text.specs.declared.message.Message.TheVariants.{Initialize, Initialized, DidOpen, DidChange, DidSave, DidClose, WatchedFiles, CodeAction, Shutdown, Exit, Ignored, Unknown, BadDocument, BadParams, NoMessage, NoJson, BadHeader, TooLarge}
+use Rattle.jn_lsp_text.specs.declared.message.Message.TheVariants.{Initialize, Initialized, DidOpen, DidChange, DidSave, DidClose, WatchedFiles, CodeAction, InlayHint, Shutdown, Exit, Ignored, Unknown, BadDocument, BadParams, NoMessage, NoJson, BadHeader, TooLarge}
 use Rattle.jn_lsp_text.specs.declared.reply.Reply.{Reply}
 use Rattle.jn_lsp_text.specs.declared.reply.Reply.TheVariants.{Show}
 use Rattle.nullcheck_lsp_top.specs.declared.client.Root.{Root}
@@ -68,6 +68,7 @@ placed root (DidSave name) = DidSave name
 placed root (DidClose name) = or_ignored (option_map DidClose (placed_name root name))
 placed root WatchedFiles = WatchedFiles
 placed root (CodeAction id name range) = CodeAction id (or_same (placed_name root name) name) range
+placed root (InlayHint id name range) = InlayHint id (or_same (placed_name root name) name) range
 placed root (Shutdown id) = Shutdown id
 placed root Exit = Exit
 placed root Ignored = Ignored

@@ -158,6 +158,14 @@ pub(crate) fn placed(alloc: Global, root: &Root, message: Message) -> Result<Mes
                 range,
             })
         }
+        Message::InlayHint { id, name, range } => {
+            let placed = placed_name(alloc, root, &name)?;
+            Ok(Message::InlayHint {
+                id,
+                name: or_same(placed, name),
+                range,
+            })
+        }
         other => Ok(other),
     }
 }

@@ -1,0 +1,105 @@
+-- What is shown is what annotated texts have more.
+use Rattle.std.proofs.Common.{◌≡◌, ℕ, zero, suc, ◌+◌, Bool, true, false, not, ◌&&◌, Some, inl, inr, List, [], ◌∷◌, ◌++◌, drop, map, refl, sym, ap, ◌∙◌, subst, arith, cond}
+use Rattle.std.specs.Prelude.{bytes_eq, nat_le, slice_get, slice_index_or}
+use Rattle.std.proofs.lemmas.Bool.{false≢true}
+use Rattle.jn_annotate.specs.Annotated.{Annotated, HasNone, annotated_from, has_no_spelling, has_shared_type}
+use Rattle.jn_annotate.specs.Imports.{with_lines}
+use Rattle.jn_annotate.specs.Insertions.{file_fields, file_methods, in_file}
+use Rattle.jn_annotate.specs.Shared.{IsLeast, shared_slots}
+use Rattle.jn_annotate.specs.Words.{is_unspelled}
+use Rattle.jn_annotate.proofs.Sharing.{Least, first_is, least_all, least_next, least_start}
+use Rattle.jn_base.specs.declared.infer.Infer.{Infer}
+use Rattle.jn_front.specs.declared.source.SourceFile.{SourceFile}
+use Rattle.jn_lsp_text.specs.declared.range.Range.{Range}
+use Rattle.jn_lsp_text.specs.declared.reply.Hint.{Hint}
+use Rattle.jn_places.specs.Forget.{forget_file}
+use Rattle.jn_points.specs.declared.program.Field.{Field}
+use Rattle.jn_points.specs.declared.program.Method.{Method}
+use Rattle.jn_points.specs.declared.program.Program.{Program}
+use Rattle.jn_points.specs.declared.program.SlotInfo.{SlotInfo}
+use Rattle.jn_quals.specs.Order.{no_qual}
+use Rattle.jn_quals.specs.Qualifier.{Qualifier}
+use Rattle.jn_splice_law.specs.Inserted.{Insertion, inserted}
+use Rattle.jn_transfer.specs.Contributions.{is_inferred}
+use Rattle.jn_trees.specs.declared.token.Token.{Token}
+use Rattle.jn_trees.specs.Trees.{SourceTree}
+use Rattle.jn_lsp_actions.specs.Annotating.{AreAdded, AreAddedIn, Either, text_of}
+use Rattle.jn_lsp_actions.specs.Hinted.{AreInferred, hints_of, shown, shown_in, unless_shared}
+use Rattle.jn_lsp_actions.specs.Spelled.{spelled, spelled_from}
+
+-- ---- slots
+
+kept : (a b : Bool) → (a && b) ≡ false → (a && not b) ≡ a
+kept true true e = sym e
+kept true false e = refl
+kept false b e = refl
+
+-- all stay that an annotation says
+all_spelled : (s : List Qualifier) (at : ℕ) (slots : List SlotInfo) → ((i : ℕ) → (is_inferred (slice_get slots i) && is_unspelled (slice_index_or s (at + i) no_qual)) ≡ false) → spelled_from s at slots ≡ slots
+all_spelled s at [] none = refl
+all_spelled s at (info ∷ slots) none =
+    let first : (info.inferred && is_unspelled (slice_index_or s at no_qual)) ≡ false = subst (λ n. (info.inferred && is_unspelled (slice_index_or s n no_qual)) ≡ false) (omega arith) (none 0) in
+    let rest : spelled_from s (at + 1) slots ≡ slots = all_spelled s (at + 1) slots (λ i. subst (λ n. (is_inferred (slice_get slots i) && is_unspelled (slice_index_or s n no_qual)) ≡ false) (omega arith) (none (suc i))) in
+    λ j. record { start = info.start; inferred = kept info.inferred (is_unspelled (slice_index_or s at no_qual)) first j } ∷ rest j
+
+same_slots : (P : Program) (s : List Qualifier) → HasNone (has_no_spelling P s) → spelled s P.slots ≡ P.slots
+same_slots P s none = all_spelled s 0 P.slots none
+
+-- ---- texts
+
+no_lines : (text : List ℕ) (ts : List Token) (tree : SourceTree) (words : List Insertion) → with_lines false text ts tree words ≡ words
+unfolding with_lines
+no_lines text ts tree words = refl
+
+module _ (slots : List SlotInfo) (s : List Qualifier) (name : List ℕ) (range : Range) where
+  at_file : (named : Bool) (file : SourceFile) (new : List ℕ) (words : List Insertion) (other : Type 0) (hints others : List Hint) → new ≡ inserted file.bytes words → (hints ≡ others → other)
+      → hints ≡ cond named (shown file.bytes range words) others → Either named (AreAdded range file.bytes new hints) other
+  at_file true file new words other hints others put rest e = record { words = words; put = put; are = e }
+  at_file false file new words other hints others put rest e = rest e
+
+  added : (files : List SourceFile) (tokens : List (List Token)) (trees : List SourceTree) (fs : List Field) (ms : List Method) (hints : List Hint) → hints ≡ shown_in name range slots s files tokens trees fs ms
+      → AreAddedIn name range files (annotated_from false slots s (map text_of files) tokens trees fs ms) hints
+  added [] tokens trees fs ms hints e = e
+  added (file ∷ files) [] trees fs ms hints e = e
+  added (file ∷ files) (ts ∷ tokens) [] fs ms hints e = e
+  added (file ∷ files) (ts ∷ tokens) (tree ∷ trees) fs ms hints e =
+      let words = in_file slots s file.bytes ts tree fs ms in
+      let fields = drop (file_fields tree.types) fs in
+      let methods = drop (file_methods tree.types) ms in
+      at_file (bytes_eq file.name name) file (inserted file.bytes (with_lines false file.bytes ts tree words)) words (AreAddedIn name range files (annotated_from false slots s (map text_of files) tokens trees fields methods) hints) hints (shown_in name range slots s files tokens trees fields methods)
+      (ap (inserted file.bytes) (no_lines file.bytes ts tree words)) (added files tokens trees fields methods hints) e
+
+-- ---- shared types
+
+some_least : (ns : List ℕ) (n : ℕ) (left : List ℕ) → Least ns n left → (m : ℕ) × IsLeast (Some m) ns
+some_least ns n [] h = (n, least_all ns n h)
+some_least ns n (y ∷ left) h = lesser (nat_le n y) refl
+  where
+    lesser : (b : Bool) → nat_le n y ≡ b → (m : ℕ) × IsLeast (Some m) ns
+    lesser true e = some_least ns n left (least_next ns n y n left (inl (refl, omega (arith, e))) h)
+    lesser false e = some_least ns y left (least_next ns n y y left (inr (refl, omega (arith, e))) h)
+
+module _ (P : Program) (s : List Qualifier) (trees : List SourceTree) (none : HasNone (has_shared_type P s trees)) where
+  none_least : (ns : List ℕ) → ns ≡ shared_slots P s trees P.fields → ns ≡ []
+  none_least [] e = refl
+  none_least (n ∷ ns) e =
+      let least = some_least (n ∷ ns) n ns (least_start n ns) in
+      let first = first_is P s trees least.0 (subst (IsLeast (Some least.0)) e least.1) in
+      absurd (false≢true (sym (none least.0) ∙ first.0))
+
+  no_shared : shared_slots P s trees P.fields ≡ []
+  no_shared = none_least (shared_slots P s trees P.fields) refl
+
+-- ---- files
+
+pub of_annotated : (infer : Infer) (files : List SourceFile) (name : List ℕ) (range : Range) (hints : List Hint) (new : List (List ℕ)) (of : AreInferred infer files name range hints)
+    → Annotated false of.P of.signature (map text_of files) of.of_files.of_files.tokens (map forget_file of.of_files.of_files.trees) new
+    → AreAddedIn name range files new hints
+of_annotated infer files name range hints new of annotated =
+    let P = of.P in
+    let s = of.signature in
+    let tokens = of.of_files.of_files.tokens in
+    let trees = map forget_file of.of_files.of_files.trees in
+    let are : hints ≡ shown_in name range P.slots s files tokens trees P.fields (drop 1 P.methods) =
+    of.are ∙ (λ i. unless_shared (no_shared P s trees annotated.alone i) (shown_in name range (same_slots P s annotated.spelled i) s files tokens trees P.fields (drop 1 P.methods))) in
+    subst (λ (texts : List (List ℕ)). AreAddedIn name range files texts hints) (sym annotated.are) (added P.slots s name range files tokens trees P.fields (drop 1 P.methods) hints are)
