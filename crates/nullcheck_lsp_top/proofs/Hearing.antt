@@ -33,9 +33,9 @@ looks_from held old new before after files warnings told news replies found says
 }
 
 -- a message was taken, as far as it is about the workspace
-module _ (held : Option Holding) (old out new : Outside) (told : Option Root) (before start mid after : Client) (message taken : Message) (notices first more answers replies : List Reply) where
-  pub hears_from : Traces (told_root before.server.phase message) told old out → start.server ≡ before.server → start.root ≡ root_or told before.root → start.shown ≡ before.shown → start.said ≡ (before.said || is_some (foreign before message)) → taken ≡ placed before.root message → Takes start.server (MessageEvent taken) first mid.server → mid.root ≡ start.root → mid.shown ≡ start.shown → mid.said ≡ start.said → LooksWhere (looks before.server.phase taken) held out new mid after more → notices ≡ says before.said (foreign before message) → answers ≡ first ++ more → replies ≡ notices ++ answers → Hears held old new before message replies after
-  hears_from traces server root shown said is takes same_root same_shown same_said behind noticed joined all = record {
+module _ (held : Option Holding) (old out new : Outside) (told : Option Root) (before start mid after : Client) (message taken : Message) (notices first more replies : List Reply) where
+  pub hears_from : Traces (told_root before.server.phase message) told old out → start.server ≡ before.server → start.root ≡ root_or told before.root → start.shown ≡ before.shown → start.said ≡ (before.said || is_some (foreign before message)) → taken ≡ placed before.root message → Takes start.server (MessageEvent taken) first mid.server → mid.root ≡ start.root → mid.shown ≡ start.shown → mid.said ≡ start.said → LooksWhere (looks before.server.phase taken) held out new mid after more → notices ≡ says before.said (foreign before message) → replies ≡ notices ++ (first ++ more) → Hears held old new before message replies after
+  hears_from traces server root shown said is takes same_root same_shown same_said behind noticed all = record {
     first = first;
     more = more;
     told = told;
@@ -47,7 +47,7 @@ module _ (held : Option Holding) (old out new : Outside) (told : Option Root) (b
     shown = same_shown ∙ shown;
     said = same_said ∙ said;
     behind = subst (λ (m : Message). LooksWhere (looks before.server.phase m) held out new mid after more) is behind;
-    all = all ∙ ap (λ (rs : List Reply). notices ++ rs) joined ∙ ap (λ (rs : List Reply). rs ++ (first ++ more)) noticed;
+    all = all ∙ ap (λ (rs : List Reply). rs ++ (first ++ more)) noticed;
   }
 
 -- a frame more

@@ -3,13 +3,15 @@ ghost use Rattle.std.specs.Prelude.{◌≡◌, ℕ, List, IfOk, OnErr, Some};
 ghost use Rattle.jn_outside.specs.declared.given.Given.{Given};
 ghost use Rattle.nullcheck_lsp_top.specs.Looking as spec;
 
-use crate::client::Root;
+use crate::client::{Root, told_root};
 use crate::placing::named_paths;
 use crate::texts::{is_many, take_files};
 use crate::warning::warnings_of;
 use jn_base::{OutOfMemory, Seq, Text};
 use jn_folder::{Folder, Walked, walk};
 use jn_front::SourceFile;
+use jn_lsp::Phase;
+use jn_lsp_text::Message;
 use jn_outside::Files;
 use std::alloc::Global;
 
@@ -112,8 +114,7 @@ fn traced_root<D: Folder>(alloc: Global, root: Root, folder: &mut D) -> Result<R
     }
 }
 
-/// Where the files are, where that is told, with what the folder says of where it really is.
-pub(crate) fn traced<D: Folder>(
+fn traced_where<D: Folder>(
     alloc: Global,
     told: Option<Root>,
     folder: &mut D,
@@ -131,6 +132,25 @@ pub(crate) fn traced<D: Folder>(
             Err(_) => Err(OutOfMemory),
         },
     }
+}
+
+/// Where the files are, where a message says so in this phase, with what the folder says of where it really is.
+pub(crate) fn traced<D: Folder>(
+    alloc: Global,
+    phase: Phase,
+    message: &Message,
+    folder: &mut D,
+) -> Result<Option<Root>, OutOfMemory>
+    ensures traces { IfOk result (λ made. (gave : List Given) (reads : ℕ)
+        → spec.Traces (spec.told_root phase message.now) made
+        (spec.outside (D.told folder.old) (D.faults folder.old) gave reads)
+        (spec.outside (D.told folder.new) (D.faults folder.new) gave reads)) }
+    ensures spared { OnErr result (D.told folder.new ≡ D.told folder.old) }
+    ensures kept { D.faults folder.new ≡ D.faults folder.old }
+{
+    let told = told_root(alloc, phase, message)?;
+    let made = traced_where(alloc, told, folder)?;
+    Ok(made)
 }
 
 /// The files of a workspace, and warnings of those that aren't there.

@@ -3,7 +3,7 @@ ghost use Rattle.std.specs.Prelude.{◌≡◌, ◌++◌, ◌||◌, IfOk, is_some
 ghost use Rattle.nullcheck_lsp_top.specs.Hearing as spec;
 ghost use Rattle.nullcheck_lsp_top.specs.Looking.{Starts, StartsWhere, outside, root_or};
 
-use crate::client::{Client, Root, told_root};
+use crate::client::{Client, Root};
 use crate::finding::{read_workspace, traced};
 use crate::placing::{foreign_in, placed, says};
 use crate::warning::show;
@@ -38,6 +38,17 @@ fn joined(replies: Vec<Reply>, more: Vec<Reply>) -> Result<Vec<Reply>, AllocErro
         all.push(reply)?;
     }
     Ok(all)
+}
+
+fn all_of(
+    notices: Vec<Reply>,
+    replies: Vec<Reply>,
+    more: Vec<Reply>,
+) -> Result<Vec<Reply>, AllocError>
+    ensures { IfOk result (λ all. all.items ≡ notices.items ++ (replies.items ++ more.items)) }
+{
+    let answers = joined(replies, more)?;
+    joined(notices, answers)
 }
 
 /// Whether the workspace's files are read after a message that comes in this phase.
@@ -136,14 +147,12 @@ pub(crate) fn hear<R: Threads + Sync, F: Files, D: Folder, G: Gate + Sync>(
 {
     let foreign = foreign_in(alloc, client.server.phase(), &client.root, &message)?;
     let notices = says(alloc, client.said, &foreign)?;
-    let settled = told_root(alloc, client.server.phase(), &message)?;
+    let told = traced(alloc, client.server.phase(), &message, folder)?;
     let message = placed(alloc, &client.root, message)?;
     let looks = looks(client.server.phase(), &message);
-    let told = traced(alloc, settled, folder)?;
     settle(client, told, &foreign);
     let replies = client.server.take(rt, gate, &Event::Message(message))?;
     let more = look_where(rt, gate, alloc, looks, client, files, folder)?;
-    let answers = joined(replies, more)?;
-    let all = joined(notices, answers)?;
+    let all = all_of(notices, replies, more)?;
     Ok(all)
 }

@@ -22,12 +22,11 @@ returns-clause-hears g c =
     let message = c.args.message in
     let taken = c.in_ok-message.message in
     let more = c.in_ok-more.more.items in
-    let found = c.in_ok-foreign.foreign in
     let foreign_is = c.in_ok-foreign.ensures ∙ ap (λ p. foreign_in p before.root message) c.phase.ensures in
-    let told_is = c.in_ok-settled.ensures ∙ ap (λ p. told_root p message) c.phase-2.ensures in
+    let told_is = ap (λ p. told_root p c.args.message) c.phase-2.ensures in
     let traces = subst (λ (root : Option Root). Traces root c.in_ok-told.told old out) told_is (c.in_ok-told.ensures.traces (g.F.Files.gave c.args.files.now) (g.F.Files.faults c.args.files.now)) in
     let behind : LooksWhere (looks before.server.phase taken) held out new mid after more = subst (λ b. LooksWhere b held out new mid after more) (looks_by c.looks-looks.result c.phase-3.result before.server.phase taken c.looks-looks.ensures c.phase-3.ensures) c.in_ok-more.ensures.looks in
-    hears_from held old out new c.in_ok-told.told before start mid after message taken c.in_ok-notices.notices.items c.in_ok-replies.replies.items more c.in_ok-answers.answers.items c.in_ok-all.all.items
+    hears_from held old out new c.in_ok-told.told before start mid after message taken c.in_ok-notices.notices.items c.in_ok-replies.replies.items more c.in_ok-all.all.items
     traces
     c.settle.ensures.server
     c.settle.ensures.root
@@ -35,7 +34,7 @@ returns-clause-hears g c =
     (c.settle.ensures.said ∙ ap (λ f. before.said || is_some f) foreign_is)
     c.in_ok-message.ensures c.in_ok-replies.ensures.takes refl refl refl behind
     (c.in_ok-notices.ensures ∙ ap (says before.said) foreign_is)
-    c.in_ok-answers.ensures c.in_ok-all.ensures
+    c.in_ok-all.ensures
 
 pub returns-in_err-foreign-clause-starts : goal.returns-in_err-foreign-clause-starts
 returns-in_err-foreign-clause-starts g c =
@@ -49,24 +48,29 @@ returns-in_err-notices-clause-starts g c =
     let old = outside (g.D.Folder.told c.args.folder.now) (g.D.Folder.faults c.args.folder.now) (g.F.Files.gave c.args.files.now) (g.F.Files.faults c.args.files.now) in
     starts_not held old c.args.client.now c.args.message
 
-pub returns-in_err-settled-clause-starts : goal.returns-in_err-settled-clause-starts
-returns-in_err-settled-clause-starts g c =
+pub returns-in_err-told-clause-starts : goal.returns-in_err-told-clause-starts
+returns-in_err-told-clause-starts g c =
     let held = g.F.Files.held c.args.files.now in
     let old = outside (g.D.Folder.told c.args.folder.now) (g.D.Folder.faults c.args.folder.now) (g.F.Files.gave c.args.files.now) (g.F.Files.faults c.args.files.now) in
-    starts_not held old c.args.client.now c.args.message
+    let out = outside (g.D.Folder.told c.traced.new.folder) (g.D.Folder.faults c.traced.new.folder) (g.F.Files.gave c.args.files.now) (g.F.Files.faults c.args.files.now) in
+    let same : out ≡ old = λ i. outside (c.in_err-told.ensures.spared i) (c.traced.ensures.kept i) (g.F.Files.gave c.args.files.now) (g.F.Files.faults c.args.files.now) in
+    starts_still held old out c.args.client.now c.args.message same
 
 pub returns-in_err-message-clause-starts : goal.returns-in_err-message-clause-starts
 returns-in_err-message-clause-starts g c =
     let held = g.F.Files.held c.args.files.now in
     let old = outside (g.D.Folder.told c.args.folder.now) (g.D.Folder.faults c.args.folder.now) (g.F.Files.gave c.args.files.now) (g.F.Files.faults c.args.files.now) in
-    starts_not held old c.args.client.now c.args.message
+    let out = outside (g.D.Folder.told c.traced.new.folder) (g.D.Folder.faults c.traced.new.folder) (g.F.Files.gave c.args.files.now) (g.F.Files.faults c.args.files.now) in
+    let told_is = ap (λ p. told_root p c.args.message) c.phase-2.ensures in
+    let traces = subst (λ (root : Option Root). Traces root c.in_ok-told.told old out) told_is (c.in_ok-told.ensures.traces (g.F.Files.gave c.args.files.now) (g.F.Files.faults c.args.files.now)) in
+    starts_traced held old out c.args.client.now c.args.message c.in_ok-told.told traces
 
 pub returns-in_err-replies-clause-starts : goal.returns-in_err-replies-clause-starts
 returns-in_err-replies-clause-starts g c =
     let held = g.F.Files.held c.args.files.now in
     let old = outside (g.D.Folder.told c.args.folder.now) (g.D.Folder.faults c.args.folder.now) (g.F.Files.gave c.args.files.now) (g.F.Files.faults c.args.files.now) in
     let out = outside (g.D.Folder.told c.traced.new.folder) (g.D.Folder.faults c.traced.new.folder) (g.F.Files.gave c.args.files.now) (g.F.Files.faults c.args.files.now) in
-    let told_is = c.in_ok-settled.ensures ∙ ap (λ p. told_root p c.args.message) c.phase-2.ensures in
+    let told_is = ap (λ p. told_root p c.args.message) c.phase-2.ensures in
     let traces = subst (λ (root : Option Root). Traces root c.in_ok-told.told old out) told_is (c.in_ok-told.ensures.traces (g.F.Files.gave c.args.files.now) (g.F.Files.faults c.args.files.now)) in
     starts_traced held old out c.args.client.now c.args.message c.in_ok-told.told traces
 
@@ -80,25 +84,7 @@ returns-in_err-more-clause-starts g c =
     let start = c.settle.new.client in
     let message = c.args.message in
     let taken = c.in_ok-message.message in
-    let told_is = c.in_ok-settled.ensures ∙ ap (λ p. told_root p message) c.phase-2.ensures in
-    let traces = subst (λ (root : Option Root). Traces root c.in_ok-told.told old out) told_is (c.in_ok-told.ensures.traces (g.F.Files.gave c.args.files.now) (g.F.Files.faults c.args.files.now)) in
-    starts_from held old out new before message taken c.looks-looks.result start.root c.in_ok-told.told traces
-    (looks_by c.looks-looks.result c.phase-3.result before.server.phase taken c.looks-looks.ensures c.phase-3.ensures)
-    c.in_ok-message.ensures
-    c.settle.ensures.root
-    c.look_where.ensures.starts
-
-pub returns-in_err-answers-clause-starts : goal.returns-in_err-answers-clause-starts
-returns-in_err-answers-clause-starts g c =
-    let held = g.F.Files.held c.args.files.now in
-    let old = outside (g.D.Folder.told c.args.folder.now) (g.D.Folder.faults c.args.folder.now) (g.F.Files.gave c.args.files.now) (g.F.Files.faults c.args.files.now) in
-    let out = outside (g.D.Folder.told c.traced.new.folder) (g.D.Folder.faults c.traced.new.folder) (g.F.Files.gave c.args.files.now) (g.F.Files.faults c.args.files.now) in
-    let new = outside (g.D.Folder.told c.look_where.new.folder) (g.D.Folder.faults c.look_where.new.folder) (g.F.Files.gave c.look_where.new.files) (g.F.Files.faults c.look_where.new.files) in
-    let before = c.args.client.now in
-    let start = c.settle.new.client in
-    let message = c.args.message in
-    let taken = c.in_ok-message.message in
-    let told_is = c.in_ok-settled.ensures ∙ ap (λ p. told_root p message) c.phase-2.ensures in
+    let told_is = ap (λ p. told_root p c.args.message) c.phase-2.ensures in
     let traces = subst (λ (root : Option Root). Traces root c.in_ok-told.told old out) told_is (c.in_ok-told.ensures.traces (g.F.Files.gave c.args.files.now) (g.F.Files.faults c.args.files.now)) in
     starts_from held old out new before message taken c.looks-looks.result start.root c.in_ok-told.told traces
     (looks_by c.looks-looks.result c.phase-3.result before.server.phase taken c.looks-looks.ensures c.phase-3.ensures)
@@ -116,7 +102,7 @@ returns-in_err-all-clause-starts g c =
     let start = c.settle.new.client in
     let message = c.args.message in
     let taken = c.in_ok-message.message in
-    let told_is = c.in_ok-settled.ensures ∙ ap (λ p. told_root p message) c.phase-2.ensures in
+    let told_is = ap (λ p. told_root p c.args.message) c.phase-2.ensures in
     let traces = subst (λ (root : Option Root). Traces root c.in_ok-told.told old out) told_is (c.in_ok-told.ensures.traces (g.F.Files.gave c.args.files.now) (g.F.Files.faults c.args.files.now)) in
     starts_from held old out new before message taken c.looks-looks.result start.root c.in_ok-told.told traces
     (looks_by c.looks-looks.result c.phase-3.result before.server.phase taken c.looks-looks.ensures c.phase-3.ensures)
@@ -134,18 +120,10 @@ returns-clause-starts g c =
     let start = c.settle.new.client in
     let message = c.args.message in
     let taken = c.in_ok-message.message in
-    let told_is = c.in_ok-settled.ensures ∙ ap (λ p. told_root p message) c.phase-2.ensures in
+    let told_is = ap (λ p. told_root p c.args.message) c.phase-2.ensures in
     let traces = subst (λ (root : Option Root). Traces root c.in_ok-told.told old out) told_is (c.in_ok-told.ensures.traces (g.F.Files.gave c.args.files.now) (g.F.Files.faults c.args.files.now)) in
     starts_from held old out new before message taken c.looks-looks.result start.root c.in_ok-told.told traces
     (looks_by c.looks-looks.result c.phase-3.result before.server.phase taken c.looks-looks.ensures c.phase-3.ensures)
     c.in_ok-message.ensures
     c.settle.ensures.root
     c.look_where.ensures.starts
-
-pub returns-in_err-told-clause-starts : goal.returns-in_err-told-clause-starts
-returns-in_err-told-clause-starts g c =
-    let held = g.F.Files.held c.args.files.now in
-    let old = outside (g.D.Folder.told c.args.folder.now) (g.D.Folder.faults c.args.folder.now) (g.F.Files.gave c.args.files.now) (g.F.Files.faults c.args.files.now) in
-    let out = outside (g.D.Folder.told c.traced.new.folder) (g.D.Folder.faults c.traced.new.folder) (g.F.Files.gave c.args.files.now) (g.F.Files.faults c.args.files.now) in
-    let same : out ≡ old = λ i. outside (c.in_err-told.ensures.spared i) (c.traced.ensures.kept i) (g.F.Files.gave c.args.files.now) (g.F.Files.faults c.args.files.now) in
-    starts_still held old out c.args.client.now c.args.message same
