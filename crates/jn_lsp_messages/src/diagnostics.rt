@@ -71,13 +71,7 @@ fn unchecked_value(
 {
     let range = range_value(alloc, range)?;
     let related = all_related(alloc, related)?;
-    Ok(json!(in alloc; {
-        "message": words,
-        "range": range,
-        "relatedInformation": related,
-        "severity": 3u32,
-        "source": "nullcheck"
-    })?)
+    Ok(information(alloc, words, range, related)?)
 }
 
 #[tactic(auto, unfolding(crate::specs::Outgoing::row_data))]
@@ -117,6 +111,29 @@ fn linked_value(
         range,
         related,
     )?)
+}
+
+/// The object of information, from the values of its members.
+fn information(
+    alloc: Global,
+    words: &str,
+    range: Value,
+    related: Value,
+) -> Result<Value, AllocError>
+    ensures { IfOk result (λ v. view v
+        ≡ object (member (codes "message") (string words.now)
+        (member (codes "range") (view range)
+        (member (codes "relatedInformation") (view related)
+        (member (codes "severity") (number (unsigned 3))
+        (member (codes "source") (string (codes "nullcheck")) no_members)))))) }
+{
+    json!(in alloc; {
+        "message": words,
+        "range": range,
+        "relatedInformation": related,
+        "severity": 3u32,
+        "source": "nullcheck"
+    })
 }
 
 /// The object of an error without a link, from the values of its members.
