@@ -43,7 +43,7 @@ all_spelled s at (info ∷ slots) none =
     λ j. record { start = info.start; inferred = kept info.inferred (is_unspelled (slice_index_or s at no_qual)) first j } ∷ rest j
 
 same_slots : (P : Program) (s : List Qualifier) → HasNone (has_no_spelling P s) → spelled s P.slots ≡ P.slots
-same_slots P s none = all_spelled s 0 P.slots none
+same_slots P s none = all_spelled s 0 P.slots (λ i. subst (λ n. (is_inferred (slice_get P.slots i) && is_unspelled (slice_index_or s n no_qual)) ≡ false) (omega arith) (none i))
 
 -- ---- texts
 
@@ -71,13 +71,13 @@ module _ (slots : List SlotInfo) (s : List Qualifier) (name : List ℕ) (range :
 
 -- ---- shared types
 
+lesser : (ns : List ℕ) (n y : ℕ) (left : List ℕ) → Least ns n (y ∷ left) → ((m : ℕ) → Least ns m left → (k : ℕ) × IsLeast (Some k) ns) → (b : Bool) → nat_le n y ≡ b → (k : ℕ) × IsLeast (Some k) ns
+lesser ns n y left h next true e = next n (least_next ns n y n left (inl (refl, omega (arith, e))) h)
+lesser ns n y left h next false e = next y (least_next ns n y y left (inr (refl, omega (arith, e))) h)
+
 some_least : (ns : List ℕ) (n : ℕ) (left : List ℕ) → Least ns n left → (m : ℕ) × IsLeast (Some m) ns
 some_least ns n [] h = (n, least_all ns n h)
-some_least ns n (y ∷ left) h = lesser (nat_le n y) refl
-  where
-    lesser : (b : Bool) → nat_le n y ≡ b → (m : ℕ) × IsLeast (Some m) ns
-    lesser true e = some_least ns n left (least_next ns n y n left (inl (refl, omega (arith, e))) h)
-    lesser false e = some_least ns y left (least_next ns n y y left (inr (refl, omega (arith, e))) h)
+some_least ns n (y ∷ left) h = lesser ns n y left h (λ m. some_least ns m left) (nat_le n y) refl
 
 module _ (P : Program) (s : List Qualifier) (trees : List SourceTree) (none : HasNone (has_shared_type P s trees)) where
   none_least : (ns : List ℕ) → ns ≡ shared_slots P s trees P.fields → ns ≡ []

@@ -16,7 +16,8 @@ pub struct Place {
 /// The text's begin.
 #[tactic(auto, using(crate::proofs::Counting::place_start))]
 pub fn start_of(text: &[u8]) -> Place
-    ensures { IsPlaceIn text.now result }
+    ensures place { IsPlaceIn text.now result }
+    ensures at { result.at ≡ 0 }
 {
     let _text = text;
     Place {
