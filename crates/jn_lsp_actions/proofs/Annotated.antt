@@ -1,7 +1,7 @@
 -- What is shown is what annotated texts have more.
-use Rattle.std.proofs.Common.{◌≡◌, ℕ, zero, suc, ◌+◌, Bool, true, false, not, ◌&&◌, Some, inl, inr, List, [], ◌∷◌, ◌++◌, drop, map, refl, sym, ap, ◌∙◌, subst, arith, cond}
-use Rattle.std.specs.Prelude.{bytes_eq, nat_le, slice_get, slice_index_or}
-use Rattle.std.proofs.lemmas.Bool.{false≢true}
+use Rattle.std.proofs.Common.{◌≡◌, ℕ, zero, suc, ◌+◌, Bool, true, false, not, ◌&&◌, Some, inl, inr, List, [], ◌∷◌, ◌++◌, drop, map, refl, sym, ap, ◌∙◌, subst, arith, cond, leb}
+use Rattle.std.specs.Prelude.{bytes_eq, slice_get, slice_index_or}
+use Rattle.std.proofs.lemmas.Bool.{false≢true, leb-false, leb-true}
 use Rattle.jn_annotate.specs.Annotated.{Annotated, HasNone, annotated_from, has_no_spelling, has_shared_type}
 use Rattle.jn_annotate.specs.Imports.{with_lines}
 use Rattle.jn_annotate.specs.Insertions.{file_fields, file_methods, in_file}
@@ -71,13 +71,13 @@ module _ (slots : List SlotInfo) (s : List Qualifier) (name : List ℕ) (range :
 
 -- ---- shared types
 
-lesser : (ns : List ℕ) (n y : ℕ) (left : List ℕ) → Least ns n (y ∷ left) → ((m : ℕ) → Least ns m left → (k : ℕ) × IsLeast (Some k) ns) → (b : Bool) → nat_le n y ≡ b → (k : ℕ) × IsLeast (Some k) ns
-lesser ns n y left h next true e = next n (least_next ns n y n left (inl (refl, omega (arith, e))) h)
-lesser ns n y left h next false e = next y (least_next ns n y y left (inr (refl, omega (arith, e))) h)
+lesser : (ns : List ℕ) (n y : ℕ) (left : List ℕ) → Least ns n (y ∷ left) → ((m : ℕ) → Least ns m left → (k : ℕ) × IsLeast (Some k) ns) → (b : Bool) → leb n y ≡ b → (k : ℕ) × IsLeast (Some k) ns
+lesser ns n y left h next true e = next n (least_next ns n y n left (inl (refl, leb-true n y e)) h)
+lesser ns n y left h next false e = next y (least_next ns n y y left (inr (refl, omega (arith, leb-false n y e))) h)
 
 some_least : (ns : List ℕ) (n : ℕ) (left : List ℕ) → Least ns n left → (m : ℕ) × IsLeast (Some m) ns
 some_least ns n [] h = (n, least_all ns n h)
-some_least ns n (y ∷ left) h = lesser ns n y left h (λ m. some_least ns m left) (nat_le n y) refl
+some_least ns n (y ∷ left) h = lesser ns n y left h (λ m. some_least ns m left) (leb n y) refl
 
 module _ (P : Program) (s : List Qualifier) (trees : List SourceTree) (none : HasNone (has_shared_type P s trees)) where
   none_least : (ns : List ℕ) → ns ≡ shared_slots P s trees P.fields → ns ≡ []
