@@ -1,5 +1,5 @@
 -- What is shown is what annotated texts have more.
-use Rattle.std.proofs.Common.{◌≡◌, ℕ, zero, suc, ◌+◌, Bool, true, false, not, ◌&&◌, Some, inl, inr, List, [], ◌∷◌, ◌++◌, drop, map, refl, sym, ap, ◌∙◌, subst, arith, cond, leb}
+use Rattle.std.proofs.Common.{◌≡◌, ℕ, suc, ◌+◌, Bool, true, false, not, ◌&&◌, Some, inl, inr, List, [], ◌∷◌, drop, map, refl, sym, ap, ◌∙◌, subst, arith, cond, leb}
 use Rattle.std.specs.Prelude.{bytes_eq, slice_get, slice_index_or}
 use Rattle.std.proofs.lemmas.Bool.{false≢true, leb-false, leb-true}
 use Rattle.jn_annotate.specs.Annotated.{Annotated, HasNone, annotated_from, has_no_spelling, has_shared_type}
@@ -24,7 +24,7 @@ use Rattle.jn_transfer.specs.Contributions.{is_inferred}
 use Rattle.jn_trees.specs.declared.token.Token.{Token}
 use Rattle.jn_trees.specs.Trees.{SourceTree}
 use Rattle.jn_lsp_actions.specs.Annotating.{AreAdded, AreAddedIn, Either, text_of}
-use Rattle.jn_lsp_actions.specs.Hinted.{AreInferred, hints_of, shown, shown_in, unless_shared}
+use Rattle.jn_lsp_actions.specs.Hinted.{AreInferred, shown, shown_in, unless_shared}
 use Rattle.jn_lsp_actions.specs.Spelled.{spelled, spelled_from}
 
 -- ---- slots

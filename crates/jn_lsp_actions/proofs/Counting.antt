@@ -1,11 +1,9 @@
 -- What stands before a byte of a text, and its position.
-use Rattle.std.proofs.Common.{◌≡◌, ℕ, ◌≤◌, ◌*◌, List, length, take, refl, sym, ap, ◌∙◌, arith}
+use Rattle.std.proofs.Common.{◌≡◌, ℕ, List, length, take, sym, ap, ◌∙◌, arith}
 use Rattle.std.specs.Prelude.{min}
 use Rattle.std.proofs.lemmas.List.{take_min}
-use Rattle.jn_lsp_text.specs.Counting.{counted}
 use Rattle.jn_lsp_text.specs.Positions.{position_at, position_behind}
 use Rattle.jn_lsp_text.specs.declared.counting.Counted.{Counted}
-use Rattle.jn_lsp_text.specs.declared.position.Position.{Position}
 use Rattle.jn_lsp_text.proofs.Steps.{counted_start}
 use Rattle.jn_lsp_actions.specs.declared.sweep.Place.{Place}
 use Rattle.jn_lsp_actions.specs.Sweep.{IsPlaceIn}

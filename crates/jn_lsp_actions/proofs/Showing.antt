@@ -1,11 +1,11 @@
 -- What is shown of words, one after the other, and of files.
-use Rattle.std.proofs.Common.{◌≡◌, ℕ, ◌+◌, ◌<◌, true, List, [], ◌∷◌, ◌++◌, length, take, get_or, map, Some, None, inl, inr, refl, sym, ap, ◌∙◌, subst}
+use Rattle.std.proofs.Common.{◌≡◌, ℕ, ◌+◌, ◌<◌, List, [], ◌∷◌, ◌++◌, length, take, get_or, map, Some, None, inl, inr, sym, ap, ◌∙◌}
 use Rattle.std.specs.Prelude.{filter}
 use Rattle.std.proofs.lemmas.Bool.{false≢true}
 use Rattle.std.proofs.lemmas.List.{take_more, map-append}
 use Rattle.std.proofs.lemmas.List.Elements.{filter-append}
 use Rattle.jn_annotate.specs.Puts.{insertion, insertions}
-use Rattle.jn_annotate.specs.Shared.{IsLeast, is_among}
+use Rattle.jn_annotate.specs.Shared.{IsLeast}
 use Rattle.jn_annotate.specs.declared.insert.Put.{Put}
 use Rattle.jn_base.specs.declared.infer.Infer.{Infer}
 use Rattle.jn_base.specs.declared.place.Row.{Row}
@@ -22,7 +22,6 @@ use Rattle.jn_points.specs.declared.program.Program.{Program}
 use Rattle.jn_quals.specs.Qualifier.{Qualifier}
 use Rattle.jn_trees.specs.declared.declaration.FileTree.{FileTree}
 use Rattle.jn_trees.specs.declared.token.Token.{Token}
-use Rattle.jn_trees.specs.Trees.{SourceTree}
 use Rattle.jn_trees.specs.View.{file_view}
 use Rattle.jn_lsp_actions.specs.Hinted.{AreHints, hint_at, hint_of, hints_of, is_shown, shown, unless_shared}
 use Rattle.jn_lsp_actions.proofs.Offering.{views}
