@@ -31,7 +31,7 @@ published_silent opened versions before (one ∷ told) replies (inl (same, are))
 published_silent opened versions before (one ∷ told) replies (inr (differs, (rest, e, are))) = ap ids_answered e ∙ published_silent opened versions before told rest are
 
 news_silent : (opened : Option (List ℕ)) (moved : Option Workspace) (before after : ServerOf) (news : List Reply) → IsRetold opened moved before news after → ids_answered news ≡ []
-news_silent opened None before after news (nothing, same, told) = ap ids_answered nothing
+news_silent opened None before after news (nothing, same, told, last) = ap ids_answered nothing
 news_silent opened (Some workspace) before after news (is, told, announces) = published_silent opened workspace.versions before.told (gone before.told after.told ++ after.told) news announces
 
 both_answered : (one other : List Reply) → ids_answered (one ++ other) ≡ ids_answered one ++ ids_answered other
@@ -139,7 +139,7 @@ warned server message answer =
     ∙ ap (λ ids. ids_answered (option_to_list answer) ++ ids) (doubts_unasked server.phase message documents unknown)
     ∙ append-nil (ids_answered (option_to_list answer))
 
-answers_one : (server : ServerOf) (event : Event) (direct : List Reply) → AreAnswers server event direct → IsLive server.phase → ids_answered direct ≡ option_to_list (id_in event)
+answers_one : (server : ServerOf) (event : Event) (direct : List Reply) → AreAnswers server.phase server.told server.workspace event direct → IsLive server.phase → ids_answered direct ≡ option_to_list (id_in event)
 answers_one server (MessageEvent message) direct (actions, offered, hints, shown, e) live = ap ids_answered e ∙ warned server message (answer_of actions hints server.phase message) ∙ answer_one actions hints server.phase message live
 answers_one server (Folder files) direct e live = ap ids_answered e
 
@@ -149,7 +149,7 @@ answer_none actions hints Serving _ gone = absurd gone
 answer_none actions hints ShutDown _ gone = absurd gone
 answer_none actions hints (Exited in_order) _ gone = refl
 
-answers_none : (server : ServerOf) (event : Event) (direct : List Reply) → AreAnswers server event direct → IsGone server.phase → ids_answered direct ≡ []
+answers_none : (server : ServerOf) (event : Event) (direct : List Reply) → AreAnswers server.phase server.told server.workspace event direct → IsGone server.phase → ids_answered direct ≡ []
 answers_none server (MessageEvent message) direct (actions, offered, hints, shown, e) gone = ap ids_answered e ∙ warned server message (answer_of actions hints server.phase message) ∙ answer_none actions hints server.phase message gone
 answers_none server (Folder files) direct e gone = ap ids_answered e
 

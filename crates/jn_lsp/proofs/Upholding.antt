@@ -1,5 +1,5 @@
 -- A server keeps what is told true to the files, event by event.
-use Rattle.std.proofs.Common.{◌≡◌, ℕ, Bool, true, false, List, [], ◌∷◌, Option, Some, None, append-nil, refl, sym, ap, ◌∙◌, subst}
+use Rattle.std.proofs.Common.{◌≡◌, ℕ, Bool, true, false, List, [], ◌∷◌, ◌++◌, Option, Some, None, append-nil, refl, sym, ap, ◌∙◌, subst}
 use Rattle.std.specs.Prelude.{option_to_list}
 use Rattle.jn_base.specs.declared.infer.Infer.{Infer}
 use Rattle.jn_command.specs.declared.report.Report.{Report}
@@ -20,7 +20,7 @@ use Rattle.jn_lsp.specs.declared.event.Event.{Event}
 use Rattle.jn_lsp.specs.declared.event.Event.TheVariants.{Folder, Message as MessageEvent}
 use Rattle.jn_lsp.specs.declared.phase.Phase.{Phase}
 use Rattle.jn_lsp.specs.declared.phase.Phase.TheVariants.{Waiting, Serving, ShutDown, Exited}
-use Rattle.jn_lsp.specs.Publications.{last_published}
+use Rattle.jn_lsp.specs.Publications.{Announces, last_published}
 use Rattle.jn_lsp.specs.Serving.{AreAnswers, ArePublishedLast, AreToldOf, IsInformed, IsMovedIn, IsRetold, IsToldAnew, IsUpToDate, Serves, ServerOf, Takes, answer_of, files_of, late_answer, opened_by, new_server, next_phase, refusal, serving_answer, waiting_answer}
 use Rattle.jn_lsp.specs.declared.unchecked.LastReport.{LastReport}
 use Rattle.jn_lsp.specs.Reported.{AreFindings, AreTold, IsTold, comes_to_rules, next_last, reported_at}
@@ -110,7 +110,7 @@ module _ (name : List ℕ) (last : List Diagnostic) where
   answer_silent actions hints ShutDown message = late_silent message
   answer_silent actions hints (Exited in_order) _ = refl
 
-  answers_silent : (server : ServerOf) (event : Event) (direct : List Reply) → AreAnswers server event direct → last_published name last direct ≡ last
+  answers_silent : (server : ServerOf) (event : Event) (direct : List Reply) → AreAnswers server.phase server.told server.workspace event direct → last_published name last direct ≡ last
   answers_silent server (MessageEvent message) direct (actions, offered, hints, shown, e) =
       let answer = option_to_list (answer_of actions hints server.phase message) in
       let warnings = doubts_in server.phase message server.workspace.documents server.workspace.unknown in
@@ -161,7 +161,7 @@ event_last name before after event replies takes =
     ∙ news_last (opened_by event) name takes.moved before after takes.news takes.retold
 
 -- files stay as they are
-pub takes_alone : (phase next : Phase) (workspace : Workspace) (told : List Told) (last : LastReport) (event : Event) (direct replies : List Reply) (moved : Option Workspace) → next ≡ next_phase phase event → AreAnswers (record { phase = phase; workspace = workspace; told = told; last = last }) event direct → IsMovedIn phase event workspace moved → moved ≡ None → replies ≡ direct → Takes (record { phase = phase; workspace = workspace; told = told; last = last }) event replies (record { phase = next; workspace = workspace; told = told; last = last })
+pub takes_alone : (phase next : Phase) (workspace : Workspace) (told : List Told) (last : LastReport) (event : Event) (direct replies : List Reply) (moved : Option Workspace) → next ≡ next_phase phase event → AreAnswers phase told workspace event direct → IsMovedIn phase event workspace moved → moved ≡ None → replies ≡ direct → Takes (record { phase = phase; workspace = workspace; told = told; last = last }) event replies (record { phase = next; workspace = workspace; told = told; last = last })
 takes_alone phase next workspace told last event direct replies moved behind answers moves none e = record {
   phase = behind;
   direct = direct;
@@ -172,6 +172,23 @@ takes_alone phase next workspace told last event direct replies moved behind ans
   retold = (refl, refl, refl, refl);
   all = e ∙ sym (append-nil direct);
 }
+
+-- files change
+pub takes_anew : (before : ServerOf) (next : Phase) (event : Event) (direct publications replies : List Reply) (opened : Option (List ℕ)) (moved : Option Workspace) (workspace : Workspace) (files : List SourceFile) (came : Bool) (all told : List Told) (last : LastReport) → next ≡ next_phase before.phase event → AreAnswers before.phase before.told before.workspace event direct → IsMovedIn before.phase event before.workspace moved → moved ≡ Some workspace → opened ≡ opened_by event → AreToldOf workspace before.last came all told → files ≡ files_of workspace → Announces opened workspace.versions before.told told publications → replies ≡ direct ++ publications → last ≡ next_last came files all before.last → Takes before event replies (record { phase = next; workspace = workspace; told = told; last = last })
+takes_anew before next event direct publications replies opened moved workspace files came all told last behind answers moves some opens are stood announced e keeps = record {
+  phase = behind;
+  direct = direct;
+  answers = answers;
+  moved = Some workspace;
+  moves = subst (IsMovedIn before.phase event before.workspace) some moves;
+  news = publications;
+  retold = (refl, record { came = came; all = all; are = are; keeps = keeps ∙ ap (λ fs. next_last came fs all before.last) stood }, subst (λ o. Announces o workspace.versions before.told told publications) opens announced);
+  all = e;
+}
+
+pub informed_anew : (workspace : Workspace) (before after : LastReport) (came : Bool) (files : List SourceFile) (all told : List Told) → AreToldOf workspace before came all told → files ≡ files_of workspace → after ≡ next_last came files all before → (come : Bool) × (every : List Told) × AreToldOf workspace after come every told
+informed_anew workspace before after came files all told are stood keeps =
+    (came, all, told_anew workspace before after told (record { came = came; all = all; are = are; keeps = keeps ∙ ap (λ fs. next_last came fs all before) stood }))
 
 -- ---- all events
 

@@ -207,12 +207,12 @@ AreActionsIn Serving told workspace message actions = AreActionsFor told workspa
 AreActionsIn _ _ _ _ actions = actions ≡ []
 
 -- the answers to an event: to a message one at most, and a warning of a choice that says nothing, or for each document whose text it leaves open
-abbrev pub AreAnswers : ServerOf → Event → List Reply → Type 0
-AreAnswers server (MessageEvent message) replies =
-    (actions : List Action) × AreActionsIn server.phase server.told server.workspace message actions
-    × (hints : List Hint) × AreHintsIn server.phase server.workspace.infer server.workspace.unknown (files_of server.workspace) message hints
-    × (replies ≡ option_to_list (answer_of actions hints server.phase message) ++ doubts_in server.phase message server.workspace.documents server.workspace.unknown)
-AreAnswers server (Folder files) replies = replies ≡ []
+abbrev pub AreAnswers : Phase → List Told → Workspace → Event → List Reply → Type 0
+AreAnswers phase told workspace (MessageEvent message) replies =
+    (actions : List Action) × AreActionsIn phase told workspace message actions
+    × (hints : List Hint) × AreHintsIn phase workspace.infer workspace.unknown (files_of workspace) message hints
+    × (replies ≡ option_to_list (answer_of actions hints phase message) ++ doubts_in phase message workspace.documents workspace.unknown)
+AreAnswers phase told workspace (Folder files) replies = replies ≡ []
 
 -- ---- what a server does
 
@@ -242,7 +242,7 @@ IsRetold opened (Some workspace) before news after = (after.workspace ≡ worksp
 pub record Takes (before : ServerOf) (event : Event) (replies : List Reply) (after : ServerOf) : Type 0 where
   pub phase : after.phase ≡ next_phase before.phase event
   pub direct : List Reply
-  pub answers : AreAnswers before event direct
+  pub answers : AreAnswers before.phase before.told before.workspace event direct
   pub moved : Option Workspace
   pub moves : IsMovedIn before.phase event before.workspace moved
   pub news : List Reply

@@ -143,8 +143,7 @@ pub(crate) fn answers<R: Threads + Sync, G: Gate + Sync>(
     workspace: &Workspace,
     event: &Event,
 ) -> Result<Seq<Reply>, OutOfMemory>
-    ensures { IfOk result (λ replies. spec.AreAnswers
-        (record { phase = phase; workspace = workspace.now; told = told.now }) event.now replies) }
+    ensures { IfOk result (λ replies. spec.AreAnswers phase told.now workspace.now event.now replies) }
 {
     match event {
         Event::Message(message) => {

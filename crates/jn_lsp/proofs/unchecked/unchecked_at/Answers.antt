@@ -2,5 +2,5 @@ use Rattle.std.proofs.Common.{refl}
 use Rattle.jn_lsp.proofs.Names.{small_at}
 use Rattle.jn_lsp.proofs.unchecked.unchecked_at.Goals as goal
 
-pub kept-requires-small : goal.kept-requires-small
-kept-requires-small c = small_at c.args.files.now c.args.at c.index-files-at.result c.index-files-at.result.bytes c.requires.fit c.requires.there c.index-files-at.is refl
+pub kept-requires-clause-small : goal.kept-requires-clause-small
+kept-requires-clause-small c = small_at c.args.files.now c.args.at c.index-files-at.result c.index-files-at.result.bytes c.requires.fit c.requires.there c.index-files-at.is refl
