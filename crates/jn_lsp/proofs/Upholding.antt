@@ -129,7 +129,7 @@ told_after infer before true [] told is = is
 told_after infer before true (file ∷ files) told is = by_report is.report is.notes is.found is.comes is.are
   where
     by_report : (report : Report) (notes : List Notes) → AreFindings infer (file ∷ files) report notes → true ≡ comes_to_rules report → told ≡ told_from (reported_at before (file ∷ files) report notes) 0 (file ∷ files) → AreTold infer (next_last true (file ∷ files) told before) true (file ∷ files) told
-    by_report (Refused rows) notes found comes are = absurd (true_false true refl (sym comes))
+    by_report (Refused rows) notes found comes are = true_false true refl comes
     by_report (Checked rows) notes found comes are = record { report = Checked rows; notes = notes; found = found; comes = refl; are = are }
 
 told_anew : (workspace : Workspace) (before after : LastReport) (told : List Told) (anew : IsToldAnew workspace before after told) → AreToldOf workspace after anew.came anew.all told
