@@ -59,13 +59,7 @@ fn led(gap: Gap, byte: u8) -> Gap
                 Gap::Line
             }
         }
-        Gap::Block => {
-            if byte == b'*' {
-                Gap::Star
-            } else {
-                Gap::Block
-            }
-        }
+        Gap::Block => { if byte == b'*' { Gap::Star } else { Gap::Block } }
         Gap::Star => {
             if byte == b'/' {
                 Gap::Blank
