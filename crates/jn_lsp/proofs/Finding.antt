@@ -16,7 +16,7 @@ use Rattle.jn_recheck_law.specs.Reusable.{Solved}
 use Rattle.jn_report.specs.Report.{IsReport}
 use Rattle.jn_lsp.specs.declared.diagnostics.Told.{Told}
 use Rattle.jn_lsp.specs.declared.unchecked.LastReport.{LastReport}
-use Rattle.jn_lsp.specs.Reported.{AreFindings, AreNoted, AreReportNotes, AreTold, IsKeptOf, IsReported, IsTold, comes_to_rules, reported_at, unchecked_at}
+use Rattle.jn_lsp.specs.Reported.{AreFindings, AreNoted, AreReportNotes, AreTold, IsKeptOf, IsReported, IsTold, unchecked_at}
 use Rattle.jn_lsp.specs.Telling.{diagnostics_at, told_from}
 
 -- ---- after a report

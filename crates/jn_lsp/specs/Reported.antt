@@ -1,5 +1,5 @@
 -- What reports tell of files (Language Server Protocol 3.17, "Publish Diagnostics"): where one ends before the rules, also what the last one told that came to them.
-use Rattle.std.specs.Prelude.{ℕ, ◌≡◌, ◌++◌, Bool, true, false, List, [], ◌∷◌, Option, Some, None, codes, decimal, if◌then◌else◌, slice_index_or}
+use Rattle.std.specs.Prelude.{ℕ, ◌≡◌, ◌++◌, Bool, true, false, List, [], ◌∷◌, Option, Some, codes, decimal, if◌then◌else◌, slice_index_or}
 use Rattle.jn_base.specs.Codes.{code_name}
 use Rattle.jn_base.specs.Messages.{code_message}
 use Rattle.jn_base.specs.Place.{place_in}
