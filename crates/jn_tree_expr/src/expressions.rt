@@ -13,6 +13,7 @@ ghost use Rattle.jn_meaning.specs.Worlds.{Has, got, then_do};
 ghost use Rattle.jn_places.specs.Placed.{PlacedNewArray, PlacedOwnCall, PlacedPostfix, PlacedPrefix, PlacedSuperCall};
 ghost use Rattle.jn_places.specs.PlacedView.{placed_view, placed_views};
 ghost use Rattle.jn_points.specs.Members.{constructor_of};
+ghost use Rattle.jn_index.specs.Sizes.{Few};
 ghost use Rattle.jn_tree_world.specs.Outcomes.{Means, MeansAs};
 ghost use Rattle.jn_tree_world.specs.Worlds.{items_of, place_of, world_of};
 ghost use Rattle.jn_tree_expr.specs.Forms.{assigns_by, assigns_simply, calculates, chooses, is_dotted};
@@ -47,6 +48,7 @@ pub fn value<F: Fn(usize, Vec<Value>, &mut World) -> Result<Option<Value>, Halt>
     call: &F,
     w: &mut World,
 ) -> Result<Option<Value>, Halt>
+    requires few { Few c.now.program.now }
     requires callable { F.IsAlwaysCallable call.now }
     ensures { (m : Caller) → Calls F.post call.now m
         → Means ((meant_in c.now names.now m (placed_view tree.now)).value (world_of w.old)) result (world_of w.new) }
@@ -135,6 +137,7 @@ pub fn evaluated<F: Fn(usize, Vec<Value>, &mut World) -> Result<Option<Value>, H
     call: &F,
     w: &mut World,
 ) -> Result<Vec<Option<Value>>, Halt>
+    requires few { Few c.now.program.now }
     requires callable { F.IsAlwaysCallable call.now }
     ensures { (m : Caller) → Calls F.post call.now m
         → MeansAs items_of (all_in c.now names.now m (placed_views trees.now) (world_of w.old)) result
@@ -160,6 +163,7 @@ fn read<F: Fn(usize, Vec<Value>, &mut World) -> Result<Option<Value>, Halt>>(
     call: &F,
     w: &mut World,
 ) -> Result<Option<Value>, Halt>
+    requires few { Few c.now.program.now }
     requires callable { F.IsAlwaysCallable call.now }
     ensures { (m : Caller) → Calls F.post call.now m
         → Means (read_at c.now names.now m (placed_view tree.now) (world_of w.old)) result
@@ -178,6 +182,7 @@ fn place<F: Fn(usize, Vec<Value>, &mut World) -> Result<Option<Value>, Halt>>(
     call: &F,
     w: &mut World,
 ) -> Result<Place, Halt>
+    requires few { Few c.now.program.now }
     requires callable { F.IsAlwaysCallable call.now }
     ensures { (m : Caller) → Calls F.post call.now m
         → MeansAs place_of ((meant_in c.now names.now m (placed_view tree.now)).place (world_of w.old)) result (world_of w.new) }
@@ -212,6 +217,7 @@ fn dotted_call<F: Fn(usize, Vec<Value>, &mut World) -> Result<Option<Value>, Hal
     call: &F,
     w: &mut World,
 ) -> Result<Option<Value>, Halt>
+    requires few { Few c.now.program.now }
     requires callable { F.IsAlwaysCallable call.now }
     requires dotted { is_dotted (placed_view tree.now) ≡ true }
     ensures { (m : Caller) → Calls F.post call.now m
@@ -262,6 +268,7 @@ fn call_own<F: Fn(usize, Vec<Value>, &mut World) -> Result<Option<Value>, Halt>>
     call: &F,
     w: &mut World,
 ) -> Result<Option<Value>, Halt>
+    requires few { Few c.now.program.now }
     requires callable { F.IsAlwaysCallable call.now }
     ensures { (m : Caller) → Calls F.post call.now m
         → Means ((meant_in c.now names.now m (PlacedOwnCall name (placed_views arguments.now) span)).value (world_of w.old)) result (world_of w.new) }
@@ -282,6 +289,7 @@ fn call_super<F: Fn(usize, Vec<Value>, &mut World) -> Result<Option<Value>, Halt
     call: &F,
     w: &mut World,
 ) -> Result<Option<Value>, Halt>
+    requires few { Few c.now.program.now }
     requires callable { F.IsAlwaysCallable call.now }
     ensures { (m : Caller) → Calls F.post call.now m
         → Means ((meant_in c.now names.now m (PlacedSuperCall name (placed_views arguments.now) span)).value (world_of w.old)) result (world_of w.new) }
@@ -301,6 +309,7 @@ fn make<F: Fn(usize, Vec<Value>, &mut World) -> Result<Option<Value>, Halt>>(
     call: &F,
     w: &mut World,
 ) -> Result<Option<Value>, Halt>
+    requires few { Few c.now.program.now }
     requires callable { F.IsAlwaysCallable call.now }
     ensures { (m : Caller) → Calls F.post call.now m
         → Means (then_do (all_in c.now names.now m (placed_views arguments.now) (world_of w.old)) (spec.created c.now.program.now names.now usual_limits.longest m (constructor_of c.now.program.now (or_zero (class_named c.now.program.now class.0)) (count (placed_views arguments.now))))) result (world_of w.new) }
@@ -327,6 +336,7 @@ fn make_array_of<F: Fn(usize, Vec<Value>, &mut World) -> Result<Option<Value>, H
     call: &F,
     w: &mut World,
 ) -> Result<Option<Value>, Halt>
+    requires few { Few c.now.program.now }
     requires callable { F.IsAlwaysCallable call.now }
     ensures { (m : Caller) → Calls F.post call.now m
         → Means ((meant_in c.now names.now m (PlacedNewArray element.now.annotations.items element.now.base (placed_view length.now) span)).value (world_of w.old)) result (world_of w.new) }
@@ -346,6 +356,7 @@ fn list<F: Fn(usize, Vec<Value>, &mut World) -> Result<Option<Value>, Halt>>(
     call: &F,
     w: &mut World,
 ) -> Result<Option<Value>, Halt>
+    requires few { Few c.now.program.now }
     requires callable { F.IsAlwaysCallable call.now }
     ensures { (m : Caller) → Calls F.post call.now m
         → Means (then_do (all_in c.now names.now m (placed_views elements.now) (world_of w.old)) (λ xs w. array_listed w (array_type c.now.program.now element.now.base element.now.annotations.items) (all_there xs))) result (world_of w.new) }
@@ -366,6 +377,7 @@ fn step_behind<F: Fn(usize, Vec<Value>, &mut World) -> Result<Option<Value>, Hal
     call: &F,
     w: &mut World,
 ) -> Result<Option<Value>, Halt>
+    requires few { Few c.now.program.now }
     requires callable { F.IsAlwaysCallable call.now }
     ensures { (m : Caller) → Calls F.post call.now m
         → Means ((meant_in c.now names.now m (PlacedPostfix (placed_view target.now) step span)).value (world_of w.old)) result (world_of w.new) }
@@ -385,6 +397,7 @@ fn step_before<F: Fn(usize, Vec<Value>, &mut World) -> Result<Option<Value>, Hal
     call: &F,
     w: &mut World,
 ) -> Result<Option<Value>, Halt>
+    requires few { Few c.now.program.now }
     requires callable { F.IsAlwaysCallable call.now }
     ensures { (m : Caller) → Calls F.post call.now m
         → Means ((meant_in c.now names.now m (PlacedPrefix step (placed_view target.now) span)).value (world_of w.old)) result (world_of w.new) }
@@ -404,6 +417,7 @@ fn sign<F: Fn(usize, Vec<Value>, &mut World) -> Result<Option<Value>, Halt>>(
     call: &F,
     w: &mut World,
 ) -> Result<Option<Value>, Halt>
+    requires few { Few c.now.program.now }
     requires callable { F.IsAlwaysCallable call.now }
     ensures { (m : Caller) → Calls F.post call.now m
         → Means (then_do ((meant_in c.now names.now m (placed_view operand.now)).value (world_of w.old)) (λ x w. got span (unary_of negate (prim_of x)) w)) result (world_of w.new) }
@@ -423,6 +437,7 @@ fn cast_to<F: Fn(usize, Vec<Value>, &mut World) -> Result<Option<Value>, Halt>>(
     call: &F,
     w: &mut World,
 ) -> Result<Option<Value>, Halt>
+    requires few { Few c.now.program.now }
     requires callable { F.IsAlwaysCallable call.now }
     ensures { (m : Caller) → Calls F.post call.now m
         → Means (then_do ((meant_in c.now names.now m (placed_view operand.now)).value (world_of w.old)) (λ x w. got span (cast_of c.now.program.now w.heap x (or_zero (class_named c.now.program.now class.0))) w)) result (world_of w.new) }
@@ -446,6 +461,7 @@ fn decided<F: Fn(usize, Vec<Value>, &mut World) -> Result<Option<Value>, Halt>>(
     call: &F,
     w: &mut World,
 ) -> Result<Option<Value>, Halt>
+    requires few { Few c.now.program.now }
     requires callable { F.IsAlwaysCallable call.now }
     requires connective { is_connective (placed_view tree.now) ≡ true }
     ensures { (m : Caller) → Calls F.post call.now m
@@ -464,6 +480,7 @@ fn operate<F: Fn(usize, Vec<Value>, &mut World) -> Result<Option<Value>, Halt>>(
     call: &F,
     w: &mut World,
 ) -> Result<Option<Value>, Halt>
+    requires few { Few c.now.program.now }
     requires callable { F.IsAlwaysCallable call.now }
     requires calculates { calculates (placed_view tree.now) ≡ true }
     ensures { (m : Caller) → Calls F.post call.now m
@@ -501,6 +518,7 @@ fn choose<F: Fn(usize, Vec<Value>, &mut World) -> Result<Option<Value>, Halt>>(
     call: &F,
     w: &mut World,
 ) -> Result<Option<Value>, Halt>
+    requires few { Few c.now.program.now }
     requires callable { F.IsAlwaysCallable call.now }
     requires chooses { chooses (placed_view tree.now) ≡ true }
     ensures { (m : Caller) → Calls F.post call.now m
@@ -534,6 +552,7 @@ fn assign<F: Fn(usize, Vec<Value>, &mut World) -> Result<Option<Value>, Halt>>(
     call: &F,
     w: &mut World,
 ) -> Result<Option<Value>, Halt>
+    requires few { Few c.now.program.now }
     requires callable { F.IsAlwaysCallable call.now }
     requires assigns { assigns_simply (placed_view tree.now) ≡ true }
     ensures { (m : Caller) → Calls F.post call.now m
@@ -563,6 +582,7 @@ fn assign_by<F: Fn(usize, Vec<Value>, &mut World) -> Result<Option<Value>, Halt>
     call: &F,
     w: &mut World,
 ) -> Result<Option<Value>, Halt>
+    requires few { Few c.now.program.now }
     requires callable { F.IsAlwaysCallable call.now }
     requires assigns { assigns_by (placed_view tree.now) ≡ true }
     ensures { (m : Caller) → Calls F.post call.now m
@@ -603,6 +623,7 @@ pub fn condition<F: Fn(usize, Vec<Value>, &mut World) -> Result<Option<Value>, H
     call: &F,
     w: &mut World,
 ) -> Result<bool, Halt>
+    requires few { Few c.now.program.now }
     requires callable { F.IsAlwaysCallable call.now }
     ensures { (m : Caller) → Calls F.post call.now m
         → Means ((meant_in c.now names.now m (placed_view tree.now)).condition (world_of w.old)) result (world_of w.new) }
@@ -627,6 +648,7 @@ fn connect<F: Fn(usize, Vec<Value>, &mut World) -> Result<Option<Value>, Halt>>(
     call: &F,
     w: &mut World,
 ) -> Result<bool, Halt>
+    requires few { Few c.now.program.now }
     requires callable { F.IsAlwaysCallable call.now }
     requires connective { is_connective (placed_view tree.now) ≡ true }
     ensures { (m : Caller) → Calls F.post call.now m

@@ -1,4 +1,5 @@
 pub mod Entering
 pub mod InTurn
+pub mod Parameters
 pub mod Sources
 pub mod Telling

@@ -1,5 +1,5 @@
 -- With what a body begins, and what a method's body means in a run.
-use Rattle.std.specs.Prelude.{ℕ, ◌≡◌, List, [], Option, length}
+use Rattle.std.specs.Prelude.{ℕ, ◌≡◌, ◌<◌, ◌^◌, List, [], Option, Some, length}
 use Rattle.jn_base.specs.declared.infer.Infer.{Infer}
 use Rattle.jn_heap.specs.Values.{Limits, Value, usual_limits}
 use Rattle.jn_lowering.specs.Bodies.{Source, at_entry}
@@ -11,6 +11,7 @@ use Rattle.jn_meaning.specs.Worlds.{Result, World}
 use Rattle.jn_places.specs.Placed.{PlacedFile, PlacedParameter}
 use Rattle.jn_points.specs.BaseTyping.{given_bases}
 use Rattle.jn_points.specs.Lookup.{body_of, method_at}
+use Rattle.jn_points.specs.declared.program.Method.{Method}
 use Rattle.jn_points.specs.declared.program.Program.{Program}
 use Rattle.jn_program_law.specs.FileProgram.{inferring, rows_of_files}
 use Rattle.jn_tree_run.specs.declared.calling.Run.{Run}
@@ -38,6 +39,10 @@ within_frames deepest = record { deepest = deepest; longest = usual_limits.longe
 -- what a main means, with these words and so many units of fuel
 abbrev pub told_in : Run → ℕ → List (List ℕ) → ℕ → spec.Told
 told_in run main words n = spec.tree run.program.now (sources_of run.sources.now) run.names.now (within_frames run.deepest) main words n
+
+-- no method has more parameters than a number of 32 bits counts
+abbrev pub ParamsFit : Program → Type 0
+ParamsFit P = (m : ℕ) (x : Method) → method_at P m ≡ Some x → length x.params < 2 ^ 32
 
 -- the program is that of the files, by a choice of members that are inferred, and they have no row T1 to T10 or J1 to J6
 pub record HasTrees (files : List PlacedFile) (P : Program) : Type 0 where

@@ -7,6 +7,7 @@ ghost use Rattle.jn_meaning.specs.Bodies as spec;
 ghost use Rattle.jn_meaning.specs.Expressions.{Caller};
 ghost use Rattle.jn_places.specs.PlacedView.{placed_members, placed_parameters, placed_statements};
 ghost use Rattle.jn_points.specs.Lookup.{ctor_of, method_at};
+ghost use Rattle.jn_index.specs.Sizes.{Few};
 ghost use Rattle.jn_tree_expr.specs.Meaning.{Calls};
 ghost use Rattle.jn_tree_world.specs.Outcomes.{MeansAs};
 ghost use Rattle.jn_tree_world.specs.Worlds.{world_of};
@@ -52,6 +53,7 @@ fn begin<F: Fn(usize, Vec<Value>, &mut World) -> Result<Option<Value>, Halt>>(
     st: &Standing,
     w: &mut World,
 ) -> Result<(), Halt>
+    requires few { Few b.now.program.now }
     requires callable { F.IsAlwaysCallable call.now }
     requires class { b.now.class.0 ≡ bodies.class b.now.program.now method.0 }
     ensures { (turns : ℕ) (m : Caller) → Calls F.post call.now m
@@ -80,6 +82,7 @@ pub fn execute<F: Fn(usize, Vec<Value>, &mut World) -> Result<Option<Value>, Hal
     call: &F,
     w: &mut World,
 ) -> Result<Flow, Halt>
+    requires few { Few b.now.program.now }
     requires callable { F.IsAlwaysCallable call.now }
     requires class { b.now.class.0 ≡ bodies.class b.now.program.now method.0 }
     ensures { (m : Caller) → Calls F.post call.now m

@@ -2,6 +2,7 @@
 ghost use Rattle.std.specs.Prelude.{◌≡◌, ◌<◌, ◌+◌, ◌^◌, None, Some, MatchOption, slice_get};
 ghost use Rattle.jn_lower_stmt.specs.Sources.{source_of as seen_source, sources_of};
 ghost use Rattle.jn_meaning.specs.Expressions.{Caller};
+ghost use Rattle.jn_index.specs.Sizes.{Few};
 ghost use Rattle.jn_tree_expr.specs.Meaning.{Calls};
 ghost use Rattle.jn_tree_world.specs.Outcomes.{Found, Means};
 ghost use Rattle.jn_tree_world.specs.Worlds.{world_of};
@@ -71,6 +72,7 @@ fn in_frame<F: Fn(usize, Vec<Value>, &mut World) -> Result<Option<Value>, Halt>>
     call: &F,
     w: &mut World,
 ) -> Result<Option<Value>, Halt>
+    requires few { Few run.now.program.now }
     requires callable { F.IsAlwaysCallable call.now }
     ensures { (m : Caller) → Calls F.post call.now m
         → Means (framed_in run.now m turns method values.items (world_of w.old)) result
@@ -105,6 +107,7 @@ pub fn enter(
     values: Vec<Value>,
     w: &mut World,
 ) -> Result<Option<Value>, Halt>
+    requires few { Few run.now.program.now }
     ensures { Means (entered_in run.now turns frames method values.items (world_of w.old)) result
         (world_of w.new) }
 {
@@ -117,7 +120,7 @@ pub fn enter(
     w.spend()?;
     let left = turns - 1;
     let call = |method: usize, values: Vec<Value>, w: &mut World| -> Result<Option<Value>, Halt>
-        requires { frames + 1 < 2 ^ 64 }
+        requires { Few run.now.program.now × (frames + 1 < 2 ^ 64) }
         ensures { Means
             (entered_in run.entry.now left (frames + 1) method values.items (world_of w.old)) result
             (world_of w.new) }

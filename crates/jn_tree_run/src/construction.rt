@@ -9,6 +9,7 @@ ghost use Rattle.jn_meaning.specs.Expressions.{Caller, meant};
 ghost use Rattle.jn_meaning.specs.Operations as ops;
 ghost use Rattle.jn_places.specs.PlacedView.{placed_declarator, placed_declarators, placed_member, placed_members, placed_statements, placed_view, placed_views};
 ghost use Rattle.jn_points.specs.declared.program.Program as program;
+ghost use Rattle.jn_index.specs.Sizes.{Few};
 ghost use Rattle.jn_scopes.specs.Views.{scope_in};
 ghost use Rattle.jn_tree_expr.specs.Meaning.{Calls, number_of};
 ghost use Rattle.jn_tree_world.specs.Outcomes.{Found, Means, MeansAs};
@@ -114,6 +115,7 @@ fn call_ctor<F: Fn(usize, Vec<Value>, &mut World) -> Result<Option<Value>, Halt>
     call: &F,
     w: &mut World,
 ) -> Result<(), Halt>
+    requires few { Few c.now.program.now }
     requires callable { F.IsAlwaysCallable call.now }
     ensures { (turns k : ℕ) (m : Caller) → c.now.class.0 ≡ source.class c.now.program.now k
         → Calls F.post call.now m
@@ -133,6 +135,7 @@ fn call_unwritten<F: Fn(usize, Vec<Value>, &mut World) -> Result<Option<Value>, 
     call: &F,
     w: &mut World,
 ) -> Result<(), Halt>
+    requires few { Few c.now.program.now }
     requires callable { F.IsAlwaysCallable call.now }
     ensures { (turns k : ℕ) (m : Caller) → c.now.class.0 ≡ source.class c.now.program.now k
         → Calls F.post call.now m
@@ -154,6 +157,7 @@ pub fn construct<F: Fn(usize, Vec<Value>, &mut World) -> Result<Option<Value>, H
     call: &F,
     w: &mut World,
 ) -> Result<(), Halt>
+    requires few { Few c.now.program.now }
     requires callable { F.IsAlwaysCallable call.now }
     ensures { (turns k : ℕ) (m : Caller) → c.now.class.0 ≡ source.class c.now.program.now k
         → Calls F.post call.now m
@@ -182,6 +186,7 @@ fn first_value<F: Fn(usize, Vec<Value>, &mut World) -> Result<Option<Value>, Hal
     call: &F,
     w: &mut World,
 ) -> Result<Option<Value>, Halt>
+    requires few { Few b.now.program.now }
     requires callable { F.IsAlwaysCallable call.now }
     ensures { (m : Caller) → Calls F.post call.now m
         → Means ((meant b.now.program.now names.now usual_limits.longest m b.now.class.0 []
@@ -202,6 +207,7 @@ fn write_first<F: Fn(usize, Vec<Value>, &mut World) -> Result<Option<Value>, Hal
     call: &F,
     w: &mut World,
 ) -> Result<(), Halt>
+    requires few { Few b.now.program.now }
     requires callable { F.IsAlwaysCallable call.now }
     ensures { (turns k : ℕ) (m : Caller) → b.now.class.0 ≡ source.class b.now.program.now k
         → Calls F.post call.now m
@@ -233,6 +239,7 @@ fn initialize<F: Fn(usize, Vec<Value>, &mut World) -> Result<Option<Value>, Halt
     call: &F,
     w: &mut World,
 ) -> Result<(), Halt>
+    requires few { Few b.now.program.now }
     requires callable { F.IsAlwaysCallable call.now }
     ensures { (turns k : ℕ) (m : Caller) → b.now.class.0 ≡ source.class b.now.program.now k
         → Calls F.post call.now m
@@ -256,6 +263,7 @@ fn initialize_all<F: Fn(usize, Vec<Value>, &mut World) -> Result<Option<Value>, 
     call: &F,
     w: &mut World,
 ) -> Result<(), Halt>
+    requires few { Few b.now.program.now }
     requires callable { F.IsAlwaysCallable call.now }
     ensures { (turns k : ℕ) (m : Caller) → b.now.class.0 ≡ source.class b.now.program.now k
         → Calls F.post call.now m
@@ -276,6 +284,7 @@ fn initialize_member<F: Fn(usize, Vec<Value>, &mut World) -> Result<Option<Value
     call: &F,
     w: &mut World,
 ) -> Result<(), Halt>
+    requires few { Few b.now.program.now }
     requires callable { F.IsAlwaysCallable call.now }
     ensures { (turns k : ℕ) (m : Caller) → b.now.class.0 ≡ source.class b.now.program.now k
         → Calls F.post call.now m
@@ -301,6 +310,7 @@ pub fn initializers<F: Fn(usize, Vec<Value>, &mut World) -> Result<Option<Value>
     call: &F,
     w: &mut World,
 ) -> Result<(), Halt>
+    requires few { Few b.now.program.now }
     requires callable { F.IsAlwaysCallable call.now }
     ensures { (turns k : ℕ) (m : Caller) → b.now.class.0 ≡ source.class b.now.program.now k
         → Calls F.post call.now m

@@ -1,15 +1,16 @@
 //! The run of a main by its trees.
-ghost use Rattle.std.specs.Prelude.{◌≡◌, ◌≢◌, ◌≤◌, ◌∷◌, [], map, true, IfOk, Option};
+ghost use Rattle.std.specs.Prelude.{◌≡◌, ◌↔◌, ◌≢◌, ◌≤◌, ◌∷◌, [], map, true, IfOk, Option};
 ghost use Rattle.jn_accept.specs.Mains.{IsMain};
 ghost use Rattle.jn_heap.specs.Values as value;
 ghost use Rattle.jn_meaning.specs.Bodies as spec;
 ghost use Rattle.jn_outside.specs.Causes.{Rose};
 ghost use Rattle.jn_places.specs.PlacedView.{placed_file};
 ghost use Rattle.jn_program_law.specs.FileSources.{sources};
+ghost use Rattle.jn_index.specs.Sizes.{Few};
 ghost use Rattle.jn_meaning.specs.Worlds as worlds;
 ghost use Rattle.jn_tree_world.specs.Outcomes.{Means};
 ghost use Rattle.jn_tree_run.specs.Ends.{Answers, EndsAs, IsTold};
-ghost use Rattle.jn_tree_run.specs.Beginning.{HasTrees, told_in, within_frames};
+ghost use Rattle.jn_tree_run.specs.Beginning.{HasTrees, ParamsFit, told_in, within_frames};
 
 use crate::calling::{Run, enter};
 use crate::ended::{TreeEnd, stopped};
@@ -18,11 +19,34 @@ use jn_index::BaseTyped;
 use jn_machine::Value;
 use jn_meaning_law::law::accepted_files_are_safe_by_trees;
 use jn_outside::{Sink, write_whole};
+use jn_points::Program;
 use jn_program::sources::sources_of_files;
 use jn_tree_world::frames::start;
 use jn_tree_world::{Halt, World};
 use jn_trees::{FileTree, Names};
 use std::alloc::{AllocError, Global};
+
+/// The most parameters that a number of 32 bits counts.
+const MOST_PARAMETERS: usize = 0xFFFF_FFFF;
+
+/// Whether no method has more parameters than a number of 32 bits counts.
+fn counts_parameters(program: &Program) -> bool
+    ensures { (result ≡ true) ↔ ParamsFit program.now }
+{
+    for method in program.methods.as_slice() {
+        if method.params.len() > MOST_PARAMETERS {
+            return false;
+        }
+    }
+    true
+}
+
+/// Whether all that names and members are looked up by has numbers of 32 bits, as in all that fits into memory.
+pub fn is_counted(base: &BaseTyped) -> bool
+    ensures { (result ≡ true) ↔ Few base.now }
+{
+    counts_parameters(base.program())
+}
 
 /// How a main ended, and the text that it printed.
 #[derive(Drop)]
@@ -61,6 +85,7 @@ fn finish(answer: Result<Option<Value>, Halt>, text: Vec<u8>) -> Result<Told, Al
 
 /// Runs a main with these words and so many units of fuel.
 fn play(run: &Run, main: MethodNo, words: &[Text], fuel: u64) -> Result<Told, AllocError>
+    requires few { Few run.now.program.now }
     requires meant { (told_in run.now main.0 words.now fuel).end ≡ spec.Stuck → ⊥ }
     ensures { IfOk result
         (λ told. IsTold (told_in run.now main.0 words.now fuel) told.end told.text.items) }
@@ -115,6 +140,9 @@ pub fn tree_run<K: Sink>(
     ensures later { K.faults out.old ≤ K.faults out.new }
 {
     accepted_files_are_safe_by_trees();
+    if !is_counted(base) {
+        return TreeEnd::OutOfMemory;
+    }
     let Ok(all) = sources_of_files(alloc, trees) else {
         return TreeEnd::OutOfMemory;
     };

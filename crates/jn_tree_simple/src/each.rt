@@ -4,6 +4,7 @@ ghost use Rattle.jn_heap.specs.Values.{Number, Plain, usual_limits};
 ghost use Rattle.jn_meaning.specs.Expressions.{Caller};
 ghost use Rattle.jn_meaning.specs.Statements as spec;
 ghost use Rattle.jn_places.specs.PlacedView.{placed_view};
+ghost use Rattle.jn_index.specs.Sizes.{Few};
 ghost use Rattle.jn_tree_expr.specs.Meaning.{Calls};
 ghost use Rattle.jn_tree_world.specs.Outcomes.{Means};
 ghost use Rattle.jn_tree_world.specs.Worlds.{world_of};
@@ -48,6 +49,7 @@ pub fn begin<F: Fn(usize, Vec<Value>, &mut World) -> Result<Option<Value>, Halt>
     st: &Standing,
     w: &mut World,
 ) -> Result<Option<Value>, Halt>
+    requires few { Few b.now.program.now }
     requires callable { F.IsAlwaysCallable call.now }
     requires first { first.0 ≡ st.now.count }
     requires index { index.0 ≡ st.now.count + 1 }

@@ -4,6 +4,7 @@ ghost use Rattle.jn_meaning.specs.Expressions.{Caller};
 ghost use Rattle.jn_meaning.specs.Statements as spec;
 ghost use Rattle.jn_places.specs.PlacedView.{placed_declarator, placed_declarators, placed_init, placed_local, placed_optional, placed_statement, placed_view, placed_views};
 ghost use Rattle.jn_lower_stmt.specs.Views.{rows_of};
+ghost use Rattle.jn_index.specs.Sizes.{Few};
 ghost use Rattle.jn_scopes.specs.Views.{bound_of};
 ghost use Rattle.jn_heap.specs.Values.{usual_limits};
 ghost use Rattle.jn_tree_expr.specs.Meaning.{Calls};
@@ -32,6 +33,7 @@ pub fn value_in<F: Fn(usize, Vec<Value>, &mut World) -> Result<Option<Value>, Ha
     st: &Standing,
     w: &mut World,
 ) -> Result<Option<Value>, Halt>
+    requires few { Few b.now.program.now }
     requires callable { F.IsAlwaysCallable call.now }
     ensures means { (turns : ℕ) (m : Caller) → Calls F.post call.now m
         → Means (value_at b.now names.now m turns (standing_of st.now) (placed_view tree.now) (world_of w.old))
@@ -49,6 +51,7 @@ pub fn holds_in<F: Fn(usize, Vec<Value>, &mut World) -> Result<Option<Value>, Ha
     st: &Standing,
     w: &mut World,
 ) -> Result<bool, Halt>
+    requires few { Few b.now.program.now }
     requires callable { F.IsAlwaysCallable call.now }
     ensures means { (turns : ℕ) (m : Caller) → Calls F.post call.now m
         → Means (holds_at b.now names.now m turns (standing_of st.now) (placed_view tree.now) (world_of w.old))
@@ -66,6 +69,7 @@ pub fn effect<F: Fn(usize, Vec<Value>, &mut World) -> Result<Option<Value>, Halt
     st: &Standing,
     w: &mut World,
 ) -> Result<(), Halt>
+    requires few { Few b.now.program.now }
     requires callable { F.IsAlwaysCallable call.now }
     ensures means { (turns : ℕ) (m : Caller) → Calls F.post call.now m
         → MeansAs onward_of (spec.effect b.now.program.now names.now usual_limits.longest m turns b.now.class.0
@@ -84,6 +88,7 @@ pub fn effects<F: Fn(usize, Vec<Value>, &mut World) -> Result<Option<Value>, Hal
     st: &Standing,
     w: &mut World,
 ) -> Result<(), Halt>
+    requires few { Few b.now.program.now }
     requires callable { F.IsAlwaysCallable call.now }
     ensures means { (turns : ℕ) (m : Caller) → Calls F.post call.now m
         → MeansAs onward_of (effects_at b.now names.now m turns (standing_of st.now) (placed_views trees.now)
@@ -104,6 +109,7 @@ pub fn returned<F: Fn(usize, Vec<Value>, &mut World) -> Result<Option<Value>, Ha
     st: &Standing,
     w: &mut World,
 ) -> Result<Flow, Halt>
+    requires few { Few b.now.program.now }
     requires callable { F.IsAlwaysCallable call.now }
     ensures means { (turns : ℕ) (m : Caller) → Calls F.post call.now m
         → MeansAs flow_of (spec.returned b.now.program.now names.now usual_limits.longest m turns
@@ -129,6 +135,7 @@ pub fn initialize<F: Fn(usize, Vec<Value>, &mut World) -> Result<Option<Value>, 
     st: &Standing,
     w: &mut World,
 ) -> Result<(), Halt>
+    requires few { Few b.now.program.now }
     requires callable { F.IsAlwaysCallable call.now }
     ensures means { (turns : ℕ) (m : Caller) → Calls F.post call.now m
         → MeansAs onward_of (spec.initialized b.now.program.now names.now usual_limits.longest m turns
@@ -180,6 +187,7 @@ fn declare_names(
 
 /// The names of a declaration come into scope.
 fn declare_all(tree: &LocalDeclaration, b: &Site, st: &mut Standing) -> Result<(), Halt>
+    requires few { Few b.now.program.now }
     ensures { Found (λ u. standing_of st.new
         ≡ spec.behind_declaration b.now.program.now (standing_of st.old) (placed_local tree.now))
         result }
@@ -201,6 +209,7 @@ fn declarator<F: Fn(usize, Vec<Value>, &mut World) -> Result<Option<Value>, Halt
     st: &mut Standing,
     w: &mut World,
 ) -> Result<(), Halt>
+    requires few { Few b.now.program.now }
     requires callable { F.IsAlwaysCallable call.now }
     ensures means { (turns : ℕ) (m : Caller) → Calls F.post call.now m
         → MeansAs onward_of (spec.initialized b.now.program.now names.now usual_limits.longest m turns
@@ -227,6 +236,7 @@ fn declarators<F: Fn(usize, Vec<Value>, &mut World) -> Result<Option<Value>, Hal
     st: &mut Standing,
     w: &mut World,
 ) -> Result<(), Halt>
+    requires few { Few b.now.program.now }
     requires callable { F.IsAlwaysCallable call.now }
     ensures means { (turns : ℕ) (m : Caller) → Calls F.post call.now m
         → MeansAs onward_of (spec.declarators b.now.program.now names.now usual_limits.longest m turns
@@ -251,6 +261,7 @@ pub fn declaration<F: Fn(usize, Vec<Value>, &mut World) -> Result<Option<Value>,
     st: &mut Standing,
     w: &mut World,
 ) -> Result<(), Halt>
+    requires few { Few b.now.program.now }
     requires callable { F.IsAlwaysCallable call.now }
     ensures means { (turns : ℕ) (m : Caller) → Calls F.post call.now m
         → MeansAs onward_of (declares_at b.now names.now m turns (standing_of st.old)
@@ -273,6 +284,7 @@ pub fn begin<F: Fn(usize, Vec<Value>, &mut World) -> Result<Option<Value>, Halt>
     st: &mut Standing,
     w: &mut World,
 ) -> Result<(), Halt>
+    requires few { Few b.now.program.now }
     requires callable { F.IsAlwaysCallable call.now }
     ensures means { (turns : ℕ) (m : Caller) → Calls F.post call.now m
         → MeansAs onward_of (begins_at b.now names.now m turns (standing_of st.old)
@@ -288,6 +300,7 @@ pub fn begin<F: Fn(usize, Vec<Value>, &mut World) -> Result<Option<Value>, Halt>
 
 /// A statement that isn't done: the names of a declaration come into scope, and its locals are counted.
 pub fn pass_over(tree: &Stmt, b: &Site, st: &mut Standing) -> Result<(), Halt>
+    requires few { Few b.now.program.now }
     ensures { Found (λ u. standing_of st.new
         ≡ spec.behind b.now.program.now (standing_of st.old) (placed_statement tree.now)) result }
 {

@@ -5,6 +5,7 @@ ghost use Rattle.jn_meaning.specs.Expressions.{Caller, operand_span};
 ghost use Rattle.jn_meaning.specs.Statements as spec;
 ghost use Rattle.jn_meaning.specs.Worlds.{Has, then_do};
 ghost use Rattle.jn_places.specs.PlacedView.{placed_parameter, placed_view};
+ghost use Rattle.jn_index.specs.Sizes.{Few};
 ghost use Rattle.jn_tree_expr.specs.Meaning.{Calls};
 ghost use Rattle.jn_tree_world.specs.Outcomes.{Found, Goes, Means, MeansAs};
 ghost use Rattle.jn_tree_world.specs.Worlds.{world_of};
@@ -42,6 +43,7 @@ fn hidden(array: &Expr, st: &Standing) -> Result<Hidden, Halt>
 
 /// The variable comes into scope, after two locals without names.
 fn declare_variable(variable: &Parameter, b: &Site, st: &mut Standing) -> Result<(), Halt>
+    requires few { Few b.now.program.now }
     ensures { Found (λ u. standing_of st.new ≡ behind_variable b.now.program.now (standing_of st.old)
         (placed_parameter variable.now)) result }
 {
@@ -61,6 +63,7 @@ pub fn start<F: Fn(usize, Vec<Value>, &mut World) -> Result<Option<Value>, Halt>
     st: &mut Standing,
     w: &mut World,
 ) -> Result<Hidden, Halt>
+    requires few { Few b.now.program.now }
     requires callable { F.IsAlwaysCallable call.now }
     ensures means { (turns : ℕ) (m : Caller) → Calls F.post call.now m
         → Goes (then_do (spec.each_begun b.now.program.now names.now usual_limits.longest m turns

@@ -4,6 +4,7 @@ ghost use Rattle.jn_meaning.specs.Expressions.{Caller};
 ghost use Rattle.jn_meaning.specs.Statements as spec;
 ghost use Rattle.jn_heap.specs.Values.{usual_limits};
 ghost use Rattle.jn_places.specs.PlacedView.{placed_local, placed_view};
+ghost use Rattle.jn_index.specs.Sizes.{Few};
 ghost use Rattle.jn_tree_expr.specs.Meaning.{Calls};
 ghost use Rattle.jn_tree_world.specs.Outcomes.{MeansAs};
 ghost use Rattle.jn_tree_world.specs.Worlds.{world_of};
@@ -26,6 +27,7 @@ pub fn expression<F: Fn(usize, Vec<Value>, &mut World) -> Result<Option<Value>, 
     st: &Standing,
     w: &mut World,
 ) -> Result<Flow, Halt>
+    requires few { Few b.now.program.now }
     requires callable { F.IsAlwaysCallable call.now }
     ensures means { (turns : ℕ) (m : Caller) → Calls F.post call.now m
         → MeansAs flow_of (spec.effect b.now.program.now names.now usual_limits.longest m turns
@@ -45,6 +47,7 @@ pub fn declare<F: Fn(usize, Vec<Value>, &mut World) -> Result<Option<Value>, Hal
     st: &mut Standing,
     w: &mut World,
 ) -> Result<Flow, Halt>
+    requires few { Few b.now.program.now }
     requires callable { F.IsAlwaysCallable call.now }
     ensures means { (turns : ℕ) (m : Caller) → Calls F.post call.now m
         → MeansAs flow_of (declares_at b.now names.now m turns (standing_of st.old)

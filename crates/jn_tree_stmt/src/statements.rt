@@ -4,6 +4,7 @@ ghost use Rattle.jn_meaning.specs.Expressions.{Caller};
 ghost use Rattle.jn_meaning.specs.Statements as spec;
 ghost use Rattle.jn_places.specs.Placed.{PlacedFor, PlacedForEach, PlacedIf};
 ghost use Rattle.jn_places.specs.PlacedView.{placed_init, placed_optional, placed_statement, placed_statements, placed_type_use, placed_view, placed_views};
+ghost use Rattle.jn_index.specs.Sizes.{Few};
 ghost use Rattle.jn_base.specs.declared.place.Span.{Span};
 ghost use Rattle.jn_tree_expr.specs.Meaning.{Calls};
 ghost use Rattle.jn_tree_world.specs.Outcomes.{MeansAs};
@@ -35,6 +36,7 @@ pub fn execute_all<F: Fn(usize, Vec<Value>, &mut World) -> Result<Option<Value>,
     st: &mut Standing,
     w: &mut World,
 ) -> Result<Flow, Halt>
+    requires few { Few b.now.program.now }
     requires callable { F.IsAlwaysCallable call.now }
     ensures means { (m : Caller) → Calls F.post call.now m
         → MeansAs flow_of (all_run_at b.now names.now m turns (standing_of st.old)
@@ -61,6 +63,7 @@ fn execute<F: Fn(usize, Vec<Value>, &mut World) -> Result<Option<Value>, Halt>>(
     st: &mut Standing,
     w: &mut World,
 ) -> Result<Flow, Halt>
+    requires few { Few b.now.program.now }
     requires callable { F.IsAlwaysCallable call.now }
     ensures means { (m : Caller) → Calls F.post call.now m
         → MeansAs flow_of (runs_at b.now names.now m turns (standing_of st.old)
@@ -86,6 +89,7 @@ fn inside<F: Fn(usize, Vec<Value>, &mut World) -> Result<Option<Value>, Halt>>(
     st: &mut Standing,
     w: &mut World,
 ) -> Result<Flow, Halt>
+    requires few { Few b.now.program.now }
     requires callable { F.IsAlwaysCallable call.now }
     ensures means { (m : Caller) → Calls F.post call.now m
         → MeansAs flow_of (runs_at b.now names.now m turns (standing_of st.old)
@@ -142,6 +146,7 @@ fn if_then<F: Fn(usize, Vec<Value>, &mut World) -> Result<Option<Value>, Halt>>(
     st: &mut Standing,
     w: &mut World,
 ) -> Result<Flow, Halt>
+    requires few { Few b.now.program.now }
     requires callable { F.IsAlwaysCallable call.now }
     ensures means { (m : Caller) → Calls F.post call.now m
         → (span : Span) → MeansAs flow_of (runs_at b.now names.now m turns (standing_of st.old)
@@ -167,6 +172,7 @@ fn if_else<F: Fn(usize, Vec<Value>, &mut World) -> Result<Option<Value>, Halt>>(
     st: &mut Standing,
     w: &mut World,
 ) -> Result<Flow, Halt>
+    requires few { Few b.now.program.now }
     requires callable { F.IsAlwaysCallable call.now }
     requires branches { has_else (placed_statement tree.now) ≡ true }
     ensures means { (m : Caller) → Calls F.post call.now m
@@ -203,6 +209,7 @@ fn turn<F: Fn(usize, Vec<Value>, &mut World) -> Result<Option<Value>, Halt>>(
     st: &mut Standing,
     w: &mut World,
 ) -> Result<Option<Flow>, Halt>
+    requires few { Few b.now.program.now }
     requires callable { F.IsAlwaysCallable call.now }
     ensures means { (m : Caller) → Calls F.post call.now m
         → MeansAs left_of (round (runs_at b.now names.now m turns (standing_of st.old)
@@ -232,6 +239,7 @@ fn repeat<F: Fn(usize, Vec<Value>, &mut World) -> Result<Option<Value>, Halt>>(
     st: &mut Standing,
     w: &mut World,
 ) -> Result<Flow, Halt>
+    requires few { Few b.now.program.now }
     requires callable { F.IsAlwaysCallable call.now }
     ensures means { (m : Caller) → Calls F.post call.now m
         → MeansAs flow_of (spec.repeated turns
@@ -265,6 +273,7 @@ fn repeat_endless<F: Fn(usize, Vec<Value>, &mut World) -> Result<Option<Value>, 
     st: &mut Standing,
     w: &mut World,
 ) -> Result<Flow, Halt>
+    requires few { Few b.now.program.now }
     requires callable { F.IsAlwaysCallable call.now }
     ensures means { (m : Caller) → Calls F.post call.now m
         → MeansAs flow_of (spec.endless turns
@@ -298,6 +307,7 @@ fn repeat_for<F: Fn(usize, Vec<Value>, &mut World) -> Result<Option<Value>, Halt
     st: &mut Standing,
     w: &mut World,
 ) -> Result<Flow, Halt>
+    requires few { Few b.now.program.now }
     requires callable { F.IsAlwaysCallable call.now }
     ensures means { (m : Caller) → Calls F.post call.now m
         → (span : Span) → MeansAs flow_of (runs_at b.now names.now m turns (standing_of st.old)
@@ -325,6 +335,7 @@ fn turn_do<F: Fn(usize, Vec<Value>, &mut World) -> Result<Option<Value>, Halt>>(
     st: &mut Standing,
     w: &mut World,
 ) -> Result<Option<Flow>, Halt>
+    requires few { Few b.now.program.now }
     requires callable { F.IsAlwaysCallable call.now }
     ensures means { (m : Caller) → Calls F.post call.now m
         → MeansAs left_of (done_round
@@ -353,6 +364,7 @@ fn end_do<F: Fn(usize, Vec<Value>, &mut World) -> Result<Option<Value>, Halt>>(
     st: &mut Standing,
     w: &mut World,
 ) -> Result<Flow, Halt>
+    requires few { Few b.now.program.now }
     requires callable { F.IsAlwaysCallable call.now }
     ensures means { (m : Caller) → Calls F.post call.now m
         → MeansAs flow_of (spec.done_while 0
@@ -385,6 +397,7 @@ fn repeat_do<F: Fn(usize, Vec<Value>, &mut World) -> Result<Option<Value>, Halt>
     st: &mut Standing,
     w: &mut World,
 ) -> Result<Flow, Halt>
+    requires few { Few b.now.program.now }
     requires callable { F.IsAlwaysCallable call.now }
     ensures means { (m : Caller) → Calls F.post call.now m
         → MeansAs flow_of (spec.done_while turns
@@ -414,6 +427,7 @@ fn turn_each<F: Fn(usize, Vec<Value>, &mut World) -> Result<Option<Value>, Halt>
     st: &mut Standing,
     w: &mut World,
 ) -> Result<Option<Flow>, Halt>
+    requires few { Few b.now.program.now }
     requires callable { F.IsAlwaysCallable call.now }
     ensures means { (m : Caller) → Calls F.post call.now m
         → (r : ℕ) → IsHidden locals r → MeansAs left_of (round
@@ -443,6 +457,7 @@ fn repeat_each<F: Fn(usize, Vec<Value>, &mut World) -> Result<Option<Value>, Hal
     st: &mut Standing,
     w: &mut World,
 ) -> Result<Flow, Halt>
+    requires few { Few b.now.program.now }
     requires callable { F.IsAlwaysCallable call.now }
     ensures means { (m : Caller) → Calls F.post call.now m
         → (r : ℕ) → IsHidden locals r → MeansAs flow_of (spec.repeated turns
@@ -477,6 +492,7 @@ fn for_each<F: Fn(usize, Vec<Value>, &mut World) -> Result<Option<Value>, Halt>>
     st: &mut Standing,
     w: &mut World,
 ) -> Result<Flow, Halt>
+    requires few { Few b.now.program.now }
     requires callable { F.IsAlwaysCallable call.now }
     ensures means { (m : Caller) → Calls F.post call.now m
         → (span : Span) → MeansAs flow_of (runs_at b.now names.now m turns (standing_of st.old)

@@ -2,6 +2,7 @@
 ghost use Rattle.std.specs.Prelude.{◌≡◌, ℕ};
 ghost use Rattle.jn_meaning.specs.Expressions.{Caller};
 ghost use Rattle.jn_places.specs.PlacedView.{placed_view, placed_views};
+ghost use Rattle.jn_index.specs.Sizes.{Few};
 ghost use Rattle.jn_tree_expr.specs.Meaning.{Calls};
 ghost use Rattle.jn_tree_world.specs.Outcomes.{Means, MeansAs};
 ghost use Rattle.jn_tree_world.specs.Worlds.{world_of};
@@ -49,6 +50,7 @@ pub fn update<F: Fn(usize, Vec<Value>, &mut World) -> Result<Option<Value>, Halt
     st: &Standing,
     w: &mut World,
 ) -> Result<Option<Flow>, Halt>
+    requires few { Few b.now.program.now }
     requires callable { F.IsAlwaysCallable call.now }
     ensures means { (turns : ℕ) (m : Caller) → Calls F.post call.now m
         → MeansAs left_of (spec.updated (left_of left) (world_of w.old)
@@ -71,6 +73,7 @@ pub fn tested<F: Fn(usize, Vec<Value>, &mut World) -> Result<Option<Value>, Halt
     st: &Standing,
     w: &mut World,
 ) -> Result<bool, Halt>
+    requires few { Few b.now.program.now }
     requires callable { F.IsAlwaysCallable call.now }
     ensures means { (turns : ℕ) (m : Caller) → Calls F.post call.now m
         → Means (spec.tested (holds_at b.now names.now m turns (standing_of st.now)
@@ -91,6 +94,7 @@ pub fn conclude<F: Fn(usize, Vec<Value>, &mut World) -> Result<Option<Value>, Ha
     st: &Standing,
     w: &mut World,
 ) -> Result<Option<Flow>, Halt>
+    requires few { Few b.now.program.now }
     requires callable { F.IsAlwaysCallable call.now }
     ensures means { (turns : ℕ) (m : Caller) → Calls F.post call.now m
         → MeansAs left_of (spec.concluded (left_of left) (world_of w.old)
@@ -116,6 +120,7 @@ pub fn last_test<F: Fn(usize, Vec<Value>, &mut World) -> Result<Option<Value>, H
     st: &Standing,
     w: &mut World,
 ) -> Result<Flow, Halt>
+    requires few { Few b.now.program.now }
     requires callable { F.IsAlwaysCallable call.now }
     ensures means { (turns : ℕ) (m : Caller) → Calls F.post call.now m
         → MeansAs flow_of (spec.last_test (holds_at b.now names.now m turns (standing_of st.now)

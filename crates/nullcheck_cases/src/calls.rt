@@ -1,4 +1,5 @@
 //! One call from outside, by the machine or by trees: what it prints and comes to.
+ghost use Rattle.jn_index.specs.Sizes.{Few};
 
 use crate::caller::Caller;
 use crate::entry::Entry;
@@ -151,7 +152,9 @@ fn came_by(answer: Result<Option<Value>, Halt>, made: Option<usize>) -> Result<C
     }
 }
 
-fn by_trees(outer: &Run, caller: &mut Caller, entry: Entry) -> Result<Called, AllocError> {
+fn by_trees(outer: &Run, caller: &mut Caller, entry: Entry) -> Result<Called, AllocError>
+    requires few { Few outer.now.program.now }
+{
     let alloc = outer.alloc;
     let Entry {
         method,
@@ -186,7 +189,9 @@ pub fn make_call(
     outer: &Run,
     caller: &mut Caller,
     entry: Entry,
-) -> Result<Called, AllocError> {
+) -> Result<Called, AllocError>
+    requires few { Few outer.now.program.now }
+{
     match way {
         Way::Machine => by_machine(outer, caller, entry),
         Way::Trees => by_trees(outer, caller, entry),

@@ -2,6 +2,7 @@
 //! other line is a call, over the heap that the calls before it left: `new NAME CLASS ARG..`, `static NAME CLASS METHOD ARG..`, or `call NAME
 //! CLASS METHOD OBJECT ARG..`, of a method that the class declares. What a call gives is kept as NAME. Each call is made by the machine and by
 //! trees, each over a heap of its own.
+ghost use Rattle.jn_index.specs.Sizes.{Few};
 
 use crate::caller::Caller;
 use crate::calls::{Called, Came, Way, make_call};
@@ -15,6 +16,7 @@ use jn_points::Program;
 use jn_program::sources::sources_of_files;
 use jn_sharing::Straight;
 use jn_tree_run::calling::Run;
+use jn_tree_run::run::is_counted;
 use jn_trees::{FileTree, Names};
 use std::alloc::{AllocError, Global};
 use std::io;
@@ -116,7 +118,9 @@ fn called_text(
 }
 
 /// Makes the call of a line in one of the ways, and gives what comes of it.
-fn line_text(way: Way, outer: &Run, caller: &mut Caller, line: &str) -> Result<String, AllocError> {
+fn line_text(way: Way, outer: &Run, caller: &mut Caller, line: &str) -> Result<String, AllocError>
+    requires few { Few outer.now.program.now }
+{
     let alloc = outer.alloc;
     let mut words = Vec::new(alloc);
     for word in line.split_whitespace() {
@@ -136,7 +140,9 @@ fn line_text(way: Way, outer: &Run, caller: &mut Caller, line: &str) -> Result<S
 }
 
 /// Makes the call of each line in both ways, and prints what comes of it.
-fn play_lines(rt: &HostRuntime, outer: &Run, lines: &[&str]) -> io::Result<()> {
+fn play_lines(rt: &HostRuntime, outer: &Run, lines: &[&str]) -> io::Result<()>
+    requires few { Few outer.now.program.now }
+{
     let program = outer.program.program();
     let mut machine = Caller::new(outer.alloc, program)?;
     let mut trees = Caller::new(outer.alloc, program)?;
@@ -162,6 +168,9 @@ fn play_typed(
     lines: &[&str],
 ) -> io::Result<()> {
     let alloc = rt.alloc();
+    if !is_counted(base) {
+        return println!(rt; "-- too many parameters");
+    }
     let Ok(sources) = sources_of_files(alloc, trees) else {
         return Err(io::Error::from(AllocError));
     };
