@@ -153,7 +153,6 @@ pub fn class_named(program: &IndexedProgram, name: NameNo) -> Option<ClassNo>
 pub fn class_or_object(program: &IndexedProgram, name: NameNo) -> ClassNo
     ensures { result.0 ≡ scopes.or_zero (scopes.class_named program.now name.0) }
 {
-    program.facts();
     match class_named(program, name) {
         Some(class) => class,
         None => ClassNo(0),
@@ -184,7 +183,6 @@ pub fn super_method(
     ensures { MatchOption result (scopes.super_method program.now class.0 name.0 arity ≡ None)
         (λ m. scopes.super_method program.now class.0 name.0 arity ≡ Some m.0) }
 {
-    program.facts();
     method_of(program, parent_or_object(program, class), name, arity)
 }
 

@@ -1,5 +1,4 @@
 pub mod Entering
 pub mod InTurn
-pub mod Parameters
 pub mod Sources
 pub mod Telling

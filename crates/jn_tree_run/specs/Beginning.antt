@@ -40,10 +40,6 @@ within_frames deepest = record { deepest = deepest; longest = usual_limits.longe
 abbrev pub told_in : Run → ℕ → List (List ℕ) → ℕ → spec.Told
 told_in run main words n = spec.tree run.program.now (sources_of run.sources.now) run.names.now (within_frames run.deepest) main words n
 
--- no method has more parameters than a number of 32 bits counts
-abbrev pub ParamsFit : Program → Type 0
-ParamsFit P = (m : ℕ) (x : Method) → method_at P m ≡ Some x → length x.params < 2 ^ 32
-
 -- the program is that of the files, by a choice of members that are inferred, and they have no row T1 to T10 or J1 to J6
 pub record HasTrees (files : List PlacedFile) (P : Program) : Type 0 where
   pub infer : Infer

@@ -10,7 +10,7 @@ ghost use Rattle.jn_index.specs.Sizes.{Few};
 ghost use Rattle.jn_meaning.specs.Worlds as worlds;
 ghost use Rattle.jn_tree_world.specs.Outcomes.{Means};
 ghost use Rattle.jn_tree_run.specs.Ends.{Answers, EndsAs, IsTold};
-ghost use Rattle.jn_tree_run.specs.Beginning.{HasTrees, ParamsFit, told_in, within_frames};
+ghost use Rattle.jn_tree_run.specs.Beginning.{HasTrees, told_in, within_frames};
 
 use crate::calling::{Run, enter};
 use crate::ended::{TreeEnd, stopped};
@@ -25,28 +25,6 @@ use jn_tree_world::frames::start;
 use jn_tree_world::{Halt, World};
 use jn_trees::{FileTree, Names};
 use std::alloc::{AllocError, Global};
-
-/// The most parameters that a number of 32 bits counts.
-const MOST_PARAMETERS: usize = 0xFFFF_FFFF;
-
-/// Whether no method has more parameters than a number of 32 bits counts.
-fn counts_parameters(program: &Program) -> bool
-    ensures { (result ≡ true) ↔ ParamsFit program.now }
-{
-    for method in program.methods.as_slice() {
-        if method.params.len() > MOST_PARAMETERS {
-            return false;
-        }
-    }
-    true
-}
-
-/// Whether all that names and members are looked up by has numbers of 32 bits, as in all that fits into memory.
-pub fn is_counted(base: &BaseTyped) -> bool
-    ensures { (result ≡ true) ↔ Few base.now }
-{
-    counts_parameters(base.program())
-}
 
 /// How a main ended, and the text that it printed.
 #[derive(Drop)]
@@ -140,14 +118,13 @@ pub fn tree_run<K: Sink>(
     ensures later { K.faults out.old ≤ K.faults out.new }
 {
     accepted_files_are_safe_by_trees();
-    if !is_counted(base) {
-        return TreeEnd::OutOfMemory;
-    }
+    let program = base.indexed();
+    program.facts();
     let Ok(all) = sources_of_files(alloc, trees) else {
         return TreeEnd::OutOfMemory;
     };
     let run = Run {
-        program: base.indexed(),
+        program,
         sources: &all,
         names,
         deepest: frames,

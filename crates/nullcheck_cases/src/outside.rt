@@ -16,7 +16,6 @@ use jn_points::Program;
 use jn_program::sources::sources_of_files;
 use jn_sharing::Straight;
 use jn_tree_run::calling::Run;
-use jn_tree_run::run::is_counted;
 use jn_trees::{FileTree, Names};
 use std::alloc::{AllocError, Global};
 use std::io;
@@ -168,14 +167,13 @@ fn play_typed(
     lines: &[&str],
 ) -> io::Result<()> {
     let alloc = rt.alloc();
-    if !is_counted(base) {
-        return println!(rt; "-- too many parameters");
-    }
+    let program = base.indexed();
+    program.facts();
     let Ok(sources) = sources_of_files(alloc, trees) else {
         return Err(io::Error::from(AllocError));
     };
     let outer = Run {
-        program: base.indexed(),
+        program,
         sources: &sources,
         names,
         deepest: FRAMES,
