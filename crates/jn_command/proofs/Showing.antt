@@ -63,13 +63,13 @@ row_nowhere reads row noted (Err e) le is = tt
 
 -- ---- notes
 
-pub note_there : {E : Type 0} (reads : List SourceRead) (i : ℕ) (read : SourceRead) (joined : Bool) (words : List ℕ) (span : Span) (r : Result ShownNote E) → i ≡ span.file.0 → i < length reads → read ≡ get_or reads i read → IfOk r (λ n. n ≡ note_of_file (Some read.file) joined words span) → IfOk r (λ n. n ≡ note_of (files_of_reads reads) joined words span)
-note_there reads i read joined words span (Ok n) number lt is h = h ∙ ap (λ f. note_of_file f joined words span) (sym (here reads i span.file.0 read number lt is))
-note_there reads i read joined words span (Err e) number lt is h = tt
+pub note_there : {E : Type 0} (reads : List SourceRead) (i : ℕ) (read : SourceRead) (joined ends : Bool) (words : List ℕ) (span : Span) (r : Result ShownNote E) → i ≡ span.file.0 → i < length reads → read ≡ get_or reads i read → IfOk r (λ n. n ≡ note_of_file (Some read.file) joined ends words span) → IfOk r (λ n. n ≡ note_of (files_of_reads reads) joined ends words span)
+note_there reads i read joined ends words span (Ok n) number lt is h = h ∙ ap (λ f. note_of_file f joined ends words span) (sym (here reads i span.file.0 read number lt is))
+note_there reads i read joined ends words span (Err e) number lt is h = tt
 
-pub note_nowhere : {E : Type 0} (reads : List SourceRead) (joined : Bool) (words : List ℕ) (span : Span) (r : Result ShownNote E) → length reads ≤ span.file.0 → IfOk r (λ n. (s : Span) → n ≡ note_of_file None joined words s) → IfOk r (λ n. n ≡ note_of (files_of_reads reads) joined words span)
-note_nowhere reads joined words span (Ok n) le is = is span ∙ ap (λ f. note_of_file f joined words span) (sym (no_file_at reads span.file.0 le))
-note_nowhere reads joined words span (Err e) le is = tt
+pub note_nowhere : {E : Type 0} (reads : List SourceRead) (joined ends : Bool) (words : List ℕ) (span : Span) (r : Result ShownNote E) → length reads ≤ span.file.0 → IfOk r (λ n. (s : Span) → n ≡ note_of_file None joined ends words s) → IfOk r (λ n. n ≡ note_of (files_of_reads reads) joined ends words span)
+note_nowhere reads joined ends words span (Ok n) le is = is span ∙ ap (λ f. note_of_file f joined ends words span) (sym (no_file_at reads span.file.0 le))
+note_nowhere reads joined ends words span (Err e) le is = tt
 
 noted_next : (noted : List Noted) (at : ℕ) → noted_at (noted_behind noted) at ≡ noted_at noted (suc at)
 noted_next [] at = refl

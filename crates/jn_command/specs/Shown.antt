@@ -29,15 +29,15 @@ shown show files report = show (map (row_of files) (rows_of report)) (Some (verd
 
 -- ---- rows with notes
 
--- the note that tells these words, as a reporter is given it, with the place of its first byte, and whether it goes on with the one before it; one of no file
+-- the note that tells these words, as a reporter is given it, with the place of its first byte, whether it goes on with the one before it, and whether a chain of causes ends there; one of no file
 -- has no name, and stands at its beginning
-abbrev pub note_of_file : Option SourceFile → Bool → List ℕ → Span → ShownNote
-note_of_file None joined words span = record { text = words; name = []; line = 1; col = 1; joined = joined }
-note_of_file (Some file) joined words span = let place = place_in file.bytes span in record { text = words; name = file.name; line = place.line; col = place.col; joined = joined }
+abbrev pub note_of_file : Option SourceFile → Bool → Bool → List ℕ → Span → ShownNote
+note_of_file None joined ends words span = record { text = words; name = []; line = 1; col = 1; joined = joined; ends = ends }
+note_of_file (Some file) joined ends words span = let place = place_in file.bytes span in record { text = words; name = file.name; line = place.line; col = place.col; joined = joined; ends = ends }
 
 -- the same of a note, whose span says by number in which of the files it stands
-abbrev pub note_of : List SourceFile → Bool → List ℕ → Span → ShownNote
-note_of files joined words span = note_of_file (slice_get files span.file.0) joined words span
+abbrev pub note_of : List SourceFile → Bool → Bool → List ℕ → Span → ShownNote
+note_of files joined ends words span = note_of_file (slice_get files span.file.0) joined ends words span
 
 -- no note is shown, and none is left out
 abbrev pub no_notes : Noted

@@ -56,12 +56,13 @@ fn note_in(
     alloc: Global,
     read: &SourceRead,
     joined: bool,
+    ends: bool,
     words: &[u8],
     span: &Span,
 ) -> Result<ShownNote, OutOfMemory>
     requires { length read.now.file.bytes ≤ 1048576 }
     ensures { IfOk result
-        (λ note. note ≡ note_of_file (Some read.now.file) joined words.now span.now) }
+        (λ note. note ≡ note_of_file (Some read.now.file) joined ends words.now span.now) }
 {
     let text = read.file.bytes.as_slice();
     let at = Span {
@@ -76,13 +77,19 @@ fn note_in(
         line: place.line,
         col: place.col,
         joined,
+        ends,
     })
 }
 
 /// The same of a place in no file: it has no name.
-fn note_nowhere(alloc: Global, joined: bool, words: &[u8]) -> Result<ShownNote, OutOfMemory>
+fn note_nowhere(
+    alloc: Global,
+    joined: bool,
+    ends: bool,
+    words: &[u8],
+) -> Result<ShownNote, OutOfMemory>
     ensures { IfOk result
-        (λ note. (span : SpecSpan) → note ≡ note_of_file None joined words.now span) }
+        (λ note. (span : SpecSpan) → note ≡ note_of_file None joined ends words.now span) }
 {
     Ok(ShownNote {
         text: Seq::of_vec(Vec::from_slice(alloc, words)?),
@@ -90,11 +97,12 @@ fn note_nowhere(alloc: Global, joined: bool, words: &[u8]) -> Result<ShownNote, 
         line: 1,
         col: 1,
         joined,
+        ends,
     })
 }
 
 /// The note that tells these words of a place in the files that were read, at its first byte; where `joined` holds it goes on with the
-/// note before it.
+/// note before it, and where `ends` does a chain of causes ends there.
 ///
 /// # Errors
 /// No memory was found.
@@ -102,17 +110,18 @@ pub fn note_of(
     alloc: Global,
     reads: &[SourceRead],
     joined: bool,
+    ends: bool,
     words: &[u8],
     span: &Span,
 ) -> Result<ShownNote, OutOfMemory>
     requires { ReadsFit reads.now }
     ensures { IfOk result
-        (λ note. note ≡ note_of (files_of_reads reads.now) joined words.now span.now) }
+        (λ note. note ≡ note_of (files_of_reads reads.now) joined ends words.now span.now) }
 {
     let file = span.file.0 as usize;
     if file < reads.len() {
-        note_in(alloc, &reads[file], joined, words, span)
+        note_in(alloc, &reads[file], joined, ends, words, span)
     } else {
-        note_nowhere(alloc, joined, words)
+        note_nowhere(alloc, joined, ends, words)
     }
 }

@@ -32,7 +32,7 @@ left_out (suc n) more = suc n
 module _ (P : Program) (names : List (List ℕ)) where
   -- a step in words, and where it stands
   abbrev pub note_of : Step → Note
-  note_of step = record { joined = false; words = step_words P names step; span = place_span P step.place }
+  note_of step = record { joined = false; ends = false; words = step_words P names step; span = place_span P step.place }
 
   -- the notes of what made a test void, and then the first 8 of the steps that are told
   abbrev pub noted : List Note → List Step → Notes

@@ -284,4 +284,4 @@ module _ (P : Program) (names : List (List ℕ)) where
 
   -- the note of what a row at the span speaks of
   abbrev pub topic_note : Span → Topic → Note
-  topic_note span topic = record { joined = false; words = topic_words span topic; span = topic_span P topic }
+  topic_note span topic = record { joined = false; ends = false; words = topic_words span topic; span = topic_span P topic }

@@ -90,11 +90,11 @@ key_of read = record { reg = read.object; field = read.field }
 
 -- where the field was tested, and on the same line what may change it
 abbrev pub tested_note : Program → List (List ℕ) → ReadAt → ℕ → Note
-tested_note P names read p = record { joined = false; words = tested_words P names read; span = point_span (point_at P read.body p) }
+tested_note P names read p = record { joined = false; ends = false; words = tested_words P names read; span = point_span (point_at P read.body p) }
 
 -- the note of what may have changed the field after the test, which goes on with the note before it
 abbrev pub ended_note : Program → ReadAt → ℕ → Note
-ended_note P read p = record { joined = true; words = ended_words (point_at P read.body p); span = point_span (point_at P read.body p) }
+ended_note P read p = record { joined = true; ends = false; words = ended_words (point_at P read.body p); span = point_span (point_at P read.body p) }
 
 module _ (P : Program) (names : List (List ℕ)) where
   -- the two notes of a test and of what made it void, where there is such a pair

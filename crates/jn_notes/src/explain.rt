@@ -51,6 +51,7 @@ fn note_of(
     let words = step_words(alloc, program, names, owners, step)?;
     Ok(Note {
         joined: false,
+        ends: false,
         words: Seq::of_vec(words),
         span: place_span(program, owners, step.place),
     })

@@ -2,10 +2,11 @@
 use jn_base::{Seq, Span};
 
 /// A note below a row: its words, and the bytes of the text that it points to. The words end before the place. One that is joined goes on with the line
-/// of the note before it.
+/// of the note before it; where one ends, a chain of causes does.
 #[derive(Drop)]
 pub struct Note {
     pub joined: bool,
+    pub ends: bool,
     pub words: Seq<u8>,
     pub span: Span,
 }

@@ -205,6 +205,7 @@ fn topic_note(
     let words = topic_words(alloc, program, names, span, topic)?;
     Ok(Note {
         joined: false,
+        ends: false,
         words: Seq::of_vec(words),
         span: topic_span(program, topic),
     })

@@ -178,6 +178,7 @@ fn tested_note(
     let words = tested_words(alloc, program, names, read)?;
     Ok(Note {
         joined: false,
+        ends: false,
         words: Seq::of_vec(words),
         span: point_span(program, read.body, tested.0),
     })
@@ -194,6 +195,7 @@ fn ended_note(
     let words = ended_words(program, read.body, ended.0);
     Ok(Note {
         joined: true,
+        ends: false,
         words: Seq::of_vec(Vec::from_slice(alloc, words.as_bytes())?),
         span: point_span(program, read.body, ended.0),
     })

@@ -24,7 +24,7 @@ one_note (Some note) = record { shown = note ∷ []; more = 0 }
 -- the note that says where a text stops being of the subset, as the one note of a row, or no note
 abbrev pub stop_notes : Option StopNote → Notes
 stop_notes None = no_notes
-stop_notes (Some note) = one_note (Some (record { joined = false; words = note.words; span = note.span }))
+stop_notes (Some note) = one_note (Some (record { joined = false; ends = false; words = note.words; span = note.span }))
 
 -- of a row at this place in this file: where its text stops being of the subset, where that is another place
 abbrev pub AreStopsIn : Option SourceFile → Span → Notes → Type 0

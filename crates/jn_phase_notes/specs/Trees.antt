@@ -28,7 +28,7 @@ words_behind code = codes "`, as declared at"
 
 -- the other declaration in words, and where it stands
 abbrev pub other_note : List (List ℕ) → Code → Identifier → Note
-other_note names code x = record { joined = false; words = words_before code ++ text_at names x.name.0 ++ words_behind code; span = x.span }
+other_note names code x = record { joined = false; ends = false; words = words_before code ++ text_at names x.name.0 ++ words_behind code; span = x.span }
 
 -- the notes of a row: that of the other declaration, where it speaks of one
 abbrev pub row_notes : List (List ℕ) → List PlacedFile → Row → Notes

@@ -42,11 +42,12 @@ fn stop_notes(alloc: Global, note: Option<StopNote>) -> Result<Notes, OutOfMemor
     match note {
         None => one_note(alloc, None),
         Some(StopNote { words, span }) => {
-            let joined = false;
+            let (joined, ends) = (false, false);
             one_note(
                 alloc,
                 Some(Note {
                     joined,
+                    ends,
                     words,
                     span,
                 }),

@@ -153,9 +153,10 @@ fn other_note(
     ensures { IfOk result (λ note. note ≡ spec.other_note names.now code other) }
 {
     let words = other_words(alloc, names, code, other.name)?;
-    let joined = false;
+    let (joined, ends) = (false, false);
     Ok(Note {
         joined,
+        ends,
         words: Seq::of_vec(words),
         span: other.span,
     })

@@ -6,7 +6,7 @@ use jn_diag::RowText;
 use std::alloc::Global;
 
 /// A note of a row: what it tells, up to the place that follows it, and that place: the name of a file, and the line and the column,
-/// both from 1; and whether it goes on with the note before it, so that both are told in one line.
+/// both from 1; whether it goes on with the note before it, so that both are told in one line; and whether a chain of causes ends there.
 #[derive(Drop)]
 pub struct ShownNote {
     pub text: Seq<u8>,
@@ -14,6 +14,7 @@ pub struct ShownNote {
     pub line: u32,
     pub col: u32,
     pub joined: bool,
+    pub ends: bool,
 }
 
 impl ShownNote {
@@ -26,6 +27,7 @@ impl ShownNote {
             line: self.line,
             col: self.col,
             joined: self.joined,
+            ends: self.ends,
         })
     }
 }

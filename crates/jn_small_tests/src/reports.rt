@@ -232,6 +232,7 @@ fn note(alloc: Global, text: &str, name: &str, line: u32) -> Result<ShownNote, O
         line,
         col: 7,
         joined: false,
+        ends: false,
     })
 }
 

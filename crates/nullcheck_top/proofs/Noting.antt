@@ -59,8 +59,8 @@ pub one_fits : (reads : List SourceRead) (i : ℕ) (read : SourceRead) → Reads
 one_fits reads i read fit lt is = subst (λ (r : SourceRead). length r.file.bytes ≤ 1048576) (sym is) (fits_at reads i read fit lt)
 
 -- a note of no file is the same among any files that don't have it
-pub note_in_none : {E : Type 0} (reads : List SourceRead) (joined : Bool) (words : List ℕ) (span : Span) (r : Result ShownNote E) → length reads ≤ span.file.0 → IfOk r (λ n. n ≡ note_of (files_of_reads []) joined words span) → IfOk r (λ n. n ≡ note_of (files_of_reads reads) joined words span)
-note_in_none reads joined words span r le is = note_nowhere reads joined words span r le (IfOk-weaker r _ _ (λ n h s. h) is)
+pub note_in_none : {E : Type 0} (reads : List SourceRead) (joined ends : Bool) (words : List ℕ) (span : Span) (r : Result ShownNote E) → length reads ≤ span.file.0 → IfOk r (λ n. n ≡ note_of (files_of_reads []) joined ends words span) → IfOk r (λ n. n ≡ note_of (files_of_reads reads) joined ends words span)
+note_in_none reads joined ends words span r le is = note_nowhere reads joined ends words span r le (IfOk-weaker r _ _ (λ n h s. h) is)
 
 -- ---- which notes are shown
 

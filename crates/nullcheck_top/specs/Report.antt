@@ -25,7 +25,7 @@ use Rattle.jn_phases.specs.Phases.{NoneParsed, TypedProgramOf}
 
 -- notes as they are shown: with the places of their first bytes in the files
 abbrev pub placed_note : List SourceFile → Note → ShownNote
-placed_note files note = note_of files note.joined note.words note.span
+placed_note files note = note_of files note.joined note.ends note.words note.span
 
 -- the notes of one row as they are shown, and how many more steps there are
 abbrev pub placed : List SourceFile → Notes → Noted

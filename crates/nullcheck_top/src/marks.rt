@@ -104,16 +104,18 @@ impl<'a> MarkedFile<'a> {
         Ok(MarkedFile { read, marks })
     }
 
-    /// The note that tells these words of a place in the file, at its first byte, and whether it goes on with the one before it.
+    /// The note that tells these words of a place in the file, at its first byte, whether it goes on with the one before it, and whether a chain of
+    /// causes ends there.
     pub(crate) fn note(
         &self,
         alloc: Global,
         joined: bool,
+        ends: bool,
         words: &[u8],
         span: &Span,
     ) -> Result<ShownNote, OutOfMemory>
         ensures { IfOk result
-            (λ note. note ≡ note_of_file (Some self.now.file) joined words.now span.now) }
+            (λ note. note ≡ note_of_file (Some self.now.file) joined ends words.now span.now) }
     {
         let text = self.read.file.bytes.as_slice();
         let at = Span {
@@ -128,6 +130,7 @@ impl<'a> MarkedFile<'a> {
             line: place.line,
             col: place.col,
             joined,
+            ends,
         })
     }
 }
