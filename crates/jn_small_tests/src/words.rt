@@ -166,7 +166,7 @@ fn refuses_words(rt: HostRuntime) {
         ),
         (
             "--report=|A.java",
-            "--report takes plain, long, tabbed, summary, github, checkstyle or sarif",
+            "--report takes plain, long, causes, tabbed, summary, github, checkstyle or sarif",
         ),
         ("--infer|all|A.java", "--infer takes `private` or `package`"),
         ("--run", "no file is named"),
