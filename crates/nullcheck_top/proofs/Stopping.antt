@@ -66,7 +66,7 @@ module _ (some others : List SourceFile) where
   note_same span note file same =
       let at : slice_get some note.span.file.0 ≡ slice_get others note.span.file.0 =
       ap (λ (f : FileNo). slice_get some f.0) file ∙ same ∙ sym (ap (λ (f : FileNo). slice_get others f.0) file) in
-      ap (λ f. record { notes = note_of_file f false note.words note.span ∷ []; more = 0 }) at
+      ap (λ f. record { notes = note_of_file f false false note.words note.span ∷ []; more = 0 }) at
 
   stops_same : (file : Option SourceFile) (span : Span) (notes : Notes) → AreStopsIn file span notes → slice_get some span.file.0 ≡ slice_get others span.file.0 → placed some notes ≡ placed others notes
   stops_same None span notes is same = ap (placed some) is ∙ sym (ap (placed others) is)
