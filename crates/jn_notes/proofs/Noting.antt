@@ -1,5 +1,5 @@
 -- Notes, step after step and row after row.
-use Rattle.std.proofs.Common.{◌≡◌, ℕ, ◌+◌, ◌<◌, ◌≤◌, List, [], ◌∷◌, ◌++◌, length, map, take, Option, Some, None, sym, ap, ◌∙◌, subst, arith}
+use Rattle.std.proofs.Common.{◌≡◌, Bool, ℕ, ◌+◌, ◌<◌, ◌≤◌, List, [], ◌∷◌, ◌++◌, length, map, take, Option, Some, None, sym, ap, ◌∙◌, subst, arith}
 use Rattle.std.specs.Prelude.{slice_index_or}
 use Rattle.std.specs.List.{range_with_len}
 use Rattle.std.proofs.lemmas.List.FromFn.{get_or-map-range_with_len, length-map-range_with_len}
@@ -20,24 +20,25 @@ use Rattle.jn_notes.specs.Asked.{item_of}
 use Rattle.jn_notes.specs.Noted.{note_of, noted, no_notes, AreBy, AreFrom, AreNotes, AreEach, AreNotesOf}
 use Rattle.jn_notes.specs.Voids.{AreVoids, read_in}
 
-module _ (P : Program) (names : List (List ℕ)) where
-  one_more : (steps : List Step) (i : ℕ) (x : Step) (n : Note) → i < length steps → x ≡ slice_index_or steps i x → n ≡ note_of P names x
-      → map (note_of P names) (take i steps) ++ n ∷ [] ≡ map (note_of P names) (take (i + 1) steps)
+module _ (P : Program) (names : List (List ℕ)) (ends : Bool) where
+  one_more : (steps : List Step) (i : ℕ) (x : Step) (n : Note) → i < length steps → x ≡ slice_index_or steps i x → n ≡ note_of P names ends x
+      → map (note_of P names ends) (take i steps) ++ n ∷ [] ≡ map (note_of P names ends) (take (i + 1) steps)
   one_more steps i x n lt is e =
-      ap (λ (y : Note). map (note_of P names) (take i steps) ++ y ∷ []) (e ∙ ap (note_of P names) is)
-      ∙ sym (map-append (note_of P names) (take i steps) (slice_index_or steps i x ∷ []))
-      ∙ ap (map (note_of P names)) (sym (take_more steps i x lt))
+      ap (λ (y : Note). map (note_of P names ends) (take i steps) ++ y ∷ []) (e ∙ ap (note_of P names ends) is)
+      ∙ sym (map-append (note_of P names ends) (take i steps) (slice_index_or steps i x ∷ []))
+      ∙ ap (map (note_of P names ends)) (sym (take_more steps i x lt))
 
-  pub note_more : (steps : List Step) (i : ℕ) (x : Step) (n : Note) (first old new : List Note) → i < length steps → x ≡ slice_index_or steps i x → n ≡ note_of P names x → new ≡ old ++ n ∷ []
-      → old ≡ first ++ map (note_of P names) (take i steps) → new ≡ first ++ map (note_of P names) (take (i + 1) steps)
+  pub note_more : (steps : List Step) (i : ℕ) (x : Step) (n : Note) (first old new : List Note) → i < length steps → x ≡ slice_index_or steps i x → n ≡ note_of P names ends x → new ≡ old ++ n ∷ []
+      → old ≡ first ++ map (note_of P names ends) (take i steps) → new ≡ first ++ map (note_of P names ends) (take (i + 1) steps)
   note_more steps i x n first old new lt is e h l =
       h ∙ ap (λ (xs : List Note). xs ++ n ∷ []) l
-      ∙ append_assoc first (map (note_of P names) (take i steps)) (n ∷ [])
+      ∙ append_assoc first (map (note_of P names ends) (take i steps)) (n ∷ [])
       ∙ ap (λ (xs : List Note). first ++ xs) (one_more steps i x n lt is e)
 
-  pub notes_done : (steps : List Step) (i : ℕ) (first list : List Note) → length steps ≤ i → list ≡ first ++ map (note_of P names) (take i steps) → list ≡ first ++ map (note_of P names) steps
-  notes_done steps i first list le h = h ∙ ap (λ (xs : List Step). first ++ map (note_of P names) xs) (take_all i steps le)
+  pub notes_done : (steps : List Step) (i : ℕ) (first list : List Note) → length steps ≤ i → list ≡ first ++ map (note_of P names ends) (take i steps) → list ≡ first ++ map (note_of P names ends) steps
+  notes_done steps i first list le h = h ∙ ap (λ (xs : List Step). first ++ map (note_of P names ends) xs) (take_all i steps le)
 
+module _ (P : Program) (names : List (List ℕ)) where
   module _ (s : List Qualifier) (tables : List Table) where
     both_more : (rows : List Row) (row : Row) (notes : List Notes) (n : Notes) → AreEach P names s tables rows notes → AreNotes P names s tables row n → AreEach P names s tables (rows ++ row ∷ []) (notes ++ n ∷ [])
     both_more [] row [] n h g = (g, tt)

@@ -1,5 +1,5 @@
 -- The notes of rows: of the declarations that a row speaks of, and then what is told of the first chain from its value.
-use Rattle.std.specs.Prelude.{ℕ, zero, suc, ◌<◌, ◌-◌, ◌≡◌, List, [], ◌∷◌, ◌++◌, false, length, map, take, Option, Some, None, slice_index_or}
+use Rattle.std.specs.Prelude.{ℕ, zero, suc, ◌<◌, ◌-◌, ◌≡◌, Bool, true, false, List, [], ◌∷◌, ◌++◌, drop, length, map, take, Option, Some, None, slice_index_or}
 use Rattle.jn_base.specs.declared.place.Row.{Row}
 use Rattle.jn_quals.specs.Qualifier.{Qualifier}
 use Rattle.jn_points.specs.declared.program.Program.{Program}
@@ -29,14 +29,26 @@ abbrev pub left_out : ℕ → ℕ → ℕ
 left_out zero more = more
 left_out (suc n) more = suc n
 
-module _ (P : Program) (names : List (List ℕ)) where
-  -- a step in words, and where it stands
-  abbrev pub note_of : Step → Note
-  note_of step = record { joined = false; ends = false; words = step_words P names step; span = place_span P step.place }
+-- the steps before the last one, at most 7 of them
+abbrev pub before_last : List Step → List Step
+before_last steps = take (most_shown - 1) (take (length steps - 1) steps)
 
-  -- the notes of what made a test void, and then the first 8 of the steps that are told
+-- the last step, at which a chain ends; none where there is no step
+abbrev pub last_of : List Step → List Step
+last_of steps = drop (length steps - 1) steps
+
+module _ (P : Program) (names : List (List ℕ)) where
+  -- a step in words, and where it stands, and whether the chain ends there
+  abbrev pub note_of : Bool → Step → Note
+  note_of ends step = record { joined = false; ends = ends; words = step_words P names step; span = place_span P step.place }
+
+  -- of the steps that are told the first 7 before the last one, and that one
+  abbrev pub step_notes : List Step → List Note
+  step_notes steps = map (note_of false) (before_last steps) ++ map (note_of true) (last_of steps)
+
+  -- the notes of what made a test void, and then those of the steps that are told
   abbrev pub noted : List Note → List Step → Notes
-  noted voids steps = record { shown = voids ++ map note_of (take most_shown steps); more = length steps - most_shown }
+  noted voids steps = record { shown = voids ++ step_notes steps; more = length steps - most_shown }
 
   -- the notes of the first 8 declarations that a row speaks of, and then those of its chain
   abbrev pub headed : Row → List Topic → Notes → Notes

@@ -5,7 +5,7 @@ ghost use Rattle.jn_tables_law.specs.Inferable.{IsInferable};
 ghost use Rattle.jn_inference_law.specs.Solution.{IsLeastSignature};
 ghost use Rattle.jn_reasons_law.specs.Chains.{HasChain};
 ghost use Rattle.jn_notes.specs.Asked.{item_of};
-ghost use Rattle.jn_notes.specs.Noted.{AreBy, AreEach, AreFrom, AreLeastTables, AreNotes, AreNotesOf, headed, left_out, most_shown, no_notes, note_of, noted};
+ghost use Rattle.jn_notes.specs.Noted.{AreBy, AreEach, AreFrom, AreLeastTables, AreNotes, AreNotesOf, before_last, headed, last_of, left_out, most_shown, no_notes, note_of, noted};
 ghost use Rattle.jn_notes.specs.Owned.{AreOwners};
 ghost use Rattle.jn_reasons_law.specs.Choice.{IsFirstChain};
 ghost use Rattle.jn_origins.specs.Standing.{AreSized};
@@ -37,21 +37,22 @@ use std::alloc::{AllocError, Global};
 /// The greatest number of steps that are shown of a row, and of declarations.
 const MOST_SHOWN: usize = 8;
 
-/// A step in words, and where it stands.
+/// A step in words, and where it stands, and whether the chain ends there.
 fn note_of(
     alloc: Global,
     program: &Program,
     names: &Names,
     owners: &[Option<Owner>],
+    ends: bool,
     step: Step,
 ) -> Result<Note, AllocError>
     requires owners { AreOwners program.now owners.now }
-    ensures { IfOk result (λ note. note ≡ note_of program.now names.now step) }
+    ensures { IfOk result (λ note. note ≡ note_of program.now names.now ends step) }
 {
     let words = step_words(alloc, program, names, owners, step)?;
     Ok(Note {
         joined: false,
-        ends: false,
+        ends,
         words: Seq::of_vec(words),
         span: place_span(program, owners, step.place),
     })
@@ -64,28 +65,50 @@ fn put_steps(
     program: &Program,
     names: &Names,
     owners: &[Option<Owner>],
+    ends: bool,
     steps: &[Step],
 ) -> Result<(), AllocError>
     requires owners { AreOwners program.now owners.now }
     ensures { OnOk result
-        (notes.new.items ≡ notes.old.items ++ map (note_of program.now names.now) steps.now) }
+        (notes.new.items ≡ notes.old.items ++ map (note_of program.now names.now ends) steps.now) }
 {
     for step in steps {
-        let note = note_of(alloc, program, names, owners, *step)?;
+        let note = note_of(alloc, program, names, owners, ends, *step)?;
         put(notes, note)?;
     }
     Ok(())
 }
 
-/// As many steps as are shown.
-fn shown(steps: &[Step]) -> &[Step]
-    ensures { result.now ≡ take most_shown steps.now }
+/// As many steps as are shown before the last one.
+fn first_steps(steps: &[Step]) -> &[Step]
+    ensures { result.now ≡ take (most_shown - 1) steps.now }
 {
-    if steps.len() <= MOST_SHOWN {
+    if steps.len() < MOST_SHOWN {
         steps
     } else {
-        &steps[..MOST_SHOWN]
+        &steps[..MOST_SHOWN - 1]
     }
+}
+
+/// Where the last one stands.
+fn last_place(steps: usize) -> usize
+    ensures { result ≡ steps - 1 }
+{
+    if steps == 0 { 0 } else { steps - 1 }
+}
+
+/// The steps that are shown before the last one.
+fn before_last(steps: &[Step]) -> &[Step]
+    ensures { result.now ≡ before_last steps.now }
+{
+    first_steps(&steps[..last_place(steps.len())])
+}
+
+/// The last step, where there is one.
+fn last_of(steps: &[Step]) -> &[Step]
+    ensures { result.now ≡ last_of steps.now }
+{
+    &steps[last_place(steps.len())..]
 }
 
 /// How many more there are.
@@ -99,7 +122,7 @@ fn more(steps: usize) -> usize
     }
 }
 
-/// These notes, and the first of the steps that are told, in words.
+/// These notes, and the steps that are shown of those that are told, in words.
 fn noted(
     alloc: Global,
     program: &Program,
@@ -113,14 +136,32 @@ fn noted(
         (λ notes. notes ≡ noted program.now names.now voids.items steps.now) }
 {
     let mut notes = voids;
-    put_steps(&mut notes, alloc, program, names, owners, shown(steps))?;
+    put_steps(
+        &mut notes,
+        alloc,
+        program,
+        names,
+        owners,
+        false,
+        before_last(steps),
+    )?;
+    put_steps(
+        &mut notes,
+        alloc,
+        program,
+        names,
+        owners,
+        true,
+        last_of(steps),
+    )?;
     Ok(Notes {
         shown: Seq::of_vec(notes),
         more: more(steps.len()),
     })
 }
 
-fn no_notes(alloc: Global) -> Notes
+/// No note is shown, and none is left out.
+pub fn no_notes(alloc: Global) -> Notes
     ensures { result ≡ no_notes }
 {
     Notes {
@@ -185,8 +226,11 @@ fn notes_by(
     Ok(notes)
 }
 
-/// The notes of a chain's first item.
-fn notes_from(
+/// The notes of an item from which a chain goes: what is told of the first chain from it.
+///
+/// # Errors
+/// No memory was found.
+pub fn notes_from(
     alloc: Global,
     program: &Program,
     names: &Names,
