@@ -99,7 +99,9 @@ fn nullcheck_sentence(options: &Options) -> &'static str {
     }
     match bad_mix(options) {
         Some(text) => text,
-        None => { "--report takes plain, long, causes, tabbed, summary, github, checkstyle or sarif" }
+        None => {
+            "--report takes plain, long, causes, tabbed, summary, github, checkstyle or sarif"
+        }
     }
 }
 

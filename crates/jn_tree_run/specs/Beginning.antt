@@ -1,5 +1,5 @@
 -- With what a body begins, and what a method's body means in a run.
-use Rattle.std.specs.Prelude.{ℕ, ◌≡◌, ◌<◌, ◌^◌, List, [], Option, Some, length}
+use Rattle.std.specs.Prelude.{ℕ, ◌≡◌, List, [], Option, length}
 use Rattle.jn_base.specs.declared.infer.Infer.{Infer}
 use Rattle.jn_heap.specs.Values.{Limits, Value, usual_limits}
 use Rattle.jn_lowering.specs.Bodies.{Source, at_entry}
@@ -11,7 +11,6 @@ use Rattle.jn_meaning.specs.Worlds.{Result, World}
 use Rattle.jn_places.specs.Placed.{PlacedFile, PlacedParameter}
 use Rattle.jn_points.specs.BaseTyping.{given_bases}
 use Rattle.jn_points.specs.Lookup.{body_of, method_at}
-use Rattle.jn_points.specs.declared.program.Method.{Method}
 use Rattle.jn_points.specs.declared.program.Program.{Program}
 use Rattle.jn_program_law.specs.FileProgram.{inferring, rows_of_files}
 use Rattle.jn_tree_run.specs.declared.calling.Run.{Run}

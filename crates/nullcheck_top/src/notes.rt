@@ -99,8 +99,21 @@ fn placed_note(
 {
     let file = note.span.file.0 as usize;
     if file < files.len() {
-        files[file].note(alloc, note.joined, note.ends, note.words.as_slice(), &note.span)
+        files[file].note(
+            alloc,
+            note.joined,
+            note.ends,
+            note.words.as_slice(),
+            &note.span,
+        )
     } else {
-        note_of(alloc, &[], note.joined, note.ends, note.words.as_slice(), &note.span)
+        note_of(
+            alloc,
+            &[],
+            note.joined,
+            note.ends,
+            note.words.as_slice(),
+            &note.span,
+        )
     }
 }
