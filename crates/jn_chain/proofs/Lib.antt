@@ -1,7 +1,9 @@
 pub mod Members
+pub mod Resting
 pub mod Leveling
-pub mod Marking
+pub mod Settling
 pub mod Walks
 pub mod Ordering
 pub mod Loops
 pub mod Telling
+pub mod Keeping

@@ -1,14 +1,12 @@
 -- Members of lists that grow by one item, and of the front of a list that a loop has passed.
-use Rattle.std.proofs.Common.{◌≡◌, ℕ, zero, suc, ◌+◌, ◌<◌, ◌≤◌, ◌⊎◌, inl, inr, ⊎_elim, List, [], ◌∷◌, ◌++◌, length, take, Option, refl, sym, ap, subst, arith, append-nil}
+use Rattle.std.proofs.Common.{◌≡◌, ℕ, zero, suc, ◌+◌, ◌<◌, ◌≤◌, ◌⊎◌, inl, inr, ⊎_elim, List, [], ◌∷◌, ◌++◌, length, take, Option, refl, sym, ap, subst, arith}
 use Rattle.std.specs.Prelude.{slice_index_or}
-use Rattle.std.specs.List.{flat_map}
-use Rattle.std.proofs.lemmas.Grind.{flat_map-append}
 use Rattle.std.proofs.lemmas.List.{take_more}
 use Rattle.jn_reasons_law.specs.declared.item.Item.{Item}
 use Rattle.jn_reasons_law.specs.Sources.{IsOneOf}
 use Rattle.jn_reasons.specs.declared.causes.Cause.{Cause}
 use Rattle.jn_reasons.specs.Listed.{IsListed}
-use Rattle.jn_chain.specs.Search.{AreNew, AreOnce, IsSeen, level_at}
+use Rattle.jn_chain.specs.Search.{IsSeen, level_at}
 
 abbrev Source : Type 0
 Source = Option Item
@@ -37,34 +35,6 @@ push_cases z y xs h = ⊎_elim (λ a. inl a) (λ c. inr (alone c)) (one_cases z 
     alone : IsOneOf z (y ∷ []) → z ≡ y
     alone (inl e) = e
     alone (inr m) = absurd m
-
--- ---- each once
-
-pub once_append : (xs ys : List Source) → AreOnce xs → AreOnce ys → ((z : Source) → IsOneOf z xs → IsOneOf z ys → ⊥) → AreOnce (xs ++ ys)
-once_append [] ys h g apart = g
-once_append (x ∷ xs) ys h g apart = (λ m. ⊎_elim (λ a. h.0 a) (λ b. apart x (inl refl) b) (one_cases x xs ys m), once_append xs ys h.1 g (λ z a b. apart z (inr a) b))
-
--- of all levels, one that stands there is seen
-pub all_seen : (z : Source) (ls : List (List Source)) → IsOneOf z (flat_map (λ (l : List Source). l) ls) → IsSeen z ls
-all_seen z [] h = h
-all_seen z (l ∷ ls) h = ⊎_elim (λ a. inl a) (λ b. inr (all_seen z ls b)) (one_cases z l (flat_map (λ (l : List Source). l) ls) h)
-
--- a level more, of which none is seen
-pub once_more : (ls : List (List Source)) (next : List Source) → AreOnce (flat_map (λ (l : List Source). l) ls) → AreNew ls next → AreOnce (flat_map (λ (l : List Source). l) (ls ++ next ∷ []))
-once_more ls next h n =
-    subst AreOnce (sym (flat_map-append (λ (l : List Source). l) ls (next ∷ [])))
-    (once_append (flat_map (λ (l : List Source). l) ls) (next ++ []) h (subst AreOnce (sym (append-nil next)) n.0)
-    (λ z a b. n.1 z (subst (IsOneOf z) (append-nil next) b) (all_seen z ls a)))
-
-pub new_pushed : (seen : List (List Source)) (z : Source) (old : List Source) → (IsSeen z seen → ⊥) → (IsOneOf z old → ⊥) → AreNew seen old → AreNew seen (old ++ z ∷ [])
-new_pushed seen z old unseen absent n = (
-  once_append old (z ∷ []) n.0 (λ m. m, tt) (λ w a b. absent (subst (λ (y : Source). IsOneOf y old) (alone w b) a)),
-  λ w m s. ⊎_elim (λ a. n.1 w a s) (λ e. unseen (subst (λ (y : Source). IsSeen y seen) e s)) (push_cases w z old m),
-)
-  where
-    alone : (w : Source) → IsOneOf w (z ∷ []) → w ≡ z
-    alone w (inl e) = e
-    alone w (inr m) = absurd m
 
 pub front_cases : (z : Source) (xs : List Source) (i : ℕ) (d : Source) → i < length xs → IsOneOf z (take (i + 1) xs) → IsOneOf z (take i xs) ⊎ (z ≡ slice_index_or xs i d)
 front_cases z xs i d lt h = push_cases z (slice_index_or xs i d) (take i xs) (subst (IsOneOf z) (take_more xs i d lt) h)
@@ -109,31 +79,14 @@ pub causes_new : (xs : List Cause) (i : ℕ) (d : Cause) → i < length xs → I
 causes_new xs i d lt = subst (IsListed (slice_index_or xs i d)) (sym (take_more xs i d lt)) (listed_right (slice_index_or xs i d) (take i xs) (slice_index_or xs i d ∷ []) (inl refl))
 
 -- of levels
-seen_left : (z : Source) (xs ys : List (List Source)) → IsSeen z xs → IsSeen z (xs ++ ys)
+pub seen_left : (z : Source) (xs ys : List (List Source)) → IsSeen z xs → IsSeen z (xs ++ ys)
 seen_left z [] ys h = absurd h
 seen_left z (x ∷ xs) ys (inl e) = inl e
 seen_left z (x ∷ xs) ys (inr h) = inr (seen_left z xs ys h)
 
-seen_right : (z : Source) (xs ys : List (List Source)) → IsSeen z ys → IsSeen z (xs ++ ys)
+pub seen_right : (z : Source) (xs ys : List (List Source)) → IsSeen z ys → IsSeen z (xs ++ ys)
 seen_right z [] ys h = h
 seen_right z (x ∷ xs) ys h = inr (seen_right z xs ys h)
-
-seen_cases : (z : Source) (xs ys : List (List Source)) → IsSeen z (xs ++ ys) → IsSeen z xs ⊎ IsSeen z ys
-seen_cases z [] ys h = inr h
-seen_cases z (x ∷ xs) ys (inl e) = inl (inl e)
-seen_cases z (x ∷ xs) ys (inr h) = ⊎_elim (λ a. inl (inr a)) (λ c. inr c) (seen_cases z xs ys h)
-
-pub levels_cases : (z : Source) (xs : List (List Source)) (i : ℕ) → i < length xs → IsSeen z (take (i + 1) xs) → IsSeen z (take i xs) ⊎ IsOneOf z (level_at xs i)
-levels_cases z xs i lt h = ⊎_elim (λ a. inl a) (λ c. inr (alone c)) (seen_cases z (take i xs) (level_at xs i ∷ []) (subst (IsSeen z) (take_more xs i [] lt) h))
-  where
-    alone : IsSeen z (level_at xs i ∷ []) → IsOneOf z (level_at xs i)
-    alone (inl e) = e
-    alone (inr m) = absurd m
-
-pub seen_at : (z : Source) (xs : List (List Source)) (i : ℕ) → i < length xs → IsOneOf z (level_at xs i) → IsSeen z xs
-seen_at z [] i lt h = absurd (omega (arith, lt))
-seen_at z (x ∷ xs) zero lt h = inl h
-seen_at z (x ∷ xs) (suc i) lt h = inr (seen_at z xs i (omega (arith, lt)) h)
 
 -- one that is seen stands at a level
 pub record IsAt (z : Source) (xs : List (List Source)) : Type 0 where
@@ -153,6 +106,7 @@ whole A [] (suc i) le = refl
 whole A (x ∷ xs) zero le = absurd (omega (arith, le))
 whole A (x ∷ xs) (suc i) le = ap (λ (l : List A). x ∷ l) (whole A xs i (omega (arith, le)))
 
-pub empty_is : (xs : List Source) → length xs ≡ 0 → xs ≡ []
-empty_is [] e = refl
-empty_is (x ∷ xs) e = absurd (omega (arith, e))
+-- at its start a loop has passed nothing
+pub nothing : (A : Type 0) (xs : List A) → take 0 xs ≡ []
+nothing A [] = refl
+nothing A (x ∷ xs) = refl

@@ -3,7 +3,6 @@ use Rattle.std.proofs.Common.{◌≡◌, ℕ, ◌+◌, ◌<◌, Bool, true, fals
 use Rattle.std.specs.Prelude.{eqb, ltb, slice_index_or, MatchOption}
 use Rattle.std.proofs.lemmas.Bool.{and_from, and_parts, or_cases, or_left, or_right, eqb-true, eq-eqb, ltb-true, lt-ltb}
 use Rattle.jn_reasons_law.specs.declared.item.Item.{Item}
-use Rattle.jn_reasons_law.specs.Sources.{IsOneOf}
 use Rattle.jn_reasons_law.specs.Choice.{is_before}
 use Rattle.jn_reasons.specs.declared.causes.Cause.{Cause}
 use Rattle.jn_chain.specs.Search.{way_list, IsBest, IsBetter, IsLeastAmong, IsUnwanted}
@@ -45,26 +44,26 @@ as_false false f = refl
 abbrev before : Cause → Cause → Bool
 before c d = is_before (way_list c.place c.source) (way_list d.place d.source)
 
-module _ (causes : List Cause) (wanted : List (Option Item)) (i : ℕ) (d : Cause) (lt : i < length causes) where
+module _ (causes : List Cause) (W : Option Item → Type 0) (i : ℕ) (d : Cause) (lt : i < length causes) where
   abbrev this : Cause
   this = slice_index_or causes i d
 
-  pub best_kept : (best : Option Cause) → (IsOneOf this.source wanted → ⊥) → MatchOption best (IsUnwanted (take i causes) wanted) (IsLeastAmong (take i causes) wanted) → MatchOption best (IsUnwanted (take (i + 1) causes) wanted) (IsLeastAmong (take (i + 1) causes) wanted)
-  best_kept None f h = λ c l w. ⊎_elim (λ a. h c a w) (λ e. f (subst (λ (x : Cause). IsOneOf x.source wanted) e w)) (causes_cases c causes i d lt l)
+  pub best_kept : (best : Option Cause) → (W this.source → ⊥) → MatchOption best (IsUnwanted (take i causes) W) (IsLeastAmong (take i causes) W) → MatchOption best (IsUnwanted (take (i + 1) causes) W) (IsLeastAmong (take (i + 1) causes) W)
+  best_kept None f h = λ c l w. ⊎_elim (λ a. h c a w) (λ e. f (subst (λ (x : Cause). W x.source) e w)) (causes_cases c causes i d lt l)
   best_kept (Some b) f h = record {
     listed = causes_kept b causes i d lt h.listed;
     among = h.among;
-    least = λ c l w. ⊎_elim (λ a. h.least c a w) (λ e. absurd (f (subst (λ (x : Cause). IsOneOf x.source wanted) e w))) (causes_cases c causes i d lt l);
+    least = λ c l w. ⊎_elim (λ a. h.least c a w) (λ e. absurd (f (subst (λ (x : Cause). W x.source) e w))) (causes_cases c causes i d lt l);
   }
 
-  pub best_first : IsOneOf this.source wanted → IsUnwanted (take i causes) wanted → IsLeastAmong (take (i + 1) causes) wanted this
+  pub best_first : W this.source → IsUnwanted (take i causes) W → IsLeastAmong (take (i + 1) causes) W this
   best_first w h = record {
     listed = causes_new causes i d lt;
     among = w;
     least = λ c l v. ⊎_elim (λ a. absurd (h c a v)) (λ e. as_false (before c this) (λ t. irreflexive (way_list this.place this.source) (subst (λ (x : Cause). is_before (way_list x.place x.source) (way_list this.place this.source) ≡ true) e t))) (causes_cases c causes i d lt l);
   }
 
-  pub best_new : (b : Cause) → IsOneOf this.source wanted → is_before (way_list this.place this.source) (way_list b.place b.source) ≡ true → IsLeastAmong (take i causes) wanted b → IsLeastAmong (take (i + 1) causes) wanted this
+  pub best_new : (b : Cause) → W this.source → is_before (way_list this.place this.source) (way_list b.place b.source) ≡ true → IsLeastAmong (take i causes) W b → IsLeastAmong (take (i + 1) causes) W this
   best_new b w t h = record {
     listed = causes_new causes i d lt;
     among = w;
@@ -74,7 +73,7 @@ module _ (causes : List Cause) (wanted : List (Option Item)) (i : ℕ) (d : Caus
         (causes_cases c causes i d lt l));
   }
 
-  pub best_old : (b : Cause) → is_before (way_list this.place this.source) (way_list b.place b.source) ≡ false → IsLeastAmong (take i causes) wanted b → IsLeastAmong (take (i + 1) causes) wanted b
+  pub best_old : (b : Cause) → is_before (way_list this.place this.source) (way_list b.place b.source) ≡ false → IsLeastAmong (take i causes) W b → IsLeastAmong (take (i + 1) causes) W b
   best_old b t h = record {
     listed = causes_kept b causes i d lt h.listed;
     among = h.among;
@@ -82,13 +81,13 @@ module _ (causes : List Cause) (wanted : List (Option Item)) (i : ℕ) (d : Caus
   }
 
   -- with the lesser of two
-  best_wanted : (best result : Option Cause) → IsOneOf this.source wanted → IsBest best this result → MatchOption best (IsUnwanted (take i causes) wanted) (IsLeastAmong (take i causes) wanted) → MatchOption result (IsUnwanted (take (i + 1) causes) wanted) (IsLeastAmong (take (i + 1) causes) wanted)
+  best_wanted : (best result : Option Cause) → W this.source → IsBest best this result → MatchOption best (IsUnwanted (take i causes) W) (IsLeastAmong (take i causes) W) → MatchOption result (IsUnwanted (take (i + 1) causes) W) (IsLeastAmong (take (i + 1) causes) W)
   best_wanted None None w e h = absurd e
   best_wanted (Some b) None w e h = absurd e
-  best_wanted None (Some c) w e h = subst (IsLeastAmong (take (i + 1) causes) wanted) (sym e) (best_first w h)
-  best_wanted (Some b) (Some c) w (inl e) h = subst (IsLeastAmong (take (i + 1) causes) wanted) (sym e.1) (best_new b w e.0 h)
-  best_wanted (Some b) (Some c) w (inr e) h = subst (IsLeastAmong (take (i + 1) causes) wanted) (sym e.1) (best_old b e.0 h)
+  best_wanted None (Some c) w e h = subst (IsLeastAmong (take (i + 1) causes) W) (sym e) (best_first w h)
+  best_wanted (Some b) (Some c) w (inl e) h = subst (IsLeastAmong (take (i + 1) causes) W) (sym e.1) (best_new b w e.0 h)
+  best_wanted (Some b) (Some c) w (inr e) h = subst (IsLeastAmong (take (i + 1) causes) W) (sym e.1) (best_old b e.0 h)
 
-  pub best_more : (best result : Option Cause) → IsBetter best this wanted result → MatchOption best (IsUnwanted (take i causes) wanted) (IsLeastAmong (take i causes) wanted) → MatchOption result (IsUnwanted (take (i + 1) causes) wanted) (IsLeastAmong (take (i + 1) causes) wanted)
-  best_more best result (inl e) h = subst (λ (o : Option Cause). MatchOption o (IsUnwanted (take (i + 1) causes) wanted) (IsLeastAmong (take (i + 1) causes) wanted)) (sym e.1) (best_kept best e.0 h)
+  pub best_more : (best result : Option Cause) → IsBetter best this W result → MatchOption best (IsUnwanted (take i causes) W) (IsLeastAmong (take i causes) W) → MatchOption result (IsUnwanted (take (i + 1) causes) W) (IsLeastAmong (take (i + 1) causes) W)
+  best_more best result (inl e) h = subst (λ (o : Option Cause). MatchOption o (IsUnwanted (take (i + 1) causes) W) (IsLeastAmong (take (i + 1) causes) W)) (sym e.1) (best_kept best e.0 h)
   best_more best result (inr e) h = best_wanted best result e.0 e.1 h

@@ -1,5 +1,5 @@
--- Walks from level to level by the least steps, and what they are.
-use Rattle.std.proofs.Common.{◌≡◌, ℕ, zero, suc, ◌+◌, ◌-◌, ◌<◌, ◌≤◌, ⊎_elim, true, false, ◌&&◌, List, [], ◌∷◌, ◌++◌, length, Option, Some, None, refl, sym, ap, ◌∙◌, subst, arith, append_assoc, append-nil}
+-- Walks by the least steps that are known, and what they are.
+use Rattle.std.proofs.Common.{◌≡◌, ℕ, suc, ◌+◌, ◌-◌, ◌<◌, ◌≤◌, ⊎_elim, true, false, ◌&&◌, List, [], ◌∷◌, ◌++◌, length, Option, Some, None, refl, sym, ap, ◌∙◌, subst, arith, append_assoc, append-nil}
 use Rattle.std.specs.Prelude.{eqb, ltb}
 use Rattle.std.proofs.lemmas.Bool.{and_from, and_parts, or_cases, or_left, or_right}
 use Rattle.std.proofs.lemmas.List.{length_push}
@@ -7,101 +7,97 @@ use Rattle.jn_quals.specs.Qualifier.{Qualifier}
 use Rattle.jn_points.specs.declared.program.Program.{Program}
 use Rattle.jn_env.specs.Order.{Table}
 use Rattle.jn_reasons_law.specs.declared.item.Item.{Item}
-use Rattle.jn_reasons_law.specs.declared.item.Place.{Place}
 use Rattle.jn_reasons_law.specs.declared.item.Step.{Step}
 use Rattle.jn_reasons_law.specs.Items.{Stands}
-use Rattle.jn_reasons_law.specs.Sources.{IsOneOf}
 use Rattle.jn_reasons_law.specs.Chains.{HasChain, IsCause, IsChain}
 use Rattle.jn_reasons_law.specs.Choice.{BeginsAt, IsFirstChain, is_before, place_list}
 use Rattle.jn_reasons_law.specs.Walk.{IsWalk}
-use Rattle.jn_chain.specs.Search.{Ground, level_at, source_list, way_list, IsThere, IsNext, Leads, Reaches, AreAllLevels, AreMarked, AreMarks, IsStep, IsWay, IsLeastStep}
+use Rattle.jn_chain.specs.declared.chains.Rest.{Rest}
+use Rattle.jn_chain.specs.Search.{Ground, source_list, way_list, IsThere, IsNext, Reaches, IsStep, IsWay, IsLeastStep, left_of, AreRests, IsFound}
 use Rattle.jn_chain.proofs.Ordering.{never, as_false}
-use Rattle.jn_chain.proofs.Leveling.{far, next_among, item_reaches, item_among}
+use Rattle.jn_chain.proofs.Resting.{left_least, some_rest}
 
 abbrev Source : Type 0
 Source = Option Item
 
 -- so many steps are left from a source, and each way from there goes on with the steps
-pub record IsWalked (G : Ground) (ls : List (List Source)) (x : Item) (left : ℕ) (source : Source) (steps : List Step) : Type 0 where
-  pub bound : left ≤ length ls - 1
-  pub long : length steps + left ≡ length ls - 1
-  pub among : IsOneOf source (level_at ls (length ls - 1 - left))
-  pub reaches : Reaches G left source
+pub record IsWalked (G : Ground) (K : Item → Option Rest) (x : Item) (count left : ℕ) (source : Source) (steps : List Step) : Type 0 where
+  pub long : length steps + left ≡ count
+  pub known : left_of K source ≡ Some left
   pub way : (rest : List Step) → IsWay G source rest → length rest ≡ left → IsWay G (Some x) (steps ++ rest)
 
 regroup : (a : List Step) (x : Step) (c : List Step) → (a ++ x ∷ []) ++ c ≡ a ++ (x ∷ c)
 regroup a x c = simp append_assoc
 
-module _ (G : Ground) (ls : List (List Source)) (x : Item) (A : AreAllLevels G x ls) where
-  abbrev n : ℕ
-  n = length ls - 1
+no_left : (n : ℕ) → Some 0 ≡ Some (n + 1) → ⊥
+no_left n e = let h = some_nat 0 (n + 1) e in omega (arith, h)
+  where
+    some_nat : (a b : ℕ) → Some a ≡ Some b → a ≡ b
+    some_nat a b e = cc
 
-  pub walk_start : IsWalked G ls x n (Some x) []
-  walk_start = record {
-    bound = omega arith;
-    long = omega arith;
-    among = subst (λ (k : ℕ). IsOneOf (Some x) (level_at ls k)) zero_left (item_among G x n ls A.levels_to);
-    reaches = item_reaches G x n ls A.levels_to A.ends;
-    way = λ rest w l. w;
-  }
+module _ (G : Ground) (K : Item → Option Rest) (R : AreRests G K) where
+  -- a step is left, so there is an item
+  pub not_text : (source : Source) (left : ℕ) → left_of K source ≡ Some (left + 1) → source ≡ None → ⊥
+  not_text source left k e = no_left left (subst (λ (z : Source). left_of K z ≡ Some (left + 1)) e k)
+
+  pub not_unknown : (source : Source) (item : Item) (left : ℕ) → left_of K source ≡ Some (left + 1) → source ≡ Some item → None ≡ K item → ⊥
+  not_unknown source item left k e none = let r = some_rest K item (left + 1) (subst (λ (z : Source). left_of K z ≡ Some (left + 1)) e k) in clash r.0 (none ∙ r.1)
     where
-      zero_left : 0 ≡ n - n
-      zero_left = omega arith
+      clash : (r : Rest) → None ≡ Some r → ⊥
+      clash r e = cc
 
-  module _ (marks : List (List Source)) (M : AreMarks G ls n n marks) (left : ℕ) (source : Source) (steps : List Step) (W : IsWalked G ls x (suc left) source steps) where
-    level_e : (n - suc left) + suc left ≡ n
-    level_e = let h = W.bound in omega (arith, h)
+  same_rest : (r q : Rest) → Some r ≡ Some q → r ≡ q
+  same_rest r q e = cc
 
-    level_next : (n - suc left) + 1 ≡ n - left
-    level_next = let h = W.bound in omega (arith, h)
+  -- by what is known of the item
+  pub least_step : (source : Source) (item : Item) (left : ℕ) (rest : Rest) → left_of K source ≡ Some (left + 1) → source ≡ Some item → Some rest ≡ K item → IsLeastStep G K left source (record { item = item; place = rest.cause.place }) rest.cause.source
+  least_step source item left rest k e h =
+      let r = some_rest K item (left + 1) (subst (λ (z : Source). left_of K z ≡ Some (left + 1)) e k) in
+      let same : rest ≡ r.0 = same_rest rest r.0 (h ∙ r.1) in
+      let is = R item rest (sym h) in
+      let less : rest.left - 1 ≡ left = (let l : rest.left ≡ left + 1 = ap (λ (q : Rest). q.left) same ∙ r.2 in omega (arith, l)) in
+      record {
+        is = e;
+        way = record { next = is.next; least = λ p z i v. is.least p z i (subst (λ (m : ℕ). Reaches G m z) (sym less) v) };
+        known = is.behind ∙ ap Some less;
+      }
 
-    marked : AreMarked G ls ((n - suc left) + 1) left (level_at marks left)
-    marked = M.each ((n - suc left) + 1) left (omega (arith, W.bound)) (omega (arith, level_e))
+  module _ (x : Item) (count : ℕ) where
+    pub walk_start : (steps : List Step) → steps ≡ [] → left_of K (Some x) ≡ Some count → IsWalked G K x count count (Some x) steps
+    walk_start steps e k = subst (IsWalked G K x count count (Some x)) (sym e) (record { long = (let e : 0 + count ≡ count = omega arith in e); known = k; way = λ rest w l. w })
 
-    on_next : (p : Place) (z : Source) → IsNext G source p z → Reaches G left z → IsOneOf z (level_at marks left)
-    on_next p z s r = marked.all z (next_among G x n ls A.levels_to (n - suc left) left source z p level_e W.among s r) r
+    one_less : (left : ℕ) → 0 < left → left ≡ (left - 1) + 1
+    one_less left lt = omega (arith, lt)
 
-    pub walk_leads : Leads G source (level_at marks left)
-    walk_leads = let r = W.reaches in record { place = r.0; source = r.1; next = r.2; among = on_next r.0 r.1 r.2 r.3 }
+    -- as many are left as a step needs
+    pub walk_left : (left : ℕ) (source : Source) (steps : List Step) → 0 < left → IsWalked G K x count left source steps → left_of K source ≡ Some ((left - 1) + 1)
+    walk_left left source steps lt W = W.known ∙ ap Some (one_less left lt)
 
-    pub walk_more : (step : Step) (y : Source) → IsLeastStep G source (level_at marks left) step y → IsWalked G ls x left y (steps ++ step ∷ [])
-    walk_more step y s = record {
-      bound = omega (arith, W.bound);
-      long = omega (arith, length_push steps step, W.long);
-      among = subst (λ (k : ℕ). IsOneOf y (level_at ls k)) level_next (marked.there y s.among);
-      reaches = marked.far y s.among;
-      way = λ rest w l. subst (IsWay G (Some x)) (sym (regroup steps step rest)) (W.way (step ∷ rest) (s.is, (y, here rest l, w)) (omega (arith, l)));
-    }
+    pub walk_more : (left : ℕ) (source : Source) (steps new : List Step) (step : Step) (y : Source) → 0 < left → IsWalked G K x count left source steps → IsLeastStep G K (left - 1) source step y → new ≡ steps ++ step ∷ [] → IsWalked G K x count (left - 1) y new
+    walk_more left source steps new step y lt W s e = subst (IsWalked G K x count (left - 1) y) (sym e) (record {
+      long = omega (arith, length_push steps step, W.long, lt);
+      known = s.known;
+      way = λ rest w l. subst (IsWay G (Some x)) (sym (regroup steps step rest)) (W.way (step ∷ rest) (s.is, (y, here rest l, w)) (long rest l));
+    })
       where
-        here : (rest : List Step) → length rest ≡ left → IsStep G (length rest) step y
-        here rest l = record {
-          next = s.next;
-          least = λ p z i r. s.least p z i (on_next p z (subst (λ (v : Source). IsNext G v p z) (sym s.is) i) (subst (λ (k : ℕ). Reaches G k z) l r));
-        }
+        here : (rest : List Step) → length rest ≡ left - 1 → IsStep G (length rest) step y
+        here rest l = subst (λ (k : ℕ). IsStep G k step y) (sym l) s.way
 
-  -- the same of a number of steps that isn't zero
-  module _ (marks : List (List Source)) (M : AreMarks G ls n n marks) where
-    one_less : (k : ℕ) → k ≡ suc k - 1
-    one_less k = omega arith
+        long : (rest : List Step) → length rest ≡ left - 1 → length (step ∷ rest) ≡ left
+        long rest l = omega (arith, l, lt)
 
-    pub leads_from : (left : ℕ) (source : Source) (steps : List Step) (wanted : List Source) → 0 < left → IsWalked G ls x left source steps → wanted ≡ level_at marks (left - 1) → Leads G source wanted
-    leads_from zero source steps wanted lt W e = absurd (omega (arith, lt))
-    leads_from (suc k) source steps wanted lt W e = subst (Leads G source) (ap (level_at marks) (one_less k) ∙ sym e) (walk_leads marks M k source steps W)
+    -- where no step is left, the walk is at the text
+    at_text : (source : Source) → left_of K source ≡ Some 0 → IsWay G source []
+    at_text None k = refl
+    at_text (Some y) k = let r = some_rest K y 0 k in let is = R y r.0 r.1 in let lt = is.some in let l = r.2 in absurd (omega (arith, lt, l))
 
-    pub more_from : (left : ℕ) (source : Source) (steps new : List Step) (wanted : List Source) (step : Step) (y : Source) → 0 < left → IsWalked G ls x left source steps → wanted ≡ level_at marks (left - 1) → IsLeastStep G source wanted step y → new ≡ steps ++ step ∷ [] → IsWalked G ls x (left - 1) y new
-    more_from zero source steps new wanted step y lt W e s f = absurd (omega (arith, lt))
-    more_from (suc k) source steps new wanted step y lt W e s f =
-        subst (λ (m : ℕ). IsWalked G ls x m y new) (one_less k)
-        (subst (IsWalked G ls x k y) (sym f)
-        (walk_more marks M k source steps W step y (subst (λ (w : List Source). IsLeastStep G source w step y) (e ∙ ap (level_at marks) (sym (one_less k))) s)))
+    pub walk_way : (left : ℕ) (source : Source) (steps : List Step) → left ≤ 0 → IsWalked G K x count left source steps → IsWay G (Some x) steps
+    walk_way left source steps le W =
+        let none : left ≡ 0 = omega (arith, le) in
+        subst (IsWay G (Some x)) (append-nil steps) (W.way [] (at_text source (W.known ∙ ap Some none)) (sym none))
 
-  -- where no step is left, the walk is at the text
-  pub done_way : (left : ℕ) (source : Source) (steps : List Step) → left ≤ 0 → IsWalked G ls x left source steps → IsWay G (Some x) steps
-  done_way zero source steps le W = subst (IsWay G (Some x)) (append-nil steps) (W.way [] W.reaches refl)
-  done_way (suc k) source steps le W = absurd (omega (arith, le))
-
-  pub done_long : (left : ℕ) (source : Source) (steps : List Step) → left ≤ 0 → IsWalked G ls x left source steps → length steps ≡ n
-  done_long left source steps le W = omega (arith, le, W.long)
+    pub walk_long : (left : ℕ) (source : Source) (steps : List Step) → left ≤ 0 → IsWalked G K x count left source steps → length steps ≡ count
+    walk_long left source steps le W = let h = W.long in omega (arith, le, h)
 
 -- of lists of numbers whose fronts decide
 longer : (a c xs ys : List ℕ) → is_before a c ≡ true → is_before (a ++ xs) (c ++ ys) ≡ true
@@ -173,7 +169,7 @@ module _ (G : Ground) where
   chain_stands x h = first_stands (record { item = x; place = h.place }) h.more h.chain
 
   -- the walk is the first chain
-  pub walk_first : (law : FirstLaw) (ls : List (List Source)) (x : Item) → AreAllLevels G x ls → Stands s T x → (steps : List Step) → IsWay G (Some x) steps → length steps ≡ length ls - 1 → IsFirstChain P s T x steps
-  walk_first law ls x A st [] w l = absurd (none_some x w)
-  walk_first law ls x A st (y ∷ ys) w l = law x (y ∷ ys) (some_same x y.item w.0) (way_walk (Some x) y ys st w)
-      (λ others b c. let h = far G x (length ls - 1) ls A.levels_to (length others) 0 (Some x) (item_among G x (length ls - 1) ls A.levels_to) (from_item x others b c).1 in omega (arith, h, l))
+  pub walk_first : (law : FirstLaw) (K : Item → Option Rest) (x : Item) (left : ℕ) → IsFound G K x left → Stands s T x → (steps : List Step) → IsWay G (Some x) steps → length steps ≡ left → IsFirstChain P s T x steps
+  walk_first law K x left F st [] w l = absurd (none_some x w)
+  walk_first law K x left F st (y ∷ ys) w l = law x (y ∷ ys) (some_same x y.item w.0) (way_walk (Some x) y ys st w)
+      (λ others b c. let h = left_least G K F.rests_are (Some x) left (length others) F.known (from_item x others b c).1 in omega (arith, h, l))

@@ -1,13 +1,14 @@
 //! The order of causes.
-ghost use Rattle.std.specs.Prelude.{◌≡◌, ◌<◌, length, MatchOption, true, false};
+ghost use Rattle.std.specs.Prelude.{◌≡◌, ◌<◌, length, MatchOption, Some, true, false};
 ghost use Rattle.jn_reasons_law.specs.Choice as choice;
-ghost use Rattle.jn_chain.specs.Search.{source_list, way_list, IsBetter, IsLeastAmong, IsLesser, IsUnwanted};
+ghost use Rattle.jn_chain.specs.Keys.{rest_of};
+ghost use Rattle.jn_chain.specs.Search.{left_of, source_list, way_list, IsBetter, IsLeastAmong, IsLesser, IsUnwanted};
 
-use crate::lists::contains;
+use crate::chains::Chains;
 use jn_reasons::{Cause, Source};
 use jn_reasons_law::{Bit, Item, Place};
 
-fn bit_no(bit: Bit) -> u32
+pub(crate) fn bit_no(bit: Bit) -> u32
     ensures { result ≡ choice.bit_no bit }
 {
     match bit {
@@ -87,24 +88,36 @@ fn lesser(best: Option<Cause>, cause: Cause) -> Cause
     }
 }
 
-/// The lesser of two, where the second is wanted.
-fn better(best: Option<Cause>, cause: Cause, wanted: &[Source]) -> Option<Cause>
-    ensures { IsBetter best cause wanted.now result }
+/// Whether it is known that so many steps are left from the source.
+fn is_wanted(chains: &Chains, left: usize, source: Source) -> bool
+    ensures there { result ≡ true → left_of (rest_of chains.now) source ≡ Some left }
+    ensures none { result ≡ false → left_of (rest_of chains.now) source ≡ Some left → ⊥ }
 {
-    if !contains(wanted, cause.source) {
+    match chains.left(source) {
+        None => false,
+        Some(known) => known == left,
+    }
+}
+
+/// The lesser of two, where the second is wanted.
+fn better(best: Option<Cause>, cause: Cause, chains: &Chains, left: usize) -> Option<Cause>
+    ensures { IsBetter best cause (λ z. left_of (rest_of chains.now) z ≡ Some left) result }
+{
+    if !is_wanted(chains, left, cause.source) {
         return best;
     }
     Some(lesser(best, cause))
 }
 
-/// The least of the causes that come from what is wanted; None where none does.
-pub(crate) fn least(causes: &[Cause], wanted: &[Source]) -> Option<Cause>
-    ensures { MatchOption result (IsUnwanted causes.now wanted.now)
-        (λ c. IsLeastAmong causes.now wanted.now c) }
+/// The least of the causes from whose sources so many steps are known to be left; None where there is none.
+pub(crate) fn least(causes: &[Cause], chains: &Chains, left: usize) -> Option<Cause>
+    ensures { MatchOption result
+        (IsUnwanted causes.now (λ z. left_of (rest_of chains.now) z ≡ Some left))
+        (λ c. IsLeastAmong causes.now (λ z. left_of (rest_of chains.now) z ≡ Some left) c) }
 {
     let mut best = None;
     for cause in causes {
-        best = better(best, *cause, wanted);
+        best = better(best, *cause, chains, left);
     }
     best
 }

@@ -1,61 +1,56 @@
-//! The walk: from the item to the text, each time the least way.
-ghost use Rattle.std.specs.Prelude.{◌≡◌, ◌-◌, IfOk, Some, length};
-ghost use Rattle.jn_chain.specs.Search.{AreAllLevels, AreMarks, IsLeastStep, IsWay, Leads};
+//! The walk: from an item to the text, each time the least way that is known.
+ghost use Rattle.std.specs.Prelude.{◌≡◌, ◌+◌, IfOk, Some, length};
+ghost use Rattle.jn_chain.specs.Keys.{rest_of};
+ghost use Rattle.jn_chain.specs.Search.{AreRests, IsFound, IsLeastStep, IsWay, left_of};
 
+use crate::chains::Chains;
 use crate::lists::push;
-use crate::order::least;
 use crate::origins::Origins;
-use jn_base::{OutOfMemory, Seq};
+use jn_base::OutOfMemory;
 use jn_reasons::Source;
 use jn_reasons_law::{Item, Step};
 use std::alloc::Global;
 
-/// The least step of the source to one that is wanted, and that one.
-fn step_from<O: Origins>(
-    alloc: Global,
-    origins: &O,
-    source: Source,
-    wanted: &[Source],
-) -> Result<(Step, Source), OutOfMemory>
-    requires leads { Leads (O.describe origins.now) source wanted.now }
-    ensures { IfOk result (λ found. IsLeastStep (O.describe origins.now) source wanted.now found.0 found.1) }
+/// The step of the source, which leaves so many, and what it comes from.
+fn step_from<O: Origins>(origins: &O, chains: &Chains, source: Source, left: usize) -> (Step, Source)
+    requires rests { AreRests (O.describe origins.now) (rest_of chains.now) }
+    requires known { left_of (rest_of chains.now) source ≡ Some (left + 1) }
+    ensures { IsLeastStep (O.describe origins.now) (rest_of chains.now) left source result.0 result.1 }
 {
-    let causes = origins.causes(alloc, source)?;
+    let _origins = origins;
     match source {
         None => unreachable!(),
-        Some(item) => match least(&causes, wanted) {
+        Some(item) => match chains.get(item) {
             None => unreachable!(),
-            Some(cause) => {
+            Some(rest) => {
                 let step = Step {
                     item,
-                    place: cause.place,
+                    place: rest.cause.place,
                 };
-                Ok((step, cause.source))
+                (step, rest.cause.source)
             }
         },
     }
 }
 
-/// The least way from the item to the text.
+/// The least way from the item to the text, of so many steps.
 pub(crate) fn walk<O: Origins>(
     alloc: Global,
     origins: &O,
+    chains: &Chains,
     item: Item,
-    levels: &[Seq<Source>],
-    marks: &[Seq<Source>],
+    count: usize,
 ) -> Result<Vec<Step>, OutOfMemory>
-    requires levels { AreAllLevels (O.describe origins.now) item levels.now }
-    requires marks { AreMarks (O.describe origins.now) levels.now (length levels.now - 1)
-        (length levels.now - 1) marks.now }
+    requires { IsFound (O.describe origins.now) (rest_of chains.now) item count }
     ensures way { IfOk result (λ steps. IsWay (O.describe origins.now) (Some item) steps.items) }
-    ensures long { IfOk result (λ steps. length steps.items ≡ length levels.now - 1) }
+    ensures long { IfOk result (λ steps. length steps.items ≡ count) }
 {
     let mut steps = Vec::new(alloc);
     let mut source = Some(item);
-    let mut left = levels.len() - 1;
+    let mut left = count;
     while left > 0 {
         left -= 1;
-        let (step, next) = step_from(alloc, origins, source, marks[left].as_slice())?;
+        let (step, next) = step_from(origins, chains, source, left);
         push(&mut steps, step)?;
         source = next;
     }

@@ -1,8 +1,7 @@
-use Rattle.jn_chain.proofs.Loops.{lead_wanted, lead_step}
+use Rattle.std.proofs.Common.{sym, ◌∙◌}
+use Rattle.jn_chain.specs.Keys.{rest_of}
+use Rattle.jn_chain.proofs.Walks.{least_step}
 use Rattle.jn_chain.proofs.walk.step_from.Goals as goal
 
-pub unreachable-requires-in-None-least : goal.unreachable-requires-in-None-least
-unreachable-requires-in-None-least g c = lead_wanted (g.O.Origins.describe c.args.origins.now) c.args.source c.args.wanted.now c.in_ok-causes.causes.items c.deref.result.now c.in_ok-causes.ensures c.deref.ensures.value c.requires.leads c.in-None-least.ensures
-
 pub returns : goal.returns
-returns g c = lead_step (g.O.Origins.describe c.args.origins.now) c.args.source c.in-Some.item c.args.wanted.now c.in_ok-causes.causes.items c.deref.result.now c.in-Some-least.cause c.in-Some.is c.in_ok-causes.ensures c.deref.ensures.value c.in-Some-least.ensures
+returns g c = least_step (g.O.Origins.describe c.args.origins.now) (rest_of c.args.chains.now) c.requires.rests c.args.source c.in-Some.item c.args.left c.in-Some-get.rest c.requires.known c.in-Some.is (sym c.in-Some-get.is ∙ c.get.ensures)
