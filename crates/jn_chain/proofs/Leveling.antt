@@ -143,9 +143,9 @@ module _ (G : Ground) (K : Item → Option Rest) where
     far zero m z le h r = absurd (L.endless m le (subst (λ (y : Source). IsOneOf y (level_at ls m)) r h))
     far (suc j) m z le h r = ⊎_elim
         (λ (lt : m < n). ⊎_elim
-            (λ b. let low = left_least G K R r.1 b.left j b.known r.3 in raise best ((m + 1) + b.left) (m + suc j) (omega (arith, low)) b.most)
-            (λ w. let i = w.within in raise best (w.level + j) (m + suc j) (omega (arith, i)) (far j w.level r.1 (omega (arith, i, lt)) w.among r.3))
-            (L.spread m z r.1 r.0 lt h r.2))
+        (λ b. let low = left_least G K R r.1 b.left j b.known r.3 in raise best ((m + 1) + b.left) (m + suc j) (omega (arith, low)) b.most)
+        (λ w. let i = w.within in raise best (w.level + j) (m + suc j) (omega (arith, i)) (far j w.level r.1 (omega (arith, i, lt)) w.among r.3))
+        (L.spread m z r.1 r.0 lt h r.2))
         (λ (ge : n ≤ m).
         let e : m ≡ n = omega (arith, le, ge) in
         raise best n (m + suc j) (omega (arith, e)) (stops z (subst (λ (k : ℕ). IsOneOf z (level_at ls k)) e h)))

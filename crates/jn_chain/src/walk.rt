@@ -12,7 +12,12 @@ use jn_reasons_law::{Item, Step};
 use std::alloc::Global;
 
 /// The step of the source, which leaves so many, and what it comes from.
-fn step_from<O: Origins>(origins: &O, chains: &Chains, source: Source, left: usize) -> (Step, Source)
+fn step_from<O: Origins>(
+    origins: &O,
+    chains: &Chains,
+    source: Source,
+    left: usize,
+) -> (Step, Source)
     requires rests { AreRests (O.describe origins.now) (rest_of chains.now) }
     requires known { left_of (rest_of chains.now) source ≡ Some (left + 1) }
     ensures { IsLeastStep (O.describe origins.now) (rest_of chains.now) left source result.0 result.1 }

@@ -28,8 +28,7 @@ loop-at-preserved g c =
       pushed_is = c.of_vec.ensures;
       new_is = c.in_ok-push-2.ensures;
       met = c.in_ok-next.ensures.met;
-    } in
-    (
+    } in (
       turn_more (g.O.Origins.describe c.args.origins.now) (rest_of c.args.chains.now) c.args.item c.loop-at.at c.loop-at.levels.items c.deref.result.now c.push-in-loop-at.new.list.items c.as_slice.result.now c.in_ok-next.next.items c.of_vec.result c.loop-at.best c.in_ok-next.least c.requires.rests c.loop-at.invariant.0 t,
       seen_level c.loop-at.levels.items c.push-in-loop-at.new.list.items c.next_level.new.seen c.in_ok-next.next.items
           (subst (λ (l : List (List (Option Item))). AreSeen c.next_level.new.seen l c.in_ok-next.next.items) c.deref.ensures.value c.in_ok-next.ensures.seen)
