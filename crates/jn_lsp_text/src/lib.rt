@@ -9,6 +9,7 @@ pub mod choice;
 pub mod copies;
 pub mod counting;
 pub mod id;
+pub mod markup;
 pub mod message;
 pub mod position;
 pub mod range;
@@ -17,10 +18,11 @@ pub mod reply;
 pub use choice::{Choice, choice_named, chosen};
 pub use copies::copy_diagnostics;
 pub use id::Id;
+pub use markup::Markup;
 pub use message::{Change, Message};
 pub use position::{
     Position, offset_of, offsets_return, offsets_stand_on_their_lines, position_of,
     positions_have_one_offset,
 };
 pub use range::{Range, range_of, ranges_have_one_replacement, replace};
-pub use reply::{Action, Diagnostic, Failure, Hint, Insertion, Related, Reply, Said};
+pub use reply::{Action, Diagnostic, Failure, Hint, Hover, Insertion, Related, Reply, Said};

@@ -2,6 +2,8 @@
 use crate::Range;
 use crate::choice::Choice;
 use crate::id::Id;
+use crate::markup::Markup;
+use crate::position::Position;
 use jn_base::{Seq, Text};
 
 /// A change of a document's text (TextDocumentContentChangeEvent).
@@ -18,13 +20,15 @@ pub enum Change {
 pub enum Message {
     /// `initialize`: the path of the workspace's folder, where one is named, the members that are inferred by the settings
     /// (`initializationOptions.infer`), the names of files by the settings (`initializationOptions.files`), each whole or relative to the
-    /// folder, and the names of folders that are left out (`initializationOptions.exclude`).
+    /// folder, the names of folders that are left out (`initializationOptions.exclude`), and how the client shows what stands at a position
+    /// (`capabilities.textDocument.hover.contentFormat`).
     Initialize {
         id: Id,
         folder: Option<Text>,
         infer: Choice,
         files: Seq<Text>,
         exclude: Seq<Text>,
+        markup: Markup,
     },
     /// `initialized`.
     Initialized,
@@ -61,6 +65,12 @@ pub enum Message {
         id: Id,
         name: Text,
         range: Range,
+    },
+    /// `textDocument/hover`.
+    Hover {
+        id: Id,
+        name: Text,
+        position: Position,
     },
     /// `shutdown`.
     Shutdown {

@@ -1,5 +1,6 @@
 //! What the server sends.
 use crate::id::Id;
+use crate::markup::Markup;
 use crate::{Position, Range};
 use jn_base::{Code, Seq, Text};
 
@@ -71,6 +72,14 @@ pub struct Hint {
     pub space_behind: bool,
 }
 
+/// What is shown of a range of a text (Hover): in words, and places that tell why.
+#[derive(Drop)]
+pub struct Hover {
+    pub range: Range,
+    pub words: Text,
+    pub related: Seq<Related>,
+}
+
 /// A message of the server (Language Server Protocol 3.17).
 #[derive(Drop)]
 pub enum Reply {
@@ -106,5 +115,11 @@ pub enum Reply {
     Hints {
         id: Id,
         hints: Seq<Hint>,
+    },
+    /// The answer to `textDocument/hover`: in this form, where anything is shown.
+    Hovered {
+        id: Id,
+        markup: Markup,
+        hover: Option<Hover>,
     },
 }
