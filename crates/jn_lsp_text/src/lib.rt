@@ -8,6 +8,7 @@
 pub mod choice;
 pub mod copies;
 pub mod counting;
+pub mod folders;
 pub mod id;
 pub mod markup;
 pub mod message;
@@ -17,6 +18,7 @@ pub mod reply;
 
 pub use choice::{Choice, choice_named, chosen};
 pub use copies::copy_diagnostics;
+pub use folders::Folders;
 pub use id::Id;
 pub use markup::Markup;
 pub use message::{Change, Message};

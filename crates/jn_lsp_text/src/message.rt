@@ -1,6 +1,7 @@
 //! What a client sends.
 use crate::Range;
 use crate::choice::Choice;
+use crate::folders::Folders;
 use crate::id::Id;
 use crate::markup::Markup;
 use crate::position::Position;
@@ -18,13 +19,13 @@ pub enum Change {
 /// A message of a client (Language Server Protocol 3.17), or why a body is none.
 #[derive(Drop)]
 pub enum Message {
-    /// `initialize`: the path of the workspace's folder, where one is named, the members that are inferred by the settings
-    /// (`initializationOptions.infer`), the names of files by the settings (`initializationOptions.files`), each whole or relative to the
-    /// folder, the names of folders that are left out (`initializationOptions.exclude`), and how the client shows what stands at a position
+    /// `initialize`: the workspace's folders, the members that are inferred by the settings (`initializationOptions.infer`), the names of
+    /// files by the settings (`initializationOptions.files`), each whole or relative to the first folder, the names of folders that are left
+    /// out (`initializationOptions.exclude`), and how the client shows what stands at a position
     /// (`capabilities.textDocument.hover.contentFormat`).
     Initialize {
         id: Id,
-        folder: Option<Text>,
+        folders: Folders,
         infer: Choice,
         files: Seq<Text>,
         exclude: Seq<Text>,

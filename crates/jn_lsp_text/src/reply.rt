@@ -106,6 +106,8 @@ pub enum Reply {
     Show {
         words: Text,
     },
+    /// `client/registerCapability`: a request to tell of Java files that change (`workspace/didChangeWatchedFiles`).
+    Watch,
     /// The answer to `textDocument/codeAction`.
     Actions {
         id: Id,
