@@ -1,4 +1,4 @@
--- Paths in URIs, names at paths, and ranges that are found.
+-- Paths in URIs, names at paths, and ranges and positions that are found.
 use Rattle.std.proofs.Common.{◌≡◌, ℕ, true, false, ◌&&◌, List, Option, Some, None, IsUtf8, option_and_then, sym, ap, ◌∙◌, ◌⊎◌, inl, inr}
 use Rattle.std.specs.Prelude.{bytes_eq, drop, length, take}
 use Rattle.std.specs.Str.{is_utf8}
@@ -6,8 +6,9 @@ use Rattle.std.proofs.lemmas.Bool.{cond-true, cond-false, cases_Bool}
 use Rattle.std.proofs.lemmas.Str.{IsUtf8-from_is_utf8, is_utf8-from_IsUtf8}
 use Rattle.percent_encoding.specs.Percent.{percent_decode}
 use Rattle.serde_json.specs.Data.{Data}
+use Rattle.jn_lsp_text.specs.declared.position.Position.{Position}
 use Rattle.jn_lsp_text.specs.declared.range.Range.{Range}
-use Rattle.jn_lsp_messages.specs.Incoming.{range_in}
+use Rattle.jn_lsp_messages.specs.Incoming.{position_in, range_in}
 use Rattle.jn_lsp_messages.specs.Uris.{is_path, name_at, path_behind}
 
 -- another front, a path after the front, and no path after it
@@ -40,3 +41,7 @@ no_text_there uri path bytes is none = sym (cond-false _ _ _ (ap is_utf8 (sym is
 -- a range that was found
 pub range_there : (found : Option Data) (d : Data) (r : Option Range) → found ≡ Some d → r ≡ range_in d → r ≡ option_and_then range_in found
 range_there found d r e is = is ∙ sym (ap (option_and_then range_in) e)
+
+-- a position that was found
+pub position_there : (found : Option Data) (d : Data) (r : Option Position) → found ≡ Some d → r ≡ position_in d → r ≡ option_and_then position_in found
+position_there found d r e is = is ∙ sym (ap (option_and_then position_in) e)

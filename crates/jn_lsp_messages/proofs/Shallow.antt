@@ -9,6 +9,7 @@ use Rattle.serde_json.specs.Read.{max_depth, read}
 use Rattle.serde_json.specs.Written.{compact_text, has_float, items_have_float, members_have_float}
 use Rattle.jn_base.specs.Codes.{code_name}
 use Rattle.jn_base.specs.declared.code.Code.{Code}
+use Rattle.jn_lsp_text.specs.declared.markup.Markup.{Markup}
 use Rattle.jn_lsp_text.specs.declared.position.Position.{Position}
 use Rattle.jn_lsp_text.specs.declared.range.Range.{Range}
 use Rattle.jn_lsp_text.specs.declared.id.Id.{Id}
@@ -17,6 +18,7 @@ use Rattle.jn_lsp_text.specs.declared.reply.Action.{Action}
 use Rattle.jn_lsp_text.specs.declared.reply.Diagnostic.{Diagnostic}
 use Rattle.jn_lsp_text.specs.declared.reply.Failure.{Failure}
 use Rattle.jn_lsp_text.specs.declared.reply.Hint.{Hint}
+use Rattle.jn_lsp_text.specs.declared.reply.Hover.{Hover}
 use Rattle.jn_lsp_text.specs.declared.reply.Insertion.{Insertion}
 use Rattle.jn_lsp_text.specs.declared.reply.Related.{Related}
 use Rattle.jn_lsp_text.specs.declared.reply.Said.{Said}
@@ -24,7 +26,7 @@ use Rattle.jn_lsp_text.specs.declared.reply.Said.TheVariants.{Row, Unchecked}
 use Rattle.jn_lsp_text.specs.declared.reply.Reply.{Reply}
 use Rattle.jn_lsp_text.specs.declared.reply.Reply.TheVariants as reply
 use Rattle.jn_lsp_messages.specs.Incoming.{IsJson}
-use Rattle.jn_lsp_messages.specs.Outgoing.{position_data, range_data, location_data, related_data, told, description_data, described, row_data, unchecked_data, said_data, diagnostic_data, insertion_data, edit_data, action_data, hint_data, sync_data, kinds_data, capabilities_data, server_data, initialize_data, failure_code, failure_words, error_data, id_data, id_or_null, answer_data, refusal_data, notice_data, versioned, published_data, shown_data, list_data, data_of}
+use Rattle.jn_lsp_messages.specs.Outgoing.{position_data, range_data, location_data, related_data, told, description_data, described, row_data, unchecked_data, said_data, diagnostic_data, insertion_data, edit_data, action_data, hint_data, kind_name, hover_words, contents_data, hover_data, hover_or_null, watchers_data, registration_data, registrations_data, request_data, sync_data, kinds_data, workspace_data, capabilities_data, server_data, initialize_data, failure_code, failure_words, error_data, id_data, id_or_null, answer_data, refusal_data, notice_data, versioned, published_data, shown_data, list_data, data_of}
 use Rattle.jn_lsp_messages.specs.Uris.{uri_of}
 
 -- a value nests at most so deep, and has no float
@@ -185,8 +187,27 @@ hint_is h =
     (next 1 _ _ _ (truth 1 h.space_behind)
     (last 1 _ _ (position_is h.at))))))
 
+contents_is : (markup : Markup) (h : Hover) → Is 1 (contents_data markup h)
+unfolding contents_data
+contents_is markup h = holding 0 1 _ refl (next 0 _ _ _ (text 0 (kind_name markup)) (last 0 _ _ (text 0 (hover_words markup h))))
+
+hover_is : (markup : Markup) (h : Hover) → Is 3 (hover_data markup h)
+unfolding hover_data
+hover_is markup h = holding 2 3 _ refl (next 2 _ _ _ (deeper 1 2 _ (omega arith) (contents_is markup h)) (last 2 _ _ (range_is h.range)))
+
+hover_or_null_is : (markup : Markup) (hover : Option Hover) → Is 8 (hover_or_null markup hover)
+hover_or_null_is markup None = nothing 8
+hover_or_null_is markup (Some h) = deeper 3 8 _ (omega arith) (hover_is markup h)
+
+watch_is : Is 9 (request_data (id.Text (codes "watch")) (codes "client/registerCapability") registrations_data)
+unfolding request_data registrations_data registration_data watchers_data
+watch_is = record { shallow = closed; whole = refl }
+  where
+    closed : 7 ≤ 9
+    closed = omega arith
+
 initialize_is : Is 8 initialize_data
-unfolding initialize_data capabilities_data kinds_data sync_data server_data
+unfolding initialize_data capabilities_data kinds_data sync_data workspace_data server_data
 initialize_is = record { shallow = closed; whole = refl }
   where
     closed : 4 ≤ 8
@@ -218,8 +239,10 @@ reply_is address (reply.Done i) = answer_is i null (nothing 8)
 reply_is address (reply.Refusal i f) = refusal_is i f
 reply_is address (reply.Publish name version ds) = notice_is _ _ (published_is address name version ds)
 reply_is address (reply.Show words) = notice_is _ _ (shown_is words)
+reply_is address reply.Watch = watch_is
 reply_is address (reply.Actions i actions) = answer_is i _ (listed action_data 7 8 refl action_is actions)
 reply_is address (reply.Hints i hints) = answer_is i _ (deeper 3 8 _ (omega arith) (listed hint_data 2 3 refl hint_is hints))
+reply_is address (reply.Hovered i markup hover) = answer_is i _ (hover_or_null_is markup hover)
 
 -- what is written of a value that is a reply's reads as it, and is its compact text
 pub reads_as : (address : Option (List ℕ)) (r : Reply) (d : Data) (body : List ℕ) → d ≡ data_of address r → (depth d ≤ max_depth → read body ≡ Some d) → IsUtf8 body → IsJson body (data_of address r)

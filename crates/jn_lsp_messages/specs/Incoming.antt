@@ -1,11 +1,14 @@
 -- Which message a body is (JSON-RPC 2.0; Language Server Protocol 3.17). Members of a message are found by their paths (RFC 6901).
-use Rattle.std.specs.Prelude.{ℕ, ℤ, ◌^◌, ◌≡◌, ◌⊎◌, ◌||◌, Bool, false, List, [], ◌∷◌, Option, Some, None, IsUtf8, bytes_eq, codes, is_some, nat_lt, option_and_then, option_map, if◌then◌else◌}
+use Rattle.std.specs.Prelude.{ℕ, ℤ, ◌^◌, ◌≡◌, ◌⊎◌, ◌||◌, Bool, false, List, [], ◌∷◌, Option, Some, None, IsUtf8, bytes_eq, codes, is_some, nat_lt, option_and_then, option_map, option_to_list, if◌then◌else◌}
 use Rattle.serde_json.specs.Data.{Data, Items, no_items, item}
-use Rattle.serde_json.specs.Find.{as_array, as_i64, as_null, as_number, as_str, as_u64, get, pointer}
+use Rattle.serde_json.specs.Find.{as_array, as_bool, as_i64, as_null, as_number, as_str, as_u64, get, pointer}
 use Rattle.serde_json.specs.Read.{read}
 use Rattle.jn_lsp_text.specs.Choices.{choice_named}
 use Rattle.jn_lsp_text.specs.declared.choice.Choice.{Choice}
 use Rattle.jn_lsp_text.specs.declared.choice.Choice.TheVariants.{Unsaid, Wrong}
+use Rattle.jn_lsp_text.specs.declared.folders.Folders.{Folders}
+use Rattle.jn_lsp_text.specs.declared.markup.Markup.{Markup}
+use Rattle.jn_lsp_text.specs.declared.markup.Markup.TheVariants.{Plain, Markdown}
 use Rattle.jn_lsp_text.specs.declared.position.Position.{Position}
 use Rattle.jn_lsp_text.specs.declared.range.Range.{Range}
 use Rattle.jn_lsp_text.specs.declared.id.Id.{Id}
@@ -15,7 +18,7 @@ use Rattle.jn_lsp_text.specs.declared.message.Change.TheVariants.{Whole, Part}
 use Rattle.jn_lsp_text.specs.declared.message.Message.{Message}
 use Rattle.jn_lsp_text.specs.declared.message.Message.TheVariants as message
 use Rattle.jn_lsp_messages.specs.declared.method.Method.{Method}
-use Rattle.jn_lsp_messages.specs.declared.method.Method.TheVariants.{Initialize, Initialized, DidOpen, DidChange, DidSave, DidClose, WatchedFiles, CodeAction, InlayHint, Shutdown, Exit, Other}
+use Rattle.jn_lsp_messages.specs.declared.method.Method.TheVariants.{Initialize, Initialized, DidOpen, DidChange, DidSave, DidClose, WatchedFiles, CodeAction, InlayHint, Hover, Shutdown, Exit, Other}
 use Rattle.jn_lsp_messages.specs.Methods.{method_of}
 use Rattle.jn_lsp_messages.specs.Uris.{name_of, or_other}
 
@@ -76,6 +79,9 @@ document_version d = option_and_then integer (pointer (codes "/params/textDocume
 unfoldable pub named_range : Data → Option Range
 named_range d = option_and_then range_in (pointer (codes "/params/range") d)
 
+unfoldable pub named_position : Data → Option Position
+named_position d = option_and_then position_in (pointer (codes "/params/position") d)
+
 -- a change: of the whole text where no range is named
 abbrev pub change_of : List ℕ → Option Data → Option Change
 change_of text None = Some (Whole text)
@@ -90,23 +96,45 @@ all_changes d = option_and_then (all_of change_in) (as_array d)
 unfoldable pub changes_in : Data → Option (List Change)
 changes_in d = option_and_then all_changes (pointer (codes "/params/contentChanges") d)
 
--- the workspace's folder: the first of workspaceFolders, else rootUri, else rootPath
+-- the values of an array's items; these where none is given, or null
+abbrev pub all_values : {A : Type 0} → (Data → Option A) → Data → Option (List A)
+all_values value d = option_and_then (all_of value) (as_array d)
+
+abbrev pub values_or : {A : Type 0} → (Data → Option A) → List A → Option Data → Option (List A)
+values_or value usual None = Some usual
+values_or value usual (Some d) = if is_some (as_null d) then Some usual else all_values value d
+
+-- the workspace's folders: those of workspaceFolders, else that of rootUri, else of rootPath
 unfoldable pub root_path : Data → Option (List ℕ)
 root_path d = text_at (codes "/params/rootPath") d
 
 unfoldable pub root_in : Data → Option (List ℕ)
 root_in d = or_other (name_at (codes "/params/rootUri") d) (root_path d)
 
-unfoldable pub folder_in : Data → Option (List ℕ)
-folder_in d = or_other (name_at (codes "/params/workspaceFolders/0/uri") d) (root_in d)
+-- the path of a folder of the workspace (WorkspaceFolder)
+abbrev pub path_in : Data → Option (List ℕ)
+path_in d = option_map name_of (text_in (codes "uri") d)
 
--- texts by the settings; these where nothing is set, or null
-abbrev pub all_texts : Data → Option (List (List ℕ))
-all_texts d = option_and_then (all_of as_str) (as_array d)
+unfoldable pub paths_in : Data → Option (List (List ℕ))
+paths_in d = values_or path_in [] (pointer (codes "/params/workspaceFolders") d)
 
-abbrev pub texts_or : List (List ℕ) → Option Data → Option (List (List ℕ))
-texts_or usual None = Some usual
-texts_or usual (Some d) = if is_some (as_null d) then Some usual else all_texts d
+abbrev pub or_root : Option (List ℕ) → List (List ℕ) → List (List ℕ)
+or_root root [] = option_to_list root
+or_root root (path ∷ paths) = path ∷ paths
+
+-- whether the client watches files where it is asked to
+abbrev pub is_true : Option Bool → Bool
+is_true None = false
+is_true (Some b) = b
+
+unfoldable pub watched_in : Data → Bool
+watched_in d = is_true (option_and_then as_bool (pointer (codes "/params/capabilities/workspace/didChangeWatchedFiles/dynamicRegistration") d))
+
+abbrev pub folders_of : Data → List (List ℕ) → Folders
+folders_of d paths = record { paths = or_root (root_in d) paths; watched = watched_in d }
+
+unfoldable pub folders_in : Data → Option Folders
+folders_in d = option_map (folders_of d) (paths_in d)
 
 -- the members that are inferred by the settings; what is no text says none
 abbrev pub choice_by : Option (List ℕ) → Choice
@@ -122,14 +150,30 @@ infer_in d = choice_or (pointer (codes "/params/initializationOptions/infer") d)
 
 -- names of files by the settings
 unfoldable pub files_in : Data → Option (List (List ℕ))
-files_in d = texts_or [] (pointer (codes "/params/initializationOptions/files") d)
+files_in d = values_or as_str [] (pointer (codes "/params/initializationOptions/files") d)
 
 -- names of folders that are left out: by the settings, else those in which tools put what they make or fetch
 abbrev pub usual_exclude : List (List ℕ)
 usual_exclude = codes "target" ∷ codes "build" ∷ codes "node_modules" ∷ codes "out" ∷ []
 
 unfoldable pub exclude_in : Data → Option (List (List ℕ))
-exclude_in d = texts_or usual_exclude (pointer (codes "/params/initializationOptions/exclude") d)
+exclude_in d = values_or as_str usual_exclude (pointer (codes "/params/initializationOptions/exclude") d)
+
+-- how the client shows what stands at a position: in Markdown, where that is among the forms that it names
+abbrev pub is_markdown : Option (List ℕ) → Bool
+is_markdown None = false
+is_markdown (Some form) = bytes_eq form (codes "markdown")
+
+abbrev pub has_markdown : Items → Bool
+has_markdown no_items = false
+has_markdown (item d ds) = is_markdown (as_str d) || has_markdown ds
+
+abbrev pub markup_by : Option Items → Markup
+markup_by None = Plain
+markup_by (Some forms) = if has_markdown forms then Markdown else Plain
+
+unfoldable pub markup_in : Data → Markup
+markup_in d = markup_by (option_and_then as_array (pointer (codes "/params/capabilities/textDocument/hover/contentFormat") d))
 
 -- ---- messages
 
@@ -154,13 +198,18 @@ abbrev pub changed : Data → Message
 changed d = about (λ name. option_map (message.DidChange name (document_version d)) (changes_in d)) (document_name d)
 
 abbrev pub asked_start : Id → Data → Option Message
-asked_start id d = option_and_then (λ files. option_map (message.Initialize id (folder_in d) (infer_in d) files) (exclude_in d)) (files_in d)
+asked_start id d =
+    option_and_then (λ folders. option_and_then (λ files. option_map (λ exclude. message.Initialize id folders (infer_in d) files exclude (markup_in d))
+    (exclude_in d)) (files_in d)) (folders_in d)
 
 abbrev pub asked_actions : Id → Data → Option Message
 asked_actions id d = option_and_then (λ name. option_map (message.CodeAction id name) (named_range d)) (document_name d)
 
 abbrev pub asked_hints : Id → Data → Option Message
 asked_hints id d = option_and_then (λ name. option_map (message.InlayHint id name) (named_range d)) (document_name d)
+
+abbrev pub asked_hover : Id → Data → Option Message
+asked_hover id d = option_and_then (λ name. option_map (message.Hover id name) (named_position d)) (document_name d)
 
 abbrev pub notification : Method → Data → Message
 notification Initialized d = message.Initialized
@@ -173,6 +222,7 @@ notification Exit d = message.Exit
 notification Initialize d = message.Ignored
 notification CodeAction d = message.Ignored
 notification InlayHint d = message.Ignored
+notification Hover d = message.Ignored
 notification Shutdown d = message.Ignored
 notification Other d = message.Ignored
 
@@ -180,6 +230,7 @@ abbrev pub request : Method → Id → Data → Message
 request Initialize id d = or_bad (Some id) (asked_start id d)
 request CodeAction id d = or_bad (Some id) (asked_actions id d)
 request InlayHint id d = or_bad (Some id) (asked_hints id d)
+request Hover id d = or_bad (Some id) (asked_hover id d)
 request Shutdown id d = message.Shutdown id
 request Initialized id d = message.Unknown id
 request DidOpen id d = message.Unknown id

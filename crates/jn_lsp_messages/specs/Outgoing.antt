@@ -1,11 +1,13 @@
 -- Replies as JSON (JSON-RPC 2.0; Language Server Protocol 3.17). The members of an object stand in the order of their names' bytes.
-use Rattle.std.specs.Prelude.{ℕ, ℤ, pos, neg_ℤ, ◌++◌, true, List, Option, Some, None, codes, map}
+use Rattle.std.specs.Prelude.{ℕ, ℤ, pos, neg_ℤ, ◌+◌, ◌++◌, true, List, Option, Some, None, codes, decimal, flat_map, map}
 use Rattle.serde_json.specs.Data.{Data, null, boolean, number, string, array, object, unsigned, Members, no_members, member, no_items, item}
 use Rattle.serde_json.specs.Find.{of_integer}
 use Rattle.serde_json.specs.View.{items_of}
 use Rattle.jn_base.specs.Codes.{code_name}
 use Rattle.jn_base.specs.Messages.{code_cure, code_message}
 use Rattle.jn_base.specs.declared.code.Code.{Code}
+use Rattle.jn_lsp_text.specs.declared.markup.Markup.{Markup}
+use Rattle.jn_lsp_text.specs.declared.markup.Markup.TheVariants.{Plain, Markdown}
 use Rattle.jn_lsp_text.specs.declared.position.Position.{Position}
 use Rattle.jn_lsp_text.specs.declared.range.Range.{Range}
 use Rattle.jn_lsp_text.specs.declared.id.Id.{Id}
@@ -15,6 +17,7 @@ use Rattle.jn_lsp_text.specs.declared.reply.Diagnostic.{Diagnostic}
 use Rattle.jn_lsp_text.specs.declared.reply.Failure.{Failure}
 use Rattle.jn_lsp_text.specs.declared.reply.Failure.TheVariants as failure
 use Rattle.jn_lsp_text.specs.declared.reply.Hint.{Hint}
+use Rattle.jn_lsp_text.specs.declared.reply.Hover.{Hover}
 use Rattle.jn_lsp_text.specs.declared.reply.Insertion.{Insertion}
 use Rattle.jn_lsp_text.specs.declared.reply.Related.{Related}
 use Rattle.jn_lsp_text.specs.declared.reply.Said.{Said}
@@ -117,6 +120,52 @@ hint_data h =
     (member (codes "paddingRight") (boolean h.space_behind)
     (one (codes "position") (position_data h.at))))))
 
+-- ---- hovers
+
+-- the line on which a place begins, from 1 on
+abbrev pub line_words : Related → List ℕ
+line_words r = decimal (r.range.start.line + 1)
+
+-- a place on a line of its own; in Markdown as an item of a list, with a link to the line
+abbrev pub reason_words : Markup → Related → List ℕ
+reason_words Plain r = codes "\n" ++ r.words ++ codes " at " ++ r.name ++ codes ":" ++ line_words r
+reason_words Markdown r = codes "\n- " ++ r.words ++ codes " at [line " ++ line_words r ++ codes "](<" ++ uri_of r.name ++ codes "#L" ++ line_words r ++ codes ">)"
+
+abbrev pub hover_words : Markup → Hover → List ℕ
+hover_words markup h = h.words ++ flat_map (reason_words markup) h.related
+
+abbrev pub kind_name : Markup → List ℕ
+kind_name Plain = codes "plaintext"
+kind_name Markdown = codes "markdown"
+
+-- MarkupContent
+unfoldable pub contents_data : Markup → Hover → Data
+contents_data markup h = object (member (codes "kind") (string (kind_name markup)) (one (codes "value") (string (hover_words markup h))))
+
+unfoldable pub hover_data : Markup → Hover → Data
+hover_data markup h = object (member (codes "contents") (contents_data markup h) (one (codes "range") (range_data h.range)))
+
+-- null where nothing is shown
+abbrev pub hover_or_null : Markup → Option Hover → Data
+hover_or_null markup None = null
+hover_or_null markup (Some h) = hover_data markup h
+
+-- ---- files that the client watches (client/registerCapability, DidChangeWatchedFilesRegistrationOptions)
+
+-- those whose names end in `.java`
+unfoldable pub watchers_data : Data
+watchers_data = object (one (codes "watchers") (array (item (object (one (codes "globPattern") (string (codes "**/*.java")))) no_items)))
+
+-- the client is to tell of them, as of a method of this server
+unfoldable pub registration_data : Data
+registration_data =
+    object (member (codes "id") (string (codes "java-files"))
+    (member (codes "method") (string (codes "workspace/didChangeWatchedFiles"))
+    (one (codes "registerOptions") watchers_data)))
+
+unfoldable pub registrations_data : Data
+registrations_data = object (one (codes "registrations") (array (item registration_data no_items)))
+
 -- ---- what the server can do
 
 -- changes come as ranges (TextDocumentSyncKind.Incremental is 2)
@@ -127,12 +176,18 @@ sync_data = object (member (codes "change") (number (unsigned 2)) (member (codes
 unfoldable pub kinds_data : Data
 kinds_data = object (one (codes "codeActionKinds") (array (item (string (codes "quickfix")) no_items)))
 
+-- a workspace may have several folders (WorkspaceFoldersServerCapabilities)
+unfoldable pub workspace_data : Data
+workspace_data = object (one (codes "workspaceFolders") (object (one (codes "supported") (boolean true))))
+
 unfoldable pub capabilities_data : Data
 capabilities_data =
     object (member (codes "codeActionProvider") kinds_data
+    (member (codes "hoverProvider") (boolean true)
     (member (codes "inlayHintProvider") (boolean true)
     (member (codes "positionEncoding") (string (codes "utf-16"))
-    (one (codes "textDocumentSync") sync_data))))
+    (member (codes "textDocumentSync") sync_data
+    (one (codes "workspace") workspace_data))))))
 
 abbrev pub version : List ℕ
 version = codes "0.1.0"
@@ -180,6 +235,12 @@ answer_data i result = object (member (codes "id") (id_data i) (member (codes "j
 unfoldable pub refusal_data : Option Id → Failure → Data
 refusal_data i f = object (member (codes "error") (error_data f) (member (codes "id") (id_or_null i) (one (codes "jsonrpc") (string (codes "2.0")))))
 
+-- a request of the server's
+unfoldable pub request_data : Id → List ℕ → Data → Data
+request_data i method params =
+    object (member (codes "id") (id_data i)
+    (member (codes "jsonrpc") (string (codes "2.0")) (member (codes "method") (string method) (one (codes "params") params))))
+
 unfoldable pub notice_data : List ℕ → Data → Data
 notice_data method params =
     object (member (codes "jsonrpc") (string (codes "2.0")) (member (codes "method") (string method) (one (codes "params") params)))
@@ -204,5 +265,7 @@ data_of address (reply.Done i) = answer_data i null
 data_of address (reply.Refusal i f) = refusal_data i f
 data_of address (reply.Publish name version diagnostics) = notice_data (codes "textDocument/publishDiagnostics") (published_data address name version diagnostics)
 data_of address (reply.Show words) = notice_data (codes "window/showMessage") (shown_data words)
+data_of address reply.Watch = request_data (id.Text (codes "watch")) (codes "client/registerCapability") registrations_data
 data_of address (reply.Actions i actions) = answer_data i (list_data action_data actions)
 data_of address (reply.Hints i hints) = answer_data i (list_data hint_data hints)
+data_of address (reply.Hovered i markup hover) = answer_data i (hover_or_null markup hover)

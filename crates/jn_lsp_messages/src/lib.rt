@@ -6,13 +6,16 @@
 
 mod actions;
 mod diagnostics;
+mod folders;
 mod hints;
+mod hovers;
 pub mod law;
 pub mod method;
 mod params;
 mod places;
 pub mod reading;
 pub mod uri;
+mod watching;
 pub mod writing;
 
 pub use method::Method;

@@ -23,6 +23,8 @@ pub enum Method {
     CodeAction,
     /// `textDocument/inlayHint`.
     InlayHint,
+    /// `textDocument/hover`.
+    Hover,
     /// `shutdown`.
     Shutdown,
     /// `exit`.
@@ -46,6 +48,7 @@ pub fn method_of(name: &str) -> Method
         "workspace/didChangeWatchedFiles" => Method::WatchedFiles,
         "textDocument/codeAction" => Method::CodeAction,
         "textDocument/inlayHint" => Method::InlayHint,
+        "textDocument/hover" => Method::Hover,
         "shutdown" => Method::Shutdown,
         "exit" => Method::Exit,
         _ => Method::Other,

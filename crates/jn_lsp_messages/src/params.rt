@@ -1,12 +1,12 @@
 //! Members of messages, and parameters of methods.
 ghost use Rattle.std.specs.Prelude.{◌≡◌, IfOk, option_map};
-ghost use Rattle.serde_json.specs.Find.{as_str};
+ghost use Rattle.serde_json.specs.Find.{as_array, as_str};
 ghost use Rattle.serde_json.specs.View.{items_view, view};
 ghost use Rattle.jn_lsp_messages.specs.Incoming as spec;
 
 use crate::uri::name_of;
 use jn_base::{OutOfMemory, Seq, Text};
-use jn_lsp_text::{Change, Choice, Position, Range, choice_named};
+use jn_lsp_text::{Change, Choice, Markup, Position, Range, choice_named};
 use serde_json::Value;
 use std::alloc::{AllocError, Global};
 
@@ -68,6 +68,17 @@ pub(crate) fn named_range(body: &Value) -> Option<Range>
     }
 }
 
+/// The position that a message's parameters name.
+#[tactic(auto, unfolding(crate::specs::Incoming::named_position))]
+pub(crate) fn named_position(body: &Value) -> Option<Position>
+    ensures { result ≡ spec.named_position (view body.now) }
+{
+    match body.pointer("/params/position") {
+        None => None,
+        Some(position) => position_in(position),
+    }
+}
+
 /// The name of the document that a message is about.
 #[tactic(auto, unfolding(crate::specs::Incoming::document_name))]
 pub(crate) fn document_name(alloc: Global, body: &Value) -> Result<Option<Text>, OutOfMemory>
@@ -77,7 +88,7 @@ pub(crate) fn document_name(alloc: Global, body: &Value) -> Result<Option<Text>,
 }
 
 /// The name that the URI at a path stands for.
-fn name_at(alloc: Global, body: &Value, path: &str) -> Result<Option<Text>, OutOfMemory>
+pub(crate) fn name_at(alloc: Global, body: &Value, path: &str) -> Result<Option<Text>, OutOfMemory>
     ensures { IfOk result (λ name. name ≡ spec.name_at path.now (view body.now)) }
 {
     match text_at(body, path) {
@@ -173,37 +184,6 @@ fn change_of(alloc: Global, text: &str, range: Option<&Value>) -> Result<Option<
     }
 }
 
-/// The path of the workspace's folder, where one is named.
-#[tactic(auto, unfolding(crate::specs::Incoming::folder_in))]
-pub(crate) fn folder_in(alloc: Global, body: &Value) -> Result<Option<Text>, OutOfMemory>
-    ensures { IfOk result (λ folder. folder ≡ spec.folder_in (view body.now)) }
-{
-    match name_at(alloc, body, "/params/workspaceFolders/0/uri")? {
-        Some(folder) => Ok(Some(folder)),
-        None => root_in(alloc, body),
-    }
-}
-
-#[tactic(auto, unfolding(crate::specs::Incoming::root_in))]
-fn root_in(alloc: Global, body: &Value) -> Result<Option<Text>, OutOfMemory>
-    ensures { IfOk result (λ folder. folder ≡ spec.root_in (view body.now)) }
-{
-    match name_at(alloc, body, "/params/rootUri")? {
-        Some(folder) => Ok(Some(folder)),
-        None => root_path(alloc, body),
-    }
-}
-
-#[tactic(auto, unfolding(crate::specs::Incoming::root_path))]
-fn root_path(alloc: Global, body: &Value) -> Result<Option<Text>, OutOfMemory>
-    ensures { IfOk result (λ folder. folder ≡ spec.root_path (view body.now)) }
-{
-    match text_at(body, "/params/rootPath") {
-        None => Ok(None),
-        Some(path) => Ok(Some(Text::of_str(alloc, path)?)),
-    }
-}
-
 /// The members that are inferred by the settings.
 #[tactic(auto, unfolding(crate::specs::Incoming::infer_in))]
 pub(crate) fn infer_in(body: &Value) -> Choice
@@ -249,6 +229,54 @@ pub(crate) fn exclude_in(alloc: Global, body: &Value) -> Result<Option<Seq<Text>
     }
 }
 
+fn is_markdown(form: &Value) -> bool
+    ensures { result ≡ spec.is_markdown (as_str (view form.now)) }
+{
+    match form.as_str() {
+        None => false,
+        Some(form) => form == "markdown",
+    }
+}
+
+fn has_markdown(forms: &[Value]) -> bool
+    ensures { result ≡ spec.has_markdown (items_view forms.now) }
+{
+    let mut rest = forms;
+    while let [form, more @ ..] = rest {
+        if is_markdown(form) {
+            return true;
+        }
+        rest = more;
+    }
+    false
+}
+
+fn markup_of(value: &Value) -> Markup
+    ensures { result ≡ spec.markup_by (as_array (view value.now)) }
+{
+    match value.as_array() {
+        None => Markup::Plain,
+        Some(forms) => {
+            if has_markdown(forms) {
+                Markup::Markdown
+            } else {
+                Markup::Plain
+            }
+        }
+    }
+}
+
+/// How the client shows what stands at a position: in Markdown, where that is among the forms that it names.
+#[tactic(auto, unfolding(crate::specs::Incoming::markup_in))]
+pub(crate) fn markup_in(body: &Value) -> Markup
+    ensures { result ≡ spec.markup_in (view body.now) }
+{
+    match body.pointer("/params/capabilities/textDocument/hover/contentFormat") {
+        None => Markup::Plain,
+        Some(forms) => markup_of(forms),
+    }
+}
+
 fn usual_exclude(alloc: Global) -> Result<Seq<Text>, AllocError>
     ensures { IfOk result (λ names. names ≡ spec.usual_exclude) }
 {
@@ -261,7 +289,7 @@ fn usual_exclude(alloc: Global) -> Result<Seq<Text>, AllocError>
 }
 
 fn all_texts(alloc: Global, value: &Value) -> Result<Option<Seq<Text>>, AllocError>
-    ensures { IfOk result (λ texts. texts ≡ spec.all_texts (view value.now)) }
+    ensures { IfOk result (λ texts. texts ≡ spec.all_values as_str (view value.now)) }
 {
     match value.as_array() {
         None => Ok(None),

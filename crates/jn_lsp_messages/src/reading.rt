@@ -3,10 +3,11 @@ ghost use Rattle.std.specs.Prelude.{◌≡◌, Some, None, codes, IfOk, MatchOpt
 ghost use Rattle.serde_json.specs.View.{view};
 ghost use Rattle.jn_lsp_messages.specs.Incoming as spec;
 
+use crate::folders::folders_in;
 use crate::method::{Method, method_of};
 use crate::params::{
-    changes_in, document_name, document_text, document_version, exclude_in, files_in, folder_in,
-    infer_in, named_range, text_in,
+    changes_in, document_name, document_text, document_version, exclude_in, files_in, infer_in,
+    markup_in, named_position, named_range, text_in,
 };
 use jn_base::{OutOfMemory, Text};
 use jn_lsp_text::{Id, Message};
@@ -126,6 +127,7 @@ fn notification(alloc: Global, method: Method, body: &Value) -> Result<Message, 
         Method::Initialize
         | Method::CodeAction
         | Method::InlayHint
+        | Method::Hover
         | Method::Shutdown
         | Method::Other => Ok(Message::Ignored),
     }
@@ -188,6 +190,7 @@ fn request(alloc: Global, method: Method, id: Id, body: &Value) -> Result<Messag
         Method::Initialize => initialize(alloc, id, body),
         Method::CodeAction => code_action(alloc, id, body),
         Method::InlayHint => inlay_hint(alloc, id, body),
+        Method::Hover => hover(alloc, id, body),
         Method::Shutdown => Ok(Message::Shutdown { id }),
         Method::Initialized
         | Method::DidOpen
@@ -203,8 +206,11 @@ fn request(alloc: Global, method: Method, id: Id, body: &Value) -> Result<Messag
 fn initialize(alloc: Global, id: Id, body: &Value) -> Result<Message, OutOfMemory>
     ensures { IfOk result (λ m. m ≡ spec.request Method.Initialize id (view body.now)) }
 {
-    let folder = folder_in(alloc, body)?;
     let infer = infer_in(body);
+    let markup = markup_in(body);
+    let Some(folders) = folders_in(alloc, body)? else {
+        return Ok(Message::BadParams { id: Some(id) });
+    };
     let Some(files) = files_in(alloc, body)? else {
         return Ok(Message::BadParams { id: Some(id) });
     };
@@ -212,10 +218,11 @@ fn initialize(alloc: Global, id: Id, body: &Value) -> Result<Message, OutOfMemor
         None => Ok(Message::BadParams { id: Some(id) }),
         Some(exclude) => Ok(Message::Initialize {
             id,
-            folder,
+            folders,
             infer,
             files,
             exclude,
+            markup,
         }),
     }
 }
@@ -241,5 +248,17 @@ fn inlay_hint(alloc: Global, id: Id, body: &Value) -> Result<Message, OutOfMemor
     match named_range(body) {
         None => Ok(Message::BadParams { id: Some(id) }),
         Some(range) => Ok(Message::InlayHint { id, name, range }),
+    }
+}
+
+fn hover(alloc: Global, id: Id, body: &Value) -> Result<Message, OutOfMemory>
+    ensures { IfOk result (λ m. m ≡ spec.request Method.Hover id (view body.now)) }
+{
+    let Some(name) = document_name(alloc, body)? else {
+        return Ok(Message::BadParams { id: Some(id) });
+    };
+    match named_position(body) {
+        None => Ok(Message::BadParams { id: Some(id) }),
+        Some(position) => Ok(Message::Hover { id, name, position }),
     }
 }

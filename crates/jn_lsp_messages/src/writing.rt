@@ -8,7 +8,9 @@ ghost use Rattle.jn_lsp_messages.specs.Outgoing as spec;
 use crate::actions::actions_value;
 use crate::diagnostics::diagnostics_value;
 use crate::hints::hints_value;
+use crate::hovers::hover_value;
 use crate::uri::uri_of;
+use crate::watching::watch_value;
 use jn_base::{OutOfMemory, Text};
 use jn_lsp_text::{Diagnostic, Failure, Id, Reply};
 use serde_json::{Value, json};
@@ -55,6 +57,7 @@ fn reply_value(alloc: Global, address: &Option<Text>, reply: &Reply) -> Result<V
             diagnostics.as_slice(),
         ),
         Reply::Show { words } => Ok(show(alloc, words.as_str())?),
+        Reply::Watch => Ok(watch_value(alloc)?),
         Reply::Actions { id, actions } => {
             let actions = actions_value(alloc, actions.as_slice())?;
             Ok(answer(alloc, id, actions)?)
@@ -62,6 +65,10 @@ fn reply_value(alloc: Global, address: &Option<Text>, reply: &Reply) -> Result<V
         Reply::Hints { id, hints } => {
             let hints = hints_value(alloc, hints.as_slice())?;
             Ok(answer(alloc, id, hints)?)
+        }
+        Reply::Hovered { id, markup, hover } => {
+            let hover = hover_value(alloc, *markup, hover)?;
+            Ok(answer(alloc, id, hover)?)
         }
     }
 }
@@ -161,7 +168,8 @@ fn capabilities_value(alloc: Global) -> Result<Value, AllocError>
 {
     let kinds = kinds_value(alloc)?;
     let sync = sync_value(alloc)?;
-    json!(in alloc; {"codeActionProvider": kinds, "inlayHintProvider": true, "positionEncoding": "utf-16", "textDocumentSync": sync})
+    let workspace = workspace_value(alloc)?;
+    json!(in alloc; {"codeActionProvider": kinds, "hoverProvider": true, "inlayHintProvider": true, "positionEncoding": "utf-16", "textDocumentSync": sync, "workspace": workspace})
 }
 
 #[tactic(auto, unfolding(crate::specs::Outgoing::kinds_data))]
@@ -169,6 +177,13 @@ fn kinds_value(alloc: Global) -> Result<Value, AllocError>
     ensures { IfOk result (λ v. view v ≡ spec.kinds_data) }
 {
     json!(in alloc; {"codeActionKinds": ["quickfix"]})
+}
+
+#[tactic(auto, unfolding(crate::specs::Outgoing::workspace_data))]
+fn workspace_value(alloc: Global) -> Result<Value, AllocError>
+    ensures { IfOk result (λ v. view v ≡ spec.workspace_data) }
+{
+    json!(in alloc; {"workspaceFolders": {"supported": true}})
 }
 
 #[tactic(auto, unfolding(crate::specs::Outgoing::sync_data))]
