@@ -13,7 +13,7 @@ pub mod memory;
 pub mod paths;
 pub mod route;
 
-pub use below::{Walked, walk};
+pub use below::{Walked, order, walk};
 pub use folder::Folder;
 pub use host::HostFolder;
 pub use listed::{Entry, Kind, Listed};
