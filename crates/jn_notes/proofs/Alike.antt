@@ -18,6 +18,7 @@ use Rattle.jn_notes.specs.declared.note.Notes.{Notes}
 use Rattle.jn_notes.specs.Asked.{item_of}
 use Rattle.jn_notes.specs.Noted.{headed, noted, AreBy, AreFrom, AreNotes, AreEach, AreLeastTables, AreNotesOf}
 use Rattle.jn_notes.specs.Spoken.{topics_of}
+use Rattle.jn_notes.specs.Unkept.{preceded}
 use Rattle.jn_notes.specs.Voids.{AreVoids, key_of, read_in, void_notes}
 use Rattle.jn_notes.specs.declared.voids.ReadAt.{ReadAt}
 
@@ -47,7 +48,7 @@ module _ (P : Program) (names : List (List ℕ)) (s : List Qualifier)
     same_from (Some x) n m h i = same_by i.0 n m (subst (λ (steps : List Step). AreBy P names s tables steps n) (chain_one tables x h.0 i.0 h.1 i.1) h.2) i.2
 
     same_row : (row : Row) (n m : Notes) → AreNotes P names s tables row n → AreNotes P names s tables row m → n ≡ m
-    same_row row n m h i = h.2 ∙ ap (headed P names row (topics_of P s row tables)) (same_from (item_of P s row tables) h.0 i.0 h.1 i.1) ∙ sym i.2
+    same_row row n m h i = h.2 ∙ ap (λ (rest : Notes). headed P names row (topics_of P s row tables) (preceded P (item_of P s row tables) rest)) (same_from (item_of P s row tables) h.0 i.0 h.1 i.1) ∙ sym i.2
 
     same_each : (rows : List Row) (ns ms : List Notes) → AreEach P names s tables rows ns → AreEach P names s tables rows ms → ns ≡ ms
     same_each [] [] [] h i = refl

@@ -16,6 +16,7 @@ use Rattle.jn_notes.specs.declared.note.Notes.{Notes}
 use Rattle.jn_notes.specs.declared.topics.Topic.{Topic}
 use Rattle.jn_notes.specs.Asked.{item_of}
 use Rattle.jn_notes.specs.Noted.{headed, AreFrom, AreNotes}
+use Rattle.jn_notes.specs.Unkept.{preceded}
 use Rattle.jn_notes.specs.Spoken.{leaves, left_from, left_of, all_left, topic_note, topics_of}
 
 -- ---- ends
@@ -76,6 +77,7 @@ module _ (P : Program) (names : List (List ℕ)) where
   topics_done span topics i list le h = h ∙ ap (map (topic_note P names span)) (take_all i topics le)
 
   -- what a row speaks of before its chain
-  pub of_behind : (s : List Qualifier) (tables : List Table) (row : Row) (topics : List Topic) (behind notes : Notes) → topics ≡ topics_of P s row tables → AreFrom P names s tables (item_of P s row tables) behind
-      → notes ≡ headed P names row topics behind → AreNotes P names s tables row notes
-  of_behind s tables row topics behind notes is h e = (behind, h, e ∙ ap (λ (ts : List Topic). headed P names row ts behind) is)
+  pub of_behind : (s : List Qualifier) (tables : List Table) (row : Row) (topics : List Topic) (x : Option Item) (rest behind notes : Notes) → topics ≡ topics_of P s row tables → x ≡ item_of P s row tables
+      → AreFrom P names s tables (item_of P s row tables) rest → behind ≡ preceded P x rest → notes ≡ headed P names row topics behind → AreNotes P names s tables row notes
+  of_behind s tables row topics x rest behind notes is at h e f =
+      (rest, h, f ∙ ap (headed P names row topics) (e ∙ ap (λ (y : Option Item). preceded P y rest) at) ∙ ap (λ (ts : List Topic). headed P names row ts (preceded P (item_of P s row tables) rest)) is)

@@ -4,5 +4,6 @@ pub mod Asked
 pub mod Lacking
 pub mod Worded
 pub mod Voids
+pub mod Unkept
 pub mod Spoken
 pub mod Noted

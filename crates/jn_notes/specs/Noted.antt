@@ -13,6 +13,7 @@ use Rattle.jn_notes.specs.declared.note.Notes.{Notes}
 use Rattle.jn_notes.specs.declared.topics.Topic.{Topic}
 use Rattle.jn_notes.specs.Asked.{item_of}
 use Rattle.jn_notes.specs.Spoken.{topic_note, topics_of}
+use Rattle.jn_notes.specs.Unkept.{preceded}
 use Rattle.jn_notes.specs.Voids.{AreVoids, read_in}
 use Rattle.jn_notes.specs.Worded.{place_span, step_words}
 
@@ -64,9 +65,9 @@ module _ (P : Program) (names : List (List ℕ)) where
     AreFrom None notes = notes ≡ no_notes
     AreFrom (Some x) notes = (steps : List Step) × IsFirstChain P s tables x steps × AreBy steps notes
 
-    -- the notes of a row: those of the declarations that it speaks of, and then those of the item
+    -- the notes of a row: those of the declarations that it speaks of, that of a test that isn't kept, and then those of the item
     abbrev pub AreNotes : Row → Notes → Type 0
-    AreNotes row notes = (behind : Notes) × AreFrom (item_of P s row tables) behind × (notes ≡ headed row (topics_of P s row tables) behind)
+    AreNotes row notes = (behind : Notes) × AreFrom (item_of P s row tables) behind × (notes ≡ headed row (topics_of P s row tables) (preceded P (item_of P s row tables) behind))
 
     -- row by row
     abbrev pub AreEach : List Row → List Notes → Type 0

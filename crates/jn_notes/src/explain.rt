@@ -17,6 +17,7 @@ use crate::reads::{register_item, sought_of};
 use crate::spans::place_span;
 use crate::tables::least_tables;
 use crate::topics::{Topic, topic_notes, topics_of};
+use crate::unkept::preceded;
 use crate::voids::find_voids;
 use crate::words::step_words;
 use jn_base::lists::put;
@@ -352,6 +353,8 @@ fn notes_of(
     let behind = notes_behind(
         alloc, program, names, sig, tables, overriders, origins, owners, row,
     )?;
+    let item = item_of(program, sig, tables, overriders, row);
+    let behind = preceded(alloc, program, item, behind)?;
     let notes = headed(alloc, program, names, row, &topics, behind)?;
     Ok(notes)
 }

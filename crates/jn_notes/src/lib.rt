@@ -17,6 +17,7 @@ pub mod spans;
 pub mod tables;
 pub mod takers;
 pub mod topics;
+pub mod unkept;
 pub mod voids;
 pub mod words;
 
