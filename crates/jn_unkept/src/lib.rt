@@ -1,4 +1,4 @@
-//! Tests that aren't kept: what a value is made of that may be null although it was tested.
+//! Tests that aren't kept: the last test, before a value is read, of what is made alike.
 //!
 //! What a test tells is kept of a local, a parameter, `this` and a field of these. [`find_unkept`] gives the last test before a value is read of what is
 //! made alike (`specs/Alike.antt`), where the value is a field of another object, an element of an array or a method's result, or where the result of the
