@@ -15,10 +15,10 @@ use Rattle.jn_notes.specs.Worded.{point_span}
 
 -- why a test isn't kept of a value that is read so, up to the place of the test
 abbrev pub reading_words : Reading → List ℕ
-reading_words OfField = codes "what a test tells of a field isn't kept where its object is in no local: it was tested at"
-reading_words OfElement = codes "what a test tells of an element isn't kept: it was tested at"
-reading_words OfResult = codes "what a test tells of a method's result isn't kept: it was tested at"
-reading_words Stored = codes "what a test tells isn't kept where its result is stored: it was tested at"
+reading_words OfField = codes "what a test says of a field isn't kept where its object is in no local: it was tested at"
+reading_words OfElement = codes "what a test says of an element isn't kept: it was tested at"
+reading_words OfResult = codes "what a test says of a method's result isn't kept: it was tested at"
+reading_words Stored = codes "what a test says isn't kept where its result is stored: it was tested at"
 
 module _ (P : Program) where
   -- the note of a test of body b

@@ -75,7 +75,7 @@ fn seeks(span: Span, rule: Rule, bit: Bit) -> Option<Sought>
 }
 
 /// Whether both are the same bytes of the same file.
-pub(crate) fn same_span(left: Span, right: Span) -> bool
+pub fn same_span(left: Span, right: Span) -> bool
     ensures { result ≡ same_span left right }
 {
     left.file.0 == right.file.0 && left.from == right.from && left.to == right.to

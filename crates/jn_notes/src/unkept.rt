@@ -17,11 +17,11 @@ fn reading_words(reading: Reading) -> &'static str
 {
     match reading {
         Reading::OfField => {
-            "what a test tells of a field isn't kept where its object is in no local: it was tested at"
+            "what a test says of a field isn't kept where its object is in no local: it was tested at"
         }
-        Reading::OfElement => "what a test tells of an element isn't kept: it was tested at",
-        Reading::OfResult => "what a test tells of a method's result isn't kept: it was tested at",
-        Reading::Stored => "what a test tells isn't kept where its result is stored: it was tested at",
+        Reading::OfElement => "what a test says of an element isn't kept: it was tested at",
+        Reading::OfResult => "what a test says of a method's result isn't kept: it was tested at",
+        Reading::Stored => "what a test says isn't kept where its result is stored: it was tested at",
     }
 }
 
