@@ -21,7 +21,8 @@ fn reading_words(reading: Reading) -> &'static str
         }
         Reading::OfElement => "what a test says of an element isn't kept: it was tested at",
         Reading::OfResult => "what a test says of a method's result isn't kept: it was tested at",
-        Reading::Stored => "what a test says isn't kept where its result is stored: it was tested at",
+        Reading::Stored =>
+            "what a test says isn't kept where its result is stored: it was tested at",
     }
 }
 

@@ -21,7 +21,7 @@ pub pairs_done : (i j : ℕ) (xs ys : List Operand) (n end : ℕ) (old new : Lis
 pairs_done i j xs ys n end old new le one h =
     sym (append-nil new)
     ∙ ap (λ (zs : List Pair). new ++ zs) (sym (⊎_elim
-      (λ l. no_lefts i j (drop n xs) (drop n ys) (drop_all n xs (omega (arith, le, l))))
-      (λ l. no_rights i j (drop n xs) (drop n ys) (drop_all n ys (omega (arith, le, l))))
-      one))
+    (λ l. no_lefts i j (drop n xs) (drop n ys) (drop_all n xs (omega (arith, le, l))))
+    (λ l. no_rights i j (drop n xs) (drop n ys) (drop_all n ys (omega (arith, le, l))))
+    one))
     ∙ h

@@ -72,9 +72,13 @@ fn same_form(left: &PointKind, right: &PointKind) -> bool
             same_literal(*value, *other)
         }
         (PointKind::Move { .. }, PointKind::Move { .. }) => true,
-        (PointKind::Binary { operator, .. }, PointKind::Binary { operator: other, .. }) => {
-            operator_no(*operator) == operator_no(*other)
-        }
+        (
+            PointKind::Binary { operator, .. },
+            PointKind::Binary {
+                operator: other,
+                ..
+            },
+        ) => { operator_no(*operator) == operator_no(*other) }
         (PointKind::FieldRead { field, .. }, PointKind::FieldRead { field: other, .. }) => {
             field.0 == other.0
         }
@@ -226,12 +230,7 @@ fn is_named(body: &Body, pair: Pair) -> bool
 }
 
 /// Puts what two values are made from after the pairs.
-fn put_made(
-    pairs: &mut Vec<Pair>,
-    alloc: Global,
-    body: &Body,
-    pair: Pair,
-) -> Result<(), AllocError>
+fn put_made(pairs: &mut Vec<Pair>, alloc: Global, body: &Body, pair: Pair) -> Result<(), AllocError>
     ensures { OnOk result
         (pairs.new.items ≡ pairs.old.items ++ spec.made_from body.now pair) }
 {

@@ -159,12 +159,7 @@ fn matters(body: &Body, reading: Reading, value: Held, point: u32) -> bool
 }
 
 /// The test at a point, where it matters.
-fn found_at(
-    body: &Body,
-    reading: Reading,
-    value: Held,
-    point: Option<u32>,
-) -> Option<Unkept>
+fn found_at(body: &Body, reading: Reading, value: Held, point: Option<u32>) -> Option<Unkept>
     ensures { result ≡ spec.found_at body.now reading value point }
 {
     match point {

@@ -94,13 +94,7 @@ fn copy_by(reg: u32, kind: &PointKind) -> Option<u32>
     ensures { result ≡ spec.copy_by reg kind.now }
 {
     match kind {
-        PointKind::Move { dst, from, .. } => {
-            if from.reg.0 == reg {
-                Some(dst.0)
-            } else {
-                None
-            }
-        }
+        PointKind::Move { dst, from, .. } => { if from.reg.0 == reg { Some(dst.0) } else { None } }
         _ => None,
     }
 }
@@ -120,13 +114,7 @@ fn local_of(body: &Body, reg: Option<u32>) -> Option<u32>
 {
     match reg {
         None => None,
-        Some(reg) => {
-            if is_local(body, reg) {
-                Some(reg)
-            } else {
-                None
-            }
-        }
+        Some(reg) => { if is_local(body, reg) { Some(reg) } else { None } }
     }
 }
 
